@@ -1,0 +1,10 @@
+//! Blocks, their numbers, and where they lie on the drive.
+#![tactic(auto)]
+
+mod block;
+mod geometry;
+mod numbers;
+
+pub use block::{Block, OutOfMemory};
+pub use geometry::{Geometry, GeometryRefusal};
+pub use numbers::{BlockNo, Lba, QueueNo, TxNo};
