@@ -1,7 +1,7 @@
 // A block of 4,096 bytes.
 ghost use Rattle.std.specs.Prelude.{◌≡◌, ◌<◌, ℕ, List, length, IfOk};
 ghost use Rattle.std.specs.Borrow.{Lends, sem, Array, u8 as byte};
-ghost use Rattle.mq_blocks.specs.Blocks.{zeros};
+ghost use Rattle.mq_blocks.specs.Blocks.{zeros, filled};
 ghost use Rattle.mq_blocks.specs.contracts.block.Block.{the_row};
 
 use std::alloc::{AllocError, AllocFailed, Global};
@@ -68,5 +68,28 @@ impl Block {
         ensures* { sem 𝓛 (Lends the_row (Array byte 4096) self.entry result (λ w. w)) }
     {
         &mut self.bytes
+    }
+
+    /// Takes over the bytes of another block.
+    pub fn copy_from(&mut self, other: &Block)
+        ensures { self.new ≡ other.now }
+    {
+        *self.bytes = *other.bytes;
+    }
+
+    /// Makes all bytes zero.
+    #[tactic(auto, unfolding(crate::specs::Blocks::zeros))]
+    pub fn clear(&mut self)
+        ensures { self.new ≡ zeros }
+    {
+        *self.bytes = [0; 4096];
+    }
+
+    /// Makes all bytes this one.
+    #[tactic(auto, unfolding(crate::specs::Blocks::filled))]
+    pub fn fill(&mut self, byte: u8)
+        ensures { self.new ≡ filled byte }
+    {
+        *self.bytes = [byte; 4096];
     }
 }

@@ -2,9 +2,11 @@
 #![tactic(auto)]
 
 mod block;
+mod command;
 mod geometry;
 mod numbers;
 
 pub use block::{Block, OutOfMemory};
+pub use command::{Command, HomeWrite};
 pub use geometry::{Geometry, GeometryRefusal};
 pub use numbers::{BlockNo, Lba, QueueNo, TxNo};
