@@ -1,0 +1,104 @@
+-- Submission queue entries as lists of 16 dwords (NVM Express 1.4, "Submission Queue Entry").
+use Rattle.std.specs.Prelude.{◌≡◌, ◌<◌, ◌≤◌, ℕ, ◌+◌, ◌*◌, ◌/◌, ◌%◌, ◌^◌, List, [], ◌∷◌, ◌++◌, Bool, ◌==◌, ◌||◌, nat_lt, if◌then◌else◌, Option, Some, None, slice_index}
+use Rattle.mq_nvme.specs.declared.write.WriteReq.{WriteReq}
+use Rattle.mq_nvme.specs.declared.write.EntryRefusal.{EntryRefusal}
+use Rattle.mq_nvme.specs.declared.write.EntryRefusal.TheVariants.{Opcode, Namespace, Count, Flags}
+
+-- the entry of zeros
+unfoldable pub blank : List ℕ
+blank = 0 ∷ 0 ∷ 0 ∷ 0 ∷ 0 ∷ 0 ∷ 0 ∷ 0 ∷ 0 ∷ 0 ∷ 0 ∷ 0 ∷ 0 ∷ 0 ∷ 0 ∷ 0 ∷ []
+
+-- the entry of a write
+unfoldable pub entry_of : WriteReq → List ℕ
+entry_of r =
+    (1 + 65536 * r.slot) ∷ 1 ∷ (r.tx % 2 ^ 32) ∷ (r.tx / 2 ^ 32) ∷ 0 ∷ 0 ∷ (4096 * r.slot) ∷ 0 ∷ 0 ∷ 0
+    ∷ (r.lba % 2 ^ 32) ∷ (r.lba / 2 ^ 32) ∷ (2 ^ 30 + (if r.commit then 2 ^ 17 else 2 ^ 16)) ∷ 0 ∷ 0 ∷ 0 ∷ []
+
+-- the number of the transaction
+unfoldable pub tx_of : List ℕ → ℕ
+tx_of e = slice_index e 2 + 2 ^ 32 * slice_index e 3
+
+-- the starting logical block
+unfoldable pub lba_of : List ℕ → ℕ
+lba_of e = slice_index e 10 + 2 ^ 32 * slice_index e 11
+
+-- bit 17 of dword 12, which marks the last request of a transaction
+unfoldable pub is_commit : List ℕ → Bool
+is_commit e = slice_index e 12 / 2 ^ 17 % 2 == 1
+
+-- the command identifier, which is the slot
+abbrev pub slot_of : List ℕ → ℕ
+slot_of e = slice_index e 0 / 65536
+
+unfoldable pub request_of : List ℕ → WriteReq
+request_of e = record { tx = tx_of e; slot = slot_of e; lba = lba_of e; commit = is_commit e }
+
+-- the requests that have an entry
+pub record IsRequest (r : WriteReq) : Type 0 where
+  pub slot : r.slot < 1024
+  pub tx_low : 1 ≤ r.tx
+  pub tx_high : r.tx < 2 ^ 64
+  pub lba : r.lba < 2 ^ 64
+
+-- the entry is this request's
+pub record IsWrite (e : List ℕ) (r : WriteReq) : Type 0 where
+  pub request : IsRequest r
+  pub is : e ≡ entry_of r
+
+-- a rule on entries, and the dword that is named where it is broken
+pub record Rule : Type 0 where
+  pub dword : ℕ
+  pub holds : List ℕ → Bool
+
+-- a dword that is 0
+abbrev pub zero_at : ℕ → Rule
+zero_at k = record { dword = k; holds = λ e. slice_index e k == 0 }
+
+-- the rules on the dwords that all commands have, beyond the opcode and the namespace: no fused
+-- operation, PRPs, and a command identifier that is a slot; a transaction's number; no metadata
+-- pointer; and the slot's buffer as the only PRP entry
+unfoldable pub common_rules : List Rule
+common_rules =
+    record { dword = 0; holds = λ e. slice_index e 0 / 256 % 256 == 0 }
+    ∷ record { dword = 0; holds = λ e. nat_lt (slot_of e) 1024 }
+    ∷ record { dword = 2; holds = λ e. nat_lt 0 (tx_of e) }
+    ∷ zero_at 4
+    ∷ zero_at 5
+    ∷ record { dword = 6; holds = λ e. slice_index e 6 == 4096 * slot_of e }
+    ∷ zero_at 7
+    ∷ zero_at 8
+    ∷ zero_at 9
+    ∷ []
+
+-- the rules on the dwords of a write, beyond the number of blocks: Force Unit Access, and one of
+-- the two marks of a transaction's requests
+unfoldable pub command_rules : List Rule
+command_rules =
+    record { dword = 12; holds = λ e. (slice_index e 12 / 65536 == 2 ^ 14 + 1) || (slice_index e 12 / 65536 == 2 ^ 14 + 2) }
+    ∷ zero_at 13
+    ∷ zero_at 14
+    ∷ zero_at 15
+    ∷ []
+
+-- all of these, by rising dwords
+unfoldable pub write_rules : List Rule
+write_rules = common_rules ++ command_rules
+
+-- the dword of the first rule that is broken
+abbrev pub broken : List Rule → List ℕ → Option ℕ
+broken [] e = None
+broken (r ∷ rs) e = if r.holds e then broken rs e else Some r.dword
+
+-- the refusal by that dword
+abbrev pub flags_at : List ℕ → Option ℕ → Option EntryRefusal
+flags_at e None = None
+flags_at e (Some k) = Some (Flags k (slice_index e k))
+
+-- the first cause for which an entry is refused
+unfoldable pub refusal_of : List ℕ → Option EntryRefusal
+refusal_of e =
+    if slice_index e 0 % 256 == 1
+    then (if slice_index e 1 == 1
+      then (if slice_index e 12 % 65536 == 0 then flags_at e (broken write_rules e) else Some (Count (slice_index e 12 % 65536)))
+      else Some (Namespace (slice_index e 1)))
+    else Some (Opcode (slice_index e 0 % 256))

@@ -1,0 +1,64 @@
+// Submission queue entries.
+ghost use Rattle.std.specs.Prelude.{◌≡◌, ◌+◌, ◌*◌, ◌^◌};
+
+use std::marker::Model;
+
+/// A submission queue entry (NVM Express 1.4, 4.2, "Submission Queue Entry"): command dwords 0 to
+/// 15.
+#[derive(Clone, Copy, Debug, PartialEq, Eq)]
+pub struct Entry {
+    pub(crate) dwords: [u32; 16],
+}
+
+impl Model for Entry {
+    ghost use Rattle.std.specs.Prelude.{ℕ, List};
+
+    ghost Value = { List ℕ };
+
+    ghost view = { λ e. e.dwords };
+
+    ghost inverse = { λ dwords. record { dwords = dwords } };
+}
+
+impl Entry {
+    ghost use Rattle.mq_nvme.specs.Entry.{blank, tx_of, lba_of, is_commit};
+
+    /// An entry of zeros.
+    #[tactic(auto, unfolding(crate::specs::Entry::blank))]
+    pub fn zeroed() -> Entry
+        ensures { result ≡ blank }
+    {
+        Entry { dwords: [0; 16] }
+    }
+
+    /// The number of the transaction, of dwords 2 and 3.
+    #[tactic(auto, unfolding(crate::specs::Entry::tx_of))]
+    pub fn tx(&self) -> u64
+        ensures { result ≡ tx_of self.now }
+    {
+        joined(self.dwords[2], self.dwords[3])
+    }
+
+    /// The starting logical block, of dwords 10 and 11.
+    #[tactic(auto, unfolding(crate::specs::Entry::lba_of))]
+    pub fn lba(&self) -> u64
+        ensures { result ≡ lba_of self.now }
+    {
+        joined(self.dwords[10], self.dwords[11])
+    }
+
+    /// Whether this is the last request of its transaction, by bit 17 of dword 12.
+    #[tactic(auto, unfolding(crate::specs::Entry::is_commit))]
+    pub fn is_commit(&self) -> bool
+        ensures { result ≡ is_commit self.now }
+    {
+        (self.dwords[12] >> 17) % 2 == 1
+    }
+}
+
+// The number of two dwords.
+pub(crate) fn joined(low: u32, high: u32) -> u64
+    ensures { result ≡ low + 2 ^ 32 * high }
+{
+    u64::from(low) + (u64::from(high) << 32)
+}
