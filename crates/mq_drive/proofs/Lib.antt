@@ -1,0 +1,4 @@
+pub mod Commands
+pub mod Moves
+pub mod Owned
+pub mod Settling

@@ -1,0 +1,5 @@
+pub mod Emu
+pub mod Roles
+pub mod Slots
+pub mod Start
+pub mod Steps

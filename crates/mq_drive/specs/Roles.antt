@@ -1,0 +1,17 @@
+-- Which port a role is.
+use Rattle.std.specs.Prelude.{ℕ, Option, Some, None}
+use Rattle.mq_drive.specs.declared.role.Role.{Role}
+use Rattle.mq_drive.specs.declared.role.Role.TheVariants.{Queue, Root}
+
+abbrev pub role_of : Option ℕ → Role
+role_of (Some q) = Queue q
+role_of None = Root
+
+abbrev pub queue_in : Role → Option ℕ
+queue_in (Queue q) = Some q
+queue_in Root = None
+
+-- the slots of a port's ring: the root has none
+abbrev pub slots_of : Role → ℕ
+slots_of (Queue q) = 1024
+slots_of Root = 0

@@ -1,0 +1,65 @@
+-- The state of a port that starts from an image.
+use Rattle.std.specs.Prelude.{◌≡◌, ◌<◌, ℕ, ◌+◌, ◌*◌, [], true, length, replicate}
+use Rattle.mq_blocks.specs.Drive.{PortState, PortImage}
+use Rattle.mq_blocks.specs.declared.geometry.Geometry.{Geometry}
+use Rattle.mq_drive.specs.Roles.{queue_in, slots_of}
+use Rattle.mq_drive.specs.declared.role.Role.{Role}
+use Rattle.mq_drive.specs.declared.role.Role.TheVariants.{Queue, Root}
+
+abbrev pub area_first_of : Geometry → Role → ℕ
+area_first_of g (Queue q) = q * g.area
+area_first_of g Root = 0
+
+abbrev pub area_size_of : Geometry → Role → ℕ
+area_size_of g (Queue q) = g.area
+area_size_of g Root = 0
+
+abbrev pub homes_first_of : Geometry → Role → ℕ
+homes_first_of g (Queue q) = g.queues * g.area + (g.meta + q * g.zone)
+homes_first_of g Root = g.queues * g.area
+
+abbrev pub homes_size_of : Geometry → Role → ℕ
+homes_size_of g (Queue q) = g.zone
+homes_size_of g Root = g.meta
+
+-- the role is one of the geometry's
+abbrev pub IsRole : Geometry → Role → Type 0
+IsRole g (Queue q) = q < g.queues
+IsRole g Root = Unit {0}
+
+-- a queue has 1,024 slots and base 0; the root has no slots, doorbell 0 and head 0
+abbrev pub HasWords : Role → PortImage → Type 0
+HasWords (Queue q) i = i.base ≡ 0
+HasWords Root i = (i.doorbell ≡ 0) × (i.head ≡ 0)
+
+pub record IsImageOf (g : Geometry) (role : Role) (i : PortImage) : Type 0 where
+  pub slots : length i.slots ≡ slots_of role
+  pub blocks : length i.blocks ≡ area_size_of g role + homes_size_of g role
+  pub words : HasWords role i
+
+-- nothing is under way, and all is certain as in the image
+abbrev pub start_of : Geometry → Role → PortImage → PortState
+start_of g role i = record {
+  queue = queue_in role;
+  area_first = area_first_of g role;
+  area_size = area_size_of g role;
+  homes_first = homes_first_of g role;
+  homes_size = homes_size_of g role;
+  flushed = i.slots;
+  staged = i.slots;
+  flushed_end = i.doorbell;
+  pending = [];
+  doorbell = i.doorbell;
+  posted = [];
+  failed = [];
+  head = i.head;
+  stored_head = i.head;
+  base = i.base;
+  stored_base = i.base;
+  blocks = i.blocks;
+  sure = replicate (length i.blocks) true;
+  begun = [];
+  rings = 0;
+  begins = 0;
+  events = 0;
+}

@@ -1,0 +1,13 @@
+//! Ports of an emulated NVMe drive with a persistent memory region.
+#![tactic(auto)]
+
+mod emu;
+mod image;
+mod port;
+mod role;
+mod store;
+
+pub use emu::EmuPort;
+pub use image::PortImage;
+pub use port::{HomeStep, Off, Port, Ports, Step};
+pub use role::Role;
