@@ -1,0 +1,2 @@
+pub mod TextItems
+pub mod TextNumbers
