@@ -1,2 +1,3 @@
 pub mod TextItems
+pub mod TextLines
 pub mod TextNumbers

@@ -20,10 +20,10 @@ hex_at text back b v f e =
     let g : back ≡ 61 ∷ hex_text v = f ∙ (cut text (number_text b) (61 ∷ hex_text v) e refl).1 in
     ap (λ (l : List ℕ). get_or l 1 0 ∷ get_or l 2 0 ∷ []) g
 
-none-some : {A : Type 0} (x : A) → ◌≡◌ {A = Option A} None (Some x) → ⊥
+pub none-some : {A : Type 0} (x : A) → ◌≡◌ {A = Option A} None (Some x) → ⊥
 none-some x e = cc
 
-some-same : {A : Type 0} (x y : A) → ◌≡◌ {A = Option A} (Some x) (Some y) → x ≡ y
+pub some-same : {A : Type 0} (x y : A) → ◌≡◌ {A = Option A} (Some x) (Some y) → x ≡ y
 some-same x y e = cc
 
 -- no item is there where no number is

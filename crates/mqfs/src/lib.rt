@@ -3,4 +3,4 @@
 
 mod text;
 
-pub use text::{BlockItem, BlockLine, BlockText};
+pub use text::{BlockItem, BlockLine, BlockText, BlockTextRefusal};

@@ -14,6 +14,20 @@ pub enum BlockItem {
     Free(BlockNo),
 }
 
+impl BlockItem {
+    ghost use Rattle.mqfs.specs.Text.{block_of};
+
+    /// The block that the item names.
+    pub fn block(&self) -> BlockNo
+        ensures { result ≡ block_of self.now }
+    {
+        match self {
+            BlockItem::Set(block, _) => *block,
+            BlockItem::Free(block) => *block,
+        }
+    }
+}
+
 /// The value of a lower-case hexadecimal digit.
 fn read_hex_digit(digit: u8) -> Option<u8>
     ensures found { IfSome result (λ d. (d < 16) × (digit ≡ hex_digit d)) }
