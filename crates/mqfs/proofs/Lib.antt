@@ -1,3 +1,4 @@
 pub mod TextItems
 pub mod TextLines
 pub mod TextNumbers
+pub mod TextParts

@@ -5,7 +5,7 @@ use Rattle.std.specs.Fmt.{decimal}
 use Rattle.std.specs.Option.{IfSome}
 use Rattle.std.specs.Result.{OkIff, result_ok}
 use Rattle.std.specs.Str.Parse.{digits_value}
-use Rattle.std.proofs.lemmas.List.{take_all}
+use Rattle.std.proofs.lemmas.List.{get_or_default, take_all}
 use Rattle.std.proofs.lemmas.Str.Parse.{IsNumeralModel, numerals_by_value, tells_by_index, digits_value_short}
 use Rattle.std.proofs.lemmas.Fmt.{decimal_digit, digits_decimal, digits_value-decimal, decimal-digits_value, decimal_nonempty, length-decimal-le, first_decimal}
 
@@ -52,3 +52,9 @@ kept_found r (Err d) number text e h t = rw e tt
 pub kept_only : {E : Type 0} (r : Option ℕ) (s : Result ℕ E) (number n : ℕ) → r ≡ result_ok s → OkIff s (number < 256) number → n < 256 → number ≡ n → r ≡ Some n
 kept_only r (Ok m) number n e h small t = e ∙ ap Some (h.1 ∙ t)
 kept_only r (Err d) number n e h small t = absurd (h (omega arith))
+
+-- what a number is written by
+pub decimal_digits : (n : ℕ) → n < 256 → (k d : ℕ) → k < length (decimal n) → 48 ≤ get_or (decimal n) k d
+decimal_digits n small k d h =
+    let digit = digits_decimal own n (omega arith) k h in
+    rw (get_or_default (decimal n) k d 0 h) digit.0

@@ -8,4 +8,4 @@ mod whole;
 pub use item::BlockItem;
 pub use line::BlockLine;
 pub use refusal::BlockTextRefusal;
-pub use whole::BlockText;
+pub use whole::{BlockText, read_block_text};

@@ -22,6 +22,20 @@ impl Model for BlockLine {
     ghost view = { λ l. l.0.items };
 }
 
+impl BlockLine {
+    ghost use Rattle.mqfs.specs.Text.{sets_in};
+
+    /// How many items set a block.
+    pub fn sets(&self) -> usize
+        ensures { result ≡ sets_in self.now }
+    {
+        self.0
+            .iter()
+            .filter(|i| matches!(i, BlockItem::Set(..)))
+            .count()
+    }
+}
+
 /// The items of these words, which name no block twice.
 fn read_items(alloc: Global, words: &[&[u8]]) -> Result<Vec<BlockItem>, BlockTextRefusal>
     ensures ok { IfOk result (λ v. (map (λ x. x.now) words.now ≡ map item_text v.items) × AreGoodItems v.items × AreSets v.items) }
