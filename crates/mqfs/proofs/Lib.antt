@@ -2,3 +2,4 @@ pub mod TextItems
 pub mod TextLines
 pub mod TextNumbers
 pub mod TextParts
+pub mod TextWhole

@@ -27,10 +27,10 @@ same n = eq-eqb n n refl
 avoids_none : (at : ℕ) → Avoids at []
 avoids_none at = λ k d h. absurd (omega arith)
 
-avoids_cons : (at x : ℕ) (xs : List ℕ) → at < x → Avoids at xs → Avoids at (x ∷ xs)
+pub avoids_cons : (at x : ℕ) (xs : List ℕ) → at < x → Avoids at xs → Avoids at (x ∷ xs)
 avoids_cons at x xs h a = All-cons (λ y. eqb y at ≡ false) x xs (apart x at h) a
 
-avoids_append : (at : ℕ) (xs ys : List ℕ) → Avoids at xs → Avoids at ys → Avoids at (xs ++ ys)
+pub avoids_append : (at : ℕ) (xs ys : List ℕ) → Avoids at xs → Avoids at ys → Avoids at (xs ++ ys)
 avoids_append at xs ys a b = All-append (λ y. eqb y at ≡ false) xs ys a b
 
 hex_digit_high : (at d : ℕ) → at < 48 → at < hex_digit d
