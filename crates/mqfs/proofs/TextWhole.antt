@@ -1,12 +1,15 @@
 -- Whole texts: their lines, where they end, and the places that they take.
-use Rattle.std.proofs.Common.{◌≡◌, ◌≢◌, ℕ, Bool, true, false, eqb, cond, ◌+◌, ◌-◌, ◌%◌, ◌<◌, ◌≤◌, ◌⊎◌, List, [], ◌∷◌, ◌++◌, length, get_or, take, drop, sym, ◌∙◌, ap, subst, refl, inl, inr, arith, append_assoc, length-append}
+use Rattle.std.proofs.Common.{◌≡◌, ◌≢◌, ℕ, Bool, true, false, eqb, cond, Result, Err, ◌+◌, ◌-◌, ◌%◌, ◌<◌, ◌≤◌, ◌⊎◌, List, [], ◌∷◌, ◌++◌, length, get_or, take, drop, sym, ◌∙◌, ap, subst, refl, inl, inr, arith, append_assoc, length-append}
 use Rattle.std.specs.Prelude.{map}
 use Rattle.std.specs.List.{All, AllByRecursion, slice_split, join_with_byte, count_by}
+use Rattle.std.proofs.lemmas.Bool.{eqb-false}
 use Rattle.std.proofs.lemmas.List.{append_cancel_right, map-append}
 use Rattle.std.proofs.lemmas.List.Recursion.{is_count_by}
 use Rattle.std.proofs.lemmas.List.Splits.{join_with_byte-slice_split}
 use Rattle.mqfs.specs.declared.text.item.BlockItem.{BlockItem}
 use Rattle.mqfs.specs.declared.text.item.BlockItem.TheVariants.{Set, Free}
+use Rattle.mqfs.specs.declared.text.refusal.BlockTextRefusal.{BlockTextRefusal}
+use Rattle.mqfs.specs.declared.text.refusal.BlockTextRefusal.TheVariants.{Form, OutOfMemory}
 use Rattle.mqfs.specs.Text.{number_text, hex_digit, hex_text, item_text, line_text, text_of, EndsInItem, IsTextOf, IsGoodSet, IsGoodLine, AreSets, AreGoodLines, HasSetsOnly, sets_in, places_of}
 use Rattle.mqfs.proofs.TextLines.{map_take_more, good_sets}
 use Rattle.mqfs.proofs.TextParts.{Avoids, item_avoids, avoids_cons, avoids_append, split_of_join, split_some, good_items}
@@ -179,3 +182,10 @@ none_in l lines h (inr e) =
 pub no_lines : (bytes : List ℕ) (lines : List (List BlockItem)) → bytes ≡ [] → IsTextOf bytes lines → AllByRecursion IsSetLine lines → lines ≡ []
 no_lines bytes [] e t h = refl
 no_lines bytes (l ∷ lines) e t h = let P : List ℕ → Type 0 = λ b. IsTextOf b (l ∷ lines) in absurd (none_in l lines h (subst P e t))
+
+pub some_byte : (bytes : List ℕ) (b : Bool) → b ≡ eqb (length bytes) 0 → b ≡ false → 0 < length bytes
+some_byte bytes b e f = let n : length bytes ≢ 0 = eqb-false (length bytes) 0 (sym e ∙ f) in omega arith
+
+-- memory that ran out is no fault of the text
+pub not_form : {T : Type 0} (r : Result T BlockTextRefusal) (x y : BlockTextRefusal) → r ≡ Err x → x ≡ y → y ≡ OutOfMemory → r ≡ Err Form → ⊥
+not_form r x y e f g h = cc
