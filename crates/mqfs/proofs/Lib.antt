@@ -1,0 +1,5 @@
+pub mod TextItems
+pub mod TextLines
+pub mod TextNumbers
+pub mod TextParts
+pub mod TextWhole

@@ -1,0 +1,6 @@
+//! The file system's own texts.
+#![tactic(auto)]
+
+mod text;
+
+pub use text::{BlockItem, BlockLine, BlockText, BlockTextRefusal, read_block_text};
