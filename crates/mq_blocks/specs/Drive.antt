@@ -1,7 +1,7 @@
 -- The drive as its ports show it: what a port keeps, and what each call makes of it.
 --
 -- A port is one queue's part of the drive, or the root's: submission queue, doorbell and head in the
--- persistent memory region (NVM Express 1.4, section 3.1; Liao et al., SOSP 2021, section 4), the
+-- persistent memory region (NVM Express 1.4, "Persistent Memory Region"; Liao et al., SOSP 2021), the
 -- queue's journal area and its home blocks. Counts and places are absolute and never wrap.
 use Rattle.std.specs.Prelude.{◌≡◌, ◌≢◌, ◌⊎◌, ◌<◌, ◌≤◌, ℕ, ◌+◌, ◌-◌, ◌%◌, ◌^◌, zero, suc, min, Bool, true, false, List, [], ◌∷◌, ◌++◌, length, Option, Some, None, slice_index_or, slice_set, nat_lt, nat_eq, if◌then◌else◌}
 use Rattle.std.specs.Coded.{×_prop, Unit-prop, le_prop}
@@ -193,3 +193,18 @@ pub record IsImage (s : PortState) (i : PortImage) : Type 0 where
   pub slots : (k : ℕ) → k < length s.flushed → IsFlushed s k → slice_index_or i.slots k [] ≡ slice_index_or s.flushed k []
   pub blocks_len : length i.blocks ≡ length s.blocks
   pub blocks : (k : ℕ) → k < length s.blocks → IsCertain s k → block_at i.blocks k ≡ block_at s.blocks k
+
+-- The port has one image: nothing is staged, stored or posted, and all is certain. A home write that
+-- ended with an error, and whose block was written since, stays begun and is no doubt.
+pub record IsQuiet (s : PortState) : Type 0 where
+  pub flushed_end : s.flushed_end ≡ s.doorbell
+  pub pending : s.pending ≡ []
+  pub posted : s.posted ≡ []
+  pub failed : s.failed ≡ []
+  pub head : s.stored_head ≡ s.head
+  pub base : s.stored_base ≡ s.base
+  pub sure : (k : ℕ) → k < length s.sure → slice_index_or s.sure k false ≡ true
+
+-- the image of a port that has one
+abbrev pub image_of : PortState → PortImage
+image_of s = record { doorbell = s.doorbell; head = s.head; base = s.base; slots = s.flushed; blocks = s.blocks }

@@ -147,7 +147,8 @@ pub record ShowsNumber (g : Geometry) (i : Shown) (chains : ℕ → List Descrip
   pub where_from : (n ≡ i.base) ⊎ (((q : ℕ) × (d : Descriptor) × (q < g.queues) × Has (chains q) d × (d.number ≡ n))
       ⊎ ((q : ℕ) × (c : ℕ) × (s : Says) × (q < g.queues) × (i.head q ≤ c) × (c < i.doorbell q) × (i.entry q (c % depth) ≡ Some s) × (s.0 ≡ n)))
 
--- the greatest number that an image shows
+-- the greatest number that a readable image shows
 pub record IsTop (g : Geometry) (i : Shown) (chains : ℕ → List Descriptor) (top : ℕ) : Type 0 where
+  pub whole : AreWhole g i chains
   pub shown : ShowsNumber g i chains top
   pub greatest : (n : ℕ) → ShowsNumber g i chains n → n ≤ top

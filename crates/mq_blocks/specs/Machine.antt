@@ -1,5 +1,6 @@
 -- Maps of home blocks, transactions, and what a list of transactions makes of a map.
-use Rattle.std.specs.Prelude.{◌≡◌, ◌<◌, ℕ, ◌+◌, Bool, true, false, List, [], ◌∷◌, length, Option, Some, None, nat_eq, if◌then◌else◌}
+use Rattle.std.specs.Prelude.{◌≡◌, ◌<◌, ℕ, ◌+◌, Bool, true, false, List, [], ◌∷◌, length, Option, Some, None, nat_eq, if◌then◌else◌, map, All, is_some}
+use Rattle.mq_blocks.specs.Descriptor.{AreRising, AreApart}
 use Rattle.mq_blocks.specs.Journal.{is_among}
 
 -- home blocks with their contents; a block that is not in the map is free
@@ -14,6 +15,13 @@ pub record Transaction : Type 0 where
   pub number : ℕ
   pub writes : Writes
   pub freed : List ℕ
+
+-- A transaction on a drive with so many home blocks: it writes rising blocks of 4,096 bytes, and
+-- frees none that it writes.
+pub record IsTransaction (homes : ℕ) (t : Transaction) : Type 0 where
+  pub rising : AreRising 0 homes (map (λ w. w.0) t.writes)
+  pub whole : All (λ w. length w.1 ≡ 4096) t.writes
+  pub apart : AreApart t.freed (map (λ w. w.0) t.writes)
 
 abbrev pub write_of : Writes → ℕ → Option (List ℕ)
 write_of [] b = None
@@ -31,3 +39,12 @@ after m t b = or_kept (write_of t.writes b) (if is_among b t.freed then None els
 abbrev pub after_all : Map → List Transaction → Map
 after_all m [] = m
 after_all m (t ∷ ts) = after (after_all m ts) t
+
+-- the transaction writes or frees the block
+abbrev pub changes : Transaction → ℕ → Bool
+changes t b = if is_some (write_of t.writes b) then true else is_among b t.freed
+
+-- the number of the last of them, the newest first, that changed the block, else the base
+abbrev pub last_change : ℕ → List Transaction → ℕ → ℕ
+last_change base [] b = base
+last_change base (t ∷ ts) b = if changes t b then t.number else last_change base ts b

@@ -1,5 +1,5 @@
 // Where blocks lie.
-ghost use Rattle.std.specs.Prelude.{◌≡◌, ◌≢◌, ◌<◌, ◌≤◌, ◌+◌, ◌*◌, ◌^◌, ◌⊎◌, ◌↔◌, IsErrOf, IfOk, IsNone, IfSome};
+ghost use Rattle.std.specs.Prelude.{◌≡◌, ◌≢◌, ◌<◌, ◌≤◌, ◌+◌, ◌*◌, ◌^◌, ◌⊎◌, ◌↔◌, IsErrOf, IsOk, IfOk, IsNone, IfSome};
 
 use crate::{BlockNo, Lba, QueueNo};
 
@@ -34,6 +34,7 @@ impl Geometry {
     /// The geometry of these numbers. The first number that is out of its range is refused.
     pub fn new(queues: u32, area: u32, meta: u32, zone: u32) -> Result<Geometry, GeometryRefusal>
         ensures ok { IfOk result (λ g. (queues_of g ≡ queues) × (area_of g ≡ area) × (meta_of g ≡ meta) × (zone_size g ≡ zone)) }
+        ensures good { IsQueues queues → IsArea area → AreHomes queues meta zone → IsOk result }
         ensures queues { IsErrOf result (GeometryRefusal.Queues queues) ↔ (IsQueues queues → ⊥) }
         ensures area { IsErrOf result (GeometryRefusal.Area area) ↔ (IsQueues queues × (IsArea area → ⊥)) }
         ensures homes { IsErrOf result (GeometryRefusal.Homes meta zone) ↔ (IsQueues queues × IsArea area × (AreHomes queues meta zone → ⊥)) }

@@ -1,6 +1,6 @@
 -- The state of a port that starts from an image.
-use Rattle.std.specs.Prelude.{◌≡◌, ◌<◌, ℕ, ◌+◌, ◌*◌, [], true, length, replicate}
-use Rattle.mq_blocks.specs.Drive.{PortState, PortImage}
+use Rattle.std.specs.Prelude.{◌≡◌, ◌<◌, ℕ, ◌+◌, ◌*◌, [], true, length, slice_index_or, replicate}
+use Rattle.mq_blocks.specs.Drive.{PortState, PortImage, IsFlushed}
 use Rattle.mq_blocks.specs.declared.geometry.Geometry.{Geometry}
 use Rattle.mq_drive.specs.Roles.{queue_in, slots_of}
 use Rattle.mq_drive.specs.declared.role.Role.{Role}
@@ -63,3 +63,16 @@ start_of g role i = record {
   begins = 0;
   events = 0;
 }
+
+-- a port of this role, on a drive of this geometry
+pub record IsPortOf (g : Geometry) (role : Role) (s : PortState) : Type 0 where
+  pub queue : s.queue ≡ queue_in role
+  pub area_first : s.area_first ≡ area_first_of g role
+  pub area_size : s.area_size ≡ area_size_of g role
+  pub homes_first : s.homes_first ≡ homes_first_of g role
+  pub homes_size : s.homes_size ≡ homes_size_of g role
+  pub flushed : length s.flushed ≡ slots_of role
+  pub staged : length s.staged ≡ slots_of role
+  pub blocks : length s.blocks ≡ area_size_of g role + homes_size_of g role
+  pub sure : length s.sure ≡ length s.blocks
+  pub settled : (k : ℕ) → k < length s.flushed → IsFlushed s k → slice_index_or s.flushed k [] ≡ slice_index_or s.staged k []

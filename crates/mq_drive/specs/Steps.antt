@@ -1,9 +1,9 @@
 -- What the answers of a port mean.
-use Rattle.std.specs.Prelude.{◌≡◌, ◌≢◌, ◌⊎◌, ◌≤◌, ◌-◌, ◌%◌, ◌^◌, length, ℕ, List, [], ◌∷◌, Result, Ok, Err, Some, slice_get}
+use Rattle.std.specs.Prelude.{◌≡◌, ◌≢◌, ◌⊎◌, ◌≤◌, ◌-◌, ◌%◌, ◌^◌, length, ℕ, List, [], ◌∷◌, ◌++◌, Result, Ok, Err, Some, slice_get}
 use Rattle.mq_blocks.specs.Drive.{PortState, Owns, after_done, after_failed, after_begin, after_end, depth}
 use Rattle.mq_blocks.specs.declared.command.Command.{Command}
 use Rattle.mq_nvme.specs.Entry.{IsWrite}
-use Rattle.mq_nvme.specs.Completion.{status_word}
+use Rattle.mq_nvme.specs.Completion.{status_word, identifier_word}
 use Rattle.mq_nvme.specs.declared.write.WriteReq.{WriteReq}
 use Rattle.mq_drive.specs.declared.port.Off.{Off}
 use Rattle.mq_drive.specs.declared.port.Step.{Step}
@@ -18,9 +18,16 @@ pub data Fault : Type 0 where
   CommandError : (tx status : ℕ) → Fault
   HomeError : (lba status : ℕ) → Fault
 
+-- the same faults and one more, anywhere among them
+pub record IsWithOneMore (f : Fault) (old new : List Fault) : Type 0 where
+  pub before : List Fault
+  pub after : List Fault
+  pub old_is : old ≡ before ++ after
+  pub new_is : new ≡ before ++ f ∷ after
+
 -- one more fault, unless there are as many as a count of 64 bits can say
 abbrev pub Gains : Fault → List Fault → List Fault → Type 0
-Gains f old new = (new ≡ f ∷ old) ⊎ ((2 ^ 64 - 1 ≤ length old) × (new ≡ old))
+Gains f old new = IsWithOneMore f old new ⊎ ((2 ^ 64 - 1 ≤ length old) × (new ≡ old))
 
 -- an `Off` is one more fault, and an Ok is none
 abbrev pub OffCause : {A : Type 0} → Result A Off → List Fault → List Fault → Type 0
@@ -34,17 +41,18 @@ pub record IsOwnWrite (s : PortState) (at : ℕ) (entry : List ℕ) : Type 0 whe
   pub slot : request.slot ≡ at % depth
   pub own : Owns s request.lba
 
--- a posted command has ended, with success or with an error
-pub record Ends (old : PortState) (faults : List Fault) (status : ℕ) (new : PortState) (more : List Fault) : Type 0 where
+-- a posted command has ended, with success or with an error, as its completion says
+pub record Ends (old : PortState) (faults : List Fault) (c : List ℕ) (new : PortState) (more : List Fault) : Type 0 where
   pub at : ℕ
   pub command : Command
   pub posted : slice_get old.posted at ≡ Some command
-  pub success : status ≡ 0 → (new ≡ after_done old at command) × (more ≡ faults)
-  pub error : status ≢ 0 → (new ≡ after_failed old at command) × Gains (CommandError command.tx status) faults more
+  pub identifier : identifier_word c ≡ command.count % depth
+  pub success : status_word c ≡ 0 → (new ≡ after_done old at command) × (more ≡ faults)
+  pub error : status_word c ≢ 0 → (new ≡ after_failed old at command) × Gains (CommandError command.tx (status_word c)) faults more
 
 abbrev pub StepGives : PortState → List Fault → Result Step Off → PortState → List Fault → Type 0
 StepGives old faults (Ok Idle) new more = (old.posted ≡ []) × (new ≡ old) × (more ≡ faults)
-StepGives old faults (Ok (Done c)) new more = Ends old faults (status_word c) new more
+StepGives old faults (Ok (Done c)) new more = Ends old faults c new more
 StepGives old faults (Err _) new more = (old.posted ≢ []) × (new ≡ old) × Gains PowerOff faults more
 
 -- a home write has ended, with success or with an error, or the power went off before it began or

@@ -10,7 +10,7 @@ use crate::Role;
 use mq_blocks::{Block, Lba};
 use mq_nvme::{Completion, Entry};
 
-/// The power is off: the event did not happen, and no later one will.
+/// The power is off: the event did not happen. Of a home write, it may have begun.
 #[derive(Clone, Copy, Debug, PartialEq, Eq)]
 pub struct Off;
 
@@ -31,7 +31,7 @@ pub enum HomeStep {
 }
 
 /// A part of the drive, as one thread drives it. Each changing call is one event, a home write two;
-/// reads are none. No call takes memory.
+/// reads are none, and neither is a step that is idle. No call takes memory.
 pub trait Port {
     ghost state: { Self → PortState };
 
@@ -48,7 +48,7 @@ pub trait Port {
     fn head(&self) -> u64
         ensures { (result ≡ (state self.now).head) ⊎ (result ≡ (state self.now).stored_head) };
 
-    /// The base word of the root's port, as `head`; of a queue's port 0.
+    /// The base word, as `head`.
     fn base(&self) -> u64
         ensures { (result ≡ (state self.now).base) ⊎ (result ≡ (state self.now).stored_base) };
 

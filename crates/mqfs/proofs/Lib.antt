@@ -3,3 +3,7 @@ pub mod TextLines
 pub mod TextNumbers
 pub mod TextParts
 pub mod TextWhole
+pub mod Ending
+pub mod Lines
+pub mod Lists
+pub mod Staging
