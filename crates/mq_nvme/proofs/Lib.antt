@@ -1,2 +1,4 @@
+pub mod Bytes
+pub mod Completions
 pub mod Entries
 pub mod Refusals

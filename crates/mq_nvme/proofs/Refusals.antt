@@ -1,9 +1,10 @@
 -- An entry is refused exactly where it is the entry of no request.
-use Rattle.std.proofs.Common.{◌≡◌, ◌<◌, ◌≤◌, ℕ, ◌+◌, ◌*◌, ◌/◌, ◌%◌, ◌^◌, List, [], ◌∷◌, ◌++◌, length, Bool, true, false, ◌⊎◌, inl, inr, ◌==◌, ◌||◌, nat_lt, if◌then◌else◌, Option, Some, None, slice_index, get_or, refl, sym, ◌∙◌, ap, subst, arith}
-use Rattle.std.proofs.lemmas.Bool.{eqb-true, ltb-true, eq-eqb, lt-ltb, or_cases, or_left, or_right}
+use Rattle.std.proofs.Common.{◌≡◌, ◌<◌, ℕ, ◌+◌, ◌*◌, ◌/◌, ◌%◌, ◌^◌, List, [], ◌∷◌, ◌++◌, length, Bool, true, false, ◌⊎◌, inl, inr, ◌==◌, ◌||◌, if◌then◌else◌, Option, Some, None, slice_index, refl, sym, subst, arith}
+use Rattle.std.proofs.lemmas.Bool.{eqb-true, ltb-true, eq-eqb, lt-ltb, or_cases}
 use Rattle.std.proofs.lemmas.Slice.Eq.{text_from_reads}
 use Rattle.mq_nvme.specs.declared.write.WriteReq.{WriteReq}
-use Rattle.mq_nvme.specs.Entry.{entry_of, tx_of, lba_of, is_commit, request_of, slot_of, IsRequest, IsWrite, Rule, write_rules, common_rules, command_rules, broken, flags_at, refusal_of}
+use Rattle.mq_nvme.specs.declared.write.EntryRefusal.TheVariants.{Opcode}
+use Rattle.mq_nvme.specs.Entry.{blank, entry_of, tx_of, lba_of, is_commit, request_of, IsRequest, IsWrite, Rule, write_rules, common_rules, command_rules, broken, flags_at, refusal_of}
 use Rattle.mq_nvme.proofs.Entries.{tx_of-entry}
 
 -- each rule holds
@@ -109,13 +110,46 @@ is_requested e len d none =
     let (mark, (d13, (d14, (d15, _)))) = p.command in
     record {
       request = requested e p d;
-      is = text_from_reads e (entry_of (request_of e)) len
-        (opcode_dword _ p.opcode (eqb-true _ _ fields), (p.namespace,
-         (low_dword _ _ d.tx_low, (high_dword _ _ d.tx_low,
-         (eqb-true _ _ d4, (eqb-true _ _ d5, (eqb-true _ _ d6, (eqb-true _ _ d7, (eqb-true _ _ d8, (eqb-true _ _ d9,
-         (low_dword _ _ d.lba_low, (high_dword _ _ d.lba_low,
-         (marked _ p.count (elim (or_cases _ _ mark) [ inl m ↦ inl (eqb-true _ _ m) | inr m ↦ inr (eqb-true _ _ m) ]),
-         (eqb-true _ _ d13, (eqb-true _ _ d14, (eqb-true _ _ d15, tt))))))))))))))));
+      is = text_from_reads e (entry_of (request_of e)) len (
+        opcode_dword _ p.opcode (eqb-true _ _ fields),
+        (
+          p.namespace,
+          (
+            low_dword _ _ d.tx_low,
+            (
+              high_dword _ _ d.tx_low,
+              (
+                eqb-true _ _ d4,
+                (
+                  eqb-true _ _ d5,
+                  (
+                    eqb-true _ _ d6,
+                    (
+                      eqb-true _ _ d7,
+                      (
+                        eqb-true _ _ d8,
+                        (
+                          eqb-true _ _ d9,
+                          (
+                            low_dword _ _ d.lba_low,
+                            (
+                              high_dword _ _ d.lba_low,
+                              (
+                                marked _ p.count (elim (or_cases _ _ mark) [ inl m ↦ inl (eqb-true _ _ m) | inr m ↦ inr (eqb-true _ _ m) ]),
+                                (eqb-true _ _ d13, (eqb-true _ _ d14, (eqb-true _ _ d15, tt))),
+                              ),
+                            ),
+                          ),
+                        ),
+                      ),
+                    ),
+                  ),
+                ),
+              ),
+            ),
+          ),
+        ),
+      );
     }
 
 -- an entry that is not refused is that of its request
@@ -156,3 +190,8 @@ accepts r is =
       common = entry_is_common r is;
       command = entry_is_command r;
     }
+
+-- an entry of zeros is no write
+pub refusal_of-blank : refusal_of blank ≡ Some (Opcode 0)
+unfolding refusal_of blank
+refusal_of-blank = refl

@@ -99,6 +99,6 @@ unfoldable pub refusal_of : List ℕ → Option EntryRefusal
 refusal_of e =
     if slice_index e 0 % 256 == 1
     then (if slice_index e 1 == 1
-      then (if slice_index e 12 % 65536 == 0 then flags_at e (broken write_rules e) else Some (Count (slice_index e 12 % 65536)))
-      else Some (Namespace (slice_index e 1)))
+    then (if slice_index e 12 % 65536 == 0 then flags_at e (broken write_rules e) else Some (Count (slice_index e 12 % 65536)))
+    else Some (Namespace (slice_index e 1)))
     else Some (Opcode (slice_index e 0 % 256))

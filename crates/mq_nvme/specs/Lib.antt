@@ -1,2 +1,3 @@
-pub mod Entry
 pub mod Completion
+pub mod Dwords
+pub mod Entry

@@ -1,6 +1,6 @@
 -- An entry of a request is not refused, and its request is read.
-use Rattle.std.proofs.Common.{ap, sym, ◌∙◌}
-use Rattle.mq_nvme.specs.Entry.{entry_of, refusal_of, request_of, IsWrite}
+use Rattle.std.proofs.Common.{ap}
+use Rattle.mq_nvme.specs.Entry.{refusal_of, request_of}
 use Rattle.mq_nvme.proofs.Entries.{request_of-entry}
 use Rattle.mq_nvme.proofs.Refusals.{accepts}
 use Rattle.mq_nvme.proofs.write.read_write.Goals as goal
