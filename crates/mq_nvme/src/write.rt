@@ -1,6 +1,6 @@
 // Write commands.
-ghost use Rattle.std.specs.Prelude.{◌≡◌, ◌<◌, ◌≤◌, ◌↔◌, IfOk, IfSome, None};
-ghost use Rattle.mq_nvme.specs.Entry.{entry_of, request_of, broken, write_rules, common_rules, command_rules, refusal_of, IsWrite};
+ghost use Rattle.std.specs.Prelude.{◌≡◌, ◌<◌, ◌≤◌, ◌↔◌, IfOk, None};
+ghost use Rattle.mq_nvme.specs.Entry.{entry_of, request_of, flags, block_rules, common_rules, command_rules, first_refusal, refusal_of, IsWrite};
 
 use crate::Entry;
 use crate::entry::joined;
@@ -37,7 +37,8 @@ pub enum EntryRefusal {
 pub fn write_of(req: &WriteReq) -> Entry
     requires slot { req.now.slot < 1024 }
     requires tx { 1 ≤ req.now.tx }
-    ensures { result ≡ entry_of req.now }
+    ensures is { result ≡ entry_of req.now }
+    ensures write { IsWrite result req.now }
 {
     let slot = u32::from(req.slot);
     let mark = if req.commit { 1 << 17 } else { 1 << 16 };
@@ -93,9 +94,22 @@ fn request(entry: &Entry) -> WriteReq
 }
 
 // The first cause to refuse an entry.
-#[tactic(auto, unfolding(crate::specs::Entry::refusal_of))]
 fn refusal(entry: &Entry) -> Option<EntryRefusal>
     ensures { result ≡ refusal_of entry.now }
+{
+    if let Some(cause) = block_refusal(entry) {
+        return Some(cause);
+    }
+    if let Some(cause) = common_refusal(entry) {
+        return Some(cause);
+    }
+    command_refusal(entry)
+}
+
+// The refusal of what isn't a write of one logical block to namespace 1.
+#[tactic(auto, unfolding(crate::specs::Entry::block_rules))]
+fn block_refusal(entry: &Entry) -> Option<EntryRefusal>
+    ensures { result ≡ first_refusal block_rules entry.now }
 {
     let opcode = entry.dwords[0] % 256;
     if opcode != 1 {
@@ -109,85 +123,75 @@ fn refusal(entry: &Entry) -> Option<EntryRefusal>
     if count != 0 {
         return Some(EntryRefusal::Count { found: count });
     }
-    match broken_dword(entry) {
-        Some(dword) => Some(EntryRefusal::Flags {
-            dword: dword as u32,
-            value: entry.dwords[dword],
-        }),
-        None => None,
-    }
+    None
 }
 
-// The first dword that breaks a rule.
-#[tactic(auto, unfolding(crate::specs::Entry::write_rules))]
-fn broken_dword(entry: &Entry) -> Option<usize>
-    ensures first { result ≡ broken write_rules entry.now }
-    ensures within { IfSome result (λ k. k < 16) }
-{
-    match broken_common_dword(entry) {
-        Some(dword) => Some(dword),
-        None => broken_command_dword(entry),
-    }
-}
-
-// The first of the dwords that all commands have that breaks a rule.
+// The refusal by the rest of the dwords that all commands have.
 #[tactic(auto, unfolding(crate::specs::Entry::common_rules))]
-fn broken_common_dword(entry: &Entry) -> Option<usize>
-    ensures first { result ≡ broken common_rules entry.now }
-    ensures within { IfSome result (λ k. k < 16) }
+fn common_refusal(entry: &Entry) -> Option<EntryRefusal>
+    ensures { result ≡ first_refusal common_rules entry.now }
 {
     let dwords = &entry.dwords;
     let slot = dwords[0] >> 16;
     if (dwords[0] >> 8) % 256 != 0 {
-        return Some(0);
+        return Some(flags(entry, 0));
     }
     if slot >= 1024 {
-        return Some(0);
+        return Some(flags(entry, 0));
     }
     if entry.tx() == 0 {
-        return Some(2);
+        return Some(flags(entry, 2));
     }
     if dwords[4] != 0 {
-        return Some(4);
+        return Some(flags(entry, 4));
     }
     if dwords[5] != 0 {
-        return Some(5);
+        return Some(flags(entry, 5));
     }
     if dwords[6] != 4096 * slot {
-        return Some(6);
+        return Some(flags(entry, 6));
     }
     if dwords[7] != 0 {
-        return Some(7);
+        return Some(flags(entry, 7));
     }
     if dwords[8] != 0 {
-        return Some(8);
+        return Some(flags(entry, 8));
     }
     if dwords[9] != 0 {
-        return Some(9);
+        return Some(flags(entry, 9));
     }
     None
 }
 
-// The first of a write's own dwords that breaks a rule.
+// The refusal by the rest of a write's own dwords.
 #[tactic(auto, unfolding(crate::specs::Entry::command_rules))]
-fn broken_command_dword(entry: &Entry) -> Option<usize>
-    ensures first { result ≡ broken command_rules entry.now }
-    ensures within { IfSome result (λ k. k < 16) }
+fn command_refusal(entry: &Entry) -> Option<EntryRefusal>
+    ensures { result ≡ first_refusal command_rules entry.now }
 {
     let dwords = &entry.dwords;
     if !matches!(dwords[12] >> 16, 0x4001 | 0x4002) {
-        return Some(12);
+        return Some(flags(entry, 12));
     }
     if dwords[13] != 0 {
-        return Some(13);
+        return Some(flags(entry, 13));
     }
     if dwords[14] != 0 {
-        return Some(14);
+        return Some(flags(entry, 14));
     }
     if dwords[15] != 0 {
-        return Some(15);
+        return Some(flags(entry, 15));
     }
     None
+}
+
+fn flags(entry: &Entry, dword: usize) -> EntryRefusal
+    requires { dword < 16 }
+    ensures { result ≡ flags dword entry.now }
+{
+    EntryRefusal::Flags {
+        dword: dword as u32,
+        value: entry.dwords[dword],
+    }
 }
 
 #[cfg(test)]
@@ -233,6 +237,11 @@ mod tests {
         assert_eq!(rt; entry.tx(), 1);
         assert_eq!(rt; entry.lba(), 5);
         assert!(rt; entry.is_commit());
+    }
+
+    #[test]
+    fn zeros_are_no_write(rt: HostRuntime) {
+        assert!(rt; read_write(&Entry::zeroed()) == Err(EntryRefusal::Opcode { found: 0 }));
     }
 
     #[test]
