@@ -1,9 +1,7 @@
 -- What a port in memory writes is what the drive model makes of it.
-use Rattle.std.proofs.Common.{◌≡◌, ℕ, zero, suc, ◌+◌, Bool, true, false, List, [], ◌∷◌, ◌++◌, set, Option, Some, refl, sym, ◌∙◌, ap, cond, arith, ◌<◌, ◌*◌, ◌/◌, ◌%◌, ◌^◌}
+use Rattle.std.proofs.Common.{◌≡◌, ℕ, zero, suc, Bool, true, false, List, [], ◌∷◌, ◌++◌, set, Option, Some, refl, sym, ◌∙◌, ap, cond}
 use Rattle.std.proofs.lemmas.Bool.{eq-eqb}
 use Rattle.std.specs.List.{remove}
-use Rattle.mq_nvme.specs.Completion.{status_word, identifier_word, entry_of_ended}
-use Rattle.mq_nvme.specs.declared.completion.Ended.{Ended}
 use Rattle.mq_blocks.specs.Drive.{PortState, counted, index_of, after_done, after_begin, after_end, without_last}
 use Rattle.mq_blocks.specs.declared.command.Command.{Command}
 use Rattle.mq_blocks.specs.declared.command.HomeWrite.{HomeWrite}
@@ -31,21 +29,3 @@ written_home s lba block blocks sure begins none is_blocks is_sure is_begins =
     none ∙ without_only lba block ∙ ap (λ (l : List HomeWrite). without_last lba (l ++ record { lba = lba; block = block } ∷ [])) (sym none) in
     let twice : sure ≡ set (set s.sure (index_of s lba) false) (index_of s lba) true = is_sure ∙ sym (set-set s.sure (index_of s lba) false true) in
     λ i. record s { blocks = is_blocks i; sure = twice i; begins = is_begins i; begun = begun i }
-
-phase_word : (cid status : ℕ) (phase : Bool) → cid < 2 ^ 16 → status ≡ 0 → (cid + 65536 * (cond phase 1 0) + 131072 * status) / 2 ^ 17 ≡ 0
-phase_word cid status true small success = omega arith
-phase_word cid status false small success = omega arith
-
--- a completion without an error has status 0
-pub status-success : (x : Ended) → x.cid < 2 ^ 16 → x.status ≡ 0 → status_word (entry_of_ended x) ≡ 0
-unfolding status_word entry_of_ended
-status-success x small success = phase_word x.cid x.status x.phase small success
-
-low_word : (cid status : ℕ) (phase : Bool) → cid < 2 ^ 16 → (cid + 65536 * (cond phase 1 0) + 131072 * status) % 65536 ≡ cid
-low_word cid status true small = omega arith
-low_word cid status false small = omega arith
-
--- a completion names its command
-pub identifier-ended : (x : Ended) → x.cid < 2 ^ 16 → identifier_word (entry_of_ended x) ≡ x.cid
-unfolding identifier_word entry_of_ended
-identifier-ended x small = low_word x.cid x.status x.phase small

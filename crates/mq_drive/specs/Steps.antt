@@ -3,7 +3,7 @@ use Rattle.std.specs.Prelude.{◌≡◌, ◌≢◌, ◌⊎◌, ◌≤◌, ◌-�
 use Rattle.mq_blocks.specs.Drive.{PortState, Owns, after_done, after_failed, after_begin, after_end, depth}
 use Rattle.mq_blocks.specs.declared.command.Command.{Command}
 use Rattle.mq_nvme.specs.Entry.{IsWrite}
-use Rattle.mq_nvme.specs.Completion.{status_word, identifier_word}
+use Rattle.mq_nvme.specs.Completion.{status_of, identifier_of}
 use Rattle.mq_nvme.specs.declared.write.WriteReq.{WriteReq}
 use Rattle.mq_drive.specs.declared.port.Off.{Off}
 use Rattle.mq_drive.specs.declared.port.Step.{Step}
@@ -46,9 +46,9 @@ pub record Ends (old : PortState) (faults : List Fault) (c : List ℕ) (new : Po
   pub at : ℕ
   pub command : Command
   pub posted : slice_get old.posted at ≡ Some command
-  pub identifier : identifier_word c ≡ command.count % depth
-  pub success : status_word c ≡ 0 → (new ≡ after_done old at command) × (more ≡ faults)
-  pub error : status_word c ≢ 0 → (new ≡ after_failed old at command) × Gains (CommandError command.tx (status_word c)) faults more
+  pub identifier : identifier_of c ≡ command.count % depth
+  pub success : status_of c ≡ 0 → (new ≡ after_done old at command) × (more ≡ faults)
+  pub error : status_of c ≢ 0 → (new ≡ after_failed old at command) × Gains (CommandError command.tx (status_of c)) faults more
 
 abbrev pub StepGives : PortState → List Fault → Result Step Off → PortState → List Fault → Type 0
 StepGives old faults (Ok Idle) new more = (old.posted ≡ []) × (new ≡ old) × (more ≡ faults)

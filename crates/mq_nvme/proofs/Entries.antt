@@ -1,8 +1,7 @@
 -- What an entry tells of its request.
-use Rattle.std.proofs.Common.{◌≡◌, ◌<◌, ◌≤◌, ℕ, ◌+◌, ◌*◌, ◌/◌, ◌%◌, ◌^◌, List, [], ◌∷◌, ◌++◌, length, Bool, true, false, ◌==◌, ◌||◌, nat_lt, if◌then◌else◌, Option, Some, None, slice_index, refl, sym, ◌∙◌, ap, subst, arith}
-use Rattle.std.proofs.lemmas.Bool.Decides.{nat_tests}
+use Rattle.std.proofs.Common.{◌≡◌, ℕ, ◌+◌, ◌*◌, ◌/◌, ◌%◌, ◌^◌, List, length, Bool, true, false, ◌==◌, if◌then◌else◌, refl, sym, ◌∙◌, ap, arith}
 use Rattle.mq_nvme.specs.declared.write.WriteReq.{WriteReq}
-use Rattle.mq_nvme.specs.Entry.{entry_of, tx_of, lba_of, is_commit, request_of, slot_of, IsRequest, IsWrite, Rule, write_rules, common_rules, command_rules, broken, flags_at, refusal_of}
+use Rattle.mq_nvme.specs.Entry.{entry_of, tx_of, lba_of, is_commit, request_of, slot_of, IsWrite}
 
 -- the two dwords of a number
 joined : (n : ℕ) → n % 2 ^ 32 + 2 ^ 32 * (n / 2 ^ 32) ≡ n
@@ -36,5 +35,20 @@ pub request_of-entry : (r : WriteReq) → request_of (entry_of r) ≡ r
 unfolding request_of
 request_of-entry r = simp (tx_of-entry, lba_of-entry, is_commit-entry, slot_of-entry)
 
+-- an entry has one request
 pub entry_of-injective : (r s : WriteReq) → entry_of r ≡ entry_of s → r ≡ s
 entry_of-injective r s e = sym (request_of-entry r) ∙ ap request_of e ∙ request_of-entry s
+
+-- one request is asked for
+pub IsWrite-unique : (e : List ℕ) (r s : WriteReq) → IsWrite e r → IsWrite e s → r ≡ s
+IsWrite-unique e r s a b = entry_of-injective r s (sym a.is ∙ b.is)
+
+-- what the parts of a request's entry say
+pub tx_of-write : (e : List ℕ) (r : WriteReq) → IsWrite e r → tx_of e ≡ r.tx
+tx_of-write e r w = rw w.is (tx_of-entry r)
+
+pub lba_of-write : (e : List ℕ) (r : WriteReq) → IsWrite e r → lba_of e ≡ r.lba
+lba_of-write e r w = rw w.is (lba_of-entry r)
+
+pub is_commit-write : (e : List ℕ) (r : WriteReq) → IsWrite e r → is_commit e ≡ r.commit
+is_commit-write e r w = rw w.is (is_commit-entry r)

@@ -1,3 +1,5 @@
+pub mod Bytes
+pub mod Completions
 pub mod Entries
 pub mod Refusals
 pub mod Saying

@@ -2,13 +2,15 @@
 use Rattle.std.specs.Prelude.{ℕ, ◌+◌, ◌*◌, ◌/◌, ◌%◌, ◌^◌, List, [], ◌∷◌, if◌then◌else◌, slice_index}
 use Rattle.mq_nvme.specs.declared.completion.Ended.{Ended}
 
-unfoldable pub entry_of_ended : Ended → List ℕ
-entry_of_ended x =
+-- the entry of a command that ended
+unfoldable pub completion_of : Ended → List ℕ
+completion_of x =
     0 ∷ 0 ∷ (x.sq_head + 65536 * x.sq_id) ∷ (x.cid + 65536 * (if x.phase then 1 else 0) + 131072 * x.status) ∷ []
 
--- the identifier of the command, which is its slot
-unfoldable pub identifier_word : List ℕ → ℕ
-identifier_word c = slice_index c 3 % 65536
+-- bits 15:0 of dword 3: the identifier of the command, which is its slot
+unfoldable pub identifier_of : List ℕ → ℕ
+identifier_of c = slice_index c 3 % 65536
 
-unfoldable pub status_word : List ℕ → ℕ
-status_word c = slice_index c 3 / 2 ^ 17
+-- bits 31:17 of dword 3
+unfoldable pub status_of : List ℕ → ℕ
+status_of c = slice_index c 3 / 2 ^ 17

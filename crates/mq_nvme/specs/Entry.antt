@@ -30,6 +30,7 @@ is_commit e = slice_index e 12 / 2 ^ 17 % 2 == 1
 abbrev pub slot_of : List ℕ → ℕ
 slot_of e = slice_index e 0 / 65536
 
+-- the request that an entry speaks of, if it is a write
 unfoldable pub request_of : List ℕ → WriteReq
 request_of e = record { tx = tx_of e; slot = slot_of e; lba = lba_of e; commit = is_commit e }
 
@@ -45,60 +46,57 @@ pub record IsWrite (e : List ℕ) (r : WriteReq) : Type 0 where
   pub request : IsRequest r
   pub is : e ≡ entry_of r
 
--- a rule on entries, and the dword that is named where it is broken
+-- a rule on entries, and the refusal of an entry that breaks it
 pub record Rule : Type 0 where
-  pub dword : ℕ
   pub holds : List ℕ → Bool
+  pub refusal : List ℕ → EntryRefusal
 
--- a dword that is 0
+-- the refusal by a dword
+abbrev pub flags : ℕ → List ℕ → EntryRefusal
+flags k e = Flags k (slice_index e k)
+
+-- a dword is 0
 abbrev pub zero_at : ℕ → Rule
-zero_at k = record { dword = k; holds = λ e. slice_index e k == 0 }
+zero_at k = record { holds = λ e. slice_index e k == 0; refusal = flags k }
 
--- the rules on the dwords that all commands have, beyond the opcode and the namespace: no fused
--- operation, PRPs, and a command identifier that is a slot; a transaction's number; no metadata
--- pointer; and the slot's buffer as the only PRP entry
+-- one logical block is written to namespace 1
+unfoldable pub block_rules : List Rule
+block_rules =
+    record { holds = λ e. slice_index e 0 % 256 == 1; refusal = λ e. Opcode (slice_index e 0 % 256) }
+    ∷ record { holds = λ e. slice_index e 1 == 1; refusal = λ e. Namespace (slice_index e 1) }
+    ∷ record { holds = λ e. slice_index e 12 % 65536 == 0; refusal = λ e. Count (slice_index e 12 % 65536) }
+    ∷ []
+
+-- the rest of the dwords that all commands have: no fused operation, PRPs, and a slot as command
+-- identifier; a transaction's number; no metadata pointer; and the slot's buffer as the only PRP
 unfoldable pub common_rules : List Rule
 common_rules =
-    record { dword = 0; holds = λ e. slice_index e 0 / 256 % 256 == 0 }
-    ∷ record { dword = 0; holds = λ e. nat_lt (slot_of e) 1024 }
-    ∷ record { dword = 2; holds = λ e. nat_lt 0 (tx_of e) }
+    record { holds = λ e. slice_index e 0 / 256 % 256 == 0; refusal = flags 0 }
+    ∷ record { holds = λ e. nat_lt (slot_of e) 1024; refusal = flags 0 }
+    ∷ record { holds = λ e. nat_lt 0 (tx_of e); refusal = flags 2 }
     ∷ zero_at 4
     ∷ zero_at 5
-    ∷ record { dword = 6; holds = λ e. slice_index e 6 == 4096 * slot_of e }
+    ∷ record { holds = λ e. slice_index e 6 == 4096 * slot_of e; refusal = flags 6 }
     ∷ zero_at 7
     ∷ zero_at 8
     ∷ zero_at 9
     ∷ []
 
--- the rules on the dwords of a write, beyond the number of blocks: Force Unit Access, and one of
--- the two marks of a transaction's requests
+-- the rest of a write's own dwords: Force Unit Access, and one of the two marks of a transaction's
+-- requests
 unfoldable pub command_rules : List Rule
 command_rules =
-    record { dword = 12; holds = λ e. (slice_index e 12 / 65536 == 2 ^ 14 + 1) || (slice_index e 12 / 65536 == 2 ^ 14 + 2) }
+    record { holds = λ e. (slice_index e 12 / 65536 == 2 ^ 14 + 1) || (slice_index e 12 / 65536 == 2 ^ 14 + 2); refusal = flags 12 }
     ∷ zero_at 13
     ∷ zero_at 14
     ∷ zero_at 15
     ∷ []
 
--- all of these, by rising dwords
-unfoldable pub write_rules : List Rule
-write_rules = common_rules ++ command_rules
-
--- the dword of the first rule that is broken
-abbrev pub broken : List Rule → List ℕ → Option ℕ
-broken [] e = None
-broken (r ∷ rs) e = if r.holds e then broken rs e else Some r.dword
-
--- the refusal by that dword
-abbrev pub flags_at : List ℕ → Option ℕ → Option EntryRefusal
-flags_at e None = None
-flags_at e (Some k) = Some (Flags k (slice_index e k))
+-- the first rule that is broken tells the refusal
+abbrev pub first_refusal : List Rule → List ℕ → Option EntryRefusal
+first_refusal [] e = None
+first_refusal (r ∷ rs) e = if r.holds e then first_refusal rs e else Some (r.refusal e)
 
 -- the first cause for which an entry is refused
 unfoldable pub refusal_of : List ℕ → Option EntryRefusal
-refusal_of e =
-    if slice_index e 0 % 256 == 1
-    then (if slice_index e 1 == 1
-      then (if slice_index e 12 % 65536 == 0 then flags_at e (broken write_rules e) else Some (Count (slice_index e 12 % 65536)))
-      else Some (Namespace (slice_index e 1)))
-    else Some (Opcode (slice_index e 0 % 256))
+refusal_of e = first_refusal (block_rules ++ (common_rules ++ command_rules)) e

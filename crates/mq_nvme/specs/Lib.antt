@@ -1,3 +1,4 @@
-pub mod Entry
 pub mod Completion
+pub mod Dwords
+pub mod Entry
 pub mod Says

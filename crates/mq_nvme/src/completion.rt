@@ -1,9 +1,11 @@
 // Completion queue entries.
-ghost use Rattle.std.specs.Prelude.{◌≡◌, ◌<◌, ◌^◌};
+ghost use Rattle.std.specs.Prelude.{◌≡◌, ◌<◌, ◌^◌, ℕ, List};
+ghost use Rattle.mq_nvme.specs.Completion.{completion_of, status_of};
 
+use crate::dwords::{read_dwords, write_dwords};
 use std::marker::Model;
 
-/// A completion queue entry (NVM Express 1.4, 4.6, "Completion Queue Entry"): dwords 0 to 3.
+/// A completion queue entry (NVM Express 1.4, "Completion Queue Entry"): dwords 0 to 3.
 #[derive(Clone, Copy, Debug, PartialEq, Eq)]
 pub struct Completion {
     dwords: [u32; 4],
@@ -17,6 +19,31 @@ impl Model for Completion {
     ghost view = { λ c. c.dwords };
 
     ghost inverse = { λ dwords. record { dwords = dwords } };
+}
+
+impl Completion {
+    ghost use Rattle.mq_nvme.specs.Dwords.{AreDwords, dword_bytes};
+
+    /// The entry as it lies in memory.
+    pub fn to_bytes(&self) -> [u8; 16]
+        ensures dwords { AreDwords 4 self.now }
+        ensures bytes { result ≡ dword_bytes self.now }
+    {
+        let mut bytes = [0; 16];
+        write_dwords(&self.dwords, &mut bytes);
+        bytes
+    }
+
+    /// The entry that lies in memory as these bytes.
+    pub fn from_bytes(bytes: &[u8; 16]) -> Completion
+        ensures dwords { AreDwords 4 result }
+        ensures bytes { dword_bytes result ≡ bytes.now }
+        ensures round_trip { (c : List ℕ) → AreDwords 4 c → dword_bytes c ≡ bytes.now → result ≡ c }
+    {
+        let mut dwords = [0; 4];
+        read_dwords(bytes, &mut dwords);
+        Completion { dwords }
+    }
 }
 
 /// What the completion of a command says.
@@ -36,12 +63,12 @@ pub struct Ended {
 /// 2, status code 80h.
 pub const WRITE_FAULT: u16 = 640;
 
-ghost use Rattle.mq_nvme.specs.Completion.{entry_of_ended, status_word};
-
-#[tactic(auto, unfolding(crate::specs::Completion::entry_of_ended))]
+/// The completion queue entry of a command.
+#[tactic(auto, unfolding(crate::specs::Completion::completion_of, crate::specs::Completion::status_of))]
 pub fn completion_of(ended: &Ended) -> Completion
     requires { ended.now.status < 2 ^ 15 }
-    ensures { result ≡ entry_of_ended ended.now }
+    ensures is { result ≡ completion_of ended.now }
+    ensures status { status_of result ≡ ended.now.status }
 {
     Completion {
         dwords: [
@@ -53,9 +80,32 @@ pub fn completion_of(ended: &Ended) -> Completion
     }
 }
 
-#[tactic(auto, unfolding(crate::specs::Completion::status_word))]
+/// The status of a completed command, which is 0 for success.
+#[tactic(auto, unfolding(crate::specs::Completion::status_of))]
 pub fn status_of(completion: &Completion) -> u16
-    ensures { result ≡ status_word completion.now }
+    ensures { result ≡ status_of completion.now }
 {
     (completion.dwords[3] >> 17) as u16
+}
+
+#[cfg(test)]
+mod tests {
+    use super::*;
+
+    #[test]
+    fn a_write_fault(rt: HostRuntime) {
+        let ended = Ended {
+            sq_head: 3,
+            sq_id: 1,
+            cid: 2,
+            phase: true,
+            status: WRITE_FAULT,
+        };
+        let completion = completion_of(&ended);
+        assert!(rt; completion.dwords == [0, 0, 0x0001_0003, 0x0501_0002]);
+        assert_eq!(rt; status_of(&completion), 640);
+        let bytes = completion.to_bytes();
+        assert!(rt; bytes == [0, 0, 0, 0, 0, 0, 0, 0, 3, 0, 1, 0, 2, 0, 1, 5]);
+        assert!(rt; Completion::from_bytes(&bytes) == completion);
+    }
 }

@@ -1,10 +1,10 @@
 // Submission queue entries.
-ghost use Rattle.std.specs.Prelude.{◌≡◌, ◌+◌, ◌*◌, ◌^◌};
+ghost use Rattle.std.specs.Prelude.{◌≡◌, ◌+◌, ◌*◌, ◌^◌, ℕ, List};
 
+use crate::dwords::{read_dwords, write_dwords};
 use std::marker::Model;
 
-/// A submission queue entry (NVM Express 1.4, 4.2, "Submission Queue Entry"): command dwords 0 to
-/// 15.
+/// A submission queue entry (NVM Express 1.4, "Submission Queue Entry"): command dwords 0 to 15.
 #[derive(Clone, Copy, Debug, PartialEq, Eq)]
 pub struct Entry {
     pub(crate) dwords: [u32; 16],
@@ -22,6 +22,7 @@ impl Model for Entry {
 
 impl Entry {
     ghost use Rattle.mq_nvme.specs.Entry.{blank, tx_of, lba_of, is_commit};
+    ghost use Rattle.mq_nvme.specs.Dwords.{AreDwords, dword_bytes};
 
     /// An entry of zeros.
     #[tactic(auto, unfolding(crate::specs::Entry::blank))]
@@ -53,6 +54,27 @@ impl Entry {
         ensures { result ≡ is_commit self.now }
     {
         (self.dwords[12] >> 17) % 2 == 1
+    }
+
+    /// The entry as it lies in memory.
+    pub fn to_bytes(&self) -> [u8; 64]
+        ensures dwords { AreDwords 16 self.now }
+        ensures bytes { result ≡ dword_bytes self.now }
+    {
+        let mut bytes = [0; 64];
+        write_dwords(&self.dwords, &mut bytes);
+        bytes
+    }
+
+    /// The entry that lies in memory as these bytes.
+    pub fn from_bytes(bytes: &[u8; 64]) -> Entry
+        ensures dwords { AreDwords 16 result }
+        ensures bytes { dword_bytes result ≡ bytes.now }
+        ensures round_trip { (e : List ℕ) → AreDwords 16 e → dword_bytes e ≡ bytes.now → result ≡ e }
+    {
+        let mut dwords = [0; 16];
+        read_dwords(bytes, &mut dwords);
+        Entry { dwords }
     }
 }
 

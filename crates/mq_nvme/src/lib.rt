@@ -1,8 +1,9 @@
-//! Submission and completion queue entries of NVM Express, for writes that carry the number of a
-//! transaction.
+//! Submission and completion queue entries of NVM Express 1.4, for writes that are requests of a
+//! transaction (Liao et al., SOSP 2021). Where an entry says so is this project's own.
 #![tactic(auto)]
 
 mod completion;
+mod dwords;
 mod entry;
 mod write;
 

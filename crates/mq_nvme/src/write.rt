@@ -1,41 +1,44 @@
 // Write commands.
-ghost use Rattle.std.specs.Prelude.{◌≡◌, ◌<◌, ◌≤◌, ◌↔◌, IfOk, IfSome, None};
-ghost use Rattle.mq_nvme.specs.Entry.{entry_of, request_of, broken, write_rules, common_rules, command_rules, refusal_of, IsWrite};
+ghost use Rattle.std.specs.Prelude.{◌≡◌, ◌<◌, ◌≤◌, ◌↔◌, IfOk, None};
+ghost use Rattle.mq_nvme.specs.Entry.{entry_of, request_of, flags, block_rules, common_rules, command_rules, first_refusal, refusal_of, IsWrite};
 
 use crate::Entry;
 use crate::entry::joined;
 
-/// A write of one block to namespace 1 from the buffer of a slot, as a request of a transaction.
+/// A write of one logical block to namespace 1 from a slot's buffer, as a request of a transaction.
 #[derive(Clone, Copy, Debug, PartialEq, Eq)]
 pub struct WriteReq {
-    /// The number of the transaction.
+    /// The number of the transaction, from 1 on.
     pub tx: u64,
-    /// The slot of the submission queue, which is the command identifier too.
+    /// The slot of the submission queue, below 1,024, which is the command identifier too.
     pub slot: u16,
+    /// The starting logical block.
     pub lba: u64,
     /// Whether this is the last request of the transaction.
     pub commit: bool,
 }
 
-/// Why an entry is no such write.
+/// Why an entry is no such write, by what stands there instead.
 #[derive(Clone, Copy, Debug, PartialEq, Eq)]
 pub enum EntryRefusal {
     Opcode { found: u32 },
     Namespace { found: u32 },
-    /// `found` is the number of blocks less 1, as the entry has it.
+    /// The zero-based number of logical blocks.
     Count { found: u32 },
+    /// A dword of which some other bit is wrong, and its value.
     Flags { dword: u32, value: u32 },
 }
 
-/// The entry of a write: opcode 01h in namespace 1 with Force Unit Access, whose buffer is the
-/// slot's 4,096 bytes (NVM Express 1.4, 6.14, "Write command"). Dwords 2 and 3, which the
-/// standard reserves, have the number of the transaction, and bits 16 and 17 of dword 12 mark its
-/// requests and its last one.
+/// The entry of a write (NVM Express 1.4, "Write command"): opcode 01h in namespace 1 with Force
+/// Unit Access, whose PRP entry 1 names the slot's 4,096 bytes. Of what the standard reserves,
+/// dwords 2 and 3 have the number of the transaction, and dword 12 has bit 17 in the last request
+/// of the transaction and bit 16 in the ones before it.
 #[tactic(auto, unfolding(crate::specs::Entry::entry_of))]
 pub fn write_of(req: &WriteReq) -> Entry
     requires slot { req.now.slot < 1024 }
     requires tx { 1 ≤ req.now.tx }
-    ensures { result ≡ entry_of req.now }
+    ensures is { result ≡ entry_of req.now }
+    ensures write { IsWrite result req.now }
 {
     let slot = u32::from(req.slot);
     let mark = if req.commit { 1 << 17 } else { 1 << 16 };
@@ -61,9 +64,8 @@ pub fn write_of(req: &WriteReq) -> Entry
     }
 }
 
-/// Reads the entry of a write. What is refused is named by its first cause: the opcode, the
-/// namespace, the number of blocks, and then the first dword that differs from what `write_of`
-/// writes.
+/// Reads an entry that `write_of` wrote. Any other is refused by its first cause, in the order of
+/// `EntryRefusal`, with dwords in rising order.
 pub fn read_write(entry: &Entry) -> Result<WriteReq, EntryRefusal>
     ensures read { IfOk result (λ r. IsWrite entry.now r) }
     ensures write { (r : WriteReq) → IsWrite entry.now r → result ≡ Ok r }
@@ -76,10 +78,7 @@ pub fn read_write(entry: &Entry) -> Result<WriteReq, EntryRefusal>
 }
 
 // The request of an entry that is not refused.
-#[tactic(
-    auto,
-    unfolding(crate::specs::Entry::request_of, crate::specs::Entry::tx_of, crate::specs::Entry::lba_of)
-)]
+#[tactic(auto, unfolding(crate::specs::Entry::request_of, crate::specs::Entry::tx_of, crate::specs::Entry::lba_of))]
 fn request(entry: &Entry) -> WriteReq
     requires { refusal_of entry.now ≡ None }
     ensures fields { result ≡ request_of entry.now }
@@ -95,9 +94,22 @@ fn request(entry: &Entry) -> WriteReq
 }
 
 // The first cause to refuse an entry.
-#[tactic(auto, unfolding(crate::specs::Entry::refusal_of))]
 fn refusal(entry: &Entry) -> Option<EntryRefusal>
     ensures { result ≡ refusal_of entry.now }
+{
+    if let Some(cause) = block_refusal(entry) {
+        return Some(cause);
+    }
+    if let Some(cause) = common_refusal(entry) {
+        return Some(cause);
+    }
+    command_refusal(entry)
+}
+
+// The refusal of what isn't a write of one logical block to namespace 1.
+#[tactic(auto, unfolding(crate::specs::Entry::block_rules))]
+fn block_refusal(entry: &Entry) -> Option<EntryRefusal>
+    ensures { result ≡ first_refusal block_rules entry.now }
 {
     let opcode = entry.dwords[0] % 256;
     if opcode != 1 {
@@ -111,83 +123,158 @@ fn refusal(entry: &Entry) -> Option<EntryRefusal>
     if count != 0 {
         return Some(EntryRefusal::Count { found: count });
     }
-    match broken_dword(entry) {
-        Some(dword) => Some(EntryRefusal::Flags {
-            dword: dword as u32,
-            value: entry.dwords[dword],
-        }),
-        None => None,
-    }
+    None
 }
 
-// The first dword that breaks a rule.
-#[tactic(auto, unfolding(crate::specs::Entry::write_rules))]
-fn broken_dword(entry: &Entry) -> Option<usize>
-    ensures first { result ≡ broken write_rules entry.now }
-    ensures within { IfSome result (λ k. k < 16) }
-{
-    match broken_common_dword(entry) {
-        Some(dword) => Some(dword),
-        None => broken_command_dword(entry),
-    }
-}
-
-// The first of the dwords that all commands have that breaks a rule.
+// The refusal by the rest of the dwords that all commands have.
 #[tactic(auto, unfolding(crate::specs::Entry::common_rules))]
-fn broken_common_dword(entry: &Entry) -> Option<usize>
-    ensures first { result ≡ broken common_rules entry.now }
-    ensures within { IfSome result (λ k. k < 16) }
+fn common_refusal(entry: &Entry) -> Option<EntryRefusal>
+    ensures { result ≡ first_refusal common_rules entry.now }
 {
     let dwords = &entry.dwords;
     let slot = dwords[0] >> 16;
     if (dwords[0] >> 8) % 256 != 0 {
-        return Some(0);
+        return Some(flags(entry, 0));
     }
     if slot >= 1024 {
-        return Some(0);
+        return Some(flags(entry, 0));
     }
     if entry.tx() == 0 {
-        return Some(2);
+        return Some(flags(entry, 2));
     }
     if dwords[4] != 0 {
-        return Some(4);
+        return Some(flags(entry, 4));
     }
     if dwords[5] != 0 {
-        return Some(5);
+        return Some(flags(entry, 5));
     }
     if dwords[6] != 4096 * slot {
-        return Some(6);
+        return Some(flags(entry, 6));
     }
     if dwords[7] != 0 {
-        return Some(7);
+        return Some(flags(entry, 7));
     }
     if dwords[8] != 0 {
-        return Some(8);
+        return Some(flags(entry, 8));
     }
     if dwords[9] != 0 {
-        return Some(9);
+        return Some(flags(entry, 9));
     }
     None
 }
 
-// The first of a write's own dwords that breaks a rule.
+// The refusal by the rest of a write's own dwords.
 #[tactic(auto, unfolding(crate::specs::Entry::command_rules))]
-fn broken_command_dword(entry: &Entry) -> Option<usize>
-    ensures first { result ≡ broken command_rules entry.now }
-    ensures within { IfSome result (λ k. k < 16) }
+fn command_refusal(entry: &Entry) -> Option<EntryRefusal>
+    ensures { result ≡ first_refusal command_rules entry.now }
 {
     let dwords = &entry.dwords;
     if !matches!(dwords[12] >> 16, 0x4001 | 0x4002) {
-        return Some(12);
+        return Some(flags(entry, 12));
     }
     if dwords[13] != 0 {
-        return Some(13);
+        return Some(flags(entry, 13));
     }
     if dwords[14] != 0 {
-        return Some(14);
+        return Some(flags(entry, 14));
     }
     if dwords[15] != 0 {
-        return Some(15);
+        return Some(flags(entry, 15));
     }
     None
+}
+
+fn flags(entry: &Entry, dword: usize) -> EntryRefusal
+    requires { dword < 16 }
+    ensures { result ≡ flags dword entry.now }
+{
+    EntryRefusal::Flags {
+        dword: dword as u32,
+        value: entry.dwords[dword],
+    }
+}
+
+#[cfg(test)]
+mod tests {
+    use super::*;
+
+    fn request() -> WriteReq
+        ensures slot { result.slot < 1024 }
+        ensures tx { 1 ≤ result.tx }
+    {
+        WriteReq {
+            tx: 1,
+            slot: 6,
+            lba: 5,
+            commit: true,
+        }
+    }
+
+    #[test]
+    fn a_commit_is_written_and_read(rt: HostRuntime) {
+        let entry = write_of(&request());
+        let dwords = [
+            0x0006_0001,
+            1,
+            1,
+            0,
+            0,
+            0,
+            0x6000,
+            0,
+            0,
+            0,
+            5,
+            0,
+            0x4002_0000,
+            0,
+            0,
+            0,
+        ];
+        assert!(rt; entry.dwords == dwords);
+        assert!(rt; read_write(&entry) == Ok(request()));
+        assert!(rt; Entry::from_bytes(&entry.to_bytes()) == entry);
+        assert_eq!(rt; entry.tx(), 1);
+        assert_eq!(rt; entry.lba(), 5);
+        assert!(rt; entry.is_commit());
+    }
+
+    #[test]
+    fn zeros_are_no_write(rt: HostRuntime) {
+        assert!(rt; read_write(&Entry::zeroed()) == Err(EntryRefusal::Opcode { found: 0 }));
+    }
+
+    #[test]
+    fn the_first_cause_is_named(rt: HostRuntime) {
+        let cases = [
+            (0, 0x0006_0002, EntryRefusal::Opcode { found: 2 }),
+            (1, 2, EntryRefusal::Namespace { found: 2 }),
+            (12, 0x4002_0001, EntryRefusal::Count { found: 1 }),
+            (
+                0,
+                0x0400_0001,
+                EntryRefusal::Flags {
+                    dword: 0,
+                    value: 0x0400_0001,
+                },
+            ),
+            (2, 0, EntryRefusal::Flags { dword: 2, value: 0 }),
+            (6, 5, EntryRefusal::Flags { dword: 6, value: 5 }),
+            (
+                12,
+                0x4003_0000,
+                EntryRefusal::Flags {
+                    dword: 12,
+                    value: 0x4003_0000,
+                },
+            ),
+        ];
+        for (dword, value, refusal) in cases {
+            let mut entry = write_of(&request());
+            if dword < 16 {
+                entry.dwords[dword] = value;
+            }
+            assert!(rt; read_write(&entry) == Err(refusal), "dword {dword}");
+        }
+    }
 }

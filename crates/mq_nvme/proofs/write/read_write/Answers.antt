@@ -1,12 +1,12 @@
 -- An entry of a request is not refused, and its request is read.
-use Rattle.std.proofs.Common.{ap, sym, ◌∙◌}
-use Rattle.mq_nvme.specs.Entry.{entry_of, refusal_of, request_of, IsWrite}
+use Rattle.std.proofs.Common.{ap}
+use Rattle.mq_nvme.specs.Entry.{request_of}
 use Rattle.mq_nvme.proofs.Entries.{request_of-entry}
-use Rattle.mq_nvme.proofs.Refusals.{accepts}
+use Rattle.mq_nvme.proofs.Refusals.{refusal_of-write}
 use Rattle.mq_nvme.proofs.write.read_write.Goals as goal
 
 pub returns-in-Some-clause-write : goal.returns-in-Some-clause-write
-returns-in-Some-clause-write c r w = let none = accepts r w.request in let at = ap refusal_of w.is in let was = c.in-Some.ensures in cc
+returns-in-Some-clause-write c r w = let none = refusal_of-write _ r w in let was = c.in-Some.ensures in cc
 
 pub returns-in-None-clause-write : goal.returns-in-None-clause-write
 returns-in-None-clause-write c r w = let at = ap request_of w.is in let is = request_of-entry r in let was = c.request.ensures.fields in cc

@@ -1,7 +1,6 @@
 -- What is read of an entry that is not refused has that entry.
-use Rattle.std.proofs.Common.{rules, sym, subst}
-use Rattle.mq_nvme.specs.declared.write.WriteReq.{WriteReq}
-use Rattle.mq_nvme.specs.Entry.{request_of, tx_of, lba_of, IsWrite}
+use Rattle.std.proofs.Common.{rules}
+use Rattle.mq_nvme.specs.Entry.{request_of, tx_of, lba_of}
 use Rattle.mq_nvme.proofs.Refusals.{accepted, HasDwords}
 use Rattle.mq_nvme.proofs.write.request.Goals as goal
 

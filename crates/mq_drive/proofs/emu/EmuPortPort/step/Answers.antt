@@ -2,13 +2,14 @@ use Rattle.std.proofs.Common.{rules, ◌≡◌, ◌<◌, ◌≤◌, ℕ, List, �
 use Rattle.std.proofs.lemmas.Grind.{common_steps}
 use Rattle.std.proofs.lemmas.List.Elements.{All-rest}
 use Rattle.std.specs.Prelude.{slice_get}
-use Rattle.mq_nvme.specs.Completion.{status_word, identifier_word}
+use Rattle.mq_nvme.specs.Completion.{status_of, identifier_of}
 use Rattle.mq_blocks.specs.Drive.{AreCounted, PortState}
 use Rattle.mq_blocks.specs.declared.command.Command.{Command}
 use Rattle.mq_drive.specs.declared.emu.EmuPort.{EmuPort}
 use Rattle.mq_drive.specs.Emu.{emu_state}
 use Rattle.mq_drive.specs.Slots.{index_in}
-use Rattle.mq_drive.proofs.Moves.{done_first, identifier-ended, status-success}
+use Rattle.mq_drive.proofs.Moves.{done_first}
+use Rattle.mq_nvme.proofs.Completions.{identifier_of-completion}
 use Rattle.mq_drive.proofs.Commands.{counted_rest}
 use Rattle.mq_drive.proofs.emu.EmuPortPort.step.Goals as goal
 
@@ -61,11 +62,11 @@ pub returns : goal.returns
 returns c =
     let s : PortState = emu_state c.args.self.now in
     let at : c.index-index.result ≡ index_in c.args.self.now.area.first c.args.self.now.area.size c.args.self.now.homes.first c.take_first-command.result.lba = c.index-index.ensures in
-    let success : status_word c.completion_of-completion.result ≡ 0 = ap status_word c.completion_of-completion.ensures ∙ status-success _ (omega arith) refl in
+    let success : status_of c.completion_of-completion.result ≡ 0 = c.completion_of-completion.ensures.status in
     record {
       at = 0;
       command = c.take_first-command.result;
-      identifier = ap identifier_word c.completion_of-completion.ensures ∙ identifier-ended _ (omega arith);
+      identifier = ap identifier_of c.completion_of-completion.ensures.is ∙ identifier_of-completion _ (omega arith);
       posted = ap (λ (l : List Command). slice_get l 0) c.take_first-command.ensures.items;
       success = λ _. (
         done_first s c.take_first-command.result c.take_first-command.new.commands.items c.put_block.new.blocks.items c.put_flag.new.flags.items c.bump-self-2.result

@@ -1,0 +1,8 @@
+-- The dwords that were read are the only ones with these bytes.
+use Rattle.std.proofs.Common.{sym, ◌∙◌}
+use Rattle.mq_nvme.proofs.Bytes.{dword_bytes-injective}
+use Rattle.mq_nvme.proofs.entry.Entry.from_bytes.Goals as goal
+
+pub returns-clause-round_trip : goal.returns-clause-round_trip
+returns-clause-round_trip c e are same =
+    dword_bytes-injective 16 c.read_dwords.new.into e c.read_dwords.ensures.dwords are (c.read_dwords.ensures.bytes ∙ sym same)
