@@ -3,6 +3,7 @@ use Rattle.std.proofs.lemmas.Result.{err_from_is_err_and}
 use Rattle.std.specs.Prelude.{◌==◌}
 use Rattle.std.specs.VecDeque.{deque_len}
 use Rattle.mq_nvme.specs.Entry.{entry_of, tx_of, lba_of, IsWrite}
+use Rattle.mq_nvme.specs.declared.write.WriteReq.{WriteReq}
 use Rattle.mq_nvme.proofs.Entries.{tx_of-entry, lba_of-entry}
 use Rattle.mq_blocks.specs.Drive.{PortState, Owns, staged_end, after_stage}
 use Rattle.mqfs.specs.Runs.{Items, after_some, is_last, entry_at, AreOwn}
@@ -20,7 +21,7 @@ stage-requires-clause-write g c =
       request = record { tx = c.tx.inside.0; slot = c.staging.at % 1024; lba = c.from.result; commit = c.is_empty-in-staging.result };
       write = record {
         request = record { slot = omega arith; tx_low = omega (arith, c.tx.view_is, c.requires.tx); tx_high = c.tx.invariant; lba = omega (arith, c.from.ensures, c.lba.invariant) };
-        is = c.write_of-entry.ensures;
+        is = c.write_of-entry.ensures.is;
       };
       slot = refl;
       own = owns-along start now c.from.result inv.same (subst (λ (n : ℕ). Owns start n) (sym lba_is) own.0);
@@ -40,12 +41,12 @@ staging-preserved g c =
     let count : deque_len c.take_first-lba.new.items ≡ length rest = search rules in
     let flag : c.is_empty-in-staging.result ≡ is_last rest = c.is_empty-in-staging.ensures ∙ ap (λ (n : ℕ). n == 0) count ∙ is_last_by_length rest in
     let entry : c.write_of-entry.result ≡ entry_at number (staged_end now) lba rest =
-    c.write_of-entry.ensures
+    c.write_of-entry.ensures.is
     ∙ ap (λ (b : Bool). entry_of record { tx = number; slot = c.staging.at % 1024; lba = c.from.result; commit = b }) flag
     ∙ (λ i. entry_at number (inv.at i) (lba_is i) rest) in
-    let request = record { tx = number; slot = c.staging.at % 1024; lba = c.from.result; commit = c.is_empty-in-staging.result } in
-    let tx_is : tx_of c.write_of-entry.result ≡ number = ap tx_of c.write_of-entry.ensures ∙ tx_of-entry request in
-    let lba_in : lba_of c.write_of-entry.result ≡ lba = ap lba_of c.write_of-entry.ensures ∙ lba_of-entry request ∙ lba_is in
+    let request : WriteReq = record { tx = number; slot = c.staging.at % 1024; lba = c.from.result; commit = c.is_empty-in-staging.result } in
+    let tx_is : tx_of c.write_of-entry.result ≡ number = ap tx_of c.write_of-entry.ensures.is ∙ tx_of-entry request in
+    let lba_in : lba_of c.write_of-entry.result ≡ lba = ap lba_of c.write_of-entry.ensures.is ∙ lba_of-entry request ∙ lba_is in
     let step : Next now new number lba block rest = next now new number lba block rest c.write_of-entry.result _ _ entry tx_is lba_in c.in_ok-stage.ensures.ok in
     let was : c.staging.items.items ≡ (lba, block) ∷ rest = c.take_first-lba.ensures in
     let fewer : length c.staging.items.items ≡ suc (length rest) = ap length was in
