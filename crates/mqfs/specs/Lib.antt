@@ -1,3 +1,4 @@
 pub mod Text
 pub mod Causes
 pub mod Runs
+pub mod Recovery
