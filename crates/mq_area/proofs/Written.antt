@@ -65,7 +65,7 @@ list-written b b₁ b₂ at list i p x e f l g n h =
     let lower : length (take i list) ≡ i = length-take-le i list (omega arith) in
     let len : length (list_bytes (take i list)) ≡ 4 * i = length-list_bytes (take i list) ∙ ap (λ (k : ℕ). 4 * k) lower in
     let step : list_bytes (take (i + 1) list) ≡ list_bytes (take i list) ++ to_le_bytes w32 x =
-      ap list_bytes (take_more list i 0 l) ∙ list_bytes-append (take i list) (get_or list i 0 ∷ []) ∙ ap (λ (y : ℕ). list_bytes (take i list) ++ to_le_bytes w32 y) (sym g) in
+    ap list_bytes (take_more list i 0 l) ∙ list_bytes-append (take i list) (get_or list i 0 ∷ []) ∙ ap (λ (y : ℕ). list_bytes (take i list) ++ to_le_bytes w32 y) (sym g) in
     f ∙ ap (λ (w : List ℕ). written w p (to_le_bytes w32 x)) e ∙ written-then b at (list_bytes (take i list)) p (to_le_bytes w32 x) (omega arith) (omega arith) ∙ ap (λ (xs : List ℕ). written b at xs) (sym step)
 
 -- the header, the two lists and the zeros behind them

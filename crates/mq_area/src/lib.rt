@@ -3,7 +3,13 @@
 
 mod bytes;
 mod descriptor;
+mod header;
+mod lists;
+mod read;
+mod refusal;
 mod write;
 
 pub use descriptor::{Descriptor, Expect, PlaceIs};
+pub use read::read_descriptor;
+pub use refusal::DescriptorRefusal;
 pub use write::write_descriptor;

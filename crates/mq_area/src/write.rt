@@ -5,10 +5,8 @@ ghost use Rattle.mq_area.specs.Windows.{written};
 
 use crate::bytes::{put, put_list};
 use crate::descriptor::Descriptor;
+use crate::header::HEADER;
 use mq_blocks::Block;
-
-/// The bytes before the two lists.
-const HEADER: usize = 56;
 
 /// Writes a descriptor over the whole block.
 pub fn write_descriptor(d: &Descriptor, into: &mut Block)

@@ -24,4 +24,4 @@ returns c =
     let P : Descriptor → Type 0 = λ x. put_mid q n c.put_list-2.new.block c.fill.new.self ≡ descriptor_bytes x in
     let Q : Descriptor → Type 0 = λ x. c.put_header.new.block ≡ written c.args.block.now 0 (header_bytes x) in
     subst P c.d.view_is (descriptor-written _ _ _ _ _ d _ q n c.requires.whole few (omega arith) (omega arith) (omega arith) (subst Q (sym c.d.view_is) c.put_header.ensures) first second
-      (put_mid-written _ q n _ _ fill (omega (arith, length-replicate {A = ℕ} n 0))))
+    (put_mid-written _ q n _ _ fill (omega (arith, length-replicate {A = ℕ} n 0))))
