@@ -1,5 +1,5 @@
 // The tests of a descriptor's lists and of the bytes after them.
-ghost use Rattle.std.specs.Prelude.{◌≡◌, ◌≤◌, ◌<◌, ◌+◌, ℕ, length, slice_index, MatchOption, MatchResult};
+ghost use Rattle.std.specs.Prelude.{◌≡◌, ◌≤◌, ◌<◌, ◌+◌, ℕ, length, slice_index, IsTrue, ◌↔◌, MatchOption, MatchResult};
 ghost use Rattle.mq_blocks.specs.Descriptor.{AreRising};
 ghost use Rattle.mq_area.specs.Reading.{StopsAt, GoodRevoked, IsZero, IsListRefusal, IsRestRefusal};
 
@@ -28,15 +28,24 @@ fn skip_below(list: &[BlockNo], from: usize, bound: u32) -> usize
     ensures passed { (k : ℕ) → from ≤ k → k < result → slice_index list.now k < bound }
     ensures stop { result < length list.now → bound ≤ slice_index list.now result }
 {
-    let mut at = from;
-    while at < list.len() {
-        let b = list[at];
+    for k in from..list.len() {
+        let b = list[k];
         if b.0 >= bound {
-            return at;
+            return k;
         }
-        at += 1;
     }
-    at
+    list.len()
+}
+
+/// Whether this block stands at this place of a list.
+fn is_at(list: &[BlockNo], place: usize, b: u32) -> bool
+    ensures { IsTrue result ↔ ((place < length list.now) × (slice_index list.now place ≡ b)) }
+{
+    if place >= list.len() {
+        return false;
+    }
+    let found = list[place];
+    found.0 == b
 }
 
 /// The first entry of the revoked blocks that is no home block, does not rise or is logged. The
@@ -52,7 +61,7 @@ fn first_unfit(homes: u32, logged: &[BlockNo], revoked: &[BlockNo]) -> Option<us
             return Some(i);
         }
         passed = skip_below(logged, passed, b.0);
-        if passed < logged.len() && logged[passed] == *b {
+        if is_at(logged, passed, b.0) {
             return Some(i);
         }
         low = b.0 + 1;
@@ -70,15 +79,17 @@ pub fn check_lists(
     ensures { MatchResult result (λ _. AreRising 0 homes logged.now × GoodRevoked homes logged.now revoked.now) (IsListRefusal homes logged.now revoked.now) }
 {
     if let Some(k) = first_unordered(homes, logged) {
+        let b = logged[k];
         return Err(DescriptorRefusal::List {
             index: k as u32,
-            found: u64::from(logged[k].0),
+            found: u64::from(b.0),
         });
     }
     if let Some(k) = first_unfit(homes, logged, revoked) {
+        let b = revoked[k];
         return Err(DescriptorRefusal::List {
             index: (logged.len() + k) as u32,
-            found: u64::from(revoked[k].0),
+            found: u64::from(b.0),
         });
     }
     Ok(())

@@ -24,7 +24,10 @@ pub enum DescriptorRefusal {
 }
 
 impl From<OutOfMemory> for DescriptorRefusal {
-    ghost from_gives = { λ e r. r ≡ DescriptorRefusal.OutOfMemory };
+    ghost use Rattle.std.specs.Prelude.{◌≡◌};
+    ghost use Rattle.mq_area.specs.declared.refusal.DescriptorRefusal.TheVariants.{OutOfMemory};
+
+    ghost from_gives = { λ _ e. e ≡ OutOfMemory };
 
     fn from(_: OutOfMemory) -> Self {
         DescriptorRefusal::OutOfMemory
