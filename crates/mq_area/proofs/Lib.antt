@@ -1,3 +1,5 @@
-pub mod Rising
+pub mod Descriptors
 pub mod Numbers
+pub mod Rising
+pub mod Sound
 pub mod Written

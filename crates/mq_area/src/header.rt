@@ -1,5 +1,5 @@
 // The fields of a descriptor before its lists.
-ghost use Rattle.std.specs.Prelude.{◌≡◌, ◌≤◌, ◌<◌, ◌+◌, ◌*◌, length, IsTrue, ◌↔◌, MatchResult};
+ghost use Rattle.std.specs.Prelude.{◌≡◌, ◌≤◌, ◌<◌, ◌+◌, ◌*◌, ℕ, length, slice_index, IsTrue, ◌↔◌, MatchResult};
 ghost use Rattle.mq_area.specs.Reading.{header_of, GoodCounts, RefusesHeader, IsPlaced, Follows};
 
 use crate::bytes::{u32_at, u64_at};
@@ -33,7 +33,8 @@ pub struct Header {
 #[tactic(auto, unfolding(crate::specs::Reading::header_of))]
 pub fn read_header(block: &[u8]) -> Header
     requires { HEADER ≤ length block.now }
-    ensures { result ≡ header_of block.now }
+    ensures is { result ≡ header_of block.now }
+    ensures bytes { (k : ℕ) → slice_index block.now k < 256 }
 {
     Header {
         magic: u64_at(block, 0),

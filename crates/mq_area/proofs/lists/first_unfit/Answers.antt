@@ -30,7 +30,7 @@ loop-i-preserved c =
       sym (next_above-step c.args.revoked.now c.loop-i.i c.b.inside.0 l e),
       rising-step c.args.homes c.args.revoked.now c.loop-i.i c.b.inside.0 l e v.1 (omega arith) c.if-b-homes.false,
       unlogged-step c.args.homes c.args.logged.now c.args.revoked.now c.loop-i.i c.b.inside.0 c.loop-i.low c.loop-i.passed c.skip_below-passed.result l e c.requires v.2 c.if-b-low.false v.4 s.passed s.stop
-          (λ t. ?),
+          (λ t. let y = c.is_at.ensures.1 t in let n = c.if-is_at.false in cc),
       s.high,
       below-next c.args.logged.now c.b.inside.0 c.loop-i.low c.loop-i.passed c.skip_below-passed.result c.if-b-low.false v.4 s.passed,
     )
