@@ -1,15 +1,14 @@
 -- What the block of a good descriptor reads as.
-use Rattle.std.proofs.Common.{◌≡◌, ◌≢◌, ℕ, zero, suc, ◌+◌, ◌-◌, ◌*◌, ◌/◌, ◌%◌, ◌^◌, ◌<◌, ◌≤◌, inl, inr, List, [], ◌∷◌, ◌++◌, length, take, drop, replicate, get_or, refl, sym, ap, subst, ◌∙◌, arith, append_assoc, length-append}
-use Rattle.std.proofs.lemmas.Bool.{cases_lt, cases_eq}
-use Rattle.std.proofs.lemmas.List.{get_or-drop, drop_at, drop-drop, length-replicate, get_or-append_right, get_or-replicate, take_all, append-nil}
-use Rattle.std.specs.Int.{to_le_bytes, w32, w64}
+use Rattle.std.proofs.Common.{◌≡◌, ℕ, zero, suc, ◌+◌, ◌-◌, ◌*◌, ◌^◌, ◌<◌, ◌≤◌, inl, inr, List, [], ◌∷◌, ◌++◌, length, take, drop, replicate, get_or, refl, sym, ap, subst, ◌∙◌, arith, append_assoc, length-append}
+use Rattle.std.proofs.lemmas.Bool.{cases_eq}
+use Rattle.std.proofs.lemmas.List.{get_or-drop, drop_at, drop-drop, length-replicate}
 use Rattle.byteorder.specs.Endian.{little_number}
 use Rattle.byteorder.specs.Numbers.{little_number-reads_back}
 use Rattle.mq_blocks.specs.Descriptor.{Descriptor, IsGood, AreRising, AreApart, list_bytes, header_bytes, descriptor_bytes, magic}
 use Rattle.mq_blocks.specs.Geometry.{homes_of, area_of}
 use Rattle.mq_blocks.specs.declared.geometry.Geometry.{Geometry}
 use Rattle.mq_area.specs.Windows.{number_at, numbers}
-use Rattle.mq_area.specs.Reading.{Accepts, header_of, logged_of, revoked_of, end_of, GoodCounts, GoodLists, GoodRevoked, AreListed, RefusesHeader, Refuses, RefusesList, RefusesRest, IsZero, PlaceFits}
+use Rattle.mq_area.specs.Reading.{Accepts, header_of, logged_of, revoked_of, end_of, GoodCounts, RefusesHeader, RefusesList, RefusesRest, IsZero}
 use Rattle.mq_area.specs.declared.descriptor.Expect.{Expect}
 use Rattle.mq_area.specs.declared.header.Header.{Header}
 use Rattle.mq_area.specs.declared.refusal.DescriptorRefusal.{DescriptorRefusal}

@@ -1,9 +1,9 @@
 -- Rising lists, entry by entry.
-use Rattle.std.proofs.Common.{◌≡◌, ◌≢◌, ℕ, zero, suc, ◌+◌, ◌-◌, ◌*◌, ◌<◌, ◌≤◌, ◌⊎◌, inl, inr, List, [], ◌∷◌, ◌++◌, length, take, drop, get_or, refl, sym, ap, subst, ◌∙◌, arith, length-append}
+use Rattle.std.proofs.Common.{◌≡◌, ◌≢◌, ℕ, zero, suc, ◌+◌, ◌-◌, ◌<◌, ◌≤◌, ◌⊎◌, inl, inr, List, [], ◌∷◌, ◌++◌, length, take, get_or, refl, sym, ap, subst, ◌∙◌, arith}
 use Rattle.std.proofs.lemmas.Bool.{cases_lt, cases_eq}
 use Rattle.std.proofs.lemmas.List.{take_more, take_all, get_or_append_left, get_or-append-add}
 use Rattle.mq_blocks.specs.Descriptor.{AreRising, AreApart, IsNoneOf}
-use Rattle.mq_area.specs.Reading.{StopsAt, GoodRevoked, AreListed, RefusesList}
+use Rattle.mq_area.specs.Reading.{StopsAt, GoodRevoked, RefusesList}
 
 -- the least number that may follow a rising list that began at `low`
 abbrev pub next_above : ℕ → List ℕ → ℕ

@@ -1,9 +1,9 @@
 -- The block that passes every test is that of a descriptor.
-use Rattle.std.proofs.Common.{◌≡◌, ◌≢◌, ℕ, zero, suc, ◌+◌, ◌-◌, ◌*◌, ◌/◌, ◌%◌, ◌^◌, ◌<◌, ◌≤◌, inl, inr, List, [], ◌∷◌, ◌++◌, length, take, drop, replicate, get_or, refl, sym, ap, subst, ◌∙◌, arith, append_assoc, length-append, length-take, length-drop}
-use Rattle.std.proofs.lemmas.List.{same_lists, ext_get_or, length-replicate, length-take-le, get_or-take, get_or-drop, get_or-replicate, take_all}
+use Rattle.std.proofs.Common.{◌≡◌, ℕ, ◌+◌, ◌-◌, ◌*◌, ◌^◌, ◌<◌, ◌≤◌, List, ◌++◌, length, drop, replicate, get_or, refl, sym, ap, subst, ◌∙◌, arith, length-drop}
+use Rattle.std.proofs.lemmas.List.{ext_get_or, length-replicate, length-take-le, get_or-take, get_or-drop, get_or-replicate, take_all}
 use Rattle.std.specs.Int.{to_le_bytes, w32, w64}
 use Rattle.byteorder.specs.Endian.{little_number}
-use Rattle.mq_blocks.specs.Descriptor.{Descriptor, IsGood, AreRising, AreApart, list_bytes, header_bytes, descriptor_bytes, magic}
+use Rattle.mq_blocks.specs.Descriptor.{Descriptor, AreRising, list_bytes, header_bytes, descriptor_bytes, magic}
 use Rattle.mq_blocks.specs.Geometry.{homes_of, area_of}
 use Rattle.mq_blocks.specs.declared.geometry.Geometry.{Geometry}
 use Rattle.mq_area.specs.Windows.{window, number_at, numbers}

@@ -1,5 +1,5 @@
 -- One write after another in a block.
-use Rattle.std.proofs.Common.{get_or, ◌≡◌, ℕ, ◌+◌, ◌-◌, ◌*◌, ◌<◌, ◌≤◌, List, [], ◌∷◌, ◌++◌, length, take, drop, replicate, refl, sym, ap, ◌∙◌, arith, append_assoc, length-append, length-take, length-drop}
+use Rattle.std.proofs.Common.{get_or, ◌≡◌, ℕ, ◌+◌, ◌-◌, ◌*◌, ◌<◌, ◌≤◌, List, [], ◌∷◌, ◌++◌, length, take, replicate, refl, sym, ap, ◌∙◌, arith, length-append, length-take, length-drop}
 use Rattle.std.proofs.lemmas.List.{take_more, length-take-le, places, same_lists, append-nil, drop-drop, drop_all, length-replicate}
 use Rattle.std.specs.Int.{to_le_bytes, w32, w64}
 use Rattle.mq_blocks.specs.Descriptor.{Descriptor, list_bytes, header_bytes, descriptor_bytes, magic}

@@ -1,4 +1,4 @@
-use Rattle.std.proofs.Common.{◌∙◌, ◌≡◌, ◌<◌, length, get_or, refl, sym, arith, rules}
+use Rattle.std.proofs.Common.{◌∙◌, ◌<◌, length, refl, sym, arith}
 use Rattle.std.proofs.lemmas.List.{get_or_read}
 use Rattle.mq_area.proofs.Written.{list-written, written-nothing}
 use Rattle.mq_area.proofs.bytes.put_list.Goals as goal

@@ -1,4 +1,4 @@
-use Rattle.std.proofs.Common.{◌∙◌, ℕ, List, [], ◌∷◌, ◌++◌, sym, ap, arith}
+use Rattle.std.proofs.Common.{◌∙◌, ℕ, List, [], ◌∷◌, ◌++◌, sym, ap}
 use Rattle.mq_area.proofs.Numbers.{numbers-none, numbers-more}
 use Rattle.mq_area.proofs.bytes.read_list.Goals as goal
 

@@ -1,4 +1,4 @@
-use Rattle.std.proofs.Common.{refl, arith}
+use Rattle.std.proofs.Common.{refl}
 use Rattle.mq_area.proofs.Sound.{few-along, header-along, lists-along, rest-along, accepts-along, accepted-once}
 use Rattle.mq_area.proofs.read.read_descriptor.Goals as goal
 

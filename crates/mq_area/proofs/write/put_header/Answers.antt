@@ -1,4 +1,4 @@
-use Rattle.std.proofs.Common.{◌≡◌, List, ℕ, length, subst, arith, rules}
+use Rattle.std.proofs.Common.{◌≡◌, length, subst, rules}
 use Rattle.mq_blocks.specs.Descriptor.{Descriptor, header_bytes}
 use Rattle.mq_area.specs.Windows.{written}
 use Rattle.mq_area.proofs.Written.{header-written}
