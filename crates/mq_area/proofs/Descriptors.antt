@@ -159,12 +159,12 @@ accepted-counts g at b d a =
     let s = a.good in
     subst P (sym (accepted-header g at b d a)) ((((((refl, refl), a.queue), a.number), (s.place, a.place)), (s.falls, s.first, s.before)), s.counts, s.fits)
 
-rising-take : (low high n : ℕ) (xs : List ℕ) → AreRising low high xs → AreRising low high (take n xs)
+pub rising-take : (low high n : ℕ) (xs : List ℕ) → AreRising low high xs → AreRising low high (take n xs)
 rising-take low high zero xs r = tt
 rising-take low high (suc n) [] r = tt
 rising-take low high (suc n) (x ∷ xs) r = (r.0, r.1, rising-take (x + 1) high n xs r.2)
 
-apart-take : (n : ℕ) (xs ys : List ℕ) → AreApart xs ys → AreApart (take n xs) ys
+pub apart-take : (n : ℕ) (xs ys : List ℕ) → AreApart xs ys → AreApart (take n xs) ys
 apart-take zero xs ys a = tt
 apart-take (suc n) [] ys a = tt
 apart-take (suc n) (x ∷ xs) ys a = (a.0, apart-take n xs ys a.1)
