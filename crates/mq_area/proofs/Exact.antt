@@ -1,5 +1,5 @@
 -- A block is refused for one cause alone, besides want of memory.
-use Rattle.std.proofs.Common.{◌≡◌, ◌≢◌, ℕ, zero, suc, ◌+◌, ◌-◌, ◌*◌, ◌<◌, ◌≤◌, ◌⊎◌, inl, inr, List, [], ◌∷◌, ◌++◌, length, take, get_or, min, refl, sym, ap, subst, ◌∙◌, arith}
+use Rattle.std.proofs.Common.{◌≡◌, ◌≢◌, ℕ, zero, suc, ◌+◌, ◌-◌, ◌*◌, ◌<◌, ◌≤◌, ◌⊎◌, inl, inr, Result, Ok, Err, IfOk, IfErr, IsErrOf, MatchResult, List, [], ◌∷◌, ◌++◌, length, take, get_or, min, refl, sym, ap, subst, ◌∙◌, arith}
 use Rattle.std.proofs.lemmas.Bool.{cases_lt}
 use Rattle.std.proofs.lemmas.List.{take-take}
 use Rattle.mq_blocks.specs.Descriptor.{Descriptor, AreRising, AreApart}
@@ -11,6 +11,7 @@ use Rattle.mq_area.specs.declared.header.Header.{Header}
 use Rattle.mq_area.specs.declared.refusal.DescriptorRefusal.{DescriptorRefusal}
 use Rattle.mq_area.specs.declared.refusal.DescriptorRefusal.TheVariants.{Magic, Version, Queue, Number, Place, Previous, Counts, List as Listed, Rest, OutOfMemory}
 use Rattle.mq_area.proofs.Descriptors.{accepted-counts, lists-stop, rising-take, apart-take, refused-header, refused-lists, refused-rest}
+use Rattle.mq_area.proofs.Sound.{accepted-once}
 
 -- how many tests of the header passed
 abbrev Passed : ℕ → Expect → Header → ℕ → Type 0
@@ -160,3 +161,18 @@ accepted-refused g at b d e a r = kind-none e (kind g at b e r)
     kind-none _ (by-list i x s) = absurd (refused-lists g at b d i x a s.1)
     kind-none _ (by-rest o s) = absurd (refused-rest g at b d o a s.2)
     kind-none _ by-memory = refl
+
+memory-or : (g : Geometry) (at : Expect) (b : List ℕ) (e : DescriptorRefusal) → Kind g at b e → (e ≡ OutOfMemory) ⊎ (e ≢ OutOfMemory)
+memory-or g at b _ (by-header e r) = let P : DescriptorRefusal → Type 0 = λ x. RefusesHeader (area_of g) at (header_of b) x in inr (λ p. subst P p r)
+memory-or g at b _ (by-list i x r) = inr (λ p. cc)
+memory-or g at b _ (by-rest o r) = inr (λ p. cc)
+memory-or g at b _ by-memory = inl refl
+
+-- So what accepts and refuses rightly is complete, and names the one cause.
+pub complete-of : (g : Geometry) (at : Expect) (b : List ℕ) (r : Result Descriptor DescriptorRefusal) → IfOk r (Accepts g at b) → IfErr r (Refuses g at b) → (d : Descriptor) → Accepts g at b d → MatchResult r (λ x. x ≡ d) (λ e. e ≡ OutOfMemory)
+complete-of g at b (Ok x) s t d a = accepted-once g at b x d s a
+complete-of g at b (Err e) s t d a = accepted-refused g at b d e a t
+
+pub exact-of : (g : Geometry) (at : Expect) (b : List ℕ) (r : Result Descriptor DescriptorRefusal) → IfOk r (Accepts g at b) → IfErr r (Refuses g at b) → (e : DescriptorRefusal) → e ≢ OutOfMemory → Refuses g at b e → IsErrOf r e ⊎ IsErrOf r OutOfMemory
+exact-of g at b (Ok x) s t e n k = absurd (n (accepted-refused g at b x e s k))
+exact-of g at b (Err f) s t e n k = elim (memory-or g at b f (kind g at b f t)) [ inl m ↦ inr (ap (λ (x : DescriptorRefusal). Err x) m) | inr m ↦ inl (ap (λ (x : DescriptorRefusal). Err x) (refuses-once g at b f e t k m n)) ]

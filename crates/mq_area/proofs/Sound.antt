@@ -109,77 +109,24 @@ few-along area at h logged revoked xs ys bs cs c p q l r =
     let n : length cs ≡ h.revoked = ap (λ (zs : List ℕ). length zs) (q ∙ r) ∙ length-numbers h.revoked ys in
     omega arith
 
-pub header-along : (g : Geometry) (at : Expect) (b bytes : List ℕ) (h : Header) (area : ℕ) (e : DescriptorRefusal) (d : Descriptor) → bytes ≡ b → h ≡ header_of bytes → area ≡ area_of g → Accepts g at b d → RefusesHeader area at h e → ⊥
-header-along g at b bytes h area e d s f n a r =
-    let P : ℕ → Type 0 = λ x. RefusesHeader x at h e in
-    let Q : Header → Type 0 = λ x. RefusesHeader (area_of g) at x e in
-    refused-header (area_of g) at (header_of b) e (accepted-counts g at b d a) (subst Q (f ∙ ap header_of s) (subst P n r))
-
-pub lists-along : (g : Geometry) (at : Expect) (b bytes : List ℕ) (h : Header) (homes : ℕ) (bs cs logged revoked : List ℕ) (e : DescriptorRefusal) (d : Descriptor) → bytes ≡ b → h ≡ header_of bytes → homes ≡ homes_of g
-    → bs ≡ logged → cs ≡ revoked → logged ≡ logged_of bytes h.logged → revoked ≡ revoked_of bytes h.logged h.revoked → Accepts g at b d → IsListRefusal homes bs cs e → ⊥
-lists-along g at b bytes h homes bs cs logged revoked e d s f n p q l m a r =
-    let P : ℕ → Type 0 = λ x. IsListRefusal x bs cs e in
-    let Q : List ℕ → Type 0 = λ x. IsListRefusal (homes_of g) x cs e in
-    let R : List ℕ → Type 0 = λ x. IsListRefusal (homes_of g) (logged_of bytes h.logged) x e in
-    let S : Header → Type 0 = λ x. IsListRefusal (homes_of g) (logged_of bytes x.logged) (revoked_of bytes x.logged x.revoked) e in
-    let T : List ℕ → Type 0 = λ x. IsListRefusal (homes_of g) (logged_of x (header_of x).logged) (revoked_of x (header_of x).logged (header_of x).revoked) e in
-    by-cause e (subst T s (subst S f (subst R (q ∙ m) (subst Q (p ∙ l) (subst P n r)))))
-  where
-    by-cause : (e : DescriptorRefusal) → IsListRefusal (homes_of g) (logged_of b (header_of b).logged) (revoked_of b (header_of b).logged (header_of b).revoked) e → ⊥
-    by-cause (Listed index found) r = refused-lists g at b d index found a r
-    by-cause (Magic found) r = r
-    by-cause (Version found) r = r
-    by-cause (Queue found) r = r
-    by-cause (Number found) r = r
-    by-cause (Place found) r = r
-    by-cause (Previous place number) r = r
-    by-cause (Counts x y) r = r
-    by-cause (Rest offset) r = r
-    by-cause OutOfMemory r = r
-
-pub rest-along : (g : Geometry) (at : Expect) (b bytes : List ℕ) (h : Header) (from : ℕ) (e : DescriptorRefusal) (d : Descriptor) → bytes ≡ b → h ≡ header_of bytes → from ≡ end_of h → Accepts g at b d → IsRestRefusal from bytes e → ⊥
-rest-along g at b bytes h from e d s f n a r =
-    let P : ℕ → Type 0 = λ x. IsRestRefusal x bytes e in
-    let Q : Header → Type 0 = λ x. IsRestRefusal (end_of x) bytes e in
-    let R : List ℕ → Type 0 = λ x. IsRestRefusal (end_of (header_of x)) x e in
-    by-cause e (subst R s (subst Q f (subst P n r)))
-  where
-    by-cause : (e : DescriptorRefusal) → IsRestRefusal (end_of (header_of b)) b e → ⊥
-    by-cause (Rest offset) r = refused-rest g at b d offset a r
-    by-cause (Listed index found) r = r
-    by-cause (Magic found) r = r
-    by-cause (Version found) r = r
-    by-cause (Queue found) r = r
-    by-cause (Number found) r = r
-    by-cause (Place found) r = r
-    by-cause (Previous place number) r = r
-    by-cause (Counts x y) r = r
-    by-cause OutOfMemory r = r
-
-pub accepts-along : (g : Geometry) (at : Expect) (b bytes : List ℕ) (h : Header) (area homes from : ℕ) (bs cs logged revoked : List ℕ) → bytes ≡ b → length b ≡ 4096 → ((i : ℕ) → get_or bytes i 0 < 256) → h ≡ header_of bytes → area ≡ area_of g → homes ≡ homes_of g → from ≡ end_of h
-    → bs ≡ logged → cs ≡ revoked → logged ≡ logged_of bytes h.logged → revoked ≡ revoked_of bytes h.logged h.revoked
-    → GoodCounts area at h → AreRising 0 homes bs × GoodRevoked homes bs cs → IsZero from 4096 bytes
+pub accepts-along : (g : Geometry) (at : Expect) (b : List ℕ) (h : Header) (area homes from : ℕ) (bs cs logged revoked : List ℕ) → length b ≡ 4096 → ((i : ℕ) → get_or b i 0 < 256) → h ≡ header_of b → area ≡ area_of g → homes ≡ homes_of g → from ≡ end_of h
+    → bs ≡ logged → cs ≡ revoked → logged ≡ logged_of b h.logged → revoked ≡ revoked_of b h.logged h.revoked
+    → GoodCounts area at h → AreRising 0 homes bs × GoodRevoked homes bs cs → IsZero from 4096 b
     → Accepts g at b (record { queue = h.queue; number = h.number; place = h.place; prev_place = h.prev_place; prev_number = h.prev_number; logged = logged; revoked = revoked })
-accepts-along g at b bytes h area homes from bs cs logged revoked s whole small f n k o p q l m c lists z =
-    let A : List ℕ → Type 0 = λ x. (i : ℕ) → get_or x i 0 < 256 in
-    let whole₂ : length b ≡ 4096 = whole in
-    let e : h ≡ header_of b = f ∙ ap header_of s in
+accepts-along g at b h area homes from bs cs logged revoked whole small e n k o p q l m c lists z =
     let B : ℕ → Type 0 = λ x. GoodCounts x at h in
     let C : Header → Type 0 = λ x. GoodCounts (area_of g) at x in
-    let l₂ : logged ≡ logged_of b h.logged = l ∙ ap (λ (x : List ℕ). logged_of x h.logged) s in
-    let m₂ : revoked ≡ revoked_of b h.logged h.revoked = m ∙ ap (λ (x : List ℕ). revoked_of x h.logged h.revoked) s in
     let D : ℕ → Type 0 = λ x. AreRising 0 x bs × GoodRevoked x bs cs in
     let E : List ℕ → Type 0 = λ x. AreRising 0 (homes_of g) x × GoodRevoked (homes_of g) x cs in
     let F : List ℕ → Type 0 = λ x. AreRising 0 (homes_of g) (logged_of b h.logged) × GoodRevoked (homes_of g) (logged_of b h.logged) x in
     let G : Header → Type 0 = λ x. GoodLists (homes_of g) b x in
-    let good : GoodLists (homes_of g) b (header_of b) = subst G e (subst F (q ∙ m₂) (subst E (p ∙ l₂) (subst D k lists))) in
-    let H : ℕ → Type 0 = λ x. IsZero x 4096 bytes in
-    let I : Header → Type 0 = λ x. IsZero (end_of x) 4096 bytes in
-    let J : List ℕ → Type 0 = λ x. IsZero (end_of (header_of b)) 4096 x in
+    let H : ℕ → Type 0 = λ x. IsZero x 4096 b in
+    let I : Header → Type 0 = λ x. IsZero (end_of x) 4096 b in
     let K : Header → Type 0 = λ x. Accepts g at b (record { queue = x.queue; number = x.number; place = x.place; prev_place = x.prev_place; prev_number = x.prev_number; logged = logged_of b x.logged; revoked = revoked_of b x.logged x.revoked }) in
     let L : List ℕ → Type 0 = λ x. Accepts g at b (record { queue = h.queue; number = h.number; place = h.place; prev_place = h.prev_place; prev_number = h.prev_number; logged = x; revoked = revoked_of b h.logged h.revoked }) in
     let M : List ℕ → Type 0 = λ x. Accepts g at b (record { queue = h.queue; number = h.number; place = h.place; prev_place = h.prev_place; prev_number = h.prev_number; logged = logged; revoked = x }) in
-    subst M (sym m₂) (subst L (sym l₂) (subst K (sym e) (accepts g at b whole₂ (subst A s small) (subst C e (subst B n c)) good (subst J s (subst I e (subst H o z))))))
+    let good : GoodLists (homes_of g) b (header_of b) = subst G e (subst F (q ∙ m) (subst E (p ∙ l) (subst D k lists))) in
+    subst M (sym m) (subst L (sym l) (subst K (sym e) (accepts g at b whole small (subst C e (subst B n c)) good (subst I e (subst H o z)))))
 
 -- at most one descriptor is accepted
 pub accepted-once : (g : Geometry) (at : Expect) (b : List ℕ) (d e : Descriptor) → Accepts g at b d → Accepts g at b e → d ≡ e

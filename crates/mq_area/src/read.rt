@@ -1,5 +1,5 @@
 // Reading a descriptor.
-ghost use Rattle.std.specs.Prelude.{◌≡◌, IfOk, IfErr, MatchResult};
+ghost use Rattle.std.specs.Prelude.{◌≡◌, ◌≢◌, ◌⊎◌, length, IfOk, IfErr, IsErrOf, MatchResult};
 ghost use Rattle.mq_blocks.specs.Descriptor.{Descriptor as Text};
 ghost use Rattle.mq_area.specs.Reading.{Accepts, Refuses};
 
@@ -22,16 +22,29 @@ pub fn read_descriptor(
     ensures sound { IfOk result (Accepts geometry at.now block.now) }
     ensures refused { IfErr result (Refuses geometry at.now block.now) }
     ensures complete { (d : Text) → Accepts geometry at.now block.now d → MatchResult result (λ r. r ≡ d) (λ e. e ≡ DescriptorRefusal.OutOfMemory) }
+    ensures exact { (e : DescriptorRefusal) → e ≢ DescriptorRefusal.OutOfMemory → Refuses geometry at.now block.now e → IsErrOf result e ⊎ IsErrOf result DescriptorRefusal.OutOfMemory }
 {
-    let bytes = block.bytes();
-    let header = read_header(bytes);
+    read_bytes(alloc, geometry, at, block.bytes())
+}
+
+fn read_bytes(
+    alloc: Global,
+    geometry: Geometry,
+    at: &Expect,
+    block: &[u8],
+) -> Result<Descriptor, DescriptorRefusal>
+    requires { length block.now ≡ 4096 }
+    ensures sound { IfOk result (Accepts geometry at.now block.now) }
+    ensures refused { IfErr result (Refuses geometry at.now block.now) }
+{
+    let header = read_header(block);
     check_header(&header, geometry.area(), at)?;
     let second = HEADER + 4 * header.logged as usize;
     let end = second + 4 * header.revoked as usize;
-    let logged = read_list(alloc, bytes, HEADER, header.logged as usize)?;
-    let revoked = read_list(alloc, bytes, second, header.revoked as usize)?;
+    let logged = read_list(alloc, block, HEADER, header.logged as usize)?;
+    let revoked = read_list(alloc, block, second, header.revoked as usize)?;
     check_lists(geometry.homes(), &logged, &revoked)?;
-    check_rest(bytes, end)?;
+    check_rest(block, end)?;
     Ok(Descriptor {
         queue: header.queue,
         number: header.number,
