@@ -1,9 +1,12 @@
+pub mod Ending
+pub mod JournalItems
+pub mod JournalKeeps
+pub mod JournalShows
+pub mod Lines
+pub mod Lists
+pub mod Staging
 pub mod TextItems
 pub mod TextLines
 pub mod TextNumbers
 pub mod TextParts
 pub mod TextWhole
-pub mod Ending
-pub mod Lines
-pub mod Lists
-pub mod Staging

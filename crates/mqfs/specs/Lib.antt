@@ -1,4 +1,6 @@
-pub mod Text
 pub mod Causes
-pub mod Runs
+pub mod Commits
+pub mod Lines
 pub mod Recovery
+pub mod Runs
+pub mod Text
