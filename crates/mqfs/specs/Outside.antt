@@ -1,6 +1,6 @@
 -- Files and sinks: what they hold, and which answers their counts allow.
 use Rattle.std.specs.Prelude.{ℕ, ◌≡◌, ◌<◌, ◌≤◌, ◌+◌, ◌-◌, ◌^◌, ◌⊎◌, Bool, true, false, cond, List, [], ◌++◌, length, take, Option, Some, None, Result, Ok, Err, min, find}
-use Rattle.std.specs.Option.{option_map}
+use Rattle.std.specs.Option.{option_map, unwrap_or}
 use Rattle.std.specs.Str.{bytes_eq}
 use Rattle.std.specs.String.{string_bytes}
 use Rattle.std.specs.declared.string.String.{String}
@@ -109,3 +109,21 @@ AppendsPrefix old new bytes = (n : ℕ) × (n ≤ length bytes) × (new ≡ appe
 -- a sink in memory takes so many bytes of a piece
 abbrev pub piece_of : List ℕ → ℕ
 piece_of bytes = min (length bytes) 64
+
+-- whether an entry of a list of names has this name
+abbrev pub is_named : {Y : Type 0} → List ℕ → String Y × Vec ℕ Y → Bool
+is_named name entry = bytes_eq (string_bytes entry.0) name
+
+-- what a list of names and bytes holds: the bytes of the first entry with the name
+abbrev pub held_in : {Y : Type 0} → List (String Y × Vec ℕ Y) → Held
+held_in entries name = option_map (λ entry. entry.1.items) (find (is_named name) entries)
+
+-- bytes are refused as too long only where they are more than one load gives, and for no fault
+abbrev pub CopyRefused : LoadRefusal → List ℕ → Type 0
+CopyRefused load.Failed bytes = ⊥
+CopyRefused load.TooLong bytes = load_limit < length bytes
+CopyRefused load.OutOfMemory bytes = length bytes ≤ load_limit
+
+-- what a list of names and bytes holds where an absent name holds no bytes
+abbrev pub sure_in : {Y : Type 0} → List (String Y × Vec ℕ Y) → Held
+sure_in entries name = Some (unwrap_or (held_in entries name) [])

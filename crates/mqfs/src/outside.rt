@@ -1,7 +1,10 @@
 // Files and sinks: where a command's bytes come from and go to.
 mod counts;
+mod mem_files;
 mod mem_sink;
+mod names;
 mod traits;
 
+pub use mem_files::MemFiles;
 pub use mem_sink::{MemSink, SureSink};
 pub use traits::{Files, LOAD_LIMIT, LoadRefusal, PutRefusal, SaveRefusal, Sink, put_all};
