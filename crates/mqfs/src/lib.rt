@@ -4,5 +4,5 @@
 mod outside;
 
 pub use outside::{
-    Files, LOAD_LIMIT, LoadRefusal, MemSink, PutRefusal, SaveRefusal, Sink, SureSink, put_all,
+    Files, LOAD_LIMIT, LoadRefusal, MemFiles, MemSink, PutRefusal, SaveRefusal, Sink, SureFiles, SureSink, put_all,
 };

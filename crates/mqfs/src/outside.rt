@@ -5,6 +5,6 @@ mod mem_sink;
 mod names;
 mod traits;
 
-pub use mem_files::MemFiles;
+pub use mem_files::{MemFiles, SureFiles};
 pub use mem_sink::{MemSink, SureSink};
 pub use traits::{Files, LOAD_LIMIT, LoadRefusal, PutRefusal, SaveRefusal, Sink, put_all};

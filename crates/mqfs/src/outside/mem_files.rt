@@ -69,7 +69,16 @@ impl Files for MemFiles {
 
     ghost told = { λ f. Some (held_in f.entries.items) };
 
-    fn load(&mut self, alloc: Global, name: &str) -> Result<Vec<u8>, LoadRefusal> {
+    fn load(&mut self, alloc: Global, name: &str) -> Result<Vec<u8>, LoadRefusal>
+        ensures gives { MatchResult result (λ v. Holds (Some (held_in self.old.entries.items)) name.now v.items) (λ e. LoadRefused e (Some (held_in self.old.entries.items)) name.now) }
+        ensures within { IfOk result (λ v. length v.items ≤ load_limit) }
+        ensures cause { LoadCause result self.old.schedule.faults self.new.schedule.faults }
+        ensures takes { LoadTakes result self.old.taken self.new.taken }
+        ensures names { self.new.entries.items ≡ self.old.entries.items }
+        ensures failed { IsErrOf result LoadRefusal.Failed ↔ ((list_any (λ n. n == self.new.schedule.calls) self.old.schedule.fail.items ≡ true) ⊎ (held_in self.old.entries.items name.now ≡ None)) }
+        ensures calls { self.new.schedule.calls ≡ min (self.old.schedule.calls + 1) count_end }
+        ensures fail { self.new.schedule.fail ≡ self.old.schedule.fail }
+    {
         if self.schedule.call() {
             return Err(LoadRefusal::Failed);
         }
@@ -82,10 +91,66 @@ impl Files for MemFiles {
         }
     }
 
-    fn save(&mut self, name: &str, bytes: &[u8]) -> Result<(), SaveRefusal> {
+    fn save(&mut self, name: &str, bytes: &[u8]) -> Result<(), SaveRefusal>
+        ensures names { Saves result (Some (held_in self.old.entries.items)) (Some (held_in self.new.entries.items)) name.now bytes.now }
+        ensures cause { SaveCause result self.old.schedule.faults self.new.schedule.faults }
+        ensures takes { self.new.taken ≡ self.old.taken }
+        ensures failed { IsErrOf result SaveRefusal.Failed ↔ (list_any (λ n. n == self.new.schedule.calls) self.old.schedule.fail.items ≡ true) }
+        ensures calls { self.new.schedule.calls ≡ min (self.old.schedule.calls + 1) count_end }
+        ensures fail { self.new.schedule.fail ≡ self.old.schedule.fail }
+    {
         if self.schedule.call() {
             return Err(SaveRefusal::Failed);
         }
+        match names::put(&mut self.entries, self.alloc, name, bytes) {
+            Ok(()) => Ok(()),
+            Err(_) => Err(SaveRefusal::OutOfMemory),
+        }
+    }
+}
+
+/// Files in memory whose calls never fail: each name holds bytes, none until it is saved.
+#[derive(Drop)]
+pub struct SureFiles {
+    alloc: Global,
+    entries: Vec<Named>,
+    taken: u64,
+}
+
+impl SureFiles {
+    /// Files of which every name holds no bytes yet.
+    pub fn new(alloc: Global) -> SureFiles
+        ensures told { ⟦<SureFiles as Files>⟧.told result ≡ Some (λ _. Some []) }
+        ensures taken { ⟦<SureFiles as Files>⟧.taken result ≡ 0 }
+    {
+        SureFiles {
+            alloc,
+            entries: Vec::new(alloc),
+            taken: 0,
+        }
+    }
+
+    /// What the name holds.
+    pub fn get(&self, name: &str) -> Option<&[u8]>
+        ensures { Tells (⟦<SureFiles as Files>⟧.told self.now) name.now (option_map (λ bytes. bytes.now) result) }
+    {
+        Some(names::held(self.entries.as_slice(), name).unwrap_or(&[]))
+    }
+}
+
+impl Files for SureFiles {
+    ghost faults = { λ _. 0 };
+
+    ghost taken = { λ f. f.taken };
+
+    ghost told = { λ f. Some (sure_in f.entries.items) };
+
+    fn load(&mut self, alloc: Global, name: &str) -> Result<Vec<u8>, LoadRefusal> {
+        let bytes = names::held(self.entries.as_slice(), name).unwrap_or(&[]);
+        take_copy(&mut self.taken, alloc, bytes)
+    }
+
+    fn save(&mut self, name: &str, bytes: &[u8]) -> Result<(), SaveRefusal> {
         match names::put(&mut self.entries, self.alloc, name, bytes) {
             Ok(()) => Ok(()),
             Err(_) => Err(SaveRefusal::OutOfMemory),
