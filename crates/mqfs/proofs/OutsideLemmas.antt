@@ -49,24 +49,24 @@ find-skip p (x ∷ xs) (suc i) y d within new old =
 find-absent : {X : Type 0} (p : X → Bool) (xs : List X) → position p xs ≡ None → find p xs ≡ None
 find-absent p xs absent =
     elim (cases_Bool (ltb (position_or_len p xs) (length xs))) [
-      inl within ↦ let present : Some (position_or_len p xs) ≡ None = rw within at absent in cc
-    | inr past ↦ find_at p xs ∙ slice_get_past xs (position_or_len p xs) (ltb-false _ _ past)
+      | inl within ↦ let present : Some (position_or_len p xs) ≡ None = rw within at absent in cc
+      | inr past ↦ find_at p xs ∙ slice_get_past xs (position_or_len p xs) (ltb-false _ _ past)
     ]
 
 -- the place of the first entry that passes
 place_of : {X : Type 0} (p : X → Bool) (xs : List X) (i : ℕ) → position p xs ≡ Some i → i ≡ position_or_len p xs
 place_of p xs i found =
     elim (cases_Bool (ltb (position_or_len p xs) (length xs))) [
-      inl within ↦ let same : Some (position_or_len p xs) ≡ Some i = rw within at found in cc
-    | inr past ↦ let none : None ≡ Some i = rw past at found in cc
+      | inl within ↦ let same : Some (position_or_len p xs) ≡ Some i = rw within at found in cc
+      | inr past ↦ let none : None ≡ Some i = rw past at found in cc
     ]
 
 -- names that differ one way differ the other way
 differ : (xs ys : List ℕ) → bytes_eq xs ys ≡ false → bytes_eq ys xs ≡ false
 differ xs ys apart =
     elim (cases_Bool (bytes_eq ys xs)) [
-      inl same ↦ let equal : bytes_eq xs ys ≡ true = (bytes_eq-Decides xs ys).1 (sym ((bytes_eq-Decides ys xs).0 same)) in cc
-    | inr other ↦ other
+      | inl same ↦ let equal : bytes_eq xs ys ≡ true = (bytes_eq-Decides xs ys).1 (sym ((bytes_eq-Decides ys xs).0 same)) in cc
+      | inr other ↦ other
     ]
 
 -- one more entry that fails the test changes no find
@@ -104,8 +104,8 @@ held_in-set {Y} entries name bytes i entry copy found at_place copied =
     let has : string_bytes entry.0 ≡ name = (bytes_eq-Decides (string_bytes entry.0) name).0 named in
     let bytes_of = λ (o : Option (String Y × Vec ℕ Y)). option_map (λ (e : String Y × Vec ℕ Y). e.1.items) o in
     fun_ext λ other.
-      elim (cases_Bool (bytes_eq other name)) [
-        inl same ↦
+    elim (cases_Bool (bytes_eq other name)) [
+      | inl same ↦
           let equal : other ≡ name = (bytes_eq-Decides other name).0 same in
           ap (λ n. bytes_of (find (is_named n) (set entries i (entry.0, copy)))) equal
           ∙ ap bytes_of (find-set (is_named name) entries i (entry.0, copy) (place_of (is_named name) entries i found) within named)
@@ -116,7 +116,7 @@ held_in-set {Y} entries name bytes i entry copy found at_place copied =
           let old : is_named other (get_or entries i entry) ≡ false = subst (λ (e : String Y × Vec ℕ Y). is_named other e ≡ false) at_place skipped in
           ap bytes_of (find-skip (is_named other) entries i (entry.0, copy) entry within skipped old)
           ∙ sym (put_held-other (held_in entries) name bytes other apart)
-      ]
+    ]
 
 -- an entry of an absent name is put at that name
 pub held_in-push : {Y : Type 0} (entries : List (String Y × Vec ℕ Y)) (name bytes : List ℕ) (entry : String Y × Vec ℕ Y)
@@ -126,8 +126,8 @@ held_in-push {Y} entries name bytes entry absent has copied =
     let named : is_named name entry ≡ true = (bytes_eq-Decides (string_bytes entry.0) name).1 has in
     let bytes_of = λ (o : Option (String Y × Vec ℕ Y)). option_map (λ (e : String Y × Vec ℕ Y). e.1.items) o in
     fun_ext λ other.
-      elim (cases_Bool (bytes_eq other name)) [
-        inl same ↦
+    elim (cases_Bool (bytes_eq other name)) [
+      | inl same ↦
           let equal : other ≡ name = (bytes_eq-Decides other name).0 same in
           ap (λ n. bytes_of (find (is_named n) (entries ++ entry ∷ []))) equal
           ∙ ap bytes_of (find-append-hit (is_named name) entries entry (find-absent (is_named name) entries absent) named)
@@ -136,19 +136,19 @@ held_in-push {Y} entries name bytes entry absent has copied =
       | inr apart ↦
           ap bytes_of (find-append-skip (is_named other) entries entry (is_named-other name other entry has apart))
           ∙ sym (put_held-other (held_in entries) name bytes other apart)
-      ]
+    ]
 
 -- bytes that are put are put too where an absent name holds no bytes
 pub sure_in-put : {Y : Type 0} (old new : List (String Y × Vec ℕ Y)) (name bytes : List ℕ)
     → held_in new ≡ put_held (held_in old) name bytes → sure_in new ≡ put_held (sure_in old) name bytes
 sure_in-put {Y} old new name bytes puts =
     fun_ext λ other.
-      ap (λ (held : Held). Some (unwrap_or (held other) [])) puts
-      ∙ elim (cases_Bool (bytes_eq other name)) [
-          inl same ↦
-            ap (λ held. Some (unwrap_or held [])) (put_held-same (held_in old) name bytes other same)
-            ∙ sym (put_held-same (sure_in old) name bytes other same)
-        | inr apart ↦
-            ap (λ held. Some (unwrap_or held [])) (put_held-other (held_in old) name bytes other apart)
-            ∙ sym (put_held-other (sure_in old) name bytes other apart)
-        ]
+    ap (λ (held : Held). Some (unwrap_or (held other) [])) puts
+    ∙ elim (cases_Bool (bytes_eq other name)) [
+      | inl same ↦
+          ap (λ held. Some (unwrap_or held [])) (put_held-same (held_in old) name bytes other same)
+          ∙ sym (put_held-same (sure_in old) name bytes other same)
+      | inr apart ↦
+          ap (λ held. Some (unwrap_or held [])) (put_held-other (held_in old) name bytes other apart)
+          ∙ sym (put_held-other (sure_in old) name bytes other apart)
+    ]

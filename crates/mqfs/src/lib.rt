@@ -4,5 +4,6 @@
 mod outside;
 
 pub use outside::{
-    Files, LOAD_LIMIT, LoadRefusal, MemFiles, MemSink, PutRefusal, SaveRefusal, Sink, SureFiles, SureSink, put_all,
+    Files, LOAD_LIMIT, LoadRefusal, MemFiles, MemSink, PutRefusal, RealFiles, RealSink,
+    SaveRefusal, Sink, SureFiles, SureSink, put_all,
 };
