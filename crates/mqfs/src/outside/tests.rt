@@ -1,15 +1,19 @@
-// Files and sinks, each called once, and what no contract says.
+// Each form called through its trait once, and what no contract says.
 use super::*;
 use std::alloc::{AllocError, Global};
 use std::io;
 
-fn text(alloc: Global, s: &str) -> Result<String, AllocError> {
-    String::from_str(alloc, s)
+// Whether a load gave these bytes.
+fn gave(loaded: Result<Vec<u8>, LoadRefusal>, bytes: &[u8]) -> bool {
+    match loaded {
+        Ok(v) => v.as_slice() == bytes,
+        Err(_) => false,
+    }
 }
 
 // Files with one name, of which the calls listed fail.
 fn one_name(alloc: Global, fail: &[u64]) -> Result<MemFiles, AllocError> {
-    let name = text(alloc, "image")?;
+    let name = String::from_str(alloc, "image")?;
     let bytes = Vec::from_slice(alloc, b"old bytes")?;
     let names = vec![in alloc; (name, bytes)]?;
     Ok(MemFiles::new(alloc, names, Vec::from_slice(alloc, fail)?))
@@ -19,25 +23,13 @@ fn one_name(alloc: Global, fail: &[u64]) -> Result<MemFiles, AllocError> {
 fn memory_loads_what_was_saved(rt: HostRuntime) -> Result<(), AllocError> {
     let alloc = rt.alloc();
     let mut files = one_name(alloc, &[])?;
-    assert!(rt;
-        files
-            .load(alloc, "image")
-            .is_ok_and(|v| v.as_slice() == b"old bytes")
-    );
+    assert!(rt; gave(files.load(alloc, "image"), b"old bytes"));
     assert!(rt; files.save("image", b"new").is_ok());
     assert!(rt; files.save("other", b"second").is_ok());
-    assert!(rt;
-        files
-            .load(alloc, "image")
-            .is_ok_and(|v| v.as_slice() == b"new")
-    );
-    assert!(rt; files.get("other").is_some_and(|v| v == b"second"));
+    assert!(rt; gave(files.load(alloc, "image"), b"new"));
+    assert!(rt; files.get("other") == Some(b"second".as_slice()));
     assert!(rt; files.get("absent").is_none());
-    assert!(rt;
-        files
-            .load(alloc, "absent")
-            .is_err_and(|e| e == LoadRefusal::Failed)
-    );
+    assert!(rt; matches!(files.load(alloc, "absent"), Err(LoadRefusal::Failed)));
     Ok(())
 }
 
@@ -46,21 +38,9 @@ fn memory_fails_the_calls_that_are_listed(rt: HostRuntime) -> Result<(), AllocEr
     let alloc = rt.alloc();
     let mut files = one_name(alloc, &[2, 3])?;
     assert!(rt; files.load(alloc, "image").is_ok());
-    assert!(rt;
-        files
-            .save("image", b"new")
-            .is_err_and(|e| e == SaveRefusal::Failed)
-    );
-    assert!(rt;
-        files
-            .load(alloc, "image")
-            .is_err_and(|e| e == LoadRefusal::Failed)
-    );
-    assert!(rt;
-        files
-            .load(alloc, "image")
-            .is_ok_and(|v| v.as_slice() == b"old bytes")
-    );
+    assert!(rt; matches!(files.save("image", b"new"), Err(SaveRefusal::Failed)));
+    assert!(rt; matches!(files.load(alloc, "image"), Err(LoadRefusal::Failed)));
+    assert!(rt; gave(files.load(alloc, "image"), b"old bytes"));
     Ok(())
 }
 
@@ -68,13 +48,13 @@ fn memory_fails_the_calls_that_are_listed(rt: HostRuntime) -> Result<(), AllocEr
 fn sinks_take_pieces_of_64(rt: HostRuntime) -> Result<(), AllocError> {
     let alloc = rt.alloc();
     let mut sink = MemSink::new(alloc, Vec::new(alloc));
-    assert!(rt; sink.put(&[7; 200]).is_ok_and(|n| n == 64));
-    assert!(rt; sink.put(&[8; 64]).is_ok_and(|n| n == 64));
-    assert!(rt; sink.put(&[9; 3]).is_ok_and(|n| n == 3));
+    assert!(rt; sink.put(&[7; 200]) == Ok(64));
+    assert!(rt; sink.put(&[8; 64]) == Ok(64));
+    assert!(rt; sink.put(&[9; 3]) == Ok(3));
     assert_eq!(rt; sink.written().len(), 131);
     let mut sure = SureSink::new(alloc);
     assert!(rt; put_all(&mut sure, &[5; 200]).is_ok());
-    assert!(rt; sure.written() == [5; 200]);
+    assert!(rt; sure.written() == [5; 200].as_slice());
     Ok(())
 }
 
@@ -82,10 +62,10 @@ fn sinks_take_pieces_of_64(rt: HostRuntime) -> Result<(), AllocError> {
 fn a_fault_in_mid_stream_leaves_a_prefix(rt: HostRuntime) -> Result<(), AllocError> {
     let alloc = rt.alloc();
     let mut sink = MemSink::new(alloc, Vec::from_slice(alloc, &[3])?);
-    assert!(rt; put_all(&mut sink, &[7; 200]).is_err_and(|e| e == PutRefusal::Failed));
-    assert!(rt; sink.written() == [7; 128]);
+    assert!(rt; put_all(&mut sink, &[7; 200]) == Err(PutRefusal::Failed));
+    assert!(rt; sink.written() == [7; 128].as_slice());
     assert!(rt; put_all(&mut sink, &[7; 72]).is_ok());
-    assert!(rt; sink.written() == [7; 200]);
+    assert!(rt; sink.written() == [7; 200].as_slice());
     Ok(())
 }
 
@@ -93,14 +73,10 @@ fn a_fault_in_mid_stream_leaves_a_prefix(rt: HostRuntime) -> Result<(), AllocErr
 fn sure_files_are_empty_at_first(rt: HostRuntime) -> Result<(), AllocError> {
     let alloc = rt.alloc();
     let mut files = SureFiles::new(alloc);
-    assert!(rt; files.load(alloc, "image").is_ok_and(|v| v.is_empty()));
+    assert!(rt; gave(files.load(alloc, "image"), b""));
     assert!(rt; files.save("image", b"new").is_ok());
-    assert!(rt;
-        files
-            .load(alloc, "image")
-            .is_ok_and(|v| v.as_slice() == b"new")
-    );
-    assert!(rt; files.get("other").is_some_and(|v| v.is_empty()));
+    assert!(rt; gave(files.load(alloc, "image"), b"new"));
+    assert!(rt; files.get("other") == Some(b"".as_slice()));
     Ok(())
 }
 
@@ -109,28 +85,12 @@ fn the_system_loads_what_was_saved(rt: HostRuntime) -> Result<(), AllocError> {
     let alloc = rt.alloc();
     let bytes = vec![in alloc; 7; 40_000]?;
     let mut files = RealFiles::new(&rt);
-    assert!(rt;
-        files
-            .load(alloc, "image")
-            .is_err_and(|e| e == LoadRefusal::Failed)
-    );
+    assert!(rt; matches!(files.load(alloc, "image"), Err(LoadRefusal::Failed)));
     assert!(rt; files.save("image", bytes.as_slice()).is_ok());
-    assert!(rt;
-        files
-            .load(alloc, "image")
-            .is_ok_and(|v| v.as_slice() == bytes.as_slice())
-    );
+    assert!(rt; gave(files.load(alloc, "image"), bytes.as_slice()));
     assert!(rt; files.save("image", b"short").is_ok());
-    assert!(rt;
-        files
-            .load(alloc, "image")
-            .is_ok_and(|v| v.as_slice() == b"short")
-    );
-    assert!(rt;
-        files
-            .save("no/such/folder", b"")
-            .is_err_and(|e| e == SaveRefusal::Failed)
-    );
+    assert!(rt; gave(files.load(alloc, "image"), b"short"));
+    assert!(rt; matches!(files.save("no/such/folder", b""), Err(SaveRefusal::Failed)));
     Ok(())
 }
 
