@@ -1,5 +1,5 @@
 -- Files and sinks: what they hold, and which answers their counts allow.
-use Rattle.std.specs.Prelude.{ℕ, ◌≡◌, ◌<◌, ◌≤◌, ◌+◌, ◌-◌, ◌^◌, ◌⊎◌, Bool, true, false, cond, List, [], ◌++◌, length, take, Option, Some, None, Result, Ok, Err, min, find}
+use Rattle.std.specs.Prelude.{ℕ, ◌≡◌, ◌<◌, ◌≤◌, ◌+◌, ◌⊎◌, Bool, false, cond, List, [], ◌++◌, length, take, Option, Some, None, Result, Ok, Err, min, find}
 use Rattle.std.specs.Option.{option_map, unwrap_or}
 use Rattle.std.specs.Str.{bytes_eq}
 use Rattle.std.specs.String.{string_bytes}

@@ -1,6 +1,7 @@
 // Files and a sink over the system. They tell nothing of what they hold.
-ghost use Rattle.std.specs.Prelude.{◌≡◌, ◌<◌, ◌≤◌, None, length, OnOk, IfOk, IsErrOf};
-ghost use Rattle.mqfs.specs.Outside.{load_limit};
+ghost use Rattle.std.specs.Prelude.{◌≡◌, ◌<◌, ◌≤◌, ◌++◌, None, length, take, OnOk, IfOk, IfErr, IfSome, IsErrOf, MatchResult};
+ghost use Rattle.std.specs.Io.KnownBytes.{Appends, Keeps};
+ghost use Rattle.mqfs.specs.Outside.{PutCause, load_limit};
 
 use super::counts::counted;
 use super::traits::{Files, LOAD_LIMIT, LoadRefusal, PutRefusal, SaveRefusal, Sink};
@@ -18,9 +19,11 @@ fn read_rest<F: Read>(
     chunk: &mut [u8],
     bytes: &mut Vec<u8>,
 ) -> Result<(), LoadRefusal>
-    requires { length bytes.old.items ≤ load_limit }
+    requires short { length bytes.old.items ≤ load_limit }
+    requires room { 0 < length chunk.old }
     ensures within { OnOk result (length bytes.new.items ≤ load_limit) }
     ensures over { IsErrOf result LoadRefusal.TooLong → load_limit < length bytes.new.items }
+    ensures all { OnOk result (IfSome (F.remaining file.old) (λ rest. bytes.new.items ≡ bytes.old.items ++ rest)) }
 {
     for _ in 0..u64::MAX {
         match file.read(chunk) {
@@ -59,14 +62,11 @@ fn read_file<R: rt::Files>(rt: &R, name: &str, bytes: &mut Vec<u8>) -> Result<()
     }
 }
 
-// Makes the file with this name hold the bytes. Once it is open, whatever goes wrong is a fault,
-// since its old bytes are gone.
-fn write_file<R: rt::Files>(rt: &R, name: &str, bytes: &[u8]) -> Result<(), SaveRefusal> {
-    let mut file = match File::create(rt, name) {
-        Ok(file) => file,
-        Err(e) if e.kind() == ErrorKind::OutOfMemory => return Err(SaveRefusal::OutOfMemory),
-        Err(_) => return Err(SaveRefusal::Failed),
-    };
+// Writes all the bytes. Whatever goes wrong is a fault, since the file's old bytes are gone.
+fn write_whole<W: Write>(file: &mut W, bytes: &[u8]) -> Result<(), SaveRefusal>
+    ensures all { OnOk result (Appends (W.contents file.old) (W.contents file.new) bytes.now) }
+    ensures refusal { IfErr result (λ e. e ≡ SaveRefusal.Failed) }
+{
     if file.write_all(bytes).is_err() {
         return Err(SaveRefusal::Failed);
     }
@@ -74,6 +74,16 @@ fn write_file<R: rt::Files>(rt: &R, name: &str, bytes: &[u8]) -> Result<(), Save
         return Err(SaveRefusal::Failed);
     }
     Ok(())
+}
+
+// Makes the file with this name hold the bytes.
+fn write_file<R: rt::Files>(rt: &R, name: &str, bytes: &[u8]) -> Result<(), SaveRefusal> {
+    let mut file = match File::create(rt, name) {
+        Ok(file) => file,
+        Err(e) if e.kind() == ErrorKind::OutOfMemory => return Err(SaveRefusal::OutOfMemory),
+        Err(_) => return Err(SaveRefusal::Failed),
+    };
+    write_whole(&mut file, bytes)
 }
 
 /// The files of a runtime.
@@ -134,6 +144,7 @@ impl<R: rt::Files> Files for RealFiles<R> {
 // Writes the first bytes of the piece.
 fn write_some<W: Write>(writer: &mut W, bytes: &[u8]) -> Result<usize, PutRefusal>
     ensures some { IfOk result (λ n. (1 ≤ n) × (n ≤ length bytes.now)) }
+    ensures wrote { MatchResult result (λ n. Appends (W.contents writer.old) (W.contents writer.new) (take n bytes.now)) (λ _. Keeps (W.contents writer.old) (W.contents writer.new)) }
 {
     for _ in 0..u64::MAX {
         match writer.write(bytes) {
@@ -170,7 +181,12 @@ impl<W: Write> Sink for RealSink<W> {
 
     ghost contents = { λ _. None };
 
-    fn put(&mut self, bytes: &[u8]) -> Result<usize, PutRefusal> {
+    fn put(&mut self, bytes: &[u8]) -> Result<usize, PutRefusal>
+        requires { 0 < length bytes.now }
+        ensures some { IfOk result (λ n. (1 ≤ n) × (n ≤ length bytes.now)) }
+        ensures wrote { MatchResult result (λ n. Appends (W.contents self.old.writer) (W.contents self.new.writer) (take n bytes.now)) (λ _. Keeps (W.contents self.old.writer) (W.contents self.new.writer)) }
+        ensures cause { PutCause result self.old.faults self.new.faults }
+    {
         match write_some(&mut self.writer, bytes) {
             Ok(n) => Ok(n),
             Err(PutRefusal::Failed) => {

@@ -1,4 +1,4 @@
-use Rattle.std.proofs.Common.{◌≡◌, sym, ◌∙◌, ap, rules, Some, None, List, ◌++◌, [], ◌∷◌}
+use Rattle.std.proofs.Common.{sym, ◌∙◌, ap}
 use Rattle.std.specs.Prelude.{position}
 use Rattle.mqfs.specs.Outside.{held_in, is_named}
 use Rattle.mqfs.proofs.OutsideLemmas.{held_in-set, held_in-push}

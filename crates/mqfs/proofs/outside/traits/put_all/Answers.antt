@@ -1,4 +1,4 @@
-use Rattle.std.proofs.Common.{ℕ, ◌≤◌, ◌-◌, arith, ◌∙◌, ap, length, drop, length-take, length-drop, take}
+use Rattle.std.proofs.Common.{◌≤◌, ◌-◌, arith, ◌∙◌, ap, length, drop, length-take, length-drop, take}
 use Rattle.mqfs.specs.Outside.{appended}
 use Rattle.mqfs.proofs.OutsideLemmas.{appended-more}
 use Rattle.mqfs.proofs.outside.traits.put_all.Goals as goal
