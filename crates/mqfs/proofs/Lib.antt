@@ -4,6 +4,7 @@ pub mod JournalKeeps
 pub mod JournalShows
 pub mod Lines
 pub mod Lists
+pub mod OutsideLemmas
 pub mod Staging
 pub mod TextItems
 pub mod TextLines

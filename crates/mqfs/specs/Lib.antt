@@ -1,6 +1,7 @@
 pub mod Causes
 pub mod Commits
 pub mod Lines
+pub mod Outside
 pub mod Recovery
 pub mod Runs
 pub mod Text

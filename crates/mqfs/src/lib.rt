@@ -1,7 +1,12 @@
-//! The file system's own texts.
+//! The program `mqfs`: block texts, committed through one queue of an emulated drive, and recovered.
 #![tactic(auto)]
 
+mod outside;
 mod pmr;
 mod text;
 
+pub use outside::{
+    Files, LOAD_LIMIT, LoadRefusal, MemFiles, MemSink, PutRefusal, RealFiles, RealSink,
+    SaveRefusal, Sink, SureFiles, SureSink, put_all,
+};
 pub use text::{BlockItem, BlockLine, BlockText, BlockTextRefusal, read_block_text};

@@ -1,0 +1,101 @@
+// Each form called through its trait once, and what no contract says.
+use super::*;
+use std::alloc::{AllocError, Global};
+use std::io;
+
+// Whether a load gave these bytes.
+fn gave(loaded: Result<Vec<u8>, LoadRefusal>, bytes: &[u8]) -> bool {
+    match loaded {
+        Ok(v) => v.as_slice() == bytes,
+        Err(_) => false,
+    }
+}
+
+// Files with one name, of which the calls listed fail.
+fn one_name(alloc: Global, fail: &[u64]) -> Result<MemFiles, AllocError> {
+    let name = String::from_str(alloc, "image")?;
+    let bytes = Vec::from_slice(alloc, b"old bytes")?;
+    let names = vec![in alloc; (name, bytes)]?;
+    Ok(MemFiles::new(alloc, names, Vec::from_slice(alloc, fail)?))
+}
+
+#[test]
+fn memory_loads_what_was_saved(rt: HostRuntime) -> Result<(), AllocError> {
+    let alloc = rt.alloc();
+    let mut files = one_name(alloc, &[])?;
+    assert!(rt; gave(files.load(alloc, "image"), b"old bytes"));
+    assert!(rt; files.save("image", b"new").is_ok());
+    assert!(rt; files.save("other", b"second").is_ok());
+    assert!(rt; gave(files.load(alloc, "image"), b"new"));
+    assert!(rt; files.get("other") == Some(b"second".as_slice()));
+    assert!(rt; files.get("absent").is_none());
+    assert!(rt; matches!(files.load(alloc, "absent"), Err(LoadRefusal::Failed)));
+    Ok(())
+}
+
+#[test]
+fn memory_fails_the_calls_that_are_listed(rt: HostRuntime) -> Result<(), AllocError> {
+    let alloc = rt.alloc();
+    let mut files = one_name(alloc, &[2, 3])?;
+    assert!(rt; files.load(alloc, "image").is_ok());
+    assert!(rt; matches!(files.save("image", b"new"), Err(SaveRefusal::Failed)));
+    assert!(rt; matches!(files.load(alloc, "image"), Err(LoadRefusal::Failed)));
+    assert!(rt; gave(files.load(alloc, "image"), b"old bytes"));
+    Ok(())
+}
+
+#[test]
+fn sinks_take_pieces_of_64(rt: HostRuntime) -> Result<(), AllocError> {
+    let alloc = rt.alloc();
+    let mut sink = MemSink::new(alloc, Vec::new(alloc));
+    assert!(rt; sink.put(&[7; 200]) == Ok(64));
+    assert!(rt; sink.put(&[8; 64]) == Ok(64));
+    assert!(rt; sink.put(&[9; 3]) == Ok(3));
+    assert_eq!(rt; sink.written().len(), 131);
+    let mut sure = SureSink::new(alloc);
+    assert!(rt; put_all(&mut sure, &[5; 200]).is_ok());
+    assert!(rt; sure.written() == [5; 200].as_slice());
+    Ok(())
+}
+
+#[test]
+fn a_fault_in_mid_stream_leaves_a_prefix(rt: HostRuntime) -> Result<(), AllocError> {
+    let alloc = rt.alloc();
+    let mut sink = MemSink::new(alloc, Vec::from_slice(alloc, &[3])?);
+    assert!(rt; put_all(&mut sink, &[7; 200]) == Err(PutRefusal::Failed));
+    assert!(rt; sink.written() == [7; 128].as_slice());
+    assert!(rt; put_all(&mut sink, &[7; 72]).is_ok());
+    assert!(rt; sink.written() == [7; 200].as_slice());
+    Ok(())
+}
+
+#[test]
+fn sure_files_are_empty_at_first(rt: HostRuntime) -> Result<(), AllocError> {
+    let alloc = rt.alloc();
+    let mut files = SureFiles::new(alloc);
+    assert!(rt; gave(files.load(alloc, "image"), b""));
+    assert!(rt; files.save("image", b"new").is_ok());
+    assert!(rt; gave(files.load(alloc, "image"), b"new"));
+    assert!(rt; files.get("other") == Some(b"".as_slice()));
+    Ok(())
+}
+
+#[test]
+fn the_system_loads_what_was_saved(rt: HostRuntime) -> Result<(), AllocError> {
+    let alloc = rt.alloc();
+    let bytes = vec![in alloc; 7; 40_000]?;
+    let mut files = RealFiles::new(&rt);
+    assert!(rt; matches!(files.load(alloc, "image"), Err(LoadRefusal::Failed)));
+    assert!(rt; files.save("image", bytes.as_slice()).is_ok());
+    assert!(rt; gave(files.load(alloc, "image"), bytes.as_slice()));
+    assert!(rt; files.save("image", b"short").is_ok());
+    assert!(rt; gave(files.load(alloc, "image"), b"short"));
+    assert!(rt; matches!(files.save("no/such/folder", b""), Err(SaveRefusal::Failed)));
+    Ok(())
+}
+
+#[test]
+fn the_output_takes_a_line(rt: HostRuntime) {
+    assert!(rt; put_all(&mut RealSink::new(rt.stdout()), b"a line\n").is_ok());
+    assert!(rt; put_all(&mut RealSink::new(io::writer(&rt)), b"another\n").is_ok());
+}
