@@ -3,4 +3,4 @@
 
 mod text;
 
-pub use text::{BlockItem, BlockLine, BlockText, BlockTextRefusal, read_block_text};
+pub use text::{BlockItem, BlockLine, BlockText, BlockTextRefusal, print_blocks, read_block_text};

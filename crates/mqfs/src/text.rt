@@ -2,10 +2,15 @@
 mod item;
 mod line;
 mod parts;
+mod print;
 mod refusal;
 mod whole;
 
+#[cfg(test)]
+mod tests;
+
 pub use item::BlockItem;
 pub use line::BlockLine;
+pub use print::print_blocks;
 pub use refusal::BlockTextRefusal;
 pub use whole::{BlockText, read_block_text};
