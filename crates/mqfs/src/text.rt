@@ -4,10 +4,9 @@ mod line;
 mod parts;
 mod print;
 mod refusal;
-mod whole;
-
 #[cfg(test)]
 mod tests;
+mod whole;
 
 pub use item::BlockItem;
 pub use line::BlockLine;
