@@ -1,5 +1,5 @@
 -- The items of lines: more items, and that no two lines have one text.
-use Rattle.std.proofs.Common.{◌≡◌, ◌≢◌, ℕ, Option, Some, None, Bool, true, false, ◌+◌, ◌<◌, ◌≤◌, ◌⊎◌, List, [], ◌∷◌, ◌++◌, length, get_or, set, take, drop, sym, ◌∙◌, ap, subst, refl, inl, inr, arith, length-set, get_or-set_other, get_or-set_same, zero, suc}
+use Rattle.std.proofs.Common.{◌≡◌, ◌≢◌, ℕ, Bool, true, false, ◌+◌, ◌<◌, ◌≤◌, List, [], ◌∷◌, ◌++◌, length, get_or, set, take, drop, sym, ◌∙◌, ap, subst, refl, inl, inr, arith, length-set, get_or-set_other, get_or-set_same, zero, suc}
 use Rattle.std.specs.Prelude.{map, replicate}
 use Rattle.std.specs.List.{AllByRecursion}
 use Rattle.std.proofs.lemmas.Bool.{cases_eq, false≢true}
@@ -51,7 +51,7 @@ module _ {A : Type 0} (f : A → List ℕ) (P : A → Type 0) (injective : (x y 
       → (y : A) × (rest : List A) × (ys ≡ xs ++ y ∷ rest) × (now (get_or words i d) ≡ f y) × P y
   next_at now words i d xs ys p q h told e =
       next_of xs ys (now (get_or words i d)) (map now (drop (i + 1) words)) p q
-        (ap (λ t. t ++ now (get_or words i d) ∷ map now (drop (i + 1) words)) (sym told) ∙ sym (map_parts now words i d h) ∙ e)
+      (ap (λ t. t ++ now (get_or words i d) ∷ map now (drop (i + 1) words)) (sym told) ∙ sym (map_parts now words i d h) ∙ e)
 
   pub all_at :
       {W : Type 0} (now : W → List ℕ) (words : List W) (i : ℕ) (xs ys : List A) → AllByRecursion P xs → AllByRecursion P ys
@@ -125,15 +125,15 @@ table_push named items b i t h e =
     record {
       long = length-set named b true ∙ t.long;
       marked = λ k m u.
-        elim (cases_eq k b) [
-          inl same ↦ unnamed_at k items i [] u (same ∙ e)
-        | inr other ↦ t.marked k (sym (get_or-set_other named b k true false other) ∙ m) (unnamed_front k items (i ∷ []) u)
-        ];
+          elim (cases_eq k b) [
+            | inl same ↦ unnamed_at k items i [] u (same ∙ e)
+            | inr other ↦ t.marked k (sym (get_or-set_other named b k true false other) ∙ m) (unnamed_front k items (i ∷ []) u)
+          ];
       unmarked = λ k low m.
-        elim (cases_eq k b) [
-          inl same ↦ absurd (false≢true (sym m ∙ ap (λ j. get_or (set named b true) j false) same ∙ get_or-set_same named b true false small))
-        | inr other ↦ unnamed_push k items i (t.unmarked k low (sym (get_or-set_other named b k true false other) ∙ m)) (λ q. other (q ∙ sym e))
-        ];
+          elim (cases_eq k b) [
+            | inl same ↦ absurd (false≢true (sym m ∙ ap (λ j. get_or (set named b true) j false) same ∙ get_or-set_same named b true false small))
+            | inr other ↦ unnamed_push k items i (t.unmarked k low (sym (get_or-set_other named b k true false other) ∙ m)) (λ q. other (q ∙ sym e))
+          ];
     }
 
 -- what has an item whose block is in the table is no good line

@@ -1,8 +1,8 @@
 -- Where texts are cut: the words of a line, and the lines of a text.
-use Rattle.std.proofs.Common.{◌≡◌, ◌≢◌, ℕ, Bool, true, false, eqb, ◌+◌, ◌-◌, ◌/◌, ◌%◌, ◌<◌, ◌≤◌, ◌⊎◌, List, [], ◌∷◌, ◌++◌, length, get_or, sym, ◌∙◌, ap, refl, inl, inr, arith}
+use Rattle.std.proofs.Common.{◌≡◌, ℕ, Bool, true, false, eqb, ◌/◌, ◌%◌, ◌<◌, List, [], ◌∷◌, ◌++◌, length, get_or, sym, ◌∙◌, ap, refl, inl, inr, arith}
 use Rattle.std.specs.Prelude.{map}
 use Rattle.std.specs.Fmt.{decimal}
-use Rattle.std.specs.List.{All, AllByRecursion, slice_split, join_with_byte, count_by}
+use Rattle.std.specs.List.{All, AllByRecursion, slice_split, join_with_byte}
 use Rattle.std.proofs.lemmas.Bool.{eq-eqb}
 use Rattle.std.proofs.lemmas.Bool.Decides.{eqb_tells}
 use Rattle.std.proofs.lemmas.List.Elements.{All-cons, All-append}
@@ -10,7 +10,7 @@ use Rattle.std.proofs.lemmas.List.Splits.{slice_split_none, slice_split_at, join
 use Rattle.mqfs.specs.declared.text.item.BlockItem.{BlockItem}
 use Rattle.mqfs.specs.declared.text.item.BlockItem.TheVariants.{Set, Free}
 use Rattle.mqfs.specs.Text.{hex_digit, hex_text, item_text, line_text, IsGoodSet, AreGoodItems, IsGoodLine, AreSets}
-use Rattle.mqfs.proofs.TextNumbers.{AreDigits, decimal_digits}
+use Rattle.mqfs.proofs.TextNumbers.{decimal_digits}
 use Rattle.mqfs.proofs.TextItems.{item_text_injective}
 use Rattle.mqfs.proofs.TextLines.{same_all, good_sets}
 
@@ -39,8 +39,8 @@ hex_digit_high at d h = grind arith
 hex_avoids : (at v : ℕ) → at < 48 → Avoids at (61 ∷ hex_text v)
 hex_avoids at v h =
     avoids_cons at 61 (hex_text v) (omega arith)
-      (avoids_cons at (hex_digit (v / 16)) (hex_digit (v % 16) ∷ []) (hex_digit_high at (v / 16) h)
-        (avoids_cons at (hex_digit (v % 16)) [] (hex_digit_high at (v % 16) h) (avoids_none at)))
+    (avoids_cons at (hex_digit (v / 16)) (hex_digit (v % 16) ∷ []) (hex_digit_high at (v / 16) h)
+    (avoids_cons at (hex_digit (v % 16)) [] (hex_digit_high at (v % 16) h) (avoids_none at)))
 
 decimal_avoids : (at n : ℕ) → at < 48 → n < 256 → Avoids at (decimal n)
 decimal_avoids at n low small = λ k d h. apart (get_or (decimal n) k d) at (omega (arith, decimal_digits n small k d h))
@@ -92,4 +92,4 @@ good_items (i ∷ items) good = good
 pub line_text_injective : (l m : List BlockItem) → IsGoodLine l × AreSets l → IsGoodLine m × AreSets m → line_text l ≡ line_text m → l ≡ m
 line_text_injective l m p q e =
     same_all item_text IsGoodSet item_text_injective l m (good_sets l (good_items l p.0) p.1) (good_sets m (good_items m q.0) q.1)
-      (sym (words_of_line l p.0 p.1) ∙ ap (slice_split (λ b. eqb b 32)) e ∙ words_of_line m q.0 q.1)
+    (sym (words_of_line l p.0 p.1) ∙ ap (slice_split (λ b. eqb b 32)) e ∙ words_of_line m q.0 q.1)

@@ -1,7 +1,7 @@
 -- Whole texts: their lines, where they end, and the places that they take.
-use Rattle.std.proofs.Common.{◌≡◌, ◌≢◌, ℕ, Bool, true, false, eqb, cond, Result, Err, ◌+◌, ◌-◌, ◌%◌, ◌<◌, ◌≤◌, ◌⊎◌, List, [], ◌∷◌, ◌++◌, length, get_or, take, drop, sym, ◌∙◌, ap, subst, refl, inl, inr, arith, append_assoc, length-append}
+use Rattle.std.proofs.Common.{◌≡◌, ◌≢◌, ℕ, Bool, true, false, eqb, cond, Result, Err, ◌+◌, ◌-◌, ◌%◌, ◌<◌, ◌≤◌, ◌⊎◌, List, [], ◌∷◌, ◌++◌, length, get_or, take, sym, ◌∙◌, ap, subst, refl, inl, inr, arith, append_assoc, length-append}
 use Rattle.std.specs.Prelude.{map}
-use Rattle.std.specs.List.{All, AllByRecursion, slice_split, join_with_byte, count_by}
+use Rattle.std.specs.List.{AllByRecursion, slice_split, join_with_byte, count_by}
 use Rattle.std.proofs.lemmas.Bool.{eqb-false}
 use Rattle.std.proofs.lemmas.List.{append_cancel_right, map-append}
 use Rattle.std.proofs.lemmas.List.Recursion.{is_count_by}
@@ -73,7 +73,7 @@ line_avoids [] h = λ k d lt. absurd (omega arith)
 line_avoids (i ∷ []) h = item_avoids 10 (omega arith) i h.0
 line_avoids (i ∷ j ∷ items) h =
     avoids_append 10 (item_text i) (32 ∷ line_text (j ∷ items)) (item_avoids 10 (omega arith) i h.0)
-      (avoids_cons 10 32 (line_text (j ∷ items)) (omega arith) (line_avoids (j ∷ items) h.1))
+    (avoids_cons 10 32 (line_text (j ∷ items)) (omega arith) (line_avoids (j ∷ items) h.1))
 
 lines_avoid : (lines : List (List BlockItem)) → AllByRecursion IsSetLine lines → AllByRecursion (Avoids 10) (map line_text lines)
 lines_avoid [] h = tt

@@ -1,5 +1,5 @@
 -- Block texts. A line is one transaction, and its items are separated by one space.
-use Rattle.std.specs.Prelude.{◌≡◌, ◌≢◌, ◌<◌, ◌≤◌, ◌⊎◌, ℕ, ◌+◌, ◌/◌, ◌%◌, List, [], ◌∷◌, ◌++◌, nat_lt, if◌then◌else◌}
+use Rattle.std.specs.Prelude.{◌≡◌, ◌≢◌, ◌≤◌, ◌⊎◌, ℕ, ◌+◌, ◌/◌, ◌%◌, List, [], ◌∷◌, ◌++◌, nat_lt, if◌then◌else◌, codes}
 use Rattle.std.specs.Fmt.{decimal}
 use Rattle.mqfs.specs.declared.text.item.BlockItem.{BlockItem}
 use Rattle.mqfs.specs.declared.text.item.BlockItem.TheVariants.{Set, Free}
@@ -108,3 +108,12 @@ IsGoodSet (Free b) = ⊥
 abbrev pub HasSetsOnly : List (List BlockItem) → Type 0
 HasSetsOnly [] = Unit {0}
 HasSetsOnly (l ∷ ls) = AreSets l × HasSetsOnly ls
+
+-- the lines of blocks and their bytes, as `5 ab`
+abbrev pub live_text : List (ℕ × ℕ) → List ℕ
+live_text [] = []
+live_text (e ∷ es) = number_text e.0 ++ 32 ∷ hex_text e.1 ++ 10 ∷ live_text es
+
+-- what is printed of the blocks that are not free, after the number of lines that count
+abbrev pub printed : ℕ → List (ℕ × ℕ) → List ℕ
+printed prefix live = codes "prefix " ++ number_text prefix ++ 10 ∷ live_text live

@@ -9,4 +9,4 @@ pub use outside::{
     Files, LOAD_LIMIT, LoadRefusal, MemFiles, MemSink, PutRefusal, RealFiles, RealSink,
     SaveRefusal, Sink, SureFiles, SureSink, put_all,
 };
-pub use text::{BlockItem, BlockLine, BlockText, BlockTextRefusal, read_block_text};
+pub use text::{BlockItem, BlockLine, BlockText, BlockTextRefusal, print_blocks, read_block_text};

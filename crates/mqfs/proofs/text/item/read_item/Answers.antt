@@ -14,4 +14,4 @@ returns-in_err-byte-clause-only c = λ i good e.
 pub returns-clause-only : goal.returns-clause-only
 returns-clause-only c = λ i good e.
     ap Some (ap (λ b. Set b c.in_ok-byte.byte) c.from.ensures
-      ∙ item_is c.args.text.now c.split_at.result.0.now c.split_at.result.1.now c.in_ok-block.block c.in_ok-byte.byte i good e c.split_at.ensures.front c.split_at.ensures.back c.in_ok-block.ensures.only c.in_ok-byte.ensures.only)
+    ∙ item_is c.args.text.now c.split_at.result.0.now c.split_at.result.1.now c.in_ok-block.block c.in_ok-byte.byte i good e c.split_at.ensures.front c.split_at.ensures.back c.in_ok-block.ensures.only c.in_ok-byte.ensures.only)

@@ -11,9 +11,9 @@ returns-then-not-is_short_numeral-clause-only c = λ n small e.
 pub returns-clause-found : goal.returns-clause-found
 returns-clause-found c =
     kept_found c.ok.result c.try_from.result c.loop-digit.number c.args.text.now c.ok.ensures.value c.try_from.ensures
-      (numeral_is c.args.text.now c.loop-digit.number c.loop-digit.digit-index (c.is_short_numeral.ensures.0 c.if-not-is_short_numeral.false) c.loop-digit.invariant.value c.loop-digit-test.false)
+    (numeral_is c.args.text.now c.loop-digit.number c.loop-digit.digit-index (c.is_short_numeral.ensures.0 c.if-not-is_short_numeral.false) c.loop-digit.invariant.value c.loop-digit-test.false)
 
 pub returns-clause-only : goal.returns-clause-only
 returns-clause-only c = λ n small e.
     kept_only c.ok.result c.try_from.result c.loop-digit.number n c.ok.ensures.value c.try_from.ensures small
-      (value_is c.args.text.now c.loop-digit.number c.loop-digit.digit-index n c.loop-digit.invariant.value c.loop-digit-test.false small e)
+    (value_is c.args.text.now c.loop-digit.number c.loop-digit.digit-index n c.loop-digit.invariant.value c.loop-digit-test.false small e)

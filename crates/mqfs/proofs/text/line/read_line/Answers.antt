@@ -1,7 +1,6 @@
-use Rattle.std.proofs.Common.{◌≡◌, ◌<◌, eqb, ap, sym, ◌∙◌, map}
+use Rattle.std.proofs.Common.{eqb, ap, sym, ◌∙◌, map}
 use Rattle.std.specs.List.{slice_split}
 use Rattle.std.proofs.lemmas.Result.{err_from_is_err_and}
-use Rattle.mqfs.specs.Text.{item_text}
 use Rattle.mqfs.proofs.TextParts.{words_of_line, line_of_words, line_is_good, good_items}
 use Rattle.mqfs.proofs.text.line.read_line.Goals as goal
 

@@ -1,10 +1,7 @@
-use Rattle.std.proofs.Common.{◌≡◌, ◌∷◌, [], ◌++◌, List, ℕ, length, eqb, sym, ◌∙◌, ap, subst, map}
-use Rattle.std.specs.List.{slice_split}
+use Rattle.std.proofs.Common.{length, sym, ◌∙◌, ap, map}
 use Rattle.std.proofs.lemmas.Bool.{eqb-true}
 use Rattle.std.proofs.lemmas.List.{nil_from_length}
 use Rattle.std.proofs.lemmas.Result.{err_from_is_err_and}
-use Rattle.mqfs.specs.declared.text.item.BlockItem.{BlockItem}
-use Rattle.mqfs.specs.Text.{line_text, IsTextOf, IsGoodText, HasSetsOnly}
 use Rattle.mqfs.proofs.TextWhole.{set_lines, lines_of_text, text_of_lines, no_lines, some_byte, not_form}
 use Rattle.mqfs.proofs.text.whole.read_block_text.Goals as goal
 
