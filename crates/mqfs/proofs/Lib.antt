@@ -1,4 +1,5 @@
 pub mod Ending
+pub mod Fills
 pub mod JournalItems
 pub mod JournalKeeps
 pub mod JournalShows

@@ -63,6 +63,11 @@ abbrev pub blocks_in : Writes → List ℕ
 blocks_in [] = []
 blocks_in (w ∷ ws) = w.0 ∷ blocks_in ws
 
+-- the copies alone, from a place on
+abbrev pub copies_from : Geometry → ℕ → Writes → Items
+copies_from g place [] = []
+copies_from g place (w ∷ ws) = (area_lba g 0 place, w.1) ∷ copies_from g (place + 1) ws
+
 -- the copies from a place on, and then the descriptor's block
 abbrev pub items_from : Geometry → ℕ → List ℕ → Writes → Items
 items_from g place block [] = (area_lba g 0 place, block) ∷ []

@@ -21,10 +21,10 @@ abbrev pub with_write : ℕ → Option ℕ → Writes → Writes
 with_write b None ws = ws
 with_write b (Some v) ws = (b, filled v) ∷ ws
 
--- what a line writes on the blocks from `low` on, of which there are so many, by rising blocks
-abbrev pub writes_from : List BlockItem → ℕ → ℕ → Writes
-writes_from is b zero = []
-writes_from is b (suc n) = with_write b (set_in is b) (writes_from is (b + 1) n)
+-- the writes that fill blocks with these bytes, from a block on, so many, by rising blocks
+abbrev pub writes_from : (ℕ → Option ℕ) → ℕ → ℕ → Writes
+writes_from fill b zero = []
+writes_from fill b (suc n) = with_write b (fill b) (writes_from fill (b + 1) n)
 
 -- block texts name the blocks below this one
 unfoldable pub named : ℕ
@@ -32,7 +32,7 @@ named = 256
 
 -- the transaction of a line: it writes the blocks that the line sets, and frees those that it frees
 abbrev pub transaction_of : ℕ → List BlockItem → Transaction
-transaction_of number is = record { number = number; writes = writes_from is 0 named; freed = freed_in is }
+transaction_of number is = record { number = number; writes = writes_from (set_in is) 0 named; freed = freed_in is }
 
 abbrev pub line_at : List (List BlockItem) → ℕ → List BlockItem
 line_at lines k = slice_index_or lines k []

@@ -1,6 +1,7 @@
 //! The program `mqfs`: block texts, committed through one queue of an emulated drive, and recovered.
 #![tactic(auto)]
 
+mod items;
 mod outside;
 mod pmr;
 mod text;

@@ -1,0 +1,113 @@
+-- Blocks that are filled, one after another.
+use Rattle.std.proofs.Common.{◌≡◌, ◌≢◌, ◌<◌, ◌≤◌, ◌⊎◌, inl, inr, ⊎_elim, ℕ, zero, suc, ◌+◌, ◌-◌, Bool, true, false, cond, eqb, List, [], ◌∷◌, ◌++◌, length, get_or, Option, Some, None, refl, sym, ◌∙◌, ap, subst, arith, append_assoc, add-zero}
+use Rattle.std.proofs.lemmas.List.{append-nil}
+use Rattle.std.proofs.lemmas.Bool.{cases_eq, eqb-true}
+use Rattle.std.proofs.lemmas.Bool.Decides.{nat_tests, eqb_tells}
+use Rattle.mq_blocks.specs.Blocks.{filled}
+use Rattle.mq_blocks.specs.Descriptor.{AreRising}
+use Rattle.mq_blocks.specs.Geometry.{area_lba}
+use Rattle.mq_blocks.specs.Machine.{Writes}
+use Rattle.mq_blocks.specs.declared.geometry.Geometry.{Geometry}
+use Rattle.mqfs.specs.Commits.{AreBelow, blocks_in, copies_from, items_from}
+use Rattle.mqfs.specs.Lines.{set_in, with_write, writes_from, named}
+use Rattle.mqfs.specs.Runs.{Items}
+use Rattle.mqfs.specs.Text.{AreGoodItems, IsGoodItem, block_of, sets_in}
+use Rattle.mqfs.specs.declared.text.item.BlockItem.{BlockItem}
+use Rattle.mqfs.specs.declared.text.item.BlockItem.TheVariants.{Set, Free}
+
+abbrev pub Fill : Type 0
+Fill = ℕ → Option ℕ
+
+pub named_is : named ≡ 256
+unfolding named
+named_is = refl
+
+pub writes_at : (f : Fill) (n b : ℕ) → b < n → writes_from f b (n - b) ≡ with_write b (f b) (writes_from f (b + 1) (n - (b + 1)))
+writes_at f n b less = ap (writes_from f b) (let e : n - b ≡ suc (n - (b + 1)) = omega arith in e)
+
+pub writes_first : (f : Fill) → writes_from f 0 named ≡ writes_from f 0 (named - 0)
+writes_first f = ap (writes_from f 0) (let e : named ≡ named - 0 = omega arith in e)
+
+pub writes_last : (f : Fill) (b : ℕ) → 256 ≤ b → writes_from f b (named - b) ≡ []
+writes_last f b past = ap (writes_from f b) (let e : named - b ≡ 0 = omega (arith, named_is) in e)
+
+-- fills that agree write the same
+pub writes-along : (f g : Fill) (b n : ℕ) → ((k : ℕ) → b ≤ k → k < b + n → f k ≡ g k) → writes_from f b n ≡ writes_from g b n
+writes-along f g b zero same = refl
+writes-along f g b (suc n) same =
+    let here = same b (omega arith) (omega arith) in
+    let rest = writes-along f g (b + 1) n (λ k low high. same k (omega arith) (omega arith)) in
+    λ i. with_write b (here i) (rest i)
+
+-- ---- what a loop over the blocks has so far
+
+pub blocks_none : (f : Fill) (b : ℕ) (so_far all : List ℕ) → b < 256 → f b ≡ None → all ≡ so_far ++ blocks_in (writes_from f b (named - b)) → all ≡ so_far ++ blocks_in (writes_from f (b + 1) (named - (b + 1)))
+blocks_none f b so_far all less none is =
+    is ∙ ap (λ (ws : Writes). so_far ++ blocks_in ws) (writes_at f named b (omega (arith, named_is)) ∙ ap (λ (o : Option ℕ). with_write b o (writes_from f (b + 1) (named - (b + 1)))) none)
+
+pub blocks_some : (f : Fill) (b v : ℕ) (so_far all : List ℕ) → b < 256 → f b ≡ Some v → all ≡ so_far ++ blocks_in (writes_from f b (named - b))
+    → all ≡ (so_far ++ b ∷ []) ++ blocks_in (writes_from f (b + 1) (named - (b + 1)))
+blocks_some f b v so_far all less some is =
+    is ∙ ap (λ (ws : Writes). so_far ++ blocks_in ws) (writes_at f named b (omega (arith, named_is)) ∙ ap (λ (o : Option ℕ). with_write b o (writes_from f (b + 1) (named - (b + 1)))) some)
+    ∙ sym (append_assoc so_far (b ∷ []) (blocks_in (writes_from f (b + 1) (named - (b + 1)))))
+
+pub copies_none : (g : Geometry) (f : Fill) (b place : ℕ) (so_far all : Items) → b < 256 → f b ≡ None → all ≡ so_far ++ copies_from g place (writes_from f b (named - b))
+    → all ≡ so_far ++ copies_from g place (writes_from f (b + 1) (named - (b + 1)))
+copies_none g f b place so_far all less none is =
+    is ∙ ap (λ (ws : Writes). so_far ++ copies_from g place ws) (writes_at f named b (omega (arith, named_is)) ∙ ap (λ (o : Option ℕ). with_write b o (writes_from f (b + 1) (named - (b + 1)))) none)
+
+pub copies_some : (g : Geometry) (f : Fill) (b v place : ℕ) (so_far all : Items) → b < 256 → f b ≡ Some v → all ≡ so_far ++ copies_from g place (writes_from f b (named - b))
+    → all ≡ (so_far ++ (area_lba g 0 place, filled v) ∷ []) ++ copies_from g (place + 1) (writes_from f (b + 1) (named - (b + 1)))
+copies_some g f b v place so_far all less some is =
+    is ∙ ap (λ (ws : Writes). so_far ++ copies_from g place ws) (writes_at f named b (omega (arith, named_is)) ∙ ap (λ (o : Option ℕ). with_write b o (writes_from f (b + 1) (named - (b + 1)))) some)
+    ∙ sym (append_assoc so_far ((area_lba g 0 place, filled v) ∷ []) (copies_from g (place + 1) (writes_from f (b + 1) (named - (b + 1)))))
+
+pub length-copies : (g : Geometry) (place : ℕ) (ws : Writes) → length (copies_from g place ws) ≡ length ws
+length-copies g place [] = refl
+length-copies g place (w ∷ ws) = ap suc (length-copies g (place + 1) ws)
+
+pub copies-then : (g : Geometry) (place : ℕ) (block : List ℕ) (ws : Writes) → copies_from g place ws ++ (area_lba g 0 (place + length ws), block) ∷ [] ≡ items_from g place block ws
+copies-then g place block [] = ap (λ (n : ℕ). (area_lba g 0 n, block) ∷ []) (add-zero place)
+copies-then g place block (w ∷ ws) =
+    let more : place + suc (length ws) ≡ place + 1 + length ws = omega arith in
+    ap (λ (l : Items). (area_lba g 0 place, w.1) ∷ l)
+    (ap (λ (n : ℕ). copies_from g (place + 1) ws ++ (area_lba g 0 n, block) ∷ []) more ∙ copies-then g (place + 1) block ws)
+
+-- ---- bounds
+
+-- blocks that are filled are below this one
+abbrev pub FillsBelow : ℕ → Fill → Type 0
+FillsBelow homes f = (b v : ℕ) → f b ≡ Some v → b < homes
+
+rising_step : (homes low b : ℕ) (o : Option ℕ) (ws : Writes) → low ≤ b → ((v : ℕ) → o ≡ Some v → b < homes) → ((m : ℕ) → m ≤ b + 1 → AreRising m homes (blocks_in ws)) → AreRising low homes (blocks_in (with_write b o ws))
+rising_step homes low b None ws below small rest = rest low (omega arith)
+rising_step homes low b (Some v) ws below small rest = (below, small v refl, rest (b + 1) (omega arith))
+
+pub rising_writes : (homes : ℕ) (f : Fill) (b n low : ℕ) → FillsBelow homes f → low ≤ b → AreRising low homes (blocks_in (writes_from f b n))
+rising_writes homes f b zero low small below = tt
+rising_writes homes f b (suc n) low small below = rising_step homes low b (f b) (writes_from f (b + 1) n) below (small b) (λ m at. rising_writes homes f (b + 1) n m small at)
+
+length_step : (b : ℕ) (o : Option ℕ) (ws : Writes) → length (with_write b o ws) ≤ length ws + 1
+length_step b None ws = omega arith
+length_step b (Some v) ws = omega arith
+
+pub length-writes : (f : Fill) (b n : ℕ) → length (writes_from f b n) ≤ n
+length-writes f b zero = omega arith
+length-writes f b (suc n) = omega (arith, length_step b (f b) (writes_from f (b + 1) n), length-writes f (b + 1) n)
+
+set_case : (homes b v c w : ℕ) (rest : Option ℕ) (t : Bool) → eqb c b ≡ t → c < homes → (rest ≡ Some v → b < homes) → cond t (Some w) rest ≡ Some v → b < homes
+set_case homes b v c w rest true same small later found = let e : c ≡ b = eqb-true c b same in omega arith
+set_case homes b v c w rest false other small later found = later found
+
+pub below_set : (homes : ℕ) (is : List BlockItem) → AreBelow homes is → FillsBelow homes (set_in is)
+below_set homes [] below b v found = cc
+below_set homes (Set c w ∷ is) below b v found = set_case homes b v c w (set_in is b) (eqb c b) refl below.0 (λ rest. below_set homes is below.1 b v rest) found
+below_set homes (Free c ∷ is) below b v found = below_set homes is below.1 b v found
+
+pub good_at : (is : List BlockItem) (k : ℕ) (d : BlockItem) → k < length is → AreGoodItems is → IsGoodItem (get_or is k d)
+good_at [] k d less good = absurd (omega arith)
+good_at (i ∷ is) zero d less good = good.0
+good_at (i ∷ is) (suc k) d less good = good_at is k d (omega arith) good.2
+
+pub good_set : (i : BlockItem) (b v : ℕ) → i ≡ Set b v → IsGoodItem i → b < 256
+good_set i b v is good = let at : IsGoodItem (Set b v) = subst IsGoodItem is good in let low : b ≤ 255 = at.0 in omega arith

@@ -1,0 +1,33 @@
+use Rattle.std.proofs.Common.{rules, ◌≡◌, ◌<◌, ◌≤◌, ℕ, ◌+◌, ◌-◌, List, [], ◌∷◌, ◌++◌, length, drop, get_or, Option, Some, None, refl, sym, ◌∙◌, ap, subst, arith, Vec, Global}
+use Rattle.std.proofs.lemmas.Grind.{common_steps}
+use Rattle.std.proofs.lemmas.List.{append-nil}
+use Rattle.std.proofs.Math.ListN.{drop_of_length-le}
+use Rattle.mq_blocks.specs.Geometry.{area_lba}
+use Rattle.mq_blocks.specs.Machine.{Writes}
+use Rattle.mqfs.specs.Commits.{blocks_in, copies_from}
+use Rattle.mqfs.specs.Lines.{set_in, writes_from, named}
+use Rattle.mqfs.specs.Runs.{Items}
+use Rattle.mqfs.specs.Text.{AreGoodItems, IsGoodItem, block_of}
+use Rattle.mqfs.specs.declared.text.item.BlockItem.{BlockItem}
+use Rattle.mqfs.specs.declared.text.item.BlockItem.TheVariants.{Set, Free}
+use Rattle.mqfs.proofs.Fills.{Fill, named_is, writes_first, writes_last, blocks_none, blocks_some, copies_none, copies_some, good_at}
+use Rattle.mqfs.proofs.items.filled_blocks.Goals as goal
+use Rattle.mqfs.proofs.items.filled_blocks.Goals.{in-None, in-Some+in_ok-push-in-Some}
+
+pub loop-b-preserved : goal.loop-b-preserved
+loop-b-preserved c =
+    let f : Fill = λ b. get_or c.args.fills.now b None in
+    let all : List ℕ = blocks_in (writes_from f 0 named) in
+    let after : List ℕ = blocks_in (writes_from f (c.loop-b.b + 1) (named - (c.loop-b.b + 1))) in
+    elim c.match-fills-b.branch [
+      in-None w ↦
+        subst (λ (v : Vec ℕ Global). all ≡ v.items ++ after) (sym w.blocks-is) (blocks_none f c.loop-b.b c.loop-b.blocks.items all c.loop-b-test.true w.in-None.is c.loop-b.invariant)
+      | in-Some+in_ok-push-in-Some w ↦
+        let pushed : c.match-fills-b.blocks.items ≡ c.loop-b.blocks.items ++ c.loop-b.b ∷ [] = ap (λ (v : Vec ℕ Global). v.items) w.blocks-is ∙ w.in_ok-push-in-Some.ensures.items in
+        subst (λ (l : List ℕ). all ≡ l ++ after) (sym pushed) (blocks_some f c.loop-b.b w.in-Some.field-0 c.loop-b.blocks.items all c.loop-b-test.true w.in-Some.is c.loop-b.invariant)
+    ]
+
+pub returns : goal.returns
+returns c =
+    let f : Fill = λ b. get_or c.args.fills.now b None in
+    sym (c.loop-b.invariant ∙ ap (λ (ws : Writes). c.loop-b.blocks.items ++ blocks_in ws) (writes_last f c.loop-b.b c.loop-b-test.false) ∙ append-nil c.loop-b.blocks.items)

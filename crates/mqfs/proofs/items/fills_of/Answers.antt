@@ -1,0 +1,27 @@
+use Rattle.std.proofs.Common.{rules, ◌≡◌, ◌<◌, ◌≤◌, ℕ, ◌+◌, ◌-◌, List, [], ◌∷◌, ◌++◌, length, drop, get_or, Option, Some, None, refl, sym, ◌∙◌, ap, subst, arith, vec_len}
+use Rattle.std.proofs.lemmas.Grind.{common_steps}
+use Rattle.std.proofs.lemmas.List.{append-nil}
+use Rattle.std.proofs.Math.ListN.{drop_of_length-le}
+use Rattle.mq_blocks.specs.Geometry.{area_lba}
+use Rattle.mq_blocks.specs.Machine.{Writes}
+use Rattle.mqfs.specs.Commits.{blocks_in, copies_from}
+use Rattle.mqfs.specs.Lines.{set_in, writes_from, named}
+use Rattle.mqfs.specs.Runs.{Items}
+use Rattle.mqfs.specs.Text.{AreGoodItems, IsGoodItem, block_of}
+use Rattle.mqfs.specs.declared.text.item.BlockItem.{BlockItem}
+use Rattle.mqfs.specs.declared.text.item.BlockItem.TheVariants.{Set, Free}
+use Rattle.mqfs.proofs.Fills.{Fill, named_is, writes_first, writes_last, blocks_none, blocks_some, copies_none, copies_some, good_at}
+use Rattle.mqfs.proofs.Fills.{good_set}
+use Rattle.mqfs.proofs.items.fills_of.Goals as goal
+
+pub index_mut-requires : goal.index_mut-requires
+index_mut-requires c =
+    let items : List BlockItem = c.as_slice-items.result.now in
+    let view : items ≡ c.args.line.now = c.as_slice-items.ensures.value ∙ c.line.view_is in
+    let good : AreGoodItems items = subst AreGoodItems (sym view) c.requires in
+    let within : c.loop-k.k - 1 < length items = let inside = c.loop-k.invariant.within in let some = c.loop-k-test.true in omega arith in
+    let small : c.in-Set.block < 256 = good_set _ c.in-Set.block c.in-Set.byte c.in-Set.is (good_at items (c.loop-k.k - 1) _ within good) in
+    let len : vec_len c.loop-k.fills ≡ length c.loop-k.fills.items = search rules in
+    let whole = c.loop-k.invariant.whole in
+    let is : c.block.inside.0 ≡ c.in-Set.block = c.block.view_is in
+    omega (arith, small, len, whole, is)
