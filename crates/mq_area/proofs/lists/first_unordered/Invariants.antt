@@ -1,0 +1,7 @@
+use Rattle.std.proofs.Common.{◌≡◌, take}
+use Rattle.mq_blocks.specs.Descriptor.{AreRising}
+use Rattle.mq_area.proofs.Rising.{next_above}
+use Rattle.mq_area.proofs.lists.first_unordered.Given as goal
+
+abbrev pub invariant-loop-i : goal.invariant-loop-i
+invariant-loop-i l = (l.low ≡ next_above 0 (take l.i l.list)) × AreRising 0 l.homes (take l.i l.list)

@@ -1,0 +1,119 @@
+// The fields of a descriptor before its lists.
+ghost use Rattle.std.specs.Prelude.{◌≡◌, ◌≤◌, ◌<◌, ◌+◌, ◌*◌, ℕ, length, slice_index, IsTrue, ◌↔◌, MatchResult};
+ghost use Rattle.mq_area.specs.Reading.{header_of, GoodCounts, RefusesHeader, IsPlaced, Follows};
+
+use crate::bytes::{u32_at, u64_at};
+use crate::descriptor::{Expect, PlaceIs};
+use crate::refusal::DescriptorRefusal;
+
+/// The bytes before the two lists.
+pub const HEADER: usize = 56;
+
+/// The most blocks that a descriptor names.
+const MOST: u64 = 1000;
+
+/// "MQFSDSC1", the least byte first.
+const MAGIC: u64 = 0x3143_5344_5346_514d;
+
+/// The fields before the lists, as they stand in a block.
+#[derive(Clone, Copy)]
+pub struct Header {
+    pub magic: u64,
+    pub version: u32,
+    pub queue: u32,
+    pub number: u64,
+    pub place: u64,
+    pub prev_place: u64,
+    pub prev_number: u64,
+    pub logged: u32,
+    pub revoked: u32,
+}
+
+/// The header that the bytes of a block show, whatever it says.
+#[tactic(auto, unfolding(crate::specs::Reading::header_of))]
+pub fn read_header(block: &[u8]) -> Header
+    requires { HEADER ≤ length block.now }
+    ensures is { result ≡ header_of block.now }
+    ensures bytes { (k : ℕ) → slice_index block.now k < 256 }
+{
+    Header {
+        magic: u64_at(block, 0),
+        version: u32_at(block, 8),
+        queue: u32_at(block, 12),
+        number: u64_at(block, 16),
+        place: u64_at(block, 24),
+        prev_place: u64_at(block, 32),
+        prev_number: u64_at(block, 40),
+        logged: u32_at(block, 48),
+        revoked: u32_at(block, 52),
+    }
+}
+
+/// Makes the tests that need the header alone, and names the first that fails.
+pub fn check_header(h: &Header, area: u32, at: &Expect) -> Result<(), DescriptorRefusal>
+    requires { 0 < area }
+    ensures { MatchResult result (λ _. GoodCounts area at.now h.now) (RefusesHeader area at.now h.now) }
+{
+    if h.magic != MAGIC {
+        return Err(DescriptorRefusal::Magic { found: h.magic });
+    }
+    if h.version != 1 {
+        return Err(DescriptorRefusal::Version { found: h.version });
+    }
+    if h.queue != at.queue.0 {
+        return Err(DescriptorRefusal::Queue { found: h.queue });
+    }
+    if h.number != at.number.0 {
+        return Err(DescriptorRefusal::Number { found: h.number });
+    }
+    if !is_placed(area, at.place, h.place) {
+        return Err(DescriptorRefusal::Place { found: h.place });
+    }
+    if !follows(h) {
+        return Err(DescriptorRefusal::Previous {
+            place: h.prev_place,
+            number: h.prev_number,
+        });
+    }
+    if !are_few(h) {
+        return Err(DescriptorRefusal::Counts {
+            logged: h.logged,
+            revoked: h.revoked,
+        });
+    }
+    Ok(())
+}
+
+/// Whether a place is the one that is expected, in an area of so many blocks.
+fn is_placed(area: u32, expected: PlaceIs, place: u64) -> bool
+    requires { 0 < area }
+    ensures { IsTrue result ↔ IsPlaced area expected place }
+{
+    if place >= 1 << 62 {
+        return false;
+    }
+    match expected {
+        PlaceIs::Index(index) => place % u64::from(area) == u64::from(index),
+        PlaceIs::Exact(exact) => place == exact,
+    }
+}
+
+/// Whether the descriptor before it is before it.
+fn follows(h: &Header) -> bool
+    ensures { IsTrue result ↔ Follows h.now }
+{
+    if h.prev_number >= h.number {
+        return false;
+    }
+    if h.prev_number == 0 {
+        return h.prev_place == 0;
+    }
+    h.prev_place < h.place && u64::from(h.logged) < h.place - h.prev_place
+}
+
+/// Whether the lists are short enough, and the copies have places before the descriptor.
+fn are_few(h: &Header) -> bool
+    ensures { IsTrue result ↔ ((h.now.logged + h.now.revoked ≤ 1000) × (h.now.logged ≤ h.now.place)) }
+{
+    u64::from(h.logged) + u64::from(h.revoked) <= MOST && u64::from(h.logged) <= h.place
+}

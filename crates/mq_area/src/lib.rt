@@ -1,0 +1,17 @@
+//! Descriptors of transactions: the blocks of the journal area that name what a transaction wrote.
+#![tactic(auto)]
+
+mod bytes;
+mod descriptor;
+mod header;
+mod lists;
+mod read;
+mod refusal;
+#[cfg(test)]
+mod tests;
+mod write;
+
+pub use descriptor::{Descriptor, Expect, PlaceIs};
+pub use read::read_descriptor;
+pub use refusal::DescriptorRefusal;
+pub use write::write_descriptor;
