@@ -1,11 +1,11 @@
 -- A block is refused for one cause alone, besides want of memory.
-use Rattle.std.proofs.Common.{◌≡◌, ◌≢◌, ℕ, zero, suc, ◌+◌, ◌-◌, ◌*◌, ◌<◌, ◌≤◌, ◌⊎◌, inl, inr, Result, Ok, Err, IfOk, IfErr, IsErrOf, MatchResult, List, [], ◌∷◌, ◌++◌, length, take, get_or, min, refl, sym, ap, subst, ◌∙◌, arith}
+use Rattle.std.proofs.Common.{◌≡◌, ◌≢◌, ℕ, zero, suc, ◌+◌, ◌-◌, ◌≤◌, ◌⊎◌, inl, inr, Result, Ok, Err, IfOk, IfErr, IsErrOf, MatchResult, List, ◌++◌, length, take, get_or, refl, sym, ap, subst, ◌∙◌, arith}
 use Rattle.std.proofs.lemmas.Bool.{cases_lt}
 use Rattle.std.proofs.lemmas.List.{take-take}
 use Rattle.mq_blocks.specs.Descriptor.{Descriptor, AreRising, AreApart}
 use Rattle.mq_blocks.specs.Geometry.{homes_of, area_of}
 use Rattle.mq_blocks.specs.declared.geometry.Geometry.{Geometry}
-use Rattle.mq_area.specs.Reading.{Accepts, header_of, logged_of, revoked_of, end_of, GoodMagic, GoodVersion, GoodQueue, GoodNumber, GoodPlace, GoodPrevious, GoodCounts, GoodLists, GoodRevoked, AreListed, RefusesHeader, Refuses, RefusesList, RefusesRest}
+use Rattle.mq_area.specs.Reading.{Accepts, header_of, logged_of, revoked_of, GoodMagic, GoodVersion, GoodQueue, GoodNumber, GoodPlace, GoodPrevious, GoodCounts, AreListed, RefusesHeader, Refuses, RefusesList, RefusesRest}
 use Rattle.mq_area.specs.declared.descriptor.Expect.{Expect}
 use Rattle.mq_area.specs.declared.header.Header.{Header}
 use Rattle.mq_area.specs.declared.refusal.DescriptorRefusal.{DescriptorRefusal}

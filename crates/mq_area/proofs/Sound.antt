@@ -7,12 +7,10 @@ use Rattle.mq_blocks.specs.Descriptor.{Descriptor, AreRising, list_bytes, header
 use Rattle.mq_blocks.specs.Geometry.{homes_of, area_of}
 use Rattle.mq_blocks.specs.declared.geometry.Geometry.{Geometry}
 use Rattle.mq_area.specs.Windows.{window, number_at, numbers}
-use Rattle.mq_area.specs.Reading.{Accepts, header_of, logged_of, revoked_of, end_of, GoodCounts, GoodLists, GoodRevoked, RefusesHeader, IsListRefusal, IsRestRefusal, IsZero}
+use Rattle.mq_area.specs.Reading.{Accepts, header_of, logged_of, revoked_of, end_of, GoodCounts, GoodLists, GoodRevoked, IsZero}
 use Rattle.mq_area.specs.declared.descriptor.Expect.{Expect}
 use Rattle.mq_area.specs.declared.header.Header.{Header}
-use Rattle.mq_area.proofs.Descriptors.{parsed, descriptor_bytes-unique, accepted-homes, accepted-counts, refused-header, refused-lists, refused-rest}
-use Rattle.mq_area.specs.declared.refusal.DescriptorRefusal.{DescriptorRefusal}
-use Rattle.mq_area.specs.declared.refusal.DescriptorRefusal.TheVariants.{Magic, Version, Queue, Number, Place, Previous, Counts, List as Listed, Rest, OutOfMemory}
+use Rattle.mq_area.proofs.Descriptors.{parsed, descriptor_bytes-unique, accepted-homes}
 use Rattle.mq_area.proofs.Numbers.{window-add, bytes-number_at_4, bytes-number_at_8, number_at-below, length-numbers, list_bytes-numbers}
 
 -- the bytes at the start of a block, and those right behind
