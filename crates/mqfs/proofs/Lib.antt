@@ -11,4 +11,5 @@ pub mod TextItems
 pub mod TextLines
 pub mod TextNumbers
 pub mod TextParts
+pub mod TextSteps
 pub mod TextWhole

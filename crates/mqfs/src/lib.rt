@@ -1,11 +1,13 @@
 //! The program `mqfs`: block texts, committed through one queue of an emulated drive, and recovered.
 #![tactic(auto)]
 
+mod commit;
 mod items;
 mod outside;
 mod pmr;
 mod text;
 
+pub use commit::TextRefusal;
 pub use outside::{
     Files, LOAD_LIMIT, LoadRefusal, MemFiles, MemSink, PutRefusal, RealFiles, RealSink,
     SaveRefusal, Sink, SureFiles, SureSink, put_all,
