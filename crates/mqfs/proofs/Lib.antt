@@ -1,3 +1,4 @@
+pub mod Drives
 pub mod Ending
 pub mod Fills
 pub mod JournalItems

@@ -1,5 +1,6 @@
 pub mod Causes
 pub mod Commits
+pub mod Fresh
 pub mod Lines
 pub mod Outside
 pub mod Recovery

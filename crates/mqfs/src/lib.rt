@@ -1,13 +1,14 @@
 //! The program `mqfs`: block texts, committed through one queue of an emulated drive, and recovered.
 #![tactic(auto)]
 
+mod blocks;
 mod commit;
 mod items;
 mod outside;
 mod pmr;
 mod text;
 
-pub use commit::TextRefusal;
+pub use commit::{TextRefusal, commit_text};
 pub use outside::{
     Files, LOAD_LIMIT, LoadRefusal, MemFiles, MemSink, PutRefusal, RealFiles, RealSink,
     SaveRefusal, Sink, SureFiles, SureSink, put_all,
