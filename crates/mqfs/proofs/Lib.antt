@@ -7,3 +7,5 @@ pub mod Ending
 pub mod Lines
 pub mod Lists
 pub mod Staging
+pub mod RecoverChains
+pub mod RecoverCopies

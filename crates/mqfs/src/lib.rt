@@ -2,6 +2,8 @@
 #![tactic(auto)]
 
 mod pmr;
+mod recover;
 mod text;
 
+pub use recover::{Chain, ChainRefusal, ImageFault, RecoverRefusal, read_chain};
 pub use text::{BlockItem, BlockLine, BlockText, BlockTextRefusal, read_block_text};
