@@ -3,6 +3,7 @@ use Rattle.std.proofs.Common.{◌≡◌, ◌<◌, ◌≤◌, ◌⊎◌, ⊎_elim
 use Rattle.std.specs.Prelude.{slice_index_or}
 use Rattle.std.proofs.lemmas.List.{append-nil}
 use Rattle.std.proofs.Math.Nat.{mod-mod}
+use Rattle.std.specs.Option.{unwrap_or}
 use Rattle.mq_blocks.specs.Blocks.{block_at}
 use Rattle.mq_blocks.specs.Descriptor.{Descriptor, descriptor_bytes}
 use Rattle.mq_blocks.specs.Drive.{PortState, IsQuiet, IsFlushed, depth}
@@ -18,7 +19,7 @@ use Rattle.mq_area.specs.Reading.{Accepts, PlaceFits}
 use Rattle.mq_area.specs.declared.descriptor.Expect.{Expect}
 use Rattle.mq_area.specs.declared.descriptor.PlaceIs.{PlaceIs}
 use Rattle.mq_area.specs.declared.descriptor.PlaceIs.TheVariants.{Index, Exact}
-use Rattle.mqfs.specs.Recover.{IsSeenAt, IsStart, IsWithinReach, newest_of, where_of}
+use Rattle.mqfs.specs.Recover.{IsSeenAt, IsStart, IsWithinReach, where_of}
 use Rattle.mqfs.specs.declared.recover.chain.Start.{Start}
 
 -- each slot of a quiet port is flushed
@@ -47,7 +48,7 @@ pub record IsLeft (g : Geometry) (i : Shown) (q : ℕ) (at : Expect) (newest : O
   pub all : ds ≡ found ++ us
   pub chain : IsChain g i q at.number place us
   pub fits : PlaceFits (area_of g) at.place place
-  pub reach : AreInReach g (newest_of newest place) us
+  pub reach : AreInReach g (unwrap_or newest place) us
 
 pub start-left : (g : Geometry) (i : Shown) (q : ℕ) (at : Expect) (start : Start) (ds : List Descriptor) → at.number ≡ start.number → at.place ≡ Index start.index → IsStart g i q start ds → IsLeft g i q at None [] ds
 start-left g i q at start ds number_is place_is s = record {
@@ -66,7 +67,7 @@ pub record IsNext (g : Geometry) (i : Shown) (q : ℕ) (s : PortState) (at : Exp
   pub within : IsWithinReach g newest d
   pub all : ds ≡ found ++ d ∷ us
   pub chain : IsChain g i q d.prev_number d.prev_place us
-  pub reach : AreInReach g (newest_of newest d.place) us
+  pub reach : AreInReach g (unwrap_or newest d.place) us
 
 
 where-fits : (area : ℕ) (p : PlaceIs) (place : ℕ) → PlaceFits area p place → where_of p % area ≡ place % area
@@ -74,13 +75,13 @@ where-fits area (Index index) place fits = ap (λ (n : ℕ). n % area) (sym fits
 where-fits area (Exact exact) place fits = ap (λ (n : ℕ). n % area) (sym fits)
 
 next-of : (g : Geometry) (i : Shown) (q : ℕ) (s : PortState) (at : Expect) (newest : Option ℕ) (found ds : List Descriptor) (us : List Descriptor) (place : ℕ)
-    → IsSeenAt q i.base s i → at.queue ≡ q → i.base < at.number → ds ≡ found ++ us → IsChain g i q at.number place us → PlaceFits (area_of g) at.place place → AreInReach g (newest_of newest place) us
+    → IsSeenAt q i.base s i → at.queue ≡ q → i.base < at.number → ds ≡ found ++ us → IsChain g i q at.number place us → PlaceFits (area_of g) at.place place → AreInReach g (unwrap_or newest place) us
     → (d : Descriptor) × IsNext g i q s at newest found ds d
 next-of g i q s at newest found ds [] place seen queue_is above all chain fits reach = absurd (omega arith)
 next-of g i q s at newest found ds (d ∷ us) place seen queue_is above all chain fits reach =
     let holds = chain.1 in
     let where_is : where_of at.place % g.area ≡ place % g.area = where-fits g.area at.place place fits in
-    let P : ℕ → Type 0 = λ n. AreInReach g (newest_of newest n) (d ∷ us) in
+    let P : ℕ → Type 0 = λ n. AreInReach g (unwrap_or newest n) (d ∷ us) in
     let reach_d = subst P (sym holds.place_is) reach in
     (d, record {
       us = us;
@@ -105,7 +106,7 @@ left-next g i q base s at newest found ds seen queue_is above left =
 
 -- it is found, and what follows it is left
 pub next-left : (g : Geometry) (i : Shown) (q : ℕ) (s : PortState) (at to : Expect) (newest : Option ℕ) (found more ds : List Descriptor) (d e : Descriptor) (n : ℕ)
-    → IsNext g i q s at newest found ds d → e ≡ d → to.number ≡ e.prev_number → to.place ≡ Exact e.prev_place → n ≡ newest_of newest e.place → more ≡ found ++ e ∷ []
+    → IsNext g i q s at newest found ds d → e ≡ d → to.number ≡ e.prev_number → to.place ≡ Exact e.prev_place → n ≡ unwrap_or newest e.place → more ≡ found ++ e ∷ []
     → IsLeft g i q to (Some n) more ds
 next-left g i q s at to newest found more ds d e n next same number_is place_is newest_is more_is = record {
   us = next.us;
@@ -113,7 +114,7 @@ next-left g i q s at to newest found more ds d e n next same number_is place_is 
   all = next.all ∙ sym (append_assoc found (d ∷ []) next.us) ∙ ap (λ (x : Descriptor). (found ++ x ∷ []) ++ next.us) (sym same) ∙ ap (λ (l : List Descriptor). l ++ next.us) (sym more_is);
   chain = subst (λ (m : ℕ). IsChain g i q m d.prev_place next.us) (sym (number_is ∙ ap (λ (x : Descriptor). x.prev_number) same)) next.chain;
   fits = subst (λ (p : PlaceIs). PlaceFits (area_of g) p d.prev_place) (sym place_is) (sym (ap (λ (x : Descriptor). x.prev_place) same));
-  reach = subst (λ (m : ℕ). AreInReach g m next.us) (sym (newest_is ∙ ap (λ (x : Descriptor). newest_of newest x.place) same)) next.reach;
+  reach = subst (λ (m : ℕ). AreInReach g m next.us) (sym (newest_is ∙ ap (λ (x : Descriptor). unwrap_or newest x.place) same)) next.reach;
 }
 
 -- at the base nothing is left

@@ -1,5 +1,6 @@
 -- What reading a queue's chain finds, and where the copies of home blocks stand.
 use Rattle.std.specs.Prelude.{◌≡◌, ◌<◌, ◌≤◌, ℕ, ◌+◌, ◌-◌, ◌%◌, List, [], ◌∷◌, ◌++◌, length, Option, Some, None, slice_index_or, slice_set, nat_eq, if◌then◌else◌, replicate}
+use Rattle.std.specs.Option.{unwrap_or}
 use Rattle.mq_blocks.specs.Blocks.{block_at}
 use Rattle.mq_blocks.specs.Descriptor.{Descriptor, IsGood}
 use Rattle.mq_blocks.specs.Drive.{PortState}
@@ -37,12 +38,8 @@ where_of (Index index) = index
 where_of (Exact place) = place
 
 -- the copies of a descriptor are in reach of the newest place, which is its own if there is none
-abbrev pub newest_of : Option ℕ → ℕ → ℕ
-newest_of None place = place
-newest_of (Some newest) place = newest
-
 abbrev pub IsWithinReach : Geometry → Option ℕ → Descriptor → Type 0
-IsWithinReach g newest d = newest_of newest d.place < (d.place - length d.logged) + g.area
+IsWithinReach g newest d = unwrap_or newest d.place < (d.place - length d.logged) + g.area
 
 -- ---- copies
 

@@ -163,17 +163,19 @@ fn follow<P: Port>(
 {
     let mut block = Block::zeroed(alloc)?;
     let mut transactions = Vec::new(alloc);
-    let mut at = Expect {
-        queue,
-        number: TxNo(start.number),
-        place: PlaceIs::Index(start.index),
-    };
+    let mut number = start.number;
+    let mut place = PlaceIs::Index(start.index);
     let mut newest = None;
-    while at.number.0 > base.0 {
+    while number > base.0 {
+        let at = Expect {
+            queue,
+            number: TxNo(number),
+            place,
+        };
         let next = read_next(alloc, geometry, port, &at, newest, &mut block)?;
         newest = Some(newest.unwrap_or(next.place));
-        at.number = TxNo(next.prev_number);
-        at.place = PlaceIs::Exact(next.prev_place);
+        number = next.prev_number;
+        place = PlaceIs::Exact(next.prev_place);
         transactions.push(next)?;
     }
     Ok(Chain { transactions })
