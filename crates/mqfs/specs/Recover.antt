@@ -80,3 +80,8 @@ with_all homes (d ∷ ds) = with_transaction (with_all homes ds) d
 abbrev pub AreGood : ℕ → List Descriptor → Type 0
 AreGood homes [] = Unit {0}
 AreGood homes (d ∷ ds) = IsGood homes d × AreGood homes ds
+
+-- the content of the copy at a place of a journal area of so many blocks
+abbrev pub content_of : (ℕ → List ℕ) → ℕ → Option ℕ → Option (List ℕ)
+content_of area size None = None
+content_of area size (Some place) = Some (area (place % size))
