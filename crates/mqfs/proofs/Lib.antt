@@ -9,3 +9,4 @@ pub mod Lists
 pub mod Staging
 pub mod RecoverChains
 pub mod RecoverCopies
+pub mod RecoverHomes

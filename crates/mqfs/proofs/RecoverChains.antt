@@ -1,6 +1,6 @@
 -- Reading a chain.
 use Rattle.std.proofs.Common.{◌≡◌, ◌<◌, ◌≤◌, ◌⊎◌, ⊎_elim, ℕ, zero, suc, ◌+◌, ◌-◌, ◌%◌, Bool, true, false, List, [], ◌∷◌, ◌++◌, length, Option, Some, None, refl, sym, ◌∙◌, ap, subst, arith, append_assoc}
-use Rattle.std.specs.Prelude.{slice_index_or}
+use Rattle.std.specs.Prelude.{slice_index_or, IfOk, Result, Ok, Err}
 use Rattle.std.proofs.lemmas.List.{append-nil}
 use Rattle.std.proofs.Math.Nat.{mod-mod}
 use Rattle.std.specs.Option.{unwrap_or}
@@ -69,7 +69,6 @@ pub record IsNext (g : Geometry) (i : Shown) (q : ℕ) (s : PortState) (at : Exp
   pub chain : IsChain g i q d.prev_number d.prev_place us
   pub reach : AreInReach g (unwrap_or newest d.place) us
 
-
 where-fits : (area : ℕ) (p : PlaceIs) (place : ℕ) → PlaceFits area p place → where_of p % area ≡ place % area
 where-fits area (Index index) place fits = ap (λ (n : ℕ). n % area) (sym fits) ∙ mod-mod place area
 where-fits area (Exact exact) place fits = ap (λ (n : ℕ). n % area) (sym fits)
@@ -82,21 +81,23 @@ next-of g i q s at newest found ds (d ∷ us) place seen queue_is above all chai
     let holds = chain.1 in
     let where_is : where_of at.place % g.area ≡ place % g.area = where-fits g.area at.place place fits in
     let P : ℕ → Type 0 = λ n. AreInReach g (unwrap_or newest n) (d ∷ us) in
-    let reach_d = subst P (sym holds.place_is) reach in
-    (d, record {
-      us = us;
-      accepts = record {
-        bytes = ap (block_at s.blocks) where_is ∙ sym (seen.area_is (place % g.area)) ∙ holds.is;
-        good = holds.good;
-        queue = holds.queue_is ∙ sym queue_is;
-        number = holds.number_is;
-        place = subst (λ (n : ℕ). PlaceFits (area_of g) at.place n) (sym holds.place_is) fits;
-      };
-      within = reach_d.0;
-      all = all;
-      chain = chain.2;
-      reach = reach_d.1;
-    })
+    let reach_d = subst P (sym holds.place_is) reach in (
+      d,
+      record {
+        us = us;
+        accepts = record {
+          bytes = ap (block_at s.blocks) where_is ∙ sym (seen.area_is (place % g.area)) ∙ holds.is;
+          good = holds.good;
+          queue = holds.queue_is ∙ sym queue_is;
+          number = holds.number_is;
+          place = subst (λ (n : ℕ). PlaceFits (area_of g) at.place n) (sym holds.place_is) fits;
+        };
+        within = reach_d.0;
+        all = all;
+        chain = chain.2;
+        reach = reach_d.1;
+      },
+    )
 
 pub left-next : (g : Geometry) (i : Shown) (q base : ℕ) (s : PortState) (at : Expect) (newest : Option ℕ) (found ds : List Descriptor)
     → IsSeenAt q base s i → at.queue ≡ q → base < at.number → IsLeft g i q at newest found ds → (d : Descriptor) × IsNext g i q s at newest found ds d
@@ -164,6 +165,7 @@ newest-is g i q base s ds n l seen chain some is =
     number_in : Option (ℕ × ℕ × Bool) → ℕ
     number_in (Some x) = x.0
     number_in None = 0
+
     lba_in : Option (ℕ × ℕ × Bool) → ℕ
     lba_in (Some x) = x.1
     lba_in None = 0
@@ -205,3 +207,8 @@ not-placed g i q base s ds n l seen chain some is above found =
     let own : chain.lba ≡ area_lba g q chain.place = chain.own (omega arith) in
     let index_is : None ≡ Some (chain.place % area_of g) = found chain.place (sym same.1 ∙ own) in
     cc
+
+-- an Ok has another property too
+pub ok-map : {A E : Type 0} (r : Result A E) (P Q : A → Type 0) → ((x : A) → P x → Q x) → IfOk r P → IfOk r Q
+ok-map (Ok x) P Q f h = f x h
+ok-map (Err e) P Q f h = tt

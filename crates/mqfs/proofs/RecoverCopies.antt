@@ -187,6 +187,6 @@ pub all-taken : (homes : ℕ) (all before done : List Descriptor) (copies : List
     → (length copies ≡ homes) × ((x : ℕ) → get_or copies x None ≡ copy_of all x)
 all-taken homes all [] done copies good all_is none copies_are = (
   ap length copies_are ∙ length-with_all homes done,
-  λ x. ap (λ (l : List (Option ℕ)). get_or l x None) copies_are ∙ with_all-at homes done x (subst (AreGood homes) all_is good) ∙ ap (λ (l : List Descriptor). copy_of l x) (sym all_is)
+  λ x. ap (λ (l : List (Option ℕ)). get_or l x None) copies_are ∙ with_all-at homes done x (subst (AreGood homes) all_is good) ∙ ap (λ (l : List Descriptor). copy_of l x) (sym all_is),
 )
 all-taken homes all (b ∷ before) done copies good all_is none copies_are = absurd (omega arith)

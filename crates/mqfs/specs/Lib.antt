@@ -3,3 +3,5 @@ pub mod Causes
 pub mod Runs
 pub mod Recovery
 pub mod Recover
+pub mod RecoverCauses
+pub mod RecoverHomes

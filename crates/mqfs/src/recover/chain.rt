@@ -19,7 +19,7 @@ use std::alloc::Global;
 use std::marker::Model;
 
 // The greatest number of a transaction, and the greatest doorbell.
-const LIMIT: u64 = 1 << 63;
+pub const LIMIT: u64 = 1 << 63;
 
 /// The transactions of a queue's chain, the newest first.
 #[derive(Drop)]

@@ -6,15 +6,15 @@ ghost use Rattle.mqfs.specs.Recover.{copy_of, forgotten, noted, with_transaction
 
 use super::Chain;
 use mq_area::Descriptor;
-use mq_blocks::{BlockNo, Geometry};
-use std::alloc::{AllocError, Global};
+use mq_blocks::{BlockNo, Geometry, OutOfMemory};
+use std::alloc::Global;
 
 // For each home block the place of its newest logged copy that no later transaction revokes.
 pub fn place_copies(
     alloc: Global,
     geometry: Geometry,
     chain: Chain,
-) -> Result<Vec<Option<u64>>, AllocError>
+) -> Result<Vec<Option<u64>>, OutOfMemory>
     requires { AreGood (homes_of geometry) chain }
     ensures { IfOk result (λ v. (length v.items ≡ homes_of geometry) × ((x : ℕ) → slice_index_or v.items x None ≡ copy_of chain x)) }
 {

@@ -15,16 +15,23 @@ pub enum ChainRefusal {
     /// The entry before the head is not the last request of its transaction.
     Commit,
     /// The last request before the head does not write in the queue's own journal area.
-    AreaPlace { lba: u64 },
+    AreaPlace {
+        lba: u64,
+    },
     /// The block where the descriptor of this number must stand is not that descriptor.
     Descriptor {
         number: u64,
         cause: DescriptorRefusal,
     },
     /// The copies from the oldest place on are more than a lap before the newest place.
-    Span { oldest: u64, newest: u64 },
+    Span {
+        oldest: u64,
+        newest: u64,
+    },
     /// The number of a transaction is above its limit.
-    Limit { number: u64 },
+    Limit {
+        number: u64,
+    },
     OutOfMemory,
 }
 

@@ -36,7 +36,7 @@ loop-number-preserved g c =
       left = λ i ds seen start.
           let next = left-next c.args.geometry i c.args.queue c.args.base s at c.loop-number.newest c.loop-number.transactions.items ds seen refl above (c.loop-number.invariant.left i ds seen start) in
           next-left c.args.geometry i c.args.queue s at (record { queue = c.args.queue; number = c.next.inside.prev_number; place = Exact c.next.inside.prev_place }) c.loop-number.newest c.loop-number.transactions.items c.push.new.self.items ds next.0 d c.unwrap_or.result next.1
-            (c.in_ok-next.ensures.ok next.0 next.1.accepts) number_is (ap Exact place_is) newest_is c.in_ok-push.ensures.items;
+          (c.in_ok-next.ensures.ok next.0 next.1.accepts) number_is (ap Exact place_is) newest_is c.in_ok-push.ensures.items;
     }
 
 pub returns-clause-ok : goal.returns-clause-ok
