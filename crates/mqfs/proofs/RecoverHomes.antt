@@ -6,12 +6,12 @@ use Rattle.std.proofs.lemmas.Grind.{get_or-set_at}
 use Rattle.std.proofs.lemmas.List.{get_or-set_other, append-nil}
 use Rattle.std.proofs.Math.ListN.{length-set}
 use Rattle.std.proofs.Math.Nat.{div-eq_of_lt}
-use Rattle.std.specs.Prelude.{nat_eq, nat_lt, if◌then◌else◌}
+use Rattle.std.specs.Prelude.{slice_get, nat_eq, nat_lt, if◌then◌else◌}
 use Rattle.mq_blocks.specs.Blocks.{block_at, content}
 use Rattle.mq_blocks.specs.Descriptor.{Descriptor, IsGood}
 use Rattle.mq_blocks.specs.Drive.{PortState, IsQuiet, index_of, IsFlushed, staged_end, image_of, after_flush, after_store_base}
 use Rattle.mq_blocks.specs.Geometry.{homes_of, home_lba, zone_of}
-use Rattle.mq_blocks.specs.Journal.{Shown, or_else, home_block}
+use Rattle.mq_blocks.specs.Journal.{Shown, AreInRow, or_else, home_block}
 use Rattle.mq_blocks.specs.Machine.{Writes, or_kept}
 use Rattle.mq_blocks.specs.declared.geometry.Geometry.{Geometry}
 use Rattle.mq_drive.specs.Start.{IsPortOf}
@@ -72,3 +72,12 @@ writes-below area size b (Some place ∷ copies) homes fits = (omega arith, writ
 
 pub all-below : (area : ℕ → List ℕ) (size : ℕ) (copies : List (Option ℕ)) (homes : ℕ) → length copies ≡ homes → AreBelow homes (writes_from area size 0 copies)
 all-below area size copies homes is = writes-below area size 0 copies homes (omega arith)
+
+-- ---- the new base
+
+pub first-number : (base : ℕ) (ds es : List Descriptor) (d : Descriptor) → Some d ≡ slice_get es 0 → es ≡ ds → AreInRow base ds → d.number ≡ base + length ds
+first-number base ds es d first same row = of_first ds (first ∙ ap (λ (l : List Descriptor). slice_get l 0) same) row
+  where
+    of_first : (l : List Descriptor) → Some d ≡ slice_get l 0 → AreInRow base l → d.number ≡ base + length l
+    of_first [] is none = cc
+    of_first (e ∷ l) is in_row = let one : d ≡ e = cc in let n : d.number ≡ e.number = ap (λ (x : Descriptor). x.number) one in let h = in_row.0 in omega arith
