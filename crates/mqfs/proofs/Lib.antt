@@ -7,6 +7,9 @@ pub mod JournalShows
 pub mod Lines
 pub mod Lists
 pub mod OutsideLemmas
+pub mod RecoverChains
+pub mod RecoverCopies
+pub mod RecoverHomes
 pub mod Staging
 pub mod TextItems
 pub mod TextLines

@@ -3,6 +3,9 @@ pub mod Commits
 pub mod Fresh
 pub mod Lines
 pub mod Outside
+pub mod Recover
+pub mod RecoverCauses
+pub mod RecoverHomes
 pub mod Recovery
 pub mod Runs
 pub mod Text

@@ -4,8 +4,10 @@
 mod blocks;
 mod commit;
 mod items;
+mod live;
 mod outside;
 mod pmr;
+mod recover;
 mod text;
 
 pub use commit::{TextRefusal, commit_text};
@@ -13,4 +15,5 @@ pub use outside::{
     Files, LOAD_LIMIT, LoadRefusal, MemFiles, MemSink, PutRefusal, RealFiles, RealSink,
     SaveRefusal, Sink, SureFiles, SureSink, put_all,
 };
+pub use recover::{Chain, ChainRefusal, ImageFault, RecoverRefusal, Recovered, read_chain};
 pub use text::{BlockItem, BlockLine, BlockText, BlockTextRefusal, print_blocks, read_block_text};
