@@ -6,6 +6,7 @@ pub mod JournalKeeps
 pub mod JournalShows
 pub mod Lines
 pub mod Lists
+pub mod LiveBlocks
 pub mod OutsideLemmas
 pub mod RecoverChains
 pub mod RecoverCopies

@@ -2,6 +2,7 @@ pub mod Causes
 pub mod Commits
 pub mod Fresh
 pub mod Lines
+pub mod Live
 pub mod Outside
 pub mod Recover
 pub mod RecoverCauses
