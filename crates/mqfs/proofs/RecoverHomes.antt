@@ -20,7 +20,7 @@ use Rattle.mq_drive.specs.declared.role.Role.TheVariants.{Queue, Root}
 use Rattle.mqfs.specs.Recovery.{view_of, IsSettled, IsRecovered}
 use Rattle.mqfs.specs.Recover.{IsSeenAt, copy_of, content_of}
 use Rattle.mqfs.specs.RecoverHomes.{writes_from, written, AreBelow, after_home, IsAfterHome, IsWrittenHome, AreWritten, IsPlan, after_raise}
-use Rattle.mqfs.specs.declared.recover.homes.Plan.{Plan}
+use Rattle.mqfs.specs.declared.recovery.homes.Plan.{Plan}
 use Rattle.mqfs.proofs.RecoverCopies.{stands-copy, chain-of}
 
 -- ---- the writes of copies
@@ -366,21 +366,24 @@ recovered-of g queue root new_queue mid_root new_root base ds plan settled base_
     let up = raised g mid_root plan.recovered.base new_root (later-port g Root root mid_root done.root_is settled.root_port) (later-quiet root mid_root done.root_is settled.root_quiet) raised_is in
     let base_is : plan.recovered.base ≡ root.base + length ds = planned.base_is ∙ ap (λ (n : ℕ). n + length ds) base_was in
     let head_is : new_queue.head ≡ queue.head = ap (λ (s : PortState). s.head) done.queue_is.same in
-    let doorbell_is : new_queue.doorbell ≡ queue.doorbell = ap (λ (s : PortState). s.doorbell) done.queue_is.same in
-    (record {
-      queue_port = later-port g (Queue 0) queue new_queue done.queue_is settled.queue_port;
-      root_port = up.port;
-      queue_quiet = later-quiet queue new_queue done.queue_is settled.queue_quiet;
-      root_quiet = up.quiet;
-      homes = λ b below.
-          home-along g new_queue mid_root new_root b up.blocks_are
-          ∙ done.homes b below
-          ∙ ap (λ (o : Option (List ℕ)). or_else o ((view_of g queue root).home b)) (planned.copies b)
-          ∙ sym (stands-copy g (view_of g queue root) 0 ds b (chain-of g (view_of g queue root) 0 chain.number chain.place ds chain.chain));
-      base = up.base_is ∙ base_is;
-      head = head_is ∙ settled.done ∙ sym doorbell_is;
-      doorbell = doorbell_is;
-    }, planned.prefix_is, base_is)
+    let doorbell_is : new_queue.doorbell ≡ queue.doorbell = ap (λ (s : PortState). s.doorbell) done.queue_is.same in (
+      record {
+        queue_port = later-port g (Queue 0) queue new_queue done.queue_is settled.queue_port;
+        root_port = up.port;
+        queue_quiet = later-quiet queue new_queue done.queue_is settled.queue_quiet;
+        root_quiet = up.quiet;
+        homes = λ b below.
+            home-along g new_queue mid_root new_root b up.blocks_are
+            ∙ done.homes b below
+            ∙ ap (λ (o : Option (List ℕ)). or_else o ((view_of g queue root).home b)) (planned.copies b)
+            ∙ sym (stands-copy g (view_of g queue root) 0 ds b (chain-of g (view_of g queue root) 0 chain.number chain.place ds chain.chain));
+        base = up.base_is ∙ base_is;
+        head = head_is ∙ settled.done ∙ sym doorbell_is;
+        doorbell = doorbell_is;
+      },
+      planned.prefix_is,
+      base_is,
+    )
 
 pub base-low : (g : Geometry) (queue root mid_root : PortState) (base : ℕ) (ds : List Descriptor) (plan : Plan) → base ≡ root.base → IsPlan g queue base ds plan → IsWrittenHome root mid_root → mid_root.base ≤ plan.recovered.base
 base-low g queue root mid_root base ds plan base_was planned later =

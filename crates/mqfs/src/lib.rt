@@ -2,8 +2,10 @@
 #![tactic(auto)]
 
 mod pmr;
-mod recover;
+mod recovery;
 mod text;
 
-pub use recover::{Chain, ChainRefusal, ImageFault, RecoverRefusal, Recovered, read_chain};
+pub use recovery::{
+    Chain, ChainRefusal, ImageFault, RecoverRefusal, Recovered, read_chain, recover, recover_ports,
+};
 pub use text::{BlockItem, BlockLine, BlockText, BlockTextRefusal, read_block_text};
