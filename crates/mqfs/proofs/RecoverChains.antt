@@ -20,7 +20,7 @@ use Rattle.mq_area.specs.declared.descriptor.Expect.{Expect}
 use Rattle.mq_area.specs.declared.descriptor.PlaceIs.{PlaceIs}
 use Rattle.mq_area.specs.declared.descriptor.PlaceIs.TheVariants.{Index, Exact}
 use Rattle.mqfs.specs.Recover.{IsSeenAt, IsStart, IsWithinReach, where_of}
-use Rattle.mqfs.specs.declared.recover.chain.Start.{Start}
+use Rattle.mqfs.specs.declared.recovery.chain.Start.{Start}
 
 -- each slot of a quiet port is flushed
 pub quiet-flushed : (s : PortState) (k : ℕ) → IsQuiet s → IsFlushed s k

@@ -11,15 +11,17 @@ use Rattle.mq_blocks.specs.Blocks.{block_at, content}
 use Rattle.mq_blocks.specs.Descriptor.{Descriptor, IsGood}
 use Rattle.mq_blocks.specs.Drive.{PortState, IsQuiet, index_of, IsFlushed, staged_end, image_of, after_flush, after_store_base}
 use Rattle.mq_blocks.specs.Geometry.{homes_of, home_lba, zone_of}
-use Rattle.mq_blocks.specs.Journal.{Shown, AreInRow, or_else, home_block}
+use Rattle.mq_blocks.specs.Journal.{Shown, AreInRow, IsQueueChain, or_else, home_block}
 use Rattle.mq_blocks.specs.Machine.{Writes, or_kept}
 use Rattle.mq_blocks.specs.declared.geometry.Geometry.{Geometry}
 use Rattle.mq_drive.specs.Start.{IsPortOf}
 use Rattle.mq_drive.specs.declared.role.Role.{Role}
 use Rattle.mq_drive.specs.declared.role.Role.TheVariants.{Queue, Root}
-use Rattle.mqfs.specs.Recovery.{view_of}
-use Rattle.mqfs.specs.Recover.{content_of}
-use Rattle.mqfs.specs.RecoverHomes.{writes_from, written, AreBelow, after_home, IsAfterHome, IsWrittenHome, AreWritten, after_raise}
+use Rattle.mqfs.specs.Recovery.{view_of, IsSettled, IsRecovered}
+use Rattle.mqfs.specs.Recover.{IsSeenAt, copy_of, content_of}
+use Rattle.mqfs.specs.RecoverHomes.{writes_from, written, AreBelow, after_home, IsAfterHome, IsWrittenHome, AreWritten, IsPlan, after_raise}
+use Rattle.mqfs.specs.declared.recovery.homes.Plan.{Plan}
+use Rattle.mqfs.proofs.RecoverCopies.{stands-copy, chain-of}
 
 -- ---- the writes of copies
 
@@ -271,3 +273,119 @@ write-step g q r nq nr w ws all one queue_port root_port is below after =
       homes = left-written g q r nq nr w ws all h is;
       below = low.1;
     }
+
+-- ---- the plan
+
+pub plan-of : (g : Geometry) (s : PortState) (base : ℕ) (chain ds : List Descriptor) (copies : List (Option ℕ)) (plan : Plan) → chain ≡ ds → length copies ≡ homes_of g
+    → ((x : ℕ) → get_or copies x None ≡ copy_of chain x) → plan.writes.items ≡ writes_from (block_at s.blocks) g.area 0 copies → plan.recovered.prefix ≡ length chain → plan.recovered.base ≡ base + length chain
+    → IsPlan g s base ds plan
+plan-of g s base chain ds copies plan same size copies_are writes_are prefix_is base_is = record {
+  below = subst (AreBelow (homes_of g)) (sym writes_are) (all-below (block_at s.blocks) g.area copies (homes_of g) size);
+  copies = λ x.
+      ap (λ (w : Writes). written w x) writes_are
+      ∙ writes-at (block_at s.blocks) g.area copies x
+      ∙ ap (content_of (block_at s.blocks) g.area) (copies_are x)
+      ∙ ap (λ (l : List Descriptor). content_of (block_at s.blocks) g.area (copy_of l x)) same;
+  prefix_is = prefix_is ∙ ap (λ (l : List Descriptor). length l) same;
+  base_is = base_is ∙ ap (λ (l : List Descriptor). base + length l) same;
+}
+
+-- ---- the base
+
+raised-base : (s : PortState) (base : ℕ) → (after_raise s base).base ≡ base
+raised-base s base = ⊎_elim
+    (λ same. rw (eq-eqb s.base base same) same)
+    (λ other. rw (ne_eqb s.base base other) refl)
+    (cases_eq s.base base)
+
+raised-as : (P : PortState → Type 0) (s : PortState) (base : ℕ) → P s → P (after_flush (after_store_base s base)) → P (after_raise s base)
+raised-as P s base before after = ⊎_elim
+    (λ same. rw (eq-eqb s.base base same) before)
+    (λ other. rw (ne_eqb s.base base other) after)
+    (cases_eq s.base base)
+
+root-flushed : (g : Geometry) (s : PortState) (base : ℕ) → IsPortOf g Root s → IsPortOf g Root (after_flush (after_store_base s base))
+root-flushed g s base p = record {
+  queue = p.queue;
+  area_first = p.area_first;
+  area_size = p.area_size;
+  homes_first = p.homes_first;
+  homes_size = p.homes_size;
+  flushed = p.staged;
+  staged = p.staged;
+  blocks = p.blocks;
+  sure = p.sure;
+  settled = λ k within flushed. refl;
+}
+
+quiet-flushed : (s : PortState) (base : ℕ) → IsQuiet s → IsQuiet (after_flush (after_store_base s base))
+quiet-flushed s base q =
+    let none : length s.pending ≡ 0 = ap length q.pending in
+    record {
+      flushed_end = omega (arith, none);
+      pending = q.pending;
+      posted = q.posted;
+      failed = q.failed;
+      head = refl;
+      base = refl;
+      sure = q.sure;
+    }
+
+pub record IsRaised (g : Geometry) (s : PortState) (base : ℕ) (t : PortState) : Type 0 where
+  pub port : IsPortOf g Root t
+  pub quiet : IsQuiet t
+  pub base_is : t.base ≡ base
+  pub blocks_are : t.blocks ≡ s.blocks
+
+pub raised : (g : Geometry) (s : PortState) (base : ℕ) (t : PortState) → IsPortOf g Root s → IsQuiet s → t ≡ after_raise s base → IsRaised g s base t
+raised g s base t p q is = subst (IsRaised g s base) (sym is) (record {
+  port = raised-as (IsPortOf g Root) s base p (root-flushed g s base p);
+  quiet = raised-as IsQuiet s base q (quiet-flushed s base q);
+  base_is = raised-base s base;
+  blocks_are = raised-as (λ (u : PortState). u.blocks ≡ s.blocks) s base refl refl;
+})
+
+-- ---- what is recovered
+
+pub seen-view : (g : Geometry) (queue root : PortState) → IsSeenAt 0 root.base queue (view_of g queue root)
+seen-view g queue root = record { base_is = refl; head_is = refl; doorbell_is = refl; entry_is = λ k. refl; area_is = λ k. refl }
+
+-- the home blocks don't depend on the root's words
+home-along : (g : Geometry) (queue root new : PortState) (x : ℕ) → new.blocks ≡ root.blocks → (view_of g queue new).home x ≡ (view_of g queue root).home x
+home-along g queue root new x same = along (zone_of g x)
+  where
+    along : (z : Option ℕ) → home_block g (image_of queue ∷ []) (image_of new) x z ≡ home_block g (image_of queue ∷ []) (image_of root) x z
+    along None = ap (λ (l : List (Option (List ℕ))). block_at l x) same
+    along (Some q) = refl
+
+pub recovered-of : (g : Geometry) (queue root new_queue mid_root new_root : PortState) (base : ℕ) (ds : List Descriptor) (plan : Plan)
+    → IsSettled g queue root → base ≡ root.base → IsQueueChain g (view_of g queue root) 0 ds → IsPlan g queue base ds plan → AreWritten g queue root plan.writes.items new_queue mid_root
+    → new_root ≡ after_raise mid_root plan.recovered.base
+    → IsRecovered g queue root ds new_queue new_root × (plan.recovered.prefix ≡ length ds) × (plan.recovered.base ≡ root.base + length ds)
+recovered-of g queue root new_queue mid_root new_root base ds plan settled base_was chain planned done raised_is =
+    let up = raised g mid_root plan.recovered.base new_root (later-port g Root root mid_root done.root_is settled.root_port) (later-quiet root mid_root done.root_is settled.root_quiet) raised_is in
+    let base_is : plan.recovered.base ≡ root.base + length ds = planned.base_is ∙ ap (λ (n : ℕ). n + length ds) base_was in
+    let head_is : new_queue.head ≡ queue.head = ap (λ (s : PortState). s.head) done.queue_is.same in
+    let doorbell_is : new_queue.doorbell ≡ queue.doorbell = ap (λ (s : PortState). s.doorbell) done.queue_is.same in (
+      record {
+        queue_port = later-port g (Queue 0) queue new_queue done.queue_is settled.queue_port;
+        root_port = up.port;
+        queue_quiet = later-quiet queue new_queue done.queue_is settled.queue_quiet;
+        root_quiet = up.quiet;
+        homes = λ b below.
+            home-along g new_queue mid_root new_root b up.blocks_are
+            ∙ done.homes b below
+            ∙ ap (λ (o : Option (List ℕ)). or_else o ((view_of g queue root).home b)) (planned.copies b)
+            ∙ sym (stands-copy g (view_of g queue root) 0 ds b (chain-of g (view_of g queue root) 0 chain.number chain.place ds chain.chain));
+        base = up.base_is ∙ base_is;
+        head = head_is ∙ settled.done ∙ sym doorbell_is;
+        doorbell = doorbell_is;
+      },
+      planned.prefix_is,
+      base_is,
+    )
+
+pub base-low : (g : Geometry) (queue root mid_root : PortState) (base : ℕ) (ds : List Descriptor) (plan : Plan) → base ≡ root.base → IsPlan g queue base ds plan → IsWrittenHome root mid_root → mid_root.base ≤ plan.recovered.base
+base-low g queue root mid_root base ds plan base_was planned later =
+    let kept : mid_root.base ≡ root.base = ap (λ (s : PortState). s.base) later.same in
+    omega (arith, kept, planned.base_is)

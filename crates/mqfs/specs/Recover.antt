@@ -9,7 +9,7 @@ use Rattle.mq_blocks.specs.declared.geometry.Geometry.{Geometry}
 use Rattle.mq_nvme.specs.Says.{says}
 use Rattle.mq_area.specs.declared.descriptor.PlaceIs.{PlaceIs}
 use Rattle.mq_area.specs.declared.descriptor.PlaceIs.TheVariants.{Index, Exact}
-use Rattle.mqfs.specs.declared.recover.chain.Start.{Start}
+use Rattle.mqfs.specs.declared.recovery.chain.Start.{Start}
 
 -- the image shows this port as queue q, over this base
 pub record IsSeenAt (q base : ℕ) (s : PortState) (i : Shown) : Type 0 where

@@ -3,10 +3,10 @@ use Rattle.std.specs.Prelude.{◌≡◌, ◌⊎◌, ℕ, List, Result, Ok, Err}
 use Rattle.mq_blocks.specs.Geometry.{home_lba}
 use Rattle.mq_blocks.specs.declared.geometry.Geometry.{Geometry}
 use Rattle.mq_drive.specs.Steps.{Fault, PowerOff, HomeError, Gains}
-use Rattle.mqfs.specs.declared.recover.refusal.ImageFault.{ImageFault}
-use Rattle.mqfs.specs.declared.recover.refusal.ImageFault.TheVariants.{OutOfMemory}
-use Rattle.mqfs.specs.declared.recover.refusal.RecoverRefusal.{RecoverRefusal}
-use Rattle.mqfs.specs.declared.recover.refusal.RecoverRefusal.TheVariants.{Image, Off, Failed}
+use Rattle.mqfs.specs.declared.recovery.refusal.ImageFault.{ImageFault}
+use Rattle.mqfs.specs.declared.recovery.refusal.ImageFault.TheVariants.{OutOfMemory}
+use Rattle.mqfs.specs.declared.recovery.refusal.RecoverRefusal.{RecoverRefusal}
+use Rattle.mqfs.specs.declared.recovery.refusal.RecoverRefusal.TheVariants.{Image, Off, Failed}
 
 -- a refusal is one more fault of the port, and an Ok is none
 abbrev pub HasHomeCause : {A : Type 0} → Geometry → Result A RecoverRefusal → (old new : List Fault) → Type 0

@@ -9,7 +9,7 @@ use Rattle.mq_blocks.specs.Machine.{Writes, or_kept}
 use Rattle.mq_blocks.specs.declared.geometry.Geometry.{Geometry}
 use Rattle.mqfs.specs.Recovery.{view_of}
 use Rattle.mqfs.specs.Recover.{copy_of, content_of}
-use Rattle.mqfs.specs.declared.recover.homes.Plan.{Plan}
+use Rattle.mqfs.specs.declared.recovery.homes.Plan.{Plan}
 
 -- the writes of the copies at these places, which are those of the blocks from b on
 abbrev pub writes_from : (ℕ → List ℕ) → ℕ → ℕ → List (Option ℕ) → Writes

@@ -7,7 +7,7 @@ mod items;
 mod live;
 mod outside;
 mod pmr;
-mod recover;
+mod recovery;
 mod text;
 
 pub use commit::{TextRefusal, commit_text};
@@ -15,5 +15,7 @@ pub use outside::{
     Files, LOAD_LIMIT, LoadRefusal, MemFiles, MemSink, PutRefusal, RealFiles, RealSink,
     SaveRefusal, Sink, SureFiles, SureSink, put_all,
 };
-pub use recover::{Chain, ChainRefusal, ImageFault, RecoverRefusal, Recovered, read_chain};
+pub use recovery::{
+    Chain, ChainRefusal, ImageFault, RecoverRefusal, Recovered, read_chain, recover, recover_ports,
+};
 pub use text::{BlockItem, BlockLine, BlockText, BlockTextRefusal, print_blocks, read_block_text};
