@@ -168,7 +168,7 @@ index-root g r b p =
     let none : r.area_size ≡ 0 = p.area_size in
     index-high r.homes_first r.area_first r.area_size (home_lba g b) (omega arith) ∙ omega arith
 
-index-queue : (g : Geometry) (q : PortState) (b : ℕ) → IsPortOf g (Queue 0) q → g.meta ≤ b → index_of q (home_lba g b) ≡ g.area + (b - g.meta)
+pub index-queue : (g : Geometry) (q : PortState) (b : ℕ) → IsPortOf g (Queue 0) q → g.meta ≤ b → index_of q (home_lba g b) ≡ g.area + (b - g.meta)
 index-queue g q b p high =
     let first : q.homes_first ≡ g.queues * g.area + (g.meta + 0 * g.zone) = p.homes_first in
     let size : q.area_size ≡ g.area = p.area_size in
@@ -184,7 +184,7 @@ block-set blocks i k b x v within here apart = ⊎_elim
 keeps : (b x : ℕ) (v h k : List ℕ) → b ≢ x → h ≡ k → h ≡ (if nat_eq b x then v else k)
 keeps b x v h k other same = rw (ne_eqb b x other) same
 
-low_or : (n m : ℕ) → (n < m) ⊎ (m ≤ n)
+pub low_or : (n m : ℕ) → (n < m) ⊎ (m ≤ n)
 low_or n zero = inr (omega arith)
 low_or zero (suc m) = inl (omega arith)
 low_or (suc n) (suc m) = ⊎_elim (λ h. inl (omega arith)) (λ h. inr (omega arith)) (low_or n m)
