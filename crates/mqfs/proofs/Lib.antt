@@ -1,3 +1,5 @@
+mod Programs
+mod Restarts
 pub mod Drives
 pub mod Ending
 pub mod Fills

@@ -4,17 +4,23 @@ ghost use Rattle.mq_blocks.specs.Drive.{PortImage as CutImage};
 ghost use Rattle.mq_blocks.specs.Geometry.{homes_of};
 ghost use Rattle.mq_blocks.specs.Journal.{shown};
 ghost use Rattle.mq_nvme.specs.Says.{says};
-ghost use Rattle.mq_drive.specs.Start.{IsRole, IsImageOf, area_size_of, homes_size_of};
+ghost use Rattle.mq_blocks.specs.Drive.{IsQuiet};
+ghost use Rattle.mq_blocks.specs.Machine.{Map};
+ghost use Rattle.mq_drive.specs.Start.{IsRole, IsImageOf, IsPortOf, area_size_of, homes_size_of};
 ghost use Rattle.mq_drive.specs.Emu.{emu_state};
 ghost use Rattle.mq_drive.specs.Roles.{slots_of};
 ghost use Rattle.mq_drive.specs.declared.role.Role.TheVariants.{Queue, Root};
 ghost use Rattle.mqfs.specs.Commits.{AllBelow, ShowsMap};
 ghost use Rattle.mqfs.specs.Fresh.{IsTextGeometry, IsFresh};
 ghost use Rattle.mqfs.specs.Lines.{map_after, set_in};
-ghost use Rattle.mqfs.specs.Text.{IsGoodText};
+ghost use Rattle.mqfs.specs.Text.{HasSetsOnly, IsGoodText};
+ghost use Rattle.mqfs.specs.Blocks.{IsBlockText, output_of};
+ghost use Rattle.mqfs.specs.Live.{HoldsMap};
 
 use crate::commit::{TextRefusal, commit_text};
-use crate::text::BlockText;
+use crate::live::{live_blocks, live_marks};
+use crate::recovery::{ImageFault, RecoverRefusal, recover_ports};
+use crate::text::{BlockItem, BlockText, BlockTextRefusal, print_blocks, read_block_text};
 use mq_blocks::{Block, Geometry, OutOfMemory, QueueNo};
 use mq_drive::{EmuPort, PortImage, Ports, Role};
 use mq_nvme::Entry;
@@ -104,4 +110,62 @@ fn commit_fresh(
         Ok(()) => Ok((queue.cut(), root.cut())),
         Err(refusal) => Err(only_memory(refusal)),
     }
+}
+
+// Where no port has a fault and the image is readable, memory is all that can be wanting.
+fn only_image(refusal: RecoverRefusal) -> OutOfMemory
+    requires { refusal ≡ RecoverRefusal.Image ImageFault.OutOfMemory }
+{
+    match refusal {
+        RecoverRefusal::Image(ImageFault::OutOfMemory) => OutOfMemory,
+        RecoverRefusal::Image(ImageFault::Bad { .. }) => unreachable!(),
+        RecoverRefusal::Image(ImageFault::Limit { .. }) => unreachable!(),
+        RecoverRefusal::Off => unreachable!(),
+        RecoverRefusal::Failed { .. } => unreachable!(),
+    }
+}
+
+/// Recovers what stayed of two ports: how many transactions stand, the queue's port and the root's.
+fn recover_images(
+    alloc: Global,
+    geometry: Geometry,
+    images: (PortImage, PortImage),
+) -> Result<(u64, EmuPort, EmuPort), OutOfMemory>
+    requires geometry { IsTextGeometry geometry }
+    requires queue { IsImageOf geometry (Queue 0) images.0 }
+    requires root { IsImageOf geometry Root images.1 }
+    requires shows { (n : ℕ) × (m : Map) × ShowsMap geometry (shown says geometry (images.0 ∷ []) images.1) n m }
+    ensures shows { IfOk result (λ r. (n : ℕ) (m : Map) → ShowsMap geometry (shown says geometry (images.0 ∷ []) images.1) n m → (r.0 ≡ n) × HoldsMap geometry (emu_state r.1) (emu_state r.2) m) }
+    ensures queue { IfOk result (λ r. IsPortOf geometry (Queue 0) (emu_state r.1) × IsQuiet (emu_state r.1)) }
+    ensures root { IfOk result (λ r. IsPortOf geometry Root (emu_state r.2) × IsQuiet (emu_state r.2)) }
+{
+    let mut queue = EmuPort::new(alloc, geometry, Role::Queue(QueueNo(0)), images.0)?;
+    let mut root = EmuPort::new(alloc, geometry, Role::Root, images.1)?;
+    match recover_ports(alloc, geometry, &mut queue, &mut root) {
+        Ok(recovered) => Ok((recovered.prefix, queue, root)),
+        Err(refusal) => Err(only_image(refusal)),
+    }
+}
+
+/// Commits a text on a fresh drive, pulls the plug, recovers, and prints what stands.
+fn run_text(alloc: Global, text: &BlockText) -> Result<Vec<u8>, OutOfMemory>
+    requires good { IsGoodText text.now }
+    requires sets { HasSetsOnly text.now }
+    ensures { IfOk result (λ v. v.items ≡ output_of text.now) }
+{
+    let geometry = text_geometry();
+    let images = commit_fresh(alloc, geometry, text)?;
+    let (prefix, queue, root) = recover_images(alloc, geometry, images)?;
+    let marks = live_marks(alloc, text)?;
+    let live = live_blocks(alloc, geometry, &queue, &root, &marks)?;
+    print_blocks(alloc, prefix, &live)
+}
+
+/// What `mqfs blocks` prints of the bytes of a block text.
+pub fn blocks_output(alloc: Global, bytes: &[u8]) -> Result<Vec<u8>, BlockTextRefusal>
+    ensures ok { IfOk result (λ v. (lines : List (List BlockItem)) × IsBlockText bytes.now lines × (v.items ≡ output_of lines)) }
+    ensures form { IsErrOf result BlockTextRefusal.Form → (lines : List (List BlockItem)) → IsBlockText bytes.now lines → ⊥ }
+{
+    let text = read_block_text(alloc, bytes)?;
+    Ok(run_text(alloc, &text)?)
 }

@@ -7,6 +7,7 @@ mod items;
 mod live;
 mod outside;
 mod pmr;
+mod program;
 mod recovery;
 mod text;
 
