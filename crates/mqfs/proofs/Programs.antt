@@ -1,19 +1,30 @@
 -- What is said, a piece after another, and what the end of a command tells.
 use Rattle.std.proofs.Common.{◌≡◌, ◌≢◌, ◌<◌, ◌≤◌, ◌⊎◌, inl, inr, ⊎_elim, ℕ, zero, suc, ◌+◌, List, [], ◌∷◌, ◌++◌, length, take, Option, Some, None, refl, sym, ◌∙◌, ap, subst, arith, append_assoc, length-append}
-use Rattle.std.specs.Prelude.{Result, Ok, Err, MatchResult}
+use Rattle.std.proofs.lemmas.Bool.{false≢true}
+use Rattle.std.specs.Prelude.{Result, Ok, Err, MatchResult, IfOk, IsErr, IsErrOf}
+use Rattle.mqfs.specs.Blocks.{IsBlockText, output_of}
+use Rattle.mqfs.specs.Program.{Said, usage, output, form, fault, too_long, memory, IsSaidOf, status_of, text_of, refusal_said, TakesWithin}
+use Rattle.mqfs.specs.Outside.{Held, Holds}
+use Rattle.mqfs.specs.declared.text.item.BlockItem.{BlockItem}
+use Rattle.mqfs.specs.declared.text.refusal.BlockTextRefusal.{BlockTextRefusal}
+use Rattle.mqfs.specs.declared.text.refusal.BlockTextRefusal.TheVariants.{Form, OutOfMemory}
 use Rattle.mqfs.specs.Outside.{AppendsPrefix, appended}
 
 pub match_result : {A E : Type 0} (r : Result A E) {P P' : A → Type 0} {Q Q' : E → Type 0} → MatchResult r P Q → ((x : A) → P x → P' x) → ((e : E) → Q e → Q' e) → MatchResult r P' Q'
 match_result (Ok x) holds p q = p x holds
 match_result (Err e) holds p q = q e holds
 
+pub on_err : {A E : Type 0} (r : Result A E) (P : A → Type 0) {Q : E → Type 0} → IsErr r → ((e : E) → Q e) → MatchResult r P Q
+on_err (Ok x) P err q = absurd (false≢true err)
+on_err (Err e) P err q = q e
+
 pub appended_twice : (old : Option (List ℕ)) (a b : List ℕ) → appended (appended old a) b ≡ appended old (a ++ b)
 appended_twice None a b = refl
 appended_twice (Some written) a b = ap Some (append_assoc written a b)
 
 take_more : (first bytes : List ℕ) (n : ℕ) → take (length first + n) (first ++ bytes) ≡ first ++ take n bytes
-take_more [] bytes n = refl
-take_more (x ∷ first) bytes n = ap (λ (l : List ℕ). x ∷ l) (take_more first bytes n)
+take_more [] bytes n = ap (λ (k : ℕ). take k bytes) (let e : 0 + n ≡ n = omega arith in e)
+take_more (x ∷ first) bytes n = ap (λ (k : ℕ). take k (x ∷ (first ++ bytes))) (let e : suc (length first) + n ≡ suc (length first + n) = omega arith in e) ∙ ap (λ (l : List ℕ). x ∷ l) (take_more first bytes n)
 
 take_within : (a b : List ℕ) (n : ℕ) → n ≤ length a → take n (a ++ b) ≡ take n a
 take_within a b zero within = refl
@@ -33,3 +44,17 @@ prefix_longer old new first bytes prefix =
     (prefix.0,
      (let long = length-append first bytes in let within = prefix.1 in omega arith),
      prefix.2 ∙ ap (appended old) (sym (take_within first bytes prefix.0 prefix.1)))
+
+-- what there is to say of bytes that were loaded
+pub said_output : {A : Type 0} (items : A → List ℕ) (o : Result A BlockTextRefusal) (ends : ℕ → List ℕ → Type 0) (told : Option Held) (name bytes : List ℕ) (f nf t nt : ℕ)
+    → IfOk o (λ v. (lines : List (List BlockItem)) × IsBlockText bytes lines × (items v ≡ output_of lines))
+    → (IsErrOf o Form → (lines : List (List BlockItem)) → IsBlockText bytes lines → ⊥)
+    → MatchResult o (λ v. ends 0 (items v)) (λ e. ends (status_of (refusal_said e)) (text_of [] (refusal_said e)))
+    → Holds told name bytes → nf ≡ f → TakesWithin t nt
+    → (said : Said) × IsSaidOf said told name f nf t nt × ends (status_of said) (text_of name said)
+said_output items (Ok v) ends told name bytes f nf t nt ok none end holds same within =
+    (output ok.0, (bytes, holds, ok.1, same, within), subst (ends 0) ok.2 end)
+said_output items (Err Form) ends told name bytes f nf t nt ok none end holds same within =
+    (form, (bytes, holds, none refl, same, within), end)
+said_output items (Err OutOfMemory) ends told name bytes f nf t nt ok none end holds same within =
+    (memory, same, end)

@@ -31,7 +31,7 @@ memory_line = codes "memory\n"
 
 -- a word and a name, as `fault load t`
 abbrev pub named_line : List ℕ → List ℕ → List ℕ
-named_line first name = first ++ name ++ 10 ∷ []
+named_line first name = first ++ (name ++ 10 ∷ [])
 
 abbrev pub fault_line : List ℕ → List ℕ
 fault_line name = named_line (codes "fault load ") name

@@ -1,10 +1,14 @@
 use Rattle.std.proofs.Common.{rules, ◌≡◌, ℕ, List, [], ◌∷◌, ◌++◌, Option, sym, ◌∙◌, ap, append_assoc}
 use Rattle.mqfs.specs.Outside.{AppendsPrefix, appended}
-use Rattle.mqfs.proofs.Programs.{match_result, appended_twice, prefix_next, prefix_longer}
+use Rattle.mqfs.proofs.Programs.{match_result, on_err, appended_twice, prefix_next, prefix_longer}
 use Rattle.mqfs.proofs.program.put_named.Goals as goal
 
 pub returns-in_err-put_all-2-clause-wrote : goal.returns-in_err-put_all-2-clause-wrote
-returns-in_err-put_all-2-clause-wrote g c = ?
+returns-in_err-put_all-2-clause-wrote g c =
+    let first : g.K.Sink.contents c.put_all.new.sink ≡ appended (g.K.Sink.contents c.args.out.now) c.args.first.now = c.in_ok-put_all.ensures.wrote in
+    on_err c.from_residual-in_err-put_all-2.result (λ x. g.K.Sink.contents c.put_all-2.new.sink ≡ appended (g.K.Sink.contents c.args.out.now) (c.args.first.now ++ (c.args.name.now ++ 10 ∷ []))) c.from_residual-in_err-put_all-2.ensures.0
+      (λ e. prefix_next (g.K.Sink.contents c.args.out.now) (g.K.Sink.contents c.put_all.new.sink) (g.K.Sink.contents c.put_all-2.new.sink) c.args.first.now (c.args.name.now ++ 10 ∷ []) first
+        (prefix_longer (g.K.Sink.contents c.put_all.new.sink) (g.K.Sink.contents c.put_all-2.new.sink) c.args.name.now (10 ∷ []) c.in_err-put_all-2.ensures.wrote))
 
 pub returns-clause-wrote : goal.returns-clause-wrote
 returns-clause-wrote g c =
