@@ -1,6 +1,6 @@
 -- Reading a chain.
-use Rattle.std.proofs.Common.{◌≡◌, ◌<◌, ◌≤◌, ◌⊎◌, ⊎_elim, ℕ, zero, suc, ◌+◌, ◌-◌, ◌%◌, Bool, true, false, List, [], ◌∷◌, ◌++◌, length, Option, Some, None, refl, sym, ◌∙◌, ap, subst, arith, append_assoc}
-use Rattle.std.specs.Prelude.{slice_index_or, IfOk, Result, Ok, Err}
+use Rattle.std.proofs.Common.{◌≡◌, ◌<◌, ◌≤◌, ◌⊎◌, ⊎_elim, ℕ, zero, suc, ◌+◌, ◌-◌, ◌%◌, Bool, true, false, List, [], ◌∷◌, ◌++◌, length, Option, Some, None, refl, sym, ◌∙◌, ap, subst, arith, append_assoc, get_or, set}
+use Rattle.std.specs.Prelude.{slice_get, slice_index_or, IfOk, Result, Ok, Err}
 use Rattle.std.proofs.lemmas.List.{append-nil}
 use Rattle.std.proofs.Math.Nat.{mod-mod}
 use Rattle.std.specs.Option.{unwrap_or}
@@ -212,3 +212,16 @@ not-placed g i q base s ds n l seen chain some is above found =
 pub ok-map : {A E : Type 0} (r : Result A E) (P Q : A → Type 0) → ((x : A) → P x → Q x) → IfOk r P → IfOk r Q
 ok-map (Ok x) P Q f h = f x h
 ok-map (Err e) P Q f h = tt
+
+-- ---- the one queue's port
+
+pub first-is : {A : Type 0} (xs : List A) (x : A) → length xs ≡ 1 → x ≡ get_or xs 0 x → slice_get xs 0 ≡ Some x
+first-is [] x one is = absurd (omega arith)
+first-is (y ∷ ys) x one is = ap (λ (z : _). Some z) (sym is)
+
+pub first-same : {A : Type 0} (xs : List A) (x y : A) → length xs ≡ 1 → x ≡ get_or xs 0 x → slice_get xs 0 ≡ Some y → x ≡ y
+first-same xs x y one is there = let here : slice_get xs 0 ≡ Some x = first-is xs x one is in cc
+
+pub first-set : {A : Type 0} (xs : List A) (x y : A) → length xs ≡ 1 → slice_get (set xs 0 x) 0 ≡ Some y → x ≡ y
+first-set [] x y one there = absurd (omega arith)
+first-set (z ∷ zs) x y one there = cc
