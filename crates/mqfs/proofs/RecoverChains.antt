@@ -1,14 +1,14 @@
 -- Reading a chain.
-use Rattle.std.proofs.Common.{◌≡◌, ◌<◌, ◌≤◌, ◌⊎◌, ⊎_elim, ℕ, zero, suc, ◌+◌, ◌-◌, ◌%◌, Bool, true, false, List, [], ◌∷◌, ◌++◌, length, Option, Some, None, refl, sym, ◌∙◌, ap, subst, arith, append_assoc, get_or, set}
+use Rattle.std.proofs.Common.{◌≡◌, ◌<◌, ◌≤◌, ◌⊎◌, ⊎_elim, ℕ, ◌-◌, ◌%◌, Bool, true, List, [], ◌∷◌, ◌++◌, length, Option, Some, None, refl, sym, ◌∙◌, ap, subst, arith, append_assoc, get_or, set}
 use Rattle.std.specs.Prelude.{slice_get, slice_index_or, IfOk, Result, Ok, Err}
 use Rattle.std.proofs.lemmas.List.{append-nil}
 use Rattle.std.proofs.Math.Nat.{mod-mod}
 use Rattle.std.specs.Option.{unwrap_or}
 use Rattle.mq_blocks.specs.Blocks.{block_at}
-use Rattle.mq_blocks.specs.Descriptor.{Descriptor, descriptor_bytes}
+use Rattle.mq_blocks.specs.Descriptor.{Descriptor}
 use Rattle.mq_blocks.specs.Drive.{PortState, IsQuiet, IsFlushed, depth}
-use Rattle.mq_blocks.specs.Geometry.{homes_of, area_of, area_lba}
-use Rattle.mq_blocks.specs.Journal.{Shown, Holds, IsChain, AreInReach, IsQueueChain, number_limit}
+use Rattle.mq_blocks.specs.Geometry.{area_of}
+use Rattle.mq_blocks.specs.Journal.{Shown, IsChain, AreInReach, IsQueueChain, number_limit}
 use Rattle.mq_blocks.specs.declared.geometry.Geometry.{Geometry}
 use Rattle.mq_nvme.specs.Entry.{IsWrite, refusal_of}
 use Rattle.mq_nvme.specs.Says.{says, said}

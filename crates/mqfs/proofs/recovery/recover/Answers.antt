@@ -1,5 +1,4 @@
-use Rattle.std.proofs.Common.{◌≡◌, ℕ, ◌+◌, List, length, Some, sym, subst}
-use Rattle.mq_blocks.specs.Descriptor.{Descriptor}
+use Rattle.std.proofs.Common.{◌≡◌, ◌+◌, length, subst}
 use Rattle.mq_blocks.specs.Drive.{PortState}
 use Rattle.mq_blocks.specs.Journal.{IsQueueChain, Reaches}
 use Rattle.mqfs.specs.Recovery.{view_of, IsRecovered}
@@ -19,7 +18,7 @@ returns-clause-ok g c =
     let same = first-same c.args.ports.now.queues.items c.index_mut.result.now p c.requires.one c.index_mut.ensures.value old in
     let set_is = first-set c.args.ports.now.queues.items c.recover_ports.new.queue q c.requires.one new in
     let M : g.row.P.Denot → g.row.P.Denot → Type 0 = λ x y.
-        Reaches c.args.geometry (view_of c.args.geometry (state x) root) ds → IsQueueChain c.args.geometry (view_of c.args.geometry (state x) root) 0 ds
-        → IsRecovered c.args.geometry (state x) root ds (state y) (state c.recover_ports.new.root) × (r.prefix ≡ length ds) × (r.base ≡ root.base + length ds) in
+    Reaches c.args.geometry (view_of c.args.geometry (state x) root) ds → IsQueueChain c.args.geometry (view_of c.args.geometry (state x) root) 0 ds
+    → IsRecovered c.args.geometry (state x) root ds (state y) (state c.recover_ports.new.root) × (r.prefix ≡ length ds) × (r.base ≡ root.base + length ds) in
     subst (λ (x : g.row.P.Denot). M x q) same (subst (λ (y : g.row.P.Denot). M c.index_mut.result.now y) set_is (is ds)))
     c.recover_ports.ensures.ok

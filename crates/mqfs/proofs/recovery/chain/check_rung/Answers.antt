@@ -1,4 +1,4 @@
-use Rattle.std.proofs.Common.{◌≡◌, ◌<◌, ◌≤◌, ℕ, arith}
+use Rattle.std.proofs.Common.{◌≡◌, arith}
 use Rattle.mqfs.proofs.RecoverChains.{same-tx}
 use Rattle.mqfs.proofs.recovery.chain.check_rung.Goals as goal
 
