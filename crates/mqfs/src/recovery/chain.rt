@@ -1,5 +1,5 @@
 // The chain of a queue.
-ghost use Rattle.std.specs.Prelude.{◌≡◌, ◌<◌, ◌≤◌, ◌-◌, ◌*◌, ◌%◌, ◌^◌, ℕ, List, [], length, IfOk, IfErr, IsOk, Some, None, true, slice_index_or};
+ghost use Rattle.std.specs.Prelude.{◌≡◌, ◌<◌, ◌≤◌, ◌↔◌, ◌-◌, ◌*◌, ◌%◌, ◌^◌, ℕ, List, [], length, IfOk, IfErr, IsOk, Some, None, true, slice_index_or};
 ghost use Rattle.mq_blocks.specs.Blocks.{block_at};
 ghost use Rattle.mq_blocks.specs.Descriptor.{Descriptor as Text};
 ghost use Rattle.mq_blocks.specs.Drive.{PortState, IsQuiet, depth};
@@ -106,7 +106,7 @@ fn find_newest<P: Port>(
 
 // Checks the words of a queue.
 fn check_words(head: u64, doorbell: u64) -> Result<(), ChainRefusal>
-    ensures { head ≤ doorbell → doorbell - head ≤ 1023 → doorbell ≤ number_limit → IsOk result }
+    ensures { IsOk result ↔ ((head ≤ doorbell) × (doorbell - head ≤ 1023) × (doorbell ≤ number_limit)) }
 {
     if head > doorbell || doorbell - head > 1023 || doorbell > LIMIT {
         return Err(ChainRefusal::Words);
