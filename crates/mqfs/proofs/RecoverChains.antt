@@ -1,14 +1,14 @@
 -- Reading a chain.
-use Rattle.std.proofs.Common.{◌≡◌, ◌<◌, ◌≤◌, ◌⊎◌, ⊎_elim, ℕ, zero, suc, ◌+◌, ◌-◌, ◌%◌, Bool, true, false, List, [], ◌∷◌, ◌++◌, length, Option, Some, None, refl, sym, ◌∙◌, ap, subst, arith, append_assoc}
-use Rattle.std.specs.Prelude.{slice_index_or, IfOk, Result, Ok, Err}
+use Rattle.std.proofs.Common.{◌≡◌, ◌<◌, ◌≤◌, ◌⊎◌, ⊎_elim, ℕ, ◌-◌, ◌%◌, Bool, true, List, [], ◌∷◌, ◌++◌, length, Option, Some, None, refl, sym, ◌∙◌, ap, subst, arith, append_assoc, get_or, set}
+use Rattle.std.specs.Prelude.{slice_get, slice_index_or, IfOk, Result, Ok, Err}
 use Rattle.std.proofs.lemmas.List.{append-nil}
 use Rattle.std.proofs.Math.Nat.{mod-mod}
 use Rattle.std.specs.Option.{unwrap_or}
 use Rattle.mq_blocks.specs.Blocks.{block_at}
-use Rattle.mq_blocks.specs.Descriptor.{Descriptor, descriptor_bytes}
+use Rattle.mq_blocks.specs.Descriptor.{Descriptor}
 use Rattle.mq_blocks.specs.Drive.{PortState, IsQuiet, IsFlushed, depth}
-use Rattle.mq_blocks.specs.Geometry.{homes_of, area_of, area_lba}
-use Rattle.mq_blocks.specs.Journal.{Shown, Holds, IsChain, AreInReach, IsQueueChain, number_limit}
+use Rattle.mq_blocks.specs.Geometry.{area_of}
+use Rattle.mq_blocks.specs.Journal.{Shown, IsChain, AreInReach, IsQueueChain, number_limit}
 use Rattle.mq_blocks.specs.declared.geometry.Geometry.{Geometry}
 use Rattle.mq_nvme.specs.Entry.{IsWrite, refusal_of}
 use Rattle.mq_nvme.specs.Says.{says, said}
@@ -127,20 +127,25 @@ left-none g i q base s at newest found ds seen low left =
 
 -- ---- the request before the head
 
-pub commit-said : (e f : List ℕ) (r : WriteReq) (n l : ℕ) → e ≡ f → IsWrite e r → says f ≡ Some (n, l, true) → r.commit ≡ true
-commit-said e f r n l same write speaks =
-    let both : Some (r.tx, r.lba, r.commit) ≡ Some (n, l, true) = sym (says-of e r write) ∙ ap says same ∙ speaks in
-    ap (λ (o : Option (ℕ × ℕ × Bool)). commit_in o) both
+pub refused-said : (e f : List ℕ) (cause : EntryRefusal) (s : ℕ × ℕ × Bool) → e ≡ f → refusal_of e ≡ Some cause → says f ≡ Some s → ⊥
+refused-said e f cause s same refused speaks =
+    let none : says e ≡ None = says-none e cause refused in
+    let some : says e ≡ Some s = ap says same ∙ speaks in
+    cc
+
+pub same-commit : (o : Option (ℕ × ℕ × Bool)) (tx lba n l : ℕ) (commit : Bool) → o ≡ Some (tx, lba, commit) → o ≡ Some (n, l, true) → commit ≡ true
+same-commit o tx lba n l commit is there = ap commit_in (sym is ∙ there)
   where
     commit_in : Option (ℕ × ℕ × Bool) → Bool
     commit_in (Some s) = s.2
     commit_in None = true
 
-pub refused-said : (e f : List ℕ) (cause : EntryRefusal) (n l : ℕ) → e ≡ f → refusal_of e ≡ Some cause → says f ≡ Some (n, l, true) → ⊥
-refused-said e f cause n l same refused speaks =
-    let none : says e ≡ None = says-none e cause refused in
-    let some : says e ≡ Some (n, l, true) = ap says same ∙ speaks in
-    cc
+pub same-tx : (o : Option (ℕ × ℕ × Bool)) (s t : ℕ × ℕ × Bool) → o ≡ Some s → o ≡ Some t → s.0 ≡ t.0
+same-tx o s t is there = ap tx_in (sym is ∙ there)
+  where
+    tx_in : Option (ℕ × ℕ × Bool) → ℕ
+    tx_in (Some x) = x.0
+    tx_in None = 0
 
 -- ---- where a chain starts
 
@@ -178,37 +183,38 @@ none-above g i q base s ds n l seen chain some is low =
     let base_is = seen.base_is in
     chain-none g i q chain.number chain.place ds (omega arith) chain.chain
 
-pub start-of : (g : Geometry) (i : Shown) (q base : ℕ) (s : PortState) (ds : List Descriptor) (n l index : ℕ) → IsSeenAt q base s i → IsQueueChain g i q ds → 0 < s.head
-    → says (slice_index_or s.flushed ((s.head - 1) % depth) []) ≡ Some (n, l, true) → base < n
-    → ((place : ℕ) → l ≡ area_lba g q place → Some index ≡ Some (place % area_of g)) → IsStart g i q (record { number = n; index = index }) ds
-start-of g i q base s ds n l index seen chain some is above found =
-    let same = newest-is g i q base s ds n l seen chain some is in
-    let number_is = same.0 in
-    let base_is = seen.base_is in
-    let above_i : i.base < n = omega arith in
-    let own : chain.lba ≡ area_lba g q chain.place = chain.own (omega arith) in
-    let index_is : Some index ≡ Some (chain.place % area_of g) = found chain.place (sym same.1 ∙ own) in
-    record {
-      place = chain.place;
-      above = above_i;
-      limit = subst (λ (m : ℕ). m ≤ number_limit) number_is chain.limit;
-      index_is = let e : index ≡ chain.place % area_of g = cc in sym e;
-      chain = subst (λ (m : ℕ). IsChain g i q m chain.place ds) number_is chain.chain;
-      reach = chain.reach;
-    }
-
-pub not-placed : (g : Geometry) (i : Shown) (q base : ℕ) (s : PortState) (ds : List Descriptor) (n l : ℕ) → IsSeenAt q base s i → IsQueueChain g i q ds → 0 < s.head
-    → says (slice_index_or s.flushed ((s.head - 1) % depth) []) ≡ Some (n, l, true) → base < n
-    → ((place : ℕ) → l ≡ area_lba g q place → None ≡ Some (place % area_of g)) → ⊥
-not-placed g i q base s ds n l seen chain some is above found =
-    let same = newest-is g i q base s ds n l seen chain some is in
-    let number_is = same.0 in
-    let base_is = seen.base_is in
-    let own : chain.lba ≡ area_lba g q chain.place = chain.own (omega arith) in
-    let index_is : None ≡ Some (chain.place % area_of g) = found chain.place (sym same.1 ∙ own) in
-    cc
-
 -- an Ok has another property too
 pub ok-map : {A E : Type 0} (r : Result A E) (P Q : A → Type 0) → ((x : A) → P x → Q x) → IfOk r P → IfOk r Q
 ok-map (Ok x) P Q f h = f x h
 ok-map (Err e) P Q f h = tt
+
+-- ---- the entries from head to doorbell
+
+pub rung-seen : (g : Geometry) (i : Shown) (q base : ℕ) (s : PortState) (ds : List Descriptor) (c : ℕ) → IsSeenAt q base s i → IsQueueChain g i q ds → s.head ≤ c → c < s.doorbell
+    → (x : ℕ × ℕ × Bool) × (says (slice_index_or s.flushed (c % depth) []) ≡ Some x) × (x.0 ≤ number_limit)
+rung-seen g i q base s ds c seen chain low high =
+    let h = seen.head_is in
+    let d = seen.doorbell_is in
+    let r = chain.rung c (omega arith) (omega arith) in
+    (r.0, sym (seen.entry_is (c % depth)) ∙ r.1, r.2)
+
+pub whole-seen : (g : Geometry) (i : Shown) (q base : ℕ) (s : PortState) (ds : List Descriptor) → IsSeenAt q base s i → IsQueueChain g i q ds → s.head < s.doorbell
+    → (n : ℕ) × (l : ℕ) × (says (slice_index_or s.flushed ((s.doorbell - 1) % depth) []) ≡ Some (n, l, true))
+whole-seen g i q base s ds seen chain some =
+    let h = seen.head_is in
+    let d = seen.doorbell_is in
+    let r = chain.rung_whole (omega arith) in
+    (r.0, r.1, sym (seen.entry_is ((s.doorbell - 1) % depth)) ∙ ap (λ (n : ℕ). i.entry q ((n - 1) % depth)) (sym d) ∙ r.2)
+
+-- ---- the one queue's port
+
+pub first-is : {A : Type 0} (xs : List A) (x : A) → length xs ≡ 1 → x ≡ get_or xs 0 x → slice_get xs 0 ≡ Some x
+first-is [] x one is = absurd (omega arith)
+first-is (y ∷ ys) x one is = ap (λ (z : _). Some z) (sym is)
+
+pub first-same : {A : Type 0} (xs : List A) (x y : A) → length xs ≡ 1 → x ≡ get_or xs 0 x → slice_get xs 0 ≡ Some y → x ≡ y
+first-same xs x y one is there = let here : slice_get xs 0 ≡ Some x = first-is xs x one is in cc
+
+pub first-set : {A : Type 0} (xs : List A) (x y : A) → length xs ≡ 1 → slice_get (set xs 0 x) 0 ≡ Some y → x ≡ y
+first-set [] x y one there = absurd (omega arith)
+first-set (z ∷ zs) x y one there = cc

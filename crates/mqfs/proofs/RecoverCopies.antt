@@ -1,16 +1,15 @@
 -- Where the copies stand.
-use Rattle.std.proofs.Common.{◌≡◌, ◌≢◌, ◌<◌, ◌≤◌, ◌⊎◌, inl, inr, ⊎_elim, ℕ, zero, suc, ◌+◌, ◌-◌, ◌%◌, ◌^◌, List, [], ◌∷◌, ◌++◌, length, Bool, true, false, Option, Some, None, get_or, set, drop, replicate, refl, sym, ◌∙◌, ap, subst, arith, drop-cons, add-one, append_assoc}
+use Rattle.std.proofs.Common.{◌≡◌, ◌≢◌, ◌<◌, ◌≤◌, ⊎_elim, ℕ, zero, suc, ◌+◌, ◌-◌, ◌%◌, ◌^◌, List, [], ◌∷◌, ◌++◌, length, Bool, true, false, Option, Some, None, get_or, set, drop, replicate, refl, sym, ◌∙◌, ap, subst, arith, drop-cons, add-one, append_assoc}
 use Rattle.std.proofs.lemmas.Bool.{cases_eq, eq-eqb, ne_eqb}
-use Rattle.std.proofs.lemmas.Bool.Decides.{nat_tests}
 use Rattle.std.proofs.lemmas.Grind.{get_or-set_at}
-use Rattle.std.proofs.lemmas.List.{get_or-set_other, get_or-replicate, length-replicate}
+use Rattle.std.proofs.lemmas.List.{get_or-set_other, length-replicate}
 use Rattle.std.proofs.Math.ListN.{length-set}
 use Rattle.std.specs.Prelude.{nat_eq, if◌then◌else◌}
 use Rattle.mq_blocks.specs.Descriptor.{Descriptor, AreRising, IsGood}
 use Rattle.mq_blocks.specs.Geometry.{homes_of}
 use Rattle.mq_blocks.specs.Journal.{Shown, IsChain, is_among, logged_copy, or_else, stands}
 use Rattle.mq_blocks.specs.declared.geometry.Geometry.{Geometry}
-use Rattle.mqfs.specs.Recover.{or_place, logged_place, copy_of, forgotten, noted, with_transaction, with_all, AreGood, content_of}
+use Rattle.mqfs.specs.Recover.{or_place, logged_place, copy_of, forgotten, noted, with_all, AreGood, content_of}
 
 pub rising-at : (low high : ℕ) (xs : List ℕ) (k d : ℕ) → AreRising low high xs → k < length xs → get_or xs k d < high
 rising-at low high [] k d rising within = absurd (omega arith)

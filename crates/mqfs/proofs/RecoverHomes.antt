@@ -1,17 +1,16 @@
 -- Writing copies home.
-use Rattle.std.proofs.Common.{◌≡◌, ◌≢◌, ◌<◌, ◌≤◌, ◌⊎◌, inl, inr, ⊎_elim, ℕ, zero, suc, ◌+◌, ◌-◌, ◌*◌, ◌/◌, ◌%◌, ◌^◌, List, [], ◌∷◌, ◌++◌, length, Bool, true, false, Option, Some, None, get_or, set, drop, refl, sym, ◌∙◌, ap, subst, arith, drop-cons, add-one, append_assoc}
+use Rattle.std.proofs.Common.{◌≡◌, ◌≢◌, ◌<◌, ◌≤◌, ◌⊎◌, inl, inr, ⊎_elim, ℕ, zero, suc, ◌+◌, ◌-◌, ◌*◌, ◌%◌, List, [], ◌∷◌, ◌++◌, length, Bool, true, false, Option, Some, None, get_or, set, drop, refl, sym, ◌∙◌, ap, subst, arith, drop-cons, add-one, append_assoc}
 use Rattle.std.proofs.lemmas.Bool.{cases_eq, eq-eqb, ne_eqb, lt-ltb, le-ltb}
-use Rattle.std.proofs.lemmas.Bool.Decides.{nat_tests}
 use Rattle.std.proofs.lemmas.Grind.{get_or-set_at}
-use Rattle.std.proofs.lemmas.List.{get_or-set_other, append-nil}
+use Rattle.std.proofs.lemmas.List.{get_or-set_other}
 use Rattle.std.proofs.Math.ListN.{length-set}
 use Rattle.std.proofs.Math.Nat.{div-eq_of_lt}
 use Rattle.std.specs.Prelude.{slice_get, nat_eq, nat_lt, if◌then◌else◌}
 use Rattle.mq_blocks.specs.Blocks.{block_at, content}
-use Rattle.mq_blocks.specs.Descriptor.{Descriptor, IsGood}
-use Rattle.mq_blocks.specs.Drive.{PortState, IsQuiet, index_of, IsFlushed, staged_end, image_of, after_flush, after_store_base}
+use Rattle.mq_blocks.specs.Descriptor.{Descriptor}
+use Rattle.mq_blocks.specs.Drive.{PortState, IsQuiet, index_of, image_of, after_flush, after_store_base}
 use Rattle.mq_blocks.specs.Geometry.{homes_of, home_lba, zone_of}
-use Rattle.mq_blocks.specs.Journal.{Shown, AreInRow, IsQueueChain, or_else, home_block}
+use Rattle.mq_blocks.specs.Journal.{AreInRow, IsQueueChain, or_else, home_block}
 use Rattle.mq_blocks.specs.Machine.{Writes, or_kept}
 use Rattle.mq_blocks.specs.declared.geometry.Geometry.{Geometry}
 use Rattle.mq_drive.specs.Start.{IsPortOf}

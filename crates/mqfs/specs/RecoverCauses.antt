@@ -1,9 +1,8 @@
 -- Why recovery is refused.
-use Rattle.std.specs.Prelude.{◌≡◌, ◌⊎◌, ℕ, List, Result, Ok, Err}
+use Rattle.std.specs.Prelude.{◌≡◌, ◌⊎◌, List, Result, Ok, Err}
 use Rattle.mq_blocks.specs.Geometry.{home_lba}
 use Rattle.mq_blocks.specs.declared.geometry.Geometry.{Geometry}
 use Rattle.mq_drive.specs.Steps.{Fault, PowerOff, HomeError, Gains}
-use Rattle.mqfs.specs.declared.recovery.refusal.ImageFault.{ImageFault}
 use Rattle.mqfs.specs.declared.recovery.refusal.ImageFault.TheVariants.{OutOfMemory}
 use Rattle.mqfs.specs.declared.recovery.refusal.RecoverRefusal.{RecoverRefusal}
 use Rattle.mqfs.specs.declared.recovery.refusal.RecoverRefusal.TheVariants.{Image, Off, Failed}

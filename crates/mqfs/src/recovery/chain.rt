@@ -1,10 +1,10 @@
 // The chain of a queue.
-ghost use Rattle.std.specs.Prelude.{◌≡◌, ◌<◌, ◌≤◌, ◌-◌, ◌*◌, ◌%◌, ◌^◌, ℕ, List, [], length, IfOk, IfErr, IsOk, Some, None, true, slice_index_or};
+ghost use Rattle.std.specs.Prelude.{◌≡◌, ◌<◌, ◌≤◌, ◌↔◌, ◌-◌, ◌*◌, ◌%◌, ◌^◌, ℕ, List, [], length, IfOk, IfErr, IsOk, Some, None, true, slice_index_or};
 ghost use Rattle.mq_blocks.specs.Blocks.{block_at};
 ghost use Rattle.mq_blocks.specs.Descriptor.{Descriptor as Text};
 ghost use Rattle.mq_blocks.specs.Drive.{PortState, IsQuiet, depth};
 ghost use Rattle.mq_blocks.specs.Geometry.{queues_of, area_of, area_lba};
-ghost use Rattle.mq_blocks.specs.Journal.{Shown, IsQueueChain, number_limit};
+ghost use Rattle.mq_blocks.specs.Journal.{Says, Shown, IsQueueChain, number_limit};
 ghost use Rattle.mq_area.specs.Reading.{Accepts};
 ghost use Rattle.mq_nvme.specs.Says.{says};
 ghost use Rattle.mq_drive.specs.Start.{IsPortOf};
@@ -68,7 +68,7 @@ pub fn read_chain<P: Port>(
 }
 
 // Where the chain of a queue starts, if it has a transaction above the base.
-pub fn find_newest<P: Port>(
+fn find_newest<P: Port>(
     geometry: Geometry,
     queue: QueueNo,
     port: &P,
@@ -82,7 +82,9 @@ pub fn find_newest<P: Port>(
     ensures only { IfErr result (λ e. e ≡ ChainRefusal.OutOfMemory) }
 {
     let head = port.head();
-    check_words(head, port.doorbell())?;
+    let doorbell = port.doorbell();
+    check_words(head, doorbell)?;
+    check_rung(port, head, doorbell)?;
     if head == 0 {
         return Ok(None);
     }
@@ -103,8 +105,8 @@ pub fn find_newest<P: Port>(
 }
 
 // Checks the words of a queue.
-pub fn check_words(head: u64, doorbell: u64) -> Result<(), ChainRefusal>
-    ensures { head ≤ doorbell → doorbell - head ≤ 1023 → doorbell ≤ number_limit → IsOk result }
+fn check_words(head: u64, doorbell: u64) -> Result<(), ChainRefusal>
+    ensures { IsOk result ↔ ((head ≤ doorbell) × (doorbell - head ≤ 1023) × (doorbell ≤ number_limit)) }
 {
     if head > doorbell || doorbell - head > 1023 || doorbell > LIMIT {
         return Err(ChainRefusal::Words);
@@ -112,25 +114,59 @@ pub fn check_words(head: u64, doorbell: u64) -> Result<(), ChainRefusal>
     Ok(())
 }
 
-// The request before the head, which must be a commit request.
-pub fn last_commit<P: Port>(port: &P, head: u64) -> Result<WriteReq, ChainRefusal>
-    requires above { 0 < head }
+// Checks the entries from the head to the doorbell, the last of which must be a commit request.
+fn check_rung<P: Port>(port: &P, head: u64, doorbell: u64) -> Result<(), ChainRefusal>
     requires slots { length (P.state port.now).flushed ≡ depth }
     requires quiet { IsQuiet (P.state port.now) }
-    requires commit { (n : ℕ) × (l : ℕ) × (says (slice_index_or (P.state port.now).flushed ((head - 1) % depth) []) ≡ Some (n, l, true)) }
-    ensures ok { IfOk result (λ r. says (slice_index_or (P.state port.now).flushed ((head - 1) % depth) []) ≡ Some (r.tx, r.lba, true)) }
+    requires readable { (c : ℕ) → head ≤ c → c < doorbell → (s : Says) × (says (slice_index_or (P.state port.now).flushed (c % depth) []) ≡ Some s) × (s.0 ≤ number_limit) }
+    requires whole { head < doorbell → (n : ℕ) × (l : ℕ) × (says (slice_index_or (P.state port.now).flushed ((doorbell - 1) % depth) []) ≡ Some (n, l, true)) }
+    ensures { IsOk result }
+{
+    for at in head..doorbell {
+        let request = read_request(port, at)?;
+        if request.tx > LIMIT {
+            return Err(ChainRefusal::Limit { number: request.tx });
+        }
+    }
+    if head < doorbell {
+        last_commit(port, doorbell)?;
+    }
+    Ok(())
+}
+
+// The request before a count, which must be a commit request.
+fn last_commit<P: Port>(port: &P, end: u64) -> Result<WriteReq, ChainRefusal>
+    requires above { 0 < end }
+    requires slots { length (P.state port.now).flushed ≡ depth }
+    requires quiet { IsQuiet (P.state port.now) }
+    requires commit { (n : ℕ) × (l : ℕ) × (says (slice_index_or (P.state port.now).flushed ((end - 1) % depth) []) ≡ Some (n, l, true)) }
+    ensures ok { IfOk result (λ r. says (slice_index_or (P.state port.now).flushed ((end - 1) % depth) []) ≡ Some (r.tx, r.lba, true)) }
     ensures only { IsOk result }
 {
-    let entry = port.read_slot(((head - 1) % 1024) as u32);
+    let last = read_request(port, end - 1)?;
+    if !last.commit {
+        return Err(ChainRefusal::Commit);
+    }
+    Ok(last)
+}
+
+// The request in the slot of a count.
+fn read_request<P: Port>(port: &P, at: u64) -> Result<WriteReq, ChainRefusal>
+    requires slots { length (P.state port.now).flushed ≡ depth }
+    requires quiet { IsQuiet (P.state port.now) }
+    requires request { (s : Says) × (says (slice_index_or (P.state port.now).flushed (at % depth) []) ≡ Some s) }
+    ensures ok { IfOk result (λ r. says (slice_index_or (P.state port.now).flushed (at % depth) []) ≡ Some (r.tx, r.lba, r.commit)) }
+    ensures only { IsOk result }
+{
+    let entry = port.read_slot((at % 1024) as u32);
     match read_write(&entry) {
-        Ok(request) if request.commit => Ok(request),
-        Ok(_) => Err(ChainRefusal::Commit),
+        Ok(request) => Ok(request),
         Err(cause) => Err(ChainRefusal::Entry(cause)),
     }
 }
 
 // The index of a block in the journal area of a queue.
-pub fn area_index(geometry: Geometry, queue: QueueNo, lba: u64) -> Option<u32>
+fn area_index(geometry: Geometry, queue: QueueNo, lba: u64) -> Option<u32>
     requires { queue < queues_of geometry }
     ensures { (place : ℕ) → lba ≡ area_lba geometry queue place → result ≡ Some (place % area_of geometry) }
 {
@@ -182,7 +218,7 @@ fn follow<P: Port>(
 }
 
 // The descriptor that is expected, whose copies are in reach of the newest place.
-pub fn read_next<P: Port>(
+fn read_next<P: Port>(
     alloc: Global,
     geometry: Geometry,
     port: &P,
@@ -208,7 +244,7 @@ pub fn read_next<P: Port>(
 }
 
 // The descriptor that is expected.
-pub fn read_at<P: Port>(
+fn read_at<P: Port>(
     alloc: Global,
     geometry: Geometry,
     port: &P,
@@ -235,7 +271,7 @@ pub fn read_at<P: Port>(
 }
 
 // Where a descriptor is expected.
-pub fn place_of(at: &Expect) -> u64
+fn place_of(at: &Expect) -> u64
     ensures { result ≡ where_of at.now.place }
 {
     match at.place {

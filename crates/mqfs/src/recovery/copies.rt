@@ -27,7 +27,7 @@ pub fn place_copies(
 }
 
 // The copies after one more transaction.
-pub fn take_over(copies: &mut [Option<u64>], next: &Descriptor)
+fn take_over(copies: &mut [Option<u64>], next: &Descriptor)
     requires logged { AreRising 0 (length copies.old) next.now.logged }
     requires revoked { AreRising 0 (length copies.old) next.now.revoked }
     requires fits { length next.now.logged ≤ next.now.place }
@@ -39,7 +39,7 @@ pub fn take_over(copies: &mut [Option<u64>], next: &Descriptor)
 }
 
 // No block of these has a copy any more.
-pub fn forget(copies: &mut [Option<u64>], revoked: &[BlockNo])
+fn forget(copies: &mut [Option<u64>], revoked: &[BlockNo])
     requires { AreRising 0 (length copies.old) revoked.now }
     ensures { copies.new ≡ forgotten copies.old revoked.now }
 {
@@ -49,7 +49,7 @@ pub fn forget(copies: &mut [Option<u64>], revoked: &[BlockNo])
 }
 
 // These blocks have copies from a place on.
-pub fn note(copies: &mut [Option<u64>], first: u64, logged: &[BlockNo])
+fn note(copies: &mut [Option<u64>], first: u64, logged: &[BlockNo])
     requires rising { AreRising 0 (length copies.old) logged.now }
     requires end { first + length logged.now ≤ 2 ^ 62 }
     ensures { copies.new ≡ noted copies.old first logged.now }

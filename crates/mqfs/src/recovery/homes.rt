@@ -65,7 +65,7 @@ pub fn make_plan<P: Port>(
 }
 
 // What is recovered by a chain whose numbers follow the base.
-pub fn recovered_by(chain: &Chain, base: TxNo) -> Recovered
+fn recovered_by(chain: &Chain, base: TxNo) -> Recovered
     requires row { AreInRow base chain.now }
     requires fits { base + length chain.now < 2 ^ 64 }
     ensures prefix { result.prefix ≡ length chain.now }
@@ -83,7 +83,7 @@ pub fn recovered_by(chain: &Chain, base: TxNo) -> Recovered
 }
 
 // Reads the copies at these places.
-pub fn read_copies<P: Port>(
+fn read_copies<P: Port>(
     alloc: Global,
     geometry: Geometry,
     queue: QueueNo,
@@ -130,7 +130,7 @@ pub fn write_homes<P: Port>(
 }
 
 // Writes one block home.
-pub fn write_one<P: Port>(
+fn write_one<P: Port>(
     geometry: Geometry,
     queue: &mut P,
     root: &mut P,
@@ -152,7 +152,7 @@ pub fn write_one<P: Port>(
 }
 
 // Writes one block home through its port.
-pub fn write_through<P: Port>(
+fn write_through<P: Port>(
     geometry: Geometry,
     port: &mut P,
     b: BlockNo,

@@ -1,6 +1,5 @@
-use Rattle.std.proofs.Common.{◌≡◌, ◌⊎◌, ⊎_elim, ℕ, List, sym, ◌∙◌, ap, subst}
+use Rattle.std.proofs.Common.{◌≡◌, ◌⊎◌, ⊎_elim, ℕ, sym, ◌∙◌, subst}
 use Rattle.mq_blocks.specs.Drive.{PortState, IsQuiet}
-use Rattle.mq_blocks.specs.Journal.{IsQueueChain}
 use Rattle.mqfs.specs.Recovery.{view_of}
 use Rattle.mqfs.specs.Recover.{IsSeenAt}
 use Rattle.mqfs.proofs.RecoverHomes.{seen-view, recovered-of, base-low}

@@ -1,9 +1,9 @@
-use Rattle.std.proofs.Common.{◌≡◌, ◌<◌, ◌≤◌, ◌^◌, ℕ, List, [], Some, refl, sym, ◌∙◌, ap, subst, arith, rules}
+use Rattle.std.proofs.Common.{◌≡◌, ◌<◌, refl, ◌∙◌, ap, arith}
 use Rattle.std.specs.Option.{unwrap_or}
 use Rattle.mq_blocks.specs.Descriptor.{Descriptor}
 use Rattle.mq_area.specs.declared.descriptor.Expect.{Expect}
 use Rattle.mq_area.specs.declared.descriptor.PlaceIs.TheVariants.{Exact}
-use Rattle.mqfs.proofs.RecoverChains.{start-left, left-next, next-left, left-none}
+use Rattle.mqfs.proofs.RecoverChains.{left-next, next-left, left-none}
 use Rattle.mqfs.proofs.recovery.chain.follow.Goals as goal
 
 pub invariant_of-at : goal.invariant_of-at

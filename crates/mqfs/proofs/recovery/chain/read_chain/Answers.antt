@@ -1,5 +1,4 @@
-use Rattle.std.proofs.Common.{◌≡◌, List, [], sym, ◌∙◌}
-use Rattle.mq_blocks.specs.Descriptor.{Descriptor}
+use Rattle.std.proofs.Common.{sym, ◌∙◌}
 use Rattle.mqfs.proofs.RecoverChains.{ok-map}
 use Rattle.mqfs.proofs.recovery.chain.read_chain.Goals as goal
 

@@ -1,4 +1,4 @@
-use Rattle.std.proofs.Common.{◌≡◌, ◌<◌, ℕ, ◌+◌, length, get_or, None, sym, ◌∙◌, ap, arith}
+use Rattle.std.proofs.Common.{◌≡◌, length, get_or, None, ◌∙◌, arith}
 use Rattle.std.proofs.Math.ListN.{length-set}
 use Rattle.mqfs.proofs.RecoverCopies.{rising-at, forgotten-next}
 use Rattle.mqfs.proofs.recovery.copies.forget.Goals as goal

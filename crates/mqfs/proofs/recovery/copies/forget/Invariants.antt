@@ -1,5 +1,4 @@
 use Rattle.std.proofs.Common.{◌≡◌, drop, length}
-use Rattle.mq_blocks.specs.Descriptor.{AreRising}
 use Rattle.mqfs.specs.Recover.{forgotten}
 use Rattle.mqfs.proofs.recovery.copies.forget.Given as goal
 

@@ -1,4 +1,4 @@
-use Rattle.std.proofs.Common.{◌≡◌, ℕ, List, length, Option, None, ap, sym, ◌∙◌, subst, rules}
+use Rattle.std.proofs.Common.{◌≡◌, ℕ, List, length, Option, sym, subst, rules}
 use Rattle.mq_blocks.specs.Geometry.{homes_of}
 use Rattle.mqfs.proofs.RecoverCopies.{CanTake, can-take, all-taken}
 use Rattle.mqfs.proofs.recovery.copies.place_copies.Goals as goal

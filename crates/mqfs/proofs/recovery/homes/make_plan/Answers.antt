@@ -1,6 +1,4 @@
-use Rattle.std.proofs.Common.{◌≡◌, ◌≤◌, ℕ, List, Option, None, get_or, length, sym, ◌∙◌, ap, subst}
-use Rattle.mq_blocks.specs.Blocks.{block_at}
-use Rattle.mq_blocks.specs.Descriptor.{Descriptor}
+use Rattle.std.proofs.Common.{◌≡◌, ℕ, List, Option, None, get_or, length, sym, ◌∙◌, ap, subst}
 use Rattle.mq_blocks.specs.Geometry.{homes_of}
 use Rattle.mq_blocks.specs.Journal.{AreInRow}
 use Rattle.mqfs.specs.Recover.{AreGood}

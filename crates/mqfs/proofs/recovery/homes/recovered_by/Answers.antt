@@ -1,4 +1,4 @@
-use Rattle.std.proofs.Common.{◌≡◌, ◌<◌, ◌+◌, ℕ, List, length, ap, sym, ◌∙◌, arith}
+use Rattle.std.proofs.Common.{◌≡◌, ap, ◌∙◌, arith}
 use Rattle.mq_blocks.specs.Descriptor.{Descriptor}
 use Rattle.mqfs.proofs.RecoverHomes.{first-number}
 use Rattle.mqfs.proofs.recovery.homes.recovered_by.Goals as goal

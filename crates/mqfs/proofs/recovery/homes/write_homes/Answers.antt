@@ -1,5 +1,4 @@
-use Rattle.std.proofs.Common.{◌≡◌, ◌<◌, ◌≤◌, ℕ, List, sym, ◌∙◌, ap, subst}
-use Rattle.mq_blocks.specs.Drive.{PortState}
+use Rattle.std.proofs.Common.{◌∙◌}
 use Rattle.mq_drive.specs.declared.role.Role.TheVariants.{Queue, Root}
 use Rattle.mqfs.proofs.RecoverHomes.{IsStep, write-step, later-then, later-port}
 use Rattle.mqfs.proofs.recovery.homes.write_homes.Goals as goal
