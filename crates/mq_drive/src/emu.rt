@@ -134,11 +134,12 @@ impl EmuPort {
 
 impl EmuPort {
     ghost use Rattle.mq_drive.specs.Emu.{emu_state};
-    ghost use Rattle.mq_blocks.specs.Drive.{IsImage};
+    ghost use Rattle.mq_blocks.specs.Drive.{IsImage, image_of};
 
     /// What a cut of the power leaves: flushed slots and words, and blocks as last completed.
     pub fn cut(self) -> PortImage
-        ensures { IsImage (emu_state self) result }
+        ensures lawful { IsImage (emu_state self) result }
+        ensures is { result ≡ image_of (emu_state self) }
     {
         let EmuPort {
             flushed,
