@@ -1,10 +1,10 @@
 -- Worked examples of the definitions. Contents of blocks are short lists here.
-use Rattle.std.proofs.Common.{◌≡◌, ◌<◌, ◌≤◌, ◌^◌, ◌-◌, ℕ, refl, arith, lit<, lit≤}
-use Rattle.std.specs.Prelude.{List, [], ◌∷◌, Option, Some, None, codes}
-use Rattle.mq_blocks.specs.Descriptor.{Descriptor, AreRising, list_bytes, magic}
+use Rattle.std.proofs.Common.{◌≡◌, ◌≢◌, ◌<◌, ◌≤◌, ◌^◌, ◌-◌, ℕ, refl, arith, lit<, lit≤, subst, ⊎_elim}
+use Rattle.std.specs.Prelude.{List, [], ◌∷◌, Option, Some, None, codes, true, nat_eq, if◌then◌else◌}
+use Rattle.mq_blocks.specs.Descriptor.{Descriptor, AreRising, IsGood, descriptor_bytes, list_bytes, magic}
 use Rattle.mq_blocks.specs.Drive.{PortState, counted, index_of, without_last}
 use Rattle.mq_blocks.specs.Geometry.{zone_of, home_lba, area_lba, homes_of}
-use Rattle.mq_blocks.specs.Journal.{Shown, AreInRow, stands}
+use Rattle.mq_blocks.specs.Journal.{Shown, Says, Has, AreInRow, AreWhole, IsChain, IsQueueChain, Reaches, stands}
 use Rattle.mq_blocks.specs.Machine.{Map, Transaction, after, after_all, last_change}
 use Rattle.mq_blocks.specs.declared.command.HomeWrite.{HomeWrite}
 use Rattle.mq_blocks.specs.declared.geometry.Geometry.{Geometry}
@@ -117,7 +117,7 @@ first = record {
   revoked = [];
 }
 
--- logs block 20, whose copy is at place 3, and revokes block 21
+-- logs block 20, whose copy is at place 3, and writes block 21 at home, whose copy it revokes
 abbrev second : Descriptor
 second = record {
   queue = 0;
@@ -141,14 +141,22 @@ later = record {
   revoked = [];
 }
 
--- a block of the area holds its index, and a home block its number and 255
-abbrev image : Shown
-image = record {
+-- the blocks of the area: the first two descriptors, and copies that hold their places
+abbrev area_block : ℕ → List ℕ
+area_block k = if nat_eq k 2 then descriptor_bytes first else (if nat_eq k 4 then descriptor_bytes second else k ∷ [])
+
+-- the last entry of the second transaction names its descriptor
+abbrev slot_entry : ℕ → Option Says
+slot_entry k = if nat_eq k 5 then Some (2, 4, true) else None
+
+-- the first two transactions are done, and none is under way; a home block holds its number and 255
+abbrev journal : Shown
+journal = record {
   base = 0;
-  head = λ q. 3;
-  doorbell = λ q. 3;
-  entry = λ q k. None;
-  area = λ q k. k ∷ [];
+  head = λ q. 6;
+  doorbell = λ q. 6;
+  entry = λ q k. slot_entry k;
+  area = λ q k. area_block k;
   home = λ b. b ∷ 255 ∷ [];
 }
 
@@ -158,22 +166,113 @@ in_row = (refl, (refl, (refl, tt)))
 not_in_row : AreInRow 0 (later ∷ first ∷ []) → ⊥
 not_in_row r = omega (arith, r.0)
 
-copy_stands : stands small image (first ∷ []) 21 ≡ 1 ∷ []
+copy_stands : stands small journal (first ∷ []) 21 ≡ 1 ∷ []
 copy_stands = refl
 
-later_copy_stands : stands small image (second ∷ first ∷ []) 20 ≡ 3 ∷ []
+later_copy_stands : stands small journal (second ∷ first ∷ []) 20 ≡ 3 ∷ []
 later_copy_stands = refl
 
 -- the revoked copy counts no more
-home_stands : stands small image (second ∷ first ∷ []) 21 ≡ 21 ∷ 255 ∷ []
+home_stands : stands small journal (second ∷ first ∷ []) 21 ≡ 21 ∷ 255 ∷ []
 home_stands = refl
 
-unlogged_stands : stands small image (second ∷ first ∷ []) 22 ≡ 22 ∷ 255 ∷ []
+unlogged_stands : stands small journal (second ∷ first ∷ []) 22 ≡ 22 ∷ 255 ∷ []
 unlogged_stands = refl
 
 -- a revocation takes no later copy away
-copied_again : stands small image (later ∷ second ∷ first ∷ []) 21 ≡ 0 ∷ []
+copied_again : stands small journal (later ∷ second ∷ first ∷ []) 21 ≡ 0 ∷ []
 copied_again = refl
+
+-- ---- a readable journal
+
+abbrev both : List Descriptor
+both = second ∷ first ∷ []
+
+first_good : IsGood 256 first
+first_good = record {
+  queue = lit< tt;
+  number = lit< tt;
+  place = lit< tt;
+  falls = lit< tt;
+  first = λ _. refl;
+  before = λ none. absurd (omega (arith, none));
+  counts = lit≤ tt;
+  fits = lit≤ tt;
+  logged = (lit≤ tt, lit< tt, (lit≤ tt, lit< tt, tt));
+  revoked = tt;
+  apart = tt;
+}
+
+second_good : IsGood 256 second
+second_good = record {
+  queue = lit< tt;
+  number = lit< tt;
+  place = lit< tt;
+  falls = lit< tt;
+  first = λ none. absurd (omega (arith, none));
+  before = λ _. lit< tt;
+  counts = lit≤ tt;
+  fits = lit≤ tt;
+  logged = (lit≤ tt, lit< tt, tt);
+  revoked = (lit≤ tt, lit< tt, tt);
+  apart = ((λ same. absurd (omega (arith, same)), tt), tt);
+}
+
+chain : IsChain small journal 0 2 4 both
+chain = (
+  lit< tt,
+  record { is = refl; good = second_good; queue_is = refl; number_is = refl; place_is = refl },
+  (lit< tt, record { is = refl; good = first_good; queue_is = refl; number_is = refl; place_is = refl }, lit≤ tt),
+)
+
+queue_chain : IsQueueChain small journal 0 both
+queue_chain = record {
+  number = 2;
+  lba = 4;
+  place = 4;
+  order = lit≤ tt;
+  few = lit≤ tt;
+  low = lit≤ tt;
+  none = λ none. absurd (omega (arith, none));
+  newest = λ _. refl;
+  limit = lit≤ tt;
+  own = λ _. refl;
+  chain = chain;
+  reach = (lit< tt, (lit< tt, tt));
+  rung = λ c low high. absurd (omega (arith, low, high));
+  rung_whole = λ more. absurd (omega (arith, more));
+}
+
+whole : AreWhole small journal (λ q. both)
+whole = record {
+  limit = lit≤ tt;
+  each = λ q below. let is : 0 ≡ q = omega (arith, below) in subst (λ (n : ℕ). IsQueueChain small journal n both) is queue_chain;
+  once = λ q r below also differ. absurd (differ (omega (arith, below, also)));
+}
+
+-- the prefix is 2
+reaches : Reaches small journal both
+reaches = record {
+  chains = λ q. both;
+  whole = whole;
+  prefix = record {
+    row = (refl, (refl, tt));
+    whole = λ d has. (of_queue d has, has);
+    greatest = λ q d below has. greatest d has;
+  };
+}
+  where
+    of_queue : (d : Descriptor) → Has both d → d.queue < 1
+    of_queue d has = ⊎_elim
+        (λ (is : second ≡ d). subst (λ (e : Descriptor). e.queue < 1) is (lit< tt))
+        (λ (rest : Has (first ∷ []) d). ⊎_elim (λ (is : first ≡ d). subst (λ (e : Descriptor). e.queue < 1) is (lit< tt)) (λ (none : ⊥). absurd none) rest)
+        has
+
+    greatest : (d : Descriptor) → Has both d → d.number ≢ 3
+    greatest d has = ⊎_elim
+        (λ (is : second ≡ d). subst (λ (e : Descriptor). e.number ≢ 3) is (λ same. omega (arith, same)))
+        (λ (rest : Has (first ∷ []) d). ⊎_elim (λ (is : first ≡ d). subst (λ (e : Descriptor). e.number ≢ 3) is (λ same. omega (arith, same))) (λ (none : ⊥). absurd none) rest)
+        has
 
 -- ---- maps and transactions
 

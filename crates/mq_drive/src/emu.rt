@@ -138,7 +138,7 @@ impl EmuPort {
 
     /// What a cut of the power leaves: flushed slots and words, and blocks as last completed.
     pub fn cut(self) -> PortImage
-        ensures lawful { IsImage (emu_state self) result }
+        ensures image { IsImage (emu_state self) result }
         ensures is { result ≡ image_of (emu_state self) }
     {
         let EmuPort {
