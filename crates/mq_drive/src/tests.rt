@@ -2,7 +2,6 @@
 ghost use Rattle.std.specs.Prelude.{◌≡◌, length, IfOk};
 ghost use Rattle.mq_blocks.specs.Geometry.{queues_of, area_of, meta_of, zone_size};
 
-use crate::store::{put_block, put_slot};
 use crate::{EmuPort, HomeStep, Port, PortImage, Role, Step};
 use mq_blocks::{Block, Geometry, GeometryRefusal, Lba, OutOfMemory, QueueNo};
 use mq_nvme::{Completion, Entry, WriteReq, write_of};
@@ -86,29 +85,16 @@ fn what_is_rung_is_done(rt: HostRuntime) -> Result<(), OutOfMemory> {
     assert!(rt; holds(&image, 5, 3));
     assert!(rt; holds(&image, 1028, 4));
     assert!(rt; image.blocks.get(6).is_some_and(|block| block.is_none()));
-    Ok(())
-}
-
-#[test]
-fn a_port_starts_from_a_cut(rt: HostRuntime) -> Result<(), OutOfMemory> {
-    let alloc = rt.alloc();
-    let geometry = small().expect(&rt, "a geometry");
-    let entry = write_of(&WriteReq {
-        tx: 7,
-        slot: 1,
-        lba: 1044,
-        commit: true,
-    });
-    let mut image = fresh(alloc, 1024, 1264)?;
-    image.doorbell = 2;
-    put_slot(&mut image.slots, 1, entry);
-    put_block(&mut image.blocks, 1028, filled(alloc, 4)?);
+    assert_eq!(rt; image.base, 0);
+    assert_eq!(rt; image.slots.len(), 1024);
+    assert_eq!(rt; image.blocks.len(), 1264);
+    // A port starts there.
     let mut port = EmuPort::new(alloc, geometry, QUEUE, image)?;
     assert!(rt; port.role() == QUEUE);
     assert_eq!(rt; port.doorbell(), 2);
     assert_eq!(rt; port.head(), 0);
     assert_eq!(rt; port.base(), 0);
-    assert!(rt; port.read_slot(1) == entry);
+    assert!(rt; port.read_slot(1) == last);
     let mut block = Block::zeroed(alloc)?;
     port.read_block(Lba(1044), &mut block);
     assert!(rt; block.bytes().iter().all(|b| *b == 4));
@@ -118,7 +104,7 @@ fn a_port_starts_from_a_cut(rt: HostRuntime) -> Result<(), OutOfMemory> {
     let image = port.cut();
     assert_eq!(rt; image.doorbell, 2);
     assert_eq!(rt; image.head, 2);
-    assert!(rt; image.slots.get(1) == Some(&entry));
+    assert!(rt; image.slots.get(1) == Some(&last));
     assert!(rt; holds(&image, 1028, 4));
     Ok(())
 }
