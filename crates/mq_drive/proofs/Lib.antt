@@ -2,3 +2,4 @@ pub mod Commands
 pub mod Moves
 pub mod Owned
 pub mod Settling
+pub mod Starts

@@ -1,8 +1,8 @@
 // A port in memory, on which nothing fails.
-ghost use Rattle.std.specs.Prelude.{◌≡◌, ◌<◌, ◌≤◌, ◌+◌, ◌-◌, ◌*◌, ◌%◌, ◌^◌, ℕ, List, [], ◌∷◌, length, IfOk, OnOk, OnErr, All, slice_index_or};
+ghost use Rattle.std.specs.Prelude.{◌≡◌, ◌<◌, ◌≤◌, ◌+◌, ◌-◌, ◌*◌, ◌%◌, ◌^◌, ℕ, List, [], ◌∷◌, length, IfOk, OnOk, OnErr, All, IsSome, IsNone, slice_index_or};
 ghost use Rattle.std.specs.VecDeque.{deque_capacity};
 ghost use Rattle.mq_blocks.specs.Drive.{AreCounted, AreCounted-prop};
-ghost use Rattle.mq_drive.specs.Roles.{slots_of};
+ghost use Rattle.mq_drive.specs.Roles.{slots_of, queue_in};
 ghost use Rattle.mq_drive.specs.Slots.{AreSettled, index_in};
 ghost use Rattle.mq_drive.specs.Start.{IsRole, area_first_of, area_size_of, homes_first_of, homes_size_of};
 
@@ -65,6 +65,8 @@ pub struct EmuPort {
     ghost sized: { area.size + homes.size ≡ length blocks.items },
     ghost sure_sized: { length sure.items ≡ length blocks.items },
     ghost area_before: { area.first + area.size ≤ homes.first },
+    ghost queue_base: { IsSome (queue_in role) → (base ≡ 0) × (stored_base ≡ 0) },
+    ghost root_words: { IsNone (queue_in role) → (doorbell ≡ 0) × (head ≡ 0) × (stored_head ≡ 0) },
     ghost homes_end: { homes.first + homes.size ≤ 2 ^ 32 },
     ghost id_small: { id < 2 ^ 16 },
 }
@@ -135,11 +137,15 @@ impl EmuPort {
 impl EmuPort {
     ghost use Rattle.mq_drive.specs.Emu.{emu_state};
     ghost use Rattle.mq_blocks.specs.Drive.{IsImage, image_of};
+    ghost use Rattle.mq_blocks.specs.declared.geometry.Geometry as geometry;
+    ghost use Rattle.mq_drive.specs.Roles.{role_of};
+    ghost use Rattle.mq_drive.specs.Start.{IsPortOf, IsImageOf};
 
     /// What a cut of the power leaves: flushed slots and words, and blocks as last completed.
     pub fn cut(self) -> PortImage
         ensures image { IsImage (emu_state self) result }
         ensures is { result ≡ image_of (emu_state self) }
+        ensures role { (g : geometry.Geometry) → IsPortOf g (role_of (emu_state self).queue) (emu_state self) → IsImageOf g (role_of (emu_state self).queue) result }
     {
         let EmuPort {
             flushed,

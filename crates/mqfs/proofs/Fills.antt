@@ -4,11 +4,11 @@ use Rattle.std.proofs.lemmas.List.{append-nil}
 use Rattle.std.proofs.lemmas.Bool.{cases_eq, eqb-true}
 use Rattle.std.proofs.lemmas.Bool.Decides.{nat_tests, eqb_tells}
 use Rattle.mq_blocks.specs.Blocks.{filled}
-use Rattle.mq_blocks.specs.Descriptor.{AreRising}
+use Rattle.mq_blocks.specs.Descriptor.{AreRising, descriptor_bytes}
 use Rattle.mq_blocks.specs.Geometry.{area_lba}
 use Rattle.mq_blocks.specs.Machine.{Writes}
 use Rattle.mq_blocks.specs.declared.geometry.Geometry.{Geometry}
-use Rattle.mqfs.specs.Commits.{AreBelow, blocks_in, copies_from, items_from}
+use Rattle.mqfs.specs.Commits.{AreBelow, blocks_in, copies_from, items_from, items_of, descriptor_for}
 use Rattle.mqfs.specs.Lines.{set_in, with_write, writes_from, named}
 use Rattle.mqfs.specs.Runs.{Items}
 use Rattle.mqfs.specs.Text.{AreGoodItems, IsGoodItem, block_of, sets_in}
@@ -111,3 +111,54 @@ good_at (i ∷ is) (suc k) d less good = good_at is k d (omega arith) good.2
 
 pub good_set : (i : BlockItem) (b v : ℕ) → i ≡ Set b v → IsGoodItem i → b < 256
 good_set i b v is good = let at : IsGoodItem (Set b v) = subst IsGoodItem is good in let low : b ≤ 255 = at.0 in omega arith
+
+length-blocks : (ws : Writes) → length (blocks_in ws) ≡ length ws
+length-blocks [] = refl
+length-blocks (w ∷ ws) = ap suc (length-blocks ws)
+
+pub length-blocks_few : (f : Fill) → length (blocks_in (writes_from f 0 named)) ≤ 256
+length-blocks_few f = omega (arith, length-blocks (writes_from f 0 named), length-writes f 0 named, named_is)
+
+-- the copies and the descriptor of what the fills say
+pub items_made : (g : Geometry) (fills : List (Option ℕ)) (f : Fill) (number next last : ℕ) (logged : List ℕ) (copied items : Items)
+    → logged ≡ blocks_in (writes_from (λ b. get_or fills b None) 0 named) → copied ≡ copies_from g next (writes_from (λ b. get_or fills b None) 0 named)
+    → ((b : ℕ) → b < 256 → get_or fills b None ≡ f b)
+    → items ≡ copied ++ (area_lba g 0 (next + length logged), descriptor_bytes record { queue = 0; number = number; place = next + length logged; prev_place = last; prev_number = number - 1; logged = logged; revoked = [] }) ∷ []
+    → items ≡ items_of g number next last (writes_from f 0 named)
+items_made g fills f number next last logged copied items is_logged is_copied same is =
+    let ws : Writes = writes_from f 0 named in
+    let along : writes_from (λ b. get_or fills b None) 0 named ≡ ws = writes-along (λ b. get_or fills b None) f 0 named (λ k low high. same k (omega (arith, named_is))) in
+    let blocks : logged ≡ blocks_in ws = is_logged ∙ ap blocks_in along in
+    let copies : copied ≡ copies_from g next ws = is_copied ∙ ap (copies_from g next) along in
+    let count : length logged ≡ length ws = ap length blocks ∙ length-blocks ws in
+    is
+    ∙ (λ i. copies i ++ (area_lba g 0 (next + count i), descriptor_bytes record { queue = 0; number = number; place = next + count i; prev_place = last; prev_number = number - 1; logged = blocks i; revoked = [] }) ∷ [])
+    ∙ copies-then g next (descriptor_bytes (descriptor_for number next last ws)) ws
+
+-- ---- a line writes no more blocks than it has items that set one
+
+past_set : (is : List BlockItem) (c v b n : ℕ) → c < b → writes_from (set_in (Set c v ∷ is)) b n ≡ writes_from (set_in is) b n
+past_set is c v b n past = writes-along (set_in (Set c v ∷ is)) (set_in is) b n (λ k low high. grind (arith, nat_tests))
+
+one_more : (b : ℕ) (o p : Option ℕ) (ws us : Writes) → length ws ≤ length us + 1 → (o ≡ p) ⊎ (ws ≡ us) → length (with_write b o ws) ≤ length (with_write b p us) + 1
+one_more b None None ws us few same = few
+one_more b (Some v) (Some w) ws us few same = omega arith
+one_more b None (Some w) ws us few same = omega arith
+one_more b (Some v) None ws us few (inl same) = absurd (let bad : Some v ≡ None = same in cc)
+one_more b (Some v) None ws us few (inr same) = let e : length ws ≡ length us = ap length same in omega arith
+
+set_more : (is : List BlockItem) (c v b n : ℕ) → length (writes_from (set_in (Set c v ∷ is)) b n) ≤ length (writes_from (set_in is) b n) + 1
+set_more is c v b zero = omega arith
+set_more is c v b (suc n) = one_more b (set_in (Set c v ∷ is) b) (set_in is b) (writes_from (set_in (Set c v ∷ is)) (b + 1) n) (writes_from (set_in is) (b + 1) n) (set_more is c v (b + 1) n) (⊎_elim
+  (λ here. inr (past_set is c v (b + 1) n (omega arith)))
+  (λ other. inl (let ne : c ≢ b = other in grind (arith, nat_tests)))
+  (cases_eq c b))
+
+none_written : (b n : ℕ) → length (writes_from (set_in []) b n) ≡ 0
+none_written b zero = refl
+none_written b (suc n) = none_written (b + 1) n
+
+pub length-writes_sets : (is : List BlockItem) (b n : ℕ) → length (writes_from (set_in is) b n) ≤ sets_in is
+length-writes_sets [] b n = omega (arith, none_written b n)
+length-writes_sets (Set c v ∷ is) b n = omega (arith, set_more is c v b n, length-writes_sets is b n)
+length-writes_sets (Free c ∷ is) b n = length-writes_sets is b n

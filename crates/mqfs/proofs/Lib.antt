@@ -1,3 +1,6 @@
+mod Programs
+mod Restarts
+pub mod Drives
 pub mod Ending
 pub mod Fills
 pub mod JournalItems
@@ -5,10 +8,15 @@ pub mod JournalKeeps
 pub mod JournalShows
 pub mod Lines
 pub mod Lists
+pub mod LiveBlocks
 pub mod OutsideLemmas
+pub mod RecoverChains
+pub mod RecoverCopies
+pub mod RecoverHomes
 pub mod Staging
 pub mod TextItems
 pub mod TextLines
 pub mod TextNumbers
 pub mod TextParts
+pub mod TextSteps
 pub mod TextWhole

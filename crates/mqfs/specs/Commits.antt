@@ -20,17 +20,21 @@ abbrev pub StartsBelow : ℕ → PortState → Type 0
 StartsBelow base s =
     0 < s.head → (number : ℕ) × (lba : ℕ) × (number ≤ base) × (says (slice_index_or s.flushed ((s.head - 1) % depth) []) ≡ Some (number, lba, true))
 
--- a clean drive of one queue with base 0
-pub record IsClean (g : Geometry) (queue root : PortState) : Type 0 where
+-- the queue's port of a clean drive of one queue with base 0
+pub record IsCleanQueue (g : Geometry) (queue : PortState) : Type 0 where
   pub one : g.queues ≡ 1
-  pub queue_port : IsPortOf g (Queue 0) queue
-  pub root_port : IsPortOf g Root root
-  pub queue_quiet : IsQuiet queue
-  pub root_quiet : IsQuiet root
+  pub port : IsPortOf g (Queue 0) queue
+  pub quiet : IsQuiet queue
   pub done : queue.head ≡ queue.doorbell
   pub low : queue.doorbell ≤ 2 ^ 62
-  pub base : root.base ≡ 0
   pub before : StartsBelow 0 queue
+
+-- a clean drive of one queue with base 0
+pub record IsClean (g : Geometry) (queue root : PortState) : Type 0 where
+  pub queue_clean : IsCleanQueue g queue
+  pub root_port : IsPortOf g Root root
+  pub root_quiet : IsQuiet root
+  pub base : root.base ≡ 0
 
 -- no item names a block from this one on
 abbrev pub AreBelow : ℕ → List BlockItem → Type 0

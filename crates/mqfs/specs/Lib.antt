@@ -1,7 +1,14 @@
+pub mod Blocks
 pub mod Causes
 pub mod Commits
+pub mod Fresh
 pub mod Lines
+pub mod Live
 pub mod Outside
+pub mod Program
+pub mod Recover
+pub mod RecoverCauses
+pub mod RecoverHomes
 pub mod Recovery
 pub mod Runs
 pub mod Text

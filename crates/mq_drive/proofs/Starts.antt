@@ -1,0 +1,32 @@
+-- A port that starts from an image.
+use Rattle.std.proofs.Common.{◌≡◌, ◌<◌, ◌≤◌, ℕ, ◌+◌, Bool, true, false, List, [], length, get_or, replicate, refl, sym, ◌∙◌, ap, subst, arith}
+use Rattle.std.proofs.lemmas.List.{get_or-replicate, length-replicate}
+use Rattle.mq_blocks.specs.Drive.{PortState, PortImage, IsQuiet}
+use Rattle.mq_blocks.specs.declared.geometry.Geometry.{Geometry}
+use Rattle.mq_drive.specs.Start.{IsImageOf, IsPortOf, start_of}
+use Rattle.mq_drive.specs.declared.role.Role.{Role}
+
+pub port_of-start : (g : Geometry) (role : Role) (i : PortImage) → IsImageOf g role i → IsPortOf g role (start_of g role i)
+port_of-start g role i image = record {
+  queue = refl;
+  area_first = refl;
+  area_size = refl;
+  homes_first = refl;
+  homes_size = refl;
+  flushed = image.slots;
+  staged = image.slots;
+  blocks = image.blocks;
+  sure = length-replicate (length i.blocks) true;
+  settled = λ k within flushed. refl;
+}
+
+pub quiet-start : (g : Geometry) (role : Role) (i : PortImage) → IsQuiet (start_of g role i)
+quiet-start g role i = record {
+  flushed_end = refl;
+  pending = refl;
+  posted = refl;
+  failed = refl;
+  head = refl;
+  base = refl;
+  sure = λ k within. get_or-replicate (length i.blocks) k true false (let long = length-replicate (length i.blocks) true in omega arith);
+}

@@ -1,0 +1,76 @@
+-- Two images of a drive of one queue, on which a text was committed, and their recovery.
+use Rattle.std.proofs.Common.{◌≡◌, ◌<◌, ◌≤◌, ℕ, zero, suc, ◌+◌, ◌*◌, List, [], ◌∷◌, length, inl, inr, Some, refl, sym, ◌∙◌, ap, subst, arith}
+use Rattle.std.specs.Prelude.{Result, Ok, Err}
+use Rattle.mq_nvme.specs.Says.{says}
+use Rattle.mq_blocks.specs.Drive.{PortState, PortImage, IsQuiet}
+use Rattle.mq_blocks.specs.Geometry.{homes_of}
+use Rattle.mq_blocks.specs.Journal.{shown}
+use Rattle.mq_blocks.specs.Machine.{Map}
+use Rattle.mq_blocks.specs.declared.geometry.Geometry.{Geometry}
+use Rattle.mq_drive.specs.Start.{IsImageOf, IsPortOf, start_of}
+use Rattle.mq_drive.specs.Steps.{PowerOff, HomeError}
+use Rattle.mq_drive.proofs.Starts.{port_of-start, quiet-start}
+use Rattle.mq_drive.specs.declared.role.Role.TheVariants.{Queue, Root}
+use Rattle.mqfs.specs.Commits.{AreBelow, AllBelow, ShowsMap}
+use Rattle.mqfs.specs.Fresh.{IsTextGeometry}
+use Rattle.mqfs.specs.Live.{HoldsMap}
+use Rattle.mqfs.specs.Recovery.{IsSettled, IsRecovered}
+use Rattle.mqfs.specs.RecoverCauses.{HasDriveCause, IsOfDrive, OneGains}
+use Rattle.mqfs.specs.Text.{IsGoodItem, AreGoodItems, AreGoodLines}
+use Rattle.mqfs.specs.declared.text.item.BlockItem.{BlockItem}
+use Rattle.mqfs.specs.declared.text.item.BlockItem.TheVariants.{Set, Free}
+use Rattle.mqfs.specs.declared.recovery.refusal.ImageFault.TheVariants as fault
+use Rattle.mqfs.specs.declared.recovery.refusal.RecoverRefusal.{RecoverRefusal}
+use Rattle.mqfs.specs.declared.recovery.refusal.RecoverRefusal.TheVariants.{Image, Off, Failed}
+use Rattle.mqfs.proofs.Drives.{no_gain}
+
+pub text_homes : (g : Geometry) → IsTextGeometry g → homes_of g ≡ 256
+text_homes g t =
+    let one : g.queues * g.zone ≡ 1 * g.zone = ap (λ (n : ℕ). n * g.zone) t.queues in
+    omega (arith, one, t.meta, t.zone)
+
+items_below : (homes : ℕ) (is : List BlockItem) → homes ≡ 256 → AreGoodItems is → AreBelow homes is
+items_below homes [] size good = tt
+items_below homes (Set b v ∷ is) size good = (let le : b ≤ 255 = good.0.0 in omega arith, items_below homes is size good.2)
+items_below homes (Free b ∷ is) size good = (let le : b ≤ 255 = good.0 in omega arith, items_below homes is size good.2)
+
+-- good lines name blocks below 256 alone
+pub lines_below : (homes : ℕ) (lines : List (List BlockItem)) → homes ≡ 256 → AreGoodLines lines → AllBelow homes lines
+lines_below homes [] size good = tt
+lines_below homes ([] ∷ ls) size good = absurd good.0
+lines_below homes ((i ∷ is) ∷ ls) size good = (items_below homes (i ∷ is) size good.0, lines_below homes ls size good.1)
+
+-- two ports that start from such images are settled
+pub settled_start : (g : Geometry) (q r : PortImage) (n : ℕ) (m : Map) → IsTextGeometry g → IsImageOf g (Queue 0) q → IsImageOf g Root r → ShowsMap g (shown says g (q ∷ []) r) n m
+    → IsSettled g (start_of g (Queue 0) q) (start_of g Root r)
+settled_start g q r n m text queue root shows = record {
+  one = text.queues;
+  queue_port = port_of-start g (Queue 0) q queue;
+  root_port = port_of-start g Root r root;
+  queue_quiet = quiet-start g (Queue 0) q;
+  root_quiet = quiet-start g Root r;
+  done = shows.done;
+  descriptors = shows.ds;
+  chain = shows.chain;
+  reaches = shows.reaches;
+}
+
+-- after recovery the home blocks hold the map
+pub holds_map : (g : Geometry) (q r : PortImage) (n : ℕ) (m : Map) (new_queue new_root : PortState) → IsTextGeometry g → (shows : ShowsMap g (shown says g (q ∷ []) r) n m)
+    → IsRecovered g (start_of g (Queue 0) q) (start_of g Root r) shows.ds new_queue new_root → HoldsMap g new_queue new_root m
+holds_map g q r n m new_queue new_root text shows is b v less some =
+    let below : b < homes_of g = omega (arith, text_homes g text, less) in
+    is.homes b below ∙ shows.blocks b v below some
+
+no_one_gain : {f : _} → OneGains f [] [] [] [] → ⊥
+no_one_gain {f} (inl gains) = no_gain f gains.0
+no_one_gain {f} (inr gains) = no_gain f gains.1
+
+-- over ports without faults only memory is wanting
+pub only_memory : {A : Type 0} (g : Geometry) (r : Result A RecoverRefusal) (e : RecoverRefusal) → IsOfDrive r → HasDriveCause g r [] [] [] [] → r ≡ Err e → e ≡ Image fault.OutOfMemory
+only_memory {A} g r e drive cause is = by e (subst (λ (x : Result A RecoverRefusal). IsOfDrive x) is drive) (subst (λ (x : Result A RecoverRefusal). HasDriveCause g x [] [] [] []) is cause)
+  where
+    by : (e : RecoverRefusal) → IsOfDrive {A = A} (Err e) → HasDriveCause {A = A} g (Err e) [] [] [] [] → e ≡ Image fault.OutOfMemory
+    by (Image c) drive cause = ap Image drive
+    by Off drive cause = absurd (no_one_gain cause)
+    by (Failed block status) drive cause = absurd (no_one_gain cause)

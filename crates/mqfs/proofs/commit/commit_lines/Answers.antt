@@ -1,0 +1,89 @@
+use Rattle.std.proofs.Common.{rules, ◌≡◌, ◌<◌, ◌≤◌, ℕ, ◌+◌, ◌-◌, List, [], ◌∷◌, length, get_or, refl, sym, ◌∙◌, ap, subst, arith}
+use Rattle.std.specs.VecDeque.{deque_len}
+use Rattle.mq_blocks.specs.Drive.{PortState}
+use Rattle.mqfs.specs.Runs.{Items}
+use Rattle.mqfs.proofs.TextSteps.{Lines, SoFar, Turn, none_yet, finished, places_many, line_turn, line_more, some_items, good_line, low_next}
+use Rattle.mqfs.proofs.commit.commit_lines.Goals as goal
+
+pub loop-line-init : goal.loop-line-init
+loop-line-init g c = record {
+  number = refl;
+  so_far = none_yet c.args.geometry (g.P.Port.state c.args.queue.now) c.args.text.now c.requires.clean c.requires.good c.requires.below;
+  no_fault = refl;
+}
+
+pub loop-line-preserved : goal.loop-line-preserved
+loop-line-preserved g c =
+    let state = g.P.Port.state in
+    let inv = c.loop-line.invariant in
+    let xs : Lines = c.deref-line-items.result.now in
+    let same : xs ≡ c.args.text.now = c.deref-line-items.ensures.value ∙ c.text.view_is in
+    let items : Items = c.in_ok-items.items.items in
+    let len : deque_len c.in_ok-items.items ≡ length items = search rules in
+    record {
+      number = omega (arith, inv.number);
+      so_far = line_more c.args.geometry (state c.args.queue.now) (state c.loop-line.queue) c.args.text.now xs c.loop-line.line-index c.loop-line.number c.loop-line.next c.loop-line.last inv.so_far
+          c.requires.clean c.requires.good same c.loop-line-test.true c.line-item.result c.line-item.is inv.number items (state c.commit_line.new.port) c.len-count.result
+          c.in_ok-items.ensures c.in_ok-commit_line.ensures.ok (c.len-count.ensures ∙ len);
+      no_fault = c.in_ok-commit_line.ensures.cause ∙ inv.no_fault;
+    }
+
+pub commit_line-requires-clause-room : goal.commit_line-requires-clause-room
+commit_line-requires-clause-room g c =
+    let state = g.P.Port.state in
+    let inv = c.loop-line.invariant in
+    let xs : Lines = c.deref-line-items.result.now in
+    let same : xs ≡ c.args.text.now = c.deref-line-items.ensures.value ∙ c.text.view_is in
+    (line_turn c.args.geometry (state c.args.queue.now) (state c.loop-line.queue) c.args.text.now xs c.loop-line.line-index c.loop-line.number c.loop-line.next c.loop-line.last inv.so_far
+      c.requires.clean c.requires.good same c.loop-line-test.true c.line-item.result c.line-item.is inv.number c.in_ok-items.items.items c.in_ok-items.ensures).room
+
+pub commit_line-requires-clause-end : goal.commit_line-requires-clause-end
+commit_line-requires-clause-end g c =
+    let state = g.P.Port.state in
+    let inv = c.loop-line.invariant in
+    let xs : Lines = c.deref-line-items.result.now in
+    let same : xs ≡ c.args.text.now = c.deref-line-items.ensures.value ∙ c.text.view_is in
+    (line_turn c.args.geometry (state c.args.queue.now) (state c.loop-line.queue) c.args.text.now xs c.loop-line.line-index c.loop-line.number c.loop-line.next c.loop-line.last inv.so_far
+      c.requires.clean c.requires.good same c.loop-line-test.true c.line-item.result c.line-item.is inv.number c.in_ok-items.items.items c.in_ok-items.ensures).end
+
+pub commit_line-requires-clause-own : goal.commit_line-requires-clause-own
+commit_line-requires-clause-own g c =
+    let state = g.P.Port.state in
+    let inv = c.loop-line.invariant in
+    let xs : Lines = c.deref-line-items.result.now in
+    let same : xs ≡ c.args.text.now = c.deref-line-items.ensures.value ∙ c.text.view_is in
+    (line_turn c.args.geometry (state c.args.queue.now) (state c.loop-line.queue) c.args.text.now xs c.loop-line.line-index c.loop-line.number c.loop-line.next c.loop-line.last inv.so_far
+      c.requires.clean c.requires.good same c.loop-line-test.true c.line-item.result c.line-item.is inv.number c.in_ok-items.items.items c.in_ok-items.ensures).own
+
+pub commit_line-requires-clause-distinct : goal.commit_line-requires-clause-distinct
+commit_line-requires-clause-distinct g c =
+    let state = g.P.Port.state in
+    let inv = c.loop-line.invariant in
+    let xs : Lines = c.deref-line-items.result.now in
+    let same : xs ≡ c.args.text.now = c.deref-line-items.ensures.value ∙ c.text.view_is in
+    (line_turn c.args.geometry (state c.args.queue.now) (state c.loop-line.queue) c.args.text.now xs c.loop-line.line-index c.loop-line.number c.loop-line.next c.loop-line.last inv.so_far
+      c.requires.clean c.requires.good same c.loop-line-test.true c.line-item.result c.line-item.is inv.number c.in_ok-items.items.items c.in_ok-items.ensures).distinct
+
+pub overflow_sub-last : goal.overflow_sub-last
+overflow_sub-last g c =
+    let state = g.P.Port.state in
+    let inv = c.loop-line.invariant in
+    let xs : Lines = c.deref-line-items.result.now in
+    let same : xs ≡ c.args.text.now = c.deref-line-items.ensures.value ∙ c.text.view_is in
+    let items : Items = c.in_ok-items.items.items in
+    let len : c.len-count.result ≡ length items = search rules in
+    let some = some_items c.args.geometry (state c.args.queue.now) (state c.loop-line.queue) c.args.text.now xs c.loop-line.line-index c.loop-line.number c.loop-line.next c.loop-line.last inv.so_far
+      c.requires.clean c.requires.good same c.loop-line-test.true c.line-item.result c.line-item.is inv.number items c.in_ok-items.ensures in
+    omega (arith, some, len)
+
+pub returns-clause-ok : goal.returns-clause-ok
+returns-clause-ok g c =
+    let state = g.P.Port.state in
+    let xs : Lines = c.deref-line-items.result.now in
+    let lines : Lines = c.args.text.now in
+    let same : xs ≡ lines = c.deref-line-items.ensures.value ∙ c.text.view_is in
+    let len : length xs ≡ length lines = ap length same in
+    let all : c.loop-line.line-index ≡ length lines = omega (arith, len) in
+    λ q r image base.
+    finished c.args.geometry (state c.args.queue.now) (state c.loop-line.queue) (state c.args.queue.now) lines c.loop-line.line-index c.loop-line.next c.loop-line.last c.loop-line.invariant.so_far
+      c.requires.clean.one c.requires.clean.low (omega (arith, places_many lines, c.requires.good.1)) all q r image base

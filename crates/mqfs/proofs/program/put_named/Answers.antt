@@ -1,0 +1,17 @@
+use Rattle.std.proofs.Common.{rules, ◌≡◌, ℕ, List, [], ◌∷◌, ◌++◌, Option, sym, ◌∙◌, ap, append_assoc}
+use Rattle.mqfs.specs.Outside.{AppendsPrefix, appended}
+use Rattle.mqfs.proofs.Programs.{match_result, appended_twice, prefix_next, prefix_longer}
+use Rattle.mqfs.proofs.program.put_named.Goals as goal
+
+pub returns-in_err-put_all-2-clause-wrote : goal.returns-in_err-put_all-2-clause-wrote
+returns-in_err-put_all-2-clause-wrote g c = ?
+
+pub returns-clause-wrote : goal.returns-clause-wrote
+returns-clause-wrote g c =
+    let first : g.K.Sink.contents c.put_all.new.sink ≡ appended (g.K.Sink.contents c.args.out.now) c.args.first.now = c.in_ok-put_all.ensures.wrote in
+    let second : g.K.Sink.contents c.put_all-2.new.sink ≡ appended (g.K.Sink.contents c.put_all.new.sink) c.args.name.now = c.in_ok-put_all-2.ensures.wrote in
+    match_result c.put_all-3.result c.put_all-3.ensures.wrote
+      (λ x is. is ∙ ap (λ (o : Option (List ℕ)). appended o (10 ∷ [])) second ∙ appended_twice (g.K.Sink.contents c.put_all.new.sink) c.args.name.now (10 ∷ [])
+        ∙ ap (λ (o : Option (List ℕ)). appended o (c.args.name.now ++ 10 ∷ [])) first ∙ appended_twice (g.K.Sink.contents c.args.out.now) c.args.first.now (c.args.name.now ++ 10 ∷ []))
+      (λ e prefix. prefix_next (g.K.Sink.contents c.args.out.now) (g.K.Sink.contents c.put_all.new.sink) (g.K.Sink.contents c.put_all-3.new.sink) c.args.first.now (c.args.name.now ++ 10 ∷ []) first
+        (prefix_next (g.K.Sink.contents c.put_all.new.sink) (g.K.Sink.contents c.put_all-2.new.sink) (g.K.Sink.contents c.put_all-3.new.sink) c.args.name.now (10 ∷ []) second prefix))

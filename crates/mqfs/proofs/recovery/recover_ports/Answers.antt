@@ -1,0 +1,30 @@
+use Rattle.std.proofs.Common.{◌≡◌, ◌⊎◌, ⊎_elim, ℕ, List, sym, ◌∙◌, ap, subst}
+use Rattle.mq_blocks.specs.Drive.{PortState, IsQuiet}
+use Rattle.mq_blocks.specs.Journal.{IsQueueChain}
+use Rattle.mqfs.specs.Recovery.{view_of}
+use Rattle.mqfs.specs.Recover.{IsSeenAt}
+use Rattle.mqfs.proofs.RecoverHomes.{seen-view, recovered-of, base-low}
+use Rattle.mqfs.proofs.recovery.recover_ports.Goals as goal
+
+-- the root's port is quiet, so that its base is one
+base-of : (n : ℕ) (s : PortState) → IsQuiet s → (n ≡ s.base) ⊎ (n ≡ s.stored_base) → n ≡ s.base
+base-of n s quiet is = ⊎_elim (λ h. h) (λ h. h ∙ quiet.base) is
+
+pub raise_base-requires-clause-low : goal.raise_base-requires-clause-low
+raise_base-requires-clause-low g c =
+    let queue : PortState = g.P.Port.state c.args.queue.now in
+    let root : PortState = g.P.Port.state c.args.root.now in
+    let base_was : c.base.result ≡ root.base = base-of c.base.result root c.requires.root_quiet c.base.ensures in
+    let seen : IsSeenAt 0 c.base.result queue (view_of c.args.geometry queue root) = subst (λ (n : ℕ). IsSeenAt 0 n queue (view_of c.args.geometry queue root)) (sym base_was) (seen-view c.args.geometry queue root) in
+    let planned = c.in_ok-plan.ensures.ok (view_of c.args.geometry queue root) c.requires.descriptors seen c.requires.chain in
+    base-low c.args.geometry queue root (g.P.Port.state c.write_homes.new.root) c.base.result c.requires.descriptors c.in_ok-plan.plan base_was planned c.in_ok-write_homes.ensures.ok.root_is
+
+pub returns-clause-ok : goal.returns-clause-ok
+returns-clause-ok g c ds reaches chain =
+    let queue : PortState = g.P.Port.state c.args.queue.now in
+    let root : PortState = g.P.Port.state c.args.root.now in
+    let base_was : c.base.result ≡ root.base = base-of c.base.result root c.requires.root_quiet c.base.ensures in
+    let seen : IsSeenAt 0 c.base.result queue (view_of c.args.geometry queue root) = subst (λ (n : ℕ). IsSeenAt 0 n queue (view_of c.args.geometry queue root)) (sym base_was) (seen-view c.args.geometry queue root) in
+    let planned = c.in_ok-plan.ensures.ok (view_of c.args.geometry queue root) ds seen chain in
+    recovered-of c.args.geometry queue root (g.P.Port.state c.write_homes.new.queue) (g.P.Port.state c.write_homes.new.root) (g.P.Port.state c.raise_base.new.root) c.base.result ds c.in_ok-plan.plan
+    c.requires base_was chain planned c.in_ok-write_homes.ensures.ok c.in_ok-raise_base.ensures.ok

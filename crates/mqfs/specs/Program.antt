@@ -1,0 +1,101 @@
+-- What the words of a command ask, what is said of it, and with which status it ends.
+use Rattle.std.specs.Prelude.{◌≡◌, ◌<◌, ◌≤◌, ◌⊎◌, ℕ, ◌+◌, List, [], ◌∷◌, ◌++◌, Option, nat_eq, if◌then◌else◌, codes}
+use Rattle.mqfs.specs.Blocks.{IsBlockText, output_of}
+use Rattle.mqfs.specs.Outside.{Held, Holds, HoldsOver, Rose, appended, AppendsPrefix, count_end, load_limit}
+use Rattle.mqfs.specs.declared.text.item.BlockItem.{BlockItem}
+use Rattle.mqfs.specs.declared.text.refusal.BlockTextRefusal.{BlockTextRefusal}
+use Rattle.mqfs.specs.declared.text.refusal.BlockTextRefusal.TheVariants.{Form, OutOfMemory}
+
+-- the words after the program's name
+abbrev pub Words : Type 0
+Words = List (List ℕ)
+
+-- the words are `blocks` and this name
+abbrev pub AreBlocks : Words → List ℕ → Type 0
+AreBlocks words name = words ≡ codes "blocks" ∷ name ∷ []
+
+-- the words are no command
+abbrev pub AreUnknown : Words → Type 0
+AreUnknown words = (name : List ℕ) → AreBlocks words name → ⊥
+
+-- ---- the lines that are no output
+
+abbrev pub usage_line : List ℕ
+usage_line = codes "usage: mqfs blocks|format|run|recover|ls|cat|gen|dump\n"
+
+abbrev pub form_line : List ℕ
+form_line = codes "blocks Form\n"
+
+abbrev pub memory_line : List ℕ
+memory_line = codes "memory\n"
+
+-- a word and a name, as `fault load t`
+abbrev pub named_line : List ℕ → List ℕ → List ℕ
+named_line first name = first ++ name ++ 10 ∷ []
+
+abbrev pub fault_line : List ℕ → List ℕ
+fault_line name = named_line (codes "fault load ") name
+
+abbrev pub too_long_line : List ℕ → List ℕ
+too_long_line name = named_line (codes "too long ") name
+
+-- ---- what a command comes to
+
+-- the loads took at most what one load gives
+abbrev pub TakesWithin : ℕ → ℕ → Type 0
+TakesWithin old new = (old ≤ new) × (new ≤ old + load_limit)
+
+-- the loads took more than what one load gives, or the count stands at its end
+abbrev pub TakesOver : ℕ → ℕ → Type 0
+TakesOver old new = (old + load_limit < new) ⊎ (new ≡ count_end)
+
+-- the bytes spell no text that is in the form and frees no block
+abbrev pub HasNoForm : List ℕ → Type 0
+HasNoForm bytes = (lines : List (List BlockItem)) → IsBlockText bytes lines → ⊥
+
+-- what there is to say
+pub data Said : Type 0 where
+  usage : Said
+  output : List (List BlockItem) → Said
+  form : Said
+  fault : Said
+  too_long : Said
+  memory : Said
+
+abbrev pub status_of : Said → ℕ
+status_of usage = 1
+status_of (output lines) = 0
+status_of form = 2
+status_of fault = 4
+status_of too_long = 4
+status_of memory = 6
+
+abbrev pub text_of : List ℕ → Said → List ℕ
+text_of name usage = usage_line
+text_of name (output lines) = output_of lines
+text_of name form = form_line
+text_of name fault = fault_line name
+text_of name too_long = too_long_line name
+text_of name memory = memory_line
+
+-- what is said of `blocks NAME`, by what the name holds and by the counts of the files
+abbrev pub IsSaidOf : Said → Option Held → (name : List ℕ) → (faults new_faults taken new_taken : ℕ) → Type 0
+IsSaidOf usage told name faults new_faults taken new_taken = ⊥
+IsSaidOf (output lines) told name faults new_faults taken new_taken = (bytes : List ℕ) × Holds told name bytes × IsBlockText bytes lines × (new_faults ≡ faults) × TakesWithin taken new_taken
+IsSaidOf form told name faults new_faults taken new_taken = (bytes : List ℕ) × Holds told name bytes × HasNoForm bytes × (new_faults ≡ faults) × TakesWithin taken new_taken
+IsSaidOf fault told name faults new_faults taken new_taken = Rose faults new_faults
+IsSaidOf too_long told name faults new_faults taken new_taken = HoldsOver told name × (new_faults ≡ faults) × TakesOver taken new_taken
+IsSaidOf memory told name faults new_faults taken new_taken = new_faults ≡ faults
+
+-- A text was to be said with a status. It was, or the sink failed, or memory was wanting, which
+-- doesn't go before 4.
+abbrev pub EndsWith : (status : ℕ) (text : List ℕ) (result : ℕ) (contents new_contents : Option (List ℕ)) (faults new_faults : ℕ) → Type 0
+EndsWith status text result contents new_contents faults new_faults =
+    ((result ≡ status) × (new_contents ≡ appended contents text) × (new_faults ≡ faults))
+    ⊎ (((result ≡ 4) × AppendsPrefix contents new_contents text × Rose faults new_faults)
+      ⊎ ((result ≡ if nat_eq status 4 then 4 else 6) × AppendsPrefix contents new_contents text × (new_faults ≡ faults)))
+
+-- what is said of a refused block text
+abbrev pub refusal_said : BlockTextRefusal → Said
+refusal_said Form = form
+refusal_said OutOfMemory = memory

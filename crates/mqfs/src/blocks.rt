@@ -1,0 +1,171 @@
+// A block text is run: committed on a fresh drive, cut from power, recovered, and printed.
+ghost use Rattle.std.specs.Prelude.{◌≡◌, ◌<◌, ◌≤◌, ◌+◌, ◌||◌, ℕ, List, [], ◌∷◌, length, IfOk, IsErrOf, Some, None, is_some, slice_get, slice_index_or};
+ghost use Rattle.mq_blocks.specs.Drive.{PortImage as CutImage};
+ghost use Rattle.mq_blocks.specs.Geometry.{homes_of};
+ghost use Rattle.mq_blocks.specs.Journal.{shown};
+ghost use Rattle.mq_nvme.specs.Says.{says};
+ghost use Rattle.mq_blocks.specs.Drive.{IsQuiet};
+ghost use Rattle.mq_blocks.specs.Machine.{Map};
+ghost use Rattle.mq_drive.specs.Start.{IsRole, IsImageOf, IsPortOf, area_size_of, homes_size_of};
+ghost use Rattle.mq_drive.specs.Emu.{emu_state};
+ghost use Rattle.mq_drive.specs.Roles.{slots_of};
+ghost use Rattle.mq_drive.specs.declared.role.Role.TheVariants.{Queue, Root};
+ghost use Rattle.mqfs.specs.Commits.{AllBelow, ShowsMap};
+ghost use Rattle.mqfs.specs.Fresh.{IsTextGeometry, IsFresh};
+ghost use Rattle.mqfs.specs.Lines.{map_after, set_in};
+ghost use Rattle.mqfs.specs.Text.{HasSetsOnly, IsGoodText};
+ghost use Rattle.mqfs.specs.Blocks.{IsBlockText, output_of};
+ghost use Rattle.mqfs.specs.Live.{HoldsMap};
+
+use crate::commit::{TextRefusal, commit_text};
+use crate::live::{live_blocks, live_marks};
+use crate::recovery::{ImageFault, RecoverRefusal, recover_ports};
+use crate::text::{BlockItem, BlockText, BlockTextRefusal, print_blocks, read_block_text};
+use mq_blocks::{Block, Geometry, OutOfMemory, QueueNo};
+use mq_drive::{EmuPort, PortImage, Ports, Role};
+use mq_nvme::Entry;
+use std::alloc::Global;
+
+/// The geometry of block texts: one queue with the smallest journal area, and 256 home blocks.
+pub fn text_geometry() -> Geometry
+    ensures { IsTextGeometry result }
+{
+    match Geometry::new(1, 1024, 16, 240) {
+        Ok(geometry) => geometry,
+        Err(_) => unreachable!(),
+    }
+}
+
+// So many blocks of zeros.
+fn absent_blocks(alloc: Global, count: u32) -> Result<Vec<Option<Block>>, OutOfMemory>
+    ensures { IfOk result (λ v. (length v.items ≡ count) × ((k : ℕ) → slice_index_or v.items k None ≡ None)) }
+{
+    let mut blocks = Vec::with_capacity(alloc, count as usize)?;
+    for b in 0..count {
+        let _index = b;
+        blocks.push(None)?;
+    }
+    Ok(blocks)
+}
+
+// The slots and the blocks of a role.
+fn sizes(geometry: Geometry, role: Role) -> (usize, u32)
+    ensures slots { result.0 ≡ slots_of role }
+    ensures blocks { result.1 ≡ area_size_of geometry role + homes_size_of geometry role }
+{
+    match role {
+        Role::Queue(_) => (1024, geometry.area() + geometry.zone()),
+        Role::Root => (0, geometry.meta()),
+    }
+}
+
+// A port of zeros.
+fn fresh_port(alloc: Global, geometry: Geometry, role: Role) -> Result<EmuPort, OutOfMemory>
+    requires { IsRole geometry role }
+    ensures { IfOk result (λ p. IsFresh geometry role (emu_state p)) }
+{
+    let (slots, count) = sizes(geometry, role);
+    let image = PortImage {
+        doorbell: 0,
+        head: 0,
+        base: 0,
+        slots: vec![in alloc; Entry::zeroed(); slots]?,
+        blocks: absent_blocks(alloc, count)?,
+    };
+    EmuPort::new(alloc, geometry, role, image)
+}
+
+// Where no port has a fault, memory is all that can be wanting.
+fn only_memory(refusal: TextRefusal) -> OutOfMemory
+    requires { refusal ≡ TextRefusal.OutOfMemory }
+{
+    match refusal {
+        TextRefusal::OutOfMemory => OutOfMemory,
+        TextRefusal::Off => unreachable!(),
+        TextRefusal::Failed { .. } => unreachable!(),
+    }
+}
+
+/// Commits a text on a fresh drive, and pulls the plug: what stays of the queue's port and of the
+/// root's.
+fn commit_fresh(
+    alloc: Global,
+    geometry: Geometry,
+    text: &BlockText,
+) -> Result<(PortImage, PortImage), OutOfMemory>
+    requires geometry { IsTextGeometry geometry }
+    requires good { IsGoodText text.now }
+    requires below { AllBelow (homes_of geometry) text.now }
+    ensures shows { IfOk result (λ r. ShowsMap geometry (shown says geometry (r.0 ∷ []) r.1) (length text.now) (map_after text.now (length text.now))) }
+    ensures queue { IfOk result (λ r. IsImageOf geometry (Queue 0) r.0) }
+    ensures root { IfOk result (λ r. IsImageOf geometry Root r.1) }
+{
+    let mut queues = Vec::with_capacity(alloc, 1)?;
+    queues.push(fresh_port(alloc, geometry, Role::Queue(QueueNo(0)))?)?;
+    let root = fresh_port(alloc, geometry, Role::Root)?;
+    let (ports, answer) = commit_text(alloc, geometry, Ports { queues, root }, text);
+    let Ports { mut queues, root } = ports;
+    let queue = queues.remove(0);
+    match answer {
+        Ok(()) => Ok((queue.cut(), root.cut())),
+        Err(refusal) => Err(only_memory(refusal)),
+    }
+}
+
+// Where no port has a fault and the image is readable, memory is all that can be wanting.
+fn only_image(refusal: RecoverRefusal) -> OutOfMemory
+    requires { refusal ≡ RecoverRefusal.Image ImageFault.OutOfMemory }
+{
+    match refusal {
+        RecoverRefusal::Image(ImageFault::OutOfMemory) => OutOfMemory,
+        RecoverRefusal::Image(ImageFault::Bad { .. }) => unreachable!(),
+        RecoverRefusal::Image(ImageFault::Limit { .. }) => unreachable!(),
+        RecoverRefusal::Off => unreachable!(),
+        RecoverRefusal::Failed { .. } => unreachable!(),
+    }
+}
+
+/// Recovers what stayed of two ports: how many transactions stand, the queue's port and the root's.
+fn recover_images(
+    alloc: Global,
+    geometry: Geometry,
+    images: (PortImage, PortImage),
+) -> Result<(u64, EmuPort, EmuPort), OutOfMemory>
+    requires geometry { IsTextGeometry geometry }
+    requires queue { IsImageOf geometry (Queue 0) images.0 }
+    requires root { IsImageOf geometry Root images.1 }
+    requires shows { (n : ℕ) × (m : Map) × ShowsMap geometry (shown says geometry (images.0 ∷ []) images.1) n m }
+    ensures shows { IfOk result (λ r. (n : ℕ) (m : Map) → ShowsMap geometry (shown says geometry (images.0 ∷ []) images.1) n m → (r.0 ≡ n) × HoldsMap geometry (emu_state r.1) (emu_state r.2) m) }
+    ensures queue { IfOk result (λ r. IsPortOf geometry (Queue 0) (emu_state r.1) × IsQuiet (emu_state r.1)) }
+    ensures root { IfOk result (λ r. IsPortOf geometry Root (emu_state r.2) × IsQuiet (emu_state r.2)) }
+{
+    let mut queue = EmuPort::new(alloc, geometry, Role::Queue(QueueNo(0)), images.0)?;
+    let mut root = EmuPort::new(alloc, geometry, Role::Root, images.1)?;
+    match recover_ports(alloc, geometry, &mut queue, &mut root) {
+        Ok(recovered) => Ok((recovered.prefix, queue, root)),
+        Err(refusal) => Err(only_image(refusal)),
+    }
+}
+
+/// Commits a text on a fresh drive, pulls the plug, recovers, and prints what stands.
+fn run_text(alloc: Global, text: &BlockText) -> Result<Vec<u8>, OutOfMemory>
+    requires good { IsGoodText text.now }
+    requires sets { HasSetsOnly text.now }
+    ensures { IfOk result (λ v. v.items ≡ output_of text.now) }
+{
+    let geometry = text_geometry();
+    let images = commit_fresh(alloc, geometry, text)?;
+    let (prefix, queue, root) = recover_images(alloc, geometry, images)?;
+    let marks = live_marks(alloc, text)?;
+    let live = live_blocks(alloc, geometry, &queue, &root, &marks)?;
+    print_blocks(alloc, prefix, &live)
+}
+
+/// What `mqfs blocks` prints of the bytes of a block text.
+pub fn blocks_output(alloc: Global, bytes: &[u8]) -> Result<Vec<u8>, BlockTextRefusal>
+    ensures ok { IfOk result (λ v. (lines : List (List BlockItem)) × IsBlockText bytes.now lines × (v.items ≡ output_of lines)) }
+    ensures form { IsErrOf result BlockTextRefusal.Form → (lines : List (List BlockItem)) → IsBlockText bytes.now lines → ⊥ }
+{
+    let text = read_block_text(alloc, bytes)?;
+    Ok(run_text(alloc, &text)?)
+}

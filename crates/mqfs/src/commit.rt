@@ -1,0 +1,103 @@
+// A block text is committed, each line as one transaction of the one queue.
+ghost use Rattle.std.specs.Prelude.{◌≡◌, ◌<◌, ◌≤◌, ◌+◌, ◌^◌, ℕ, List, length, OnOk, Some, slice_get, [], ◌∷◌};
+ghost use Rattle.mq_blocks.specs.Drive.{PortState, PortImage, IsImage, counted};
+ghost use Rattle.mq_blocks.specs.Geometry.{homes_of};
+ghost use Rattle.mq_blocks.specs.Journal.{shown};
+ghost use Rattle.mq_nvme.specs.Says.{says};
+ghost use Rattle.mq_drive.specs.Start.{IsPortOf};
+ghost use Rattle.mq_drive.specs.declared.role.Role.TheVariants.{Queue};
+ghost use Rattle.mqfs.specs.Causes.{HasTextCause};
+ghost use Rattle.mqfs.specs.Commits.{IsClean, IsCleanQueue, AllBelow, ShowsMap, ShowsLines};
+ghost use Rattle.mqfs.specs.Lines.{map_after};
+ghost use Rattle.mqfs.specs.Text.{IsGoodText};
+
+use crate::items::items_of_line;
+use crate::pmr::{Refusal, commit_line};
+use crate::text::BlockText;
+use mq_blocks::{Geometry, OutOfMemory, TxNo};
+use mq_drive::{Port, Ports};
+use std::alloc::Global;
+
+/// Why a text was not committed whole.
+#[derive(Clone, Copy, Debug, PartialEq, Eq)]
+pub enum TextRefusal {
+    Off,
+    /// A command ended with an error.
+    Failed { status: u16 },
+    OutOfMemory,
+}
+
+impl From<OutOfMemory> for TextRefusal {
+    ghost use Rattle.mqfs.specs.declared.commit.TextRefusal.TheVariants as refusal;
+
+    ghost from_gives = { λ _ e. e ≡ refusal.OutOfMemory };
+
+    fn from(_: OutOfMemory) -> Self {
+        TextRefusal::OutOfMemory
+    }
+}
+
+impl From<Refusal> for TextRefusal {
+    ghost use Rattle.mqfs.specs.Causes.{text_refusal};
+
+    ghost from_gives = { λ r e. e ≡ text_refusal r };
+
+    fn from(refusal: Refusal) -> Self {
+        match refusal {
+            Refusal::Off => TextRefusal::Off,
+            Refusal::Failed { status } => TextRefusal::Failed { status },
+        }
+    }
+}
+
+/// Commits the lines in order, each drained before the next, with numbers from 1.
+pub fn commit_lines<P: Port>(
+    alloc: Global,
+    geometry: Geometry,
+    queue: &mut P,
+    text: &BlockText,
+) -> Result<(), TextRefusal>
+    requires clean { IsCleanQueue geometry (P.state queue.old) }
+    requires good { IsGoodText text.now }
+    requires below { AllBelow (homes_of geometry) text.now }
+    ensures ok { OnOk result ((q r : PortImage) → IsImage (P.state queue.new) q → r.base ≡ 0 → ShowsMap geometry (shown says geometry (q ∷ []) r) (length text.now) (map_after text.now (length text.now))) }
+    ensures rings { OnOk result ((P.state queue.new).rings ≡ counted (P.state queue.old).rings (length text.now)) }
+    ensures port { OnOk result (IsPortOf geometry (Queue 0) (P.state queue.new)) }
+    ensures cause { HasTextCause result (P.faults queue.old) (P.faults queue.new) }
+{
+    let mut number: u64 = 0;
+    let mut next: u64 = 0;
+    let mut last: u64 = 0;
+    for line in &text.0 {
+        number += 1;
+        let items = items_of_line(alloc, geometry, line, number, next, last)?;
+        let count = items.len() as u64;
+        commit_line(queue, TxNo(number), items)?;
+        next += count;
+        last = next - 1;
+    }
+    Ok(())
+}
+
+/// Commits the lines of a text through the one queue of a clean drive, and hands the ports back.
+pub fn commit_text<P: Port>(
+    alloc: Global,
+    geometry: Geometry,
+    ports: Ports<P>,
+    text: &BlockText,
+) -> (Ports<P>, Result<(), TextRefusal>)
+    requires one { length ports.queues.items ≡ 1 }
+    requires clean { (p : P) → slice_get ports.queues.items 0 ≡ Some p → IsClean geometry (P.state p) (P.state ports.root) }
+    requires good { IsGoodText text.now }
+    requires below { AllBelow (homes_of geometry) text.now }
+    ensures ok { OnOk result.1 ((p : P) → slice_get result.0.queues.items 0 ≡ Some p → ShowsLines geometry (P.state p) (P.state result.0.root) text.now (length text.now)) }
+    ensures rings { OnOk result.1 ((p q : P) → slice_get ports.queues.items 0 ≡ Some p → slice_get result.0.queues.items 0 ≡ Some q → (P.state q).rings ≡ counted (P.state p).rings (length text.now)) }
+    ensures port { OnOk result.1 ((p : P) → slice_get result.0.queues.items 0 ≡ Some p → IsPortOf geometry (Queue 0) (P.state p)) }
+    ensures cause { (p q : P) → slice_get ports.queues.items 0 ≡ Some p → slice_get result.0.queues.items 0 ≡ Some q → HasTextCause result.1 (P.faults p) (P.faults q) }
+    ensures queues { length result.0.queues.items ≡ 1 }
+    ensures root { result.0.root ≡ ports.root }
+{
+    let mut ports = ports;
+    let answer = commit_lines(alloc, geometry, &mut ports.queues[0], text);
+    (ports, answer)
+}

@@ -1,0 +1,97 @@
+// The blocks that a text leaves, and what stands on them.
+ghost use Rattle.std.specs.Prelude.{◌≡◌, ◌<◌, ◌≤◌, ◌+◌, ◌||◌, ℕ, List, length, IfOk, false, is_some, slice_index_or};
+ghost use Rattle.mq_blocks.specs.Drive.{IsQuiet};
+ghost use Rattle.mq_blocks.specs.Geometry.{homes_of};
+ghost use Rattle.mq_blocks.specs.Machine.{Map};
+ghost use Rattle.mq_drive.specs.Start.{IsPortOf};
+ghost use Rattle.mq_drive.specs.declared.role.Role.TheVariants.{Queue, Root};
+ghost use Rattle.mqfs.specs.Fresh.{IsTextGeometry};
+ghost use Rattle.mqfs.specs.Lines.{live_from, map_after, named, set_in};
+ghost use Rattle.mqfs.specs.Live.{AreMarks, HoldsMap};
+ghost use Rattle.mqfs.specs.Recovery.{view_of};
+ghost use Rattle.mqfs.specs.Text.{AreGoodItems, HasSetsOnly, IsGoodText};
+
+use crate::items::NAMED;
+use crate::text::{BlockItem, BlockLine, BlockText};
+use mq_blocks::{Block, BlockNo, Geometry, OutOfMemory};
+use mq_drive::Port;
+use std::alloc::Global;
+
+// Marks the blocks that a line sets.
+fn mark_sets(line: &BlockLine, marks: &mut Vec<bool>)
+    requires good { AreGoodItems line.now }
+    requires whole { length marks.old.items ≡ 256 }
+    ensures whole { length marks.new.items ≡ 256 }
+    ensures marks { (b : ℕ) → b < 256 → slice_index_or marks.new.items b false ≡ (is_some (set_in line.now b) || slice_index_or marks.old.items b false) }
+{
+    let items = line.0.as_slice();
+    let mut k = items.len();
+    while k > 0 {
+        k -= 1;
+        if let BlockItem::Set(block, _) = items[k] {
+            marks[block.0 as usize] = true;
+        }
+    }
+}
+
+/// For each block that texts may name, whether it is live after all lines. The lines free none.
+pub fn live_marks(alloc: Global, text: &BlockText) -> Result<Vec<bool>, OutOfMemory>
+    requires good { IsGoodText text.now }
+    requires sets { HasSetsOnly text.now }
+    ensures { IfOk result (λ v. (length v.items ≡ 256) × AreMarks (map_after text.now (length text.now)) v.items) }
+{
+    let mut marks = vec![in alloc; false; NAMED]?;
+    for line in &text.0 {
+        mark_sets(line, &mut marks);
+    }
+    Ok(marks)
+}
+
+// A home block, through the port that has it.
+fn read_home<P: Port>(geometry: Geometry, queue: &P, root: &P, b: BlockNo, into: &mut Block)
+    requires one { geometry.queues ≡ 1 }
+    requires queue { IsPortOf geometry (Queue 0) (P.state queue.now) }
+    requires root { IsPortOf geometry Root (P.state root.now) }
+    requires queue_quiet { IsQuiet (P.state queue.now) }
+    requires root_quiet { IsQuiet (P.state root.now) }
+    requires within { b < homes_of geometry }
+    ensures { into.new ≡ (view_of geometry (P.state queue.now) (P.state root.now)).home b }
+{
+    let lba = geometry.home(b);
+    if b.0 < geometry.meta() {
+        root.read_block(lba, into);
+    } else {
+        queue.read_block(lba, into);
+    }
+}
+
+/// The live blocks by rising number, each with the first byte of its home block.
+pub fn live_blocks<P: Port>(
+    alloc: Global,
+    geometry: Geometry,
+    queue: &P,
+    root: &P,
+    marks: &[bool],
+) -> Result<Vec<(BlockNo, u8)>, OutOfMemory>
+    requires geometry { IsTextGeometry geometry }
+    requires queue { IsPortOf geometry (Queue 0) (P.state queue.now) }
+    requires root { IsPortOf geometry Root (P.state root.now) }
+    requires queue_quiet { IsQuiet (P.state queue.now) }
+    requires root_quiet { IsQuiet (P.state root.now) }
+    requires marks { length marks.now ≡ 256 }
+    ensures { IfOk result (λ v. (m : Map) → AreMarks m marks.now → HoldsMap geometry (P.state queue.now) (P.state root.now) m → v.items ≡ live_from m 0 named) }
+{
+    let mut live = Vec::new(alloc);
+    let mut block = Block::zeroed(alloc)?;
+    for b in 0..NAMED {
+        match marks[b] {
+            false => {}
+            true => {
+                let number = BlockNo(b as u32);
+                read_home(geometry, queue, root, number, &mut block);
+                live.push((number, block.bytes()[0]))?;
+            }
+        }
+    }
+    Ok(live)
+}
