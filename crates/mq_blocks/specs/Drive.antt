@@ -3,7 +3,7 @@
 -- A port is one queue's part of the drive, or the root's: submission queue, doorbell and head in the
 -- persistent memory region (NVM Express 1.4, "Persistent Memory Region"; Liao et al., SOSP 2021), the
 -- queue's journal area and its home blocks. Counts and places are absolute and never wrap.
-use Rattle.std.specs.Prelude.{◌≡◌, ◌≢◌, ◌⊎◌, ◌<◌, ◌≤◌, ℕ, ◌+◌, ◌-◌, ◌%◌, ◌^◌, zero, suc, min, Bool, true, false, List, [], ◌∷◌, ◌++◌, length, Option, Some, None, slice_index_or, slice_set, nat_lt, nat_eq, if◌then◌else◌}
+use Rattle.std.specs.Prelude.{◌≡◌, ◌≢◌, ◌⊎◌, ◌<◌, ◌≤◌, ℕ, ◌+◌, ◌-◌, ◌%◌, ◌^◌, zero, suc, min, Bool, true, false, List, [], ◌∷◌, ◌++◌, length, Option, Some, slice_index_or, slice_set, nat_lt, nat_eq, if◌then◌else◌}
 use Rattle.std.specs.Coded.{×_prop, Unit-prop, le_prop}
 use Rattle.std.specs.List.{remove}
 use Rattle.mq_blocks.specs.Blocks.{block_at}

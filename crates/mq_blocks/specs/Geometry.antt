@@ -1,6 +1,6 @@
 -- Where blocks lie on namespace 1: the journal areas of the queues first, then the home blocks,
 -- which are the metadata region and then one zone for each queue.
-use Rattle.std.specs.Prelude.{◌≡◌, ◌<◌, ◌≤◌, ℕ, ◌+◌, ◌-◌, ◌*◌, ◌/◌, ◌%◌, Option, Some, None, nat_lt, if◌then◌else◌}
+use Rattle.std.specs.Prelude.{◌≤◌, ℕ, ◌+◌, ◌-◌, ◌*◌, ◌/◌, ◌%◌, Option, Some, None, nat_lt, if◌then◌else◌}
 use Rattle.mq_blocks.specs.declared.geometry.Geometry.{Geometry}
 
 abbrev pub IsQueues : ℕ → Type 0

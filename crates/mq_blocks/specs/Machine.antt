@@ -1,5 +1,5 @@
 -- Maps of home blocks, transactions, and what a list of transactions makes of a map.
-use Rattle.std.specs.Prelude.{◌≡◌, ◌<◌, ℕ, ◌+◌, Bool, true, false, List, [], ◌∷◌, length, Option, Some, None, nat_eq, if◌then◌else◌, map, All, is_some}
+use Rattle.std.specs.Prelude.{◌≡◌, ℕ, Bool, true, List, [], ◌∷◌, length, Option, Some, None, nat_eq, if◌then◌else◌, map, All, is_some}
 use Rattle.mq_blocks.specs.Descriptor.{AreRising, AreApart}
 use Rattle.mq_blocks.specs.Journal.{is_among}
 

@@ -136,7 +136,7 @@ impl EmuPort {
 
 impl EmuPort {
     ghost use Rattle.mq_drive.specs.Emu.{emu_state};
-    ghost use Rattle.mq_blocks.specs.Drive.{IsImage};
+    ghost use Rattle.mq_blocks.specs.Drive.{IsImage, image_of};
     ghost use Rattle.mq_blocks.specs.declared.geometry.Geometry as geometry;
     ghost use Rattle.mq_drive.specs.Roles.{role_of};
     ghost use Rattle.mq_drive.specs.Start.{IsPortOf, IsImageOf};
@@ -144,6 +144,7 @@ impl EmuPort {
     /// What a cut of the power leaves: flushed slots and words, and blocks as last completed.
     pub fn cut(self) -> PortImage
         ensures image { IsImage (emu_state self) result }
+        ensures is { result ≡ image_of (emu_state self) }
         ensures role { (g : geometry.Geometry) → IsPortOf g (role_of (emu_state self).queue) (emu_state self) → IsImageOf g (role_of (emu_state self).queue) result }
     {
         let EmuPort {

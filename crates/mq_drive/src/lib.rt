@@ -6,6 +6,8 @@ mod image;
 mod port;
 mod role;
 mod store;
+#[cfg(test)]
+mod tests;
 
 pub use emu::EmuPort;
 pub use image::PortImage;
