@@ -99,3 +99,34 @@ EndsWith status text result contents new_contents faults new_faults =
 abbrev pub refusal_said : BlockTextRefusal → Said
 refusal_said Form = form
 refusal_said OutOfMemory = memory
+
+-- what there is to say to the words, and with which status, by the counts of the files
+abbrev pub IsToSay : Words → Option Held → (faults new_faults taken new_taken status : ℕ) → List ℕ → Type 0
+IsToSay words told faults new_faults taken new_taken status text =
+    (AreUnknown words × (status ≡ 1) × (text ≡ usage_line) × (new_faults ≡ faults) × (new_taken ≡ taken))
+    ⊎ ((name : List ℕ) × (said : Said) × AreBlocks words name × IsSaidOf said told name faults new_faults taken new_taken × (status ≡ status_of said) × (text ≡ text_of name said))
+
+-- ---- what each status tells
+
+-- the status is one of these
+abbrev pub IsStatus : ℕ → Type 0
+IsStatus s = (s ≡ 0) ⊎ ((s ≡ 1) ⊎ ((s ≡ 2) ⊎ ((s ≡ 4) ⊎ (s ≡ 6))))
+
+-- the status is this one, or a fault or want of memory went before it
+abbrev pub IsUnlessWanting : ℕ → ℕ → Type 0
+IsUnlessWanting s result = (result ≡ s) ⊎ ((result ≡ 4) ⊎ (result ≡ 6))
+
+-- The words are `blocks` and a name, which holds a text in the form. All its output was said.
+abbrev pub IsDone : Words → Option Held → (contents new_contents : Option (List ℕ)) → Type 0
+IsDone words told contents new_contents =
+    (name : List ℕ) × (bytes : List ℕ) × (lines : List (List BlockItem)) × AreBlocks words name × Holds told name bytes × IsBlockText bytes lines × (new_contents ≡ appended contents (output_of lines))
+
+-- The words are `blocks` and a name, which holds no text in the form. The line of that was said.
+abbrev pub IsNoForm : Words → Option Held → (contents new_contents : Option (List ℕ)) → Type 0
+IsNoForm words told contents new_contents =
+    (name : List ℕ) × (bytes : List ℕ) × AreBlocks words name × Holds told name bytes × HasNoForm bytes × (new_contents ≡ appended contents form_line)
+
+-- some of the text that there was to say was said
+abbrev pub SaysPart : Words → Option Held → (faults new_faults taken new_taken : ℕ) → (contents new_contents : Option (List ℕ)) → Type 0
+SaysPart words told faults new_faults taken new_taken contents new_contents =
+    (status : ℕ) × (text : List ℕ) × IsToSay words told faults new_faults taken new_taken status text × AppendsPrefix contents new_contents text

@@ -16,6 +16,7 @@ pub use outside::{
     Files, LOAD_LIMIT, LoadRefusal, MemFiles, MemSink, PutRefusal, RealFiles, RealSink,
     SaveRefusal, Sink, SureFiles, SureSink, put_all,
 };
+pub use program::mqfs;
 pub use recovery::{
     Chain, ChainRefusal, ImageFault, RecoverRefusal, Recovered, read_chain, recover, recover_ports,
 };

@@ -1,13 +1,13 @@
 // The words of a command, and what is said of it.
-ghost use Rattle.std.specs.Prelude.{◌≡◌, ◌≢◌, ◌⊎◌, ◌++◌, ◌∷◌, [], ℕ, List, IfOk, IsErrOf, MatchResult, map, nat_eq, if◌then◌else◌};
+ghost use Rattle.std.specs.Prelude.{◌≡◌, ◌≢◌, ◌⊎◌, ◌++◌, ◌∷◌, [], ℕ, List, IfOk, IsErrOf, MatchResult, Some, map, nat_eq, if◌then◌else◌};
 ghost use Rattle.std.specs.String.{string_bytes};
 ghost use Rattle.mqfs.specs.Blocks.{IsBlockText, output_of};
-ghost use Rattle.mqfs.specs.Outside.{AppendsPrefix, PutCause, appended};
-ghost use Rattle.mqfs.specs.Program.{AreBlocks, EndsWith, IsSaidOf, Said, named_line, refusal_said, status_of, text_of};
+ghost use Rattle.mqfs.specs.Outside.{AppendsPrefix, Held, PutCause, Rose, appended};
+ghost use Rattle.mqfs.specs.Program.{AreBlocks, AreUnknown, EndsWith, HasNoForm, IsDone, IsNoForm, IsSaidOf, IsStatus, IsToSay, IsUnlessWanting, Said, SaysPart, TakesOver, TakesWithin, named_line, refusal_said, status_of, text_of, usage_line};
 
 use crate::blocks::blocks_output;
 use crate::outside::{Files, LoadRefusal, PutRefusal, Sink, put_all};
-use crate::text::BlockTextRefusal;
+use crate::text::{BlockItem, BlockTextRefusal};
 use std::alloc::Global;
 
 const DONE: u8 = 0;
@@ -88,4 +88,45 @@ fn blocks<F: Files, K: Sink>(alloc: Global, name: &str, files: &mut F, out: &mut
         Err(LoadRefusal::TooLong) => say_named(b"too long ", name.as_bytes(), out),
         Err(LoadRefusal::OutOfMemory) => say(NO_MEMORY, b"memory\n", out),
     }
+}
+
+// Runs the command of the words.
+fn run<F: Files, K: Sink>(alloc: Global, words: &[String], files: &mut F, out: &mut K) -> u8
+    ensures ends { (status : ℕ) × (text : List ℕ) × IsToSay (map string_bytes words.now) (F.told files.old) (F.faults files.old) (F.faults files.new) (F.taken files.old) (F.taken files.new) status text × EndsWith status text result (K.contents out.old) (K.contents out.new) (K.faults out.old) (K.faults out.new) }
+    ensures told { F.told files.new ≡ F.told files.old }
+{
+    match words {
+        [command, name] if command.as_str() == "blocks" => blocks(alloc, name, files, out),
+        _ => say(USAGE, USAGE_LINE, out),
+    }
+}
+
+/// The program: runs the command of the words, which are those after its name, over files and an
+/// output. The status is 0 for done, 1 for words that are no command, 2 for a text that is not in
+/// the form, 4 for a fault of a file or the output, and 6 for want of memory.
+pub fn mqfs<F: Files, K: Sink>(
+    alloc: Global,
+    words: &[String],
+    files: &mut F,
+    out: &mut K,
+) -> u8
+    ensures status { IsStatus result }
+    // The output is that of the text that the name holds.
+    ensures done { result ≡ 0 → IsDone (map string_bytes words.now) (F.told files.old) (K.contents out.old) (K.contents out.new) }
+    ensures done_where { (held : Held) (name bytes : List ℕ) (lines : List (List BlockItem)) → AreBlocks (map string_bytes words.now) name → F.told files.old ≡ Some held → held name ≡ Some bytes → IsBlockText bytes lines → IsUnlessWanting 0 result }
+    // The words are no command.
+    ensures usage { result ≡ 1 → AreUnknown (map string_bytes words.now) × (K.contents out.new ≡ appended (K.contents out.old) usage_line) × (F.taken files.new ≡ F.taken files.old) }
+    ensures usage_where { AreUnknown (map string_bytes words.now) → IsUnlessWanting 1 result }
+    // The name holds no text in the form.
+    ensures form { result ≡ 2 → IsNoForm (map string_bytes words.now) (F.told files.old) (K.contents out.old) (K.contents out.new) }
+    ensures form_where { (held : Held) (name bytes : List ℕ) → AreBlocks (map string_bytes words.now) name → F.told files.old ≡ Some held → held name ≡ Some bytes → HasNoForm bytes → IsUnlessWanting 2 result }
+    // A file or the output failed, or a file was too long.
+    ensures fault { result ≡ 4 → Rose (F.faults files.old) (F.faults files.new) ⊎ (Rose (K.faults out.old) (K.faults out.new) ⊎ TakesOver (F.taken files.old) (F.taken files.new)) }
+    ensures fault_where { result ≢ 4 → (F.faults files.new ≡ F.faults files.old) × (K.faults out.new ≡ K.faults out.old) }
+    ensures takes { result ≢ 4 → result ≢ 6 → TakesWithin (F.taken files.old) (F.taken files.new) }
+    // At every status some of one text is said, and no name changes.
+    ensures says { SaysPart (map string_bytes words.now) (F.told files.old) (F.faults files.old) (F.faults files.new) (F.taken files.old) (F.taken files.new) (K.contents out.old) (K.contents out.new) }
+    ensures told { F.told files.new ≡ F.told files.old }
+{
+    run(alloc, words, files, out)
 }
