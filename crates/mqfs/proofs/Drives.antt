@@ -13,12 +13,12 @@ one_item (y ∷ ys) x one is = ap Some (sym is)
 
 pub no_gain : (f : Fault) → Gains f [] [] → ⊥
 no_gain f gains = ⊎_elim
-  (λ more.
+    (λ more.
     let long : length (more.before ++ f ∷ more.after) ≡ length more.before + length (f ∷ more.after) = length-append more.before (f ∷ more.after) in
     let none : 0 ≡ length (more.before ++ f ∷ more.after) = ap length more.new_is in
     omega arith)
-  (λ full. omega (arith, full.0))
-  gains
+    (λ full. omega (arith, full.0))
+    gains
 
 no_cause_of : (A : Type 0) (e : TextRefusal) → HasTextCause {A = A} (Err e) [] [] → e ≡ OutOfMemory
 no_cause_of A Off cause = absurd (no_gain PowerOff cause)

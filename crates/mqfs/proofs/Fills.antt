@@ -150,9 +150,9 @@ one_more b (Some v) None ws us few (inr same) = let e : length ws ≡ length us 
 set_more : (is : List BlockItem) (c v b n : ℕ) → length (writes_from (set_in (Set c v ∷ is)) b n) ≤ length (writes_from (set_in is) b n) + 1
 set_more is c v b zero = omega arith
 set_more is c v b (suc n) = one_more b (set_in (Set c v ∷ is) b) (set_in is b) (writes_from (set_in (Set c v ∷ is)) (b + 1) n) (writes_from (set_in is) (b + 1) n) (set_more is c v (b + 1) n) (⊎_elim
-  (λ here. inr (past_set is c v (b + 1) n (omega arith)))
-  (λ other. inl (let ne : c ≢ b = other in grind (arith, nat_tests)))
-  (cases_eq c b))
+    (λ here. inr (past_set is c v (b + 1) n (omega arith)))
+    (λ other. inl (let ne : c ≢ b = other in grind (arith, nat_tests)))
+    (cases_eq c b))
 
 none_written : (b n : ℕ) → length (writes_from (set_in []) b n) ≡ 0
 none_written b zero = refl

@@ -60,9 +60,10 @@ new_below g s place k block (w ∷ ws) port one less fits =
 pub distinct_items : (g : Geometry) (s : PortState) (place : ℕ) (block : List ℕ) (ws : Writes) → IsPortOf g (Queue 0) s → g.queues ≡ 1 → place + length ws < g.area → AreDistinct (index_of s) (items_from g place block ws)
 distinct_items g s place block [] port one fits = (tt, tt)
 distinct_items g s place block (w ∷ ws) port one fits =
-    let at = at_place g s place port one (omega arith) in
-    (subst (λ (k : ℕ). IsNewIn (index_of s) k (items_from g (place + 1) block ws)) (sym at.index) (new_below g s (place + 1) place block ws port one (omega arith) (omega arith)),
-      distinct_items g s (place + 1) block ws port one (omega arith))
+    let at = at_place g s place port one (omega arith) in (
+      subst (λ (k : ℕ). IsNewIn (index_of s) k (items_from g (place + 1) block ws)) (sym at.index) (new_below g s (place + 1) place block ws port one (omega arith) (omega arith)),
+      distinct_items g s (place + 1) block ws port one (omega arith),
+    )
 
 -- ---- blocks
 

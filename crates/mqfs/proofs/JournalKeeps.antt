@@ -43,10 +43,11 @@ items_stand g s blocks tx n place block (w ∷ ws) port one fits room =
     let at = at_place g s place port one (omega arith) in
     let here : index_of s (area_lba g 0 place) < length blocks = omega (arith, at.index) in
     let next = set blocks (index_of s (area_lba g 0 place)) (Some w.1) in
-    let long : length next ≡ length blocks = length-set blocks (index_of s (area_lba g 0 place)) (Some w.1) in
-    (items_apart (index_of s) next tx (n + 1) (items_from g (place + 1) block ws) place (new_below g s (place + 1) place block ws port one (omega arith) (omega arith))
-      ∙ block_at-set_same blocks (index_of s (area_lba g 0 place)) w.1 place (sym at.index) here,
-      items_stand g s next tx (n + 1) (place + 1) block ws port one (omega arith) (omega (arith, long)))
+    let long : length next ≡ length blocks = length-set blocks (index_of s (area_lba g 0 place)) (Some w.1) in (
+      items_apart (index_of s) next tx (n + 1) (items_from g (place + 1) block ws) place (new_below g s (place + 1) place block ws port one (omega arith) (omega arith))
+          ∙ block_at-set_same blocks (index_of s (area_lba g 0 place)) w.1 place (sym at.index) here,
+      items_stand g s next tx (n + 1) (place + 1) block ws port one (omega arith) (omega (arith, long)),
+    )
 
 -- the copies that are read are what was written
 copies_read : (area : ℕ → List ℕ) (size place : ℕ) (block : List ℕ) (ws : Writes) (b : ℕ) → place + length ws < size → Stand area place block ws → logged_copy area size place (blocks_in ws) b ≡ write_of ws b

@@ -19,16 +19,16 @@ use Rattle.mqfs.specs.Commits.{Agrees, Carries, AllCarry, Keeps, ShowsMap}
 queue_of_chain : (g : Geometry) (i : Shown) (q number place : ℕ) (ds : List Descriptor) → IsChain g i q number place ds → (d : Descriptor) → Has ds d → d.queue ≡ q
 queue_of_chain g i q number place [] chain d has = absurd has
 queue_of_chain g i q number place (e ∷ ds) chain d has = ⊎_elim
-  (λ same. ap (λ (x : Descriptor). x.queue) (sym same) ∙ chain.1.queue_is)
-  (λ later. queue_of_chain g i q e.prev_number e.prev_place ds chain.2 d later)
-  has
+    (λ same. ap (λ (x : Descriptor). x.queue) (sym same) ∙ chain.1.queue_is)
+    (λ later. queue_of_chain g i q e.prev_number e.prev_place ds chain.2 d later)
+    has
 
 number_in_row : (base : ℕ) (ds : List Descriptor) → AreInRow base ds → (d : Descriptor) → Has ds d → d.number ≤ base + length ds
 number_in_row base [] row d has = absurd has
 number_in_row base (e ∷ ds) row d has = ⊎_elim
-  (λ same. let is : e.number ≡ base + length ds + 1 = row.0 in let number : d.number ≡ e.number = ap (λ (x : Descriptor). x.number) (sym same) in omega arith)
-  (λ later. omega (arith, number_in_row base ds row.1 d later))
-  has
+    (λ same. let is : e.number ≡ base + length ds + 1 = row.0 in let number : d.number ≡ e.number = ap (λ (x : Descriptor). x.number) (sym same) in omega arith)
+    (λ later. omega (arith, number_in_row base ds row.1 d later))
+    has
 
 -- within one lap nothing is out of reach
 in_reach : (g : Geometry) (newest : ℕ) (ds : List Descriptor) → newest < g.area → AreInReach g newest ds
@@ -47,7 +47,7 @@ stands_after g i d ds t m b v carries older is = by (write_of t.writes b) (carri
     none false is = older v is
 
     by : (w : Option (List ℕ)) → logged_copy (i.area d.queue) g.area (d.place - length d.logged) d.logged b ≡ w → or_kept w (cond (is_among b t.freed) None (m b)) ≡ Some v
-      → or_else (logged_copy (i.area d.queue) g.area (d.place - length d.logged) d.logged b) (cond (is_among b d.revoked) (i.home b) (stands g i ds b)) ≡ v
+        → or_else (logged_copy (i.area d.queue) g.area (d.place - length d.logged) d.logged b) (cond (is_among b d.revoked) (i.home b) (stands g i ds b)) ≡ v
     by (Some w) copy is = let same : w ≡ v = cc in ap (λ (o : Option (List ℕ)). or_else o (cond (is_among b d.revoked) (i.home b) (stands g i ds b))) copy ∙ same
     by None copy is =
         (λ k. or_else (copy k) (cond (is_among b (carries.revoked k)) (i.home b) (stands g i ds b))) ∙ none (is_among b t.freed) is

@@ -36,9 +36,9 @@ write_step b v ws = ap (λ (t : Bool). cond t (Some (filled v)) (write_of ws b))
 pub write_at : (f : Fill) (low n b : ℕ) → low ≤ b → b < low + n → is_some (write_of (writes_from f low n) b) ≡ is_some (f b)
 write_at f low zero b first last = absurd (omega arith)
 write_at f low (suc n) b first last = ⊎_elim
-  (λ here. subst (λ (k : ℕ). is_some (write_of (writes_from f low (suc n)) k) ≡ is_some (f k)) here (by (f low)))
-  (λ other. skip (f low) (let ne : low ≢ b = other in write_at f (low + 1) n b (omega arith) (omega arith)) other)
-  (cases_eq low b)
+    (λ here. subst (λ (k : ℕ). is_some (write_of (writes_from f low (suc n)) k) ≡ is_some (f k)) here (by (f low)))
+    (λ other. skip (f low) (let ne : low ≢ b = other in write_at f (low + 1) n b (omega arith) (omega arith)) other)
+    (cases_eq low b)
   where
     by : (o : Option ℕ) → is_some (write_of (with_write low o (writes_from f (low + 1) n)) low) ≡ is_some o
     by None = ap is_some (write_low f (low + 1) n low (omega arith))

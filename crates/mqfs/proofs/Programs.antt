@@ -35,17 +35,19 @@ take_within (x ∷ a) b (suc n) within = ap (λ (l : List ℕ). x ∷ l) (take_w
 
 -- a piece was appended, and then a prefix of the next
 pub prefix_next : (old mid new : Option (List ℕ)) (first bytes : List ℕ) → mid ≡ appended old first → AppendsPrefix mid new bytes → AppendsPrefix old new (first ++ bytes)
-prefix_next old mid new first bytes mid_is prefix =
-    (length first + prefix.0,
-     (let long = length-append first bytes in let within = prefix.1 in omega arith),
-     prefix.2 ∙ ap (λ (o : Option (List ℕ)). appended o (take prefix.0 bytes)) mid_is ∙ appended_twice old first (take prefix.0 bytes) ∙ ap (appended old) (sym (take_more first bytes prefix.0)))
+prefix_next old mid new first bytes mid_is prefix = (
+  length first + prefix.0,
+  (let long = length-append first bytes in let within = prefix.1 in omega arith),
+  prefix.2 ∙ ap (λ (o : Option (List ℕ)). appended o (take prefix.0 bytes)) mid_is ∙ appended_twice old first (take prefix.0 bytes) ∙ ap (appended old) (sym (take_more first bytes prefix.0)),
+)
 
 -- a prefix of the first piece is one of both
 pub prefix_longer : (old new : Option (List ℕ)) (first bytes : List ℕ) → AppendsPrefix old new first → AppendsPrefix old new (first ++ bytes)
-prefix_longer old new first bytes prefix =
-    (prefix.0,
-     (let long = length-append first bytes in let within = prefix.1 in omega arith),
-     prefix.2 ∙ ap (appended old) (sym (take_within first bytes prefix.0 prefix.1)))
+prefix_longer old new first bytes prefix = (
+  prefix.0,
+  (let long = length-append first bytes in let within = prefix.1 in omega arith),
+  prefix.2 ∙ ap (appended old) (sym (take_within first bytes prefix.0 prefix.1)),
+)
 
 -- what there is to say of bytes that were loaded
 pub said_output : {A : Type 0} (items : A → List ℕ) (o : Result A BlockTextRefusal) (ends : ℕ → List ℕ → Type 0) (told : Option Held) (name bytes : List ℕ) (f nf t nt : ℕ)

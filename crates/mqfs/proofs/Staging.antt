@@ -41,15 +41,21 @@ stays-refl s = record { queue = refl; doorbell = refl; head = refl; stored = ref
 
 pub stays_staged : (start now new : PortState) (e : List ℕ) (tx lba : ℕ) (block : List ℕ) → PortStays start now → new ≡ after_stage now e tx lba block → PortStays start new
 stays_staged start now new e tx lba block same moved = subst (PortStays start) (sym moved) (record {
-  queue = same.queue; doorbell = same.doorbell; head = same.head; stored = same.stored;
-  area_first = same.area_first; area_size = same.area_size; homes_first = same.homes_first; homes_size = same.homes_size;
+  queue = same.queue;
+  doorbell = same.doorbell;
+  head = same.head;
+  stored = same.stored;
+  area_first = same.area_first;
+  area_size = same.area_size;
+  homes_first = same.homes_first;
+  homes_size = same.homes_size;
 })
 
 pub owns-along : (start now : PortState) (lba : ℕ) → PortStays start now → Owns start lba → Owns now lba
 owns-along start now lba same own = ⊎_elim
-  (λ area. let low = area.0 in let high = area.1 in inl (omega (arith, same.area_first, low), omega (arith, same.area_first, same.area_size, high)))
-  (λ homes. let low = homes.0 in let high = homes.1 in inr (omega (arith, same.homes_first, low), omega (arith, same.homes_first, same.homes_size, high)))
-  own
+    (λ area. let low = area.0 in let high = area.1 in inl (omega (arith, same.area_first, low), omega (arith, same.area_first, same.area_size, high)))
+    (λ homes. let low = homes.0 in let high = homes.1 in inr (omega (arith, same.homes_first, low), omega (arith, same.homes_first, same.homes_size, high)))
+    own
 
 -- the state after one stage
 pub record Next (now new : PortState) (tx lba : ℕ) (block : List ℕ) (rest : Items) : Type 0 where

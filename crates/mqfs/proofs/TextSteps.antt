@@ -166,8 +166,8 @@ module _ (g : Geometry) (start s : PortState) (lines : Lines) (n next last : ℕ
         keeps =
             subst (λ (m : ℕ). Keeps g new m (next + length items - 1) (descriptor_for (length ds + 1) next last ws ∷ ds) (transactions_of lines (n + 1))) end
             (subst (λ (m : ℕ). Keeps g new (next + length ws + 1) m (descriptor_for (length ds + 1) next last ws ∷ ds) (transactions_of lines (n + 1))) at
-              (subst (λ (ts : List Transaction). Keeps g new (next + length ws + 1) (next + length ws) (descriptor_for (length ds + 1) next last ws ∷ ds) ts) all
-                (subst (λ (u : PortState). Keeps g u (next + length ws + 1) (next + length ws) (descriptor_for (length ds + 1) next last ws ∷ ds) (transaction_of (n + 1) line ∷ transactions_of lines n)) same step)));
+            (subst (λ (ts : List Transaction). Keeps g new (next + length ws + 1) (next + length ws) (descriptor_for (length ds + 1) next last ws ∷ ds) ts) all
+            (subst (λ (u : PortState). Keeps g u (next + length ws + 1) (next + length ws) (descriptor_for (length ds + 1) next last ws ∷ ds) (transaction_of (n + 1) line ∷ transactions_of lines n)) same step)));
         follows = λ some. omega (arith, count);
         doorbell =
             ap (λ (u : PortState). u.doorbell) (sym same)

@@ -93,7 +93,7 @@ abbrev pub EndsWith : (status : ℕ) (text : List ℕ) (result : ℕ) (contents 
 EndsWith status text result contents new_contents faults new_faults =
     ((result ≡ status) × (new_contents ≡ appended contents text) × (new_faults ≡ faults))
     ⊎ (((result ≡ 4) × AppendsPrefix contents new_contents text × Rose faults new_faults)
-      ⊎ ((result ≡ if nat_eq status 4 then 4 else 6) × AppendsPrefix contents new_contents text × (new_faults ≡ faults)))
+    ⊎ ((result ≡ if nat_eq status 4 then 4 else 6) × AppendsPrefix contents new_contents text × (new_faults ≡ faults)))
 
 -- what is said of a refused block text
 abbrev pub refusal_said : BlockTextRefusal → Said

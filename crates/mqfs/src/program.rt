@@ -11,9 +11,13 @@ use crate::text::{BlockItem, BlockTextRefusal};
 use std::alloc::Global;
 
 const DONE: u8 = 0;
+
 const USAGE: u8 = 1;
+
 const FORM: u8 = 2;
+
 const FAULT: u8 = 4;
+
 const NO_MEMORY: u8 = 6;
 
 // The line of the words that are no command.
@@ -104,12 +108,7 @@ fn run<F: Files, K: Sink>(alloc: Global, words: &[String], files: &mut F, out: &
 /// The program: runs the command of the words, which are those after its name, over files and an
 /// output. The status is 0 for done, 1 for words that are no command, 2 for a text that is not in
 /// the form, 4 for a fault of a file or the output, and 6 for want of memory.
-pub fn mqfs<F: Files, K: Sink>(
-    alloc: Global,
-    words: &[String],
-    files: &mut F,
-    out: &mut K,
-) -> u8
+pub fn mqfs<F: Files, K: Sink>(alloc: Global, words: &[String], files: &mut F, out: &mut K) -> u8
     ensures status { IsStatus result }
     // The output is that of the text that the name holds.
     ensures done { result ≡ 0 → IsDone (map string_bytes words.now) (F.told files.old) (K.contents out.old) (K.contents out.new) }

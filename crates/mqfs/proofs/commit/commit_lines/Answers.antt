@@ -35,7 +35,7 @@ commit_line-requires-clause-room g c =
     let xs : Lines = c.deref-line-items.result.now in
     let same : xs ≡ c.args.text.now = c.deref-line-items.ensures.value ∙ c.text.view_is in
     (line_turn c.args.geometry (state c.args.queue.now) (state c.loop-line.queue) c.args.text.now xs c.loop-line.line-index c.loop-line.number c.loop-line.next c.loop-line.last inv.so_far
-      c.requires.clean c.requires.good same c.loop-line-test.true c.line-item.result c.line-item.is inv.number c.in_ok-items.items.items c.in_ok-items.ensures).room
+    c.requires.clean c.requires.good same c.loop-line-test.true c.line-item.result c.line-item.is inv.number c.in_ok-items.items.items c.in_ok-items.ensures).room
 
 pub commit_line-requires-clause-end : goal.commit_line-requires-clause-end
 commit_line-requires-clause-end g c =
@@ -44,7 +44,7 @@ commit_line-requires-clause-end g c =
     let xs : Lines = c.deref-line-items.result.now in
     let same : xs ≡ c.args.text.now = c.deref-line-items.ensures.value ∙ c.text.view_is in
     (line_turn c.args.geometry (state c.args.queue.now) (state c.loop-line.queue) c.args.text.now xs c.loop-line.line-index c.loop-line.number c.loop-line.next c.loop-line.last inv.so_far
-      c.requires.clean c.requires.good same c.loop-line-test.true c.line-item.result c.line-item.is inv.number c.in_ok-items.items.items c.in_ok-items.ensures).end
+    c.requires.clean c.requires.good same c.loop-line-test.true c.line-item.result c.line-item.is inv.number c.in_ok-items.items.items c.in_ok-items.ensures).end
 
 pub commit_line-requires-clause-own : goal.commit_line-requires-clause-own
 commit_line-requires-clause-own g c =
@@ -53,7 +53,7 @@ commit_line-requires-clause-own g c =
     let xs : Lines = c.deref-line-items.result.now in
     let same : xs ≡ c.args.text.now = c.deref-line-items.ensures.value ∙ c.text.view_is in
     (line_turn c.args.geometry (state c.args.queue.now) (state c.loop-line.queue) c.args.text.now xs c.loop-line.line-index c.loop-line.number c.loop-line.next c.loop-line.last inv.so_far
-      c.requires.clean c.requires.good same c.loop-line-test.true c.line-item.result c.line-item.is inv.number c.in_ok-items.items.items c.in_ok-items.ensures).own
+    c.requires.clean c.requires.good same c.loop-line-test.true c.line-item.result c.line-item.is inv.number c.in_ok-items.items.items c.in_ok-items.ensures).own
 
 pub commit_line-requires-clause-distinct : goal.commit_line-requires-clause-distinct
 commit_line-requires-clause-distinct g c =
@@ -62,7 +62,7 @@ commit_line-requires-clause-distinct g c =
     let xs : Lines = c.deref-line-items.result.now in
     let same : xs ≡ c.args.text.now = c.deref-line-items.ensures.value ∙ c.text.view_is in
     (line_turn c.args.geometry (state c.args.queue.now) (state c.loop-line.queue) c.args.text.now xs c.loop-line.line-index c.loop-line.number c.loop-line.next c.loop-line.last inv.so_far
-      c.requires.clean c.requires.good same c.loop-line-test.true c.line-item.result c.line-item.is inv.number c.in_ok-items.items.items c.in_ok-items.ensures).distinct
+    c.requires.clean c.requires.good same c.loop-line-test.true c.line-item.result c.line-item.is inv.number c.in_ok-items.items.items c.in_ok-items.ensures).distinct
 
 pub overflow_sub-last : goal.overflow_sub-last
 overflow_sub-last g c =
@@ -73,7 +73,7 @@ overflow_sub-last g c =
     let items : Items = c.in_ok-items.items.items in
     let len : c.len-count.result ≡ length items = search rules in
     let some = some_items c.args.geometry (state c.args.queue.now) (state c.loop-line.queue) c.args.text.now xs c.loop-line.line-index c.loop-line.number c.loop-line.next c.loop-line.last inv.so_far
-      c.requires.clean c.requires.good same c.loop-line-test.true c.line-item.result c.line-item.is inv.number items c.in_ok-items.ensures in
+    c.requires.clean c.requires.good same c.loop-line-test.true c.line-item.result c.line-item.is inv.number items c.in_ok-items.ensures in
     omega (arith, some, len)
 
 pub returns-clause-ok : goal.returns-clause-ok
@@ -86,4 +86,4 @@ returns-clause-ok g c =
     let all : c.loop-line.line-index ≡ length lines = omega (arith, len) in
     λ q r image base.
     finished c.args.geometry (state c.args.queue.now) (state c.loop-line.queue) (state c.args.queue.now) lines c.loop-line.line-index c.loop-line.next c.loop-line.last c.loop-line.invariant.so_far
-      c.requires.clean.one c.requires.clean.low (omega (arith, places_many lines, c.requires.good.1)) all q r image base
+    c.requires.clean.one c.requires.clean.low (omega (arith, places_many lines, c.requires.good.1)) all q r image base

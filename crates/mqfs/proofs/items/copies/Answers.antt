@@ -24,28 +24,28 @@ loop-b-preserved c =
     let all : Items = copies_from g c.args.place (writes_from f 0 named) in
     let inv = c.loop-b.invariant in
     elim c.match-fills-b.branch [
-      in-None w ↦
-        let place : c.match-fills-b.place ≡ c.loop-b.place = w.place-is in
-        record {
-          few = omega (arith, place, inv.few);
-          is =
-              subst (λ (n : ℕ). all ≡ c.match-fills-b.items.items ++ copies_from g n (writes_from f (c.loop-b.b + 1) (named - (c.loop-b.b + 1)))) (sym place)
-              (subst (λ (v : VecDeque (ℕ × List ℕ) Global). all ≡ v.items ++ copies_from g c.loop-b.place (writes_from f (c.loop-b.b + 1) (named - (c.loop-b.b + 1)))) (sym w.items-is)
+      | in-None w ↦
+          let place : c.match-fills-b.place ≡ c.loop-b.place = w.place-is in
+          record {
+            few = omega (arith, place, inv.few);
+            is =
+                subst (λ (n : ℕ). all ≡ c.match-fills-b.items.items ++ copies_from g n (writes_from f (c.loop-b.b + 1) (named - (c.loop-b.b + 1)))) (sym place)
+                (subst (λ (v : VecDeque (ℕ × List ℕ) Global). all ≡ v.items ++ copies_from g c.loop-b.place (writes_from f (c.loop-b.b + 1) (named - (c.loop-b.b + 1)))) (sym w.items-is)
                 (copies_none g f c.loop-b.b c.loop-b.place c.loop-b.items.items all c.loop-b-test.true w.in-None.is inv.is));
-        }
+          }
       | in-Some+in_ok-filled-in-Some+in_ok-push_back-in-Some w ↦
-        let place : c.match-fills-b.place ≡ c.loop-b.place + 1 = w.place-is in
-        let v : ℕ = w.in-Some.byte in
-        let pushed : c.match-fills-b.items.items ≡ c.loop-b.items.items ++ (area_lba g 0 c.loop-b.place, filled v) ∷ [] =
-        ap (λ (q : VecDeque (ℕ × List ℕ) Global). q.items) w.items-is ∙ w.in_ok-push_back-in-Some.ensures.items
-        ∙ (λ i. c.loop-b.items.items ++ (w.area_lba-lba.ensures i, w.in_ok-filled-in-Some.ensures i) ∷ []) in
-        record {
-          few = omega (arith, place, inv.few);
-          is =
-              subst (λ (n : ℕ). all ≡ c.match-fills-b.items.items ++ copies_from g n (writes_from f (c.loop-b.b + 1) (named - (c.loop-b.b + 1)))) (sym place)
-              (subst (λ (l : Items). all ≡ l ++ copies_from g (c.loop-b.place + 1) (writes_from f (c.loop-b.b + 1) (named - (c.loop-b.b + 1)))) (sym pushed)
+          let place : c.match-fills-b.place ≡ c.loop-b.place + 1 = w.place-is in
+          let v : ℕ = w.in-Some.byte in
+          let pushed : c.match-fills-b.items.items ≡ c.loop-b.items.items ++ (area_lba g 0 c.loop-b.place, filled v) ∷ [] =
+          ap (λ (q : VecDeque (ℕ × List ℕ) Global). q.items) w.items-is ∙ w.in_ok-push_back-in-Some.ensures.items
+          ∙ (λ i. c.loop-b.items.items ++ (w.area_lba-lba.ensures i, w.in_ok-filled-in-Some.ensures i) ∷ []) in
+          record {
+            few = omega (arith, place, inv.few);
+            is =
+                subst (λ (n : ℕ). all ≡ c.match-fills-b.items.items ++ copies_from g n (writes_from f (c.loop-b.b + 1) (named - (c.loop-b.b + 1)))) (sym place)
+                (subst (λ (l : Items). all ≡ l ++ copies_from g (c.loop-b.place + 1) (writes_from f (c.loop-b.b + 1) (named - (c.loop-b.b + 1)))) (sym pushed)
                 (copies_some g f c.loop-b.b v c.loop-b.place c.loop-b.items.items all c.loop-b-test.true w.in-Some.is inv.is));
-        }
+          }
     ]
 
 pub returns : goal.returns

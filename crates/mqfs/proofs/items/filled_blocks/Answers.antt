@@ -20,11 +20,11 @@ loop-b-preserved c =
     let all : List ℕ = blocks_in (writes_from f 0 named) in
     let after : List ℕ = blocks_in (writes_from f (c.loop-b.b + 1) (named - (c.loop-b.b + 1))) in
     elim c.match-fills-b.branch [
-      in-None w ↦
-        subst (λ (v : Vec ℕ Global). all ≡ v.items ++ after) (sym w.blocks-is) (blocks_none f c.loop-b.b c.loop-b.blocks.items all c.loop-b-test.true w.in-None.is c.loop-b.invariant)
+      | in-None w ↦
+          subst (λ (v : Vec ℕ Global). all ≡ v.items ++ after) (sym w.blocks-is) (blocks_none f c.loop-b.b c.loop-b.blocks.items all c.loop-b-test.true w.in-None.is c.loop-b.invariant)
       | in-Some+in_ok-push-in-Some w ↦
-        let pushed : c.match-fills-b.blocks.items ≡ c.loop-b.blocks.items ++ c.loop-b.b ∷ [] = ap (λ (v : Vec ℕ Global). v.items) w.blocks-is ∙ w.in_ok-push-in-Some.ensures.items in
-        subst (λ (l : List ℕ). all ≡ l ++ after) (sym pushed) (blocks_some f c.loop-b.b w.in-Some.field-0 c.loop-b.blocks.items all c.loop-b-test.true w.in-Some.is c.loop-b.invariant)
+          let pushed : c.match-fills-b.blocks.items ≡ c.loop-b.blocks.items ++ c.loop-b.b ∷ [] = ap (λ (v : Vec ℕ Global). v.items) w.blocks-is ∙ w.in_ok-push-in-Some.ensures.items in
+          subst (λ (l : List ℕ). all ≡ l ++ after) (sym pushed) (blocks_some f c.loop-b.b w.in-Some.field-0 c.loop-b.blocks.items all c.loop-b-test.true w.in-Some.is c.loop-b.invariant)
     ]
 
 pub returns : goal.returns

@@ -14,11 +14,11 @@ returns-else-b-meta g c =
     let within : c.args.b < c.args.geometry.meta + c.args.geometry.queues * c.args.geometry.zone = c.requires.within in
     let sized : length (g.P.Port.state c.args.queue.now).blocks ≡ c.args.geometry.area + c.args.geometry.zone = c.requires.queue.blocks in
     let inside : c.args.geometry.area + (c.args.b - c.args.geometry.meta) < length (g.P.Port.state c.args.queue.now).sure =
-        omega (arith, c.requires.queue.sure, sized, one, within, high) in
+    omega (arith, c.requires.queue.sure, sized, one, within, high) in
     let certain : IsCertain (g.P.Port.state c.args.queue.now) (c.args.geometry.area + (c.args.b - c.args.geometry.meta)) =
-        record { sure = quiet.sure (c.args.geometry.area + (c.args.b - c.args.geometry.meta)) inside; apart = subst (IsApartFrom (g.P.Port.state c.args.queue.now) (c.args.geometry.area + (c.args.b - c.args.geometry.meta))) (sym quiet.posted) tt } in
+    record { sure = quiet.sure (c.args.geometry.area + (c.args.b - c.args.geometry.meta)) inside; apart = subst (IsApartFrom (g.P.Port.state c.args.queue.now) (c.args.geometry.area + (c.args.b - c.args.geometry.meta))) (sym quiet.posted) tt } in
     let place : index_of (g.P.Port.state c.args.queue.now) c.home-lba.result ≡ c.args.geometry.area + (c.args.b - c.args.geometry.meta) =
-        ap (index_of (g.P.Port.state c.args.queue.now)) c.home-lba.ensures ∙ at in
+    ap (index_of (g.P.Port.state c.args.queue.now)) c.home-lba.ensures ∙ at in
     c.read_block-else-b-meta.ensures (subst (IsCertain (g.P.Port.state c.args.queue.now)) (sym place) certain)
     ∙ ap (block_at (g.P.Port.state c.args.queue.now).blocks) place
     ∙ sym (home-zone c.args.geometry (g.P.Port.state c.args.queue.now) (g.P.Port.state c.args.root.now) c.args.b c.requires.one high c.requires.within)
