@@ -1,8 +1,8 @@
 -- A drive of one queue, and faults that did not come.
-use Rattle.std.proofs.Common.{◌≡◌, ◌<◌, ◌≤◌, ◌⊎◌, ⊎_elim, ℕ, zero, suc, ◌+◌, ◌^◌, List, [], ◌∷◌, ◌++◌, length, get_or, Some, refl, sym, ◌∙◌, ap, subst, arith, length-append}
+use Rattle.std.proofs.Common.{◌≡◌, ⊎_elim, ◌+◌, List, [], ◌∷◌, ◌++◌, length, get_or, Some, refl, sym, ap, subst, arith, length-append}
 use Rattle.std.specs.Prelude.{slice_get}
 use Rattle.std.specs.Prelude.{Result, Err}
-use Rattle.mq_drive.specs.Steps.{Fault, PowerOff, CommandError, IsWithOneMore, Gains}
+use Rattle.mq_drive.specs.Steps.{Fault, PowerOff, CommandError, Gains}
 use Rattle.mqfs.specs.Causes.{HasTextCause}
 use Rattle.mqfs.specs.declared.commit.TextRefusal.{TextRefusal}
 use Rattle.mqfs.specs.declared.commit.TextRefusal.TheVariants.{Off, Failed, OutOfMemory}

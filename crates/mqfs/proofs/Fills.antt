@@ -1,8 +1,7 @@
 -- Blocks that are filled, one after another.
 use Rattle.std.proofs.Common.{◌≡◌, ◌≢◌, ◌<◌, ◌≤◌, ◌⊎◌, inl, inr, ⊎_elim, ℕ, zero, suc, ◌+◌, ◌-◌, Bool, true, false, cond, eqb, List, [], ◌∷◌, ◌++◌, length, get_or, Option, Some, None, refl, sym, ◌∙◌, ap, subst, arith, append_assoc, add-zero}
-use Rattle.std.proofs.lemmas.List.{append-nil}
 use Rattle.std.proofs.lemmas.Bool.{cases_eq, eqb-true}
-use Rattle.std.proofs.lemmas.Bool.Decides.{nat_tests, eqb_tells}
+use Rattle.std.proofs.lemmas.Bool.Decides.{nat_tests}
 use Rattle.mq_blocks.specs.Blocks.{filled}
 use Rattle.mq_blocks.specs.Descriptor.{AreRising, descriptor_bytes}
 use Rattle.mq_blocks.specs.Geometry.{area_lba}
@@ -11,7 +10,7 @@ use Rattle.mq_blocks.specs.declared.geometry.Geometry.{Geometry}
 use Rattle.mqfs.specs.Commits.{AreBelow, blocks_in, copies_from, items_from, items_of, descriptor_for}
 use Rattle.mqfs.specs.Lines.{set_in, with_write, writes_from, named}
 use Rattle.mqfs.specs.Runs.{Items}
-use Rattle.mqfs.specs.Text.{AreGoodItems, IsGoodItem, block_of, sets_in}
+use Rattle.mqfs.specs.Text.{AreGoodItems, IsGoodItem, sets_in}
 use Rattle.mqfs.specs.declared.text.item.BlockItem.{BlockItem}
 use Rattle.mqfs.specs.declared.text.item.BlockItem.TheVariants.{Set, Free}
 

@@ -1,5 +1,5 @@
 -- A transaction more is kept.
-use Rattle.std.proofs.Common.{◌≡◌, ◌≢◌, ◌<◌, ◌≤◌, ◌⊎◌, inl, inr, ⊎_elim, ℕ, zero, suc, ◌+◌, ◌-◌, ◌*◌, ◌%◌, ◌^◌, Bool, true, false, cond, List, [], ◌∷◌, ◌++◌, length, set, get_or, Option, Some, None, refl, sym, ◌∙◌, ap, subst, arith, add-zero, eqb}
+use Rattle.std.proofs.Common.{◌≡◌, ◌<◌, ◌≤◌, ℕ, suc, ◌+◌, ◌-◌, ◌%◌, ◌^◌, true, cond, List, [], ◌∷◌, ◌++◌, length, set, get_or, Option, Some, refl, sym, ◌∙◌, ap, subst, arith, add-zero, eqb}
 use Rattle.std.proofs.Math.ListN.{length-set}
 use Rattle.mq_nvme.specs.Says.{says}
 use Rattle.mq_nvme.proofs.Saying.{says-entry}
@@ -7,16 +7,16 @@ use Rattle.mq_blocks.specs.Blocks.{block_at}
 use Rattle.mq_blocks.specs.Descriptor.{Descriptor, IsGood, AreRising, descriptor_bytes}
 use Rattle.mq_blocks.specs.Drive.{PortState, IsQuiet, index_of, staged_end, depth}
 use Rattle.mq_blocks.specs.Geometry.{area_lba, homes_of}
-use Rattle.mq_blocks.specs.Journal.{Says, Shown, Holds, IsChain, AreInRow, logged_copy}
+use Rattle.mq_blocks.specs.Journal.{Shown, IsChain, logged_copy}
 use Rattle.mq_blocks.specs.Machine.{Writes, Transaction, write_of}
 use Rattle.mq_blocks.specs.declared.geometry.Geometry.{Geometry}
 use Rattle.mq_blocks.specs.declared.command.Command.{Command}
 use Rattle.mq_drive.specs.Start.{IsPortOf}
 use Rattle.mq_drive.specs.declared.role.Role.TheVariants.{Queue}
-use Rattle.mqfs.specs.Runs.{Items, blocks_with, sure_with, commands_of, slots_with, entry_at, IsNewIn, AreDistinct, AreOwn, after_line, after_some}
-use Rattle.mqfs.specs.Commits.{items_from, items_of, descriptor_for, blocks_in, Agrees, Carries, AllCarry, Keeps}
-use Rattle.mqfs.proofs.JournalItems.{mod_small, AtPlace, at_place, length-items, own_items, new_below, distinct_items, block_at-set_same, items_apart, length-blocks_with, length-sure_with, AreSure, sure_all, length-slots_with, last_lba, last_slot}
-use Rattle.mqfs.proofs.Lines.{length-commands, staged_all}
+use Rattle.mqfs.specs.Runs.{Items, blocks_with, commands_of, slots_with, entry_at, after_line, after_some}
+use Rattle.mqfs.specs.Commits.{items_from, items_of, descriptor_for, blocks_in, Agrees, AllCarry, Keeps}
+use Rattle.mqfs.proofs.JournalItems.{mod_small, at_place, length-items, new_below, block_at-set_same, items_apart, length-blocks_with, length-sure_with, sure_all, length-slots_with, last_lba, last_slot}
+use Rattle.mqfs.proofs.Lines.{staged_all}
 
 pub length-blocks_in : (ws : Writes) → length (blocks_in ws) ≡ length ws
 length-blocks_in [] = refl

@@ -1,13 +1,13 @@
 -- What each image of a port shows that keeps some transactions.
-use Rattle.std.proofs.Common.{◌≡◌, ◌≢◌, ◌<◌, ◌≤◌, ◌⊎◌, inl, inr, ⊎_elim, ℕ, zero, suc, ◌+◌, ◌-◌, ◌*◌, ◌%◌, ◌^◌, Bool, true, false, cond, List, [], ◌∷◌, length, get_or, Option, Some, None, refl, sym, ◌∙◌, ap, subst, arith, add-zero}
+use Rattle.std.proofs.Common.{◌≡◌, ◌≢◌, ◌<◌, ◌≤◌, ◌⊎◌, inl, inr, ⊎_elim, ℕ, ◌+◌, ◌-◌, ◌%◌, ◌^◌, Bool, true, false, cond, List, [], ◌∷◌, length, get_or, Option, Some, None, refl, sym, ◌∙◌, ap, subst, arith, add-zero}
 use Rattle.std.proofs.lemmas.Bool.{cases_eq}
 use Rattle.std.proofs.lemmas.Nat.{mod_below}
 use Rattle.mq_nvme.specs.Says.{says}
 use Rattle.mq_blocks.specs.Blocks.{block_at}
 use Rattle.mq_blocks.specs.Descriptor.{Descriptor}
-use Rattle.mq_blocks.specs.Drive.{PortState, PortImage, IsImage, IsQuiet, IsCertain, IsApartFrom, staged_end, depth}
-use Rattle.mq_blocks.specs.Geometry.{area_lba, homes_of}
-use Rattle.mq_blocks.specs.Journal.{Says, Shown, shown, Holds, IsChain, AreInReach, IsQueueChain, Has, AreWhole, AreInRow, IsPrefix, Reaches, logged_copy, is_among, or_else, stands}
+use Rattle.mq_blocks.specs.Drive.{PortState, PortImage, IsImage, IsApartFrom, staged_end, depth}
+use Rattle.mq_blocks.specs.Geometry.{area_lba}
+use Rattle.mq_blocks.specs.Journal.{Shown, shown, IsChain, AreInReach, IsQueueChain, Has, AreWhole, AreInRow, IsPrefix, logged_copy, is_among, or_else, stands}
 use Rattle.mq_blocks.specs.Machine.{Map, Transaction, write_of, or_kept, after, after_all}
 use Rattle.mq_blocks.specs.declared.geometry.Geometry.{Geometry}
 use Rattle.mq_blocks.specs.declared.command.Command.{Command}

@@ -1,8 +1,7 @@
 -- A whole transaction.
-use Rattle.std.proofs.Common.{◌≡◌, ◌≢◌, ◌<◌, ◌≤◌, ℕ, zero, suc, ◌+◌, List, [], ◌∷◌, ◌++◌, length, refl, sym, ◌∙◌, ap, subst, arith}
+use Rattle.std.proofs.Common.{◌≡◌, ℕ, suc, ◌+◌, [], ◌∷◌, ◌++◌, length, refl, sym, ◌∙◌, ap, subst}
 use Rattle.mq_blocks.specs.Drive.{PortState, IsQuiet, index_of, staged_end, after_flush, after_ring}
-use Rattle.mq_blocks.specs.declared.command.Command.{Command}
-use Rattle.mqfs.specs.Runs.{Items, IsApart, AreApart, IsNewIn, AreDistinct, commands_of, after_some, after_line}
+use Rattle.mqfs.specs.Runs.{Items, IsApart, AreApart, IsNewIn, AreDistinct, commands_of, after_some}
 
 apart_from : (at : ℕ → ℕ) (tx n k : ℕ) (items : Items) → IsNewIn at k items → IsApart at k (commands_of tx n (length items) items)
 apart_from at tx n k [] new = tt

@@ -1,5 +1,5 @@
 -- Two writes to a list at different places, in either order.
-use Rattle.std.proofs.Common.{◌≡◌, ◌≢◌, ℕ, zero, suc, List, [], ◌∷◌, set, refl, sym, ◌∙◌, ap, arith}
+use Rattle.std.proofs.Common.{◌≡◌, ◌≢◌, ℕ, zero, suc, List, [], ◌∷◌, set, refl, ap}
 
 pub set-swap : {A : Type 0} (xs : List A) (a b : ℕ) (v w : A) → a ≢ b → set (set xs a v) b w ≡ set (set xs b w) a v
 set-swap [] a b v w apart = refl

@@ -1,13 +1,12 @@
 -- The blocks that are live after a text of set items.
-use Rattle.std.proofs.Common.{◌≡◌, ◌≢◌, ◌<◌, ◌≤◌, ◌⊎◌, inl, inr, ⊎_elim, ℕ, zero, suc, ◌+◌, ◌-◌, Bool, true, false, ◌||◌, cond, eqb, List, [], ◌∷◌, ◌++◌, length, drop, get_or, Option, Some, None, refl, sym, ◌∙◌, ap, subst, arith, append_assoc}
-use Rattle.std.specs.Prelude.{is_some, option_map}
-use Rattle.std.proofs.Math.Seq.{drop-cons}
-use Rattle.std.proofs.lemmas.Bool.{cases_eq, eqb-true, eq-eqb}
+use Rattle.std.proofs.Common.{◌≡◌, ◌≢◌, ◌<◌, ◌≤◌, ⊎_elim, ℕ, zero, suc, ◌+◌, ◌-◌, Bool, true, false, ◌||◌, cond, List, [], ◌∷◌, ◌++◌, length, get_or, Option, Some, None, refl, sym, ◌∙◌, ap, subst, arith, append_assoc}
+use Rattle.std.specs.Prelude.{is_some}
+use Rattle.std.proofs.lemmas.Bool.{cases_eq, eq-eqb}
 use Rattle.std.proofs.lemmas.Bool.Decides.{nat_tests}
 use Rattle.mq_blocks.specs.Blocks.{filled}
 use Rattle.mq_blocks.specs.Journal.{is_among}
-use Rattle.mq_blocks.specs.Machine.{Map, Writes, Transaction, write_of, or_kept, after, after_all}
-use Rattle.mqfs.specs.Lines.{set_in, freed_in, with_write, writes_from, named, transaction_of, transactions_of, line_at, map_after, empty_map, live_one, live_from}
+use Rattle.mq_blocks.specs.Machine.{Map, Writes, write_of, or_kept, after}
+use Rattle.mqfs.specs.Lines.{set_in, freed_in, with_write, writes_from, named, transaction_of, map_after, live_one, live_from}
 use Rattle.mqfs.specs.Live.{AreMarks}
 use Rattle.mqfs.specs.Text.{AreSets, HasSetsOnly, AreGoodItems, AreGoodLines}
 use Rattle.mqfs.specs.declared.text.item.BlockItem.{BlockItem}

@@ -1,14 +1,13 @@
 -- Two images of a drive of one queue, on which a text was committed, and their recovery.
-use Rattle.std.proofs.Common.{◌≡◌, ◌<◌, ◌≤◌, ℕ, zero, suc, ◌+◌, ◌*◌, List, [], ◌∷◌, length, inl, inr, Some, refl, sym, ◌∙◌, ap, subst, arith}
-use Rattle.std.specs.Prelude.{Result, Ok, Err}
+use Rattle.std.proofs.Common.{◌≡◌, ◌<◌, ◌≤◌, ℕ, ◌*◌, List, [], ◌∷◌, inl, inr, ◌∙◌, ap, subst, arith}
+use Rattle.std.specs.Prelude.{Result, Err}
 use Rattle.mq_nvme.specs.Says.{says}
-use Rattle.mq_blocks.specs.Drive.{PortState, PortImage, IsQuiet}
+use Rattle.mq_blocks.specs.Drive.{PortState, PortImage}
 use Rattle.mq_blocks.specs.Geometry.{homes_of}
 use Rattle.mq_blocks.specs.Journal.{shown}
 use Rattle.mq_blocks.specs.Machine.{Map}
 use Rattle.mq_blocks.specs.declared.geometry.Geometry.{Geometry}
-use Rattle.mq_drive.specs.Start.{IsImageOf, IsPortOf, start_of}
-use Rattle.mq_drive.specs.Steps.{PowerOff, HomeError}
+use Rattle.mq_drive.specs.Start.{IsImageOf, start_of}
 use Rattle.mq_drive.proofs.Starts.{port_of-start, quiet-start}
 use Rattle.mq_drive.specs.declared.role.Role.TheVariants.{Queue, Root}
 use Rattle.mqfs.specs.Commits.{AreBelow, AllBelow, ShowsMap}
@@ -16,7 +15,7 @@ use Rattle.mqfs.specs.Fresh.{IsTextGeometry}
 use Rattle.mqfs.specs.Live.{HoldsMap}
 use Rattle.mqfs.specs.Recovery.{IsSettled, IsRecovered}
 use Rattle.mqfs.specs.RecoverCauses.{HasDriveCause, IsOfDrive, OneGains}
-use Rattle.mqfs.specs.Text.{IsGoodItem, AreGoodItems, AreGoodLines}
+use Rattle.mqfs.specs.Text.{AreGoodItems, AreGoodLines}
 use Rattle.mqfs.specs.declared.text.item.BlockItem.{BlockItem}
 use Rattle.mqfs.specs.declared.text.item.BlockItem.TheVariants.{Set, Free}
 use Rattle.mqfs.specs.declared.recovery.refusal.ImageFault.TheVariants as fault

@@ -1,14 +1,11 @@
 -- Staging one entry more.
-use Rattle.std.proofs.Common.{◌≡◌, ◌<◌, ◌≤◌, ℕ, zero, suc, ◌+◌, ◌-◌, ◌*◌, ◌%◌, ◌/◌, ◌^◌, Bool, true, false, List, [], ◌∷◌, ◌++◌, length, set, refl, sym, ◌∙◌, ap, subst, arith, append_assoc, length-append, add-zero, inl, inr, ⊎_elim}
+use Rattle.std.proofs.Common.{◌≡◌, ℕ, suc, ◌+◌, ◌%◌, List, [], ◌∷◌, ◌++◌, length, set, refl, sym, ◌∙◌, ap, subst, arith, append_assoc, length-append, inl, inr, ⊎_elim}
 use Rattle.std.proofs.lemmas.List.{append-nil}
 use Rattle.std.proofs.lemmas.Bool.Decides.{nat_tests}
 use Rattle.std.specs.Prelude.{◌==◌}
-use Rattle.mq_nvme.specs.Entry.{entry_of, tx_of, lba_of}
-use Rattle.mq_nvme.specs.declared.write.WriteReq.{WriteReq}
-use Rattle.mq_nvme.proofs.Entries.{tx_of-entry, lba_of-entry}
 use Rattle.mq_blocks.specs.Drive.{PortState, counted, depth, staged_end, after_stage, Owns}
 use Rattle.mq_blocks.specs.declared.command.Command.{Command}
-use Rattle.mqfs.specs.Runs.{Items, entry_at, slots_with, commands_of, after_some, is_last, AreOwn}
+use Rattle.mqfs.specs.Runs.{Items, entry_at, slots_with, commands_of, after_some, is_last}
 
 pub end_more : (s : PortState) (e : List ℕ) (tx lba : ℕ) (b : List ℕ) → staged_end (after_stage s e tx lba b) ≡ staged_end s + 1
 end_more s e tx lba b = omega (arith, length-append s.pending (record { count = staged_end s; tx = tx; lba = lba; block = b } ∷ []))

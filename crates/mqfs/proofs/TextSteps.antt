@@ -1,23 +1,20 @@
 -- The lines of a text, one after another.
-use Rattle.std.proofs.Common.{◌≡◌, ◌≢◌, ◌<◌, ◌≤◌, ℕ, zero, suc, ◌+◌, ◌-◌, ◌^◌, Bool, true, false, cond, List, [], ◌∷◌, ◌++◌, length, drop, get_or, min, Option, Some, None, refl, sym, ◌∙◌, ap, subst, arith, add-zero}
+use Rattle.std.proofs.Common.{◌≡◌, ◌<◌, ◌≤◌, ℕ, zero, suc, ◌+◌, ◌-◌, ◌^◌, true, List, [], ◌∷◌, length, drop, get_or, min, Some, refl, sym, ◌∙◌, ap, subst, arith, add-zero}
 use Rattle.std.proofs.Math.Seq.{drop-cons}
 use Rattle.std.proofs.lemmas.List.{get_or_default}
 use Rattle.mq_blocks.specs.Descriptor.{Descriptor, AreRising, descriptor_bytes}
-use Rattle.mq_blocks.specs.Drive.{PortState, PortImage, IsImage, IsQuiet, counted, index_of, staged_end}
+use Rattle.mq_blocks.specs.Drive.{PortState, PortImage, IsImage, counted, index_of, staged_end}
 use Rattle.mq_blocks.specs.Geometry.{homes_of}
 use Rattle.mq_blocks.specs.Journal.{shown}
 use Rattle.mq_blocks.specs.Machine.{Writes, Transaction}
 use Rattle.mq_blocks.specs.declared.geometry.Geometry.{Geometry}
 use Rattle.mq_blocks.specs.declared.command.Command.{Command}
-use Rattle.mq_drive.specs.Start.{IsPortOf}
-use Rattle.mq_drive.specs.declared.role.Role.TheVariants.{Queue}
 use Rattle.mq_nvme.specs.Says.{says}
-use Rattle.mqfs.specs.Commits.{IsCleanQueue, AreBelow, AllBelow, Keeps, ShowsMap, blocks_in, items_of, descriptor_for}
-use Rattle.mqfs.specs.Lines.{set_in, writes_from, named, transaction_of, transactions_of, line_at, map_after}
+use Rattle.mqfs.specs.Commits.{IsCleanQueue, AllBelow, Keeps, ShowsMap, blocks_in, items_of, descriptor_for}
+use Rattle.mqfs.specs.Lines.{set_in, writes_from, named, transaction_of, transactions_of, map_after}
 use Rattle.mqfs.specs.Runs.{Items, AreOwn, AreDistinct, after_line}
 use Rattle.mqfs.specs.Text.{AreGoodItems, IsGoodLine, AreGoodLines, IsGoodText, sets_in, places_of}
 use Rattle.mqfs.specs.declared.text.item.BlockItem.{BlockItem}
-use Rattle.mqfs.specs.declared.text.item.BlockItem.TheVariants.{Set, Free}
 use Rattle.mqfs.proofs.Fills.{below_set, length-writes, length-writes_sets, named_is, rising_writes}
 use Rattle.mqfs.proofs.JournalItems.{length-items, own_items, distinct_items}
 use Rattle.mqfs.proofs.JournalKeeps.{kept, doorbell_is}

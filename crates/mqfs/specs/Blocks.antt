@@ -1,5 +1,5 @@
 -- What `mqfs blocks` makes of the bytes of a file.
-use Rattle.std.specs.Prelude.{◌≡◌, ℕ, List, length}
+use Rattle.std.specs.Prelude.{ℕ, List, length}
 use Rattle.mqfs.specs.Lines.{map_after, live_from, named}
 use Rattle.mqfs.specs.Text.{IsTextOf, IsGoodText, HasSetsOnly, printed}
 use Rattle.mqfs.specs.declared.text.item.BlockItem.{BlockItem}

@@ -1,18 +1,18 @@
 -- How a text stands on the drive once it is committed.
-use Rattle.std.specs.Prelude.{◌≡◌, ◌≢◌, ◌<◌, ◌≤◌, ◌⊎◌, ℕ, zero, suc, ◌+◌, ◌-◌, ◌%◌, ◌^◌, true, List, [], ◌∷◌, length, Option, Some, None, slice_index_or}
+use Rattle.std.specs.Prelude.{◌≡◌, ◌<◌, ◌≤◌, ℕ, ◌+◌, ◌-◌, ◌%◌, ◌^◌, true, List, [], ◌∷◌, length, Some, slice_index_or}
 use Rattle.mq_nvme.specs.Says.{says}
 use Rattle.mq_blocks.specs.Blocks.{block_at}
 use Rattle.mq_blocks.specs.Descriptor.{Descriptor, descriptor_bytes}
 use Rattle.mq_blocks.specs.Drive.{PortState, PortImage, IsImage, IsQuiet, depth}
 use Rattle.mq_blocks.specs.Geometry.{area_lba, homes_of}
-use Rattle.mq_blocks.specs.Journal.{Says, Shown, shown, IsChain, AreInRow, IsQueueChain, Reaches, logged_copy, stands}
+use Rattle.mq_blocks.specs.Journal.{Shown, shown, IsChain, AreInRow, IsQueueChain, Reaches, logged_copy, stands}
 use Rattle.mq_blocks.specs.Machine.{Map, Writes, Transaction, write_of}
 use Rattle.mq_blocks.specs.declared.geometry.Geometry.{Geometry}
 use Rattle.mq_drive.specs.Start.{IsPortOf}
 use Rattle.mq_drive.specs.declared.role.Role.TheVariants.{Queue, Root}
 use Rattle.mqfs.specs.Lines.{map_after}
 use Rattle.mqfs.specs.Runs.{Items}
-use Rattle.mqfs.specs.Text.{IsGoodText, block_of}
+use Rattle.mqfs.specs.Text.{block_of}
 use Rattle.mqfs.specs.declared.text.item.BlockItem.{BlockItem}
 
 -- the entry before the head, where there is one, is a commit request whose number the base covers

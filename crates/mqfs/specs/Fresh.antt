@@ -1,5 +1,5 @@
 -- A drive on which nothing has happened.
-use Rattle.std.specs.Prelude.{◌≡◌, ℕ, Option, None, slice_index_or}
+use Rattle.std.specs.Prelude.{◌≡◌, ℕ, None, slice_index_or}
 use Rattle.mq_blocks.specs.Drive.{PortState, IsQuiet}
 use Rattle.mq_blocks.specs.declared.geometry.Geometry.{Geometry}
 use Rattle.mq_drive.specs.Start.{IsPortOf}

@@ -1,5 +1,5 @@
 -- What a block text means: each line is one transaction on the map of home blocks.
-use Rattle.std.specs.Prelude.{◌≡◌, ◌<◌, ℕ, zero, suc, ◌+◌, ◌-◌, List, [], ◌∷◌, length, Option, Some, None, slice_index_or, nat_eq, if◌then◌else◌}
+use Rattle.std.specs.Prelude.{ℕ, zero, suc, ◌+◌, List, [], ◌∷◌, Option, Some, None, slice_index_or, nat_eq, if◌then◌else◌}
 use Rattle.mq_blocks.specs.Blocks.{filled}
 use Rattle.mq_blocks.specs.Machine.{Map, Writes, Transaction, after_all}
 use Rattle.mqfs.specs.declared.text.item.BlockItem.{BlockItem}

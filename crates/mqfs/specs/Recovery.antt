@@ -1,9 +1,9 @@
 -- What recovery on a drive of one queue makes of its two ports.
-use Rattle.std.specs.Prelude.{◌≡◌, ◌<◌, ◌≤◌, ◌⊎◌, ℕ, ◌+◌, List, [], ◌∷◌, length, Result, Ok, Err}
+use Rattle.std.specs.Prelude.{◌≡◌, ◌<◌, ℕ, ◌+◌, List, [], ◌∷◌, length}
 use Rattle.mq_nvme.specs.Says.{says}
 use Rattle.mq_blocks.specs.Descriptor.{Descriptor}
 use Rattle.mq_blocks.specs.Drive.{PortState, IsQuiet, image_of}
-use Rattle.mq_blocks.specs.Geometry.{homes_of, home_lba}
+use Rattle.mq_blocks.specs.Geometry.{homes_of}
 use Rattle.mq_blocks.specs.Journal.{Shown, shown, IsQueueChain, Reaches, stands}
 use Rattle.mq_blocks.specs.declared.geometry.Geometry.{Geometry}
 use Rattle.mq_drive.specs.Start.{IsPortOf}

@@ -1,10 +1,10 @@
-use Rattle.std.proofs.Common.{rules, ◌≡◌, ◌<◌, ◌≤◌, ℕ, List, [], ◌∷◌, length, refl, sym, ◌∙◌, ap, subst, arith}
+use Rattle.std.proofs.Common.{sym, subst}
 use Rattle.mq_blocks.specs.Drive.{PortState}
 use Rattle.mq_drive.specs.Emu.{emu_state}
 use Rattle.mq_drive.specs.Start.{start_of}
-use Rattle.mq_drive.specs.declared.role.Role.TheVariants.{Queue, Root}
+use Rattle.mq_drive.specs.declared.role.Role.TheVariants.{Root}
 use Rattle.mqfs.specs.Recovery.{IsSettled}
-use Rattle.mqfs.proofs.Restarts.{settled_start, holds_map, only_memory}
+use Rattle.mqfs.proofs.Restarts.{settled_start, only_memory}
 use Rattle.mqfs.proofs.blocks.recover_images.Goals as goal
 
 pub recover_ports-requires : goal.recover_ports-requires

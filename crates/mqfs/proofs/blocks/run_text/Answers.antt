@@ -1,4 +1,3 @@
-use Rattle.std.proofs.Common.{rules, ◌≡◌}
 use Rattle.mq_blocks.specs.Geometry.{homes_of}
 use Rattle.mqfs.proofs.Restarts.{text_homes, lines_below}
 use Rattle.mqfs.proofs.blocks.run_text.Goals as goal

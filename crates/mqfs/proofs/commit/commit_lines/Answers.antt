@@ -1,8 +1,7 @@
-use Rattle.std.proofs.Common.{rules, ◌≡◌, ◌<◌, ◌≤◌, ℕ, ◌+◌, ◌-◌, List, [], ◌∷◌, length, get_or, refl, sym, ◌∙◌, ap, subst, arith}
+use Rattle.std.proofs.Common.{rules, ◌≡◌, length, refl, ◌∙◌, ap, arith}
 use Rattle.std.specs.VecDeque.{deque_len}
-use Rattle.mq_blocks.specs.Drive.{PortState}
 use Rattle.mqfs.specs.Runs.{Items}
-use Rattle.mqfs.proofs.TextSteps.{Lines, SoFar, Turn, none_yet, finished, places_many, line_turn, line_more, some_items, good_line, low_next}
+use Rattle.mqfs.proofs.TextSteps.{Lines, none_yet, finished, places_many, line_turn, line_more, some_items}
 use Rattle.mqfs.proofs.commit.commit_lines.Goals as goal
 
 pub loop-line-init : goal.loop-line-init

@@ -1,19 +1,14 @@
-use Rattle.std.proofs.Common.{rules, ◌≡◌, ◌<◌, ◌≤◌, ℕ, ◌+◌, ◌-◌, List, [], ◌∷◌, ◌++◌, length, drop, get_or, Option, Some, None, refl, sym, ◌∙◌, ap, subst, arith, Global}
-use Rattle.std.proofs.lemmas.Grind.{common_steps}
+use Rattle.std.proofs.Common.{◌≡◌, ℕ, ◌+◌, ◌-◌, List, [], ◌∷◌, ◌++◌, get_or, None, sym, ◌∙◌, ap, subst, arith, Global}
 use Rattle.std.proofs.lemmas.List.{append-nil}
-use Rattle.std.proofs.Math.ListN.{drop_of_length-le}
 use Rattle.std.specs.declared.collections.VecDeque.{VecDeque}
 use Rattle.mq_blocks.specs.Blocks.{filled}
 use Rattle.mq_blocks.specs.Geometry.{area_lba}
 use Rattle.mq_blocks.specs.declared.geometry.Geometry.{Geometry}
 use Rattle.mq_blocks.specs.Machine.{Writes}
-use Rattle.mqfs.specs.Commits.{blocks_in, copies_from}
-use Rattle.mqfs.specs.Lines.{set_in, writes_from, named}
+use Rattle.mqfs.specs.Commits.{copies_from}
+use Rattle.mqfs.specs.Lines.{writes_from, named}
 use Rattle.mqfs.specs.Runs.{Items}
-use Rattle.mqfs.specs.Text.{AreGoodItems, IsGoodItem, block_of}
-use Rattle.mqfs.specs.declared.text.item.BlockItem.{BlockItem}
-use Rattle.mqfs.specs.declared.text.item.BlockItem.TheVariants.{Set, Free}
-use Rattle.mqfs.proofs.Fills.{Fill, named_is, writes_first, writes_last, blocks_none, blocks_some, copies_none, copies_some, good_at}
+use Rattle.mqfs.proofs.Fills.{Fill, writes_last, copies_none, copies_some}
 use Rattle.mqfs.proofs.items.copies.Goals as goal
 use Rattle.mqfs.proofs.items.copies.Goals.{in-None, in-Some+in_ok-filled-in-Some+in_ok-push_back-in-Some}
 

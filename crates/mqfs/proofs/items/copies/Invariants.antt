@@ -1,4 +1,4 @@
-use Rattle.std.proofs.Common.{◌≡◌, ◌<◌, ◌≤◌, ℕ, ◌+◌, ◌-◌, ◌++◌, get_or, None}
+use Rattle.std.proofs.Common.{◌≡◌, ◌≤◌, ◌+◌, ◌-◌, ◌++◌, get_or, None}
 use Rattle.mqfs.specs.Commits.{copies_from}
 use Rattle.mqfs.specs.Lines.{writes_from, named}
 use Rattle.mqfs.proofs.items.copies.Given as goal

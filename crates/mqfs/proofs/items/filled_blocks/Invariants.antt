@@ -1,4 +1,4 @@
-use Rattle.std.proofs.Common.{◌≡◌, ◌<◌, ◌≤◌, ℕ, ◌+◌, ◌-◌, ◌++◌, get_or, None}
+use Rattle.std.proofs.Common.{◌≡◌, ◌-◌, ◌++◌, get_or, None}
 use Rattle.mqfs.specs.Commits.{blocks_in}
 use Rattle.mqfs.specs.Lines.{writes_from, named}
 use Rattle.mqfs.proofs.items.filled_blocks.Given as goal

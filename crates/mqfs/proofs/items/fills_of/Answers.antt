@@ -1,16 +1,7 @@
-use Rattle.std.proofs.Common.{rules, ◌≡◌, ◌<◌, ◌≤◌, ℕ, ◌+◌, ◌-◌, List, [], ◌∷◌, ◌++◌, length, drop, get_or, Option, Some, None, refl, sym, ◌∙◌, ap, subst, arith, vec_len}
-use Rattle.std.proofs.lemmas.Grind.{common_steps}
-use Rattle.std.proofs.lemmas.List.{append-nil}
-use Rattle.std.proofs.Math.ListN.{drop_of_length-le}
-use Rattle.mq_blocks.specs.Geometry.{area_lba}
-use Rattle.mq_blocks.specs.Machine.{Writes}
-use Rattle.mqfs.specs.Commits.{blocks_in, copies_from}
-use Rattle.mqfs.specs.Lines.{set_in, writes_from, named}
-use Rattle.mqfs.specs.Runs.{Items}
-use Rattle.mqfs.specs.Text.{AreGoodItems, IsGoodItem, block_of}
+use Rattle.std.proofs.Common.{rules, ◌≡◌, ◌<◌, ◌-◌, List, length, sym, ◌∙◌, subst, arith, vec_len}
+use Rattle.mqfs.specs.Text.{AreGoodItems}
 use Rattle.mqfs.specs.declared.text.item.BlockItem.{BlockItem}
-use Rattle.mqfs.specs.declared.text.item.BlockItem.TheVariants.{Set, Free}
-use Rattle.mqfs.proofs.Fills.{Fill, named_is, writes_first, writes_last, blocks_none, blocks_some, copies_none, copies_some, good_at}
+use Rattle.mqfs.proofs.Fills.{good_at}
 use Rattle.mqfs.proofs.Fills.{good_set}
 use Rattle.mqfs.proofs.items.fills_of.Goals as goal
 

@@ -1,6 +1,5 @@
 use Rattle.std.proofs.Common.{◌≡◌, ◌<◌, ◌≤◌, ℕ, length, drop, get_or, None}
 use Rattle.mqfs.specs.Lines.{set_in}
-use Rattle.mqfs.specs.Text.{AreGoodItems}
 use Rattle.mqfs.proofs.items.fills_of.Given as goal
 
 -- the fills are those of the items from k on

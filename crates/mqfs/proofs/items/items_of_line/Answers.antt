@@ -1,4 +1,4 @@
-use Rattle.std.proofs.Common.{rules, ◌≡◌, ◌<◌, ◌≤◌, ℕ, ◌+◌, ◌-◌, List, [], ◌∷◌, ◌++◌, length, get_or, Option, Some, None, refl, sym, ◌∙◌, ap, subst, arith, vec_len}
+use Rattle.std.proofs.Common.{rules, ◌≡◌, ◌≤◌, ℕ, ◌+◌, ◌-◌, List, [], ◌∷◌, ◌++◌, length, get_or, Option, None, sym, ◌∙◌, ap, subst, arith}
 use Rattle.mq_blocks.specs.Descriptor.{descriptor_bytes}
 use Rattle.mq_blocks.specs.Geometry.{area_lba}
 use Rattle.mqfs.specs.Commits.{blocks_in, copies_from}

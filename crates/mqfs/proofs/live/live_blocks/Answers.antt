@@ -1,4 +1,4 @@
-use Rattle.std.proofs.Common.{rules, ◌≡◌, ◌<◌, ◌≤◌, ℕ, ◌+◌, ◌-◌, ◌++◌, ◌∷◌, [], get_or, arith, sym, ◌∙◌, ap, List}
+use Rattle.std.proofs.Common.{ℕ, ◌+◌, ◌-◌, ◌++◌, ◌∷◌, [], get_or, sym, ◌∙◌, ap, List}
 use Rattle.std.proofs.lemmas.List.{append-nil}
 use Rattle.mqfs.specs.Lines.{live_from, named}
 use Rattle.mqfs.proofs.LiveBlocks.{live_none, live_some, live_last}

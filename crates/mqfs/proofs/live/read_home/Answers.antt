@@ -1,6 +1,6 @@
-use Rattle.std.proofs.Common.{rules, ◌≡◌, ◌<◌, ◌≤◌, ℕ, ◌+◌, ◌-◌, ◌*◌, length, arith, subst, sym, ◌∙◌, ap, List}
+use Rattle.std.proofs.Common.{◌≡◌, ◌<◌, ◌≤◌, ℕ, ◌+◌, ◌-◌, ◌*◌, length, arith, subst, sym, ◌∙◌, ap}
 use Rattle.mq_blocks.specs.Blocks.{block_at}
-use Rattle.mq_blocks.specs.Drive.{PortState, index_of, IsApartFrom, IsCertain}
+use Rattle.mq_blocks.specs.Drive.{index_of, IsApartFrom, IsCertain}
 use Rattle.mq_blocks.specs.Geometry.{home_lba}
 use Rattle.mqfs.proofs.RecoverHomes.{home-zone, index-queue}
 use Rattle.mqfs.proofs.live.read_home.Goals as goal

@@ -1,7 +1,7 @@
-use Rattle.std.proofs.Common.{◌≡◌, ◌<◌, ◌≤◌, ℕ, zero, suc, ◌+◌, ◌-◌, List, [], ◌∷◌, length, refl, sym, ◌∙◌, ap, subst, arith, rules}
+use Rattle.std.proofs.Common.{◌≡◌, ◌+◌, length, ◌∙◌, ap, arith, rules}
 use Rattle.std.specs.VecDeque.{deque_len}
 use Rattle.mq_blocks.specs.Drive.{PortState, staged_end, after_flush, after_ring}
-use Rattle.mqfs.specs.Runs.{after_some, after_all}
+use Rattle.mqfs.specs.Runs.{after_all}
 use Rattle.mqfs.proofs.Lines.{staged_all, apart_posted}
 use Rattle.mqfs.proofs.pmr.commit_line.Goals as goal
 

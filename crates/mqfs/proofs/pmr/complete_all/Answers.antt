@@ -1,8 +1,7 @@
-use Rattle.std.proofs.Common.{◌≡◌, ◌≢◌, ◌<◌, ◌≤◌, ℕ, ◌+◌, ◌-◌, length, sym, ◌∙◌, ap, subst, arith}
-use Rattle.mq_blocks.specs.Drive.{PortState, after_done}
+use Rattle.std.proofs.Common.{◌≡◌, sym, ◌∙◌}
+use Rattle.mq_blocks.specs.Drive.{PortState}
 use Rattle.mq_nvme.specs.Completion.{status_of}
-use Rattle.mqfs.specs.Runs.{after_all}
-use Rattle.mqfs.proofs.Ending.{goes_on, one_less, after_all-idle}
+use Rattle.mqfs.proofs.Ending.{goes_on}
 use Rattle.mqfs.proofs.pmr.complete_all.Goals as goal
 
 pub loop-completion-preserved : goal.loop-completion-preserved

@@ -1,13 +1,13 @@
-use Rattle.std.proofs.Common.{◌≡◌, ◌<◌, ◌≤◌, ℕ, zero, suc, ◌+◌, ◌-◌, ◌%◌, ◌^◌, Bool, List, [], ◌∷◌, length, refl, sym, ◌∙◌, ap, subst, arith, rules, add-zero}
+use Rattle.std.proofs.Common.{◌≡◌, ◌<◌, ℕ, suc, ◌+◌, ◌-◌, ◌%◌, Bool, List, ◌∷◌, length, refl, sym, ◌∙◌, ap, subst, arith, rules, add-zero}
 use Rattle.std.proofs.lemmas.Result.{err_from_is_err_and}
 use Rattle.std.specs.Prelude.{◌==◌}
 use Rattle.std.specs.VecDeque.{deque_len}
-use Rattle.mq_nvme.specs.Entry.{entry_of, tx_of, lba_of, IsWrite}
+use Rattle.mq_nvme.specs.Entry.{entry_of, tx_of, lba_of}
 use Rattle.mq_nvme.specs.declared.write.WriteReq.{WriteReq}
 use Rattle.mq_nvme.proofs.Entries.{tx_of-entry, lba_of-entry}
-use Rattle.mq_blocks.specs.Drive.{PortState, Owns, staged_end, after_stage}
+use Rattle.mq_blocks.specs.Drive.{PortState, Owns, staged_end}
 use Rattle.mqfs.specs.Runs.{Items, after_some, is_last, entry_at, AreOwn}
-use Rattle.mqfs.proofs.Staging.{Next, next, none_more, is_last_by_length, owns-along, stays_staged, stays-refl}
+use Rattle.mqfs.proofs.Staging.{Next, next, none_more, is_last_by_length, owns-along, stays_staged}
 use Rattle.mqfs.proofs.pmr.stage_all.Goals as goal
 
 pub stage-requires-clause-write : goal.stage-requires-clause-write

@@ -1,4 +1,4 @@
-use Rattle.std.proofs.Common.{◌≡◌, ◌≤◌, ◌<◌, ℕ, ◌+◌, ◌-◌, length}
+use Rattle.std.proofs.Common.{◌≡◌, ◌≤◌, ℕ, ◌+◌, ◌-◌, length}
 use Rattle.std.specs.VecDeque.{deque_len}
 use Rattle.mq_blocks.specs.Drive.{staged_end}
 use Rattle.mqfs.specs.Runs.{after_some, AreOwn}

@@ -1,4 +1,4 @@
-use Rattle.std.proofs.Common.{rules, ◌≡◌, ℕ, List, sym, subst}
+use Rattle.std.proofs.Common.{ℕ, List, sym, subst}
 use Rattle.std.specs.Prelude.{codes}
 use Rattle.mqfs.specs.Outside.{Holds}
 use Rattle.mqfs.specs.Program.{fault, too_long, EndsWith, named_line}

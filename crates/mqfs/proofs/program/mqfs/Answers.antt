@@ -1,4 +1,3 @@
-use Rattle.std.proofs.Common.{rules, ◌≡◌}
 use Rattle.mqfs.proofs.Programs.{said_part}
 use Rattle.mqfs.proofs.program.mqfs.Goals as goal
 

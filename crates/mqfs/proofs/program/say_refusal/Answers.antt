@@ -1,4 +1,3 @@
-use Rattle.std.proofs.Common.{rules, ◌≡◌}
 use Rattle.mqfs.proofs.program.say_refusal.Goals as goal
 
 pub returns-in-Form : goal.returns-in-Form
