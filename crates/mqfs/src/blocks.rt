@@ -26,6 +26,9 @@ use mq_drive::{EmuPort, PortImage, Ports, Role};
 use mq_nvme::Entry;
 use std::alloc::Global;
 
+#[cfg(test)]
+mod tests;
+
 /// The geometry of block texts: one queue with the smallest journal area, and 256 home blocks.
 pub fn text_geometry() -> Geometry
     ensures { IsTextGeometry result }

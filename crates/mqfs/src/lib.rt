@@ -9,6 +9,8 @@ mod outside;
 mod pmr;
 mod program;
 mod recovery;
+#[cfg(test)]
+mod tests;
 mod text;
 
 pub use commit::{TextRefusal, commit_text};

@@ -1,0 +1,153 @@
+// The program over files and an output in memory, and what no contract says.
+use super::*;
+use std::alloc::{AllocError, Global};
+
+// The words.
+fn words_of(alloc: Global, words: &[&str]) -> Result<Vec<String>, AllocError> {
+    let mut all = Vec::new(alloc);
+    for word in words {
+        all.push(String::from_str(alloc, *word)?)?;
+    }
+    Ok(all)
+}
+
+// Files with the one name `t`, of which the calls listed fail.
+fn file_t(alloc: Global, text: &[u8], fail: &[u64]) -> Result<MemFiles, AllocError> {
+    let name = String::from_str(alloc, "t")?;
+    let names = vec![in alloc; (name, Vec::from_slice(alloc, text)?)]?;
+    Ok(MemFiles::new(alloc, names, Vec::from_slice(alloc, fail)?))
+}
+
+// Whether these words, where `t` holds this text, end so.
+fn ends(
+    alloc: Global,
+    words: &[&str],
+    text: &[u8],
+    status: u8,
+    output: &[u8],
+) -> Result<bool, AllocError> {
+    let words = words_of(alloc, words)?;
+    let mut files = file_t(alloc, text, &[])?;
+    let mut out = MemSink::new(alloc, Vec::new(alloc));
+    let answer = mqfs(alloc, &words, &mut files, &mut out);
+    Ok(answer == status && out.written() == output && files.get("t") == Some(text))
+}
+
+// Whether `blocks t` prints this.
+fn prints(alloc: Global, text: &[u8], output: &[u8]) -> Result<bool, AllocError> {
+    ends(alloc, &["blocks", "t"], text, 0, output)
+}
+
+#[test]
+fn the_blocks_of_one_line(rt: HostRuntime) -> Result<(), AllocError> {
+    let alloc = rt.alloc();
+    assert!(rt; prints(alloc, b"5=ab 7=01\n", b"prefix 1\n5 ab\n7 01\n")?);
+    assert!(rt; prints(alloc, b"7=01 5=ab", b"prefix 1\n5 ab\n7 01\n")?);
+    assert!(rt; prints(alloc, b"0=00\n", b"prefix 1\n0 00\n")?);
+    assert!(rt; prints(alloc, b"255=ff\n", b"prefix 1\n255 ff\n")?);
+    assert!(rt; prints(alloc, b"15=0f 16=10\n", b"prefix 1\n15 0f\n16 10\n")?);
+    Ok(())
+}
+
+#[test]
+fn no_line_and_no_block(rt: HostRuntime) -> Result<(), AllocError> {
+    assert!(rt; prints(rt.alloc(), b"", b"prefix 0\n")?);
+    Ok(())
+}
+
+#[test]
+fn later_lines_go_over_earlier_ones(rt: HostRuntime) -> Result<(), AllocError> {
+    let alloc = rt.alloc();
+    assert!(rt;
+        prints(
+            alloc,
+            b"5=ab 7=01\n7=02\n9=ff\n",
+            b"prefix 3\n5 ab\n7 02\n9 ff\n"
+        )?
+    );
+    assert!(rt; prints(alloc, b"1=00\n1=01\n1=02\n1=03\n", b"prefix 4\n1 03\n")?);
+    Ok(())
+}
+
+const USAGE: &[u8] = b"usage: mqfs blocks|format|run|recover|ls|cat|gen|dump\n";
+
+#[test]
+fn other_words_are_no_command(rt: HostRuntime) -> Result<(), AllocError> {
+    let alloc = rt.alloc();
+    assert!(rt; ends(alloc, &[], b"1=00\n", 1, USAGE)?);
+    assert!(rt; ends(alloc, &["blocks"], b"1=00\n", 1, USAGE)?);
+    assert!(rt; ends(alloc, &["blocks", "t", "t"], b"1=00\n", 1, USAGE)?);
+    assert!(rt; ends(alloc, &["block", "t"], b"1=00\n", 1, USAGE)?);
+    assert!(rt; ends(alloc, &["Blocks", "t"], b"1=00\n", 1, USAGE)?);
+    assert!(rt; ends(alloc, &["t", "blocks"], b"1=00\n", 1, USAGE)?);
+    Ok(())
+}
+
+#[test]
+fn other_texts_are_refused(rt: HostRuntime) -> Result<(), AllocError> {
+    let alloc = rt.alloc();
+    for text in [
+        b"\n".as_slice(),
+        b"5=ab 300=00",
+        b"-5\n",
+        b"5=ab\n-5\n",
+        b"5=ab 5=01\n",
+    ] {
+        assert!(rt; ends(alloc, &["blocks", "t"], text, 2, b"blocks Form\n")?);
+    }
+    Ok(())
+}
+
+#[test]
+fn a_file_that_is_absent_or_fails(rt: HostRuntime) -> Result<(), AllocError> {
+    let alloc = rt.alloc();
+    assert!(rt; ends(alloc, &["blocks", "a b"], b"", 4, b"fault load a b\n")?);
+    let words = words_of(alloc, &["blocks", "t"])?;
+    let mut files = file_t(alloc, b"1=00\n", &[1])?;
+    let mut out = MemSink::new(alloc, Vec::new(alloc));
+    assert_eq!(rt; mqfs(alloc, &words, &mut files, &mut out), 4);
+    assert!(rt; out.written() == b"fault load t\n".as_slice());
+    Ok(())
+}
+
+#[test]
+fn an_output_that_fails(rt: HostRuntime) -> Result<(), AllocError> {
+    let alloc = rt.alloc();
+    let words = words_of(alloc, &["blocks", "t"])?;
+    let text = b"1=00 2=00 3=00 4=00 5=00 6=00 7=00 8=00 9=00 10=00 11=00 12=00 13=00 14=00\n";
+    for call in [1, 2] {
+        let mut files = file_t(alloc, text, &[])?;
+        let mut out = MemSink::new(alloc, Vec::from_slice(alloc, &[call])?);
+        assert_eq!(rt; mqfs(alloc, &words, &mut files, &mut out), 4);
+        assert_eq!(rt; out.written().len(), 64 * (call as usize - 1));
+    }
+    Ok(())
+}
+
+// Lines that fill the journal area: four that set 255 blocks each.
+fn full_text(alloc: Global) -> Result<Vec<u8>, AllocError> {
+    let mut text = Vec::new(alloc);
+    for line in 0..4_u32 {
+        for block in 0..255_u32 {
+            let item = format!(in alloc; "{}={:02x} ", block + (line & 1), line)?;
+            text.extend_from_slice(item.as_bytes())?;
+        }
+        text.pop();
+        text.push(b'\n')?;
+    }
+    Ok(text)
+}
+
+#[test]
+fn a_text_that_fills_the_area(rt: HostRuntime) -> Result<(), AllocError> {
+    let alloc = rt.alloc();
+    let mut output = Vec::from_slice(alloc, b"prefix 4\n0 02\n")?;
+    for block in 1..256_u32 {
+        output.extend_from_slice(format!(in alloc; "{block} 03\n")?.as_bytes())?;
+    }
+    let mut text = full_text(alloc)?;
+    assert!(rt; prints(alloc, &text, &output)?);
+    text.extend_from_slice(b"0=00\n")?;
+    assert!(rt; ends(alloc, &["blocks", "t"], &text, 2, b"blocks Form\n")?);
+    Ok(())
+}
