@@ -1,19 +1,20 @@
 -- Two images of a drive of one queue, on which a text was committed, and their recovery.
-use Rattle.std.proofs.Common.{◌≡◌, ◌<◌, ◌≤◌, ℕ, ◌*◌, List, [], ◌∷◌, inl, inr, ◌∙◌, ap, subst, arith}
-use Rattle.std.specs.Prelude.{Result, Err}
+use Rattle.std.proofs.Common.{◌≡◌, ◌<◌, ◌≤◌, ℕ, ◌+◌, ◌*◌, List, [], ◌∷◌, length, Some, refl, inl, inr, ◌∙◌, ap, subst, arith}
+use Rattle.std.specs.Prelude.{slice_get, Result, Err}
 use Rattle.mq_nvme.specs.Says.{says}
-use Rattle.mq_blocks.specs.Drive.{PortState, PortImage}
+use Rattle.mq_blocks.specs.Descriptor.{Descriptor}
+use Rattle.mq_blocks.specs.Drive.{PortState, PortImage, IsQuiet}
 use Rattle.mq_blocks.specs.Geometry.{homes_of}
-use Rattle.mq_blocks.specs.Journal.{shown}
+use Rattle.mq_blocks.specs.Journal.{shown, IsQueueChain, Reaches}
 use Rattle.mq_blocks.specs.Machine.{Map}
 use Rattle.mq_blocks.specs.declared.geometry.Geometry.{Geometry}
-use Rattle.mq_drive.specs.Start.{IsImageOf, start_of}
+use Rattle.mq_drive.specs.Start.{IsImageOf, IsPortOf, start_of}
 use Rattle.mq_drive.proofs.Starts.{port_of-start, quiet-start}
 use Rattle.mq_drive.specs.declared.role.Role.TheVariants.{Queue, Root}
 use Rattle.mqfs.specs.Commits.{AreBelow, AllBelow, ShowsMap}
 use Rattle.mqfs.specs.Fresh.{IsTextGeometry}
 use Rattle.mqfs.specs.Live.{HoldsMap}
-use Rattle.mqfs.specs.Recovery.{IsSettled, IsRecovered}
+use Rattle.mqfs.specs.Recovery.{view_of, IsSettled, IsRecovered}
 use Rattle.mqfs.specs.RecoverCauses.{HasDriveCause, IsOfDrive, OneGains}
 use Rattle.mqfs.specs.Text.{AreGoodItems, AreGoodLines}
 use Rattle.mqfs.specs.declared.text.item.BlockItem.{BlockItem}
@@ -73,3 +74,37 @@ only_memory {A} g r e drive cause is = by e (subst (λ (x : Result A RecoverRefu
     by (Image c) drive cause = ap Image drive
     by Off drive cause = absurd (no_one_gain cause)
     by (Failed block status) drive cause = absurd (no_one_gain cause)
+
+pub single : {A : Type 0} (xs : List A) → length xs ≡ 1 → (x : A) × (slice_get xs 0 ≡ Some x)
+single [] one = absurd (omega arith)
+single (x ∷ xs) one = (x, refl)
+
+-- what recovery makes of two ports
+abbrev pub Recovers : Geometry → (queue root new_queue new_root : PortState) → (prefix base : ℕ) → Type 0
+Recovers g queue root new_queue new_root prefix base =
+    (ds : List Descriptor) → Reaches g (view_of g queue root) ds → IsQueueChain g (view_of g queue root) 0 ds → IsRecovered g queue root ds new_queue new_root × (prefix ≡ length ds) × (base ≡ root.base + length ds)
+
+-- two ports that started from such images, after recovery
+pub record IsAsShown (g : Geometry) (n : ℕ) (m : Map) (new_queue new_root : PortState) (prefix : ℕ) : Type 0 where
+  pub queue_port : IsPortOf g (Queue 0) new_queue
+  pub root_port : IsPortOf g Root new_root
+  pub queue_quiet : IsQuiet new_queue
+  pub root_quiet : IsQuiet new_root
+  pub prefix_is : prefix ≡ n
+  pub holds : HoldsMap g new_queue new_root m
+
+pub recovered_start : (g : Geometry) (q r : PortImage) (queue root new_queue new_root : PortState) (n : ℕ) (m : Map) (prefix base : ℕ) → IsTextGeometry g → ShowsMap g (shown says g (q ∷ []) r) n m
+    → queue ≡ start_of g (Queue 0) q → root ≡ start_of g Root r → Recovers g queue root new_queue new_root prefix base → IsAsShown g n m new_queue new_root prefix
+recovered_start g q r queue root new_queue new_root n m prefix base text shows queue_is root_is recovers =
+    let at : Recovers g (start_of g (Queue 0) q) (start_of g Root r) new_queue new_root prefix base =
+        subst (λ (s : PortState). Recovers g s (start_of g Root r) new_queue new_root prefix base) queue_is
+          (subst (λ (s : PortState). Recovers g queue s new_queue new_root prefix base) root_is recovers) in
+    let is = at shows.ds shows.reaches shows.chain in
+    record {
+      queue_port = is.0.queue_port;
+      root_port = is.0.root_port;
+      queue_quiet = is.0.queue_quiet;
+      root_quiet = is.0.root_quiet;
+      prefix_is = is.1 ∙ shows.prefix_is;
+      holds = holds_map g q r n m new_queue new_root text shows is.0;
+    }

@@ -1,12 +1,12 @@
 // A block text is run: committed on a fresh drive, cut from power, recovered, and printed.
 ghost use Rattle.std.specs.Prelude.{◌≡◌, ◌<◌, ◌≤◌, ◌+◌, ◌||◌, ℕ, List, [], ◌∷◌, length, IfOk, IsErrOf, Some, None, is_some, slice_get, slice_index_or};
 ghost use Rattle.mq_blocks.specs.Drive.{PortImage as CutImage};
-ghost use Rattle.mq_blocks.specs.Geometry.{homes_of};
+ghost use Rattle.mq_blocks.specs.Geometry.{homes_of, queues_of};
 ghost use Rattle.mq_blocks.specs.Journal.{shown};
 ghost use Rattle.mq_nvme.specs.Says.{says};
 ghost use Rattle.mq_blocks.specs.Drive.{IsQuiet};
 ghost use Rattle.mq_blocks.specs.Machine.{Map};
-ghost use Rattle.mq_drive.specs.Start.{IsRole, IsImageOf, IsPortOf, area_size_of, homes_size_of};
+ghost use Rattle.mq_drive.specs.Start.{IsRole, IsImageOf, IsPortOf, area_size_of, homes_size_of, start_of};
 ghost use Rattle.mq_drive.specs.Emu.{emu_state};
 ghost use Rattle.mq_drive.specs.Roles.{slots_of};
 ghost use Rattle.mq_drive.specs.declared.role.Role.TheVariants.{Queue, Root};
@@ -19,7 +19,7 @@ ghost use Rattle.mqfs.specs.Live.{HoldsMap};
 
 use crate::commit::{TextRefusal, commit_text};
 use crate::live::{live_blocks, live_marks};
-use crate::recovery::{ImageFault, RecoverRefusal, recover_ports};
+use crate::recovery::{ImageFault, RecoverRefusal, recover};
 use crate::text::{BlockItem, BlockText, BlockTextRefusal, print_blocks, read_block_text};
 use mq_blocks::{Block, Geometry, OutOfMemory, QueueNo};
 use mq_drive::{EmuPort, PortImage, Ports, Role};
@@ -128,6 +128,23 @@ fn only_image(refusal: RecoverRefusal) -> OutOfMemory
     }
 }
 
+/// A drive of one queue that starts from what stayed of its queue's port and of the root's.
+fn restarted(
+    alloc: Global,
+    geometry: Geometry,
+    images: (PortImage, PortImage),
+) -> Result<Ports<EmuPort>, OutOfMemory>
+    requires one { 0 < queues_of geometry }
+    requires queue { IsImageOf geometry (Queue 0) images.0 }
+    requires root { IsImageOf geometry Root images.1 }
+    ensures { IfOk result (λ p. (length p.queues.items ≡ 1) × ((q : EmuPort) → slice_get p.queues.items 0 ≡ Some q → emu_state q ≡ start_of geometry (Queue 0) images.0) × (emu_state p.root ≡ start_of geometry Root images.1)) }
+{
+    let mut queues = Vec::with_capacity(alloc, 1)?;
+    queues.push(EmuPort::new(alloc, geometry, Role::Queue(QueueNo(0)), images.0)?)?;
+    let root = EmuPort::new(alloc, geometry, Role::Root, images.1)?;
+    Ok(Ports { queues, root })
+}
+
 /// Recovers what stayed of two ports: how many transactions stand, the queue's port and the root's.
 fn recover_images(
     alloc: Global,
@@ -142,9 +159,11 @@ fn recover_images(
     ensures queue { IfOk result (λ r. IsPortOf geometry (Queue 0) (emu_state r.1) × IsQuiet (emu_state r.1)) }
     ensures root { IfOk result (λ r. IsPortOf geometry Root (emu_state r.2) × IsQuiet (emu_state r.2)) }
 {
-    let mut queue = EmuPort::new(alloc, geometry, Role::Queue(QueueNo(0)), images.0)?;
-    let mut root = EmuPort::new(alloc, geometry, Role::Root, images.1)?;
-    match recover_ports(alloc, geometry, &mut queue, &mut root) {
+    let mut ports = restarted(alloc, geometry, images)?;
+    let answer = recover(alloc, geometry, &mut ports);
+    let Ports { mut queues, root } = ports;
+    let queue = queues.remove(0);
+    match answer {
         Ok(recovered) => Ok((recovered.prefix, queue, root)),
         Err(refusal) => Err(only_image(refusal)),
     }
