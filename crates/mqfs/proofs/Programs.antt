@@ -63,16 +63,6 @@ said_output items (Err Form) ends told name bytes f nf t nt ok none end holds sa
 said_output items (Err OutOfMemory) ends told name bytes f nf t nt ok none end holds same within =
     (memory, same, end)
 
-take_all : (xs : List ℕ) → take (length xs) xs ≡ xs
-take_all [] = refl
-take_all (x ∷ xs) = ap (λ (l : List ℕ). x ∷ l) (take_all xs)
-
--- what was said of a text is a prefix of it
-pub said_part : (status : ℕ) (text : List ℕ) (result : ℕ) (contents new_contents : Option (List ℕ)) (faults new_faults : ℕ) → EndsWith status text result contents new_contents faults new_faults → AppendsPrefix contents new_contents text
-said_part status text result contents new_contents faults new_faults (inl end) = (length text, (let e : length text ≤ length text = omega arith in e), end.1 ∙ ap (appended contents) (sym (take_all text)))
-said_part status text result contents new_contents faults new_faults (inr (inl end)) = end.1
-said_part status text result contents new_contents faults new_faults (inr (inr end)) = end.1
-
 -- a list of two words, of which the first is known
 pub two_words : {A : Type 0} (f : A → List ℕ) (xs : List A) (a b : A) (word : List ℕ) → 2 ≤ length xs → length xs < 3 → a ≡ get_or xs 0 a → b ≡ get_or xs 1 b → bytes_eq (f a) word ≡ true → map f xs ≡ word ∷ f b ∷ []
 two_words f [] a b word low high first second same = absurd (omega arith)

@@ -11,7 +11,7 @@ set_in [] b = None
 set_in (Set c v ∷ is) b = if nat_eq c b then Some v else set_in is b
 set_in (Free c ∷ is) b = set_in is b
 
--- the blocks that a line frees
+-- The blocks that a line frees. Some may be free before it, which leaves the map as it is.
 abbrev pub freed_in : List BlockItem → List ℕ
 freed_in [] = []
 freed_in (Set c v ∷ is) = freed_in is

@@ -126,7 +126,6 @@ abbrev pub IsNoForm : Words → Option Held → (contents new_contents : Option 
 IsNoForm words told contents new_contents =
     (name : List ℕ) × (bytes : List ℕ) × AreBlocks words name × Holds told name bytes × HasNoForm bytes × (new_contents ≡ appended contents form_line)
 
--- some of the text that there was to say was said
-abbrev pub SaysPart : Words → Option Held → (faults new_faults taken new_taken : ℕ) → (contents new_contents : Option (List ℕ)) → Type 0
-SaysPart words told faults new_faults taken new_taken contents new_contents =
-    (status : ℕ) × (text : List ℕ) × IsToSay words told faults new_faults taken new_taken status text × AppendsPrefix contents new_contents text
+-- the words are `blocks` and a name, which holds more bytes than one load gives
+abbrev pub IsTooLong : Words → Option Held → (taken new_taken : ℕ) → Type 0
+IsTooLong words told taken new_taken = (name : List ℕ) × AreBlocks words name × HoldsOver told name × TakesOver taken new_taken

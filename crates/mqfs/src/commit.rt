@@ -1,6 +1,6 @@
 // A block text is committed, each line as one transaction of the one queue.
 ghost use Rattle.std.specs.Prelude.{◌≡◌, ◌<◌, ◌≤◌, ◌+◌, ◌^◌, ℕ, List, length, OnOk, Some, slice_get, [], ◌∷◌};
-ghost use Rattle.mq_blocks.specs.Drive.{PortState, PortImage, IsImage, counted};
+ghost use Rattle.mq_blocks.specs.Drive.{PortState, PortImage, IsImage, IsQuiet, counted};
 ghost use Rattle.mq_blocks.specs.Geometry.{homes_of};
 ghost use Rattle.mq_blocks.specs.Journal.{shown};
 ghost use Rattle.mq_nvme.specs.Says.{says};
@@ -63,6 +63,7 @@ pub fn commit_lines<P: Port>(
     ensures ok { OnOk result ((q r : PortImage) → IsImage (P.state queue.new) q → r.base ≡ 0 → ShowsMap geometry (shown says geometry (q ∷ []) r) (length text.now) (map_after text.now (length text.now))) }
     ensures rings { OnOk result ((P.state queue.new).rings ≡ counted (P.state queue.old).rings (length text.now)) }
     ensures port { OnOk result (IsPortOf geometry (Queue 0) (P.state queue.new)) }
+    ensures quiet { OnOk result (IsQuiet (P.state queue.new)) }
     ensures cause { HasTextCause result (P.faults queue.old) (P.faults queue.new) }
 {
     let mut number: u64 = 0;
@@ -93,6 +94,7 @@ pub fn commit_text<P: Port>(
     ensures ok { OnOk result.1 ((p : P) → slice_get result.0.queues.items 0 ≡ Some p → ShowsLines geometry (P.state p) (P.state result.0.root) text.now (length text.now)) }
     ensures rings { OnOk result.1 ((p q : P) → slice_get ports.queues.items 0 ≡ Some p → slice_get result.0.queues.items 0 ≡ Some q → (P.state q).rings ≡ counted (P.state p).rings (length text.now)) }
     ensures port { OnOk result.1 ((p : P) → slice_get result.0.queues.items 0 ≡ Some p → IsPortOf geometry (Queue 0) (P.state p)) }
+    ensures quiet { OnOk result.1 ((p : P) → slice_get result.0.queues.items 0 ≡ Some p → IsQuiet (P.state p)) }
     ensures cause { (p q : P) → slice_get ports.queues.items 0 ≡ Some p → slice_get result.0.queues.items 0 ≡ Some q → HasTextCause result.1 (P.faults p) (P.faults q) }
     ensures queues { length result.0.queues.items ≡ 1 }
     ensures root { result.0.root ≡ ports.root }

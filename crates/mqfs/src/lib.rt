@@ -19,7 +19,5 @@ pub use outside::{
     SaveRefusal, Sink, SureFiles, SureSink, put_all,
 };
 pub use program::mqfs;
-pub use recovery::{
-    Chain, ChainRefusal, ImageFault, RecoverRefusal, Recovered, read_chain, recover, recover_ports,
-};
+pub use recovery::{ChainRefusal, ImageFault, RecoverRefusal, Recovered, recover};
 pub use text::{BlockItem, BlockLine, BlockText, BlockTextRefusal, print_blocks, read_block_text};

@@ -3,7 +3,7 @@ ghost use Rattle.std.specs.Prelude.{◌≡◌, ◌≢◌, ◌⊎◌, ◌++◌, �
 ghost use Rattle.std.specs.String.{string_bytes};
 ghost use Rattle.mqfs.specs.Blocks.{IsBlockText, output_of};
 ghost use Rattle.mqfs.specs.Outside.{AppendsPrefix, Held, PutCause, Rose, appended};
-ghost use Rattle.mqfs.specs.Program.{AreBlocks, AreUnknown, EndsWith, HasNoForm, IsDone, IsNoForm, IsSaidOf, IsStatus, IsToSay, IsUnlessWanting, Said, SaysPart, TakesOver, TakesWithin, named_line, refusal_said, status_of, text_of, usage_line};
+ghost use Rattle.mqfs.specs.Program.{AreBlocks, AreUnknown, EndsWith, HasNoForm, IsDone, IsNoForm, IsSaidOf, IsStatus, IsToSay, IsTooLong, IsUnlessWanting, Said, TakesWithin, named_line, refusal_said, status_of, text_of, usage_line};
 
 use crate::blocks::blocks_output;
 use crate::outside::{Files, LoadRefusal, PutRefusal, Sink, put_all};
@@ -107,7 +107,8 @@ fn run<F: Files, K: Sink>(alloc: Global, words: &[String], files: &mut F, out: &
 
 /// The program: runs the command of the words, which are those after its name, over files and an
 /// output. The status is 0 for done, 1 for words that are no command, 2 for a text that is not in
-/// the form, 4 for a fault of a file or the output, and 6 for want of memory.
+/// the form, 4 for a fault of a file or the output or a file that is too long, and 6 for want of
+/// memory.
 pub fn mqfs<F: Files, K: Sink>(alloc: Global, words: &[String], files: &mut F, out: &mut K) -> u8
     ensures status { IsStatus result }
     // The output is that of the text that the name holds.
@@ -120,11 +121,11 @@ pub fn mqfs<F: Files, K: Sink>(alloc: Global, words: &[String], files: &mut F, o
     ensures form { result ≡ 2 → IsNoForm (map string_bytes words.now) (F.told files.old) (K.contents out.old) (K.contents out.new) }
     ensures form_where { (held : Held) (name bytes : List ℕ) → AreBlocks (map string_bytes words.now) name → F.told files.old ≡ Some held → held name ≡ Some bytes → HasNoForm bytes → IsUnlessWanting 2 result }
     // A file or the output failed, or a file was too long.
-    ensures fault { result ≡ 4 → Rose (F.faults files.old) (F.faults files.new) ⊎ (Rose (K.faults out.old) (K.faults out.new) ⊎ TakesOver (F.taken files.old) (F.taken files.new)) }
+    ensures fault { result ≡ 4 → Rose (F.faults files.old) (F.faults files.new) ⊎ (Rose (K.faults out.old) (K.faults out.new) ⊎ IsTooLong (map string_bytes words.now) (F.told files.old) (F.taken files.old) (F.taken files.new)) }
     ensures fault_where { result ≢ 4 → (F.faults files.new ≡ F.faults files.old) × (K.faults out.new ≡ K.faults out.old) }
     ensures takes { result ≢ 4 → result ≢ 6 → TakesWithin (F.taken files.old) (F.taken files.new) }
-    // At every status some of one text is said, and no name changes.
-    ensures says { SaysPart (map string_bytes words.now) (F.told files.old) (F.faults files.old) (F.faults files.new) (F.taken files.old) (F.taken files.new) (K.contents out.old) (K.contents out.new) }
+    // At every status one text was to be said, and at most that text is; no name changes.
+    ensures ends { (status : ℕ) × (text : List ℕ) × IsToSay (map string_bytes words.now) (F.told files.old) (F.faults files.old) (F.faults files.new) (F.taken files.old) (F.taken files.new) status text × EndsWith status text result (K.contents out.old) (K.contents out.new) (K.faults out.old) (K.faults out.new) }
     ensures told { F.told files.new ≡ F.told files.old }
 {
     run(alloc, words, files, out)

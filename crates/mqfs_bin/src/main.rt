@@ -1,13 +1,17 @@
 //! The program `mqfs`: its words, its files and its standard output, handed to the library.
 #![tactic(auto)]
 
-ghost use Rattle.std.specs.Prelude.{◌≡◌};
+ghost use Rattle.std.specs.Prelude.{◌≡◌, ◌⊎◌};
+ghost use Rattle.mqfs.specs.Outside.{Rose};
 
-use mqfs::{RealFiles, RealSink, Sink, mqfs, put_all};
+use mqfs::{PutRefusal, RealFiles, RealSink, Sink, mqfs, put_all};
 use std::io::ErrorKind;
 use std::process::ExitCode;
 use std::rt::Env;
 use std::{env, io};
+
+/// The status for an output that fails.
+const FAULT: u8 = 4;
 
 /// The status for want of memory.
 const NO_MEMORY: u8 = 6;
@@ -23,10 +27,12 @@ fn words_after_name<R: Env + AllocGlobal>(rt: &R) -> io::Result<Vec<String>> {
 
 /// Says that memory was not to be had, where that can be written.
 fn say_no_memory<K: Sink>(out: &mut K) -> u8
-    ensures { result ≡ NO_MEMORY }
+    ensures { ((result ≡ NO_MEMORY) × (K.faults out.new ≡ K.faults out.old)) ⊎ ((result ≡ FAULT) × Rose (K.faults out.old) (K.faults out.new)) }
 {
-    let _ = put_all(out, b"memory\n");
-    NO_MEMORY
+    match put_all(out, b"memory\n") {
+        Err(PutRefusal::Failed) => FAULT,
+        _ => NO_MEMORY,
+    }
 }
 
 fn main(rt: HostRuntime) -> ExitCode {

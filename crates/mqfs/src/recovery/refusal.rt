@@ -10,9 +10,9 @@ use std::alloc::{AllocError, AllocFailed};
 pub enum ChainRefusal {
     /// The head is above the doorbell, too far below it, or the doorbell is above its limit.
     Words,
-    /// The entry before the head is no request.
+    /// The entry before the head, or one from head to doorbell, is no request.
     Entry(EntryRefusal),
-    /// The entry before the head is not the last request of its transaction.
+    /// The entry before the head, or before the doorbell, is not the last request of its transaction.
     Commit,
     /// The last request before the head does not write in the queue's own journal area.
     AreaPlace {
@@ -23,7 +23,7 @@ pub enum ChainRefusal {
         number: u64,
         cause: DescriptorRefusal,
     },
-    /// The copies from the oldest place on are more than a lap before the newest place.
+    /// The oldest place is a lap or more before the newest.
     Span {
         oldest: u64,
         newest: u64,
