@@ -97,8 +97,8 @@ pub recovered_start : (g : Geometry) (q r : PortImage) (queue root new_queue new
     → queue ≡ start_of g (Queue 0) q → root ≡ start_of g Root r → Recovers g queue root new_queue new_root prefix base → IsAsShown g n m new_queue new_root prefix
 recovered_start g q r queue root new_queue new_root n m prefix base text shows queue_is root_is recovers =
     let at : Recovers g (start_of g (Queue 0) q) (start_of g Root r) new_queue new_root prefix base =
-        subst (λ (s : PortState). Recovers g s (start_of g Root r) new_queue new_root prefix base) queue_is
-          (subst (λ (s : PortState). Recovers g queue s new_queue new_root prefix base) root_is recovers) in
+    subst (λ (s : PortState). Recovers g s (start_of g Root r) new_queue new_root prefix base) queue_is
+    (subst (λ (s : PortState). Recovers g queue s new_queue new_root prefix base) root_is recovers) in
     let is = at shows.ds shows.reaches shows.chain in
     record {
       queue_port = is.0.queue_port;
