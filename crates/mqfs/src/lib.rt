@@ -20,6 +20,7 @@ pub use outside::{
 };
 pub use program::mqfs;
 pub use recovery::{
-    Chain, ChainRefusal, ImageFault, RecoverRefusal, Recovered, read_chain, recover, recover_ports,
+    Chain, ChainRefusal, ImageFault, RecoverRefusal, Recovered, Standing, read_chain, recover,
+    recover_ports, stands,
 };
 pub use text::{BlockItem, BlockLine, BlockText, BlockTextRefusal, print_blocks, read_block_text};
