@@ -355,6 +355,10 @@ raised g s base t p q is = subst (IsRaised g s base) (sym is) (record {
 
 -- ---- what is recovered
 
+-- the root's port is quiet, so that its base is one
+pub base-of : (n : ℕ) (s : PortState) → IsQuiet s → (n ≡ s.base) ⊎ (n ≡ s.stored_base) → n ≡ s.base
+base-of n s quiet is = ⊎_elim (λ h. h) (λ h. h ∙ quiet.base) is
+
 pub seen-view : (g : Geometry) (queue root : PortState) → IsSeenAt 0 root.base queue (view_of g queue root)
 seen-view g queue root = record { base_is = refl; head_is = refl; doorbell_is = refl; entry_is = λ k. refl; area_is = λ k. refl }
 
