@@ -14,6 +14,7 @@ pub mod RecoverChains
 pub mod RecoverCopies
 pub mod RecoverHomes
 pub mod Staging
+pub mod Standings
 pub mod TextItems
 pub mod TextLines
 pub mod TextNumbers

@@ -18,8 +18,10 @@ use Rattle.mq_drive.specs.declared.role.Role.{Role}
 use Rattle.mq_drive.specs.declared.role.Role.TheVariants.{Queue, Root}
 use Rattle.mqfs.specs.Recovery.{view_of, IsSettled, IsRecovered}
 use Rattle.mqfs.specs.Recover.{IsSeenAt, copy_of, content_of}
-use Rattle.mqfs.specs.RecoverHomes.{writes_from, written, AreBelow, after_home, IsAfterHome, IsWrittenHome, AreWritten, IsPlan, after_raise}
+use Rattle.mqfs.specs.RecoverHomes.{writes_from, written, AreBelow, after_home, IsAfterHome, IsWrittenHome, AreWritten, AreCopies, IsPlan, after_raise}
+use Rattle.mqfs.specs.declared.recovery.homes.Copies.{Copies}
 use Rattle.mqfs.specs.declared.recovery.homes.Plan.{Plan}
+use Rattle.mqfs.specs.declared.recovery.homes.Recovered.{Recovered}
 use Rattle.mqfs.proofs.RecoverCopies.{stands-copy, chain-of}
 
 -- ---- the writes of copies
@@ -275,18 +277,25 @@ write-step g q r nq nr w ws all one queue_port root_port is below after =
 
 -- ---- the plan
 
-pub plan-of : (g : Geometry) (s : PortState) (base : ℕ) (chain ds : List Descriptor) (copies : List (Option ℕ)) (plan : Plan) → chain ≡ ds → length copies ≡ homes_of g
-    → ((x : ℕ) → get_or copies x None ≡ copy_of chain x) → plan.writes.items ≡ writes_from (block_at s.blocks) g.area 0 copies → plan.recovered.prefix ≡ length chain → plan.recovered.base ≡ base + length chain
-    → IsPlan g s base ds plan
-plan-of g s base chain ds copies plan same size copies_are writes_are prefix_is base_is = record {
-  below = subst (AreBelow (homes_of g)) (sym writes_are) (all-below (block_at s.blocks) g.area copies (homes_of g) size);
-  copies = λ x.
-      ap (λ (w : Writes). written w x) writes_are
-      ∙ writes-at (block_at s.blocks) g.area copies x
-      ∙ ap (content_of (block_at s.blocks) g.area) (copies_are x)
-      ∙ ap (λ (l : List Descriptor). content_of (block_at s.blocks) g.area (copy_of l x)) same;
+pub copies-of : (g : Geometry) (base : ℕ) (chain ds : List Descriptor) (c : Copies) → chain ≡ ds → length c.places.items ≡ homes_of g
+    → ((x : ℕ) → get_or c.places.items x None ≡ copy_of chain x) → c.recovered.prefix ≡ length chain → c.recovered.base ≡ base + length chain → AreCopies g base ds c
+copies-of g base chain ds c same size places_are prefix_is base_is = record {
+  whole = size;
+  places_are = λ x. places_are x ∙ ap (λ (l : List Descriptor). copy_of l x) same;
   prefix_is = prefix_is ∙ ap (λ (l : List Descriptor). length l) same;
   base_is = base_is ∙ ap (λ (l : List Descriptor). base + length l) same;
+}
+
+pub plan-of : (g : Geometry) (s : PortState) (base : ℕ) (ds : List Descriptor) (c : Copies) (plan : Plan) → AreCopies g base ds c
+    → plan.writes.items ≡ writes_from (block_at s.blocks) g.area 0 c.places.items → plan.recovered ≡ c.recovered → IsPlan g s base ds plan
+plan-of g s base ds c plan are writes_are recovered_is = record {
+  below = subst (AreBelow (homes_of g)) (sym writes_are) (all-below (block_at s.blocks) g.area c.places.items (homes_of g) are.whole);
+  copies = λ x.
+      ap (λ (w : Writes). written w x) writes_are
+      ∙ writes-at (block_at s.blocks) g.area c.places.items x
+      ∙ ap (content_of (block_at s.blocks) g.area) (are.places_are x);
+  prefix_is = ap (λ (r : Recovered). r.prefix) recovered_is ∙ are.prefix_is;
+  base_is = ap (λ (r : Recovered). r.base) recovered_is ∙ are.base_is;
 }
 
 -- ---- the base
@@ -345,6 +354,10 @@ raised g s base t p q is = subst (IsRaised g s base) (sym is) (record {
 })
 
 -- ---- what is recovered
+
+-- the root's port is quiet, so that its base is one
+pub base-of : (n : ℕ) (s : PortState) → IsQuiet s → (n ≡ s.base) ⊎ (n ≡ s.stored_base) → n ≡ s.base
+base-of n s quiet is = ⊎_elim (λ h. h) (λ h. h ∙ quiet.base) is
 
 pub seen-view : (g : Geometry) (queue root : PortState) → IsSeenAt 0 root.base queue (view_of g queue root)
 seen-view g queue root = record { base_is = refl; head_is = refl; doorbell_is = refl; entry_is = λ k. refl; area_is = λ k. refl }

@@ -11,4 +11,5 @@ pub mod RecoverCauses
 pub mod RecoverHomes
 pub mod Recovery
 pub mod Runs
+pub mod Standing
 pub mod Text

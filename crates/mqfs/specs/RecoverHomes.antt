@@ -9,6 +9,7 @@ use Rattle.mq_blocks.specs.Machine.{Writes, or_kept}
 use Rattle.mq_blocks.specs.declared.geometry.Geometry.{Geometry}
 use Rattle.mqfs.specs.Recovery.{view_of}
 use Rattle.mqfs.specs.Recover.{copy_of, content_of}
+use Rattle.mqfs.specs.declared.recovery.homes.Copies.{Copies}
 use Rattle.mqfs.specs.declared.recovery.homes.Plan.{Plan}
 
 -- the writes of the copies at these places, which are those of the blocks from b on
@@ -48,6 +49,13 @@ pub record AreWritten (g : Geometry) (queue root : PortState) (writes : Writes) 
   pub queue_is : IsWrittenHome queue new_queue
   pub root_is : IsWrittenHome root new_root
   pub homes : (x : ℕ) → x < homes_of g → (view_of g new_queue new_root).home x ≡ or_else (written writes x) ((view_of g queue root).home x)
+
+-- each home block has its copy's place by these descriptors, and so many are recovered
+pub record AreCopies (g : Geometry) (base : ℕ) (ds : List Descriptor) (c : Copies) : Type 0 where
+  pub whole : length c.places.items ≡ homes_of g
+  pub places_are : (x : ℕ) → slice_index_or c.places.items x None ≡ copy_of ds x
+  pub prefix_is : c.recovered.prefix ≡ length ds
+  pub base_is : c.recovered.base ≡ base + length ds
 
 -- what goes home of a chain, and what then is recovered
 pub record IsPlan (g : Geometry) (queue : PortState) (base : ℕ) (ds : List Descriptor) (plan : Plan) : Type 0 where

@@ -19,5 +19,7 @@ pub use outside::{
     SaveRefusal, Sink, SureFiles, SureSink, put_all,
 };
 pub use program::mqfs;
-pub use recovery::{ChainRefusal, ImageFault, RecoverRefusal, Recovered, recover};
+pub use recovery::{
+    ChainRefusal, ImageFault, RecoverRefusal, Recovered, Standing, recover, stands,
+};
 pub use text::{BlockItem, BlockLine, BlockText, BlockTextRefusal, print_blocks, read_block_text};

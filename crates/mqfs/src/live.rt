@@ -48,7 +48,7 @@ pub fn live_marks(alloc: Global, text: &BlockText) -> Result<Vec<bool>, OutOfMem
 }
 
 // A home block, through the port that has it.
-fn read_home<P: Port>(geometry: Geometry, queue: &P, root: &P, b: BlockNo, into: &mut Block)
+pub fn read_home<P: Port>(geometry: Geometry, queue: &P, root: &P, b: BlockNo, into: &mut Block)
     requires one { geometry.queues ≡ 1 }
     requires queue { IsPortOf geometry (Queue 0) (P.state queue.now) }
     requires root { IsPortOf geometry Root (P.state root.now) }

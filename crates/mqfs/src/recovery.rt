@@ -9,6 +9,7 @@ mod chain;
 mod copies;
 mod homes;
 mod refusal;
+mod standing;
 
 pub use chain::{Chain, read_chain};
 pub use homes::Recovered;
@@ -16,6 +17,7 @@ use homes::{make_plan, raise_base, write_homes};
 use mq_blocks::{Geometry, TxNo};
 use mq_drive::{Port, Ports};
 pub use refusal::{ChainRefusal, ImageFault, RecoverRefusal};
+pub use standing::{Standing, stands};
 use std::alloc::Global;
 
 /// Recovers a drive of one queue through its two ports: the home blocks become what stands, in

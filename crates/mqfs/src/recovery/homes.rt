@@ -8,7 +8,7 @@ ghost use Rattle.mq_blocks.specs.Journal.{Shown, IsQueueChain, AreInRow, number_
 ghost use Rattle.mq_drive.specs.Start.{IsPortOf};
 ghost use Rattle.mq_drive.specs.Steps.{OffCause};
 ghost use Rattle.mqfs.specs.Recover.{IsSeenAt};
-ghost use Rattle.mqfs.specs.RecoverHomes.{writes_from, AreBelow, after_home, IsAfterHome, AreWritten, IsPlan, after_raise};
+ghost use Rattle.mqfs.specs.RecoverHomes.{writes_from, AreBelow, after_home, IsAfterHome, AreWritten, AreCopies, IsPlan, after_raise};
 ghost use Rattle.mqfs.specs.RecoverCauses.{HasHomeCause, HasDriveCause, IsEvent};
 
 use super::chain::{Chain, LIMIT, read_area, read_chain};
@@ -26,6 +26,13 @@ pub struct Recovered {
     pub prefix: u64,
     /// The new base.
     pub base: TxNo,
+}
+
+// Where the copies of the home blocks stand, and what a recovery of them recovers.
+#[derive(Drop)]
+pub struct Copies {
+    pub places: Vec<Option<u64>>,
+    pub recovered: Recovered,
 }
 
 // What goes home, and what then is recovered.
@@ -49,6 +56,26 @@ pub fn make_plan<P: Port>(
     ensures ok { IfOk result (λ plan. (i : Shown) (ds : List Text) → IsSeenAt 0 base (P.state port.now) i → IsQueueChain geometry i 0 ds → IsPlan geometry (P.state port.now) base ds plan) }
     ensures only { IfErr result (λ e. e ≡ ImageFault.OutOfMemory) }
 {
+    let copies = find_copies(alloc, geometry, port, base)?;
+    let writes = read_copies(alloc, geometry, QueueNo(0), port, &copies.places)?;
+    let recovered = copies.recovered;
+    Ok(Plan { writes, recovered })
+}
+
+// Reads the chain of a drive's one queue, and finds where its copies stand.
+pub fn find_copies<P: Port>(
+    alloc: Global,
+    geometry: Geometry,
+    port: &P,
+    base: TxNo,
+) -> Result<Copies, ImageFault>
+    requires limit { base ≤ number_limit }
+    requires port { IsPortOf geometry (Role.Queue 0) (P.state port.now) }
+    requires quiet { IsQuiet (P.state port.now) }
+    requires readable { (i : Shown) × (ds : List Text) × IsSeenAt 0 base (P.state port.now) i × IsQueueChain geometry i 0 ds × AreInRow base ds }
+    ensures ok { IfOk result (λ c. (i : Shown) (ds : List Text) → IsSeenAt 0 base (P.state port.now) i → IsQueueChain geometry i 0 ds → AreCopies geometry base ds c) }
+    ensures only { IfErr result (λ e. e ≡ ImageFault.OutOfMemory) }
+{
     let queue = QueueNo(0);
     if base.0 > LIMIT {
         return Err(ImageFault::Limit { base: base.0 });
@@ -59,9 +86,8 @@ pub fn make_plan<P: Port>(
         Err(cause) => return Err(ImageFault::Bad { queue, cause }),
     };
     let recovered = recovered_by(&chain, base);
-    let copies = place_copies(alloc, geometry, chain)?;
-    let writes = read_copies(alloc, geometry, queue, port, &copies)?;
-    Ok(Plan { writes, recovered })
+    let places = place_copies(alloc, geometry, chain)?;
+    Ok(Copies { places, recovered })
 }
 
 // What is recovered by a chain whose numbers follow the base.

@@ -1,13 +1,9 @@
-use Rattle.std.proofs.Common.{◌≡◌, ◌⊎◌, ⊎_elim, ℕ, sym, ◌∙◌, subst}
-use Rattle.mq_blocks.specs.Drive.{PortState, IsQuiet}
+use Rattle.std.proofs.Common.{◌≡◌, ℕ, sym, ◌∙◌, subst}
+use Rattle.mq_blocks.specs.Drive.{PortState}
 use Rattle.mqfs.specs.Recovery.{view_of}
 use Rattle.mqfs.specs.Recover.{IsSeenAt}
-use Rattle.mqfs.proofs.RecoverHomes.{seen-view, recovered-of, base-low}
+use Rattle.mqfs.proofs.RecoverHomes.{base-of, seen-view, recovered-of, base-low}
 use Rattle.mqfs.proofs.recovery.recover_ports.Goals as goal
-
--- the root's port is quiet, so that its base is one
-base-of : (n : ℕ) (s : PortState) → IsQuiet s → (n ≡ s.base) ⊎ (n ≡ s.stored_base) → n ≡ s.base
-base-of n s quiet is = ⊎_elim (λ h. h) (λ h. h ∙ quiet.base) is
 
 pub raise_base-requires-clause-low : goal.raise_base-requires-clause-low
 raise_base-requires-clause-low g c =
