@@ -1,11 +1,11 @@
 -- What is said, a piece after another, and what the end of a command tells.
-use Rattle.std.proofs.Common.{◌≡◌, ◌<◌, ◌≤◌, inl, inr, ℕ, zero, suc, ◌+◌, List, [], ◌∷◌, ◌++◌, length, take, map, get_or, true, Option, Some, None, refl, sym, ◌∙◌, ap, subst, arith, append_assoc, length-append}
+use Rattle.std.proofs.Common.{◌≡◌, ◌<◌, ◌≤◌, ℕ, zero, suc, ◌+◌, List, [], ◌∷◌, ◌++◌, length, take, map, get_or, true, Option, Some, None, refl, sym, ◌∙◌, ap, subst, arith, append_assoc, length-append}
 use Rattle.std.proofs.lemmas.Bool.{false≢true}
 use Rattle.std.specs.Prelude.{Result, Ok, Err, MatchResult, IfOk, IsErr, IsErrOf}
 use Rattle.std.proofs.lemmas.Slice.Eq.{bytes_eq-Decides}
 use Rattle.std.specs.Str.{bytes_eq}
 use Rattle.mqfs.specs.Blocks.{IsBlockText, output_of}
-use Rattle.mqfs.specs.Program.{Said, output, form, memory, IsSaidOf, status_of, text_of, refusal_said, TakesWithin, EndsWith}
+use Rattle.mqfs.specs.Program.{Said, output, form, memory, IsSaidOf, status_of, text_of, refusal_said, TakesWithin}
 use Rattle.mqfs.specs.Outside.{Held, Holds}
 use Rattle.mqfs.specs.declared.text.item.BlockItem.{BlockItem}
 use Rattle.mqfs.specs.declared.text.refusal.BlockTextRefusal.{BlockTextRefusal}

@@ -1,9 +1,8 @@
-use Rattle.std.proofs.Common.{rules, ◌≡◌, ℕ, Some, sym, ap, subst}
-use Rattle.std.specs.Prelude.{slice_get}
+use Rattle.std.proofs.Common.{sym, subst}
 use Rattle.mq_blocks.specs.Drive.{PortState}
 use Rattle.mq_drive.specs.Emu.{emu_state}
 use Rattle.mq_drive.specs.Start.{start_of}
-use Rattle.mq_drive.specs.declared.role.Role.TheVariants.{Queue, Root}
+use Rattle.mq_drive.specs.declared.role.Role.TheVariants.{Root}
 use Rattle.mqfs.specs.Recovery.{IsSettled}
 use Rattle.mqfs.proofs.Drives.{one_item}
 use Rattle.mqfs.proofs.Restarts.{settled_start, recovered_start, only_memory, single}
