@@ -1,8 +1,7 @@
 //! The program `mqfs`: its words, its files and its standard output, handed to the library.
 #![tactic(auto)]
 
-ghost use Rattle.std.specs.Prelude.{◌≡◌, ◌⊎◌};
-ghost use Rattle.mqfs.specs.Outside.{Rose};
+ghost use Rattle.mqfs.specs.Program.{EndsWith, memory_line};
 
 use mqfs::{PutRefusal, RealFiles, RealSink, Sink, mqfs, put_all};
 use std::io::ErrorKind;
@@ -27,11 +26,12 @@ fn words_after_name<R: Env + AllocGlobal>(rt: &R) -> io::Result<Vec<String>> {
 
 /// Says that memory was not to be had, where that can be written.
 fn say_no_memory<K: Sink>(out: &mut K) -> u8
-    ensures { ((result ≡ NO_MEMORY) × (K.faults out.new ≡ K.faults out.old)) ⊎ ((result ≡ FAULT) × Rose (K.faults out.old) (K.faults out.new)) }
+    ensures { EndsWith NO_MEMORY memory_line result (K.contents out.old) (K.contents out.new) (K.faults out.old) (K.faults out.new) }
 {
     match put_all(out, b"memory\n") {
+        Ok(()) => NO_MEMORY,
         Err(PutRefusal::Failed) => FAULT,
-        _ => NO_MEMORY,
+        Err(PutRefusal::OutOfMemory) => NO_MEMORY,
     }
 }
 
