@@ -1,4 +1,4 @@
-use Rattle.std.proofs.Common.{◌≡◌, ℕ, sym, ◌∙◌, subst}
+use Rattle.std.proofs.Common.{◌≡◌, ℕ, sym, subst}
 use Rattle.mq_blocks.specs.Drive.{PortState}
 use Rattle.mqfs.specs.Recovery.{view_of}
 use Rattle.mqfs.specs.Recover.{IsSeenAt}

@@ -1,4 +1,4 @@
-use Rattle.std.proofs.Common.{◌≡◌, ℕ, ◌∙◌, List, Option, None, get_or, sym, ap, subst, length, refl}
+use Rattle.std.proofs.Common.{◌≡◌, ℕ, ◌∙◌, List, Option, None, get_or, sym, ap, subst, refl}
 use Rattle.mq_blocks.specs.Drive.{PortState}
 use Rattle.mqfs.specs.Recovery.{view_of}
 use Rattle.mqfs.specs.Recover.{IsSeenAt}
