@@ -1,5 +1,6 @@
 use Rattle.std.proofs.Common.{◌≡◌, ℕ, List, Option, length, ◌∙◌, ap, refl}
 use Rattle.mq_blocks.specs.Blocks.{block_at}
+use Rattle.mq_blocks.specs.Drive.{PortState}
 use Rattle.mqfs.specs.RecoverHomes.{writes_from}
 use Rattle.mqfs.proofs.RecoverHomes.{plan-of}
 use Rattle.mqfs.proofs.recovery.homes.make_plan.Goals as goal
@@ -11,7 +12,7 @@ read_copies-requires-clause-homes g c =
 
 pub returns-clause-ok : goal.returns-clause-ok
 returns-clause-ok g c i ds seen whole =
-    let s = g.P.Port.state c.args.port.now in
+    let s : PortState = g.P.Port.state c.args.port.now in
     let is : c.deref.result.now ≡ c.in_ok-copies.copies.places.items = c.deref.ensures.value in
     plan-of c.args.geometry s c.args.base ds c.in_ok-copies.copies (record { writes = c.in_ok-writes.writes; recovered = c.in_ok-copies.copies.recovered })
     (c.in_ok-copies.ensures.ok i ds seen whole)
