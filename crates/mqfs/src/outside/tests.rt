@@ -1,7 +1,7 @@
 // Each form called through its trait once, and what no contract says.
 use super::*;
 use std::alloc::{AllocError, Global};
-use std::io;
+use std::{fs, io};
 
 // Whether a load gave these bytes.
 fn gave(loaded: Result<Vec<u8>, LoadRefusal>, bytes: &[u8]) -> bool {
@@ -91,6 +91,7 @@ fn the_system_loads_what_was_saved(rt: HostRuntime) -> Result<(), AllocError> {
     assert!(rt; files.save("image", b"short").is_ok());
     assert!(rt; gave(files.load(alloc, "image"), b"short"));
     assert!(rt; matches!(files.save("no/such/folder", b""), Err(SaveRefusal::Failed)));
+    assert!(rt; fs::remove_file(&rt, "image").is_ok());
     Ok(())
 }
 
