@@ -9,12 +9,7 @@ pub mod JournalShows
 pub mod Lines
 pub mod Lists
 pub mod LiveBlocks
-pub mod OutsideLemmas
-pub mod RecoverChains
-pub mod RecoverCopies
-pub mod RecoverHomes
 pub mod Staging
-pub mod Standings
 pub mod TextItems
 pub mod TextLines
 pub mod TextNumbers

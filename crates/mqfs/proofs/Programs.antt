@@ -6,11 +6,11 @@ use Rattle.std.proofs.lemmas.Slice.Eq.{bytes_eq-Decides}
 use Rattle.std.specs.Str.{bytes_eq}
 use Rattle.mqfs.specs.Blocks.{IsBlockText, output_of}
 use Rattle.mqfs.specs.Program.{Said, output, form, memory, IsSaidOf, status_of, text_of, refusal_said, TakesWithin}
-use Rattle.mqfs.specs.Outside.{Held, Holds}
+use Rattle.mq_outside.specs.Outside.{Held, Holds}
 use Rattle.mqfs.specs.declared.text.item.BlockItem.{BlockItem}
 use Rattle.mqfs.specs.declared.text.refusal.BlockTextRefusal.{BlockTextRefusal}
 use Rattle.mqfs.specs.declared.text.refusal.BlockTextRefusal.TheVariants.{Form, OutOfMemory}
-use Rattle.mqfs.specs.Outside.{AppendsPrefix, appended}
+use Rattle.mq_outside.specs.Outside.{AppendsPrefix, appended}
 
 pub match_result : {A E : Type 0} (r : Result A E) {P P' : A → Type 0} {Q Q' : E → Type 0} → MatchResult r P Q → ((x : A) → P x → P' x) → ((e : E) → Q e → Q' e) → MatchResult r P' Q'
 match_result (Ok x) holds p q = p x holds

@@ -14,14 +14,14 @@ use Rattle.mq_drive.specs.declared.role.Role.TheVariants.{Queue, Root}
 use Rattle.mqfs.specs.Commits.{AreBelow, AllBelow, ShowsMap}
 use Rattle.mqfs.specs.Fresh.{IsTextGeometry}
 use Rattle.mqfs.specs.Live.{HoldsMap}
-use Rattle.mqfs.specs.Recovery.{view_of, IsSettled, IsRecovered}
-use Rattle.mqfs.specs.RecoverCauses.{HasDriveCause, IsOfDrive, OneGains}
+use Rattle.mq_recover.specs.Recovery.{view_of, IsSettled, IsRecovered}
+use Rattle.mq_recover.specs.RecoverCauses.{HasDriveCause, IsOfDrive, OneGains}
 use Rattle.mqfs.specs.Text.{AreGoodItems, AreGoodLines}
 use Rattle.mqfs.specs.declared.text.item.BlockItem.{BlockItem}
 use Rattle.mqfs.specs.declared.text.item.BlockItem.TheVariants.{Set, Free}
-use Rattle.mqfs.specs.declared.recovery.refusal.ImageFault.TheVariants as fault
-use Rattle.mqfs.specs.declared.recovery.refusal.RecoverRefusal.{RecoverRefusal}
-use Rattle.mqfs.specs.declared.recovery.refusal.RecoverRefusal.TheVariants.{Image, Off, Failed}
+use Rattle.mq_recover.specs.declared.refusal.ImageFault.TheVariants as fault
+use Rattle.mq_recover.specs.declared.refusal.RecoverRefusal.{RecoverRefusal}
+use Rattle.mq_recover.specs.declared.refusal.RecoverRefusal.TheVariants.{Image, Off, Failed}
 use Rattle.mqfs.proofs.Drives.{no_gain}
 
 pub text_homes : (g : Geometry) → IsTextGeometry g → homes_of g ≡ 256

@@ -4,12 +4,6 @@ pub mod Commits
 pub mod Fresh
 pub mod Lines
 pub mod Live
-pub mod Outside
 pub mod Program
-pub mod Recover
-pub mod RecoverCauses
-pub mod RecoverHomes
-pub mod Recovery
 pub mod Runs
-pub mod Standing
 pub mod Text

@@ -3,7 +3,7 @@ use Rattle.std.specs.Prelude.{◌≡◌, ◌<◌, ℕ, Bool, false, List, is_som
 use Rattle.mq_blocks.specs.Drive.{PortState}
 use Rattle.mq_blocks.specs.Machine.{Map}
 use Rattle.mq_blocks.specs.declared.geometry.Geometry.{Geometry}
-use Rattle.mqfs.specs.Recovery.{view_of}
+use Rattle.mq_recover.specs.Recovery.{view_of}
 
 -- each block's mark says whether it is in the map
 abbrev pub AreMarks : Map → List Bool → Type 0

@@ -1,7 +1,7 @@
 -- What the words of a command ask, what is said of it, and with which status it ends.
 use Rattle.std.specs.Prelude.{◌≡◌, ◌<◌, ◌≤◌, ◌⊎◌, ℕ, ◌+◌, List, [], ◌∷◌, ◌++◌, Option, nat_eq, if◌then◌else◌, codes}
 use Rattle.mqfs.specs.Blocks.{IsBlockText, output_of}
-use Rattle.mqfs.specs.Outside.{Held, Holds, HoldsOver, Rose, appended, AppendsPrefix, count_end, load_limit}
+use Rattle.mq_outside.specs.Outside.{Held, Holds, HoldsOver, Rose, appended, AppendsPrefix, count_end, load_limit}
 use Rattle.mqfs.specs.declared.text.item.BlockItem.{BlockItem}
 use Rattle.mqfs.specs.declared.text.refusal.BlockTextRefusal.{BlockTextRefusal}
 use Rattle.mqfs.specs.declared.text.refusal.BlockTextRefusal.TheVariants.{Form, OutOfMemory}

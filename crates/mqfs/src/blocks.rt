@@ -19,11 +19,11 @@ ghost use Rattle.mqfs.specs.Live.{HoldsMap};
 
 use crate::commit::{TextRefusal, commit_text};
 use crate::live::{live_blocks, live_marks};
-use crate::recovery::{ImageFault, RecoverRefusal, recover};
 use crate::text::{BlockItem, BlockText, BlockTextRefusal, print_blocks, read_block_text};
 use mq_blocks::{Block, Geometry, OutOfMemory, QueueNo};
 use mq_drive::{EmuPort, PortImage, Ports, Role};
 use mq_nvme::Entry;
+use mq_recover::{ImageFault, RecoverRefusal, recover};
 use std::alloc::Global;
 
 #[cfg(test)]

@@ -8,13 +8,14 @@ ghost use Rattle.mq_drive.specs.declared.role.Role.TheVariants.{Queue, Root};
 ghost use Rattle.mqfs.specs.Fresh.{IsTextGeometry};
 ghost use Rattle.mqfs.specs.Lines.{live_from, map_after, named, set_in};
 ghost use Rattle.mqfs.specs.Live.{AreMarks, HoldsMap};
-ghost use Rattle.mqfs.specs.Recovery.{view_of};
+ghost use Rattle.mq_recover.specs.Recovery.{view_of};
 ghost use Rattle.mqfs.specs.Text.{AreGoodItems, HasSetsOnly, IsGoodText};
 
 use crate::items::NAMED;
 use crate::text::{BlockItem, BlockLine, BlockText};
 use mq_blocks::{Block, BlockNo, Geometry, OutOfMemory};
 use mq_drive::Port;
+use mq_recover::read_home;
 use std::alloc::Global;
 
 // Marks the blocks that a line sets.
@@ -45,24 +46,6 @@ pub fn live_marks(alloc: Global, text: &BlockText) -> Result<Vec<bool>, OutOfMem
         mark_sets(line, &mut marks);
     }
     Ok(marks)
-}
-
-// A home block, through the port that has it.
-pub fn read_home<P: Port>(geometry: Geometry, queue: &P, root: &P, b: BlockNo, into: &mut Block)
-    requires one { geometry.queues ≡ 1 }
-    requires queue { IsPortOf geometry (Queue 0) (P.state queue.now) }
-    requires root { IsPortOf geometry Root (P.state root.now) }
-    requires queue_quiet { IsQuiet (P.state queue.now) }
-    requires root_quiet { IsQuiet (P.state root.now) }
-    requires within { b < homes_of geometry }
-    ensures { into.new ≡ (view_of geometry (P.state queue.now) (P.state root.now)).home b }
-{
-    let lba = geometry.home(b);
-    if b.0 < geometry.meta() {
-        root.read_block(lba, into);
-    } else {
-        queue.read_block(lba, into);
-    }
 }
 
 /// The live blocks by rising number, each with the first byte of its home block.

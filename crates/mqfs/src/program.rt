@@ -2,12 +2,12 @@
 ghost use Rattle.std.specs.Prelude.{◌≡◌, ◌≢◌, ◌⊎◌, ◌++◌, ◌∷◌, [], ℕ, List, IfOk, IsErrOf, MatchResult, Some, map, nat_eq, if◌then◌else◌};
 ghost use Rattle.std.specs.String.{string_bytes};
 ghost use Rattle.mqfs.specs.Blocks.{IsBlockText, output_of};
-ghost use Rattle.mqfs.specs.Outside.{AppendsPrefix, Held, PutCause, Rose, appended};
+ghost use Rattle.mq_outside.specs.Outside.{AppendsPrefix, Held, PutCause, Rose, appended};
 ghost use Rattle.mqfs.specs.Program.{AreBlocks, AreUnknown, EndsWith, HasNoForm, IsDone, IsNoForm, IsSaidOf, IsStatus, IsToSay, IsTooLong, IsUnlessWanting, Said, TakesWithin, named_line, refusal_said, status_of, text_of, usage_line};
 
 use crate::blocks::blocks_output;
-use crate::outside::{Files, LoadRefusal, PutRefusal, Sink, put_all};
 use crate::text::{BlockItem, BlockTextRefusal};
+use mq_outside::{Files, LoadRefusal, PutRefusal, Sink, put_all};
 use std::alloc::Global;
 
 const DONE: u8 = 0;

@@ -3,7 +3,8 @@
 
 ghost use Rattle.mqfs.specs.Program.{EndsWith, memory_line};
 
-use mqfs::{PutRefusal, RealFiles, RealSink, Sink, mqfs, put_all};
+use mq_outside::{PutRefusal, RealFiles, RealSink, Sink, put_all};
+use mqfs::mqfs;
 use std::io::ErrorKind;
 use std::process::ExitCode;
 use std::rt::Env;

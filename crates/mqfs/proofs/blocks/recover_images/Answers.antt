@@ -3,7 +3,7 @@ use Rattle.mq_blocks.specs.Drive.{PortState}
 use Rattle.mq_drive.specs.Emu.{emu_state}
 use Rattle.mq_drive.specs.Start.{start_of}
 use Rattle.mq_drive.specs.declared.role.Role.TheVariants.{Root}
-use Rattle.mqfs.specs.Recovery.{IsSettled}
+use Rattle.mq_recover.specs.Recovery.{IsSettled}
 use Rattle.mqfs.proofs.Drives.{one_item}
 use Rattle.mqfs.proofs.Restarts.{settled_start, recovered_start, only_memory, single}
 use Rattle.mqfs.proofs.blocks.recover_images.Goals as goal

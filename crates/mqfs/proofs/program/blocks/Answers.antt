@@ -1,6 +1,6 @@
 use Rattle.std.proofs.Common.{ℕ, List, sym, subst}
 use Rattle.std.specs.Prelude.{codes}
-use Rattle.mqfs.specs.Outside.{Holds}
+use Rattle.mq_outside.specs.Outside.{Holds}
 use Rattle.mqfs.specs.Program.{fault, too_long, EndsWith, named_line}
 use Rattle.mqfs.proofs.Programs.{said_output}
 use Rattle.mqfs.proofs.program.blocks.Goals as goal

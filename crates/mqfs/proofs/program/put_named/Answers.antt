@@ -1,5 +1,5 @@
 use Rattle.std.proofs.Common.{◌≡◌, ℕ, List, [], ◌∷◌, ◌++◌, Option, ◌∙◌, ap}
-use Rattle.mqfs.specs.Outside.{appended}
+use Rattle.mq_outside.specs.Outside.{appended}
 use Rattle.mqfs.proofs.Programs.{match_result, on_err, appended_twice, prefix_next, prefix_longer}
 use Rattle.mqfs.proofs.program.put_named.Goals as goal
 

@@ -1,0 +1,4 @@
+pub mod RecoverChains
+pub mod RecoverCopies
+pub mod RecoverHomes
+pub mod Standings

@@ -1,0 +1,87 @@
+-- What reading a queue's chain finds, and where the copies of home blocks stand.
+use Rattle.std.specs.Prelude.{◌≡◌, ◌<◌, ◌≤◌, ℕ, ◌+◌, ◌-◌, ◌%◌, List, [], ◌∷◌, length, Option, Some, None, slice_index_or, slice_set, nat_eq, if◌then◌else◌, replicate}
+use Rattle.std.specs.Option.{unwrap_or}
+use Rattle.mq_blocks.specs.Blocks.{block_at}
+use Rattle.mq_blocks.specs.Descriptor.{Descriptor, IsGood}
+use Rattle.mq_blocks.specs.Drive.{PortState}
+use Rattle.mq_blocks.specs.Journal.{Shown, IsChain, AreInReach, is_among, number_limit}
+use Rattle.mq_blocks.specs.declared.geometry.Geometry.{Geometry}
+use Rattle.mq_nvme.specs.Says.{says}
+use Rattle.mq_area.specs.declared.descriptor.PlaceIs.{PlaceIs}
+use Rattle.mq_area.specs.declared.descriptor.PlaceIs.TheVariants.{Index, Exact}
+use Rattle.mq_recover.specs.declared.chain.Start.{Start}
+
+-- the image shows this port as queue q, over this base
+pub record IsSeenAt (q base : ℕ) (s : PortState) (i : Shown) : Type 0 where
+  pub base_is : i.base ≡ base
+  pub head_is : i.head q ≡ s.head
+  pub doorbell_is : i.doorbell q ≡ s.doorbell
+  pub entry_is : (k : ℕ) → i.entry q k ≡ says (slice_index_or s.flushed k [])
+  pub area_is : (k : ℕ) → i.area q k ≡ block_at s.blocks k
+
+-- the newest descriptor of the chain has this number and this index in the journal area
+pub record IsStart (g : Geometry) (i : Shown) (q : ℕ) (start : Start) (ds : List Descriptor) : Type 0 where
+  pub place : ℕ
+  pub above : i.base < start.number
+  pub limit : start.number ≤ number_limit
+  pub index_is : place % g.area ≡ start.index
+  pub chain : IsChain g i q start.number place ds
+  pub reach : AreInReach g place ds
+
+abbrev pub StartsAt : Geometry → Shown → ℕ → Option Start → List Descriptor → Type 0
+StartsAt g i q None ds = ds ≡ []
+StartsAt g i q (Some start) ds = IsStart g i q start ds
+
+-- where a descriptor is expected
+abbrev pub where_of : PlaceIs → ℕ
+where_of (Index index) = index
+where_of (Exact place) = place
+
+-- the copies of a descriptor are in reach of the newest place, which is its own if there is none
+abbrev pub IsWithinReach : Geometry → Option ℕ → Descriptor → Type 0
+IsWithinReach g newest d = unwrap_or newest d.place < (d.place - length d.logged) + g.area
+
+-- ---- copies
+
+abbrev pub or_place : Option ℕ → Option ℕ → Option ℕ
+or_place (Some place) old = Some place
+or_place None old = old
+
+-- the place of the copy of a block among the logged ones, which stand from a place on
+abbrev pub logged_place : ℕ → List ℕ → ℕ → Option ℕ
+logged_place place [] x = None
+logged_place place (b ∷ bs) x = if nat_eq b x then Some place else logged_place (place + 1) bs x
+
+-- the place of the newest logged copy of a block that no later transaction revokes, the newest
+-- descriptor first
+abbrev pub copy_of : List Descriptor → ℕ → Option ℕ
+copy_of [] x = None
+copy_of (d ∷ ds) x = or_place (logged_place (d.place - length d.logged) d.logged x) (if is_among x d.revoked then None else copy_of ds x)
+
+-- the places of the copies of all blocks, where these blocks have none
+abbrev pub forgotten : List (Option ℕ) → List ℕ → List (Option ℕ)
+forgotten copies [] = copies
+forgotten copies (b ∷ bs) = forgotten (slice_set copies b None) bs
+
+-- the same where these blocks have copies from a place on
+abbrev pub noted : List (Option ℕ) → ℕ → List ℕ → List (Option ℕ)
+noted copies place [] = copies
+noted copies place (b ∷ bs) = noted (slice_set copies b (Some place)) (place + 1) bs
+
+-- the same after one more transaction
+abbrev pub with_transaction : List (Option ℕ) → Descriptor → List (Option ℕ)
+with_transaction copies d = noted (forgotten copies d.revoked) (d.place - length d.logged) d.logged
+
+-- the same after all of them, on a drive with so many home blocks
+abbrev pub with_all : ℕ → List Descriptor → List (Option ℕ)
+with_all homes [] = replicate homes None
+with_all homes (d ∷ ds) = with_transaction (with_all homes ds) d
+
+abbrev pub AreGood : ℕ → List Descriptor → Type 0
+AreGood homes [] = Unit {0}
+AreGood homes (d ∷ ds) = IsGood homes d × AreGood homes ds
+
+-- the content of the copy at a place of a journal area of so many blocks
+abbrev pub content_of : (ℕ → List ℕ) → ℕ → Option ℕ → Option (List ℕ)
+content_of area size None = None
+content_of area size (Some place) = Some (area (place % size))

@@ -1,0 +1,16 @@
+//! Recovery of a journal on an NVMe drive: the chains of its queues, what stands on the home blocks, and
+//! how that is written home.
+#![tactic(auto)]
+
+mod chain;
+mod copies;
+mod homes;
+mod ports;
+mod refusal;
+mod standing;
+
+pub use chain::{Chain, read_chain};
+pub use homes::Recovered;
+pub use ports::{recover, recover_ports};
+pub use refusal::{ChainRefusal, ImageFault, RecoverRefusal};
+pub use standing::{Standing, read_home, stands};
