@@ -1,5 +1,5 @@
 -- What a port in memory stands for.
-use Rattle.std.specs.Prelude.{[]}
+use Rattle.std.specs.Prelude.{[], None}
 use Rattle.mq_blocks.specs.Drive.{PortState}
 use Rattle.mq_drive.specs.Roles.{queue_in}
 use Rattle.mq_drive.specs.declared.emu.EmuPort.{EmuPort}
@@ -28,4 +28,6 @@ emu_state p = record {
   rings = p.rings;
   begins = p.begins;
   events = p.events;
+  limit = None;
+  fail = None;
 }

@@ -1,5 +1,5 @@
 -- The state of a port that starts from an image.
-use Rattle.std.specs.Prelude.{◌≡◌, ◌<◌, ℕ, ◌+◌, ◌*◌, [], true, length, slice_index_or, replicate}
+use Rattle.std.specs.Prelude.{◌≡◌, ◌<◌, ℕ, ◌+◌, ◌*◌, [], true, length, slice_index_or, replicate, None}
 use Rattle.mq_blocks.specs.Drive.{PortState, PortImage, IsFlushed}
 use Rattle.mq_blocks.specs.declared.geometry.Geometry.{Geometry}
 use Rattle.mq_drive.specs.Roles.{queue_in, slots_of}
@@ -62,6 +62,8 @@ start_of g role i = record {
   rings = 0;
   begins = 0;
   events = 0;
+  limit = None;
+  fail = None;
 }
 
 -- a port of this role, on a drive of this geometry

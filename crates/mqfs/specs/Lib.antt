@@ -1,6 +1,7 @@
 pub mod Blocks
 pub mod Causes
 pub mod Commits
+pub mod Cuts
 pub mod Fresh
 pub mod Lines
 pub mod Live
