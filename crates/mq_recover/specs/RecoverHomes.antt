@@ -50,20 +50,6 @@ pub record AreWritten (g : Geometry) (queue root : PortState) (writes : Writes) 
   pub root_is : IsWrittenHome root new_root
   pub homes : (x : ℕ) → x < homes_of g → (view_of g new_queue new_root).home x ≡ or_else (written writes x) ((view_of g queue root).home x)
 
--- each home block has its copy's place by these descriptors, and so many are recovered
-pub record AreCopies (g : Geometry) (base : ℕ) (ds : List Descriptor) (c : Copies) : Type 0 where
-  pub whole : length c.places.items ≡ homes_of g
-  pub places_are : (x : ℕ) → slice_index_or c.places.items x None ≡ copy_of ds x
-  pub prefix_is : c.recovered.prefix ≡ length ds
-  pub base_is : c.recovered.base ≡ base + length ds
-
--- what goes home of a chain, and what then is recovered
-pub record IsPlan (g : Geometry) (queue : PortState) (base : ℕ) (ds : List Descriptor) (plan : Plan) : Type 0 where
-  pub below : AreBelow (homes_of g) plan.writes.items
-  pub copies : (x : ℕ) → written plan.writes.items x ≡ content_of (block_at queue.blocks) g.area (copy_of ds x)
-  pub prefix_is : plan.recovered.prefix ≡ length ds
-  pub base_is : plan.recovered.base ≡ base + length ds
-
 -- the base word is stored and flushed where it changes
 abbrev pub after_raise : PortState → ℕ → PortState
 after_raise s base = if nat_eq s.base base then s else after_flush (after_store_base s base)
