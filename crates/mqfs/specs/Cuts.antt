@@ -1,5 +1,5 @@
 -- How many lines of a text stand after a power cut.
-use Rattle.std.specs.Prelude.{◌≡◌, ◌<◌, ◌≤◌, ◌⊎◌, ℕ, zero, suc, ◌+◌, ◌*◌, List, length, Option, Some, None}
+use Rattle.std.specs.Prelude.{◌≡◌, ◌<◌, ◌≤◌, ◌⊎◌, ℕ, zero, suc, ◌+◌, ◌*◌, ◌^◌, List, length, Option, Some, None}
 use Rattle.mqfs.specs.Lines.{line_at}
 use Rattle.mqfs.specs.Text.{sets_in}
 use Rattle.mqfs.specs.declared.text.item.BlockItem.{BlockItem}
@@ -13,6 +13,11 @@ line_events line = 2 * sets_in line + 6
 abbrev pub events_of : List (List BlockItem) → ℕ → ℕ
 events_of lines zero = 0
 events_of lines (suc n) = events_of lines n + line_events (line_at lines n)
+
+-- where a cut is asked for, after a number of events below 2^63
+abbrev pub IsCutCount : Option ℕ → Type 0
+IsCutCount None = Unit {0}
+IsCutCount (Some events) = events < 2 ^ 63
 
 -- After so many events p lines stand: those whose events end by then, or one more where the next
 -- line's end with the next event.

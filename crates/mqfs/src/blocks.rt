@@ -62,10 +62,17 @@ fn sizes(geometry: Geometry, role: Role) -> (usize, u32)
     }
 }
 
-// A port of zeros.
-fn fresh_port(alloc: Global, geometry: Geometry, role: Role) -> Result<EmuPort, OutOfMemory>
+// A port of zeros, whose power goes off after so many events, and whose choices follow from a number.
+fn fresh_port(
+    alloc: Global,
+    geometry: Geometry,
+    role: Role,
+    limit: Option<u64>,
+    pick: u64,
+) -> Result<EmuPort, OutOfMemory>
     requires { IsRole geometry role }
-    ensures { IfOk result (λ p. IsFresh geometry role (emu_state p)) }
+    ensures fresh { IfOk result (λ p. IsFresh geometry role limit (emu_state p)) }
+    ensures faults { IfOk result (λ p. emu_faults p ≡ []) }
 {
     let (slots, count) = sizes(geometry, role);
     let image = PortImage {
@@ -75,43 +82,37 @@ fn fresh_port(alloc: Global, geometry: Geometry, role: Role) -> Result<EmuPort, 
         slots: vec![in alloc; Entry::zeroed(); slots]?,
         blocks: absent_blocks(alloc, count)?,
     };
-    EmuPort::new(alloc, geometry, role, image)
+    EmuPort::new(alloc, geometry, role, image, limit, None, pick)
 }
 
-// Where no port has a fault, memory is all that can be wanting.
-fn only_memory(refusal: TextRefusal) -> OutOfMemory
-    requires { refusal ≡ TextRefusal.OutOfMemory }
-{
-    match refusal {
-        TextRefusal::OutOfMemory => OutOfMemory,
-        TextRefusal::Off => unreachable!(),
-        TextRefusal::Failed { .. } => unreachable!(),
-    }
-}
-
-/// Commits a text on a fresh drive, and pulls the plug: what stays of the queue's port and of the
-/// root's.
+/// Commits a text on a fresh drive, and pulls the plug after so many events of the queue's port, or
+/// at the end: what stays of the queue's port and of the root's.
 fn commit_fresh(
     alloc: Global,
     geometry: Geometry,
     text: &BlockText,
+    cut: Option<u64>,
+    pick: u64,
 ) -> Result<(PortImage, PortImage), OutOfMemory>
     requires geometry { IsTextGeometry geometry }
     requires good { IsGoodText text.now }
     requires below { AllBelow (homes_of geometry) text.now }
-    ensures shows { IfOk result (λ r. ShowsMap geometry (shown says geometry (r.0 ∷ []) r.1) (length text.now) (map_after text.now (length text.now))) }
+    requires cut { IsCutCount cut }
+    ensures shows { IfOk result (λ r. (p : ℕ) × IsPrefixAt text.now cut p × ShowsMap geometry (shown says geometry (r.0 ∷ []) r.1) p (map_after text.now p)) }
     ensures queue { IfOk result (λ r. IsImageOf geometry (Queue 0) r.0) }
     ensures root { IfOk result (λ r. IsImageOf geometry Root r.1) }
 {
     let mut queues = Vec::with_capacity(alloc, 1)?;
-    queues.push(fresh_port(alloc, geometry, Role::Queue(QueueNo(0)))?)?;
-    let root = fresh_port(alloc, geometry, Role::Root)?;
+    queues.push(fresh_port(alloc, geometry, Role::Queue(QueueNo(0)), cut, pick)?)?;
+    let root = fresh_port(alloc, geometry, Role::Root, None, pick)?;
     let (ports, answer) = commit_text(alloc, geometry, Ports { queues, root }, text);
     let Ports { mut queues, root } = ports;
     let queue = queues.remove(0);
     match answer {
-        Ok(()) => Ok((queue.cut(), root.cut())),
-        Err(refusal) => Err(only_memory(refusal)),
+        Ok(()) => Ok((queue.cut(pick), root.cut(pick))),
+        Err(TextRefusal::Off) => Ok((queue.cut(pick), root.cut(pick))),
+        Err(TextRefusal::OutOfMemory) => Err(OutOfMemory),
+        Err(TextRefusal::Failed { .. }) => unreachable!(),
     }
 }
 
@@ -128,20 +129,32 @@ fn only_image(refusal: RecoverRefusal) -> OutOfMemory
     }
 }
 
-/// A drive of one queue that starts from what stayed of its queue's port and of the root's.
+/// A drive of one queue that starts from what stayed of its queue's port and of the root's. Its
+/// power stays on.
 fn restarted(
     alloc: Global,
     geometry: Geometry,
     images: (PortImage, PortImage),
+    pick: u64,
 ) -> Result<Ports<EmuPort>, OutOfMemory>
     requires one { 0 < queues_of geometry }
     requires queue { IsImageOf geometry (Queue 0) images.0 }
     requires root { IsImageOf geometry Root images.1 }
-    ensures { IfOk result (λ p. (length p.queues.items ≡ 1) × ((q : EmuPort) → slice_get p.queues.items 0 ≡ Some q → emu_state q ≡ start_of geometry (Queue 0) images.0) × (emu_state p.root ≡ start_of geometry Root images.1)) }
+    ensures one { IfOk result (λ p. length p.queues.items ≡ 1) }
+    ensures queue { IfOk result (λ p. (q : EmuPort) → slice_get p.queues.items 0 ≡ Some q → (emu_state q ≡ start_of geometry (Queue 0) images.0 None None) × (emu_faults q ≡ [])) }
+    ensures root { IfOk result (λ p. (emu_state p.root ≡ start_of geometry Root images.1 None None) × (emu_faults p.root ≡ [])) }
 {
     let mut queues = Vec::with_capacity(alloc, 1)?;
-    queues.push(EmuPort::new(alloc, geometry, Role::Queue(QueueNo(0)), images.0)?)?;
-    let root = EmuPort::new(alloc, geometry, Role::Root, images.1)?;
+    queues.push(EmuPort::new(
+        alloc,
+        geometry,
+        Role::Queue(QueueNo(0)),
+        images.0,
+        None,
+        None,
+        pick,
+    )?)?;
+    let root = EmuPort::new(alloc, geometry, Role::Root, images.1, None, None, pick)?;
     Ok(Ports { queues, root })
 }
 
@@ -150,6 +163,7 @@ fn recover_images(
     alloc: Global,
     geometry: Geometry,
     images: (PortImage, PortImage),
+    pick: u64,
 ) -> Result<(u64, EmuPort, EmuPort), OutOfMemory>
     requires geometry { IsTextGeometry geometry }
     requires queue { IsImageOf geometry (Queue 0) images.0 }
@@ -159,7 +173,7 @@ fn recover_images(
     ensures queue { IfOk result (λ r. IsPortOf geometry (Queue 0) (emu_state r.1) × IsQuiet (emu_state r.1)) }
     ensures root { IfOk result (λ r. IsPortOf geometry Root (emu_state r.2) × IsQuiet (emu_state r.2)) }
 {
-    let mut ports = restarted(alloc, geometry, images)?;
+    let mut ports = restarted(alloc, geometry, images, pick)?;
     let answer = recover(alloc, geometry, &mut ports);
     let Ports { mut queues, root } = ports;
     let queue = queues.remove(0);
@@ -169,16 +183,22 @@ fn recover_images(
     }
 }
 
-/// Commits a text on a fresh drive, pulls the plug, recovers, and prints what stands.
-fn run_text(alloc: Global, text: &BlockText) -> Result<Vec<u8>, OutOfMemory>
+/// Commits a text on a fresh drive, pulls the plug after so many events or at the end, recovers, and
+/// prints what stands. What the cut leaves of what is uncertain follows from `pick`.
+fn run_text(
+    alloc: Global,
+    text: &BlockText,
+    cut: Option<u64>,
+    pick: u64,
+) -> Result<Vec<u8>, OutOfMemory>
     requires good { IsGoodText text.now }
-    requires sets { HasSetsOnly text.now }
-    ensures { IfOk result (λ v. v.items ≡ output_of text.now) }
+    requires cut { IsCutCount cut }
+    ensures { IfOk result (λ v. (p : ℕ) × IsPrefixAt text.now cut p × (v.items ≡ output_of text.now p)) }
 {
     let geometry = text_geometry();
-    let images = commit_fresh(alloc, geometry, text)?;
-    let (prefix, queue, root) = recover_images(alloc, geometry, images)?;
-    let marks = live_marks(alloc, text)?;
+    let images = commit_fresh(alloc, geometry, text, cut, pick)?;
+    let (prefix, queue, root) = recover_images(alloc, geometry, images, pick)?;
+    let marks = live_marks(alloc, text, prefix)?;
     let live = live_blocks(alloc, geometry, &queue, &root, &marks)?;
     print_blocks(alloc, prefix, &live)
 }
