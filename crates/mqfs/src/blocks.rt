@@ -178,7 +178,7 @@ fn run_text(alloc: Global, text: &BlockText) -> Result<Vec<u8>, OutOfMemory>
     let geometry = text_geometry();
     let images = commit_fresh(alloc, geometry, text)?;
     let (prefix, queue, root) = recover_images(alloc, geometry, images)?;
-    let marks = live_marks(alloc, text)?;
+    let marks = live_marks(alloc, text, text.0.len() as u64)?;
     let live = live_blocks(alloc, geometry, &queue, &root, &marks)?;
     print_blocks(alloc, prefix, &live)
 }
