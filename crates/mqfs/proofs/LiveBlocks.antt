@@ -8,7 +8,7 @@ use Rattle.mq_blocks.specs.Journal.{is_among}
 use Rattle.mq_blocks.specs.Machine.{Map, Writes, write_of, or_kept, after}
 use Rattle.mqfs.specs.Lines.{set_in, freed_in, with_write, writes_from, named, transaction_of, map_after, live_one, live_from}
 use Rattle.mqfs.specs.Live.{AreMarks, marked}
-use Rattle.mqfs.specs.Text.{AreGoodItems, AreGoodLines, IsUnnamed}
+use Rattle.mqfs.specs.Text.{AreGoodItems, AreGoodLines, IsGoodItem, IsUnnamed}
 use Rattle.mqfs.specs.declared.text.item.BlockItem.{BlockItem}
 use Rattle.mqfs.specs.declared.text.item.BlockItem.TheVariants.{Set, Free}
 use Rattle.mqfs.proofs.Fills.{Fill, named_is}
@@ -78,6 +78,10 @@ marks_more lines n line marks more is good old new b less =
     let step : is_some (map_after lines (suc n) b) ≡ marked line b (is_some (map_after lines n b)) =
     ap (λ (l : List BlockItem). is_some (after (map_after lines n) (transaction_of (n + 1) l) b)) (sym is) ∙ live_more line (n + 1) (map_after lines n) b good less in
     new b less ∙ ap (marked line b) (old b less) ∙ sym step ∙ ap (λ (k : ℕ). is_some (map_after lines k b)) (let e : suc n ≡ n + 1 = omega arith in e)
+
+-- a good item frees a block below 256
+pub good_free : (i : BlockItem) (b : ℕ) → i ≡ Free b → IsGoodItem i → b < 256
+good_free i b is good = let at : IsGoodItem (Free b) = subst IsGoodItem is good in let low : b ≤ 255 = at in omega arith
 
 -- ---- the list of live blocks
 
