@@ -1,7 +1,11 @@
 mod Programs
 mod Restarts
+pub mod Counts
+pub mod Cutting
 pub mod Drives
+pub mod Ended
 pub mod Ending
+pub mod Exits
 pub mod Fills
 pub mod JournalItems
 pub mod JournalKeeps
