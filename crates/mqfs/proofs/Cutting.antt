@@ -7,6 +7,7 @@ use Rattle.mq_blocks.specs.declared.command.Command.{Command}
 use Rattle.mq_blocks.specs.declared.geometry.Geometry.{Geometry}
 use Rattle.mq_drive.specs.Start.{IsPortOf}
 use Rattle.mq_drive.specs.declared.role.Role.{Role}
+use Rattle.mq_drive.specs.declared.role.Role.TheVariants.{Queue}
 use Rattle.mqfs.specs.Cuts.{HasEnded, IsRung, IsEarly}
 use Rattle.mqfs.specs.Runs.{Items, IsApart, IsNewIn, commands_of, slots_with, entry_at, after_some, after_all}
 use Rattle.mqfs.proofs.Ended.{ended_all}
@@ -100,7 +101,13 @@ port_ended g role s t n ended port = subst (IsPortOf g role) (sym ended.is) (rec
   settled = port.settled;
 })
 
--- nothing is under way, and all entries are done
+-- what a quiet queue's port has staged is flushed
+pub settled_port : (g : Geometry) (s : PortState) → IsPortOf g (Queue 0) s → IsQuiet s → (k : ℕ) → k < depth → get_or s.flushed k [] ≡ get_or s.staged k []
+settled_port g s port quiet k within =
+    let at : staged_end s ≡ s.doorbell = ap (λ (l : List Command). s.doorbell + length l) quiet.pending ∙ add-zero s.doorbell in
+    port.settled k (let ring = port.flushed in omega arith) (λ c low high. absurd (let old = quiet.flushed_end in omega arith))
+
+-- nothing is under way
 pub early_none : (s : PortState) → IsQuiet s → IsEarly s s 0 []
 early_none s quiet =
     let start : staged_end s ≡ s.doorbell = ap (λ (l : List Command). s.doorbell + length l) quiet.pending ∙ add-zero s.doorbell in

@@ -2,7 +2,9 @@
 use Rattle.std.proofs.Common.{◌≡◌, ◌<◌, ◌≤◌, ◌⊎◌, ⊎_elim, inl, inr, ℕ, ◌+◌, ◌*◌, List, [], ◌∷◌, ◌++◌, length, get_or, refl, sym, ◌∙◌, ap, subst, arith}
 use Rattle.mq_blocks.specs.Drive.{PortState, PortImage, IsImage, IsQuiet, counted, depth, staged_end, after_flush, after_ring, after_store_head}
 use Rattle.mq_blocks.specs.declared.command.Command.{Command}
+use Rattle.mq_blocks.specs.declared.geometry.Geometry.{Geometry}
 use Rattle.mq_drive.specs.Start.{IsPortOf}
+use Rattle.mq_drive.specs.declared.role.Role.{Role}
 use Rattle.mqfs.specs.Cuts.{HasBounds, HasEnded, IsCut, nearly_done}
 use Rattle.mqfs.specs.Runs.{Items, commands_of, after_some, after_all, after_line}
 use Rattle.mqfs.proofs.Counts.{counted-counted}
@@ -12,6 +14,9 @@ use Rattle.mqfs.proofs.Lines.{length-commands}
 
 bounds_ended : (s t u : PortState) (n : ℕ) → HasBounds s t → HasEnded t u n → HasBounds s u
 bounds_ended s t u n bounds ended = subst (HasBounds s) (sym ended.is) (record { limit = bounds.limit; fail = bounds.fail; begins = bounds.begins })
+
+pub bounds_then : (s t u : PortState) → HasBounds s t → HasBounds t u → HasBounds s u
+bounds_then s t u first second = record { limit = second.limit ∙ first.limit; fail = second.fail ∙ first.fail; begins = second.begins ∙ first.begins }
 
 pub bounds_line : (s : PortState) (tx : ℕ) (items : Items) → HasBounds s (after_line s tx items)
 unfolding after_line
@@ -73,6 +78,11 @@ module _ (s : PortState) (tx : ℕ) (items : Items) (quiet : IsQuiet s) where
   unfolding after_line
   events_line = let sum : 2 * length items + 2 + 2 ≡ 2 * length items + 4 = omega arith in counts 2 ∙ ap (counted s.events) sum
 
+  pub port_all : (g : Geometry) (role : Role) → IsPortOf g role s → IsPortOf g role (after_all (after_ring (after_flush (after_some s tx (length items) items))))
+  port_all g role port =
+      let rung : PortState = after_ring (after_flush (after_some s tx (length items) items)) in
+      port_ended g role rung _ _ (ended_all rung) (port_rung g role _ (port_flushed g role _ (port_some s tx items quiet g role (length items) port)))
+
   module _ (done : s.head ≡ s.doorbell) (settled : (k : ℕ) → k < depth → get_or s.flushed k [] ≡ get_or s.staged k []) (room : length items ≤ 1023) (new : PortState) where
     pub cut_staging : (k : ℕ) → k ≤ length items → new ≡ after_some s tx k items → IsCut s new tx items k
     cut_staging k few is = subst (λ (u : PortState). IsCut s u tx items k) (sym is) record {
@@ -103,14 +113,12 @@ module _ (s : PortState) (tx : ℕ) (items : Items) (quiet : IsQuiet s) where
         }
 
     pub cut_all : new ≡ after_all (after_ring (after_flush (after_some s tx (length items) items))) → IsCut s new tx items (2 * length items + 2)
-    cut_all is =
-        let rung : PortState = after_ring (after_flush (after_some s tx (length items) items)) in
-        subst (λ (u : PortState). IsCut s u tx items (2 * length items + 2)) (sym is) record {
-          events_are = events_all;
-          bounds = record { limit = refl; fail = refl; begins = refl };
-          port = λ g role port. port_ended g role rung _ _ (ended_all rung) (port_rung g role _ (port_flushed g role _ (port_some s tx items quiet g role (length items) port)));
-          stage = inl (early_all s tx items quiet done settled room, omega arith);
-        }
+    cut_all is = subst (λ (u : PortState). IsCut s u tx items (2 * length items + 2)) (sym is) record {
+      events_are = events_all;
+      bounds = record { limit = refl; fail = refl; begins = refl };
+      port = port_all;
+      stage = inl (early_all s tx items quiet done settled room, omega arith);
+    }
 
     pub cut_stored : new ≡ nearly_done s tx items → IsCut s new tx items (2 * length items + 3)
     unfolding nearly_done
@@ -120,6 +128,6 @@ module _ (s : PortState) (tx : ℕ) (items : Items) (quiet : IsQuiet s) where
           events_are = ap (λ (u : PortState). u.events) is ∙ events_nearly;
           bounds = subst (HasBounds s) (sym is) record { limit = refl; fail = refl; begins = refl };
           port = λ g role port. subst (λ (u : PortState). IsPortOf g role u) (sym is)
-              (port_stored g role (after_all rung) (staged_end s + length items) (port_ended g role rung _ _ (ended_all rung) (port_rung g role _ (port_flushed g role _ (port_some s tx items quiet g role (length items) port)))));
+              (port_stored g role (after_all rung) (staged_end s + length items) (port_all g role port));
           stage = inr (is, refl);
         }

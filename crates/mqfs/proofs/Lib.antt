@@ -13,6 +13,7 @@ pub mod JournalShows
 pub mod Lines
 pub mod Lists
 pub mod LiveBlocks
+pub mod RungEntries
 pub mod Staging
 pub mod TextItems
 pub mod TextLines

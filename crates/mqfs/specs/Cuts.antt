@@ -34,6 +34,12 @@ abbrev pub IsPrefixAt : List (List BlockItem) → Option ℕ → ℕ → Type 0
 IsPrefixAt lines None p = p ≡ length lines
 IsPrefixAt lines (Some events) p = IsReached lines events p
 
+-- each image of the queue's port, with a root of base 0, shows as many lines as stand after these
+-- events
+abbrev pub QueueShows : Geometry → PortState → List (List BlockItem) → ℕ → Type 0
+QueueShows g queue lines events =
+    (q r : PortImage) → IsImage queue q → r.base ≡ 0 → (n : ℕ) × IsReached lines events n × ShowsMap g (shown says g (q ∷ []) r) n (map_after lines n)
+
 -- each image of the two ports shows as many lines as stand after these events
 abbrev pub ShowsReached : Geometry → PortState → PortState → List (List BlockItem) → ℕ → Type 0
 ShowsReached g queue root lines events =
