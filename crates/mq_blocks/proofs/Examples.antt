@@ -352,6 +352,8 @@ port = record {
   rings = 0;
   begins = 0;
   events = 0;
+  limit = None;
+  fail = None;
 }
 
 area_index : index_of port 1030 ≡ 6

@@ -48,6 +48,10 @@ pub record PortState : Type 0 where
   pub rings : ℕ
   pub begins : ℕ
   pub events : ℕ
+  -- what no call changes: after how many of its events the power goes off, and which of its commands
+  -- and home writes ends with an error, counted from 1, where these are told
+  pub limit : Option ℕ
+  pub fail : Option ℕ
 
 -- a count of 64 bits stands still at its end
 abbrev pub counted : ℕ → ℕ → ℕ
