@@ -1,4 +1,5 @@
 pub mod Commands
+pub mod Cutting
 pub mod Doubts
 pub mod Faults
 pub mod Moves

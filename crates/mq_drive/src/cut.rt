@@ -1,11 +1,12 @@
 // What a cut of the power leaves of what is not certain.
 ghost use Rattle.std.specs.Prelude.{◌≡◌, ◌≢◌, ◌<◌, ◌≤◌, ◌%◌, ℕ, [], length, true, false, All, None, slice_index_or};
+ghost use Rattle.std.specs.Option.{ForSome};
 ghost use Rattle.mq_drive.specs.Slots.{index_in};
 
 use crate::blocks::Blocks;
 use crate::extent::{Extent, block_index};
 use crate::store::put_slot;
-use mq_blocks::{Block, Command};
+use mq_blocks::{Command, HomeWrite};
 use mq_nvme::Entry;
 use rand_core::Rng;
 use rand_pcg::Lcg128Xsl64;
@@ -80,5 +81,29 @@ fn tear_earlier(
 {
     if let Some(command) = failed.take_if(|command| command.count < count) {
         blocks.tear_doubt(command.block, rng);
+    }
+}
+
+/// Of the block that the failed home write leaves in doubt, and then of the block of the home write
+/// that is under way, chooses what it holds.
+pub fn tear_homes(
+    blocks: &mut Blocks,
+    area: Extent,
+    homes: Extent,
+    failed: Option<HomeWrite>,
+    under_way: Option<HomeWrite>,
+    rng: &mut Lcg128Xsl64,
+)
+    requires own { ForSome under_way (λ w. (area.first ≤ w.lba) × (index_in area.first area.size homes.first w.lba < length blocks.old.blocks.items)) }
+    requires doubt { ForSome under_way (λ w. slice_index_or blocks.old.sure.items (index_in area.first area.size homes.first w.lba) false ≡ false) }
+    ensures len { length blocks.new.blocks.items ≡ length blocks.old.blocks.items }
+    ensures kept { (k : ℕ) → slice_index_or blocks.old.sure.items k false ≡ true → slice_index_or blocks.new.blocks.items k None ≡ slice_index_or blocks.old.blocks.items k None }
+{
+    if let Some(write) = failed {
+        blocks.tear_doubt(write.block, rng);
+    }
+    if let Some(write) = under_way {
+        let index = block_index(area, homes, write.lba);
+        blocks.tear(index, write.block, rng);
     }
 }

@@ -10,7 +10,7 @@ use crate::blocks::Blocks;
 use crate::extent::{Extent, block_index, extents, port_number, queue_id};
 use crate::failing::{Failing, Failure, parts_of};
 use crate::power::Power;
-use crate::cut::{tear_commands, tear_slots};
+use crate::cut::{tear_commands, tear_homes, tear_slots};
 use crate::random::{choose, either, generator};
 use crate::store::{add, add_all, bump, put_slot, settle, slot_at, take_at};
 use crate::{HomeStep, Off, Port, PortImage, Role, Step};
@@ -200,12 +200,7 @@ impl EmuPort {
         let base = either(&mut rng, base, stored_base);
         let (failed, unended) = parts_of(failure);
         tear_commands(&mut blocks, area, homes, posted, failed, &mut rng);
-        if let Some(write) = unended {
-            blocks.tear_doubt(write.block, &mut rng);
-        }
-        if let Some(write) = under_way {
-            blocks.tear(block_index(area, homes, write.lba), write.block, &mut rng);
-        }
+        tear_homes(&mut blocks, area, homes, unended, under_way, &mut rng);
         PortImage {
             doorbell,
             head,
@@ -263,8 +258,8 @@ impl Port for EmuPort {
     }
 
     fn flush(&mut self) -> Result<(), Off> {
-        self.power.event()?;
         let end = self.doorbell + self.pending.len() as u64;
+        self.power.event()?;
         settle(&mut self.flushed, &self.staged, self.flushed_end, end);
         self.flushed_end = end;
         self.head = self.stored_head;
