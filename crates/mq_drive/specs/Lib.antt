@@ -1,4 +1,6 @@
 pub mod Emu
+pub mod Failures
+pub mod Limits
 pub mod Roles
 pub mod Slots
 pub mod Start
