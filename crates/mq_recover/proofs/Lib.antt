@@ -1,4 +1,3 @@
-pub mod RecoverChains
+pub mod Readable
 pub mod RecoverCopies
-pub mod RecoverHomes
-pub mod Standings
+pub mod Refusing

@@ -9,8 +9,6 @@ use Rattle.mq_blocks.specs.Machine.{Writes, or_kept}
 use Rattle.mq_blocks.specs.declared.geometry.Geometry.{Geometry}
 use Rattle.mq_recover.specs.Recovery.{view_of}
 use Rattle.mq_recover.specs.Recover.{copy_of, content_of}
-use Rattle.mq_recover.specs.declared.homes.Copies.{Copies}
-use Rattle.mq_recover.specs.declared.homes.Plan.{Plan}
 
 -- the writes of the copies at these places, which are those of the blocks from b on
 abbrev pub writes_from : (ℕ → List ℕ) → ℕ → ℕ → List (Option ℕ) → Writes
