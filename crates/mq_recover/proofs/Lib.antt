@@ -1,3 +1,6 @@
+pub mod Plans
 pub mod Readable
+pub mod RecoverChains
 pub mod RecoverCopies
+pub mod RecoverHomes
 pub mod Refusing

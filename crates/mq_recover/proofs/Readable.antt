@@ -3,7 +3,7 @@ use Rattle.std.proofs.Common.{◌≡◌, ◌≢◌, ◌<◌, ◌≤◌, ◌⊎�
 use Rattle.std.proofs.lemmas.Bool.{cases_eq, cases_lt}
 use Rattle.std.proofs.Math.Nat.{mod-mod, mod-eq_of_lt, mod-lt}
 use Rattle.std.specs.Option.{unwrap_or}
-use Rattle.std.specs.Prelude.{slice_index_or}
+use Rattle.std.specs.Prelude.{slice_index_or, IfOk, IfErr, IsErrOf, MatchResult, Result, Ok, Err}
 use Rattle.mq_area.proofs.Descriptors.{descriptor_bytes-unique, accepted-homes}
 use Rattle.mq_area.specs.Reading.{Accepts, PlaceFits}
 use Rattle.mq_area.specs.declared.descriptor.PlaceIs.{PlaceIs}
@@ -14,10 +14,14 @@ use Rattle.mq_blocks.specs.Drive.{PortState, depth}
 use Rattle.mq_blocks.specs.Geometry.{area_of, area_lba, homes_of}
 use Rattle.mq_blocks.specs.Journal.{Shown, Says, Holds, IsChain, AreInReach, IsCommit, IsQueueChain, number_limit}
 use Rattle.mq_blocks.specs.declared.geometry.Geometry.{Geometry}
+use Rattle.mq_drive.specs.Start.{IsPortOf}
+use Rattle.mq_drive.specs.declared.role.Role.TheVariants.{Queue}
 use Rattle.mq_nvme.specs.Says.{says}
 use Rattle.mq_recover.specs.Recover.{IsSeenAt, AreFalling, where_of}
-use Rattle.mq_recover.specs.Refusals.{AreWords, IsNewest, IsFoundNext, AreFound, IsIndex, IsWholeChain, AreRung, IsRungWhole, IsReadable, entry_at, expected, block_where}
-use Rattle.mq_recover.proofs.Refusing.{said-once}
+use Rattle.mq_recover.specs.Refusals.{AreWords, IsNewest, IsFoundNext, AreFound, IsIndex, IsWholeChain, AreRung, IsRungWhole, IsReadable, RefusesQueue, entry_at, expected, block_where}
+use Rattle.mq_recover.specs.declared.refusal.ChainRefusal.{ChainRefusal}
+use Rattle.mq_recover.specs.declared.refusal.ChainRefusal.TheVariants.{OutOfMemory}
+use Rattle.mq_recover.proofs.Refusing.{said-once, readable-once, readable-refused, refuses-queue-once}
 
 pub where-fits : (area : ℕ) (p : PlaceIs) (place : ℕ) → PlaceFits area p place → where_of p % area ≡ place % area
 where-fits area (Index index) place fits = ap (λ (n : ℕ). n % area) (sym fits) ∙ mod-mod place area
@@ -254,3 +258,48 @@ chain-falls g i q number place high (d ∷ ds) chain low =
     let above = chain.0 in
     let falls = chain.1.good.falls in
     (omega (arith, is, above), omega (arith, is, low), chain-falls g i q d.prev_number d.prev_place d.number ds chain.2 falls)
+
+-- ---- what reading gives
+
+same-queue : (g : Geometry) (s : PortState) (q p : ℕ) → IsPortOf g (Queue q) s → s.queue ≡ Some p → q ≡ p
+same-queue g s q p port is = let both : Some q ≡ Some p = sym port.queue ∙ is in cc
+
+pub chain-shown : (g : Geometry) (s : PortState) (q base : ℕ) (r : Result (List Descriptor) ChainRefusal) → IsPortOf g (Queue q) s → IfOk r (IsReadable g s q base)
+    → IfOk r (λ c. (p : ℕ) (i : Shown) → s.queue ≡ Some p → IsSeenAt p base s i → IsQueueChain g i p c)
+chain-shown g s q base (Ok c) port ok = λ p i is seen.
+    readable-shown g i s p base c seen (subst (λ (n : ℕ). IsReadable g s n base c) (same-queue g s q p port is) ok)
+chain-shown g s q base (Err e) port ok = tt
+
+pub chain-refused : (g : Geometry) (s : PortState) (q base : ℕ) (r : Result (List Descriptor) ChainRefusal) → IsPortOf g (Queue q) s → IfErr r (λ e. (e ≡ OutOfMemory) ⊎ RefusesQueue g s q base e)
+    → IfErr r (λ e. (e ≡ OutOfMemory) ⊎ ((p : ℕ) → s.queue ≡ Some p → RefusesQueue g s p base e))
+chain-refused g s q base (Ok c) port bad = tt
+chain-refused g s q base (Err e) port bad = elim bad [
+  | inl x ↦ inl x
+  | inr x ↦ inr (λ p is. subst (λ (n : ℕ). RefusesQueue g s n base e) (same-queue g s q p port is) x)
+]
+
+pub chain-complete : (g : Geometry) (s : PortState) (q base : ℕ) (r : Result (List Descriptor) ChainRefusal) → IsPortOf g (Queue q) s → IfOk r (IsReadable g s q base)
+    → IfErr r (λ e. (e ≡ OutOfMemory) ⊎ RefusesQueue g s q base e)
+    → (p : ℕ) (i : Shown) (ds : List Descriptor) → s.queue ≡ Some p → IsSeenAt p base s i → IsQueueChain g i p ds → MatchResult r (λ c. c ≡ ds) (λ e. e ≡ OutOfMemory)
+chain-complete g s q base (Ok c) port ok bad p i ds is seen shown =
+    let here = subst (λ (n : ℕ). IsReadable g s n base c) (same-queue g s q p port is) ok in
+    readable-once g s p base c ds here (shown-readable g i s p base ds seen shown)
+chain-complete g s q base (Err e) port ok bad p i ds is seen shown = elim bad [
+  | inl x ↦ x
+  | inr x ↦
+      let there = subst (λ (n : ℕ). RefusesQueue g s n base e) (same-queue g s q p port is) x in
+      absurd (readable-refused g s p base ds e (shown-readable g i s p base ds seen shown) there)
+]
+
+pub chain-exact : (g : Geometry) (s : PortState) (q base : ℕ) (r : Result (List Descriptor) ChainRefusal) → IsPortOf g (Queue q) s → IfOk r (IsReadable g s q base)
+    → IfErr r (λ e. (e ≡ OutOfMemory) ⊎ RefusesQueue g s q base e)
+    → (p : ℕ) (f : ChainRefusal) → s.queue ≡ Some p → RefusesQueue g s p base f → IsErrOf r f ⊎ IsErrOf r OutOfMemory
+chain-exact g s q base (Ok c) port ok bad p f is refuses =
+    let here = subst (λ (n : ℕ). IsReadable g s n base c) (same-queue g s q p port is) ok in
+    absurd (readable-refused g s p base c f here refuses)
+chain-exact g s q base (Err e) port ok bad p f is refuses = elim bad [
+  | inl x ↦ inr (ap (λ (z : ChainRefusal). Err z) x)
+  | inr x ↦
+      let there = subst (λ (n : ℕ). RefusesQueue g s n base e) (same-queue g s q p port is) x in
+      inl (ap (λ (z : ChainRefusal). Err z) (refuses-queue-once g s p base e f there refuses))
+]

@@ -1,5 +1,5 @@
 // The chain of a queue.
-ghost use Rattle.std.specs.Prelude.{◌≡◌, ◌⊎◌, ◌<◌, ◌≤◌, ◌-◌, ◌%◌, ℕ, List, [], length, IfOk, IfErr, IsErrOf, IsOk, Some, true, slice_index_or, MatchOption, MatchResult};
+ghost use Rattle.std.specs.Prelude.{◌≡◌, ◌≢◌, ◌⊎◌, ◌<◌, ◌≤◌, ◌-◌, ◌%◌, ℕ, List, [], length, IfOk, IfErr, IsErrOf, IsOk, Some, true, slice_index_or, MatchOption, MatchResult};
 ghost use Rattle.mq_blocks.specs.Blocks.{block_at};
 ghost use Rattle.mq_blocks.specs.Descriptor.{Descriptor as Text};
 ghost use Rattle.mq_blocks.specs.Drive.{IsQuiet, depth};
@@ -155,6 +155,7 @@ fn read_newest<P: Port>(port: &P) -> Result<Newest, ChainRefusal>
 fn read_rung<P: Port>(port: &P) -> Result<u64, ChainRefusal>
     requires slots { length (P.state port.now).flushed ≡ depth }
     requires quiet { IsQuiet (P.state port.now) }
+    requires order { (P.state port.now).head ≤ (P.state port.now).doorbell }
     ensures rung { IfOk result (λ _. AreRung (P.state port.now) (P.state port.now).head (P.state port.now).doorbell) }
     ensures whole { IfOk result (λ _. IsRungWhole (P.state port.now)) }
     ensures greatest { IfOk result (IsGreatest (P.state port.now) (P.state port.now).head (P.state port.now).doorbell) }
@@ -288,13 +289,7 @@ fn read_next<P: Port>(
     read_area(geometry, at.queue, place_of(at), port, block);
     let next = match read_descriptor(alloc, geometry, at, block) {
         Ok(descriptor) => descriptor,
-        Err(DescriptorRefusal::OutOfMemory) => return Err(ChainRefusal::OutOfMemory),
-        Err(cause) => {
-            return Err(ChainRefusal::Descriptor {
-                number: at.number.0,
-                cause,
-            });
-        }
+        Err(cause) => return Err(refused_at(at.number.0, cause)),
     };
     let newest = newest.unwrap_or(next.place);
     let oldest = next.place - next.logged.len() as u64;
@@ -302,6 +297,16 @@ fn read_next<P: Port>(
         return Err(ChainRefusal::Span { oldest, newest });
     }
     Ok(next)
+}
+
+// The refusal of the descriptor of a number.
+fn refused_at(number: u64, cause: DescriptorRefusal) -> ChainRefusal
+    ensures { ((cause ≡ DescriptorRefusal.OutOfMemory) × (result ≡ ChainRefusal.OutOfMemory)) ⊎ ((cause ≢ DescriptorRefusal.OutOfMemory) × (result ≡ ChainRefusal.Descriptor number cause)) }
+{
+    match cause {
+        DescriptorRefusal::OutOfMemory => ChainRefusal::OutOfMemory,
+        cause => ChainRefusal::Descriptor { number, cause },
+    }
 }
 
 // Where a descriptor is expected.

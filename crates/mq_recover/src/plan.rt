@@ -1,5 +1,5 @@
 // What an image shows, and what goes home.
-ghost use Rattle.std.specs.Prelude.{◌≡◌, ◌⊎◌, ◌<◌, IfOk, IfErr, IsErrOf, length, max};
+ghost use Rattle.std.specs.Prelude.{◌≡◌, ◌≢◌, ◌⊎◌, ◌<◌, IfOk, IfErr, IsErrOf, length, max};
 ghost use Rattle.mq_blocks.specs.Blocks.{block_at};
 ghost use Rattle.mq_blocks.specs.Drive.{IsQuiet};
 ghost use Rattle.mq_blocks.specs.Geometry.{queues_of, area_of, homes_of};
@@ -75,13 +75,7 @@ pub fn find_copies<P: Port>(
     }
     let read = match read_queue(alloc, geometry, QueueNo(0), queue, TxNo(base)) {
         Ok(read) => read,
-        Err(ChainRefusal::OutOfMemory) => return Err(ImageFault::OutOfMemory),
-        Err(cause) => {
-            return Err(ImageFault::Bad {
-                queue: QueueNo(0),
-                cause,
-            });
-        }
+        Err(cause) => return Err(bad_queue(QueueNo(0), cause)),
     };
     let top = TxNo(top_of(&read.chain, base, read.greatest));
     let copies = place_copies(alloc, geometry, read.chain, base)?;
@@ -92,6 +86,16 @@ pub fn find_copies<P: Port>(
             base: top,
         },
     })
+}
+
+// The fault of an image for a queue.
+fn bad_queue(queue: QueueNo, cause: ChainRefusal) -> ImageFault
+    ensures { ((cause ≡ ChainRefusal.OutOfMemory) × (result ≡ ImageFault.OutOfMemory)) ⊎ ((cause ≢ ChainRefusal.OutOfMemory) × (result ≡ ImageFault.Bad queue cause)) }
+{
+    match cause {
+        ChainRefusal::OutOfMemory => ImageFault::OutOfMemory,
+        cause => ImageFault::Bad { queue, cause },
+    }
 }
 
 // The greatest of a base, the numbers of a chain above it, and one more.
