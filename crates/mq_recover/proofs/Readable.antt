@@ -14,10 +14,12 @@ use Rattle.mq_blocks.specs.Drive.{PortState, depth}
 use Rattle.mq_blocks.specs.Geometry.{area_of, area_lba, homes_of}
 use Rattle.mq_blocks.specs.Journal.{Shown, Says, Holds, IsChain, AreInReach, IsCommit, IsQueueChain, number_limit}
 use Rattle.mq_blocks.specs.declared.geometry.Geometry.{Geometry}
+use Rattle.mq_drive.specs.Roles.{role_of}
 use Rattle.mq_drive.specs.Start.{IsPortOf}
+use Rattle.mq_drive.specs.declared.role.Role.{Role}
 use Rattle.mq_drive.specs.declared.role.Role.TheVariants.{Queue}
 use Rattle.mq_nvme.specs.Says.{says}
-use Rattle.mq_recover.specs.Recover.{IsSeenAt, AreFalling, where_of}
+use Rattle.mq_recover.specs.Recover.{IsSeenAt, IsQueuePort, AreFalling, where_of}
 use Rattle.mq_recover.specs.Refusals.{AreWords, IsNewest, IsFoundNext, AreFound, IsIndex, IsWholeChain, AreRung, IsRungWhole, IsReadable, RefusesQueue, entry_at, expected, block_where}
 use Rattle.mq_recover.specs.declared.refusal.ChainRefusal.{ChainRefusal}
 use Rattle.mq_recover.specs.declared.refusal.ChainRefusal.TheVariants.{OutOfMemory}
@@ -263,6 +265,11 @@ chain-falls g i q number place high (d ∷ ds) chain low =
 
 same-queue : (g : Geometry) (s : PortState) (q p : ℕ) → IsPortOf g (Queue q) s → s.queue ≡ Some p → q ≡ p
 same-queue g s q p port is = let both : Some q ≡ Some p = sym port.queue ∙ is in cc
+
+pub own-port : (g : Geometry) (s : PortState) (n : ℕ) → IsQueuePort g s → Queue n ≡ role_of s.queue → IsPortOf g (Queue n) s
+own-port g s n own is =
+    let there : Queue n ≡ Queue own.0 = is ∙ ap role_of own.2.queue in
+    subst (λ (r : Role). IsPortOf g r s) (sym there) own.2
 
 pub chain-shown : (g : Geometry) (s : PortState) (q base : ℕ) (r : Result (List Descriptor) ChainRefusal) → IsPortOf g (Queue q) s → IfOk r (IsReadable g s q base)
     → IfOk r (λ c. (p : ℕ) (i : Shown) → s.queue ≡ Some p → IsSeenAt p base s i → IsQueueChain g i p c)

@@ -31,7 +31,8 @@ returns-then-oldest-from-clause-refused g c =
     let d : Text = c.in-Ok.descriptor in
     let block_is : c.read_area.new.block ≡ block_where c.args.geometry s at.place = c.read_area.ensures ∙ ap (λ n. block_at s.blocks (n % area_of c.args.geometry)) c.place_of.ensures in
     let accepts = subst (λ (b : List ℕ). Accepts c.args.geometry at b d) block_is c.in-Ok.ensures.sound in
-    let oldest_is : c.next.inside.place - c.len.result ≡ d.place - length d.logged = ? in
+    let oldest_is : c.next.inside.place - c.len.result ≡ d.place - length d.logged =
+    omega (arith, ap (λ (x : Text). x.place) c.next.view_is, ap (λ (x : Text). length x.logged) c.next.view_is, c.len.ensures) in
     let newest_is : c.unwrap_or-newest.result ≡ unwrap_or c.args.newest d.place = c.unwrap_or-newest.ensures ∙ ap (λ (x : Text). unwrap_or c.args.newest x.place) c.next.view_is in
     let far : (d.place - length d.logged) + area_of c.args.geometry ≤ unwrap_or c.args.newest d.place = omega (arith, oldest_is, newest_is, c.if-oldest-from.true, c.area.ensures, c.from.ensures) in
     inr (rw (oldest_is, newest_is) (NextApart d accepts far))
