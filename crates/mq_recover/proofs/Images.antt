@@ -1,21 +1,20 @@
 -- Readable images: what reading finds is what is shown, and each image has one prefix and one top, or
 -- one cause for which it is refused.
-use Rattle.std.proofs.Common.{◌≡◌, ◌≢◌, ◌<◌, ◌≤◌, ◌⊎◌, inl, inr, ℕ, zero, suc, ◌+◌, ◌-◌, ◌%◌, ◌^◌, max, List, [], ◌∷◌, ◌++◌, length, Option, Some, None, refl, sym, ◌∙◌, ap, subst, arith, get_or}
+use Rattle.std.proofs.Common.{◌≡◌, ◌≢◌, ◌<◌, ◌≤◌, ◌⊎◌, inl, inr, ℕ, ◌+◌, ◌%◌, ◌^◌, max, List, [], ◌∷◌, ◌++◌, length, Option, Some, None, refl, sym, ◌∙◌, ap, subst, arith, get_or}
 use Rattle.std.proofs.lemmas.Bool.{cases_eq, cases_lt}
 use Rattle.std.proofs.Math.Nat.{le-max_left, le-max_right, max-eq_left, max-eq_right}
-use Rattle.std.specs.Prelude.{IfOk, IfErr, IsErrOf, Result, Ok, Err}
+use Rattle.std.specs.Prelude.{IsErrOf, Err}
 use Rattle.mq_blocks.specs.Descriptor.{Descriptor}
 use Rattle.mq_blocks.specs.Drive.{PortState, depth}
 use Rattle.mq_blocks.specs.Geometry.{homes_of}
-use Rattle.mq_blocks.specs.Journal.{Shown, Says, IsChain, IsQueueChain, Has, AreWhole, AreInRow, IsPrefix, ShowsNumber, IsTop, number_limit}
+use Rattle.mq_blocks.specs.Journal.{Shown, IsQueueChain, Has, AreWhole, AreInRow, IsPrefix, ShowsNumber, IsTop, number_limit}
 use Rattle.mq_blocks.specs.declared.geometry.Geometry.{Geometry}
 use Rattle.mq_recover.specs.Plans.{newest_number, ArePlaced, IsFoundIn}
 use Rattle.mq_recover.specs.Recover.{IsSeenAt, AreGood, AreFalling}
 use Rattle.mq_recover.specs.Recovery.{view_of, IsStill, IsRead}
-use Rattle.mq_recover.specs.Refusals.{IsReadable, IsGreatest, RefusesQueue, RefusesImage}
+use Rattle.mq_recover.specs.Refusals.{IsReadable, IsGreatest, RefusesImage}
 use Rattle.mq_recover.specs.declared.copies.Copies.{Copies}
 use Rattle.mq_recover.specs.declared.plan.Found.{Found}
-use Rattle.mq_recover.specs.declared.refusal.ChainRefusal.{ChainRefusal}
 use Rattle.mq_recover.specs.declared.refusal.ImageFault.{ImageFault}
 use Rattle.mq_recover.specs.declared.refusal.ImageFault.TheVariants.{Bad, Limit, OutOfMemory}
 use Rattle.mq_recover.proofs.Readable.{readable-shown, shown-readable, queue-chain-once, chain-falls}

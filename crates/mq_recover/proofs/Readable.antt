@@ -1,9 +1,8 @@
 -- A readable queue: what is found through its port is what an image of the port shows.
-use Rattle.std.proofs.Common.{◌≡◌, ◌≢◌, ◌<◌, ◌≤◌, ◌⊎◌, inl, inr, ℕ, ◌+◌, ◌-◌, ◌*◌, ◌%◌, ◌^◌, true, List, [], ◌∷◌, length, Option, Some, None, refl, sym, ◌∙◌, ap, subst, arith}
+use Rattle.std.proofs.Common.{◌≡◌, ◌<◌, ◌≤◌, ◌⊎◌, inl, inr, ℕ, ◌+◌, ◌-◌, ◌*◌, ◌%◌, true, List, [], ◌∷◌, length, Option, Some, None, refl, sym, ◌∙◌, ap, subst, arith}
 use Rattle.std.proofs.lemmas.Bool.{cases_eq, cases_lt}
 use Rattle.std.proofs.Math.Nat.{mod-mod, mod-eq_of_lt, mod-lt}
-use Rattle.std.specs.Option.{unwrap_or}
-use Rattle.std.specs.Prelude.{slice_index_or, IfOk, IfErr, IsErrOf, MatchResult, Result, Ok, Err}
+use Rattle.std.specs.Prelude.{IfOk, IfErr, IsErrOf, MatchResult, Result, Ok, Err}
 use Rattle.mq_area.proofs.Descriptors.{descriptor_bytes-unique, accepted-homes}
 use Rattle.mq_area.specs.Reading.{Accepts, PlaceFits}
 use Rattle.mq_area.specs.declared.descriptor.PlaceIs.{PlaceIs}
@@ -12,7 +11,7 @@ use Rattle.mq_blocks.specs.Blocks.{block_at}
 use Rattle.mq_blocks.specs.Descriptor.{Descriptor}
 use Rattle.mq_blocks.specs.Drive.{PortState, depth}
 use Rattle.mq_blocks.specs.Geometry.{area_of, area_lba, homes_of}
-use Rattle.mq_blocks.specs.Journal.{Shown, Says, Holds, IsChain, AreInReach, IsCommit, IsQueueChain, number_limit}
+use Rattle.mq_blocks.specs.Journal.{Shown, Says, Holds, IsChain, AreInReach, IsQueueChain}
 use Rattle.mq_blocks.specs.declared.geometry.Geometry.{Geometry}
 use Rattle.mq_drive.specs.Roles.{role_of}
 use Rattle.mq_drive.specs.Start.{IsPortOf}
@@ -20,7 +19,7 @@ use Rattle.mq_drive.specs.declared.role.Role.{Role}
 use Rattle.mq_drive.specs.declared.role.Role.TheVariants.{Queue}
 use Rattle.mq_nvme.specs.Says.{says}
 use Rattle.mq_recover.specs.Recover.{IsSeenAt, IsQueuePort, AreFalling, where_of}
-use Rattle.mq_recover.specs.Refusals.{AreWords, IsNewest, IsFoundNext, AreFound, IsIndex, IsWholeChain, AreRung, IsRungWhole, IsReadable, RefusesQueue, entry_at, expected, block_where}
+use Rattle.mq_recover.specs.Refusals.{IsNewest, AreFound, IsIndex, IsWholeChain, IsReadable, RefusesQueue, entry_at, expected, block_where}
 use Rattle.mq_recover.specs.declared.refusal.ChainRefusal.{ChainRefusal}
 use Rattle.mq_recover.specs.declared.refusal.ChainRefusal.TheVariants.{OutOfMemory}
 use Rattle.mq_recover.proofs.Refusing.{said-once, readable-once, readable-refused, refuses-queue-once}

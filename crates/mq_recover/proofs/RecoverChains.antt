@@ -1,22 +1,20 @@
 -- Reading a chain through a port.
-use Rattle.std.proofs.Common.{◌≡◌, ◌<◌, ◌≤◌, ◌⊎◌, inl, inr, ⊎_elim, ℕ, ◌+◌, ◌-◌, ◌*◌, ◌%◌, Bool, true, false, List, [], ◌∷◌, ◌++◌, length, max, Option, Some, None, refl, sym, ◌∙◌, ap, subst, arith, get_or, set}
-use Rattle.std.specs.Prelude.{slice_get, slice_index_or, IfOk, Result, Ok, Err}
-use Rattle.std.proofs.Math.Nat.{le-max_left, le-max_right, mod-eq_of_lt, max-eq_left, max-eq_right}
+use Rattle.std.proofs.Common.{◌≡◌, ◌<◌, ◌≤◌, ◌⊎◌, inl, inr, ⊎_elim, ℕ, ◌+◌, ◌-◌, Bool, true, List, [], ◌∷◌, ◌++◌, length, max, Option, Some, refl, sym, ◌∙◌, ap, subst, arith, get_or, set}
+use Rattle.std.specs.Prelude.{slice_get, IfOk, Result, Ok, Err}
+use Rattle.std.proofs.Math.Nat.{le-max_left, le-max_right, max-eq_left, max-eq_right}
 use Rattle.std.proofs.lemmas.Bool.{cases_lt}
 use Rattle.std.specs.Option.{unwrap_or}
 use Rattle.mq_blocks.specs.Descriptor.{Descriptor}
-use Rattle.mq_blocks.specs.Drive.{PortState, IsQuiet, IsFlushed, depth}
-use Rattle.mq_blocks.specs.Geometry.{area_of, area_lba}
+use Rattle.mq_blocks.specs.Drive.{PortState, IsQuiet, IsFlushed}
 use Rattle.mq_blocks.specs.Journal.{Says, number_limit}
 use Rattle.mq_blocks.specs.declared.geometry.Geometry.{Geometry}
 use Rattle.mq_nvme.specs.Entry.{IsWrite, refusal_of}
 use Rattle.mq_nvme.specs.Says.{says}
 use Rattle.mq_nvme.specs.declared.write.WriteReq.{WriteReq}
-use Rattle.mq_nvme.specs.declared.write.EntryRefusal.{EntryRefusal}
 use Rattle.mq_nvme.proofs.Saying.{says-entry}
 use Rattle.mq_area.specs.declared.descriptor.PlaceIs.{PlaceIs}
-use Rattle.mq_area.specs.declared.descriptor.PlaceIs.TheVariants.{Index, Exact}
-use Rattle.mq_recover.specs.Refusals.{IsFoundNext, AreFound, IsRung, AreRung, IsRungWhole, IsGreatest, RefusesEntry, RefusesNewest, NewestEntry, RefusesRequest, RequestEntry, entry_at}
+use Rattle.mq_area.specs.declared.descriptor.PlaceIs.TheVariants.{Exact}
+use Rattle.mq_recover.specs.Refusals.{IsFoundNext, AreFound, AreRung, IsGreatest, RefusesEntry, RefusesNewest, NewestEntry, RefusesRequest, RequestEntry, entry_at}
 use Rattle.mq_recover.specs.declared.refusal.ChainRefusal.{ChainRefusal}
 use Rattle.mq_recover.proofs.Refusing.{said-once}
 
@@ -30,8 +28,12 @@ quiet-flushed s k quiet c low high at =
 pub says-of : (e : List ℕ) (r : WriteReq) → IsWrite e r → says e ≡ Some (r.tx, r.lba, r.commit)
 says-of e r w = ap says w.is ∙ says-entry r w.request
 
+-- a quiet port's words are one each
 pub head-of : (n : ℕ) (s : PortState) → IsQuiet s → (n ≡ s.head) ⊎ (n ≡ s.stored_head) → n ≡ s.head
 head-of n s quiet is = ⊎_elim (λ h. h) (λ h. h ∙ quiet.head) is
+
+pub base-of : (n : ℕ) (s : PortState) → IsQuiet s → (n ≡ s.base) ⊎ (n ≡ s.stored_base) → n ≡ s.base
+base-of n s quiet is = ⊎_elim (λ h. h) (λ h. h ∙ quiet.base) is
 
 -- ---- entries
 

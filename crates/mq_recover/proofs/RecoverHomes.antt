@@ -1,13 +1,12 @@
 -- Writing copies home.
-use Rattle.std.proofs.Common.{◌≡◌, ◌≢◌, ◌<◌, ◌≤◌, ◌⊎◌, inl, inr, ⊎_elim, ℕ, zero, suc, ◌+◌, ◌-◌, ◌*◌, ◌%◌, List, [], ◌∷◌, ◌++◌, length, Bool, true, false, Option, Some, None, get_or, set, drop, refl, sym, ◌∙◌, ap, subst, arith, drop-cons, add-one, append_assoc}
+use Rattle.std.proofs.Common.{◌≡◌, ◌≢◌, ◌<◌, ◌≤◌, ◌⊎◌, inl, inr, ⊎_elim, ℕ, zero, suc, ◌+◌, ◌-◌, ◌*◌, List, [], ◌∷◌, length, Bool, true, false, Option, Some, None, get_or, set, refl, sym, ◌∙◌, ap, subst, arith}
 use Rattle.std.proofs.lemmas.Bool.{cases_eq, eq-eqb, ne_eqb, lt-ltb, le-ltb}
 use Rattle.std.proofs.lemmas.Grind.{get_or-set_at}
 use Rattle.std.proofs.lemmas.List.{get_or-set_other}
 use Rattle.std.proofs.Math.ListN.{length-set}
 use Rattle.std.proofs.Math.Nat.{div-eq_of_lt}
-use Rattle.std.specs.Prelude.{slice_get, nat_eq, nat_lt, if◌then◌else◌}
+use Rattle.std.specs.Prelude.{nat_eq, nat_lt, if◌then◌else◌}
 use Rattle.mq_blocks.specs.Blocks.{block_at, content}
-use Rattle.mq_blocks.specs.Descriptor.{Descriptor}
 use Rattle.mq_blocks.specs.Drive.{PortState, IsQuiet, index_of, image_of, after_flush, after_store_base}
 use Rattle.mq_blocks.specs.Geometry.{homes_of, home_lba, zone_of}
 use Rattle.mq_blocks.specs.Journal.{or_else, home_block}
@@ -266,10 +265,6 @@ raised g s base t p q is = subst (IsRaised g s base) (sym is) (record {
 })
 
 -- ---- what is recovered
-
--- the root's port is quiet, so that its base is one
-pub base-of : (n : ℕ) (s : PortState) → IsQuiet s → (n ≡ s.base) ⊎ (n ≡ s.stored_base) → n ≡ s.base
-base-of n s quiet is = ⊎_elim (λ h. h) (λ h. h ∙ quiet.base) is
 
 pub seen-view : (g : Geometry) (queue root : PortState) → IsSeenAt 0 root.base queue (view_of g queue root)
 seen-view g queue root = record { base_is = refl; head_is = refl; doorbell_is = refl; entry_is = λ k. refl; area_is = λ k. refl }

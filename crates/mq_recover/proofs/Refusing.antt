@@ -1,12 +1,12 @@
 -- Each cause of a refusal is the only one, and none holds of what is readable.
-use Rattle.std.proofs.Common.{◌≡◌, ◌≢◌, ◌<◌, ◌≤◌, ◌⊎◌, inl, inr, ℕ, ◌+◌, ◌-◌, ◌*◌, ◌%◌, Bool, true, false, List, [], ◌∷◌, length, Option, Some, None, refl, sym, ◌∙◌, ap, subst, arith}
+use Rattle.std.proofs.Common.{◌≡◌, ◌<◌, ◌≤◌, ◌⊎◌, inl, inr, ℕ, ◌+◌, ◌-◌, ◌*◌, ◌%◌, true, false, List, [], ◌∷◌, length, Option, Some, None, refl, sym, ◌∙◌, ap, subst, arith}
 use Rattle.std.proofs.lemmas.Bool.{cases_eq, cases_lt}
 use Rattle.std.proofs.Math.Nat.{mod-eq_of_lt}
 use Rattle.std.specs.Option.{unwrap_or}
 use Rattle.mq_blocks.specs.Descriptor.{Descriptor}
 use Rattle.mq_blocks.specs.Drive.{PortState}
-use Rattle.mq_blocks.specs.Geometry.{area_of, area_lba}
-use Rattle.mq_blocks.specs.Journal.{Says, number_limit}
+use Rattle.mq_blocks.specs.Geometry.{area_of}
+use Rattle.mq_blocks.specs.Journal.{Says}
 use Rattle.mq_blocks.specs.declared.geometry.Geometry.{Geometry}
 use Rattle.mq_nvme.specs.Entry.{refusal_of}
 use Rattle.mq_nvme.specs.Says.{says, said}
@@ -19,7 +19,7 @@ use Rattle.mq_area.specs.declared.refusal.DescriptorRefusal.{DescriptorRefusal}
 use Rattle.mq_recover.specs.Refusals.{AreWords, IsNewest, RefusesNewest, IsFoundNext, AreFound, RefusesNext, IsIndex, RefusesChain, IsWholeChain, IsRung, AreRung, IsRungWhole, RefusesRequest, RefusesRung, IsReadable, RefusesQueue, entry_at, expected, block_where}
 use Rattle.mq_recover.specs.Refusals.{NewestEntry, NewestCommit, NewestLimit, NextRefused, NextApart, ChainOutside, ChainStopped, RequestEntry, RequestLimit, RungStopped, RungCommit, QueueWords, QueueNewest, QueueChain, QueueRung}
 use Rattle.mq_recover.specs.declared.refusal.ChainRefusal.{ChainRefusal}
-use Rattle.mq_recover.specs.declared.refusal.ChainRefusal.TheVariants.{Words, Entry, Commit, AreaPlace, Descriptor as AtDescriptor, Span, Limit}
+use Rattle.mq_recover.specs.declared.refusal.ChainRefusal.TheVariants.{Words, Entry, Descriptor as AtDescriptor, Span, Limit}
 
 -- what passes has one value at most, and what is refused one cause at most
 pub record IsTest (A E : Type 0) (P : A → Type 0) (R : E → Type 0) : Type 0 where

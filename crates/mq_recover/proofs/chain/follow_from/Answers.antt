@@ -2,7 +2,7 @@ use Rattle.std.proofs.Common.{◌≡◌, ◌<◌, inl, inr, None, ◌∙◌, ap,
 use Rattle.std.proofs.lemmas.Result.{err_from_is_err_and}
 use Rattle.std.specs.Option.{unwrap_or}
 use Rattle.mq_blocks.specs.Descriptor.{Descriptor}
-use Rattle.mq_area.specs.declared.descriptor.PlaceIs.TheVariants.{Index, Exact}
+use Rattle.mq_area.specs.declared.descriptor.PlaceIs.TheVariants.{Index}
 use Rattle.mq_recover.specs.Refusals.{ChainStopped}
 use Rattle.mq_recover.proofs.RecoverChains.{found-more, found-as}
 use Rattle.mq_recover.proofs.chain.follow_from.Goals as goal

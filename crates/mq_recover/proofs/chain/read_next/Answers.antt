@@ -1,12 +1,11 @@
-use Rattle.std.proofs.Common.{◌≡◌, ◌<◌, ◌≤◌, ◌+◌, ◌-◌, ◌%◌, ℕ, List, inl, inr, length, sym, ◌∙◌, ap, subst, arith}
+use Rattle.std.proofs.Common.{◌≡◌, ◌≤◌, ◌+◌, ◌-◌, ◌%◌, ℕ, List, inl, inr, length, ◌∙◌, ap, subst, arith}
 use Rattle.std.specs.Option.{unwrap_or}
 use Rattle.mq_blocks.specs.Blocks.{block_at}
 use Rattle.mq_blocks.specs.Descriptor.{Descriptor as Text}
 use Rattle.mq_blocks.specs.Geometry.{area_of}
 use Rattle.mq_area.specs.Reading.{Accepts, Refuses}
 use Rattle.mq_area.specs.declared.descriptor.Expect.{Expect}
-use Rattle.mq_recover.specs.Refusals.{RefusesNext, NextRefused, NextApart, block_where}
-use Rattle.mq_recover.specs.declared.refusal.ChainRefusal.TheVariants.{Descriptor, Span}
+use Rattle.mq_recover.specs.Refusals.{NextRefused, NextApart, block_where}
 use Rattle.mq_recover.proofs.chain.read_next.Goals as goal
 
 pub returns-in-Err : goal.returns-in-Err

@@ -1,4 +1,4 @@
-use Rattle.std.proofs.Common.{◌≡◌, ◌<◌, inl, inr, sym, subst}
+use Rattle.std.proofs.Common.{inl, inr, sym, subst}
 use Rattle.std.proofs.lemmas.Result.{err_from_is_err_and}
 use Rattle.mq_recover.specs.Refusals.{RefusesQueue, QueueWords, QueueNewest, QueueChain, QueueRung}
 use Rattle.mq_recover.specs.declared.refusal.ChainRefusal.{ChainRefusal}

@@ -1,9 +1,8 @@
-use Rattle.std.proofs.Common.{◌≡◌, ◌<◌, ◌≤◌, ◌-◌, true, false, ℕ, Bool, max, inl, inr, Some, ap, ◌∙◌, sym, subst, arith}
+use Rattle.std.proofs.Common.{◌≡◌, true, false, ℕ, Bool, max, inl, inr, Some, ap, ◌∙◌, sym, subst, arith}
 use Rattle.std.proofs.lemmas.Bool.{cases_lt}
 use Rattle.std.proofs.lemmas.Result.{err_from_is_err_and}
-use Rattle.mq_nvme.specs.Says.{says}
-use Rattle.mq_recover.specs.Refusals.{RequestLimit, RungStopped, RungCommit, IsGreatest, AreRung, entry_at}
-use Rattle.mq_recover.proofs.RecoverChains.{head-of, request-entry, read-none, read-more, AreRead}
+use Rattle.mq_recover.specs.Refusals.{RequestLimit, RungStopped, RungCommit, IsGreatest}
+use Rattle.mq_recover.proofs.RecoverChains.{request-entry, read-more, AreRead}
 use Rattle.mq_recover.proofs.chain.read_rung.Goals as goal
 
 pub returns-in_err-request-clause-refused : goal.returns-in_err-request-clause-refused

@@ -1,7 +1,7 @@
-use Rattle.std.proofs.Common.{◌≡◌, ◌≤◌, ◌+◌, ◌-◌, ◌^◌, ℕ, List, length, Option, refl, sym, ap, subst, arith, rules}
+use Rattle.std.proofs.Common.{◌≡◌, ◌-◌, ℕ, List, length, Option, refl, sym, ◌∙◌, ap, subst, arith, rules}
 use Rattle.mq_blocks.specs.Descriptor.{Descriptor, AreRising}
 use Rattle.mq_blocks.specs.Geometry.{homes_of}
-use Rattle.mq_recover.proofs.RecoverCopies.{CanTake, can-take, all-taken, none-taken}
+use Rattle.mq_recover.proofs.RecoverCopies.{can-take, all-taken}
 use Rattle.mq_recover.proofs.copies.place_copies.Goals as goal
 use Rattle.mq_recover.proofs.copies.place_copies.Goals.{in-Some+then-next-base, in_default}
 
@@ -39,7 +39,7 @@ returns c =
     elim c.match-pop.branch [
       | in-Some+then-next-base w ↦
           let can = can-take (homes_of c.args.geometry) c.args.base c.args.chain c.loop-next.transactions.items c.pop.new.self.items c.loop-next.places.items c.loop-next.prefix w.in-Some.next c.requires.good c.requires.falling inv.taken w.in-Some.ensures.items in
-          can.gap ? (record { places = c.loop-next.places; prefix = c.loop-next.prefix }) refl refl
+          can.gap (λ is. w.if-next-base.true (ap (λ (x : Descriptor). x.number - c.args.base) w.next.view_is ∙ is)) (record { places = c.loop-next.places; prefix = c.loop-next.prefix }) refl refl
       | in_default w ↦
           let none : length c.loop-next.transactions.items ≡ 0 = search (rules, w.in_default.ensures.cases) in
           all-taken (homes_of c.args.geometry) c.args.base c.args.chain c.loop-next.transactions.items c.loop-next.places.items c.loop-next.prefix (record { places = c.loop-next.places; prefix = c.loop-next.prefix }) c.requires.good inv.taken none refl refl

@@ -1,7 +1,7 @@
-use Rattle.std.proofs.Common.{◌≡◌, refl, arith}
+use Rattle.std.proofs.Common.{refl, arith}
 use Rattle.mq_blocks.specs.Drive.{PortState}
 use Rattle.mq_recover.proofs.Images.{good-chain, found-in}
-use Rattle.mq_recover.proofs.RecoverHomes.{base-of}
+use Rattle.mq_recover.proofs.RecoverChains.{base-of}
 use Rattle.mq_recover.proofs.plan.find_copies.Goals as goal
 
 pub place_copies-requires-clause-good : goal.place_copies-requires-clause-good

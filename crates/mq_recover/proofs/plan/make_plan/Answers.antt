@@ -1,4 +1,4 @@
-use Rattle.std.proofs.Common.{◌≡◌, ℕ, List, Option, length, ◌∙◌, ap, refl}
+use Rattle.std.proofs.Common.{◌≡◌, ℕ, List, Option, ◌∙◌, ap, refl}
 use Rattle.std.proofs.lemmas.Result.{err_from_is_err_and}
 use Rattle.mq_blocks.specs.Blocks.{block_at}
 use Rattle.mq_blocks.specs.Drive.{PortState}

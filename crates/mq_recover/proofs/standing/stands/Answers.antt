@@ -1,4 +1,4 @@
-use Rattle.std.proofs.Common.{◌≡◌, subst}
+use Rattle.std.proofs.Common.{subst}
 use Rattle.mq_blocks.specs.Drive.{PortState}
 use Rattle.mq_recover.specs.Standing.{StandsIn}
 use Rattle.mq_recover.proofs.RecoverChains.{ok-map, first-is, first-same}

@@ -4,7 +4,7 @@ use Rattle.mq_blocks.specs.Drive.{PortState}
 use Rattle.mq_recover.specs.Standing.{newest_of}
 use Rattle.mq_recover.specs.declared.standing.Standing.{Standing}
 use Rattle.mq_recover.proofs.Images.{err-exact, read-refused}
-use Rattle.mq_recover.proofs.RecoverHomes.{base-of}
+use Rattle.mq_recover.proofs.RecoverChains.{base-of}
 use Rattle.mq_recover.proofs.Standings.{standing-of}
 use Rattle.mq_recover.proofs.standing.stands_through.Goals as goal
 
