@@ -1,89 +1,23 @@
 -- Writing copies home.
-use Rattle.std.proofs.Common.{◌≡◌, ◌≢◌, ◌<◌, ◌≤◌, ◌⊎◌, inl, inr, ⊎_elim, ℕ, zero, suc, ◌+◌, ◌-◌, ◌*◌, ◌%◌, List, [], ◌∷◌, ◌++◌, length, Bool, true, false, Option, Some, None, get_or, set, drop, refl, sym, ◌∙◌, ap, subst, arith, drop-cons, add-one, append_assoc}
+use Rattle.std.proofs.Common.{◌≡◌, ◌≢◌, ◌<◌, ◌≤◌, ◌⊎◌, inl, inr, ⊎_elim, ℕ, zero, suc, ◌+◌, ◌-◌, ◌*◌, List, [], ◌∷◌, length, Bool, true, false, Option, Some, None, get_or, set, refl, sym, ◌∙◌, ap, subst, arith}
 use Rattle.std.proofs.lemmas.Bool.{cases_eq, eq-eqb, ne_eqb, lt-ltb, le-ltb}
 use Rattle.std.proofs.lemmas.Grind.{get_or-set_at}
 use Rattle.std.proofs.lemmas.List.{get_or-set_other}
 use Rattle.std.proofs.Math.ListN.{length-set}
 use Rattle.std.proofs.Math.Nat.{div-eq_of_lt}
-use Rattle.std.specs.Prelude.{slice_get, nat_eq, nat_lt, if◌then◌else◌}
+use Rattle.std.specs.Prelude.{nat_eq, nat_lt, if◌then◌else◌}
 use Rattle.mq_blocks.specs.Blocks.{block_at, content}
-use Rattle.mq_blocks.specs.Descriptor.{Descriptor}
 use Rattle.mq_blocks.specs.Drive.{PortState, IsQuiet, index_of, image_of, after_flush, after_store_base}
 use Rattle.mq_blocks.specs.Geometry.{homes_of, home_lba, zone_of}
-use Rattle.mq_blocks.specs.Journal.{AreInRow, IsQueueChain, or_else, home_block}
+use Rattle.mq_blocks.specs.Journal.{or_else, home_block}
 use Rattle.mq_blocks.specs.Machine.{Writes, or_kept}
 use Rattle.mq_blocks.specs.declared.geometry.Geometry.{Geometry}
 use Rattle.mq_drive.specs.Start.{IsPortOf}
 use Rattle.mq_drive.specs.declared.role.Role.{Role}
 use Rattle.mq_drive.specs.declared.role.Role.TheVariants.{Queue, Root}
-use Rattle.mq_recover.specs.Recovery.{view_of, IsSettled, IsRecovered}
-use Rattle.mq_recover.specs.Recover.{IsSeenAt, copy_of, content_of}
-use Rattle.mq_recover.specs.RecoverHomes.{writes_from, written, AreBelow, after_home, IsAfterHome, IsWrittenHome, AreWritten, AreCopies, IsPlan, after_raise}
-use Rattle.mq_recover.specs.declared.homes.Copies.{Copies}
-use Rattle.mq_recover.specs.declared.homes.Plan.{Plan}
-use Rattle.mq_recover.specs.declared.homes.Recovered.{Recovered}
-use Rattle.mq_recover.proofs.RecoverCopies.{stands-copy, chain-of}
-
--- ---- the writes of copies
-
-pub writes-some : (area : ℕ → List ℕ) (size b place : ℕ) (copies : List (Option ℕ)) (d : Option ℕ) (writes more : Writes) (block : List ℕ) → b < length copies → get_or copies b d ≡ Some place
-    → block ≡ area (place % size) → more ≡ writes ++ (b, block) ∷ [] → more ++ writes_from area size (b + 1) (drop (b + 1) copies) ≡ writes ++ writes_from area size b (drop b copies)
-writes-some area size b place copies d writes more block within is content_is more_is =
-    ap (λ (n : ℕ). more ++ writes_from area size (b + 1) (drop n copies)) (add-one b)
-    ∙ ap (λ (l : Writes). l ++ writes_from area size (b + 1) (drop (suc b) copies)) more_is
-    ∙ append_assoc writes ((b, block) ∷ []) (writes_from area size (b + 1) (drop (suc b) copies))
-    ∙ ap (λ (l : List ℕ). writes ++ (b, l) ∷ writes_from area size (b + 1) (drop (suc b) copies)) content_is
-    ∙ ap (λ (o : Option ℕ). writes ++ writes_from area size b (o ∷ drop (suc b) copies)) (sym is)
-    ∙ ap (λ (l : List (Option ℕ)). writes ++ writes_from area size b l) (sym (drop-cons copies b d within))
-
-pub writes-none : (area : ℕ → List ℕ) (size b : ℕ) (copies : List (Option ℕ)) (d : Option ℕ) (writes more : Writes) → b < length copies → get_or copies b d ≡ None → more ≡ writes
-    → more ++ writes_from area size (b + 1) (drop (b + 1) copies) ≡ writes ++ writes_from area size b (drop b copies)
-writes-none area size b copies d writes more within is more_is =
-    ap (λ (n : ℕ). more ++ writes_from area size (b + 1) (drop n copies)) (add-one b)
-    ∙ ap (λ (l : Writes). l ++ writes_from area size (b + 1) (drop (suc b) copies)) more_is
-    ∙ ap (λ (o : Option ℕ). writes ++ writes_from area size b (o ∷ drop (suc b) copies)) (sym is)
-    ∙ ap (λ (l : List (Option ℕ)). writes ++ writes_from area size b l) (sym (drop-cons copies b d within))
-
--- a block below the first of the copies is not written
-writes-low : (area : ℕ → List ℕ) (size b : ℕ) (copies : List (Option ℕ)) (x : ℕ) → x < b → written (writes_from area size b copies) x ≡ None
-writes-low area size b [] x low = refl
-writes-low area size b (None ∷ copies) x low = writes-low area size (b + 1) copies x (omega arith)
-writes-low area size b (Some place ∷ copies) x low =
-    rw (writes-low area size (b + 1) copies x (omega arith), ne_eqb b x (omega arith)) refl
-
-kept-none : (o : Option (List ℕ)) → or_kept o None ≡ o
-kept-none None = refl
-kept-none (Some v) = refl
-
-writes-from : (area : ℕ → List ℕ) (size b : ℕ) (copies : List (Option ℕ)) (k x : ℕ) → x ≡ b + k → written (writes_from area size b copies) x ≡ content_of area size (get_or copies k None)
-writes-from area size b [] k x is = refl
-writes-from area size b (None ∷ copies) zero x is = writes-low area size (b + 1) copies x (omega arith)
-writes-from area size b (None ∷ copies) (suc k) x is = writes-from area size (b + 1) copies k x (omega arith)
-writes-from area size b (Some place ∷ copies) zero x is =
-    rw (writes-low area size (b + 1) copies x (omega arith), eq-eqb b x (omega arith)) refl
-writes-from area size b (Some place ∷ copies) (suc k) x is =
-    rw (ne_eqb b x (omega arith)) (kept-none (written (writes_from area size (b + 1) copies) x) ∙ writes-from area size (b + 1) copies k x (omega arith))
-
--- what is written to a block is the content of its copy
-pub writes-at : (area : ℕ → List ℕ) (size : ℕ) (copies : List (Option ℕ)) (x : ℕ) → written (writes_from area size 0 copies) x ≡ content_of area size (get_or copies x None)
-writes-at area size copies x = writes-from area size 0 copies x x (omega arith)
-
-writes-below : (area : ℕ → List ℕ) (size b : ℕ) (copies : List (Option ℕ)) (homes : ℕ) → b + length copies ≤ homes → AreBelow homes (writes_from area size b copies)
-writes-below area size b [] homes fits = tt
-writes-below area size b (None ∷ copies) homes fits = writes-below area size (b + 1) copies homes (omega arith)
-writes-below area size b (Some place ∷ copies) homes fits = (omega arith, writes-below area size (b + 1) copies homes (omega arith))
-
-pub all-below : (area : ℕ → List ℕ) (size : ℕ) (copies : List (Option ℕ)) (homes : ℕ) → length copies ≡ homes → AreBelow homes (writes_from area size 0 copies)
-all-below area size copies homes is = writes-below area size 0 copies homes (omega arith)
-
--- ---- the new base
-
-pub first-number : (base : ℕ) (ds es : List Descriptor) (d : Descriptor) → Some d ≡ slice_get es 0 → es ≡ ds → AreInRow base ds → d.number ≡ base + length ds
-first-number base ds es d first same row = of_first ds (first ∙ ap (λ (l : List Descriptor). slice_get l 0) same) row
-  where
-    of_first : (l : List Descriptor) → Some d ≡ slice_get l 0 → AreInRow base l → d.number ≡ base + length l
-    of_first [] is none = cc
-    of_first (e ∷ l) is in_row = let one : d ≡ e = cc in let n : d.number ≡ e.number = ap (λ (x : Descriptor). x.number) one in let h = in_row.0 in omega arith
+use Rattle.mq_recover.specs.Recovery.{view_of}
+use Rattle.mq_recover.specs.Recover.{IsSeenAt}
+use Rattle.mq_recover.specs.RecoverHomes.{written, AreBelow, after_home, IsAfterHome, IsWrittenHome, after_raise}
 
 -- ---- ports after home writes
 
@@ -275,29 +209,6 @@ write-step g q r nq nr w ws all one queue_port root_port is below after =
       below = low.1;
     }
 
--- ---- the plan
-
-pub copies-of : (g : Geometry) (base : ℕ) (chain ds : List Descriptor) (c : Copies) → chain ≡ ds → length c.places.items ≡ homes_of g
-    → ((x : ℕ) → get_or c.places.items x None ≡ copy_of chain x) → c.recovered.prefix ≡ length chain → c.recovered.base ≡ base + length chain → AreCopies g base ds c
-copies-of g base chain ds c same size places_are prefix_is base_is = record {
-  whole = size;
-  places_are = λ x. places_are x ∙ ap (λ (l : List Descriptor). copy_of l x) same;
-  prefix_is = prefix_is ∙ ap (λ (l : List Descriptor). length l) same;
-  base_is = base_is ∙ ap (λ (l : List Descriptor). base + length l) same;
-}
-
-pub plan-of : (g : Geometry) (s : PortState) (base : ℕ) (ds : List Descriptor) (c : Copies) (plan : Plan) → AreCopies g base ds c
-    → plan.writes.items ≡ writes_from (block_at s.blocks) g.area 0 c.places.items → plan.recovered ≡ c.recovered → IsPlan g s base ds plan
-plan-of g s base ds c plan are writes_are recovered_is = record {
-  below = subst (AreBelow (homes_of g)) (sym writes_are) (all-below (block_at s.blocks) g.area c.places.items (homes_of g) are.whole);
-  copies = λ x.
-      ap (λ (w : Writes). written w x) writes_are
-      ∙ writes-at (block_at s.blocks) g.area c.places.items x
-      ∙ ap (content_of (block_at s.blocks) g.area) (are.places_are x);
-  prefix_is = ap (λ (r : Recovered). r.prefix) recovered_is ∙ are.prefix_is;
-  base_is = ap (λ (r : Recovered). r.base) recovered_is ∙ are.base_is;
-}
-
 -- ---- the base
 
 raised-base : (s : PortState) (base : ℕ) → (after_raise s base).base ≡ base
@@ -355,10 +266,6 @@ raised g s base t p q is = subst (IsRaised g s base) (sym is) (record {
 
 -- ---- what is recovered
 
--- the root's port is quiet, so that its base is one
-pub base-of : (n : ℕ) (s : PortState) → IsQuiet s → (n ≡ s.base) ⊎ (n ≡ s.stored_base) → n ≡ s.base
-base-of n s quiet is = ⊎_elim (λ h. h) (λ h. h ∙ quiet.base) is
-
 pub seen-view : (g : Geometry) (queue root : PortState) → IsSeenAt 0 root.base queue (view_of g queue root)
 seen-view g queue root = record { base_is = refl; head_is = refl; doorbell_is = refl; entry_is = λ k. refl; area_is = λ k. refl }
 
@@ -369,35 +276,3 @@ home-along g queue root new x same = along (zone_of g x)
     along : (z : Option ℕ) → home_block g (image_of queue ∷ []) (image_of new) x z ≡ home_block g (image_of queue ∷ []) (image_of root) x z
     along None = ap (λ (l : List (Option (List ℕ))). block_at l x) same
     along (Some q) = refl
-
-pub recovered-of : (g : Geometry) (queue root new_queue mid_root new_root : PortState) (base : ℕ) (ds : List Descriptor) (plan : Plan)
-    → IsSettled g queue root → base ≡ root.base → IsQueueChain g (view_of g queue root) 0 ds → IsPlan g queue base ds plan → AreWritten g queue root plan.writes.items new_queue mid_root
-    → new_root ≡ after_raise mid_root plan.recovered.base
-    → IsRecovered g queue root ds new_queue new_root × (plan.recovered.prefix ≡ length ds) × (plan.recovered.base ≡ root.base + length ds)
-recovered-of g queue root new_queue mid_root new_root base ds plan settled base_was chain planned done raised_is =
-    let up = raised g mid_root plan.recovered.base new_root (later-port g Root root mid_root done.root_is settled.root_port) (later-quiet root mid_root done.root_is settled.root_quiet) raised_is in
-    let base_is : plan.recovered.base ≡ root.base + length ds = planned.base_is ∙ ap (λ (n : ℕ). n + length ds) base_was in
-    let head_is : new_queue.head ≡ queue.head = ap (λ (s : PortState). s.head) done.queue_is.same in
-    let doorbell_is : new_queue.doorbell ≡ queue.doorbell = ap (λ (s : PortState). s.doorbell) done.queue_is.same in (
-      record {
-        queue_port = later-port g (Queue 0) queue new_queue done.queue_is settled.queue_port;
-        root_port = up.port;
-        queue_quiet = later-quiet queue new_queue done.queue_is settled.queue_quiet;
-        root_quiet = up.quiet;
-        homes = λ b below.
-            home-along g new_queue mid_root new_root b up.blocks_are
-            ∙ done.homes b below
-            ∙ ap (λ (o : Option (List ℕ)). or_else o ((view_of g queue root).home b)) (planned.copies b)
-            ∙ sym (stands-copy g (view_of g queue root) 0 ds b (chain-of g (view_of g queue root) 0 chain.number chain.place ds chain.chain));
-        base = up.base_is ∙ base_is;
-        head = head_is ∙ settled.done ∙ sym doorbell_is;
-        doorbell = doorbell_is;
-      },
-      planned.prefix_is,
-      base_is,
-    )
-
-pub base-low : (g : Geometry) (queue root mid_root : PortState) (base : ℕ) (ds : List Descriptor) (plan : Plan) → base ≡ root.base → IsPlan g queue base ds plan → IsWrittenHome root mid_root → mid_root.base ≤ plan.recovered.base
-base-low g queue root mid_root base ds plan base_was planned later =
-    let kept : mid_root.base ≡ root.base = ap (λ (s : PortState). s.base) later.same in
-    omega (arith, kept, planned.base_is)

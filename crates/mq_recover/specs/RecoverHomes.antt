@@ -1,16 +1,11 @@
 -- Copies that are written home.
 use Rattle.std.specs.Prelude.{◌≡◌, ◌<◌, ℕ, ◌+◌, ◌%◌, true, false, List, [], ◌∷◌, length, Option, Some, None, slice_index_or, nat_eq, if◌then◌else◌}
-use Rattle.mq_blocks.specs.Blocks.{block_at}
-use Rattle.mq_blocks.specs.Descriptor.{Descriptor}
 use Rattle.mq_blocks.specs.Drive.{PortState, after_begin, after_end, after_flush, after_store_base}
 use Rattle.mq_blocks.specs.Geometry.{homes_of, home_lba}
 use Rattle.mq_blocks.specs.Journal.{or_else}
 use Rattle.mq_blocks.specs.Machine.{Writes, or_kept}
 use Rattle.mq_blocks.specs.declared.geometry.Geometry.{Geometry}
 use Rattle.mq_recover.specs.Recovery.{view_of}
-use Rattle.mq_recover.specs.Recover.{copy_of, content_of}
-use Rattle.mq_recover.specs.declared.homes.Copies.{Copies}
-use Rattle.mq_recover.specs.declared.homes.Plan.{Plan}
 
 -- the writes of the copies at these places, which are those of the blocks from b on
 abbrev pub writes_from : (ℕ → List ℕ) → ℕ → ℕ → List (Option ℕ) → Writes

@@ -4,13 +4,11 @@
 
 mod chain;
 mod copies;
-mod homes;
-mod ports;
+mod plan;
 mod refusal;
 mod standing;
 
 pub use chain::{Chain, read_chain};
-pub use homes::Recovered;
-pub use ports::{recover, recover_ports};
+pub use plan::Recovered;
 pub use refusal::{ChainRefusal, ImageFault, RecoverRefusal};
 pub use standing::{Standing, read_home, stands};
