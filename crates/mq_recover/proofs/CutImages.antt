@@ -72,7 +72,7 @@ whole-of g i chains one limit chain = record {
   once = λ q r q_low r_low apart. absurd (apart (only-queue g q one q_low ∙ sym (only-queue g r one r_low)));
 }
 
-first-chain : (g : Geometry) (v : Shown) (chains : ℕ → List Descriptor) → g.queues ≡ 1 → AreWhole g v chains → IsQueueChain g v 0 (chains 0)
+pub first-chain : (g : Geometry) (v : Shown) (chains : ℕ → List Descriptor) → g.queues ≡ 1 → AreWhole g v chains → IsQueueChain g v 0 (chains 0)
 first-chain g v chains one whole = whole.each 0 (omega arith)
 
 -- an entry from head to doorbell that shows a number, on one queue
