@@ -1,5 +1,6 @@
 -- What an image reads as while a recovery is under way.
 use Rattle.std.proofs.Common.{◌≡◌, ◌≢◌, ◌<◌, ◌≤◌, ◌⊎◌, inl, inr, ⊎_elim, ℕ, ◌+◌, ◌-◌, ◌*◌, ◌%◌, List, [], ◌∷◌, length, true, Option, Some, None, refl, sym, ◌∙◌, ap, subst, arith, mod-lt}
+use Rattle.std.proofs.lemmas.Bool.{cases_lt}
 use Rattle.mq_blocks.specs.Descriptor.{Descriptor}
 use Rattle.mq_blocks.specs.Drive.{depth}
 use Rattle.mq_blocks.specs.Geometry.{homes_of}
@@ -254,11 +255,8 @@ raised-queue g v i ds top one same base head read =
     (λ none.
     let order = chain.order in
     raised-still g v i (read.chains 0) top same base (omega arith) chain low_top)
-    (less_or (v.head 0) (v.doorbell 0)))
+    (cases_lt (v.head 0) (v.doorbell 0)))
     head
-  where
-    less_or : (n m : ℕ) → (n < m) ⊎ (m ≤ n)
-    less_or n m = search arith
 
 -- over the greatest number nothing is left to bring home
 pub read-raised : (g : Geometry) (v i : Shown) (ds : List Descriptor) (top : ℕ) → g.queues ≡ 1 → IsSameLog g v i → i.base ≡ top → (i.head 0 ≡ v.head 0) ⊎ (i.head 0 ≡ v.doorbell 0) → IsRead g v ds top → IsRead g i [] top

@@ -1,6 +1,6 @@
 -- Each event of a recovery leads from stage to stage.
 use Rattle.std.proofs.Common.{◌≡◌, ◌≢◌, ◌<◌, ◌≤◌, ◌⊎◌, inl, inr, ⊎_elim, ℕ, zero, suc, ◌+◌, ◌-◌, ◌*◌, Bool, true, false, List, [], ◌∷◌, ◌++◌, length, take, Option, Some, None, get_or, set, refl, sym, ◌∙◌, ap, subst, arith}
-use Rattle.std.proofs.lemmas.Bool.{cases_eq, eq-eqb, ne_eqb}
+use Rattle.std.proofs.lemmas.Bool.{cases_eq, cases_lt, eq-eqb, ne_eqb}
 use Rattle.std.proofs.lemmas.List.{ext_get_or, get_or-set_other}
 use Rattle.std.specs.Prelude.{nat_eq, if◌then◌else◌}
 use Rattle.mq_blocks.specs.Blocks.{block_at}
@@ -14,7 +14,7 @@ use Rattle.mq_drive.specs.declared.role.Role.TheVariants.{Queue, Root}
 use Rattle.mq_recover.specs.Recovery.{view_of, IsStill}
 use Rattle.mq_recover.specs.RecoverHomes.{written, AreBelow}
 use Rattle.mq_recover.specs.Steps.{Event, BeginHome, EndHome, StoreBase, FlushBase, StoreHead, FlushHead, TwoPorts, two, at_home, after_event, after_events, home_events, base_events, head_events, recovery_events}
-use Rattle.mq_recover.proofs.RecoverHomes.{IsBetween, between-start, between-step, next-written, later-port, zone-meta, zone-zone, home-meta, home-zone, index-root, index-queue, low_or}
+use Rattle.mq_recover.proofs.RecoverHomes.{IsBetween, between-start, between-step, next-written, later-port, zone-meta, zone-zone, home-meta, home-zone, index-root, index-queue}
 use Rattle.mq_recover.proofs.RecoverStages.{IsSure, IsLogKept, AreKept, IsGoing, AreHome, IsRaising, IsMoving, IsStage}
 
 -- ---- between two home writes
@@ -193,7 +193,7 @@ begun g s e all ws w top still between =
     ⊎_elim
     (λ near. subst P (sym (zone-meta g w.0 near)) (begun-root g s e all ws w top still between near))
     (λ far. subst P (sym (zone-zone g w.0 still.one far low.0)) (begun-queue g s e all ws w top still between far))
-    (low_or w.0 g.meta)
+    (cases_lt w.0 g.meta)
 
 -- ---- the head
 

@@ -1,16 +1,18 @@
 -- Events in a row, all of them or the first of them.
-use Rattle.std.proofs.Common.{◌≡◌, ◌≢◌, ◌<◌, ◌≤◌, ◌⊎◌, inl, inr, ⊎_elim, ℕ, zero, suc, ◌+◌, List, [], ◌∷◌, ◌++◌, length, take, Option, Some, None, refl, sym, ◌∙◌, ap, subst, arith, append_assoc}
+use Rattle.std.proofs.Common.{◌≡◌, ◌≢◌, ◌<◌, ◌≤◌, ◌⊎◌, inl, inr, ⊎_elim, ℕ, zero, suc, ◌+◌, Bool, true, false, List, [], ◌∷◌, ◌++◌, length, take, Option, Some, None, refl, sym, ◌∙◌, ap, subst, arith, append_assoc}
 use Rattle.std.proofs.lemmas.List.{length-append, take-append-le}
+use Rattle.std.proofs.Math.ListN.{length-set}
 use Rattle.std.proofs.Math.Seq.{take-append_seam, take-append-add}
 use Rattle.std.specs.Prelude.{slice_get, Result, Ok, Err}
-use Rattle.mq_blocks.specs.Drive.{PortState, after_begin, after_end}
+use Rattle.mq_blocks.specs.Drive.{PortState, counted, index_of, after_begin, after_end, after_flush}
 use Rattle.mq_blocks.specs.Geometry.{homes_of, home_lba, zone_of}
 use Rattle.mq_blocks.specs.Machine.{Writes}
 use Rattle.mq_blocks.specs.declared.geometry.Geometry.{Geometry}
 use Rattle.mq_drive.specs.Start.{IsPortOf}
+use Rattle.mq_drive.specs.declared.role.Role.{Role}
 use Rattle.mq_drive.specs.declared.role.Role.TheVariants.{Queue, Root}
 use Rattle.mq_recover.specs.RecoverHomes.{AreBelow, GivesHome, GivesOne}
-use Rattle.mq_recover.specs.Steps.{Event, BeginHome, EndHome, TwoPorts, two, at_home, after_event, after_events, home_events, StopsAt}
+use Rattle.mq_recover.specs.Steps.{Event, BeginHome, EndHome, StoreBase, FlushBase, StoreHead, FlushHead, TwoPorts, two, at_home, after_event, after_events, home_events, StopsAt}
 use Rattle.mq_recover.specs.declared.refusal.RecoverRefusal.{RecoverRefusal}
 use Rattle.mq_recover.specs.declared.refusal.RecoverRefusal.TheVariants.{Image, Off, Failed}
 use Rattle.mq_recover.proofs.RecoverHomes.{homed, later-port}
@@ -60,6 +62,85 @@ off-after g s m n xs ys k first low is =
       ∙ ap (after_events g s) (sym (take-append-add xs ys k)),
     )
 
+-- ---- the ports stay ports of their roles
+
+pub record ArePorts (g : Geometry) (e : TwoPorts) : Type 0 where
+  pub queue : IsPortOf g (Queue 0) e.queue
+  pub root : IsPortOf g Root e.root
+
+begin-port : (g : Geometry) (role : Role) (s : PortState) (lba : ℕ) (block : List ℕ) → IsPortOf g role s → IsPortOf g role (after_begin s lba block)
+begin-port g role s lba block p = record {
+  queue = p.queue;
+  area_first = p.area_first;
+  area_size = p.area_size;
+  homes_first = p.homes_first;
+  homes_size = p.homes_size;
+  flushed = p.flushed;
+  staged = p.staged;
+  blocks = p.blocks;
+  sure = length-set s.sure (index_of s lba) false ∙ p.sure;
+  settled = p.settled;
+}
+
+end-port : (g : Geometry) (role : Role) (s : PortState) (lba : ℕ) (block : List ℕ) → IsPortOf g role s → IsPortOf g role (after_end s lba block)
+end-port g role s lba block p = record {
+  queue = p.queue;
+  area_first = p.area_first;
+  area_size = p.area_size;
+  homes_first = p.homes_first;
+  homes_size = p.homes_size;
+  flushed = p.flushed;
+  staged = p.staged;
+  blocks = length-set s.blocks (index_of s lba) (Some block) ∙ p.blocks;
+  sure = length-set s.sure (index_of s lba) true ∙ p.sure ∙ sym (length-set s.blocks (index_of s lba) (Some block));
+  settled = p.settled;
+}
+
+-- only words changed
+word-port : (g : Geometry) (role : Role) (s : PortState) (stored_head stored_base events : ℕ) → IsPortOf g role s → IsPortOf g role (record s { stored_head = stored_head; stored_base = stored_base; events = events })
+word-port g role s stored_head stored_base events p = record {
+  queue = p.queue;
+  area_first = p.area_first;
+  area_size = p.area_size;
+  homes_first = p.homes_first;
+  homes_size = p.homes_size;
+  flushed = p.flushed;
+  staged = p.staged;
+  blocks = p.blocks;
+  sure = p.sure;
+  settled = p.settled;
+}
+
+flush-port : (g : Geometry) (role : Role) (s : PortState) → IsPortOf g role s → IsPortOf g role (after_flush s)
+flush-port g role s p = record {
+  queue = p.queue;
+  area_first = p.area_first;
+  area_size = p.area_size;
+  homes_first = p.homes_first;
+  homes_size = p.homes_size;
+  flushed = p.staged;
+  staged = p.staged;
+  blocks = p.blocks;
+  sure = p.sure;
+  settled = λ k within flushed. refl;
+}
+
+home-ports : (g : Geometry) (z : Option ℕ) (f : PortState → PortState) (e : TwoPorts) → ((role : Role) (s : PortState) → IsPortOf g role s → IsPortOf g role (f s)) → ArePorts g e → ArePorts g (at_home z f e)
+home-ports g None f e along ports = record { queue = ports.queue; root = along Root e.root ports.root }
+home-ports g (Some q) f e along ports = record { queue = along (Queue 0) e.queue ports.queue; root = ports.root }
+
+event-ports : (g : Geometry) (e : TwoPorts) (x : Event) → ArePorts g e → ArePorts g (after_event g e x)
+event-ports g e (BeginHome b content) ports = home-ports g (zone_of g b) (λ s. after_begin s (home_lba g b) content) e (λ role s p. begin-port g role s (home_lba g b) content p) ports
+event-ports g e (EndHome b content) ports = home-ports g (zone_of g b) (λ s. after_end s (home_lba g b) content) e (λ role s p. end-port g role s (home_lba g b) content p) ports
+event-ports g e (StoreBase base) ports = record { queue = ports.queue; root = word-port g Root e.root e.root.stored_head base (counted e.root.events 1) ports.root }
+event-ports g e FlushBase ports = record { queue = ports.queue; root = flush-port g Root e.root ports.root }
+event-ports g e (StoreHead head) ports = record { queue = word-port g (Queue 0) e.queue head e.queue.stored_base (counted e.queue.events 1) ports.queue; root = ports.root }
+event-ports g e FlushHead ports = record { queue = flush-port g (Queue 0) e.queue ports.queue; root = ports.root }
+
+pub events-ports : (g : Geometry) (e : TwoPorts) (xs : List Event) → ArePorts g e → ArePorts g (after_events g e xs)
+events-ports g e [] ports = ports
+events-ports g e (x ∷ xs) ports = events-ports g (after_event g e x) xs (event-ports g e x ports)
+
 -- ---- home writes
 
 -- these home writes are left after some events
@@ -104,15 +185,6 @@ next-home g s all left ws w q r nq nr x one queue_port root_port is below so_far
         pair ∙ ap (λ (e : TwoPorts). after_events g e both) so_far.2 ∙ sym (after-then g s so_far.0 both),
       );
     }
-
--- no home write is left
-pub all-home : (g : Geometry) (s e : TwoPorts) (all left : Writes) → length left ≡ 0 → HasLeft g s all left e → e ≡ after_events g s (home_events all)
-all-home g s e all [] none so_far = so_far.2 ∙ ap (after_events g s) (sym (so_far.1 ∙ nil so_far.0))
-  where
-    nil : (xs : List Event) → xs ++ [] ≡ xs
-    nil [] = refl
-    nil (x ∷ xs) = ap (λ (l : List Event). x ∷ l) (nil xs)
-all-home g s e all (w ∷ ws) none so_far = absurd (omega arith)
 
 abbrev refused : (A : Type 0) → RecoverRefusal → Result A RecoverRefusal
 refused A e = Err e

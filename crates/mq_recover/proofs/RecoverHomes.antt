@@ -1,28 +1,37 @@
 -- Writing copies home.
-use Rattle.std.proofs.Common.{◌≡◌, ◌≢◌, ◌<◌, ◌≤◌, ◌⊎◌, inl, inr, ⊎_elim, ℕ, zero, suc, ◌+◌, ◌-◌, ◌*◌, List, [], ◌∷◌, length, Bool, true, false, Option, Some, None, get_or, set, refl, sym, ◌∙◌, ap, subst, arith}
-use Rattle.std.proofs.lemmas.Bool.{cases_eq, eq-eqb, ne_eqb, lt-ltb, le-ltb}
+use Rattle.std.proofs.Common.{◌≡◌, ◌≢◌, ◌<◌, ◌≤◌, ◌⊎◌, inl, inr, ⊎_elim, ℕ, zero, suc, ◌+◌, ◌-◌, ◌*◌, List, [], ◌∷◌, ◌++◌, length, Bool, true, false, Option, Some, None, get_or, set, refl, sym, ◌∙◌, ap, subst, arith}
+use Rattle.std.proofs.lemmas.Bool.{cases_eq, cases_lt, eq-eqb, ne_eqb, lt-ltb, le-ltb}
 use Rattle.std.proofs.lemmas.Grind.{get_or-set_at}
 use Rattle.std.proofs.lemmas.List.{get_or-set_other}
 use Rattle.std.proofs.Math.ListN.{length-set}
 use Rattle.std.proofs.Math.Nat.{div-eq_of_lt}
 use Rattle.std.specs.Prelude.{nat_eq, nat_lt, if◌then◌else◌}
 use Rattle.mq_blocks.specs.Blocks.{block_at, content}
-use Rattle.mq_blocks.specs.Drive.{PortState, PortImage, IsQuiet, index_of, image_of, after_begin, after_end, after_flush, after_store_base, after_store_head}
+use Rattle.mq_blocks.specs.Drive.{PortState, PortImage, IsQuiet, index_of, image_of, holds_write, without_last, after_begin, after_end, after_flush, after_store_base, after_store_head}
 use Rattle.mq_blocks.specs.Geometry.{homes_of, home_lba, zone_of}
 use Rattle.mq_blocks.specs.Journal.{or_else, home_block}
 use Rattle.mq_blocks.specs.Machine.{Writes, or_kept}
+use Rattle.mq_blocks.specs.declared.command.HomeWrite.{HomeWrite}
 use Rattle.mq_blocks.specs.declared.geometry.Geometry.{Geometry}
 use Rattle.mq_drive.specs.Start.{IsPortOf}
 use Rattle.mq_drive.specs.declared.role.Role.{Role}
 use Rattle.mq_drive.specs.declared.role.Role.TheVariants.{Queue, Root}
 use Rattle.mq_recover.specs.Recovery.{view_of}
-use Rattle.mq_recover.specs.RecoverHomes.{written, AreBelow, after_home, IsWrittenHome, after_raise, after_move}
+use Rattle.mq_recover.specs.RecoverHomes.{written, AreBelow, after_home, after_raise, after_move}
 use Rattle.mq_recover.specs.Steps.{TwoPorts, BeginHome, EndHome, at_home, after_event, after_events, home_events}
 
 -- ---- ports after home writes
 
+-- Home writes changed the blocks alone, and left none uncertain. None that began since is under way.
+pub record IsWrittenHome (s t : PortState) : Type 0 where
+  pub same : t ≡ record s { blocks = t.blocks; sure = t.sure; begun = t.begun; begins = t.begins }
+  pub blocks_len : length t.blocks ≡ length s.blocks
+  pub sure_len : length t.sure ≡ length s.sure
+  pub certain : (k : ℕ) → get_or s.sure k false ≡ true → get_or t.sure k false ≡ true
+  pub begun : t.begun ≡ s.begun
+
 pub later-refl : (s : PortState) → IsWrittenHome s s
-later-refl s = record { same = refl; blocks_len = refl; sure_len = refl; certain = λ k h. h }
+later-refl s = record { same = refl; blocks_len = refl; sure_len = refl; certain = λ k h. h; begun = refl }
 
 pub later-then : (s t u : PortState) → IsWrittenHome s t → IsWrittenHome t u → IsWrittenHome s u
 later-then s t u first next =
@@ -32,6 +41,7 @@ later-then s t u first next =
       blocks_len = next.blocks_len ∙ first.blocks_len;
       sure_len = next.sure_len ∙ first.sure_len;
       certain = λ k h. next.certain k (first.certain k h);
+      begun = next.begun ∙ first.begun;
     }
 
 pub later-port : (g : Geometry) (role : Role) (s t : PortState) → IsWrittenHome s t → IsPortOf g role s → IsPortOf g role t
@@ -66,12 +76,28 @@ sure-set (s ∷ ss) zero (suc k) h = h
 sure-set (s ∷ ss) (suc i) zero h = h
 sure-set (s ∷ ss) (suc i) (suc k) h = sure-set ss i k h
 
+holds-last : (lba : ℕ) (bs : List HomeWrite) (w : HomeWrite) → w.lba ≡ lba → holds_write lba (bs ++ w ∷ []) ≡ true
+holds-last lba [] w is = rw (eq-eqb w.lba lba is) refl
+holds-last lba (b ∷ bs) w is = either (nat_eq b.lba lba) (holds_write lba (bs ++ w ∷ [])) (holds-last lba bs w is)
+  where
+    either : (t h : Bool) → h ≡ true → (if t then true else h) ≡ true
+    either true h is = refl
+    either false h is = is
+
+-- a home write that begins and ends is not under way
+ends-last : (lba : ℕ) (bs : List HomeWrite) (w : HomeWrite) → w.lba ≡ lba → without_last lba (bs ++ w ∷ []) ≡ bs
+ends-last lba [] w is = rw (eq-eqb w.lba lba is) refl
+ends-last lba (b ∷ bs) w is =
+    ap (λ (t : Bool). if t then b ∷ without_last lba (bs ++ w ∷ []) else (if nat_eq b.lba lba then bs ++ w ∷ [] else b ∷ bs ++ w ∷ [])) (holds-last lba bs w is)
+    ∙ ap (λ (l : List HomeWrite). b ∷ l) (ends-last lba bs w is)
+
 pub later-home : (s t : PortState) (lba : ℕ) (block : List ℕ) → t ≡ after_home s lba block → IsWrittenHome s t
 later-home s t lba block is = subst (IsWrittenHome s) (sym is) (record {
   same = refl;
   blocks_len = length-set s.blocks (index_of s lba) (Some block);
   sure_len = length-set (set s.sure (index_of s lba) false) (index_of s lba) true ∙ length-set s.sure (index_of s lba) false;
   certain = λ k h. sure-set s.sure (index_of s lba) k h;
+  begun = ends-last lba s.begun (record { lba = lba; block = block }) refl;
 })
 
 -- ---- where home blocks are
@@ -128,11 +154,6 @@ block-other blocks i k v other = ap content (get_or-set_other blocks i k (Some v
 keeps : (b x : ℕ) (v h k : List ℕ) → b ≢ x → h ≡ k → h ≡ (if nat_eq b x then v else k)
 keeps b x v h k other same = rw (ne_eqb b x other) same
 
-pub low_or : (n m : ℕ) → (n < m) ⊎ (m ≤ n)
-low_or n zero = inr (omega arith)
-low_or zero (suc m) = inl (omega arith)
-low_or (suc n) (suc m) = ⊎_elim (λ h. inl (omega arith)) (λ h. inr (omega arith)) (low_or n m)
-
 pub record IsHomed (g : Geometry) (q r : PortState) (b : ℕ) (v : List ℕ) (nq nr : PortState) : Type 0 where
   pub queue_is : IsWrittenHome q nq
   pub root_is : IsWrittenHome r nr
@@ -154,7 +175,7 @@ homed-root g q r nq nr b v one p low queue_same root_is =
           ∙ ap (λ (l : List ℕ). if nat_eq b x then v else l) (sym (home-meta g q r x near)))
           (λ far. keeps b x v ((view_of g nq nr).home x) ((view_of g q r).home x) (omega arith)
           (home-zone g nq nr x one far below ∙ ap (λ (s : PortState). block_at s.blocks (g.area + (x - g.meta))) queue_same ∙ sym (home-zone g q r x one far below)))
-          (low_or x g.meta);
+          (cases_lt x g.meta);
       area = λ k inside. ap (λ (s : PortState). block_at s.blocks k) queue_same;
     }
 
@@ -174,7 +195,7 @@ homed-queue g q r nq nr b v one p high inside queue_is root_same =
           ∙ ap (λ (l : List (Option (List ℕ))). block_at l (g.area + (x - g.meta))) blocks_are
           ∙ block-set q.blocks (g.area + (b - g.meta)) (g.area + (x - g.meta)) b x v (omega arith) (λ e. omega arith) (λ other. omega arith)
           ∙ ap (λ (l : List ℕ). if nat_eq b x then v else l) (sym (home-zone g q r x one far below)))
-          (low_or x g.meta);
+          (cases_lt x g.meta);
       area = λ k inside. ap (λ (l : List (Option (List ℕ))). block_at l k) blocks_are ∙ block-other q.blocks (g.area + (b - g.meta)) k v (omega arith);
     }
 
@@ -188,7 +209,7 @@ homed g e b v one queue_port root_port inside =
     ⊎_elim
     (λ near. subst P (sym (zone-meta g b near)) (homed-root g e.queue e.root e.queue (after_home e.root (home_lba g b) v) b v one root_port near refl refl))
     (λ far. subst P (sym (zone-zone g b one far inside)) (homed-queue g e.queue e.root (after_home e.queue (home_lba g b) v) e.root b v one queue_port far inside refl refl))
-    (low_or b g.meta)
+    (cases_lt b g.meta)
 
 else-step : (o : Option (List ℕ)) (t : Bool) (v h : List ℕ) → or_else o (if t then v else h) ≡ or_else (or_kept o (if t then Some v else None)) h
 else-step (Some w) t v h = refl
@@ -299,6 +320,7 @@ pub record IsRaised (g : Geometry) (s : PortState) (base : ℕ) (t : PortState) 
   pub quiet : IsQuiet t
   pub base_is : t.base ≡ base
   pub blocks_are : t.blocks ≡ s.blocks
+  pub begun_is : t.begun ≡ s.begun
 
 pub raised : (g : Geometry) (s : PortState) (base : ℕ) (t : PortState) → IsPortOf g Root s → IsQuiet s → t ≡ after_raise s base → IsRaised g s base t
 raised g s base t p q is = subst (IsRaised g s base) (sym is) (record {
@@ -306,6 +328,7 @@ raised g s base t p q is = subst (IsRaised g s base) (sym is) (record {
   quiet = raised-as IsQuiet s base q (base-flushed s base q);
   base_is = raised-base s base;
   blocks_are = raised-as (λ (u : PortState). u.blocks ≡ s.blocks) s base refl refl;
+  begun_is = raised-as (λ (u : PortState). u.begun ≡ s.begun) s base refl refl;
 })
 
 moved-head : (s : PortState) → (after_move s).head ≡ s.doorbell
@@ -353,6 +376,7 @@ pub record IsMoved (g : Geometry) (s t : PortState) : Type 0 where
   pub head_is : t.head ≡ s.doorbell
   pub doorbell_is : t.doorbell ≡ s.doorbell
   pub blocks_are : t.blocks ≡ s.blocks
+  pub begun_is : t.begun ≡ s.begun
 
 pub moved : (g : Geometry) (s : PortState) → IsPortOf g (Queue 0) s → IsQuiet s → IsMoved g s (after_move s)
 moved g s p q = record {
@@ -361,6 +385,7 @@ moved g s p q = record {
   head_is = moved-head s;
   doorbell_is = moved-as (λ (u : PortState). u.doorbell ≡ s.doorbell) s refl refl;
   blocks_are = moved-as (λ (u : PortState). u.blocks ≡ s.blocks) s refl refl;
+  begun_is = moved-as (λ (u : PortState). u.begun ≡ s.begun) s refl refl;
 }
 
 -- the home blocks depend on the blocks of the ports alone
@@ -369,4 +394,4 @@ pub home-along : (g : Geometry) (queue root new_queue new_root : PortState) (x :
 home-along g queue root new_queue new_root x queue_same root_same one below = ⊎_elim
     (λ near. home-meta g new_queue new_root x near ∙ ap (λ (l : List (Option (List ℕ))). block_at l x) root_same ∙ sym (home-meta g queue root x near))
     (λ far. home-zone g new_queue new_root x one far below ∙ ap (λ (l : List (Option (List ℕ))). block_at l (g.area + (x - g.meta))) queue_same ∙ sym (home-zone g queue root x one far below))
-    (low_or x g.meta)
+    (cases_lt x g.meta)

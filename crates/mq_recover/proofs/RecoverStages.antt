@@ -1,6 +1,6 @@
 -- What stands at each point of a recovery.
 use Rattle.std.proofs.Common.{◌≡◌, ◌≢◌, ◌<◌, ◌≤◌, ◌⊎◌, inl, inr, ⊎_elim, ℕ, zero, suc, ◌+◌, ◌-◌, ◌*◌, ◌%◌, Bool, true, false, List, [], ◌∷◌, ◌++◌, length, take, Option, Some, None, get_or, set, refl, sym, ◌∙◌, ap, subst, arith}
-use Rattle.std.proofs.lemmas.Bool.{cases_eq, eq-eqb, ne_eqb}
+use Rattle.std.proofs.lemmas.Bool.{cases_eq, cases_lt, eq-eqb, ne_eqb}
 use Rattle.std.proofs.lemmas.List.{ext_get_or, get_or_past, get_or-set_other}
 use Rattle.std.proofs.Math.ListN.{length-set}
 use Rattle.std.specs.Prelude.{nat_eq, if◌then◌else◌, slice_index_or}
@@ -21,7 +21,7 @@ use Rattle.mq_recover.specs.RecoverHomes.{written, AreBelow}
 use Rattle.mq_recover.specs.Steps.{Event, BeginHome, EndHome, StoreBase, FlushBase, StoreHead, FlushHead, TwoPorts, two, at_home, after_event, after_events, home_events, base_events, head_events, recovery_events, AreHomeWrites}
 use Rattle.mq_recover.proofs.CutImages.{IsSameLog, read-along, read-raised, prefix-of, stands-along}
 use Rattle.mq_recover.proofs.RecoverCopies.{stands-copy}
-use Rattle.mq_recover.proofs.RecoverHomes.{IsBetween, between-start, between-step, next-written, later-port, later-quiet, zone-meta, zone-zone, image-meta, image-zone, home-meta, home-zone, index-root, index-queue, low_or}
+use Rattle.mq_recover.proofs.RecoverHomes.{IsBetween, between-start, between-step, next-written, later-port, later-quiet, zone-meta, zone-zone, image-meta, image-zone, home-meta, home-zone, index-root, index-queue}
 
 -- the block at this index is certain, and holds this
 pub record IsSure (t : PortState) (k : ℕ) (v : List ℕ) : Type 0 where
@@ -96,9 +96,9 @@ slots-image g s t i k image log =
     ⊎_elim
     (λ within. image.slots k within (λ c low high at. omega arith) ∙ ap (λ (l : List (List ℕ)). get_or l k []) log.flushed)
     (λ past. get_or_past i.slots k [] (omega arith) ∙ sym (get_or_past s.flushed k [] (omega arith)))
-    (low_or k (length t.flushed))
+    (cases_lt k (length t.flushed))
 
-same-log : (g : Geometry) (s e : TwoPorts) (q r : PortImage) → IsPortOf g (Queue 0) s.queue → AreKept g s e → IsImage e.queue q → IsSameLog g (view_of g s.queue s.root) (shown says g (q ∷ []) r)
+pub same-log : (g : Geometry) (s e : TwoPorts) (q r : PortImage) → IsPortOf g (Queue 0) s.queue → AreKept g s e → IsImage e.queue q → IsSameLog g (view_of g s.queue s.root) (shown says g (q ∷ []) r)
 same-log g s e q r port kept image =
     let log = kept.log in
     let size : length s.queue.blocks ≡ g.area + g.zone = port.blocks in
@@ -117,7 +117,7 @@ home-of : (g : Geometry) (s : TwoPorts) (q r : PortImage) (x : ℕ) (o : Option 
 home-of g s q r x o one inside meta zone = ⊎_elim
     (λ near. image-meta g q r x near ∙ meta near ∙ ap (or_else o) (sym (home-meta g s.queue s.root x near)))
     (λ far. image-zone g q r x one far inside ∙ zone far ∙ ap (or_else o) (sym (home-zone g s.queue s.root x one far inside)))
-    (low_or x g.meta)
+    (cases_lt x g.meta)
 
 zone-below : (g : Geometry) (x : ℕ) → g.queues ≡ 1 → g.meta ≤ x → x < homes_of g → x - g.meta < g.zone
 zone-below g x one high below =

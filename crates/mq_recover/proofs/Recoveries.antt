@@ -1,10 +1,11 @@
 -- A whole recovery, and one that the drive cut short.
 use Rattle.std.proofs.Common.{◌≡◌, ◌≢◌, ◌<◌, ◌≤◌, ◌⊎◌, inl, inr, ⊎_elim, ℕ, zero, suc, ◌+◌, Bool, true, false, List, [], ◌∷◌, ◌++◌, length, take, map, Option, Some, None, IsNone, refl, sym, ◌∙◌, ap, subst, arith, append_assoc}
 use Rattle.std.proofs.lemmas.Bool.{ne_eqb}
+use Rattle.std.proofs.lemmas.List.{take_all}
 use Rattle.std.specs.Prelude.{nat_eq, if◌then◌else◌, Result, Ok, Err}
 use Rattle.mq_blocks.specs.Blocks.{block_at}
 use Rattle.mq_blocks.specs.Descriptor.{Descriptor, AreRising}
-use Rattle.mq_blocks.specs.Drive.{PortState, IsQuiet, after_flush, after_store_base, after_store_head}
+use Rattle.mq_blocks.specs.Drive.{PortState, IsImage, IsQuiet, image_of, after_flush, after_store_base, after_store_head}
 use Rattle.mq_blocks.specs.Geometry.{homes_of}
 use Rattle.mq_blocks.specs.Journal.{or_else, stands}
 use Rattle.mq_blocks.specs.Machine.{Writes}
@@ -19,12 +20,12 @@ use Rattle.mq_recover.specs.Steps.{Event, StoreBase, FlushBase, StoreHead, Flush
 use Rattle.mq_recover.specs.declared.plan.Plan.{Plan}
 use Rattle.mq_recover.specs.declared.refusal.RecoverRefusal.{RecoverRefusal}
 use Rattle.mq_recover.specs.declared.refusal.RecoverRefusal.TheVariants.{Image, Off, Failed}
-use Rattle.mq_recover.proofs.CutImages.{first-chain, prefix-of}
+use Rattle.mq_recover.proofs.CutImages.{IsSameLog, first-chain, prefix-of, read-raised}
 use Rattle.mq_recover.proofs.RecoverCopies.{stands-copy}
 use Rattle.mq_recover.proofs.RecoverCuts.{each-stage}
-use Rattle.mq_recover.proofs.RecoverEvents.{after-then, stops-more, off-after}
+use Rattle.mq_recover.proofs.RecoverEvents.{ArePorts, after-then, events-ports, stops-more, off-after}
 use Rattle.mq_recover.proofs.RecoverHomes.{IsBetween, between-start, between-end, later-port, later-quiet, IsRaised, raised, IsMoved, moved, home-along}
-use Rattle.mq_recover.proofs.RecoverStages.{IsStage, stage-stands}
+use Rattle.mq_recover.proofs.RecoverStages.{IsStage, same-log, stage-stands}
 
 rising-below : (low homes : ℕ) (writes : Writes) → AreRising low homes (map (λ w. w.0) writes) → AreBelow homes writes
 rising-below low homes [] rising = tt
@@ -120,22 +121,32 @@ move-events g s n queue root plan home raised_is moved_is =
 
 -- ---- cut short
 
-stops-stage : (g : Geometry) (e : RecoverRefusal) (s n : TwoPorts) (writes : Writes) (top : ℕ) → IsStill g s.queue s.root → AreBelow (homes_of g) writes → StopsAt g e s (recovery_events s writes top) n → IsStage g s n writes top
-stops-stage g (Image fault) s n writes top still below stops = absurd stops
-stops-stage g Off s n writes top still below stops = subst (λ (e : TwoPorts). IsStage g s e writes top) (sym stops.2) (each-stage g s writes top stops.0 still below)
-stops-stage g (Failed block status) s n writes top still below stops = subst (λ (e : TwoPorts). IsStage g s e writes top) (sym stops.3) (each-stage g s writes top (stops.0 + 1) still below)
+-- some of the events happened
+stops-some : (g : Geometry) (e : RecoverRefusal) (s n : TwoPorts) (xs : List Event) → StopsAt g e s xs n → (k : ℕ) × (n ≡ after_events g s (take k xs))
+stops-some g (Image fault) s n xs stops = absurd stops
+stops-some g Off s n xs stops = (stops.0, stops.2)
+stops-some g (Failed block status) s n xs stops = (stops.0 + 1, stops.3)
+
+still-ports : (g : Geometry) (s : TwoPorts) → IsStill g s.queue s.root → ArePorts g s
+still-ports g s still = record { queue = still.queue_port; root = still.root_port }
 
 pub cut-short : (g : Geometry) (e : RecoverRefusal) (s n : TwoPorts) (plan : Plan) → IsStill g s.queue s.root → IsPlan g s.queue s.root plan → StopsAt g e s (recovery_events s plan.writes.items plan.recovered.base) n → IsCutShort g e s n
 cut-short g e s n plan still planned stops =
+    let top : ℕ = plan.recovered.base in
     let below = writes-below g s.queue planned.ds plan.writes.items planned.writes in
+    let some = stops-some g e s n (recovery_events s plan.writes.items top) stops in
+    let stage : IsStage g s n plan.writes.items top = subst (λ (m : TwoPorts). IsStage g s m plan.writes.items top) (sym some.1) (each-stage g s plan.writes.items top some.0 still below) in
+    let ports : ArePorts g n = subst (ArePorts g) (sym some.1) (events-ports g s (take some.0 (recovery_events s plan.writes.items top)) (still-ports g s still)) in
     record {
       ds = planned.ds;
-      top = plan.recovered.base;
+      top = top;
       read = planned.read;
       writes = plan.writes.items;
       home_writes = planned.writes;
       events = stops;
-      stands = stage-stands g s n planned.ds plan.recovered.base plan.writes.items still planned.read planned.writes (stops-stage g e s n plan.writes.items plan.recovered.base still below stops);
+      queue_port = ports.queue;
+      root_port = ports.root;
+      stands = stage-stands g s n planned.ds top plan.writes.items still planned.read planned.writes stage;
     }
 
 -- among the home writes
@@ -182,6 +193,28 @@ cut-move g s n queue root plan still planned home raised_is cut =
 
 -- ---- done
 
+own-image : (t : PortState) → IsImage t (image_of t)
+own-image t = record {
+  doorbell = refl;
+  head = inl refl;
+  base = inl refl;
+  slots_len = refl;
+  slots = λ k within flushed. refl;
+  blocks_len = refl;
+  blocks = λ k within certain. refl;
+}
+
+-- the log is as at the start
+log-after : (g : Geometry) (s m : TwoPorts) (plan : Plan) → IsStill g s.queue s.root → IsPlan g s.queue s.root plan → m ≡ after_events g s (recovery_events s plan.writes.items plan.recovered.base)
+    → IsSameLog g (view_of g s.queue s.root) (view_of g m.queue m.root)
+log-after g s m plan still planned is =
+    let top : ℕ = plan.recovered.base in
+    let events : List Event = recovery_events s plan.writes.items top in
+    let below = writes-below g s.queue planned.ds plan.writes.items planned.writes in
+    let all : m ≡ after_events g s (take (length events) events) = is ∙ ap (after_events g s) (sym (take_all (length events) events (omega arith))) in
+    let stage : IsStage g s m plan.writes.items top = subst (λ (n : TwoPorts). IsStage g s n plan.writes.items top) (sym all) (each-stage g s plan.writes.items top (length events) still below) in
+    same-log g s m (image_of m.queue) (image_of m.root) still.queue_port stage.0 (own-image m.queue)
+
 pub done : (g : Geometry) (s n : TwoPorts) (queue root : PortState) (plan : Plan) → IsStill g s.queue s.root → IsPlan g s.queue s.root plan → AreAllHome g s plan n → root ≡ after_raise n.root plan.recovered.base → queue ≡ after_move n.queue
     → IsDone g s plan.recovered.prefix plan.recovered.base (two queue root)
 done g s n queue root plan still planned home raised_is moved_is =
@@ -189,6 +222,7 @@ done g s n queue root plan still planned home raised_is moved_is =
     let up = raised g n.root top root home.root_port home.root_quiet raised_is in
     let on : IsMoved g n.queue queue = subst (IsMoved g n.queue) (sym moved_is) (moved g n.queue home.queue_port home.queue_quiet) in
     let v = view_of g s.queue s.root in
+    let is = move-events g s n queue root plan home raised_is moved_is in
     record {
       ds = planned.ds;
       read = planned.read;
@@ -209,7 +243,11 @@ done g s n queue root plan still planned home raised_is moved_is =
         head = on.head_is ∙ sym on.doorbell_is;
         doorbell = on.doorbell_is ∙ home.doorbell_is;
       };
-      events = move-events g s n queue root plan home raised_is moved_is;
+      events = is;
+      again =
+          read-raised g v (view_of g queue root) planned.ds top still.one (log-after g s (two queue root) plan still planned is) up.base_is (inr (on.head_is ∙ home.doorbell_is)) planned.read;
+      queue_begun = on.begun_is ∙ home.between.queue_is.begun;
+      root_begun = up.begun_is ∙ home.between.root_is.begun;
     }
 
 -- ---- the answer

@@ -42,21 +42,6 @@ abbrev pub GivesOne : {A : Type 0} → Geometry → Option ℕ → (queue root :
 GivesOne g None queue root b block result new_queue new_root = (new_queue ≡ queue) × GivesHome g root b block result new_root
 GivesOne g (Some q) queue root b block result new_queue new_root = GivesHome g queue b block result new_queue × (new_root ≡ root)
 
--- home writes changed the blocks alone, and left none uncertain
-pub record IsWrittenHome (s t : PortState) : Type 0 where
-  pub same : t ≡ record s { blocks = t.blocks; sure = t.sure; begun = t.begun; begins = t.begins }
-  pub blocks_len : length t.blocks ≡ length s.blocks
-  pub sure_len : length t.sure ≡ length s.sure
-  pub certain : (k : ℕ) → slice_index_or s.sure k false ≡ true → slice_index_or t.sure k false ≡ true
-
--- each home block holds what was last written, else what it held before, and no block of the area
--- changed
-pub record AreWritten (g : Geometry) (queue root : PortState) (writes : Writes) (new_queue new_root : PortState) : Type 0 where
-  pub queue_is : IsWrittenHome queue new_queue
-  pub root_is : IsWrittenHome root new_root
-  pub homes : (x : ℕ) → x < homes_of g → (view_of g new_queue new_root).home x ≡ or_else (written writes x) ((view_of g queue root).home x)
-  pub area : (k : ℕ) → k < g.area → block_at new_queue.blocks k ≡ block_at queue.blocks k
-
 -- the base word is stored and flushed where it changes
 abbrev pub after_raise : PortState → ℕ → PortState
 after_raise s base = if nat_eq s.base base then s else after_flush (after_store_base s base)

@@ -6,6 +6,8 @@ use Rattle.mq_blocks.specs.Drive.{PortState, after_begin, after_end, after_flush
 use Rattle.mq_blocks.specs.Geometry.{homes_of, home_lba, zone_of, area_of}
 use Rattle.mq_blocks.specs.Machine.{Writes}
 use Rattle.mq_blocks.specs.declared.geometry.Geometry.{Geometry}
+use Rattle.mq_drive.specs.Start.{IsPortOf}
+use Rattle.mq_drive.specs.declared.role.Role.TheVariants.{Queue, Root}
 use Rattle.mq_recover.specs.Recover.{copy_of, content_of}
 use Rattle.mq_recover.specs.RecoverHomes.{written}
 use Rattle.mq_recover.specs.Recovery.{view_of, IsRead, IsRecovered, StandsAs}
@@ -75,16 +77,19 @@ StopsAt g Off old events new = (k : ℕ) × (k < length events) × (new ≡ afte
 StopsAt g (Failed block status) old events new =
     (k : ℕ) × (content : List ℕ) × (slice_get events k ≡ Some (BeginHome block content)) × (new ≡ after_events g old (take (k + 1) events))
 
--- A whole recovery: the prefix that the image at entry has, and its greatest number, which is the
--- new base.
+-- A whole recovery: the prefix of the image at entry, and its greatest number, which is the new base.
+-- Over it nothing is left to bring home, and no home write of this recovery is under way.
 pub record IsDone (g : Geometry) (old : TwoPorts) (found base : ℕ) (new : TwoPorts) : Type 0 where
   pub ds : List Descriptor
   pub read : IsRead g (view_of g old.queue old.root) ds base
   pub writes : Writes
   pub home_writes : AreHomeWrites g old.queue ds writes
   pub prefix_is : found ≡ length ds
-  pub recovered : IsRecovered g old.queue old.root ds base new.queue new.root
   pub events : new ≡ after_events g old (recovery_events old writes base)
+  pub recovered : IsRecovered g old.queue old.root ds base new.queue new.root
+  pub again : IsRead g (view_of g new.queue new.root) [] base
+  pub queue_begun : new.queue.begun ≡ old.queue.begun
+  pub root_begun : new.root.begun ≡ old.root.begun
 
 -- A recovery that the drive cut short: it may be begun again.
 pub record IsCutShort (g : Geometry) (refusal : RecoverRefusal) (old new : TwoPorts) : Type 0 where
@@ -94,4 +99,6 @@ pub record IsCutShort (g : Geometry) (refusal : RecoverRefusal) (old new : TwoPo
   pub writes : Writes
   pub home_writes : AreHomeWrites g old.queue ds writes
   pub events : StopsAt g refusal old (recovery_events old writes top) new
+  pub queue_port : IsPortOf g (Queue 0) new.queue
+  pub root_port : IsPortOf g Root new.root
   pub stands : StandsAs g old.queue old.root ds top new.queue new.root
