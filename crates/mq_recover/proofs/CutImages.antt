@@ -1,10 +1,9 @@
 -- What an image reads as while a recovery is under way.
-use Rattle.std.proofs.Common.{◌≡◌, ◌≢◌, ◌<◌, ◌≤◌, ◌⊎◌, inl, inr, ⊎_elim, ℕ, ◌+◌, ◌-◌, ◌*◌, ◌%◌, List, [], ◌∷◌, length, true, Option, Some, None, refl, sym, ◌∙◌, ap, subst, arith, mod-lt}
+use Rattle.std.proofs.Common.{◌≡◌, ◌<◌, ◌≤◌, ◌⊎◌, inl, inr, ⊎_elim, ℕ, ◌+◌, ◌-◌, ◌%◌, List, [], ◌∷◌, length, true, Option, Some, None, refl, sym, ◌∙◌, ap, subst, arith, mod-lt}
 use Rattle.std.proofs.lemmas.Bool.{cases_lt}
 use Rattle.mq_blocks.specs.Descriptor.{Descriptor}
 use Rattle.mq_blocks.specs.Drive.{depth}
-use Rattle.mq_blocks.specs.Geometry.{homes_of}
-use Rattle.mq_blocks.specs.Journal.{Says, Shown, Holds, IsChain, IsQueueChain, AreWhole, AreInRow, IsPrefix, Has, ShowsNumber, IsTop, number_limit, or_else, stands}
+use Rattle.mq_blocks.specs.Journal.{Says, Shown, IsChain, IsQueueChain, AreWhole, AreInRow, Has, ShowsNumber, IsTop, number_limit, or_else, stands}
 use Rattle.mq_blocks.specs.declared.geometry.Geometry.{Geometry}
 use Rattle.mq_recover.specs.Recovery.{IsRead}
 use Rattle.mq_recover.specs.Recover.{copy_of, content_of}

@@ -1,11 +1,11 @@
 -- Each event of a recovery leads from stage to stage.
-use Rattle.std.proofs.Common.{◌≡◌, ◌≢◌, ◌<◌, ◌≤◌, ◌⊎◌, inl, inr, ⊎_elim, ℕ, zero, suc, ◌+◌, ◌-◌, ◌*◌, Bool, true, false, List, [], ◌∷◌, ◌++◌, length, take, Option, Some, None, get_or, set, refl, sym, ◌∙◌, ap, subst, arith}
+use Rattle.std.proofs.Common.{◌≡◌, ◌≢◌, ◌<◌, ◌≤◌, inl, inr, ⊎_elim, ℕ, zero, suc, ◌+◌, ◌-◌, ◌*◌, Bool, true, false, List, [], ◌∷◌, ◌++◌, length, take, Option, None, get_or, set, refl, sym, ◌∙◌, ap, subst, arith}
 use Rattle.std.proofs.lemmas.Bool.{cases_eq, cases_lt, eq-eqb, ne_eqb}
 use Rattle.std.proofs.lemmas.List.{ext_get_or, get_or-set_other}
-use Rattle.std.specs.Prelude.{nat_eq, if◌then◌else◌}
+use Rattle.std.specs.Prelude.{if◌then◌else◌}
 use Rattle.mq_blocks.specs.Blocks.{block_at}
-use Rattle.mq_blocks.specs.Drive.{PortState, IsQuiet, index_of, after_begin, after_flush, after_store_base, after_store_head}
-use Rattle.mq_blocks.specs.Geometry.{homes_of, home_lba, zone_of}
+use Rattle.mq_blocks.specs.Drive.{PortState, IsQuiet, index_of, after_begin}
+use Rattle.mq_blocks.specs.Geometry.{homes_of, home_lba}
 use Rattle.mq_blocks.specs.Journal.{or_else}
 use Rattle.mq_blocks.specs.Machine.{Writes}
 use Rattle.mq_blocks.specs.declared.geometry.Geometry.{Geometry}
@@ -13,9 +13,9 @@ use Rattle.mq_drive.specs.Start.{IsPortOf}
 use Rattle.mq_drive.specs.declared.role.Role.TheVariants.{Queue, Root}
 use Rattle.mq_recover.specs.Recovery.{view_of, IsStill}
 use Rattle.mq_recover.specs.RecoverHomes.{written, AreBelow}
-use Rattle.mq_recover.specs.Steps.{Event, BeginHome, EndHome, StoreBase, FlushBase, StoreHead, FlushHead, TwoPorts, two, at_home, after_event, after_events, home_events, base_events, head_events, recovery_events}
+use Rattle.mq_recover.specs.Steps.{BeginHome, EndHome, StoreBase, FlushBase, StoreHead, FlushHead, TwoPorts, two, at_home, after_event, after_events, home_events, base_events, head_events, recovery_events}
 use Rattle.mq_recover.proofs.RecoverHomes.{IsBetween, between-start, between-step, next-written, later-port, zone-meta, zone-zone, home-meta, home-zone, index-root, index-queue}
-use Rattle.mq_recover.proofs.RecoverStages.{IsSure, IsLogKept, AreKept, IsGoing, AreHome, IsRaising, IsMoving, IsStage}
+use Rattle.mq_recover.proofs.RecoverStages.{AreKept, IsGoing, AreHome, IsRaising, IsMoving, IsStage}
 
 -- ---- between two home writes
 
@@ -135,16 +135,16 @@ begun-root g s e all ws w top still between near =
     let at : index_of e.root (home_lba g w.0) ≡ w.0 = index-root g e.root w.0 (later-port g Root s.root e.root between.root_is still.root_port) in (
       record { log = kept.log; posted = kept.posted; blocks_len = kept.blocks_len },
       inl
-        (record {
-          base = going.base;
-          stored_base = going.stored_base;
-          head = going.head;
-          stored_head = going.stored_head;
-          metas = λ x low none.
-              let h = going.metas x low none in
-              record { sure = still-sure e.root.sure (index_of e.root (home_lba g w.0)) x (λ same. next-written g s e all ws w x between none (sym at ∙ same)) h.sure; is = h.is };
-          zones = going.zones;
-        }),
+          (record {
+            base = going.base;
+            stored_base = going.stored_base;
+            head = going.head;
+            stored_head = going.stored_head;
+            metas = λ x low none.
+                let h = going.metas x low none in
+                record { sure = still-sure e.root.sure (index_of e.root (home_lba g w.0)) x (λ same. next-written g s e all ws w x between none (sym at ∙ same)) h.sure; is = h.is };
+            zones = going.zones;
+          }),
     )
 
 begun-queue : (g : Geometry) (s e : TwoPorts) (all ws : Writes) (w : ℕ × List ℕ) (top : ℕ) → IsStill g s.queue s.root → IsBetween g s e all (w ∷ ws) → g.meta ≤ w.0
@@ -172,17 +172,17 @@ begun-queue g s e all ws w top still between far =
         blocks_len = kept.blocks_len;
       },
       inl
-        (record {
-          base = going.base;
-          stored_base = going.stored_base;
-          head = going.head;
-          stored_head = going.stored_head;
-          metas = going.metas;
-          zones = λ x low none.
-              let h = going.zones x low none in
-              let apart = next-written g s e all ws w (g.meta + x) between none in
-              record { sure = still-sure e.queue.sure index (g.area + x) (λ same. apart (omega arith)) h.sure; is = h.is };
-        }),
+          (record {
+            base = going.base;
+            stored_base = going.stored_base;
+            head = going.head;
+            stored_head = going.stored_head;
+            metas = going.metas;
+            zones = λ x low none.
+                let h = going.zones x low none in
+                let apart = next-written g s e all ws w (g.meta + x) between none in
+                record { sure = still-sure e.queue.sure index (g.area + x) (λ same. apart (omega arith)) h.sure; is = h.is };
+          }),
     )
 
 begun : (g : Geometry) (s e : TwoPorts) (all ws : Writes) (w : ℕ × List ℕ) (top : ℕ) → IsStill g s.queue s.root → IsBetween g s e all (w ∷ ws) → IsStage g s (after_event g e (BeginHome w.0 w.1)) all top

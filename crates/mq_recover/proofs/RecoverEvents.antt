@@ -1,5 +1,5 @@
 -- Events in a row, all of them or the first of them.
-use Rattle.std.proofs.Common.{◌≡◌, ◌≢◌, ◌<◌, ◌≤◌, ◌⊎◌, inl, inr, ⊎_elim, ℕ, zero, suc, ◌+◌, Bool, true, false, List, [], ◌∷◌, ◌++◌, length, take, Option, Some, None, refl, sym, ◌∙◌, ap, subst, arith, append_assoc}
+use Rattle.std.proofs.Common.{◌≡◌, ◌<◌, ◌⊎◌, inl, inr, ⊎_elim, ℕ, zero, suc, ◌+◌, true, false, List, [], ◌∷◌, ◌++◌, length, take, Option, Some, None, refl, sym, ◌∙◌, ap, subst, arith, append_assoc}
 use Rattle.std.proofs.lemmas.List.{length-append, take-append-le}
 use Rattle.std.proofs.Math.ListN.{length-set}
 use Rattle.std.proofs.Math.Seq.{take-append_seam, take-append-add}
@@ -11,7 +11,7 @@ use Rattle.mq_blocks.specs.declared.geometry.Geometry.{Geometry}
 use Rattle.mq_drive.specs.Start.{IsPortOf}
 use Rattle.mq_drive.specs.declared.role.Role.{Role}
 use Rattle.mq_drive.specs.declared.role.Role.TheVariants.{Queue, Root}
-use Rattle.mq_recover.specs.RecoverHomes.{AreBelow, GivesHome, GivesOne}
+use Rattle.mq_recover.specs.RecoverHomes.{AreBelow, GivesOne}
 use Rattle.mq_recover.specs.Steps.{Event, BeginHome, EndHome, StoreBase, FlushBase, StoreHead, FlushHead, TwoPorts, two, at_home, after_event, after_events, home_events, StopsAt}
 use Rattle.mq_recover.specs.declared.refusal.RecoverRefusal.{RecoverRefusal}
 use Rattle.mq_recover.specs.declared.refusal.RecoverRefusal.TheVariants.{Image, Off, Failed}
@@ -57,9 +57,9 @@ off-after g s m n xs ys k first low is =
       length xs + k,
       omega arith,
       is
-      ∙ ap (λ (e : TwoPorts). after_events g e (take k ys)) first
-      ∙ sym (after-then g s xs (take k ys))
-      ∙ ap (after_events g s) (sym (take-append-add xs ys k)),
+          ∙ ap (λ (e : TwoPorts). after_events g e (take k ys)) first
+          ∙ sym (after-then g s xs (take k ys))
+          ∙ ap (after_events g s) (sym (take-append-add xs ys k)),
     )
 
 -- ---- the ports stay ports of their roles

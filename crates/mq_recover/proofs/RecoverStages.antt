@@ -1,27 +1,25 @@
 -- What stands at each point of a recovery.
-use Rattle.std.proofs.Common.{◌≡◌, ◌≢◌, ◌<◌, ◌≤◌, ◌⊎◌, inl, inr, ⊎_elim, ℕ, zero, suc, ◌+◌, ◌-◌, ◌*◌, ◌%◌, Bool, true, false, List, [], ◌∷◌, ◌++◌, length, take, Option, Some, None, get_or, set, refl, sym, ◌∙◌, ap, subst, arith}
-use Rattle.std.proofs.lemmas.Bool.{cases_eq, cases_lt, eq-eqb, ne_eqb}
-use Rattle.std.proofs.lemmas.List.{ext_get_or, get_or_past, get_or-set_other}
-use Rattle.std.proofs.Math.ListN.{length-set}
-use Rattle.std.specs.Prelude.{nat_eq, if◌then◌else◌, slice_index_or}
+use Rattle.std.proofs.Common.{◌≡◌, ◌<◌, ◌≤◌, ◌⊎◌, inl, inr, ⊎_elim, ℕ, ◌+◌, ◌-◌, ◌*◌, true, false, List, [], ◌∷◌, length, Option, None, get_or, refl, sym, ◌∙◌, ap, arith}
+use Rattle.std.proofs.lemmas.Bool.{cases_lt}
+use Rattle.std.proofs.lemmas.List.{get_or_past}
 use Rattle.mq_nvme.specs.Says.{says}
 use Rattle.mq_blocks.specs.Blocks.{block_at}
 use Rattle.mq_blocks.specs.Descriptor.{Descriptor}
-use Rattle.mq_blocks.specs.Drive.{PortState, PortImage, IsImage, IsQuiet, IsFlushed, IsApartFrom, index_of, depth, after_begin, after_flush, after_store_base, after_store_head}
-use Rattle.mq_blocks.specs.Geometry.{homes_of, home_lba, zone_of}
+use Rattle.mq_blocks.specs.Drive.{PortState, PortImage, IsImage, IsApartFrom}
+use Rattle.mq_blocks.specs.Geometry.{homes_of}
 use Rattle.mq_blocks.specs.Journal.{Shown, shown, or_else, stands}
 use Rattle.mq_blocks.specs.Machine.{Writes}
 use Rattle.mq_blocks.specs.declared.geometry.Geometry.{Geometry}
 use Rattle.mq_blocks.specs.declared.command.Command.{Command}
 use Rattle.mq_drive.specs.Start.{IsPortOf}
-use Rattle.mq_drive.specs.declared.role.Role.TheVariants.{Queue, Root}
+use Rattle.mq_drive.specs.declared.role.Role.TheVariants.{Queue}
 use Rattle.mq_recover.specs.Recovery.{view_of, IsStill, IsRead, StandsAs}
-use Rattle.mq_recover.specs.Recover.{copy_of, content_of}
-use Rattle.mq_recover.specs.RecoverHomes.{written, AreBelow}
-use Rattle.mq_recover.specs.Steps.{Event, BeginHome, EndHome, StoreBase, FlushBase, StoreHead, FlushHead, TwoPorts, two, at_home, after_event, after_events, home_events, base_events, head_events, recovery_events, AreHomeWrites}
+use Rattle.mq_recover.specs.Recover.{content_of}
+use Rattle.mq_recover.specs.RecoverHomes.{written}
+use Rattle.mq_recover.specs.Steps.{TwoPorts, AreHomeWrites}
 use Rattle.mq_recover.proofs.CutImages.{IsSameLog, read-along, read-raised, prefix-of, stands-along}
 use Rattle.mq_recover.proofs.RecoverCopies.{stands-copy}
-use Rattle.mq_recover.proofs.RecoverHomes.{IsBetween, between-start, between-step, next-written, later-port, later-quiet, zone-meta, zone-zone, image-meta, image-zone, home-meta, home-zone, index-root, index-queue}
+use Rattle.mq_recover.proofs.RecoverHomes.{image-meta, image-zone, home-meta, home-zone}
 
 -- the block at this index is certain, and holds this
 pub record IsSure (t : PortState) (k : ℕ) (v : List ℕ) : Type 0 where

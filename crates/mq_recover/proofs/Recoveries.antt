@@ -1,22 +1,21 @@
 -- A whole recovery, and one that the drive cut short.
-use Rattle.std.proofs.Common.{◌≡◌, ◌≢◌, ◌<◌, ◌≤◌, ◌⊎◌, inl, inr, ⊎_elim, ℕ, zero, suc, ◌+◌, Bool, true, false, List, [], ◌∷◌, ◌++◌, length, take, map, Option, Some, None, IsNone, refl, sym, ◌∙◌, ap, subst, arith, append_assoc}
+use Rattle.std.proofs.Common.{◌≡◌, ◌≢◌, ◌≤◌, inl, inr, ⊎_elim, ℕ, ◌+◌, Bool, true, false, List, [], ◌∷◌, ◌++◌, length, take, map, Option, IsNone, refl, sym, ◌∙◌, ap, subst, arith, append_assoc}
 use Rattle.std.proofs.lemmas.Bool.{ne_eqb}
 use Rattle.std.proofs.lemmas.List.{take_all}
 use Rattle.std.specs.Prelude.{nat_eq, if◌then◌else◌, Result, Ok, Err}
-use Rattle.mq_blocks.specs.Blocks.{block_at}
 use Rattle.mq_blocks.specs.Descriptor.{Descriptor, AreRising}
 use Rattle.mq_blocks.specs.Drive.{PortState, IsImage, IsQuiet, image_of, after_flush, after_store_base, after_store_head}
 use Rattle.mq_blocks.specs.Geometry.{homes_of}
-use Rattle.mq_blocks.specs.Journal.{or_else, stands}
+use Rattle.mq_blocks.specs.Journal.{or_else}
 use Rattle.mq_blocks.specs.Machine.{Writes}
 use Rattle.mq_blocks.specs.declared.geometry.Geometry.{Geometry}
 use Rattle.mq_drive.specs.Start.{IsPortOf}
 use Rattle.mq_drive.specs.declared.role.Role.TheVariants.{Queue, Root}
 use Rattle.mq_recover.specs.Plans.{IsPlan}
-use Rattle.mq_recover.specs.Recovery.{view_of, IsStill, IsRead, IsRecovered}
+use Rattle.mq_recover.specs.Recovery.{view_of, IsStill}
 use Rattle.mq_recover.specs.RecoverCauses.{OnDrive}
 use Rattle.mq_recover.specs.RecoverHomes.{AreBelow, after_raise, after_move, IsCutRaise, IsCutMove}
-use Rattle.mq_recover.specs.Steps.{Event, StoreBase, FlushBase, StoreHead, FlushHead, TwoPorts, two, after_event, after_events, home_events, base_events, head_events, recovery_events, AreHomeWrites, StopsAt, IsDone, IsCutShort}
+use Rattle.mq_recover.specs.Steps.{Event, StoreBase, FlushBase, StoreHead, FlushHead, TwoPorts, two, after_events, home_events, base_events, head_events, recovery_events, AreHomeWrites, StopsAt, IsDone, IsCutShort}
 use Rattle.mq_recover.specs.declared.plan.Plan.{Plan}
 use Rattle.mq_recover.specs.declared.refusal.RecoverRefusal.{RecoverRefusal}
 use Rattle.mq_recover.specs.declared.refusal.RecoverRefusal.TheVariants.{Image, Off, Failed}
@@ -24,7 +23,7 @@ use Rattle.mq_recover.proofs.CutImages.{IsSameLog, first-chain, prefix-of, read-
 use Rattle.mq_recover.proofs.RecoverCopies.{stands-copy}
 use Rattle.mq_recover.proofs.RecoverCuts.{each-stage}
 use Rattle.mq_recover.proofs.RecoverEvents.{ArePorts, after-then, events-ports, stops-more, off-after}
-use Rattle.mq_recover.proofs.RecoverHomes.{IsBetween, between-start, between-end, later-port, later-quiet, IsRaised, raised, IsMoved, moved, home-along}
+use Rattle.mq_recover.proofs.RecoverHomes.{IsBetween, between-start, between-end, later-port, later-quiet, raised, IsMoved, moved, home-along}
 use Rattle.mq_recover.proofs.RecoverStages.{IsStage, same-log, stage-stands}
 
 rising-below : (low homes : ℕ) (writes : Writes) → AreRising low homes (map (λ w. w.0) writes) → AreBelow homes writes

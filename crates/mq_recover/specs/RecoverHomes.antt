@@ -1,12 +1,9 @@
 -- Copies that are written home.
-use Rattle.std.specs.Prelude.{◌≡◌, ◌≢◌, ◌⊎◌, ◌<◌, ℕ, ◌+◌, ◌%◌, true, false, List, [], ◌∷◌, length, Option, Some, None, Result, Ok, Err, slice_index_or, nat_eq, if◌then◌else◌}
-use Rattle.mq_blocks.specs.Blocks.{block_at}
+use Rattle.std.specs.Prelude.{◌≡◌, ◌≢◌, ◌⊎◌, ◌<◌, ℕ, ◌+◌, ◌%◌, List, [], ◌∷◌, Option, Some, None, Result, Ok, Err, nat_eq, if◌then◌else◌}
 use Rattle.mq_blocks.specs.Drive.{PortState, after_begin, after_end, after_flush, after_store_base, after_store_head}
-use Rattle.mq_blocks.specs.Geometry.{homes_of, home_lba}
-use Rattle.mq_blocks.specs.Journal.{or_else}
+use Rattle.mq_blocks.specs.Geometry.{home_lba}
 use Rattle.mq_blocks.specs.Machine.{Writes, or_kept}
 use Rattle.mq_blocks.specs.declared.geometry.Geometry.{Geometry}
-use Rattle.mq_recover.specs.Recovery.{view_of}
 use Rattle.mq_recover.specs.declared.refusal.RecoverRefusal.{RecoverRefusal}
 use Rattle.mq_recover.specs.declared.refusal.RecoverRefusal.TheVariants.{Image, Off, Failed}
 

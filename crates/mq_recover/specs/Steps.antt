@@ -1,5 +1,5 @@
 -- The events of a recovery, and what they make of the two ports of a drive of one queue.
-use Rattle.std.specs.Prelude.{◌≡◌, ◌⊎◌, ◌<◌, ◌≤◌, ℕ, ◌+◌, zero, suc, List, [], ◌∷◌, ◌++◌, length, take, slice_get, Option, Some, None, map, nat_eq, if◌then◌else◌}
+use Rattle.std.specs.Prelude.{◌≡◌, ◌<◌, ℕ, ◌+◌, List, [], ◌∷◌, ◌++◌, length, take, slice_get, Option, Some, None, map, nat_eq, if◌then◌else◌}
 use Rattle.mq_blocks.specs.Blocks.{block_at}
 use Rattle.mq_blocks.specs.Descriptor.{Descriptor, AreRising}
 use Rattle.mq_blocks.specs.Drive.{PortState, after_begin, after_end, after_flush, after_store_base, after_store_head}

@@ -1,9 +1,7 @@
-use Rattle.std.proofs.Common.{◌≡◌, ap, sym, ◌∙◌}
 use Rattle.std.proofs.lemmas.Result.{err_from_is_err_and}
-use Rattle.mq_blocks.specs.Drive.{PortState}
 use Rattle.mq_recover.specs.Steps.{TwoPorts, two, IsCutShort}
 use Rattle.mq_recover.specs.declared.refusal.RecoverRefusal.TheVariants.{Off}
-use Rattle.mq_recover.proofs.Recoveries.{AreAllHome, writes-below, all-home, root-alone, base-low, head-low, cut-homes, cut-raise, cut-move, done, on-drive}
+use Rattle.mq_recover.proofs.Recoveries.{writes-below, all-home, root-alone, base-low, head-low, cut-homes, cut-raise, cut-move, done, on-drive}
 use Rattle.mq_recover.proofs.ports.recover_ports.Goals as goal
 
 pub write_homes-requires-clause-below : goal.write_homes-requires-clause-below
