@@ -41,11 +41,12 @@ pub record IsRecovered (g : Geometry) (queue root : PortState) (ds : List Descri
   pub head : new_queue.head ≡ new_queue.doorbell
   pub doorbell : new_queue.doorbell ≡ queue.doorbell
 
--- Each image of the two ports is readable and stands for what stood before by these descriptors: by
--- the same ones over the old base, or at home alone over the greatest number.
+-- Each image of the two ports is readable, shows the same greatest number, and stands for what stood
+-- before by these descriptors: by the same ones over the old base, or at home alone over the greatest
+-- number.
 abbrev pub StandsAs : (g : Geometry) (queue root : PortState) (ds : List Descriptor) (top : ℕ) (new_queue new_root : PortState) → Type 0
 StandsAs g queue root ds top new_queue new_root =
     (q r : PortImage) → IsImage new_queue q → IsImage new_root r
-    → (es : List Descriptor) × (new_top : ℕ) × IsRead g (shown says g (q ∷ []) r) es new_top
+    → (es : List Descriptor) × IsRead g (shown says g (q ∷ []) r) es top
     × (((r.base ≡ root.base) × (es ≡ ds)) ⊎ ((r.base ≡ top) × (es ≡ [])))
     × ((b : ℕ) → b < homes_of g → stands g (shown says g (q ∷ []) r) es b ≡ stands g (view_of g queue root) ds b)
