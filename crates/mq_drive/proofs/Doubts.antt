@@ -36,3 +36,6 @@ none_while (Some x) n some is = let bad = some x refl in absurd (omega (arith, b
 
 pub none_eq : (o : Option ℕ) (k : ℕ) → false ≡ option_eq eqb o (Some k) → o ≡ Some k → ⊥
 none_eq o k is at = true≢false (sym (is ∙ ap (λ (x : Option ℕ). option_eq eqb x (Some k)) at ∙ eq-eqb k k refl))
+
+pub none_for : {A : Type 0} (o : Option A) (P : A → Type 0) → o ≡ None → ForSome o P
+none_for o P none x is = absurd (true≢false (ap is_some (sym is ∙ none)))
