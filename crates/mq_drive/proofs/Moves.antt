@@ -60,12 +60,12 @@ written_home s lba block blocks sure begins limit fail is_blocks is_sure is_begi
     λ i. record s { blocks = is_blocks i; sure = is_sure i; begins = is_begins i; begun = begun i; limit = is_limit i; fail = is_fail i }
 
 -- a home write has begun, and not ended
-pub begun_home : (s : PortState) (lba : ℕ) (block : List ℕ) (begun : List HomeWrite) (blocks : List (Option (List ℕ))) (sure : List Bool) (begins : ℕ) (limit fail : Option ℕ)
-    → begun ≡ s.begun ++ record { lba = lba; block = block } ∷ [] → blocks ≡ s.blocks → sure ≡ set s.sure (index_of s lba) false → begins ≡ counted s.begins 1
+pub begun_home : (s : PortState) (lba : ℕ) (block : List ℕ) (failed : List Command) (begun : List HomeWrite) (blocks : List (Option (List ℕ))) (sure : List Bool) (begins : ℕ) (limit fail : Option ℕ)
+    → failed ≡ s.failed → begun ≡ s.begun ++ record { lba = lba; block = block } ∷ [] → blocks ≡ s.blocks → sure ≡ set s.sure (index_of s lba) false → begins ≡ counted s.begins 1
     → limit ≡ s.limit → fail ≡ s.fail
-    → record s { begun = begun; blocks = blocks; sure = sure; begins = begins; limit = limit; fail = fail } ≡ after_begin s lba block
-begun_home s lba block begun blocks sure begins limit fail is_begun is_blocks is_sure is_begins is_limit is_fail =
-    λ i. record s { begun = is_begun i; blocks = is_blocks i; sure = is_sure i; begins = is_begins i; limit = is_limit i; fail = is_fail i }
+    → record s { failed = failed; begun = begun; blocks = blocks; sure = sure; begins = begins; limit = limit; fail = fail } ≡ after_begin s lba block
+begun_home s lba block failed begun blocks sure begins limit fail is_failed is_begun is_blocks is_sure is_begins is_limit is_fail =
+    λ i. record s { failed = is_failed i; begun = is_begun i; blocks = is_blocks i; sure = is_sure i; begins = is_begins i; limit = is_limit i; fail = is_fail i }
 
 -- the home writes that have begun, after one more that fails or is cut off
 pub begun_failed : (old : Option Failure) (under : Option HomeWrite) (w : HomeWrite) → old ≡ None → under ≡ None
