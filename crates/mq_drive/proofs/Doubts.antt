@@ -36,3 +36,19 @@ none_while (Some x) n some is = let bad = some x refl in absurd (omega (arith, b
 
 pub none_eq : (o : Option ℕ) (k : ℕ) → false ≡ option_eq eqb o (Some k) → o ≡ Some k → ⊥
 none_eq o k is at = true≢false (sym (is ∙ ap (λ (x : Option ℕ). option_eq eqb x (Some k)) at ∙ eq-eqb k k refl))
+
+pub none_for : {A : Type 0} (o : Option A) (P : A → Type 0) → o ≡ None → ForSome o P
+none_for o P none x is = absurd (true≢false (ap is_some (sym is ∙ none)))
+
+value_or : {A : Type 0} → A → Option A → A
+value_or d None = d
+value_or d (Some x) = x
+
+pub some_for : {A : Type 0} (x : A) (P : A → Type 0) → P x → ForSome (Some x) P
+unfolding value_or
+some_for x P holds y is = subst P (ap (value_or x) is) holds
+
+pub false_at : (flags : List Bool) (i : ℕ) → get_or (set flags i false) i false ≡ false
+false_at [] i = refl
+false_at (f ∷ fs) zero = refl
+false_at (f ∷ fs) (suc i) = false_at fs i

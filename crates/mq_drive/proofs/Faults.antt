@@ -1,14 +1,16 @@
 -- The faults of a port in memory.
-use Rattle.std.proofs.Common.{◌≡◌, ◌<◌, ◌≤◌, ◌+◌, ◌-◌, ◌^◌, ℕ, zero, suc, Bool, true, false, List, [], ◌∷◌, ◌++◌, length, get_or, replicate, All, Option, Some, None, Result, Ok, Err, is_some, inl, inr, refl, sym, ◌∙◌, ap, subst, arith, true≢false, length-append}
+use Rattle.std.proofs.Common.{◌≡◌, ◌⊎◌, ◌<◌, ◌≤◌, ◌+◌, ◌-◌, ◌^◌, ℕ, zero, suc, Bool, true, false, List, [], ◌∷◌, ◌++◌, length, get_or, replicate, All, Option, Some, None, Result, Ok, Err, is_some, inl, inr, refl, sym, ◌∙◌, ap, subst, arith, true≢false, length-append}
 use Rattle.std.proofs.lemmas.List.{length-replicate}
 use Rattle.std.specs.Prelude.{Contains, IsErr}
 use Rattle.std.proofs.lemmas.Bool.{cases_lt}
 use Rattle.std.proofs.lemmas.List.Elements.{All-cons}
-use Rattle.mq_blocks.specs.Drive.{counted}
+use Rattle.mq_blocks.specs.Drive.{PortState, counted, after_begin}
+use Rattle.mq_drive.specs.declared.port.Step.{Step}
+use Rattle.mq_drive.specs.declared.port.HomeStep.{HomeStep}
 use Rattle.mq_drive.specs.Emu.{emu_state, emu_faults, happened_of}
 use Rattle.mq_drive.specs.Failures.{errors_of}
 use Rattle.mq_drive.specs.Limits.{fails_by}
-use Rattle.mq_drive.specs.Steps.{Fault, PowerOff, CommandError, HomeError, IsWithOneMore, Gains, OffCause}
+use Rattle.mq_drive.specs.Steps.{Fault, PowerOff, CommandError, HomeError, IsWithOneMore, Gains, OffCause, StepGives, HomeGives}
 use Rattle.mq_drive.specs.declared.emu.EmuPort.{EmuPort}
 use Rattle.mq_drive.specs.declared.failing.Failure.{Failure}
 use Rattle.mq_drive.specs.declared.failing.Failure.TheVariants.{Queued, Home}
@@ -35,6 +37,14 @@ off_gains n m errors small is = elim (cases_lt n (2 ^ 64 - 1)) [
 pub refused : {A : Type 0} (r : Result A Off) (n m : ℕ) (errors : List Fault) → IsErr r → n < 2 ^ 64 → m ≡ counted n 1 → OffCause r (replicate n PowerOff ++ errors) (replicate m PowerOff ++ errors)
 refused (Ok x) n m errors bad small is = absurd (true≢false (sym bad))
 refused (Err x) n m errors bad small is = off_gains n m errors small is
+
+pub refused_step : (s new : PortState) (faults more : List Fault) (r : Result Step Off) → IsErr r → (s.posted ≡ [] → ⊥) → new ≡ s → Gains PowerOff faults more → StepGives s faults r new more
+refused_step s new faults more (Ok x) bad some same gains = absurd (true≢false (sym bad))
+refused_step s new faults more (Err x) bad some same gains = (some, same, gains)
+
+pub refused_home : (s new : PortState) (faults more : List Fault) (lba : ℕ) (block : List ℕ) (r : Result HomeStep Off) → IsErr r → ((new ≡ s) ⊎ (new ≡ after_begin s lba block)) → Gains PowerOff faults more → HomeGives s faults lba block r new more
+refused_home s new faults more lba block (Ok x) bad is gains = absurd (true≢false (sym bad))
+refused_home s new faults more lba block (Err x) bad is gains = (is, gains)
 
 -- the first error
 pub error_gains : (n m : ℕ) (old new : Option Failure) (e : Fault) → old ≡ None → errors_of new ≡ e ∷ [] → m ≡ n → Gains e (replicate n PowerOff ++ errors_of old) (replicate m PowerOff ++ errors_of new)

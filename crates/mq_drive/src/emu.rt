@@ -83,6 +83,7 @@ impl EmuPort {
     ghost use Rattle.mq_drive.specs.Emu.{emu_state, emu_faults, happened_of};
     ghost use Rattle.mq_drive.specs.Start.{IsRole, IsImageOf, start_of};
     ghost use Rattle.mq_drive.specs.Steps.{PowerOff};
+    ghost use Rattle.mq_blocks.specs.Drive.{staged_end};
 
     /// The port of a role of the geometry, which starts from an image of that role. Its power goes
     /// off after `limit` events. Its command number `fail`, counted from 1 over executed entries
@@ -150,6 +151,13 @@ impl EmuPort {
         ensures unlimited { (emu_state self.now).limit ≡ None → Contains (emu_faults self.now) PowerOff → ⊥ }
     {
         self.power.happened()
+    }
+
+    // The count of the next entry.
+    fn end(&self) -> u64
+        ensures { result ≡ staged_end (emu_state self.now) }
+    {
+        self.doorbell + self.pending.len() as u64
     }
 
     /// Whether the command that fails was executed.
@@ -258,7 +266,7 @@ impl Port for EmuPort {
     }
 
     fn flush(&mut self) -> Result<(), Off> {
-        let end = self.doorbell + self.pending.len() as u64;
+        let end = self.end();
         self.power.event()?;
         settle(&mut self.flushed, &self.staged, self.flushed_end, end);
         self.flushed_end = end;
@@ -285,23 +293,26 @@ impl Port for EmuPort {
         let at = choose(&mut self.order, self.posted.len());
         let command = take_at(&mut self.posted, at);
         let index = block_index(self.area, self.homes, command.lba);
-        let fails = self.failing.next();
-        let completion = completion_of(&Ended {
+        let ended = Ended {
             sq_head: (self.doorbell % 1024) as u16,
             sq_id: self.id as u16,
             cid: (command.count % 1024) as u16,
             phase: self.completions / 1024 % 2 == 0,
-            status: if fails { WRITE_FAULT } else { 0 },
-        });
+            status: 0,
+        };
         self.completions = bump(self.completions);
         self.events = bump(self.events);
-        if fails {
+        if self.failing.next() {
+            let completion = completion_of(&Ended {
+                status: WRITE_FAULT,
+                ..ended
+            });
             self.blocks.fail(index);
             self.failure = Some(Failure::Queued(command));
-        } else {
-            self.blocks.complete(index, command.block);
+            return Ok(Step::Done(completion));
         }
-        Ok(Step::Done(completion))
+        self.blocks.complete(index, command.block);
+        Ok(Step::Done(completion_of(&ended)))
     }
 
     fn store_head(&mut self, head: u64) -> Result<(), Off> {

@@ -6,9 +6,3 @@ use Rattle.mq_drive.proofs.emu.EmuPortPort.flush.Goals as goal
 pub returns-in_err-event-clause-cause : goal.returns-in_err-event-clause-cause
 returns-in_err-event-clause-cause c =
     refused c.from_residual.result c.args.self.now.power.offs c.event.new.self.offs (errors_of c.args.self.now.failure) c.from_residual.ensures.0 c.event.ensures.range c.in_err-event.ensures.refused.1
-
-pub invariant_of-self-2-clause-settled : goal.invariant_of-self-2-clause-settled
-invariant_of-self-2-clause-settled c = λ k within apart. ap (λ (l : List (List ℕ)). get_or l k []) c.settle.ensures
-
-pub invariant_of-self-clause-same_ring : goal.invariant_of-self-clause-same_ring
-invariant_of-self-clause-same_ring c = c.args.self.now.same_ring
