@@ -1,10 +1,10 @@
 mod Programs
 mod Restarts
-pub mod Counts
 pub mod Cutting
 pub mod Drives
 pub mod Ended
 pub mod Ending
+pub mod Events
 pub mod Exits
 pub mod Fills
 pub mod JournalItems
