@@ -9,7 +9,7 @@ use Rattle.mq_blocks.specs.Drive.{PortState, counted, index_of, after_done, afte
 use Rattle.mq_blocks.specs.declared.command.Command.{Command}
 use Rattle.mqfs.specs.Cuts.{HasEnded}
 use Rattle.mqfs.specs.Runs.{IsApart, blocks_with, sure_with, after_all}
-use Rattle.mqfs.proofs.Counts.{counted-counted}
+use Rattle.mqfs.proofs.Events.{counted-counted}
 use Rattle.mqfs.proofs.Ending.{apart_at, apart_from-remove, one_less}
 use Rattle.mqfs.proofs.JournalItems.{block_at-set_other, length-blocks_with, length-sure_with}
 

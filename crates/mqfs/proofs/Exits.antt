@@ -7,7 +7,7 @@ use Rattle.mq_drive.specs.Start.{IsPortOf}
 use Rattle.mq_drive.specs.declared.role.Role.{Role}
 use Rattle.mqfs.specs.Cuts.{HasBounds, HasEnded, IsCut, nearly_done}
 use Rattle.mqfs.specs.Runs.{Items, commands_of, after_some, after_all, after_line}
-use Rattle.mqfs.proofs.Counts.{counted-counted}
+use Rattle.mqfs.proofs.Events.{counted-counted}
 use Rattle.mqfs.proofs.Cutting.{port_flushed, port_rung, port_stored, port_ended, port_some, early_some, early_flushed, early_ended, early_all}
 use Rattle.mqfs.proofs.Ended.{ended_all}
 use Rattle.mqfs.proofs.Lines.{length-commands}

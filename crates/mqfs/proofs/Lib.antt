@@ -6,6 +6,7 @@ pub mod Cutting
 pub mod Drives
 pub mod Ended
 pub mod Ending
+pub mod Events
 pub mod Exits
 pub mod Fills
 pub mod JournalItems

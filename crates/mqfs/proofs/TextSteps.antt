@@ -18,8 +18,8 @@ use Rattle.mqfs.specs.Lines.{set_in, writes_from, named, transaction_of, transac
 use Rattle.mqfs.specs.Runs.{Items, AreOwn, AreDistinct, after_line}
 use Rattle.mqfs.specs.Text.{AreGoodItems, IsGoodLine, AreGoodLines, IsGoodText, sets_in, places_of}
 use Rattle.mqfs.specs.declared.text.item.BlockItem.{BlockItem}
-use Rattle.mqfs.proofs.Counts.{counted-counted}
 use Rattle.mqfs.proofs.Cutting.{early_all, early_none, settled_port}
+use Rattle.mqfs.proofs.Events.{counted-counted, events_more}
 use Rattle.mqfs.proofs.Exits.{bounds_line, bounds_then, events_line, nearly_image, port_all}
 use Rattle.mqfs.proofs.Fills.{below_set, length-writes, length-writes_sets, named_is, rising_writes}
 use Rattle.mqfs.proofs.JournalItems.{length-items, own_items, distinct_items, new_below}
@@ -93,7 +93,7 @@ places_many (l ∷ ls) = omega (arith, places_many ls)
 
 -- ---- what stands
 
--- where each image of the first lines' port shows them
+-- each image of a port that has committed the first lines shows them
 shows_lines : (g : Geometry) (start s : PortState) (lines : Lines) (n next last : ℕ) → SoFar g start s lines n next last → g.queues ≡ 1 → start.doorbell ≤ 2 ^ 62 → length lines ≤ 1024 → n ≤ length lines
     → (q r : PortImage) → IsImage s q → r.base ≡ 0 → ShowsMap g (shown says g (q ∷ []) r) n (map_after lines n)
 shows_lines g start s lines n next last so_far one low short within q r image base =
@@ -117,17 +117,19 @@ finished g start s lines n next last so_far one low short all q r image base =
 pub record IsStopped (g : Geometry) (start new : PortState) (lines : Lines) : Type 0 where
   pub count : ℕ
   pub events : new.events ≡ counted start.events count
+  pub few : count < events_of lines (length lines)
   pub shows : QueueShows g new lines count
   pub port : IsPortOf g (Queue 0) new
   pub bounds : HasBounds start new
 
 -- a refusal between two lines
-pub stopped_between : (g : Geometry) (start s : PortState) (lines : Lines) (n next last : ℕ) → SoFar g start s lines n next last → g.queues ≡ 1 → start.doorbell ≤ 2 ^ 62 → length lines ≤ 1024 → n ≤ length lines
+pub stopped_between : (g : Geometry) (start s : PortState) (lines : Lines) (n next last : ℕ) → SoFar g start s lines n next last → g.queues ≡ 1 → start.doorbell ≤ 2 ^ 62 → length lines ≤ 1024 → n < length lines
     → IsStopped g start s lines
 stopped_between g start s lines n next last so_far one low short within = record {
   count = events_of lines n;
   events = so_far.events;
-  shows = λ q r image base. (n, record { within = within; ends = inl (omega arith, λ less. omega arith) }, shows_lines g start s lines n next last so_far one low short within q r image base);
+  few = let more = events_more lines (suc n) (length lines) (omega arith) in omega arith;
+  shows = λ q r image base. (n, record { within = omega arith; ends = inl (omega arith, λ less. omega arith) }, shows_lines g start s lines n next last so_far one low short (omega arith) q r image base);
   port = so_far.keeps.port;
   bounds = so_far.bounds;
 }
@@ -179,9 +181,6 @@ module _ (g : Geometry) (start s : PortState) (lines : Lines) (n next last : ℕ
         distinct = distinct_items g s next (descriptor_bytes (descriptor_for (n + 1) next last ws)) ws so_far.keeps.port one fits;
       }
 
-  t : Transaction
-  t = transaction_of (n + 1) line
-
   rings_after : (after_line s (n + 1) items).rings ≡ counted s.rings 1
   unfolding after_line
   rings_after = refl
@@ -212,7 +211,6 @@ module _ (g : Geometry) (start s : PortState) (lines : Lines) (n next last : ℕ
       let at : next + length ws ≡ next + length items - 1 = omega (arith, count) in
       let all : transaction_of (n + 1) line ∷ transactions_of lines n ≡ transactions_of lines (n + 1) =
       ap (λ (l : List BlockItem). transaction_of (n + 1) l ∷ transactions_of lines n) is ∙ ap (transactions_of lines) (let e : suc n ≡ n + 1 = omega arith in e) in
-      let one_on : drop (n + 1) lines ≡ drop (n + 1) lines = refl in
       record {
         ds = descriptor_for (length ds + 1) next last ws ∷ ds;
         count = omega arith;
@@ -279,6 +277,10 @@ module _ (g : Geometry) (start s : PortState) (lines : Lines) (n next last : ℕ
       record {
         count = events_of lines n + k;
         events = cut.events_are ∙ ap (λ (m : ℕ). counted m k) so_far.events ∙ counted-counted start.events (events_of lines n) k;
+        few =
+            let after_next = events_next in
+            let end = events_more lines (n + 1) (length lines) (omega arith) in
+            ⊎_elim (λ early. let less_k = early.1 in omega arith) (λ nearly. let at = nearly.1 in omega arith) cut.stage;
         shows = λ q r image base. ⊎_elim
             (λ early. stands_before new k early.0 (cut.port g (Queue 0) keeps.port) (let less_k = early.1 in omega arith) q r image base)
             (λ nearly.
@@ -337,4 +339,4 @@ module _ (g : Geometry) (start s : PortState) (lines xs : Lines) (n number next 
       stopped_inside g start s lines n next last so_far clean.one short clean.low within line line_is new k cut_on
 
   pub line_between : IsStopped g start s lines
-  line_between = stopped_between g start s lines n next last so_far clean.one clean.low short (omega (arith, within))
+  line_between = stopped_between g start s lines n next last so_far clean.one clean.low short within

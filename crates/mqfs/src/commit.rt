@@ -66,7 +66,7 @@ pub fn commit_lines<P: Port>(
     ensures quiet { OnOk result (IsQuiet (P.state queue.new)) }
     ensures done { OnOk result ((P.state queue.new).head ≡ (P.state queue.new).doorbell) }
     ensures events { OnOk result ((P.state queue.new).events ≡ counted (P.state queue.old).events (events_of text.now (length text.now))) }
-    ensures cut { OnErr result ((e : ℕ) × ((P.state queue.new).events ≡ counted (P.state queue.old).events e) × QueueShows geometry (P.state queue.new) text.now e) }
+    ensures cut { OnErr result ((e : ℕ) × ((P.state queue.new).events ≡ counted (P.state queue.old).events e) × QueueShows geometry (P.state queue.new) text.now e × (e < events_of text.now (length text.now))) }
     ensures port { IsPortOf geometry (Queue 0) (P.state queue.new) }
     ensures bounds { HasBounds (P.state queue.old) (P.state queue.new) }
     ensures cause { HasTextCause result (P.faults queue.old) (P.faults queue.new) }
@@ -101,7 +101,7 @@ pub fn commit_text<P: Port>(
     ensures quiet { OnOk result.1 ((p : P) → slice_get result.0.queues.items 0 ≡ Some p → IsQuiet (P.state p)) }
     ensures done { OnOk result.1 ((p : P) → slice_get result.0.queues.items 0 ≡ Some p → (P.state p).head ≡ (P.state p).doorbell) }
     ensures events { OnOk result.1 ((p q : P) → slice_get ports.queues.items 0 ≡ Some p → slice_get result.0.queues.items 0 ≡ Some q → (P.state q).events ≡ counted (P.state p).events (events_of text.now (length text.now))) }
-    ensures cut { OnErr result.1 ((p q : P) → slice_get ports.queues.items 0 ≡ Some p → slice_get result.0.queues.items 0 ≡ Some q → (e : ℕ) × ((P.state q).events ≡ counted (P.state p).events e) × ShowsReached geometry (P.state q) (P.state result.0.root) text.now e) }
+    ensures cut { OnErr result.1 ((p q : P) → slice_get ports.queues.items 0 ≡ Some p → slice_get result.0.queues.items 0 ≡ Some q → (e : ℕ) × ((P.state q).events ≡ counted (P.state p).events e) × ShowsReached geometry (P.state q) (P.state result.0.root) text.now e × (e < events_of text.now (length text.now))) }
     ensures port { (p : P) → slice_get result.0.queues.items 0 ≡ Some p → IsPortOf geometry (Queue 0) (P.state p) }
     ensures bounds { (p q : P) → slice_get ports.queues.items 0 ≡ Some p → slice_get result.0.queues.items 0 ≡ Some q → HasBounds (P.state p) (P.state q) }
     ensures cause { (p q : P) → slice_get ports.queues.items 0 ≡ Some p → slice_get result.0.queues.items 0 ≡ Some q → HasTextCause result.1 (P.faults p) (P.faults q) }

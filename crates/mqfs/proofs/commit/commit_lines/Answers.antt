@@ -98,7 +98,7 @@ returns-in_err-items-clause-cut g c =
     let stopped = line_between c.args.geometry (state c.args.queue.now) (state c.loop-line.queue) c.args.text.now xs c.loop-line.line-index c.loop-line.number c.loop-line.next c.loop-line.last inv.so_far
         c.requires.clean c.requires.good same c.loop-line-test.true c.line-item.result c.line-item.is inv.number in
     let p = err_from_is_err_and c.from_residual.result c.from_residual.ensures.1 in
-    rw p.1 (stopped.count, stopped.events, stopped.shows)
+    rw p.1 (stopped.count, stopped.events, stopped.shows, stopped.few)
 
 pub returns-in_err-commit_line-clause-cut : goal.returns-in_err-commit_line-clause-cut
 returns-in_err-commit_line-clause-cut g c =
@@ -110,7 +110,7 @@ returns-in_err-commit_line-clause-cut g c =
     let stopped = line_stopped c.args.geometry (state c.args.queue.now) (state c.loop-line.queue) c.args.text.now xs c.loop-line.line-index c.loop-line.number c.loop-line.next c.loop-line.last inv.so_far
         c.requires.clean c.requires.good same c.loop-line-test.true c.line-item.result c.line-item.is inv.number c.in_ok-items.items.items (state c.commit_line.new.port) cut.0 c.in_ok-items.ensures cut.1 in
     let p = err_from_is_err_and c.from_residual-in_err-commit_line.result c.from_residual-in_err-commit_line.ensures.1 in
-    rw p.1 (stopped.count, stopped.events, stopped.shows)
+    rw p.1 (stopped.count, stopped.events, stopped.shows, stopped.few)
 
 pub returns-in_err-commit_line-clause-port : goal.returns-in_err-commit_line-clause-port
 returns-in_err-commit_line-clause-port g c = c.in_err-commit_line.ensures.cut.1.port c.args.geometry (Queue 0) c.loop-line.invariant.so_far.keeps.port
