@@ -7,7 +7,7 @@ use Rattle.std.specs.Prelude.{IsErrOf, Err}
 use Rattle.mq_blocks.specs.Descriptor.{Descriptor}
 use Rattle.mq_blocks.specs.Drive.{PortState, depth}
 use Rattle.mq_blocks.specs.Geometry.{homes_of}
-use Rattle.mq_blocks.specs.Journal.{Shown, IsQueueChain, Has, AreWhole, AreInRow, IsPrefix, ShowsNumber, IsTop, number_limit}
+use Rattle.mq_blocks.specs.Journal.{Shown, IsQueueChain, Has, AreWhole, AreInRow, IsPrefix, Reaches, ShowsNumber, IsTop, number_limit}
 use Rattle.mq_blocks.specs.declared.geometry.Geometry.{Geometry}
 use Rattle.mq_recover.specs.Plans.{newest_number, ArePlaced, IsFoundIn}
 use Rattle.mq_recover.specs.Recover.{IsSeenAt, AreGood, AreFalling}
@@ -155,13 +155,16 @@ found-in g queue root base top k all c found still base_is limit readable greate
 -- ---- one cause at most
 
 -- a readable image has no cause to be refused
-pub read-refused : (g : Geometry) (queue root : PortState) (ds : List Descriptor) (top : ℕ) (e : ImageFault) → IsStill g queue root → IsRead g (view_of g queue root) ds top → RefusesImage g queue root e → ⊥
-read-refused g queue root ds top (Limit base) still read r = let l = read.whole.limit in let is = r.0 in let high = r.1 in absurd (omega (arith, l, is, high))
-read-refused g queue root ds top (Bad q cause) still read r =
+pub reaches-refused : (g : Geometry) (queue root : PortState) (ds : List Descriptor) (e : ImageFault) → IsStill g queue root → Reaches g (view_of g queue root) ds → RefusesImage g queue root e → ⊥
+reaches-refused g queue root ds (Limit base) still read r = let l = read.whole.limit in let is = r.0 in let high = r.1 in absurd (omega (arith, l, is, high))
+reaches-refused g queue root ds (Bad q cause) still read r =
     let one = still.one in
     readable-refused g queue 0 root.base (read.chains 0) cause
     (shown-readable g (view_of g queue root) queue 0 root.base (read.chains 0) (view-seen g queue root root.base refl) (read.whole.each 0 (omega (arith, one)))) r.2
-read-refused g queue root ds top OutOfMemory still read r = r
+reaches-refused g queue root ds OutOfMemory still read r = r
+
+pub read-reaches : (g : Geometry) (i : Shown) (ds : List Descriptor) (top : ℕ) → IsRead g i ds top → Reaches g i ds
+read-reaches g i ds top read = record { chains = read.chains; whole = read.whole; prefix = read.prefix }
 
 pub refuses-image-once : (g : Geometry) (queue root : PortState) (e f : ImageFault) → RefusesImage g queue root e → RefusesImage g queue root f → e ≡ f
 refuses-image-once g queue root (Limit a) (Limit b) r s = ap (λ (n : ℕ). Limit n) (r.0 ∙ sym s.0)
@@ -253,9 +256,9 @@ rows-same base (d ∷ ds) (e ∷ es) a b long once =
     let tail = rows-same base ds es a.1 b.1 (omega (arith, long)) (λ u v p q. once u v (inr p) (inr q)) in
     λ k. head k ∷ tail k
 
--- An image has one prefix and one top.
-pub read-same : (g : Geometry) (i : Shown) (ds es : List Descriptor) (top other : ℕ) → IsRead g i ds top → IsRead g i es other → (ds ≡ es) × (top ≡ other)
-read-same g i ds es top other a b =
+-- An image has one prefix.
+pub reaches-same : (g : Geometry) (i : Shown) (ds es : List Descriptor) → Reaches g i ds → Reaches g i es → ds ≡ es
+reaches-same g i ds es a b =
     let there = same-chains g i a.chains b.chains a.whole b.whole in
     let back = same-chains g i b.chains a.chains b.whole a.whole in
     let long : length ds ≡ length es = elim (cases_lt (length ds) (length es)) [
@@ -265,11 +268,18 @@ read-same g i ds es top other a b =
         | inr low ↦ omega (arith, high, low)
       ]
     ] in
+    rows-same i.base ds es a.prefix.row b.prefix.row long (λ d e p q.
+    let at = b.prefix.whole e q in
+    number-once g i a.chains d e a.whole (a.prefix.whole d p) (at.0, back.along e.queue e at.0 at.1))
+
+-- An image has one top.
+pub read-same : (g : Geometry) (i : Shown) (ds es : List Descriptor) (top other : ℕ) → IsRead g i ds top → IsRead g i es other → (ds ≡ es) × (top ≡ other)
+read-same g i ds es top other a b =
+    let there = same-chains g i a.chains b.chains a.whole b.whole in
+    let back = same-chains g i b.chains a.chains b.whole a.whole in
     let x = b.top_is.greatest top (shows-along g i a.chains b.chains top there a.top_is.shown) in
     let y = a.top_is.greatest other (shows-along g i b.chains a.chains other back b.top_is.shown) in (
-      rows-same i.base ds es a.prefix.row b.prefix.row long (λ d e p q.
-      let at = b.prefix.whole e q in
-      number-once g i a.chains d e a.whole (a.prefix.whole d p) (at.0, back.along e.queue e at.0 at.1)),
+      reaches-same g i ds es (read-reaches g i ds top a) (read-reaches g i es other b),
       omega (arith, x, y),
     )
 

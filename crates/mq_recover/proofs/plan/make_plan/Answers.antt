@@ -4,7 +4,7 @@ use Rattle.mq_blocks.specs.Blocks.{block_at}
 use Rattle.mq_blocks.specs.Drive.{PortState}
 use Rattle.mq_recover.specs.RecoverHomes.{writes_from}
 use Rattle.mq_recover.specs.declared.plan.Plan.{Plan}
-use Rattle.mq_recover.proofs.Images.{err-exact, read-refused}
+use Rattle.mq_recover.proofs.Images.{err-exact, read-reaches, reaches-refused}
 use Rattle.mq_recover.proofs.Plans.{plan-of}
 use Rattle.mq_recover.proofs.plan.make_plan.Goals as goal
 
@@ -25,4 +25,4 @@ returns-clause-ok g c =
 pub returns-clause-exact : goal.returns-clause-exact
 returns-clause-exact g c e refuses =
     let is = c.in_ok-found.ensures.ok in
-    absurd (read-refused c.args.geometry (g.P.Port.state c.args.queue.now) (g.P.Port.state c.args.root.now) is.ds _ e c.requires is.read refuses)
+    absurd (reaches-refused c.args.geometry (g.P.Port.state c.args.queue.now) (g.P.Port.state c.args.root.now) is.ds e c.requires (read-reaches _ _ _ _ is.read) refuses)

@@ -3,7 +3,7 @@ use Rattle.std.proofs.lemmas.Result.{err_from_is_err_and}
 use Rattle.mq_blocks.specs.Drive.{PortState}
 use Rattle.mq_recover.specs.Standing.{newest_of}
 use Rattle.mq_recover.specs.declared.standing.Standing.{Standing}
-use Rattle.mq_recover.proofs.Images.{err-exact, read-refused}
+use Rattle.mq_recover.proofs.Images.{err-exact, read-reaches, reaches-refused}
 use Rattle.mq_recover.proofs.RecoverChains.{base-of}
 use Rattle.mq_recover.proofs.Standings.{standing-of}
 use Rattle.mq_recover.proofs.standing.stands_through.Goals as goal
@@ -26,4 +26,4 @@ returns-clause-ok g c =
 pub returns-clause-exact : goal.returns-clause-exact
 returns-clause-exact g c e refuses =
     let is = c.in_ok-found.ensures.ok in
-    absurd (read-refused c.args.geometry (g.P.Port.state c.args.queue.now) (g.P.Port.state c.args.root.now) is.ds _ e c.requires is.read refuses)
+    absurd (reaches-refused c.args.geometry (g.P.Port.state c.args.queue.now) (g.P.Port.state c.args.root.now) is.ds e c.requires (read-reaches _ _ _ _ is.read) refuses)
