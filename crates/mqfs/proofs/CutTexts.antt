@@ -1,13 +1,13 @@
 -- How many lines of a text stand where the power of a port in memory goes off after so many events.
 use Rattle.std.proofs.Common.{◌≡◌, ◌<◌, ◌≤◌, ◌^◌, ℕ, zero, suc, ◌+◌, ◌-◌, List, [], length, min, Option, Some, None, inl, inr, refl, sym, ◌∙◌, ap, subst, arith}
-use Rattle.std.specs.Prelude.{Contains, Result, Err}
+use Rattle.std.specs.Prelude.{Contains, IfSome}
 use Rattle.std.proofs.lemmas.Bool.{cases_lt}
 use Rattle.mq_blocks.specs.Drive.{counted}
 use Rattle.mq_drive.specs.Emu.{emu_state, emu_faults, happened_of}
 use Rattle.mq_drive.specs.Steps.{Fault, PowerOff, CommandError, Gains}
 use Rattle.mq_drive.specs.declared.emu.EmuPort.{EmuPort}
 use Rattle.mq_drive.proofs.Faults.{off_limit, off_unlimited, no_error, command_error_is_none}
-use Rattle.mqfs.specs.Cuts.{events_of, IsCutCount, IsReached, IsPrefixAt}
+use Rattle.mqfs.specs.Cuts.{events_of, IsReached, IsPrefixAt}
 use Rattle.mqfs.specs.declared.text.item.BlockItem.{BlockItem}
 
 abbrev Lines : Type 0
@@ -38,7 +38,7 @@ happened-events p e m none counts is small =
     counted-small 0 e m (omega arith) (sym counts ∙ sym (p.events_counted none) ∙ is) (omega (arith, small))
 
 -- all lines stand where all of them were committed
-pub all_stand : (lines : Lines) (cut : Option ℕ) (p : EmuPort) → IsCutCount cut → (emu_state p).limit ≡ cut → (emu_state p).begins ≡ 0 → (emu_state p).events ≡ counted 0 (events_of lines (length lines)) → IsPrefixAt lines cut (length lines)
+pub all_stand : (lines : Lines) (cut : Option ℕ) (p : EmuPort) → IfSome cut (λ k. k < 2 ^ 63) → (emu_state p).limit ≡ cut → (emu_state p).begins ≡ 0 → (emu_state p).events ≡ counted 0 (events_of lines (length lines)) → IsPrefixAt lines cut (length lines)
 all_stand lines None p small limit none counts = refl
 all_stand lines (Some k) p small limit none counts =
     let most : happened_of p ≤ k = (p.power.limited k limit).0 in
@@ -46,7 +46,7 @@ all_stand lines (Some k) p small limit none counts =
     record { within = omega arith; ends = inl (omega (arith, e, most), λ less. absurd (omega (arith, less))) }
 
 -- where the power went off as many stand as are reached by its limit
-pub reached_stand : (lines : Lines) (cut : Option ℕ) (old : List Fault) (p : EmuPort) (e n : ℕ) → IsCutCount cut → (emu_state p).limit ≡ cut → (emu_state p).begins ≡ 0 → (emu_state p).events ≡ counted 0 e
+pub reached_stand : (lines : Lines) (cut : Option ℕ) (old : List Fault) (p : EmuPort) (e n : ℕ) → IfSome cut (λ k. k < 2 ^ 63) → (emu_state p).limit ≡ cut → (emu_state p).begins ≡ 0 → (emu_state p).events ≡ counted 0 e
     → Gains PowerOff old (emu_faults p) → IsReached lines e n → IsPrefixAt lines cut n
 reached_stand lines None old p e n small limit none counts gains reached = absurd (off_unlimited old p gains limit)
 reached_stand lines (Some k) old p e n small limit none counts gains reached =

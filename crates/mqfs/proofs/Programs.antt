@@ -1,16 +1,19 @@
 -- What is said, a piece after another, and what the end of a command tells.
-use Rattle.std.proofs.Common.{◌≡◌, ◌<◌, ◌≤◌, ℕ, zero, suc, ◌+◌, List, [], ◌∷◌, ◌++◌, length, take, map, get_or, true, Option, Some, None, refl, sym, ◌∙◌, ap, subst, arith, append_assoc, length-append}
+use Rattle.std.proofs.Common.{◌≡◌, ◌≤◌, ℕ, zero, suc, ◌+◌, List, [], ◌∷◌, ◌++◌, length, take, true, false, Bool, cond, Option, Some, None, refl, inl, inr, sym, ◌∙◌, ap, subst, arith, append_assoc, length-append}
 use Rattle.std.proofs.lemmas.Bool.{false≢true}
-use Rattle.std.specs.Prelude.{Result, Ok, Err, MatchResult, IfOk, IsErr, IsErrOf}
-use Rattle.std.proofs.lemmas.Slice.Eq.{bytes_eq-Decides}
-use Rattle.std.specs.Str.{bytes_eq}
+use Rattle.std.specs.Prelude.{Result, Ok, Err, MatchResult, IfErr, IfOk, IsErr, ◌⊎◌, nat_eq}
 use Rattle.mqfs.specs.Blocks.{IsBlockText, output_of}
-use Rattle.mqfs.specs.Program.{Said, output, form, memory, IsSaidOf, status_of, text_of, refusal_said, TakesWithin}
+use Rattle.mqfs.specs.Cuts.{IsPrefixAt}
+use Rattle.mqfs.specs.Program.{Words, AreBlocks, Said, usage, output, refused, fault, too_long, memory, memory_line, EndsWith, IsToSay, IsUnlessWanting, IsSaidOf, status_of, text_of, refusal_said, TakesWithin}
+use Rattle.mqfs.specs.Refusals.{RefusesText, IsRefused}
 use Rattle.mq_outside.specs.Outside.{Held, Holds}
 use Rattle.mqfs.specs.declared.text.item.BlockItem.{BlockItem}
+use Rattle.mqfs.specs.declared.text.refusal.BlockTextCause.{BlockTextCause}
 use Rattle.mqfs.specs.declared.text.refusal.BlockTextRefusal.{BlockTextRefusal}
-use Rattle.mqfs.specs.declared.text.refusal.BlockTextRefusal.TheVariants.{Form, OutOfMemory}
+use Rattle.mqfs.specs.declared.text.refusal.BlockTextRefusal.TheVariants.{At, OutOfMemory}
 use Rattle.mq_outside.specs.Outside.{AppendsPrefix, appended}
+use Rattle.mqfs.proofs.TextWhole.{good_or_refused}
+use Rattle.mqfs.proofs.Words.{one_command}
 
 pub match_result : {A E : Type 0} (r : Result A E) {P P' : A → Type 0} {Q Q' : E → Type 0} → MatchResult r P Q → ((x : A) → P x → P' x) → ((e : E) → Q e → Q' e) → MatchResult r P' Q'
 match_result (Ok x) holds p q = p x holds
@@ -50,23 +53,90 @@ prefix_longer old new first bytes prefix = (
 )
 
 -- what there is to say of bytes that were loaded
-pub said_output : {A : Type 0} (items : A → List ℕ) (o : Result A BlockTextRefusal) (ends : ℕ → List ℕ → Type 0) (told : Option Held) (name bytes : List ℕ) (f nf t nt : ℕ)
-    → IfOk o (λ v. (lines : List (List BlockItem)) × IsBlockText bytes lines × (items v ≡ output_of lines))
-    → (IsErrOf o Form → (lines : List (List BlockItem)) → IsBlockText bytes lines → ⊥)
-    → MatchResult o (λ v. ends 0 (items v)) (λ e. ends (status_of (refusal_said e)) (text_of [] (refusal_said e)))
+pub said_output :
+    {A : Type 0} (items : A → List ℕ) (o : Result A BlockTextRefusal) (ends : ℕ → List ℕ → Type 0) (told : Option Held) (name bytes : List ℕ) (cut : Option ℕ) (f nf t nt : ℕ)
+    → IfOk o (λ v. (lines : List (List BlockItem)) × (p : ℕ) × IsBlockText bytes lines × IsPrefixAt lines cut p × (items v ≡ output_of lines p))
+    → IfErr o (IsRefused (RefusesText bytes))
+    → MatchResult o (λ v. ends 0 (items v)) (λ e. ends (status_of (refusal_said e)) (text_of [] (refusal_said e)) ⊎ ends 6 memory_line)
     → Holds told name bytes → nf ≡ f → TakesWithin t nt
-    → (said : Said) × IsSaidOf said told name f nf t nt × ends (status_of said) (text_of name said)
-said_output items (Ok v) ends told name bytes f nf t nt ok none end holds same within =
-    (output ok.0, (bytes, holds, ok.1, same, within), subst (ends 0) ok.2 end)
-said_output items (Err Form) ends told name bytes f nf t nt ok none end holds same within =
-    (form, (bytes, holds, none refl, same, within), end)
-said_output items (Err OutOfMemory) ends told name bytes f nf t nt ok none end holds same within =
+    → (said : Said) × IsSaidOf said told name cut f nf t nt × ends (status_of said) (text_of name said)
+said_output items (Ok v) ends told name bytes cut f nf t nt ok bad end holds same within =
+    (output ok.0 ok.1, (bytes, holds, ok.2, ok.3, same, within), subst (ends 0) ok.4 end)
+said_output items (Err (At line cause)) ends told name bytes cut f nf t nt ok bad (inl end) holds same within =
+    (refused line cause, (bytes, holds, bad, same, within), end)
+said_output items (Err (At line cause)) ends told name bytes cut f nf t nt ok bad (inr end) holds same within =
+    (memory, same, end)
+said_output items (Err OutOfMemory) ends told name bytes cut f nf t nt ok bad (inl end) holds same within =
+    (memory, same, end)
+said_output items (Err OutOfMemory) ends told name bytes cut f nf t nt ok bad (inr end) holds same within =
     (memory, same, end)
 
--- a list of two words, of which the first is known
-pub two_words : {A : Type 0} (f : A → List ℕ) (xs : List A) (a b : A) (word : List ℕ) → 2 ≤ length xs → length xs < 3 → a ≡ get_or xs 0 a → b ≡ get_or xs 1 b → bytes_eq (f a) word ≡ true → map f xs ≡ word ∷ f b ∷ []
-two_words f [] a b word low high first second same = absurd (omega arith)
-two_words f (x ∷ []) a b word low high first second same = absurd (omega arith)
-two_words f (x ∷ y ∷ []) a b word low high first second same =
-    ap (λ (l : List ℕ). l ∷ f y ∷ []) (ap f (sym first) ∙ (bytes_eq-Decides (f a) word).0 same) ∙ ap (λ z. word ∷ f z ∷ []) (sym second)
-two_words f (x ∷ y ∷ z ∷ xs) a b word low high first second same = absurd (omega arith)
+-- ---- what a status tells
+
+wanting : (b : Bool) (result : ℕ) → result ≡ cond b 4 6 → (result ≡ 4) ⊎ (result ≡ 6)
+wanting true result e = inl e
+wanting false result e = inr e
+
+pub unless_wanting :
+    (status : ℕ) (text : List ℕ) (result : ℕ) (contents new_contents : Option (List ℕ)) (faults new_faults : ℕ) → EndsWith status text result contents new_contents faults new_faults
+    → IsUnlessWanting status result
+unless_wanting status text result contents new_contents faults new_faults (inl e) = inl e.0
+unless_wanting status text result contents new_contents faults new_faults (inr (inl e)) = inr (inl e.0)
+unless_wanting status text result contents new_contents faults new_faults (inr (inr e)) = inr (wanting (nat_eq status 4) result e.0)
+
+still_wanting : (wanted result : ℕ) → IsUnlessWanting 4 result → IsUnlessWanting wanted result
+still_wanting wanted result (inl e) = inr (inl e)
+still_wanting wanted result (inr e) = inr e
+
+still_memory : (wanted result : ℕ) → IsUnlessWanting 6 result → IsUnlessWanting wanted result
+still_memory wanted result (inl e) = inr (inr e)
+still_memory wanted result (inr e) = inr e
+
+-- a name holds one text
+one_held : (held : Held) (name bytes other : List ℕ) → held name ≡ Some bytes → held name ≡ Some other → bytes ≡ other
+one_held held name bytes other p q = let same : ◌≡◌ {A = Option (List ℕ)} (Some bytes) (Some other) = sym p ∙ q in cc
+
+module _ (held : Held) (name : List ℕ) (cut : Option ℕ) (bytes : List ℕ) (f nf t nt result : ℕ) (holds : held name ≡ Some bytes) where
+  done_of : (lines : List (List BlockItem)) → IsBlockText bytes lines → (said : Said) → IsSaidOf said (Some held) name cut f nf t nt → IsUnlessWanting (status_of said) result → IsUnlessWanting 0 result
+  done_of lines is usage says ends = absurd says
+  done_of lines is (output others p) says ends = ends
+  done_of lines is (refused line cause) says ends =
+      let same : bytes ≡ says.0 = one_held held name bytes says.0 holds says.1 in
+      absurd (good_or_refused bytes lines line cause is.spelled is.good (subst (λ (l : List ℕ). RefusesText l line cause) (sym same) says.2))
+  done_of lines is fault says ends = still_wanting 0 result ends
+  done_of lines is too_long says ends = still_wanting 0 result ends
+  done_of lines is memory says ends = still_memory 0 result ends
+
+  refused_of : (line : ℕ) (cause : BlockTextCause) → RefusesText bytes line cause → (said : Said) → IsSaidOf said (Some held) name cut f nf t nt → IsUnlessWanting (status_of said) result → IsUnlessWanting 2 result
+  refused_of line cause is usage says ends = absurd says
+  refused_of line cause is (output lines p) says ends =
+      let same : bytes ≡ says.0 = one_held held name bytes says.0 holds says.1 in
+      let text : IsBlockText bytes lines = subst (λ (l : List ℕ). IsBlockText l lines) (sym same) says.2 in
+      absurd (good_or_refused bytes lines line cause text.spelled text.good is)
+  refused_of line cause is (refused l c) says ends = ends
+  refused_of line cause is fault says ends = still_wanting 2 result ends
+  refused_of line cause is too_long says ends = still_wanting 2 result ends
+  refused_of line cause is memory says ends = still_memory 2 result ends
+
+module _ (words : Words) (told : Option Held) (f nf t nt status : ℕ) (text : List ℕ) (result : ℕ) (say : IsToSay words told f nf t nt status text) (ends : IsUnlessWanting status result)
+    (held : Held) (name : List ℕ) (cut pick : Option ℕ) (bytes : List ℕ) (are : AreBlocks words name cut pick) (tells : told ≡ Some held) (holds : held name ≡ Some bytes) where
+  -- what was to be said of the name and the cut that the words ask
+  asked : (said : Said) × IsSaidOf said (Some held) name cut f nf t nt × IsUnlessWanting (status_of said) result
+  asked = elim say [
+    | inl none ↦ absurd (none.0 name cut pick are)
+    | inr some ↦ (
+        let one = one_command words some.0 name some.1 cut some.2 pick some.4 are in (
+          some.3,
+          subst (λ (c : Option ℕ). IsSaidOf some.3 (Some held) name c f nf t nt) one.1
+              (subst (λ (n : List ℕ). IsSaidOf some.3 (Some held) n some.1 f nf t nt) one.0
+              (subst (λ (o : Option Held). IsSaidOf some.3 o some.0 some.1 f nf t nt) tells some.5)),
+          subst (λ (s : ℕ). IsUnlessWanting s result) some.6 ends,
+        )
+        )
+  ]
+
+  pub done_where : (lines : List (List BlockItem)) → IsBlockText bytes lines → IsUnlessWanting 0 result
+  done_where lines is = done_of held name cut bytes f nf t nt result holds lines is asked.0 asked.1 asked.2
+
+  pub refused_where : (line : ℕ) (cause : BlockTextCause) → RefusesText bytes line cause → IsUnlessWanting 2 result
+  refused_where line cause is = refused_of held name cut bytes f nf t nt result holds line cause is asked.0 asked.1 asked.2

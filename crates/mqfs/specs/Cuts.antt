@@ -1,5 +1,5 @@
 -- What a refusal in the middle of a commit leaves, and how many lines of a text then stand.
-use Rattle.std.specs.Prelude.{◌≡◌, ◌<◌, ◌≤◌, ◌⊎◌, ℕ, zero, suc, ◌+◌, ◌-◌, ◌*◌, ◌%◌, ◌^◌, List, [], ◌∷◌, length, false, Option, Some, None, slice_index_or}
+use Rattle.std.specs.Prelude.{◌≡◌, ◌<◌, ◌≤◌, ◌⊎◌, ℕ, zero, suc, ◌+◌, ◌-◌, ◌*◌, ◌%◌, List, [], ◌∷◌, length, false, Option, Some, None, slice_index_or}
 use Rattle.mq_nvme.specs.Says.{says}
 use Rattle.mq_blocks.specs.Blocks.{block_at}
 use Rattle.mq_blocks.specs.Drive.{PortState, PortImage, IsImage, IsFlushed, IsCertain, counted, depth, index_of, staged_end, after_flush, after_ring, after_store_head}
@@ -22,11 +22,6 @@ line_events line = 2 * sets_in line + 6
 abbrev pub events_of : List (List BlockItem) → ℕ → ℕ
 events_of lines zero = 0
 events_of lines (suc n) = events_of lines n + line_events (line_at lines n)
-
--- where a cut is asked for, after a number of events below 2^63
-abbrev pub IsCutCount : Option ℕ → Type 0
-IsCutCount None = Unit {0}
-IsCutCount (Some events) = events < 2 ^ 63
 
 -- After so many events p lines stand: those whose events end by then, or one more where the next
 -- line's end with the next event.

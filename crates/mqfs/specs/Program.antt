@@ -1,30 +1,49 @@
 -- What the words of a command ask, what is said of it, and with which status it ends.
-use Rattle.std.specs.Prelude.{◌≡◌, ◌<◌, ◌≤◌, ◌⊎◌, ℕ, ◌+◌, List, [], ◌∷◌, ◌++◌, Option, nat_eq, if◌then◌else◌, codes}
+use Rattle.std.specs.Prelude.{◌≡◌, ◌<◌, ◌≤◌, ◌⊎◌, ℕ, ◌+◌, ◌^◌, List, [], ◌∷◌, ◌++◌, Option, Some, None, IfSome, nat_eq, if◌then◌else◌, codes}
 use Rattle.mqfs.specs.Blocks.{IsBlockText, output_of}
+use Rattle.mqfs.specs.Cuts.{IsPrefixAt}
+use Rattle.mqfs.specs.Refusals.{RefusesText, cause_name}
+use Rattle.mqfs.specs.Text.{number_text}
 use Rattle.mq_outside.specs.Outside.{Held, Holds, HoldsOver, Rose, appended, AppendsPrefix, count_end, load_limit}
 use Rattle.mqfs.specs.declared.text.item.BlockItem.{BlockItem}
+use Rattle.mqfs.specs.declared.text.refusal.BlockTextCause.{BlockTextCause}
 use Rattle.mqfs.specs.declared.text.refusal.BlockTextRefusal.{BlockTextRefusal}
-use Rattle.mqfs.specs.declared.text.refusal.BlockTextRefusal.TheVariants.{Form, OutOfMemory}
+use Rattle.mqfs.specs.declared.text.refusal.BlockTextRefusal.TheVariants.{At, OutOfMemory}
 
 -- the words after the program's name
 abbrev pub Words : Type 0
 Words = List (List ℕ)
 
--- the words are `blocks` and this name
-abbrev pub AreBlocks : Words → List ℕ → Type 0
-AreBlocks words name = words ≡ codes "blocks" ∷ name ∷ []
+-- an option and its number, where it is asked
+abbrev pub option_words : List ℕ → Option ℕ → Words
+option_words option None = []
+option_words option (Some n) = option ∷ number_text n ∷ []
+
+-- the options `--cut K` and `--pick S`, each at most once and in this order
+abbrev pub options_of : Option ℕ → Option ℕ → Words
+options_of cut pick = option_words (codes "--cut") cut ++ option_words (codes "--pick") pick
+
+-- the words are these options, with numbers below 2^63
+abbrev pub AreOptions : Words → Option ℕ → Option ℕ → Type 0
+AreOptions words cut pick = (words ≡ options_of cut pick) × IfSome cut (λ n. n < 2 ^ 63) × IfSome pick (λ n. n < 2 ^ 63)
+
+-- the words are `blocks`, this name and these options
+abbrev pub AreBlocks : Words → List ℕ → Option ℕ → Option ℕ → Type 0
+AreBlocks words name cut pick =
+    (words ≡ codes "blocks" ∷ name ∷ options_of cut pick) × IfSome cut (λ n. n < 2 ^ 63) × IfSome pick (λ n. n < 2 ^ 63)
 
 -- the words are no command
 abbrev pub AreUnknown : Words → Type 0
-AreUnknown words = (name : List ℕ) → AreBlocks words name → ⊥
+AreUnknown words = (name : List ℕ) (cut pick : Option ℕ) → AreBlocks words name cut pick → ⊥
 
 -- ---- the lines that are no output
 
 abbrev pub usage_line : List ℕ
 usage_line = codes "usage: mqfs blocks|format|run|recover|ls|cat|gen|dump\n"
 
-abbrev pub form_line : List ℕ
-form_line = codes "blocks Form\n"
+-- as `blocks line 1: Block`
+abbrev pub refused_line : ℕ → BlockTextCause → List ℕ
+refused_line line cause = codes "blocks line " ++ (number_text line ++ (codes ": " ++ (cause_name cause ++ 10 ∷ [])))
 
 abbrev pub memory_line : List ℕ
 memory_line = codes "memory\n"
@@ -49,43 +68,40 @@ TakesWithin old new = (old ≤ new) × (new ≤ old + load_limit)
 abbrev pub TakesOver : ℕ → ℕ → Type 0
 TakesOver old new = (old + load_limit < new) ⊎ (new ≡ count_end)
 
--- the bytes spell no text that is in the form and frees no block
-abbrev pub HasNoForm : List ℕ → Type 0
-HasNoForm bytes = (lines : List (List BlockItem)) → IsBlockText bytes lines → ⊥
-
 -- what there is to say
 pub data Said : Type 0 where
   usage : Said
-  output : List (List BlockItem) → Said
-  form : Said
+  output : List (List BlockItem) → ℕ → Said
+  refused : ℕ → BlockTextCause → Said
   fault : Said
   too_long : Said
   memory : Said
 
 abbrev pub status_of : Said → ℕ
 status_of usage = 1
-status_of (output lines) = 0
-status_of form = 2
+status_of (output lines p) = 0
+status_of (refused line cause) = 2
 status_of fault = 4
 status_of too_long = 4
 status_of memory = 6
 
 abbrev pub text_of : List ℕ → Said → List ℕ
 text_of name usage = usage_line
-text_of name (output lines) = output_of lines
-text_of name form = form_line
+text_of name (output lines p) = output_of lines p
+text_of name (refused line cause) = refused_line line cause
 text_of name fault = fault_line name
 text_of name too_long = too_long_line name
 text_of name memory = memory_line
 
--- what is said of `blocks NAME`, by what the name holds and by the counts of the files
-abbrev pub IsSaidOf : Said → Option Held → (name : List ℕ) → (faults new_faults taken new_taken : ℕ) → Type 0
-IsSaidOf usage told name faults new_faults taken new_taken = ⊥
-IsSaidOf (output lines) told name faults new_faults taken new_taken = (bytes : List ℕ) × Holds told name bytes × IsBlockText bytes lines × (new_faults ≡ faults) × TakesWithin taken new_taken
-IsSaidOf form told name faults new_faults taken new_taken = (bytes : List ℕ) × Holds told name bytes × HasNoForm bytes × (new_faults ≡ faults) × TakesWithin taken new_taken
-IsSaidOf fault told name faults new_faults taken new_taken = Rose faults new_faults
-IsSaidOf too_long told name faults new_faults taken new_taken = HoldsOver told name × (new_faults ≡ faults) × TakesOver taken new_taken
-IsSaidOf memory told name faults new_faults taken new_taken = new_faults ≡ faults
+-- what is said of `blocks NAME` with a cut, by what the name holds and by the counts of the files
+abbrev pub IsSaidOf : Said → Option Held → (name : List ℕ) → (cut : Option ℕ) → (faults new_faults taken new_taken : ℕ) → Type 0
+IsSaidOf usage told name cut faults new_faults taken new_taken = ⊥
+IsSaidOf (output lines p) told name cut faults new_faults taken new_taken =
+    (bytes : List ℕ) × Holds told name bytes × IsBlockText bytes lines × IsPrefixAt lines cut p × (new_faults ≡ faults) × TakesWithin taken new_taken
+IsSaidOf (refused line cause) told name cut faults new_faults taken new_taken = (bytes : List ℕ) × Holds told name bytes × RefusesText bytes line cause × (new_faults ≡ faults) × TakesWithin taken new_taken
+IsSaidOf fault told name cut faults new_faults taken new_taken = Rose faults new_faults
+IsSaidOf too_long told name cut faults new_faults taken new_taken = HoldsOver told name × (new_faults ≡ faults) × TakesOver taken new_taken
+IsSaidOf memory told name cut faults new_faults taken new_taken = new_faults ≡ faults
 
 -- A text was to be said with a status. It was, or the sink failed, or memory was wanting, which
 -- doesn't go before 4.
@@ -95,16 +111,16 @@ EndsWith status text result contents new_contents faults new_faults =
     ⊎ (((result ≡ 4) × AppendsPrefix contents new_contents text × Rose faults new_faults)
     ⊎ ((result ≡ if nat_eq status 4 then 4 else 6) × AppendsPrefix contents new_contents text × (new_faults ≡ faults)))
 
--- what is said of a refused block text
+-- what is said of a block text that is not read
 abbrev pub refusal_said : BlockTextRefusal → Said
-refusal_said Form = form
+refusal_said (At line cause) = refused line cause
 refusal_said OutOfMemory = memory
 
 -- what there is to say to the words, and with which status, by the counts of the files
 abbrev pub IsToSay : Words → Option Held → (faults new_faults taken new_taken status : ℕ) → List ℕ → Type 0
 IsToSay words told faults new_faults taken new_taken status text =
     (AreUnknown words × (status ≡ 1) × (text ≡ usage_line) × (new_faults ≡ faults) × (new_taken ≡ taken))
-    ⊎ ((name : List ℕ) × (said : Said) × AreBlocks words name × IsSaidOf said told name faults new_faults taken new_taken × (status ≡ status_of said) × (text ≡ text_of name said))
+    ⊎ ((name : List ℕ) × (cut : Option ℕ) × (pick : Option ℕ) × (said : Said) × AreBlocks words name cut pick × IsSaidOf said told name cut faults new_faults taken new_taken × (status ≡ status_of said) × (text ≡ text_of name said))
 
 -- ---- what each status tells
 
@@ -116,16 +132,20 @@ IsStatus s = (s ≡ 0) ⊎ ((s ≡ 1) ⊎ ((s ≡ 2) ⊎ ((s ≡ 4) ⊎ (s ≡ 6
 abbrev pub IsUnlessWanting : ℕ → ℕ → Type 0
 IsUnlessWanting s result = (result ≡ s) ⊎ ((result ≡ 4) ⊎ (result ≡ 6))
 
--- The words are `blocks` and a name, which holds a text in the form. All its output was said.
+-- The words are `blocks`, a name that holds a block text, and options. What was said is the output
+-- of the lines that stand after the cut.
 abbrev pub IsDone : Words → Option Held → (contents new_contents : Option (List ℕ)) → Type 0
 IsDone words told contents new_contents =
-    (name : List ℕ) × (bytes : List ℕ) × (lines : List (List BlockItem)) × AreBlocks words name × Holds told name bytes × IsBlockText bytes lines × (new_contents ≡ appended contents (output_of lines))
+    (name : List ℕ) × (cut : Option ℕ) × (pick : Option ℕ) × (bytes : List ℕ) × (lines : List (List BlockItem)) × (p : ℕ)
+    × AreBlocks words name cut pick × Holds told name bytes × IsBlockText bytes lines × IsPrefixAt lines cut p × (new_contents ≡ appended contents (output_of lines p))
 
--- The words are `blocks` and a name, which holds no text in the form. The line of that was said.
-abbrev pub IsNoForm : Words → Option Held → (contents new_contents : Option (List ℕ)) → Type 0
-IsNoForm words told contents new_contents =
-    (name : List ℕ) × (bytes : List ℕ) × AreBlocks words name × Holds told name bytes × HasNoForm bytes × (new_contents ≡ appended contents form_line)
+-- The words are `blocks`, a name that holds bytes that are refused, and options. The line of that
+-- was said.
+abbrev pub IsRefusedText : Words → Option Held → (contents new_contents : Option (List ℕ)) → Type 0
+IsRefusedText words told contents new_contents =
+    (name : List ℕ) × (cut : Option ℕ) × (pick : Option ℕ) × (bytes : List ℕ) × (line : ℕ) × (cause : BlockTextCause)
+    × AreBlocks words name cut pick × Holds told name bytes × RefusesText bytes line cause × (new_contents ≡ appended contents (refused_line line cause))
 
--- the words are `blocks` and a name, which holds more bytes than one load gives
+-- the words are `blocks`, a name that holds more bytes than one load gives, and options
 abbrev pub IsTooLong : Words → Option Held → (taken new_taken : ℕ) → Type 0
-IsTooLong words told taken new_taken = (name : List ℕ) × AreBlocks words name × HoldsOver told name × TakesOver taken new_taken
+IsTooLong words told taken new_taken = (name : List ℕ) × (cut : Option ℕ) × (pick : Option ℕ) × AreBlocks words name cut pick × HoldsOver told name × TakesOver taken new_taken

@@ -1,5 +1,5 @@
 -- Block texts. A line is one transaction, and its items are separated by one space.
-use Rattle.std.specs.Prelude.{◌≡◌, ◌≢◌, ◌≤◌, ◌⊎◌, ℕ, ◌+◌, ◌/◌, ◌%◌, List, [], ◌∷◌, ◌++◌, nat_lt, if◌then◌else◌, codes}
+use Rattle.std.specs.Prelude.{◌≡◌, ◌≢◌, ◌<◌, ◌≤◌, ◌⊎◌, ℕ, ◌+◌, ◌^◌, ◌/◌, ◌%◌, List, [], ◌∷◌, ◌++◌, nat_lt, if◌then◌else◌, codes}
 use Rattle.std.specs.Fmt.{decimal}
 use Rattle.mqfs.specs.declared.text.item.BlockItem.{BlockItem}
 use Rattle.mqfs.specs.declared.text.item.BlockItem.TheVariants.{Set, Free}
@@ -54,6 +54,11 @@ abbrev pub block_of : BlockItem → ℕ
 block_of (Set b v) = b
 block_of (Free b) = b
 
+-- an item in the form, which may name any block below 2^64
+abbrev pub HasForm : BlockItem → Type 0
+HasForm (Set b v) = (b < 2 ^ 64) × (v ≤ 255)
+HasForm (Free b) = b < 2 ^ 64
+
 -- block texts name the blocks up to 255 alone
 abbrev pub IsGoodItem : BlockItem → Type 0
 IsGoodItem (Set b v) = (b ≤ 255) × (v ≤ 255)
@@ -94,17 +99,12 @@ places_of (l ∷ ls) = sets_in l + 1 + places_of ls
 abbrev pub IsGoodText : List (List BlockItem) → Type 0
 IsGoodText lines = AreGoodLines lines × (places_of lines ≤ 1024)
 
+-- no item frees a block
 abbrev pub AreSets : List BlockItem → Type 0
 AreSets [] = Unit {0}
 AreSets (Set b v ∷ is) = AreSets is
 AreSets (Free b ∷ is) = ⊥
 
--- a good item that sets a block
-abbrev pub IsGoodSet : BlockItem → Type 0
-IsGoodSet (Set b v) = (b ≤ 255) × (v ≤ 255)
-IsGoodSet (Free b) = ⊥
-
--- no item frees a block
 abbrev pub HasSetsOnly : List (List BlockItem) → Type 0
 HasSetsOnly [] = Unit {0}
 HasSetsOnly (l ∷ ls) = AreSets l × HasSetsOnly ls

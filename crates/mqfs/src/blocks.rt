@@ -1,5 +1,5 @@
 // A block text is run: committed on a fresh drive, cut from power, recovered, and printed.
-ghost use Rattle.std.specs.Prelude.{◌≡◌, ◌<◌, ◌≤◌, ◌+◌, ◌||◌, ℕ, List, [], ◌∷◌, length, IfOk, IsErrOf, Some, None, is_some, slice_get, slice_index_or};
+ghost use Rattle.std.specs.Prelude.{◌≡◌, ◌<◌, ◌≤◌, ◌+◌, ℕ, List, [], ◌∷◌, length, ◌^◌, IfErr, IfOk, IfSome, MatchResult, Some, None, is_some, slice_get, slice_index_or};
 ghost use Rattle.mq_blocks.specs.Drive.{PortImage as CutImage};
 ghost use Rattle.mq_blocks.specs.Geometry.{homes_of, queues_of};
 ghost use Rattle.mq_blocks.specs.Journal.{shown};
@@ -7,14 +7,17 @@ ghost use Rattle.mq_nvme.specs.Says.{says};
 ghost use Rattle.mq_blocks.specs.Drive.{IsQuiet};
 ghost use Rattle.mq_blocks.specs.Machine.{Map};
 ghost use Rattle.mq_drive.specs.Start.{IsRole, IsImageOf, IsPortOf, area_size_of, homes_size_of, start_of};
-ghost use Rattle.mq_drive.specs.Emu.{emu_state};
+ghost use Rattle.mq_drive.specs.Emu.{emu_state, emu_faults};
 ghost use Rattle.mq_drive.specs.Roles.{slots_of};
 ghost use Rattle.mq_drive.specs.declared.role.Role.TheVariants.{Queue, Root};
 ghost use Rattle.mqfs.specs.Commits.{AllBelow, ShowsMap};
 ghost use Rattle.mqfs.specs.Fresh.{IsTextGeometry, IsFresh};
-ghost use Rattle.mqfs.specs.Lines.{map_after, set_in};
-ghost use Rattle.mqfs.specs.Text.{HasSetsOnly, IsGoodText};
+ghost use Rattle.mqfs.specs.Lines.{map_after};
+ghost use Rattle.mqfs.specs.Text.{IsGoodText};
 ghost use Rattle.mqfs.specs.Blocks.{IsBlockText, output_of};
+ghost use Rattle.mqfs.specs.Cuts.{IsPrefixAt};
+ghost use Rattle.mqfs.specs.declared.text.refusal.BlockTextCause.{BlockTextCause};
+ghost use Rattle.mqfs.specs.Refusals.{IsRefusal, IsRefused, RefusesText};
 ghost use Rattle.mqfs.specs.Live.{HoldsMap};
 
 use crate::commit::{TextRefusal, commit_text};
@@ -26,6 +29,8 @@ use mq_nvme::Entry;
 use mq_recover::{ImageFault, RecoverRefusal, recover};
 use std::alloc::Global;
 
+#[cfg(test)]
+mod cuts;
 #[cfg(test)]
 mod tests;
 
@@ -97,7 +102,7 @@ fn commit_fresh(
     requires geometry { IsTextGeometry geometry }
     requires good { IsGoodText text.now }
     requires below { AllBelow (homes_of geometry) text.now }
-    requires cut { IsCutCount cut }
+    requires cut { IfSome cut (λ k. k < 2 ^ 63) }
     ensures shows { IfOk result (λ r. (p : ℕ) × IsPrefixAt text.now cut p × ShowsMap geometry (shown says geometry (r.0 ∷ []) r.1) p (map_after text.now p)) }
     ensures queue { IfOk result (λ r. IsImageOf geometry (Queue 0) r.0) }
     ensures root { IfOk result (λ r. IsImageOf geometry Root r.1) }
@@ -192,7 +197,7 @@ fn run_text(
     pick: u64,
 ) -> Result<Vec<u8>, OutOfMemory>
     requires good { IsGoodText text.now }
-    requires cut { IsCutCount cut }
+    requires cut { IfSome cut (λ k. k < 2 ^ 63) }
     ensures { IfOk result (λ v. (p : ℕ) × IsPrefixAt text.now cut p × (v.items ≡ output_of text.now p)) }
 {
     let geometry = text_geometry();
@@ -203,11 +208,20 @@ fn run_text(
     print_blocks(alloc, prefix, &live)
 }
 
-/// What `mqfs blocks` prints of the bytes of a block text.
-pub fn blocks_output(alloc: Global, bytes: &[u8]) -> Result<Vec<u8>, BlockTextRefusal>
-    ensures ok { IfOk result (λ v. (lines : List (List BlockItem)) × IsBlockText bytes.now lines × (v.items ≡ output_of lines)) }
-    ensures form { IsErrOf result BlockTextRefusal.Form → (lines : List (List BlockItem)) → IsBlockText bytes.now lines → ⊥ }
+/// What `mqfs blocks` prints of the bytes of a block text, where the power goes off after so many
+/// events. What the cut then leaves of what is uncertain follows from `pick`.
+pub fn blocks_output(
+    alloc: Global,
+    bytes: &[u8],
+    cut: Option<u64>,
+    pick: u64,
+) -> Result<Vec<u8>, BlockTextRefusal>
+    requires cut { IfSome cut (λ k. k < 2 ^ 63) }
+    ensures ok { IfOk result (λ v. (lines : List (List BlockItem)) × (p : ℕ) × IsBlockText bytes.now lines × IsPrefixAt lines cut p × (v.items ≡ output_of lines p)) }
+    ensures refused { IfErr result (IsRefused (RefusesText bytes.now)) }
+    ensures exact { (line : ℕ) (cause : BlockTextCause) → RefusesText bytes.now line cause → IsRefusal result line cause }
+    ensures only { (lines : List (List BlockItem)) → IsBlockText bytes.now lines → MatchResult result (λ _. Unit {0}) (λ e. e ≡ BlockTextRefusal.OutOfMemory) }
 {
     let text = read_block_text(alloc, bytes)?;
-    Ok(run_text(alloc, &text)?)
+    Ok(run_text(alloc, &text, cut, pick)?)
 }

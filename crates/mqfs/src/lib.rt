@@ -13,4 +13,7 @@ mod text;
 
 pub use commit::{TextRefusal, commit_text};
 pub use program::mqfs;
-pub use text::{BlockItem, BlockLine, BlockText, BlockTextRefusal, print_blocks, read_block_text};
+pub use text::{
+    BlockItem, BlockLine, BlockText, BlockTextCause, BlockTextRefusal, print_blocks,
+    read_block_text,
+};

@@ -1,20 +1,25 @@
 // The words of a command, and what is said of it.
-ghost use Rattle.std.specs.Prelude.{◌≡◌, ◌≢◌, ◌⊎◌, ◌++◌, ◌∷◌, [], ℕ, List, IfOk, IsErrOf, MatchResult, Some, map, nat_eq, if◌then◌else◌};
+ghost use Rattle.std.specs.Prelude.{◌≡◌, ◌≢◌, ◌⊎◌, ◌++◌, ◌∷◌, [], ◌<◌, ◌^◌, ℕ, List, IfOk, IfSome, IsErrOf, MatchResult, Option, Some, map, nat_eq, if◌then◌else◌};
 ghost use Rattle.std.specs.String.{string_bytes};
 ghost use Rattle.mqfs.specs.Blocks.{IsBlockText, output_of};
+ghost use Rattle.mqfs.specs.declared.text.refusal.BlockTextCause.{BlockTextCause};
+ghost use Rattle.mqfs.specs.Refusals.{RefusesText};
 ghost use Rattle.mq_outside.specs.Outside.{AppendsPrefix, Held, PutCause, Rose, appended};
-ghost use Rattle.mqfs.specs.Program.{AreBlocks, AreUnknown, EndsWith, HasNoForm, IsDone, IsNoForm, IsSaidOf, IsStatus, IsToSay, IsTooLong, IsUnlessWanting, Said, TakesWithin, named_line, refusal_said, status_of, text_of, usage_line};
+ghost use Rattle.mqfs.specs.Program.{AreBlocks, AreUnknown, EndsWith, IsDone, IsRefusedText, IsSaidOf, IsStatus, IsToSay, IsTooLong, IsUnlessWanting, Said, TakesWithin, memory_line, named_line, refusal_said, refused_line, status_of, text_of, usage_line};
 
+mod words;
+
+use self::words::{BlocksCommand, read_blocks};
 use crate::blocks::blocks_output;
-use crate::text::{BlockItem, BlockTextRefusal};
+use crate::text::{BlockItem, BlockTextCause, BlockTextRefusal};
 use mq_outside::{Files, LoadRefusal, PutRefusal, Sink, put_all};
-use std::alloc::Global;
+use std::alloc::{AllocError, Global};
 
 const DONE: u8 = 0;
 
 const USAGE: u8 = 1;
 
-const FORM: u8 = 2;
+const REFUSED: u8 = 2;
 
 const FAULT: u8 = 4;
 
@@ -61,33 +66,59 @@ fn say_named<K: Sink>(first: &[u8], name: &[u8], out: &mut K) -> u8
     ended(FAULT, put_named(out, first, name))
 }
 
-// Says why a block text is refused.
-fn say_refusal<K: Sink>(refusal: BlockTextRefusal, out: &mut K) -> u8
-    ensures { EndsWith (status_of (refusal_said refusal)) (text_of [] (refusal_said refusal)) result (K.contents out.old) (K.contents out.new) (K.faults out.old) (K.faults out.new) }
+// The line of a text that is refused.
+fn refusal_text(alloc: Global, line: u32, cause: BlockTextCause) -> Result<String, AllocError>
+    ensures { IfOk result (λ s. string_bytes s ≡ refused_line line cause) }
+{
+    let name = cause.name();
+    format!(in alloc; "blocks line {line}: {name}\n")
+}
+
+// Says why a block text is refused, or that memory was not to be had for that.
+fn say_refused<K: Sink>(alloc: Global, line: u32, cause: BlockTextCause, out: &mut K) -> u8
+    ensures { EndsWith 2 (refused_line line cause) result (K.contents out.old) (K.contents out.new) (K.faults out.old) (K.faults out.new) ⊎ EndsWith 6 memory_line result (K.contents out.old) (K.contents out.new) (K.faults out.old) (K.faults out.new) }
+{
+    match refusal_text(alloc, line, cause) {
+        Ok(text) => say(REFUSED, text.as_bytes(), out),
+        Err(_) => say(NO_MEMORY, b"memory\n", out),
+    }
+}
+
+// Says why a block text is not read, or that memory was not to be had for that.
+fn say_refusal<K: Sink>(alloc: Global, refusal: BlockTextRefusal, out: &mut K) -> u8
+    ensures { EndsWith (status_of (refusal_said refusal)) (text_of [] (refusal_said refusal)) result (K.contents out.old) (K.contents out.new) (K.faults out.old) (K.faults out.new) ⊎ EndsWith 6 memory_line result (K.contents out.old) (K.contents out.new) (K.faults out.old) (K.faults out.new) }
 {
     match refusal {
-        BlockTextRefusal::Form => say(FORM, b"blocks Form\n", out),
+        BlockTextRefusal::At { line, cause } => say_refused(alloc, line, cause, out),
         BlockTextRefusal::OutOfMemory => say(NO_MEMORY, b"memory\n", out),
     }
 }
 
-// Says what the bytes of a block text come to.
-fn say_output<K: Sink>(output: Result<Vec<u8>, BlockTextRefusal>, out: &mut K) -> u8
-    ensures { MatchResult output (λ v. EndsWith 0 v.items result (K.contents out.old) (K.contents out.new) (K.faults out.old) (K.faults out.new)) (λ e. EndsWith (status_of (refusal_said e)) (text_of [] (refusal_said e)) result (K.contents out.old) (K.contents out.new) (K.faults out.old) (K.faults out.new)) }
+// Says what the bytes of a block text come to, or that memory was not to be had.
+fn say_output<K: Sink>(alloc: Global, output: Result<Vec<u8>, BlockTextRefusal>, out: &mut K) -> u8
+    ensures { MatchResult output (λ v. EndsWith 0 v.items result (K.contents out.old) (K.contents out.new) (K.faults out.old) (K.faults out.new)) (λ e. EndsWith (status_of (refusal_said e)) (text_of [] (refusal_said e)) result (K.contents out.old) (K.contents out.new) (K.faults out.old) (K.faults out.new) ⊎ EndsWith 6 memory_line result (K.contents out.old) (K.contents out.new) (K.faults out.old) (K.faults out.new)) }
 {
     match output {
         Ok(text) => say(DONE, &text, out),
-        Err(refusal) => say_refusal(refusal, out),
+        Err(refusal) => say_refusal(alloc, refusal, out),
     }
 }
 
-// Runs `blocks NAME`.
-fn blocks<F: Files, K: Sink>(alloc: Global, name: &str, files: &mut F, out: &mut K) -> u8
-    ensures ends { (said : Said) × IsSaidOf said (F.told files.old) name.now (F.faults files.old) (F.faults files.new) (F.taken files.old) (F.taken files.new) × EndsWith (status_of said) (text_of name.now said) result (K.contents out.old) (K.contents out.new) (K.faults out.old) (K.faults out.new) }
+// Runs `blocks NAME`, with a cut or none.
+fn blocks<F: Files, K: Sink>(
+    alloc: Global,
+    name: &str,
+    cut: Option<u64>,
+    pick: u64,
+    files: &mut F,
+    out: &mut K,
+) -> u8
+    requires cut { IfSome cut (λ k. k < 2 ^ 63) }
+    ensures ends { (said : Said) × IsSaidOf said (F.told files.old) name.now cut (F.faults files.old) (F.faults files.new) (F.taken files.old) (F.taken files.new) × EndsWith (status_of said) (text_of name.now said) result (K.contents out.old) (K.contents out.new) (K.faults out.old) (K.faults out.new) }
     ensures told { F.told files.new ≡ F.told files.old }
 {
     match files.load(alloc, name) {
-        Ok(bytes) => say_output(blocks_output(alloc, &bytes), out),
+        Ok(bytes) => say_output(alloc, blocks_output(alloc, &bytes, cut, pick), out),
         Err(LoadRefusal::Failed) => say_named(b"fault load ", name.as_bytes(), out),
         Err(LoadRefusal::TooLong) => say_named(b"too long ", name.as_bytes(), out),
         Err(LoadRefusal::OutOfMemory) => say(NO_MEMORY, b"memory\n", out),
@@ -99,27 +130,30 @@ fn run<F: Files, K: Sink>(alloc: Global, words: &[String], files: &mut F, out: &
     ensures ends { (status : ℕ) × (text : List ℕ) × IsToSay (map string_bytes words.now) (F.told files.old) (F.faults files.old) (F.faults files.new) (F.taken files.old) (F.taken files.new) status text × EndsWith status text result (K.contents out.old) (K.contents out.new) (K.faults out.old) (K.faults out.new) }
     ensures told { F.told files.new ≡ F.told files.old }
 {
-    match words {
-        [command, name] if command.as_str() == "blocks" => blocks(alloc, name, files, out),
-        _ => say(USAGE, USAGE_LINE, out),
+    match read_blocks(words) {
+        Some(BlocksCommand { name, options }) => {
+            let pick = options.pick.unwrap_or(0);
+            blocks(alloc, name, options.cut, pick, files, out)
+        }
+        None => say(USAGE, USAGE_LINE, out),
     }
 }
 
 /// The program: runs the command of the words, which are those after its name, over files and an
-/// output. The status is 0 for done, 1 for words that are no command, 2 for a text that is not in
-/// the form, 4 for a fault of a file or the output or a file that is too long, and 6 for want of
+/// output. The status is 0 for done, 1 for words that are no command, 2 for a block text that is
+/// refused, 4 for a fault of a file or the output or a file that is too long, and 6 for want of
 /// memory.
 pub fn mqfs<F: Files, K: Sink>(alloc: Global, words: &[String], files: &mut F, out: &mut K) -> u8
     ensures status { IsStatus result }
-    // The output is that of the text that the name holds.
+    // The output is that of the lines that stand of the text that the name holds.
     ensures done { result ≡ 0 → IsDone (map string_bytes words.now) (F.told files.old) (K.contents out.old) (K.contents out.new) }
-    ensures done_where { (held : Held) (name bytes : List ℕ) (lines : List (List BlockItem)) → AreBlocks (map string_bytes words.now) name → F.told files.old ≡ Some held → held name ≡ Some bytes → IsBlockText bytes lines → IsUnlessWanting 0 result }
+    ensures done_where { (held : Held) (name : List ℕ) (cut pick : Option ℕ) (bytes : List ℕ) (lines : List (List BlockItem)) → AreBlocks (map string_bytes words.now) name cut pick → F.told files.old ≡ Some held → held name ≡ Some bytes → IsBlockText bytes lines → IsUnlessWanting 0 result }
     // The words are no command.
     ensures usage { result ≡ 1 → AreUnknown (map string_bytes words.now) × (K.contents out.new ≡ appended (K.contents out.old) usage_line) × (F.taken files.new ≡ F.taken files.old) }
     ensures usage_where { AreUnknown (map string_bytes words.now) → IsUnlessWanting 1 result }
-    // The name holds no text in the form.
-    ensures form { result ≡ 2 → IsNoForm (map string_bytes words.now) (F.told files.old) (K.contents out.old) (K.contents out.new) }
-    ensures form_where { (held : Held) (name bytes : List ℕ) → AreBlocks (map string_bytes words.now) name → F.told files.old ≡ Some held → held name ≡ Some bytes → HasNoForm bytes → IsUnlessWanting 2 result }
+    // The name holds bytes that are refused.
+    ensures refused { result ≡ 2 → IsRefusedText (map string_bytes words.now) (F.told files.old) (K.contents out.old) (K.contents out.new) }
+    ensures refused_where { (held : Held) (name : List ℕ) (cut pick : Option ℕ) (bytes : List ℕ) (line : ℕ) (cause : BlockTextCause) → AreBlocks (map string_bytes words.now) name cut pick → F.told files.old ≡ Some held → held name ≡ Some bytes → RefusesText bytes line cause → IsUnlessWanting 2 result }
     // A file or the output failed, or a file was too long.
     ensures fault { result ≡ 4 → Rose (F.faults files.old) (F.faults files.new) ⊎ (Rose (K.faults out.old) (K.faults out.new) ⊎ IsTooLong (map string_bytes words.now) (F.told files.old) (F.taken files.old) (F.taken files.new)) }
     ensures fault_where { result ≢ 4 → (F.faults files.new ≡ F.faults files.old) × (K.faults out.new ≡ K.faults out.old) }

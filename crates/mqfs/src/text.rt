@@ -1,6 +1,7 @@
 // Block texts: reading them, and printing the blocks that a run leaves.
 mod item;
 mod line;
+mod number;
 mod parts;
 mod print;
 mod refusal;
@@ -10,6 +11,7 @@ mod whole;
 
 pub use item::BlockItem;
 pub use line::BlockLine;
+pub use number::read_number;
 pub use print::print_blocks;
-pub use refusal::BlockTextRefusal;
+pub use refusal::{BlockTextCause, BlockTextRefusal};
 pub use whole::{BlockText, read_block_text};

@@ -1,9 +1,11 @@
 // An item of a line: a block that is set or freed.
-ghost use Rattle.std.specs.Prelude.{◌≡◌, ◌<◌, ◌≤◌, ◌↔◌, ◌∷◌, [], ℕ, length, slice_index, EachIndex, IfSome, IsTrue};
-ghost use Rattle.std.specs.Int.{IsInRange};
+ghost use Rattle.std.specs.Prelude.{◌≡◌, ◌<◌, ◌≤◌, ◌^◌, ◌∷◌, [], ℕ, List, IfErr, IfOk, IfSome, Some};
 ghost use Rattle.mqfs.specs.declared.text.item.BlockItem.{BlockItem};
-ghost use Rattle.mqfs.specs.Text.{hex_digit, hex_text, number_text, item_text, IsGoodSet};
+ghost use Rattle.mqfs.specs.Refusals.{RefusesWord};
+ghost use Rattle.mqfs.specs.Text.{hex_digit, hex_text, free_text, set_text, item_text, IsGoodItem};
 
+use crate::text::number::read_number;
+use crate::text::refusal::BlockTextCause;
 use mq_blocks::BlockNo;
 
 /// What a line does with one block.
@@ -50,38 +52,10 @@ fn read_hex(high: u8, low: u8) -> Option<u8>
     Some(high * 16 + low)
 }
 
-/// Decimal digits, three at most, with no zero in front of others.
-fn is_short_numeral(text: &[u8]) -> bool
-    ensures { IsTrue result ↔ ((0 < length text.now) × (length text.now ≤ 3) × (slice_index text.now 0 ≡ 48 → length text.now ≡ 1) × EachIndex text.now (λ k. IsInRange 48 57 (slice_index text.now k))) }
-{
-    if text.is_empty() || text.len() > 3 {
-        return false;
-    }
-    if text.len() > 1 && text[0] == b'0' {
-        return false;
-    }
-    text.iter().all(|b| b.is_ascii_digit())
-}
-
-/// The number of a block, which is at most 255.
-fn read_number(text: &[u8]) -> Option<u8>
-    ensures found { IfSome result (λ n. text.now ≡ number_text n) }
-    ensures only { (n : ℕ) → n < 256 → text.now ≡ number_text n → result ≡ Some n }
-{
-    if !is_short_numeral(text) {
-        return None;
-    }
-    let mut number: u16 = 0;
-    for digit in text {
-        number = number * 10 + u16::from(*digit - b'0');
-    }
-    u8::try_from(number).ok()
-}
-
-/// An item that sets a block.
-pub fn read_item(text: &[u8]) -> Option<BlockItem>
-    ensures found { IfSome result (λ i. (text.now ≡ item_text i) × IsGoodSet i) }
-    ensures only { (i : BlockItem) → IsGoodSet i → text.now ≡ item_text i → result ≡ Some i }
+/// An item that sets a block: the block's number, and the byte.
+fn read_set(text: &[u8]) -> Option<(u64, u8)>
+    ensures found { IfSome result (λ r. (r.0 < 2 ^ 64) × (r.1 ≤ 255) × (text.now ≡ set_text r.0 r.1)) }
+    ensures only { (b v : ℕ) → b < 2 ^ 64 → v ≤ 255 → text.now ≡ set_text b v → result ≡ Some (b, v) }
 {
     if text.len() < 3 {
         return None;
@@ -92,5 +66,41 @@ pub fn read_item(text: &[u8]) -> Option<BlockItem>
     };
     let block = read_number(number)?;
     let byte = read_hex(high, low)?;
-    Some(BlockItem::Set(BlockNo(u32::from(block)), byte))
+    Some((block, byte))
+}
+
+/// An item that frees a block: the block's number.
+fn read_free(text: &[u8]) -> Option<u64>
+    ensures found { IfSome result (λ n. (n < 2 ^ 64) × (text.now ≡ free_text n)) }
+    ensures only { (n : ℕ) → n < 2 ^ 64 → text.now ≡ free_text n → result ≡ Some n }
+{
+    match text {
+        [b'-', number @ ..] => read_number(number),
+        _ => None,
+    }
+}
+
+/// A block that texts may name.
+fn named_block(number: u64) -> Result<BlockNo, BlockTextCause>
+    ensures ok { IfOk result (λ b. (b ≡ number) × (number ≤ 255)) }
+    ensures refused { IfErr result (λ e. (e ≡ BlockTextCause.Block) × (255 < number)) }
+{
+    match u8::try_from(number) {
+        Ok(block) => Ok(BlockNo(u32::from(block))),
+        Err(_) => Err(BlockTextCause::Block),
+    }
+}
+
+/// An item. Whether its block was named before is left to the caller.
+pub fn read_item(text: &[u8]) -> Result<BlockItem, BlockTextCause>
+    ensures ok { IfOk result (λ i. (text.now ≡ item_text i) × IsGoodItem i) }
+    ensures refused { IfErr result (λ e. (before : List BlockItem) → RefusesWord before text.now e) }
+{
+    if let Some((number, byte)) = read_set(text) {
+        return Ok(BlockItem::Set(named_block(number)?, byte));
+    }
+    match read_free(text) {
+        Some(number) => Ok(BlockItem::Free(named_block(number)?)),
+        None => Err(BlockTextCause::Item),
+    }
 }

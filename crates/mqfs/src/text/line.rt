@@ -1,11 +1,12 @@
 // A line: the items of one transaction.
-ghost use Rattle.std.specs.Prelude.{◌≡◌, List, IfOk, MatchResult, map};
+ghost use Rattle.std.specs.Prelude.{◌≡◌, List, IfErr, IfOk, map};
 ghost use Rattle.mqfs.specs.declared.text.item.BlockItem.{BlockItem};
-ghost use Rattle.mqfs.specs.Text.{item_text, line_text, AreGoodItems, AreSets, IsGoodLine};
+ghost use Rattle.mqfs.specs.Refusals.{IsRefused, RefusesLine, RefusesWords};
+ghost use Rattle.mqfs.specs.Text.{item_text, line_text, AreGoodItems, IsGoodLine};
 
 use crate::text::item::{BlockItem, read_item};
 use crate::text::parts::cut_at;
-use crate::text::refusal::BlockTextRefusal;
+use crate::text::refusal::{BlockTextCause, BlockTextRefusal};
 use std::alloc::Global;
 use std::marker::Model;
 
@@ -36,20 +37,22 @@ impl BlockLine {
     }
 }
 
-/// The items of these words, which name no block twice.
-fn read_items(alloc: Global, words: &[&[u8]]) -> Result<Vec<BlockItem>, BlockTextRefusal>
-    ensures ok { IfOk result (λ v. (map (λ x. x.now) words.now ≡ map item_text v.items) × AreGoodItems v.items × AreSets v.items) }
-    ensures only { (items : List BlockItem) → map (λ x. x.now) words.now ≡ map item_text items → AreGoodItems items → AreSets items → MatchResult result (λ v. v.items ≡ items) (λ e. e ≡ BlockTextRefusal.OutOfMemory) }
+/// The items of these words, which name no block twice. The line's number is for the refusal.
+fn read_items(alloc: Global, line: u32, words: &[&[u8]]) -> Result<Vec<BlockItem>, BlockTextRefusal>
+    ensures ok { IfOk result (λ v. (map (λ x. x.now) words.now ≡ map item_text v.items) × AreGoodItems v.items) }
+    ensures refused { IfErr result (IsRefused (λ l cause. (l ≡ line) × RefusesWords (map (λ x. x.now) words.now) cause)) }
 {
     let mut named = [false; 256];
     let mut items = Vec::new(alloc);
     for word in words {
-        let Some(item) = read_item(word) else {
-            return Err(BlockTextRefusal::Form);
+        let item = match read_item(word) {
+            Ok(item) => item,
+            Err(cause) => return Err(BlockTextRefusal::At { line, cause }),
         };
         let block = item.block().0 as usize;
         if named[block] {
-            return Err(BlockTextRefusal::Form);
+            let cause = BlockTextCause::Twice;
+            return Err(BlockTextRefusal::At { line, cause });
         }
         named[block] = true;
         items.push(item)?;
@@ -57,11 +60,15 @@ fn read_items(alloc: Global, words: &[&[u8]]) -> Result<Vec<BlockItem>, BlockTex
     Ok(items)
 }
 
-/// The items of a line.
-pub fn read_line(alloc: Global, text: &[u8]) -> Result<BlockLine, BlockTextRefusal>
-    ensures ok { IfOk result (λ l. (text.now ≡ line_text l) × IsGoodLine l × AreSets l) }
-    ensures only { (l : List BlockItem) → text.now ≡ line_text l → IsGoodLine l → AreSets l → MatchResult result (λ m. m ≡ l) (λ e. e ≡ BlockTextRefusal.OutOfMemory) }
+/// The items of a line. Its number is for the refusal.
+pub fn read_line(alloc: Global, line: u32, text: &[u8]) -> Result<BlockLine, BlockTextRefusal>
+    ensures ok { IfOk result (λ l. (text.now ≡ line_text l) × IsGoodLine l) }
+    ensures refused { IfErr result (IsRefused (λ l cause. (l ≡ line) × ((before : List (List BlockItem)) → RefusesLine before text.now cause))) }
 {
+    if text.is_empty() {
+        let cause = BlockTextCause::Empty;
+        return Err(BlockTextRefusal::At { line, cause });
+    }
     let words = cut_at(alloc, text, b' ')?;
-    Ok(BlockLine(read_items(alloc, &words)?))
+    Ok(BlockLine(read_items(alloc, line, &words)?))
 }

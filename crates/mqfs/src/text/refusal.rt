@@ -5,11 +5,43 @@ ghost use Rattle.mqfs.specs.declared.text.refusal.BlockTextRefusal.TheVariants.{
 use mq_blocks::OutOfMemory;
 use std::alloc::{AllocError, AllocFailed};
 
+/// Why a line is not read.
+#[derive(Clone, Copy, Debug, PartialEq, Eq)]
+pub enum BlockTextCause {
+    /// The line has no bytes.
+    Empty,
+    /// An item is not in the form.
+    Item,
+    /// An item names a block that texts may not name.
+    Block,
+    /// An item names a block that an item before it in the line names.
+    Twice,
+    /// The lines up to this one take more places than the smallest journal area has.
+    Area,
+}
+
+impl BlockTextCause {
+    ghost use Rattle.mqfs.specs.Refusals.{cause_name};
+
+    /// The cause as it is printed.
+    pub fn name(self) -> &'static str
+        ensures { result.now ≡ cause_name self }
+    {
+        match self {
+            BlockTextCause::Empty => "Empty",
+            BlockTextCause::Item => "Item",
+            BlockTextCause::Block => "Block",
+            BlockTextCause::Twice => "Twice",
+            BlockTextCause::Area => "Area",
+        }
+    }
+}
+
 /// Why a block text is not read.
 #[derive(Clone, Copy, Debug, PartialEq, Eq)]
 pub enum BlockTextRefusal {
-    /// It is no block text.
-    Form,
+    /// The first line that is refused, counted from 1, and its first cause.
+    At { line: u32, cause: BlockTextCause },
     /// Memory was not to be had. The text may be good.
     OutOfMemory,
 }

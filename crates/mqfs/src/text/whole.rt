@@ -1,11 +1,13 @@
 // A whole block text.
-ghost use Rattle.std.specs.Prelude.{◌≡◌, ◌⊎◌, ◌++◌, ◌∷◌, [], ℕ, List, IfOk, IsErrOf, MatchResult, map};
+ghost use Rattle.std.specs.Prelude.{◌≡◌, ◌⊎◌, ◌++◌, ◌∷◌, [], ℕ, List, IfErr, IfOk, MatchResult, map};
 ghost use Rattle.mqfs.specs.declared.text.item.BlockItem.{BlockItem};
-ghost use Rattle.mqfs.specs.Text.{line_text, IsTextOf, IsGoodText, HasSetsOnly};
+ghost use Rattle.mqfs.specs.declared.text.refusal.BlockTextCause.{BlockTextCause};
+ghost use Rattle.mqfs.specs.Refusals.{IsRefusal, IsRefused, RefusesLines, RefusesText};
+ghost use Rattle.mqfs.specs.Text.{line_text, IsTextOf, IsGoodText};
 
 use crate::text::line::{BlockLine, read_line};
 use crate::text::parts::cut_at;
-use crate::text::refusal::BlockTextRefusal;
+use crate::text::refusal::{BlockTextCause, BlockTextRefusal};
 use std::alloc::Global;
 use std::marker::Model;
 
@@ -37,16 +39,21 @@ fn without_last_line_feed(text: &[u8]) -> &[u8]
 
 /// The lines of these texts, which fit the smallest journal area.
 fn read_lines(alloc: Global, texts: &[&[u8]]) -> Result<Vec<BlockLine>, BlockTextRefusal>
-    ensures ok { IfOk result (λ v. (map (λ x. x.now) texts.now ≡ map line_text v.items) × IsGoodText v.items × HasSetsOnly v.items) }
-    ensures only { (lines : List (List BlockItem)) → map (λ x. x.now) texts.now ≡ map line_text lines → IsGoodText lines → HasSetsOnly lines → MatchResult result (λ v. v.items ≡ lines) (λ e. e ≡ BlockTextRefusal.OutOfMemory) }
+    ensures ok { IfOk result (λ v. (map (λ x. x.now) texts.now ≡ map line_text v.items) × IsGoodText v.items) }
+    ensures refused { IfErr result (IsRefused (RefusesLines (map (λ x. x.now) texts.now))) }
 {
     let mut room = PLACES;
     let mut lines = Vec::new(alloc);
     for text in texts {
-        let line = read_line(alloc, text)?;
+        let number = lines.len() as u32 + 1;
+        let line = read_line(alloc, number, text)?;
         let sets = line.sets();
         if sets >= room {
-            return Err(BlockTextRefusal::Form);
+            let cause = BlockTextCause::Area;
+            return Err(BlockTextRefusal::At {
+                line: number,
+                cause,
+            });
         }
         room -= sets + 1;
         lines.push(line)?;
@@ -54,18 +61,28 @@ fn read_lines(alloc: Global, texts: &[&[u8]]) -> Result<Vec<BlockLine>, BlockTex
     Ok(lines)
 }
 
-/// The lines of a block text.
-pub fn read_block_text(alloc: Global, bytes: &[u8]) -> Result<BlockText, BlockTextRefusal>
-    // What is read is spelled so.
-    ensures ok { IfOk result (λ t. IsTextOf bytes.now t × IsGoodText t × HasSetsOnly t) }
-    // What is refused has no such spelling.
-    ensures form { IsErrOf result BlockTextRefusal.Form → (lines : List (List BlockItem)) → IsTextOf bytes.now lines → IsGoodText lines → HasSetsOnly lines → ⊥ }
-    // What is spelled so is read, unless memory runs out.
-    ensures only { (lines : List (List BlockItem)) → IsTextOf bytes.now lines → IsGoodText lines → HasSetsOnly lines → MatchResult result (λ t. t ≡ lines) (λ e. e ≡ BlockTextRefusal.OutOfMemory) }
+/// The lines of a text. That no other answer fits the text is left to the caller.
+fn read_bytes(alloc: Global, bytes: &[u8]) -> Result<BlockText, BlockTextRefusal>
+    ensures ok { IfOk result (λ t. IsTextOf bytes.now t × IsGoodText t) }
+    ensures refused { IfErr result (IsRefused (RefusesText bytes.now)) }
 {
     if bytes.is_empty() {
         return Ok(BlockText(Vec::new(alloc)));
     }
     let texts = cut_at(alloc, without_last_line_feed(bytes), b'\n')?;
     Ok(BlockText(read_lines(alloc, &texts)?))
+}
+
+/// The lines of a block text.
+pub fn read_block_text(alloc: Global, bytes: &[u8]) -> Result<BlockText, BlockTextRefusal>
+    // What is read is spelled so.
+    ensures ok { IfOk result (λ t. IsTextOf bytes.now t × IsGoodText t) }
+    // What is refused at a line has this cause there.
+    ensures refused { IfErr result (IsRefused (RefusesText bytes.now)) }
+    // What has a cause at a line is refused so, unless memory runs out.
+    ensures exact { (line : ℕ) (cause : BlockTextCause) → RefusesText bytes.now line cause → IsRefusal result line cause }
+    // What is spelled so is read, unless memory runs out.
+    ensures only { (lines : List (List BlockItem)) → IsTextOf bytes.now lines → IsGoodText lines → MatchResult result (λ t. t ≡ lines) (λ e. e ≡ BlockTextRefusal.OutOfMemory) }
+{
+    read_bytes(alloc, bytes)
 }

@@ -1,17 +1,19 @@
-use Rattle.std.proofs.Common.{Some, ◌∙◌, ap}
-use Rattle.mqfs.specs.declared.text.item.BlockItem.TheVariants.{Set}
-use Rattle.mqfs.proofs.TextItems.{no_number, no_hex, item_is}
+use Rattle.std.proofs.lemmas.Result.{err_from_is_err_and}
+use Rattle.mqfs.specs.declared.text.item.BlockItem.TheVariants.{Set, Free}
+use Rattle.mqfs.proofs.TextItems.{block_refused}
 use Rattle.mqfs.proofs.text.item.read_item.Goals as goal
 
-pub returns-in_err-block-clause-only : goal.returns-in_err-block-clause-only
-returns-in_err-block-clause-only c = λ i good e.
-    absurd (no_number c.args.text.now c.split_at.result.0.now i good e c.split_at.ensures.front c.in_err-block.ensures.only)
+pub returns-in_err-named_block-clause-refused : goal.returns-in_err-named_block-clause-refused
+returns-in_err-named_block-clause-refused c =
+    let p = err_from_is_err_and c.from_residual.result c.from_residual.ensures.1 in
+    let found = c.in-Some.ensures.found in
+    let bad = c.in_err-named_block.ensures.refused in
+    rw (p.1, p.2) (block_refused c.args.text.now c.in_err-named_block.field-0.0 (Set c.in-Some.number c.in-Some.byte) (found.0, found.1) bad.1 found.2 bad.0)
 
-pub returns-in_err-byte-clause-only : goal.returns-in_err-byte-clause-only
-returns-in_err-byte-clause-only c = λ i good e.
-    absurd (no_hex c.args.text.now c.split_at.result.1.now i good e c.split_at.ensures.back c.in_err-byte.ensures.only)
-
-pub returns-clause-only : goal.returns-clause-only
-returns-clause-only c = λ i good e.
-    ap Some (ap (λ b. Set b c.in_ok-byte.byte) c.from.ensures
-    ∙ item_is c.args.text.now c.split_at.result.0.now c.split_at.result.1.now c.in_ok-block.block c.in_ok-byte.byte i good e c.split_at.ensures.front c.split_at.ensures.back c.in_ok-block.ensures.only c.in_ok-byte.ensures.only)
+pub returns-in_err-named_block-in-Some-read_free-clause-refused :
+    goal.returns-in_err-named_block-in-Some-read_free-clause-refused
+returns-in_err-named_block-in-Some-read_free-clause-refused c =
+    let p = err_from_is_err_and c.from_residual-in_err-named_block-in-Some-read_free.result c.from_residual-in_err-named_block-in-Some-read_free.ensures.1 in
+    let found = c.in-Some-read_free.ensures.found in
+    let bad = c.in_err-named_block-in-Some-read_free.ensures.refused in
+    rw (p.1, p.2) (block_refused c.args.text.now c.in_err-named_block-in-Some-read_free.field-0.0 (Free c.in-Some-read_free.number) found.0 bad.1 found.1 bad.0)

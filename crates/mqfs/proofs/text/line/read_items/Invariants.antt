@@ -1,6 +1,6 @@
 use Rattle.std.proofs.Common.{◌≡◌, take}
 use Rattle.std.specs.Prelude.{map}
-use Rattle.mqfs.specs.Text.{item_text, AreGoodItems, AreSets}
+use Rattle.mqfs.specs.Text.{item_text, AreGoodItems}
 use Rattle.mqfs.proofs.TextLines.{IsTable}
 use Rattle.mqfs.proofs.text.line.read_items.Given as goal
 
@@ -9,6 +9,5 @@ abbrev pub invariant-loop-word : goal.invariant-loop-word
 invariant-loop-word l = record {
   told : map (λ x. x.now) (take l.word-index l.words) ≡ map item_text l.items.items;
   good : AreGoodItems l.items.items;
-  sets : AreSets l.items.items;
   table : IsTable l.named l.items.items;
 }
