@@ -5,3 +5,4 @@ pub mod Roles
 pub mod Slots
 pub mod Start
 pub mod Steps
+pub mod Views

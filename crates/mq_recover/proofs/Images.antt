@@ -11,7 +11,8 @@ use Rattle.mq_blocks.specs.Journal.{Shown, IsQueueChain, Has, AreWhole, AreInRow
 use Rattle.mq_blocks.specs.declared.geometry.Geometry.{Geometry}
 use Rattle.mq_recover.specs.Plans.{newest_number, ArePlaced, IsFoundIn}
 use Rattle.mq_recover.specs.Recover.{IsSeenAt, AreGood, AreFalling}
-use Rattle.mq_recover.specs.Recovery.{view_of, IsStill, IsRead}
+use Rattle.mq_drive.specs.Views.{view_of, IsStill}
+use Rattle.mq_recover.specs.Recovery.{IsRead}
 use Rattle.mq_recover.specs.Refusals.{IsReadable, IsGreatest, RefusesImage}
 use Rattle.mq_recover.specs.declared.copies.Copies.{Copies}
 use Rattle.mq_recover.specs.declared.plan.Found.{Found}

@@ -9,7 +9,8 @@ use Rattle.mq_blocks.specs.Machine.{Writes, or_kept}
 use Rattle.mq_blocks.specs.declared.geometry.Geometry.{Geometry}
 use Rattle.mq_recover.specs.Plans.{IsFoundIn, IsPlan}
 use Rattle.mq_recover.specs.Recover.{content_of}
-use Rattle.mq_recover.specs.Recovery.{view_of, IsRead}
+use Rattle.mq_drive.specs.Views.{view_of}
+use Rattle.mq_recover.specs.Recovery.{IsRead}
 use Rattle.mq_recover.specs.RecoverHomes.{writes_from, written}
 use Rattle.mq_recover.specs.Steps.{AreHomeWrites}
 use Rattle.mq_recover.specs.declared.plan.Found.{Found}

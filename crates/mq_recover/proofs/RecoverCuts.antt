@@ -11,7 +11,7 @@ use Rattle.mq_blocks.specs.Machine.{Writes}
 use Rattle.mq_blocks.specs.declared.geometry.Geometry.{Geometry}
 use Rattle.mq_drive.specs.Start.{IsPortOf}
 use Rattle.mq_drive.specs.declared.role.Role.TheVariants.{Queue, Root}
-use Rattle.mq_recover.specs.Recovery.{view_of, IsStill}
+use Rattle.mq_drive.specs.Views.{view_of, IsStill}
 use Rattle.mq_recover.specs.RecoverHomes.{written, AreBelow}
 use Rattle.mq_recover.specs.Steps.{BeginHome, EndHome, StoreBase, FlushBase, StoreHead, FlushHead, TwoPorts, two, at_home, after_event, after_events, home_events, base_events, head_events, recovery_events}
 use Rattle.mq_recover.proofs.RecoverHomes.{IsBetween, between-start, between-step, next-written, later-port, zone-meta, zone-zone, home-meta, home-zone, index-root, index-queue}

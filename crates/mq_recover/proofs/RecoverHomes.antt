@@ -16,7 +16,7 @@ use Rattle.mq_blocks.specs.declared.geometry.Geometry.{Geometry}
 use Rattle.mq_drive.specs.Start.{IsPortOf}
 use Rattle.mq_drive.specs.declared.role.Role.{Role}
 use Rattle.mq_drive.specs.declared.role.Role.TheVariants.{Queue, Root}
-use Rattle.mq_recover.specs.Recovery.{view_of}
+use Rattle.mq_drive.specs.Views.{view_of}
 use Rattle.mq_recover.specs.RecoverHomes.{written, AreBelow, after_home, after_raise, after_move}
 use Rattle.mq_recover.specs.Steps.{TwoPorts, BeginHome, EndHome, at_home, after_event, after_events, home_events}
 

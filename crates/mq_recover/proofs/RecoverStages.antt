@@ -13,7 +13,8 @@ use Rattle.mq_blocks.specs.declared.geometry.Geometry.{Geometry}
 use Rattle.mq_blocks.specs.declared.command.Command.{Command}
 use Rattle.mq_drive.specs.Start.{IsPortOf}
 use Rattle.mq_drive.specs.declared.role.Role.TheVariants.{Queue}
-use Rattle.mq_recover.specs.Recovery.{view_of, IsStill, IsRead, StandsAs}
+use Rattle.mq_drive.specs.Views.{view_of, IsStill}
+use Rattle.mq_recover.specs.Recovery.{IsRead, StandsAs}
 use Rattle.mq_recover.specs.Recover.{content_of}
 use Rattle.mq_recover.specs.RecoverHomes.{written}
 use Rattle.mq_recover.specs.Steps.{TwoPorts, AreHomeWrites}

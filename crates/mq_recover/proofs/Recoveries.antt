@@ -12,7 +12,7 @@ use Rattle.mq_blocks.specs.declared.geometry.Geometry.{Geometry}
 use Rattle.mq_drive.specs.Start.{IsPortOf}
 use Rattle.mq_drive.specs.declared.role.Role.TheVariants.{Queue, Root}
 use Rattle.mq_recover.specs.Plans.{IsPlan}
-use Rattle.mq_recover.specs.Recovery.{view_of, IsStill}
+use Rattle.mq_drive.specs.Views.{view_of, IsStill}
 use Rattle.mq_recover.specs.RecoverCauses.{OnDrive}
 use Rattle.mq_recover.specs.RecoverHomes.{AreBelow, after_raise, after_move, IsCutRaise, IsCutMove}
 use Rattle.mq_recover.specs.Steps.{Event, StoreBase, FlushBase, StoreHead, FlushHead, TwoPorts, two, after_events, home_events, base_events, head_events, recovery_events, AreHomeWrites, StopsAt, IsDone, IsCutShort}

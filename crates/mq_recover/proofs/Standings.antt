@@ -5,7 +5,7 @@ use Rattle.mq_blocks.specs.Drive.{PortState}
 use Rattle.mq_blocks.specs.Geometry.{homes_of}
 use Rattle.mq_blocks.specs.declared.geometry.Geometry.{Geometry}
 use Rattle.mq_recover.specs.Plans.{IsFoundIn}
-use Rattle.mq_recover.specs.Recovery.{view_of, IsStill}
+use Rattle.mq_drive.specs.Views.{view_of, IsStill}
 use Rattle.mq_recover.specs.Standing.{newest_of, StandsIn}
 use Rattle.mq_recover.specs.declared.plan.Found.{Found}
 use Rattle.mq_recover.specs.declared.standing.Standing.{Standing}

@@ -2,24 +2,13 @@
 use Rattle.std.specs.Prelude.{◌≡◌, ◌⊎◌, ◌<◌, ℕ, List, [], ◌∷◌}
 use Rattle.mq_nvme.specs.Says.{says}
 use Rattle.mq_blocks.specs.Descriptor.{Descriptor}
-use Rattle.mq_blocks.specs.Drive.{PortState, PortImage, IsImage, IsQuiet, image_of}
+use Rattle.mq_blocks.specs.Drive.{PortState, PortImage, IsImage, IsQuiet}
 use Rattle.mq_blocks.specs.Geometry.{homes_of}
 use Rattle.mq_blocks.specs.Journal.{Shown, shown, AreWhole, IsPrefix, IsTop, stands}
 use Rattle.mq_blocks.specs.declared.geometry.Geometry.{Geometry}
 use Rattle.mq_drive.specs.Start.{IsPortOf}
+use Rattle.mq_drive.specs.Views.{view_of}
 use Rattle.mq_drive.specs.declared.role.Role.TheVariants.{Queue, Root}
-
--- a drive of one queue whose ports have one image each, as recovery sees it
-abbrev pub view_of : Geometry → PortState → PortState → Shown
-view_of g queue root = shown says g (image_of queue ∷ []) (image_of root)
-
--- a drive of one queue whose two ports have one image each
-pub record IsStill (g : Geometry) (queue root : PortState) : Type 0 where
-  pub one : g.queues ≡ 1
-  pub queue_port : IsPortOf g (Queue 0) queue
-  pub root_port : IsPortOf g Root root
-  pub queue_quiet : IsQuiet queue
-  pub root_quiet : IsQuiet root
 
 -- An image is readable: the descriptors of its prefix, newest first, and the greatest number that it
 -- shows.

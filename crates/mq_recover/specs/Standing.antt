@@ -6,7 +6,8 @@ use Rattle.mq_blocks.specs.Drive.{PortState}
 use Rattle.mq_blocks.specs.Geometry.{homes_of}
 use Rattle.mq_blocks.specs.Journal.{or_else, stands}
 use Rattle.mq_blocks.specs.declared.geometry.Geometry.{Geometry}
-use Rattle.mq_recover.specs.Recovery.{view_of, IsRead}
+use Rattle.mq_drive.specs.Views.{view_of}
+use Rattle.mq_recover.specs.Recovery.{IsRead}
 use Rattle.mq_recover.specs.Recover.{content_of}
 use Rattle.mq_recover.specs.declared.standing.Standing.{Standing}
 

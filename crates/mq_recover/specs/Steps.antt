@@ -10,7 +10,8 @@ use Rattle.mq_drive.specs.Start.{IsPortOf}
 use Rattle.mq_drive.specs.declared.role.Role.TheVariants.{Queue, Root}
 use Rattle.mq_recover.specs.Recover.{copy_of, content_of}
 use Rattle.mq_recover.specs.RecoverHomes.{written}
-use Rattle.mq_recover.specs.Recovery.{view_of, IsRead, IsRecovered, StandsAs}
+use Rattle.mq_drive.specs.Views.{view_of}
+use Rattle.mq_recover.specs.Recovery.{IsRead, IsRecovered, StandsAs}
 use Rattle.mq_recover.specs.declared.refusal.RecoverRefusal.{RecoverRefusal}
 use Rattle.mq_recover.specs.declared.refusal.RecoverRefusal.TheVariants.{Image, Off, Failed}
 

@@ -5,7 +5,7 @@ ghost use Rattle.mq_blocks.specs.Drive.{IsQuiet};
 ghost use Rattle.mq_blocks.specs.Geometry.{queues_of, area_of, homes_of};
 ghost use Rattle.mq_drive.specs.Start.{IsPortOf};
 ghost use Rattle.mq_recover.specs.Plans.{IsFoundIn, IsPlan, newest_number};
-ghost use Rattle.mq_recover.specs.Recovery.{IsStill};
+ghost use Rattle.mq_drive.specs.Views.{IsStill};
 ghost use Rattle.mq_recover.specs.RecoverHomes.{writes_from};
 ghost use Rattle.mq_recover.specs.Refusals.{RefusesImage};
 

@@ -1,7 +1,7 @@
 // Recovery: what stands is written home, the base is raised past it, and the head goes to the
 // doorbell.
 ghost use Rattle.std.specs.Prelude.{◌≡◌, ◌⊎◌, ℕ, length, IfOk, IsErrOf, Some, slice_get};
-ghost use Rattle.mq_recover.specs.Recovery.{IsStill};
+ghost use Rattle.mq_drive.specs.Views.{IsStill};
 ghost use Rattle.mq_recover.specs.RecoverCauses.{HasDriveCause, OnImage, OnDrive};
 ghost use Rattle.mq_recover.specs.Refusals.{RefusesImage};
 ghost use Rattle.mq_recover.specs.Steps.{two, IsDone, IsCutShort};

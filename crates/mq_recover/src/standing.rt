@@ -5,7 +5,7 @@ ghost use Rattle.mq_blocks.specs.Drive.{IsQuiet};
 ghost use Rattle.mq_blocks.specs.Geometry.{homes_of};
 ghost use Rattle.mq_drive.specs.Start.{IsPortOf};
 ghost use Rattle.mq_drive.specs.declared.role.Role.TheVariants.{Queue, Root};
-ghost use Rattle.mq_recover.specs.Recovery.{view_of, IsStill};
+ghost use Rattle.mq_drive.specs.Views.{view_of, IsStill};
 ghost use Rattle.mq_recover.specs.Refusals.{RefusesImage};
 ghost use Rattle.mq_recover.specs.Standing.{newest_of, StandsIn};
 

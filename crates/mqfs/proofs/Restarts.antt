@@ -18,7 +18,7 @@ use Rattle.mq_drive.specs.declared.role.Role.TheVariants.{Queue, Root}
 use Rattle.mqfs.specs.Commits.{AreBelow, AllBelow, ShowsMap}
 use Rattle.mqfs.specs.Fresh.{IsTextGeometry}
 use Rattle.mqfs.specs.Live.{HoldsMap}
-use Rattle.mq_recover.specs.Recovery.{view_of, IsStill}
+use Rattle.mq_drive.specs.Views.{view_of, IsStill}
 use Rattle.mq_recover.specs.RecoverCauses.{HasDriveCause, OnDrive, OnImage, OneGains}
 use Rattle.mq_recover.specs.Refusals.{RefusesImage}
 use Rattle.mq_recover.specs.Steps.{Event, BeginHome, EndHome, StoreBase, FlushBase, StoreHead, FlushHead, TwoPorts, two, at_home, after_event, after_events, StopsAt, IsCutShort, IsDone}

@@ -8,7 +8,7 @@ ghost use Rattle.mq_drive.specs.declared.role.Role.TheVariants.{Queue, Root};
 ghost use Rattle.mqfs.specs.Fresh.{IsTextGeometry};
 ghost use Rattle.mqfs.specs.Lines.{live_from, map_after, named};
 ghost use Rattle.mqfs.specs.Live.{AreMarks, HoldsMap, marked};
-ghost use Rattle.mq_recover.specs.Recovery.{view_of};
+ghost use Rattle.mq_drive.specs.Views.{view_of};
 ghost use Rattle.mqfs.specs.Text.{AreGoodItems, IsGoodText};
 
 use crate::items::NAMED;
