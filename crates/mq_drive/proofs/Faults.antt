@@ -27,12 +27,12 @@ length-faults n errors = length-append (replicate n PowerOff) errors ∙ ap (λ 
 
 pub off_gains : (n m : ℕ) (errors : List Fault) → n < 2 ^ 64 → m ≡ counted n 1 → Gains PowerOff (replicate n PowerOff ++ errors) (replicate m PowerOff ++ errors)
 off_gains n m errors small is = elim (cases_lt n (2 ^ 64 - 1)) [
-    inl below ↦ inl (let e : m ≡ suc n = omega (arith, is, below) in one_more n m errors e)
-    | inr end ↦
-    let e : m ≡ n = omega (arith, is, end, small) in
-    let long = length-faults n errors in
-    inr (omega (arith, long, end), ap (λ (k : ℕ). replicate k PowerOff ++ errors) e)
-    ]
+  | inl below ↦ inl (let e : m ≡ suc n = omega (arith, is, below) in one_more n m errors e)
+  | inr end ↦
+      let e : m ≡ n = omega (arith, is, end, small) in
+      let long = length-faults n errors in
+      inr (omega (arith, long, end), ap (λ (k : ℕ). replicate k PowerOff ++ errors) e)
+]
 
 pub refused : {A : Type 0} (r : Result A Off) (n m : ℕ) (errors : List Fault) → IsErr r → n < 2 ^ 64 → m ≡ counted n 1 → OffCause r (replicate n PowerOff ++ errors) (replicate m PowerOff ++ errors)
 refused (Ok x) n m errors bad small is = absurd (true≢false (sym bad))

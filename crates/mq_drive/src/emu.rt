@@ -7,10 +7,10 @@ ghost use Rattle.mq_drive.specs.Roles.{slots_of, queue_in};
 ghost use Rattle.mq_drive.specs.Slots.{AreSettled, index_in};
 
 use crate::blocks::Blocks;
+use crate::cut::{tear_commands, tear_homes, tear_slots};
 use crate::extent::{Extent, block_index, extents, port_number, queue_id};
 use crate::failing::{Failing, Failure, parts_of};
 use crate::power::Power;
-use crate::cut::{tear_commands, tear_homes, tear_slots};
 use crate::random::{choose, either, generator};
 use crate::store::{add, add_all, bump, put_slot, settle, slot_at, take_at};
 use crate::{HomeStep, Off, Port, PortImage, Role, Step};
@@ -62,11 +62,11 @@ pub struct EmuPort {
     ghost pending_last: { 0 < length pending.items → doorbell + length pending.items ≤ 2 ^ 63 },
     ghost pending_order: { 0 < length pending.items → stored_head ≤ doorbell },
     ghost pending_counted: { AreCounted doorbell (doorbell + length pending.items) pending.items } by { AreCounted-prop doorbell (doorbell + length pending.items) pending.items },
-    ghost pending_own: { All (λ c. (area.first ≤ c.lba) × (index_in area.first area.size homes.first c.lba < length blocks.blocks.items)) pending.items },
+    ghost pending_own: { All (λ c. (area.first ≤ c.lba) × (index_in area.first area.size homes.first c.lba < length blocks.stored.items)) pending.items },
     ghost posted_counted: { AreCounted stored_head doorbell posted.items } by { AreCounted-prop stored_head doorbell posted.items },
-    ghost posted_own: { All (λ c. (area.first ≤ c.lba) × (index_in area.first area.size homes.first c.lba < length blocks.blocks.items)) posted.items },
+    ghost posted_own: { All (λ c. (area.first ≤ c.lba) × (index_in area.first area.size homes.first c.lba < length blocks.stored.items)) posted.items },
     ghost heads: { head ≤ stored_head },
-    ghost sized: { area.size + homes.size ≡ length blocks.blocks.items },
+    ghost sized: { area.size + homes.size ≡ length blocks.stored.items },
     ghost area_before: { area.first + area.size ≤ homes.first },
     ghost queue_base: { IsSome (queue_in role) → (base ≡ 0) × (stored_base ≡ 0) },
     ghost root_words: { IsNone (queue_in role) → (doorbell ≡ 0) × (head ≡ 0) × (stored_head ≡ 0) },
@@ -75,7 +75,7 @@ pub struct EmuPort {
     ghost events_counted: { begins ≡ 0 → power.happened ≡ events },
     ghost failure_counted: { is_some failure ≡ failing.failed },
     ghost under_way_last: { ForSome under_way (λ w. 0 < power.offs) },
-    ghost under_way_own: { ForSome under_way (λ w. (area.first ≤ w.lba) × (index_in area.first area.size homes.first w.lba < length blocks.blocks.items)) },
+    ghost under_way_own: { ForSome under_way (λ w. (area.first ≤ w.lba) × (index_in area.first area.size homes.first w.lba < length blocks.stored.items)) },
     ghost under_way_doubt: { ForSome under_way (λ w. slice_index_or blocks.sure.items (index_in area.first area.size homes.first w.lba) false ≡ false) },
 }
 
