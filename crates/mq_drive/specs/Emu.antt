@@ -42,3 +42,7 @@ emu_faults p = replicate p.power.offs PowerOff ++ errors_of p.failure
 -- the events that happened
 abbrev pub happened_of : EmuPort → ℕ
 happened_of p = p.power.happened
+
+-- the commands that were executed, home writes among them
+abbrev pub executed_of : EmuPort → ℕ
+executed_of p = p.failing.executed

@@ -1,5 +1,5 @@
 // A port in memory, whose power may go off and on which one command may fail.
-ghost use Rattle.std.specs.Prelude.{◌≡◌, ◌<◌, ◌≤◌, ◌+◌, ◌-◌, ◌*◌, ◌%◌, ◌^◌, ℕ, List, [], ◌∷◌, length, false, is_some, IfOk, OnOk, OnErr, All, IsSome, IsNone, IsTrue, ◌↔◌, slice_index_or, Some, None, Contains};
+ghost use Rattle.std.specs.Prelude.{◌≡◌, ◌<◌, ◌≤◌, ◌+◌, ◌-◌, ◌*◌, ◌%◌, ◌^◌, ℕ, List, [], ◌∷◌, length, true, false, is_some, IfOk, OnOk, OnErr, All, IsSome, IsNone, IsTrue, ◌↔◌, slice_index_or, Some, None, Contains};
 ghost use Rattle.std.specs.Option.{ForSome};
 ghost use Rattle.std.specs.VecDeque.{deque_capacity};
 ghost use Rattle.mq_blocks.specs.Drive.{AreCounted, AreCounted-prop};
@@ -80,7 +80,8 @@ pub struct EmuPort {
 }
 
 impl EmuPort {
-    ghost use Rattle.mq_drive.specs.Emu.{emu_state, emu_faults, happened_of};
+    ghost use Rattle.mq_drive.specs.Emu.{emu_state, emu_faults, happened_of, executed_of};
+    ghost use Rattle.mq_drive.specs.Limits.{fails_by};
     ghost use Rattle.mq_drive.specs.Start.{IsRole, IsImageOf, start_of};
     ghost use Rattle.mq_drive.specs.Steps.{PowerOff};
     ghost use Rattle.mq_blocks.specs.Drive.{staged_end};
@@ -160,8 +161,12 @@ impl EmuPort {
         self.doorbell + self.pending.len() as u64
     }
 
-    /// Whether the command that fails was executed.
+    /// Whether the command that is to fail was executed. It has ended with an error then, and no
+    /// other has.
     pub fn failed(&self) -> bool
+        ensures named { result ≡ fails_by (emu_state self.now).fail (executed_of self.now) }
+        ensures errors { result ≡ true → All (λ f. f ≡ PowerOff) (emu_faults self.now) → ⊥ }
+        ensures no_error { result ≡ false → All (λ f. f ≡ PowerOff) (emu_faults self.now) }
         ensures none { (emu_state self.now).fail ≡ None → All (λ f. f ≡ PowerOff) (emu_faults self.now) }
     {
         self.failing.failed()

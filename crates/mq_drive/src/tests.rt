@@ -277,21 +277,28 @@ fn write(at: u16, lba: u64) -> Entry
     })
 }
 
+fn two_steps(port: &mut EmuPort) -> (Result<Step, Off>, Result<Step, Off>)
+    ensures homes_first { (emu_state port.new).homes_first ≡ (emu_state port.old).homes_first }
+    ensures homes_size { (emu_state port.new).homes_size ≡ (emu_state port.old).homes_size }
+{
+    let first = port.step();
+    let second = port.step();
+    (first, second)
+}
+
 fn in_doubt(rt: &impl Abort, alloc: Global, seed: u64, pick: u64) -> Result<Doubt, OutOfMemory> {
     let geometry = small().expect(rt, "a geometry");
     let image = fresh(alloc, 1024, 1264)?;
+    let (three, four) = (filled(alloc, 3)?, filled(alloc, 4)?);
+    let (five, nine) = (filled(alloc, 5)?, filled(alloc, 9)?);
     let mut port = EmuPort::new(alloc, geometry, QUEUE, image, Some(8), Some(2), seed)?;
-    port.stage(0, write(0, 5), filled(alloc, 3)?)
-        .expect(rt, "power");
-    port.stage(1, write(1, 6), filled(alloc, 4)?)
-        .expect(rt, "power");
-    port.stage(2, write(2, 7), filled(alloc, 5)?)
-        .expect(rt, "power");
+    port.stage(0, write(0, 5), three).expect(rt, "power");
+    port.stage(1, write(1, 6), four).expect(rt, "power");
+    port.stage(2, write(2, 7), five).expect(rt, "power");
     port.flush().expect(rt, "power");
     port.ring(3).expect(rt, "power");
-    let first = port.step();
-    let second = port.step();
-    let home = port.write_home(Lba(1044), filled(alloc, 9)?);
+    let (first, second) = two_steps(&mut port);
+    let home = port.write_home(Lba(1044), nine);
     Ok(Doubt {
         first,
         second,
