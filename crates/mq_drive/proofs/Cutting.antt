@@ -46,5 +46,5 @@ quiet-cut s i sized cut quiet =
     let base : i.base ≡ s.base = ⊎_elim (λ old. old) (λ new. new ∙ quiet.base) cut.base in
     let slots : i.slots ≡ s.flushed = ext_get_or [] i.slots s.flushed cut.slots_len (λ k within. cut.slots k (no_slot s k quiet)) in
     let blocks : i.blocks ≡ s.blocks = ext_get_or None i.blocks s.blocks cut.blocks_len
-        (λ k within. cut.blocks k (no_command s k quiet) (quiet.sure k (let long = cut.blocks_len in omega (arith, within, long, sized)))) in
+    (λ k within. cut.blocks k (no_command s k quiet) (quiet.sure k (let long = cut.blocks_len in omega (arith, within, long, sized)))) in
     λ j. record { doorbell = cut.doorbell j; head = head j; base = base j; slots = slots j; blocks = blocks j }

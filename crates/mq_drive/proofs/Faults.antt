@@ -2,10 +2,12 @@
 use Rattle.std.proofs.Common.{◌≡◌, ◌⊎◌, ◌<◌, ◌≤◌, ◌+◌, ◌-◌, ◌^◌, ℕ, zero, suc, Bool, true, false, List, [], ◌∷◌, ◌++◌, length, get_or, replicate, All, Option, Some, None, Result, Ok, Err, is_some, inl, inr, refl, sym, ◌∙◌, ap, subst, arith, true≢false, length-append}
 use Rattle.std.proofs.lemmas.List.{length-replicate}
 use Rattle.std.specs.Prelude.{Contains, IsErr}
-use Rattle.std.proofs.lemmas.Bool.{cases_lt}
-use Rattle.std.proofs.lemmas.List.Elements.{All-cons}
+use Rattle.std.proofs.lemmas.Bool.{cases_lt, cases_eq}
+use Rattle.std.proofs.lemmas.List.Elements.{All-cons, All-rest}
 use Rattle.mq_blocks.specs.Drive.{PortState, counted, after_begin}
+use Rattle.mq_nvme.specs.Completion.{status_of}
 use Rattle.mq_drive.specs.declared.port.Step.{Step}
+use Rattle.mq_drive.specs.declared.port.Step.TheVariants.{Idle, Done}
 use Rattle.mq_drive.specs.declared.port.HomeStep.{HomeStep}
 use Rattle.mq_drive.specs.Emu.{emu_state, emu_faults, happened_of}
 use Rattle.mq_drive.specs.Failures.{errors_of}
@@ -27,12 +29,12 @@ length-faults n errors = length-append (replicate n PowerOff) errors ∙ ap (λ 
 
 pub off_gains : (n m : ℕ) (errors : List Fault) → n < 2 ^ 64 → m ≡ counted n 1 → Gains PowerOff (replicate n PowerOff ++ errors) (replicate m PowerOff ++ errors)
 off_gains n m errors small is = elim (cases_lt n (2 ^ 64 - 1)) [
-    inl below ↦ inl (let e : m ≡ suc n = omega (arith, is, below) in one_more n m errors e)
-    | inr end ↦
-    let e : m ≡ n = omega (arith, is, end, small) in
-    let long = length-faults n errors in
-    inr (omega (arith, long, end), ap (λ (k : ℕ). replicate k PowerOff ++ errors) e)
-    ]
+  | inl below ↦ inl (let e : m ≡ suc n = omega (arith, is, below) in one_more n m errors e)
+  | inr end ↦
+      let e : m ≡ n = omega (arith, is, end, small) in
+      let long = length-faults n errors in
+      inr (omega (arith, long, end), ap (λ (k : ℕ). replicate k PowerOff ++ errors) e)
+]
 
 pub refused : {A : Type 0} (r : Result A Off) (n m : ℕ) (errors : List Fault) → IsErr r → n < 2 ^ 64 → m ≡ counted n 1 → OffCause r (replicate n PowerOff ++ errors) (replicate m PowerOff ++ errors)
 refused (Ok x) n m errors bad small is = absurd (true≢false (sym bad))
@@ -54,6 +56,15 @@ error_gains n m old new e none is same = inl (record {
   old_is = ap (λ (o : Option Failure). replicate n PowerOff ++ errors_of o) none;
   new_is = ap (λ (k : ℕ). replicate k PowerOff ++ errors_of new) same ∙ ap (λ (l : List Fault). replicate n PowerOff ++ l) is;
 })
+
+-- a step leaves the blocks of the port where they are
+pub homes_kept : (s new : PortState) (faults more : List Fault) (r : Result Step Off) → StepGives s faults r new more → (new.homes_first ≡ s.homes_first) × (new.homes_size ≡ s.homes_size)
+homes_kept s new faults more (Ok Idle) gives = (ap (λ (t : PortState). t.homes_first) gives.1, ap (λ (t : PortState). t.homes_size) gives.1)
+homes_kept s new faults more (Ok (Done c)) gives = elim (cases_eq (status_of c) 0) [
+    inl good ↦ (ap (λ (t : PortState). t.homes_first) (gives.success good).0, ap (λ (t : PortState). t.homes_size) (gives.success good).0)
+    | inr bad ↦ (ap (λ (t : PortState). t.homes_first) (gives.error bad).0, ap (λ (t : PortState). t.homes_size) (gives.error bad).0)
+    ]
+homes_kept s new faults more (Err x) gives = (ap (λ (t : PortState). t.homes_first) gives.1, ap (λ (t : PortState). t.homes_size) gives.1)
 
 -- ---- what the faults tell
 
@@ -104,6 +115,23 @@ contains_first (suc n) errors some = (0, omega arith, refl)
 all_offs : (n : ℕ) → All (λ f. f ≡ PowerOff) (replicate n PowerOff ++ [])
 all_offs zero = λ k d less. absurd (omega (arith, less))
 all_offs (suc n) = All-cons (λ f. f ≡ PowerOff) PowerOff (replicate n PowerOff ++ []) refl (all_offs n)
+
+all_right : (n : ℕ) (errors : List Fault) → All (λ f. f ≡ PowerOff) (replicate n PowerOff ++ errors) → All (λ f. f ≡ PowerOff) errors
+all_right zero errors all = all
+all_right (suc n) errors all = all_right n errors (All-rest (λ f. f ≡ PowerOff) PowerOff (replicate n PowerOff ++ errors) (replicate (suc n) PowerOff ++ errors) refl all)
+
+has_error : (failure : Option Failure) → is_some failure ≡ true → All (λ f. f ≡ PowerOff) (errors_of failure) → ⊥
+unfolding is_off
+has_error None some all = true≢false (sym some)
+has_error (Some (Queued c)) some all = true≢false (sym (ap is_off (all 0 PowerOff (omega arith))))
+has_error (Some (Home w)) some all = true≢false (sym (ap is_off (all 0 PowerOff (omega arith))))
+
+pub an_error : (p : EmuPort) → p.failing.failed ≡ true → All (λ f. f ≡ PowerOff) (emu_faults p) → ⊥
+an_error p is all = has_error p.failure (p.failure_counted ∙ is) (all_right p.power.offs (errors_of p.failure) all)
+
+pub no_error_yet : (p : EmuPort) → p.failing.failed ≡ false → All (λ f. f ≡ PowerOff) (emu_faults p)
+no_error_yet p is =
+    subst (λ (o : Option Failure). All (λ f. f ≡ PowerOff) (replicate p.power.offs PowerOff ++ errors_of o)) (sym (none_of p.failure (p.failure_counted ∙ is))) (all_offs p.power.offs)
 
 no_failure : (p : EmuPort) → (emu_state p).fail ≡ None → p.failure ≡ None
 no_failure p none = none_of p.failure (p.failure_counted ∙ p.failing.exact ∙ ap (λ (o : Option ℕ). fails_by o p.failing.executed) none)

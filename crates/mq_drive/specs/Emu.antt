@@ -25,7 +25,7 @@ emu_state p = record {
   stored_head = p.stored_head;
   base = p.base;
   stored_base = p.stored_base;
-  blocks = p.blocks.blocks.items;
+  blocks = p.blocks.stored.items;
   sure = p.blocks.sure.items;
   begun = unended_of p.failure ++ option_to_list p.under_way;
   rings = p.rings;
@@ -42,3 +42,7 @@ emu_faults p = replicate p.power.offs PowerOff ++ errors_of p.failure
 -- the events that happened
 abbrev pub happened_of : EmuPort → ℕ
 happened_of p = p.power.happened
+
+-- the commands that were executed, home writes among them
+abbrev pub executed_of : EmuPort → ℕ
+executed_of p = p.failing.executed

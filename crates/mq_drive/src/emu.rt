@@ -1,5 +1,5 @@
 // A port in memory, whose power may go off and on which one command may fail.
-ghost use Rattle.std.specs.Prelude.{◌≡◌, ◌<◌, ◌≤◌, ◌+◌, ◌-◌, ◌*◌, ◌%◌, ◌^◌, ℕ, List, [], ◌∷◌, length, false, is_some, IfOk, OnOk, OnErr, All, IsSome, IsNone, IsTrue, ◌↔◌, slice_index_or, Some, None, Contains};
+ghost use Rattle.std.specs.Prelude.{◌≡◌, ◌<◌, ◌≤◌, ◌+◌, ◌-◌, ◌*◌, ◌%◌, ◌^◌, ℕ, List, [], ◌∷◌, length, true, false, is_some, IfOk, OnOk, OnErr, All, IsSome, IsNone, IsTrue, ◌↔◌, slice_index_or, Some, None, Contains};
 ghost use Rattle.std.specs.Option.{ForSome};
 ghost use Rattle.std.specs.VecDeque.{deque_capacity};
 ghost use Rattle.mq_blocks.specs.Drive.{AreCounted, AreCounted-prop};
@@ -7,10 +7,10 @@ ghost use Rattle.mq_drive.specs.Roles.{slots_of, queue_in};
 ghost use Rattle.mq_drive.specs.Slots.{AreSettled, index_in};
 
 use crate::blocks::Blocks;
+use crate::cut::{tear_commands, tear_homes, tear_slots};
 use crate::extent::{Extent, block_index, extents, port_number, queue_id};
 use crate::failing::{Failing, Failure, parts_of};
 use crate::power::Power;
-use crate::cut::{tear_commands, tear_homes, tear_slots};
 use crate::random::{choose, either, generator};
 use crate::store::{add, add_all, bump, put_slot, settle, slot_at, take_at};
 use crate::{HomeStep, Off, Port, PortImage, Role, Step};
@@ -62,11 +62,11 @@ pub struct EmuPort {
     ghost pending_last: { 0 < length pending.items → doorbell + length pending.items ≤ 2 ^ 63 },
     ghost pending_order: { 0 < length pending.items → stored_head ≤ doorbell },
     ghost pending_counted: { AreCounted doorbell (doorbell + length pending.items) pending.items } by { AreCounted-prop doorbell (doorbell + length pending.items) pending.items },
-    ghost pending_own: { All (λ c. (area.first ≤ c.lba) × (index_in area.first area.size homes.first c.lba < length blocks.blocks.items)) pending.items },
+    ghost pending_own: { All (λ c. (area.first ≤ c.lba) × (index_in area.first area.size homes.first c.lba < length blocks.stored.items)) pending.items },
     ghost posted_counted: { AreCounted stored_head doorbell posted.items } by { AreCounted-prop stored_head doorbell posted.items },
-    ghost posted_own: { All (λ c. (area.first ≤ c.lba) × (index_in area.first area.size homes.first c.lba < length blocks.blocks.items)) posted.items },
+    ghost posted_own: { All (λ c. (area.first ≤ c.lba) × (index_in area.first area.size homes.first c.lba < length blocks.stored.items)) posted.items },
     ghost heads: { head ≤ stored_head },
-    ghost sized: { area.size + homes.size ≡ length blocks.blocks.items },
+    ghost sized: { area.size + homes.size ≡ length blocks.stored.items },
     ghost area_before: { area.first + area.size ≤ homes.first },
     ghost queue_base: { IsSome (queue_in role) → (base ≡ 0) × (stored_base ≡ 0) },
     ghost root_words: { IsNone (queue_in role) → (doorbell ≡ 0) × (head ≡ 0) × (stored_head ≡ 0) },
@@ -75,12 +75,13 @@ pub struct EmuPort {
     ghost events_counted: { begins ≡ 0 → power.happened ≡ events },
     ghost failure_counted: { is_some failure ≡ failing.failed },
     ghost under_way_last: { ForSome under_way (λ w. 0 < power.offs) },
-    ghost under_way_own: { ForSome under_way (λ w. (area.first ≤ w.lba) × (index_in area.first area.size homes.first w.lba < length blocks.blocks.items)) },
+    ghost under_way_own: { ForSome under_way (λ w. (area.first ≤ w.lba) × (index_in area.first area.size homes.first w.lba < length blocks.stored.items)) },
     ghost under_way_doubt: { ForSome under_way (λ w. slice_index_or blocks.sure.items (index_in area.first area.size homes.first w.lba) false ≡ false) },
 }
 
 impl EmuPort {
-    ghost use Rattle.mq_drive.specs.Emu.{emu_state, emu_faults, happened_of};
+    ghost use Rattle.mq_drive.specs.Emu.{emu_state, emu_faults, happened_of, executed_of};
+    ghost use Rattle.mq_drive.specs.Limits.{fails_by};
     ghost use Rattle.mq_drive.specs.Start.{IsRole, IsImageOf, start_of};
     ghost use Rattle.mq_drive.specs.Steps.{PowerOff};
     ghost use Rattle.mq_blocks.specs.Drive.{staged_end};
@@ -160,8 +161,12 @@ impl EmuPort {
         self.doorbell + self.pending.len() as u64
     }
 
-    /// Whether the command that fails was executed.
+    /// Whether the command that is to fail was executed. It has ended with an error then, and no
+    /// other has.
     pub fn failed(&self) -> bool
+        ensures named { result ≡ fails_by (emu_state self.now).fail (executed_of self.now) }
+        ensures errors { result ≡ true → All (λ f. f ≡ PowerOff) (emu_faults self.now) → ⊥ }
+        ensures no_error { result ≡ false → All (λ f. f ≡ PowerOff) (emu_faults self.now) }
         ensures none { (emu_state self.now).fail ≡ None → All (λ f. f ≡ PowerOff) (emu_faults self.now) }
     {
         self.failing.failed()

@@ -35,9 +35,9 @@ is_cut c =
       slots = λ k flushed. c.tear_slots.ensures.kept k (λ n low high. flushed n low (subst (λ (m : ℕ). n < c.args.self.doorbell + m) few high));
       blocks_len = ap (λ v. length v.items) c.into_inner.ensures ∙ c.tear_homes.ensures.len ∙ c.tear_commands.ensures.len;
       blocks = λ k apart certain.
-        ap (λ v. get_or v.items k None) c.into_inner.ensures
-        ∙ c.tear_homes.ensures.kept k (ap (λ (l : List Bool). get_or l k false) c.tear_commands.ensures.sure ∙ certain)
-        ∙ c.tear_commands.ensures.kept k apart certain;
+          ap (λ v. get_or v.items k None) c.into_inner.ensures
+          ∙ c.tear_homes.ensures.kept k (ap (λ (l : List Bool). get_or l k false) c.tear_commands.ensures.sure ∙ certain)
+          ∙ c.tear_commands.ensures.kept k apart certain;
     }
 
 pub returns-clause-image : goal.returns-clause-image

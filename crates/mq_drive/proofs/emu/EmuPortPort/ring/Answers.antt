@@ -38,8 +38,8 @@ invariant_of-self-2-clause-posted_counted c =
 pub invariant_of-self-2-clause-posted_own : goal.invariant_of-self-2-clause-posted_own
 invariant_of-self-2-clause-posted_own c =
     let p = c.args.self.now in
-    let own = All-append (IsOwn p (length p.blocks.blocks.items)) p.posted.items p.pending.items p.posted_own p.pending_own in
-    subst (λ (l : List Command). All (IsOwn p (length p.blocks.blocks.items)) l) (sym c.add_all.ensures.items) own
+    let own = All-append (IsOwn p (length p.blocks.stored.items)) p.posted.items p.pending.items p.posted_own p.pending_own in
+    subst (λ (l : List Command). All (IsOwn p (length p.blocks.stored.items)) l) (sym c.add_all.ensures.items) own
 
 pub invariant_of-self-2-clause-settled : goal.invariant_of-self-2-clause-settled
 invariant_of-self-2-clause-settled c =

@@ -20,7 +20,7 @@ pub overflow_cast-command : goal.overflow_cast-command
 overflow_cast-command c =
     let p = c.args.self.now in
     let lba : c.lba.result ≡ c.requires.write.request.lba = c.lba.ensures ∙ ap lba_of c.requires.write.write.is ∙ lba_of-entry c.requires.write.request in
-    let inside = within p.area.first p.area.size p.homes.first p.homes.size (length p.blocks.blocks.items) c.requires.write.request.lba p.area_before p.homes_end p.sized c.requires.write.own in
+    let inside = within p.area.first p.area.size p.homes.first p.homes.size (length p.blocks.stored.items) c.requires.write.request.lba p.area_before p.homes_end p.sized c.requires.write.own in
     let small : c.lba.result < 2 ^ 32 = omega (arith, lba, inside.small) in
     search (rules, small)
 
@@ -28,7 +28,7 @@ pub invariant_of-command : goal.invariant_of-command
 invariant_of-command c =
     let p = c.args.self.now in
     let lba : c.lba.result ≡ c.requires.write.request.lba = c.lba.ensures ∙ ap lba_of c.requires.write.write.is ∙ lba_of-entry c.requires.write.request in
-    let inside = within p.area.first p.area.size p.homes.first p.homes.size (length p.blocks.blocks.items) c.requires.write.request.lba p.area_before p.homes_end p.sized c.requires.write.own in
+    let inside = within p.area.first p.area.size p.homes.first p.homes.size (length p.blocks.stored.items) c.requires.write.request.lba p.area_before p.homes_end p.sized c.requires.write.own in
     omega (arith, lba, inside.small)
 
 more : (xs ys : List Command) (x : Command) → ys ≡ xs ++ x ∷ [] → length ys ≡ length xs + 1
@@ -56,11 +56,11 @@ pub invariant_of-self-2-clause-pending_own : goal.invariant_of-self-2-clause-pen
 invariant_of-self-2-clause-pending_own c =
     let p = c.args.self.now in
     let lba : c.lba.result ≡ c.requires.write.request.lba = c.lba.ensures ∙ ap lba_of c.requires.write.write.is ∙ lba_of-entry c.requires.write.request in
-    let inside = within p.area.first p.area.size p.homes.first p.homes.size (length p.blocks.blocks.items) c.requires.write.request.lba p.area_before p.homes_end p.sized c.requires.write.own in
-    let own : (p.area.first ≤ c.lba.result) × (index_in p.area.first p.area.size p.homes.first c.lba.result < length p.blocks.blocks.items) =
-    subst (λ (n : ℕ). (p.area.first ≤ n) × (index_in p.area.first p.area.size p.homes.first n < length p.blocks.blocks.items)) (sym lba) (inside.low, inside.index) in
-    subst (λ (l : List Command). All (IsOwn p (length p.blocks.blocks.items)) l) (sym c.add.ensures.items)
-    (All-append (IsOwn p (length p.blocks.blocks.items)) p.pending.items (_ ∷ []) p.pending_own (All-cons (IsOwn p (length p.blocks.blocks.items)) _ [] own (λ k d less. absurd (omega arith))))
+    let inside = within p.area.first p.area.size p.homes.first p.homes.size (length p.blocks.stored.items) c.requires.write.request.lba p.area_before p.homes_end p.sized c.requires.write.own in
+    let own : (p.area.first ≤ c.lba.result) × (index_in p.area.first p.area.size p.homes.first c.lba.result < length p.blocks.stored.items) =
+    subst (λ (n : ℕ). (p.area.first ≤ n) × (index_in p.area.first p.area.size p.homes.first n < length p.blocks.stored.items)) (sym lba) (inside.low, inside.index) in
+    subst (λ (l : List Command). All (IsOwn p (length p.blocks.stored.items)) l) (sym c.add.ensures.items)
+    (All-append (IsOwn p (length p.blocks.stored.items)) p.pending.items (_ ∷ []) p.pending_own (All-cons (IsOwn p (length p.blocks.stored.items)) _ [] own (λ k d less. absurd (omega arith))))
 
 pub returns-in_err-event-clause-cause : goal.returns-in_err-event-clause-cause
 returns-in_err-event-clause-cause c =

@@ -24,13 +24,13 @@ use Rattle.mq_drive.proofs.emu.EmuPortPort.step.Goals as goal
 abbrev Own : EmuPort → ℕ → Command → Type 0
 Own p n x = IsOwn p.area.first p.area.size p.homes.first n x
 
-own_at : (p : EmuPort) (at : ℕ) (x : Command) → slice_get p.posted.items at ≡ Some x → Own p (length p.blocks.blocks.items) x
-own_at p at x is = all_at (Own p (length p.blocks.blocks.items)) p.posted.items at x is p.posted_own
+own_at : (p : EmuPort) (at : ℕ) (x : Command) → slice_get p.posted.items at ≡ Some x → Own p (length p.blocks.stored.items) x
+own_at p at x is = all_at (Own p (length p.blocks.stored.items)) p.posted.items at x is p.posted_own
 
-own_left : (p : EmuPort) (at n : ℕ) (left : List Command) → left ≡ remove p.posted.items at → n ≡ length p.blocks.blocks.items → All (Own p n) left
+own_left : (p : EmuPort) (at n : ℕ) (left : List Command) → left ≡ remove p.posted.items at → n ≡ length p.blocks.stored.items → All (Own p n) left
 own_left p at n left is same =
     subst (λ (l : List Command). All (Own p n) l) (sym is)
-    (subst (λ (m : ℕ). All (Own p m) (remove p.posted.items at)) (sym same) (all_remove (Own p (length p.blocks.blocks.items)) at p.posted.items p.posted_own))
+    (subst (λ (m : ℕ). All (Own p m) (remove p.posted.items at)) (sym same) (all_remove (Own p (length p.blocks.stored.items)) at p.posted.items p.posted_own))
 
 counted_left : (p : EmuPort) (at : ℕ) (left : List Command) → left ≡ remove p.posted.items at → AreCounted p.stored_head p.doorbell left
 counted_left p at left is = subst (AreCounted p.stored_head p.doorbell) (sym is) (counted_remove p.stored_head p.doorbell at p.posted.items p.posted_counted)
@@ -42,9 +42,9 @@ pub returns-in_err-event : goal.returns-in_err-event
 returns-in_err-event c =
     let some : 0 < length c.args.self.now.posted.items = search rules in
     refused_step (emu_state c.args.self.now) _ (emu_faults c.args.self.now) _ c.from_residual.result c.from_residual.ensures.0
-        (λ none. let zero_long : length c.args.self.now.posted.items ≡ 0 = ap length none in omega (arith, some, zero_long))
-        (same_state (emu_state c.args.self.now) c.event.new.self.limit c.event.ensures.limit)
-        (off_gains c.args.self.now.power.offs c.event.new.self.offs (errors_of c.args.self.now.failure) c.event.ensures.range c.in_err-event.ensures.refused.1)
+    (λ none. let zero_long : length c.args.self.now.posted.items ≡ 0 = ap length none in omega (arith, some, zero_long))
+    (same_state (emu_state c.args.self.now) c.event.new.self.limit c.event.ensures.limit)
+    (off_gains c.args.self.now.power.offs c.event.new.self.offs (errors_of c.args.self.now.failure) c.event.ensures.range c.in_err-event.ensures.refused.1)
 
 pub block_index-index-requires : goal.block_index-index-requires
 block_index-index-requires c = record { low = (own_at c.args.self.now c.choose-at.result c.take_at-command.result c.take_at-command.ensures.item).0 }
@@ -66,7 +66,7 @@ invariant_of-self-then-next-clause-posted_counted c = counted_left c.args.self.n
 
 pub invariant_of-self-then-next-clause-posted_own : goal.invariant_of-self-then-next-clause-posted_own
 invariant_of-self-then-next-clause-posted_own c =
-    own_left c.args.self.now c.choose-at.result (length c.fail.new.self.blocks.items) c.take_at-command.new.commands.items c.take_at-command.ensures.items (ap length c.fail.ensures.blocks)
+    own_left c.args.self.now c.choose-at.result (length c.fail.new.self.stored.items) c.take_at-command.new.commands.items c.take_at-command.ensures.items (ap length c.fail.ensures.blocks)
 
 pub invariant_of-self-then-next-clause-pending_own : goal.invariant_of-self-then-next-clause-pending_own
 invariant_of-self-then-next-clause-pending_own c =
@@ -75,7 +75,7 @@ invariant_of-self-then-next-clause-pending_own c =
 pub invariant_of-self-2-clause-pending_own : goal.invariant_of-self-2-clause-pending_own
 invariant_of-self-2-clause-pending_own c =
     subst (λ (n : ℕ). All (Own c.args.self.now n) c.args.self.now.pending.items)
-    (sym (ap length c.complete.ensures.blocks ∙ length-set c.args.self.now.blocks.blocks.items c.block_index-index.result (Some c.take_at-command.result.block))) c.args.self.now.pending_own
+    (sym (ap length c.complete.ensures.blocks ∙ length-set c.args.self.now.blocks.stored.items c.block_index-index.result (Some c.take_at-command.result.block))) c.args.self.now.pending_own
 
 pub invariant_of-self-then-next-clause-failure_counted : goal.invariant_of-self-then-next-clause-failure_counted
 invariant_of-self-then-next-clause-failure_counted c = sym (c.next.ensures.fails c.if-next.true).1
@@ -91,8 +91,8 @@ invariant_of-self-2-clause-posted_counted c = counted_left c.args.self.now c.cho
 
 pub invariant_of-self-2-clause-posted_own : goal.invariant_of-self-2-clause-posted_own
 invariant_of-self-2-clause-posted_own c =
-    own_left c.args.self.now c.choose-at.result (length c.complete.new.self.blocks.items) c.take_at-command.new.commands.items c.take_at-command.ensures.items
-        (ap length c.complete.ensures.blocks ∙ length-set c.args.self.now.blocks.blocks.items c.block_index-index.result (Some c.take_at-command.result.block))
+    own_left c.args.self.now c.choose-at.result (length c.complete.new.self.stored.items) c.take_at-command.new.commands.items c.take_at-command.ensures.items
+    (ap length c.complete.ensures.blocks ∙ length-set c.args.self.now.blocks.stored.items c.block_index-index.result (Some c.take_at-command.result.block))
 
 pub invariant_of-self-2-clause-under_way_own : goal.invariant_of-self-2-clause-under_way_own
 invariant_of-self-2-clause-under_way_own c = none_for c.args.self.now.under_way _ (nothing_open c.args.self.now c.in_ok-event.ensures.first)
@@ -112,7 +112,7 @@ returns-then-next c =
       success = λ good. absurd (omega (arith, good, status));
       error = λ bad. (
         failed_at (emu_state c.args.self.now) c.choose-at.result c.take_at-command.result c.args.self.now.failure (option_to_list c.args.self.now.under_way)
-            c.take_at-command.new.commands.items c.fail.new.self.blocks.items c.fail.new.self.sure.items c.bump-self-2.result c.event.new.self.limit c.next.new.self.named
+            c.take_at-command.new.commands.items c.fail.new.self.stored.items c.fail.new.self.sure.items c.bump-self-2.result c.event.new.self.limit c.next.new.self.named
             none refl refl c.take_at-command.ensures.items c.fail.ensures.blocks
             (c.fail.ensures.sure ∙ ap (λ (k : ℕ). set c.args.self.now.blocks.sure.items k false) c.block_index-index.ensures)
             c.bump-self-2.ensures c.event.ensures.limit c.next.ensures.named,
@@ -131,9 +131,9 @@ returns c =
       identifier = ap identifier_of c.completion_of.ensures.is ∙ identifier_of-completion _ (omega arith);
       success = λ good. (
         done_at (emu_state c.args.self.now) c.choose-at.result c.take_at-command.result
-            c.take_at-command.new.commands.items c.complete.new.self.blocks.items c.complete.new.self.sure.items c.bump-self-2.result c.event.new.self.limit c.next.new.self.named
+            c.take_at-command.new.commands.items c.complete.new.self.stored.items c.complete.new.self.sure.items c.bump-self-2.result c.event.new.self.limit c.next.new.self.named
             c.take_at-command.ensures.items
-            (c.complete.ensures.blocks ∙ ap (λ (k : ℕ). set c.args.self.now.blocks.blocks.items k (Some c.take_at-command.result.block)) c.block_index-index.ensures)
+            (c.complete.ensures.blocks ∙ ap (λ (k : ℕ). set c.args.self.now.blocks.stored.items k (Some c.take_at-command.result.block)) c.block_index-index.ensures)
             (c.complete.ensures.sure ∙ ap (λ (k : ℕ). set c.args.self.now.blocks.sure.items k true) c.block_index-index.ensures)
             c.bump-self-2.ensures c.event.ensures.limit c.next.ensures.named,
         ap (λ (n : ℕ). replicate n PowerOff ++ errors_of c.args.self.now.failure) c.in_ok-event.ensures.happens.1,

@@ -20,29 +20,29 @@ use Rattle.mq_drive.proofs.emu.EmuPortPort.write_home.Goals as goal
 abbrev AllOwn : EmuPort → ℕ → List Command → Type 0
 AllOwn p n cs = All (IsOwn p.area.first p.area.size p.homes.first n) cs
 
-own_home : (p : EmuPort) (lba : ℕ) → (p.homes.first ≤ lba) × (lba < p.homes.first + p.homes.size) → IsWithin p.area.first p.area.size p.homes.first (length p.blocks.blocks.items) lba
+own_home : (p : EmuPort) (lba : ℕ) → (p.homes.first ≤ lba) × (lba < p.homes.first + p.homes.size) → IsWithin p.area.first p.area.size p.homes.first (length p.blocks.stored.items) lba
 own_home p lba home =
-    within_homes p.area.first p.area.size p.homes.first p.homes.size (length p.blocks.blocks.items) lba p.area_before p.homes_end p.sized home.0 home.1
+    within_homes p.area.first p.area.size p.homes.first p.homes.size (length p.blocks.stored.items) lba p.area_before p.homes_end p.sized home.0 home.1
 
 nothing_open : (p : EmuPort) → p.power.offs ≡ 0 → p.under_way ≡ None
 nothing_open p on = none_while p.under_way p.power.offs p.under_way_last on
 
-still_own : (p : EmuPort) (n : ℕ) (cs : List Command) → n ≡ length p.blocks.blocks.items → AllOwn p (length p.blocks.blocks.items) cs → AllOwn p n cs
+still_own : (p : EmuPort) (n : ℕ) (cs : List Command) → n ≡ length p.blocks.stored.items → AllOwn p (length p.blocks.stored.items) cs → AllOwn p n cs
 still_own p n cs same own = subst (λ (m : ℕ). AllOwn p m cs) (sym same) own
 
 pub returns-in_err-event : goal.returns-in_err-event
 returns-in_err-event c =
     refused_home (emu_state c.args.self.now) _ (emu_faults c.args.self.now) _ c.args.lba c.args.block c.from_residual.result c.from_residual.ensures.0
-        (inl (same_state (emu_state c.args.self.now) c.event.new.self.limit c.event.ensures.limit))
-        (off_gains c.args.self.now.power.offs c.event.new.self.offs (errors_of c.args.self.now.failure) c.event.ensures.range c.in_err-event.ensures.refused.1)
+    (inl (same_state (emu_state c.args.self.now) c.event.new.self.limit c.event.ensures.limit))
+    (off_gains c.args.self.now.power.offs c.event.new.self.offs (errors_of c.args.self.now.failure) c.event.ensures.range c.in_err-event.ensures.refused.1)
 
 -- ---- the power goes off before the end
 
 pub invariant_of-self-in-Err-clause-pending_own : goal.invariant_of-self-in-Err-clause-pending_own
-invariant_of-self-in-Err-clause-pending_own c = still_own c.args.self.now (length c.begin.new.self.blocks.items) c.args.self.now.pending.items (ap length c.begin.ensures.blocks) c.args.self.now.pending_own
+invariant_of-self-in-Err-clause-pending_own c = still_own c.args.self.now (length c.begin.new.self.stored.items) c.args.self.now.pending.items (ap length c.begin.ensures.blocks) c.args.self.now.pending_own
 
 pub invariant_of-self-in-Err-clause-posted_own : goal.invariant_of-self-in-Err-clause-posted_own
-invariant_of-self-in-Err-clause-posted_own c = still_own c.args.self.now (length c.begin.new.self.blocks.items) c.args.self.now.posted.items (ap length c.begin.ensures.blocks) c.args.self.now.posted_own
+invariant_of-self-in-Err-clause-posted_own c = still_own c.args.self.now (length c.begin.new.self.stored.items) c.args.self.now.posted.items (ap length c.begin.ensures.blocks) c.args.self.now.posted_own
 
 pub invariant_of-self-in-Err-clause-under_way_last : goal.invariant_of-self-in-Err-clause-under_way_last
 invariant_of-self-in-Err-clause-under_way_last c = λ x is. let more = c.in-Err.ensures.refused.1 in omega (arith, more)
@@ -50,25 +50,24 @@ invariant_of-self-in-Err-clause-under_way_last c = λ x is. let more = c.in-Err.
 pub invariant_of-self-in-Err-clause-under_way_own : goal.invariant_of-self-in-Err-clause-under_way_own
 invariant_of-self-in-Err-clause-under_way_own c =
     let own = own_home c.args.self.now c.args.lba c.requires in
-    let long : length c.begin.new.self.blocks.items ≡ length c.args.self.now.blocks.blocks.items = ap length c.begin.ensures.blocks in
+    let long : length c.begin.new.self.stored.items ≡ length c.args.self.now.blocks.stored.items = ap length c.begin.ensures.blocks in
     some_for (record { lba = c.args.lba; block = c.args.block })
-        (λ (w : HomeWrite). (c.args.self.now.area.first ≤ w.lba) × (index_in c.args.self.now.area.first c.args.self.now.area.size c.args.self.now.homes.first w.lba < length c.begin.new.self.blocks.items))
-        (own.low, let index = own.index in omega (arith, index, long))
+    (λ (w : HomeWrite). (c.args.self.now.area.first ≤ w.lba) × (index_in c.args.self.now.area.first c.args.self.now.area.size c.args.self.now.homes.first w.lba < length c.begin.new.self.stored.items))
+    (own.low, let index = own.index in omega (arith, index, long))
 
 pub invariant_of-self-in-Err-clause-under_way_doubt : goal.invariant_of-self-in-Err-clause-under_way_doubt
 invariant_of-self-in-Err-clause-under_way_doubt c =
     some_for (record { lba = c.args.lba; block = c.args.block })
-        (λ (w : HomeWrite). get_or c.begin.new.self.sure.items (index_in c.args.self.now.area.first c.args.self.now.area.size c.args.self.now.homes.first w.lba) false ≡ false)
-        (ap (λ (k : ℕ). get_or c.begin.new.self.sure.items k false) (sym c.block_index-index.ensures)
-        ∙ ap (λ (l : List Bool). get_or l c.block_index-index.result false) c.begin.ensures.sure
-        ∙ false_at c.args.self.now.blocks.sure.items c.block_index-index.result)
+    (λ (w : HomeWrite). get_or c.begin.new.self.sure.items (index_in c.args.self.now.area.first c.args.self.now.area.size c.args.self.now.homes.first w.lba) false ≡ false)
+    (ap (λ (k : ℕ). get_or c.begin.new.self.sure.items k false) (sym c.block_index-index.ensures)
+    ∙ ap (λ (l : List Bool). get_or l c.block_index-index.result false) c.begin.ensures.sure
+    ∙ false_at c.args.self.now.blocks.sure.items c.block_index-index.result)
 
 pub returns-in-Err : goal.returns-in-Err
 returns-in-Err c =
-    let nothing : c.args.self.now.under_way ≡ None = nothing_open c.args.self.now c.in_ok-event.ensures.first in
-    (
+    let nothing : c.args.self.now.under_way ≡ None = nothing_open c.args.self.now c.in_ok-event.ensures.first in (
       inr (begun_home (emu_state c.args.self.now) c.args.lba c.args.block (failed_of c.args.self.now.failure) (unended_of c.args.self.now.failure ++ record { lba = c.args.lba; block = c.args.block } ∷ [])
-          c.begin.new.self.blocks.items c.begin.new.self.sure.items c.bump-self.result c.event-2.new.self.limit c.args.self.now.failing.named
+          c.begin.new.self.stored.items c.begin.new.self.sure.items c.bump-self.result c.event-2.new.self.limit c.args.self.now.failing.named
           refl
           (begun_open c.args.self.now.failure c.args.self.now.under_way (record { lba = c.args.lba; block = c.args.block }) nothing)
           c.begin.ensures.blocks
@@ -82,11 +81,11 @@ returns-in-Err c =
 
 pub invariant_of-self-then-next-clause-pending_own : goal.invariant_of-self-then-next-clause-pending_own
 invariant_of-self-then-next-clause-pending_own c =
-    still_own c.args.self.now (length c.fail.new.self.blocks.items) c.args.self.now.pending.items (ap length (c.fail.ensures.blocks ∙ c.begin.ensures.blocks)) c.args.self.now.pending_own
+    still_own c.args.self.now (length c.fail.new.self.stored.items) c.args.self.now.pending.items (ap length (c.fail.ensures.blocks ∙ c.begin.ensures.blocks)) c.args.self.now.pending_own
 
 pub invariant_of-self-then-next-clause-posted_own : goal.invariant_of-self-then-next-clause-posted_own
 invariant_of-self-then-next-clause-posted_own c =
-    still_own c.args.self.now (length c.fail.new.self.blocks.items) c.args.self.now.posted.items (ap length (c.fail.ensures.blocks ∙ c.begin.ensures.blocks)) c.args.self.now.posted_own
+    still_own c.args.self.now (length c.fail.new.self.stored.items) c.args.self.now.posted.items (ap length (c.fail.ensures.blocks ∙ c.begin.ensures.blocks)) c.args.self.now.posted_own
 
 pub invariant_of-self-then-next-clause-failure_counted : goal.invariant_of-self-then-next-clause-failure_counted
 invariant_of-self-then-next-clause-failure_counted c = sym (c.next.ensures.fails c.if-next.true).1
@@ -100,11 +99,10 @@ invariant_of-self-then-next-clause-under_way_doubt c = none_for c.args.self.now.
 pub returns-then-next : goal.returns-then-next
 returns-then-next c =
     let nothing : c.args.self.now.under_way ≡ None = nothing_open c.args.self.now c.in_ok-event.ensures.first in
-    let none : c.args.self.now.failure ≡ None = none_of c.args.self.now.failure (c.args.self.now.failure_counted ∙ (c.next.ensures.fails c.if-next.true).0) in
-    (
+    let none : c.args.self.now.failure ≡ None = none_of c.args.self.now.failure (c.args.self.now.failure_counted ∙ (c.next.ensures.fails c.if-next.true).0) in (
       λ zero. absurd (omega (arith, zero)),
       begun_home (emu_state c.args.self.now) c.args.lba c.args.block [] (record { lba = c.args.lba; block = c.args.block } ∷ option_to_list c.args.self.now.under_way)
-          c.fail.new.self.blocks.items c.fail.new.self.sure.items c.bump-self.result c.event-2.new.self.limit c.next.new.self.named
+          c.fail.new.self.stored.items c.fail.new.self.sure.items c.bump-self.result c.event-2.new.self.limit c.next.new.self.named
           (sym (ap failed_of none))
           (begun_failed c.args.self.now.failure c.args.self.now.under_way (record { lba = c.args.lba; block = c.args.block }) none nothing)
           (c.fail.ensures.blocks ∙ c.begin.ensures.blocks)
@@ -120,13 +118,13 @@ returns-then-next c =
 
 pub invariant_of-self-2-clause-pending_own : goal.invariant_of-self-2-clause-pending_own
 invariant_of-self-2-clause-pending_own c =
-    still_own c.args.self.now (length c.complete.new.self.blocks.items) c.args.self.now.pending.items
-        (ap length c.complete.ensures.blocks ∙ length-set c.begin.new.self.blocks.items c.block_index-index.result (Some c.args.block) ∙ ap length c.begin.ensures.blocks) c.args.self.now.pending_own
+    still_own c.args.self.now (length c.complete.new.self.stored.items) c.args.self.now.pending.items
+    (ap length c.complete.ensures.blocks ∙ length-set c.begin.new.self.stored.items c.block_index-index.result (Some c.args.block) ∙ ap length c.begin.ensures.blocks) c.args.self.now.pending_own
 
 pub invariant_of-self-2-clause-posted_own : goal.invariant_of-self-2-clause-posted_own
 invariant_of-self-2-clause-posted_own c =
-    still_own c.args.self.now (length c.complete.new.self.blocks.items) c.args.self.now.posted.items
-        (ap length c.complete.ensures.blocks ∙ length-set c.begin.new.self.blocks.items c.block_index-index.result (Some c.args.block) ∙ ap length c.begin.ensures.blocks) c.args.self.now.posted_own
+    still_own c.args.self.now (length c.complete.new.self.stored.items) c.args.self.now.posted.items
+    (ap length c.complete.ensures.blocks ∙ length-set c.begin.new.self.stored.items c.block_index-index.result (Some c.args.block) ∙ ap length c.begin.ensures.blocks) c.args.self.now.posted_own
 
 pub invariant_of-self-2-clause-under_way_own : goal.invariant_of-self-2-clause-under_way_own
 invariant_of-self-2-clause-under_way_own c = none_for c.args.self.now.under_way _ (nothing_open c.args.self.now c.in_ok-event.ensures.first)
