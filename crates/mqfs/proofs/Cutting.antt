@@ -1,14 +1,14 @@
 -- States in the middle of a transaction: what is certain in them, and that they are the port's.
-use Rattle.std.proofs.Common.{◌≡◌, ◌≢◌, ◌<◌, ◌≤◌, ◌⊎◌, inl, inr, ℕ, zero, suc, ◌+◌, ◌-◌, ◌*◌, ◌%◌, false, List, [], ◌∷◌, ◌++◌, length, set, get_or, refl, sym, ◌∙◌, ap, subst, arith, add-zero, length-append}
+use Rattle.std.proofs.Common.{◌≡◌, ◌≢◌, ◌<◌, ◌≤◌, inl, inr, ℕ, zero, suc, ◌+◌, ◌-◌, ◌%◌, List, [], ◌∷◌, ◌++◌, length, set, get_or, refl, sym, ◌∙◌, ap, subst, arith, add-zero, length-append}
 use Rattle.std.proofs.lemmas.List.{get_or-set_other}
 use Rattle.std.proofs.lemmas.Nat.{mod_below}
-use Rattle.mq_blocks.specs.Drive.{PortState, IsQuiet, IsFlushed, IsCertain, IsApartFrom, counted, depth, index_of, staged_end, after_flush, after_ring, after_store_head}
+use Rattle.mq_blocks.specs.Drive.{PortState, IsQuiet, IsFlushed, IsApartFrom, depth, index_of, staged_end, after_flush, after_ring, after_store_head}
 use Rattle.mq_blocks.specs.declared.command.Command.{Command}
 use Rattle.mq_blocks.specs.declared.geometry.Geometry.{Geometry}
 use Rattle.mq_drive.specs.Start.{IsPortOf}
 use Rattle.mq_drive.specs.declared.role.Role.{Role}
 use Rattle.mq_drive.specs.declared.role.Role.TheVariants.{Queue}
-use Rattle.mqfs.specs.Cuts.{HasEnded, IsRung, IsEarly}
+use Rattle.mqfs.specs.Cuts.{HasEnded, IsEarly}
 use Rattle.mqfs.specs.Runs.{Items, IsApart, IsNewIn, commands_of, slots_with, entry_at, after_some, after_all}
 use Rattle.mqfs.proofs.Ended.{ended_all}
 use Rattle.mqfs.proofs.JournalItems.{length-slots_with}

@@ -1,5 +1,5 @@
 -- Counts of events.
-use Rattle.std.proofs.Common.{◌≡◌, ◌<◌, ◌≤◌, ℕ, zero, suc, ◌+◌, ◌-◌, ◌*◌, ◌^◌, List, [], ◌∷◌, length, min, refl, ◌∙◌, ap, subst, arith, add-zero}
+use Rattle.std.proofs.Common.{◌≡◌, ◌≤◌, ℕ, zero, suc, ◌+◌, ◌-◌, ◌*◌, ◌^◌, List, [], ◌∷◌, length, min, refl, ◌∙◌, ap, subst, arith}
 use Rattle.mq_blocks.specs.Drive.{counted}
 use Rattle.mqfs.specs.Cuts.{events_of, line_events}
 use Rattle.mqfs.specs.Text.{places_of}

@@ -1,7 +1,6 @@
 -- The refusals of a transaction: how many events came before each, and what it leaves.
-use Rattle.std.proofs.Common.{◌≡◌, ◌<◌, ◌≤◌, ◌⊎◌, ⊎_elim, inl, inr, ℕ, ◌+◌, ◌*◌, List, [], ◌∷◌, ◌++◌, length, get_or, refl, sym, ◌∙◌, ap, subst, arith}
+use Rattle.std.proofs.Common.{◌≡◌, ◌<◌, ◌≤◌, ◌⊎◌, ⊎_elim, inl, inr, ℕ, ◌+◌, ◌*◌, [], ◌++◌, length, get_or, refl, sym, ◌∙◌, ap, subst, arith}
 use Rattle.mq_blocks.specs.Drive.{PortState, PortImage, IsImage, IsQuiet, counted, depth, staged_end, after_flush, after_ring, after_store_head}
-use Rattle.mq_blocks.specs.declared.command.Command.{Command}
 use Rattle.mq_blocks.specs.declared.geometry.Geometry.{Geometry}
 use Rattle.mq_drive.specs.Start.{IsPortOf}
 use Rattle.mq_drive.specs.declared.role.Role.{Role}

@@ -1,5 +1,5 @@
 -- What the entries of a transaction say once they are rung.
-use Rattle.std.proofs.Common.{◌≡◌, ◌≢◌, ◌<◌, ◌≤◌, ◌⊎◌, inl, inr, ⊎_elim, ℕ, suc, ◌+◌, ◌-◌, ◌%◌, ◌^◌, true, List, [], ◌∷◌, length, set, get_or, Some, refl, sym, ◌∙◌, ap, arith, add-zero}
+use Rattle.std.proofs.Common.{◌≡◌, ◌≢◌, ◌<◌, ◌≤◌, ◌⊎◌, inl, inr, ⊎_elim, ℕ, ◌+◌, ◌-◌, ◌%◌, List, [], ◌∷◌, length, set, get_or, Some, sym, ◌∙◌, ap, arith}
 use Rattle.std.proofs.Math.ListN.{length-set}
 use Rattle.std.proofs.lemmas.Bool.{cases_eq}
 use Rattle.std.proofs.lemmas.Grind.{get_or-set_at}
@@ -8,7 +8,7 @@ use Rattle.mq_nvme.proofs.Saying.{says-entry}
 use Rattle.mq_nvme.specs.Says.{says}
 use Rattle.mq_blocks.specs.Drive.{PortState, IsQuiet, depth, staged_end}
 use Rattle.mq_blocks.specs.Geometry.{area_lba}
-use Rattle.mq_blocks.specs.Journal.{Says, number_limit}
+use Rattle.mq_blocks.specs.Journal.{number_limit}
 use Rattle.mq_blocks.specs.Machine.{Writes}
 use Rattle.mq_blocks.specs.declared.geometry.Geometry.{Geometry}
 use Rattle.mq_drive.specs.Start.{IsPortOf}
@@ -17,7 +17,7 @@ use Rattle.mqfs.specs.Commits.{items_from}
 use Rattle.mqfs.specs.Cuts.{IsRung}
 use Rattle.mqfs.specs.Runs.{Items, is_last, entry_at, slots_with}
 use Rattle.mqfs.proofs.Cutting.{slots_other, few_commands, start}
-use Rattle.mqfs.proofs.JournalItems.{mod_small, length-items, last_lba, last_slot}
+use Rattle.mqfs.proofs.JournalItems.{length-items, last_lba, last_slot}
 use Rattle.mqfs.proofs.JournalShows.{AreReadable}
 
 -- an entry of the transaction
@@ -28,8 +28,7 @@ IsEntry g tx c entry = (place : ℕ) × (rest : Items) × (entry ≡ entry_at tx
 each_slot : (g : Geometry) (slots : List (List ℕ)) (tx at place : ℕ) (block : List ℕ) (ws : Writes) (c : ℕ) → length slots ≡ 1024 → length ws ≤ 1000 → at ≤ c → c ≤ at + length ws
     → IsEntry g tx c (get_or (slots_with slots tx at (length (items_from g place block ws)) (items_from g place block ws)) (c % depth) [])
 each_slot g slots tx at place block [] c ring few low high =
-    let here : c ≡ at = omega arith in
-    (
+    let here : c ≡ at = omega arith in (
       place,
       [],
       get_or-set_at slots (at % depth) (c % depth) (entry_at tx at (area_lba g 0 place) []) [] (ap (λ (n : ℕ). n % depth) here) (omega arith)

@@ -96,7 +96,7 @@ returns-in_err-items-clause-cut g c =
     let xs : Lines = c.deref-line-items.result.now in
     let same : xs ≡ c.args.text.now = c.deref-line-items.ensures.value ∙ c.text.view_is in
     let stopped = line_between c.args.geometry (state c.args.queue.now) (state c.loop-line.queue) c.args.text.now xs c.loop-line.line-index c.loop-line.number c.loop-line.next c.loop-line.last inv.so_far
-        c.requires.clean c.requires.good same c.loop-line-test.true c.line-item.result c.line-item.is inv.number in
+    c.requires.clean c.requires.good same c.loop-line-test.true c.line-item.result c.line-item.is inv.number in
     let p = err_from_is_err_and c.from_residual.result c.from_residual.ensures.1 in
     rw p.1 (stopped.count, stopped.events, stopped.shows, stopped.few)
 
@@ -108,7 +108,7 @@ returns-in_err-commit_line-clause-cut g c =
     let same : xs ≡ c.args.text.now = c.deref-line-items.ensures.value ∙ c.text.view_is in
     let cut = c.in_err-commit_line.ensures.cut in
     let stopped = line_stopped c.args.geometry (state c.args.queue.now) (state c.loop-line.queue) c.args.text.now xs c.loop-line.line-index c.loop-line.number c.loop-line.next c.loop-line.last inv.so_far
-        c.requires.clean c.requires.good same c.loop-line-test.true c.line-item.result c.line-item.is inv.number c.in_ok-items.items.items (state c.commit_line.new.port) cut.0 c.in_ok-items.ensures cut.1 in
+    c.requires.clean c.requires.good same c.loop-line-test.true c.line-item.result c.line-item.is inv.number c.in_ok-items.items.items (state c.commit_line.new.port) cut.0 c.in_ok-items.ensures cut.1 in
     let p = err_from_is_err_and c.from_residual-in_err-commit_line.result c.from_residual-in_err-commit_line.ensures.1 in
     rw p.1 (stopped.count, stopped.events, stopped.shows, stopped.few)
 

@@ -1,4 +1,4 @@
-use Rattle.std.proofs.Common.{◌≡◌, ◌<◌, ◌≤◌, ⊎_elim, ℕ, ◌+◌, ◌*◌, length, ◌∙◌, ap, arith, rules}
+use Rattle.std.proofs.Common.{◌≡◌, ◌≤◌, ⊎_elim, ℕ, ◌+◌, ◌*◌, length, ◌∙◌, ap, arith, rules}
 use Rattle.std.proofs.lemmas.Result.{err_from_is_err_and}
 use Rattle.std.specs.VecDeque.{deque_len}
 use Rattle.mq_blocks.specs.Drive.{PortState, staged_end, after_flush, after_ring}
@@ -58,9 +58,9 @@ returns-in_err-ring_once-clause-cut g c =
     let items : Items = c.args.items.items in
     let staged : state c.stage_all.new.port ≡ after_some old c.args.tx (length items) items = c.in_ok-stage_all.ensures.ok in
     let cut : (events : ℕ) × IsCut old new c.args.tx items events = ⊎_elim
-        (λ same. (length items, cut_staging old c.args.tx items q.quiet q.done q.settled q.room new (length items) (omega arith) (same ∙ staged)))
-        (λ flushed. (length items + 1, cut_flushed old c.args.tx items q.quiet q.done q.settled q.room new (flushed ∙ ap after_flush staged)))
-        c.in_err-ring_once.ensures.off in
+    (λ same. (length items, cut_staging old c.args.tx items q.quiet q.done q.settled q.room new (length items) (omega arith) (same ∙ staged)))
+    (λ flushed. (length items + 1, cut_flushed old c.args.tx items q.quiet q.done q.settled q.room new (flushed ∙ ap after_flush staged)))
+    c.in_err-ring_once.ensures.off in
     let p = err_from_is_err_and c.from_residual-in_err-ring_once.result c.from_residual-in_err-ring_once.ensures.1 in rw p.1 cut
 
 pub returns-in_err-complete_all-clause-cut : goal.returns-in_err-complete_all-clause-cut
@@ -89,7 +89,7 @@ returns-in_err-advance_head-clause-cut g c =
     let end : c.doorbell.result + c.len.result ≡ staged_end old + length items =
     let at = start old c.args.tx items q.quiet in let len = c.len.ensures in let door = c.doorbell.ensures in omega arith in
     let cut : (events : ℕ) × IsCut old new c.args.tx items events = ⊎_elim
-        (λ same. (2 * length items + 2, cut_all old c.args.tx items q.quiet q.done q.settled q.room new (same ∙ all)))
-        (λ stored. (2 * length items + 3, cut_stored old c.args.tx items q.quiet q.done q.settled q.room new (stored ∙ stored_past old c.args.tx items (state c.complete_all.new.port) _ all end)))
-        c.in_err-advance_head.ensures.off in
+    (λ same. (2 * length items + 2, cut_all old c.args.tx items q.quiet q.done q.settled q.room new (same ∙ all)))
+    (λ stored. (2 * length items + 3, cut_stored old c.args.tx items q.quiet q.done q.settled q.room new (stored ∙ stored_past old c.args.tx items (state c.complete_all.new.port) _ all end)))
+    c.in_err-advance_head.ensures.off in
     let p = err_from_is_err_and c.from_residual-in_err-advance_head.result c.from_residual-in_err-advance_head.ensures.1 in rw p.1 cut

@@ -1,9 +1,9 @@
-use Rattle.std.proofs.Common.{◌≡◌, ◌≢◌, ℕ, ◌+◌, ◌-◌, length, refl, sym, ◌∙◌, ap, subst, arith}
+use Rattle.std.proofs.Common.{◌≡◌, ◌≢◌, ℕ, ◌+◌, ◌-◌, length, sym, ◌∙◌, subst, arith}
 use Rattle.std.proofs.lemmas.Result.{err_from_is_err_and}
 use Rattle.mq_blocks.specs.Drive.{PortState}
 use Rattle.mq_nvme.specs.Completion.{status_of}
 use Rattle.mqfs.specs.Cuts.{HasEnded}
-use Rattle.mqfs.proofs.Ended.{ended_none, ended_done, ended_failed}
+use Rattle.mqfs.proofs.Ended.{ended_done, ended_failed}
 use Rattle.mqfs.proofs.Ending.{goes_on}
 use Rattle.mqfs.proofs.pmr.complete_all.Goals as goal
 
