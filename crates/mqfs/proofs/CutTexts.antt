@@ -1,13 +1,19 @@
 -- How many lines of a text stand where the power of a port in memory goes off after so many events.
 use Rattle.std.proofs.Common.{◌≡◌, ◌<◌, ◌≤◌, ◌^◌, ℕ, zero, suc, ◌+◌, ◌-◌, List, [], length, min, Option, Some, None, inl, inr, refl, sym, ◌∙◌, ap, subst, arith}
-use Rattle.std.specs.Prelude.{Contains, IfSome}
+use Rattle.std.specs.Prelude.{Contains, IfSome, Result, Err}
 use Rattle.std.proofs.lemmas.Bool.{cases_lt}
 use Rattle.mq_blocks.specs.Drive.{counted}
 use Rattle.mq_drive.specs.Emu.{emu_state, emu_faults, happened_of}
 use Rattle.mq_drive.specs.Steps.{Fault, PowerOff, CommandError, Gains}
 use Rattle.mq_drive.specs.declared.emu.EmuPort.{EmuPort}
 use Rattle.mq_drive.proofs.Faults.{off_limit, off_unlimited, no_error, command_error_is_none}
+use Rattle.mqfs.specs.Blocks.{output_of}
+use Rattle.mqfs.specs.Causes.{HasTextCause}
 use Rattle.mqfs.specs.Cuts.{events_of, IsReached, IsPrefixAt}
+use Rattle.mqfs.specs.Lines.{live_from, map_after, named}
+use Rattle.mqfs.specs.Text.{printed}
+use Rattle.mqfs.specs.declared.commit.TextRefusal.{TextRefusal}
+use Rattle.mqfs.specs.declared.commit.TextRefusal.TheVariants.{Off, Failed}
 use Rattle.mqfs.specs.declared.text.item.BlockItem.{BlockItem}
 
 abbrev Lines : Type 0
@@ -35,7 +41,8 @@ counted-small n (suc k) m low is small = elim (cases_lt n (2 ^ 64 - 1)) [
 -- so many events happened on a port where no home write began
 happened-events : (p : EmuPort) (e m : ℕ) → (emu_state p).begins ≡ 0 → (emu_state p).events ≡ counted 0 e → happened_of p ≡ m → m < 2 ^ 63 → e ≡ m
 happened-events p e m none counts is small =
-    counted-small 0 e m (omega arith) (sym counts ∙ sym (p.events_counted none) ∙ is) (omega (arith, small))
+    let all = counted-small 0 e m (omega arith) (sym counts ∙ sym (p.events_counted none) ∙ is) (omega (arith, small)) in
+    omega (arith, all)
 
 -- all lines stand where all of them were committed
 pub all_stand : (lines : Lines) (cut : Option ℕ) (p : EmuPort) → IfSome cut (λ k. k < 2 ^ 63) → (emu_state p).limit ≡ cut → (emu_state p).begins ≡ 0 → (emu_state p).events ≡ counted 0 (events_of lines (length lines)) → IsPrefixAt lines cut (length lines)
@@ -54,7 +61,27 @@ reached_stand lines (Some k) old p e n small limit none counts gains reached =
     let is : e ≡ k = happened-events p e k none counts at small in
     subst (λ (m : ℕ). IsReached lines m n) is reached
 
+pub prefix_within : (lines : Lines) (cut : Option ℕ) (n : ℕ) → IsPrefixAt lines cut n → n ≤ length lines
+prefix_within lines None n is = omega (arith, is)
+prefix_within lines (Some k) n is = is.within
+
 -- no command of a port fails where none is to fail
 pub none_failed : (p : EmuPort) (tx status : ℕ) → (emu_state p).fail ≡ None → Gains (CommandError tx status) [] (emu_faults p) → ⊥
 none_failed p tx status none gains =
     no_error [] p (CommandError tx status) (command_error_is_none tx status) gains none (λ has. let within = has.1 in omega (arith, within))
+
+-- ---- the causes of a text's refusals
+
+pub off_cause : {A : Type 0} (r : Result A TextRefusal) (e : TextRefusal) (old new : List Fault) → HasTextCause r old new → r ≡ Err e → e ≡ Off → Gains PowerOff old new
+off_cause {A} r e old new cause is off =
+    subst (λ (x : TextRefusal). HasTextCause {A = A} (Err x) old new) off (subst (λ (x : Result A TextRefusal). HasTextCause x old new) is cause)
+
+pub failed_cause : {A : Type 0} (r : Result A TextRefusal) (e : TextRefusal) (status : ℕ) (old new : List Fault) → HasTextCause r old new → r ≡ Err e → e ≡ Failed status → (tx : ℕ) × Gains (CommandError tx status) old new
+failed_cause {A} r e status old new cause is failed =
+    subst (λ (x : TextRefusal). HasTextCause {A = A} (Err x) old new) failed (subst (λ (x : Result A TextRefusal). HasTextCause x old new) is cause)
+
+-- ---- what is printed
+
+pub run_output : (lines : Lines) (cut : Option ℕ) (p prefix : ℕ) (text : List ℕ) (live : List (ℕ × ℕ)) → IsPrefixAt lines cut p → prefix ≡ p → text ≡ printed prefix live → live ≡ live_from (map_after lines p) 0 named
+    → (x : ℕ) × IsPrefixAt lines cut x × (text ≡ output_of lines x)
+run_output lines cut p prefix text live at same is live_is = (p, at, is ∙ (λ i. printed (same i) (live_is i)))

@@ -1,6 +1,6 @@
 -- Two images of a drive of one queue, on which lines of a text stand, and their recovery.
-use Rattle.std.proofs.Common.{◌≡◌, ◌<◌, ◌≤◌, ⊎_elim, ℕ, ◌+◌, ◌*◌, List, [], ◌∷◌, length, take, Option, Some, None, refl, inl, inr, sym, ◌∙◌, ap, subst, arith}
-use Rattle.std.specs.Prelude.{slice_get, Contains, Result, Err}
+use Rattle.std.proofs.Common.{◌≡◌, ◌<◌, ◌≤◌, ◌⊎◌, ⊎_elim, ℕ, ◌+◌, ◌*◌, List, [], ◌∷◌, length, take, Option, Some, None, refl, inl, inr, sym, ◌∙◌, ap, subst, arith}
+use Rattle.std.specs.Prelude.{slice_get, Contains, Result, Ok, Err}
 use Rattle.mq_nvme.specs.Says.{says}
 use Rattle.mq_blocks.specs.Descriptor.{Descriptor}
 use Rattle.mq_blocks.specs.Drive.{PortState, PortImage, after_begin, after_end}
@@ -168,6 +168,18 @@ only_memory {A} g queue root new_queue new_root r e sound readable image drive c
     by (Image f) image drive cause = ⊎_elim (λ same. ap Image same) (λ refuses. absurd (readable f refuses)) image.2
     by Off image drive cause = absurd (no_off g queue root new_queue new_root sound (kept-stop g Off _ _ _ drive.events) cause)
     by (Failed b status) image drive cause = absurd (no_home_error g queue root new_queue new_root (home_lba g b) status sound (kept-stop g (Failed b status) _ _ _ drive.events) cause)
+
+pub on_image : {A : Type 0} (r : Result A RecoverRefusal) (P Q : ImageFault → Type 0) → ((f : ImageFault) → P f → Q f) → OnImage r P → OnImage r Q
+on_image (Ok x) P Q each h = tt
+on_image (Err (Image f)) P Q each h = each f h
+on_image (Err Off) P Q each h = tt
+on_image (Err (Failed b status)) P Q each h = tt
+
+pub on_drive : {A : Type 0} (r : Result A RecoverRefusal) (P Q : RecoverRefusal → Type 0) → ((e : RecoverRefusal) → P e → Q e) → OnDrive r P → OnDrive r Q
+on_drive (Ok x) P Q each h = tt
+on_drive (Err (Image f)) P Q each h = tt
+on_drive (Err Off) P Q each h = each Off h
+on_drive (Err (Failed b status)) P Q each h = each (Failed b status) h
 
 pub single : {A : Type 0} (xs : List A) → length xs ≡ 1 → (x : A) × (slice_get xs 0 ≡ Some x)
 single [] one = absurd (omega arith)

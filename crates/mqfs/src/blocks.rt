@@ -1,5 +1,5 @@
 // A block text is run: committed on a fresh drive, cut from power, recovered, and printed.
-ghost use Rattle.std.specs.Prelude.{◌≡◌, ◌<◌, ◌≤◌, ◌+◌, ℕ, List, [], ◌∷◌, length, ◌^◌, IfErr, IfOk, IfSome, MatchResult, Some, None, is_some, slice_get, slice_index_or};
+ghost use Rattle.std.specs.Prelude.{◌≡◌, ◌<◌, ◌≤◌, ◌+◌, ℕ, List, [], ◌∷◌, length, ◌^◌, IfErr, IfOk, IfSome, OnOk, MatchResult, Some, None, is_some, slice_get, slice_index_or};
 ghost use Rattle.mq_blocks.specs.Drive.{PortImage as CutImage};
 ghost use Rattle.mq_blocks.specs.Geometry.{homes_of, queues_of};
 ghost use Rattle.mq_blocks.specs.Journal.{shown};
@@ -90,6 +90,18 @@ fn fresh_port(
     EmuPort::new(alloc, geometry, role, image, limit, None, pick)
 }
 
+// Where no command fails, a text is refused by its power or for want of memory.
+fn check_power(refusal: TextRefusal) -> Result<(), OutOfMemory>
+    requires { (status : ℕ) → refusal ≡ TextRefusal.Failed status → ⊥ }
+    ensures { OnOk result (refusal ≡ TextRefusal.Off) }
+{
+    match refusal {
+        TextRefusal::Off => Ok(()),
+        TextRefusal::OutOfMemory => Err(OutOfMemory),
+        TextRefusal::Failed { .. } => unreachable!(),
+    }
+}
+
 /// Commits a text on a fresh drive, and pulls the plug after so many events of the queue's port, or
 /// at the end: what stays of the queue's port and of the root's.
 fn commit_fresh(
@@ -115,9 +127,10 @@ fn commit_fresh(
     let queue = queues.remove(0);
     match answer {
         Ok(()) => Ok((queue.cut(pick), root.cut(pick))),
-        Err(TextRefusal::Off) => Ok((queue.cut(pick), root.cut(pick))),
-        Err(TextRefusal::OutOfMemory) => Err(OutOfMemory),
-        Err(TextRefusal::Failed { .. }) => unreachable!(),
+        Err(refusal) => {
+            check_power(refusal)?;
+            Ok((queue.cut(pick), root.cut(pick)))
+        }
     }
 }
 
