@@ -61,9 +61,9 @@ error_gains n m old new e none is same = inl (record {
 pub homes_kept : (s new : PortState) (faults more : List Fault) (r : Result Step Off) → StepGives s faults r new more → (new.homes_first ≡ s.homes_first) × (new.homes_size ≡ s.homes_size)
 homes_kept s new faults more (Ok Idle) gives = (ap (λ (t : PortState). t.homes_first) gives.1, ap (λ (t : PortState). t.homes_size) gives.1)
 homes_kept s new faults more (Ok (Done c)) gives = elim (cases_eq (status_of c) 0) [
-    inl good ↦ (ap (λ (t : PortState). t.homes_first) (gives.success good).0, ap (λ (t : PortState). t.homes_size) (gives.success good).0)
-    | inr bad ↦ (ap (λ (t : PortState). t.homes_first) (gives.error bad).0, ap (λ (t : PortState). t.homes_size) (gives.error bad).0)
-    ]
+  | inl good ↦ (ap (λ (t : PortState). t.homes_first) (gives.success good).0, ap (λ (t : PortState). t.homes_size) (gives.success good).0)
+  | inr bad ↦ (ap (λ (t : PortState). t.homes_first) (gives.error bad).0, ap (λ (t : PortState). t.homes_size) (gives.error bad).0)
+]
 homes_kept s new faults more (Err x) gives = (ap (λ (t : PortState). t.homes_first) gives.1, ap (λ (t : PortState). t.homes_size) gives.1)
 
 -- ---- what the faults tell

@@ -56,6 +56,8 @@ fn what_is_rung_is_done(rt: HostRuntime) -> Result<(), OutOfMemory> {
     let alloc = rt.alloc();
     let geometry = small().expect(&rt, "a geometry");
     let image = fresh(alloc, 1024, 1264)?;
+    let (three, four) = (filled(alloc, 3)?, filled(alloc, 4)?);
+    let mut block = Block::zeroed(alloc)?;
     let mut port = EmuPort::new(alloc, geometry, QUEUE, image, None, None, 4)?;
     let member = write_of(&WriteReq {
         tx: 7,
@@ -69,9 +71,8 @@ fn what_is_rung_is_done(rt: HostRuntime) -> Result<(), OutOfMemory> {
         lba: 1044,
         commit: true,
     });
-    port.stage(0, member, filled(alloc, 3)?)
-        .expect(&rt, "power");
-    port.stage(1, last, filled(alloc, 4)?).expect(&rt, "power");
+    port.stage(0, member, three).expect(&rt, "power");
+    port.stage(1, last, four).expect(&rt, "power");
     port.flush().expect(&rt, "power");
     port.ring(2).expect(&rt, "power");
     // The completions name submission queue 1 at its head 2, and have phase 1 and status 0.
@@ -99,7 +100,6 @@ fn what_is_rung_is_done(rt: HostRuntime) -> Result<(), OutOfMemory> {
     assert_eq!(rt; port.head(), 0);
     assert_eq!(rt; port.base(), 0);
     assert!(rt; port.read_slot(1) == last);
-    let mut block = Block::zeroed(alloc)?;
     port.read_block(Lba(1044), &mut block);
     assert!(rt; block.bytes().iter().all(|b| *b == 4));
     assert!(rt; port.step() == Ok(Step::Idle));
@@ -119,6 +119,7 @@ fn a_cut_before_the_flush(rt: HostRuntime) -> Result<(), OutOfMemory> {
     let geometry = small().expect(&rt, "a geometry");
     let mut image = fresh(alloc, 1024, 1264)?;
     image.doorbell = 1;
+    let three = filled(alloc, 3)?;
     let mut port = EmuPort::new(alloc, geometry, QUEUE, image, None, None, 0)?;
     let entry = write_of(&WriteReq {
         tx: 7,
@@ -126,7 +127,7 @@ fn a_cut_before_the_flush(rt: HostRuntime) -> Result<(), OutOfMemory> {
         lba: 5,
         commit: true,
     });
-    port.stage(1, entry, filled(alloc, 3)?).expect(&rt, "power");
+    port.stage(1, entry, three).expect(&rt, "power");
     port.store_head(1).expect(&rt, "power");
     let image = port.cut(17);
     assert_eq!(rt; image.doorbell, 1);
@@ -141,11 +142,12 @@ fn the_root_keeps_the_base(rt: HostRuntime) -> Result<(), OutOfMemory> {
     let alloc = rt.alloc();
     let geometry = small().expect(&rt, "a geometry");
     let image = fresh(alloc, 0, 16)?;
+    let five = filled(alloc, 5)?;
     let mut port = EmuPort::new(alloc, geometry, Role::Root, image, None, None, 0)?;
     port.store_base(7).expect(&rt, "power");
     port.flush().expect(&rt, "power");
     port.store_base(9).expect(&rt, "power");
-    assert!(rt; port.write_home(Lba(1026), filled(alloc, 5)?) == Ok(HomeStep::Done));
+    assert!(rt; port.write_home(Lba(1026), five) == Ok(HomeStep::Done));
     let image = port.cut(4);
     assert_eq!(rt; image.base, 7);
     assert!(rt; holds(&image, 2, 5));
@@ -200,8 +202,9 @@ fn the_power_goes_off_at_the_limit(rt: HostRuntime) -> Result<(), OutOfMemory> {
         (9, 3, 4),
     ] {
         let image = fresh(alloc, 0, 16)?;
+        let five = filled(alloc, 5)?;
         let mut port = EmuPort::new(alloc, geometry, Role::Root, image, Some(limit), None, 0)?;
-        assert_eq!(rt; root_calls(&mut port, filled(alloc, 5)?), calls);
+        assert_eq!(rt; root_calls(&mut port, five), calls);
         assert_eq!(rt; port.events(), events);
         assert!(rt; !port.failed());
         // The pick 1 takes what is written of a home write that is under way.
@@ -228,11 +231,10 @@ fn a_home_write_that_fails(rt: HostRuntime) -> Result<(), OutOfMemory> {
     ];
     for (pick, first, last) in drawn {
         let image = fresh(alloc, 0, 16)?;
+        let five = filled(alloc, 5)?;
         let mut port = EmuPort::new(alloc, geometry, Role::Root, image, None, Some(1), 0)?;
         assert!(rt; !port.failed());
-        assert!(rt;
-            port.write_home(Lba(1026), filled(alloc, 5)?) == Ok(HomeStep::Error { status: 640 })
-        );
+        assert!(rt; port.write_home(Lba(1026), five) == Ok(HomeStep::Error { status: 640 }));
         assert!(rt; port.failed());
         port.store_base(7).expect(&rt, "power");
         let image = port.cut(pick);
@@ -242,11 +244,10 @@ fn a_home_write_that_fails(rt: HostRuntime) -> Result<(), OutOfMemory> {
     // A later write of the block ends the doubt.
     for pick in 0..6 {
         let image = fresh(alloc, 0, 16)?;
+        let (five, six) = (filled(alloc, 5)?, filled(alloc, 6)?);
         let mut port = EmuPort::new(alloc, geometry, Role::Root, image, None, Some(1), 0)?;
-        assert!(rt;
-            port.write_home(Lba(1026), filled(alloc, 5)?) == Ok(HomeStep::Error { status: 640 })
-        );
-        assert!(rt; port.write_home(Lba(1026), filled(alloc, 6)?) == Ok(HomeStep::Done));
+        assert!(rt; port.write_home(Lba(1026), five) == Ok(HomeStep::Error { status: 640 }));
+        assert!(rt; port.write_home(Lba(1026), six) == Ok(HomeStep::Done));
         assert_eq!(rt; port.events(), 4);
         assert!(rt; holds(&port.cut(pick), 2, 6));
     }
@@ -356,11 +357,10 @@ fn a_cut_chooses_of_slots(rt: HostRuntime) -> Result<(), OutOfMemory> {
     for (pick, first, last) in drawn {
         let mut image = fresh(alloc, 1024, 1264)?;
         image.doorbell = 1;
+        let (three, four) = (filled(alloc, 3)?, filled(alloc, 4)?);
         let mut port = EmuPort::new(alloc, geometry, QUEUE, image, None, None, 0)?;
-        port.stage(1, write(1, 5), filled(alloc, 3)?)
-            .expect(&rt, "power");
-        port.stage(2, write(2, 6), filled(alloc, 4)?)
-            .expect(&rt, "power");
+        port.stage(1, write(1, 5), three).expect(&rt, "power");
+        port.stage(2, write(2, 6), four).expect(&rt, "power");
         port.store_head(1).expect(&rt, "power");
         let image = port.cut(pick);
         let torn = image.slots.get(1).map(|entry| entry.to_bytes());
