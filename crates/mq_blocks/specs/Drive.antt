@@ -48,8 +48,8 @@ pub record PortState : Type 0 where
   pub rings : ℕ
   pub begins : ℕ
   pub events : ℕ
-  -- no call changes these two, where they are told: after how many of its events the power goes
-  -- off, and which of its commands, counted from 1, ends with an error
+  -- what no call changes: after how many of its events the power goes off, and which of its commands
+  -- and home writes ends with an error, counted from 1, where these are told
   pub limit : Option ℕ
   pub fail : Option ℕ
 

@@ -1,7 +1,10 @@
 -- What a port in memory stands for.
-use Rattle.std.specs.Prelude.{[], None}
+use Rattle.std.specs.Prelude.{◌≡◌, ℕ, List, [], ◌∷◌, ◌++◌, replicate}
+use Rattle.std.specs.Option.{option_to_list}
 use Rattle.mq_blocks.specs.Drive.{PortState}
 use Rattle.mq_drive.specs.Roles.{queue_in}
+use Rattle.mq_drive.specs.Steps.{Fault, PowerOff}
+use Rattle.mq_drive.specs.Failures.{failed_of, unended_of, errors_of}
 use Rattle.mq_drive.specs.declared.emu.EmuPort.{EmuPort}
 
 abbrev pub emu_state : EmuPort → PortState
@@ -17,17 +20,25 @@ emu_state p = record {
   pending = p.pending.items;
   doorbell = p.doorbell;
   posted = p.posted.items;
-  failed = [];
+  failed = failed_of p.failure;
   head = p.head;
   stored_head = p.stored_head;
   base = p.base;
   stored_base = p.stored_base;
-  blocks = p.blocks.items;
-  sure = p.sure.items;
-  begun = [];
+  blocks = p.blocks.blocks.items;
+  sure = p.blocks.sure.items;
+  begun = unended_of p.failure ++ option_to_list p.under_way;
   rings = p.rings;
   begins = p.begins;
   events = p.events;
-  limit = None;
-  fail = None;
+  limit = p.power.limit;
+  fail = p.failing.named;
 }
+
+-- each refused event, and at most one error
+abbrev pub emu_faults : EmuPort → List Fault
+emu_faults p = replicate p.power.offs PowerOff ++ errors_of p.failure
+
+-- the events that happened
+abbrev pub happened_of : EmuPort → ℕ
+happened_of p = p.power.happened

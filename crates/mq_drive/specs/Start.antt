@@ -1,5 +1,5 @@
 -- The state of a port that starts from an image.
-use Rattle.std.specs.Prelude.{◌≡◌, ◌<◌, ℕ, ◌+◌, ◌*◌, [], true, length, slice_index_or, replicate, None}
+use Rattle.std.specs.Prelude.{◌≡◌, ◌<◌, ℕ, ◌+◌, ◌*◌, [], true, length, slice_index_or, replicate, Option}
 use Rattle.mq_blocks.specs.Drive.{PortState, PortImage, IsFlushed}
 use Rattle.mq_blocks.specs.declared.geometry.Geometry.{Geometry}
 use Rattle.mq_drive.specs.Roles.{queue_in, slots_of}
@@ -38,8 +38,8 @@ pub record IsImageOf (g : Geometry) (role : Role) (i : PortImage) : Type 0 where
   pub words : HasWords role i
 
 -- nothing is under way, and all is certain as in the image
-abbrev pub start_of : Geometry → Role → PortImage → PortState
-start_of g role i = record {
+abbrev pub start_of : Geometry → Role → PortImage → Option ℕ → Option ℕ → PortState
+start_of g role i limit fail = record {
   queue = queue_in role;
   area_first = area_first_of g role;
   area_size = area_size_of g role;
@@ -62,8 +62,8 @@ start_of g role i = record {
   rings = 0;
   begins = 0;
   events = 0;
-  limit = None;
-  fail = None;
+  limit = limit;
+  fail = fail;
 }
 
 -- a port of this role, on a drive of this geometry

@@ -1,32 +1,32 @@
-// A port in memory, on which nothing fails.
-ghost use Rattle.std.specs.Prelude.{◌≡◌, ◌<◌, ◌≤◌, ◌+◌, ◌-◌, ◌*◌, ◌%◌, ◌^◌, ℕ, List, [], ◌∷◌, length, IfOk, OnOk, OnErr, All, IsSome, IsNone, slice_index_or};
+// A port in memory, whose power may go off and on which one command may fail.
+ghost use Rattle.std.specs.Prelude.{◌≡◌, ◌<◌, ◌≤◌, ◌+◌, ◌-◌, ◌*◌, ◌%◌, ◌^◌, ℕ, List, [], ◌∷◌, length, false, is_some, IfOk, OnOk, OnErr, All, IsSome, IsNone, IsTrue, ◌↔◌, slice_index_or, Some, None, Contains};
+ghost use Rattle.std.specs.Option.{ForSome};
 ghost use Rattle.std.specs.VecDeque.{deque_capacity};
 ghost use Rattle.mq_blocks.specs.Drive.{AreCounted, AreCounted-prop};
 ghost use Rattle.mq_drive.specs.Roles.{slots_of, queue_in};
 ghost use Rattle.mq_drive.specs.Slots.{AreSettled, index_in};
-ghost use Rattle.mq_drive.specs.Start.{IsRole, area_first_of, area_size_of, homes_first_of, homes_size_of};
 
-use crate::store::{
-    add, add_all, bump, put_block, put_flag, put_slot, read_block, settle, slot_at, take_first,
-};
+use crate::blocks::Blocks;
+use crate::extent::{Extent, block_index, extents, port_number, queue_id};
+use crate::failing::{Failing, Failure, parts_of};
+use crate::power::Power;
+use crate::cut::{tear_commands, tear_homes, tear_slots};
+use crate::random::{choose, either, generator};
+use crate::store::{add, add_all, bump, put_slot, settle, slot_at, take_at};
 use crate::{HomeStep, Off, Port, PortImage, Role, Step};
-use mq_blocks::{Block, Command, Geometry, Lba, OutOfMemory, QueueNo};
-use mq_nvme::{Completion, Ended, Entry, completion_of};
+use mq_blocks::{Block, Command, Geometry, HomeWrite, Lba, OutOfMemory};
+use mq_nvme::{Completion, Ended, Entry, WRITE_FAULT, completion_of};
+use rand_pcg::Lcg128Xsl64;
 use std::alloc::Global;
 use std::collections::VecDeque;
 
-/// Consecutive blocks of the namespace.
-#[derive(Clone, Copy)]
-struct Extent {
-    first: u32,
-    size: u32,
-}
-
-/// A port of an emulated drive. It executes the posted commands in order of their counts, each with
-/// success, and never loses power; it may be cut at any time.
+/// A port of an emulated drive. It executes the posted commands in an order that a generator
+/// chooses. Its power goes off after so many events and one of its commands ends with an error,
+/// where these are told. It may be cut at any time.
 #[derive(Drop)]
 pub struct EmuPort {
     role: Role,
+    number: u32,
     id: u32,
     area: Extent,
     homes: Extent,
@@ -36,16 +36,20 @@ pub struct EmuPort {
     pending: VecDeque<Command>,
     doorbell: u64,
     posted: VecDeque<Command>,
+    failure: Option<Failure>,
     head: u64,
     stored_head: u64,
     base: u64,
     stored_base: u64,
-    blocks: Vec<Option<Block>>,
-    sure: Vec<bool>,
+    blocks: Blocks,
+    under_way: Option<HomeWrite>,
     rings: u64,
     begins: u64,
     events: u64,
     completions: u64,
+    power: Power,
+    failing: Failing,
+    order: Lcg128Xsl64,
     ghost same_ring: { length flushed.items ≡ length staged.items },
     ghost ring: { length staged.items ≡ slots_of role },
     ghost settled: { AreSettled flushed.items staged.items flushed_end (doorbell + length pending.items) },
@@ -58,35 +62,49 @@ pub struct EmuPort {
     ghost pending_last: { 0 < length pending.items → doorbell + length pending.items ≤ 2 ^ 63 },
     ghost pending_order: { 0 < length pending.items → stored_head ≤ doorbell },
     ghost pending_counted: { AreCounted doorbell (doorbell + length pending.items) pending.items } by { AreCounted-prop doorbell (doorbell + length pending.items) pending.items },
-    ghost pending_own: { All (λ c. (area.first ≤ c.lba) × (index_in area.first area.size homes.first c.lba < length blocks.items)) pending.items },
+    ghost pending_own: { All (λ c. (area.first ≤ c.lba) × (index_in area.first area.size homes.first c.lba < length blocks.blocks.items)) pending.items },
     ghost posted_counted: { AreCounted stored_head doorbell posted.items } by { AreCounted-prop stored_head doorbell posted.items },
-    ghost posted_own: { All (λ c. (area.first ≤ c.lba) × (index_in area.first area.size homes.first c.lba < length blocks.items)) posted.items },
+    ghost posted_own: { All (λ c. (area.first ≤ c.lba) × (index_in area.first area.size homes.first c.lba < length blocks.blocks.items)) posted.items },
     ghost heads: { head ≤ stored_head },
-    ghost sized: { area.size + homes.size ≡ length blocks.items },
-    ghost sure_sized: { length sure.items ≡ length blocks.items },
+    ghost sized: { area.size + homes.size ≡ length blocks.blocks.items },
     ghost area_before: { area.first + area.size ≤ homes.first },
     ghost queue_base: { IsSome (queue_in role) → (base ≡ 0) × (stored_base ≡ 0) },
     ghost root_words: { IsNone (queue_in role) → (doorbell ≡ 0) × (head ≡ 0) × (stored_head ≡ 0) },
     ghost homes_end: { homes.first + homes.size ≤ 2 ^ 32 },
     ghost id_small: { id < 2 ^ 16 },
+    ghost events_counted: { begins ≡ 0 → power.happened ≡ events },
+    ghost failure_counted: { is_some failure ≡ failing.failed },
+    ghost under_way_last: { ForSome under_way (λ w. 0 < power.offs) },
+    ghost under_way_own: { ForSome under_way (λ w. (area.first ≤ w.lba) × (index_in area.first area.size homes.first w.lba < length blocks.blocks.items)) },
+    ghost under_way_doubt: { ForSome under_way (λ w. slice_index_or blocks.sure.items (index_in area.first area.size homes.first w.lba) false ≡ false) },
 }
 
 impl EmuPort {
-    ghost use Rattle.mq_drive.specs.Emu.{emu_state};
+    ghost use Rattle.mq_drive.specs.Emu.{emu_state, emu_faults, happened_of};
     ghost use Rattle.mq_drive.specs.Start.{IsRole, IsImageOf, start_of};
+    ghost use Rattle.mq_drive.specs.Steps.{PowerOff};
+    ghost use Rattle.mq_blocks.specs.Drive.{staged_end};
 
-    /// The port of a role of the geometry, which starts from an image of that role.
+    /// The port of a role of the geometry, which starts from an image of that role. Its power goes
+    /// off after `limit` events. Its command number `fail`, counted from 1 over executed entries
+    /// and home writes alike, ends with the status Write Fault; 0 names none. `seed` and the port's
+    /// number choose the order in which posted commands are executed.
     pub fn new(
         alloc: Global,
         geometry: Geometry,
         role: Role,
         image: PortImage,
+        limit: Option<u64>,
+        fail: Option<u64>,
+        seed: u64,
     ) -> Result<EmuPort, OutOfMemory>
         requires role { IsRole geometry role }
         requires image { IsImageOf geometry role image }
-        ensures { IfOk result (λ p. emu_state p ≡ start_of geometry role image) }
+        ensures state { IfOk result (λ p. emu_state p ≡ start_of geometry role image limit fail) }
+        ensures faults { IfOk result (λ p. emu_faults p ≡ []) }
     {
         let (area, homes) = extents(geometry, role);
+        let number = port_number(role, geometry);
         let PortImage {
             doorbell,
             head,
@@ -98,6 +116,7 @@ impl EmuPort {
         let sure = vec![in alloc; true; blocks.len()]?;
         Ok(EmuPort {
             role,
+            number,
             id: queue_id(role, geometry),
             area,
             homes,
@@ -107,70 +126,105 @@ impl EmuPort {
             pending: VecDeque::with_capacity(alloc, 1023)?,
             doorbell,
             posted: VecDeque::with_capacity(alloc, 1023)?,
+            failure: None,
             head,
             stored_head: head,
             base,
             stored_base: base,
-            blocks,
-            sure,
+            blocks: Blocks::new(blocks, sure),
+            under_way: None,
             rings: 0,
             begins: 0,
             events: 0,
             completions: 0,
+            power: Power::new(limit),
+            failing: Failing::new(fail),
+            order: generator(seed, number),
         })
     }
 
-    // The index of a block of this port among its blocks.
-    fn index(&self, lba: Lba) -> usize
-        requires within { index_in self.now.area.first self.now.area.size self.now.homes.first lba < length self.now.blocks.items }
-        requires low { self.now.area.first ≤ lba }
-        ensures { result ≡ index_in self.now.area.first self.now.area.size self.now.homes.first lba }
+    /// How many events of this port happened. It stays at 2^64 - 1 once there.
+    pub fn events(&self) -> u64
+        ensures is { result ≡ happened_of self.now }
+        ensures state { (emu_state self.now).begins ≡ 0 → result ≡ (emu_state self.now).events }
+        ensures limit { (l : ℕ) → (emu_state self.now).limit ≡ Some l → (result ≤ l) × (Contains (emu_faults self.now) PowerOff → result ≡ l) }
+        ensures unlimited { (emu_state self.now).limit ≡ None → Contains (emu_faults self.now) PowerOff → ⊥ }
     {
-        if lba.0 < self.homes.first {
-            (lba.0 - self.area.first) as usize
-        } else {
-            self.area.size as usize + (lba.0 - self.homes.first) as usize
-        }
+        self.power.happened()
+    }
+
+    // The count of the next entry.
+    fn end(&self) -> u64
+        ensures { result ≡ staged_end (emu_state self.now) }
+    {
+        self.doorbell + self.pending.len() as u64
+    }
+
+    /// Whether the command that fails was executed.
+    pub fn failed(&self) -> bool
+        ensures none { (emu_state self.now).fail ≡ None → All (λ f. f ≡ PowerOff) (emu_faults self.now) }
+    {
+        self.failing.failed()
     }
 }
 
 impl EmuPort {
     ghost use Rattle.mq_drive.specs.Emu.{emu_state};
-    ghost use Rattle.mq_blocks.specs.Drive.{IsImage, image_of};
+    ghost use Rattle.mq_blocks.specs.Drive.{IsImage, IsQuiet, image_of};
     ghost use Rattle.mq_blocks.specs.declared.geometry.Geometry as geometry;
     ghost use Rattle.mq_drive.specs.Roles.{role_of};
     ghost use Rattle.mq_drive.specs.Start.{IsPortOf, IsImageOf};
 
-    /// What a cut of the power leaves: flushed slots and words, and blocks as last completed.
-    pub fn cut(self) -> PortImage
+    /// What a cut of the power leaves: all that is certain, and of the rest what `pick` and the
+    /// port's number choose.
+    pub fn cut(self, pick: u64) -> PortImage
         ensures image { IsImage (emu_state self) result }
-        ensures is { result ≡ image_of (emu_state self) }
+        ensures quiet { IsQuiet (emu_state self) → result ≡ image_of (emu_state self) }
         ensures role { (g : geometry.Geometry) → IsPortOf g (role_of (emu_state self).queue) (emu_state self) → IsImageOf g (role_of (emu_state self).queue) result }
     {
         let EmuPort {
-            flushed,
+            number,
+            area,
+            homes,
+            mut flushed,
+            staged,
+            flushed_end,
+            pending,
             doorbell,
+            posted,
+            failure,
             head,
+            stored_head,
             base,
-            blocks,
+            stored_base,
+            mut blocks,
+            under_way,
             ..
         } = self;
+        let mut rng = generator(pick, number);
+        let end = doorbell + pending.len() as u64;
+        tear_slots(&mut flushed, &staged, flushed_end, end, &mut rng);
+        let head = either(&mut rng, head, stored_head);
+        let base = either(&mut rng, base, stored_base);
+        let (failed, unended) = parts_of(failure);
+        tear_commands(&mut blocks, area, homes, posted, failed, &mut rng);
+        tear_homes(&mut blocks, area, homes, unended, under_way, &mut rng);
         PortImage {
             doorbell,
             head,
             base,
             slots: flushed,
-            blocks,
+            blocks: blocks.into_inner(),
         }
     }
 }
 
 impl Port for EmuPort {
-    ghost use Rattle.mq_drive.specs.Emu.{emu_state};
+    ghost use Rattle.mq_drive.specs.Emu.{emu_state, emu_faults};
 
     ghost state = { emu_state };
 
-    ghost faults = { λ _. [] };
+    ghost faults = { emu_faults };
 
     fn role(&self) -> Role {
         self.role
@@ -193,10 +247,12 @@ impl Port for EmuPort {
     }
 
     fn read_block(&self, lba: Lba, into: &mut Block) {
-        read_block(&self.blocks, self.index(lba), into);
+        let index = block_index(self.area, self.homes, lba);
+        self.blocks.read(index, into);
     }
 
     fn stage(&mut self, at: u64, entry: Entry, block: Block) -> Result<(), Off> {
+        self.power.event()?;
         let command = Command {
             count: at,
             tx: entry.tx(),
@@ -210,7 +266,8 @@ impl Port for EmuPort {
     }
 
     fn flush(&mut self) -> Result<(), Off> {
-        let end = self.doorbell + self.pending.len() as u64;
+        let end = self.end();
+        self.power.event()?;
         settle(&mut self.flushed, &self.staged, self.flushed_end, end);
         self.flushed_end = end;
         self.head = self.stored_head;
@@ -220,6 +277,7 @@ impl Port for EmuPort {
     }
 
     fn ring(&mut self, tail: u64) -> Result<(), Off> {
+        self.power.event()?;
         add_all(&mut self.posted, &mut self.pending);
         self.doorbell = tail;
         self.rings = bump(self.rings);
@@ -231,85 +289,63 @@ impl Port for EmuPort {
         if self.posted.is_empty() {
             return Ok(Step::Idle);
         }
-        let command = take_first(&mut self.posted);
-        let completion = completion_of(&Ended {
+        self.power.event()?;
+        let at = choose(&mut self.order, self.posted.len());
+        let command = take_at(&mut self.posted, at);
+        let index = block_index(self.area, self.homes, command.lba);
+        let ended = Ended {
             sq_head: (self.doorbell % 1024) as u16,
             sq_id: self.id as u16,
             cid: (command.count % 1024) as u16,
             phase: self.completions / 1024 % 2 == 0,
             status: 0,
-        });
-        let index = self.index(command.lba);
-        put_block(&mut self.blocks, index, command.block);
-        put_flag(&mut self.sure, index, true);
+        };
         self.completions = bump(self.completions);
         self.events = bump(self.events);
-        Ok(Step::Done(completion))
+        if self.failing.next() {
+            let completion = completion_of(&Ended {
+                status: WRITE_FAULT,
+                ..ended
+            });
+            self.blocks.fail(index);
+            self.failure = Some(Failure::Queued(command));
+            return Ok(Step::Done(completion));
+        }
+        self.blocks.complete(index, command.block);
+        Ok(Step::Done(completion_of(&ended)))
     }
 
     fn store_head(&mut self, head: u64) -> Result<(), Off> {
+        self.power.event()?;
         self.stored_head = head;
         self.events = bump(self.events);
         Ok(())
     }
 
     fn store_base(&mut self, base: u64) -> Result<(), Off> {
+        self.power.event()?;
         self.stored_base = base;
         self.events = bump(self.events);
         Ok(())
     }
 
     fn write_home(&mut self, lba: Lba, block: Block) -> Result<HomeStep, Off> {
-        let index = self.index(lba);
-        put_block(&mut self.blocks, index, block);
-        put_flag(&mut self.sure, index, true);
+        self.power.event()?;
+        let index = block_index(self.area, self.homes, lba);
         self.begins = bump(self.begins);
-        Ok(HomeStep::Done)
-    }
-}
-
-// The identifier of a submission queue: the queue's number plus 1; of the root 0.
-fn queue_id(role: Role, geometry: Geometry) -> u32
-    requires { IsRole geometry role }
-    ensures { result < 2 ^ 16 }
-{
-    match role {
-        Role::Queue(queue) => {
-            prove!(queue.0 < geometry.queues());
-            queue.0 + 1
+        self.blocks.begin(index);
+        if let Err(off) = self.power.event() {
+            self.under_way = Some(HomeWrite { lba, block });
+            return Err(off);
         }
-        Role::Root => 0,
-    }
-}
-
-// The blocks of a role.
-fn extents(geometry: Geometry, role: Role) -> (Extent, Extent)
-    requires { IsRole geometry role }
-    ensures area_first { result.0.first ≡ area_first_of geometry role }
-    ensures area_size { result.0.size ≡ area_size_of geometry role }
-    ensures homes_first { result.1.first ≡ homes_first_of geometry role }
-    ensures homes_size { result.1.size ≡ homes_size_of geometry role }
-    ensures order { result.0.first + result.0.size ≤ result.1.first }
-    ensures end { result.1.first + result.1.size ≤ 2 ^ 32 }
-{
-    let homes = geometry.queues() * geometry.area();
-    match role {
-        Role::Queue(queue) => (
-            Extent {
-                first: queue.0 * geometry.area(),
-                size: geometry.area(),
-            },
-            Extent {
-                first: homes + geometry.meta() + queue.0 * geometry.zone(),
-                size: geometry.zone(),
-            },
-        ),
-        Role::Root => (
-            Extent { first: 0, size: 0 },
-            Extent {
-                first: homes,
-                size: geometry.meta(),
-            },
-        ),
+        if self.failing.next() {
+            self.blocks.fail(index);
+            self.failure = Some(Failure::Home(HomeWrite { lba, block }));
+            return Ok(HomeStep::Error {
+                status: WRITE_FAULT,
+            });
+        }
+        self.blocks.complete(index, block);
+        Ok(HomeStep::Done)
     }
 }

@@ -1,9 +1,15 @@
 //! Ports of an emulated NVMe drive with a persistent memory region.
 #![tactic(auto)]
 
+mod blocks;
+mod cut;
 mod emu;
+mod extent;
+mod failing;
 mod image;
 mod port;
+mod power;
+mod random;
 mod role;
 mod store;
 #[cfg(test)]

@@ -1,5 +1,6 @@
 // The vectors that a port in memory is made of.
-ghost use Rattle.std.specs.Prelude.{◌≡◌, ◌≢◌, ◌<◌, ◌≤◌, ◌+◌, ◌%◌, ◌++◌, ◌∷◌, [], ℕ, length, vec_len, slice_index_or, slice_set, Some, None, option_to_list};
+ghost use Rattle.std.specs.Prelude.{◌≡◌, ◌≢◌, ◌<◌, ◌≤◌, ◌+◌, ◌%◌, ◌++◌, ◌∷◌, [], ℕ, length, vec_len, slice_index_or, slice_set, slice_get, Some, None};
+ghost use Rattle.std.specs.List.{remove};
 ghost use Rattle.std.specs.VecDeque.{deque_len, deque_capacity};
 ghost use Rattle.mq_blocks.specs.Blocks.{block_at};
 ghost use Rattle.mq_blocks.specs.Drive.{counted};
@@ -80,13 +81,14 @@ pub fn add_all(commands: &mut VecDeque<Command>, more: &mut VecDeque<Command>)
     }
 }
 
-/// Takes the first command out.
-pub fn take_first(commands: &mut VecDeque<Command>) -> Command
-    requires { 0 < deque_len commands.old }
-    ensures items { commands.old.items ≡ result ∷ commands.new.items }
+/// Takes the command at an index out.
+pub fn take_at(commands: &mut VecDeque<Command>, at: usize) -> Command
+    requires { at < deque_len commands.old }
+    ensures item { slice_get commands.old.items at ≡ Some result }
+    ensures items { commands.new.items ≡ remove commands.old.items at }
     ensures capacity { deque_capacity commands.new ≡ deque_capacity commands.old }
 {
-    match commands.pop_front() {
+    match commands.remove(at) {
         Some(command) => command,
         None => unreachable!(),
     }

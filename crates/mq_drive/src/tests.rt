@@ -52,7 +52,7 @@ fn what_is_rung_is_done(rt: HostRuntime) -> Result<(), OutOfMemory> {
     let alloc = rt.alloc();
     let geometry = small().expect(&rt, "a geometry");
     let image = fresh(alloc, 1024, 1264)?;
-    let mut port = EmuPort::new(alloc, geometry, QUEUE, image)?;
+    let mut port = EmuPort::new(alloc, geometry, QUEUE, image, None, None, 0)?;
     let member = write_of(&WriteReq {
         tx: 7,
         slot: 0,
@@ -76,7 +76,7 @@ fn what_is_rung_is_done(rt: HostRuntime) -> Result<(), OutOfMemory> {
     let second = Completion::from_bytes(&[0, 0, 0, 0, 0, 0, 0, 0, 2, 0, 1, 0, 1, 0, 1, 0]);
     assert!(rt; port.step() == Ok(Step::Done(second)));
     assert!(rt; port.step() == Ok(Step::Idle));
-    let image = port.cut();
+    let image = port.cut(0);
     assert_eq!(rt; image.doorbell, 2);
     assert_eq!(rt; image.head, 0);
     assert!(rt; image.slots.get(0) == Some(&member));
@@ -89,7 +89,7 @@ fn what_is_rung_is_done(rt: HostRuntime) -> Result<(), OutOfMemory> {
     assert_eq!(rt; image.slots.len(), 1024);
     assert_eq!(rt; image.blocks.len(), 1264);
     // A port starts there.
-    let mut port = EmuPort::new(alloc, geometry, QUEUE, image)?;
+    let mut port = EmuPort::new(alloc, geometry, QUEUE, image, None, None, 0)?;
     assert!(rt; port.role() == QUEUE);
     assert_eq!(rt; port.doorbell(), 2);
     assert_eq!(rt; port.head(), 0);
@@ -101,7 +101,7 @@ fn what_is_rung_is_done(rt: HostRuntime) -> Result<(), OutOfMemory> {
     assert!(rt; port.step() == Ok(Step::Idle));
     port.store_head(2).expect(&rt, "power");
     port.flush().expect(&rt, "power");
-    let image = port.cut();
+    let image = port.cut(0);
     assert_eq!(rt; image.doorbell, 2);
     assert_eq!(rt; image.head, 2);
     assert!(rt; image.slots.get(1) == Some(&last));
@@ -115,7 +115,7 @@ fn a_cut_before_the_flush(rt: HostRuntime) -> Result<(), OutOfMemory> {
     let geometry = small().expect(&rt, "a geometry");
     let mut image = fresh(alloc, 1024, 1264)?;
     image.doorbell = 1;
-    let mut port = EmuPort::new(alloc, geometry, QUEUE, image)?;
+    let mut port = EmuPort::new(alloc, geometry, QUEUE, image, None, None, 0)?;
     let entry = write_of(&WriteReq {
         tx: 7,
         slot: 1,
@@ -124,7 +124,7 @@ fn a_cut_before_the_flush(rt: HostRuntime) -> Result<(), OutOfMemory> {
     });
     port.stage(1, entry, filled(alloc, 3)?).expect(&rt, "power");
     port.store_head(1).expect(&rt, "power");
-    let image = port.cut();
+    let image = port.cut(0);
     assert_eq!(rt; image.doorbell, 1);
     assert_eq!(rt; image.head, 0);
     assert!(rt; image.slots.get(1) == Some(&Entry::zeroed()));
@@ -137,12 +137,12 @@ fn the_root_keeps_the_base(rt: HostRuntime) -> Result<(), OutOfMemory> {
     let alloc = rt.alloc();
     let geometry = small().expect(&rt, "a geometry");
     let image = fresh(alloc, 0, 16)?;
-    let mut port = EmuPort::new(alloc, geometry, Role::Root, image)?;
+    let mut port = EmuPort::new(alloc, geometry, Role::Root, image, None, None, 0)?;
     port.store_base(7).expect(&rt, "power");
     port.flush().expect(&rt, "power");
     port.store_base(9).expect(&rt, "power");
     assert!(rt; port.write_home(Lba(1026), filled(alloc, 5)?) == Ok(HomeStep::Done));
-    let image = port.cut();
+    let image = port.cut(0);
     assert_eq!(rt; image.base, 7);
     assert!(rt; holds(&image, 2, 5));
     assert!(rt; image.blocks.get(3).is_some_and(|block| block.is_none()));

@@ -1,94 +1,37 @@
 -- Writing copies home.
-use Rattle.std.proofs.Common.{◌≡◌, ◌≢◌, ◌<◌, ◌≤◌, ◌⊎◌, inl, inr, ⊎_elim, ℕ, zero, suc, ◌+◌, ◌-◌, ◌*◌, ◌%◌, List, [], ◌∷◌, ◌++◌, length, Bool, true, false, Option, Some, None, get_or, set, drop, refl, sym, ◌∙◌, ap, subst, arith, drop-cons, add-one, append_assoc}
-use Rattle.std.proofs.lemmas.Bool.{cases_eq, eq-eqb, ne_eqb, lt-ltb, le-ltb}
+use Rattle.std.proofs.Common.{◌≡◌, ◌≢◌, ◌<◌, ◌≤◌, ⊎_elim, ℕ, zero, suc, ◌+◌, ◌-◌, ◌*◌, List, [], ◌∷◌, ◌++◌, length, Bool, true, false, Option, Some, None, get_or, set, refl, sym, ◌∙◌, ap, subst, arith}
+use Rattle.std.proofs.lemmas.Bool.{cases_eq, cases_lt, eq-eqb, ne_eqb, lt-ltb, le-ltb}
 use Rattle.std.proofs.lemmas.Grind.{get_or-set_at}
 use Rattle.std.proofs.lemmas.List.{get_or-set_other}
 use Rattle.std.proofs.Math.ListN.{length-set}
 use Rattle.std.proofs.Math.Nat.{div-eq_of_lt}
-use Rattle.std.specs.Prelude.{slice_get, nat_eq, nat_lt, if◌then◌else◌}
+use Rattle.std.specs.Prelude.{nat_eq, nat_lt, if◌then◌else◌}
 use Rattle.mq_blocks.specs.Blocks.{block_at, content}
-use Rattle.mq_blocks.specs.Descriptor.{Descriptor}
-use Rattle.mq_blocks.specs.Drive.{PortState, IsQuiet, index_of, image_of, after_flush, after_store_base}
+use Rattle.mq_blocks.specs.Drive.{PortState, PortImage, IsQuiet, index_of, image_of, holds_write, without_last, after_begin, after_end, after_flush, after_store_base, after_store_head}
 use Rattle.mq_blocks.specs.Geometry.{homes_of, home_lba, zone_of}
-use Rattle.mq_blocks.specs.Journal.{AreInRow, IsQueueChain, or_else, home_block}
+use Rattle.mq_blocks.specs.Journal.{or_else, home_block}
 use Rattle.mq_blocks.specs.Machine.{Writes, or_kept}
+use Rattle.mq_blocks.specs.declared.command.HomeWrite.{HomeWrite}
 use Rattle.mq_blocks.specs.declared.geometry.Geometry.{Geometry}
 use Rattle.mq_drive.specs.Start.{IsPortOf}
 use Rattle.mq_drive.specs.declared.role.Role.{Role}
 use Rattle.mq_drive.specs.declared.role.Role.TheVariants.{Queue, Root}
-use Rattle.mq_recover.specs.Recovery.{view_of, IsSettled, IsRecovered}
-use Rattle.mq_recover.specs.Recover.{IsSeenAt, copy_of, content_of}
-use Rattle.mq_recover.specs.RecoverHomes.{writes_from, written, AreBelow, after_home, IsAfterHome, IsWrittenHome, AreWritten, AreCopies, IsPlan, after_raise}
-use Rattle.mq_recover.specs.declared.homes.Copies.{Copies}
-use Rattle.mq_recover.specs.declared.homes.Plan.{Plan}
-use Rattle.mq_recover.specs.declared.homes.Recovered.{Recovered}
-use Rattle.mq_recover.proofs.RecoverCopies.{stands-copy, chain-of}
-
--- ---- the writes of copies
-
-pub writes-some : (area : ℕ → List ℕ) (size b place : ℕ) (copies : List (Option ℕ)) (d : Option ℕ) (writes more : Writes) (block : List ℕ) → b < length copies → get_or copies b d ≡ Some place
-    → block ≡ area (place % size) → more ≡ writes ++ (b, block) ∷ [] → more ++ writes_from area size (b + 1) (drop (b + 1) copies) ≡ writes ++ writes_from area size b (drop b copies)
-writes-some area size b place copies d writes more block within is content_is more_is =
-    ap (λ (n : ℕ). more ++ writes_from area size (b + 1) (drop n copies)) (add-one b)
-    ∙ ap (λ (l : Writes). l ++ writes_from area size (b + 1) (drop (suc b) copies)) more_is
-    ∙ append_assoc writes ((b, block) ∷ []) (writes_from area size (b + 1) (drop (suc b) copies))
-    ∙ ap (λ (l : List ℕ). writes ++ (b, l) ∷ writes_from area size (b + 1) (drop (suc b) copies)) content_is
-    ∙ ap (λ (o : Option ℕ). writes ++ writes_from area size b (o ∷ drop (suc b) copies)) (sym is)
-    ∙ ap (λ (l : List (Option ℕ)). writes ++ writes_from area size b l) (sym (drop-cons copies b d within))
-
-pub writes-none : (area : ℕ → List ℕ) (size b : ℕ) (copies : List (Option ℕ)) (d : Option ℕ) (writes more : Writes) → b < length copies → get_or copies b d ≡ None → more ≡ writes
-    → more ++ writes_from area size (b + 1) (drop (b + 1) copies) ≡ writes ++ writes_from area size b (drop b copies)
-writes-none area size b copies d writes more within is more_is =
-    ap (λ (n : ℕ). more ++ writes_from area size (b + 1) (drop n copies)) (add-one b)
-    ∙ ap (λ (l : Writes). l ++ writes_from area size (b + 1) (drop (suc b) copies)) more_is
-    ∙ ap (λ (o : Option ℕ). writes ++ writes_from area size b (o ∷ drop (suc b) copies)) (sym is)
-    ∙ ap (λ (l : List (Option ℕ)). writes ++ writes_from area size b l) (sym (drop-cons copies b d within))
-
--- a block below the first of the copies is not written
-writes-low : (area : ℕ → List ℕ) (size b : ℕ) (copies : List (Option ℕ)) (x : ℕ) → x < b → written (writes_from area size b copies) x ≡ None
-writes-low area size b [] x low = refl
-writes-low area size b (None ∷ copies) x low = writes-low area size (b + 1) copies x (omega arith)
-writes-low area size b (Some place ∷ copies) x low =
-    rw (writes-low area size (b + 1) copies x (omega arith), ne_eqb b x (omega arith)) refl
-
-kept-none : (o : Option (List ℕ)) → or_kept o None ≡ o
-kept-none None = refl
-kept-none (Some v) = refl
-
-writes-from : (area : ℕ → List ℕ) (size b : ℕ) (copies : List (Option ℕ)) (k x : ℕ) → x ≡ b + k → written (writes_from area size b copies) x ≡ content_of area size (get_or copies k None)
-writes-from area size b [] k x is = refl
-writes-from area size b (None ∷ copies) zero x is = writes-low area size (b + 1) copies x (omega arith)
-writes-from area size b (None ∷ copies) (suc k) x is = writes-from area size (b + 1) copies k x (omega arith)
-writes-from area size b (Some place ∷ copies) zero x is =
-    rw (writes-low area size (b + 1) copies x (omega arith), eq-eqb b x (omega arith)) refl
-writes-from area size b (Some place ∷ copies) (suc k) x is =
-    rw (ne_eqb b x (omega arith)) (kept-none (written (writes_from area size (b + 1) copies) x) ∙ writes-from area size (b + 1) copies k x (omega arith))
-
--- what is written to a block is the content of its copy
-pub writes-at : (area : ℕ → List ℕ) (size : ℕ) (copies : List (Option ℕ)) (x : ℕ) → written (writes_from area size 0 copies) x ≡ content_of area size (get_or copies x None)
-writes-at area size copies x = writes-from area size 0 copies x x (omega arith)
-
-writes-below : (area : ℕ → List ℕ) (size b : ℕ) (copies : List (Option ℕ)) (homes : ℕ) → b + length copies ≤ homes → AreBelow homes (writes_from area size b copies)
-writes-below area size b [] homes fits = tt
-writes-below area size b (None ∷ copies) homes fits = writes-below area size (b + 1) copies homes (omega arith)
-writes-below area size b (Some place ∷ copies) homes fits = (omega arith, writes-below area size (b + 1) copies homes (omega arith))
-
-pub all-below : (area : ℕ → List ℕ) (size : ℕ) (copies : List (Option ℕ)) (homes : ℕ) → length copies ≡ homes → AreBelow homes (writes_from area size 0 copies)
-all-below area size copies homes is = writes-below area size 0 copies homes (omega arith)
-
--- ---- the new base
-
-pub first-number : (base : ℕ) (ds es : List Descriptor) (d : Descriptor) → Some d ≡ slice_get es 0 → es ≡ ds → AreInRow base ds → d.number ≡ base + length ds
-first-number base ds es d first same row = of_first ds (first ∙ ap (λ (l : List Descriptor). slice_get l 0) same) row
-  where
-    of_first : (l : List Descriptor) → Some d ≡ slice_get l 0 → AreInRow base l → d.number ≡ base + length l
-    of_first [] is none = cc
-    of_first (e ∷ l) is in_row = let one : d ≡ e = cc in let n : d.number ≡ e.number = ap (λ (x : Descriptor). x.number) one in let h = in_row.0 in omega arith
+use Rattle.mq_drive.specs.Views.{view_of}
+use Rattle.mq_recover.specs.RecoverHomes.{written, AreBelow, after_home, after_raise, after_move}
+use Rattle.mq_recover.specs.Steps.{TwoPorts, BeginHome, EndHome, at_home, after_event, after_events, home_events}
 
 -- ---- ports after home writes
 
+-- Home writes changed the blocks alone, and left none uncertain. None that began since is under way.
+pub record IsWrittenHome (s t : PortState) : Type 0 where
+  pub same : t ≡ record s { blocks = t.blocks; sure = t.sure; begun = t.begun; begins = t.begins }
+  pub blocks_len : length t.blocks ≡ length s.blocks
+  pub sure_len : length t.sure ≡ length s.sure
+  pub certain : (k : ℕ) → get_or s.sure k false ≡ true → get_or t.sure k false ≡ true
+  pub begun : t.begun ≡ s.begun
+
 pub later-refl : (s : PortState) → IsWrittenHome s s
-later-refl s = record { same = refl; blocks_len = refl; sure_len = refl; certain = λ k h. h }
+later-refl s = record { same = refl; blocks_len = refl; sure_len = refl; certain = λ k h. h; begun = refl }
 
 pub later-then : (s t u : PortState) → IsWrittenHome s t → IsWrittenHome t u → IsWrittenHome s u
 later-then s t u first next =
@@ -98,6 +41,7 @@ later-then s t u first next =
       blocks_len = next.blocks_len ∙ first.blocks_len;
       sure_len = next.sure_len ∙ first.sure_len;
       certain = λ k h. next.certain k (first.certain k h);
+      begun = next.begun ∙ first.begun;
     }
 
 pub later-port : (g : Geometry) (role : Role) (s t : PortState) → IsWrittenHome s t → IsPortOf g role s → IsPortOf g role t
@@ -132,38 +76,60 @@ sure-set (s ∷ ss) zero (suc k) h = h
 sure-set (s ∷ ss) (suc i) zero h = h
 sure-set (s ∷ ss) (suc i) (suc k) h = sure-set ss i k h
 
+holds-last : (lba : ℕ) (bs : List HomeWrite) (w : HomeWrite) → w.lba ≡ lba → holds_write lba (bs ++ w ∷ []) ≡ true
+holds-last lba [] w is = rw (eq-eqb w.lba lba is) refl
+holds-last lba (b ∷ bs) w is = either (nat_eq b.lba lba) (holds_write lba (bs ++ w ∷ [])) (holds-last lba bs w is)
+  where
+    either : (t h : Bool) → h ≡ true → (if t then true else h) ≡ true
+    either true h is = refl
+    either false h is = is
+
+-- a home write that begins and ends is not under way
+ends-last : (lba : ℕ) (bs : List HomeWrite) (w : HomeWrite) → w.lba ≡ lba → without_last lba (bs ++ w ∷ []) ≡ bs
+ends-last lba [] w is = rw (eq-eqb w.lba lba is) refl
+ends-last lba (b ∷ bs) w is =
+    ap (λ (t : Bool). if t then b ∷ without_last lba (bs ++ w ∷ []) else (if nat_eq b.lba lba then bs ++ w ∷ [] else b ∷ bs ++ w ∷ [])) (holds-last lba bs w is)
+    ∙ ap (λ (l : List HomeWrite). b ∷ l) (ends-last lba bs w is)
+
 pub later-home : (s t : PortState) (lba : ℕ) (block : List ℕ) → t ≡ after_home s lba block → IsWrittenHome s t
 later-home s t lba block is = subst (IsWrittenHome s) (sym is) (record {
   same = refl;
   blocks_len = length-set s.blocks (index_of s lba) (Some block);
   sure_len = length-set (set s.sure (index_of s lba) false) (index_of s lba) true ∙ length-set s.sure (index_of s lba) false;
   certain = λ k h. sure-set s.sure (index_of s lba) k h;
+  begun = ends-last lba s.begun (record { lba = lba; block = block }) refl;
 })
 
 -- ---- where home blocks are
 
-zone-meta : (g : Geometry) (b : ℕ) → b < g.meta → zone_of g b ≡ None
+pub zone-meta : (g : Geometry) (b : ℕ) → b < g.meta → zone_of g b ≡ None
 zone-meta g b low = rw (lt-ltb b g.meta low) refl
 
-zone-zone : (g : Geometry) (b : ℕ) → g.queues ≡ 1 → g.meta ≤ b → b < homes_of g → zone_of g b ≡ Some 0
+pub zone-zone : (g : Geometry) (b : ℕ) → g.queues ≡ 1 → g.meta ≤ b → b < homes_of g → zone_of g b ≡ Some 0
 zone-zone g b one high below =
     let size : g.meta + g.queues * g.zone ≡ g.meta + g.zone = ap (λ (n : ℕ). g.meta + n * g.zone) one ∙ ap (λ (n : ℕ). g.meta + n) (omega arith) in
     let inside : b - g.meta < g.zone = omega arith in
     rw (le-ltb b g.meta high) (ap (λ (n : ℕ). Some n) (div-eq_of_lt inside))
 
+pub image-meta : (g : Geometry) (q r : PortImage) (x : ℕ) → x < g.meta → home_block g (q ∷ []) r x (zone_of g x) ≡ block_at r.blocks x
+image-meta g q r x low = ap (home_block g (q ∷ []) r x) (zone-meta g x low)
+
+pub image-zone : (g : Geometry) (q r : PortImage) (x : ℕ) → g.queues ≡ 1 → g.meta ≤ x → x < homes_of g → home_block g (q ∷ []) r x (zone_of g x) ≡ block_at q.blocks (g.area + (x - g.meta))
+image-zone g q r x one high below =
+    let none : g.meta + 0 * g.zone ≡ g.meta = omega arith in
+    ap (home_block g (q ∷ []) r x) (zone-zone g x one high below)
+    ∙ ap (λ (n : ℕ). block_at q.blocks (g.area + (x - n))) none
+
 pub home-meta : (g : Geometry) (q r : PortState) (x : ℕ) → x < g.meta → (view_of g q r).home x ≡ block_at r.blocks x
-home-meta g q r x low = ap (home_block g (image_of q ∷ []) (image_of r) x) (zone-meta g x low)
+home-meta g q r x low = image-meta g (image_of q) (image_of r) x low
 
 pub home-zone : (g : Geometry) (q r : PortState) (x : ℕ) → g.queues ≡ 1 → g.meta ≤ x → x < homes_of g → (view_of g q r).home x ≡ block_at q.blocks (g.area + (x - g.meta))
-home-zone g q r x one high below =
-    let none : g.meta + 0 * g.zone ≡ g.meta = omega arith in
-    ap (home_block g (image_of q ∷ []) (image_of r) x) (zone-zone g x one high below)
-    ∙ ap (λ (n : ℕ). block_at q.blocks (g.area + (x - n))) none
+home-zone g q r x one high below = image-zone g (image_of q) (image_of r) x one high below
 
 index-high : (first area_first area_size lba : ℕ) → first ≤ lba → (if nat_lt lba first then lba - area_first else area_size + (lba - first)) ≡ area_size + (lba - first)
 index-high first area_first area_size lba high = rw (le-ltb lba first high) refl
 
-index-root : (g : Geometry) (r : PortState) (b : ℕ) → IsPortOf g Root r → index_of r (home_lba g b) ≡ b
+pub index-root : (g : Geometry) (r : PortState) (b : ℕ) → IsPortOf g Root r → index_of r (home_lba g b) ≡ b
 index-root g r b p =
     let first : r.homes_first ≡ g.queues * g.area = p.homes_first in
     let none : r.area_size ≡ 0 = p.area_size in
@@ -182,18 +148,17 @@ block-set blocks i k b x v within here apart = ⊎_elim
     (λ other. rw (ne_eqb b x other) (ap content (get_or-set_other blocks i k (Some v) None (λ e. apart other (sym e)))))
     (cases_eq b x)
 
+block-other : (blocks : List (Option (List ℕ))) (i k : ℕ) (v : List ℕ) → i ≢ k → block_at (set blocks i (Some v)) k ≡ block_at blocks k
+block-other blocks i k v other = ap content (get_or-set_other blocks i k (Some v) None (λ e. other (sym e)))
+
 keeps : (b x : ℕ) (v h k : List ℕ) → b ≢ x → h ≡ k → h ≡ (if nat_eq b x then v else k)
 keeps b x v h k other same = rw (ne_eqb b x other) same
-
-pub low_or : (n m : ℕ) → (n < m) ⊎ (m ≤ n)
-low_or n zero = inr (omega arith)
-low_or zero (suc m) = inl (omega arith)
-low_or (suc n) (suc m) = ⊎_elim (λ h. inl (omega arith)) (λ h. inr (omega arith)) (low_or n m)
 
 pub record IsHomed (g : Geometry) (q r : PortState) (b : ℕ) (v : List ℕ) (nq nr : PortState) : Type 0 where
   pub queue_is : IsWrittenHome q nq
   pub root_is : IsWrittenHome r nr
   pub homes : (x : ℕ) → x < homes_of g → (view_of g nq nr).home x ≡ (if nat_eq b x then v else (view_of g q r).home x)
+  pub area : (k : ℕ) → k < g.area → block_at nq.blocks k ≡ block_at q.blocks k
 
 pub homed-root : (g : Geometry) (q r nq nr : PortState) (b : ℕ) (v : List ℕ) → g.queues ≡ 1 → IsPortOf g Root r → b < g.meta → nq ≡ q → nr ≡ after_home r (home_lba g b) v → IsHomed g q r b v nq nr
 homed-root g q r nq nr b v one p low queue_same root_is =
@@ -210,7 +175,8 @@ homed-root g q r nq nr b v one p low queue_same root_is =
           ∙ ap (λ (l : List ℕ). if nat_eq b x then v else l) (sym (home-meta g q r x near)))
           (λ far. keeps b x v ((view_of g nq nr).home x) ((view_of g q r).home x) (omega arith)
           (home-zone g nq nr x one far below ∙ ap (λ (s : PortState). block_at s.blocks (g.area + (x - g.meta))) queue_same ∙ sym (home-zone g q r x one far below)))
-          (low_or x g.meta);
+          (cases_lt x g.meta);
+      area = λ k inside. ap (λ (s : PortState). block_at s.blocks k) queue_same;
     }
 
 pub homed-queue : (g : Geometry) (q r nq nr : PortState) (b : ℕ) (v : List ℕ) → g.queues ≡ 1 → IsPortOf g (Queue 0) q → g.meta ≤ b → b < homes_of g → nq ≡ after_home q (home_lba g b) v → nr ≡ r → IsHomed g q r b v nq nr
@@ -229,76 +195,86 @@ homed-queue g q r nq nr b v one p high inside queue_is root_same =
           ∙ ap (λ (l : List (Option (List ℕ))). block_at l (g.area + (x - g.meta))) blocks_are
           ∙ block-set q.blocks (g.area + (b - g.meta)) (g.area + (x - g.meta)) b x v (omega arith) (λ e. omega arith) (λ other. omega arith)
           ∙ ap (λ (l : List ℕ). if nat_eq b x then v else l) (sym (home-zone g q r x one far below)))
-          (low_or x g.meta);
+          (cases_lt x g.meta);
+      area = λ k inside. ap (λ (l : List (Option (List ℕ))). block_at l k) blocks_are ∙ block-other q.blocks (g.area + (b - g.meta)) k v (omega arith);
     }
 
-pub homed : (g : Geometry) (q r nq nr : PortState) (b : ℕ) (v : List ℕ) → g.queues ≡ 1 → IsPortOf g (Queue 0) q → IsPortOf g Root r → b < homes_of g → IsAfterHome g (zone_of g b) q r b v nq nr → IsHomed g q r b v nq nr
-homed g q r nq nr b v one queue_port root_port inside after = ⊎_elim
-    (λ near.
-    let P : Option ℕ → Type 0 = λ z. IsAfterHome g z q r b v nq nr in
-    let done = subst P (zone-meta g b near) after in
-    homed-root g q r nq nr b v one root_port near done.0 done.1)
-    (λ far.
-    let P : Option ℕ → Type 0 = λ z. IsAfterHome g z q r b v nq nr in
-    let done = subst P (zone-zone g b one far inside) after in
-    homed-queue g q r nq nr b v one queue_port far inside done.0 done.1)
-    (low_or b g.meta)
+-- a home write makes these of the ports of its block
+pub homed : (g : Geometry) (e : TwoPorts) (b : ℕ) (v : List ℕ) → g.queues ≡ 1 → IsPortOf g (Queue 0) e.queue → IsPortOf g Root e.root → b < homes_of g
+    → IsHomed g e.queue e.root b v (after_event g (after_event g e (BeginHome b v)) (EndHome b v)).queue (after_event g (after_event g e (BeginHome b v)) (EndHome b v)).root
+homed g e b v one queue_port root_port inside =
+    let begin : PortState → PortState = λ s. after_begin s (home_lba g b) v in
+    let end : PortState → PortState = λ s. after_end s (home_lba g b) v in
+    let P : Option ℕ → Type 0 = λ z. IsHomed g e.queue e.root b v (at_home z end (at_home z begin e)).queue (at_home z end (at_home z begin e)).root in
+    ⊎_elim
+    (λ near. subst P (sym (zone-meta g b near)) (homed-root g e.queue e.root e.queue (after_home e.root (home_lba g b) v) b v one root_port near refl refl))
+    (λ far. subst P (sym (zone-zone g b one far inside)) (homed-queue g e.queue e.root (after_home e.queue (home_lba g b) v) e.root b v one queue_port far inside refl refl))
+    (cases_lt b g.meta)
 
 else-step : (o : Option (List ℕ)) (t : Bool) (v h : List ℕ) → or_else o (if t then v else h) ≡ or_else (or_kept o (if t then Some v else None)) h
 else-step (Some w) t v h = refl
 else-step None true v h = refl
 else-step None false v h = refl
 
--- one write less is left
-pub left-written : (g : Geometry) (q r nq nr : PortState) (w : ℕ × List ℕ) (ws all : Writes) → IsHomed g q r w.0 w.1 nq nr → all ≡ w ∷ ws → (x : ℕ) → x < homes_of g
-    → or_else (written ws x) ((view_of g nq nr).home x) ≡ or_else (written all x) ((view_of g q r).home x)
-left-written g q r nq nr w ws all h is x below =
-    ap (or_else (written ws x)) (h.homes x below)
-    ∙ else-step (written ws x) (nat_eq w.0 x) w.1 ((view_of g q r).home x)
-    ∙ ap (λ (l : Writes). or_else (written l x) ((view_of g q r).home x)) (sym is)
+-- ---- home writes in a row
 
-pub record IsStep (g : Geometry) (q r nq nr : PortState) (ws all : Writes) : Type 0 where
-  pub queue_is : IsWrittenHome q nq
-  pub root_is : IsWrittenHome r nr
-  pub homes : (x : ℕ) → x < homes_of g → or_else (written ws x) ((view_of g nq nr).home x) ≡ or_else (written all x) ((view_of g q r).home x)
-  pub below : AreBelow (homes_of g) ws
+-- After some of these home writes, with these left: no block is uncertain, the area is as before, and
+-- what is left makes of the home blocks what all make of them.
+pub record IsBetween (g : Geometry) (s e : TwoPorts) (all left : Writes) : Type 0 where
+  pub queue_is : IsWrittenHome s.queue e.queue
+  pub root_is : IsWrittenHome s.root e.root
+  pub area : (k : ℕ) → k < g.area → block_at e.queue.blocks k ≡ block_at s.queue.blocks k
+  pub homes : (x : ℕ) → x < homes_of g → or_else (written left x) ((view_of g e.queue e.root).home x) ≡ or_else (written all x) ((view_of g s.queue s.root).home x)
+  pub below : AreBelow (homes_of g) left
+  pub fewer : (x : ℕ) → written all x ≡ None → written left x ≡ None
 
-pub write-step : (g : Geometry) (q r nq nr : PortState) (w : ℕ × List ℕ) (ws all : Writes) → g.queues ≡ 1 → IsPortOf g (Queue 0) q → IsPortOf g Root r → all ≡ w ∷ ws → AreBelow (homes_of g) all
-    → IsAfterHome g (zone_of g w.0) q r w.0 w.1 nq nr → IsStep g q r nq nr ws all
-write-step g q r nq nr w ws all one queue_port root_port is below after =
-    let low = subst (AreBelow (homes_of g)) is below in
-    let h = homed g q r nq nr w.0 w.1 one queue_port root_port low.0 after in
+pub between-start : (g : Geometry) (s : TwoPorts) (all : Writes) → AreBelow (homes_of g) all → IsBetween g s s all all
+between-start g s all below = record {
+  queue_is = later-refl s.queue;
+  root_is = later-refl s.root;
+  area = λ k inside. refl;
+  homes = λ x inside. refl;
+  below = below;
+  fewer = λ x none. none;
+}
+
+none-left : (o : Option (List ℕ)) (p : Option (List ℕ)) → or_kept o p ≡ None → o ≡ None
+none-left None p h = refl
+none-left (Some v) p h = cc
+
+-- the block that is written next is one of those that are written
+pub next-written : (g : Geometry) (s e : TwoPorts) (all ws : Writes) (w : ℕ × List ℕ) (x : ℕ) → IsBetween g s e all (w ∷ ws) → written all x ≡ None → w.0 ≢ x
+next-written g s e all ws w x between none same = last (written ws x) (subst (λ (t : Bool). or_kept (written ws x) (if t then Some w.1 else None) ≡ None) (eq-eqb w.0 x same) (between.fewer x none))
+  where
+    last : (o : Option (List ℕ)) → or_kept o (Some w.1) ≡ None → ⊥
+    last None h = cc
+    last (Some v) h = cc
+
+pub between-step : (g : Geometry) (s e : TwoPorts) (all ws : Writes) (w : ℕ × List ℕ) → g.queues ≡ 1 → IsPortOf g (Queue 0) s.queue → IsPortOf g Root s.root → IsBetween g s e all (w ∷ ws)
+    → IsBetween g s (after_event g (after_event g e (BeginHome w.0 w.1)) (EndHome w.0 w.1)) all ws
+between-step g s e all ws w one queue_port root_port between =
+    let n : TwoPorts = after_event g (after_event g e (BeginHome w.0 w.1)) (EndHome w.0 w.1) in
+    let low = between.below in
+    let h = homed g e w.0 w.1 one (later-port g (Queue 0) s.queue e.queue between.queue_is queue_port) (later-port g Root s.root e.root between.root_is root_port) low.0 in
     record {
-      queue_is = h.queue_is;
-      root_is = h.root_is;
-      homes = left-written g q r nq nr w ws all h is;
+      queue_is = later-then s.queue e.queue n.queue between.queue_is h.queue_is;
+      root_is = later-then s.root e.root n.root between.root_is h.root_is;
+      area = λ k inside. h.area k inside ∙ between.area k inside;
+      homes = λ x inside.
+          ap (or_else (written ws x)) (h.homes x inside)
+          ∙ else-step (written ws x) (nat_eq w.0 x) w.1 ((view_of g e.queue e.root).home x)
+          ∙ between.homes x inside;
       below = low.1;
+      fewer = λ x none. none-left (written ws x) (if nat_eq w.0 x then Some w.1 else None) (between.fewer x none);
     }
 
--- ---- the plan
+pub between-end : (g : Geometry) (s e : TwoPorts) (all left : Writes) → g.queues ≡ 1 → IsPortOf g (Queue 0) s.queue → IsPortOf g Root s.root → IsBetween g s e all left
+    → IsBetween g s (after_events g e (home_events left)) all []
+between-end g s e all [] one queue_port root_port between = between
+between-end g s e all (w ∷ ws) one queue_port root_port between =
+    between-end g s (after_event g (after_event g e (BeginHome w.0 w.1)) (EndHome w.0 w.1)) all ws one queue_port root_port (between-step g s e all ws w one queue_port root_port between)
 
-pub copies-of : (g : Geometry) (base : ℕ) (chain ds : List Descriptor) (c : Copies) → chain ≡ ds → length c.places.items ≡ homes_of g
-    → ((x : ℕ) → get_or c.places.items x None ≡ copy_of chain x) → c.recovered.prefix ≡ length chain → c.recovered.base ≡ base + length chain → AreCopies g base ds c
-copies-of g base chain ds c same size places_are prefix_is base_is = record {
-  whole = size;
-  places_are = λ x. places_are x ∙ ap (λ (l : List Descriptor). copy_of l x) same;
-  prefix_is = prefix_is ∙ ap (λ (l : List Descriptor). length l) same;
-  base_is = base_is ∙ ap (λ (l : List Descriptor). base + length l) same;
-}
-
-pub plan-of : (g : Geometry) (s : PortState) (base : ℕ) (ds : List Descriptor) (c : Copies) (plan : Plan) → AreCopies g base ds c
-    → plan.writes.items ≡ writes_from (block_at s.blocks) g.area 0 c.places.items → plan.recovered ≡ c.recovered → IsPlan g s base ds plan
-plan-of g s base ds c plan are writes_are recovered_is = record {
-  below = subst (AreBelow (homes_of g)) (sym writes_are) (all-below (block_at s.blocks) g.area c.places.items (homes_of g) are.whole);
-  copies = λ x.
-      ap (λ (w : Writes). written w x) writes_are
-      ∙ writes-at (block_at s.blocks) g.area c.places.items x
-      ∙ ap (content_of (block_at s.blocks) g.area) (are.places_are x);
-  prefix_is = ap (λ (r : Recovered). r.prefix) recovered_is ∙ are.prefix_is;
-  base_is = ap (λ (r : Recovered). r.base) recovered_is ∙ are.base_is;
-}
-
--- ---- the base
+-- ---- the base and the head
 
 raised-base : (s : PortState) (base : ℕ) → (after_raise s base).base ≡ base
 raised-base s base = ⊎_elim
@@ -326,8 +302,8 @@ root-flushed g s base p = record {
   settled = λ k within flushed. refl;
 }
 
-quiet-flushed : (s : PortState) (base : ℕ) → IsQuiet s → IsQuiet (after_flush (after_store_base s base))
-quiet-flushed s base q =
+base-flushed : (s : PortState) (base : ℕ) → IsQuiet s → IsQuiet (after_flush (after_store_base s base))
+base-flushed s base q =
     let none : length s.pending ≡ 0 = ap length q.pending in
     record {
       flushed_end = omega (arith, none);
@@ -344,60 +320,78 @@ pub record IsRaised (g : Geometry) (s : PortState) (base : ℕ) (t : PortState) 
   pub quiet : IsQuiet t
   pub base_is : t.base ≡ base
   pub blocks_are : t.blocks ≡ s.blocks
+  pub begun_is : t.begun ≡ s.begun
 
 pub raised : (g : Geometry) (s : PortState) (base : ℕ) (t : PortState) → IsPortOf g Root s → IsQuiet s → t ≡ after_raise s base → IsRaised g s base t
 raised g s base t p q is = subst (IsRaised g s base) (sym is) (record {
   port = raised-as (IsPortOf g Root) s base p (root-flushed g s base p);
-  quiet = raised-as IsQuiet s base q (quiet-flushed s base q);
+  quiet = raised-as IsQuiet s base q (base-flushed s base q);
   base_is = raised-base s base;
   blocks_are = raised-as (λ (u : PortState). u.blocks ≡ s.blocks) s base refl refl;
+  begun_is = raised-as (λ (u : PortState). u.begun ≡ s.begun) s base refl refl;
 })
 
--- ---- what is recovered
+moved-head : (s : PortState) → (after_move s).head ≡ s.doorbell
+moved-head s = ⊎_elim
+    (λ same. rw (eq-eqb s.head s.doorbell same) same)
+    (λ other. rw (ne_eqb s.head s.doorbell other) refl)
+    (cases_eq s.head s.doorbell)
 
--- the root's port is quiet, so that its base is one
-pub base-of : (n : ℕ) (s : PortState) → IsQuiet s → (n ≡ s.base) ⊎ (n ≡ s.stored_base) → n ≡ s.base
-base-of n s quiet is = ⊎_elim (λ h. h) (λ h. h ∙ quiet.base) is
+moved-as : (P : PortState → Type 0) (s : PortState) → P s → P (after_flush (after_store_head s s.doorbell)) → P (after_move s)
+moved-as P s before after = ⊎_elim
+    (λ same. rw (eq-eqb s.head s.doorbell same) before)
+    (λ other. rw (ne_eqb s.head s.doorbell other) after)
+    (cases_eq s.head s.doorbell)
 
-pub seen-view : (g : Geometry) (queue root : PortState) → IsSeenAt 0 root.base queue (view_of g queue root)
-seen-view g queue root = record { base_is = refl; head_is = refl; doorbell_is = refl; entry_is = λ k. refl; area_is = λ k. refl }
+queue-flushed : (g : Geometry) (s : PortState) (head : ℕ) → IsPortOf g (Queue 0) s → IsPortOf g (Queue 0) (after_flush (after_store_head s head))
+queue-flushed g s head p = record {
+  queue = p.queue;
+  area_first = p.area_first;
+  area_size = p.area_size;
+  homes_first = p.homes_first;
+  homes_size = p.homes_size;
+  flushed = p.staged;
+  staged = p.staged;
+  blocks = p.blocks;
+  sure = p.sure;
+  settled = λ k within flushed. refl;
+}
 
--- the home blocks don't depend on the root's words
-home-along : (g : Geometry) (queue root new : PortState) (x : ℕ) → new.blocks ≡ root.blocks → (view_of g queue new).home x ≡ (view_of g queue root).home x
-home-along g queue root new x same = along (zone_of g x)
-  where
-    along : (z : Option ℕ) → home_block g (image_of queue ∷ []) (image_of new) x z ≡ home_block g (image_of queue ∷ []) (image_of root) x z
-    along None = ap (λ (l : List (Option (List ℕ))). block_at l x) same
-    along (Some q) = refl
+head-flushed : (s : PortState) (head : ℕ) → IsQuiet s → IsQuiet (after_flush (after_store_head s head))
+head-flushed s head q =
+    let none : length s.pending ≡ 0 = ap length q.pending in
+    record {
+      flushed_end = omega (arith, none);
+      pending = q.pending;
+      posted = q.posted;
+      failed = q.failed;
+      head = refl;
+      base = refl;
+      sure = q.sure;
+    }
 
-pub recovered-of : (g : Geometry) (queue root new_queue mid_root new_root : PortState) (base : ℕ) (ds : List Descriptor) (plan : Plan)
-    → IsSettled g queue root → base ≡ root.base → IsQueueChain g (view_of g queue root) 0 ds → IsPlan g queue base ds plan → AreWritten g queue root plan.writes.items new_queue mid_root
-    → new_root ≡ after_raise mid_root plan.recovered.base
-    → IsRecovered g queue root ds new_queue new_root × (plan.recovered.prefix ≡ length ds) × (plan.recovered.base ≡ root.base + length ds)
-recovered-of g queue root new_queue mid_root new_root base ds plan settled base_was chain planned done raised_is =
-    let up = raised g mid_root plan.recovered.base new_root (later-port g Root root mid_root done.root_is settled.root_port) (later-quiet root mid_root done.root_is settled.root_quiet) raised_is in
-    let base_is : plan.recovered.base ≡ root.base + length ds = planned.base_is ∙ ap (λ (n : ℕ). n + length ds) base_was in
-    let head_is : new_queue.head ≡ queue.head = ap (λ (s : PortState). s.head) done.queue_is.same in
-    let doorbell_is : new_queue.doorbell ≡ queue.doorbell = ap (λ (s : PortState). s.doorbell) done.queue_is.same in (
-      record {
-        queue_port = later-port g (Queue 0) queue new_queue done.queue_is settled.queue_port;
-        root_port = up.port;
-        queue_quiet = later-quiet queue new_queue done.queue_is settled.queue_quiet;
-        root_quiet = up.quiet;
-        homes = λ b below.
-            home-along g new_queue mid_root new_root b up.blocks_are
-            ∙ done.homes b below
-            ∙ ap (λ (o : Option (List ℕ)). or_else o ((view_of g queue root).home b)) (planned.copies b)
-            ∙ sym (stands-copy g (view_of g queue root) 0 ds b (chain-of g (view_of g queue root) 0 chain.number chain.place ds chain.chain));
-        base = up.base_is ∙ base_is;
-        head = head_is ∙ settled.done ∙ sym doorbell_is;
-        doorbell = doorbell_is;
-      },
-      planned.prefix_is,
-      base_is,
-    )
+pub record IsMoved (g : Geometry) (s t : PortState) : Type 0 where
+  pub port : IsPortOf g (Queue 0) t
+  pub quiet : IsQuiet t
+  pub head_is : t.head ≡ s.doorbell
+  pub doorbell_is : t.doorbell ≡ s.doorbell
+  pub blocks_are : t.blocks ≡ s.blocks
+  pub begun_is : t.begun ≡ s.begun
 
-pub base-low : (g : Geometry) (queue root mid_root : PortState) (base : ℕ) (ds : List Descriptor) (plan : Plan) → base ≡ root.base → IsPlan g queue base ds plan → IsWrittenHome root mid_root → mid_root.base ≤ plan.recovered.base
-base-low g queue root mid_root base ds plan base_was planned later =
-    let kept : mid_root.base ≡ root.base = ap (λ (s : PortState). s.base) later.same in
-    omega (arith, kept, planned.base_is)
+pub moved : (g : Geometry) (s : PortState) → IsPortOf g (Queue 0) s → IsQuiet s → IsMoved g s (after_move s)
+moved g s p q = record {
+  port = moved-as (IsPortOf g (Queue 0)) s p (queue-flushed g s s.doorbell p);
+  quiet = moved-as IsQuiet s q (head-flushed s s.doorbell q);
+  head_is = moved-head s;
+  doorbell_is = moved-as (λ (u : PortState). u.doorbell ≡ s.doorbell) s refl refl;
+  blocks_are = moved-as (λ (u : PortState). u.blocks ≡ s.blocks) s refl refl;
+  begun_is = moved-as (λ (u : PortState). u.begun ≡ s.begun) s refl refl;
+}
+
+-- the home blocks depend on the blocks of the ports alone
+pub home-along : (g : Geometry) (queue root new_queue new_root : PortState) (x : ℕ) → new_queue.blocks ≡ queue.blocks → new_root.blocks ≡ root.blocks → g.queues ≡ 1 → x < homes_of g
+    → (view_of g new_queue new_root).home x ≡ (view_of g queue root).home x
+home-along g queue root new_queue new_root x queue_same root_same one below = ⊎_elim
+    (λ near. home-meta g new_queue new_root x near ∙ ap (λ (l : List (Option (List ℕ))). block_at l x) root_same ∙ sym (home-meta g queue root x near))
+    (λ far. home-zone g new_queue new_root x one far below ∙ ap (λ (l : List (Option (List ℕ))). block_at l (g.area + (x - g.meta))) queue_same ∙ sym (home-zone g queue root x one far below))
+    (cases_lt x g.meta)

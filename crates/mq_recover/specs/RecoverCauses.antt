@@ -3,7 +3,7 @@ use Rattle.std.specs.Prelude.{◌≡◌, ◌⊎◌, List, Result, Ok, Err}
 use Rattle.mq_blocks.specs.Geometry.{home_lba}
 use Rattle.mq_blocks.specs.declared.geometry.Geometry.{Geometry}
 use Rattle.mq_drive.specs.Steps.{Fault, PowerOff, HomeError, Gains}
-use Rattle.mq_recover.specs.declared.refusal.ImageFault.TheVariants.{OutOfMemory}
+use Rattle.mq_recover.specs.declared.refusal.ImageFault.{ImageFault}
 use Rattle.mq_recover.specs.declared.refusal.RecoverRefusal.{RecoverRefusal}
 use Rattle.mq_recover.specs.declared.refusal.RecoverRefusal.TheVariants.{Image, Off, Failed}
 
@@ -25,17 +25,13 @@ HasDriveCause g (Err (Image _)) queue root new_queue new_root = (new_queue ≡ q
 HasDriveCause g (Err Off) queue root new_queue new_root = OneGains PowerOff queue root new_queue new_root
 HasDriveCause g (Err (Failed block status)) queue root new_queue new_root = OneGains (HomeError (home_lba g block) status) queue root new_queue new_root
 
--- no refusal of the image but for want of memory
-abbrev pub IsOfDrive : {A : Type 0} → Result A RecoverRefusal → Type 0
-IsOfDrive (Err (Image cause)) = cause ≡ OutOfMemory
-IsOfDrive _ = Unit {0}
-
--- this holds after a refusal of the image
-abbrev pub OnImage : {A : Type 0} → Result A RecoverRefusal → Type 0 → Type 0
-OnImage (Err (Image _)) P = P
+-- this holds of the fault after a refusal of the image
+abbrev pub OnImage : {A : Type 0} → Result A RecoverRefusal → (ImageFault → Type 0) → Type 0
+OnImage (Err (Image fault)) P = P fault
 OnImage _ P = Unit {0}
 
--- no refusal of the image
-abbrev pub IsEvent : {A : Type 0} → Result A RecoverRefusal → Type 0
-IsEvent (Err (Image _)) = ⊥
-IsEvent _ = Unit {0}
+-- this holds of a refusal by the drive
+abbrev pub OnDrive : {A : Type 0} → Result A RecoverRefusal → (RecoverRefusal → Type 0) → Type 0
+OnDrive (Err Off) P = P Off
+OnDrive (Err (Failed block status)) P = P (Failed block status)
+OnDrive _ P = Unit {0}

@@ -1,16 +1,11 @@
 -- Copies that are written home.
-use Rattle.std.specs.Prelude.{◌≡◌, ◌<◌, ℕ, ◌+◌, ◌%◌, true, false, List, [], ◌∷◌, length, Option, Some, None, slice_index_or, nat_eq, if◌then◌else◌}
-use Rattle.mq_blocks.specs.Blocks.{block_at}
-use Rattle.mq_blocks.specs.Descriptor.{Descriptor}
-use Rattle.mq_blocks.specs.Drive.{PortState, after_begin, after_end, after_flush, after_store_base}
-use Rattle.mq_blocks.specs.Geometry.{homes_of, home_lba}
-use Rattle.mq_blocks.specs.Journal.{or_else}
+use Rattle.std.specs.Prelude.{◌≡◌, ◌≢◌, ◌⊎◌, ◌<◌, ℕ, ◌+◌, ◌%◌, List, [], ◌∷◌, Option, Some, None, Result, Ok, Err, nat_eq, if◌then◌else◌}
+use Rattle.mq_blocks.specs.Drive.{PortState, after_begin, after_end, after_flush, after_store_base, after_store_head}
+use Rattle.mq_blocks.specs.Geometry.{home_lba}
 use Rattle.mq_blocks.specs.Machine.{Writes, or_kept}
 use Rattle.mq_blocks.specs.declared.geometry.Geometry.{Geometry}
-use Rattle.mq_recover.specs.Recovery.{view_of}
-use Rattle.mq_recover.specs.Recover.{copy_of, content_of}
-use Rattle.mq_recover.specs.declared.homes.Copies.{Copies}
-use Rattle.mq_recover.specs.declared.homes.Plan.{Plan}
+use Rattle.mq_recover.specs.declared.refusal.RecoverRefusal.{RecoverRefusal}
+use Rattle.mq_recover.specs.declared.refusal.RecoverRefusal.TheVariants.{Image, Off, Failed}
 
 -- the writes of the copies at these places, which are those of the blocks from b on
 abbrev pub writes_from : (ℕ → List ℕ) → ℕ → ℕ → List (Option ℕ) → Writes
@@ -32,38 +27,29 @@ AreBelow homes (w ∷ ws) = (w.0 < homes) × AreBelow homes ws
 abbrev pub after_home : PortState → ℕ → List ℕ → PortState
 after_home s lba block = after_end (after_begin s lba block) lba block
 
--- a block is written home through the port of its zone
-abbrev pub IsAfterHome : Geometry → Option ℕ → (queue root : PortState) → ℕ → List ℕ → (new_queue new_root : PortState) → Type 0
-IsAfterHome g None queue root b block new_queue new_root = (new_queue ≡ queue) × (new_root ≡ after_home root (home_lba g b) block)
-IsAfterHome g (Some q) queue root b block new_queue new_root = (new_queue ≡ after_home queue (home_lba g b) block) × (new_root ≡ root)
+-- a home write through a port ended, or was refused before it began or after
+abbrev pub GivesHome : {A : Type 0} → Geometry → (s : PortState) → ℕ → List ℕ → Result A RecoverRefusal → (t : PortState) → Type 0
+GivesHome g s b block (Ok _) t = t ≡ after_home s (home_lba g b) block
+GivesHome g s b block (Err (Image _)) t = ⊥
+GivesHome g s b block (Err Off) t = (t ≡ s) ⊎ (t ≡ after_begin s (home_lba g b) block)
+GivesHome g s b block (Err (Failed c _)) t = (c ≡ b) × (t ≡ after_begin s (home_lba g b) block)
 
--- home writes changed the blocks alone, and left none uncertain
-pub record IsWrittenHome (s t : PortState) : Type 0 where
-  pub same : t ≡ record s { blocks = t.blocks; sure = t.sure; begun = t.begun; begins = t.begins }
-  pub blocks_len : length t.blocks ≡ length s.blocks
-  pub sure_len : length t.sure ≡ length s.sure
-  pub certain : (k : ℕ) → slice_index_or s.sure k false ≡ true → slice_index_or t.sure k false ≡ true
-
--- each home block holds what was last written, else what it held before
-pub record AreWritten (g : Geometry) (queue root : PortState) (writes : Writes) (new_queue new_root : PortState) : Type 0 where
-  pub queue_is : IsWrittenHome queue new_queue
-  pub root_is : IsWrittenHome root new_root
-  pub homes : (x : ℕ) → x < homes_of g → (view_of g new_queue new_root).home x ≡ or_else (written writes x) ((view_of g queue root).home x)
-
--- each home block has its copy's place by these descriptors, and so many are recovered
-pub record AreCopies (g : Geometry) (base : ℕ) (ds : List Descriptor) (c : Copies) : Type 0 where
-  pub whole : length c.places.items ≡ homes_of g
-  pub places_are : (x : ℕ) → slice_index_or c.places.items x None ≡ copy_of ds x
-  pub prefix_is : c.recovered.prefix ≡ length ds
-  pub base_is : c.recovered.base ≡ base + length ds
-
--- what goes home of a chain, and what then is recovered
-pub record IsPlan (g : Geometry) (queue : PortState) (base : ℕ) (ds : List Descriptor) (plan : Plan) : Type 0 where
-  pub below : AreBelow (homes_of g) plan.writes.items
-  pub copies : (x : ℕ) → written plan.writes.items x ≡ content_of (block_at queue.blocks) g.area (copy_of ds x)
-  pub prefix_is : plan.recovered.prefix ≡ length ds
-  pub base_is : plan.recovered.base ≡ base + length ds
+-- the same through the port of the block's zone
+abbrev pub GivesOne : {A : Type 0} → Geometry → Option ℕ → (queue root : PortState) → ℕ → List ℕ → Result A RecoverRefusal → (new_queue new_root : PortState) → Type 0
+GivesOne g None queue root b block result new_queue new_root = (new_queue ≡ queue) × GivesHome g root b block result new_root
+GivesOne g (Some q) queue root b block result new_queue new_root = GivesHome g queue b block result new_queue × (new_root ≡ root)
 
 -- the base word is stored and flushed where it changes
 abbrev pub after_raise : PortState → ℕ → PortState
 after_raise s base = if nat_eq s.base base then s else after_flush (after_store_base s base)
+
+-- the same with the head, which goes to the doorbell
+abbrev pub after_move : PortState → PortState
+after_move s = if nat_eq s.head s.doorbell then s else after_flush (after_store_head s s.doorbell)
+
+-- it was refused before the store or after it
+abbrev pub IsCutRaise : PortState → ℕ → PortState → Type 0
+IsCutRaise s base t = (s.base ≢ base) × ((t ≡ s) ⊎ (t ≡ after_store_base s base))
+
+abbrev pub IsCutMove : PortState → PortState → Type 0
+IsCutMove s t = (s.head ≢ s.doorbell) × ((t ≡ s) ⊎ (t ≡ after_store_head s s.doorbell))

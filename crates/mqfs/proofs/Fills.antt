@@ -10,7 +10,7 @@ use Rattle.mq_blocks.specs.declared.geometry.Geometry.{Geometry}
 use Rattle.mqfs.specs.Commits.{AreBelow, blocks_in, copies_from, items_from, items_of, descriptor_for}
 use Rattle.mqfs.specs.Lines.{set_in, with_write, writes_from, named}
 use Rattle.mqfs.specs.Runs.{Items}
-use Rattle.mqfs.specs.Text.{AreGoodItems, IsGoodItem, sets_in}
+use Rattle.mqfs.specs.Text.{AreGoodItems, IsGoodItem, IsUnnamed, sets_in}
 use Rattle.mqfs.specs.declared.text.item.BlockItem.{BlockItem}
 use Rattle.mqfs.specs.declared.text.item.BlockItem.TheVariants.{Set, Free}
 
@@ -134,30 +134,48 @@ items_made g fills f number next last logged copied items is_logged is_copied sa
     ∙ (λ i. copies i ++ (area_lba g 0 (next + count i), descriptor_bytes record { queue = 0; number = number; place = next + count i; prev_place = last; prev_number = number - 1; logged = blocks i; revoked = [] }) ∷ [])
     ∙ copies-then g next (descriptor_bytes (descriptor_for number next last ws)) ws
 
--- ---- a line writes no more blocks than it has items that set one
+-- ---- a line writes as many blocks as it has items that set one
 
 past_set : (is : List BlockItem) (c v b n : ℕ) → c < b → writes_from (set_in (Set c v ∷ is)) b n ≡ writes_from (set_in is) b n
 past_set is c v b n past = writes-along (set_in (Set c v ∷ is)) (set_in is) b n (λ k low high. grind (arith, nat_tests))
 
-one_more : (b : ℕ) (o p : Option ℕ) (ws us : Writes) → length ws ≤ length us + 1 → (o ≡ p) ⊎ (ws ≡ us) → length (with_write b o ws) ≤ length (with_write b p us) + 1
-one_more b None None ws us few same = few
-one_more b (Some v) (Some w) ws us few same = omega arith
-one_more b None (Some w) ws us few same = omega arith
-one_more b (Some v) None ws us few (inl same) = absurd (let bad : Some v ≡ None = same in cc)
-one_more b (Some v) None ws us few (inr same) = let e : length ws ≡ length us = ap length same in omega arith
+not_set : (is : List BlockItem) (c : ℕ) → IsUnnamed c is → set_in is c ≡ None
+not_set [] c unnamed = refl
+not_set (Set d v ∷ is) c unnamed = let ne : c ≢ d = unnamed.0 in let rest : set_in is c ≡ None = not_set is c unnamed.1 in grind (arith, nat_tests)
+not_set (Free d ∷ is) c unnamed = not_set is c unnamed.1
 
-set_more : (is : List BlockItem) (c v b n : ℕ) → length (writes_from (set_in (Set c v ∷ is)) b n) ≤ length (writes_from (set_in is) b n) + 1
-set_more is c v b zero = omega arith
-set_more is c v b (suc n) = one_more b (set_in (Set c v ∷ is) b) (set_in is b) (writes_from (set_in (Set c v ∷ is)) (b + 1) n) (writes_from (set_in is) (b + 1) n) (set_more is c v (b + 1) n) (⊎_elim
-    (λ here. inr (past_set is c v (b + 1) n (omega arith)))
-    (λ other. inl (let ne : c ≢ b = other in grind (arith, nat_tests)))
-    (cases_eq c b))
+-- a write more, and one write more before it
+one_there : (b v : ℕ) (o p : Option ℕ) (ws us : Writes) → o ≡ Some v → p ≡ None → ws ≡ us → length (with_write b o ws) ≡ length (with_write b p us) + 1
+one_there b v None p ws us some none same = cc
+one_there b v (Some w) None ws us some none same = let e : length ws ≡ length us = ap length same in omega arith
+one_there b v (Some w) (Some x) ws us some none same = cc
+
+one_later : (b : ℕ) (o : Option ℕ) (ws us : Writes) → length ws ≡ length us + 1 → length (with_write b o ws) ≡ length (with_write b o us) + 1
+one_later b None ws us more = more
+one_later b (Some v) ws us more = omega arith
+
+set_more : (is : List BlockItem) (c v b n : ℕ) → IsUnnamed c is → b ≤ c → c < b + n → length (writes_from (set_in (Set c v ∷ is)) b n) ≡ length (writes_from (set_in is) b n) + 1
+set_more is c v b zero unnamed low high = absurd (omega arith)
+set_more is c v b (suc n) unnamed low high = ⊎_elim
+    (λ here.
+    let none : set_in is b ≡ None = ap (set_in is) (sym here) ∙ not_set is c unnamed in
+    let some : set_in (Set c v ∷ is) b ≡ Some v = let e : c ≡ b = here in grind (arith, nat_tests) in
+    one_there b v (set_in (Set c v ∷ is) b) (set_in is b) (writes_from (set_in (Set c v ∷ is)) (b + 1) n) (writes_from (set_in is) (b + 1) n) some none (past_set is c v (b + 1) n (omega arith)))
+    (λ other.
+    let ne : c ≢ b = other in
+    let same : set_in (Set c v ∷ is) b ≡ set_in is b = grind (arith, nat_tests) in
+    ap (λ (o : Option ℕ). length (with_write b o (writes_from (set_in (Set c v ∷ is)) (b + 1) n))) same
+    ∙ one_later b (set_in is b) (writes_from (set_in (Set c v ∷ is)) (b + 1) n) (writes_from (set_in is) (b + 1) n) (set_more is c v (b + 1) n unnamed (omega arith) (omega arith)))
+    (cases_eq c b)
 
 none_written : (b n : ℕ) → length (writes_from (set_in []) b n) ≡ 0
 none_written b zero = refl
 none_written b (suc n) = none_written (b + 1) n
 
-pub length-writes_sets : (is : List BlockItem) (b n : ℕ) → length (writes_from (set_in is) b n) ≤ sets_in is
-length-writes_sets [] b n = omega (arith, none_written b n)
-length-writes_sets (Set c v ∷ is) b n = omega (arith, set_more is c v b n, length-writes_sets is b n)
-length-writes_sets (Free c ∷ is) b n = length-writes_sets is b n
+pub length-writes_sets : (is : List BlockItem) → AreGoodItems is → length (writes_from (set_in is) 0 named) ≡ sets_in is
+length-writes_sets [] good = none_written 0 named
+length-writes_sets (Set c v ∷ is) good =
+    let small : c ≤ 255 = good.0.0 in
+    let more = set_more is c v 0 named good.1 (omega arith) (omega (arith, named_is)) in
+    omega (arith, more, length-writes_sets is good.2)
+length-writes_sets (Free c ∷ is) good = length-writes_sets is good.2

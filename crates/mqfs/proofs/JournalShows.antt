@@ -5,14 +5,17 @@ use Rattle.std.proofs.lemmas.Nat.{mod_below}
 use Rattle.mq_nvme.specs.Says.{says}
 use Rattle.mq_blocks.specs.Blocks.{block_at}
 use Rattle.mq_blocks.specs.Descriptor.{Descriptor}
-use Rattle.mq_blocks.specs.Drive.{PortState, PortImage, IsImage, IsApartFrom, staged_end, depth}
+use Rattle.mq_blocks.specs.Drive.{PortState, PortImage, IsImage, IsFlushed, index_of, depth}
 use Rattle.mq_blocks.specs.Geometry.{area_lba}
-use Rattle.mq_blocks.specs.Journal.{Shown, shown, IsChain, AreInReach, IsQueueChain, Has, AreWhole, AreInRow, IsPrefix, logged_copy, is_among, or_else, stands}
+use Rattle.mq_blocks.specs.Journal.{Shown, Says, shown, number_limit, IsChain, AreInReach, IsQueueChain, Has, AreWhole, AreInRow, IsPrefix, logged_copy, is_among, or_else, stands}
 use Rattle.mq_blocks.specs.Machine.{Map, Transaction, write_of, or_kept, after, after_all}
 use Rattle.mq_blocks.specs.declared.geometry.Geometry.{Geometry}
-use Rattle.mq_blocks.specs.declared.command.Command.{Command}
+use Rattle.mq_drive.specs.Start.{IsPortOf}
+use Rattle.mq_drive.specs.declared.role.Role.TheVariants.{Queue}
 use Rattle.mqfs.specs.Lines.{empty_map}
 use Rattle.mqfs.specs.Commits.{Agrees, Carries, AllCarry, Keeps, ShowsMap}
+use Rattle.mqfs.specs.Cuts.{IsEarly}
+use Rattle.mqfs.specs.Runs.{Items, IsNewIn}
 
 -- ---- of descriptors
 
@@ -61,45 +64,43 @@ stands_all g i (d ∷ ds) (t ∷ ts) b v carry is =
 
 -- ---- of images
 
-module _ (g : Geometry) (s root : PortState) (next place : ℕ) (ds : List Descriptor) (ts : List Transaction) (keeps : Keeps g s next place ds ts) (one : g.queues ≡ 1)
-    (fits : next ≤ g.area) (few : length ds ≤ 2 ^ 62) (doorbell : s.doorbell ≤ 2 ^ 63) (q r : PortImage) (image : IsImage s q) (base : r.base ≡ 0) where
+-- what the entries from the head to the doorbell say
+pub record AreReadable (s new : PortState) : Type 0 where
+  pub order : s.head ≤ new.doorbell
+  pub few : new.doorbell ≤ s.head + 1023
+  pub low : new.doorbell ≤ number_limit
+  pub flushed : (c : ℕ) → s.head ≤ c → c < new.doorbell → IsFlushed new (c % depth)
+  pub each : (c : ℕ) → s.head ≤ c → c < new.doorbell → (e : Says) × (says (get_or new.flushed (c % depth) []) ≡ Some e) × (e.0 ≤ number_limit)
+  pub last : s.head < new.doorbell → (n : ℕ) × (l : ℕ) × (says (get_or new.flushed ((new.doorbell - 1) % depth) []) ≡ Some (n, l, true))
+
+-- A port that keeps some transactions, and what it is in the middle of the next.
+module _ (g : Geometry) (s new : PortState) (next place : ℕ) (ds : List Descriptor) (ts : List Transaction) (keeps : Keeps g s next place ds ts) (one : g.queues ≡ 1)
+    (fits : next ≤ g.area) (few : length ds ≤ 2 ^ 62) (tx : ℕ) (items : Items) (early : IsEarly s new tx items) (port : IsPortOf g (Queue 0) new) (readable : AreReadable s new)
+    (fresh : (k : ℕ) → k < next → IsNewIn (index_of s) k items) (q r : PortImage) (image : IsImage new q) (base : r.base ≡ 0) where
   abbrev i : Shown
   i = shown says g (q ∷ []) r
-
-  apart : (k : ℕ) (cs : List Command) → cs ≡ [] → IsApartFrom s k cs
-  apart k cs none = subst (IsApartFrom s k) (sym none) tt
-
-  blocks_same : (k : ℕ) → k < length s.blocks → block_at q.blocks k ≡ block_at s.blocks k
-  blocks_same k within = image.blocks k within record {
-    sure = keeps.quiet.sure k (let long = keeps.port.sure in omega arith);
-    apart = apart k s.posted keeps.quiet.posted;
-  }
 
   agrees : Agrees next s i
   agrees = record {
     base = base;
-    area = λ k less. blocks_same k (let long = keeps.port.blocks in omega arith);
+    area = λ k less.
+        let old = keeps.port.blocks in
+        let long = port.blocks in
+        let sure = keeps.port.sure in
+        image.blocks k (omega arith) (early.certain k (omega arith) (fresh k less)) ∙ early.blocks k (fresh k less);
   }
 
   head : q.head ≡ s.head
-  head = ⊎_elim (λ same. same) (λ stored. stored ∙ keeps.quiet.head) image.head
+  head = ⊎_elim (λ same. same ∙ early.head) (λ stored. stored ∙ early.stored) image.head
 
-  end : staged_end s ≡ s.doorbell
-  end = ap (λ (l : List Command). s.doorbell + length l) keeps.quiet.pending ∙ add-zero s.doorbell
+  slot_same : (k : ℕ) → k < 1024 → IsFlushed new k → get_or q.slots k [] ≡ get_or new.flushed k []
+  slot_same k within flushed = image.slots k (let ring = port.flushed in omega arith) flushed
 
-  slot_same : (k : ℕ) → k < 1024 → get_or q.slots k [] ≡ get_or s.flushed k []
-  slot_same k within = image.slots k (let ring = keeps.port.flushed in omega arith) (λ c low high. absurd (let flushed = keeps.quiet.flushed_end in let last = end in omega arith))
-
-  slot_before : get_or q.slots ((q.head - 1) % depth) [] ≡ get_or s.flushed ((s.head - 1) % depth) []
-  slot_before =
-      slot_same ((q.head - 1) % depth) (mod_below (q.head - 1) depth (omega arith))
-      ∙ ap (λ (n : ℕ). get_or s.flushed ((n - 1) % depth) []) head
-
-  done : q.head ≡ q.doorbell
-  done = head ∙ keeps.done ∙ sym image.doorbell
-
-  in_lap : 0 < length ds → place < g.area
-  in_lap some = let below = keeps.below some in omega arith
+  slot_before : 0 < s.head → get_or q.slots ((q.head - 1) % depth) [] ≡ get_or s.flushed ((s.head - 1) % depth) []
+  slot_before some =
+      ap (λ (n : ℕ). get_or q.slots ((n - 1) % depth) []) head
+      ∙ slot_same ((s.head - 1) % depth) (mod_below (s.head - 1) depth (omega arith)) (early.slot_flushed some)
+      ∙ early.slot some
 
   reach : AreInReach g place ds
   reach = of ds keeps.below
@@ -108,27 +109,40 @@ module _ (g : Geometry) (s root : PortState) (next place : ℕ) (ds : List Descr
       of [] below = tt
       of (e ∷ es) below = in_reach g place (e ∷ es) (let low : place < next = below (omega arith) in omega arith)
 
-  -- the Lba in the entry before the head
-  lba_before : Option ℕ → ℕ
-  lba_before None = 0
-  lba_before (Some l) = l
+  rung_entry : (c : ℕ) → q.head ≤ c → c < q.doorbell → (e : Says) × (says (get_or q.slots (c % depth) []) ≡ Some e) × (e.0 ≤ number_limit)
+  rung_entry c low high =
+      let from : s.head ≤ c = let h = head in omega arith in
+      let below : c < new.doorbell = let bell = image.doorbell in omega arith in
+      let entry = readable.each c from below in
+      (entry.0, ap says (slot_same (c % depth) (mod_below c depth (omega arith)) (readable.flushed c from below)) ∙ entry.1, entry.2)
+
+  rung_last : q.head < q.doorbell → (n : ℕ) × (l : ℕ) × (says (get_or q.slots ((q.doorbell - 1) % depth) []) ≡ Some (n, l, true))
+  rung_last more =
+      let some : s.head < new.doorbell = let h = head in let bell = image.doorbell in omega arith in
+      let last = readable.last some in (
+        last.0,
+        last.1,
+        ap (λ (n : ℕ). says (get_or q.slots ((n - 1) % depth) [])) image.doorbell
+            ∙ ap says (slot_same ((new.doorbell - 1) % depth) (mod_below (new.doorbell - 1) depth (omega arith)) (readable.flushed (new.doorbell - 1) (omega arith) (omega arith)))
+            ∙ last.2,
+      )
 
   some_chain : (l : ℕ) → (0 < q.head → says (get_or q.slots ((q.head - 1) % depth) []) ≡ Some (length ds, l, true)) → (0 < length ds → l ≡ area_lba g 0 place) → IsQueueChain g i 0 ds
   some_chain l newest own = record {
     number = length ds;
     lba = l;
     place = place;
-    order = let same = done in omega arith;
-    few = let same = done in omega arith;
-    low = let bell = image.doorbell in omega arith;
+    order = let h = head in let bell = image.doorbell in let order = readable.order in omega arith;
+    few = let h = head in let bell = image.doorbell in let few = readable.few in omega arith;
+    low = let bell = image.doorbell in let low = readable.low in omega arith;
     none = λ none. keeps.none (sym head ∙ none);
     newest = newest;
     limit = omega arith;
     own = λ newer. own (let b : i.base ≡ 0 = base in omega arith);
     chain = keeps.chain i agrees;
     reach = reach;
-    rung = λ c low high. absurd (let same = done in omega arith);
-    rung_whole = λ more. absurd (let same = done in omega arith);
+    rung = rung_entry;
+    rung_whole = rung_last;
   }
 
   queue_chain : IsQueueChain g i 0 ds
@@ -139,7 +153,7 @@ module _ (g : Geometry) (s root : PortState) (next place : ℕ) (ds : List Descr
       at (inr some) =
           let above : 0 < s.head = let same = head in omega arith in
           let newest = keeps.newest above in
-          some_chain newest.0 (λ more. ap says slot_before ∙ newest.1) newest.2
+          some_chain newest.0 (λ more. ap says (slot_before above) ∙ newest.1) newest.2
 
   whole : AreWhole g i (λ n. ds)
   whole = record {
@@ -155,12 +169,10 @@ module _ (g : Geometry) (s root : PortState) (next place : ℕ) (ds : List Descr
     greatest = λ n d less has. λ above. let most : d.number ≤ 0 + length ds = number_in_row 0 ds keeps.row d has in let b : i.base ≡ 0 = base in omega arith;
   }
 
-  pub shows_map : ShowsMap g i (length ds) (after_all empty_map ts)
+  pub shows_map : ShowsMap g (shown says g (q ∷ []) r) (length ds) (after_all empty_map ts)
   shows_map = record {
     ds = ds;
     base = base;
-    done = done;
-    chain = queue_chain;
     reaches = record { chains = λ n. ds; whole = whole; prefix = prefix };
     prefix_is = refl;
     blocks = λ b v within is. stands_all g i ds ts b v (keeps.carry i agrees) is;

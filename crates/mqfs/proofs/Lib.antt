@@ -1,7 +1,13 @@
 mod Programs
 mod Restarts
+pub mod Counts
+pub mod CutTexts
+pub mod Cutting
 pub mod Drives
+pub mod Ended
 pub mod Ending
+pub mod Events
+pub mod Exits
 pub mod Fills
 pub mod JournalItems
 pub mod JournalKeeps
@@ -9,6 +15,7 @@ pub mod JournalShows
 pub mod Lines
 pub mod Lists
 pub mod LiveBlocks
+pub mod RungEntries
 pub mod Staging
 pub mod TextFirst
 pub mod TextItems

@@ -1,25 +1,20 @@
 -- The blocks that are live after a text of set items.
 use Rattle.std.proofs.Common.{◌≡◌, ◌≢◌, ◌<◌, ◌≤◌, ⊎_elim, ℕ, zero, suc, ◌+◌, ◌-◌, Bool, true, false, ◌||◌, cond, List, [], ◌∷◌, ◌++◌, length, get_or, Option, Some, None, refl, sym, ◌∙◌, ap, subst, arith, append_assoc}
 use Rattle.std.specs.Prelude.{is_some}
-use Rattle.std.proofs.lemmas.Bool.{cases_eq, eq-eqb}
+use Rattle.std.proofs.lemmas.Bool.{cases_eq, eq-eqb, ne_eqb}
 use Rattle.std.proofs.lemmas.Bool.Decides.{nat_tests}
 use Rattle.mq_blocks.specs.Blocks.{filled}
 use Rattle.mq_blocks.specs.Journal.{is_among}
 use Rattle.mq_blocks.specs.Machine.{Map, Writes, write_of, or_kept, after}
 use Rattle.mqfs.specs.Lines.{set_in, freed_in, with_write, writes_from, named, transaction_of, map_after, live_one, live_from}
-use Rattle.mqfs.specs.Live.{AreMarks}
-use Rattle.mqfs.specs.Text.{AreSets, HasSetsOnly, AreGoodItems, AreGoodLines}
+use Rattle.mqfs.specs.Live.{AreMarks, marked}
+use Rattle.mqfs.specs.Text.{AreGoodItems, AreGoodLines, IsGoodItem, IsUnnamed}
 use Rattle.mqfs.specs.declared.text.item.BlockItem.{BlockItem}
 use Rattle.mqfs.specs.declared.text.item.BlockItem.TheVariants.{Set, Free}
 use Rattle.mqfs.proofs.Fills.{Fill, named_is}
 
 abbrev Lines : Type 0
 Lines = List (List BlockItem)
-
-none_freed : (is : List BlockItem) → AreSets is → freed_in is ≡ []
-none_freed [] sets = refl
-none_freed (Set b v ∷ is) sets = none_freed is sets
-none_freed (Free b ∷ is) sets = absurd sets
 
 write_low : (f : Fill) (low n b : ℕ) → b < low → write_of (writes_from f low n) b ≡ None
 write_low f low zero b less = refl
@@ -51,26 +46,42 @@ kept_some : (o p : Option (List ℕ)) → is_some (or_kept o p) ≡ (is_some o |
 kept_some None p = refl
 kept_some (Some v) p = refl
 
--- a line of set items makes just its blocks live
-pub live_more : (line : List BlockItem) (number : ℕ) (m : Map) (b : ℕ) → AreSets line → b < 256 → is_some (after m (transaction_of number line) b) ≡ (is_some (set_in line b) || is_some (m b))
+unnamed_set : (b : ℕ) (is : List BlockItem) → IsUnnamed b is → set_in is b ≡ None
+unnamed_set b [] apart = refl
+unnamed_set b (Set c v ∷ is) apart = rw (ne_eqb c b (λ e. apart.0 (sym e))) (unnamed_set b is apart.1)
+unnamed_set b (Free c ∷ is) apart = unnamed_set b is apart.1
+
+-- a block is live after a line's changes where the items say so
+live_items : (is : List BlockItem) (b : ℕ) (old : Option (List ℕ)) → AreGoodItems is → (is_some (set_in is b) || is_some (cond (is_among b (freed_in is)) None old)) ≡ marked is b (is_some old)
+live_items [] b old good = refl
+live_items (Set c v ∷ is) b old good = ⊎_elim
+    (λ here. rw (eq-eqb c b here) refl)
+    (λ other. rw (ne_eqb c b other) (live_items is b old good.2))
+    (cases_eq c b)
+live_items (Free c ∷ is) b old good = ⊎_elim
+    (λ here. rw (eq-eqb c b here) (ap (λ (o : Option ℕ). is_some o || false) (unnamed_set b is (subst (λ (n : ℕ). IsUnnamed n is) here good.1))))
+    (λ other. rw (ne_eqb c b other) (live_items is b old good.2))
+    (cases_eq c b)
+
+-- the blocks that are live after a line
+pub live_more : (line : List BlockItem) (number : ℕ) (m : Map) (b : ℕ) → AreGoodItems line → b < 256 → is_some (after m (transaction_of number line) b) ≡ marked line b (is_some (m b))
 unfolding after
-live_more line number m b sets less =
-    let none : is_among b (freed_in line) ≡ false = ap (is_among b) (none_freed line sets) in
+live_more line number m b good less =
     kept_some (write_of (writes_from (set_in line) 0 named) b) (cond (is_among b (freed_in line)) None (m b))
-    ∙ (λ i. write_at (set_in line) 0 named b (omega arith) (let n = named_is in omega arith) i || is_some (cond (none i) None (m b)))
+    ∙ ap (λ (t : Bool). t || is_some (cond (is_among b (freed_in line)) None (m b))) (write_at (set_in line) 0 named b (omega arith) (let n = named_is in omega arith))
+    ∙ live_items line b (m b) good
 
 -- the marks after one line more
-pub marks_more : (lines : Lines) (n : ℕ) (line : List BlockItem) (marks more : List Bool) → line ≡ get_or lines n [] → AreSets line → AreMarks (map_after lines n) marks
-    → ((b : ℕ) → b < 256 → get_or more b false ≡ (is_some (set_in line b) || get_or marks b false)) → AreMarks (map_after lines (n + 1)) more
-marks_more lines n line marks more is sets old new b less =
-    let step : is_some (map_after lines (suc n) b) ≡ (is_some (set_in line b) || is_some (map_after lines n b)) =
-    ap (λ (l : List BlockItem). is_some (after (map_after lines n) (transaction_of (n + 1) l) b)) (sym is) ∙ live_more line (n + 1) (map_after lines n) b sets less in
-    new b less ∙ ap (λ (t : Bool). is_some (set_in line b) || t) (old b less) ∙ sym step ∙ ap (λ (k : ℕ). is_some (map_after lines k b)) (let e : suc n ≡ n + 1 = omega arith in e)
+pub marks_more : (lines : Lines) (n : ℕ) (line : List BlockItem) (marks more : List Bool) → line ≡ get_or lines n [] → AreGoodItems line → AreMarks (map_after lines n) marks
+    → ((b : ℕ) → b < 256 → get_or more b false ≡ marked line b (get_or marks b false)) → AreMarks (map_after lines (n + 1)) more
+marks_more lines n line marks more is good old new b less =
+    let step : is_some (map_after lines (suc n) b) ≡ marked line b (is_some (map_after lines n b)) =
+    ap (λ (l : List BlockItem). is_some (after (map_after lines n) (transaction_of (n + 1) l) b)) (sym is) ∙ live_more line (n + 1) (map_after lines n) b good less in
+    new b less ∙ ap (marked line b) (old b less) ∙ sym step ∙ ap (λ (k : ℕ). is_some (map_after lines k b)) (let e : suc n ≡ n + 1 = omega arith in e)
 
-pub sets_at : (lines : Lines) (n : ℕ) → n < length lines → HasSetsOnly lines → AreSets (get_or lines n [])
-sets_at [] n less sets = absurd (omega arith)
-sets_at (l ∷ ls) zero less sets = sets.0
-sets_at (l ∷ ls) (suc n) less sets = sets_at ls n (omega arith) sets.1
+-- a good item frees a block below 256
+pub good_free : (i : BlockItem) (b : ℕ) → i ≡ Free b → IsGoodItem i → b < 256
+good_free i b is good = let at : IsGoodItem (Free b) = subst IsGoodItem is good in let low : b ≤ 255 = at in omega arith
 
 -- ---- the list of live blocks
 

@@ -1,28 +1,35 @@
--- Two images of a drive of one queue, on which a text was committed, and their recovery.
-use Rattle.std.proofs.Common.{◌≡◌, ◌<◌, ◌≤◌, ℕ, ◌+◌, ◌*◌, List, [], ◌∷◌, length, Some, refl, inl, inr, ◌∙◌, ap, subst, arith}
-use Rattle.std.specs.Prelude.{slice_get, Result, Err}
+-- Two images of a drive of one queue, on which lines of a text stand, and their recovery.
+use Rattle.std.proofs.Common.{◌≡◌, ◌<◌, ◌≤◌, ⊎_elim, ℕ, ◌+◌, ◌*◌, List, [], ◌∷◌, length, take, Option, Some, None, refl, inl, inr, sym, ◌∙◌, ap, subst, arith}
+use Rattle.std.specs.Prelude.{slice_get, Contains, Result, Err}
 use Rattle.mq_nvme.specs.Says.{says}
 use Rattle.mq_blocks.specs.Descriptor.{Descriptor}
-use Rattle.mq_blocks.specs.Drive.{PortState, PortImage, IsQuiet}
-use Rattle.mq_blocks.specs.Geometry.{homes_of}
-use Rattle.mq_blocks.specs.Journal.{shown, IsQueueChain, Reaches}
+use Rattle.mq_blocks.specs.Drive.{PortState, PortImage, after_begin, after_end}
+use Rattle.mq_blocks.specs.Geometry.{homes_of, home_lba, zone_of}
+use Rattle.mq_blocks.specs.Journal.{shown, stands}
 use Rattle.mq_blocks.specs.Machine.{Map}
 use Rattle.mq_blocks.specs.declared.geometry.Geometry.{Geometry}
-use Rattle.mq_drive.specs.Start.{IsImageOf, IsPortOf, start_of}
+use Rattle.mq_drive.specs.Emu.{emu_state, emu_faults}
+use Rattle.mq_drive.specs.Start.{IsImageOf, start_of}
+use Rattle.mq_drive.specs.Steps.{Fault, PowerOff, HomeError}
+use Rattle.mq_drive.specs.declared.emu.EmuPort.{EmuPort}
+use Rattle.mq_drive.proofs.Faults.{off_unlimited, no_error, home_error_is_none}
 use Rattle.mq_drive.proofs.Starts.{port_of-start, quiet-start}
 use Rattle.mq_drive.specs.declared.role.Role.TheVariants.{Queue, Root}
 use Rattle.mqfs.specs.Commits.{AreBelow, AllBelow, ShowsMap}
 use Rattle.mqfs.specs.Fresh.{IsTextGeometry}
 use Rattle.mqfs.specs.Live.{HoldsMap}
-use Rattle.mq_recover.specs.Recovery.{view_of, IsSettled, IsRecovered}
-use Rattle.mq_recover.specs.RecoverCauses.{HasDriveCause, IsOfDrive, OneGains}
+use Rattle.mq_drive.specs.Views.{view_of, IsStill}
+use Rattle.mq_recover.specs.RecoverCauses.{HasDriveCause, OnDrive, OnImage, OneGains}
+use Rattle.mq_recover.specs.Refusals.{RefusesImage}
+use Rattle.mq_recover.specs.Steps.{Event, BeginHome, EndHome, StoreBase, FlushBase, StoreHead, FlushHead, TwoPorts, two, at_home, after_event, after_events, StopsAt, IsCutShort, IsDone}
+use Rattle.mq_recover.proofs.Images.{reaches-same, reaches-refused, read-reaches}
 use Rattle.mqfs.specs.Text.{AreGoodItems, AreGoodLines}
 use Rattle.mqfs.specs.declared.text.item.BlockItem.{BlockItem}
 use Rattle.mqfs.specs.declared.text.item.BlockItem.TheVariants.{Set, Free}
+use Rattle.mq_recover.specs.declared.refusal.ImageFault.{ImageFault}
 use Rattle.mq_recover.specs.declared.refusal.ImageFault.TheVariants as fault
 use Rattle.mq_recover.specs.declared.refusal.RecoverRefusal.{RecoverRefusal}
 use Rattle.mq_recover.specs.declared.refusal.RecoverRefusal.TheVariants.{Image, Off, Failed}
-use Rattle.mqfs.proofs.Drives.{no_gain}
 
 pub text_homes : (g : Geometry) → IsTextGeometry g → homes_of g ≡ 256
 text_homes g t =
@@ -40,71 +47,128 @@ lines_below homes [] size good = tt
 lines_below homes ([] ∷ ls) size good = absurd good.0
 lines_below homes ((i ∷ is) ∷ ls) size good = (items_below homes (i ∷ is) size good.0, lines_below homes ls size good.1)
 
--- two ports that start from such images are settled
-pub settled_start : (g : Geometry) (q r : PortImage) (n : ℕ) (m : Map) → IsTextGeometry g → IsImageOf g (Queue 0) q → IsImageOf g Root r → ShowsMap g (shown says g (q ∷ []) r) n m
-    → IsSettled g (start_of g (Queue 0) q) (start_of g Root r)
-settled_start g q r n m text queue root shows = record {
-  one = text.queues;
-  queue_port = port_of-start g (Queue 0) q queue;
-  root_port = port_of-start g Root r root;
-  queue_quiet = quiet-start g (Queue 0) q;
-  root_quiet = quiet-start g Root r;
-  done = shows.done;
-  descriptors = shows.ds;
-  chain = shows.chain;
-  reaches = shows.reaches;
+-- the two ports of a drive of one queue that starts from images
+pub record AreStarted (g : Geometry) (q r : PortImage) (queue root : PortState) : Type 0 where
+  pub one : g.queues ≡ 1
+  pub queue_image : IsImageOf g (Queue 0) q
+  pub root_image : IsImageOf g Root r
+  pub queue_is : queue ≡ start_of g (Queue 0) q None None
+  pub root_is : root ≡ start_of g Root r None None
+
+still_start : (g : Geometry) (q r : PortImage) → g.queues ≡ 1 → IsImageOf g (Queue 0) q → IsImageOf g Root r → IsStill g (start_of g (Queue 0) q None None) (start_of g Root r None None)
+still_start g q r one queue root = record {
+  one = one;
+  queue_port = port_of-start g (Queue 0) q None None queue;
+  root_port = port_of-start g Root r None None root;
+  queue_quiet = quiet-start g (Queue 0) q None None;
+  root_quiet = quiet-start g Root r None None;
 }
 
--- after recovery the home blocks hold the map
-pub holds_map : (g : Geometry) (q r : PortImage) (n : ℕ) (m : Map) (new_queue new_root : PortState) → IsTextGeometry g → (shows : ShowsMap g (shown says g (q ∷ []) r) n m)
-    → IsRecovered g (start_of g (Queue 0) q) (start_of g Root r) shows.ds new_queue new_root → HoldsMap g new_queue new_root m
-holds_map g q r n m new_queue new_root text shows is b v less some =
-    let below : b < homes_of g = omega (arith, text_homes g text, less) in
-    is.homes b below ∙ shows.blocks b v below some
+pub started_still : (g : Geometry) (q r : PortImage) (queue root : PortState) → AreStarted g q r queue root → IsStill g queue root
+started_still g q r queue root a =
+    subst (λ (s : PortState). IsStill g s root) (sym a.queue_is)
+    (subst (λ (s : PortState). IsStill g (start_of g (Queue 0) q None None) s) (sym a.root_is) (still_start g q r a.one a.queue_image a.root_image))
 
-no_one_gain : {f : _} → OneGains f [] [] [] [] → ⊥
-no_one_gain {f} (inl gains) = no_gain f gains.0
-no_one_gain {f} (inr gains) = no_gain f gains.1
+-- what they show to recovery is what the images show
+pub started_shows : (g : Geometry) (q r : PortImage) (queue root : PortState) (n : ℕ) (m : Map) → AreStarted g q r queue root → ShowsMap g (shown says g (q ∷ []) r) n m → ShowsMap g (view_of g queue root) n m
+started_shows g q r queue root n m a shows =
+    subst (λ (s : PortState). ShowsMap g (view_of g s root) n m) (sym a.queue_is)
+    (subst (λ (s : PortState). ShowsMap g (view_of g (start_of g (Queue 0) q None None) s) n m) (sym a.root_is) shows)
 
--- over ports without faults only memory is wanting
-pub only_memory : {A : Type 0} (g : Geometry) (r : Result A RecoverRefusal) (e : RecoverRefusal) → IsOfDrive r → HasDriveCause g r [] [] [] [] → r ≡ Err e → e ≡ Image fault.OutOfMemory
-only_memory {A} g r e drive cause is = by e (subst (λ (x : Result A RecoverRefusal). IsOfDrive x) is drive) (subst (λ (x : Result A RecoverRefusal). HasDriveCause g x [] [] [] []) is cause)
+-- after recovery so many lines stood, and the home blocks hold their map
+pub recovered_map : (g : Geometry) (queue root new_queue new_root : PortState) (n : ℕ) (m : Map) (prefix base : ℕ) → homes_of g ≡ 256 → ShowsMap g (view_of g queue root) n m → IsDone g (two queue root) prefix base (two new_queue new_root)
+    → (prefix ≡ n) × HoldsMap g new_queue new_root m
+recovered_map g queue root new_queue new_root n m prefix base size shows done =
+    let same = reaches-same g (view_of g queue root) done.ds shows.ds (read-reaches g (view_of g queue root) done.ds base done.read) shows.reaches in (
+      done.prefix_is ∙ ap length same ∙ shows.prefix_is,
+      λ b v less some.
+      let below : b < homes_of g = omega (arith, size, less) in
+      done.recovered.homes b below ∙ ap (λ (l : List Descriptor). stands g (view_of g queue root) l b) same ∙ shows.blocks b v below some,
+    )
+
+-- ---- refusals that can't come
+
+-- the bounds of both ports are as before
+record KeepBounds (e f : TwoPorts) : Type 0 where
+  queue_limit : f.queue.limit ≡ e.queue.limit
+  queue_fail : f.queue.fail ≡ e.queue.fail
+  root_limit : f.root.limit ≡ e.root.limit
+  root_fail : f.root.fail ≡ e.root.fail
+
+kept-home : (z : Option ℕ) (change : PortState → PortState) (e : TwoPorts) → ((s : PortState) → (change s).limit ≡ s.limit) → ((s : PortState) → (change s).fail ≡ s.fail) → KeepBounds e (at_home z change e)
+kept-home None change e limit fail = record { queue_limit = refl; queue_fail = refl; root_limit = limit e.root; root_fail = fail e.root }
+kept-home (Some q) change e limit fail = record { queue_limit = limit e.queue; queue_fail = fail e.queue; root_limit = refl; root_fail = refl }
+
+kept-event : (g : Geometry) (e : TwoPorts) (x : Event) → KeepBounds e (after_event g e x)
+kept-event g e (BeginHome b content) = kept-home (zone_of g b) (λ s. after_begin s (home_lba g b) content) e (λ s. refl) (λ s. refl)
+kept-event g e (EndHome b content) = kept-home (zone_of g b) (λ s. after_end s (home_lba g b) content) e (λ s. refl) (λ s. refl)
+kept-event g e (StoreBase base) = record { queue_limit = refl; queue_fail = refl; root_limit = refl; root_fail = refl }
+kept-event g e FlushBase = record { queue_limit = refl; queue_fail = refl; root_limit = refl; root_fail = refl }
+kept-event g e (StoreHead head) = record { queue_limit = refl; queue_fail = refl; root_limit = refl; root_fail = refl }
+kept-event g e FlushHead = record { queue_limit = refl; queue_fail = refl; root_limit = refl; root_fail = refl }
+
+kept-events : (g : Geometry) (e : TwoPorts) (xs : List Event) → KeepBounds e (after_events g e xs)
+kept-events g e [] = record { queue_limit = refl; queue_fail = refl; root_limit = refl; root_fail = refl }
+kept-events g e (x ∷ xs) =
+    let first = kept-event g e x in
+    let rest = kept-events g (after_event g e x) xs in
+    record {
+      queue_limit = rest.queue_limit ∙ first.queue_limit;
+      queue_fail = rest.queue_fail ∙ first.queue_fail;
+      root_limit = rest.root_limit ∙ first.root_limit;
+      root_fail = rest.root_fail ∙ first.root_fail;
+    }
+
+kept-stop : (g : Geometry) (x : RecoverRefusal) (e f : TwoPorts) (xs : List Event) → StopsAt g x e xs f → KeepBounds e f
+kept-stop g (Image c) e f xs stops = absurd stops
+kept-stop g Off e f xs stops = subst (KeepBounds e) (sym stops.2) (kept-events g e (take stops.0 xs))
+kept-stop g (Failed b status) e f xs stops = subst (KeepBounds e) (sym stops.3) (kept-events g e (take (stops.0 + 1) xs))
+
+-- Two ports in memory that have no faults, no limit and no command that fails, and over which recovery
+-- may have been refused.
+pub record AreSound (g : Geometry) (queue root : EmuPort) : Type 0 where
+  pub queue_faults : emu_faults queue ≡ []
+  pub root_faults : emu_faults root ≡ []
+  pub queue_limit : (emu_state queue).limit ≡ None
+  pub queue_fail : (emu_state queue).fail ≡ None
+  pub root_limit : (emu_state root).limit ≡ None
+  pub root_fail : (emu_state root).fail ≡ None
+
+nothing : {f : Fault} → Contains [] f → ⊥
+nothing {f} has = let within = has.1 in omega (arith, within)
+
+no_off : (g : Geometry) (queue root new_queue new_root : EmuPort) → AreSound g queue root → KeepBounds (two (emu_state queue) (emu_state root)) (two (emu_state new_queue) (emu_state new_root))
+    → OneGains PowerOff (emu_faults queue) (emu_faults root) (emu_faults new_queue) (emu_faults new_root) → ⊥
+no_off g queue root new_queue new_root sound keep (inl gains) = off_unlimited (emu_faults queue) new_queue gains.0 (keep.queue_limit ∙ sound.queue_limit)
+no_off g queue root new_queue new_root sound keep (inr gains) = off_unlimited (emu_faults root) new_root gains.1 (keep.root_limit ∙ sound.root_limit)
+
+no_home_error : (g : Geometry) (queue root new_queue new_root : EmuPort) (lba status : ℕ) → AreSound g queue root → KeepBounds (two (emu_state queue) (emu_state root)) (two (emu_state new_queue) (emu_state new_root))
+    → OneGains (HomeError lba status) (emu_faults queue) (emu_faults root) (emu_faults new_queue) (emu_faults new_root) → ⊥
+no_home_error g queue root new_queue new_root lba status sound keep (inl gains) =
+    no_error (emu_faults queue) new_queue (HomeError lba status) (home_error_is_none lba status) gains.0 (keep.queue_fail ∙ sound.queue_fail)
+    (λ has. nothing (subst (λ (l : List Fault). Contains l PowerOff) sound.queue_faults has))
+no_home_error g queue root new_queue new_root lba status sound keep (inr gains) =
+    no_error (emu_faults root) new_root (HomeError lba status) (home_error_is_none lba status) gains.1 (keep.root_fail ∙ sound.root_fail)
+    (λ has. nothing (subst (λ (l : List Fault). Contains l PowerOff) sound.root_faults has))
+
+-- on a readable image, over such ports, only memory is wanting
+pub only_memory : {A : Type 0} (g : Geometry) (queue root new_queue new_root : EmuPort) (r : Result A RecoverRefusal) (e : RecoverRefusal) → AreSound g queue root
+    → ((f : ImageFault) → RefusesImage g (emu_state queue) (emu_state root) f → ⊥)
+    → OnImage r (λ f. (emu_state new_queue ≡ emu_state queue) × (emu_state new_root ≡ emu_state root) × ((f ≡ fault.OutOfMemory) ⊎ RefusesImage g (emu_state queue) (emu_state root) f))
+    → OnDrive r (λ x. IsCutShort g x (two (emu_state queue) (emu_state root)) (two (emu_state new_queue) (emu_state new_root)))
+    → HasDriveCause g r (emu_faults queue) (emu_faults root) (emu_faults new_queue) (emu_faults new_root) → r ≡ Err e → e ≡ Image fault.OutOfMemory
+only_memory {A} g queue root new_queue new_root r e sound readable image drive cause is =
+    by e (subst (λ (x : Result A RecoverRefusal). OnImage x (λ f. (emu_state new_queue ≡ emu_state queue) × (emu_state new_root ≡ emu_state root) × ((f ≡ fault.OutOfMemory) ⊎ RefusesImage g (emu_state queue) (emu_state root) f))) is image)
+    (subst (λ (x : Result A RecoverRefusal). OnDrive x (λ y. IsCutShort g y (two (emu_state queue) (emu_state root)) (two (emu_state new_queue) (emu_state new_root)))) is drive)
+    (subst (λ (x : Result A RecoverRefusal). HasDriveCause g x (emu_faults queue) (emu_faults root) (emu_faults new_queue) (emu_faults new_root)) is cause)
   where
-    by : (e : RecoverRefusal) → IsOfDrive {A = A} (Err e) → HasDriveCause {A = A} g (Err e) [] [] [] [] → e ≡ Image fault.OutOfMemory
-    by (Image c) drive cause = ap Image drive
-    by Off drive cause = absurd (no_one_gain cause)
-    by (Failed block status) drive cause = absurd (no_one_gain cause)
+    by : (x : RecoverRefusal) → OnImage {A = A} (Err x) (λ f. (emu_state new_queue ≡ emu_state queue) × (emu_state new_root ≡ emu_state root) × ((f ≡ fault.OutOfMemory) ⊎ RefusesImage g (emu_state queue) (emu_state root) f))
+        → OnDrive {A = A} (Err x) (λ y. IsCutShort g y (two (emu_state queue) (emu_state root)) (two (emu_state new_queue) (emu_state new_root)))
+        → HasDriveCause {A = A} g (Err x) (emu_faults queue) (emu_faults root) (emu_faults new_queue) (emu_faults new_root) → x ≡ Image fault.OutOfMemory
+    by (Image f) image drive cause = ⊎_elim (λ same. ap Image same) (λ refuses. absurd (readable f refuses)) image.2
+    by Off image drive cause = absurd (no_off g queue root new_queue new_root sound (kept-stop g Off _ _ _ drive.events) cause)
+    by (Failed b status) image drive cause = absurd (no_home_error g queue root new_queue new_root (home_lba g b) status sound (kept-stop g (Failed b status) _ _ _ drive.events) cause)
 
 pub single : {A : Type 0} (xs : List A) → length xs ≡ 1 → (x : A) × (slice_get xs 0 ≡ Some x)
 single [] one = absurd (omega arith)
 single (x ∷ xs) one = (x, refl)
-
--- what recovery makes of two ports
-abbrev pub Recovers : Geometry → (queue root new_queue new_root : PortState) → (prefix base : ℕ) → Type 0
-Recovers g queue root new_queue new_root prefix base =
-    (ds : List Descriptor) → Reaches g (view_of g queue root) ds → IsQueueChain g (view_of g queue root) 0 ds → IsRecovered g queue root ds new_queue new_root × (prefix ≡ length ds) × (base ≡ root.base + length ds)
-
--- two ports that started from such images, after recovery
-pub record IsAsShown (g : Geometry) (n : ℕ) (m : Map) (new_queue new_root : PortState) (prefix : ℕ) : Type 0 where
-  pub queue_port : IsPortOf g (Queue 0) new_queue
-  pub root_port : IsPortOf g Root new_root
-  pub queue_quiet : IsQuiet new_queue
-  pub root_quiet : IsQuiet new_root
-  pub prefix_is : prefix ≡ n
-  pub holds : HoldsMap g new_queue new_root m
-
-pub recovered_start : (g : Geometry) (q r : PortImage) (queue root new_queue new_root : PortState) (n : ℕ) (m : Map) (prefix base : ℕ) → IsTextGeometry g → ShowsMap g (shown says g (q ∷ []) r) n m
-    → queue ≡ start_of g (Queue 0) q → root ≡ start_of g Root r → Recovers g queue root new_queue new_root prefix base → IsAsShown g n m new_queue new_root prefix
-recovered_start g q r queue root new_queue new_root n m prefix base text shows queue_is root_is recovers =
-    let at : Recovers g (start_of g (Queue 0) q) (start_of g Root r) new_queue new_root prefix base =
-    subst (λ (s : PortState). Recovers g s (start_of g Root r) new_queue new_root prefix base) queue_is
-    (subst (λ (s : PortState). Recovers g queue s new_queue new_root prefix base) root_is recovers) in
-    let is = at shows.ds shows.reaches shows.chain in
-    record {
-      queue_port = is.0.queue_port;
-      root_port = is.0.root_port;
-      queue_quiet = is.0.queue_quiet;
-      root_quiet = is.0.root_quiet;
-      prefix_is = is.1 ∙ shows.prefix_is;
-      holds = holds_map g q r n m new_queue new_root text shows is.0;
-    }

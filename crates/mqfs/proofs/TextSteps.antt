@@ -1,5 +1,5 @@
 -- The lines of a text, one after another.
-use Rattle.std.proofs.Common.{◌≡◌, ◌<◌, ◌≤◌, ℕ, zero, suc, ◌+◌, ◌-◌, ◌^◌, true, List, [], ◌∷◌, length, drop, get_or, min, Some, refl, sym, ◌∙◌, ap, subst, arith, add-zero}
+use Rattle.std.proofs.Common.{◌≡◌, ◌<◌, ◌≤◌, ⊎_elim, inl, inr, ℕ, suc, ◌+◌, ◌-◌, ◌*◌, ◌^◌, true, List, [], ◌∷◌, length, drop, get_or, Some, refl, sym, ◌∙◌, ap, subst, arith, add-zero}
 use Rattle.std.proofs.Math.Seq.{drop-cons}
 use Rattle.std.proofs.lemmas.List.{get_or_default}
 use Rattle.mq_blocks.specs.Descriptor.{Descriptor, AreRising, descriptor_bytes}
@@ -9,16 +9,23 @@ use Rattle.mq_blocks.specs.Journal.{shown}
 use Rattle.mq_blocks.specs.Machine.{Writes, Transaction}
 use Rattle.mq_blocks.specs.declared.geometry.Geometry.{Geometry}
 use Rattle.mq_blocks.specs.declared.command.Command.{Command}
+use Rattle.mq_drive.specs.Start.{IsPortOf}
+use Rattle.mq_drive.specs.declared.role.Role.TheVariants.{Queue}
 use Rattle.mq_nvme.specs.Says.{says}
 use Rattle.mqfs.specs.Commits.{IsCleanQueue, AllBelow, Keeps, ShowsMap, blocks_in, items_of, descriptor_for}
+use Rattle.mqfs.specs.Cuts.{HasBounds, IsCut, IsEarly, IsReached, QueueShows, events_of, line_events}
 use Rattle.mqfs.specs.Lines.{set_in, writes_from, named, transaction_of, transactions_of, map_after}
 use Rattle.mqfs.specs.Runs.{Items, AreOwn, AreDistinct, after_line}
 use Rattle.mqfs.specs.Text.{AreGoodItems, IsGoodLine, AreGoodLines, IsGoodText, sets_in, places_of}
 use Rattle.mqfs.specs.declared.text.item.BlockItem.{BlockItem}
+use Rattle.mqfs.proofs.Cutting.{early_all, early_none, settled_port}
+use Rattle.mqfs.proofs.Events.{counted-counted, events_more}
+use Rattle.mqfs.proofs.Exits.{bounds_line, bounds_then, events_line, nearly_image, port_all}
 use Rattle.mqfs.proofs.Fills.{below_set, length-writes, length-writes_sets, named_is, rising_writes}
-use Rattle.mqfs.proofs.JournalItems.{length-items, own_items, distinct_items}
+use Rattle.mqfs.proofs.JournalItems.{length-items, own_items, distinct_items, new_below}
 use Rattle.mqfs.proofs.JournalKeeps.{kept, doorbell_is}
 use Rattle.mqfs.proofs.JournalShows.{shows_map}
+use Rattle.mqfs.proofs.RungEntries.{readable, readable_still}
 
 abbrev pub Lines : Type 0
 Lines = List (List BlockItem)
@@ -32,6 +39,8 @@ pub record SoFar (g : Geometry) (start s : PortState) (lines : Lines) (n next la
   pub follows : 0 < n → last + 1 ≡ next
   pub doorbell : s.doorbell ≡ start.doorbell + next
   pub rings : s.rings ≡ counted start.rings n
+  pub events : s.events ≡ counted start.events (events_of lines n)
+  pub bounds : HasBounds start s
   pub room : next + places_of (drop n lines) ≤ 1024
   pub good : AreGoodLines (drop n lines)
   pub below : AllBelow (homes_of g) (drop n lines)
@@ -58,6 +67,8 @@ none_yet g s lines clean good below = record {
   follows = λ some. absurd (omega arith);
   doorbell = omega arith;
   rings = refl;
+  events = refl;
+  bounds = record { limit = refl; fail = refl; begins = refl };
   room = omega (arith, good.1);
   good = good.0;
   below = below;
@@ -75,16 +86,55 @@ good_items : (line : List BlockItem) → IsGoodLine line → AreGoodItems line
 good_items [] good = absurd good
 good_items (i ∷ is) good = good
 
-counted-counted : (n k : ℕ) → counted (counted n k) 1 ≡ counted n (k + 1)
-counted-counted n zero = refl
-counted-counted n (suc k) =
-    counted-counted (min (n + 1) (2 ^ 64 - 1)) k ∙ ap (counted n) (let e : suc (k + 1) ≡ suc k + 1 = omega arith in e)
-
 -- each line takes a place
 pub places_many : (lines : Lines) → length lines ≤ places_of lines
 places_many [] = omega arith
 places_many (l ∷ ls) = omega (arith, places_many ls)
 
+-- ---- what stands
+
+-- each image of a port that has committed the first lines shows them
+shows_lines : (g : Geometry) (start s : PortState) (lines : Lines) (n next last : ℕ) → SoFar g start s lines n next last → g.queues ≡ 1 → start.doorbell ≤ 2 ^ 62 → length lines ≤ 1024 → n ≤ length lines
+    → (q r : PortImage) → IsImage s q → r.base ≡ 0 → ShowsMap g (shown says g (q ∷ []) r) n (map_after lines n)
+shows_lines g start s lines n next last so_far one low short within q r image base =
+    let room = so_far.room in
+    let area = g.area_low in
+    let bell = so_far.doorbell in
+    let count = so_far.count in
+    let keeps = so_far.keeps in
+    let shown_all : ShowsMap g (shown says g (q ∷ []) r) (length so_far.ds) (map_after lines n) =
+    shows_map g s s next last so_far.ds (transactions_of lines n) keeps one (omega arith) (omega arith) 0 [] (early_none s keeps.quiet) keeps.port
+    (readable_still s s keeps.done (omega arith) refl) (λ k less. tt) q r image base in
+    subst (λ (m : ℕ). ShowsMap g (shown says g (q ∷ []) r) m (map_after lines n)) count shown_all
+
+-- all lines are committed
+pub finished : (g : Geometry) (start s : PortState) (lines : Lines) (n next last : ℕ) → SoFar g start s lines n next last → g.queues ≡ 1 → start.doorbell ≤ 2 ^ 62 → length lines ≤ 1024 → n ≡ length lines
+    → (q r : PortImage) → IsImage s q → r.base ≡ 0 → ShowsMap g (shown says g (q ∷ []) r) (length lines) (map_after lines (length lines))
+finished g start s lines n next last so_far one low short all q r image base =
+    subst (λ (m : ℕ). ShowsMap g (shown says g (q ∷ []) r) m (map_after lines m)) all (shows_lines g start s lines n next last so_far one low short (omega arith) q r image base)
+
+-- what a refusal leaves
+pub record IsStopped (g : Geometry) (start new : PortState) (lines : Lines) : Type 0 where
+  pub count : ℕ
+  pub events : new.events ≡ counted start.events count
+  pub few : count < events_of lines (length lines)
+  pub shows : QueueShows g new lines count
+  pub port : IsPortOf g (Queue 0) new
+  pub bounds : HasBounds start new
+
+-- a refusal between two lines
+pub stopped_between : (g : Geometry) (start s : PortState) (lines : Lines) (n next last : ℕ) → SoFar g start s lines n next last → g.queues ≡ 1 → start.doorbell ≤ 2 ^ 62 → length lines ≤ 1024 → n < length lines
+    → IsStopped g start s lines
+stopped_between g start s lines n next last so_far one low short within = record {
+  count = events_of lines n;
+  events = so_far.events;
+  few = let more = events_more lines (suc n) (length lines) (omega arith) in omega arith;
+  shows = λ q r image base. (n, record { within = omega arith; ends = inl (omega arith, λ less. omega arith) }, shows_lines g start s lines n next last so_far one low short (omega arith) q r image base);
+  port = so_far.keeps.port;
+  bounds = so_far.bounds;
+}
+
+-- the line at hand
 module _ (g : Geometry) (start s : PortState) (lines : Lines) (n next last : ℕ) (so_far : SoFar g start s lines n next last) (one : g.queues ≡ 1) (short : length lines ≤ 1024)
     (low : start.doorbell ≤ 2 ^ 62) (less : n < length lines) (line : List BlockItem) (is : line ≡ get_or lines n []) where
   abbrev ws : Writes
@@ -108,8 +158,8 @@ module _ (g : Geometry) (start s : PortState) (lines : Lines) (n next last : ℕ
   few : length ws ≤ 256
   few = omega (arith, length-writes (set_in line) 0 named, named_is)
 
-  sets : length ws ≤ sets_in line
-  sets = length-writes_sets line 0 named
+  sets : length ws ≡ sets_in line
+  sets = length-writes_sets line (good_items line good_rest.0)
 
   count : length items ≡ length ws + 1
   count = length-items g next (descriptor_bytes (descriptor_for (n + 1) next last ws)) ws
@@ -131,12 +181,17 @@ module _ (g : Geometry) (start s : PortState) (lines : Lines) (n next last : ℕ
         distinct = distinct_items g s next (descriptor_bytes (descriptor_for (n + 1) next last ws)) ws so_far.keeps.port one fits;
       }
 
-  t : Transaction
-  t = transaction_of (n + 1) line
-
   rings_after : (after_line s (n + 1) items).rings ≡ counted s.rings 1
   unfolding after_line
   rings_after = refl
+
+  events_next : events_of lines (n + 1) ≡ events_of lines n + (2 * length items + 4)
+  events_next =
+      let next_is : events_of lines (n + 1) ≡ events_of lines (suc n) = ap (events_of lines) (let e : n + 1 ≡ suc n = omega arith in e) in
+      let line_is : line_events (get_or lines n []) ≡ line_events line = ap line_events (sym is) in
+      let c = count in
+      let s = sets in
+      omega arith
 
   pub more : (new : PortState) → new ≡ after_line s (n + 1) items → SoFar g start new lines (n + 1) (next + length items) (next + length items - 1)
   more new moved =
@@ -156,7 +211,6 @@ module _ (g : Geometry) (start s : PortState) (lines : Lines) (n next last : ℕ
       let at : next + length ws ≡ next + length items - 1 = omega (arith, count) in
       let all : transaction_of (n + 1) line ∷ transactions_of lines n ≡ transactions_of lines (n + 1) =
       ap (λ (l : List BlockItem). transaction_of (n + 1) l ∷ transactions_of lines n) is ∙ ap (transactions_of lines) (let e : suc n ≡ n + 1 = omega arith in e) in
-      let one_on : drop (n + 1) lines ≡ drop (n + 1) lines = refl in
       record {
         ds = descriptor_for (length ds + 1) next last ws ∷ ds;
         count = omega arith;
@@ -170,24 +224,75 @@ module _ (g : Geometry) (start s : PortState) (lines : Lines) (n next last : ℕ
             ap (λ (u : PortState). u.doorbell) (sym same)
             ∙ doorbell_is g s next last ds (transactions_of lines n) so_far.keeps one (transaction_of (n + 1) line) (let e : n + 1 ≡ length ds + 1 = omega arith in e) small low_next fits few_ws rising
             ∙ (let bell = so_far.doorbell in omega (arith, count));
-        rings = ap (λ (u : PortState). u.rings) moved ∙ rings_after ∙ ap (λ (m : ℕ). counted m 1) so_far.rings ∙ counted-counted start.rings n;
+        events =
+            ap (λ (u : PortState). u.events) moved ∙ events_line s (n + 1) items so_far.keeps.quiet ∙ ap (λ (m : ℕ). counted m (2 * length items + 4)) so_far.events
+            ∙ counted-counted start.events (events_of lines n) (2 * length items + 4) ∙ ap (counted start.events) (sym events_next);
+        bounds = bounds_then start s new so_far.bounds (subst (HasBounds s) (sym moved) (bounds_line s (n + 1) items));
+        rings = ap (λ (u : PortState). u.rings) moved ∙ rings_after ∙ ap (λ (m : ℕ). counted m 1) so_far.rings ∙ counted-counted start.rings n 1;
         room = let s = sets in omega (arith, count);
         good = good_rest.1;
         below = below_rest.1;
       }
 
--- all lines are committed
-pub finished : (g : Geometry) (start s root : PortState) (lines : Lines) (n next last : ℕ) → SoFar g start s lines n next last → g.queues ≡ 1 → start.doorbell ≤ 2 ^ 62 → length lines ≤ 1024 → n ≡ length lines
-    → (q r : PortImage) → IsImage s q → r.base ≡ 0 → ShowsMap g (shown says g (q ∷ []) r) (length lines) (map_after lines (length lines))
-finished g start s root lines n next last so_far one low short all q r image base =
-    let room = so_far.room in
-    let area = g.area_low in
-    let bell = so_far.doorbell in
-    let count = so_far.count in
-    let shows : ShowsMap g (shown says g (q ∷ []) r) (length so_far.ds) (map_after lines n) =
-    shows_map g s root next last so_far.ds (transactions_of lines n) so_far.keeps one (omega arith) (omega arith) (omega arith) q r image base in
-    subst (λ (m : ℕ). ShowsMap g (shown says g (q ∷ []) r) m (map_after lines m)) all
-    (subst (λ (m : ℕ). ShowsMap g (shown says g (q ∷ []) r) m (map_after lines n)) count shows)
+  abbrev block : List ℕ
+  block = descriptor_bytes (descriptor_for (n + 1) next last ws)
+
+  -- the lines before it stand
+  stands_before : (new : PortState) (k : ℕ) → IsEarly s new (n + 1) items → IsPortOf g (Queue 0) new → k < 2 * length items + 4 → (q r : PortImage) → IsImage new q → r.base ≡ 0
+      → (m : ℕ) × IsReached lines (events_of lines n + k) m × ShowsMap g (shown says g (q ∷ []) r) m (map_after lines m)
+  stands_before new k early port few_events q r image base =
+      let keeps = so_far.keeps in
+      let bell = so_far.doorbell in
+      let area = g.area_low in
+      let few_ws : length ws ≤ 256 = few in
+      let long = count in
+      let after_next = events_next in
+      let next_is : events_of lines (n + 1) ≡ events_of lines (suc n) = ap (events_of lines) (let e : n + 1 ≡ suc n = omega arith in e) in
+      let number = so_far.count in
+      let room = so_far.room in
+      let shown_all : ShowsMap g (shown says g (q ∷ []) r) (length so_far.ds) (map_after lines n) =
+      shows_map g s new next last so_far.ds (transactions_of lines n) keeps one (omega arith) (omega arith) (n + 1) items early port
+      (readable g s new (n + 1) next block ws keeps.port keeps.quiet keeps.done (omega arith) (omega arith) (omega arith) (omega arith) early.rung)
+      (λ j below. new_below g s next j block ws keeps.port one below fits) q r image base in (
+        n,
+        record { within = omega arith; ends = inl (omega arith, λ more. omega arith) },
+        subst (λ (m : ℕ). ShowsMap g (shown says g (q ∷ []) r) m (map_after lines n)) number shown_all,
+      )
+
+  -- the line stands too
+  stands_after : (q r : PortImage) → IsImage (after_line s (n + 1) items) q → r.base ≡ 0
+      → (m : ℕ) × IsReached lines (events_of lines n + (2 * length items + 3)) m × ShowsMap g (shown says g (q ∷ []) r) m (map_after lines m)
+  stands_after q r image base =
+      let after_next = events_next in
+      let done = more (after_line s (n + 1) items) refl in (
+        n + 1,
+        record { within = omega arith; ends = inr (omega arith, omega arith) },
+        shows_lines g start (after_line s (n + 1) items) lines (n + 1) (next + length items) (next + length items - 1) done one low short (omega arith) q r image base,
+      )
+
+  pub stopped_inside : (new : PortState) (k : ℕ) → IsCut s new (n + 1) items k → IsStopped g start new lines
+  stopped_inside new k cut =
+      let keeps = so_far.keeps in
+      let room : length items ≤ 1023 = turn.room in
+      record {
+        count = events_of lines n + k;
+        events = cut.events_are ∙ ap (λ (m : ℕ). counted m k) so_far.events ∙ counted-counted start.events (events_of lines n) k;
+        few =
+            let after_next = events_next in
+            let end = events_more lines (n + 1) (length lines) (omega arith) in
+            ⊎_elim (λ early. let less_k = early.1 in omega arith) (λ nearly. let at = nearly.1 in omega arith) cut.stage;
+        shows = λ q r image base. ⊎_elim
+            (λ early. stands_before new k early.0 (cut.port g (Queue 0) keeps.port) (let less_k = early.1 in omega arith) q r image base)
+            (λ nearly.
+            let at : k ≡ 2 * length items + 3 = nearly.1 in
+            ⊎_elim
+            (λ before. stands_before _ k (early_all s (n + 1) items keeps.quiet keeps.done (settled_port g s keeps.port keeps.quiet) room) (port_all s (n + 1) items keeps.quiet g (Queue 0) keeps.port) (omega arith) q r before base)
+            (λ after. subst (λ (m : ℕ). (p : ℕ) × IsReached lines (events_of lines n + m) p × ShowsMap g (shown says g (q ∷ []) r) p (map_after lines p)) (sym at) (stands_after q r after base))
+            (nearly_image s (n + 1) items q (subst (λ (u : PortState). IsImage u q) nearly.0 image)))
+            cut.stage;
+        port = cut.port g (Queue 0) keeps.port;
+        bounds = bounds_then start s new so_far.bounds cut.bounds;
+      }
 
 -- the line at hand, as a loop over the lines has it
 module _ (g : Geometry) (start s : PortState) (lines xs : Lines) (n number next last : ℕ) (so_far : SoFar g start s lines n next last) (clean : IsCleanQueue g start) (good : IsGoodText lines)
@@ -225,3 +330,13 @@ module _ (g : Geometry) (start s : PortState) (lines xs : Lines) (n number next 
       let moved_on : new ≡ after_line s (n + 1) (items_of g (n + 1) next last (writes_from (set_in line) 0 named)) = moved ∙ (λ i. after_line s (at i + 1) (same_items i)) in
       subst (λ (m : ℕ). SoFar g start new lines (n + 1) (next + m) (next + m - 1)) (sym (counts ∙ ap length same_items))
       (more g start s lines n next last so_far clean.one short clean.low within line line_is new moved_on)
+
+  pub line_stopped : (items : Items) (new : PortState) (k : ℕ) → items ≡ items_of g (number + 1) next last (writes_from (set_in line) 0 named) → IsCut s new (number + 1) items k → IsStopped g start new lines
+  line_stopped items new k made cut =
+      let same_items = its_items items made in
+      let cut_on : IsCut s new (n + 1) (items_of g (n + 1) next last (writes_from (set_in line) 0 named)) k =
+      subst (λ (m : ℕ). IsCut s new (m + 1) (items_of g (n + 1) next last (writes_from (set_in line) 0 named)) k) at (subst (λ (l : Items). IsCut s new (number + 1) l k) same_items cut) in
+      stopped_inside g start s lines n next last so_far clean.one short clean.low within line line_is new k cut_on
+
+  pub line_between : IsStopped g start s lines
+  line_between = stopped_between g start s lines n next last so_far clean.one clean.low short within

@@ -5,7 +5,7 @@ use Rattle.mq_blocks.specs.Blocks.{block_at}
 use Rattle.mq_blocks.specs.Descriptor.{Descriptor, descriptor_bytes}
 use Rattle.mq_blocks.specs.Drive.{PortState, PortImage, IsImage, IsQuiet, depth}
 use Rattle.mq_blocks.specs.Geometry.{area_lba, homes_of}
-use Rattle.mq_blocks.specs.Journal.{Shown, shown, IsChain, AreInRow, IsQueueChain, Reaches, logged_copy, stands}
+use Rattle.mq_blocks.specs.Journal.{Shown, shown, IsChain, AreInRow, Reaches, logged_copy, stands}
 use Rattle.mq_blocks.specs.Machine.{Map, Writes, Transaction, write_of}
 use Rattle.mq_blocks.specs.declared.geometry.Geometry.{Geometry}
 use Rattle.mq_drive.specs.Start.{IsPortOf}
@@ -45,13 +45,11 @@ abbrev pub AllBelow : ℕ → List (List BlockItem) → Type 0
 AllBelow homes [] = Unit {0}
 AllBelow homes (l ∷ ls) = AreBelow homes l × AllBelow homes ls
 
--- An image of a drive of one queue with base 0 has just so many transactions whole, all that its
--- queue names, nothing between head and doorbell, and the content of this map on its blocks.
+-- An image of a drive of one queue with base 0 reaches so many transactions, with the content of
+-- this map on its blocks.
 pub record ShowsMap (g : Geometry) (i : Shown) (prefix : ℕ) (m : Map) : Type 0 where
   pub ds : List Descriptor
   pub base : i.base ≡ 0
-  pub done : i.head 0 ≡ i.doorbell 0
-  pub chain : IsQueueChain g i 0 ds
   pub reaches : Reaches g i ds
   pub prefix_is : length ds ≡ prefix
   pub blocks : (b : ℕ) (v : List ℕ) → b < homes_of g → m b ≡ Some v → stands g i ds b ≡ v

@@ -1,6 +1,15 @@
--- How many lines of a text stand after a power cut.
-use Rattle.std.specs.Prelude.{◌≡◌, ◌<◌, ◌≤◌, ◌⊎◌, ℕ, zero, suc, ◌+◌, ◌*◌, List, length, Option, Some, None}
-use Rattle.mqfs.specs.Lines.{line_at}
+-- What a refusal in the middle of a commit leaves, and how many lines of a text then stand.
+use Rattle.std.specs.Prelude.{◌≡◌, ◌<◌, ◌≤◌, ◌⊎◌, ℕ, zero, suc, ◌+◌, ◌-◌, ◌*◌, ◌%◌, List, [], ◌∷◌, length, false, Option, Some, None, slice_index_or}
+use Rattle.mq_nvme.specs.Says.{says}
+use Rattle.mq_blocks.specs.Blocks.{block_at}
+use Rattle.mq_blocks.specs.Drive.{PortState, PortImage, IsImage, IsFlushed, IsCertain, counted, depth, index_of, staged_end, after_flush, after_ring, after_store_head}
+use Rattle.mq_blocks.specs.Journal.{shown}
+use Rattle.mq_blocks.specs.declared.geometry.Geometry.{Geometry}
+use Rattle.mq_drive.specs.Start.{IsPortOf}
+use Rattle.mq_drive.specs.declared.role.Role.{Role}
+use Rattle.mqfs.specs.Commits.{ShowsMap}
+use Rattle.mqfs.specs.Lines.{line_at, map_after}
+use Rattle.mqfs.specs.Runs.{Items, IsApart, IsNewIn, slots_with, after_some, after_all}
 use Rattle.mqfs.specs.Text.{sets_in}
 use Rattle.mqfs.specs.declared.text.item.BlockItem.{BlockItem}
 
@@ -24,3 +33,62 @@ pub record IsReached (lines : List (List BlockItem)) (events p : ℕ) : Type 0 w
 abbrev pub IsPrefixAt : List (List BlockItem) → Option ℕ → ℕ → Type 0
 IsPrefixAt lines None p = p ≡ length lines
 IsPrefixAt lines (Some events) p = IsReached lines events p
+
+-- each image of the queue's port, with a root of base 0, shows as many lines as stand after these
+-- events
+abbrev pub QueueShows : Geometry → PortState → List (List BlockItem) → ℕ → Type 0
+QueueShows g queue lines events =
+    (q r : PortImage) → IsImage queue q → r.base ≡ 0 → (n : ℕ) × IsReached lines events n × ShowsMap g (shown says g (q ∷ []) r) n (map_after lines n)
+
+-- each image of the two ports shows as many lines as stand after these events
+abbrev pub ShowsReached : Geometry → PortState → PortState → List (List BlockItem) → ℕ → Type 0
+ShowsReached g queue root lines events =
+    (q r : PortImage) → IsImage queue q → IsImage root r → (n : ℕ) × IsReached lines events n × ShowsMap g (shown says g (q ∷ []) r) n (map_after lines n)
+
+-- ---- in the middle of a transaction
+
+-- the port's limit, its failing command and its home writes are as before
+pub record HasBounds (s new : PortState) : Type 0 where
+  pub limit : new.limit ≡ s.limit
+  pub fail : new.fail ≡ s.fail
+  pub begins : new.begins ≡ s.begins
+
+-- So many of the posted commands have ended, with success or with an error. What the posted commands
+-- don't write is as before.
+pub record HasEnded (s new : PortState) (ended : ℕ) : Type 0 where
+  pub is : new ≡ record s { posted = new.posted; failed = new.failed; blocks = new.blocks; sure = new.sure; events = counted s.events ended }
+  pub left : length new.posted + ended ≡ length s.posted
+  pub posted : (k : ℕ) → IsApart (index_of s) k s.posted → IsApart (index_of s) k new.posted
+  pub blocks : (k : ℕ) → IsApart (index_of s) k s.posted → block_at new.blocks k ≡ block_at s.blocks k
+  pub sure : (k : ℕ) → IsApart (index_of s) k s.posted → slice_index_or new.sure k false ≡ slice_index_or s.sure k false
+  pub blocks_len : length new.blocks ≡ length s.blocks
+  pub sure_len : length new.sure ≡ length s.sure
+
+-- the doorbell is past the transaction, whose entries are flushed
+pub record IsRung (s new : PortState) (tx : ℕ) (items : Items) : Type 0 where
+  pub doorbell : new.doorbell ≡ s.doorbell + length items
+  pub slots : new.flushed ≡ slots_with s.staged tx (staged_end s) (length items) items
+  pub flushed : (slot : ℕ) → IsFlushed new slot
+
+-- The head is where it was before these items, and the entry before it and the blocks that they
+-- don't write are certain, as they were. The doorbell is where it was, or past them all.
+pub record IsEarly (s new : PortState) (tx : ℕ) (items : Items) : Type 0 where
+  pub head : new.head ≡ s.head
+  pub stored : new.stored_head ≡ s.head
+  pub slot : 0 < s.head → slice_index_or new.flushed ((s.head - 1) % depth) [] ≡ slice_index_or s.flushed ((s.head - 1) % depth) []
+  pub slot_flushed : 0 < s.head → IsFlushed new ((s.head - 1) % depth)
+  pub blocks : (k : ℕ) → IsNewIn (index_of s) k items → block_at new.blocks k ≡ block_at s.blocks k
+  pub certain : (k : ℕ) → k < length s.sure → IsNewIn (index_of s) k items → IsCertain new k
+  pub rung : (new.doorbell ≡ s.doorbell) ⊎ IsRung s new tx items
+
+-- a whole transaction is executed, and the head is stored past it and not flushed
+unfoldable pub nearly_done : PortState → ℕ → Items → PortState
+nearly_done s tx items =
+    after_store_head (after_all (after_ring (after_flush (after_some s tx (length items) items)))) (staged_end s + length items)
+
+-- after so many events of a transaction, fewer than it has
+pub record IsCut (s new : PortState) (tx : ℕ) (items : Items) (events : ℕ) : Type 0 where
+  pub events_are : new.events ≡ counted s.events events
+  pub bounds : HasBounds s new
+  pub port : (g : Geometry) (role : Role) → IsPortOf g role s → IsPortOf g role new
+  pub stage : (IsEarly s new tx items × (events < 2 * length items + 3)) ⊎ ((new ≡ nearly_done s tx items) × (events ≡ 2 * length items + 3))

@@ -1,9 +1,17 @@
 -- Which blocks are live after a text, and what is printed of them.
-use Rattle.std.specs.Prelude.{◌≡◌, ◌<◌, ℕ, Bool, false, List, is_some, Some, slice_index_or}
+use Rattle.std.specs.Prelude.{◌≡◌, ◌<◌, ℕ, Bool, true, false, List, [], ◌∷◌, is_some, Some, slice_index_or, nat_eq, if◌then◌else◌}
 use Rattle.mq_blocks.specs.Drive.{PortState}
 use Rattle.mq_blocks.specs.Machine.{Map}
 use Rattle.mq_blocks.specs.declared.geometry.Geometry.{Geometry}
-use Rattle.mq_recover.specs.Recovery.{view_of}
+use Rattle.mq_drive.specs.Views.{view_of}
+use Rattle.mqfs.specs.declared.text.item.BlockItem.{BlockItem}
+use Rattle.mqfs.specs.declared.text.item.BlockItem.TheVariants.{Set, Free}
+
+-- whether a block is live after a line, by whether it was before
+abbrev pub marked : List BlockItem → ℕ → Bool → Bool
+marked [] b old = old
+marked (Set c v ∷ is) b old = if nat_eq c b then true else marked is b old
+marked (Free c ∷ is) b old = if nat_eq c b then false else marked is b old
 
 -- each block's mark says whether it is in the map
 abbrev pub AreMarks : Map → List Bool → Type 0

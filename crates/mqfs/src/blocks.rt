@@ -1,5 +1,5 @@
 // A block text is run: committed on a fresh drive, cut from power, recovered, and printed.
-ghost use Rattle.std.specs.Prelude.{◌≡◌, ◌<◌, ◌≤◌, ◌+◌, ◌||◌, ℕ, List, [], ◌∷◌, length, ◌^◌, IfErr, IfOk, IfSome, MatchResult, Some, None, is_some, slice_get, slice_index_or};
+ghost use Rattle.std.specs.Prelude.{◌≡◌, ◌<◌, ◌≤◌, ◌+◌, ℕ, List, [], ◌∷◌, length, ◌^◌, IfErr, IfOk, IfSome, MatchResult, Some, None, is_some, slice_get, slice_index_or};
 ghost use Rattle.mq_blocks.specs.Drive.{PortImage as CutImage};
 ghost use Rattle.mq_blocks.specs.Geometry.{homes_of, queues_of};
 ghost use Rattle.mq_blocks.specs.Journal.{shown};
@@ -7,13 +7,13 @@ ghost use Rattle.mq_nvme.specs.Says.{says};
 ghost use Rattle.mq_blocks.specs.Drive.{IsQuiet};
 ghost use Rattle.mq_blocks.specs.Machine.{Map};
 ghost use Rattle.mq_drive.specs.Start.{IsRole, IsImageOf, IsPortOf, area_size_of, homes_size_of, start_of};
-ghost use Rattle.mq_drive.specs.Emu.{emu_state};
+ghost use Rattle.mq_drive.specs.Emu.{emu_state, emu_faults};
 ghost use Rattle.mq_drive.specs.Roles.{slots_of};
 ghost use Rattle.mq_drive.specs.declared.role.Role.TheVariants.{Queue, Root};
 ghost use Rattle.mqfs.specs.Commits.{AllBelow, ShowsMap};
 ghost use Rattle.mqfs.specs.Fresh.{IsTextGeometry, IsFresh};
-ghost use Rattle.mqfs.specs.Lines.{map_after, set_in};
-ghost use Rattle.mqfs.specs.Text.{HasSetsOnly, IsGoodText};
+ghost use Rattle.mqfs.specs.Lines.{map_after};
+ghost use Rattle.mqfs.specs.Text.{IsGoodText};
 ghost use Rattle.mqfs.specs.Blocks.{IsBlockText, output_of};
 ghost use Rattle.mqfs.specs.Cuts.{IsPrefixAt};
 ghost use Rattle.mqfs.specs.declared.text.refusal.BlockTextCause.{BlockTextCause};
@@ -29,6 +29,8 @@ use mq_nvme::Entry;
 use mq_recover::{ImageFault, RecoverRefusal, recover};
 use std::alloc::Global;
 
+#[cfg(test)]
+mod cuts;
 #[cfg(test)]
 mod tests;
 
@@ -65,10 +67,17 @@ fn sizes(geometry: Geometry, role: Role) -> (usize, u32)
     }
 }
 
-// A port of zeros.
-fn fresh_port(alloc: Global, geometry: Geometry, role: Role) -> Result<EmuPort, OutOfMemory>
+// A port of zeros, whose power goes off after so many events, and whose choices follow from a number.
+fn fresh_port(
+    alloc: Global,
+    geometry: Geometry,
+    role: Role,
+    limit: Option<u64>,
+    pick: u64,
+) -> Result<EmuPort, OutOfMemory>
     requires { IsRole geometry role }
-    ensures { IfOk result (λ p. IsFresh geometry role (emu_state p)) }
+    ensures fresh { IfOk result (λ p. IsFresh geometry role limit (emu_state p)) }
+    ensures faults { IfOk result (λ p. emu_faults p ≡ []) }
 {
     let (slots, count) = sizes(geometry, role);
     let image = PortImage {
@@ -78,43 +87,37 @@ fn fresh_port(alloc: Global, geometry: Geometry, role: Role) -> Result<EmuPort, 
         slots: vec![in alloc; Entry::zeroed(); slots]?,
         blocks: absent_blocks(alloc, count)?,
     };
-    EmuPort::new(alloc, geometry, role, image)
+    EmuPort::new(alloc, geometry, role, image, limit, None, pick)
 }
 
-// Where no port has a fault, memory is all that can be wanting.
-fn only_memory(refusal: TextRefusal) -> OutOfMemory
-    requires { refusal ≡ TextRefusal.OutOfMemory }
-{
-    match refusal {
-        TextRefusal::OutOfMemory => OutOfMemory,
-        TextRefusal::Off => unreachable!(),
-        TextRefusal::Failed { .. } => unreachable!(),
-    }
-}
-
-/// Commits a text on a fresh drive, and pulls the plug: what stays of the queue's port and of the
-/// root's.
+/// Commits a text on a fresh drive, and pulls the plug after so many events of the queue's port, or
+/// at the end: what stays of the queue's port and of the root's.
 fn commit_fresh(
     alloc: Global,
     geometry: Geometry,
     text: &BlockText,
+    cut: Option<u64>,
+    pick: u64,
 ) -> Result<(PortImage, PortImage), OutOfMemory>
     requires geometry { IsTextGeometry geometry }
     requires good { IsGoodText text.now }
     requires below { AllBelow (homes_of geometry) text.now }
-    ensures shows { IfOk result (λ r. ShowsMap geometry (shown says geometry (r.0 ∷ []) r.1) (length text.now) (map_after text.now (length text.now))) }
+    requires cut { IfSome cut (λ k. k < 2 ^ 63) }
+    ensures shows { IfOk result (λ r. (p : ℕ) × IsPrefixAt text.now cut p × ShowsMap geometry (shown says geometry (r.0 ∷ []) r.1) p (map_after text.now p)) }
     ensures queue { IfOk result (λ r. IsImageOf geometry (Queue 0) r.0) }
     ensures root { IfOk result (λ r. IsImageOf geometry Root r.1) }
 {
     let mut queues = Vec::with_capacity(alloc, 1)?;
-    queues.push(fresh_port(alloc, geometry, Role::Queue(QueueNo(0)))?)?;
-    let root = fresh_port(alloc, geometry, Role::Root)?;
+    queues.push(fresh_port(alloc, geometry, Role::Queue(QueueNo(0)), cut, pick)?)?;
+    let root = fresh_port(alloc, geometry, Role::Root, None, pick)?;
     let (ports, answer) = commit_text(alloc, geometry, Ports { queues, root }, text);
     let Ports { mut queues, root } = ports;
     let queue = queues.remove(0);
     match answer {
-        Ok(()) => Ok((queue.cut(), root.cut())),
-        Err(refusal) => Err(only_memory(refusal)),
+        Ok(()) => Ok((queue.cut(pick), root.cut(pick))),
+        Err(TextRefusal::Off) => Ok((queue.cut(pick), root.cut(pick))),
+        Err(TextRefusal::OutOfMemory) => Err(OutOfMemory),
+        Err(TextRefusal::Failed { .. }) => unreachable!(),
     }
 }
 
@@ -131,20 +134,32 @@ fn only_image(refusal: RecoverRefusal) -> OutOfMemory
     }
 }
 
-/// A drive of one queue that starts from what stayed of its queue's port and of the root's.
+/// A drive of one queue that starts from what stayed of its queue's port and of the root's. Its
+/// power stays on.
 fn restarted(
     alloc: Global,
     geometry: Geometry,
     images: (PortImage, PortImage),
+    pick: u64,
 ) -> Result<Ports<EmuPort>, OutOfMemory>
     requires one { 0 < queues_of geometry }
     requires queue { IsImageOf geometry (Queue 0) images.0 }
     requires root { IsImageOf geometry Root images.1 }
-    ensures { IfOk result (λ p. (length p.queues.items ≡ 1) × ((q : EmuPort) → slice_get p.queues.items 0 ≡ Some q → emu_state q ≡ start_of geometry (Queue 0) images.0) × (emu_state p.root ≡ start_of geometry Root images.1)) }
+    ensures one { IfOk result (λ p. length p.queues.items ≡ 1) }
+    ensures queue { IfOk result (λ p. (q : EmuPort) → slice_get p.queues.items 0 ≡ Some q → (emu_state q ≡ start_of geometry (Queue 0) images.0 None None) × (emu_faults q ≡ [])) }
+    ensures root { IfOk result (λ p. (emu_state p.root ≡ start_of geometry Root images.1 None None) × (emu_faults p.root ≡ [])) }
 {
     let mut queues = Vec::with_capacity(alloc, 1)?;
-    queues.push(EmuPort::new(alloc, geometry, Role::Queue(QueueNo(0)), images.0)?)?;
-    let root = EmuPort::new(alloc, geometry, Role::Root, images.1)?;
+    queues.push(EmuPort::new(
+        alloc,
+        geometry,
+        Role::Queue(QueueNo(0)),
+        images.0,
+        None,
+        None,
+        pick,
+    )?)?;
+    let root = EmuPort::new(alloc, geometry, Role::Root, images.1, None, None, pick)?;
     Ok(Ports { queues, root })
 }
 
@@ -153,6 +168,7 @@ fn recover_images(
     alloc: Global,
     geometry: Geometry,
     images: (PortImage, PortImage),
+    pick: u64,
 ) -> Result<(u64, EmuPort, EmuPort), OutOfMemory>
     requires geometry { IsTextGeometry geometry }
     requires queue { IsImageOf geometry (Queue 0) images.0 }
@@ -162,7 +178,7 @@ fn recover_images(
     ensures queue { IfOk result (λ r. IsPortOf geometry (Queue 0) (emu_state r.1) × IsQuiet (emu_state r.1)) }
     ensures root { IfOk result (λ r. IsPortOf geometry Root (emu_state r.2) × IsQuiet (emu_state r.2)) }
 {
-    let mut ports = restarted(alloc, geometry, images)?;
+    let mut ports = restarted(alloc, geometry, images, pick)?;
     let answer = recover(alloc, geometry, &mut ports);
     let Ports { mut queues, root } = ports;
     let queue = queues.remove(0);
@@ -172,22 +188,28 @@ fn recover_images(
     }
 }
 
-/// Commits a text on a fresh drive, pulls the plug, recovers, and prints what stands.
-fn run_text(alloc: Global, text: &BlockText) -> Result<Vec<u8>, OutOfMemory>
+/// Commits a text on a fresh drive, pulls the plug after so many events or at the end, recovers, and
+/// prints what stands. What the cut leaves of what is uncertain follows from `pick`.
+fn run_text(
+    alloc: Global,
+    text: &BlockText,
+    cut: Option<u64>,
+    pick: u64,
+) -> Result<Vec<u8>, OutOfMemory>
     requires good { IsGoodText text.now }
-    requires sets { HasSetsOnly text.now }
-    ensures { IfOk result (λ v. v.items ≡ output_of text.now (length text.now)) }
+    requires cut { IfSome cut (λ k. k < 2 ^ 63) }
+    ensures { IfOk result (λ v. (p : ℕ) × IsPrefixAt text.now cut p × (v.items ≡ output_of text.now p)) }
 {
     let geometry = text_geometry();
-    let images = commit_fresh(alloc, geometry, text)?;
-    let (prefix, queue, root) = recover_images(alloc, geometry, images)?;
-    let marks = live_marks(alloc, text)?;
+    let images = commit_fresh(alloc, geometry, text, cut, pick)?;
+    let (prefix, queue, root) = recover_images(alloc, geometry, images, pick)?;
+    let marks = live_marks(alloc, text, prefix)?;
     let live = live_blocks(alloc, geometry, &queue, &root, &marks)?;
     print_blocks(alloc, prefix, &live)
 }
 
 /// What `mqfs blocks` prints of the bytes of a block text, where the power goes off after so many
-/// events. The draws of what is uncertain then come from `pick`.
+/// events. What the cut then leaves of what is uncertain follows from `pick`.
 pub fn blocks_output(
     alloc: Global,
     bytes: &[u8],
@@ -200,7 +222,6 @@ pub fn blocks_output(
     ensures exact { (line : ℕ) (cause : BlockTextCause) → RefusesText bytes.now line cause → IsRefusal result line cause }
     ensures only { (lines : List (List BlockItem)) → IsBlockText bytes.now lines → MatchResult result (λ _. Unit {0}) (λ e. e ≡ BlockTextRefusal.OutOfMemory) }
 {
-    // Stands in for the run of the text.
-    let _text = read_block_text(alloc, bytes)?;
-    Err(BlockTextRefusal::OutOfMemory)
+    let text = read_block_text(alloc, bytes)?;
+    Ok(run_text(alloc, &text, cut, pick)?)
 }

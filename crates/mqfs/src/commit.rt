@@ -1,5 +1,5 @@
 // A block text is committed, each line as one transaction of the one queue.
-ghost use Rattle.std.specs.Prelude.{◌≡◌, ◌<◌, ◌≤◌, ◌+◌, ◌^◌, ℕ, List, length, OnOk, Some, slice_get, [], ◌∷◌};
+ghost use Rattle.std.specs.Prelude.{◌≡◌, ◌<◌, ◌≤◌, ◌+◌, ◌^◌, ℕ, List, length, OnOk, OnErr, Some, slice_get, [], ◌∷◌};
 ghost use Rattle.mq_blocks.specs.Drive.{PortState, PortImage, IsImage, IsQuiet, counted};
 ghost use Rattle.mq_blocks.specs.Geometry.{homes_of};
 ghost use Rattle.mq_blocks.specs.Journal.{shown};
@@ -8,6 +8,7 @@ ghost use Rattle.mq_drive.specs.Start.{IsPortOf};
 ghost use Rattle.mq_drive.specs.declared.role.Role.TheVariants.{Queue};
 ghost use Rattle.mqfs.specs.Causes.{HasTextCause};
 ghost use Rattle.mqfs.specs.Commits.{IsClean, IsCleanQueue, AllBelow, ShowsMap, ShowsLines};
+ghost use Rattle.mqfs.specs.Cuts.{HasBounds, QueueShows, ShowsReached, events_of};
 ghost use Rattle.mqfs.specs.Lines.{map_after};
 ghost use Rattle.mqfs.specs.Text.{IsGoodText};
 
@@ -62,8 +63,12 @@ pub fn commit_lines<P: Port>(
     requires below { AllBelow (homes_of geometry) text.now }
     ensures ok { OnOk result ((q r : PortImage) → IsImage (P.state queue.new) q → r.base ≡ 0 → ShowsMap geometry (shown says geometry (q ∷ []) r) (length text.now) (map_after text.now (length text.now))) }
     ensures rings { OnOk result ((P.state queue.new).rings ≡ counted (P.state queue.old).rings (length text.now)) }
-    ensures port { OnOk result (IsPortOf geometry (Queue 0) (P.state queue.new)) }
     ensures quiet { OnOk result (IsQuiet (P.state queue.new)) }
+    ensures done { OnOk result ((P.state queue.new).head ≡ (P.state queue.new).doorbell) }
+    ensures events { OnOk result ((P.state queue.new).events ≡ counted (P.state queue.old).events (events_of text.now (length text.now))) }
+    ensures cut { OnErr result ((e : ℕ) × ((P.state queue.new).events ≡ counted (P.state queue.old).events e) × QueueShows geometry (P.state queue.new) text.now e × (e < events_of text.now (length text.now))) }
+    ensures port { IsPortOf geometry (Queue 0) (P.state queue.new) }
+    ensures bounds { HasBounds (P.state queue.old) (P.state queue.new) }
     ensures cause { HasTextCause result (P.faults queue.old) (P.faults queue.new) }
 {
     let mut number: u64 = 0;
@@ -93,8 +98,12 @@ pub fn commit_text<P: Port>(
     requires below { AllBelow (homes_of geometry) text.now }
     ensures ok { OnOk result.1 ((p : P) → slice_get result.0.queues.items 0 ≡ Some p → ShowsLines geometry (P.state p) (P.state result.0.root) text.now (length text.now)) }
     ensures rings { OnOk result.1 ((p q : P) → slice_get ports.queues.items 0 ≡ Some p → slice_get result.0.queues.items 0 ≡ Some q → (P.state q).rings ≡ counted (P.state p).rings (length text.now)) }
-    ensures port { OnOk result.1 ((p : P) → slice_get result.0.queues.items 0 ≡ Some p → IsPortOf geometry (Queue 0) (P.state p)) }
     ensures quiet { OnOk result.1 ((p : P) → slice_get result.0.queues.items 0 ≡ Some p → IsQuiet (P.state p)) }
+    ensures done { OnOk result.1 ((p : P) → slice_get result.0.queues.items 0 ≡ Some p → (P.state p).head ≡ (P.state p).doorbell) }
+    ensures events { OnOk result.1 ((p q : P) → slice_get ports.queues.items 0 ≡ Some p → slice_get result.0.queues.items 0 ≡ Some q → (P.state q).events ≡ counted (P.state p).events (events_of text.now (length text.now))) }
+    ensures cut { OnErr result.1 ((p q : P) → slice_get ports.queues.items 0 ≡ Some p → slice_get result.0.queues.items 0 ≡ Some q → (e : ℕ) × ((P.state q).events ≡ counted (P.state p).events e) × ShowsReached geometry (P.state q) (P.state result.0.root) text.now e × (e < events_of text.now (length text.now))) }
+    ensures port { (p : P) → slice_get result.0.queues.items 0 ≡ Some p → IsPortOf geometry (Queue 0) (P.state p) }
+    ensures bounds { (p q : P) → slice_get ports.queues.items 0 ≡ Some p → slice_get result.0.queues.items 0 ≡ Some q → HasBounds (P.state p) (P.state q) }
     ensures cause { (p q : P) → slice_get ports.queues.items 0 ≡ Some p → slice_get result.0.queues.items 0 ≡ Some q → HasTextCause result.1 (P.faults p) (P.faults q) }
     ensures queues { length result.0.queues.items ≡ 1 }
     ensures root { result.0.root ≡ ports.root }

@@ -1,15 +1,15 @@
 // The blocks that a text leaves, and what stands on them.
-ghost use Rattle.std.specs.Prelude.{◌≡◌, ◌<◌, ◌≤◌, ◌+◌, ◌||◌, ℕ, List, length, IfOk, false, is_some, slice_index_or};
+ghost use Rattle.std.specs.Prelude.{◌≡◌, ◌<◌, ◌≤◌, ◌+◌, ℕ, List, length, IfOk, false, slice_index_or};
 ghost use Rattle.mq_blocks.specs.Drive.{IsQuiet};
 ghost use Rattle.mq_blocks.specs.Geometry.{homes_of};
 ghost use Rattle.mq_blocks.specs.Machine.{Map};
 ghost use Rattle.mq_drive.specs.Start.{IsPortOf};
 ghost use Rattle.mq_drive.specs.declared.role.Role.TheVariants.{Queue, Root};
 ghost use Rattle.mqfs.specs.Fresh.{IsTextGeometry};
-ghost use Rattle.mqfs.specs.Lines.{live_from, map_after, named, set_in};
-ghost use Rattle.mqfs.specs.Live.{AreMarks, HoldsMap};
-ghost use Rattle.mq_recover.specs.Recovery.{view_of};
-ghost use Rattle.mqfs.specs.Text.{AreGoodItems, HasSetsOnly, IsGoodText};
+ghost use Rattle.mqfs.specs.Lines.{live_from, map_after, named};
+ghost use Rattle.mqfs.specs.Live.{AreMarks, HoldsMap, marked};
+ghost use Rattle.mq_drive.specs.Views.{view_of};
+ghost use Rattle.mqfs.specs.Text.{AreGoodItems, IsGoodText};
 
 use crate::items::NAMED;
 use crate::text::{BlockItem, BlockLine, BlockText};
@@ -18,32 +18,33 @@ use mq_drive::Port;
 use mq_recover::read_home;
 use std::alloc::Global;
 
-// Marks the blocks that a line sets.
-fn mark_sets(line: &BlockLine, marks: &mut Vec<bool>)
+// Marks the blocks that a line sets, and takes the marks of those that it frees.
+fn mark_line(line: &BlockLine, marks: &mut Vec<bool>)
     requires good { AreGoodItems line.now }
     requires whole { length marks.old.items ≡ 256 }
     ensures whole { length marks.new.items ≡ 256 }
-    ensures marks { (b : ℕ) → b < 256 → slice_index_or marks.new.items b false ≡ (is_some (set_in line.now b) || slice_index_or marks.old.items b false) }
+    ensures marks { (b : ℕ) → b < 256 → slice_index_or marks.new.items b false ≡ marked line.now b (slice_index_or marks.old.items b false) }
 {
     let items = line.0.as_slice();
     let mut k = items.len();
     while k > 0 {
         k -= 1;
-        if let BlockItem::Set(block, _) = items[k] {
-            marks[block.0 as usize] = true;
+        match items[k] {
+            BlockItem::Set(block, _) => marks[block.0 as usize] = true,
+            BlockItem::Free(block) => marks[block.0 as usize] = false,
         }
     }
 }
 
-/// For each block that texts may name, whether it is live after all lines. The lines free none.
-pub fn live_marks(alloc: Global, text: &BlockText) -> Result<Vec<bool>, OutOfMemory>
+/// For each block that texts may name, whether it is live after the first `count` lines.
+pub fn live_marks(alloc: Global, text: &BlockText, count: u64) -> Result<Vec<bool>, OutOfMemory>
     requires good { IsGoodText text.now }
-    requires sets { HasSetsOnly text.now }
-    ensures { IfOk result (λ v. (length v.items ≡ 256) × AreMarks (map_after text.now (length text.now)) v.items) }
+    requires count { count ≤ length text.now }
+    ensures { IfOk result (λ v. (length v.items ≡ 256) × AreMarks (map_after text.now count) v.items) }
 {
     let mut marks = vec![in alloc; false; NAMED]?;
-    for line in &text.0 {
-        mark_sets(line, &mut marks);
+    for line in &text.0[..count as usize] {
+        mark_line(line, &mut marks);
     }
     Ok(marks)
 }

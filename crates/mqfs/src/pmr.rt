@@ -1,10 +1,11 @@
 // A queue in persistent memory: staging a transaction, one flush, one doorbell write, completion,
 // and the head that takes the place of a commit record (Liao et al., SOSP 2021, section 4).
-ghost use Rattle.std.specs.Prelude.{◌≡◌, ◌≢◌, ◌⊎◌, ◌<◌, ◌≤◌, ◌+◌, ◌-◌, ◌%◌, ◌^◌, ℕ, List, [], ◌∷◌, length, OnOk, OnErr, IsSome};
+ghost use Rattle.std.specs.Prelude.{◌≡◌, ◌≢◌, ◌⊎◌, ◌<◌, ◌≤◌, ◌+◌, ◌-◌, ◌%◌, ◌^◌, ℕ, List, [], ◌∷◌, length, OnOk, OnErr, IsSome, slice_index_or};
 ghost use Rattle.std.specs.VecDeque.{deque_len};
-ghost use Rattle.mq_blocks.specs.Drive.{PortState, IsQuiet, AreFrom, index_of, staged_end, after_flush, after_ring, after_store_head};
+ghost use Rattle.mq_blocks.specs.Drive.{PortState, IsQuiet, AreFrom, depth, index_of, staged_end, after_flush, after_ring, after_store_head};
 ghost use Rattle.mq_drive.specs.Steps.{OffCause};
 ghost use Rattle.mqfs.specs.Causes.{HasCause};
+ghost use Rattle.mqfs.specs.Cuts.{HasEnded, IsCut};
 ghost use Rattle.mqfs.specs.Runs.{AreApart, AreDistinct, AreOwn, after_all, after_some, after_line};
 
 use mq_blocks::{Block, Lba, TxNo};
@@ -87,6 +88,7 @@ pub fn ring_once<P: Port>(port: &mut P, end: u64) -> Result<(), Off>
 pub fn complete_all<P: Port>(port: &mut P) -> Result<(), Refusal>
     requires apart { AreApart (index_of (P.state port.old)) (P.state port.old).posted }
     ensures ok { OnOk result (P.state port.new ≡ after_all (P.state port.old)) }
+    ensures ended { OnErr result ((n : ℕ) × HasEnded (P.state port.old) (P.state port.new) n) }
     ensures cause { HasCause result (P.faults port.old) (P.faults port.new) }
 {
     loop {
@@ -130,9 +132,11 @@ pub fn commit_line<P: Port>(
     requires room { length items.items ≤ 1023 }
     requires quiet { IsQuiet (P.state port.old) }
     requires done { (P.state port.old).head ≡ (P.state port.old).doorbell }
+    requires settled { (k : ℕ) → k < depth → slice_index_or (P.state port.old).flushed k [] ≡ slice_index_or (P.state port.old).staged k [] }
     requires own { AreOwn (P.state port.old) items.items }
     requires distinct { AreDistinct (index_of (P.state port.old)) items.items }
     ensures ok { OnOk result (P.state port.new ≡ after_line (P.state port.old) tx items.items) }
+    ensures cut { OnErr result ((events : ℕ) × IsCut (P.state port.old) (P.state port.new) tx items.items events) }
     ensures cause { HasCause result (P.faults port.old) (P.faults port.new) }
 {
     let end = port.doorbell() + items.len() as u64;

@@ -1,0 +1,9 @@
+use Rattle.std.proofs.Common.{◌≡◌, ◌≢◌, ◌<◌, ◌≤◌, ◌%◌, ℕ, [], length, slice_index_or}
+use Rattle.mq_drive.proofs.cut.tear_slots.Given as goal
+
+-- only slots of the counts that are passed have changed
+abbrev pub invariant-loop-count : goal.invariant-loop-count
+invariant-loop-count l = record {
+  len : length l.flushed.items ≡ length l.initial.flushed.items;
+  kept : (k : ℕ) → ((c : ℕ) → l.from ≤ c → c < l.to → c % 1024 ≢ k) → slice_index_or l.flushed.items k [] ≡ slice_index_or l.initial.flushed.items k [];
+}

@@ -1,0 +1,23 @@
+-- What a write that ended with an error adds to the failed commands, to the home writes that have
+-- begun and not ended, and to the faults.
+use Rattle.std.specs.Prelude.{List, [], ◌∷◌, Option, Some, None}
+use Rattle.mq_blocks.specs.declared.command.Command.{Command}
+use Rattle.mq_blocks.specs.declared.command.HomeWrite.{HomeWrite}
+use Rattle.mq_drive.specs.Steps.{Fault, CommandError, HomeError}
+use Rattle.mq_drive.specs.declared.failing.Failure.{Failure}
+use Rattle.mq_drive.specs.declared.failing.Failure.TheVariants.{Queued, Home}
+
+abbrev pub failed_of : Option Failure → List Command
+failed_of None = []
+failed_of (Some (Queued c)) = c ∷ []
+failed_of (Some (Home w)) = []
+
+abbrev pub unended_of : Option Failure → List HomeWrite
+unended_of None = []
+unended_of (Some (Queued c)) = []
+unended_of (Some (Home w)) = w ∷ []
+
+abbrev pub errors_of : Option Failure → List Fault
+errors_of None = []
+errors_of (Some (Queued c)) = CommandError c.tx 640 ∷ []
+errors_of (Some (Home w)) = HomeError w.lba 640 ∷ []

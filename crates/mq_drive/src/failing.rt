@@ -1,0 +1,74 @@
+// Which command of an emulated port ends with an error.
+ghost use Rattle.std.specs.Prelude.{◌≡◌, ◌<◌, ◌≤◌, ◌↔◌, ℕ, Bool, true, false};
+ghost use Rattle.mq_blocks.specs.Drive.{counted};
+ghost use Rattle.mq_drive.specs.Failures.{failed_of, unended_of};
+ghost use Rattle.mq_drive.specs.Limits.{fails_by};
+ghost use Rattle.std.specs.Option.{option_to_list};
+
+use crate::store::bump;
+use mq_blocks::{Command, HomeWrite};
+
+/// A write that ended with an error.
+#[derive(Drop)]
+pub enum Failure {
+    Queued(Command),
+    Home(HomeWrite),
+}
+
+/// The failed command, or the home write that failed.
+pub fn parts_of(failure: Option<Failure>) -> (Option<Command>, Option<HomeWrite>)
+    ensures failed { option_to_list result.0 ≡ failed_of failure }
+    ensures unended { option_to_list result.1 ≡ unended_of failure }
+{
+    match failure {
+        Some(Failure::Queued(command)) => (Some(command), None),
+        Some(Failure::Home(write)) => (None, Some(write)),
+        None => (None, None),
+    }
+}
+
+/// The commands that a port executed, home writes among them, and which of them fails, counted from
+/// 1, where that is told. The count stays at 2^64 - 1 once there.
+#[derive(Drop)]
+pub struct Failing {
+    named: Option<u64>,
+    executed: u64,
+    failed: bool,
+    ghost exact: { failed ≡ fails_by named executed },
+}
+
+impl Failing {
+    pub fn new(named: Option<u64>) -> Failing
+        ensures named { result.named ≡ named }
+        ensures executed { result.executed ≡ 0 }
+        ensures failed { result.failed ≡ false }
+    {
+        Failing {
+            named,
+            executed: 0,
+            failed: false,
+        }
+    }
+
+    /// Counts one command. It answers whether this is the one that fails.
+    pub fn next(&mut self) -> bool
+        ensures named { self.new.named ≡ self.old.named }
+        ensures executed { self.new.executed ≡ counted self.old.executed 1 }
+        ensures fails { result ≡ true → (self.old.failed ≡ false) × (self.new.failed ≡ true) }
+        ensures succeeds { result ≡ false → self.new.failed ≡ self.old.failed }
+    {
+        self.executed = bump(self.executed);
+        let fails = !self.failed && self.named == Some(self.executed);
+        if fails {
+            self.failed = true;
+        }
+        fails
+    }
+
+    /// Whether the command that fails was executed.
+    pub fn failed(&self) -> bool
+        ensures { result ≡ self.now.failed }
+    {
+        self.failed
+    }
+}

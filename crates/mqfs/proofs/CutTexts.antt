@@ -1,0 +1,60 @@
+-- How many lines of a text stand where the power of a port in memory goes off after so many events.
+use Rattle.std.proofs.Common.{◌≡◌, ◌<◌, ◌≤◌, ◌^◌, ℕ, zero, suc, ◌+◌, ◌-◌, List, [], length, min, Option, Some, None, inl, inr, refl, sym, ◌∙◌, ap, subst, arith}
+use Rattle.std.specs.Prelude.{Contains, IfSome}
+use Rattle.std.proofs.lemmas.Bool.{cases_lt}
+use Rattle.mq_blocks.specs.Drive.{counted}
+use Rattle.mq_drive.specs.Emu.{emu_state, emu_faults, happened_of}
+use Rattle.mq_drive.specs.Steps.{Fault, PowerOff, CommandError, Gains}
+use Rattle.mq_drive.specs.declared.emu.EmuPort.{EmuPort}
+use Rattle.mq_drive.proofs.Faults.{off_limit, off_unlimited, no_error, command_error_is_none}
+use Rattle.mqfs.specs.Cuts.{events_of, IsReached, IsPrefixAt}
+use Rattle.mqfs.specs.declared.text.item.BlockItem.{BlockItem}
+
+abbrev Lines : Type 0
+Lines = List (List BlockItem)
+
+-- a count at its end stands still
+full : (k : ℕ) → counted (2 ^ 64 - 1) k ≡ 2 ^ 64 - 1
+full zero = refl
+full (suc k) = ap (λ (n : ℕ). counted n k) (let e : min (2 ^ 64 - 1 + 1) (2 ^ 64 - 1) ≡ 2 ^ 64 - 1 = omega arith in e) ∙ full k
+
+-- below its end a count has counted each
+counted-small : (n k m : ℕ) → n ≤ 2 ^ 64 - 1 → counted n k ≡ m → m < 2 ^ 64 - 1 → n + k ≡ m
+counted-small n zero m low is small = omega (arith, is)
+counted-small n (suc k) m low is small = elim (cases_lt n (2 ^ 64 - 1)) [
+    inl below ↦
+    let e : min (n + 1) (2 ^ 64 - 1) ≡ n + 1 = omega (arith, below) in
+    let next = counted-small (n + 1) k m (omega (arith, below)) (ap (λ (x : ℕ). counted x k) (sym e) ∙ is) small in
+    omega (arith, next)
+    | inr end ↦
+    let e : min (n + 1) (2 ^ 64 - 1) ≡ 2 ^ 64 - 1 = omega (arith, end) in
+    let still : m ≡ 2 ^ 64 - 1 = sym is ∙ ap (λ (x : ℕ). counted x k) e ∙ full k in
+    absurd (omega (arith, still, small))
+]
+
+-- so many events happened on a port where no home write began
+happened-events : (p : EmuPort) (e m : ℕ) → (emu_state p).begins ≡ 0 → (emu_state p).events ≡ counted 0 e → happened_of p ≡ m → m < 2 ^ 63 → e ≡ m
+happened-events p e m none counts is small =
+    counted-small 0 e m (omega arith) (sym counts ∙ sym (p.events_counted none) ∙ is) (omega (arith, small))
+
+-- all lines stand where all of them were committed
+pub all_stand : (lines : Lines) (cut : Option ℕ) (p : EmuPort) → IfSome cut (λ k. k < 2 ^ 63) → (emu_state p).limit ≡ cut → (emu_state p).begins ≡ 0 → (emu_state p).events ≡ counted 0 (events_of lines (length lines)) → IsPrefixAt lines cut (length lines)
+all_stand lines None p small limit none counts = refl
+all_stand lines (Some k) p small limit none counts =
+    let most : happened_of p ≤ k = (p.power.limited k limit).0 in
+    let e : events_of lines (length lines) ≡ happened_of p = happened-events p (events_of lines (length lines)) (happened_of p) none counts refl (omega (arith, most, small)) in
+    record { within = omega arith; ends = inl (omega (arith, e, most), λ less. absurd (omega (arith, less))) }
+
+-- where the power went off as many stand as are reached by its limit
+pub reached_stand : (lines : Lines) (cut : Option ℕ) (old : List Fault) (p : EmuPort) (e n : ℕ) → IfSome cut (λ k. k < 2 ^ 63) → (emu_state p).limit ≡ cut → (emu_state p).begins ≡ 0 → (emu_state p).events ≡ counted 0 e
+    → Gains PowerOff old (emu_faults p) → IsReached lines e n → IsPrefixAt lines cut n
+reached_stand lines None old p e n small limit none counts gains reached = absurd (off_unlimited old p gains limit)
+reached_stand lines (Some k) old p e n small limit none counts gains reached =
+    let at : happened_of p ≡ k = off_limit old p k gains limit in
+    let is : e ≡ k = happened-events p e k none counts at small in
+    subst (λ (m : ℕ). IsReached lines m n) is reached
+
+-- no command of a port fails where none is to fail
+pub none_failed : (p : EmuPort) (tx status : ℕ) → (emu_state p).fail ≡ None → Gains (CommandError tx status) [] (emu_faults p) → ⊥
+none_failed p tx status none gains =
+    no_error [] p (CommandError tx status) (command_error_is_none tx status) gains none (λ has. let within = has.1 in omega (arith, within))
