@@ -99,16 +99,6 @@ places_of (l ∷ ls) = sets_in l + 1 + places_of ls
 abbrev pub IsGoodText : List (List BlockItem) → Type 0
 IsGoodText lines = AreGoodLines lines × (places_of lines ≤ 1024)
 
--- no item frees a block
-abbrev pub AreSets : List BlockItem → Type 0
-AreSets [] = Unit {0}
-AreSets (Set b v ∷ is) = AreSets is
-AreSets (Free b ∷ is) = ⊥
-
-abbrev pub HasSetsOnly : List (List BlockItem) → Type 0
-HasSetsOnly [] = Unit {0}
-HasSetsOnly (l ∷ ls) = AreSets l × HasSetsOnly ls
-
 -- the lines of blocks and their bytes, as `5 ab`
 abbrev pub live_text : List (ℕ × ℕ) → List ℕ
 live_text [] = []

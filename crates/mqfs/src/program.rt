@@ -145,7 +145,7 @@ fn run<F: Files, K: Sink>(alloc: Global, words: &[String], files: &mut F, out: &
 /// memory.
 pub fn mqfs<F: Files, K: Sink>(alloc: Global, words: &[String], files: &mut F, out: &mut K) -> u8
     ensures status { IsStatus result }
-    // The output is that of the lines that stand of the text that the name holds.
+    // The output is that of the lines that stand, of the text that the name holds.
     ensures done { result ≡ 0 → IsDone (map string_bytes words.now) (F.told files.old) (K.contents out.old) (K.contents out.new) }
     ensures done_where { (held : Held) (name : List ℕ) (cut pick : Option ℕ) (bytes : List ℕ) (lines : List (List BlockItem)) → AreBlocks (map string_bytes words.now) name cut pick → F.told files.old ≡ Some held → held name ≡ Some bytes → IsBlockText bytes lines → IsUnlessWanting 0 result }
     // The words are no command.

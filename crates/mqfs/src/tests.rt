@@ -1,5 +1,6 @@
 // The program over files and an output in memory, and what no contract says.
 use super::*;
+use mq_outside::{MemFiles, MemSink};
 use std::alloc::{AllocError, Global};
 
 // The words.
@@ -71,30 +72,108 @@ fn later_lines_go_over_earlier_ones(rt: HostRuntime) -> Result<(), AllocError> {
 
 const USAGE: &[u8] = b"usage: mqfs blocks|format|run|recover|ls|cat|gen|dump\n";
 
+// Whether these words are no command, also where `t` holds a text that is read.
+fn is_no_command(alloc: Global, words: &[&str]) -> Result<bool, AllocError> {
+    ends(alloc, words, b"1=00\n", 1, USAGE)
+}
+
 #[test]
 fn other_words_are_no_command(rt: HostRuntime) -> Result<(), AllocError> {
     let alloc = rt.alloc();
-    assert!(rt; ends(alloc, &[], b"1=00\n", 1, USAGE)?);
-    assert!(rt; ends(alloc, &["blocks"], b"1=00\n", 1, USAGE)?);
-    assert!(rt; ends(alloc, &["blocks", "t", "t"], b"1=00\n", 1, USAGE)?);
-    assert!(rt; ends(alloc, &["block", "t"], b"1=00\n", 1, USAGE)?);
-    assert!(rt; ends(alloc, &["Blocks", "t"], b"1=00\n", 1, USAGE)?);
-    assert!(rt; ends(alloc, &["t", "blocks"], b"1=00\n", 1, USAGE)?);
+    assert!(rt; is_no_command(alloc, &[])?);
+    assert!(rt; is_no_command(alloc, &["blocks"])?);
+    assert!(rt; is_no_command(alloc, &["blocks", "t", "t"])?);
+    assert!(rt; is_no_command(alloc, &["block", "t"])?);
+    assert!(rt; is_no_command(alloc, &["Blocks", "t"])?);
+    assert!(rt; is_no_command(alloc, &["t", "blocks"])?);
     Ok(())
+}
+
+#[test]
+fn options_stand_once_and_in_order(rt: HostRuntime) -> Result<(), AllocError> {
+    let alloc = rt.alloc();
+    for options in [
+        ["--cut", "1", "--cut", "1"],
+        ["--pick", "1", "--pick", "1"],
+        ["--pick", "1", "--cut", "1"],
+        ["--cut", "1", "--Pick", "1"],
+        ["--cut", "--pick", "1", "1"],
+    ] {
+        let words = [
+            "blocks", "t", options[0], options[1], options[2], options[3],
+        ];
+        assert!(rt; is_no_command(alloc, &words)?);
+    }
+    assert!(rt; is_no_command(alloc, &["blocks", "t", "--cut"])?);
+    assert!(rt; is_no_command(alloc, &["blocks", "t", "--pick"])?);
+    assert!(rt; is_no_command(alloc, &["blocks", "t", "--cut", "1", "--pick"])?);
+    assert!(rt; is_no_command(alloc, &["blocks", "t", "--cut", "1", "1"])?);
+    assert!(rt; is_no_command(alloc, &["blocks", "t", "--cut=1"])?);
+    assert!(rt; is_no_command(alloc, &["blocks", "t", "--seed", "1"])?);
+    assert!(rt; is_no_command(alloc, &["blocks", "--cut", "1"])?);
+    assert!(rt; is_no_command(alloc, &["blocks", "--cut", "1", "t"])?);
+    assert!(rt; is_no_command(alloc, &["blocks", "t", "--cut", "1", "--pick", "1", "t"])?);
+    Ok(())
+}
+
+#[test]
+fn numbers_of_another_form(rt: HostRuntime) -> Result<(), AllocError> {
+    let alloc = rt.alloc();
+    for number in [
+        "",
+        "05",
+        "00",
+        "+5",
+        "-5",
+        "5 ",
+        "x",
+        "0x5",
+        "9223372036854775808",
+        "18446744073709551616",
+        "99999999999999999999999",
+    ] {
+        assert!(rt; is_no_command(alloc, &["blocks", "t", "--cut", number])?);
+        assert!(rt; is_no_command(alloc, &["blocks", "t", "--pick", number])?);
+        assert!(rt; is_no_command(alloc, &["blocks", "t", "--cut", number, "--pick", "0"])?);
+        assert!(rt; is_no_command(alloc, &["blocks", "t", "--cut", "0", "--pick", number])?);
+    }
+    Ok(())
+}
+
+// Whether `blocks t`, with options or none, refuses this text by this line.
+fn refuses(alloc: Global, text: &[u8], line: &[u8]) -> Result<bool, AllocError> {
+    let most = "9223372036854775807";
+    Ok(
+        ends(alloc, &["blocks", "t"], text, 2, line)?
+            && ends(alloc, &["blocks", "t", "--cut", "0"], text, 2, line)?
+            && ends(alloc, &["blocks", "t", "--pick", most], text, 2, line)?
+            && ends(
+                alloc,
+                &["blocks", "t", "--cut", most, "--pick", "10"],
+                text,
+                2,
+                line,
+            )?,
+    )
 }
 
 #[test]
 fn other_texts_are_refused(rt: HostRuntime) -> Result<(), AllocError> {
     let alloc = rt.alloc();
-    for text in [
-        b"\n".as_slice(),
-        b"5=ab 300=00",
-        b"-5\n",
-        b"5=ab\n-5\n",
-        b"5=ab 5=01\n",
-    ] {
-        assert!(rt; ends(alloc, &["blocks", "t"], text, 2, b"blocks Form\n")?);
-    }
+    assert!(rt; refuses(alloc, b"\n", b"blocks line 1: Empty\n")?);
+    assert!(rt; refuses(alloc, b"5=ab 300=00", b"blocks line 1: Block\n")?);
+    assert!(rt; refuses(alloc, b"5=ab\n-05\n", b"blocks line 2: Item\n")?);
+    assert!(rt; refuses(alloc, b"5=ab 5=01\n", b"blocks line 1: Twice\n")?);
+    Ok(())
+}
+
+#[test]
+fn a_name_may_be_any_word(rt: HostRuntime) -> Result<(), AllocError> {
+    let alloc = rt.alloc();
+    assert!(rt; ends(alloc, &["blocks", "--cut"], b"", 4, b"fault load --cut\n")?);
+    assert!(rt; ends(alloc, &["blocks", ""], b"", 4, b"fault load \n")?);
+    let words = ["blocks", "--pick", "--cut", "1"];
+    assert!(rt; ends(alloc, &words, b"", 4, b"fault load --pick\n")?);
     Ok(())
 }
 
@@ -145,9 +224,15 @@ fn a_text_that_fills_the_area(rt: HostRuntime) -> Result<(), AllocError> {
     for block in 1..256_u32 {
         output.extend_from_slice(format!(in alloc; "{block} 03\n")?.as_bytes())?;
     }
+    assert!(rt; prints(alloc, &full_text(alloc)?, &output)?);
+    Ok(())
+}
+
+#[test]
+fn a_text_that_passes_the_area(rt: HostRuntime) -> Result<(), AllocError> {
+    let alloc = rt.alloc();
     let mut text = full_text(alloc)?;
-    assert!(rt; prints(alloc, &text, &output)?);
     text.extend_from_slice(b"0=00\n")?;
-    assert!(rt; ends(alloc, &["blocks", "t"], &text, 2, b"blocks Form\n")?);
+    assert!(rt; refuses(alloc, &text, b"blocks line 5: Area\n")?);
     Ok(())
 }
