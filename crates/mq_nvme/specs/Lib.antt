@@ -1,4 +1,5 @@
 pub mod Completion
 pub mod Dwords
 pub mod Entry
+pub mod Field
 pub mod Says

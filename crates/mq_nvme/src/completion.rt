@@ -2,7 +2,7 @@
 ghost use Rattle.std.specs.Prelude.{◌≡◌, ◌<◌, ◌^◌, ℕ, List};
 ghost use Rattle.mq_nvme.specs.Completion.{completion_of, status_of};
 
-use crate::dwords::{read_dwords, write_dwords};
+use crate::dwords::{Dwords, read_dwords, write_dwords};
 use std::marker::Model;
 
 /// A completion queue entry (NVM Express 1.4, "Completion Queue Entry"): dwords 0 to 3.
@@ -19,6 +19,20 @@ impl Model for Completion {
     ghost view = { λ c. c.dwords };
 
     ghost inverse = { λ dwords. record { dwords = dwords } };
+}
+
+impl Dwords for Completion {
+    ghost count = { 4 };
+
+    ghost dwords = { λ c. c };
+
+    fn dword(&self, at: usize) -> u32 {
+        self.dwords[at]
+    }
+
+    fn set_dword(&mut self, at: usize, value: u32) {
+        self.dwords[at] = value;
+    }
 }
 
 impl Completion {

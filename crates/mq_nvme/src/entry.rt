@@ -1,7 +1,7 @@
 // Submission queue entries.
 ghost use Rattle.std.specs.Prelude.{◌≡◌, ◌+◌, ◌*◌, ◌^◌, ℕ, List};
 
-use crate::dwords::{read_dwords, write_dwords};
+use crate::dwords::{Dwords, read_dwords, write_dwords};
 use std::marker::Model;
 
 /// A submission queue entry (NVM Express 1.4, "Submission Queue Entry"): command dwords 0 to 15.
@@ -18,6 +18,20 @@ impl Model for Entry {
     ghost view = { λ e. e.dwords };
 
     ghost inverse = { λ dwords. record { dwords = dwords } };
+}
+
+impl Dwords for Entry {
+    ghost count = { 16 };
+
+    ghost dwords = { λ e. e };
+
+    fn dword(&self, at: usize) -> u32 {
+        self.dwords[at]
+    }
+
+    fn set_dword(&mut self, at: usize, value: u32) {
+        self.dwords[at] = value;
+    }
 }
 
 impl Entry {

@@ -5,8 +5,11 @@
 mod completion;
 mod dwords;
 mod entry;
+mod field;
 mod write;
 
 pub use completion::{Completion, Ended, WRITE_FAULT, completion_of, status_of};
+pub use dwords::Dwords;
 pub use entry::Entry;
+pub use field::Field;
 pub use write::{EntryRefusal, WriteReq, read_write, write_of};
