@@ -21,9 +21,9 @@ pub record IsWithin (count : ℕ) (p : Place) : Type 0 where
 unfoldable pub bits_of : ℕ → ℕ → ℕ → ℕ
 bits_of low width n = n / 2 ^ low % 2 ^ width
 
--- the dword with these bits replaced: its bits below them, the value, and its bits above them
+-- the dword with these bits replaced: its bits above them, the value, and its bits below them
 unfoldable pub with_bits : ℕ → ℕ → ℕ → ℕ → ℕ
-with_bits low width value n = n % 2 ^ low + value * 2 ^ low + n / 2 ^ (low + width) * 2 ^ (low + width)
+with_bits low width value n = n / 2 ^ (low + width) * 2 ^ (low + width) + (value * 2 ^ low + n % 2 ^ low)
 
 -- what a field of an entry holds
 unfoldable pub get_field : Place → List ℕ → ℕ

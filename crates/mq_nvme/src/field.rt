@@ -32,6 +32,6 @@ impl<const DWORD: usize, const LOW: u32, const WIDTH: u32> Field<DWORD, LOW, WID
         let dword = u64::from(entry.dword(DWORD));
         let below = dword % (1 << LOW);
         let above = dword >> (LOW + WIDTH) << (LOW + WIDTH);
-        entry.set_dword(DWORD, (below + (u64::from(value) << LOW) + above) as u32);
+        entry.set_dword(DWORD, (above + ((u64::from(value) << LOW) + below)) as u32);
     }
 }
