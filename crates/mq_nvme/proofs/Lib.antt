@@ -1,6 +1,7 @@
+pub mod Apart
+pub mod Bits
 pub mod Bytes
 pub mod Completions
 pub mod Entries
-pub mod Fields
 pub mod Refusals
 pub mod Saying

@@ -1,15 +1,20 @@
 // Fields of entries.
-ghost use Rattle.std.specs.Prelude.{◌≡◌, ◌<◌, ◌≤◌, ◌+◌, ◌^◌};
-ghost use Rattle.mq_nvme.specs.Field.{IsWithin, place, get_field, set_field, AreSameOutside};
-
 use crate::Dwords;
 
 /// A field of entries: `WIDTH` bits of dword `DWORD`, from bit `LOW` on.
 pub struct Field<const DWORD: usize, const LOW: u32, const WIDTH: u32>;
 
 impl<const DWORD: usize, const LOW: u32, const WIDTH: u32> Field<DWORD, LOW, WIDTH> {
-    ghost use Rattle.std.specs.Prelude.{◌≡◌, ◌<◌, ◌^◌};
+    ghost use Rattle.std.specs.Prelude.{◌≡◌, ◌<◌, ◌≤◌, ◌↔◌, ◌^◌, IsTrue};
     ghost use Rattle.mq_nvme.specs.Field.{IsWithin, place, get_field, set_field, AreSameOutside};
+
+    /// Whether the field can hold a value.
+    pub fn fits(value: u32) -> bool
+        requires { WIDTH ≤ 32 }
+        ensures { IsTrue result ↔ (value < 2 ^ WIDTH) }
+    {
+        u64::from(value) < 1 << WIDTH
+    }
 
     /// What the field of an entry holds.
     pub fn get<T: Dwords>(entry: &T) -> u32
