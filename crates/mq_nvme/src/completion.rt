@@ -3,6 +3,7 @@ ghost use Rattle.std.specs.Prelude.{◌≡◌, ◌<◌, ◌^◌, ℕ, List};
 ghost use Rattle.mq_nvme.specs.Completion.{completion_of, status_of};
 
 use crate::dwords::{Dwords, read_dwords, write_dwords};
+use crate::fields::{Ccid, Phase, SqHead, SqId, Status};
 use std::marker::Model;
 
 /// A completion queue entry (NVM Express 1.4, "Completion Queue Entry"): dwords 0 to 3.
@@ -84,22 +85,21 @@ pub fn completion_of(ended: &Ended) -> Completion
     ensures is { result ≡ completion_of ended.now }
     ensures status { status_of result ≡ ended.now.status }
 {
-    Completion {
-        dwords: [
-            0,
-            0,
-            u32::from(ended.sq_head) + (u32::from(ended.sq_id) << 16),
-            u32::from(ended.cid) + (u32::from(ended.phase) << 16) + (u32::from(ended.status) << 17),
-        ],
-    }
+    let mut completion = Completion { dwords: [0; 4] };
+    SqHead::set(&mut completion, u32::from(ended.sq_head));
+    SqId::set(&mut completion, u32::from(ended.sq_id));
+    Ccid::set(&mut completion, u32::from(ended.cid));
+    Phase::set(&mut completion, u32::from(ended.phase));
+    Status::set(&mut completion, u32::from(ended.status));
+    completion
 }
 
 /// The status of a completed command, which is 0 for success.
-#[tactic(auto, unfolding(crate::specs::Completion::status_of))]
+#[tactic(auto, using(crate::proofs::Readings::status_is))]
 pub fn status_of(completion: &Completion) -> u16
     ensures { result ≡ status_of completion.now }
 {
-    (completion.dwords[3] >> 17) as u16
+    Status::get(completion) as u16
 }
 
 #[cfg(test)]

@@ -6,6 +6,7 @@ pub struct Field<const DWORD: usize, const LOW: u32, const WIDTH: u32>;
 
 impl<const DWORD: usize, const LOW: u32, const WIDTH: u32> Field<DWORD, LOW, WIDTH> {
     ghost use Rattle.std.specs.Prelude.{◌≡◌, ◌<◌, ◌≤◌, ◌↔◌, ◌^◌, IsTrue};
+    ghost use Rattle.mq_nvme.specs.Dwords.{AreDwords};
     ghost use Rattle.mq_nvme.specs.Field.{IsWithin, place, get_field, set_field, AreSameOutside};
 
     /// Whether the field can hold a value.
@@ -21,6 +22,7 @@ impl<const DWORD: usize, const LOW: u32, const WIDTH: u32> Field<DWORD, LOW, WID
         requires { IsWithin T.count (place DWORD LOW WIDTH) }
         ensures is { result ≡ get_field (place DWORD LOW WIDTH) (T.dwords entry.now) }
         ensures fits { result < 2 ^ WIDTH }
+        ensures are { AreDwords T.count (T.dwords entry.now) }
     {
         let dword = u64::from(entry.dword(DWORD));
         ((dword >> LOW) % (1 << WIDTH)) as u32

@@ -83,3 +83,7 @@ pub type StatusCode = Field<3, 17, 8>;
 
 /// Status Code Type (SCT): bits 27:25 of dword 3 ("Status Field").
 pub type StatusCodeType = Field<3, 25, 3>;
+
+/// Status Field (SF): bits 31:17 of dword 3 ("Completion Queue Entry"). Its low parts are
+/// `StatusCode` and `StatusCodeType`.
+pub type Status = Field<3, 17, 15>;
