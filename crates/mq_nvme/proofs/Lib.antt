@@ -6,3 +6,4 @@ pub mod Entries
 pub mod Readings
 pub mod Refusals
 pub mod Saying
+pub mod Writings

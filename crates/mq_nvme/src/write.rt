@@ -136,7 +136,7 @@ fn is_plain(entry: &Entry) -> bool
 }
 
 // The refusal by the rest of the dwords that all commands have.
-#[tactic(auto, using(crate::proofs::Readings::whole, crate::proofs::Readings::slot_is), unfolding(crate::specs::Entry::common_rules))]
+#[tactic(auto, using(crate::proofs::Readings::slot_is), unfolding(crate::specs::Entry::common_rules))]
 fn common_refusal(entry: &Entry) -> Option<EntryRefusal>
     ensures { result ≡ first_refusal common_rules entry.now }
 {
