@@ -16,15 +16,15 @@ are_apart p q = (nat_lt p.dword q.dword || nat_lt q.dword p.dword) || (nat_le (p
 apart-outside : (p q : Place) (i : ℕ) → i < q.width → are_apart p q ≡ true → IsOutside p q.dword (q.low + i)
 unfolding are_apart
 apart-outside p q i lt h = elim (or_cases (nat_lt p.dword q.dword || nat_lt q.dword p.dword) (nat_le (p.low + p.width) q.low || nat_le (q.low + q.width) p.low) h) [
-      inl other ↦ elim (or_cases (nat_lt p.dword q.dword) (nat_lt q.dword p.dword) other) [
-        inl less ↦ let l = ltb-true p.dword q.dword less in inl (λ (same : q.dword ≡ p.dword). omega arith)
-      | inr more ↦ let l = ltb-true q.dword p.dword more in inl (λ (same : q.dword ≡ p.dword). omega arith)
-      ]
-    | inr same ↦ elim (or_cases (nat_le (p.low + p.width) q.low) (nat_le (q.low + q.width) p.low) same) [
-        inl above ↦ let l = leb-true (p.low + p.width) q.low above in inr (inr (omega arith))
-      | inr below ↦ let l = leb-true (q.low + q.width) p.low below in inr (inl (omega arith))
-      ]
-    ]
+  | inl other ↦ elim (or_cases (nat_lt p.dword q.dword) (nat_lt q.dword p.dword) other) [
+    | inl less ↦ let l = ltb-true p.dword q.dword less in inl (λ (same : q.dword ≡ p.dword). omega arith)
+    | inr more ↦ let l = ltb-true q.dword p.dword more in inl (λ (same : q.dword ≡ p.dword). omega arith)
+  ]
+  | inr same ↦ elim (or_cases (nat_le (p.low + p.width) q.low) (nat_le (q.low + q.width) p.low) same) [
+    | inl above ↦ let l = leb-true (p.low + p.width) q.low above in inr (inr (omega arith))
+    | inr below ↦ let l = leb-true (q.low + q.width) p.low below in inr (inl (omega arith))
+  ]
+]
 
 -- a place is as it was where one apart from it was written
 pub get_field-apart : (p q : Place) (e d : List ℕ) → are_apart p q ≡ true → AreSameOutside p e d → get_field q e ≡ get_field q d
@@ -112,8 +112,8 @@ unfolding submission_test
 submission-apart a b ne =
     let test : submission_test a b ≡ true = submission-along a b (submission-ranked a) (submission-ranked b) (submission-tested (submission_rank a) (submission_rank b)) in
     elim (or_cases _ _ test) [
-      inl same ↦ absurd (ne (sym (submission-ranked a) ∙ ap (λ (n : ℕ). slice_index_or submission_fields n Opcode) (eqb-true (submission_rank a) (submission_rank b) same) ∙ submission-ranked b))
-    | inr apart ↦ apart
+      | inl same ↦ absurd (ne (sym (submission-ranked a) ∙ ap (λ (n : ℕ). slice_index_or submission_fields n Opcode) (eqb-true (submission_rank a) (submission_rank b) same) ∙ submission-ranked b))
+      | inr apart ↦ apart
     ]
 
 completion_fields : List CompletionField
@@ -152,6 +152,6 @@ unfolding completion_test
 completion-apart a b ne =
     let test : completion_test a b ≡ true = completion-along a b (completion-ranked a) (completion-ranked b) (completion-tested (completion_rank a) (completion_rank b)) in
     elim (or_cases _ _ test) [
-      inl same ↦ absurd (ne (sym (completion-ranked a) ∙ ap (λ (n : ℕ). slice_index_or completion_fields n SqHead) (eqb-true (completion_rank a) (completion_rank b) same) ∙ completion-ranked b))
-    | inr apart ↦ apart
+      | inl same ↦ absurd (ne (sym (completion-ranked a) ∙ ap (λ (n : ℕ). slice_index_or completion_fields n SqHead) (eqb-true (completion_rank a) (completion_rank b) same) ∙ completion-ranked b))
+      | inr apart ↦ apart
     ]

@@ -83,8 +83,8 @@ pub set_field-outside : (p : Place) (value : ℕ) (e : List ℕ) → p.dword < l
 set_field-outside p value e at h dword bit (inl other) = ap (λ (x : ℕ). bit_at x bit) (other_dword p value e dword other)
 set_field-outside p value e at h dword bit (inr there) =
     elim (cases_eq dword p.dword) [
-      inl same ↦ rw same (same_dword p value e bit at h there)
-    | inr other ↦ ap (λ (x : ℕ). bit_at x bit) (other_dword p value e dword other)
+      | inl same ↦ rw same (same_dword p value e bit at h there)
+      | inr other ↦ ap (λ (x : ℕ). bit_at x bit) (other_dword p value e dword other)
     ]
 
 -- a run of bits is known by its bits
@@ -102,7 +102,7 @@ bits_of-lt low width n = below_low width (n / 2 ^ low)
 pub bits_of-same : (low width n m : ℕ) → ((i : ℕ) → i < width → bit_at n (low + i) ≡ bit_at m (low + i)) → bits_of low width n ≡ bits_of low width m
 bits_of-same low width n m same =
     same_from_bits_below width _ _ (bits_of-lt low width n) (bits_of-lt low width m)
-      (λ i lt. bit_at-bits_of low width n i lt ∙ same i lt ∙ sym (bit_at-bits_of low width m i lt))
+    (λ i lt. bit_at-bits_of low width n i lt ∙ same i lt ∙ sym (bit_at-bits_of low width m i lt))
 
 -- with_bits as the registers compute it
 pub with_bits-computed : (low width value n : ℕ) → low + width ≤ 32 → value < 2 ^ 32 → n < 2 ^ 32

@@ -22,7 +22,7 @@ head sq_head sq_id h i = omega arith
 
 pub completion_written : (x : Ended) → x.sq_head < 2 ^ 16 → x.sq_id < 2 ^ 16 → x.cid < 2 ^ 16 → x.status < 2 ^ 15
     → set_field (place 3 17 15) x.status (set_field (place 3 16 1) (bit x.phase) (set_field (place 3 0 16) x.cid
-      (set_field (place 2 16 16) x.sq_id (set_field (place 2 0 16) x.sq_head (0 ∷ 0 ∷ 0 ∷ 0 ∷ []))))) ≡ completion_of x
+    (set_field (place 2 16 16) x.sq_id (set_field (place 2 0 16) x.sq_head (0 ∷ 0 ∷ 0 ∷ 0 ∷ []))))) ≡ completion_of x
 unfolding set_field completion_of
 completion_written x h i c s = rw (head x.sq_head x.sq_id h i, last x.phase x.cid x.status c s) refl
 
@@ -41,8 +41,8 @@ marks false = refl
 
 pub entry_written : (r : WriteReq) → r.slot < 1024
     → set_field (place 12 30 1) 1 (set_field (place 12 17 1) (bit r.commit) (set_field (place 12 16 1) (bit (not r.commit))
-      (set_field (place 11 0 32) (r.lba / 2 ^ 32) (set_field (place 10 0 32) (r.lba % 2 ^ 32)
-      (set_field (place 6 0 32) (4096 * r.slot) (set_field (place 3 0 32) (r.tx / 2 ^ 32) (set_field (place 2 0 32) (r.tx % 2 ^ 32)
-      (set_field (place 1 0 32) 1 (set_field (place 0 16 16) r.slot (set_field (place 0 0 8) 1 blank)))))))))) ≡ entry_of r
+    (set_field (place 11 0 32) (r.lba / 2 ^ 32) (set_field (place 10 0 32) (r.lba % 2 ^ 32)
+    (set_field (place 6 0 32) (4096 * r.slot) (set_field (place 3 0 32) (r.tx / 2 ^ 32) (set_field (place 2 0 32) (r.tx % 2 ^ 32)
+    (set_field (place 1 0 32) 1 (set_field (place 0 16 16) r.slot (set_field (place 0 0 8) 1 blank)))))))))) ≡ entry_of r
 unfolding set_field entry_of blank
 entry_written r h = rw (first r.slot h, full 1, full (r.tx % 2 ^ 32), full (r.tx / 2 ^ 32), full (4096 * r.slot), full (r.lba % 2 ^ 32), full (r.lba / 2 ^ 32), marks r.commit) refl

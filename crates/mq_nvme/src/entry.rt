@@ -8,7 +8,7 @@ use std::marker::Model;
 /// A submission queue entry (NVM Express 1.4, "Submission Queue Entry"): command dwords 0 to 15.
 #[derive(Clone, Copy, Debug, PartialEq, Eq)]
 pub struct Entry {
-    pub(crate) dwords: [u32; 16],
+    dwords: [u32; 16],
 }
 
 impl Model for Entry {

@@ -3,8 +3,8 @@ ghost use Rattle.std.specs.Prelude.{◌≡◌, ◌<◌, ◌≤◌, ◌↔◌, �
 ghost use Rattle.mq_nvme.specs.Entry.{entry_of, request_of, flags, block_rules, common_rules, command_rules, first_refusal, refusal_of, IsWrite};
 
 use crate::fields::{
-    Cid, Fua, Fuse, LimitedRetry, MptrHigh, MptrLow, Nlb, Nsid, Opcode, Prp1High, Prp1Low, Prp2High,
-    Prp2Low, Psdt, ReqTx, ReqTxCommit, SlbaHigh, SlbaLow, TxHigh, TxLow,
+    Cid, Fua, Fuse, LimitedRetry, MptrHigh, MptrLow, Nlb, Nsid, Opcode, Prp1High, Prp1Low,
+    Prp2High, Prp2Low, Psdt, ReqTx, ReqTxCommit, SlbaHigh, SlbaLow, TxHigh, TxLow,
 };
 use crate::{Dwords, Entry, Field};
 
@@ -231,30 +231,22 @@ mod tests {
     #[test]
     fn a_commit_is_written_and_read(rt: HostRuntime) {
         let entry = write_of(&request());
-        let dwords = [
-            0x0006_0001,
-            1,
-            1,
-            0,
-            0,
-            0,
-            0x6000,
-            0,
-            0,
-            0,
-            5,
-            0,
-            0x4002_0000,
-            0,
-            0,
-            0,
+        let bytes = [
+            1, 0, 6, 0, 1, 0, 0, 0, 1, 0, 0, 0, 0, 0, 0, 0, 0, 0, 0, 0, 0, 0, 0, 0, 0, 0x60, 0, 0,
+            0, 0, 0, 0, 0, 0, 0, 0, 0, 0, 0, 0, 5, 0, 0, 0, 0, 0, 0, 0, 0, 0, 2, 0x40, 0, 0, 0, 0,
+            0, 0, 0, 0, 0, 0, 0, 0,
         ];
-        assert!(rt; entry.dwords == dwords);
+        assert!(rt; entry.to_bytes() == bytes);
         assert!(rt; read_write(&entry) == Ok(request()));
-        assert!(rt; Entry::from_bytes(&entry.to_bytes()) == entry);
+        assert!(rt; Entry::from_bytes(&bytes) == entry);
         assert_eq!(rt; entry.tx(), 1);
         assert_eq!(rt; entry.lba(), 5);
         assert!(rt; entry.is_commit());
+        let mut other = bytes;
+        other[0] = 2;
+        assert!(rt;
+            read_write(&Entry::from_bytes(&other)) == Err(EntryRefusal::Opcode { found: 2 })
+        );
     }
 
     #[test]
@@ -290,7 +282,7 @@ mod tests {
         for (dword, value, refusal) in cases {
             let mut entry = write_of(&request());
             if dword < 16 {
-                entry.dwords[dword] = value;
+                entry.set_dword(dword, value);
             }
             assert!(rt; read_write(&entry) == Err(refusal), "dword {dword}");
         }

@@ -12,8 +12,18 @@ returns-clause-is c =
     let h : x.sq_head < 2 ^ 16 = search rules in
     let i : x.sq_id < 2 ^ 16 = search rules in
     let j : x.cid < 2 ^ 16 = search rules in
-    rw (c.set-5.ensures.is, c.set-4.ensures.is, c.set-3.ensures.is, c.set-2.ensures.is, c.set.ensures.is,
-      c.from.ensures, c.from-2.ensures, c.from-3.ensures, phase, c.from-5.ensures) (completion_written x h i j c.requires)
+    rw (
+      c.set-5.ensures.is,
+      c.set-4.ensures.is,
+      c.set-3.ensures.is,
+      c.set-2.ensures.is,
+      c.set.ensures.is,
+      c.from.ensures,
+      c.from-2.ensures,
+      c.from-3.ensures,
+      phase,
+      c.from-5.ensures,
+    ) (completion_written x h i j c.requires)
 
 pub returns-clause-status : goal.returns-clause-status
 returns-clause-status c =
