@@ -1,5 +1,5 @@
 -- Distinct fields of an entry share no bit.
-use Rattle.std.proofs.Common.{◌≡◌, ◌≢◌, ◌<◌, ◌≤◌, ◌⊎◌, inl, inr, ℕ, zero, suc, ◌+◌, List, [], ◌∷◌, Bool, true, false, ◌==◌, ◌||◌, ◌&&◌, nat_lt, nat_le, slice_index, slice_index_or, refl, sym, ◌∙◌, ap, subst, arith}
+use Rattle.std.proofs.Common.{◌≡◌, ◌≢◌, ◌<◌, inl, inr, ℕ, zero, suc, ◌+◌, List, [], ◌∷◌, Bool, true, ◌==◌, ◌||◌, ◌&&◌, nat_lt, nat_le, slice_index_or, refl, sym, ◌∙◌, ap, arith}
 use Rattle.std.proofs.lemmas.Bool.{eqb-true, ltb-true, leb-true, or_cases, and_parts}
 use Rattle.mq_nvme.specs.Field.{Place, get_field, IsOutside, AreSameOutside}
 use Rattle.mq_nvme.specs.Fields.{submission_place, completion_place}

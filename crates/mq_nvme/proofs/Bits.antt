@@ -1,12 +1,12 @@
 -- Reading and writing the bits of a dword.
-use Rattle.std.proofs.Common.{◌≡◌, ◌≢◌, ◌<◌, ◌≤◌, ◌⊎◌, inl, inr, ℕ, ◌+◌, ◌-◌, ◌*◌, ◌/◌, ◌%◌, ◌^◌, List, length, slice_index, slice_set, refl, sym, ◌∙◌, ap, subst, arith}
+use Rattle.std.proofs.Common.{◌≡◌, ◌≢◌, ◌<◌, ◌≤◌, ◌⊎◌, inl, inr, ℕ, ◌+◌, ◌-◌, ◌*◌, ◌/◌, ◌%◌, ◌^◌, List, length, slice_index, refl, sym, ◌∙◌, ap, subst, arith}
 use Rattle.std.specs.Int.{bit_at}
-use Rattle.std.proofs.lemmas.Nat.{pow_pos, pow-add, one_shl, shl_whole, shr_below, shr_high, shr_le, shr_split, mod_low, mod_below, mul-add-lt, shr-shr, div_below}
-use Rattle.std.proofs.lemmas.Nat.Bits.{bit_at-lt, bit_at_above, bit_at_cat_low, bit_at_cat_high, same_from_bits_below}
+use Rattle.std.proofs.lemmas.Nat.{pow_pos, pow-add, one_shl, shl_whole, shr_below, shr_high, shr_le, shr_split, mod_low, mod_below, mul-add-lt, shr-shr}
+use Rattle.std.proofs.lemmas.Nat.Bits.{bit_at_cat_low, bit_at_cat_high, same_from_bits_below}
 use Rattle.std.proofs.lemmas.Bool.{cases_eq}
 use Rattle.std.proofs.lemmas.List.{get_or-set_same, get_or-set_other}
 use Rattle.mq_nvme.specs.Dwords.{AreDwords}
-use Rattle.mq_nvme.specs.Field.{Place, IsWithin, bits_of, with_bits, get_field, set_field, IsOutside, AreSameOutside}
+use Rattle.mq_nvme.specs.Field.{Place, IsWithin, bits_of, with_bits, get_field, set_field, AreSameOutside}
 
 -- a power of two that a register holds
 pub power : (k : ℕ) → k ≤ 32 → 1 * 2 ^ k % 2 ^ 64 ≡ 2 ^ k

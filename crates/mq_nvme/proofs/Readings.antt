@@ -1,5 +1,5 @@
 -- What the fields of an entry are by its dwords.
-use Rattle.std.proofs.Common.{◌≡◌, ℕ, ◌/◌, ◌%◌, ◌^◌, List, slice_index, arith}
+use Rattle.std.proofs.Common.{◌≡◌, ℕ, ◌%◌, List, slice_index, arith}
 use Rattle.mq_nvme.specs.Completion.{status_of}
 use Rattle.mq_nvme.specs.Dwords.{AreDwords}
 use Rattle.mq_nvme.specs.Entry.{slot_of}

@@ -1,6 +1,5 @@
 -- The fields that are written one after another are the completion's.
 use Rattle.std.proofs.Common.{rules, ◌≡◌, ◌<◌, ◌^◌}
-use Rattle.mq_nvme.specs.Completion.{completion_of, status_of}
 use Rattle.mq_nvme.proofs.Completions.{status_of-completion}
 use Rattle.mq_nvme.proofs.Writings.{bit, completion_written}
 use Rattle.mq_nvme.proofs.completion.completion_of.Goals as goal

@@ -1,6 +1,6 @@
 -- The fields that are written one after another are the request's.
-use Rattle.std.proofs.Common.{rules, ◌≡◌, ◌<◌, ◌^◌, not}
-use Rattle.mq_nvme.specs.Entry.{entry_of, IsWrite, IsRequest}
+use Rattle.std.proofs.Common.{rules, ◌≡◌, not}
+use Rattle.mq_nvme.specs.Entry.{IsRequest}
 use Rattle.mq_nvme.proofs.Writings.{bit, entry_written}
 use Rattle.mq_nvme.proofs.write.write_of.Goals as goal
 
