@@ -11,8 +11,8 @@ use crate::{Dwords, Entry, Field};
 // What the standard reserves of command dword 0: bits 13:10.
 type Reserved = Field<0, 10, 4>;
 
-// The protection information and the directive type of a write, and what the standard reserves
-// beside them and this project has no use for: bits 29:18 of dword 12.
+// Bits 29:18 of dword 12: a write's protection information and directive type, and what the standard
+// reserves beside them.
 type Unused = Field<12, 18, 12>;
 
 /// A write of one logical block to namespace 1 from a slot's buffer, as a request of a transaction.
