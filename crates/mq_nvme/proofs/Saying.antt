@@ -1,6 +1,6 @@
 -- What the entry of a request says.
-use Rattle.std.proofs.Common.{◌≡◌, ℕ, List, Bool, Option, Some, None, refl, ◌∙◌, ap, sym}
-use Rattle.mq_nvme.specs.Entry.{entry_of, tx_of, lba_of, is_commit, refusal_of, IsRequest}
+use Rattle.std.proofs.Common.{◌≡◌, Option, Some, ◌∙◌, ap}
+use Rattle.mq_nvme.specs.Entry.{entry_of, IsRequest}
 use Rattle.mq_nvme.specs.Says.{said, says}
 use Rattle.mq_nvme.specs.declared.write.WriteReq.{WriteReq}
 use Rattle.mq_nvme.specs.declared.write.EntryRefusal.{EntryRefusal}

@@ -2,7 +2,8 @@
 ghost use Rattle.std.specs.Prelude.{◌≡◌, ◌<◌, ◌^◌, ℕ, List};
 ghost use Rattle.mq_nvme.specs.Completion.{completion_of, status_of};
 
-use crate::dwords::{read_dwords, write_dwords};
+use crate::dwords::{Dwords, read_dwords, write_dwords};
+use crate::fields::{Ccid, Phase, SqHead, SqId, Status};
 use std::marker::Model;
 
 /// A completion queue entry (NVM Express 1.4, "Completion Queue Entry"): dwords 0 to 3.
@@ -19,6 +20,20 @@ impl Model for Completion {
     ghost view = { λ c. c.dwords };
 
     ghost inverse = { λ dwords. record { dwords = dwords } };
+}
+
+impl Dwords for Completion {
+    ghost count = { 4 };
+
+    ghost dwords = { λ c. c };
+
+    fn dword(&self, at: usize) -> u32 {
+        self.dwords[at]
+    }
+
+    fn set_dword(&mut self, at: usize, value: u32) {
+        self.dwords[at] = value;
+    }
 }
 
 impl Completion {
@@ -70,27 +85,27 @@ pub fn completion_of(ended: &Ended) -> Completion
     ensures is { result ≡ completion_of ended.now }
     ensures status { status_of result ≡ ended.now.status }
 {
-    Completion {
-        dwords: [
-            0,
-            0,
-            u32::from(ended.sq_head) + (u32::from(ended.sq_id) << 16),
-            u32::from(ended.cid) + (u32::from(ended.phase) << 16) + (u32::from(ended.status) << 17),
-        ],
-    }
+    let mut completion = Completion { dwords: [0; 4] };
+    SqHead::set(&mut completion, u32::from(ended.sq_head));
+    SqId::set(&mut completion, u32::from(ended.sq_id));
+    Ccid::set(&mut completion, u32::from(ended.cid));
+    Phase::set(&mut completion, u32::from(ended.phase));
+    Status::set(&mut completion, u32::from(ended.status));
+    completion
 }
 
 /// The status of a completed command, which is 0 for success.
-#[tactic(auto, unfolding(crate::specs::Completion::status_of))]
+#[tactic(auto, using(crate::proofs::Readings::status_is))]
 pub fn status_of(completion: &Completion) -> u16
     ensures { result ≡ status_of completion.now }
 {
-    (completion.dwords[3] >> 17) as u16
+    Status::get(completion) as u16
 }
 
 #[cfg(test)]
 mod tests {
     use super::*;
+    use crate::fields::{StatusCode, StatusCodeType};
 
     #[test]
     fn a_write_fault(rt: HostRuntime) {
@@ -104,6 +119,8 @@ mod tests {
         let completion = completion_of(&ended);
         assert!(rt; completion.dwords == [0, 0, 0x0001_0003, 0x0501_0002]);
         assert_eq!(rt; status_of(&completion), 640);
+        assert_eq!(rt; StatusCodeType::get(&completion), 2);
+        assert_eq!(rt; StatusCode::get(&completion), 0x80);
         let bytes = completion.to_bytes();
         assert!(rt; bytes == [0, 0, 0, 0, 0, 0, 0, 0, 3, 0, 1, 0, 2, 0, 1, 5]);
         assert!(rt; Completion::from_bytes(&bytes) == completion);

@@ -1,13 +1,14 @@
 // Submission queue entries.
 ghost use Rattle.std.specs.Prelude.{◌≡◌, ◌+◌, ◌*◌, ◌^◌, ℕ, List};
 
-use crate::dwords::{read_dwords, write_dwords};
+use crate::dwords::{Dwords, read_dwords, write_dwords};
+use crate::fields::{ReqTxCommit, SlbaHigh, SlbaLow, TxHigh, TxLow};
 use std::marker::Model;
 
 /// A submission queue entry (NVM Express 1.4, "Submission Queue Entry"): command dwords 0 to 15.
 #[derive(Clone, Copy, Debug, PartialEq, Eq)]
 pub struct Entry {
-    pub(crate) dwords: [u32; 16],
+    dwords: [u32; 16],
 }
 
 impl Model for Entry {
@@ -18,6 +19,20 @@ impl Model for Entry {
     ghost view = { λ e. e.dwords };
 
     ghost inverse = { λ dwords. record { dwords = dwords } };
+}
+
+impl Dwords for Entry {
+    ghost count = { 16 };
+
+    ghost dwords = { λ e. e };
+
+    fn dword(&self, at: usize) -> u32 {
+        self.dwords[at]
+    }
+
+    fn set_dword(&mut self, at: usize, value: u32) {
+        self.dwords[at] = value;
+    }
 }
 
 impl Entry {
@@ -33,27 +48,27 @@ impl Entry {
     }
 
     /// The number of the transaction, of dwords 2 and 3.
-    #[tactic(auto, unfolding(crate::specs::Entry::tx_of))]
+    #[tactic(auto, using(crate::proofs::Readings::whole), unfolding(crate::specs::Entry::tx_of, crate::specs::Field::get_field, crate::specs::Field::bits_of))]
     pub fn tx(&self) -> u64
         ensures { result ≡ tx_of self.now }
     {
-        joined(self.dwords[2], self.dwords[3])
+        joined(TxLow::get(self), TxHigh::get(self))
     }
 
     /// The starting logical block, of dwords 10 and 11.
-    #[tactic(auto, unfolding(crate::specs::Entry::lba_of))]
+    #[tactic(auto, using(crate::proofs::Readings::whole), unfolding(crate::specs::Entry::lba_of, crate::specs::Field::get_field, crate::specs::Field::bits_of))]
     pub fn lba(&self) -> u64
         ensures { result ≡ lba_of self.now }
     {
-        joined(self.dwords[10], self.dwords[11])
+        joined(SlbaLow::get(self), SlbaHigh::get(self))
     }
 
     /// Whether this is the last request of its transaction, by bit 17 of dword 12.
-    #[tactic(auto, unfolding(crate::specs::Entry::is_commit))]
+    #[tactic(auto, using(crate::proofs::Readings::whole), unfolding(crate::specs::Entry::is_commit, crate::specs::Field::get_field, crate::specs::Field::bits_of))]
     pub fn is_commit(&self) -> bool
         ensures { result ≡ is_commit self.now }
     {
-        (self.dwords[12] >> 17) % 2 == 1
+        ReqTxCommit::get(self) == 1
     }
 
     /// The entry as it lies in memory.

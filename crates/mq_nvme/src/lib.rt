@@ -5,8 +5,14 @@
 mod completion;
 mod dwords;
 mod entry;
+mod field;
+pub mod fields;
+mod rows;
 mod write;
 
 pub use completion::{Completion, Ended, WRITE_FAULT, completion_of, status_of};
+pub use dwords::Dwords;
 pub use entry::Entry;
+pub use field::Field;
+pub use rows::{CompletionField, SubmissionField};
 pub use write::{EntryRefusal, WriteReq, read_write, write_of};

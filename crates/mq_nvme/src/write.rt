@@ -1,9 +1,19 @@
 // Write commands.
-ghost use Rattle.std.specs.Prelude.{◌≡◌, ◌<◌, ◌≤◌, ◌↔◌, IfOk, None};
+ghost use Rattle.std.specs.Prelude.{◌≡◌, ◌<◌, ◌≤◌, ◌↔◌, ◌==◌, ◌||◌, ◌+◌, ◌/◌, ◌%◌, ◌^◌, IfOk, None, slice_index};
 ghost use Rattle.mq_nvme.specs.Entry.{entry_of, request_of, flags, block_rules, common_rules, command_rules, first_refusal, refusal_of, IsWrite};
 
-use crate::Entry;
-use crate::entry::joined;
+use crate::fields::{
+    Cid, Fua, Fuse, LimitedRetry, MptrHigh, MptrLow, Nlb, Nsid, Opcode, Prp1High, Prp1Low,
+    Prp2High, Prp2Low, Psdt, ReqTx, ReqTxCommit, SlbaHigh, SlbaLow, TxHigh, TxLow,
+};
+use crate::{Dwords, Entry, Field};
+
+// What the standard reserves of command dword 0: bits 13:10.
+type Reserved = Field<0, 10, 4>;
+
+// Bits 29:18 of dword 12: a write's protection information and directive type, and what the standard
+// reserves beside them.
+type Unused = Field<12, 18, 12>;
 
 /// A write of one logical block to namespace 1 from a slot's buffer, as a request of a transaction.
 #[derive(Clone, Copy, Debug, PartialEq, Eq)]
@@ -41,27 +51,19 @@ pub fn write_of(req: &WriteReq) -> Entry
     ensures write { IsWrite result req.now }
 {
     let slot = u32::from(req.slot);
-    let mark = if req.commit { 1 << 17 } else { 1 << 16 };
-    Entry {
-        dwords: [
-            1 + (slot << 16),
-            1,
-            (req.tx % (1 << 32)) as u32,
-            (req.tx >> 32) as u32,
-            0,
-            0,
-            4096 * slot,
-            0,
-            0,
-            0,
-            (req.lba % (1 << 32)) as u32,
-            (req.lba >> 32) as u32,
-            (1 << 30) + mark,
-            0,
-            0,
-            0,
-        ],
-    }
+    let mut entry = Entry::zeroed();
+    Opcode::set(&mut entry, 1);
+    Cid::set(&mut entry, slot);
+    Nsid::set(&mut entry, 1);
+    TxLow::set(&mut entry, (req.tx % (1 << 32)) as u32);
+    TxHigh::set(&mut entry, (req.tx >> 32) as u32);
+    Prp1Low::set(&mut entry, 4096 * slot);
+    SlbaLow::set(&mut entry, (req.lba % (1 << 32)) as u32);
+    SlbaHigh::set(&mut entry, (req.lba >> 32) as u32);
+    ReqTx::set(&mut entry, u32::from(!req.commit));
+    ReqTxCommit::set(&mut entry, u32::from(req.commit));
+    Fua::set(&mut entry, 1);
+    entry
 }
 
 /// Reads an entry that `write_of` wrote. Any other is refused by its first cause, in the order of
@@ -78,17 +80,16 @@ pub fn read_write(entry: &Entry) -> Result<WriteReq, EntryRefusal>
 }
 
 // The request of an entry that is not refused.
-#[tactic(auto, unfolding(crate::specs::Entry::request_of, crate::specs::Entry::tx_of, crate::specs::Entry::lba_of))]
+#[tactic(auto, using(crate::proofs::Readings::slot_is), unfolding(crate::specs::Entry::request_of))]
 fn request(entry: &Entry) -> WriteReq
     requires { refusal_of entry.now ≡ None }
     ensures fields { result ≡ request_of entry.now }
     ensures write { IsWrite entry.now result }
 {
-    let dwords = &entry.dwords;
     WriteReq {
-        tx: joined(dwords[2], dwords[3]),
-        slot: (dwords[0] >> 16) as u16,
-        lba: joined(dwords[10], dwords[11]),
+        tx: entry.tx(),
+        slot: Cid::get(entry) as u16,
+        lba: entry.lba(),
         commit: entry.is_commit(),
     }
 }
@@ -107,60 +108,78 @@ fn refusal(entry: &Entry) -> Option<EntryRefusal>
 }
 
 // The refusal of what isn't a write of one logical block to namespace 1.
-#[tactic(auto, unfolding(crate::specs::Entry::block_rules))]
+#[tactic(auto, using(crate::proofs::Readings::whole, crate::proofs::Readings::opcode_is, crate::proofs::Readings::count_is), unfolding(crate::specs::Entry::block_rules))]
 fn block_refusal(entry: &Entry) -> Option<EntryRefusal>
     ensures { result ≡ first_refusal block_rules entry.now }
 {
-    let opcode = entry.dwords[0] % 256;
+    let opcode = Opcode::get(entry);
     if opcode != 1 {
         return Some(EntryRefusal::Opcode { found: opcode });
     }
-    let namespace = entry.dwords[1];
+    let namespace = Nsid::get(entry);
     if namespace != 1 {
         return Some(EntryRefusal::Namespace { found: namespace });
     }
-    let count = entry.dwords[12] % 65536;
+    let count = Nlb::get(entry);
     if count != 0 {
         return Some(EntryRefusal::Count { found: count });
     }
     None
 }
 
+// Whether a command is neither fused nor by SGLs.
+#[tactic(auto, unfolding(crate::specs::Field::get_field, crate::specs::Field::bits_of))]
+fn is_plain(entry: &Entry) -> bool
+    ensures { result ≡ (slice_index entry.now 0 / 256 % 256 == 0) }
+{
+    Fuse::get(entry) == 0 && Psdt::get(entry) == 0 && Reserved::get(entry) == 0
+}
+
 // The refusal by the rest of the dwords that all commands have.
-#[tactic(auto, unfolding(crate::specs::Entry::common_rules))]
+#[tactic(auto, using(crate::proofs::Readings::slot_is), unfolding(crate::specs::Entry::common_rules))]
 fn common_refusal(entry: &Entry) -> Option<EntryRefusal>
     ensures { result ≡ first_refusal common_rules entry.now }
 {
-    let dwords = &entry.dwords;
-    let slot = dwords[0] >> 16;
-    if (dwords[0] >> 8) % 256 != 0 {
+    if !is_plain(entry) {
         return Some(flags(entry, 0));
     }
+    let slot = Cid::get(entry);
     if slot >= 1024 {
         return Some(flags(entry, 0));
     }
     if entry.tx() == 0 {
         return Some(flags(entry, 2));
     }
-    if dwords[4] != 0 {
+    if MptrLow::get(entry) != 0 {
         return Some(flags(entry, 4));
     }
-    if dwords[5] != 0 {
+    if MptrHigh::get(entry) != 0 {
         return Some(flags(entry, 5));
     }
-    if dwords[6] != 4096 * slot {
+    if Prp1Low::get(entry) != 4096 * slot {
         return Some(flags(entry, 6));
     }
-    if dwords[7] != 0 {
+    if Prp1High::get(entry) != 0 {
         return Some(flags(entry, 7));
     }
-    if dwords[8] != 0 {
+    if Prp2Low::get(entry) != 0 {
         return Some(flags(entry, 8));
     }
-    if dwords[9] != 0 {
+    if Prp2High::get(entry) != 0 {
         return Some(flags(entry, 9));
     }
     None
+}
+
+// Whether a write has Force Unit Access and one of the two marks of a transaction's requests.
+#[tactic(auto, unfolding(crate::specs::Field::get_field, crate::specs::Field::bits_of))]
+fn is_marked(entry: &Entry) -> bool
+    ensures { result ≡ ((slice_index entry.now 12 / 65536 == 2 ^ 14 + 1) || (slice_index entry.now 12 / 65536 == 2 ^ 14 + 2)) }
+{
+    Fua::get(entry) == 1
+        && LimitedRetry::get(entry) == 0
+        && Unused::get(entry) == 0
+        && ReqTx::get(entry) != ReqTxCommit::get(entry)
 }
 
 // The refusal by the rest of a write's own dwords.
@@ -168,17 +187,16 @@ fn common_refusal(entry: &Entry) -> Option<EntryRefusal>
 fn command_refusal(entry: &Entry) -> Option<EntryRefusal>
     ensures { result ≡ first_refusal command_rules entry.now }
 {
-    let dwords = &entry.dwords;
-    if !matches!(dwords[12] >> 16, 0x4001 | 0x4002) {
+    if !is_marked(entry) {
         return Some(flags(entry, 12));
     }
-    if dwords[13] != 0 {
+    if entry.dword(13) != 0 {
         return Some(flags(entry, 13));
     }
-    if dwords[14] != 0 {
+    if entry.dword(14) != 0 {
         return Some(flags(entry, 14));
     }
-    if dwords[15] != 0 {
+    if entry.dword(15) != 0 {
         return Some(flags(entry, 15));
     }
     None
@@ -190,7 +208,7 @@ fn flags(entry: &Entry, dword: usize) -> EntryRefusal
 {
     EntryRefusal::Flags {
         dword: dword as u32,
-        value: entry.dwords[dword],
+        value: entry.dword(dword),
     }
 }
 
@@ -213,30 +231,22 @@ mod tests {
     #[test]
     fn a_commit_is_written_and_read(rt: HostRuntime) {
         let entry = write_of(&request());
-        let dwords = [
-            0x0006_0001,
-            1,
-            1,
-            0,
-            0,
-            0,
-            0x6000,
-            0,
-            0,
-            0,
-            5,
-            0,
-            0x4002_0000,
-            0,
-            0,
-            0,
+        let bytes = [
+            1, 0, 6, 0, 1, 0, 0, 0, 1, 0, 0, 0, 0, 0, 0, 0, 0, 0, 0, 0, 0, 0, 0, 0, 0, 0x60, 0, 0,
+            0, 0, 0, 0, 0, 0, 0, 0, 0, 0, 0, 0, 5, 0, 0, 0, 0, 0, 0, 0, 0, 0, 2, 0x40, 0, 0, 0, 0,
+            0, 0, 0, 0, 0, 0, 0, 0,
         ];
-        assert!(rt; entry.dwords == dwords);
+        assert!(rt; entry.to_bytes() == bytes);
         assert!(rt; read_write(&entry) == Ok(request()));
-        assert!(rt; Entry::from_bytes(&entry.to_bytes()) == entry);
+        assert!(rt; Entry::from_bytes(&bytes) == entry);
         assert_eq!(rt; entry.tx(), 1);
         assert_eq!(rt; entry.lba(), 5);
         assert!(rt; entry.is_commit());
+        let mut other = bytes;
+        other[0] = 2;
+        assert!(rt;
+            read_write(&Entry::from_bytes(&other)) == Err(EntryRefusal::Opcode { found: 2 })
+        );
     }
 
     #[test]
@@ -272,7 +282,7 @@ mod tests {
         for (dword, value, refusal) in cases {
             let mut entry = write_of(&request());
             if dword < 16 {
-                entry.dwords[dword] = value;
+                entry.set_dword(dword, value);
             }
             assert!(rt; read_write(&entry) == Err(refusal), "dword {dword}");
         }
