@@ -1,6 +1,6 @@
 -- The rows of a chain.
 use Rattle.std.proofs.Common.{◌≡◌, ◌≢◌, ◌<◌, ◌≤◌, ◌⊎◌, inl, inr, ⊎_elim, ℕ, zero, suc, ◌+◌, ◌-◌, ◌%◌, List, [], ◌∷◌, ◌++◌, length, Option, Some, None, refl, sym, ◌∙◌, ap, subst, arith, append_assoc, add-one}
-use Rattle.std.specs.Prelude.{IsSome, if◌then◌else◌}
+use Rattle.std.specs.Prelude.{IsSome, IfSome, IfOk, Result, Ok, Err, if◌then◌else◌}
 use Rattle.mq_blocks.specs.Descriptor.{Descriptor}
 use Rattle.mq_blocks.specs.Drive.{depth}
 use Rattle.mq_blocks.specs.Journal.{Shown, Has, Holds, IsChain, AreInRow, IsQueueChain, IsCommit, AreWhole, IsPrefix, Reaches, Says, logged_copy, is_among, or_else, stands, number_limit}
@@ -144,3 +144,12 @@ queue-chain g i q number lba ds rung from none newest = record {
   rung = rung.each;
   rung_whole = rung.whole;
 }
+
+pub rung-at : (i : Shown) (q head doorbell h d : ℕ) → head ≡ h → doorbell ≡ d → IsRung i q head doorbell → IsRung i q h d
+rung-at i q head doorbell h d head_is doorbell_is rung = subst (λ (n : ℕ). IsRung i q n d) head_is (subst (λ (n : ℕ). IsRung i q head n) doorbell_is rung)
+
+-- an Ok has another property too
+pub ok-map : {A E : Type 0} (r : Result (Option A) E) (P Q : A → Type 0) → ((x : A) → P x → Q x) → IfOk r (λ o. IfSome o P) → IfOk r (λ o. IfSome o Q)
+ok-map (Ok (Some x)) P Q f h = f x h
+ok-map (Ok None) P Q f h = tt
+ok-map (Err e) P Q f h = tt

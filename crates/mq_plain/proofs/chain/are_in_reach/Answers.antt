@@ -10,8 +10,8 @@ overflow_sub-oldest c =
     let of : IsOf c.args.geometry 0 d = subst (IsOf c.args.geometry 0) (sym c.d-item.is) (c.requires.own (get_or c.args.chain.now c.loop-d.d-index d) (has-at c.args.chain.now c.loop-d.d-index d c.loop-d-test.true)) in
     let fits = of.good.fits in
     let place_is : c.d.inside.place ≡ d.place = ap (λ (x : Descriptor). x.place) c.d.view_is in
-    let long : c.len.result ≡ length d.logged = c.len.ensures ∙ ap (λ (x : Descriptor). length x.logged) c.d.view_is in
-    omega (arith, fits, place_is, long)
+    let long : length c.d.inside.logged.items ≡ length d.logged = ap (λ (x : Descriptor). length x.logged) c.d.view_is in
+    omega (arith, fits, place_is, long, c.len.ensures, c.d.inside.logged.ok.0)
 
 pub overflow_add-oldest : goal.overflow_add-oldest
 overflow_add-oldest c =

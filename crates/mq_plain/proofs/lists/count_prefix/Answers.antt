@@ -1,5 +1,6 @@
 use Rattle.std.proofs.Common.{◌≡◌, ◌≤◌, ◌+◌, true, Option, Some, None, arith, sym, ◌∙◌, ap}
-use Rattle.std.specs.Prelude.{is_some, IsSome, Bor}
+use Rattle.std.specs.Prelude.{is_some, IsSome}
+use Rattle.std.specs.Borrow.{Bor}
 use Rattle.std.specs.Option.{option_copied}
 use Rattle.mq_blocks.specs.Descriptor.{Descriptor}
 use Rattle.mq_blocks.specs.Journal.{number_limit}
