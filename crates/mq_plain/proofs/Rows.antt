@@ -3,7 +3,7 @@ use Rattle.std.proofs.Common.{◌≡◌, ◌≢◌, ◌<◌, ◌≤◌, ◌⊎�
 use Rattle.std.specs.Prelude.{IsSome, IfSome, IfOk, Result, Ok, Err, if◌then◌else◌}
 use Rattle.mq_blocks.specs.Descriptor.{Descriptor}
 use Rattle.mq_blocks.specs.Drive.{depth}
-use Rattle.mq_blocks.specs.Journal.{Shown, Has, Holds, IsChain, AreInRow, IsQueueChain, IsCommit, AreWhole, IsPrefix, Reaches, Says, logged_copy, is_among, or_else, stands, number_limit}
+use Rattle.mq_blocks.specs.Journal.{Shown, Has, Holds, IsChain, AreInRow, IsQueueChain, IsCommit, Reaches, Says, logged_copy, is_among, or_else, stands, number_limit}
 use Rattle.mq_blocks.specs.declared.geometry.Geometry.{Geometry}
 use Rattle.mq_plain.specs.Plain.{found, with_found, row_of, IsOf, AreOf, IsChainFrom}
 use Rattle.mq_plain.proofs.Looking.{found-has, found-none}
@@ -153,3 +153,11 @@ pub ok-map : {A E : Type 0} (r : Result (Option A) E) (P Q : A → Type 0) → (
 ok-map (Ok (Some x)) P Q f h = f x h
 ok-map (Ok None) P Q f h = tt
 ok-map (Err e) P Q f h = tt
+
+-- how far the numbers of a list go from a base on
+pub record IsCounted (chain : List Descriptor) (base p : ℕ) : Type 0 where
+  pub there : AreFound chain base p
+  pub greatest : found chain (base + p + 1) ≡ None
+
+pub counted-at : (xs ys : List Descriptor) (n base p : ℕ) → xs ≡ ys → n ≡ base → IsCounted xs n p → IsCounted ys base p
+counted-at xs ys n base p same base_is counted = subst (λ (l : List Descriptor). IsCounted l base p) same (subst (λ (m : ℕ). IsCounted xs m p) base_is counted)

@@ -1,11 +1,9 @@
 -- The prefix and the standing of a drive of one queue, from the list of its chain.
 use Rattle.std.specs.Prelude.{◌≡◌, ◌<◌, ◌≤◌, ℕ, zero, suc, ◌+◌, List, [], ◌∷◌, length, Option, Some, None, slice_index_or, nat_eq, if◌then◌else◌}
 use Rattle.mq_blocks.specs.Descriptor.{Descriptor, IsGood}
-use Rattle.mq_blocks.specs.Drive.{PortState}
 use Rattle.mq_blocks.specs.Geometry.{homes_of, area_lba}
 use Rattle.mq_blocks.specs.Journal.{Shown, IsChain, AreInReach, Has, Reaches, stands, number_limit}
 use Rattle.mq_blocks.specs.declared.geometry.Geometry.{Geometry}
-use Rattle.mq_plain.specs.Views.{view_of}
 use Rattle.mq_plain.specs.declared.standing.PlainStanding.{PlainStanding}
 
 -- the first descriptor of a list that has this number

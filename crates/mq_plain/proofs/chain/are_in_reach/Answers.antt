@@ -1,4 +1,4 @@
-use Rattle.std.proofs.Common.{◌≡◌, ◌≤◌, length, get_or, sym, ◌∙◌, ap, subst, arith}
+use Rattle.std.proofs.Common.{◌≡◌, length, get_or, sym, ap, subst, arith}
 use Rattle.mq_blocks.specs.Descriptor.{Descriptor}
 use Rattle.mq_plain.specs.Plain.{IsOf}
 use Rattle.mq_plain.proofs.Looking.{has-at}

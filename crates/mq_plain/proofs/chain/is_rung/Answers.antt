@@ -1,4 +1,4 @@
-use Rattle.std.proofs.Common.{◌≡◌, ◌<◌, ◌≤◌, ℕ, ◌+◌, ◌%◌, ⊎_elim, inl, inr, ◌⊎◌, Some, sym, subst, arith}
+use Rattle.std.proofs.Common.{◌≡◌, ◌≤◌, ℕ, ◌%◌, ⊎_elim, Some, sym, subst, arith}
 use Rattle.mq_blocks.specs.Drive.{depth}
 use Rattle.mq_blocks.specs.Journal.{Says, number_limit}
 use Rattle.mq_plain.specs.Views.{view_of}

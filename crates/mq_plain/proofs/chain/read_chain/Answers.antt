@@ -1,5 +1,4 @@
-use Rattle.std.proofs.Common.{◌≡◌, ◌<◌, ◌-◌, [], List, sym, ◌∙◌, ap, subst, arith}
-use Rattle.mq_blocks.specs.Descriptor.{Descriptor}
+use Rattle.std.proofs.Common.{◌≡◌, ◌<◌, ◌-◌, [], sym, ◌∙◌, subst, arith}
 use Rattle.mq_blocks.specs.Drive.{PortState}
 use Rattle.mq_blocks.specs.Journal.{Shown, IsQueueChain, IsCommit}
 use Rattle.mq_plain.specs.Views.{view_of}

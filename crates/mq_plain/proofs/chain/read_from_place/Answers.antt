@@ -1,5 +1,4 @@
-use Rattle.std.proofs.Common.{List, sym, subst}
-use Rattle.mq_blocks.specs.Descriptor.{Descriptor}
+use Rattle.std.proofs.Common.{sym, subst}
 use Rattle.mq_plain.specs.Plain.{AreOf}
 use Rattle.mq_plain.specs.Views.{view_of}
 use Rattle.mq_plain.proofs.Rows.{chain-of}

@@ -1,4 +1,4 @@
-use Rattle.std.proofs.Common.{◌≡◌, ◌%◌, ℕ, List, Bool, Option, Some, [], ◌∙◌, ap, sym}
+use Rattle.std.proofs.Common.{◌≡◌, ◌%◌, ℕ, List, Some, [], ◌∙◌, ap, sym}
 use Rattle.std.specs.Prelude.{slice_index_or}
 use Rattle.mq_blocks.specs.Drive.{depth}
 use Rattle.mq_nvme.specs.Entry.{IsWrite}

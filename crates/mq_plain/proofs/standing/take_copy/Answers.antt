@@ -1,6 +1,6 @@
 use Rattle.std.proofs.Common.{◌≡◌, ◌-◌, ℕ, List, length, Option, Some, None, sym, ◌∙◌, ap}
 use Rattle.mq_blocks.specs.Descriptor.{Descriptor}
-use Rattle.mq_blocks.specs.Journal.{logged_copy, or_else}
+use Rattle.mq_blocks.specs.Journal.{or_else}
 use Rattle.mq_plain.specs.Plain.{logged_place}
 use Rattle.mq_plain.specs.Views.{view_of}
 use Rattle.mq_plain.proofs.Looking.{copy-some, copy-none}
