@@ -6,5 +6,7 @@ mod chain;
 mod lists;
 mod ports;
 mod standing;
+#[cfg(test)]
+mod tests;
 
 pub use standing::{PlainStanding, plain_standing};
