@@ -73,6 +73,12 @@ fn commit(tx: u64, lba: u64) -> Entry
     })
 }
 
+fn no_blocks(alloc: Global, count: usize) -> Result<Vec<Option<Block>>, OutOfMemory>
+    ensures { IfOk result (λ v. length v.items ≡ count) }
+{
+    Ok((0..count).map(|_| None).collect(alloc)?)
+}
+
 fn stored_blocks(
     alloc: Global,
     count: usize,
@@ -80,7 +86,7 @@ fn stored_blocks(
 ) -> Result<Vec<Option<Block>>, OutOfMemory>
     ensures { IfOk result (λ v. length v.items ≡ count) }
 {
-    let mut blocks: Vec<Option<Block>> = (0..count).map(|_| None).collect(alloc)?;
+    let mut blocks = no_blocks(alloc, count)?;
     for s in stored {
         if s.index < blocks.len() {
             blocks[s.index] = Some(s.block);
