@@ -3,7 +3,6 @@ use Rattle.std.proofs.Common.{◌≡◌, sym, subst}
 use Rattle.mq_blocks.specs.Drive.{PortState, PortImage, IsQuiet}
 use Rattle.mq_blocks.specs.declared.geometry.Geometry.{Geometry}
 use Rattle.mq_drive.specs.Start.{IsImageOf, IsPortOf, start_of}
-use Rattle.mq_drive.specs.declared.role.Role.{Role}
 use Rattle.mq_drive.specs.declared.role.Role.TheVariants.{Queue, Root}
 use Rattle.mq_drive.proofs.Starts.{port_of-start, quiet-start}
 use Rattle.mq_plain.specs.Views.{IsStill}

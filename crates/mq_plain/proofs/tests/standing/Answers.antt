@@ -1,4 +1,4 @@
-use Rattle.std.proofs.Common.{◌≡◌, [], List, ℕ, length, refl, ap, arith}
+use Rattle.std.proofs.Common.{List, ℕ, length, refl, ap, arith}
 use Rattle.mq_blocks.specs.Drive.{PortImage}
 use Rattle.mq_drive.specs.Emu.{emu_state}
 use Rattle.mq_drive.specs.Start.{IsImageOf}
