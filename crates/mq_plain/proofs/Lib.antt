@@ -1,0 +1,4 @@
+pub mod Homes
+pub mod Looking
+pub mod Rows
+pub mod Started
