@@ -257,6 +257,24 @@ raised-queue g v i ds top one same base head read =
     (cases_lt (v.head 0) (v.doorbell 0)))
     head
 
+-- no image shows a greater number then
+shown-low : (g : Geometry) (v i : Shown) (ds : List Descriptor) (top n : ℕ) → g.queues ≡ 1 → IsSameLog g v i → i.base ≡ top → (i.head 0 ≡ v.head 0) ⊎ (i.head 0 ≡ v.doorbell 0) → IsRead g v ds top
+    → ShowsNumber g i (λ q. []) n → n ≤ top
+shown-low g v i ds top n one same base head read shows = ⊎_elim
+    (λ is. omega arith)
+    (λ more. ⊎_elim
+    (λ has. absurd has.3)
+    (λ rung.
+    let r = rung-of g i n one rung in
+    let from = r.from in
+    let to = r.to in
+    let bell = same.doorbell in
+    let order = (first-chain g v read.chains one read.whole).order in
+    let low : v.head 0 ≤ r.count = ⊎_elim (λ still. omega arith) (λ moved. omega arith) head in
+    read.top_is.greatest n (rung-shows g v read.chains n one (record { count = r.count; says = r.says; from = low; to = omega arith; is = sym (same.entry (r.count % depth)) ∙ r.is; number = r.number })))
+    more)
+    shows.where_from
+
 -- over the greatest number nothing is left to bring home
 pub read-raised : (g : Geometry) (v i : Shown) (ds : List Descriptor) (top : ℕ) → g.queues ≡ 1 → IsSameLog g v i → i.base ≡ top → (i.head 0 ≡ v.head 0) ⊎ (i.head 0 ≡ v.doorbell 0) → IsRead g v ds top → IsRead g i [] top
 read-raised g v i ds top one same base head read =
@@ -270,26 +288,9 @@ read-raised g v i ds top one same base head read =
       top_is = record {
         whole = whole;
         shown = record { where_from = inl (sym base) };
-        greatest = λ n shows. shown-low g v i ds top n one same base head read none shows;
+        greatest = λ n shows. shown-low g v i ds top n one same base head read shows;
       };
     }
-  where
-    shown-low : (g : Geometry) (v i : Shown) (ds : List Descriptor) (top n : ℕ) → g.queues ≡ 1 → IsSameLog g v i → i.base ≡ top → (i.head 0 ≡ v.head 0) ⊎ (i.head 0 ≡ v.doorbell 0) → IsRead g v ds top
-        → (none : ℕ → List Descriptor) → ShowsNumber g i (λ q. []) n → n ≤ top
-    shown-low g v i ds top n one same base head read none shows = ⊎_elim
-        (λ is. omega arith)
-        (λ more. ⊎_elim
-        (λ has. absurd has.3)
-        (λ rung.
-        let r = rung-of g i n one rung in
-        let from = r.from in
-        let to = r.to in
-        let bell = same.doorbell in
-        let order = (first-chain g v read.chains one read.whole).order in
-        let low : v.head 0 ≤ r.count = ⊎_elim (λ still. omega arith) (λ moved. omega arith) head in
-        read.top_is.greatest n (rung-shows g v read.chains n one (record { count = r.count; says = r.says; from = low; to = omega arith; is = sym (same.entry (r.count % depth)) ∙ r.is; number = r.number })))
-        more)
-        shows.where_from
 
 -- ---- what stands
 
