@@ -1,4 +1,13 @@
+pub mod CutImages
+pub mod Images
+pub mod Plans
+pub mod Readable
 pub mod RecoverChains
 pub mod RecoverCopies
+pub mod RecoverCuts
+pub mod RecoverEvents
 pub mod RecoverHomes
+pub mod RecoverStages
+pub mod Recoveries
+pub mod Refusing
 pub mod Standings

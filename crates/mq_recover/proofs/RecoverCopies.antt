@@ -1,15 +1,17 @@
 -- Where the copies stand.
-use Rattle.std.proofs.Common.{◌≡◌, ◌≢◌, ◌<◌, ◌≤◌, ⊎_elim, ℕ, zero, suc, ◌+◌, ◌-◌, ◌%◌, ◌^◌, List, [], ◌∷◌, ◌++◌, length, Bool, true, false, Option, Some, None, get_or, set, drop, replicate, refl, sym, ◌∙◌, ap, subst, arith, drop-cons, add-one, append_assoc}
+use Rattle.std.proofs.Common.{◌≡◌, ◌≢◌, ◌<◌, ◌≤◌, ◌⊎◌, inl, inr, ⊎_elim, ℕ, zero, suc, ◌+◌, ◌-◌, ◌%◌, ◌^◌, List, [], ◌∷◌, ◌++◌, length, Bool, true, false, Option, Some, None, get_or, set, drop, replicate, refl, sym, ◌∙◌, ap, subst, arith, drop-cons, add-one, append_assoc}
 use Rattle.std.proofs.lemmas.Bool.{cases_eq, eq-eqb, ne_eqb}
 use Rattle.std.proofs.lemmas.Grind.{get_or-set_at}
-use Rattle.std.proofs.lemmas.List.{get_or-set_other, length-replicate}
+use Rattle.std.proofs.lemmas.List.{get_or-set_other, length-replicate, append-nil}
 use Rattle.std.proofs.Math.ListN.{length-set}
 use Rattle.std.specs.Prelude.{nat_eq, if◌then◌else◌}
 use Rattle.mq_blocks.specs.Descriptor.{Descriptor, AreRising, IsGood}
 use Rattle.mq_blocks.specs.Geometry.{homes_of}
-use Rattle.mq_blocks.specs.Journal.{Shown, IsChain, is_among, logged_copy, or_else, stands}
+use Rattle.mq_blocks.specs.Journal.{Shown, IsChain, Has, AreInRow, is_among, logged_copy, or_else, stands}
 use Rattle.mq_blocks.specs.declared.geometry.Geometry.{Geometry}
-use Rattle.mq_recover.specs.Recover.{or_place, logged_place, copy_of, forgotten, noted, with_all, AreGood, content_of}
+use Rattle.mq_recover.specs.Plans.{ArePlaced}
+use Rattle.mq_recover.specs.Recover.{or_place, logged_place, copy_of, forgotten, noted, with_transaction, with_all, AreGood, AreFalling, content_of}
+use Rattle.mq_recover.specs.declared.copies.Copies.{Copies}
 
 pub rising-at : (low high : ℕ) (xs : List ℕ) (k d : ℕ) → AreRising low high xs → k < length xs → get_or xs k d < high
 rising-at low high [] k d rising within = absurd (omega arith)
@@ -119,6 +121,10 @@ pub good-at : (homes : ℕ) (xs : List Descriptor) (d : Descriptor) (ys : List D
 good-at homes [] d ys good = good.0
 good-at homes (x ∷ xs) d ys good = good-at homes xs d ys good.1
 
+good-right : (homes : ℕ) (xs ys : List Descriptor) → AreGood homes (xs ++ ys) → AreGood homes ys
+good-right homes [] ys good = good
+good-right homes (x ∷ xs) ys good = good-right homes xs ys good.1
+
 -- ---- standing
 
 content-if : (area : ℕ → List ℕ) (size : ℕ) (b : Bool) (x y : Option ℕ) → content_of area size (if b then x else y) ≡ (if b then content_of area size x else content_of area size y)
@@ -163,29 +169,121 @@ pub chain-good : (g : Geometry) (i : Shown) (q number place : ℕ) (ds : List De
 chain-good g i q number place [] chain = tt
 chain-good g i q number place (d ∷ ds) chain = (chain.1.good, chain-good g i q d.prev_number d.prev_place ds chain.2)
 
--- what the next transaction that is taken over meets
-pub record CanTake (copies : List (Option ℕ)) (d : Descriptor) : Type 0 where
-  pub logged : AreRising 0 (length copies) d.logged
-  pub revoked : AreRising 0 (length copies) d.revoked
+-- ---- the prefix
+
+has-split : (xs ys : List Descriptor) (d : Descriptor) → Has (xs ++ ys) d → Has xs d ⊎ Has ys d
+has-split [] ys d has = inr has
+has-split (x ∷ xs) ys d has = elim has [ inl h ↦ inl (inl h) | inr h ↦ elim (has-split xs ys d h) [ inl k ↦ inl (inr k) | inr k ↦ inr k ] ]
+
+pub has-right : (xs ys : List Descriptor) (d : Descriptor) → Has ys d → Has (xs ++ ys) d
+has-right [] ys d has = has
+has-right (x ∷ xs) ys d has = inr (has-right xs ys d has)
+
+row-low : (base : ℕ) (ds : List Descriptor) (d : Descriptor) → AreInRow base ds → Has ds d → d.number ≤ base + length ds
+row-low base [] d row has = absurd has
+row-low base (e ∷ ds) d row has = elim has [
+  | inl h ↦ let same : e.number ≡ d.number = ap (λ (x : Descriptor). x.number) h in let n = row.0 in omega (arith, same, n)
+  | inr h ↦ let low = row-low base ds d row.1 h in omega (arith, low)
+]
+
+falling-below : (low high : ℕ) (xs : List Descriptor) (d : Descriptor) (ys : List Descriptor) → AreFalling low high (xs ++ d ∷ ys) → d.number < high
+falling-below low high [] d ys falls = falls.1
+falling-below low high (x ∷ xs) d ys falls = let b = falling-below low x.number xs d ys falls.2 in let h = falls.1 in omega (arith, b, h)
+
+falling-after : (low high : ℕ) (xs : List Descriptor) (d : Descriptor) (ys : List Descriptor) → AreFalling low high (xs ++ d ∷ ys) → (low < d.number) × AreFalling low d.number ys
+falling-after low high [] d ys falls = (falls.0, falls.2)
+falling-after low high (x ∷ xs) d ys falls = falling-after low x.number xs d ys falls.2
+
+falling-before : (low high : ℕ) (xs : List Descriptor) (d : Descriptor) (ys : List Descriptor) (e : Descriptor) → AreFalling low high (xs ++ d ∷ ys) → Has xs e → d.number < e.number
+falling-before low high [] d ys e falls has = absurd has
+falling-before low high (x ∷ xs) d ys e falls has = elim has [
+  | inl h ↦ let same : x.number ≡ e.number = ap (λ (z : Descriptor). z.number) h in let b = falling-below low x.number xs d ys falls.2 in omega (arith, same, b)
+  | inr h ↦ falling-before low x.number xs d ys e falls.2 h
+]
+
+row-under : (base high : ℕ) (ds : List Descriptor) → base < high → AreFalling base high ds → AreInRow base ds → base + length ds < high
+row-under base high [] above falls row = omega (arith, above)
+row-under base high (d ∷ ds) above falls row = let n = row.0 in let h = falls.1 in omega (arith, n, h)
+
+-- the transactions that are done are right above the base, and these are their copies
+pub record AreTaken (homes base : ℕ) (all left : List Descriptor) (places : List (Option ℕ)) (prefix : ℕ) : Type 0 where
+  pub done : List Descriptor
+  pub all_is : all ≡ left ++ done
+  pub row : AreInRow base done
+  pub places_are : places ≡ with_all homes done
+  pub prefix_is : prefix ≡ length done
+
+pub none-taken : (homes base : ℕ) (all : List Descriptor) (places : List (Option ℕ)) → places ≡ replicate homes None → AreTaken homes base all all places 0
+none-taken homes base all places is = record { done = []; all_is = sym (append-nil all); row = tt; places_are = is; prefix_is = refl }
+
+-- what the next transaction meets, and how far it is above the base
+pub record CanTake (homes base : ℕ) (all left : List Descriptor) (places : List (Option ℕ)) (prefix : ℕ) (d : Descriptor) : Type 0 where
+  pub logged : AreRising 0 (length places) d.logged
+  pub revoked : AreRising 0 (length places) d.revoked
   pub fits : length d.logged ≤ d.place
   pub small : d.place < 2 ^ 62
+  pub above : base < d.number
+  pub high : base + prefix < d.number
+  pub number : d.number < 2 ^ 64
+  -- it is in the row
+  pub taken : (more : List (Option ℕ)) → more ≡ with_transaction places d → d.number - base ≡ prefix + 1 → AreTaken homes base all left more (prefix + 1)
+  -- there is a gap before it
+  pub gap : d.number - base ≢ prefix + 1 → (c : Copies) → c.places.items ≡ places → c.prefix ≡ prefix → ArePlaced homes base all c
 
-pub can-take : (homes : ℕ) (all before rest done : List Descriptor) (copies : List (Option ℕ)) (d : Descriptor) → AreGood homes all → all ≡ before ++ done → before ≡ rest ++ d ∷ [] → copies ≡ with_all homes done → CanTake copies d
-can-take homes all before rest done copies d good all_is before_is copies_are =
-    let whole : all ≡ rest ++ d ∷ done = all_is ∙ ap (λ (l : List Descriptor). l ++ done) before_is ∙ append_assoc rest (d ∷ []) done in
-    let one : IsGood homes d = good-at homes rest d done (subst (AreGood homes) whole good) in
-    let n : length copies ≡ homes = ap length copies_are ∙ length-with_all homes done in
+placed : (homes base : ℕ) (all gone ds : List Descriptor) (places : List (Option ℕ)) (c : Copies) → AreGood homes all → all ≡ gone ++ ds → AreInRow base ds → ((d : Descriptor) → Has all d → d.number ≢ base + length ds + 1)
+    → places ≡ with_all homes ds → c.places.items ≡ places → c.prefix ≡ length ds → ArePlaced homes base all c
+placed homes base all gone ds places c good all_is row greatest places_are items prefix_is = record {
+  gone = gone;
+  ds = ds;
+  all_is = all_is;
+  row = row;
+  greatest = greatest;
+  whole = ap length (items ∙ places_are) ∙ length-with_all homes ds;
+  places_are = λ x. ap (λ (l : List (Option ℕ)). get_or l x None) (items ∙ places_are) ∙ with_all-at homes ds x (good-right homes gone ds (subst (AreGood homes) all_is good));
+  prefix_is = prefix_is;
+}
+
+pub can-take : (homes base : ℕ) (all before left : List Descriptor) (places : List (Option ℕ)) (prefix : ℕ) (d : Descriptor) → AreGood homes all → AreFalling base (2 ^ 64) all → AreTaken homes base all before places prefix → before ≡ left ++ d ∷ []
+    → CanTake homes base all left places prefix d
+can-take homes base all before left places prefix d good falls t before_is =
+    let whole : all ≡ left ++ d ∷ t.done = t.all_is ∙ ap (λ (l : List Descriptor). l ++ t.done) before_is ∙ append_assoc left (d ∷ []) t.done in
+    let one : IsGood homes d = good-at homes left d t.done (subst (AreGood homes) whole good) in
+    let fall = subst (AreFalling base (2 ^ 64)) whole falls in
+    let after = falling-after base (2 ^ 64) left d t.done fall in
+    let n : length places ≡ homes = ap length t.places_are ∙ length-with_all homes t.done in
+    let high : base + length t.done < d.number = row-under base d.number t.done after.0 after.1 t.row in
+    let count = t.prefix_is in
     record {
       logged = subst (λ (m : ℕ). AreRising 0 m d.logged) (sym n) one.logged;
       revoked = subst (λ (m : ℕ). AreRising 0 m d.revoked) (sym n) one.revoked;
       fits = one.fits;
       small = one.place;
+      above = after.0;
+      high = omega (arith, high, count);
+      number = falling-below base (2 ^ 64) left d t.done fall;
+      taken = λ more more_is next. record {
+        done = d ∷ t.done;
+        all_is = whole;
+        row = (omega (arith, next, count, high), t.row);
+        places_are = more_is ∙ ap (λ (l : List (Option ℕ)). with_transaction l d) t.places_are;
+        prefix_is = omega (arith, count);
+      };
+      gap = λ far c items prefix_is.
+          placed homes base all (left ++ d ∷ []) t.done places c good (t.all_is ∙ ap (λ (l : List Descriptor). l ++ t.done) before_is) t.row
+          (λ e has same. elim (has-split left (d ∷ t.done) e (subst (λ (l : List Descriptor). Has l e) whole has)) [
+            | inl h ↦ let b = falling-before base (2 ^ 64) left d t.done e fall h in absurd (omega (arith, b, same, high))
+            | inr h ↦ elim h [
+              | inl k ↦ let is : d.number ≡ e.number = ap (λ (x : Descriptor). x.number) k in far (omega (arith, is, same, count))
+              | inr k ↦ let low = row-low base t.done e t.row k in absurd (omega (arith, low, same))
+            ]
+          ])
+          t.places_are items (prefix_is ∙ count);
     }
 
-pub all-taken : (homes : ℕ) (all before done : List Descriptor) (copies : List (Option ℕ)) → AreGood homes all → all ≡ before ++ done → length before ≡ 0 → copies ≡ with_all homes done
-    → (length copies ≡ homes) × ((x : ℕ) → get_or copies x None ≡ copy_of all x)
-all-taken homes all [] done copies good all_is none copies_are = (
-  ap length copies_are ∙ length-with_all homes done,
-  λ x. ap (λ (l : List (Option ℕ)). get_or l x None) copies_are ∙ with_all-at homes done x (subst (AreGood homes) all_is good) ∙ ap (λ (l : List Descriptor). copy_of l x) (sym all_is),
-)
-all-taken homes all (b ∷ before) done copies good all_is none copies_are = absurd (omega arith)
+pub all-taken : (homes base : ℕ) (all before : List Descriptor) (places : List (Option ℕ)) (prefix : ℕ) (c : Copies) → AreGood homes all → AreTaken homes base all before places prefix → length before ≡ 0
+    → c.places.items ≡ places → c.prefix ≡ prefix → ArePlaced homes base all c
+all-taken homes base all [] places prefix c good t none items prefix_is =
+    placed homes base all [] t.done places c good t.all_is t.row
+    (λ e has same. let low = row-low base t.done e t.row (subst (λ (l : List Descriptor). Has l e) t.all_is has) in omega (arith, low, same))
+    t.places_are items (prefix_is ∙ t.prefix_is)
+all-taken homes base all (b ∷ before) places prefix c good t none items prefix_is = absurd (omega arith)

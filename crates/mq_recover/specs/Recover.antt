@@ -1,15 +1,17 @@
 -- What reading a queue's chain finds, and where the copies of home blocks stand.
-use Rattle.std.specs.Prelude.{◌≡◌, ◌<◌, ◌≤◌, ℕ, ◌+◌, ◌-◌, ◌%◌, List, [], ◌∷◌, length, Option, Some, None, slice_index_or, slice_set, nat_eq, if◌then◌else◌, replicate}
+use Rattle.std.specs.Prelude.{◌≡◌, ◌<◌, ℕ, ◌+◌, ◌-◌, ◌%◌, List, [], ◌∷◌, length, Option, Some, None, slice_index_or, slice_set, nat_eq, if◌then◌else◌, replicate}
 use Rattle.std.specs.Option.{unwrap_or}
 use Rattle.mq_blocks.specs.Blocks.{block_at}
 use Rattle.mq_blocks.specs.Descriptor.{Descriptor, IsGood}
 use Rattle.mq_blocks.specs.Drive.{PortState}
-use Rattle.mq_blocks.specs.Journal.{Shown, IsChain, AreInReach, is_among, number_limit}
+use Rattle.mq_blocks.specs.Geometry.{queues_of}
+use Rattle.mq_blocks.specs.Journal.{Shown, is_among}
 use Rattle.mq_blocks.specs.declared.geometry.Geometry.{Geometry}
 use Rattle.mq_nvme.specs.Says.{says}
+use Rattle.mq_drive.specs.Start.{IsPortOf}
+use Rattle.mq_drive.specs.declared.role.Role.TheVariants.{Queue}
 use Rattle.mq_area.specs.declared.descriptor.PlaceIs.{PlaceIs}
 use Rattle.mq_area.specs.declared.descriptor.PlaceIs.TheVariants.{Index, Exact}
-use Rattle.mq_recover.specs.declared.chain.Start.{Start}
 
 -- the image shows this port as queue q, over this base
 pub record IsSeenAt (q base : ℕ) (s : PortState) (i : Shown) : Type 0 where
@@ -19,18 +21,9 @@ pub record IsSeenAt (q base : ℕ) (s : PortState) (i : Shown) : Type 0 where
   pub entry_is : (k : ℕ) → i.entry q k ≡ says (slice_index_or s.flushed k [])
   pub area_is : (k : ℕ) → i.area q k ≡ block_at s.blocks k
 
--- the newest descriptor of the chain has this number and this index in the journal area
-pub record IsStart (g : Geometry) (i : Shown) (q : ℕ) (start : Start) (ds : List Descriptor) : Type 0 where
-  pub place : ℕ
-  pub above : i.base < start.number
-  pub limit : start.number ≤ number_limit
-  pub index_is : place % g.area ≡ start.index
-  pub chain : IsChain g i q start.number place ds
-  pub reach : AreInReach g place ds
-
-abbrev pub StartsAt : Geometry → Shown → ℕ → Option Start → List Descriptor → Type 0
-StartsAt g i q None ds = ds ≡ []
-StartsAt g i q (Some start) ds = IsStart g i q start ds
+-- the port is that of a queue of the drive
+abbrev pub IsQueuePort : Geometry → PortState → Type 0
+IsQueuePort g s = (q : ℕ) × (q < queues_of g) × IsPortOf g (Queue q) s
 
 -- where a descriptor is expected
 abbrev pub where_of : PlaceIs → ℕ
@@ -80,6 +73,11 @@ with_all homes (d ∷ ds) = with_transaction (with_all homes ds) d
 abbrev pub AreGood : ℕ → List Descriptor → Type 0
 AreGood homes [] = Unit {0}
 AreGood homes (d ∷ ds) = IsGood homes d × AreGood homes ds
+
+-- the numbers fall, below one and above another
+abbrev pub AreFalling : (low high : ℕ) → List Descriptor → Type 0
+AreFalling low high [] = Unit {0}
+AreFalling low high (d ∷ ds) = (low < d.number) × (d.number < high) × AreFalling low d.number ds
 
 -- the content of the copy at a place of a journal area of so many blocks
 abbrev pub content_of : (ℕ → List ℕ) → ℕ → Option ℕ → Option (List ℕ)

@@ -1,14 +1,14 @@
 // The chain of a queue.
-ghost use Rattle.std.specs.Prelude.{◌≡◌, ◌<◌, ◌≤◌, ◌↔◌, ◌-◌, ◌*◌, ◌%◌, ◌^◌, ℕ, List, [], length, IfOk, IfErr, IsOk, Some, None, true, slice_index_or};
+ghost use Rattle.std.specs.Prelude.{◌≡◌, ◌≢◌, ◌⊎◌, ◌<◌, ◌≤◌, ◌-◌, ◌%◌, ℕ, List, [], length, IfOk, IfErr, IsErrOf, IsOk, Some, true, slice_index_or, MatchOption, MatchResult};
 ghost use Rattle.mq_blocks.specs.Blocks.{block_at};
 ghost use Rattle.mq_blocks.specs.Descriptor.{Descriptor as Text};
-ghost use Rattle.mq_blocks.specs.Drive.{PortState, IsQuiet, depth};
+ghost use Rattle.mq_blocks.specs.Drive.{IsQuiet, depth};
 ghost use Rattle.mq_blocks.specs.Geometry.{queues_of, area_of, area_lba};
-ghost use Rattle.mq_blocks.specs.Journal.{Says, Shown, IsQueueChain, number_limit};
-ghost use Rattle.mq_area.specs.Reading.{Accepts};
+ghost use Rattle.mq_blocks.specs.Journal.{Shown, IsQueueChain};
 ghost use Rattle.mq_nvme.specs.Says.{says};
 ghost use Rattle.mq_drive.specs.Start.{IsPortOf};
-ghost use Rattle.mq_recover.specs.Recover.{IsSeenAt, IsStart, StartsAt, IsWithinReach, where_of};
+ghost use Rattle.mq_recover.specs.Recover.{IsSeenAt, IsQueuePort, where_of};
+ghost use Rattle.mq_recover.specs.Refusals.{AreWords, AreRung, IsRungWhole, IsGreatest, IsNewest, IsIndex, IsWholeChain, IsFoundNext, IsReadable, RefusesEntry, RefusesNewest, RefusesNext, RefusesChain, RefusesRung, RefusesQueue, entry_at};
 
 use crate::refusal::ChainRefusal;
 use mq_area::{Descriptor, DescriptorRefusal, Expect, PlaceIs, read_descriptor};
@@ -36,16 +36,44 @@ impl Model for Chain {
     ghost view = { λ c. c.transactions.items };
 }
 
-// The newest descriptor of a chain: its number, and its index in the journal area.
-#[derive(Clone, Copy, Debug, PartialEq, Eq)]
-pub struct Start {
-    pub number: u64,
-    pub index: u32,
+// What a readable queue shows.
+#[derive(Drop)]
+pub struct QueueRead {
+    pub chain: Chain,
+    // The greatest number of the entries from head to doorbell, or 0.
+    pub greatest: u64,
 }
 
-/// The chain of a queue: the transactions above the base that the entry before the head and the
-/// descriptors lead to.
+// The entry before the head.
+#[derive(Clone, Copy, Debug, PartialEq, Eq)]
+pub struct Newest {
+    pub number: u64,
+    pub lba: u64,
+}
+
+/// The chain of the queue whose port it is: the transactions above the base that the entry before
+/// the head and the descriptors lead to. Each block of the chain is read once.
 pub fn read_chain<P: Port>(
+    alloc: Global,
+    geometry: Geometry,
+    port: &P,
+    base: TxNo,
+) -> Result<Chain, ChainRefusal>
+    requires port { IsQueuePort geometry (P.state port.now) }
+    requires quiet { IsQuiet (P.state port.now) }
+    ensures ok { IfOk result (λ c. (q : ℕ) (i : Shown) → (P.state port.now).queue ≡ Some q → IsSeenAt q base (P.state port.now) i → IsQueueChain geometry i q c) }
+    ensures refused { IfErr result (λ e. (e ≡ ChainRefusal.OutOfMemory) ⊎ ((q : ℕ) → (P.state port.now).queue ≡ Some q → RefusesQueue geometry (P.state port.now) q base e)) }
+    ensures complete { (q : ℕ) (i : Shown) (ds : List Text) → (P.state port.now).queue ≡ Some q → IsSeenAt q base (P.state port.now) i → IsQueueChain geometry i q ds → MatchResult result (λ c. c ≡ ds) (λ e. e ≡ ChainRefusal.OutOfMemory) }
+    ensures exact { (q : ℕ) (e : ChainRefusal) → (P.state port.now).queue ≡ Some q → RefusesQueue geometry (P.state port.now) q base e → IsErrOf result e ⊎ IsErrOf result ChainRefusal.OutOfMemory }
+{
+    match port.role() {
+        Role::Queue(queue) => read_own(alloc, geometry, queue, port, base),
+        Role::Root => unreachable!(),
+    }
+}
+
+// The chain of a queue through its port.
+fn read_own<P: Port>(
     alloc: Global,
     geometry: Geometry,
     queue: QueueNo,
@@ -55,108 +83,106 @@ pub fn read_chain<P: Port>(
     requires queue { queue < queues_of geometry }
     requires port { IsPortOf geometry (Role.Queue queue) (P.state port.now) }
     requires quiet { IsQuiet (P.state port.now) }
-    requires readable { (i : Shown) × (ds : List Text) × IsSeenAt queue base (P.state port.now) i × IsQueueChain geometry i queue ds }
-    ensures ok { IfOk result (λ c. (i : Shown) (ds : List Text) → IsSeenAt queue base (P.state port.now) i → IsQueueChain geometry i queue ds → c ≡ ds) }
-    ensures only { IfErr result (λ e. e ≡ ChainRefusal.OutOfMemory) }
+    ensures ok { IfOk result (IsReadable geometry (P.state port.now) queue base) }
+    ensures refused { IfErr result (λ e. (e ≡ ChainRefusal.OutOfMemory) ⊎ RefusesQueue geometry (P.state port.now) queue base e) }
 {
-    match find_newest(geometry, queue, port, base)? {
-        None => Ok(Chain {
-            transactions: Vec::new(alloc),
-        }),
-        Some(start) => follow(alloc, geometry, queue, port, base, start),
-    }
+    let read = read_queue(alloc, geometry, queue, port, base)?;
+    Ok(read.chain)
 }
 
-// Where the chain of a queue starts, if it has a transaction above the base.
-fn find_newest<P: Port>(
+// What a queue shows, where it is readable.
+pub fn read_queue<P: Port>(
+    alloc: Global,
     geometry: Geometry,
     queue: QueueNo,
     port: &P,
     base: TxNo,
-) -> Result<Option<Start>, ChainRefusal>
+) -> Result<QueueRead, ChainRefusal>
     requires queue { queue < queues_of geometry }
     requires port { IsPortOf geometry (Role.Queue queue) (P.state port.now) }
     requires quiet { IsQuiet (P.state port.now) }
-    requires readable { (i : Shown) × (ds : List Text) × IsSeenAt queue base (P.state port.now) i × IsQueueChain geometry i queue ds }
-    ensures ok { IfOk result (λ o. (i : Shown) (ds : List Text) → IsSeenAt queue base (P.state port.now) i → IsQueueChain geometry i queue ds → StartsAt geometry i queue o ds) }
-    ensures only { IfErr result (λ e. e ≡ ChainRefusal.OutOfMemory) }
+    ensures ok { IfOk result (λ r. IsReadable geometry (P.state port.now) queue base r.chain) }
+    ensures greatest { IfOk result (λ r. IsGreatest (P.state port.now) (P.state port.now).head (P.state port.now).doorbell r.greatest) }
+    ensures refused { IfErr result (λ e. (e ≡ ChainRefusal.OutOfMemory) ⊎ RefusesQueue geometry (P.state port.now) queue base e) }
 {
-    let head = port.head();
-    let doorbell = port.doorbell();
-    check_words(head, doorbell)?;
-    check_rung(port, head, doorbell)?;
-    if head == 0 {
-        return Ok(None);
-    }
-    let last = last_commit(port, head)?;
-    if last.tx > LIMIT {
-        return Err(ChainRefusal::Limit { number: last.tx });
-    }
-    if last.tx <= base.0 {
-        return Ok(None);
-    }
-    match area_index(geometry, queue, last.lba) {
-        Some(index) => Ok(Some(Start {
-            number: last.tx,
-            index,
-        })),
-        None => Err(ChainRefusal::AreaPlace { lba: last.lba }),
-    }
+    check_words(port)?;
+    let newest = read_newest(port)?;
+    let chain = follow(alloc, geometry, queue, port, base, newest)?;
+    let greatest = read_rung(port)?;
+    Ok(QueueRead { chain, greatest })
 }
 
 // Checks the words of a queue.
-fn check_words(head: u64, doorbell: u64) -> Result<(), ChainRefusal>
-    ensures { IsOk result ↔ ((head ≤ doorbell) × (doorbell - head ≤ 1023) × (doorbell ≤ number_limit)) }
+fn check_words<P: Port>(port: &P) -> Result<(), ChainRefusal>
+    requires quiet { IsQuiet (P.state port.now) }
+    ensures ok { IfOk result (λ _. AreWords (P.state port.now)) }
+    ensures refused { IfErr result (λ e. (e ≡ ChainRefusal.Words) × (AreWords (P.state port.now) → ⊥)) }
 {
+    let head = port.head();
+    let doorbell = port.doorbell();
     if head > doorbell || doorbell - head > 1023 || doorbell > LIMIT {
         return Err(ChainRefusal::Words);
     }
     Ok(())
 }
 
-// Checks the entries from the head to the doorbell, the last of which must be a commit request.
-fn check_rung<P: Port>(port: &P, head: u64, doorbell: u64) -> Result<(), ChainRefusal>
+// The entry before the head; before any entry its number is 0.
+fn read_newest<P: Port>(port: &P) -> Result<Newest, ChainRefusal>
     requires slots { length (P.state port.now).flushed ≡ depth }
     requires quiet { IsQuiet (P.state port.now) }
-    requires readable { (c : ℕ) → head ≤ c → c < doorbell → (s : Says) × (says (slice_index_or (P.state port.now).flushed (c % depth) []) ≡ Some s) × (s.0 ≤ number_limit) }
-    requires whole { head < doorbell → (n : ℕ) × (l : ℕ) × (says (slice_index_or (P.state port.now).flushed ((doorbell - 1) % depth) []) ≡ Some (n, l, true)) }
-    ensures { IsOk result }
+    ensures ok { IfOk result (λ n. IsNewest (P.state port.now) n.number n.lba) }
+    ensures refused { IfErr result (RefusesNewest (P.state port.now)) }
 {
-    for at in head..doorbell {
+    let head = port.head();
+    if head == 0 {
+        return Ok(Newest { number: 0, lba: 0 });
+    }
+    let last = read_request(port, head - 1)?;
+    if !last.commit {
+        return Err(ChainRefusal::Commit);
+    }
+    if last.tx > LIMIT {
+        return Err(ChainRefusal::Limit { number: last.tx });
+    }
+    Ok(Newest {
+        number: last.tx,
+        lba: last.lba,
+    })
+}
+
+// The greatest number of the entries from head to doorbell, the last of which must be a commit
+// request.
+fn read_rung<P: Port>(port: &P) -> Result<u64, ChainRefusal>
+    requires slots { length (P.state port.now).flushed ≡ depth }
+    requires quiet { IsQuiet (P.state port.now) }
+    requires order { (P.state port.now).head ≤ (P.state port.now).doorbell }
+    ensures rung { IfOk result (λ _. AreRung (P.state port.now) (P.state port.now).head (P.state port.now).doorbell) }
+    ensures whole { IfOk result (λ _. IsRungWhole (P.state port.now)) }
+    ensures greatest { IfOk result (IsGreatest (P.state port.now) (P.state port.now).head (P.state port.now).doorbell) }
+    ensures refused { IfErr result (RefusesRung (P.state port.now)) }
+{
+    let mut greatest = 0;
+    let mut whole = true;
+    for at in port.head()..port.doorbell() {
         let request = read_request(port, at)?;
         if request.tx > LIMIT {
             return Err(ChainRefusal::Limit { number: request.tx });
         }
+        greatest = greatest.max(request.tx);
+        whole = request.commit;
     }
-    if head < doorbell {
-        last_commit(port, doorbell)?;
-    }
-    Ok(())
-}
-
-// The request before a count, which must be a commit request.
-fn last_commit<P: Port>(port: &P, end: u64) -> Result<WriteReq, ChainRefusal>
-    requires above { 0 < end }
-    requires slots { length (P.state port.now).flushed ≡ depth }
-    requires quiet { IsQuiet (P.state port.now) }
-    requires commit { (n : ℕ) × (l : ℕ) × (says (slice_index_or (P.state port.now).flushed ((end - 1) % depth) []) ≡ Some (n, l, true)) }
-    ensures ok { IfOk result (λ r. says (slice_index_or (P.state port.now).flushed ((end - 1) % depth) []) ≡ Some (r.tx, r.lba, true)) }
-    ensures only { IsOk result }
-{
-    let last = read_request(port, end - 1)?;
-    if !last.commit {
+    if !whole {
         return Err(ChainRefusal::Commit);
     }
-    Ok(last)
+    Ok(greatest)
 }
 
 // The request in the slot of a count.
 fn read_request<P: Port>(port: &P, at: u64) -> Result<WriteReq, ChainRefusal>
     requires slots { length (P.state port.now).flushed ≡ depth }
     requires quiet { IsQuiet (P.state port.now) }
-    requires request { (s : Says) × (says (slice_index_or (P.state port.now).flushed (at % depth) []) ≡ Some s) }
-    ensures ok { IfOk result (λ r. says (slice_index_or (P.state port.now).flushed (at % depth) []) ≡ Some (r.tx, r.lba, r.commit)) }
-    ensures only { IsOk result }
+    ensures ok { IfOk result (λ r. says (entry_at (P.state port.now) at) ≡ Some (r.tx, r.lba, r.commit)) }
+    ensures refused { IfErr result (RefusesEntry (P.state port.now) at) }
 {
     let entry = port.read_slot((at % 1024) as u32);
     match read_write(&entry) {
@@ -165,10 +191,36 @@ fn read_request<P: Port>(port: &P, at: u64) -> Result<WriteReq, ChainRefusal>
     }
 }
 
+// Follows the chain that the entry before the head leads to.
+fn follow<P: Port>(
+    alloc: Global,
+    geometry: Geometry,
+    queue: QueueNo,
+    port: &P,
+    base: TxNo,
+    newest: Newest,
+) -> Result<Chain, ChainRefusal>
+    requires queue { queue < queues_of geometry }
+    requires port { IsPortOf geometry (Role.Queue queue) (P.state port.now) }
+    requires quiet { IsQuiet (P.state port.now) }
+    ensures ok { IfOk result (IsWholeChain geometry (P.state port.now) queue base newest.number newest.lba) }
+    ensures refused { IfErr result (λ e. (e ≡ ChainRefusal.OutOfMemory) ⊎ RefusesChain geometry (P.state port.now) queue base newest.number newest.lba e) }
+{
+    if newest.number <= base.0 {
+        return Ok(Chain {
+            transactions: Vec::new(alloc),
+        });
+    }
+    match area_index(geometry, queue, newest.lba) {
+        Some(index) => follow_from(alloc, geometry, queue, port, base, newest, index),
+        None => Err(ChainRefusal::AreaPlace { lba: newest.lba }),
+    }
+}
+
 // The index of a block in the journal area of a queue.
 fn area_index(geometry: Geometry, queue: QueueNo, lba: u64) -> Option<u32>
     requires { queue < queues_of geometry }
-    ensures { (place : ℕ) → lba ≡ area_lba geometry queue place → result ≡ Some (place % area_of geometry) }
+    ensures { MatchOption result ((place : ℕ) → lba ≡ area_lba geometry queue place → ⊥) (IsIndex geometry queue lba) }
 {
     let area = u64::from(geometry.area());
     let first = u64::from(queue.0) * area;
@@ -181,26 +233,28 @@ fn area_index(geometry: Geometry, queue: QueueNo, lba: u64) -> Option<u32>
     Some((lba - first) as u32)
 }
 
-// Follows a chain from its newest descriptor on.
-fn follow<P: Port>(
+// Follows a chain from its newest descriptor on, which is above the base.
+fn follow_from<P: Port>(
     alloc: Global,
     geometry: Geometry,
     queue: QueueNo,
     port: &P,
     base: TxNo,
-    start: Start,
+    start: Newest,
+    index: u32,
 ) -> Result<Chain, ChainRefusal>
     requires queue { queue < queues_of geometry }
     requires port { IsPortOf geometry (Role.Queue queue) (P.state port.now) }
     requires quiet { IsQuiet (P.state port.now) }
-    requires readable { (i : Shown) × (ds : List Text) × IsSeenAt queue base (P.state port.now) i × IsStart geometry i queue start ds }
-    ensures ok { IfOk result (λ c. (i : Shown) (ds : List Text) → IsSeenAt queue base (P.state port.now) i → IsStart geometry i queue start ds → c ≡ ds) }
-    ensures only { IfErr result (λ e. e ≡ ChainRefusal.OutOfMemory) }
+    requires above { base < start.number }
+    requires index { IsIndex geometry queue start.lba index }
+    ensures ok { IfOk result (IsWholeChain geometry (P.state port.now) queue base start.number start.lba) }
+    ensures refused { IfErr result (λ e. (e ≡ ChainRefusal.OutOfMemory) ⊎ RefusesChain geometry (P.state port.now) queue base start.number start.lba e) }
 {
     let mut block = Block::zeroed(alloc)?;
     let mut transactions = Vec::new(alloc);
     let mut number = start.number;
-    let mut place = PlaceIs::Index(start.index);
+    let mut place = PlaceIs::Index(index);
     let mut newest = None;
     while number > base.0 {
         let at = Expect {
@@ -229,12 +283,14 @@ fn read_next<P: Port>(
     requires queue { at.now.queue < queues_of geometry }
     requires port { IsPortOf geometry (Role.Queue at.now.queue) (P.state port.now) }
     requires quiet { IsQuiet (P.state port.now) }
-    requires readable { (d : Text) × Accepts geometry at.now (block_at (P.state port.now).blocks (where_of at.now.place % area_of geometry)) d × IsWithinReach geometry newest d }
-    ensures ok { IfOk result (λ r. (d : Text) → Accepts geometry at.now (block_at (P.state port.now).blocks (where_of at.now.place % area_of geometry)) d → r ≡ d) }
-    ensures sound { IfOk result (Accepts geometry at.now (block_at (P.state port.now).blocks (where_of at.now.place % area_of geometry))) }
-    ensures only { IfErr result (λ e. e ≡ ChainRefusal.OutOfMemory) }
+    ensures ok { IfOk result (IsFoundNext geometry (P.state port.now) at.now.queue at.now.number at.now.place newest) }
+    ensures refused { IfErr result (λ e. (e ≡ ChainRefusal.OutOfMemory) ⊎ RefusesNext geometry (P.state port.now) at.now.queue at.now.number at.now.place newest e) }
 {
-    let next = read_at(alloc, geometry, port, at, block)?;
+    read_area(geometry, at.queue, place_of(at), port, block);
+    let next = match read_descriptor(alloc, geometry, at, block) {
+        Ok(descriptor) => descriptor,
+        Err(cause) => return Err(refused_at(at.number.0, cause)),
+    };
     let newest = newest.unwrap_or(next.place);
     let oldest = next.place - next.logged.len() as u64;
     if oldest + u64::from(geometry.area()) <= newest {
@@ -243,30 +299,13 @@ fn read_next<P: Port>(
     Ok(next)
 }
 
-// The descriptor that is expected.
-fn read_at<P: Port>(
-    alloc: Global,
-    geometry: Geometry,
-    port: &P,
-    at: &Expect,
-    block: &mut Block,
-) -> Result<Descriptor, ChainRefusal>
-    requires queue { at.now.queue < queues_of geometry }
-    requires port { IsPortOf geometry (Role.Queue at.now.queue) (P.state port.now) }
-    requires quiet { IsQuiet (P.state port.now) }
-    requires readable { (d : Text) × Accepts geometry at.now (block_at (P.state port.now).blocks (where_of at.now.place % area_of geometry)) d }
-    ensures ok { IfOk result (λ r. (d : Text) → Accepts geometry at.now (block_at (P.state port.now).blocks (where_of at.now.place % area_of geometry)) d → r ≡ d) }
-    ensures sound { IfOk result (Accepts geometry at.now (block_at (P.state port.now).blocks (where_of at.now.place % area_of geometry))) }
-    ensures only { IfErr result (λ e. e ≡ ChainRefusal.OutOfMemory) }
+// The refusal of the descriptor of a number.
+fn refused_at(number: u64, cause: DescriptorRefusal) -> ChainRefusal
+    ensures { ((cause ≡ DescriptorRefusal.OutOfMemory) × (result ≡ ChainRefusal.OutOfMemory)) ⊎ ((cause ≢ DescriptorRefusal.OutOfMemory) × (result ≡ ChainRefusal.Descriptor number cause)) }
 {
-    read_area(geometry, at.queue, place_of(at), port, block);
-    match read_descriptor(alloc, geometry, at, block) {
-        Ok(descriptor) => Ok(descriptor),
-        Err(DescriptorRefusal::OutOfMemory) => Err(ChainRefusal::OutOfMemory),
-        Err(cause) => Err(ChainRefusal::Descriptor {
-            number: at.number.0,
-            cause,
-        }),
+    match cause {
+        DescriptorRefusal::OutOfMemory => ChainRefusal::OutOfMemory,
+        cause => ChainRefusal::Descriptor { number, cause },
     }
 }
 

@@ -1,29 +1,47 @@
 // Where the copies stand that go home.
-ghost use Rattle.std.specs.Prelude.{◌≡◌, ◌<◌, ◌≤◌, ◌+◌, ◌-◌, ◌^◌, ℕ, List, length, None, IfOk, slice_index_or};
+ghost use Rattle.std.specs.Prelude.{◌≡◌, ◌<◌, ◌≤◌, ◌+◌, ◌^◌, length, IfOk};
 ghost use Rattle.mq_blocks.specs.Descriptor.{AreRising};
 ghost use Rattle.mq_blocks.specs.Geometry.{homes_of};
-ghost use Rattle.mq_recover.specs.Recover.{copy_of, forgotten, noted, with_transaction, AreGood};
+ghost use Rattle.mq_recover.specs.Plans.{ArePlaced};
+ghost use Rattle.mq_recover.specs.Recover.{forgotten, noted, with_transaction, AreFalling, AreGood};
 
 use crate::chain::Chain;
 use mq_area::Descriptor;
 use mq_blocks::{BlockNo, Geometry, OutOfMemory};
 use std::alloc::Global;
 
-// For each home block the place of its newest logged copy that no later transaction revokes.
+// Where the copies stand of the transactions right above the base.
+#[derive(Drop)]
+pub struct Copies {
+    // For each home block the place of its newest logged copy that no later transaction revokes.
+    pub places: Vec<Option<u64>>,
+    // The number of these transactions.
+    pub prefix: u64,
+}
+
+// Finds the copies of the transactions right above the base, of which the list falls, as far as
+// there is no gap.
 pub fn place_copies(
     alloc: Global,
     geometry: Geometry,
     chain: Chain,
-) -> Result<Vec<Option<u64>>, OutOfMemory>
-    requires { AreGood (homes_of geometry) chain }
-    ensures { IfOk result (λ v. (length v.items ≡ homes_of geometry) × ((x : ℕ) → slice_index_or v.items x None ≡ copy_of chain x)) }
+    base: u64,
+) -> Result<Copies, OutOfMemory>
+    requires good { AreGood (homes_of geometry) chain }
+    requires falling { AreFalling base (2 ^ 64) chain }
+    ensures { IfOk result (ArePlaced (homes_of geometry) base chain) }
 {
     let mut transactions = chain.transactions;
-    let mut copies = vec![in alloc; None; geometry.homes() as usize]?;
+    let mut places = vec![in alloc; None; geometry.homes() as usize]?;
+    let mut prefix = 0;
     while let Some(next) = transactions.pop() {
-        take_over(&mut copies, &next);
+        if next.number - base != prefix + 1 {
+            break;
+        }
+        take_over(&mut places, &next);
+        prefix += 1;
     }
-    Ok(copies)
+    Ok(Copies { places, prefix })
 }
 
 // The copies after one more transaction.

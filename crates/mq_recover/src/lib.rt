@@ -5,12 +5,13 @@
 mod chain;
 mod copies;
 mod homes;
+mod plan;
 mod ports;
 mod refusal;
 mod standing;
 
 pub use chain::{Chain, read_chain};
-pub use homes::Recovered;
+pub use plan::Recovered;
 pub use ports::{recover, recover_ports};
 pub use refusal::{ChainRefusal, ImageFault, RecoverRefusal};
 pub use standing::{Standing, read_home, stands};

@@ -1,18 +1,17 @@
 // What stands on the home blocks of an image.
-ghost use Rattle.std.specs.Prelude.{◌≡◌, ◌<◌, ℕ, List, length, IfOk, IfErr, Some, None, slice_get, slice_index_or};
+ghost use Rattle.std.specs.Prelude.{◌≡◌, ◌⊎◌, ◌<◌, ℕ, length, IfOk, IfErr, IsErrOf, Some, None, slice_get, slice_index_or};
 ghost use Rattle.mq_blocks.specs.Blocks.{block_at};
-ghost use Rattle.mq_blocks.specs.Descriptor.{Descriptor as Text};
 ghost use Rattle.mq_blocks.specs.Drive.{IsQuiet};
 ghost use Rattle.mq_blocks.specs.Geometry.{homes_of};
-ghost use Rattle.mq_blocks.specs.Journal.{IsQueueChain, Reaches};
 ghost use Rattle.mq_drive.specs.Start.{IsPortOf};
 ghost use Rattle.mq_drive.specs.declared.role.Role.TheVariants.{Queue, Root};
-ghost use Rattle.mq_recover.specs.Recovery.{view_of, IsSettled};
-ghost use Rattle.mq_recover.specs.Standing.{newest_of, IsStanding};
+ghost use Rattle.mq_recover.specs.Recovery.{view_of, IsStill};
+ghost use Rattle.mq_recover.specs.Refusals.{RefusesImage};
+ghost use Rattle.mq_recover.specs.Standing.{newest_of, StandsIn};
 
 use crate::refusal::ImageFault;
 use crate::chain::read_area;
-use crate::homes::find_copies;
+use crate::plan::find_copies;
 use mq_blocks::{Block, BlockNo, Geometry, OutOfMemory, QueueNo, TxNo};
 use mq_drive::{Port, Ports};
 use std::alloc::Global;
@@ -26,7 +25,7 @@ pub struct Standing {
     pub prefix: u64,
     /// The image's base.
     pub base: TxNo,
-    /// The number of the last transaction that stands, or the base.
+    /// The greatest number that the image shows.
     pub top: TxNo,
 }
 
@@ -37,9 +36,10 @@ pub fn stands<P: Port>(
     ports: &Ports<P>,
 ) -> Result<Standing, ImageFault>
     requires one { length ports.now.queues.items ≡ 1 }
-    requires settled { (p : _) → slice_get ports.now.queues.items 0 ≡ Some p → IsSettled geometry (P.state p) (P.state ports.now.root) }
-    ensures ok { IfOk result (λ s. (p : _) (ds : List Text) → slice_get ports.now.queues.items 0 ≡ Some p → Reaches geometry (view_of geometry (P.state p) (P.state ports.now.root)) ds → IsQueueChain geometry (view_of geometry (P.state p) (P.state ports.now.root)) 0 ds → IsStanding geometry (P.state p) (P.state ports.now.root) ds s) }
-    ensures only { IfErr result (λ e. e ≡ ImageFault.OutOfMemory) }
+    requires still { (p : _) → slice_get ports.now.queues.items 0 ≡ Some p → IsStill geometry (P.state p) (P.state ports.now.root) }
+    ensures ok { IfOk result (λ s. (p : _) → slice_get ports.now.queues.items 0 ≡ Some p → StandsIn geometry (P.state p) (P.state ports.now.root) s) }
+    ensures refused { IfErr result (λ e. (p : _) → slice_get ports.now.queues.items 0 ≡ Some p → (e ≡ ImageFault.OutOfMemory) ⊎ RefusesImage geometry (P.state p) (P.state ports.now.root) e) }
+    ensures exact { (p : _) (e : ImageFault) → slice_get ports.now.queues.items 0 ≡ Some p → RefusesImage geometry (P.state p) (P.state ports.now.root) e → IsErrOf result e ⊎ IsErrOf result ImageFault.OutOfMemory }
 {
     stands_through(alloc, geometry, &ports.queues[0], &ports.root)
 }
@@ -51,18 +51,18 @@ fn stands_through<P: Port>(
     queue: &P,
     root: &P,
 ) -> Result<Standing, ImageFault>
-    requires { IsSettled geometry (P.state queue.now) (P.state root.now) }
-    ensures ok { IfOk result (λ s. (ds : List Text) → Reaches geometry (view_of geometry (P.state queue.now) (P.state root.now)) ds → IsQueueChain geometry (view_of geometry (P.state queue.now) (P.state root.now)) 0 ds → IsStanding geometry (P.state queue.now) (P.state root.now) ds s) }
-    ensures only { IfErr result (λ e. e ≡ ImageFault.OutOfMemory) }
+    requires { IsStill geometry (P.state queue.now) (P.state root.now) }
+    ensures ok { IfOk result (StandsIn geometry (P.state queue.now) (P.state root.now)) }
+    ensures refused { IfErr result (λ e. (e ≡ ImageFault.OutOfMemory) ⊎ RefusesImage geometry (P.state queue.now) (P.state root.now) e) }
+    ensures exact { (e : ImageFault) → RefusesImage geometry (P.state queue.now) (P.state root.now) e → IsErrOf result e ⊎ IsErrOf result ImageFault.OutOfMemory }
 {
-    let base = TxNo(root.base());
-    let copies = find_copies(alloc, geometry, queue, base)?;
-    let blocks = read_blocks(alloc, geometry, queue, root, &copies.places)?;
+    let found = find_copies(alloc, geometry, queue, root)?;
+    let blocks = read_blocks(alloc, geometry, queue, root, &found.places)?;
     Ok(Standing {
         blocks,
-        prefix: copies.recovered.prefix,
-        base,
-        top: copies.recovered.base,
+        prefix: found.recovered.prefix,
+        base: TxNo(root.base()),
+        top: found.recovered.base,
     })
 }
 
@@ -74,7 +74,7 @@ fn read_blocks<P: Port>(
     root: &P,
     copies: &[Option<u64>],
 ) -> Result<Vec<Option<Block>>, OutOfMemory>
-    requires settled { IsSettled geometry (P.state queue.now) (P.state root.now) }
+    requires still { IsStill geometry (P.state queue.now) (P.state root.now) }
     requires homes { length copies.now ≡ homes_of geometry }
     ensures { IfOk result (λ v. (length v.items ≡ homes_of geometry) × ((b : ℕ) → b < homes_of geometry → block_at v.items b ≡ newest_of geometry (P.state queue.now) (P.state root.now) (slice_index_or copies.now b None) b)) }
 {
@@ -96,7 +96,7 @@ fn read_newest<P: Port>(
     copy: Option<u64>,
     into: &mut Block,
 )
-    requires settled { IsSettled geometry (P.state queue.now) (P.state root.now) }
+    requires still { IsStill geometry (P.state queue.now) (P.state root.now) }
     requires within { b < homes_of geometry }
     ensures { into.new ≡ newest_of geometry (P.state queue.now) (P.state root.now) copy b }
 {

@@ -1,20 +1,15 @@
 use Rattle.std.proofs.Common.{sym, ◌∙◌}
-use Rattle.mq_recover.proofs.RecoverChains.{ok-map}
+use Rattle.mq_recover.proofs.Readable.{own-port, chain-shown, chain-refused, chain-complete, chain-exact}
 use Rattle.mq_recover.proofs.chain.read_chain.Goals as goal
 
-pub follow-requires-clause-readable : goal.follow-requires-clause-readable
-follow-requires-clause-readable g c =
-    let r = c.requires.readable in
-    let start = rw c.in-Some.is at (c.in_ok-find_newest.ensures.ok r.0 r.1 r.2 r.3) in
-    (r.0, r.1, r.2, start)
+pub returns-clause-ok : goal.returns-clause-ok
+returns-clause-ok g c = chain-shown c.args.geometry _ _ c.args.base _ (own-port c.args.geometry (g.P.Port.state c.args.port.now) _ c.requires.port (sym c.in-Queue.is ∙ c.role.ensures)) c.read_own.ensures.ok
 
-pub returns-in-None-clause-ok : goal.returns-in-None-clause-ok
-returns-in-None-clause-ok g c i ds seen chain =
-    let none = rw c.in-None.is at (c.in_ok-find_newest.ensures.ok i ds seen chain) in
-    c.new.ensures.items ∙ sym none
+pub returns-clause-refused : goal.returns-clause-refused
+returns-clause-refused g c = chain-refused c.args.geometry _ _ c.args.base _ (own-port c.args.geometry (g.P.Port.state c.args.port.now) _ c.requires.port (sym c.in-Queue.is ∙ c.role.ensures)) c.read_own.ensures.refused
 
-pub returns-in-Some-clause-ok : goal.returns-in-Some-clause-ok
-returns-in-Some-clause-ok g c =
-    ok-map c.follow.result _ _
-    (λ chain is i ds seen whole. is i ds seen (rw c.in-Some.is at (c.in_ok-find_newest.ensures.ok i ds seen whole)))
-    c.follow.ensures.ok
+pub returns-clause-complete : goal.returns-clause-complete
+returns-clause-complete g c = chain-complete c.args.geometry _ _ c.args.base _ (own-port c.args.geometry (g.P.Port.state c.args.port.now) _ c.requires.port (sym c.in-Queue.is ∙ c.role.ensures)) c.read_own.ensures.ok c.read_own.ensures.refused
+
+pub returns-clause-exact : goal.returns-clause-exact
+returns-clause-exact g c = chain-exact c.args.geometry _ _ c.args.base _ (own-port c.args.geometry (g.P.Port.state c.args.port.now) _ c.requires.port (sym c.in-Queue.is ∙ c.role.ensures)) c.read_own.ensures.ok c.read_own.ensures.refused
