@@ -26,7 +26,7 @@ view-seen g queue root base is = record { base_is = sym is; head_is = refl; door
 
 -- ---- what is found is read
 
-falls-under : (low high : ℕ) (ds : List Descriptor) (d : Descriptor) → AreFalling low high ds → Has ds d → d.number < high
+pub falls-under : (low high : ℕ) (ds : List Descriptor) (d : Descriptor) → AreFalling low high ds → Has ds d → d.number < high
 falls-under low high [] d falls has = absurd has
 falls-under low high (e ∷ ds) d falls has = elim has [
   | inl h ↦ let same : e.number ≡ d.number = ap (λ (x : Descriptor). x.number) h in let b = falls.1 in omega (arith, same, b)
@@ -48,13 +48,13 @@ queue-of : (q : ℕ) (ds : List Descriptor) (d : Descriptor) → AreOf q ds → 
 queue-of q [] d of has = absurd has
 queue-of q (e ∷ ds) d of has = elim has [ inl h ↦ ap (λ (x : Descriptor). x.queue) (sym h) ∙ of.0 | inr h ↦ queue-of q ds d of.1 h ]
 
-one-queue : (g : Geometry) (q : ℕ) → g.queues ≡ 1 → q < g.queues → q ≡ 0
+pub one-queue : (g : Geometry) (q : ℕ) → g.queues ≡ 1 → q < g.queues → q ≡ 0
 one-queue g q one low = omega (arith, one, low)
 
-whole-one : (g : Geometry) (i : Shown) (all : List Descriptor) → g.queues ≡ 1 → i.base ≤ number_limit → IsQueueChain g i 0 all → AreWhole g i (λ q. all)
-whole-one g i all one limit c = record {
+pub whole-one : (g : Geometry) (i : Shown) (chains : ℕ → List Descriptor) → g.queues ≡ 1 → i.base ≤ number_limit → IsQueueChain g i 0 (chains 0) → AreWhole g i chains
+whole-one g i chains one limit c = record {
   limit = limit;
-  each = λ q low. subst (λ (n : ℕ). IsQueueChain g i n all) (sym (one-queue g q one low)) c;
+  each = λ q low. subst (λ (n : ℕ). IsQueueChain g i n (chains n)) (sym (one-queue g q one low)) c;
   once = λ q r p s other d e hd he. absurd (other (one-queue g q one p ∙ sym (one-queue g r one s)));
 }
 
@@ -103,7 +103,7 @@ image-read : (g : Geometry) (queue root : PortState) (all gone ds : List Descrip
 image-read g queue root all gone ds k one limit readable top all_is row greatest =
     let i = view_of g queue root in
     let c : IsQueueChain g i 0 all = readable-shown g i queue 0 root.base all (view-seen g queue root root.base refl) readable in
-    let whole = whole-one g i all one limit c in
+    let whole : AreWhole g i (λ q. all) = whole-one g i (λ q. all) one limit c in
     let number = c.limit in
     record {
       chains = λ q. all;
