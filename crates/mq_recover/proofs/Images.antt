@@ -268,8 +268,8 @@ read-same g i ds es top other a b =
     let x = b.top_is.greatest top (shows-along g i a.chains b.chains top there a.top_is.shown) in
     let y = a.top_is.greatest other (shows-along g i b.chains a.chains other back b.top_is.shown) in (
       rows-same i.base ds es a.prefix.row b.prefix.row long (λ d e p q.
-      let at = b.prefix.whole e q in
-      number-once g i a.chains d e a.whole (a.prefix.whole d p) (at.0, back.along e.queue e at.0 at.1)),
+          let at = b.prefix.whole e q in
+          number-once g i a.chains d e a.whole (a.prefix.whole d p) (at.0, back.along e.queue e at.0 at.1)),
       omega (arith, x, y),
     )
 

@@ -96,7 +96,7 @@ abbrev pub IsWholeChain : (g : Geometry) (s : PortState) (q base number lba : �
 IsWholeChain g s q base number lba ds =
     ((number ≤ base) × (ds ≡ []))
     ⊎ ((base < number) × (index : ℕ) × IsIndex g q lba index × (next : ℕ) × (at : PlaceIs) × (newest : Option ℕ)
-        × AreFound g s q base number (Index index) None ds next at newest × (next ≤ base))
+    × AreFound g s q base number (Index index) None ds next at newest × (next ≤ base))
 
 -- ---- the entries from head to doorbell
 
