@@ -7,7 +7,7 @@ use Rattle.mq_blocks.specs.Journal.{Says, Shown, IsChain, IsQueueChain, AreWhole
 use Rattle.mq_blocks.specs.declared.geometry.Geometry.{Geometry}
 use Rattle.mq_recover.specs.Recovery.{IsRead}
 use Rattle.mq_recover.specs.Recover.{copy_of, content_of}
-use Rattle.mq_recover.proofs.Images.{falls-under, one-queue, whole-one}
+use Rattle.mq_recover.proofs.Images.{falls-under, only-queue, whole-of}
 use Rattle.mq_recover.proofs.Readable.{chain-falls}
 use Rattle.mq_recover.proofs.RecoverCopies.{AreOf, stands-copy}
 use Rattle.mq_recover.proofs.Refusing.{said-once}
@@ -80,7 +80,7 @@ pub record IsRungNumber (i : Shown) (n : ℕ) : Type 0 where
 rung-of : (g : Geometry) (i : Shown) (n : ℕ) → g.queues ≡ 1
     → ((q : ℕ) × (c : ℕ) × (s : Says) × (q < g.queues) × (i.head q ≤ c) × (c < i.doorbell q) × (i.entry q (c % depth) ≡ Some s) × (s.0 ≡ n)) → IsRungNumber i n
 rung-of g i n one r =
-    let zero_is : r.0 ≡ 0 = one-queue g r.0 one r.3 in
+    let zero_is : r.0 ≡ 0 = only-queue g r.0 one r.3 in
     record {
       count = r.1;
       says = r.2;
@@ -112,7 +112,7 @@ pub read-along : (g : Geometry) (v i : Shown) (ds : List Descriptor) (top : ℕ)
 read-along g v i ds top one same base head read =
     let limit = read.whole.limit in
     let whole : AreWhole g i read.chains =
-    whole-one g i read.chains one (omega arith) (queue-along g v i (read.chains 0) same base head (first-chain g v read.chains one read.whole)) in
+    whole-of g i read.chains one (omega arith) (queue-along g v i (read.chains 0) same base head (first-chain g v read.chains one read.whole)) in
     let prefix = read.prefix in
     record {
       chains = read.chains;
@@ -156,7 +156,7 @@ top-low g v ds top one read =
     (λ is. let limit = read.whole.limit in omega arith)
     (λ more. ⊎_elim
     (λ has.
-    let zero_is : has.0 ≡ 0 = one-queue g has.0 one has.2 in
+    let zero_is : has.0 ≡ 0 = only-queue g has.0 one has.2 in
     let there : Has (read.chains 0) has.1 = subst (λ (q : ℕ). Has (read.chains q) has.1) zero_is has.3 in
     let falling = chain-falls g v 0 chain.number chain.place (chain.number + 1) (read.chains 0) chain.chain (omega arith) in
     let low = falls-under v.base (chain.number + 1) (read.chains 0) has.1 falling there in
@@ -254,7 +254,7 @@ pub read-raised : (g : Geometry) (v i : Shown) (ds : List Descriptor) (top : ℕ
 read-raised g v i ds top one same base head read =
     let none : ℕ → List Descriptor = λ q. [] in
     let limit = top-low g v ds top one read in
-    let whole : AreWhole g i none = whole-one g i none one (omega arith) (raised-queue g v i ds top one same base head read) in
+    let whole : AreWhole g i none = whole-of g i none one (omega arith) (raised-queue g v i ds top one same base head read) in
     record {
       chains = none;
       whole = whole;

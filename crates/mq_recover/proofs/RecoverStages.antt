@@ -18,7 +18,7 @@ use Rattle.mq_recover.specs.Recover.{content_of}
 use Rattle.mq_recover.specs.RecoverHomes.{written}
 use Rattle.mq_recover.specs.Steps.{TwoPorts, AreHomeWrites}
 use Rattle.mq_recover.proofs.CutImages.{IsSameLog, read-along, read-raised, stands-along}
-use Rattle.mq_recover.proofs.Images.{read-of}
+use Rattle.mq_recover.proofs.Images.{prefix-of}
 use Rattle.mq_recover.proofs.RecoverCopies.{stands-copy}
 use Rattle.mq_recover.proofs.RecoverHomes.{image-meta, image-zone, home-meta, home-zone}
 
@@ -176,7 +176,7 @@ over-old g s ds top writes q r one read are same base head kept =
       ds,
       read-along g v i ds top one same base head read,
       inl (base, refl),
-      λ b below. stands-along g v i ds b (read-of g v ds top one read) same (λ none. kept b below (are.copies b ∙ ap (content_of (block_at s.queue.blocks) g.area) none)),
+      λ b below. stands-along g v i ds b (prefix-of g v ds top one read) same (λ none. kept b below (are.copies b ∙ ap (content_of (block_at s.queue.blocks) g.area) none)),
     )
 
 over-top : (g : Geometry) (s : TwoPorts) (ds : List Descriptor) (top : ℕ) (writes : Writes) (q r : PortImage) → g.queues ≡ 1 → IsRead g (view_of g s.queue s.root) ds top → AreHomeWrites g s.queue ds writes
@@ -191,7 +191,7 @@ over-top g s ds top writes q r one read are same base head homes =
       λ b below.
           homes b below
           ∙ ap (λ (o : Option (List ℕ)). or_else o (v.home b)) (are.copies b)
-          ∙ sym (stands-copy g v 0 ds b (read-of g v ds top one read)),
+          ∙ sym (stands-copy g v 0 ds b (prefix-of g v ds top one read)),
     )
 
 -- at each stage every image stands for what stood at the start

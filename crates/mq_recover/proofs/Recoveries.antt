@@ -20,7 +20,7 @@ use Rattle.mq_recover.specs.declared.plan.Plan.{Plan}
 use Rattle.mq_recover.specs.declared.refusal.RecoverRefusal.{RecoverRefusal}
 use Rattle.mq_recover.specs.declared.refusal.RecoverRefusal.TheVariants.{Image, Off, Failed}
 use Rattle.mq_recover.proofs.CutImages.{IsSameLog, first-chain, read-raised}
-use Rattle.mq_recover.proofs.Images.{read-of}
+use Rattle.mq_recover.proofs.Images.{prefix-of}
 use Rattle.mq_recover.proofs.RecoverCopies.{stands-copy}
 use Rattle.mq_recover.proofs.RecoverCuts.{each-stage}
 use Rattle.mq_recover.proofs.RecoverEvents.{ArePorts, after-then, events-ports, stops-more, off-after}
@@ -238,7 +238,7 @@ done g s n queue root plan still planned home raised_is moved_is =
             home-along g n.queue n.root queue root b on.blocks_are up.blocks_are still.one below
             ∙ home.between.homes b below
             ∙ ap (λ (o : Option (List ℕ)). or_else o (v.home b)) (planned.writes.copies b)
-            ∙ sym (stands-copy g v 0 planned.ds b (read-of g v planned.ds top still.one planned.read));
+            ∙ sym (stands-copy g v 0 planned.ds b (prefix-of g v planned.ds top still.one planned.read));
         base = up.base_is;
         head = on.head_is ∙ sym on.doorbell_is;
         doorbell = on.doorbell_is ∙ home.doorbell_is;
