@@ -10,7 +10,7 @@ use Rattle.mq_blocks.specs.Journal.{home_block}
 use Rattle.mq_blocks.specs.declared.geometry.Geometry.{Geometry}
 use Rattle.mq_drive.specs.Start.{IsPortOf}
 use Rattle.mq_drive.specs.declared.role.Role.TheVariants.{Queue}
-use Rattle.mq_plain.specs.Views.{view_of}
+use Rattle.mq_drive.specs.Views.{view_of}
 
 -- each slot of a quiet port is flushed
 pub quiet-flushed : (s : PortState) (k : ℕ) → IsQuiet s → IsFlushed s k

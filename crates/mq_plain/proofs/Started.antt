@@ -5,7 +5,7 @@ use Rattle.mq_blocks.specs.declared.geometry.Geometry.{Geometry}
 use Rattle.mq_drive.specs.Start.{IsImageOf, IsPortOf, start_of}
 use Rattle.mq_drive.specs.declared.role.Role.TheVariants.{Queue, Root}
 use Rattle.mq_drive.proofs.Starts.{port_of-start, quiet-start}
-use Rattle.mq_plain.specs.Views.{IsStill}
+use Rattle.mq_drive.specs.Views.{IsStill}
 
 pub still-start : (g : Geometry) (i j : PortImage) (queue root : PortState) → g.queues ≡ 1 → IsImageOf g (Queue 0) i → IsImageOf g Root j → queue ≡ start_of g (Queue 0) i → root ≡ start_of g Root j → IsStill g queue root
 still-start g i j queue root one queue_image root_image queue_is root_is = record {

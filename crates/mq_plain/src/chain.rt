@@ -4,7 +4,7 @@ ghost use Rattle.mq_blocks.specs.Drive.{depth};
 ghost use Rattle.mq_blocks.specs.Geometry.{area_lba};
 ghost use Rattle.mq_blocks.specs.Journal.{Says, IsChain, AreInReach, Holds, IsCommit, IsQueueChain, number_limit};
 ghost use Rattle.mq_plain.specs.Plain.{AreOf, IsChainFrom};
-ghost use Rattle.mq_plain.specs.Views.{IsStill, view_of};
+ghost use Rattle.mq_drive.specs.Views.{IsStill, view_of};
 
 use crate::ports::{read_area, request_at};
 use mq_area::{Descriptor, DescriptorRefusal, Expect, PlaceIs, read_descriptor};

@@ -2,7 +2,7 @@
 ghost use Rattle.std.specs.Prelude.{◌≡◌, ◌<◌, ◌%◌, IfSome, Some};
 ghost use Rattle.mq_blocks.specs.Drive.{depth};
 ghost use Rattle.mq_blocks.specs.Geometry.{area_of, homes_of};
-ghost use Rattle.mq_plain.specs.Views.{IsStill, view_of};
+ghost use Rattle.mq_drive.specs.Views.{IsStill, view_of};
 
 use mq_blocks::{Block, BlockNo, Geometry, QueueNo};
 use mq_drive::Port;

@@ -4,7 +4,7 @@ ghost use Rattle.mq_blocks.specs.Descriptor.{Descriptor as Text};
 ghost use Rattle.mq_blocks.specs.Geometry.{area_of, homes_of};
 ghost use Rattle.mq_blocks.specs.Journal.{is_among, logged_copy, or_else, stands, number_limit};
 ghost use Rattle.mq_plain.specs.Plain.{row_of, IsOf, AreOf, IsStandingOf};
-ghost use Rattle.mq_plain.specs.Views.{IsStill, view_of};
+ghost use Rattle.mq_drive.specs.Views.{IsStill, view_of};
 
 use crate::chain::{LIMIT, read_chain};
 use crate::lists::{count_prefix, find, is_among, logged_place};

@@ -7,7 +7,10 @@ use Rattle.mq_blocks.specs.Journal.{Says, Shown, IsChain, IsQueueChain, AreWhole
 use Rattle.mq_blocks.specs.declared.geometry.Geometry.{Geometry}
 use Rattle.mq_recover.specs.Recovery.{IsRead}
 use Rattle.mq_recover.specs.Recover.{copy_of, content_of}
+use Rattle.mq_recover.proofs.Images.{falls-under, only-queue, whole-of}
+use Rattle.mq_recover.proofs.Readable.{chain-falls}
 use Rattle.mq_recover.proofs.RecoverCopies.{AreOf, stands-copy}
+use Rattle.mq_recover.proofs.Refusing.{said-once}
 
 -- the same doorbell, entries and area of the one queue
 pub record IsSameLog (g : Geometry) (v i : Shown) : Type 0 where
@@ -62,16 +65,6 @@ queue-along g v i ds same base head chain =
       rung_whole = λ some. let r = chain.rung_whole (omega arith) in (r.0, r.1, entry-along g v i (i.doorbell 0) (v.doorbell 0) same bell ∙ r.2);
     }
 
-only-queue : (g : Geometry) (q : ℕ) → g.queues ≡ 1 → q < g.queues → q ≡ 0
-only-queue g q one below = omega arith
-
-whole-of : (g : Geometry) (i : Shown) (chains : ℕ → List Descriptor) → g.queues ≡ 1 → i.base ≤ number_limit → IsQueueChain g i 0 (chains 0) → AreWhole g i chains
-whole-of g i chains one limit chain = record {
-  limit = limit;
-  each = λ q below. subst (λ (p : ℕ). IsQueueChain g i p (chains p)) (sym (only-queue g q one below)) chain;
-  once = λ q r q_low r_low apart. absurd (apart (only-queue g q one q_low ∙ sym (only-queue g r one r_low)));
-}
-
 pub first-chain : (g : Geometry) (v : Shown) (chains : ℕ → List Descriptor) → g.queues ≡ 1 → AreWhole g v chains → IsQueueChain g v 0 (chains 0)
 first-chain g v chains one whole = whole.each 0 (omega arith)
 
@@ -100,9 +93,9 @@ rung-of g i n one r =
 rung-shows : (g : Geometry) (i : Shown) (chains : ℕ → List Descriptor) (n : ℕ) → g.queues ≡ 1 → IsRungNumber i n → ShowsNumber g i chains n
 rung-shows g i chains n one r = record { where_from = inr (inr (0, r.count, r.says, omega arith, r.from, r.to, r.is, r.number)) }
 
-shows-along : (g : Geometry) (v i : Shown) (chains : ℕ → List Descriptor) (n : ℕ) → g.queues ≡ 1 → v.base ≡ i.base → v.head 0 ≡ i.head 0 → v.doorbell 0 ≡ i.doorbell 0 → ((k : ℕ) → v.entry 0 k ≡ i.entry 0 k)
+shown-along : (g : Geometry) (v i : Shown) (chains : ℕ → List Descriptor) (n : ℕ) → g.queues ≡ 1 → v.base ≡ i.base → v.head 0 ≡ i.head 0 → v.doorbell 0 ≡ i.doorbell 0 → ((k : ℕ) → v.entry 0 k ≡ i.entry 0 k)
     → ShowsNumber g v chains n → ShowsNumber g i chains n
-shows-along g v i chains n one base head bell entry shows = ⊎_elim
+shown-along g v i chains n one base head bell entry shows = ⊎_elim
     (λ is. record { where_from = inl (is ∙ base) })
     (λ more. ⊎_elim
     (λ has. record { where_from = inr (inl has) })
@@ -131,47 +124,27 @@ read-along g v i ds top one same base head read =
       };
       top_is = record {
         whole = whole;
-        shown = shows-along g v i read.chains top one (sym base) (sym head) (sym same.doorbell) (λ k. sym (same.entry k)) read.top_is.shown;
-        greatest = λ n shows. read.top_is.greatest n (shows-along g i v read.chains n one base head same.doorbell same.entry shows);
+        shown = shown-along g v i read.chains top one (sym base) (sym head) (sym same.doorbell) (λ k. sym (same.entry k)) read.top_is.shown;
+        greatest = λ n shows. read.top_is.greatest n (shown-along g i v read.chains n one base head same.doorbell same.entry shows);
       };
     }
 
 -- ---- over the greatest number
 
 -- the newest number of a chain is the base's or below, or it is shown
-newest-shown : (g : Geometry) (v : Shown) (chains : ℕ → List Descriptor) (top number place : ℕ) (ds : List Descriptor) → g.queues ≡ 1 → IsTop g v chains top → chains 0 ≡ ds → IsChain g v 0 number place ds → number ≤ top
-newest-shown g v chains top number place [] one t is chain =
+newest-low : (g : Geometry) (v : Shown) (chains : ℕ → List Descriptor) (top number place : ℕ) (ds : List Descriptor) → g.queues ≡ 1 → IsTop g v chains top → chains 0 ≡ ds → IsChain g v 0 number place ds → number ≤ top
+newest-low g v chains top number place [] one t is chain =
     let base_low = t.greatest v.base (record { where_from = inl refl }) in
     omega arith
-newest-shown g v chains top number place (d ∷ ds) one t is chain =
+newest-low g v chains top number place (d ∷ ds) one t is chain =
     let has : Has (chains 0) d = subst (λ (l : List Descriptor). Has l d) (sym is) (inl refl) in
     t.greatest number (record { where_from = inr (inl (0, d, omega arith, has, chain.1.number_is)) })
-
--- no number of a chain is above its newest
-falls : (g : Geometry) (v : Shown) (number place : ℕ) (ds : List Descriptor) (d : Descriptor) → IsChain g v 0 number place ds → Has ds d → d.number ≤ number
-falls g v number place [] d chain has = absurd has
-falls g v number place (e ∷ es) d chain has =
-    let is = chain.1.number_is in
-    ⊎_elim
-    (λ here. let same : e.number ≡ d.number = ap (λ (x : Descriptor). x.number) here in omega arith)
-    (λ later.
-    let low = falls g v e.prev_number e.prev_place es d chain.2 later in
-    let fall = chain.1.good.falls in
-    omega arith)
-    has
-
-said-same : (o : Option Says) (s t : Says) → o ≡ Some s → o ≡ Some t → s.0 ≡ t.0
-said-same o s t is there = ap number_in (sym is ∙ there)
-  where
-    number_in : Option Says → ℕ
-    number_in (Some x) = x.0
-    number_in None = 0
 
 -- an entry from head to doorbell is within the limit
 rung-low : (g : Geometry) (v : Shown) (ds : List Descriptor) (n : ℕ) → IsQueueChain g v 0 ds → IsRungNumber v n → n ≤ number_limit
 rung-low g v ds n chain r =
     let s = chain.rung r.count r.from r.to in
-    let same : r.says.0 ≡ s.0.0 = said-same (v.entry 0 (r.count % depth)) r.says s.0 r.is s.1 in
+    let same : r.says.0 ≡ s.0.0 = ap (λ (x : Says). x.0) (said-once (v.entry 0 (r.count % depth)) r.says s.0 r.is s.1) in
     let low = s.2 in
     let number = r.number in
     omega arith
@@ -185,7 +158,8 @@ top-low g v ds top one read =
     (λ has.
     let zero_is : has.0 ≡ 0 = only-queue g has.0 one has.2 in
     let there : Has (read.chains 0) has.1 = subst (λ (q : ℕ). Has (read.chains q) has.1) zero_is has.3 in
-    let low = falls g v chain.number chain.place (read.chains 0) has.1 chain.chain there in
+    let falling = chain-falls g v 0 chain.number chain.place (chain.number + 1) (read.chains 0) chain.chain (omega arith) in
+    let low = falls-under v.base (chain.number + 1) (read.chains 0) has.1 falling there in
     let limit = chain.limit in
     let number = has.4 in
     omega arith)
@@ -246,7 +220,7 @@ raised-moved g v i ds chains top one same base head some t chain =
 raised-queue : (g : Geometry) (v i : Shown) (ds : List Descriptor) (top : ℕ) → g.queues ≡ 1 → IsSameLog g v i → i.base ≡ top → (i.head 0 ≡ v.head 0) ⊎ (i.head 0 ≡ v.doorbell 0) → IsRead g v ds top → IsQueueChain g i 0 []
 raised-queue g v i ds top one same base head read =
     let chain = first-chain g v read.chains one read.whole in
-    let low_top = newest-shown g v read.chains top chain.number chain.place (read.chains 0) one read.top_is refl chain.chain in
+    let low_top = newest-low g v read.chains top chain.number chain.place (read.chains 0) one read.top_is refl chain.chain in
     ⊎_elim
     (λ still. raised-still g v i (read.chains 0) top same base still chain low_top)
     (λ moved. ⊎_elim
@@ -256,6 +230,24 @@ raised-queue g v i ds top one same base head read =
     raised-still g v i (read.chains 0) top same base (omega arith) chain low_top)
     (cases_lt (v.head 0) (v.doorbell 0)))
     head
+
+-- no image shows a greater number then
+shown-low : (g : Geometry) (v i : Shown) (ds : List Descriptor) (top n : ℕ) → g.queues ≡ 1 → IsSameLog g v i → i.base ≡ top → (i.head 0 ≡ v.head 0) ⊎ (i.head 0 ≡ v.doorbell 0) → IsRead g v ds top
+    → ShowsNumber g i (λ q. []) n → n ≤ top
+shown-low g v i ds top n one same base head read shows = ⊎_elim
+    (λ is. omega arith)
+    (λ more. ⊎_elim
+    (λ has. absurd has.3)
+    (λ rung.
+    let r = rung-of g i n one rung in
+    let from = r.from in
+    let to = r.to in
+    let bell = same.doorbell in
+    let order = (first-chain g v read.chains one read.whole).order in
+    let low : v.head 0 ≤ r.count = ⊎_elim (λ still. omega arith) (λ moved. omega arith) head in
+    read.top_is.greatest n (rung-shows g v read.chains n one (record { count = r.count; says = r.says; from = low; to = omega arith; is = sym (same.entry (r.count % depth)) ∙ r.is; number = r.number })))
+    more)
+    shows.where_from
 
 -- over the greatest number nothing is left to bring home
 pub read-raised : (g : Geometry) (v i : Shown) (ds : List Descriptor) (top : ℕ) → g.queues ≡ 1 → IsSameLog g v i → i.base ≡ top → (i.head 0 ≡ v.head 0) ⊎ (i.head 0 ≡ v.doorbell 0) → IsRead g v ds top → IsRead g i [] top
@@ -270,35 +262,11 @@ read-raised g v i ds top one same base head read =
       top_is = record {
         whole = whole;
         shown = record { where_from = inl (sym base) };
-        greatest = λ n shows. shown-low g v i ds top n one same base head read none shows;
+        greatest = λ n shows. shown-low g v i ds top n one same base head read shows;
       };
     }
-  where
-    shown-low : (g : Geometry) (v i : Shown) (ds : List Descriptor) (top n : ℕ) → g.queues ≡ 1 → IsSameLog g v i → i.base ≡ top → (i.head 0 ≡ v.head 0) ⊎ (i.head 0 ≡ v.doorbell 0) → IsRead g v ds top
-        → (none : ℕ → List Descriptor) → ShowsNumber g i (λ q. []) n → n ≤ top
-    shown-low g v i ds top n one same base head read none shows = ⊎_elim
-        (λ is. omega arith)
-        (λ more. ⊎_elim
-        (λ has. absurd has.3)
-        (λ rung.
-        let r = rung-of g i n one rung in
-        let from = r.from in
-        let to = r.to in
-        let bell = same.doorbell in
-        let order = (first-chain g v read.chains one read.whole).order in
-        let low : v.head 0 ≤ r.count = ⊎_elim (λ still. omega arith) (λ moved. omega arith) head in
-        read.top_is.greatest n (rung-shows g v read.chains n one (record { count = r.count; says = r.says; from = low; to = omega arith; is = sym (same.entry (r.count % depth)) ∙ r.is; number = r.number })))
-        more)
-        shows.where_from
 
 -- ---- what stands
-
-all-of : (ds : List Descriptor) → ((d : Descriptor) → Has ds d → d.queue ≡ 0) → AreOf 0 ds
-all-of [] of = tt
-all-of (d ∷ ds) of = (of d (inl refl), all-of ds (λ e has. of e (inr has)))
-
-pub prefix-of : (g : Geometry) (v : Shown) (ds : List Descriptor) (top : ℕ) → g.queues ≡ 1 → IsRead g v ds top → AreOf 0 ds
-prefix-of g v ds top one read = all-of ds (λ d has. only-queue g d.queue one (read.prefix.whole d has).0)
 
 content-along : (g : Geometry) (v i : Shown) (o : Option ℕ) (old new : List ℕ) → IsSameLog g v i → (o ≡ None → new ≡ old) → or_else (content_of (i.area 0) g.area o) new ≡ or_else (content_of (v.area 0) g.area o) old
 content-along g v i None old new same kept = kept refl

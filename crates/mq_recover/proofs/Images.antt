@@ -27,7 +27,7 @@ view-seen g queue root base is = record { base_is = sym is; head_is = refl; door
 
 -- ---- what is found is read
 
-falls-under : (low high : ℕ) (ds : List Descriptor) (d : Descriptor) → AreFalling low high ds → Has ds d → d.number < high
+pub falls-under : (low high : ℕ) (ds : List Descriptor) (d : Descriptor) → AreFalling low high ds → Has ds d → d.number < high
 falls-under low high [] d falls has = absurd has
 falls-under low high (e ∷ ds) d falls has = elim has [
   | inl h ↦ let same : e.number ≡ d.number = ap (λ (x : Descriptor). x.number) h in let b = falls.1 in omega (arith, same, b)
@@ -49,14 +49,14 @@ queue-of : (q : ℕ) (ds : List Descriptor) (d : Descriptor) → AreOf q ds → 
 queue-of q [] d of has = absurd has
 queue-of q (e ∷ ds) d of has = elim has [ inl h ↦ ap (λ (x : Descriptor). x.queue) (sym h) ∙ of.0 | inr h ↦ queue-of q ds d of.1 h ]
 
-one-queue : (g : Geometry) (q : ℕ) → g.queues ≡ 1 → q < g.queues → q ≡ 0
-one-queue g q one low = omega (arith, one, low)
+pub only-queue : (g : Geometry) (q : ℕ) → g.queues ≡ 1 → q < g.queues → q ≡ 0
+only-queue g q one low = omega (arith, one, low)
 
-whole-one : (g : Geometry) (i : Shown) (all : List Descriptor) → g.queues ≡ 1 → i.base ≤ number_limit → IsQueueChain g i 0 all → AreWhole g i (λ q. all)
-whole-one g i all one limit c = record {
+pub whole-of : (g : Geometry) (i : Shown) (chains : ℕ → List Descriptor) → g.queues ≡ 1 → i.base ≤ number_limit → IsQueueChain g i 0 (chains 0) → AreWhole g i chains
+whole-of g i chains one limit c = record {
   limit = limit;
-  each = λ q low. subst (λ (n : ℕ). IsQueueChain g i n all) (sym (one-queue g q one low)) c;
-  once = λ q r p s other d e hd he. absurd (other (one-queue g q one p ∙ sym (one-queue g r one s)));
+  each = λ q low. subst (λ (n : ℕ). IsQueueChain g i n (chains n)) (sym (only-queue g q one low)) c;
+  once = λ q r p s other d e hd he. absurd (other (only-queue g q one p ∙ sym (only-queue g r one s)));
 }
 
 newest-shown : (g : Geometry) (i : Shown) (all : List Descriptor) → g.queues ≡ 1 → ShowsNumber g i (λ q. all) (newest_number i.base all)
@@ -88,7 +88,7 @@ top-one g queue root all k one whole falls top =
         | inr y ↦ elim y [
           | inl x ↦ let b = newest-above root.base (2 ^ 64) all x.1 falls x.3 in let same = x.4 in omega (arith, b, same, left)
           | inr x ↦
-              let zero_is = one-queue g x.0 one x.3 in
+              let zero_is = only-queue g x.0 one x.3 in
               let low = subst (λ (q : ℕ). i.head q ≤ x.1) zero_is x.4 in
               let high = subst (λ (q : ℕ). x.1 < i.doorbell q) zero_is x.5 in
               let says_is = subst (λ (q : ℕ). i.entry q (x.1 % depth) ≡ Some x.2) zero_is x.6 in
@@ -104,7 +104,7 @@ image-read : (g : Geometry) (queue root : PortState) (all gone ds : List Descrip
 image-read g queue root all gone ds k one limit readable top all_is row greatest =
     let i = view_of g queue root in
     let c : IsQueueChain g i 0 all = readable-shown g i queue 0 root.base all (view-seen g queue root root.base refl) readable in
-    let whole = whole-one g i all one limit c in
+    let whole = whole-of g i (λ q. all) one limit c in
     let number = c.limit in
     record {
       chains = λ q. all;
@@ -285,8 +285,8 @@ read-same g i ds es top other a b =
     )
 
 -- the descriptors of the prefix of a drive of one queue are that queue's
-pub read-of : (g : Geometry) (i : Shown) (ds : List Descriptor) (top : ℕ) → g.queues ≡ 1 → IsRead g i ds top → AreOf 0 ds
-read-of g i ds top one read = all-of ds (λ d has. one-queue g d.queue one (read.prefix.whole d has).0)
+pub prefix-of : (g : Geometry) (i : Shown) (ds : List Descriptor) (top : ℕ) → g.queues ≡ 1 → IsRead g i ds top → AreOf 0 ds
+prefix-of g i ds top one read = all-of ds (λ d has. only-queue g d.queue one (read.prefix.whole d has).0)
   where
     all-of : (l : List Descriptor) → ((d : Descriptor) → Has l d → d.queue ≡ 0) → AreOf 0 l
     all-of [] each = tt

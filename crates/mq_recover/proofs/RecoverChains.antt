@@ -44,8 +44,8 @@ newest-entry s count e some is r =
 pub request-entry : (s : PortState) (count : ℕ) (e : ChainRefusal) → RefusesEntry s count e → RefusesRequest s count e
 request-entry s count e r = subst (RefusesRequest s count) (sym r.1) (RequestEntry r.0 r.2)
 
--- the entries that were read: each is in order, the last is a commit request or not, and their greatest
--- number is this
+-- these entries were read: each is in order, the last is a commit request or not, and this is their
+-- greatest number
 pub record AreRead (s : PortState) (from to greatest : ℕ) (whole : Bool) : Type 0 where
   pub rung : AreRung s from to
   pub greatest_is : IsGreatest s from to greatest

@@ -268,14 +268,11 @@ head-flushed g s e all top at =
       moving = record {
         homes = same-homes g s e (after_event g e FlushHead) all refl refl refl refl moving.homes;
         base = moving.base;
-        stored_base = e_stored moving;
+        stored_base = moving.stored_base;
         head = moving.stored_head;
         stored_head = moving.stored_head;
       };
     }
-  where
-    e_stored : {g : Geometry} {s e : TwoPorts} {all : Writes} {top : ℕ} → IsMoving g s e all top → e.root.stored_base ≡ top
-    e_stored m = m.stored_base
 
 moving-stage : (g : Geometry) (s e : TwoPorts) (all : Writes) (top : ℕ) → IsAtMoving g s e all top → IsStage g s e all top
 moving-stage g s e all top at = (at.kept, inr (inr at.moving))

@@ -18,7 +18,8 @@ use Rattle.mq_recover.specs.Recovery.{IsRead, StandsAs}
 use Rattle.mq_recover.specs.Recover.{content_of}
 use Rattle.mq_recover.specs.RecoverHomes.{written}
 use Rattle.mq_recover.specs.Steps.{TwoPorts, AreHomeWrites}
-use Rattle.mq_recover.proofs.CutImages.{IsSameLog, read-along, read-raised, prefix-of, stands-along}
+use Rattle.mq_recover.proofs.CutImages.{IsSameLog, read-along, read-raised, stands-along}
+use Rattle.mq_recover.proofs.Images.{prefix-of}
 use Rattle.mq_recover.proofs.RecoverCopies.{stands-copy}
 use Rattle.mq_recover.proofs.RecoverHomes.{image-meta, image-zone, home-meta, home-zone}
 

@@ -1,12 +1,12 @@
 -- A whole recovery, and one that the drive cut short.
-use Rattle.std.proofs.Common.{◌≡◌, ◌≢◌, ◌≤◌, inl, inr, ⊎_elim, ℕ, ◌+◌, Bool, true, false, List, [], ◌∷◌, ◌++◌, length, take, map, Option, IsNone, refl, sym, ◌∙◌, ap, subst, arith, append_assoc}
+use Rattle.std.proofs.Common.{◌≡◌, ◌≢◌, ◌<◌, ◌≤◌, inl, inr, ⊎_elim, ℕ, ◌+◌, Bool, true, false, List, [], ◌∷◌, ◌++◌, length, take, map, Option, IsNone, refl, sym, ◌∙◌, ap, subst, arith, append_assoc}
 use Rattle.std.proofs.lemmas.Bool.{ne_eqb}
 use Rattle.std.proofs.lemmas.List.{take_all}
 use Rattle.std.specs.Prelude.{nat_eq, if◌then◌else◌, Result, Ok, Err}
 use Rattle.mq_blocks.specs.Descriptor.{Descriptor, AreRising}
 use Rattle.mq_blocks.specs.Drive.{PortState, IsImage, IsQuiet, image_of, after_flush, after_store_base, after_store_head}
 use Rattle.mq_blocks.specs.Geometry.{homes_of}
-use Rattle.mq_blocks.specs.Journal.{or_else}
+use Rattle.mq_blocks.specs.Journal.{or_else, stands}
 use Rattle.mq_blocks.specs.Machine.{Writes}
 use Rattle.mq_blocks.specs.declared.geometry.Geometry.{Geometry}
 use Rattle.mq_drive.specs.Start.{IsPortOf}
@@ -19,7 +19,8 @@ use Rattle.mq_recover.specs.Steps.{Event, StoreBase, FlushBase, StoreHead, Flush
 use Rattle.mq_recover.specs.declared.plan.Plan.{Plan}
 use Rattle.mq_recover.specs.declared.refusal.RecoverRefusal.{RecoverRefusal}
 use Rattle.mq_recover.specs.declared.refusal.RecoverRefusal.TheVariants.{Image, Off, Failed}
-use Rattle.mq_recover.proofs.CutImages.{IsSameLog, first-chain, prefix-of, read-raised}
+use Rattle.mq_recover.proofs.CutImages.{IsSameLog, first-chain, read-raised}
+use Rattle.mq_recover.proofs.Images.{prefix-of, read-same}
 use Rattle.mq_recover.proofs.RecoverCopies.{stands-copy}
 use Rattle.mq_recover.proofs.RecoverCuts.{each-stage}
 use Rattle.mq_recover.proofs.RecoverEvents.{ArePorts, after-then, events-ports, stops-more, off-after}
@@ -260,3 +261,15 @@ on-drive (Ok x) e P is holds = tt
 on-drive (Err (Image fault)) e P is holds = tt
 on-drive (Err Off) e P is holds = subst P (sym (ap (refusal_in Off) is)) holds
 on-drive (Err (Failed block status)) e P is holds = subst P (sym (ap (refusal_in Off) is)) holds
+
+-- ---- begun again
+
+-- What a cut recovery left, recovered later: the same stands at home, over the same base.
+pub again-same : (g : Geometry) (e : RecoverRefusal) (old new later : TwoPorts) (queue root : PortState) (found base : ℕ) → (cut : IsCutShort g e old new) → IsImage new.queue (image_of queue) → IsImage new.root (image_of root)
+    → IsDone g (two queue root) found base later → (base ≡ cut.top) × ((b : ℕ) → b < homes_of g → (view_of g later.queue later.root).home b ≡ stands g (view_of g old.queue old.root) cut.ds b)
+again-same g e old new later queue root found base cut queue_image root_image whole =
+    let left = cut.stands (image_of queue) (image_of root) queue_image root_image in
+    let same = read-same g (view_of g queue root) whole.ds left.0 base cut.top whole.read left.1 in (
+      same.1,
+      λ b below. whole.recovered.homes b below ∙ ap (λ (l : List Descriptor). stands g (view_of g queue root) l b) same.0 ∙ left.3 b below,
+    )

@@ -9,7 +9,7 @@ use Rattle.mq_drive.specs.Views.{view_of, IsStill}
 use Rattle.mq_recover.specs.Standing.{newest_of, StandsIn}
 use Rattle.mq_recover.specs.declared.plan.Found.{Found}
 use Rattle.mq_recover.specs.declared.standing.Standing.{Standing}
-use Rattle.mq_recover.proofs.Images.{read-of}
+use Rattle.mq_recover.proofs.Images.{prefix-of}
 use Rattle.mq_recover.proofs.RecoverCopies.{stands-copy}
 
 -- what was read is what stands
@@ -25,7 +25,7 @@ standing-of g queue root found s still are whole blocks_are prefix_is base_is to
     blocks_are = λ b below.
         blocks_are b below
         ∙ ap (λ (o : Option ℕ). newest_of g queue root o b) (are.places_are b)
-        ∙ sym (stands-copy g (view_of g queue root) 0 are.ds b (read-of g (view_of g queue root) are.ds found.recovered.base still.one are.read));
+        ∙ sym (stands-copy g (view_of g queue root) 0 are.ds b (prefix-of g (view_of g queue root) are.ds found.recovered.base still.one are.read));
     prefix_is = prefix_is ∙ are.prefix_is;
     base_is = base_is;
     top_is = top_is;

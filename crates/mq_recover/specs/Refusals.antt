@@ -46,6 +46,7 @@ pub record IsNewest (s : PortState) (number lba : ℕ) : Type 0 where
   pub some : 0 < s.head → says (entry_at s (s.head - 1)) ≡ Some (number, lba, true)
   pub limit : number ≤ number_limit
 
+-- the first cause for which there is none
 pub data RefusesNewest (s : PortState) : ChainRefusal → Type 0 where
   NewestEntry : (cause : EntryRefusal) → 0 < s.head → refusal_of (entry_at s (s.head - 1)) ≡ Some cause → RefusesNewest s (Entry cause)
   NewestCommit : (number lba : ℕ) → 0 < s.head → says (entry_at s (s.head - 1)) ≡ Some (number, lba, false) → RefusesNewest s Commit
@@ -95,7 +96,7 @@ abbrev pub IsWholeChain : (g : Geometry) (s : PortState) (q base number lba : �
 IsWholeChain g s q base number lba ds =
     ((number ≤ base) × (ds ≡ []))
     ⊎ ((base < number) × (index : ℕ) × IsIndex g q lba index × (next : ℕ) × (at : PlaceIs) × (newest : Option ℕ)
-        × AreFound g s q base number (Index index) None ds next at newest × (next ≤ base))
+    × AreFound g s q base number (Index index) None ds next at newest × (next ≤ base))
 
 -- ---- the entries from head to doorbell
 
@@ -115,6 +116,8 @@ pub data RefusesRequest (s : PortState) (count : ℕ) : ChainRefusal → Type 0 
   RequestEntry : (cause : EntryRefusal) → refusal_of (entry_at s count) ≡ Some cause → RefusesRequest s count (Entry cause)
   RequestLimit : (number lba : ℕ) (commit : Bool) → says (entry_at s count) ≡ Some (number, lba, commit) → number_limit < number → RefusesRequest s count (Limit number)
 
+-- the first cause for which the entries from head to doorbell are not readable: one of them, by
+-- rising count, and then that the last is no commit request
 pub data RefusesRung (s : PortState) : ChainRefusal → Type 0 where
   RungStopped : {cause : ChainRefusal} (count : ℕ) → s.head ≤ count → count < s.doorbell → AreRung s s.head count → RefusesRequest s count cause → RefusesRung s cause
   RungCommit : (number lba : ℕ) → s.head < s.doorbell → AreRung s s.head s.doorbell → says (entry_at s (s.doorbell - 1)) ≡ Some (number, lba, false) → RefusesRung s Commit

@@ -9,9 +9,9 @@ ghost use Rattle.mq_drive.specs.Views.{view_of, IsStill};
 ghost use Rattle.mq_recover.specs.Refusals.{RefusesImage};
 ghost use Rattle.mq_recover.specs.Standing.{newest_of, StandsIn};
 
-use crate::refusal::ImageFault;
 use crate::chain::read_area;
 use crate::plan::find_copies;
+use crate::refusal::ImageFault;
 use mq_blocks::{Block, BlockNo, Geometry, OutOfMemory, QueueNo, TxNo};
 use mq_drive::{Port, Ports};
 use std::alloc::Global;

@@ -1,7 +1,7 @@
 use Rattle.std.proofs.Common.{◌≤◌, [], subst, arith}
 use Rattle.std.proofs.lemmas.List.{append-nil}
 use Rattle.mq_blocks.specs.Journal.{IsChain}
-use Rattle.mq_plain.specs.Views.{view_of}
+use Rattle.mq_drive.specs.Views.{view_of}
 use Rattle.mq_plain.proofs.Homes.{base-of}
 use Rattle.mq_plain.proofs.chain.follow.Goals as goal
 

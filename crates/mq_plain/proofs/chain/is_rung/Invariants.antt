@@ -1,7 +1,7 @@
 use Rattle.std.proofs.Common.{◌≡◌, ◌<◌, ◌≤◌, ◌%◌, ℕ, Some}
 use Rattle.mq_blocks.specs.Drive.{depth}
 use Rattle.mq_blocks.specs.Journal.{Says, number_limit}
-use Rattle.mq_plain.specs.Views.{view_of}
+use Rattle.mq_drive.specs.Views.{view_of}
 use Rattle.mq_plain.proofs.chain.is_rung.Given as goal
 
 -- the entries so far are requests

@@ -1,7 +1,7 @@
 use Rattle.std.proofs.Common.{◌≡◌, ◌<◌, ◌-◌, [], sym, ◌∙◌, subst, arith}
 use Rattle.mq_blocks.specs.Drive.{PortState}
 use Rattle.mq_blocks.specs.Journal.{Shown, IsQueueChain, IsCommit}
-use Rattle.mq_plain.specs.Views.{view_of}
+use Rattle.mq_drive.specs.Views.{view_of}
 use Rattle.mq_plain.proofs.Homes.{head-of}
 use Rattle.mq_plain.proofs.Rows.{IsRung, rung-at, none-from, queue-chain, ok-map}
 use Rattle.mq_plain.proofs.chain.read_chain.Goals as goal

@@ -1,6 +1,6 @@
 use Rattle.std.proofs.Common.{sym, subst}
 use Rattle.mq_plain.specs.Plain.{AreOf}
-use Rattle.mq_plain.specs.Views.{view_of}
+use Rattle.mq_drive.specs.Views.{view_of}
 use Rattle.mq_plain.proofs.Rows.{chain-of}
 use Rattle.mq_plain.proofs.chain.read_from_place.Goals as goal
 

@@ -5,7 +5,7 @@ use Rattle.std.specs.Option.{option_copied}
 use Rattle.mq_blocks.specs.Descriptor.{Descriptor}
 use Rattle.mq_blocks.specs.Journal.{logged_copy, or_else, is_among, stands}
 use Rattle.mq_plain.specs.Plain.{found, row_of}
-use Rattle.mq_plain.specs.Views.{view_of}
+use Rattle.mq_drive.specs.Views.{view_of}
 use Rattle.mq_plain.proofs.Homes.{base-of}
 use Rattle.mq_plain.proofs.Looking.{found-has}
 use Rattle.mq_plain.proofs.Rows.{stands-some, stands-none}

@@ -1,7 +1,7 @@
 use Rattle.std.proofs.Common.{◌≡◌}
 use Rattle.mq_blocks.specs.Journal.{stands}
 use Rattle.mq_plain.specs.Plain.{row_of}
-use Rattle.mq_plain.specs.Views.{view_of}
+use Rattle.mq_drive.specs.Views.{view_of}
 use Rattle.mq_plain.proofs.standing.block_after.Given as goal
 
 -- the block is that after the transactions so far

@@ -1,7 +1,7 @@
 use Rattle.std.proofs.Common.{◌≡◌, ◌<◌, ℕ, [], length, get_or}
 use Rattle.mq_blocks.specs.Journal.{stands}
 use Rattle.mq_plain.specs.Plain.{row_of}
-use Rattle.mq_plain.specs.Views.{view_of}
+use Rattle.mq_drive.specs.Views.{view_of}
 use Rattle.mq_plain.proofs.standing.blocks_after.Given as goal
 
 -- the blocks so far are the first ones

@@ -3,7 +3,7 @@ use Rattle.mq_blocks.specs.Descriptor.{Descriptor}
 use Rattle.mq_blocks.specs.Drive.{PortState}
 use Rattle.mq_blocks.specs.Journal.{Shown, IsQueueChain, stands, number_limit}
 use Rattle.mq_plain.specs.Plain.{AreOf, row_of}
-use Rattle.mq_plain.specs.Views.{view_of}
+use Rattle.mq_drive.specs.Views.{view_of}
 use Rattle.mq_plain.proofs.Homes.{base-of}
 use Rattle.mq_plain.proofs.Rows.{IsCounted, chain-of, counted-at, reaches-of, row-of}
 use Rattle.mq_plain.proofs.standing.plain_standing.Goals as goal

@@ -2,7 +2,7 @@ use Rattle.std.proofs.Common.{◌≡◌, ◌-◌, ℕ, List, length, Option, Som
 use Rattle.mq_blocks.specs.Descriptor.{Descriptor}
 use Rattle.mq_blocks.specs.Journal.{or_else}
 use Rattle.mq_plain.specs.Plain.{logged_place}
-use Rattle.mq_plain.specs.Views.{view_of}
+use Rattle.mq_drive.specs.Views.{view_of}
 use Rattle.mq_plain.proofs.Looking.{copy-some, copy-none}
 use Rattle.mq_plain.proofs.standing.take_copy.Goals as goal
 
