@@ -1,6 +1,5 @@
 mod Programs
 mod Restarts
-pub mod Counts
 pub mod CutTexts
 pub mod Cutting
 pub mod Drives

@@ -236,3 +236,54 @@ fn a_text_that_passes_the_area(rt: HostRuntime) -> Result<(), AllocError> {
     assert!(rt; refuses(alloc, &text, b"blocks line 5: Area\n")?);
     Ok(())
 }
+
+// What is printed of a text of two lines that is cut after so many events, with this pick.
+fn cut_after(alloc: Global, cut: u32, pick: u32) -> Result<Vec<u8>, AllocError> {
+    let cut = format!(in alloc; "{cut}")?;
+    let pick = format!(in alloc; "{pick}")?;
+    let words = words_of(alloc, &["blocks", "t", "--cut", &cut, "--pick", &pick])?;
+    let mut files = file_t(alloc, b"5=ab 7=01\n-7 9=ff\n", &[])?;
+    let mut out = MemSink::new(alloc, Vec::new(alloc));
+    if mqfs(alloc, &words, &mut files, &mut out) != 0 {
+        return Ok(Vec::new(alloc));
+    }
+    Vec::from_slice(alloc, out.written())
+}
+
+// The first line takes 10 events and the second 8. After the store of a head, either value may stand.
+#[test]
+fn a_cut_at_each_event(rt: HostRuntime) -> Result<(), AllocError> {
+    let alloc = rt.alloc();
+    let none = b"prefix 0\n".as_slice();
+    let one = b"prefix 1\n5 ab\n7 01\n".as_slice();
+    let two = b"prefix 2\n5 ab\n9 ff\n".as_slice();
+    for cut in 0..21_u32 {
+        for pick in 0..8_u32 {
+            let output = cut_after(alloc, cut, pick)?;
+            let right = match cut {
+                0..=8 => output.as_slice() == none,
+                9 => output.as_slice() == none || output.as_slice() == one,
+                10..=16 => output.as_slice() == one,
+                17 => output.as_slice() == one || output.as_slice() == two,
+                _ => output.as_slice() == two,
+            };
+            assert!(rt; right, "cut {cut} pick {pick}");
+        }
+    }
+    Ok(())
+}
+
+// The picks reach both values of a head that was stored and not flushed.
+#[test]
+fn a_stored_head_stands_or_not(rt: HostRuntime) -> Result<(), AllocError> {
+    let alloc = rt.alloc();
+    let mut stood: u32 = 0;
+    for pick in 0..8_u32 {
+        let output = cut_after(alloc, 9, pick)?;
+        if output.as_slice() == b"prefix 1\n5 ab\n7 01\n".as_slice() {
+            stood = stood.saturating_add(1);
+        }
+    }
+    assert!(rt; 0 < stood && stood < 8);
+    Ok(())
+}

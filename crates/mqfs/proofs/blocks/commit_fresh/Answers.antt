@@ -46,7 +46,7 @@ returns-clause-shows c =
     let bounds = c.commit_text-ports.ensures.bounds p q was got in
     let cut = rw c.in-Err.is at c.commit_text-ports.ensures.cut in
     let left = cut p q was got in
-    let gains = off_cause c.commit_text-ports.result.1 c.in-Err.refusal (emu_faults p) (emu_faults q) (c.commit_text-ports.ensures.cause p q was got) c.in-Err.is c.in_ok-check_power.ensures in
+    let gains = off_cause c.commit_text-ports.result.1 c.in-Err.refusal (emu_faults p) (emu_faults q) (c.commit_text-ports.ensures.cause p q was got) c.in-Err.is c.in_ok-check_power-in-Err.ensures in
     let shows = left.2 c.cut-in-Err.result c.cut-in-Err-2.result c.cut-in-Err.ensures.image c.cut-in-Err-2.ensures.image in
     (shows.0,
     reached_stand c.args.text.now c.args.cut (emu_faults p) q left.0 shows.0 c.requires.cut (bounds.limit ∙ fresh.limit_is) (bounds.begins ∙ fresh.begins) (left.1 ∙ ap (λ n. counted n left.0) fresh.events) gains shows.1,
