@@ -1,11 +1,13 @@
 // Generated texts, cut at each of their events: what is printed is what a plain program makes of the
 // text.
 use super::*;
+use crate::text::BlockLine;
 use rand_core::SeedableRng;
 use rand_core::utils::NextWord;
 use rand_pcg::Lcg128Xsl64;
 use std::alloc::AllocError;
-use std::test::Fail;
+use std::ops::Range;
+use std::process::Abort;
 
 // Blocks of the metadata region and of the zone.
 const POOL: [u32; 6] = [0, 3, 15, 16, 200, 255];
@@ -30,7 +32,8 @@ fn some_line(
     if space.is_empty() {
         text.extend_from_slice(b"7=07")?;
     }
-    text.push(b'\n')
+    text.push(b'\n')?;
+    Ok(())
 }
 
 // The text of a seed, of one to three lines.
@@ -103,12 +106,11 @@ fn is_right(
     Ok(output == output_after(alloc, text, lines)?.as_slice())
 }
 
-#[test]
-fn each_cut_leaves_the_first_lines(rt: HostRuntime) -> Result<(), Fail> {
-    let alloc = rt.alloc();
-    for seed in 0..100 {
+// Whether each text of these seeds, cut at each of its events and at none, leaves what it must.
+fn are_right(rt: &impl Abort, alloc: Global, seeds: Range<u64>) -> Result<bool, AllocError> {
+    for seed in seeds {
         let bytes = some_text(alloc, seed)?;
-        let text = read_block_text(alloc, &bytes).expect(&rt, "the text is good");
+        let text = read_block_text(alloc, &bytes).expect(rt, "the text is good");
         let mut all: u64 = 0;
         for line in text.0.iter() {
             all = all.saturating_add(line_events(line));
@@ -116,14 +118,51 @@ fn each_cut_leaves_the_first_lines(rt: HostRuntime) -> Result<(), Fail> {
         for events in 0..all.saturating_add(2) {
             for pick in 0..3 {
                 let output = blocks_output(alloc, &bytes, Some(events), pick)
-                    .expect(&rt, "the text is good");
-                let right = is_right(alloc, &text, events, &output)?;
-                assert!(rt; right, "text {seed} cut after {events} with pick {pick}");
+                    .expect(rt, "the text is good");
+                if !is_right(alloc, &text, events, &output)? {
+                    return Ok(false);
+                }
             }
         }
-        let output = blocks_output(alloc, &bytes, None, 0).expect(&rt, "the text is good");
-        let right = is_right(alloc, &text, all, &output)?;
-        assert!(rt; right, "text {seed}");
+        let output = blocks_output(alloc, &bytes, None, 0).expect(rt, "the text is good");
+        if !is_right(alloc, &text, all, &output)? {
+            return Ok(false);
+        }
     }
+    Ok(true)
+}
+
+#[test]
+fn each_cut_leaves_the_first_lines(rt: HostRuntime) -> Result<(), AllocError> {
+    let right = are_right(&rt, rt.alloc(), 0..20)?;
+    assert!(rt; right);
+    Ok(())
+}
+
+#[test]
+fn each_cut_of_more_texts(rt: HostRuntime) -> Result<(), AllocError> {
+    let right = are_right(&rt, rt.alloc(), 20..40)?;
+    assert!(rt; right);
+    Ok(())
+}
+
+#[test]
+fn each_cut_of_a_third_lot(rt: HostRuntime) -> Result<(), AllocError> {
+    let right = are_right(&rt, rt.alloc(), 40..60)?;
+    assert!(rt; right);
+    Ok(())
+}
+
+#[test]
+fn each_cut_of_a_fourth_lot(rt: HostRuntime) -> Result<(), AllocError> {
+    let right = are_right(&rt, rt.alloc(), 60..80)?;
+    assert!(rt; right);
+    Ok(())
+}
+
+#[test]
+fn each_cut_of_a_fifth_lot(rt: HostRuntime) -> Result<(), AllocError> {
+    let right = are_right(&rt, rt.alloc(), 80..100)?;
+    assert!(rt; right);
     Ok(())
 }
