@@ -121,8 +121,16 @@ fn standing(
         slots: Vec::new(alloc),
         blocks: stored_blocks(alloc, 16, Vec::new(alloc))?,
     };
-    let queue = EmuPort::new(alloc, geometry, Role::Queue(QueueNo(0)), queue)?;
-    let root = EmuPort::new(alloc, geometry, Role::Root, root)?;
+    let queue = EmuPort::new(
+        alloc,
+        geometry,
+        Role::Queue(QueueNo(0)),
+        queue,
+        None,
+        None,
+        0,
+    )?;
+    let root = EmuPort::new(alloc, geometry, Role::Root, root, None, None, 0)?;
     plain_standing(alloc, geometry, &queue, &root)
 }
 
