@@ -28,14 +28,14 @@ full (suc k) = ap (λ (n : ℕ). counted n k) (let e : min (2 ^ 64 - 1 + 1) (2 ^
 counted-small : (n k m : ℕ) → n ≤ 2 ^ 64 - 1 → counted n k ≡ m → m < 2 ^ 64 - 1 → n + k ≡ m
 counted-small n zero m low is small = omega (arith, is)
 counted-small n (suc k) m low is small = elim (cases_lt n (2 ^ 64 - 1)) [
-    inl below ↦
-    let e : min (n + 1) (2 ^ 64 - 1) ≡ n + 1 = omega (arith, below) in
-    let next = counted-small (n + 1) k m (omega (arith, below)) (ap (λ (x : ℕ). counted x k) (sym e) ∙ is) small in
-    omega (arith, next)
-    | inr end ↦
-    let e : min (n + 1) (2 ^ 64 - 1) ≡ 2 ^ 64 - 1 = omega (arith, end) in
-    let still : m ≡ 2 ^ 64 - 1 = sym is ∙ ap (λ (x : ℕ). counted x k) e ∙ full k in
-    absurd (omega (arith, still, small))
+  | inl below ↦
+      let e : min (n + 1) (2 ^ 64 - 1) ≡ n + 1 = omega (arith, below) in
+      let next = counted-small (n + 1) k m (omega (arith, below)) (ap (λ (x : ℕ). counted x k) (sym e) ∙ is) small in
+      omega (arith, next)
+  | inr end ↦
+      let e : min (n + 1) (2 ^ 64 - 1) ≡ 2 ^ 64 - 1 = omega (arith, end) in
+      let still : m ≡ 2 ^ 64 - 1 = sym is ∙ ap (λ (x : ℕ). counted x k) e ∙ full k in
+      absurd (omega (arith, still, small))
 ]
 
 -- so many events happened on a port where no home write began

@@ -82,8 +82,8 @@ recovered_map g queue root new_queue new_root n m prefix base size shows done =
     let same = reaches-same g (view_of g queue root) done.ds shows.ds (read-reaches g (view_of g queue root) done.ds base done.read) shows.reaches in (
       done.prefix_is ∙ ap length same ∙ shows.prefix_is,
       λ b v less some.
-      let below : b < homes_of g = omega (arith, size, less) in
-      done.recovered.homes b below ∙ ap (λ (l : List Descriptor). stands g (view_of g queue root) l b) same ∙ shows.blocks b v below some,
+          let below : b < homes_of g = omega (arith, size, less) in
+          done.recovered.homes b below ∙ ap (λ (l : List Descriptor). stands g (view_of g queue root) l b) same ∙ shows.blocks b v below some,
     )
 
 -- ---- refusals that can't come

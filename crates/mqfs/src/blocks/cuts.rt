@@ -117,8 +117,10 @@ fn are_right(rt: &impl Abort, alloc: Global, seeds: Range<u64>) -> Result<bool, 
         }
         for events in 0..all.saturating_add(2) {
             for pick in 0..3 {
-                let output = blocks_output(alloc, &bytes, Some(events), pick)
-                    .expect(rt, "the text is good");
+                let output = blocks_output(alloc, &bytes, Some(events), pick).expect(
+                    rt,
+                    "the text is good",
+                );
                 if !is_right(alloc, &text, events, &output)? {
                     return Ok(false);
                 }

@@ -22,11 +22,12 @@ returns-in-Ok-clause-shows c =
     let fresh = c.in_ok-fresh_port.ensures.fresh in
     let bounds = c.commit_text-ports.ensures.bounds c.in_ok-fresh_port.field-0 q was got in
     let shows = rw c.in-Ok.is at c.commit_text-ports.ensures.ok in
-    let counts = rw c.in-Ok.is at c.commit_text-ports.ensures.events in
-    (length c.args.text.now,
-    all_stand c.args.text.now c.args.cut q c.requires.cut (bounds.limit ∙ fresh.limit_is) (bounds.begins ∙ fresh.begins)
-    (counts c.in_ok-fresh_port.field-0 q was got ∙ ap (λ n. counted n (events_of c.args.text.now (length c.args.text.now))) fresh.events),
-    shows q got c.cut.result c.cut-in-Ok.result c.cut.ensures.image c.cut-in-Ok.ensures.image)
+    let counts = rw c.in-Ok.is at c.commit_text-ports.ensures.events in (
+      length c.args.text.now,
+      all_stand c.args.text.now c.args.cut q c.requires.cut (bounds.limit ∙ fresh.limit_is) (bounds.begins ∙ fresh.begins)
+          (counts c.in_ok-fresh_port.field-0 q was got ∙ ap (λ n. counted n (events_of c.args.text.now (length c.args.text.now))) fresh.events),
+      shows q got c.cut.result c.cut-in-Ok.result c.cut.ensures.image c.cut-in-Ok.ensures.image,
+    )
 
 pub returns-in-Ok-clause-queue : goal.returns-in-Ok-clause-queue
 returns-in-Ok-clause-queue c =
@@ -47,10 +48,11 @@ returns-clause-shows c =
     let cut = rw c.in-Err.is at c.commit_text-ports.ensures.cut in
     let left = cut p q was got in
     let gains = off_cause c.commit_text-ports.result.1 c.in-Err.refusal (emu_faults p) (emu_faults q) (c.commit_text-ports.ensures.cause p q was got) c.in-Err.is c.in_ok-check_power-in-Err.ensures in
-    let shows = left.2 c.cut-in-Err.result c.cut-in-Err-2.result c.cut-in-Err.ensures.image c.cut-in-Err-2.ensures.image in
-    (shows.0,
-    reached_stand c.args.text.now c.args.cut (emu_faults p) q left.0 shows.0 c.requires.cut (bounds.limit ∙ fresh.limit_is) (bounds.begins ∙ fresh.begins) (left.1 ∙ ap (λ n. counted n left.0) fresh.events) gains shows.1,
-    shows.2)
+    let shows = left.2 c.cut-in-Err.result c.cut-in-Err-2.result c.cut-in-Err.ensures.image c.cut-in-Err-2.ensures.image in (
+      shows.0,
+      reached_stand c.args.text.now c.args.cut (emu_faults p) q left.0 shows.0 c.requires.cut (bounds.limit ∙ fresh.limit_is) (bounds.begins ∙ fresh.begins) (left.1 ∙ ap (λ n. counted n left.0) fresh.events) gains shows.1,
+      shows.2,
+    )
 
 pub returns-clause-queue : goal.returns-clause-queue
 returns-clause-queue c =
