@@ -30,6 +30,8 @@ use mq_recover::{ImageFault, RecoverRefusal, recover};
 use std::alloc::Global;
 
 #[cfg(test)]
+mod compared;
+#[cfg(test)]
 mod cuts;
 #[cfg(test)]
 mod tests;

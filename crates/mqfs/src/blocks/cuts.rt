@@ -37,7 +37,7 @@ fn some_line(
 }
 
 // The text of a seed, of one to three lines.
-fn some_text(alloc: Global, seed: u64) -> Result<Vec<u8>, AllocError> {
+pub fn some_text(alloc: Global, seed: u64) -> Result<Vec<u8>, AllocError> {
     let mut generator = Lcg128Xsl64::seed_from_u64(seed);
     let mut text = Vec::new(alloc);
     let lines = generator.next_word() % 3;
@@ -55,6 +55,15 @@ fn line_events(line: &BlockLine) -> u64 {
         .filter(|item| matches!(item, BlockItem::Set(_, _)))
         .count();
     2 * sets as u64 + 6
+}
+
+// The events of all lines of a text.
+pub fn all_events(text: &BlockText) -> u64 {
+    let mut all: u64 = 0;
+    for line in text.0.iter() {
+        all = all.saturating_add(line_events(line));
+    }
+    all
 }
 
 // What is printed where so many lines stand.
@@ -111,11 +120,8 @@ fn are_right(rt: &impl Abort, alloc: Global, seeds: Range<u64>) -> Result<bool, 
     for seed in seeds {
         let bytes = some_text(alloc, seed)?;
         let text = read_block_text(alloc, &bytes).expect(rt, "the text is good");
-        let mut all: u64 = 0;
-        for line in text.0.iter() {
-            all = all.saturating_add(line_events(line));
-        }
-        for events in 0..all.saturating_add(2) {
+        let all = all_events(&text);
+        for events in 0..all.saturating_add(2).min(1000) {
             for pick in 0..3 {
                 let output = blocks_output(alloc, &bytes, Some(events), pick).expect(
                     rt,
