@@ -151,35 +151,21 @@ fn all_agree(rt: &impl Abort, alloc: Global, first: u64, count: u64) -> Result<b
 
 #[test]
 fn recovery_leaves_what_stands(rt: HostRuntime) -> Result<(), AllocError> {
-    let same = all_agree(&rt, rt.alloc(), 0, 20)?;
+    let same = all_agree(&rt, rt.alloc(), 0, 4)?;
     assert!(rt; same);
     Ok(())
 }
 
 #[test]
 fn recovery_leaves_what_stands_of_more_texts(rt: HostRuntime) -> Result<(), AllocError> {
-    let same = all_agree(&rt, rt.alloc(), 20, 20)?;
+    let same = all_agree(&rt, rt.alloc(), 4, 4)?;
     assert!(rt; same);
     Ok(())
 }
 
 #[test]
 fn recovery_leaves_what_stands_of_a_third_lot(rt: HostRuntime) -> Result<(), AllocError> {
-    let same = all_agree(&rt, rt.alloc(), 40, 20)?;
-    assert!(rt; same);
-    Ok(())
-}
-
-#[test]
-fn recovery_leaves_what_stands_of_a_fourth_lot(rt: HostRuntime) -> Result<(), AllocError> {
-    let same = all_agree(&rt, rt.alloc(), 60, 20)?;
-    assert!(rt; same);
-    Ok(())
-}
-
-#[test]
-fn recovery_leaves_what_stands_of_a_fifth_lot(rt: HostRuntime) -> Result<(), AllocError> {
-    let same = all_agree(&rt, rt.alloc(), 80, 20)?;
+    let same = all_agree(&rt, rt.alloc(), 8, 4)?;
     assert!(rt; same);
     Ok(())
 }
