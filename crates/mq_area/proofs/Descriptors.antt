@@ -7,14 +7,15 @@ use Rattle.byteorder.specs.Numbers.{little_number-reads_back}
 use Rattle.mq_blocks.specs.Descriptor.{Descriptor, IsGood, AreRising, AreApart, list_bytes, header_bytes, descriptor_bytes, magic}
 use Rattle.mq_blocks.specs.Geometry.{homes_of, area_of}
 use Rattle.mq_blocks.specs.declared.geometry.Geometry.{Geometry}
-use Rattle.mq_area.specs.Windows.{number_at, numbers}
+use Rattle.mq_blocks.specs.Windows.{number_at, numbers}
 use Rattle.mq_area.specs.Reading.{Accepts, header_of, logged_of, revoked_of, end_of, GoodCounts, RefusesHeader, RefusesList, RefusesRest, IsZero}
 use Rattle.mq_area.specs.declared.descriptor.Expect.{Expect}
 use Rattle.mq_area.specs.declared.header.Header.{Header}
 use Rattle.mq_area.specs.declared.refusal.DescriptorRefusal.{DescriptorRefusal}
 use Rattle.mq_area.specs.declared.refusal.DescriptorRefusal.TheVariants.{Magic, Version, Queue, Number, Place, Previous, Counts, List as Listed, Rest, OutOfMemory}
-use Rattle.mq_area.proofs.Numbers.{numbers-list_bytes}
-use Rattle.mq_area.proofs.Written.{length-list_bytes, length-header_bytes}
+use Rattle.mq_blocks.proofs.Readings.{numbers-list_bytes}
+use Rattle.mq_area.proofs.Written.{length-header_bytes}
+use Rattle.mq_blocks.proofs.Written.{length-list_bytes}
 
 pub length-descriptor_bytes : (homes : ℕ) (d : Descriptor) → IsGood homes d → length (descriptor_bytes d) ≡ 4096
 unfolding descriptor_bytes

@@ -1,6 +1,5 @@
 pub mod Descriptors
 pub mod Exact
-pub mod Numbers
 pub mod Rising
 pub mod Sound
 pub mod Written

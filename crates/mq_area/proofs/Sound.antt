@@ -6,12 +6,12 @@ use Rattle.byteorder.specs.Endian.{little_number}
 use Rattle.mq_blocks.specs.Descriptor.{Descriptor, AreRising, list_bytes, header_bytes, descriptor_bytes, magic}
 use Rattle.mq_blocks.specs.Geometry.{homes_of, area_of}
 use Rattle.mq_blocks.specs.declared.geometry.Geometry.{Geometry}
-use Rattle.mq_area.specs.Windows.{window, number_at, numbers}
+use Rattle.mq_blocks.specs.Windows.{window, number_at, numbers}
 use Rattle.mq_area.specs.Reading.{Accepts, header_of, logged_of, revoked_of, end_of, GoodCounts, GoodLists, GoodRevoked, IsZero}
 use Rattle.mq_area.specs.declared.descriptor.Expect.{Expect}
 use Rattle.mq_area.specs.declared.header.Header.{Header}
 use Rattle.mq_area.proofs.Descriptors.{parsed, descriptor_bytes-unique, accepted-homes}
-use Rattle.mq_area.proofs.Numbers.{window-add, bytes-number_at_4, bytes-number_at_8, number_at-below, length-numbers, list_bytes-numbers}
+use Rattle.mq_blocks.proofs.Readings.{window-add, bytes-number_at_4, bytes-number_at_8, number_at-below, length-numbers, list_bytes-numbers}
 
 -- the bytes at the start of a block, and those right behind
 joined : (b xs ys : List ℕ) (m n k : ℕ) → xs ≡ window b 0 m → ys ≡ window b m n → k ≡ m + n → xs ++ ys ≡ window b 0 k

@@ -2,9 +2,9 @@
 ghost use Rattle.std.specs.Prelude.{◌≡◌, ◌≤◌, ◌<◌, ◌+◌, ◌*◌, ℕ, length, slice_index, IsTrue, ◌↔◌, MatchResult};
 ghost use Rattle.mq_area.specs.Reading.{header_of, GoodCounts, RefusesHeader, IsPlaced, Follows};
 
-use crate::bytes::{u32_at, u64_at};
 use crate::descriptor::{Expect, PlaceIs};
 use crate::refusal::DescriptorRefusal;
+use mq_blocks::bytes::{u32_at, u64_at};
 
 /// The bytes before the two lists.
 pub const HEADER: usize = 56;

@@ -1,12 +1,12 @@
 // Writing a descriptor.
 ghost use Rattle.std.specs.Prelude.{◌≡◌, ◌≤◌, ◌+◌, length, replicate};
 ghost use Rattle.mq_blocks.specs.Descriptor.{descriptor_bytes, header_bytes};
-ghost use Rattle.mq_area.specs.Windows.{written};
+ghost use Rattle.mq_blocks.specs.Windows.{written};
 
-use crate::bytes::{put, put_list};
 use crate::descriptor::Descriptor;
 use crate::header::HEADER;
 use mq_blocks::Block;
+use mq_blocks::bytes::{put, put_list};
 
 /// Writes a descriptor over the whole block.
 pub fn write_descriptor(d: &Descriptor, into: &mut Block)

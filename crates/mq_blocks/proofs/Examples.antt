@@ -2,7 +2,7 @@
 use Rattle.std.proofs.Common.{◌≡◌, ◌≢◌, ◌<◌, ◌≤◌, ◌^◌, ◌-◌, ℕ, refl, arith, lit<, lit≤, subst, ⊎_elim}
 use Rattle.std.specs.Prelude.{List, [], ◌∷◌, Option, Some, None, codes, true, nat_eq, if◌then◌else◌}
 use Rattle.mq_blocks.specs.Descriptor.{Descriptor, AreRising, IsGood, descriptor_bytes, list_bytes, magic}
-use Rattle.mq_blocks.specs.Drive.{PortState, counted, index_of, without_last}
+use Rattle.mq_blocks.specs.Drive.{no_fuse, PortState, counted, index_of, without_last}
 use Rattle.mq_blocks.specs.Geometry.{zone_of, home_lba, area_lba, homes_of}
 use Rattle.mq_blocks.specs.Journal.{Shown, Says, Has, AreInRow, AreWhole, IsChain, IsQueueChain, Reaches, stands}
 use Rattle.mq_blocks.specs.Machine.{Map, Transaction, after, after_all, last_change}
@@ -352,7 +352,7 @@ port = record {
   rings = 0;
   begins = 0;
   events = 0;
-  limit = None;
+  fuse = no_fuse;
   fail = None;
 }
 

@@ -1,1 +1,4 @@
 mod Examples
+pub mod Readings
+pub mod Windows
+pub mod Written

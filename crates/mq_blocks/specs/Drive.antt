@@ -3,7 +3,7 @@
 -- A port is one queue's part of the drive, or the root's: submission queue, doorbell and head in the
 -- persistent memory region (NVM Express 1.4, "Persistent Memory Region"; Liao et al., SOSP 2021), the
 -- queue's journal area and its home blocks. Counts and places are absolute and never wrap.
-use Rattle.std.specs.Prelude.{◌≡◌, ◌≢◌, ◌⊎◌, ◌<◌, ◌≤◌, ℕ, ◌+◌, ◌-◌, ◌%◌, ◌^◌, zero, suc, min, Bool, true, false, List, [], ◌∷◌, ◌++◌, length, Option, Some, slice_index_or, slice_set, nat_lt, nat_eq, if◌then◌else◌}
+use Rattle.std.specs.Prelude.{◌≡◌, ◌≢◌, ◌⊎◌, ◌<◌, ◌≤◌, ℕ, ◌+◌, ◌-◌, ◌%◌, ◌^◌, zero, suc, min, Bool, true, false, List, [], ◌∷◌, ◌++◌, length, Option, Some, None, slice_index_or, slice_set, nat_lt, nat_eq, if◌then◌else◌}
 use Rattle.std.specs.Coded.{×_prop, Unit-prop, le_prop}
 use Rattle.std.specs.List.{remove}
 use Rattle.mq_blocks.specs.Blocks.{block_at}
@@ -13,6 +13,16 @@ use Rattle.mq_blocks.specs.declared.command.HomeWrite.{HomeWrite}
 -- the slots of a queue's ring
 abbrev pub depth : ℕ
 depth = 1024
+
+-- which event fuse it is: after how many events the power goes off, where that is told, and the numbers
+-- that tell the fuse from all others
+pub record FuseName : Type 0 where
+  pub limit : Option ℕ
+  pub table : List ℕ
+
+-- of a port that no fuse switches off
+abbrev pub no_fuse : FuseName
+no_fuse = record { limit = None; table = [] }
 
 pub record PortState : Type 0 where
   -- the queue whose port it is; the root's port is no queue's
@@ -48,9 +58,9 @@ pub record PortState : Type 0 where
   pub rings : ℕ
   pub begins : ℕ
   pub events : ℕ
-  -- what no call changes: after how many of its events the power goes off, and which of its commands
-  -- and home writes ends with an error, counted from 1, where these are told
-  pub limit : Option ℕ
+  -- what no call changes: the fuse of its power, and which of its commands and home writes ends with
+  -- an error, counted from 1, where that is told
+  pub fuse : FuseName
   pub fail : Option ℕ
 
 -- a count of 64 bits stands still at its end

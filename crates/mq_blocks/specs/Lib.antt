@@ -4,3 +4,4 @@ pub mod Drive
 pub mod Geometry
 pub mod Journal
 pub mod Machine
+pub mod Windows

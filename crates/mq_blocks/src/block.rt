@@ -65,7 +65,8 @@ impl Block {
     }
 
     pub fn bytes_mut(&mut self) -> &mut [u8; 4096]
-        ensures* { sem 𝓛 (Lends the_row (Array byte 4096) self.entry result (λ w. w)) }
+        ensures* writes_back { sem 𝓛 (Lends the_row (Array byte 4096) self.entry result (λ w. w)) }
+        ensures is { result.now ≡ self.old }
     {
         &mut self.bytes
     }

@@ -2,6 +2,7 @@
 #![tactic(auto)]
 
 mod block;
+pub mod bytes;
 mod command;
 mod geometry;
 mod numbers;

@@ -1,5 +1,5 @@
 use Rattle.std.proofs.Common.{◌≡◌, drop}
-use Rattle.mq_area.specs.Windows.{numbers}
+use Rattle.mq_blocks.specs.Windows.{numbers}
 use Rattle.mq_area.proofs.bytes.read_list.Given as goal
 
 abbrev pub invariant-loop-i : goal.invariant-loop-i

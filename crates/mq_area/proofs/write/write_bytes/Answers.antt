@@ -1,8 +1,9 @@
 use Rattle.std.proofs.Common.{◌≡◌, ◌+◌, ◌-◌, ◌*◌, ◌≤◌, ℕ, length, drop, replicate, sym, subst, ap, ◌∙◌, arith, rules}
 use Rattle.std.proofs.lemmas.List.{length-take-le, length-drop, length-replicate}
 use Rattle.mq_blocks.specs.Descriptor.{Descriptor, descriptor_bytes, header_bytes, list_bytes}
-use Rattle.mq_area.specs.Windows.{written}
-use Rattle.mq_area.proofs.Written.{descriptor-written, put_mid-written}
+use Rattle.mq_blocks.specs.Windows.{written}
+use Rattle.mq_area.proofs.Written.{descriptor-written}
+use Rattle.mq_blocks.proofs.Written.{put_mid-written}
 use Rattle.mq_area.proofs.write.write_bytes.Goals as goal
 use borrow.Rule.Slice.PartMut.{put_mid}
 

@@ -2,12 +2,12 @@
 use Rattle.std.proofs.Common.{◌≡◌, ℕ, zero, suc, inl, inr, add-zero, ◌+◌, ◌*◌, ◌^◌, ◌<◌, ◌≤◌, List, [], ◌∷◌, ◌++◌, length, take, drop, get_or, refl, sym, ap, ◌∙◌, arith, length-append, length-take, length-drop}
 use Rattle.std.proofs.lemmas.List.{places, same_lists, get_or_past, drop-drop, length-take-le, get_or-take, get_or-drop}
 use Rattle.std.proofs.lemmas.Bool.{cases_lt}
-use Rattle.std.proofs.lemmas.Nat.{le_bytes_4, le_bytes_8}
-use Rattle.std.specs.Int.{to_le_bytes, from_le_bytes, w32, w64}
+use Rattle.std.proofs.lemmas.Nat.{le_bytes_2, le_bytes_4, le_bytes_8}
+use Rattle.std.specs.Int.{to_le_bytes, from_le_bytes, w16, w32, w64}
 use Rattle.byteorder.specs.Endian.{little_from, little_number}
 use Rattle.byteorder.specs.Numbers.{little_number-reads_back, little_from-take, little_from-lt}
 use Rattle.mq_blocks.specs.Descriptor.{list_bytes, AreRising}
-use Rattle.mq_area.specs.Windows.{window, number_at, numbers}
+use Rattle.mq_blocks.specs.Windows.{window, number_at, numbers}
 
 -- two windows side by side are one
 pub window-add : (b : List ℕ) (at m n : ℕ) → window b at (m + n) ≡ window b at m ++ window b (at + m) n
@@ -70,6 +70,13 @@ bytes-number_at_4 at b h small =
     let len : length (window b at 4) ≡ 4 = length-take-le 4 (drop at b) (omega (arith, length-drop at b)) in
     let same : little_from 0 4 (take 4 (drop at b)) ≡ from_le_bytes w32 (take 4 (drop at b)) = omega arith in
     le_bytes_4 (window b at 4) _ len (λ i. small-window at 4 i b small) (sym (little_from-take 0 4 4 (drop at b) (omega arith)) ∙ same)
+
+pub bytes-number_at_2 : (at : ℕ) (b : List ℕ) → at + 2 ≤ length b → ((i : ℕ) → get_or b i 0 < 256) → to_le_bytes w16 (number_at 2 at b) ≡ window b at 2
+unfolding number_at
+bytes-number_at_2 at b h small =
+    let len : length (window b at 2) ≡ 2 = length-take-le 2 (drop at b) (omega (arith, length-drop at b)) in
+    let same : little_from 0 2 (take 2 (drop at b)) ≡ from_le_bytes w16 (take 2 (drop at b)) = omega arith in
+    le_bytes_2 (window b at 2) _ len (λ i. small-window at 2 i b small) (sym (little_from-take 0 2 2 (drop at b) (omega arith)) ∙ same)
 
 pub bytes-number_at_8 : (at : ℕ) (b : List ℕ) → at + 8 ≤ length b → ((i : ℕ) → get_or b i 0 < 256) → to_le_bytes w64 (number_at 8 at b) ≡ window b at 8
 unfolding number_at

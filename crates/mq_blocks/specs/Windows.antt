@@ -1,12 +1,16 @@
 -- Parts of a block, and the numbers in them.
-use Rattle.std.specs.Prelude.{ℕ, zero, suc, ◌+◌, List, [], ◌∷◌, ◌++◌, length, take, drop}
+use Rattle.std.specs.Prelude.{◌≡◌, ℕ, zero, suc, ◌+◌, List, [], ◌∷◌, ◌++◌, length, take, drop}
 use Rattle.byteorder.specs.Endian.{little_number}
 
 -- the `count` bytes from `from` on
 abbrev pub window : List ℕ → ℕ → ℕ → List ℕ
 window block from count = take count (drop from block)
 
--- these bytes stand from `from` on, and all others are as they were
+-- these bytes stand in the block from `from` on
+abbrev pub Shows : List ℕ → ℕ → List ℕ → Type 0
+Shows block from bytes = window block from (length bytes) ≡ bytes
+
+-- the block where these bytes were written from `from` on, and all others are as they were
 unfoldable pub written : List ℕ → ℕ → List ℕ → List ℕ
 written block from bytes = take from block ++ (bytes ++ drop (from + length bytes) block)
 
