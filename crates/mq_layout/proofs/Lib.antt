@@ -1,0 +1,10 @@
+pub mod EmptyLaws
+pub mod Fields
+pub mod GoodNames
+pub mod InodeForms
+pub mod Laws
+pub mod Pages
+pub mod SlotForms
+pub mod Superblocks
+pub mod Writes
+pub mod Zeros
