@@ -1,0 +1,12 @@
+//! Pages of the file system: their cells, the pages that a session holds, and shadows of what it writes.
+#![tactic(auto)]
+
+mod held;
+mod page;
+mod shadows;
+#[cfg(test)]
+mod tests;
+
+pub use held::Held;
+pub use page::{Kind, PageCell, ShadowPage, Write};
+pub use shadows::shadow;
