@@ -1,0 +1,86 @@
+-- Another base, and other numbers whose contents are due, keep what holds of the log and of ports.
+use Rattle.std.proofs.Common.{◌≡◌, ℕ, ◌+◌, ◌≤◌, true, Bool, List, [], ◌∷◌, ◌++◌, Some, sym, refl, subst, inl, inr, arith}
+use Rattle.std.proofs.lemmas.Bool.{cases_lt}
+use Rattle.mq_blocks.specs.Drive.{PortState}
+use Rattle.mq_core.specs.History.{writes, upto, IsAt}
+use Rattle.mq_core.specs.Items.{end_of, next, total}
+use Rattle.mq_core.specs.Known.{Known, LogOk, front}
+use Rattle.mq_core.specs.Sides.{AreHome, SideOk}
+use Rattle.mq_core.specs.declared.tx.Tx.{Tx}
+use Rattle.mq_core.proofs.Values.{upto-at, upto-past}
+use Rattle.mq_core.proofs.Queues.{FromQueue-of}
+use Rattle.mq_core.proofs.Fronts.{done_below}
+use Rattle.mq_core.proofs.Growth.{side_moved, placed_front}
+
+next_upto : (n : ℕ) (us : List Tx) → next (upto n us) ≤ next us
+next_upto n [] = omega arith
+next_upto n (t ∷ us) = elim (cases_lt n t.number) [
+  | inl past ↦ rw (upto-past n t us past) (omega (arith, next_upto n us))
+  | inr at ↦ rw (upto-at n t us at) (omega arith)
+]
+
+next_upto_more : (m n : ℕ) (us : List Tx) → m ≤ n → next (upto m us) ≤ next (upto n us)
+next_upto_more m n [] l = omega arith
+next_upto_more m n (t ∷ us) l = elim (cases_lt n t.number) [
+  | inl past ↦ rw (upto-past n t us past, upto-past m t us (omega arith)) (next_upto_more m n us l)
+  | inr at ↦ rw (upto-at n t us at) (next_upto m (t ∷ us))
+]
+
+total_upto : (n : ℕ) (us : List Tx) → total (upto n us) ≤ total us
+total_upto n [] = omega arith
+total_upto n (t ∷ us) = elim (cases_lt n t.number) [
+  | inl past ↦ rw (upto-past n t us past) (omega (arith, total_upto n us))
+  | inr at ↦ rw (upto-at n t us at) (omega arith)
+]
+
+total_upto_more : (m n : ℕ) (us : List Tx) → m ≤ n → total (upto m us) ≤ total (upto n us)
+total_upto_more m n [] l = omega arith
+total_upto_more m n (t ∷ us) l = elim (cases_lt n t.number) [
+  | inl past ↦ rw (upto-past n t us past, upto-past m t us (omega arith)) (total_upto_more m n us l)
+  | inr at ↦ rw (upto-at n t us at) (total_upto m (t ∷ us))
+]
+
+at_append : (t : Tx) (ts newer us : List Tx) → IsAt t ts us → IsAt t ts (newer ++ us)
+at_append t ts [] us at = at
+at_append t ts (u ∷ newer) us at = inr (at_append t ts newer us at)
+
+-- what such a number covers stands below a count below which each of them ends
+pub covered : (from h n : ℕ) (us : List Tx) → from ≤ h → ((t : Tx) (ts : List Tx) → IsAt t ts us → t.number ≤ n → end_of from ts + (writes t + 1) ≤ h) → end_of from (upto n us) ≤ h
+covered from h n [] low each = omega arith
+covered from h n (t ∷ us) low each = elim (cases_lt n t.number) [
+  | inl past ↦ rw (upto-past n t us past) (covered from h n us low (λ u vs at. each u vs (inr at)))
+  | inr at ↦ (let e = each t us (inl (refl, refl)) at in rw (upto-at n t us at) (omega arith))
+]
+
+module _ (k : Known) (due : ℕ → ℕ → Bool) (word : ℕ) (log : LogOk k) (above : k.word ≤ word) (reached : word ≤ front k) where
+  abbrev pub based_known : Known
+  based_known = record k { due = due; word = word }
+
+  pub log_based : ((x v : ℕ) → due x v ≡ true → v ≤ front k) → LogOk based_known
+  log_based low = record {
+    entries = log.entries;
+    numbers = log.numbers;
+    limit = log.limit;
+    word_low = omega (arith, log.word_low);
+    word_high = reached;
+    due = low;
+    each = λ t ts at. (let e = log.each t ts at in (e.0, placed_front k based_known t ts refl refl (omega arith) above e.1));
+  }
+
+  -- all of a port's transactions up to the base are done
+  based_below : (q : ℕ) (us : List Tx) (p : PortState) → SideOk k q us p → end_of (k.from q) (upto word us) ≤ p.head
+  based_below q us p s = covered (k.from q) p.head word us (let o = s.order in o.head_low) (λ t ws at low.
+      let f = FromQueue-of q t ws k.history (subst (λ vs. IsAt t ws vs) (sym s.part.1) (at_append t ws s.part.0 us at)) in
+      let done = s.done t f.ts f.at f.own (done_below k.base k.done t f.ts k.history log.numbers f.at (omega arith)) in
+      subst (λ vs. end_of (k.from q) vs + (writes t + 1) ≤ p.head) f.rest done)
+
+  pub side_based : (q : ℕ) (us : List Tx) (p : PortState) → SideOk k q us p → AreHome based_known (Some q) p → SideOk based_known q us p
+  side_based q us p s homes =
+      side_moved k q us p k.history k.done due word s (record {
+        part = s.part;
+        fits = omega (arith, s.area.fits, next_upto_more k.word word us above);
+        low = omega (arith, total_upto_more k.word word us above);
+        based = based_below q us p s;
+        done = s.done;
+        change = λ x v l. l;
+      }) homes

@@ -1,0 +1,170 @@
+-- Home writes keep what holds of a port: whoever needs a block's content at home needs none that a
+-- later transaction logged.
+use Rattle.std.proofs.Common.{◌≡◌, ◌≢◌, ℕ, ◌<◌, ◌≤◌, true, false, Bool, List, [], ◌∷◌, length, get_or, Option, Some, None, sym, refl, ap, subst, ◌∙◌, inl, inr, arith, eqb}
+use Rattle.std.proofs.lemmas.Bool.{cases_lt, cases_eq, cases_Bool, eqb-true, eq-eqb, false≢true}
+use Rattle.std.proofs.lemmas.List.{length-set, get_or-set_other}
+use Rattle.mq_blocks.specs.Blocks.{block_at, content}
+use Rattle.mq_blocks.specs.Descriptor.{AreApart, IsNoneOf}
+use Rattle.mq_blocks.specs.Drive.{PortState, index_of}
+use Rattle.mq_blocks.specs.Geometry.{homes_of, zone_of, home_lba}
+use Rattle.mq_blocks.specs.Journal.{is_among}
+use Rattle.mq_blocks.specs.declared.command.HomeWrite.{HomeWrite}
+use Rattle.mq_blocks.specs.declared.geometry.Geometry.{Geometry}
+use Rattle.mq_core.specs.History.{blocks_of, last, upto, IsAt}
+use Rattle.mq_core.specs.Items.{item_at}
+use Rattle.mq_core.specs.Known.{Known, LogOk, front}
+use Rattle.mq_core.specs.Sides.{IsPort, Certainly, IsDone, SideOk, RootOk, home_index, place_index}
+use Rattle.mq_core.specs.Events.{begin_home, end_home}
+use Rattle.mq_core.specs.declared.tx.Tx.{Tx}
+use Rattle.mq_core.proofs.Values.{last_at, last_settled, changes_direct}
+use Rattle.mq_core.proofs.Commands.{apart_along}
+use Rattle.mq_core.proofs.Ports.{index-place, index-zone, zone-apart}
+use Rattle.mq_core.proofs.Sources.{direct_in, direct-zone}
+
+-- the block's last change logged it, is done, and is above each number whose content is due
+pub record IsLoggedLast (k : Known) (x : ℕ) : Type 0 where
+  pub due : (v : ℕ) → k.due x v ≡ true → v < last k.base k.history x
+  pub high : last k.base k.history x ≤ front k
+  pub logged : (t : Tx) (ts : List Tx) → IsAt t ts k.history → t.number ≡ last k.base k.history x → is_among x (blocks_of t.logged) ≡ true
+
+none_of : (x : ℕ) (ys : List ℕ) → IsNoneOf x ys → is_among x ys ≡ false
+none_of x [] none = refl
+none_of x (y ∷ ys) none = rw (Rattle.std.proofs.lemmas.Bool.ne_eqb y x (λ e. none.0 (sym e))) (none_of x ys none.1)
+
+pub apart_among : (xs ys : List ℕ) (x : ℕ) → AreApart xs ys → is_among x xs ≡ true → is_among x ys ≡ false
+apart_among [] ys x apart e = absurd (false≢true e)
+apart_among (y ∷ xs) ys x apart e = elim (cases_Bool (eqb y x)) [
+  | inl same ↦ subst (λ z. is_among z ys ≡ false) (eqb-true _ _ same) (none_of y ys apart.0)
+  | inr other ↦ apart_among xs ys x apart.1 (rw other at e)
+]
+
+-- the port with other contents and home writes
+abbrev pub written_to : PortState → List (Option (List ℕ)) → List Bool → List HomeWrite → ℕ → PortState
+written_to p blocks sure begun begins = record p { blocks = blocks; sure = sure; begun = begun; begins = begins }
+
+-- all but one block are as they were
+pub record AreElse (p : PortState) (at : ℕ) (blocks : List (Option (List ℕ))) (sure : List Bool) : Type 0 where
+  pub blocks_len : length blocks ≡ length p.blocks
+  pub sure_len : length sure ≡ length p.sure
+  pub blocks_same : (n : ℕ) → n ≢ at → block_at blocks n ≡ block_at p.blocks n
+  pub sure_same : (n : ℕ) → n ≢ at → get_or sure n false ≡ get_or p.sure n false
+
+certainly_else : (p : PortState) (at n : ℕ) (v : List ℕ) (blocks : List (Option (List ℕ))) (sure : List Bool) (begun : List HomeWrite) (begins : ℕ) → AreElse p at blocks sure → n ≢ at → Certainly p n v → Certainly (written_to p blocks sure begun begins) n v
+certainly_else p at n v blocks sure begun begins els other c =
+    record {
+      certain = record { sure = els.sure_same n other ∙ c.certain.sure; apart = apart_along p (written_to p blocks sure begun begins) n p.posted (λ lba. refl) c.certain.apart };
+      is = els.blocks_same n other ∙ c.is;
+    }
+
+pub side_written : (k : Known) (q : ℕ) (us : List Tx) (p : PortState) (x : ℕ) (blocks : List (Option (List ℕ))) (sure : List Bool) (begun : List HomeWrite) (begins : ℕ) → LogOk k → SideOk k q us p → zone_of k.geometry x ≡ Some q → IsLoggedLast k x
+    → AreElse p (home_index k.geometry x) blocks sure → SideOk k q us (written_to p blocks sure begun begins)
+side_written k q us p x blocks sure begun begins log s zone u els =
+    let o = s.order in
+    let kept : (n : ℕ) (v : List ℕ) → n ≢ home_index k.geometry x → Certainly p n v → Certainly (written_to p blocks sure begun begins) n v = λ n v other c.
+    certainly_else p (home_index k.geometry x) n v blocks sure begun begins els other c in
+    let before : (c : ℕ) → IsDone (written_to p blocks sure begun begins) c → IsDone p c = λ c d. record { rung = d.rung; posted = d.posted; failed = d.failed } in
+    let settled = last_settled k.base (front k) k.history x log.numbers u.high in
+    record {
+      queue = s.queue;
+      part = s.part;
+      port = record {
+        queue = s.port.queue;
+        area_first = s.port.area_first;
+        area_size = s.port.area_size;
+        homes_first = s.port.homes_first;
+        homes_size = s.port.homes_size;
+        flushed = s.port.flushed;
+        staged = s.port.staged;
+        blocks = els.blocks_len ∙ s.port.blocks;
+        sure = els.sure_len ∙ s.port.sure;
+      };
+      order = record { head_low = o.head_low; stored = o.stored; rung = o.rung; flushed = o.flushed; staged = o.staged; drawn = o.drawn; room = o.room };
+      limit = s.limit;
+      ends = record { head = s.ends.head; stored = s.ends.stored; doorbell = s.ends.doorbell };
+      ring = record { settled = s.ring.settled; start = s.ring.start; rung = s.ring.rung; waits = s.ring.waits };
+      commands = record {
+        pending = s.commands.pending;
+        pending_counts = s.commands.pending_counts;
+        posted = s.commands.posted;
+        posted_counts = s.commands.posted_counts;
+        failed = s.commands.failed;
+        failed_counts = s.commands.failed_counts;
+      };
+      area = record {
+        fits = s.area.fits;
+        limit = s.area.limit;
+        holds = λ c place low d target.
+            let i = (index-place k.geometry q place p s.port s.queue).1 in
+            let j = (index-zone k.geometry q x p s.port zone).1 in
+            kept _ _ (λ e. omega arith) (s.area.holds c place low (before c d) target);
+      };
+      based = s.based;
+      done = s.done;
+      direct = λ c y low d target m.
+          let rung = d.rung in
+          let b = direct_in k q us c y s.part low (omega (arith, rung, o.flushed, o.staged, o.drawn)) target in
+          kept _ _ (λ e.
+          let is : y ≡ x = zone-apart k.geometry q y x (direct-zone k q us c y log b).0 zone e in
+          let among : is_among x (blocks_of b.t.direct) ≡ true = subst (λ z. is_among z (blocks_of b.t.direct) ≡ true) is b.among in
+          let m' : last k.base (upto (front k) k.history) x ≤ (item_at (k.from q) us c).number = subst (λ z. last k.base (upto (front k) k.history) z ≤ (item_at (k.from q) us c).number) is m in
+          let number = b.number in
+          let most = last_at k.base b.t b.ts k.history x log.numbers b.at (changes_direct b.t x among) in
+          let lg = u.logged b.t b.ts b.at (omega (arith, settled, m', number, most)) in
+          let form = (log.each b.t b.ts b.at).0 in
+          false≢true (sym (apart_among (blocks_of b.t.logged) (blocks_of b.t.direct) x form.apart lg) ∙ among)) (s.direct c y low (before c d) target m);
+      homes = λ y v block inside z due there m.
+          kept _ _ (λ e.
+          let is : y ≡ x = zone-apart k.geometry q y x z zone e in
+          let m' : last k.base (upto (front k) k.history) x ≤ v = subst (λ w. last k.base (upto (front k) k.history) w ≤ v) is m in
+          let above = u.due v (subst (λ w. k.due w v ≡ true) is due) in
+          absurd (omega (arith, settled, m', above))) (s.homes y v block inside z due there m);
+    }
+
+pub root_written : (k : Known) (p : PortState) (x : ℕ) (blocks : List (Option (List ℕ))) (sure : List Bool) (begun : List HomeWrite) (begins : ℕ) → LogOk k → RootOk k p → zone_of k.geometry x ≡ None → x < homes_of k.geometry → IsLoggedLast k x
+    → AreElse p (home_index k.geometry x) blocks sure → RootOk k (written_to p blocks sure begun begins)
+root_written k p x blocks sure begun begins log r zone block u els =
+    let settled = last_settled k.base (front k) k.history x log.numbers u.high in
+    record {
+      port = record {
+        queue = r.port.queue;
+        area_first = r.port.area_first;
+        area_size = r.port.area_size;
+        homes_first = r.port.homes_first;
+        homes_size = r.port.homes_size;
+        flushed = r.port.flushed;
+        staged = r.port.staged;
+        blocks = els.blocks_len ∙ r.port.blocks;
+        sure = els.sure_len ∙ r.port.sure;
+      };
+      posted = r.posted;
+      bases = r.bases;
+      homes = λ y v content inside z due there m.
+          certainly_else p (home_index k.geometry x) _ _ blocks sure begun begins els (λ e.
+          let is : y ≡ x = root-apart y z e in
+          let m' : last k.base (upto (front k) k.history) x ≤ v = subst (λ w. last k.base (upto (front k) k.history) w ≤ v) is m in
+          let above = u.due v (subst (λ w. k.due w v ≡ true) is due) in
+          absurd (omega (arith, settled, m', above))) (r.homes y v content inside z due there m);
+    }
+  where
+    root-apart : (y : ℕ) → zone_of k.geometry y ≡ None → home_index k.geometry y ≡ home_index k.geometry x → y ≡ x
+    root-apart y z e = sym (ap (λ w. Rattle.mq_core.specs.Sides.home_index_in k.geometry w y) z) ∙ e ∙ ap (λ w. Rattle.mq_core.specs.Sides.home_index_in k.geometry w x) zone
+
+-- ---- a home write begins, or ends
+
+pub else_begin : (g : Geometry) (x : ℕ) (block : List ℕ) (p : PortState) → index_of p (home_lba g x) ≡ home_index g x → AreElse p (home_index g x) (begin_home g x block p).blocks (begin_home g x block p).sure
+else_begin g x block p at =
+    record {
+      blocks_len = refl;
+      sure_len = length-set p.sure (index_of p (home_lba g x)) false;
+      blocks_same = λ n other. refl;
+      sure_same = λ n other. get_or-set_other p.sure (index_of p (home_lba g x)) n false false (λ e. other (e ∙ at));
+    }
+
+pub else_end : (g : Geometry) (x : ℕ) (block : List ℕ) (p : PortState) → index_of p (home_lba g x) ≡ home_index g x → AreElse p (home_index g x) (end_home g x block p).blocks (end_home g x block p).sure
+else_end g x block p at =
+    record {
+      blocks_len = length-set p.blocks (index_of p (home_lba g x)) (Some block);
+      sure_len = length-set p.sure (index_of p (home_lba g x)) true;
+      blocks_same = λ n other. ap content (get_or-set_other p.blocks (index_of p (home_lba g x)) n (Some block) None (λ e. other (e ∙ at)));
+      sure_same = λ n other. get_or-set_other p.sure (index_of p (home_lba g x)) n true false (λ e. other (e ∙ at));
+    }

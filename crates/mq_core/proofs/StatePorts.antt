@@ -1,0 +1,173 @@
+-- The events on a queue's port keep the facts of the whole state.
+use Rattle.std.proofs.Common.{◌≡◌, ◌≢◌, ℕ, ◌+◌, ◌<◌, ◌≤◌, true, false, Bool, List, length, get_or, set, Option, Some, None, sym, refl, ap, subst, ◌∙◌, inl, inr, arith}
+use Rattle.std.proofs.lemmas.Bool.{cases_eq, cases_Bool, le-leb, leb-true, false≢true}
+use Rattle.std.proofs.lemmas.List.{length-set, get_or-set_same, get_or-set_other}
+use Rattle.mq_blocks.specs.Drive.{PortState, holds_write, index_of, after_flush, after_ring, after_store_head}
+use Rattle.mq_blocks.specs.Geometry.{zone_of, home_lba}
+use Rattle.mq_blocks.specs.Journal.{is_among}
+use Rattle.mq_core.specs.History.{writes, last, of_queue}
+use Rattle.mq_core.specs.Items.{Entries, end_of}
+use Rattle.mq_core.specs.Known.{Known, front}
+use Rattle.mq_core.specs.Sides.{SideOk, home_index}
+use Rattle.mq_core.specs.State.{State, Facts, IsUnder, is_done, port_at, port_of, from_at, known_of, front_of}
+use Rattle.mq_core.specs.Events.{with_port, us_of, stage, flush, ring, complete, fail_command, store_head, stage_side, complete_side, fail_side, command_with, MayStage, MayRing, MayEnd, MayStoreHead}
+use Rattle.mq_core.specs.declared.tx.Tx.{Tx}
+use Rattle.mq_core.proofs.Values.{last_at, changes_direct}
+use Rattle.mq_core.proofs.Commands.{own_with}
+use Rattle.mq_core.proofs.Sources.{late}
+use Rattle.mq_core.proofs.Fronts.{DoneMore}
+use Rattle.mq_core.proofs.Growth.{front_more, log_more, side_more, root_more}
+use Rattle.mq_core.proofs.SideEvents.{side_stage, side_flush, side_store_head}
+use Rattle.mq_core.proofs.SideCommands.{side_ring, side_complete, side_fail, apart_home, posted_late}
+
+pub port_same : (ports : List PortState) (q : ℕ) (p : PortState) → q < length ports → port_at (set ports q p) q ≡ p
+port_same ports q p l = get_or-set_same ports q p _ l
+
+pub port_other : (ports : List PortState) (q r : ℕ) (p : PortState) → r ≢ q → port_at (set ports q p) r ≡ port_at ports r
+port_other ports q r p other = get_or-set_other ports q r p _ other
+
+module _ (e : Entries) (s : State) (f : Facts e s) (q : ℕ) (own : q < s.geometry.queues) where
+  abbrev k : Known
+  k = known_of e s
+
+  abbrev port : PortState
+  port = port_at s.ports q
+
+  pub within : q < length s.ports
+  within = omega (arith, own, f.ports)
+
+  -- the state with another port of the queue
+  abbrev with : PortState → State
+  with p = with_port s (Some q) p
+
+  -- home writes under way see the port as before
+  abbrev pub StaysUnder : PortState → Type 0
+  StaysUnder p =
+      (x : ℕ) → is_among x s.under ≡ true → zone_of s.geometry x ≡ Some q → IsUnder s x → (get_or port.sure (home_index s.geometry x) false ≡ false → get_or p.sure (home_index s.geometry x) false ≡ false)
+      × (holds_write (home_lba s.geometry x) port.begun ≡ true → holds_write (home_lba s.geometry x) p.begun ≡ true)
+
+  module _ (p : PortState) (side : SideOk k q (us_of s q) p) (higher : port.head ≤ p.head) (under : StaysUnder p) where
+    abbrev now : Tx → List Tx → Bool
+    now = is_done s.froms (set s.ports q p)
+
+    more : DoneMore k.done now
+    more = record {
+      each = λ t ts d. le-leb _ _ (elim (cases_eq t.queue q) [
+        | inl same ↦ (let l = leb-true _ _ d in let h : (port_at s.ports t.queue).head ≤ (port_at (set s.ports q p) t.queue).head = rw (same, port_same s.ports q p within) higher in omega arith)
+        | inr other ↦ rw (port_other s.ports q t.queue p other) (leb-true _ _ d)
+      ]);
+    }
+
+    sides : (r : ℕ) → r < s.geometry.queues → SideOk (known_of e (with p)) r (of_queue r s.history) (port_at (set s.ports q p) r)
+    sides r inside =
+        elim (cases_eq r q) [
+          | inl same ↦
+              let is : port_at (set s.ports q p) r ≡ p = ap (port_at (set s.ports q p)) same ∙ port_same s.ports q p within in
+              let mine : SideOk k r (of_queue r s.history) p = subst (λ n. SideOk k n (of_queue n s.history) p) (sym same) side in
+              subst (λ w. SideOk (known_of e (with p)) r (of_queue r s.history) w) (sym is)
+              (side_more k now f.log more r (of_queue r s.history) p mine (λ t ts at mineq d.
+              let l : end_of (from_at s.froms t.queue) (of_queue t.queue ts) + (writes t + 1) ≤ (port_at (set s.ports q p) t.queue).head = leb-true _ _ d in
+              let l' = rw (mineq, is) at l in l'))
+          | inr other ↦
+              let is : port_at (set s.ports q p) r ≡ port_at s.ports r = port_other s.ports q r p other in
+              subst (λ w. SideOk (known_of e (with p)) r (of_queue r s.history) w) (sym is)
+              (side_more k now f.log more r (of_queue r s.history) (port_at s.ports r) (f.sides r inside) (λ t ts at mineq d.
+              let l : end_of (from_at s.froms t.queue) (of_queue t.queue ts) + (writes t + 1) ≤ (port_at (set s.ports q p) t.queue).head = leb-true _ _ d in
+              let l' = rw (mineq, is) at l in l'))
+        ]
+
+    unders : (x : ℕ) → is_among x s.under ≡ true → IsUnder s x → IsUnder (with p) x
+    unders x h u =
+        let more_front : front_of s ≤ front_of (with p) = front_more k now f.log more in
+        record {
+          block = u.block;
+          low = u.low;
+          high = omega (arith, u.high, more_front);
+          logged = u.logged;
+          loose = go_sure (zone_of s.geometry x) refl;
+          begun = go_begun (zone_of s.geometry x) refl;
+        }
+      where
+        there : (r : ℕ) → zone_of s.geometry x ≡ Some r → r ≢ q → port_at (set s.ports q p) r ≡ port_of s (zone_of s.geometry x)
+        there r z other = port_other s.ports q r p other ∙ sym (ap (port_of s) z)
+
+        here : (r : ℕ) → zone_of s.geometry x ≡ Some r → r ≡ q → port ≡ port_of s (zone_of s.geometry x)
+        here r z same = sym (ap (port_of s) z ∙ ap (port_at s.ports) same)
+
+        go_sure : (z : Option ℕ) → zone_of s.geometry x ≡ z → get_or (port_of (with p) z).sure (home_index s.geometry x) false ≡ false
+        go_sure None z = ap (λ (w : PortState). get_or w.sure (home_index s.geometry x) false) (sym (ap (port_of s) z)) ∙ u.loose
+        go_sure (Some r) z = elim (cases_eq r q) [
+          | inl same ↦
+              let at : port_at (set s.ports q p) r ≡ p = ap (port_at (set s.ports q p)) same ∙ port_same s.ports q p within in
+              ap (λ (w : PortState). get_or w.sure (home_index s.geometry x) false) at ∙ (under x h (z ∙ ap Some same) u).0 (ap (λ (w : PortState). get_or w.sure (home_index s.geometry x) false) (here r z same) ∙ u.loose)
+          | inr other ↦ ap (λ (w : PortState). get_or w.sure (home_index s.geometry x) false) (there r z other) ∙ u.loose
+        ]
+
+        go_begun : (z : Option ℕ) → zone_of s.geometry x ≡ z → holds_write (home_lba s.geometry x) (port_of (with p) z).begun ≡ true
+        go_begun None z = ap (λ (w : PortState). holds_write (home_lba s.geometry x) w.begun) (sym (ap (port_of s) z)) ∙ u.begun
+        go_begun (Some r) z = elim (cases_eq r q) [
+          | inl same ↦
+              let at : port_at (set s.ports q p) r ≡ p = ap (port_at (set s.ports q p)) same ∙ port_same s.ports q p within in
+              ap (λ (w : PortState). holds_write (home_lba s.geometry x) w.begun) at
+              ∙ (under x h (z ∙ ap Some same) u).1 (ap (λ (w : PortState). holds_write (home_lba s.geometry x) w.begun) (here r z same) ∙ u.begun)
+          | inr other ↦ ap (λ (w : PortState). holds_write (home_lba s.geometry x) w.begun) (there r z other) ∙ u.begun
+        ]
+
+    pub port_front : front_of s ≤ front_of (with p)
+    port_front = front_more k now f.log more
+
+    pub port_keeps : Facts e (with p)
+    port_keeps =
+        let more_front : front_of s ≤ front_of (with p) = front_more k now f.log more in
+        record {
+          log = log_more k now f.log more;
+          ports = length-set s.ports q p ∙ f.ports;
+          marked = f.marked;
+          sides = sides;
+          root = root_more k now f.log more s.root f.root;
+          marks = λ t ts at d. elim (cases_Bool (is_done s.froms s.ports t ts)) [
+            | inl was ↦ absurd (false≢true (sym d ∙ more.each t ts was))
+            | inr undone ↦ f.marks t ts at undone
+          ];
+          under = λ x h. unders x h (f.under x h);
+          acknowledged = λ n h. omega (arith, f.acknowledged n h, more_front);
+        }
+
+  pub stage_keeps : MayStage (from_at s.froms q) (us_of s q) port → Facts e (stage e q s)
+  stage_keeps may =
+      port_keeps (stage_side e s.geometry q (from_at s.froms q) (us_of s q) port) (side_stage k q (us_of s q) port f.log (f.sides q own) may) (omega arith) (λ x among z u. (λ h. h, λ h. h))
+
+  pub flush_keeps : Facts e (flush q s)
+  flush_keeps = (let o = (f.sides q own).order in port_keeps (after_flush port) (side_flush k q (us_of s q) port (f.sides q own)) (omega (arith, o.stored)) (λ x among z u. (λ h. h, λ h. h)))
+
+  pub store_head_keeps : (h : ℕ) → MayStoreHead (from_at s.froms q) (us_of s q) port h → Facts e (store_head q h s)
+  store_head_keeps h may = port_keeps (after_store_head port h) (side_store_head k q (us_of s q) port h (f.sides q own) may) (omega arith) (λ x among z u. (λ h. h, λ h. h))
+
+  pub ring_keeps : MayRing (from_at s.froms q) (us_of s q) port → Facts e (ring q s)
+  ring_keeps may = port_keeps (after_ring port) (side_ring k q (us_of s q) port f.log (f.sides q own) may) (omega arith) (λ x among z u. (λ h. h, λ h. h))
+
+  -- the block of a home write under way is none of a posted command's
+  under_apart : (x c : ℕ) → zone_of s.geometry x ≡ Some q → IsUnder s x → MayEnd c port → index_of port (command_with c port.posted).lba ≢ home_index s.geometry x
+  under_apart x c z u may same =
+      let side = f.sides q own in
+      let l = posted_late k q (us_of s q) port f.log side c may in
+      let mine = own_with s.geometry q (from_at s.froms q) c (us_of s q) port.posted side.commands.posted may in
+      apart_home k q (us_of s q) port f.log side c x l.0 z (λ d.
+      let past = late k q (us_of s q) port c x f.log side l.0.0 d in
+      let most = last_at s.base d.t d.ts s.history x f.log.numbers d.at (changes_direct d.t x d.among) in
+      let high : last s.base s.history x ≤ front k = u.high in
+      absurd (omega arith)) (ap (λ (w : Rattle.mq_blocks.specs.declared.command.Command.Command). index_of port w.lba) (sym mine) ∙ same)
+
+  pub complete_keeps : (c : ℕ) → MayEnd c port → Facts e (complete q c s)
+  complete_keeps c may =
+      port_keeps (complete_side c port) (side_complete k q (us_of s q) port f.log (f.sides q own) c may) (omega arith) (λ x among z u. (
+        λ h. get_or-set_other port.sure (index_of port (command_with c port.posted).lba) (home_index s.geometry x) true false (λ same. under_apart x c z u may (sym same)) ∙ h,
+        λ h. h,
+      ))
+
+  pub fail_keeps : (c : ℕ) → MayEnd c port → Facts e (fail_command q c s)
+  fail_keeps c may =
+      port_keeps (fail_side c port) (side_fail k q (us_of s q) port f.log (f.sides q own) c may) (omega arith) (λ x among z u. (
+        λ h. get_or-set_other port.sure (index_of port (command_with c port.posted).lba) (home_index s.geometry x) false false (λ same. under_apart x c z u may (sym same)) ∙ h,
+        λ h. h,
+      ))

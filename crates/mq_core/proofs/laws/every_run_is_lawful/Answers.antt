@@ -1,0 +1,5 @@
+use Rattle.mq_core.proofs.Runs.{run_is_lawful}
+use Rattle.mq_core.proofs.laws.every_run_is_lawful.Goals as goal
+
+pub returns : goal.returns
+returns c = run_is_lawful

@@ -1,0 +1,185 @@
+-- What each event changes of a port, of what is known, and of the whole state, and where it is
+-- allowed.
+use Rattle.std.specs.Prelude.{◌≡◌, ◌<◌, ◌≤◌, ℕ, suc, ◌+◌, ◌-◌, ◌%◌, ◌^◌, Bool, true, false, List, [], ◌∷◌, length, Option, Some, None, nat_eq, slice_set, if◌then◌else◌}
+use Rattle.mq_blocks.specs.Blocks.{content}
+use Rattle.mq_blocks.specs.Drive.{PortState, AreFrom, staged_end, depth, after_stage, after_flush, after_ring, after_done, after_failed, after_store_head, after_store_base, after_begin, after_end}
+use Rattle.mq_blocks.specs.Geometry.{homes_of, zone_of, home_lba}
+use Rattle.mq_blocks.specs.Journal.{is_among, number_limit}
+use Rattle.mq_blocks.specs.declared.command.Command.{Command}
+use Rattle.mq_blocks.specs.declared.geometry.Geometry.{Geometry}
+use Rattle.mq_core.specs.History.{blocks_of, writes, changes, map_after, last, last_logged, upto, of_queue, IsAt}
+use Rattle.mq_core.specs.Items.{Entries, Item, said_of, lba_of, end_of, next, item_at, IsEnd}
+use Rattle.mq_core.specs.Known.{Known, IsTx, front}
+use Rattle.mq_core.specs.Sides.{IsKept, holds_count}
+use Rattle.mq_core.specs.State.{State, is_done, front_of, from_at, known_of, port_at, port_of, start_map}
+use Rattle.mq_core.specs.declared.tx.Tx.{Tx}
+
+-- ---- of a queue's port, where its entries begin at `from` and are those of `us`
+
+abbrev pub staged_with : (ℕ → ℕ × ℕ × Bool → List ℕ) → Geometry → ℕ → Item → PortState → PortState
+staged_with entry g q i p = after_stage p (entry (staged_end p % depth) (said_of g q i)) i.number (lba_of g q i.target) i.content
+
+-- the next entry is staged
+abbrev pub stage_side : Entries → Geometry → ℕ → ℕ → List Tx → PortState → PortState
+stage_side e g q from us p = staged_with e.entry g q (item_at from us (staged_end p)) p
+
+abbrev pub no_command : Command
+no_command = record { count = 0; tx = 0; lba = 0; block = [] }
+
+abbrev pub index_with : ℕ → List Command → ℕ
+index_with n [] = 0
+index_with n (c ∷ cs) = if nat_eq c.count n then 0 else suc (index_with n cs)
+
+abbrev pub command_with : ℕ → List Command → Command
+command_with n [] = no_command
+command_with n (c ∷ cs) = if nat_eq c.count n then c else command_with n cs
+
+-- the posted command of this count ends with success, or with an error
+abbrev pub complete_side : ℕ → PortState → PortState
+complete_side c p = after_done p (index_with c p.posted) (command_with c p.posted)
+
+abbrev pub fail_side : ℕ → PortState → PortState
+fail_side c p = after_failed p (index_with c p.posted) (command_with c p.posted)
+
+-- an entry of the drawn transaction isn't staged
+abbrev pub MayStage : ℕ → List Tx → PortState → Type 0
+MayStage from us p = staged_end p < end_of from us
+
+-- the drawn transaction is wholly staged
+pub record MayFlush (from : ℕ) (us : List Tx) (p : PortState) : Type 0 where
+  pub drawn : p.doorbell < end_of from us
+  pub whole : staged_end p ≡ end_of from us
+
+-- it is staged and flushed
+pub record MayRing (from : ℕ) (us : List Tx) (p : PortState) : Type 0 where
+  pub drawn : p.doorbell < end_of from us
+  pub whole : staged_end p ≡ end_of from us
+  pub flushed : p.flushed_end ≡ end_of from us
+
+-- the command is posted
+abbrev pub MayEnd : ℕ → PortState → Type 0
+MayEnd c p = holds_count c p.posted ≡ true
+
+-- the new head is an end of a transaction, and every command below it is completed with success
+pub record MayStoreHead (from : ℕ) (us : List Tx) (p : PortState) (h : ℕ) : Type 0 where
+  pub is_end : IsEnd from us h
+  pub above : p.stored_head ≤ h
+  pub rung : h ≤ p.doorbell
+  pub posted : AreFrom h p.posted
+  pub failed : AreFrom h p.failed
+
+-- ---- of the port of a home block
+
+abbrev pub begin_home : Geometry → ℕ → List ℕ → PortState → PortState
+begin_home g x block p = after_begin p (home_lba g x) block
+
+abbrev pub end_home : Geometry → ℕ → List ℕ → PortState → PortState
+end_home g x block p = after_end p (home_lba g x) block
+
+-- ---- of what is known
+
+abbrev pub draw_known : Tx → Known → Known
+draw_known t k = record k { history = t ∷ k.history }
+
+-- The part of a draw's guard that speaks of the history: its number is the next, it frees blocks of the
+-- map, its direct blocks are free and settled, and those that have a copy above the base are revoked.
+pub record MayDraw (k : Known) (t : Tx) : Type 0 where
+  pub form : IsTx k.geometry t
+  pub number : t.number ≡ k.base + length k.history + 1
+  pub limit : t.number ≤ number_limit
+  pub freed : (x : ℕ) → is_among x t.freed ≡ true → (block : List ℕ) × (map_after k.start k.history x ≡ Some block)
+  pub free : (x : ℕ) → is_among x (blocks_of t.direct) ≡ true → map_after k.start k.history x ≡ None
+  pub settled : (x : ℕ) → is_among x (blocks_of t.direct) ≡ true → last k.base k.history x ≤ front k
+  pub revoked : (x : ℕ) → is_among x (blocks_of t.direct) ≡ true → k.word < last_logged k.base k.history x → is_among x t.revoked ≡ true
+
+-- The part that speaks of its queue's port: nothing that was drawn waits for the ring, no command has
+-- failed, and the entries fit into the ring and the area.
+pub record HasRoom (g : Geometry) (from word : ℕ) (us : List Tx) (t : Tx) (p : PortState) : Type 0 where
+  pub rung : p.doorbell ≡ end_of from us
+  pub failed : p.failed ≡ []
+  pub ring : writes t + 1 ≤ 1023 - (staged_end p - p.head)
+  pub area : next us + (length t.logged + 1) ≤ next (upto word us) + g.area
+  pub places : next us + length t.logged < 2 ^ 62
+  pub limit : end_of from us + (writes t + 1) ≤ number_limit
+
+-- ---- of the state
+
+-- the state with another port of a queue, or of the root
+abbrev pub with_port : State → Option ℕ → PortState → State
+with_port s (Some q) p = record s { ports = slice_set s.ports q p }
+with_port s None p = record s { root = p }
+
+abbrev pub us_of : State → ℕ → List Tx
+us_of s q = of_queue q s.history
+
+-- those of these blocks that the transaction leaves as they are
+abbrev pub unchanged_by : Tx → List ℕ → List ℕ
+unchanged_by t [] = []
+unchanged_by t (x ∷ xs) = if changes t x then unchanged_by t xs else x ∷ unchanged_by t xs
+
+abbrev pub without : ℕ → List ℕ → List ℕ
+without x [] = []
+without x (y ∷ ys) = if nat_eq y x then without x ys else y ∷ without x ys
+
+abbrev pub draw : Tx → State → State
+draw t s = record s { history = t ∷ s.history; under = unchanged_by t s.under }
+
+abbrev pub stage : Entries → ℕ → State → State
+stage e q s = with_port s (Some q) (stage_side e s.geometry q (from_at s.froms q) (us_of s q) (port_at s.ports q))
+
+abbrev pub flush : ℕ → State → State
+flush q s = with_port s (Some q) (after_flush (port_at s.ports q))
+
+abbrev pub ring : ℕ → State → State
+ring q s = with_port s (Some q) (after_ring (port_at s.ports q))
+
+abbrev pub complete : ℕ → ℕ → State → State
+complete q c s = with_port s (Some q) (complete_side c (port_at s.ports q))
+
+abbrev pub fail_command : ℕ → ℕ → State → State
+fail_command q c s = with_port s (Some q) (fail_side c (port_at s.ports q))
+
+abbrev pub store_head : ℕ → ℕ → State → State
+store_head q h s = with_port s (Some q) (after_store_head (port_at s.ports q) h)
+
+abbrev pub clear : ℕ → ℕ → State → State
+clear q low s = record s { marks = slice_set s.marks q low }
+
+abbrev pub acknowledge : ℕ → State → State
+acknowledge n s = record s { acknowledged = n ∷ s.acknowledged }
+
+-- the block's content in the map
+abbrev pub content_at : State → ℕ → List ℕ
+content_at s x = content (map_after (start_map s.start) s.history x)
+
+abbrev pub write_home : ℕ → State → State
+write_home x s = record (with_port s (zone_of s.geometry x) (begin_home s.geometry x (content_at s x) (port_of s (zone_of s.geometry x)))) { under = x ∷ s.under }
+
+abbrev pub home_done : ℕ → State → State
+home_done x s = record (with_port s (zone_of s.geometry x) (end_home s.geometry x (content_at s x) (port_of s (zone_of s.geometry x)))) { under = without x s.under }
+
+abbrev pub store_base : ℕ → State → State
+store_base b s = record s { root = after_store_base s.root b }
+
+abbrev pub flush_base : State → State
+flush_base s = record s { root = after_flush s.root }
+
+-- each number of the queue that isn't done is at or above the mark
+pub record MayClear (s : State) (q low : ℕ) : Type 0 where
+  pub queue : q < s.geometry.queues
+  pub each : (t : Tx) (ts : List Tx) → IsAt t ts s.history → t.queue ≡ q → is_done s.froms s.ports t ts ≡ false → low ≤ t.number
+
+-- the block is in the map, and its last change logged it, is done, and is above the stored base
+pub record MayWriteHome (s : State) (x : ℕ) : Type 0 where
+  pub block : x < homes_of s.geometry
+  pub there : (block : List ℕ) × (map_after (start_map s.start) s.history x ≡ Some block)
+  pub low : s.root.stored_base < last s.base s.history x
+  pub high : last s.base s.history x ≤ front_of s
+  pub logged : (t : Tx) (ts : List Tx) → IsAt t ts s.history → t.number ≡ last s.base s.history x → is_among x (blocks_of t.logged) ≡ true
+
+-- each block of the map after the base is certainly at home, or is changed by a number above the base
+-- and up to the front
+pub record MayStoreBase (e : Entries) (s : State) (b : ℕ) : Type 0 where
+  pub above : s.root.stored_base ≤ b
+  pub reached : b ≤ front_of s
+  pub home : (x : ℕ) (block : List ℕ) → x < homes_of s.geometry → map_after (start_map s.start) (upto b s.history) x ≡ Some block → IsKept (known_of e s) (port_of s (zone_of s.geometry x)) x b block

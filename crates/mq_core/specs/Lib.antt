@@ -1,0 +1,11 @@
+pub mod History
+pub mod Items
+pub mod Known
+pub mod Sides
+pub mod State
+pub mod Events
+pub mod Machine
+pub mod Start
+pub mod Plain
+pub mod Within
+pub mod View

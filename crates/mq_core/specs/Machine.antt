@@ -1,0 +1,79 @@
+-- The machine: its events, where each is allowed, what each changes, and whole runs.
+use Rattle.std.specs.Prelude.{◌≡◌, ◌<◌, ◌≤◌, ℕ, true, List, [], ◌∷◌, slice_index_or}
+use Rattle.mq_blocks.specs.Journal.{is_among}
+use Rattle.mq_core.specs.Items.{Entries}
+use Rattle.mq_core.specs.State.{State, IsLawful, known_of, front_of, from_at, port_at}
+use Rattle.mq_core.specs.Events.{us_of, draw, stage, flush, ring, complete, fail_command, store_head, clear, acknowledge, write_home, home_done, store_base, flush_base, MayDraw, HasRoom, MayStage, MayFlush, MayRing, MayEnd, MayStoreHead, MayClear, MayWriteHome, MayStoreBase}
+use Rattle.mq_core.specs.declared.tx.Tx.{Tx}
+
+pub data Event : Type 0 where
+  Draw : Tx → Event
+  Stage : ℕ → Event
+  Flush : ℕ → Event
+  Ring : ℕ → Event
+  Complete : ℕ → ℕ → Event
+  FailCommand : ℕ → ℕ → Event
+  StoreHead : ℕ → ℕ → Event
+  FlushHead : ℕ → Event
+  Clear : ℕ → ℕ → Event
+  Acknowledge : ℕ → Event
+  WriteHome : ℕ → Event
+  HomeDone : ℕ → Event
+  StoreBase : ℕ → Event
+  FlushBase : Event
+
+abbrev pub happens : Entries → Event → State → State
+happens e (Draw t) s = draw t s
+happens e (Stage q) s = stage e q s
+happens e (Flush q) s = flush q s
+happens e (Ring q) s = ring q s
+happens e (Complete q c) s = complete q c s
+happens e (FailCommand q c) s = fail_command q c s
+happens e (StoreHead q h) s = store_head q h s
+happens e (FlushHead q) s = flush q s
+happens e (Clear q low) s = clear q low s
+happens e (Acknowledge n) s = acknowledge n s
+happens e (WriteHome x) s = write_home x s
+happens e (HomeDone x) s = home_done x s
+happens e (StoreBase b) s = store_base b s
+happens e FlushBase s = flush_base s
+
+abbrev pub IsAllowed : Entries → Event → State → Type 0
+IsAllowed e (Draw t) s =
+    MayDraw (known_of e s) t × HasRoom s.geometry (from_at s.froms t.queue) s.root.base (us_of s t.queue) t (port_at s.ports t.queue) × (slice_index_or s.marks t.queue 0 ≤ t.number)
+IsAllowed e (Stage q) s = (q < s.geometry.queues) × MayStage (from_at s.froms q) (us_of s q) (port_at s.ports q)
+IsAllowed e (Flush q) s = (q < s.geometry.queues) × MayFlush (from_at s.froms q) (us_of s q) (port_at s.ports q)
+IsAllowed e (Ring q) s = (q < s.geometry.queues) × MayRing (from_at s.froms q) (us_of s q) (port_at s.ports q)
+IsAllowed e (Complete q c) s = (q < s.geometry.queues) × MayEnd c (port_at s.ports q)
+IsAllowed e (FailCommand q c) s = (q < s.geometry.queues) × MayEnd c (port_at s.ports q)
+IsAllowed e (StoreHead q h) s = (q < s.geometry.queues) × MayStoreHead (from_at s.froms q) (us_of s q) (port_at s.ports q) h
+IsAllowed e (FlushHead q) s = q < s.geometry.queues
+IsAllowed e (Clear q low) s = MayClear s q low
+IsAllowed e (Acknowledge n) s = n ≤ front_of s
+IsAllowed e (WriteHome x) s = MayWriteHome s x
+IsAllowed e (HomeDone x) s = is_among x s.under ≡ true
+IsAllowed e (StoreBase b) s = MayStoreBase e s b
+IsAllowed e FlushBase s = Unit {0}
+
+-- For now nothing is written directly or revoked by a drawn transaction.
+pub record IsAllLogged (t : Tx) : Type 0 where
+  pub direct : t.direct ≡ []
+  pub revoked : t.revoked ≡ []
+
+abbrev pub IsForNow : Event → Type 0
+IsForNow (Draw t) = IsAllLogged t
+IsForNow v = Unit {0}
+
+abbrev pub run : Entries → List Event → State → State
+run e [] s = s
+run e (v ∷ vs) s = run e vs (happens e v s)
+
+-- each event is allowed where it happens
+abbrev pub AreAllowed : Entries → List Event → State → Type 0
+AreAllowed e [] s = Unit {0}
+AreAllowed e (v ∷ vs) s = IsAllowed e v s × AreAllowed e vs (happens e v s)
+
+-- the state is lawful before, after and between the events
+abbrev pub IsAlwaysLawful : Entries → List Event → State → Type 0
+IsAlwaysLawful e [] s = IsLawful e s
+IsAlwaysLawful e (v ∷ vs) s = IsLawful e s × IsAlwaysLawful e vs (happens e v s)

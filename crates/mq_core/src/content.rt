@@ -1,0 +1,39 @@
+// The lists of a transaction.
+use mq_blocks::BlockNo;
+use std::marker::Model;
+
+/// The 4,096 bytes of a block.
+#[derive(Drop)]
+pub struct Content(pub Vec<u8>);
+
+impl Model for Content {
+    ghost use Rattle.std.specs.Prelude.{ℕ, List};
+
+    ghost Value = { List ℕ };
+
+    ghost view = { λ c. c.0.items };
+}
+
+/// Home blocks with the contents that they get.
+#[derive(Drop)]
+pub struct Writes(pub Vec<(BlockNo, Content)>);
+
+impl Model for Writes {
+    ghost use Rattle.mq_blocks.specs.Machine.{Writes as Text};
+
+    ghost Value = { Text };
+
+    ghost view = { λ w. w.0.items };
+}
+
+/// Home blocks.
+#[derive(Drop)]
+pub struct Blocks(pub Vec<BlockNo>);
+
+impl Model for Blocks {
+    ghost use Rattle.std.specs.Prelude.{ℕ, List};
+
+    ghost Value = { List ℕ };
+
+    ghost view = { λ b. b.0.items };
+}

@@ -1,0 +1,21 @@
+// What holds of every run.
+ghost use Rattle.std.specs.Prelude.{◌≡◌, ◌≤◌, ℕ, ◌^◌, Option, List, length};
+ghost use Rattle.mq_blocks.specs.Geometry.{homes_of};
+ghost use Rattle.mq_blocks.specs.declared.geometry.Geometry.{Geometry};
+ghost use Rattle.mq_core.specs.Items.{Entries};
+ghost use Rattle.mq_core.specs.Plain.{plain};
+ghost use Rattle.mq_core.specs.Start.{start_state};
+ghost use Rattle.mq_core.specs.State.{State, IsStart};
+ghost use Rattle.mq_core.specs.Machine.{Event, AreAllowed, IsAlwaysLawful};
+
+/// Every run of allowed events from a start state is lawful before, after and between its events:
+/// whatever a power cut leaves there is readable and stands for the map after a prefix of the
+/// history, with all that was acknowledged. Transactions may write blocks directly and revoke copies.
+pub fn every_run_is_lawful()
+    ensures { (e : Entries) (s : State) (events : List Event) → IsStart e s → AreAllowed e events s → IsAlwaysLawful e events s }
+{}
+
+/// Home blocks and a base make a start state.
+pub fn starts()
+    ensures { (g : Geometry) (blocks : List (Option (List ℕ))) (base : ℕ) → length blocks ≡ homes_of g → base ≤ 2 ^ 62 → IsStart plain (start_state g blocks base) }
+{}

@@ -1,0 +1,126 @@
+// The machine.
+ghost use Rattle.std.specs.Prelude.{◌≡◌, ◌≤◌, ◌<◌, ◌+◌, ◌^◌, IfOk, length, replicate};
+ghost use Rattle.mq_blocks.specs.Geometry.{homes_of};
+ghost use Rattle.mq_core.specs.Plain.{plain};
+ghost use Rattle.mq_core.specs.Start.{start_state, fresh_ports};
+ghost use Rattle.mq_core.specs.State.{IsLawful};
+
+use crate::{Content, Port, Tx};
+use mq_blocks::{BlockNo, Geometry, OutOfMemory, QueueNo, TxNo};
+use std::alloc::Global;
+use std::marker::Model;
+
+/// The same bytes.
+pub fn copy_content(alloc: Global, content: &Content) -> Result<Content, OutOfMemory>
+    ensures { IfOk result (λ c. c ≡ content.now) }
+{
+    Ok(Content(Vec::from_slice(alloc, &content.0)?))
+}
+
+/// Blocks with the same contents.
+pub fn copy_blocks(
+    alloc: Global,
+    blocks: &[Option<Content>],
+) -> Result<Vec<Option<Content>>, OutOfMemory>
+    ensures { IfOk result (λ v. v.items ≡ blocks.now) }
+{
+    let mut copies = Vec::new(alloc);
+    for block in blocks {
+        let copy = match block {
+            Some(content) => Some(copy_content(alloc, content)?),
+            None => None,
+        };
+        copies.push(copy)?;
+    }
+    Ok(copies)
+}
+
+/// A number so many times.
+pub fn repeated(alloc: Global, number: u64, times: usize) -> Result<Vec<u64>, OutOfMemory>
+    ensures { IfOk result (λ v. v.items ≡ replicate times number) }
+{
+    Ok(vec![in alloc; number; times]?)
+}
+
+/// The journal as a pure machine, always in a lawful state.
+#[derive(Drop)]
+pub struct Core {
+    geometry: Geometry,
+    start: Vec<Option<Content>>,
+    base: u64,
+    froms: Vec<u64>,
+    history: Vec<Tx>,
+    ports: Vec<Port>,
+    root: Port,
+    marks: Vec<u64>,
+    under: Vec<BlockNo>,
+    acknowledged: Vec<TxNo>,
+}
+
+impl Model for Core {
+    ghost use Rattle.mq_core.specs.State.{State};
+    ghost use Rattle.mq_core.specs.View.{state_of, HasFacts};
+
+    ghost Value = { State };
+
+    ghost view = { state_of };
+
+    ghost invariant = { HasFacts };
+}
+
+/// The ports of the queues, each with its part of these blocks.
+pub fn fresh_queues(
+    alloc: Global,
+    geometry: Geometry,
+    blocks: &[Option<Content>],
+) -> Result<Vec<Port>, OutOfMemory>
+    requires { length blocks.now ≡ homes_of geometry }
+    ensures { IfOk result (λ v. v.items ≡ fresh_ports geometry blocks.now 0 geometry.queues) }
+{
+    let mut ports = Vec::new(alloc);
+    for q in 0..geometry.queues() {
+        let first = (geometry.meta() + q * geometry.zone()) as usize;
+        let end = first + geometry.zone() as usize;
+        let homes = copy_blocks(alloc, &blocks[first..end])?;
+        ports.push(Port::fresh(alloc, geometry, Some(QueueNo(q)), homes, TxNo(0))?)?;
+    }
+    Ok(ports)
+}
+
+impl Core {
+    /// The machine before its first event, on a drive that has these home blocks: `None` is a free
+    /// block.
+    pub fn start(
+        alloc: Global,
+        geometry: Geometry,
+        blocks: &[Option<Content>],
+        base: TxNo,
+    ) -> Result<Core, OutOfMemory>
+        requires blocks { length blocks.now ≡ homes_of geometry }
+        requires base { base ≤ 2 ^ 62 }
+        ensures { IfOk result (λ c. c ≡ start_state geometry blocks.now base) }
+    {
+        let homes = copy_blocks(alloc, &blocks[..geometry.meta() as usize])?;
+        let queues = geometry.queues() as usize;
+        Ok(Core {
+            geometry,
+            start: copy_blocks(alloc, blocks)?,
+            base: base.0,
+            froms: repeated(alloc, 0, queues)?,
+            history: Vec::new(alloc),
+            ports: fresh_queues(alloc, geometry, blocks)?,
+            root: Port::fresh(alloc, geometry, None, homes, base)?,
+            marks: repeated(alloc, u64::MAX, queues)?,
+            under: Vec::new(alloc),
+            acknowledged: Vec::new(alloc),
+        })
+    }
+
+    /// Whatever a power cut leaves of the machine's drive is readable, and stands for a prefix of its
+    /// history that has all that was acknowledged.
+    pub fn is_lawful(&self)
+        ensures { IsLawful plain self.now }
+    {
+        let _ = &self.geometry;
+    }
+}

@@ -1,0 +1,351 @@
+// A port of the machine: ring, doorbell, heads, and blocks.
+ghost use Rattle.std.specs.Prelude.{◌≡◌, ◌<◌, ◌≤◌, ◌+◌, ◌%◌, ◌^◌, ◌++◌, ◌-◌, ◌∷◌, [], ℕ, length, slice_index_or, slice_set, replicate, Some, None, true, false, IfSome, IfNone, IfOk, OnOk, OnErr};
+ghost use Rattle.std.specs.List.{remove};
+ghost use Rattle.std.specs.Bool.{OnTrue, OnFalse};
+ghost use Rattle.mq_blocks.specs.Drive.{PortState, counted, staged_end, after_stage, after_flush, after_ring, after_begin, after_store_head, after_store_base, index_of};
+ghost use Rattle.mq_core.specs.Events.{index_with, command_with, complete_side, fail_side};
+ghost use Rattle.mq_core.specs.Sides.{holds_count};
+ghost use Rattle.mq_core.specs.Within.{IsWithin};
+ghost use Rattle.mq_blocks.specs.Geometry.{queues_of};
+ghost use Rattle.mq_core.specs.Start.{port_over};
+
+use crate::Content;
+use mq_blocks::{Geometry, Lba, OutOfMemory, QueueNo, TxNo};
+use std::alloc::Global;
+use std::marker::Model;
+
+/// What an entry says: its transaction's number, the Lba that it writes, and whether it is the
+/// transaction's last.
+#[derive(Clone, Copy)]
+pub struct Entry {
+    pub number: u64,
+    pub lba: u64,
+    pub commit: bool,
+}
+
+impl Model for Entry {
+    ghost use Rattle.std.specs.Prelude.{ℕ, ◌<◌, ◌^◌, ◌==◌, List, [], ◌∷◌, slice_index, if◌then◌else◌};
+
+    ghost Value = { List ℕ };
+
+    ghost view = { λ e. e.number ∷ e.lba ∷ (if e.commit then 1 else 0) ∷ [] };
+
+    ghost inverse = { λ l. record { number = slice_index l 0; lba = slice_index l 1; commit = slice_index l 2 == 1 } };
+}
+
+/// A write command of a queue.
+#[derive(Drop)]
+pub struct Command {
+    pub count: u64,
+    pub tx: u64,
+    pub lba: Lba,
+    pub block: Content,
+}
+
+impl Model for Command {
+    ghost use Rattle.mq_blocks.specs.declared.command.Command.{Command as Text};
+
+    ghost Value = { Text };
+
+    ghost view = { λ c. record { count = c.count; tx = c.tx; lba = c.lba; block = c.block } };
+}
+
+/// A home write that has begun.
+#[derive(Drop)]
+pub struct HomeWrite {
+    pub lba: Lba,
+    pub block: Content,
+}
+
+impl Model for HomeWrite {
+    ghost use Rattle.mq_blocks.specs.declared.command.HomeWrite.{HomeWrite as Text};
+
+    ghost Value = { Text };
+
+    ghost view = { λ w. record { lba = w.lba; block = w.block } };
+}
+
+/// A queue's port, or the root's.
+#[derive(Drop)]
+pub struct Port {
+    queue: Option<QueueNo>,
+    area_first: u32,
+    area_size: u32,
+    homes_first: u32,
+    homes_size: u32,
+    flushed: Vec<Entry>,
+    staged: Vec<Entry>,
+    flushed_end: u64,
+    pending: Vec<Command>,
+    doorbell: u64,
+    posted: Vec<Command>,
+    failed: Vec<Command>,
+    head: u64,
+    stored_head: u64,
+    base: u64,
+    stored_base: u64,
+    blocks: Vec<Option<Content>>,
+    sure: Vec<bool>,
+    begun: Vec<HomeWrite>,
+    rings: u64,
+    begins: u64,
+    events: u64,
+}
+
+impl Model for Port {
+    ghost use Rattle.std.specs.Prelude.{None};
+    ghost use Rattle.mq_blocks.specs.Drive.{PortState, no_fuse};
+
+    ghost Value = { PortState };
+
+    ghost view = { λ p. record { queue = p.queue; area_first = p.area_first; area_size = p.area_size; homes_first = p.homes_first; homes_size = p.homes_size; flushed = p.flushed.items; staged = p.staged.items; flushed_end = p.flushed_end; pending = p.pending.items; doorbell = p.doorbell; posted = p.posted.items; failed = p.failed.items; head = p.head; stored_head = p.stored_head; base = p.base; stored_base = p.stored_base; blocks = p.blocks.items; sure = p.sure.items; begun = p.begun.items; rings = p.rings; begins = p.begins; events = p.events; fuse = no_fuse; fail = None } };
+}
+
+/// One more, up to the greatest number of 64 bits.
+pub fn bump(n: u64) -> u64
+    ensures { result ≡ counted n 1 }
+{
+    n.saturating_add(1)
+}
+
+pub fn put_entry(slots: &mut Vec<Entry>, at: usize, entry: Entry)
+    requires { at < length slots.old.items }
+    ensures { slots.new.items ≡ slice_set slots.old.items at entry }
+{
+    slots[at] = entry;
+}
+
+pub fn put_block(blocks: &mut Vec<Option<Content>>, at: usize, block: Content)
+    requires { at < length blocks.old.items }
+    ensures { blocks.new.items ≡ slice_set blocks.old.items at (Some block) }
+{
+    blocks[at] = Some(block);
+}
+
+pub fn put_flag(flags: &mut Vec<bool>, at: usize, flag: bool)
+    requires { at < length flags.old.items }
+    ensures { flags.new.items ≡ slice_set flags.old.items at flag }
+{
+    flags[at] = flag;
+}
+
+/// Where the command of a count stands in a list.
+pub fn find_count(commands: &[Command], count: u64) -> Option<usize>
+    ensures some { IfSome result (λ at. (holds_count count commands.now ≡ true) × (index_with count commands.now ≡ at) × (at < length commands.now)) }
+    ensures none { IfNone result (holds_count count commands.now ≡ false) }
+{
+    let mut at = 0;
+    for command in commands {
+        if command.count == count {
+            return Some(at);
+        }
+        at += 1;
+    }
+    None
+}
+
+/// Takes the command of a count out, if there is one.
+pub fn take_count(commands: &mut Vec<Command>, count: u64) -> Option<Command>
+    ensures some { IfSome result (λ c. (holds_count count commands.old.items ≡ true) × (command_with count commands.old.items ≡ c) × (commands.new.items ≡ remove commands.old.items (index_with count commands.old.items))) }
+    ensures none { IfNone result ((holds_count count commands.old.items ≡ false) × (commands.new.items ≡ commands.old.items)) }
+{
+    let at = find_count(commands, count)?;
+    Some(commands.remove(at))
+}
+
+/// So many blocks that were never written, and then these.
+pub fn behind_empty(
+    alloc: Global,
+    empty: usize,
+    mut homes: Vec<Option<Content>>,
+) -> Result<Vec<Option<Content>>, OutOfMemory>
+    ensures { IfOk result (λ v. v.items ≡ replicate empty None ++ homes.items) }
+{
+    let mut blocks = Vec::new(alloc);
+    for _ in 0..empty {
+        blocks.push(None)?;
+    }
+    blocks.append(&mut homes)?;
+    Ok(blocks)
+}
+
+impl Port {
+    /// A port where nothing has happened yet: a queue's, or the root's where none is named. It has
+    /// these home blocks, of which `None` is a block of zeros.
+    pub fn fresh(
+        alloc: Global,
+        geometry: Geometry,
+        queue: Option<QueueNo>,
+        homes: Vec<Option<Content>>,
+        base: TxNo,
+    ) -> Result<Port, OutOfMemory>
+        requires own { IfSome queue (λ q. q < queues_of geometry) }
+        ensures { IfOk result (λ p. p ≡ port_over geometry queue homes.items base) }
+    {
+        let blank = Entry {
+            number: 0,
+            lba: 0,
+            commit: false,
+        };
+        let areas = geometry.queues() * geometry.area();
+        let (slots, area_first, area_size, homes_first, homes_size) = match queue {
+            Some(q) => (
+                1024,
+                q.0 * geometry.area(),
+                geometry.area(),
+                areas + (geometry.meta() + q.0 * geometry.zone()),
+                geometry.zone(),
+            ),
+            None => (0, 0, 0, areas, geometry.meta()),
+        };
+        Ok(Port {
+            queue,
+            area_first,
+            area_size,
+            homes_first,
+            homes_size,
+            flushed: vec![in alloc; blank; slots]?,
+            staged: vec![in alloc; blank; slots]?,
+            flushed_end: 0,
+            pending: Vec::new(alloc),
+            doorbell: 0,
+            posted: Vec::new(alloc),
+            failed: Vec::new(alloc),
+            head: 0,
+            stored_head: 0,
+            base: base.0,
+            stored_base: base.0,
+            blocks: behind_empty(alloc, area_size as usize, homes)?,
+            sure: vec![in alloc; true; (area_size + homes_size) as usize]?,
+            begun: Vec::new(alloc),
+            rings: 0,
+            begins: 0,
+            events: 0,
+        })
+    }
+
+    /// Where a block stands among the port's.
+    fn index(&self, lba: Lba) -> usize
+        requires { IsWithin self.now lba }
+        ensures { result ≡ index_of self.now lba }
+    {
+        if lba.0 < self.homes_first {
+            return (lba.0 - self.area_first) as usize;
+        }
+        (self.area_size + (lba.0 - self.homes_first)) as usize
+    }
+
+    /// Ends the posted command of a count with success, and answers whether there is one.
+    pub fn complete(&mut self, count: u64) -> bool
+        requires { IsWithin self.old (command_with count self.old.posted).lba }
+        ensures yes { OnTrue result ((holds_count count self.old.posted ≡ true) × (self.new ≡ complete_side count self.old)) }
+        ensures no { OnFalse result ((holds_count count self.old.posted ≡ false) × (self.new ≡ self.old)) }
+    {
+        let Some(command) = take_count(&mut self.posted, count) else {
+            return false;
+        };
+        let at = self.index(command.lba);
+        put_block(&mut self.blocks, at, command.block);
+        put_flag(&mut self.sure, at, true);
+        self.events = bump(self.events);
+        true
+    }
+
+    /// Ends the posted command of a count with an error, and answers whether there is one.
+    pub fn fail(&mut self, count: u64) -> Result<bool, OutOfMemory>
+        requires { IsWithin self.old (command_with count self.old.posted).lba }
+        ensures yes { IfOk result (λ found. OnTrue found ((holds_count count self.old.posted ≡ true) × (self.new ≡ fail_side count self.old))) }
+        ensures no { IfOk result (λ found. OnFalse found ((holds_count count self.old.posted ≡ false) × (self.new ≡ self.old))) }
+        ensures refused { OnErr result (self.new ≡ self.old) }
+    {
+        self.failed.reserve(1)?;
+        let Some(command) = take_count(&mut self.posted, count) else {
+            return Ok(false);
+        };
+        let at = self.index(command.lba);
+        self.failed.push(command)?;
+        put_flag(&mut self.sure, at, false);
+        self.events = bump(self.events);
+        Ok(true)
+    }
+
+    /// Begins a home write of this content.
+    pub fn begin_home(&mut self, lba: Lba, block: Content) -> Result<(), OutOfMemory>
+        requires { IsWithin self.old lba }
+        ensures ok { OnOk result (self.new ≡ after_begin self.old lba block) }
+        ensures refused { OnErr result (self.new ≡ self.old) }
+    {
+        let at = self.index(lba);
+        self.begun.push(HomeWrite { lba, block })?;
+        put_flag(&mut self.sure, at, false);
+        self.begins = bump(self.begins);
+        Ok(())
+    }
+
+    /// Rings: what was staged is posted.
+    pub fn ring(&mut self) -> Result<(), OutOfMemory>
+        requires room { staged_end self.old < 2 ^ 64 }
+        ensures ok { OnOk result (self.new ≡ after_ring self.old) }
+        ensures refused { OnErr result (self.new ≡ self.old) }
+    {
+        let end = self.doorbell + self.pending.len() as u64;
+        self.posted.append(&mut self.pending)?;
+        self.doorbell = end;
+        self.rings = bump(self.rings);
+        self.events = bump(self.events);
+        Ok(())
+    }
+
+    /// Stages the next entry, which is of this transaction and writes this block.
+    pub fn stage(
+        &mut self,
+        entry: Entry,
+        tx: TxNo,
+        lba: Lba,
+        block: Content,
+    ) -> Result<(), OutOfMemory>
+        requires ring { length self.old.staged ≡ 1024 }
+        requires room { staged_end self.old < 2 ^ 64 }
+        ensures ok { OnOk result (self.new ≡ after_stage self.old entry tx lba block) }
+        ensures refused { OnErr result (self.new ≡ self.old) }
+    {
+        let count = self.doorbell + self.pending.len() as u64;
+        let command = Command {
+            count,
+            tx: tx.0,
+            lba,
+            block,
+        };
+        self.pending.push(command)?;
+        put_entry(&mut self.staged, (count % 1024) as usize, entry);
+        self.events = bump(self.events);
+        Ok(())
+    }
+
+    /// Makes what is staged and stored certain.
+    pub fn flush(&mut self)
+        requires ring { length self.old.flushed ≡ length self.old.staged }
+        requires room { staged_end self.old < 2 ^ 64 }
+        ensures { self.new ≡ after_flush self.old }
+    {
+        self.flushed.copy_from_slice(&self.staged);
+        self.flushed_end = self.doorbell + self.pending.len() as u64;
+        self.head = self.stored_head;
+        self.base = self.stored_base;
+        self.events = bump(self.events);
+    }
+
+    pub fn store_head(&mut self, head: u64)
+        ensures { self.new ≡ after_store_head self.old head }
+    {
+        self.stored_head = head;
+        self.events = bump(self.events);
+    }
+
+    pub fn store_base(&mut self, base: TxNo)
+        ensures { self.new ≡ after_store_base self.old base }
+    {
+        self.stored_base = base.0;
+        self.events = bump(self.events);
+    }
+}
