@@ -1,0 +1,74 @@
+-- What is known grows, and what stays as it does.
+use Rattle.std.proofs.Common.{◌≡◌, ◌≢◌, ℕ, zero, suc, ◌+◌, ◌<◌, ◌≤◌, eqb, Bool, true, false, List, [], ◌∷◌, ◌++◌, length, sym, refl, ap, ◌∙◌, subst, arith, append_assoc, length-append, inl, inr, ⊎_elim}
+use Rattle.std.proofs.lemmas.Bool.{false≢true, eq-eqb, eqb-true}
+use Rattle.mq_turns.specs.Meaning.{Touch, Lie, Apart, Stays, Grows, newest, drawn, claimed, written, raised, IsAt}
+use Rattle.mq_turns.specs.Lists.{Each}
+use Rattle.mq_turns.specs.declared.rule.Known.{Known}
+use Rattle.mq_turns.specs.declared.turn.Turn.{Turn}
+
+pub each_join : {A : Type 0} (F : A → Type 0) (l m : List A) → Each F l → Each F m → Each F (l ++ m)
+each_join F [] m a b = b
+each_join F (x ∷ xs) m a b = (a.0, each_join F xs m a.1 b)
+
+-- a number of the history is one that was drawn
+pub at_bounds : {E : Type 0} (base : ℕ) (log : List E) (n : ℕ) (e : E) → IsAt base log n e → (base < n) × (n ≤ base + length log)
+at_bounds base [] n e a = absurd a
+at_bounds base (x ∷ xs) n e (inl a) = let i = a.0 in (omega arith, omega arith)
+at_bounds base (x ∷ xs) n e (inr a) = let b = at_bounds base xs n e a in let lo = b.0 in let hi = b.1 in (omega arith, omega arith)
+
+pub at_more : {E : Type 0} (base : ℕ) (newer log : List E) (n : ℕ) (e : E) → IsAt base log n e → IsAt base (newer ++ log) n e
+at_more base [] log n e a = a
+at_more base (x ∷ xs) log n e a = inr (at_more base xs log n e a)
+
+module _ {P Q R E : Type 0} where
+  abbrev pub grows_now : (K : Known P Q R E) → Grows K K
+  grows_now K = record { opening = refl; newer = []; log = refl; claimed = []; claims = refl; written = []; ended = refl; word = omega arith }
+
+  pub grows_on : (K L N : Known P Q R E) → Grows K L → Grows L N → Grows K N
+  grows_on K L N a b = record {
+    opening = b.opening ∙ a.opening;
+    newer = b.newer ++ a.newer;
+    log = b.log ∙ (ap (λ l. b.newer ++ l) a.log ∙ sym (append_assoc b.newer a.newer K.log));
+    claimed = b.claimed ++ a.claimed;
+    claims = b.claims ∙ (ap (λ l. b.claimed ++ l) a.claims ∙ sym (append_assoc b.claimed a.claimed K.claims));
+    written = b.written ++ a.written;
+    ended = b.ended ∙ (ap (λ l. b.written ++ l) a.ended ∙ sym (append_assoc b.written a.written K.ended));
+    word = let x = a.word in let y = b.word in omega arith;
+  }
+
+  pub newest_grows : (K L : Known P Q R E) → Grows K L → newest K ≤ newest L
+  newest_grows K L g = let b : L.opening.base ≡ K.opening.base = ap (λ o. o.base) g.opening in let l : length L.log ≡ length (g.newer ++ K.log) = ap length g.log in let n = length-append g.newer K.log in omega arith
+
+  pub at_grows : (K L : Known P Q R E) (n : ℕ) (e : E) → Grows K L → IsAt K.opening.base K.log n e → IsAt L.opening.base L.log n e
+  at_grows K L n e g a = let T : ℕ → List E → Type 0 = λ b l. IsAt b l n e in subst (λ (z : ℕ × List E). T z.0 z.1) (λ i. (sym (ap (λ o. o.base) g.opening) i, sym g.log i)) (at_more K.opening.base g.newer K.log n e a)
+
+  -- each kind of step
+  abbrev pub grows_drawn : (e : E) (K : Known P Q R E) → Grows K (drawn e K)
+  grows_drawn e K = record { opening = refl; newer = e ∷ []; log = refl; claimed = []; claims = refl; written = []; ended = refl; word = omega arith }
+
+  abbrev pub grows_claimed : (c : ℕ × ℕ) (K : Known P Q R E) → Grows K (claimed c K)
+  grows_claimed c K = record { opening = refl; newer = []; log = refl; claimed = c ∷ []; claims = refl; written = []; ended = refl; word = omega arith }
+
+  abbrev pub grows_written : (h : ℕ × ℕ) (K : Known P Q R E) → Grows K (written h K)
+  grows_written h K = record { opening = refl; newer = []; log = refl; claimed = []; claims = refl; written = h ∷ []; ended = refl; word = omega arith }
+
+  abbrev pub grows_raised : (b : ℕ) (K : Known P Q R E) → K.word ≤ b → Grows K (raised b K)
+  grows_raised b K low = record { opening = refl; newer = []; log = refl; claimed = []; claims = refl; written = []; ended = refl; word = low }
+
+module _ {E : Type 0} (touches : Touch E) where
+  apart_join : (xs ys zs : List E) (t : Turn) → Apart touches xs (ys ++ zs) t → Apart touches ys zs t → Apart touches (xs ++ ys) zs t
+  apart_join [] ys zs t a b = b
+  apart_join (x ∷ xs) ys zs t a b = (ap (λ l. touches l x t) (append_assoc xs ys zs) ∙ a.0, apart_join xs ys zs t a.1 b)
+
+  module _ {P Q R : Type 0} (lies : Lie) where
+    pub stays_now : (t : Turn) (K : Known P Q R E) → Stays touches lies t K K
+    stays_now t K = record { grows = grows_now K; apart = tt; claims = tt; ended = tt }
+
+    pub stays_on : (t : Turn) (K L N : Known P Q R E) → Stays touches lies t K L → Stays touches lies t L N → Stays touches lies t K N
+    unfolding grows_on
+    stays_on t K L N a b = record {
+      grows = grows_on K L N a.grows b.grows;
+      apart = apart_join b.grows.newer a.grows.newer K.log t (subst (λ l. Apart touches b.grows.newer l t) a.grows.log b.apart) a.apart;
+      claims = each_join _ b.grows.claimed a.grows.claimed b.claims a.claims;
+      ended = each_join _ b.grows.written a.grows.written b.ended a.ended;
+    }

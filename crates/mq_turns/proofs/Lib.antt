@@ -1,0 +1,10 @@
+pub mod Totals
+pub mod Growth
+pub mod Slots
+pub mod Turns
+pub mod Numbers
+pub mod Keeping
+pub mod Seats
+pub mod Laying
+pub mod Ending
+pub mod Counting

@@ -1,0 +1,101 @@
+-- Views that are cut and joined, the desk at its start and at its end.
+use Rattle.std.proofs.Common.{◌≡◌, ◌≢◌, ℕ, zero, suc, ◌+◌, ◌-◌, ◌*◌, ◌<◌, ◌≤◌, cond, Bool, true, false, List, [], ◌∷◌, ◌++◌, map, length, get_or, set, max, sym, refl, ap, ◌∙◌, subst, ⊎_elim, inl, inr, arith, Option, Some, None, length-set, length-append, get_or-set_other, get_or-set_same, replicate, eq-eqb, ne_eqb}
+use mathlib.Core.Logic.{dite}
+use mathlib.Core.Option.{none, some, some-ne-none, some-injective}
+use native.Mathlib.Decide.{ℕ_discrete}
+use lib.ListN.{get_elem?, length-map, length-replicate, get_or-replicate}
+use Rattle.std.specs.Prelude.{slice_get}
+use Rattle.atomic_table.specs.Table.{State, Splits, Joins, opening, Final, Seen}
+use Rattle.mq_turns.specs.Meaning.{Meaning, Grows, opened, newest, drawn, IsAt}
+use Rattle.mq_turns.specs.Lists.{total, Each, tick, times, without}
+use Rattle.mq_turns.specs.Desk.{slots, turn_at, hand_at, holders, hands, allotment, last_of, Now, Below, blank, fresh, slots_from, laying, first_view, others, seated, noted, heard, joined, Drawer, Holder, Turned, Turns, Numbers, Ruled, Stands}
+use Rattle.mq_turns.specs.Chairs.{Starts}
+use Rattle.mq_turns.specs.declared.rule.Opening.{Opening}
+use Rattle.mq_turns.specs.declared.rule.Known.{Known}
+use Rattle.mq_turns.specs.declared.rule.View.{View}
+use Rattle.mq_turns.specs.declared.turn.Turn.{Turn}
+use Rattle.mq_turns.specs.declared.turn.Item.{Item}
+use Rattle.mq_turns.proofs.Totals.{total_one, total_two, total_zero, total_only, hit, miss, times_append}
+use Rattle.mq_turns.proofs.Growth.{each_join, stays_now}
+use Rattle.mq_turns.proofs.Turns.{turns_split, turns_join}
+use Rattle.mq_turns.proofs.Numbers.{numbers_split, numbers_join, drawns_below, last_of_le, last_of_bounds}
+
+-- what a chair that heard a note had seen, and what the note was of
+pub told : {P Q R E : Type 0} (n : ℕ) (v f : View P Q R E) → Below n (heard v (noted f)) → Below n f × Below n v
+told n v f b = let x = b.0 in (last_of_bounds f.seen n f.drawn (omega arith), (omega arith, b.1))
+
+module _ {P Q R E : Type 0} (μ : Meaning P Q R E) where
+  -- a view that knows a number alone
+  knows_none : (most : ℕ) (K : Known P Q R E) (v : View P Q R E) → v.parts ≡ 0 → v.seen ≤ newest K → v.drawn ≡ [] → v.read ≡ [] → Drawer μ most K v
+  knows_none most K v parts seen drew read = record {
+    few = let a : length v.drawn ≡ 0 = ap length drew in omega arith;
+    opening = λ n. absurd (n parts);
+    seen = seen;
+    drew = subst (Each (λ d. IsAt K.opening.base K.log d.0 d.1)) (sym drew) tt;
+    read = subst (Each (λ r. μ.ok r.1 × Grows r.1 K × μ.fits r.0 r.1)) (sym read) tt;
+  }
+
+module _ {M P Q R E : Type 0} (μ : Meaning P Q R E) (o : Opening P Q R) (chairs : ℕ) where
+  abbrev Rule : Now M P Q R E → Type 0
+  Rule = Ruled μ o chairs
+
+  -- a note of what a chair saw and drew
+  pub notes : (id : ℕ) (v : View P Q R E) → Splits Rule id v v (noted v)
+  notes id v s rk at =
+      let K : Known P Q R E = rk.0 in (
+        K,
+        rk.1,
+        turns_split μ (turn_at o) K s id v v (noted v) rk.2 at refl refl (rk.2.each_chair id v at).idle refl refl,
+        numbers_split μ chairs K s id v v (noted v) rk.3 at (omega arith) refl refl (λ d. (d, knows_none μ (allotment chairs) K (noted v) refl (last_of_le v.seen (newest K) v.drawn d.seen (drawns_below μ K v.drawn d.drew)) refl refl)),
+      )
+
+  -- a chair is set apart, while nothing is held or drawn
+  pub seats : (id : ℕ) (v : View P Q R E) → 0 < v.parts → v.held ≡ [] → v.drawn ≡ [] → Splits Rule id v (others v) (seated v)
+  seats id v live none_held none_drawn s rk at =
+      let K : Known P Q R E = rk.0 in
+      let none_yet : length v.drawn ≡ 0 = ap length none_drawn in (
+        K,
+        rk.1,
+        turns_split μ (turn_at o) K s id v (others v) (seated v) rk.2 at refl refl (λ _. none_held) refl refl,
+        numbers_split μ chairs K s id v (others v) (seated v) rk.3 at (omega arith) refl refl (λ d. (
+          record { few = omega arith; opening = λ n. d.opening (λ e. omega arith); seen = d.seen; drew = d.drew; read = d.read },
+          record { few = omega arith; opening = λ n. d.opening (λ e. omega arith); seen = d.seen; drew = tt; read = tt },
+        )),
+      )
+
+  -- a chair hears a note
+  pub hears_note : (id : ℕ) (v : View P Q R E) (other : ℕ) (w f : View P Q R E) → w ≡ noted f → Joins Rule id v other w (heard v w) blank
+  hears_note id v other w f is s rk at apart there =
+      let K : Known P Q R E = rk.0 in
+      let parts : w.parts ≡ 0 = ap (λ u. u.parts) is in
+      let drew : w.drawn ≡ [] = ap (λ u. u.drawn) is in (
+        K,
+        rk.1,
+        turns_join μ (turn_at o) K s id v other w (heard v w) blank rk.2 at apart there (ap (λ u. u.hand) is) (ap (λ u. u.held) is) refl refl (λ z. z) refl refl,
+        numbers_join μ chairs K s id v other w (heard v w) blank rk.3 at apart there (omega arith) (let a : length w.drawn ≡ 0 = ap length drew in omega arith) (λ k. let a : times k w.drawn ≡ 0 = ap (times k) drew in omega arith) refl
+            (λ d e. (
+              record { few = d.few; opening = d.opening; seen = let a = d.seen in let b = e.seen in omega arith; drew = d.drew; read = d.read },
+              knows_none μ (allotment chairs) K blank refl (omega arith) refl refl,
+            )),
+      )
+
+  -- two chairs, of which the second holds nothing, are one
+  pub glues : (id : ℕ) (v : View P Q R E) (other : ℕ) (w : View P Q R E) → 0 < v.parts → w.held ≡ [] → w.hand ≡ 0 → Joins Rule id v other w (joined v w) blank
+  glues id v other w live none_held no_hand s rk at apart there =
+      let K : Known P Q R E = rk.0 in
+      let l = length-append v.drawn w.drawn in (
+        K,
+        rk.1,
+        turns_join μ (turn_at o) K s id v other w (joined v w) blank rk.2 at apart there no_hand none_held refl refl (λ z. omega arith) refl refl,
+        numbers_join μ chairs K s id v other w (joined v w) blank rk.3 at apart there (omega arith) l (λ k. times_append k v.drawn w.drawn) refl
+            (λ d e. (
+              record {
+                few = let p = d.few in let q = e.few in omega arith;
+                opening = λ n. d.opening (λ z. omega arith);
+                seen = let a = d.seen in let b = e.seen in omega arith;
+                drew = each_join _ v.drawn w.drawn d.drew e.drew;
+                read = each_join _ v.read w.read d.read e.read;
+              },
+              knows_none μ (allotment chairs) K blank refl (omega arith) refl refl,
+            )),
+      )

@@ -1,0 +1,40 @@
+-- Words on desks and chairs.
+use Rattle.std.specs.Prelude.{◌≡◌, ◌≢◌, ◌⊎◌, ℕ, zero, suc, ◌+◌, ◌<◌, ◌≤◌, List, [], ◌∷◌, ◌++◌, length, slice_get, Option, Some, None}
+use Rattle.mq_turns.specs.Lists.{Each, times, without}
+use Rattle.mq_turns.specs.Meaning.{Meaning, Grows, opened, newest, IsAt}
+use Rattle.mq_turns.specs.Desk.{opening_of, drawn_of, read_of}
+use Rattle.mq_turns.specs.declared.rule.Opening.{Opening}
+use Rattle.mq_turns.specs.declared.rule.Known.{Known}
+use Rattle.mq_turns.specs.declared.rule.View.{View}
+
+module _ {P Q R E : Type 0} where
+  -- the chair takes the turn of the slot k, and gives it back
+  abbrev pub holding : ℕ → Known P Q R E → View P Q R E → View P Q R E
+  holding k K v = record v { hand = 0; held = (k, K) ∷ v.held }
+
+  abbrev pub giving : ℕ → View P Q R E → View P Q R E
+  giving k v = record v { hand = 0; held = without k v.held }
+
+module _ {P Q R E : Type 0} (μ : Meaning P Q R E) where
+  -- the values that a desk is opened with stand for the start
+  pub record Starts (o : Opening P Q R) : Type 0 where
+    pub ok : μ.ok (opened o)
+    pub pages : (b : ℕ) (x : P) → slice_get o.pages b ≡ Some x → μ.page b (opened o) x
+    pub sides : (q : ℕ) (x : Q) → slice_get o.sides q ≡ Some x → μ.side q (opened o) x
+    pub root : μ.root (opened o) o.root
+
+  -- What a desk that has ended shows: there is one history, which is legal. The values are what it says, each number is one
+  -- draw of a chair, and what the chairs read was the machine's at its number.
+  pub record Ended (o : Opening P Q R) (views : List (View P Q R E)) (pages : List P) (sides : List Q) (root : R) (next : ℕ) : Type 0 where
+    pub known : Known P Q R E
+    pub opening : known.opening ≡ o
+    pub ok : μ.ok known
+    pub next_is : next ≡ newest known
+    pub all_pages : length pages ≡ length o.pages
+    pub pages_stand : (b : ℕ) (x : P) → slice_get pages b ≡ Some x → μ.page b known x
+    pub all_sides : length sides ≡ length o.sides
+    pub sides_stand : (q : ℕ) (x : Q) → slice_get sides q ≡ Some x → μ.side q known x
+    pub root_stands : μ.root known root
+    pub drew : Each (λ d. IsAt known.opening.base known.log d.0 d.1) (drawn_of views)
+    pub once : (n : ℕ) → o.base < n → n ≤ next → times n (drawn_of views) ≡ 1
+    pub read : Each (λ r. μ.ok r.1 × Grows r.1 known × μ.fits r.0 r.1) (read_of views)

@@ -1,0 +1,154 @@
+// The end of a desk: its chairs become one, and its values come out.
+ghost use Rattle.std.specs.Prelude.{◌≡◌, ◌≢◌, ℕ, ◌+◌, ◌<◌, ◌≤◌, ◌++◌, [], true, false, IfOk, IfErr, All, map, length, vec_len, vec_capacity, slice_index_or};
+ghost use Rattle.std.specs.Slots.{slots_items, slots_filled, slots_len, IsFull};
+ghost use Rattle.mq_turns.specs.Lists.{total};
+ghost use Rattle.mq_turns.specs.Desk.{drawn_of, read_of};
+ghost use Rattle.mq_turns.specs.Chairs.{Ended};
+ghost use Rattle.mq_turns.specs.Closing.{HasPages, HasSides, HasRoot, ArePages, AreSides, IsRoot};
+ghost use Rattle.mq_turns.specs.AtDesk.{AtDesk, view, start_of, chairs_of};
+
+use crate::desk::{Chair, Desk};
+use crate::machine::Machine;
+use crate::plays::Glue;
+use crate::steps::{Place, Top};
+use crate::turn::Item;
+use atomic_table::Closed;
+use mq_blocks::{OutOfMemory, TxNo};
+use std::alloc::Global;
+
+/// What a desk had when it ended: the pages by block, the sides by queue, and the root.
+#[derive(Drop)]
+pub struct Parts<M: Machine> {
+    pub pages: Vec<M::Page>,
+    pub sides: Vec<M::Side>,
+    pub root: M::Root,
+    /// The last number drawn, or the base.
+    pub next: TxNo,
+    pub base: TxNo,
+}
+
+fn join_all<M: Machine>(top: &Top<M>, place: &mut Place<M>, mut chairs: Vec<Chair<M>>)
+    requires table { (place.old.table_id ≡ top.now.table_id) × (0 < top.now.table_id.words) × (place.old.me.1 ≡ []) × (place.old.me.0.held ≡ []) × (0 < place.old.me.0.parts) }
+    requires theirs { All (λ ch. (ch.place.table_id ≡ top.now.table_id) × ((view ch).held ≡ [])) chairs.items }
+    ensures seat { (place.new.table_id ≡ place.old.table_id) × (place.new.id ≡ place.old.id) × (place.new.me.1 ≡ []) × (place.new.me.0.held ≡ []) }
+    ensures parts { place.new.me.0.parts ≡ place.old.me.0.parts + total (λ v. v.parts) (map (λ ch. view ch) chairs.items) }
+    ensures all { (place.new.me.0.drawn ≡ place.old.me.0.drawn ++ drawn_of (map (λ ch. view ch) chairs.items)) × (place.new.me.0.read ≡ place.old.me.0.read ++ read_of (map (λ ch. view ch) chairs.items)) }
+{
+    while let Some(Chair { place: other }) = chairs.pop() {
+        top.join_seat::<Glue>(place, other);
+    }
+    chairs.destroy_empty();
+}
+
+// Takes the pages out, which lie first.
+fn unload_pages<M: Machine>(
+    closed: &mut Closed<Option<Item<M>>, Global>,
+    count: usize,
+    mut pages: Vec<M::Page>,
+) -> Vec<M::Page>
+    requires room { (pages.items ≡ []) × (count ≤ vec_capacity pages) × (count < slots_len closed.old.slots) }
+    requires full { (j : ℕ) → j < slots_len closed.old.slots → slice_index_or (slots_filled closed.old.slots) j false ≡ true }
+    requires home { HasPages count (slots_items closed.old.slots) }
+    ensures same { (slots_items closed.new.slots ≡ slots_items closed.old.slots) × (slots_len closed.new.slots ≡ slots_len closed.old.slots) × (closed.new.words ≡ closed.old.words) }
+    ensures left { (j : ℕ) → count ≤ j → j < slots_len closed.old.slots → slice_index_or (slots_filled closed.new.slots) j false ≡ true }
+    ensures gone { (j : ℕ) → j < count → slice_index_or (slots_filled closed.new.slots) j false ≡ false }
+    ensures pages { (vec_len result ≡ count) × ArePages (slots_items closed.old.slots) result.items }
+{
+    for k in 0..count {
+        let slot = closed.take(k);
+        let Some(item) = slot else { unreachable!() };
+        let Item::Page(page) = item else {
+            unreachable!()
+        };
+        pages.push_reserved(page);
+    }
+    pages
+}
+
+// Takes the sides out, which lie after the pages.
+fn unload_sides<M: Machine>(
+    closed: &mut Closed<Option<Item<M>>, Global>,
+    pages: usize,
+    count: usize,
+    mut sides: Vec<M::Side>,
+) -> Vec<M::Side>
+    requires room { (sides.items ≡ []) × (count ≤ vec_capacity sides) × (pages + count < slots_len closed.old.slots) }
+    requires full { (j : ℕ) → pages ≤ j → j < slots_len closed.old.slots → slice_index_or (slots_filled closed.old.slots) j false ≡ true }
+    requires empty { (j : ℕ) → j < pages → slice_index_or (slots_filled closed.old.slots) j false ≡ false }
+    requires home { HasSides pages count (slots_items closed.old.slots) }
+    ensures same { (slots_items closed.new.slots ≡ slots_items closed.old.slots) × (slots_len closed.new.slots ≡ slots_len closed.old.slots) × (closed.new.words ≡ closed.old.words) }
+    ensures left { (j : ℕ) → pages + count ≤ j → j < slots_len closed.old.slots → slice_index_or (slots_filled closed.new.slots) j false ≡ true }
+    ensures gone { (j : ℕ) → j < pages + count → slice_index_or (slots_filled closed.new.slots) j false ≡ false }
+    ensures sides { (vec_len result ≡ count) × AreSides pages (slots_items closed.old.slots) result.items }
+{
+    for k in 0..count {
+        let slot = closed.take(pages + k);
+        let Some(item) = slot else { unreachable!() };
+        let Item::Side(side) = item else {
+            unreachable!()
+        };
+        sides.push_reserved(side);
+    }
+    sides
+}
+
+// Takes the root out, which lies last and alone, and frees the table.
+fn unload_root<M: Machine>(mut closed: Closed<Option<Item<M>>, Global>, last: usize) -> M::Root
+    requires count { slots_len closed.slots ≡ last + 1 }
+    requires full { slice_index_or (slots_filled closed.slots) last false ≡ true }
+    requires empty { (j : ℕ) → j < last → slice_index_or (slots_filled closed.slots) j false ≡ false }
+    requires home { HasRoot last (slots_items closed.slots) }
+    ensures root { IsRoot last (slots_items closed.slots) result }
+{
+    let slot = closed.take(last);
+    let Some(Item::Root(root)) = slot else {
+        unreachable!()
+    };
+    closed.free();
+    root
+}
+
+/// A desk that could not be ended, for want of memory, with its chairs, as they were.
+type Unended<M> = (Desk<M>, Vec<Chair<M>>, OutOfMemory);
+
+impl<M: Machine> Desk<M> {
+    /// Ends a desk, all of whose chairs hold nothing. All memory is taken first: a refusal leaves all
+    /// as it was.
+    pub fn into_parts(self, alloc: Global, chairs: Vec<Chair<M>>) -> Result<Parts<M>, Unended<M>>
+        requires theirs { All (λ ch. AtDesk self ch × ((view ch).held ≡ [])) chairs.items }
+        requires all { length chairs.items ≡ chairs_of self }
+        ensures ok { IfOk result (λ p. Ended M.meaning (start_of self) (map (λ ch. view ch) chairs.items) p.pages.items p.sides.items p.root p.next) }
+        ensures base { IfOk result (λ p. p.base ≡ (start_of self).base) }
+        ensures err { IfErr result (λ e. (e.0 ≡ self) × (e.1 ≡ chairs)) }
+    {
+        let Ok(pages) = Vec::with_capacity(alloc, self.pages as usize) else {
+            return Err((self, chairs, OutOfMemory));
+        };
+        let Ok(sides) = Vec::with_capacity(alloc, self.sides as usize) else {
+            pages.destroy_empty();
+            return Err((self, chairs, OutOfMemory));
+        };
+        let mut rest = chairs;
+        let Some(Chair { place: mut first }) = rest.pop() else {
+            unreachable!()
+        };
+        join_all(&self.table.shared, &mut first, rest);
+        let base = self.base;
+        let page_count = self.pages as usize;
+        let side_count = self.sides as usize;
+        let Desk { table, .. } = self;
+        let mut closed = table.close_with(first);
+        let last = page_count + side_count;
+        let next = TxNo(closed.word(last + 1));
+        let pages = unload_pages(&mut closed, page_count, pages);
+        let sides = unload_sides(&mut closed, page_count, side_count, sides);
+        let root = unload_root(closed, last);
+        Ok(Parts {
+            pages,
+            sides,
+            root,
+            next,
+            base,
+        })
+    }
+}

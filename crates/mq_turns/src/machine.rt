@@ -1,0 +1,17 @@
+// What a desk is told of the values that lie on it.
+
+/// The values of a desk, the entries of its history, and what they mean.
+pub trait Machine {
+    ghost use Rattle.mq_turns.specs.Meaning.{Meaning};
+
+    type Page: Drop;
+
+    type Side: Drop;
+
+    type Root: Drop;
+
+    /// A transaction: what was asked, the replies, and what it writes.
+    type Entry;
+
+    ghost meaning: { Meaning Self.Page Self.Side Self.Root Self.Entry };
+}

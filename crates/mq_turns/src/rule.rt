@@ -1,0 +1,78 @@
+// What all chairs know together, what one chair knows, and the rule of the desk.
+use crate::machine::Machine;
+use crate::turn::Item;
+use atomic_table::TableRule;
+use mq_blocks::{BlockNo, QueueNo};
+use std::collections::LinkedList;
+use std::marker::PhantomData;
+use std::snapshot::Snapshot;
+
+/// The values that a desk was opened with, and its base. Proofs alone have one.
+pub struct Opening<P, Q, R> {
+    pub pages: LinkedList<P>,
+    pub sides: LinkedList<Q>,
+    pub root: R,
+    pub base: u64,
+}
+
+/// What all chairs know together. It only grows. Proofs alone have one.
+pub struct Known<P, Q, R, E> {
+    pub opening: Opening<P, Q, R>,
+    /// The entries drawn, the newest first. The first that was drawn has the number after the base.
+    pub log: LinkedList<E>,
+    /// Queues, each with a number up to which its entries are done.
+    pub claims: LinkedList<(QueueNo, u64)>,
+    /// Home writes that ended: the block, and the number whose content it got.
+    pub ended: LinkedList<(BlockNo, u64)>,
+    /// The base word.
+    pub word: u64,
+}
+
+/// What a chair knows. Proofs alone have one.
+pub struct View<P, Q, R, E> {
+    /// How many chairs it stands for: 1, and none for a note.
+    pub parts: u64,
+    /// How its desk was opened; none where it stands for no chair.
+    pub opening: Option<Opening<P, Q, R>>,
+    /// The chair's place in the list that `Desk::new` gave.
+    pub session: u64,
+    /// The greatest number that it knows of.
+    pub seen: u64,
+    /// 0, or 1 more than the slot that it has in hand.
+    pub hand: u64,
+    /// The slots whose turns it holds, each with what was known at its own last step on it.
+    pub held: LinkedList<(u64, Known<P, Q, R, E>)>,
+    /// What it drew, with the numbers, the newest first.
+    pub drawn: LinkedList<(u64, E)>,
+    /// Entries that it read and did not draw, with what was known then, the newest first.
+    pub read: LinkedList<(E, Known<P, Q, R, E>)>,
+}
+
+/// How a desk was opened.
+#[derive(Drop)]
+pub struct Start<M: Machine> {
+    pub pages: Snapshot<Vec<M::Page>>,
+    pub sides: Snapshot<Vec<M::Side>>,
+    pub root: Snapshot<M::Root>,
+    pub base: u64,
+    pub chairs: u64,
+}
+
+pub struct Law<M> {
+    machine: PhantomData<M>,
+}
+
+pub type Knows<M> = View<
+    <M as Machine>::Page,
+    <M as Machine>::Side,
+    <M as Machine>::Root,
+    <M as Machine>::Entry,
+>;
+
+impl<M: Machine> TableRule<Option<Item<M>>, Knows<M>, Start<M>> for Law<M> {
+    ghost use Rattle.mq_turns.specs.Desk.{Ruled, opening_of, first_view};
+
+    ghost holds = { λ key. Ruled M.meaning (opening_of key) key.chairs };
+
+    ghost first = { λ key. first_view (opening_of key) key.chairs };
+}
