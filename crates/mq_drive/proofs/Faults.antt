@@ -1,5 +1,5 @@
 -- The faults of a port in memory.
-use Rattle.std.proofs.Common.{◌≡◌, ◌⊎◌, ◌<◌, ◌≤◌, ◌+◌, ◌-◌, ◌^◌, ℕ, zero, suc, Bool, true, false, List, [], ◌∷◌, ◌++◌, length, get_or, replicate, All, Option, Some, None, Result, Ok, Err, is_some, inl, inr, refl, sym, ◌∙◌, ap, subst, arith, true≢false, length-append}
+use Rattle.std.proofs.Common.{◌≡◌, ◌⊎◌, ◌<◌, ◌≤◌, ◌+◌, ◌-◌, ◌^◌, ℕ, zero, suc, Bool, true, false, List, [], ◌∷◌, ◌++◌, length, replicate, All, Option, Some, None, Result, Ok, Err, is_some, inl, inr, refl, sym, ◌∙◌, ap, subst, arith, true≢false, length-append}
 use Rattle.std.proofs.lemmas.List.{length-replicate}
 use Rattle.std.specs.Prelude.{Contains, IsErr}
 use Rattle.std.proofs.lemmas.Bool.{cases_lt, cases_eq}
@@ -9,11 +9,13 @@ use Rattle.mq_nvme.specs.Completion.{status_of}
 use Rattle.mq_drive.specs.declared.port.Step.{Step}
 use Rattle.mq_drive.specs.declared.port.Step.TheVariants.{Idle, Done}
 use Rattle.mq_drive.specs.declared.port.HomeStep.{HomeStep}
-use Rattle.mq_drive.specs.Emu.{emu_state, emu_faults, happened_of}
+use Rattle.mq_drive.specs.Emu.{device_state, device_faults}
+use Rattle.mq_drive.specs.Fuse.{above}
+use Rattle.mq_drive.specs.Seats.{tickets_of}
 use Rattle.mq_drive.specs.Failures.{errors_of}
 use Rattle.mq_drive.specs.Limits.{fails_by}
 use Rattle.mq_drive.specs.Steps.{Fault, PowerOff, CommandError, HomeError, IsWithOneMore, Gains, OffCause, StepGives, HomeGives}
-use Rattle.mq_drive.specs.declared.emu.EmuPort.{EmuPort}
+use Rattle.mq_drive.specs.declared.device.Device.{Device}
 use Rattle.mq_drive.specs.declared.failing.Failure.{Failure}
 use Rattle.mq_drive.specs.declared.failing.Failure.TheVariants.{Queued, Home}
 use Rattle.mq_drive.specs.declared.port.Off.{Off}
@@ -108,7 +110,7 @@ gained_off old n failure (inl one) = some_off n failure (contains-more PowerOff 
 gained_off old n failure (inr full) =
     full_off n failure (let same : length (replicate n PowerOff ++ errors_of failure) ≡ length old = ap length full.1 in let long = full.0 in omega (arith, same, long))
 
-contains_first : (n : ℕ) (errors : List Fault) → 0 < n → Contains (replicate n PowerOff ++ errors) PowerOff
+pub contains_first : (n : ℕ) (errors : List Fault) → 0 < n → Contains (replicate n PowerOff ++ errors) PowerOff
 contains_first zero errors some = absurd (omega (arith, some))
 contains_first (suc n) errors some = (0, omega arith, refl)
 
@@ -126,39 +128,39 @@ has_error None some all = true≢false (sym some)
 has_error (Some (Queued c)) some all = true≢false (sym (ap is_off (all 0 PowerOff (omega arith))))
 has_error (Some (Home w)) some all = true≢false (sym (ap is_off (all 0 PowerOff (omega arith))))
 
-pub an_error : (p : EmuPort) → p.failing.failed ≡ true → All (λ f. f ≡ PowerOff) (emu_faults p) → ⊥
+pub an_error : (p : Device) → p.failing.failed ≡ true → All (λ f. f ≡ PowerOff) (device_faults p) → ⊥
 an_error p is all = has_error p.failure (p.failure_counted ∙ is) (all_right p.power.offs (errors_of p.failure) all)
 
-pub no_error_yet : (p : EmuPort) → p.failing.failed ≡ false → All (λ f. f ≡ PowerOff) (emu_faults p)
+pub no_error_yet : (p : Device) → p.failing.failed ≡ false → All (λ f. f ≡ PowerOff) (device_faults p)
 no_error_yet p is =
     subst (λ (o : Option Failure). All (λ f. f ≡ PowerOff) (replicate p.power.offs PowerOff ++ errors_of o)) (sym (none_of p.failure (p.failure_counted ∙ is))) (all_offs p.power.offs)
 
-no_failure : (p : EmuPort) → (emu_state p).fail ≡ None → p.failure ≡ None
+no_failure : (p : Device) → (device_state p).fail ≡ None → p.failure ≡ None
 no_failure p none = none_of p.failure (p.failure_counted ∙ p.failing.exact ∙ ap (λ (o : Option ℕ). fails_by o p.failing.executed) none)
 
 -- where no command is to fail, all faults are refused events
-pub only_offs : (p : EmuPort) → (emu_state p).fail ≡ None → All (λ f. f ≡ PowerOff) (emu_faults p)
+pub only_offs : (p : Device) → (device_state p).fail ≡ None → All (λ f. f ≡ PowerOff) (device_faults p)
 only_offs p none = subst (λ (o : Option Failure). All (λ f. f ≡ PowerOff) (replicate p.power.offs PowerOff ++ errors_of o)) (sym (no_failure p none)) (all_offs p.power.offs)
 
--- where the power went off, as many events happened as the limit says
-pub off_limit : (old : List Fault) (p : EmuPort) (l : ℕ) → Gains PowerOff old (emu_faults p) → (emu_state p).limit ≡ Some l → happened_of p ≡ l
-off_limit old p l gains is = (p.power.limited l is).1 (gained_off old p.power.offs p.failure gains)
+-- where the power went off, a ticket of the port's seat is at or above the limit
+pub off_above : (old : List Fault) (p : Device) (l : ℕ) → Gains PowerOff old (device_faults p) → (device_state p).fuse.limit ≡ Some l → 0 < above l (tickets_of p.power.seat)
+off_above old p l gains is = p.power.off l is (gained_off old p.power.offs p.failure gains)
 
 -- without a limit it does not go off
-pub off_unlimited : (old : List Fault) (p : EmuPort) → Gains PowerOff old (emu_faults p) → (emu_state p).limit ≡ None → ⊥
+pub off_unlimited : (old : List Fault) (p : Device) → Gains PowerOff old (device_faults p) → (device_state p).fuse.limit ≡ None → ⊥
 off_unlimited old p gains none =
     let some = gained_off old p.power.offs p.failure gains in
     let zero_offs = p.power.unlimited none in
     omega (arith, some, zero_offs)
 
 -- where no command is to fail, and the power was on before, none gave an error
-pub no_error : (old : List Fault) (p : EmuPort) (f : Fault) → (f ≡ PowerOff → ⊥) → Gains f old (emu_faults p) → (emu_state p).fail ≡ None → (Contains old PowerOff → ⊥) → ⊥
+pub no_error : (old : List Fault) (p : Device) (f : Fault) → (f ≡ PowerOff → ⊥) → Gains f old (device_faults p) → (device_state p).fail ≡ None → (Contains old PowerOff → ⊥) → ⊥
 no_error old p f other (inl one) none on =
-    let has = contains-more f old (emu_faults p) one in
+    let has = contains-more f old (device_faults p) one in
     other (sym has.2 ∙ only_offs p none has.0 f has.1)
 no_error old p f other (inr full) none on =
-    let same : length (emu_faults p) ≡ length old = ap length full.1 in
-    let long : 2 ^ 64 - 1 ≤ length (emu_faults p) = let least = full.0 in omega (arith, same, least) in
+    let same : length (device_faults p) ≡ length old = ap length full.1 in
+    let long : 2 ^ 64 - 1 ≤ length (device_faults p) = let least = full.0 in omega (arith, same, least) in
     on (subst (λ (l : List Fault). Contains l PowerOff) full.1 (contains_first p.power.offs (errors_of p.failure) (full_off p.power.offs p.failure long)))
 
 pub command_error_is_none : (tx status : ℕ) → CommandError tx status ≡ PowerOff → ⊥

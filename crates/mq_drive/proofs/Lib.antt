@@ -1,9 +1,13 @@
 pub mod Commands
+pub mod Counts
 pub mod Cutting
 pub mod Doubts
 pub mod Faults
+pub mod Flaking
+pub mod Fusing
 pub mod Moves
 pub mod Owned
 pub mod Settling
 pub mod Starts
 pub mod Tearing
+pub mod Totals

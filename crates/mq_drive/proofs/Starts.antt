@@ -1,13 +1,13 @@
 -- A port that starts from an image.
 use Rattle.std.proofs.Common.{true, false, length, refl, arith, ℕ, Option}
 use Rattle.std.proofs.lemmas.List.{get_or-replicate, length-replicate}
-use Rattle.mq_blocks.specs.Drive.{PortImage, IsQuiet}
+use Rattle.mq_blocks.specs.Drive.{FuseName, PortImage, IsQuiet}
 use Rattle.mq_blocks.specs.declared.geometry.Geometry.{Geometry}
 use Rattle.mq_drive.specs.Start.{IsImageOf, IsPortOf, start_of}
 use Rattle.mq_drive.specs.declared.role.Role.{Role}
 
-pub port_of-start : (g : Geometry) (role : Role) (i : PortImage) (limit fail : Option ℕ) → IsImageOf g role i → IsPortOf g role (start_of g role i limit fail)
-port_of-start g role i limit fail image = record {
+pub port_of-start : (g : Geometry) (role : Role) (i : PortImage) (fuse : FuseName) (fail : Option ℕ) → IsImageOf g role i → IsPortOf g role (start_of g role i fuse fail)
+port_of-start g role i fuse fail image = record {
   queue = refl;
   area_first = refl;
   area_size = refl;
@@ -20,8 +20,8 @@ port_of-start g role i limit fail image = record {
   settled = λ k within flushed. refl;
 }
 
-pub quiet-start : (g : Geometry) (role : Role) (i : PortImage) (limit fail : Option ℕ) → IsQuiet (start_of g role i limit fail)
-quiet-start g role i limit fail = record {
+pub quiet-start : (g : Geometry) (role : Role) (i : PortImage) (fuse : FuseName) (fail : Option ℕ) → IsQuiet (start_of g role i fuse fail)
+quiet-start g role i fuse fail = record {
   flushed_end = refl;
   pending = refl;
   posted = refl;

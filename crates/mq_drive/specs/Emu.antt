@@ -1,14 +1,16 @@
 -- What a port in memory stands for.
-use Rattle.std.specs.Prelude.{◌≡◌, ℕ, List, [], ◌∷◌, ◌++◌, replicate}
+use Rattle.std.specs.Prelude.{ℕ, List, ◌++◌, replicate}
 use Rattle.std.specs.Option.{option_to_list}
 use Rattle.mq_blocks.specs.Drive.{PortState}
 use Rattle.mq_drive.specs.Roles.{queue_in}
 use Rattle.mq_drive.specs.Steps.{Fault, PowerOff}
 use Rattle.mq_drive.specs.Failures.{failed_of, unended_of, errors_of}
+use Rattle.mq_drive.specs.Seats.{fuse_of, tickets_of}
+use Rattle.mq_drive.specs.declared.device.Device.{Device}
 use Rattle.mq_drive.specs.declared.emu.EmuPort.{EmuPort}
 
-abbrev pub emu_state : EmuPort → PortState
-emu_state p = record {
+abbrev pub device_state : Device → PortState
+device_state p = record {
   queue = queue_in p.role;
   area_first = p.area.first;
   area_size = p.area.size;
@@ -31,18 +33,29 @@ emu_state p = record {
   rings = p.rings;
   begins = p.begins;
   events = p.events;
-  limit = p.power.limit;
+  fuse = fuse_of p.power.seat;
   fail = p.failing.named;
 }
 
 -- each refused event, and at most one error
+abbrev pub device_faults : Device → List Fault
+device_faults p = replicate p.power.offs PowerOff ++ errors_of p.failure
+
+-- the same of the port that holds it
+abbrev pub emu_state : EmuPort → PortState
+emu_state p = device_state p.device
+
 abbrev pub emu_faults : EmuPort → List Fault
-emu_faults p = replicate p.power.offs PowerOff ++ errors_of p.failure
+emu_faults p = device_faults p.device
 
 -- the events that happened
 abbrev pub happened_of : EmuPort → ℕ
-happened_of p = p.power.happened
+happened_of p = p.device.power.happened
+
+-- the tickets that its seat drew, the last first
+abbrev pub drawn_by : EmuPort → List ℕ
+drawn_by p = tickets_of p.device.power.seat
 
 -- the commands that were executed, home writes among them
 abbrev pub executed_of : EmuPort → ℕ
-executed_of p = p.failing.executed
+executed_of p = p.device.failing.executed

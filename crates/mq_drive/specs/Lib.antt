@@ -1,8 +1,12 @@
 pub mod Emu
 pub mod Failures
+pub mod Flaky
+pub mod Fuse
 pub mod Limits
 pub mod Roles
+pub mod Seats
 pub mod Slots
 pub mod Start
 pub mod Steps
+pub mod Total
 pub mod Views

@@ -1,9 +1,5 @@
--- Which events happen, and which command fails.
-use Rattle.std.specs.Prelude.{◌<◌, ℕ, Bool, false, Option, Some, None, MatchOption, ⊤, nat_le, ◌&&◌}
-
--- one event more happens
-abbrev pub IsOn : Option ℕ → ℕ → Type 0
-IsOn limit happened = MatchOption limit ⊤ (λ l. happened < l)
+-- Which command fails.
+use Rattle.std.specs.Prelude.{ℕ, Bool, false, Option, Some, None, nat_le, ◌&&◌}
 
 -- the command that is named, counted from 1, is among the first n
 abbrev pub fails_by : Option ℕ → ℕ → Bool

@@ -1,6 +1,6 @@
 -- The state of a port that starts from an image.
 use Rattle.std.specs.Prelude.{◌≡◌, ◌<◌, ℕ, ◌+◌, ◌*◌, [], true, length, slice_index_or, replicate, Option}
-use Rattle.mq_blocks.specs.Drive.{PortState, PortImage, IsFlushed}
+use Rattle.mq_blocks.specs.Drive.{FuseName, PortState, PortImage, IsFlushed}
 use Rattle.mq_blocks.specs.declared.geometry.Geometry.{Geometry}
 use Rattle.mq_drive.specs.Roles.{queue_in, slots_of}
 use Rattle.mq_drive.specs.declared.role.Role.{Role}
@@ -38,8 +38,8 @@ pub record IsImageOf (g : Geometry) (role : Role) (i : PortImage) : Type 0 where
   pub words : HasWords role i
 
 -- nothing is under way, and all is certain as in the image
-abbrev pub start_of : Geometry → Role → PortImage → Option ℕ → Option ℕ → PortState
-start_of g role i limit fail = record {
+abbrev pub start_of : Geometry → Role → PortImage → FuseName → Option ℕ → PortState
+start_of g role i fuse fail = record {
   queue = queue_in role;
   area_first = area_first_of g role;
   area_size = area_size_of g role;
@@ -62,7 +62,7 @@ start_of g role i limit fail = record {
   rings = 0;
   begins = 0;
   events = 0;
-  limit = limit;
+  fuse = fuse;
   fail = fail;
 }
 

@@ -1,146 +1,54 @@
 // A port in memory, whose power may go off and on which one command may fail.
-ghost use Rattle.std.specs.Prelude.{◌≡◌, ◌<◌, ◌≤◌, ◌+◌, ◌-◌, ◌*◌, ◌%◌, ◌^◌, ℕ, List, [], ◌∷◌, length, true, false, is_some, IfOk, OnOk, OnErr, All, IsSome, IsNone, IsTrue, ◌↔◌, slice_index_or, Some, None, Contains};
-ghost use Rattle.std.specs.Option.{ForSome};
-ghost use Rattle.std.specs.VecDeque.{deque_capacity};
-ghost use Rattle.mq_blocks.specs.Drive.{AreCounted, AreCounted-prop};
-ghost use Rattle.mq_drive.specs.Roles.{slots_of, queue_in};
-ghost use Rattle.mq_drive.specs.Slots.{AreSettled, index_in};
+ghost use Rattle.std.specs.Prelude.{◌≡◌, ◌<◌, ◌≤◌, ℕ, [], true, false, IfOk, All, Some, None, Contains};
+ghost use Rattle.mq_drive.specs.Fuse.{above, below, earlier};
 
-use crate::blocks::Blocks;
-use crate::cut::{tear_commands, tear_homes, tear_slots};
-use crate::extent::{Extent, block_index, extents, port_number, queue_id};
-use crate::failing::{Failing, Failure, parts_of};
+use crate::device::Device;
 use crate::power::Power;
-use crate::random::{choose, either, generator};
-use crate::store::{add, add_all, bump, put_slot, settle, slot_at, take_at};
-use crate::{HomeStep, Off, Port, PortImage, Role, Step};
-use mq_blocks::{Block, Command, Geometry, HomeWrite, Lba, OutOfMemory};
-use mq_nvme::{Completion, Ended, Entry, WRITE_FAULT, completion_of};
-use rand_pcg::Lcg128Xsl64;
+use crate::{Fuse, FuseSeat, HomeStep, Off, Port, PortImage, Role, Step};
+use mq_blocks::{Block, Geometry, Lba, OutOfMemory};
+use mq_nvme::Entry;
 use std::alloc::Global;
-use std::collections::VecDeque;
 
 /// A port of an emulated drive. It executes the posted commands in an order that a generator
-/// chooses. Its power goes off after so many events and one of its commands ends with an error,
-/// where these are told. It may be cut at any time.
+/// chooses. Its power is that of a fuse, which other ports may share, and one of its commands ends
+/// with an error, where it is told which. It may be cut at any time.
 #[derive(Drop)]
-pub struct EmuPort {
-    role: Role,
-    number: u32,
-    id: u32,
-    area: Extent,
-    homes: Extent,
-    flushed: Vec<Entry>,
-    staged: Vec<Entry>,
-    flushed_end: u64,
-    pending: VecDeque<Command>,
-    doorbell: u64,
-    posted: VecDeque<Command>,
-    failure: Option<Failure>,
-    head: u64,
-    stored_head: u64,
-    base: u64,
-    stored_base: u64,
-    blocks: Blocks,
-    under_way: Option<HomeWrite>,
-    rings: u64,
-    begins: u64,
-    events: u64,
-    completions: u64,
-    power: Power,
-    failing: Failing,
-    order: Lcg128Xsl64,
-    ghost same_ring: { length flushed.items ≡ length staged.items },
-    ghost ring: { length staged.items ≡ slots_of role },
-    ghost settled: { AreSettled flushed.items staged.items flushed_end (doorbell + length pending.items) },
-    ghost flushed_low: { doorbell ≤ flushed_end },
-    ghost flushed_high: { flushed_end ≤ doorbell + length pending.items },
-    ghost pending_room: { 1023 ≤ deque_capacity pending },
-    ghost posted_room: { 1023 ≤ deque_capacity posted },
-    ghost pending_ring: { 0 < length pending.items → length staged.items ≡ 1024 },
-    ghost pending_few: { 0 < length pending.items → doorbell + length pending.items - head ≤ 1023 },
-    ghost pending_last: { 0 < length pending.items → doorbell + length pending.items ≤ 2 ^ 63 },
-    ghost pending_order: { 0 < length pending.items → stored_head ≤ doorbell },
-    ghost pending_counted: { AreCounted doorbell (doorbell + length pending.items) pending.items } by { AreCounted-prop doorbell (doorbell + length pending.items) pending.items },
-    ghost pending_own: { All (λ c. (area.first ≤ c.lba) × (index_in area.first area.size homes.first c.lba < length blocks.stored.items)) pending.items },
-    ghost posted_counted: { AreCounted stored_head doorbell posted.items } by { AreCounted-prop stored_head doorbell posted.items },
-    ghost posted_own: { All (λ c. (area.first ≤ c.lba) × (index_in area.first area.size homes.first c.lba < length blocks.stored.items)) posted.items },
-    ghost heads: { head ≤ stored_head },
-    ghost sized: { area.size + homes.size ≡ length blocks.stored.items },
-    ghost area_before: { area.first + area.size ≤ homes.first },
-    ghost queue_base: { IsSome (queue_in role) → (base ≡ 0) × (stored_base ≡ 0) },
-    ghost root_words: { IsNone (queue_in role) → (doorbell ≡ 0) × (head ≡ 0) × (stored_head ≡ 0) },
-    ghost homes_end: { homes.first + homes.size ≤ 2 ^ 32 },
-    ghost id_small: { id < 2 ^ 16 },
-    ghost events_counted: { begins ≡ 0 → power.happened ≡ events },
-    ghost failure_counted: { is_some failure ≡ failing.failed },
-    ghost under_way_last: { ForSome under_way (λ w. 0 < power.offs) },
-    ghost under_way_own: { ForSome under_way (λ w. (area.first ≤ w.lba) × (index_in area.first area.size homes.first w.lba < length blocks.stored.items)) },
-    ghost under_way_doubt: { ForSome under_way (λ w. slice_index_or blocks.sure.items (index_in area.first area.size homes.first w.lba) false ≡ false) },
+pub struct EmuPort<'f> {
+    device: Device<'f>,
 }
 
-impl EmuPort {
-    ghost use Rattle.mq_drive.specs.Emu.{emu_state, emu_faults, happened_of, executed_of};
+impl<'f> EmuPort<'f> {
+    ghost use Rattle.mq_drive.specs.Emu.{emu_state, emu_faults, happened_of, executed_of, drawn_by};
     ghost use Rattle.mq_drive.specs.Limits.{fails_by};
+    ghost use Rattle.mq_drive.specs.Seats.{name_of, fuse_of, tickets_of};
     ghost use Rattle.mq_drive.specs.Start.{IsRole, IsImageOf, start_of};
     ghost use Rattle.mq_drive.specs.Steps.{PowerOff};
-    ghost use Rattle.mq_blocks.specs.Drive.{staged_end};
 
-    /// The port of a role of the geometry, which starts from an image of that role. Its power goes
-    /// off after `limit` events. Its command number `fail`, counted from 1 over executed entries
-    /// and home writes alike, ends with the status Write Fault; 0 names none. `seed` and the port's
-    /// number choose the order in which posted commands are executed.
+    /// The port of a role of the geometry, which starts from an image of that role, with a seat of a
+    /// fuse. Its command number `fail`, counted from 1 over executed entries and home writes alike,
+    /// ends with the status Write Fault; 0 names none. `seed` and the port's number choose the order
+    /// in which posted commands are executed.
     pub fn new(
         alloc: Global,
+        fuse: &'f Fuse,
+        seat: FuseSeat,
         geometry: Geometry,
         role: Role,
         image: PortImage,
-        limit: Option<u64>,
         fail: Option<u64>,
         seed: u64,
-    ) -> Result<EmuPort, OutOfMemory>
+    ) -> Result<EmuPort<'f>, OutOfMemory>
+        requires fuse { fuse_of seat ≡ name_of fuse.now }
+        requires fresh { tickets_of seat ≡ [] }
         requires role { IsRole geometry role }
         requires image { IsImageOf geometry role image }
-        ensures state { IfOk result (λ p. emu_state p ≡ start_of geometry role image limit fail) }
+        ensures state { IfOk result (λ p. emu_state p ≡ start_of geometry role image (name_of fuse.now) fail) }
         ensures faults { IfOk result (λ p. emu_faults p ≡ []) }
+        ensures tickets { IfOk result (λ p. (drawn_by p ≡ []) × (happened_of p ≡ 0)) }
     {
-        let (area, homes) = extents(geometry, role);
-        let number = port_number(role, geometry);
-        let PortImage {
-            doorbell,
-            head,
-            base,
-            slots,
-            blocks,
-        } = image;
-        let flushed = slots.to_vec(alloc)?;
-        let sure = vec![in alloc; true; blocks.len()]?;
+        let power = Power::new(fuse, seat);
         Ok(EmuPort {
-            role,
-            number,
-            id: queue_id(role, geometry),
-            area,
-            homes,
-            flushed,
-            staged: slots,
-            flushed_end: doorbell,
-            pending: VecDeque::with_capacity(alloc, 1023)?,
-            doorbell,
-            posted: VecDeque::with_capacity(alloc, 1023)?,
-            failure: None,
-            head,
-            stored_head: head,
-            base,
-            stored_base: base,
-            blocks: Blocks::new(blocks, sure),
-            under_way: None,
-            rings: 0,
-            begins: 0,
-            events: 0,
-            completions: 0,
-            power: Power::new(limit),
-            failing: Failing::new(fail),
-            order: generator(seed, number),
+            device: Device::new(alloc, power, geometry, role, image, fail, seed)?,
         })
     }
 
@@ -148,17 +56,14 @@ impl EmuPort {
     pub fn events(&self) -> u64
         ensures is { result ≡ happened_of self.now }
         ensures state { (emu_state self.now).begins ≡ 0 → result ≡ (emu_state self.now).events }
-        ensures limit { (l : ℕ) → (emu_state self.now).limit ≡ Some l → (result ≤ l) × (Contains (emu_faults self.now) PowerOff → result ≡ l) }
-        ensures unlimited { (emu_state self.now).limit ≡ None → Contains (emu_faults self.now) PowerOff → ⊥ }
+        ensures tickets { (l : ℕ) → (emu_state self.now).fuse.limit ≡ Some l → result ≡ below l (drawn_by self.now) }
+        ensures most { (l : ℕ) → (emu_state self.now).fuse.limit ≡ Some l → result ≤ l }
+        ensures off { (l : ℕ) → (emu_state self.now).fuse.limit ≡ Some l → Contains (emu_faults self.now) PowerOff → 0 < above l (drawn_by self.now) }
+        ensures on { (l : ℕ) → (emu_state self.now).fuse.limit ≡ Some l → 0 < above l (drawn_by self.now) → Contains (emu_faults self.now) PowerOff }
+        ensures last { (l : ℕ) → (emu_state self.now).fuse.limit ≡ Some l → above l (earlier (drawn_by self.now)) ≡ 0 }
+        ensures unlimited { (emu_state self.now).fuse.limit ≡ None → Contains (emu_faults self.now) PowerOff → ⊥ }
     {
-        self.power.happened()
-    }
-
-    // The count of the next entry.
-    fn end(&self) -> u64
-        ensures { result ≡ staged_end (emu_state self.now) }
-    {
-        self.doorbell + self.pending.len() as u64
+        self.device.events()
     }
 
     /// Whether the command that is to fail was executed. It has ended with an error then, and no
@@ -169,62 +74,36 @@ impl EmuPort {
         ensures no_error { result ≡ false → All (λ f. f ≡ PowerOff) (emu_faults self.now) }
         ensures none { (emu_state self.now).fail ≡ None → All (λ f. f ≡ PowerOff) (emu_faults self.now) }
     {
-        self.failing.failed()
+        self.device.failed()
     }
 }
 
-impl EmuPort {
-    ghost use Rattle.mq_drive.specs.Emu.{emu_state};
+impl<'f> EmuPort<'f> {
+    ghost use Rattle.mq_drive.specs.Emu.{emu_state, emu_faults, happened_of, drawn_by};
+    ghost use Rattle.mq_drive.specs.Steps.{PowerOff};
     ghost use Rattle.mq_blocks.specs.Drive.{IsImage, IsQuiet, image_of};
     ghost use Rattle.mq_blocks.specs.declared.geometry.Geometry as geometry;
     ghost use Rattle.mq_drive.specs.Roles.{role_of};
+    ghost use Rattle.mq_drive.specs.Seats.{fuse_of, tickets_of};
     ghost use Rattle.mq_drive.specs.Start.{IsPortOf, IsImageOf};
 
     /// What a cut of the power leaves: all that is certain, and of the rest what `pick` and the
-    /// port's number choose.
-    pub fn cut(self, pick: u64) -> PortImage
-        ensures image { IsImage (emu_state self) result }
-        ensures quiet { IsQuiet (emu_state self) → result ≡ image_of (emu_state self) }
-        ensures role { (g : geometry.Geometry) → IsPortOf g (role_of (emu_state self).queue) (emu_state self) → IsImageOf g (role_of (emu_state self).queue) result }
+    /// port's number choose. It gives the port's seat back.
+    pub fn cut(self, pick: u64) -> (PortImage, FuseSeat)
+        ensures image { IsImage (emu_state self.entry) result.0 }
+        ensures quiet { IsQuiet (emu_state self.entry) → result.0 ≡ image_of (emu_state self.entry) }
+        ensures role { (g : geometry.Geometry) → IsPortOf g (role_of (emu_state self.entry).queue) (emu_state self.entry) → IsImageOf g (role_of (emu_state self.entry).queue) result.0 }
+        ensures fuse { fuse_of result.1 ≡ (emu_state self.entry).fuse }
+        ensures tickets { tickets_of result.1 ≡ drawn_by self.entry }
+        ensures events { (l : ℕ) → (emu_state self.entry).fuse.limit ≡ Some l → below l (tickets_of result.1) ≡ happened_of self.entry }
+        ensures off { (l : ℕ) → (emu_state self.entry).fuse.limit ≡ Some l → Contains (emu_faults self.entry) PowerOff → 0 < above l (tickets_of result.1) }
+        ensures on { (l : ℕ) → (emu_state self.entry).fuse.limit ≡ Some l → 0 < above l (tickets_of result.1) → Contains (emu_faults self.entry) PowerOff }
     {
-        let EmuPort {
-            number,
-            area,
-            homes,
-            mut flushed,
-            staged,
-            flushed_end,
-            pending,
-            doorbell,
-            posted,
-            failure,
-            head,
-            stored_head,
-            base,
-            stored_base,
-            mut blocks,
-            under_way,
-            ..
-        } = self;
-        let mut rng = generator(pick, number);
-        let end = doorbell + pending.len() as u64;
-        tear_slots(&mut flushed, &staged, flushed_end, end, &mut rng);
-        let head = either(&mut rng, head, stored_head);
-        let base = either(&mut rng, base, stored_base);
-        let (failed, unended) = parts_of(failure);
-        tear_commands(&mut blocks, area, homes, posted, failed, &mut rng);
-        tear_homes(&mut blocks, area, homes, unended, under_way, &mut rng);
-        PortImage {
-            doorbell,
-            head,
-            base,
-            slots: flushed,
-            blocks: blocks.into_inner(),
-        }
+        self.device.cut(pick)
     }
 }
 
-impl Port for EmuPort {
+impl<'f> Port for EmuPort<'f> {
     ghost use Rattle.mq_drive.specs.Emu.{emu_state, emu_faults};
 
     ghost state = { emu_state };
@@ -232,125 +111,54 @@ impl Port for EmuPort {
     ghost faults = { emu_faults };
 
     fn role(&self) -> Role {
-        self.role
+        self.device.role()
     }
 
     fn doorbell(&self) -> u64 {
-        self.doorbell
+        self.device.doorbell()
     }
 
     fn head(&self) -> u64 {
-        self.head
+        self.device.head()
     }
 
     fn base(&self) -> u64 {
-        self.base
+        self.device.base()
     }
 
     fn read_slot(&self, slot: u32) -> Entry {
-        slot_at(&self.flushed, slot as usize)
+        self.device.read_slot(slot)
     }
 
     fn read_block(&self, lba: Lba, into: &mut Block) {
-        let index = block_index(self.area, self.homes, lba);
-        self.blocks.read(index, into);
+        self.device.read_block(lba, into);
     }
 
     fn stage(&mut self, at: u64, entry: Entry, block: Block) -> Result<(), Off> {
-        self.power.event()?;
-        let command = Command {
-            count: at,
-            tx: entry.tx(),
-            lba: Lba(entry.lba() as u32),
-            block,
-        };
-        add(&mut self.pending, command);
-        put_slot(&mut self.staged, (at % 1024) as usize, entry);
-        self.events = bump(self.events);
-        Ok(())
+        self.device.stage(at, entry, block)
     }
 
     fn flush(&mut self) -> Result<(), Off> {
-        let end = self.end();
-        self.power.event()?;
-        settle(&mut self.flushed, &self.staged, self.flushed_end, end);
-        self.flushed_end = end;
-        self.head = self.stored_head;
-        self.base = self.stored_base;
-        self.events = bump(self.events);
-        Ok(())
+        self.device.flush()
     }
 
     fn ring(&mut self, tail: u64) -> Result<(), Off> {
-        self.power.event()?;
-        add_all(&mut self.posted, &mut self.pending);
-        self.doorbell = tail;
-        self.rings = bump(self.rings);
-        self.events = bump(self.events);
-        Ok(())
+        self.device.ring(tail)
     }
 
     fn step(&mut self) -> Result<Step, Off> {
-        if self.posted.is_empty() {
-            return Ok(Step::Idle);
-        }
-        self.power.event()?;
-        let at = choose(&mut self.order, self.posted.len());
-        let command = take_at(&mut self.posted, at);
-        let index = block_index(self.area, self.homes, command.lba);
-        let ended = Ended {
-            sq_head: (self.doorbell % 1024) as u16,
-            sq_id: self.id as u16,
-            cid: (command.count % 1024) as u16,
-            phase: self.completions / 1024 % 2 == 0,
-            status: 0,
-        };
-        self.completions = bump(self.completions);
-        self.events = bump(self.events);
-        if self.failing.next() {
-            let completion = completion_of(&Ended {
-                status: WRITE_FAULT,
-                ..ended
-            });
-            self.blocks.fail(index);
-            self.failure = Some(Failure::Queued(command));
-            return Ok(Step::Done(completion));
-        }
-        self.blocks.complete(index, command.block);
-        Ok(Step::Done(completion_of(&ended)))
+        self.device.step()
     }
 
     fn store_head(&mut self, head: u64) -> Result<(), Off> {
-        self.power.event()?;
-        self.stored_head = head;
-        self.events = bump(self.events);
-        Ok(())
+        self.device.store_head(head)
     }
 
     fn store_base(&mut self, base: u64) -> Result<(), Off> {
-        self.power.event()?;
-        self.stored_base = base;
-        self.events = bump(self.events);
-        Ok(())
+        self.device.store_base(base)
     }
 
     fn write_home(&mut self, lba: Lba, block: Block) -> Result<HomeStep, Off> {
-        self.power.event()?;
-        let index = block_index(self.area, self.homes, lba);
-        self.begins = bump(self.begins);
-        self.blocks.begin(index);
-        if let Err(off) = self.power.event() {
-            self.under_way = Some(HomeWrite { lba, block });
-            return Err(off);
-        }
-        if self.failing.next() {
-            self.blocks.fail(index);
-            self.failure = Some(Failure::Home(HomeWrite { lba, block }));
-            return Ok(HomeStep::Error {
-                status: WRITE_FAULT,
-            });
-        }
-        self.blocks.complete(index, block);
-        Ok(HomeStep::Done)
+        self.device.write_home(lba, block)
     }
 }

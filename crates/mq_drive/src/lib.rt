@@ -3,9 +3,12 @@
 
 mod blocks;
 mod cut;
+mod device;
 mod emu;
 mod extent;
 mod failing;
+mod flaky;
+mod fuse;
 mod image;
 mod port;
 mod power;
@@ -14,8 +17,11 @@ mod role;
 mod store;
 #[cfg(test)]
 mod tests;
+mod tickets;
 
 pub use emu::EmuPort;
+pub use flaky::FlakyPort;
+pub use fuse::{Fuse, FuseSeat};
 pub use image::PortImage;
 pub use port::{HomeStep, Off, Port, Ports, Step};
 pub use role::Role;

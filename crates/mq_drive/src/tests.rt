@@ -1,11 +1,13 @@
 // A queue's port and the root's, from a fresh image to a cut.
-ghost use Rattle.std.specs.Prelude.{◌≡◌, ◌<◌, ◌≤◌, length, false, IfOk, IsNone};
+ghost use Rattle.std.specs.Prelude.{◌≡◌, ◌<◌, ◌≤◌, ◌^◌, [], length, false, IfOk, IsNone};
+ghost use Rattle.std.specs.Option.{ForSome};
+ghost use Rattle.mq_drive.specs.Seats.{name_of, fuse_of, tickets_of};
 ghost use Rattle.mq_blocks.specs.Drive.{IsHome};
 ghost use Rattle.mq_drive.specs.Emu.{emu_state};
 ghost use Rattle.mq_nvme.specs.Entry.{entry_of};
 ghost use Rattle.mq_blocks.specs.Geometry.{queues_of, area_of, meta_of, zone_size};
 
-use crate::{EmuPort, HomeStep, Off, Port, PortImage, Role, Step};
+use crate::{EmuPort, Fuse, FuseSeat, HomeStep, Off, Port, PortImage, Role, Step};
 use mq_blocks::{Block, Geometry, GeometryRefusal, Lba, OutOfMemory, QueueNo};
 use mq_nvme::{Completion, Entry, WriteReq, write_of};
 use std::alloc::Global;
@@ -18,6 +20,17 @@ fn small() -> Result<Geometry, GeometryRefusal>
     ensures { IfOk result (λ g. (queues_of g ≡ 1) × (area_of g ≡ 1024) × (meta_of g ≡ 16) × (zone_size g ≡ 240)) }
 {
     Geometry::new(1, 1024, 16, 240)
+}
+
+// A fuse with one seat.
+fn powered(alloc: Global, limit: Option<u64>) -> Result<(Fuse, FuseSeat), OutOfMemory>
+    requires { ForSome limit (λ l. l ≤ 2 ^ 63) }
+    ensures fuse { IfOk result (λ r. fuse_of r.1 ≡ name_of r.0) }
+    ensures fresh { IfOk result (λ r. tickets_of r.1 ≡ []) }
+{
+    let (fuse, mut seats) = Fuse::new(alloc, limit, 1)?;
+    let seat = seats.remove(0);
+    Ok((fuse, seat))
 }
 
 // The image of a port on which nothing was written.
@@ -58,7 +71,8 @@ fn what_is_rung_is_done(rt: HostRuntime) -> Result<(), OutOfMemory> {
     let image = fresh(alloc, 1024, 1264)?;
     let (three, four) = (filled(alloc, 3)?, filled(alloc, 4)?);
     let mut block = Block::zeroed(alloc)?;
-    let mut port = EmuPort::new(alloc, geometry, QUEUE, image, None, None, 4)?;
+    let (fuse, seat) = powered(alloc, None)?;
+    let mut port = EmuPort::new(alloc, &fuse, seat, geometry, QUEUE, image, None, 4)?;
     let member = write_of(&WriteReq {
         tx: 7,
         slot: 0,
@@ -81,7 +95,7 @@ fn what_is_rung_is_done(rt: HostRuntime) -> Result<(), OutOfMemory> {
     let second = Completion::from_bytes(&[0, 0, 0, 0, 0, 0, 0, 0, 2, 0, 1, 0, 1, 0, 1, 0]);
     assert!(rt; port.step() == Ok(Step::Done(second)));
     assert!(rt; port.step() == Ok(Step::Idle));
-    let image = port.cut(0);
+    let (image, _seat) = port.cut(0);
     assert_eq!(rt; image.doorbell, 2);
     assert_eq!(rt; image.head, 0);
     assert!(rt; image.slots.get(0) == Some(&member));
@@ -94,7 +108,8 @@ fn what_is_rung_is_done(rt: HostRuntime) -> Result<(), OutOfMemory> {
     assert_eq!(rt; image.slots.len(), 1024);
     assert_eq!(rt; image.blocks.len(), 1264);
     // A port starts there.
-    let mut port = EmuPort::new(alloc, geometry, QUEUE, image, None, None, 0)?;
+    let (fuse, seat) = powered(alloc, None)?;
+    let mut port = EmuPort::new(alloc, &fuse, seat, geometry, QUEUE, image, None, 0)?;
     assert!(rt; port.role() == QUEUE);
     assert_eq!(rt; port.doorbell(), 2);
     assert_eq!(rt; port.head(), 0);
@@ -102,10 +117,9 @@ fn what_is_rung_is_done(rt: HostRuntime) -> Result<(), OutOfMemory> {
     assert!(rt; port.read_slot(1) == last);
     port.read_block(Lba(1044), &mut block);
     assert!(rt; block.bytes().iter().all(|b| *b == 4));
-    assert!(rt; port.step() == Ok(Step::Idle));
     port.store_head(2).expect(&rt, "power");
     port.flush().expect(&rt, "power");
-    let image = port.cut(0);
+    let (image, _seat) = port.cut(0);
     assert_eq!(rt; image.doorbell, 2);
     assert_eq!(rt; image.head, 2);
     assert!(rt; image.slots.get(1) == Some(&last));
@@ -120,7 +134,8 @@ fn a_cut_before_the_flush(rt: HostRuntime) -> Result<(), OutOfMemory> {
     let mut image = fresh(alloc, 1024, 1264)?;
     image.doorbell = 1;
     let three = filled(alloc, 3)?;
-    let mut port = EmuPort::new(alloc, geometry, QUEUE, image, None, None, 0)?;
+    let (fuse, seat) = powered(alloc, None)?;
+    let mut port = EmuPort::new(alloc, &fuse, seat, geometry, QUEUE, image, None, 0)?;
     let entry = write_of(&WriteReq {
         tx: 7,
         slot: 1,
@@ -129,7 +144,7 @@ fn a_cut_before_the_flush(rt: HostRuntime) -> Result<(), OutOfMemory> {
     });
     port.stage(1, entry, three).expect(&rt, "power");
     port.store_head(1).expect(&rt, "power");
-    let image = port.cut(17);
+    let (image, _seat) = port.cut(17);
     assert_eq!(rt; image.doorbell, 1);
     assert_eq!(rt; image.head, 0);
     assert!(rt; image.slots.get(1) == Some(&Entry::zeroed()));
@@ -143,12 +158,13 @@ fn the_root_keeps_the_base(rt: HostRuntime) -> Result<(), OutOfMemory> {
     let geometry = small().expect(&rt, "a geometry");
     let image = fresh(alloc, 0, 16)?;
     let five = filled(alloc, 5)?;
-    let mut port = EmuPort::new(alloc, geometry, Role::Root, image, None, None, 0)?;
+    let (fuse, seat) = powered(alloc, None)?;
+    let mut port = EmuPort::new(alloc, &fuse, seat, geometry, Role::Root, image, None, 0)?;
     port.store_base(7).expect(&rt, "power");
     port.flush().expect(&rt, "power");
     port.store_base(9).expect(&rt, "power");
     assert!(rt; port.write_home(Lba(1026), five) == Ok(HomeStep::Done));
-    let image = port.cut(4);
+    let (image, _seat) = port.cut(4);
     assert_eq!(rt; image.base, 7);
     assert!(rt; holds(&image, 2, 5));
     assert!(rt; image.blocks.get(3).is_some_and(|block| block.is_none()));
@@ -171,7 +187,7 @@ fn is_blank(image: &PortImage, index: usize) -> bool {
 }
 
 // What the root's port of this drive gives to three calls, and how many of them happened.
-fn root_calls(port: &mut EmuPort, block: Block) -> u64
+fn root_calls(port: &mut EmuPort<'_>, block: Block) -> u64
     requires root { IsNone (emu_state port.old).queue }
     requires base { (emu_state port.old).base ≤ 7 }
     requires home { IsHome (emu_state port.old) 1026 }
@@ -203,12 +219,13 @@ fn the_power_goes_off_at_the_limit(rt: HostRuntime) -> Result<(), OutOfMemory> {
     ] {
         let image = fresh(alloc, 0, 16)?;
         let five = filled(alloc, 5)?;
-        let mut port = EmuPort::new(alloc, geometry, Role::Root, image, Some(limit), None, 0)?;
+        let (fuse, seat) = powered(alloc, Some(limit))?;
+        let mut port = EmuPort::new(alloc, &fuse, seat, geometry, Role::Root, image, None, 0)?;
         assert_eq!(rt; root_calls(&mut port, five), calls);
         assert_eq!(rt; port.events(), events);
         assert!(rt; !port.failed());
         // The pick 1 takes what is written of a home write that is under way.
-        let image = port.cut(1);
+        let (image, _seat) = port.cut(1);
         assert!(rt;
             if events < 3 {
                 is_blank(&image, 2)
@@ -232,12 +249,13 @@ fn a_home_write_that_fails(rt: HostRuntime) -> Result<(), OutOfMemory> {
     for (pick, first, last) in drawn {
         let image = fresh(alloc, 0, 16)?;
         let five = filled(alloc, 5)?;
-        let mut port = EmuPort::new(alloc, geometry, Role::Root, image, None, Some(1), 0)?;
+        let (fuse, seat) = powered(alloc, None)?;
+        let mut port = EmuPort::new(alloc, &fuse, seat, geometry, Role::Root, image, Some(1), 0)?;
         assert!(rt; !port.failed());
         assert!(rt; port.write_home(Lba(1026), five) == Ok(HomeStep::Error { status: 640 }));
         assert!(rt; port.failed());
         port.store_base(7).expect(&rt, "power");
-        let image = port.cut(pick);
+        let (image, _seat) = port.cut(pick);
         assert_eq!(rt; image.base, if pick == 3 { 0 } else { 7 });
         assert!(rt; is_drawn(&image, 2, first, last));
     }
@@ -245,11 +263,12 @@ fn a_home_write_that_fails(rt: HostRuntime) -> Result<(), OutOfMemory> {
     for pick in 0..6 {
         let image = fresh(alloc, 0, 16)?;
         let (five, six) = (filled(alloc, 5)?, filled(alloc, 6)?);
-        let mut port = EmuPort::new(alloc, geometry, Role::Root, image, None, Some(1), 0)?;
+        let (fuse, seat) = powered(alloc, None)?;
+        let mut port = EmuPort::new(alloc, &fuse, seat, geometry, Role::Root, image, Some(1), 0)?;
         assert!(rt; port.write_home(Lba(1026), five) == Ok(HomeStep::Error { status: 640 }));
         assert!(rt; port.write_home(Lba(1026), six) == Ok(HomeStep::Done));
         assert_eq!(rt; port.events(), 4);
-        assert!(rt; holds(&port.cut(pick), 2, 6));
+        assert!(rt; holds(&port.cut(pick).0, 2, 6));
     }
     Ok(())
 }
@@ -278,7 +297,7 @@ fn write(at: u16, lba: u64) -> Entry
     })
 }
 
-fn two_steps(port: &mut EmuPort) -> (Result<Step, Off>, Result<Step, Off>)
+fn two_steps(port: &mut EmuPort<'_>) -> (Result<Step, Off>, Result<Step, Off>)
     ensures homes_first { (emu_state port.new).homes_first ≡ (emu_state port.old).homes_first }
     ensures homes_size { (emu_state port.new).homes_size ≡ (emu_state port.old).homes_size }
 {
@@ -292,7 +311,8 @@ fn in_doubt(rt: &impl Abort, alloc: Global, seed: u64, pick: u64) -> Result<Doub
     let image = fresh(alloc, 1024, 1264)?;
     let (three, four) = (filled(alloc, 3)?, filled(alloc, 4)?);
     let (five, nine) = (filled(alloc, 5)?, filled(alloc, 9)?);
-    let mut port = EmuPort::new(alloc, geometry, QUEUE, image, Some(8), Some(2), seed)?;
+    let (fuse, seat) = powered(alloc, Some(8))?;
+    let mut port = EmuPort::new(alloc, &fuse, seat, geometry, QUEUE, image, Some(2), seed)?;
     port.stage(0, write(0, 5), three).expect(rt, "power");
     port.stage(1, write(1, 6), four).expect(rt, "power");
     port.stage(2, write(2, 7), five).expect(rt, "power");
@@ -306,7 +326,7 @@ fn in_doubt(rt: &impl Abort, alloc: Global, seed: u64, pick: u64) -> Result<Doub
         home,
         failed: port.failed(),
         events: port.events(),
-        image: port.cut(pick),
+        image: port.cut(pick).0,
     })
 }
 
@@ -347,6 +367,32 @@ fn a_cut_chooses_of_blocks_in_doubt(rt: HostRuntime) -> Result<(), OutOfMemory> 
 }
 
 #[test]
+fn the_third_command_fails(rt: HostRuntime) -> Result<(), OutOfMemory> {
+    let alloc = rt.alloc();
+    let geometry = small().expect(&rt, "a geometry");
+    let image = fresh(alloc, 1024, 1264)?;
+    let (three, four) = (filled(alloc, 3)?, filled(alloc, 4)?);
+    let five = filled(alloc, 5)?;
+    let (fuse, seat) = powered(alloc, None)?;
+    let mut port = EmuPort::new(alloc, &fuse, seat, geometry, QUEUE, image, Some(3), 4)?;
+    port.stage(0, write(0, 5), three).expect(&rt, "power");
+    port.stage(1, write(1, 6), four).expect(&rt, "power");
+    port.stage(2, write(2, 7), five).expect(&rt, "power");
+    port.flush().expect(&rt, "power");
+    port.ring(3).expect(&rt, "power");
+    let (first, second) = two_steps(&mut port);
+    assert!(rt; first == ended(1, 0));
+    assert!(rt; second == ended(0, 0));
+    assert!(rt; !port.failed());
+    // Command 2 in the first pass ends with the status 640: dword 3 is 05010002h.
+    assert!(rt; port.step() == ended(2, 5));
+    assert!(rt; port.failed());
+    let (image, _seat) = port.cut(0);
+    assert_eq!(rt; image.doorbell, 3);
+    Ok(())
+}
+
+#[test]
 fn a_cut_chooses_of_slots(rt: HostRuntime) -> Result<(), OutOfMemory> {
     let alloc = rt.alloc();
     let geometry = small().expect(&rt, "a geometry");
@@ -358,11 +404,12 @@ fn a_cut_chooses_of_slots(rt: HostRuntime) -> Result<(), OutOfMemory> {
         let mut image = fresh(alloc, 1024, 1264)?;
         image.doorbell = 1;
         let (three, four) = (filled(alloc, 3)?, filled(alloc, 4)?);
-        let mut port = EmuPort::new(alloc, geometry, QUEUE, image, None, None, 0)?;
+        let (fuse, seat) = powered(alloc, None)?;
+        let mut port = EmuPort::new(alloc, &fuse, seat, geometry, QUEUE, image, None, 0)?;
         port.stage(1, write(1, 5), three).expect(&rt, "power");
         port.stage(2, write(2, 6), four).expect(&rt, "power");
         port.store_head(1).expect(&rt, "power");
-        let image = port.cut(pick);
+        let (image, _seat) = port.cut(pick);
         let torn = image.slots.get(1).map(|entry| entry.to_bytes());
         assert!(rt;
             torn.is_some_and(|bytes| bytes.starts_with(&first.to_le_bytes())

@@ -4,7 +4,7 @@ ghost use Rattle.std.specs.Prelude.{◌≡◌, ◌<◌, ◌≤◌, ◌+◌, leng
 use crate::{PlainStanding, plain_standing};
 use mq_area::{Descriptor, write_descriptor};
 use mq_blocks::{Block, BlockNo, Geometry, OutOfMemory, QueueNo};
-use mq_drive::{EmuPort, PortImage, Role};
+use mq_drive::{EmuPort, Fuse, PortImage, Role};
 use mq_nvme::{Entry, WriteReq, write_of};
 use std::alloc::Global;
 
@@ -121,16 +121,12 @@ fn standing(
         slots: Vec::new(alloc),
         blocks: stored_blocks(alloc, 16, Vec::new(alloc))?,
     };
-    let queue = EmuPort::new(
-        alloc,
-        geometry,
-        Role::Queue(QueueNo(0)),
-        queue,
-        None,
-        None,
-        0,
-    )?;
-    let root = EmuPort::new(alloc, geometry, Role::Root, root, None, None, 0)?;
+    let (fuse, mut seats) = Fuse::new(alloc, None, 2)?;
+    let seat = seats.remove(0);
+    let role = Role::Queue(QueueNo(0));
+    let queue = EmuPort::new(alloc, &fuse, seat, geometry, role, queue, None, 0)?;
+    let seat = seats.remove(0);
+    let root = EmuPort::new(alloc, &fuse, seat, geometry, Role::Root, root, None, 0)?;
     plain_standing(alloc, geometry, &queue, &root)
 }
 

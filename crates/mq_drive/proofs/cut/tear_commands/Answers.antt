@@ -1,6 +1,5 @@
 use Rattle.std.proofs.Common.{◌≡◌, ◌≢◌, ℕ, Bool, false, List, ◌∷◌, length, get_or, All, refl, sym, ◌∙◌, ap, subst}
 use Rattle.std.proofs.lemmas.List.Elements.{All-rest}
-use Rattle.mq_blocks.specs.declared.command.Command.{Command}
 use Rattle.mq_drive.proofs.Tearing.{IsOwn, IsOther, first_of}
 use Rattle.mq_drive.proofs.cut.tear_commands.Goals as goal
 

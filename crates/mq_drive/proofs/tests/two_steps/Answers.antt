@@ -1,5 +1,4 @@
 use Rattle.std.proofs.Common.{◌∙◌}
-use Rattle.mq_drive.specs.Emu.{emu_state, emu_faults}
 use Rattle.mq_drive.proofs.Faults.{homes_kept}
 use Rattle.mq_drive.proofs.tests.two_steps.Goals as goal
 

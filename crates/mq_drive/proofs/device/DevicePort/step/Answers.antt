@@ -1,0 +1,141 @@
+use Rattle.std.proofs.Math.ListN.{length-set}
+use Rattle.std.proofs.Common.{rules, ◌≡◌, ◌<◌, ℕ, Some, None, List, ◌++◌, length, All, replicate, refl, sym, ◌∙◌, ap, subst, arith, set, true, false}
+use Rattle.std.specs.Option.{option_to_list}
+use Rattle.std.specs.Prelude.{slice_get}
+use Rattle.std.specs.List.{remove}
+use Rattle.mq_nvme.specs.Completion.{status_of, identifier_of}
+use Rattle.mq_nvme.proofs.Completions.{identifier_of-completion}
+use Rattle.mq_blocks.specs.Drive.{AreCounted}
+use Rattle.mq_blocks.specs.declared.command.Command.{Command}
+use Rattle.mq_drive.specs.declared.device.Device.{Device}
+use Rattle.mq_drive.specs.declared.failing.Failure.TheVariants.{Queued}
+use Rattle.mq_drive.specs.Emu.{device_state, device_faults}
+use Rattle.mq_drive.specs.Seats.{fuse_of}
+use Rattle.mq_drive.specs.Failures.{errors_of}
+use Rattle.mq_drive.specs.Steps.{PowerOff, CommandError, Gains}
+use Rattle.mq_drive.proofs.Commands.{counted_remove, all_remove, all_at}
+use Rattle.mq_drive.proofs.Doubts.{none_of, none_while, none_for}
+use Rattle.mq_drive.proofs.Faults.{off_gains, refused_step, error_gains}
+use Rattle.mq_drive.proofs.Moves.{same_state, done_at, failed_at}
+use Rattle.mq_drive.proofs.Tearing.{IsOwn}
+use Rattle.mq_drive.proofs.device.DevicePort.step.Goals as goal
+
+abbrev Own : Device → ℕ → Command → Type 0
+Own p n x = IsOwn p.area.first p.area.size p.homes.first n x
+
+own_at : (p : Device) (at : ℕ) (x : Command) → slice_get p.posted.items at ≡ Some x → Own p (length p.blocks.stored.items) x
+own_at p at x is = all_at (Own p (length p.blocks.stored.items)) p.posted.items at x is p.posted_own
+
+own_left : (p : Device) (at n : ℕ) (left : List Command) → left ≡ remove p.posted.items at → n ≡ length p.blocks.stored.items → All (Own p n) left
+own_left p at n left is same =
+    subst (λ (l : List Command). All (Own p n) l) (sym is)
+    (subst (λ (m : ℕ). All (Own p m) (remove p.posted.items at)) (sym same) (all_remove (Own p (length p.blocks.stored.items)) at p.posted.items p.posted_own))
+
+counted_left : (p : Device) (at : ℕ) (left : List Command) → left ≡ remove p.posted.items at → AreCounted p.stored_head p.doorbell left
+counted_left p at left is = subst (AreCounted p.stored_head p.doorbell) (sym is) (counted_remove p.stored_head p.doorbell at p.posted.items p.posted_counted)
+
+nothing_open : (p : Device) → p.power.offs ≡ 0 → p.under_way ≡ None
+nothing_open p on = none_while p.under_way p.power.offs p.under_way_last on
+
+pub returns-in_err-event : goal.returns-in_err-event
+returns-in_err-event c =
+    let some : 0 < length c.args.self.now.posted.items = search rules in
+    refused_step (device_state c.args.self.now) _ (device_faults c.args.self.now) _ c.from_residual.result c.from_residual.ensures.0
+    (λ none. let zero_long : length c.args.self.now.posted.items ≡ 0 = ap length none in omega (arith, some, zero_long))
+    (same_state (device_state c.args.self.now) (fuse_of c.event.new.self.seat) c.event.ensures.fuse)
+    (off_gains c.args.self.now.power.offs c.event.new.self.offs (errors_of c.args.self.now.failure) c.event.ensures.range c.in_err-event.ensures.refused.1)
+
+pub block_index-index-requires : goal.block_index-index-requires
+block_index-index-requires c = record { low = (own_at c.args.self.now c.choose-at.result c.take_at-command.result c.take_at-command.ensures.item).0 }
+
+pub fail-requires : goal.fail-requires
+fail-requires c =
+    let own = (own_at c.args.self.now c.choose-at.result c.take_at-command.result c.take_at-command.ensures.item).1 in
+    let at = c.block_index-index.ensures in
+    omega (arith, own, at)
+
+pub complete-requires : goal.complete-requires
+complete-requires c =
+    let own = (own_at c.args.self.now c.choose-at.result c.take_at-command.result c.take_at-command.ensures.item).1 in
+    let at = c.block_index-index.ensures in
+    omega (arith, own, at)
+
+pub invariant_of-self-then-next-clause-posted_counted : goal.invariant_of-self-then-next-clause-posted_counted
+invariant_of-self-then-next-clause-posted_counted c = counted_left c.args.self.now c.choose-at.result c.take_at-command.new.commands.items c.take_at-command.ensures.items
+
+pub invariant_of-self-then-next-clause-posted_own : goal.invariant_of-self-then-next-clause-posted_own
+invariant_of-self-then-next-clause-posted_own c =
+    own_left c.args.self.now c.choose-at.result (length c.fail.new.self.stored.items) c.take_at-command.new.commands.items c.take_at-command.ensures.items (ap length c.fail.ensures.blocks)
+
+pub invariant_of-self-then-next-clause-pending_own : goal.invariant_of-self-then-next-clause-pending_own
+invariant_of-self-then-next-clause-pending_own c =
+    subst (λ (n : ℕ). All (Own c.args.self.now n) c.args.self.now.pending.items) (sym (ap length c.fail.ensures.blocks)) c.args.self.now.pending_own
+
+pub invariant_of-self-2-clause-pending_own : goal.invariant_of-self-2-clause-pending_own
+invariant_of-self-2-clause-pending_own c =
+    subst (λ (n : ℕ). All (Own c.args.self.now n) c.args.self.now.pending.items)
+    (sym (ap length c.complete.ensures.blocks ∙ length-set c.args.self.now.blocks.stored.items c.block_index-index.result (Some c.take_at-command.result.block))) c.args.self.now.pending_own
+
+pub invariant_of-self-then-next-clause-failure_counted : goal.invariant_of-self-then-next-clause-failure_counted
+invariant_of-self-then-next-clause-failure_counted c = sym (c.next.ensures.fails c.if-next.true).1
+
+pub invariant_of-self-then-next-clause-under_way_own : goal.invariant_of-self-then-next-clause-under_way_own
+invariant_of-self-then-next-clause-under_way_own c = none_for c.args.self.now.under_way _ (nothing_open c.args.self.now c.in_ok-event.ensures.first)
+
+pub invariant_of-self-then-next-clause-under_way_doubt : goal.invariant_of-self-then-next-clause-under_way_doubt
+invariant_of-self-then-next-clause-under_way_doubt c = none_for c.args.self.now.under_way _ (nothing_open c.args.self.now c.in_ok-event.ensures.first)
+
+pub invariant_of-self-2-clause-posted_counted : goal.invariant_of-self-2-clause-posted_counted
+invariant_of-self-2-clause-posted_counted c = counted_left c.args.self.now c.choose-at.result c.take_at-command.new.commands.items c.take_at-command.ensures.items
+
+pub invariant_of-self-2-clause-posted_own : goal.invariant_of-self-2-clause-posted_own
+invariant_of-self-2-clause-posted_own c =
+    own_left c.args.self.now c.choose-at.result (length c.complete.new.self.stored.items) c.take_at-command.new.commands.items c.take_at-command.ensures.items
+    (ap length c.complete.ensures.blocks ∙ length-set c.args.self.now.blocks.stored.items c.block_index-index.result (Some c.take_at-command.result.block))
+
+pub invariant_of-self-2-clause-under_way_own : goal.invariant_of-self-2-clause-under_way_own
+invariant_of-self-2-clause-under_way_own c = none_for c.args.self.now.under_way _ (nothing_open c.args.self.now c.in_ok-event.ensures.first)
+
+pub invariant_of-self-2-clause-under_way_doubt : goal.invariant_of-self-2-clause-under_way_doubt
+invariant_of-self-2-clause-under_way_doubt c = none_for c.args.self.now.under_way _ (nothing_open c.args.self.now c.in_ok-event.ensures.first)
+
+pub returns-then-next : goal.returns-then-next
+returns-then-next c =
+    let status : status_of c.completion_of-completion.result ≡ 640 = c.completion_of-completion.ensures.status in
+    let none : c.args.self.now.failure ≡ None = none_of c.args.self.now.failure (c.args.self.now.failure_counted ∙ (c.next.ensures.fails c.if-next.true).0) in
+    record {
+      at = c.choose-at.result;
+      command = c.take_at-command.result;
+      posted = c.take_at-command.ensures.item;
+      identifier = ap identifier_of c.completion_of-completion.ensures.is ∙ identifier_of-completion _ (omega arith);
+      success = λ good. absurd (omega (arith, good, status));
+      error = λ bad. (
+        failed_at (device_state c.args.self.now) c.choose-at.result c.take_at-command.result c.args.self.now.failure (option_to_list c.args.self.now.under_way)
+            c.take_at-command.new.commands.items c.fail.new.self.stored.items c.fail.new.self.sure.items c.bump-self-2.result (fuse_of c.event.new.self.seat) c.next.new.self.named
+            none refl refl c.take_at-command.ensures.items c.fail.ensures.blocks
+            (c.fail.ensures.sure ∙ ap (λ (k : ℕ). set c.args.self.now.blocks.sure.items k false) c.block_index-index.ensures)
+            c.bump-self-2.ensures c.event.ensures.fuse c.next.ensures.named,
+        subst (λ (n : ℕ). Gains (CommandError c.take_at-command.result.tx n) (device_faults c.args.self.now) (replicate c.event.new.self.offs PowerOff ++ errors_of (Some (Queued c.take_at-command.result)))) (sym status)
+            (error_gains c.args.self.now.power.offs c.event.new.self.offs c.args.self.now.failure (Some (Queued c.take_at-command.result)) (CommandError c.take_at-command.result.tx 640) none refl c.in_ok-event.ensures.happens.1),
+      );
+    }
+
+pub returns : goal.returns
+returns c =
+    let success : status_of c.completion_of.result ≡ 0 = c.completion_of.ensures.status in
+    record {
+      at = c.choose-at.result;
+      command = c.take_at-command.result;
+      posted = c.take_at-command.ensures.item;
+      identifier = ap identifier_of c.completion_of.ensures.is ∙ identifier_of-completion _ (omega arith);
+      success = λ good. (
+        done_at (device_state c.args.self.now) c.choose-at.result c.take_at-command.result
+            c.take_at-command.new.commands.items c.complete.new.self.stored.items c.complete.new.self.sure.items c.bump-self-2.result (fuse_of c.event.new.self.seat) c.next.new.self.named
+            c.take_at-command.ensures.items
+            (c.complete.ensures.blocks ∙ ap (λ (k : ℕ). set c.args.self.now.blocks.stored.items k (Some c.take_at-command.result.block)) c.block_index-index.ensures)
+            (c.complete.ensures.sure ∙ ap (λ (k : ℕ). set c.args.self.now.blocks.sure.items k true) c.block_index-index.ensures)
+            c.bump-self-2.ensures c.event.ensures.fuse c.next.ensures.named,
+        ap (λ (n : ℕ). replicate n PowerOff ++ errors_of c.args.self.now.failure) c.in_ok-event.ensures.happens.1,
+      );
+      error = λ bad. absurd (bad success);
+    }

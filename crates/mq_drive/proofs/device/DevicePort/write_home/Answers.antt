@@ -1,0 +1,134 @@
+use Rattle.std.proofs.Math.ListN.{length-set}
+use Rattle.std.proofs.Common.{◌≡◌, ◌<◌, ◌≤◌, ◌+◌, ℕ, Some, None, Bool, List, [], ◌∷◌, ◌++◌, length, get_or, All, inl, inr, refl, sym, ◌∙◌, ap, subst, arith, set, false}
+use Rattle.std.specs.Option.{option_to_list}
+use Rattle.mq_blocks.specs.Drive.{counted}
+use Rattle.mq_blocks.specs.declared.command.Command.{Command}
+use Rattle.mq_blocks.specs.declared.command.HomeWrite.{HomeWrite}
+use Rattle.mq_drive.specs.declared.device.Device.{Device}
+use Rattle.mq_drive.specs.declared.failing.Failure.TheVariants.{Home}
+use Rattle.mq_drive.specs.Emu.{device_state, device_faults}
+use Rattle.mq_drive.specs.Seats.{fuse_of}
+use Rattle.mq_drive.specs.Failures.{errors_of, failed_of, unended_of}
+use Rattle.mq_drive.specs.Slots.{index_in}
+use Rattle.mq_drive.specs.Steps.{HomeError}
+use Rattle.mq_drive.proofs.Doubts.{none_of, none_while, none_for, some_for, false_at}
+use Rattle.mq_drive.proofs.Faults.{off_gains, refused_home, error_gains}
+use Rattle.mq_drive.proofs.Moves.{set-set, same_state, begun_home, begun_failed, begun_open}
+use Rattle.mq_drive.proofs.Owned.{IsWithin, within_homes}
+use Rattle.mq_drive.proofs.Tearing.{IsOwn}
+use Rattle.mq_drive.proofs.device.DevicePort.write_home.Goals as goal
+
+abbrev AllOwn : Device → ℕ → List Command → Type 0
+AllOwn p n cs = All (IsOwn p.area.first p.area.size p.homes.first n) cs
+
+own_home : (p : Device) (lba : ℕ) → (p.homes.first ≤ lba) × (lba < p.homes.first + p.homes.size) → IsWithin p.area.first p.area.size p.homes.first (length p.blocks.stored.items) lba
+own_home p lba home =
+    within_homes p.area.first p.area.size p.homes.first p.homes.size (length p.blocks.stored.items) lba p.area_before p.homes_end p.sized home.0 home.1
+
+nothing_open : (p : Device) → p.power.offs ≡ 0 → p.under_way ≡ None
+nothing_open p on = none_while p.under_way p.power.offs p.under_way_last on
+
+still_own : (p : Device) (n : ℕ) (cs : List Command) → n ≡ length p.blocks.stored.items → AllOwn p (length p.blocks.stored.items) cs → AllOwn p n cs
+still_own p n cs same own = subst (λ (m : ℕ). AllOwn p m cs) (sym same) own
+
+pub returns-in_err-event : goal.returns-in_err-event
+returns-in_err-event c =
+    refused_home (device_state c.args.self.now) _ (device_faults c.args.self.now) _ c.args.lba c.args.block c.from_residual.result c.from_residual.ensures.0
+    (inl (same_state (device_state c.args.self.now) (fuse_of c.event.new.self.seat) c.event.ensures.fuse))
+    (off_gains c.args.self.now.power.offs c.event.new.self.offs (errors_of c.args.self.now.failure) c.event.ensures.range c.in_err-event.ensures.refused.1)
+
+-- ---- the power goes off before the end
+
+pub invariant_of-self-in-Err-clause-pending_own : goal.invariant_of-self-in-Err-clause-pending_own
+invariant_of-self-in-Err-clause-pending_own c = still_own c.args.self.now (length c.begin.new.self.stored.items) c.args.self.now.pending.items (ap length c.begin.ensures.blocks) c.args.self.now.pending_own
+
+pub invariant_of-self-in-Err-clause-posted_own : goal.invariant_of-self-in-Err-clause-posted_own
+invariant_of-self-in-Err-clause-posted_own c = still_own c.args.self.now (length c.begin.new.self.stored.items) c.args.self.now.posted.items (ap length c.begin.ensures.blocks) c.args.self.now.posted_own
+
+pub invariant_of-self-in-Err-clause-under_way_last : goal.invariant_of-self-in-Err-clause-under_way_last
+invariant_of-self-in-Err-clause-under_way_last c = λ x is. let more = c.in-Err.ensures.refused.1 in omega (arith, more)
+
+pub invariant_of-self-in-Err-clause-under_way_own : goal.invariant_of-self-in-Err-clause-under_way_own
+invariant_of-self-in-Err-clause-under_way_own c =
+    let own = own_home c.args.self.now c.args.lba c.requires in
+    let long : length c.begin.new.self.stored.items ≡ length c.args.self.now.blocks.stored.items = ap length c.begin.ensures.blocks in
+    some_for (record { lba = c.args.lba; block = c.args.block })
+    (λ (w : HomeWrite). (c.args.self.now.area.first ≤ w.lba) × (index_in c.args.self.now.area.first c.args.self.now.area.size c.args.self.now.homes.first w.lba < length c.begin.new.self.stored.items))
+    (own.low, let index = own.index in omega (arith, index, long))
+
+pub invariant_of-self-in-Err-clause-under_way_doubt : goal.invariant_of-self-in-Err-clause-under_way_doubt
+invariant_of-self-in-Err-clause-under_way_doubt c =
+    some_for (record { lba = c.args.lba; block = c.args.block })
+    (λ (w : HomeWrite). get_or c.begin.new.self.sure.items (index_in c.args.self.now.area.first c.args.self.now.area.size c.args.self.now.homes.first w.lba) false ≡ false)
+    (ap (λ (k : ℕ). get_or c.begin.new.self.sure.items k false) (sym c.block_index-index.ensures)
+    ∙ ap (λ (l : List Bool). get_or l c.block_index-index.result false) c.begin.ensures.sure
+    ∙ false_at c.args.self.now.blocks.sure.items c.block_index-index.result)
+
+pub returns-in-Err : goal.returns-in-Err
+returns-in-Err c =
+    let nothing : c.args.self.now.under_way ≡ None = nothing_open c.args.self.now c.in_ok-event.ensures.first in (
+      inr (begun_home (device_state c.args.self.now) c.args.lba c.args.block (failed_of c.args.self.now.failure) (unended_of c.args.self.now.failure ++ record { lba = c.args.lba; block = c.args.block } ∷ [])
+          c.begin.new.self.stored.items c.begin.new.self.sure.items c.bump-self.result (fuse_of c.event-2.new.self.seat) c.args.self.now.failing.named
+          refl
+          (begun_open c.args.self.now.failure c.args.self.now.under_way (record { lba = c.args.lba; block = c.args.block }) nothing)
+          c.begin.ensures.blocks
+          (c.begin.ensures.sure ∙ ap (λ (k : ℕ). set c.args.self.now.blocks.sure.items k false) c.block_index-index.ensures)
+          c.bump-self.ensures (c.event-2.ensures.fuse ∙ c.event.ensures.fuse) refl),
+      off_gains c.args.self.now.power.offs c.event-2.new.self.offs (errors_of c.args.self.now.failure) c.event.ensures.range
+          (c.in-Err.ensures.refused.1 ∙ ap (λ (n : ℕ). counted n 1) c.in_ok-event.ensures.happens.1),
+    )
+
+-- ---- it ends with an error
+
+pub invariant_of-self-then-next-clause-pending_own : goal.invariant_of-self-then-next-clause-pending_own
+invariant_of-self-then-next-clause-pending_own c =
+    still_own c.args.self.now (length c.fail.new.self.stored.items) c.args.self.now.pending.items (ap length (c.fail.ensures.blocks ∙ c.begin.ensures.blocks)) c.args.self.now.pending_own
+
+pub invariant_of-self-then-next-clause-posted_own : goal.invariant_of-self-then-next-clause-posted_own
+invariant_of-self-then-next-clause-posted_own c =
+    still_own c.args.self.now (length c.fail.new.self.stored.items) c.args.self.now.posted.items (ap length (c.fail.ensures.blocks ∙ c.begin.ensures.blocks)) c.args.self.now.posted_own
+
+pub invariant_of-self-then-next-clause-failure_counted : goal.invariant_of-self-then-next-clause-failure_counted
+invariant_of-self-then-next-clause-failure_counted c = sym (c.next.ensures.fails c.if-next.true).1
+
+pub invariant_of-self-then-next-clause-under_way_own : goal.invariant_of-self-then-next-clause-under_way_own
+invariant_of-self-then-next-clause-under_way_own c = none_for c.args.self.now.under_way _ (nothing_open c.args.self.now c.in_ok-event.ensures.first)
+
+pub invariant_of-self-then-next-clause-under_way_doubt : goal.invariant_of-self-then-next-clause-under_way_doubt
+invariant_of-self-then-next-clause-under_way_doubt c = none_for c.args.self.now.under_way _ (nothing_open c.args.self.now c.in_ok-event.ensures.first)
+
+pub returns-then-next : goal.returns-then-next
+returns-then-next c =
+    let nothing : c.args.self.now.under_way ≡ None = nothing_open c.args.self.now c.in_ok-event.ensures.first in
+    let none : c.args.self.now.failure ≡ None = none_of c.args.self.now.failure (c.args.self.now.failure_counted ∙ (c.next.ensures.fails c.if-next.true).0) in (
+      λ zero. absurd (omega (arith, zero)),
+      begun_home (device_state c.args.self.now) c.args.lba c.args.block [] (record { lba = c.args.lba; block = c.args.block } ∷ option_to_list c.args.self.now.under_way)
+          c.fail.new.self.stored.items c.fail.new.self.sure.items c.bump-self.result (fuse_of c.event-2.new.self.seat) c.next.new.self.named
+          (sym (ap failed_of none))
+          (begun_failed c.args.self.now.failure c.args.self.now.under_way (record { lba = c.args.lba; block = c.args.block }) none nothing)
+          (c.fail.ensures.blocks ∙ c.begin.ensures.blocks)
+          (c.fail.ensures.sure ∙ ap (λ (l : List Bool). set l c.block_index-index.result false) c.begin.ensures.sure
+          ∙ set-set c.args.self.now.blocks.sure.items c.block_index-index.result false false
+          ∙ ap (λ (k : ℕ). set c.args.self.now.blocks.sure.items k false) c.block_index-index.ensures)
+          c.bump-self.ensures (c.event-2.ensures.fuse ∙ c.event.ensures.fuse) c.next.ensures.named,
+      error_gains c.args.self.now.power.offs c.event-2.new.self.offs c.args.self.now.failure (Some (Home (record { lba = c.args.lba; block = c.args.block }))) (HomeError c.args.lba 640)
+          none refl (c.in_default.ensures.happens.1 ∙ c.in_ok-event.ensures.happens.1),
+    )
+
+-- ---- it ends with success
+
+pub invariant_of-self-2-clause-pending_own : goal.invariant_of-self-2-clause-pending_own
+invariant_of-self-2-clause-pending_own c =
+    still_own c.args.self.now (length c.complete.new.self.stored.items) c.args.self.now.pending.items
+    (ap length c.complete.ensures.blocks ∙ length-set c.begin.new.self.stored.items c.block_index-index.result (Some c.args.block) ∙ ap length c.begin.ensures.blocks) c.args.self.now.pending_own
+
+pub invariant_of-self-2-clause-posted_own : goal.invariant_of-self-2-clause-posted_own
+invariant_of-self-2-clause-posted_own c =
+    still_own c.args.self.now (length c.complete.new.self.stored.items) c.args.self.now.posted.items
+    (ap length c.complete.ensures.blocks ∙ length-set c.begin.new.self.stored.items c.block_index-index.result (Some c.args.block) ∙ ap length c.begin.ensures.blocks) c.args.self.now.posted_own
+
+pub invariant_of-self-2-clause-under_way_own : goal.invariant_of-self-2-clause-under_way_own
+invariant_of-self-2-clause-under_way_own c = none_for c.args.self.now.under_way _ (nothing_open c.args.self.now c.in_ok-event.ensures.first)
+
+pub invariant_of-self-2-clause-under_way_doubt : goal.invariant_of-self-2-clause-under_way_doubt
+invariant_of-self-2-clause-under_way_doubt c = none_for c.args.self.now.under_way _ (nothing_open c.args.self.now c.in_ok-event.ensures.first)
