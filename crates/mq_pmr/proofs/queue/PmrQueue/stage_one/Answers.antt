@@ -1,0 +1,44 @@
+use Rattle.std.proofs.Common.{◌≡◌, ◌≤◌, ◌<◌, ℕ, ◌+◌, ◌-◌, ◌%◌, List, false, refl, sym, ◌∙◌, ap, subst, arith}
+use Rattle.mq_blocks.specs.Drive.{PortState, staged_end, after_stage, depth}
+use Rattle.mq_nvme.specs.Entry.{entry_of, tx_of, lba_of}
+use Rattle.mq_nvme.specs.declared.write.WriteReq.{WriteReq}
+use Rattle.mq_nvme.proofs.Entries.{tx_of-entry, lba_of-entry}
+use Rattle.mq_pmr.specs.Queue.{Fits, Kept}
+use Rattle.mq_pmr.specs.declared.slots.Slot.{Slot}
+use Rattle.mq_pmr.proofs.Fitting.{fits_staged, ends-along}
+use Rattle.mq_pmr.proofs.queue.PmrQueue.stage_one.Goals as goal
+
+pub invariant_of-self-2 : goal.invariant_of-self-2
+invariant_of-self-2 g c =
+    let q = c.args.self.now in
+    let old : PortState = g.P.Port.state q.port in
+    let new : PortState = g.P.Port.state c.stage.new.self in
+    let kept : Kept = record { slots = q.slots.items; end = q.end; head = q.head; stored_head = q.stored_head; passed = q.passed; done = q.done; rung = q.rung.items; staged = q.staged } in
+    let request : WriteReq = record { tx = c.args.tx; slot = q.end % 1024; lba = c.from.result; commit = c.args.commit } in
+    let tx_is : tx_of c.write_of-entry.result ≡ c.args.tx = ap tx_of c.write_of-entry.ensures.is ∙ tx_of-entry request in
+    let moved : new ≡ after_stage old c.write_of-entry.result (tx_of c.write_of-entry.result) (lba_of c.write_of-entry.result) c.args.block = c.in_ok-stage.ensures.ok in
+    let named : new ≡ after_stage old c.write_of-entry.result c.args.tx (lba_of c.write_of-entry.result) c.args.block =
+    moved ∙ ap (λ (n : ℕ). after_stage old c.write_of-entry.result n (lba_of c.write_of-entry.result) c.args.block) tx_is in
+    let head : q.head ≡ old.head = q.fits.head in
+    let end : q.end ≡ staged_end old = q.fits.end in
+    let room : q.end < q.head + 1023 = let less = c.requires.room in omega (arith, less, head, end) in
+    let fits = fits_staged old kept c.write_of-entry.result c.args.tx (lba_of c.write_of-entry.result) c.args.block q.fits room in
+    let slots = c.note_staged.ensures in
+    record {
+      fits = subst (λ (s : PortState). Fits s (record kept { slots = c.note_staged.new.slots.items; end = q.end + 1 })) (sym named)
+          (subst (λ (l : List Slot). Fits (after_stage old c.write_of-entry.result c.args.tx (lba_of c.write_of-entry.result) c.args.block) (record kept { slots = l; end = q.end + 1 })) (sym slots) fits);
+      ends = ends-along old new q.done.end q.rung.items (ap (λ (s : PortState). s.doorbell) moved) q.ends;
+      reserved = q.reserved;
+    }
+
+pub returns-clause-ok : goal.returns-clause-ok
+returns-clause-ok g c =
+    let q = c.args.self.now in
+    let old : PortState = g.P.Port.state q.port in
+    let request : WriteReq = record { tx = c.args.tx; slot = q.end % 1024; lba = c.from.result; commit = c.args.commit } in
+    let lba_is : c.from.result ≡ c.args.lba = c.from.ensures ∙ c.lba.view_is in
+    let entry : c.write_of-entry.result ≡ entry_of record { tx = c.args.tx; slot = staged_end old % depth; lba = c.args.lba; commit = c.args.commit } =
+    c.write_of-entry.ensures.is ∙ (λ i. entry_of record { tx = c.args.tx; slot = q.fits.end i % 1024; lba = lba_is i; commit = c.args.commit }) in
+    let tx_is : tx_of c.write_of-entry.result ≡ c.args.tx = ap tx_of c.write_of-entry.ensures.is ∙ tx_of-entry request in
+    let lba_in : lba_of c.write_of-entry.result ≡ c.args.lba = ap lba_of c.write_of-entry.ensures.is ∙ lba_of-entry request ∙ lba_is in
+    c.in_ok-stage.ensures.ok ∙ (λ i. after_stage old (entry i) (tx_is i) (lba_in i) c.args.block)

@@ -1,0 +1,79 @@
+use Rattle.std.proofs.Common.{◌≡◌, ◌≢◌, ◌<◌, ◌≤◌, ℕ, suc, ◌+◌, ◌-◌, ◌%◌, Bool, List, [], ◌∷◌, length, reverse, refl, sym, ◌∙◌, ap, subst, arith, rules, add-zero, vec_len}
+use Rattle.std.proofs.lemmas.List.{length-reverse, get_or-set_other}
+use Rattle.std.proofs.lemmas.Result.{err_from_is_err_and}
+use Rattle.std.specs.Prelude.{◌==◌}
+use Rattle.mq_blocks.specs.Drive.{PortState, staged_end, after_stage, depth}
+use Rattle.mq_nvme.specs.Entry.{entry_of}
+use Rattle.mq_pmr.specs.Runs.{Items, after_some, is_last, entry_at, AreOwn}
+use Rattle.mq_pmr.proofs.Staging.{Next, next, none_more, is_last_by_length, stays_staged, other_slot}
+use Rattle.mq_pmr.proofs.queue.PmrQueue.stage_reversed.Goals as goal
+
+pub staging-preserved : goal.staging-preserved
+staging-preserved g c =
+    let q = c.staging.self in
+    let now : PortState = g.P.Port.state q.port in
+    let start : PortState = g.P.Port.state c.args.self.now.port in
+    let new : PortState = g.P.Port.state c.stage_one.new.self.port in
+    let lba : ℕ = c.take_first-lba.result.0 in
+    let block : List ℕ = c.take_first-lba.result.1 in
+    let rest : Items = reverse c.take_first-lba.new.reversed.items in
+    let inv = c.staging.invariant in
+    let tx : ℕ = c.args.tx in
+    let count : vec_len c.take_first-lba.new.reversed ≡ length rest =
+    (let e : vec_len c.take_first-lba.new.reversed ≡ length c.take_first-lba.new.reversed.items = search rules in e) ∙ sym (length-reverse c.take_first-lba.new.reversed.items) in
+    let flag : c.is_empty-in-staging.result ≡ is_last rest = c.is_empty-in-staging.ensures ∙ ap (λ (n : ℕ). n == 0) count ∙ is_last_by_length rest in
+    let moved = c.in_ok-stage_one.ensures.ok in
+    let entry : entry_of record { tx = tx; slot = staged_end now % depth; lba = lba; commit = c.is_empty-in-staging.result } ≡ entry_at tx (staged_end now) lba rest =
+    ap (λ (b : Bool). entry_of record { tx = tx; slot = staged_end now % depth; lba = lba; commit = b }) flag in
+    let step : Next now new tx lba block rest = next now new tx lba block rest _ tx lba entry refl refl moved in
+    let was : reverse c.staging.items.items ≡ (lba, block) ∷ rest = c.take_first-lba.ensures in
+    let fewer : length c.staging.items.items ≡ suc (length c.take_first-lba.new.reversed.items) =
+    sym (length-reverse c.staging.items.items) ∙ ap length was ∙ ap suc (length-reverse c.take_first-lba.new.reversed.items) in
+    let own = subst (AreOwn start) was inv.own in
+    let head : now.head ≡ start.head = inv.same.head in
+    let low : now.head ≤ staged_end now =
+    let a = q.fits.head in let b = q.fits.heads in let d = q.fits.stored in let e = q.fits.done in let f = q.fits.passed in omega (arith, a, b, d, e, f) in
+    let high : staged_end now < now.head + 1023 =
+    let total = inv.end in let room = c.requires.room in let begun = inv.begun in omega (arith, total, room, begun, fewer, head) in
+    record {
+      begun = omega (arith, step.end, inv.begun);
+      end = omega (arith, inv.end, fewer, step.end);
+      goes_on = λ j.
+          let same : staged_end now - staged_end start + suc j ≡ staged_end new - staged_end start + j = omega (arith, inv.begun, step.end) in
+          step.goes_on j ∙ ap (λ (is : Items). after_some now tx (suc j) is) (sym was) ∙ inv.goes_on (suc j) ∙ ap (λ (n : ℕ). after_some start tx n (reverse c.args.items.now.items)) same;
+      own = own.1;
+      same = stays_staged start now new _ _ _ _ inv.same moved;
+      before = λ some.
+          let other : (start.head - 1) % depth ≢ staged_end now % depth = λ same.
+          other_slot start.head (staged_end now) some (omega (arith, low, head)) (omega (arith, high, head)) (sym same) in
+          ap (λ (s : PortState). Rattle.std.specs.Prelude.slice_index_or s.staged ((start.head - 1) % depth) []) moved
+          ∙ get_or-set_other now.staged (staged_end now % depth) ((start.head - 1) % depth) _ [] other ∙ inv.before some;
+      no_fault = c.in_ok-stage_one.ensures.cause ∙ inv.no_fault;
+      done = c.stage_one.ensures.done ∙ inv.done;
+      rung = c.stage_one.ensures.rung ∙ inv.rung;
+    }
+
+pub returns-in_err-stage_one-clause-off : goal.returns-in_err-stage_one-clause-off
+returns-in_err-stage_one-clause-off g c =
+    let now : PortState = g.P.Port.state c.staging.self.port in
+    let start : PortState = g.P.Port.state c.args.self.now.port in
+    let inv = c.staging.invariant in
+    let tx : ℕ = c.args.tx in
+    let k : ℕ = staged_end now - staged_end start in
+    let some : 0 < length c.staging.items.items =
+    let lens : length (reverse c.staging.items.items) ≡ suc (length (reverse c.take_first-lba.new.reversed.items)) = ap length c.take_first-lba.ensures in
+    omega (arith, lens, length-reverse c.staging.items.items) in
+    let few : k < length c.args.items.now.items = omega (arith, inv.end, inv.begun, some) in
+    let is : g.P.Port.state c.stage_one.new.self.port ≡ after_some start tx k (reverse c.args.items.now.items) =
+    c.in_err-stage_one.ensures.off ∙ sym (none_more now tx (reverse c.staging.items.items)) ∙ inv.goes_on 0 ∙ ap (λ (n : ℕ). after_some start tx n (reverse c.args.items.now.items)) (add-zero k) in
+    let p = err_from_is_err_and c.from_residual.result c.from_residual.ensures.1 in rw p.1 (k, few, is)
+
+pub returns-clause-ok : goal.returns-clause-ok
+returns-clause-ok g c =
+    let now : PortState = g.P.Port.state c.staging.self.port in
+    let start : PortState = g.P.Port.state c.args.self.now.port in
+    let inv = c.staging.invariant in
+    let tx : ℕ = c.args.tx in
+    let none : length c.staging.items.items ≡ 0 = search rules in
+    let all : staged_end now - staged_end start + 0 ≡ length c.args.items.now.items = omega (arith, inv.end, inv.begun, none) in
+    sym (none_more now tx (reverse c.staging.items.items)) ∙ inv.goes_on 0 ∙ ap (λ (n : ℕ). after_some start tx n (reverse c.args.items.now.items)) all

@@ -1,0 +1,5 @@
+pub mod Answers
+pub mod Queue
+pub mod Rungs
+pub mod Runs
+pub mod Slots

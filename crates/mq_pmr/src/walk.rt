@@ -1,0 +1,96 @@
+// Walks over the slots and the transactions of a ring, each slot once.
+ghost use Rattle.std.specs.Prelude.{◌≡◌, ◌<◌, ◌≤◌, ◌+◌, ◌%◌, ◌^◌, ◌++◌, ◌∷◌, [], ℕ, Bool, true, false, length, vec_len, slice_set, drop};
+ghost use Rattle.std.specs.Option.{option_to_list};
+ghost use Rattle.std.specs.VecDeque.{deque_len, deque_capacity};
+ghost use Rattle.mq_pmr.specs.Slots.{tx_in, done_at, AllDone};
+ghost use Rattle.mq_pmr.specs.Rungs.{AreEnds, Walks};
+
+use crate::rungs::Rung;
+use crate::slots::Slot;
+use std::collections::VecDeque;
+
+/// The entry at a count was staged.
+pub fn note_staged(slots: &mut Vec<Slot>, at: u64, tx: u64)
+    requires { length slots.old.items ≡ 1024 }
+    ensures { slots.new.items ≡ slice_set slots.old.items (at % 1024) (record { tx = tx; done = false }) }
+{
+    slots[(at % 1024) as usize] = Slot { tx, done: false };
+}
+
+/// The command in a slot has ended with success.
+pub fn note_done(slots: &mut Vec<Slot>, slot: usize)
+    requires ring { length slots.old.items ≡ 1024 }
+    requires slot { slot < 1024 }
+    ensures { slots.new.items ≡ slice_set slots.old.items slot (record { tx = tx_in slots.old.items slot; done = true }) }
+{
+    let tx = slots[slot].tx;
+    slots[slot] = Slot { tx, done: true };
+}
+
+/// The number of the transaction whose entry is in a slot.
+pub fn tx_of_slot(slots: &Vec<Slot>, slot: usize) -> u64
+    requires ring { length slots.now.items ≡ 1024 }
+    requires slot { slot < 1024 }
+    ensures { result ≡ tx_in slots.now.items slot }
+{
+    slots[slot].tx
+}
+
+/// Adds a transaction where there is room.
+pub fn add_rung(rung: &mut VecDeque<Rung>, next: Rung)
+    requires { deque_len rung.old < deque_capacity rung.old }
+    ensures items { rung.new.items ≡ rung.old.items ++ next ∷ [] }
+    ensures capacity { deque_capacity rung.old ≤ deque_capacity rung.new }
+{
+    match rung.push_back(next) {
+        Ok(()) => {}
+        Err(_) => unreachable!(),
+    }
+}
+
+/// Passes the done entries up to a count, and answers whether all of them are done.
+pub fn pass_to(slots: &Vec<Slot>, passed: &mut u64, end: u64) -> bool
+    requires { length slots.now.items ≡ 1024 }
+    ensures up { passed.old ≤ passed.new }
+    ensures all { AllDone slots.now.items passed.old passed.new }
+    ensures yes { result ≡ true → end ≤ passed.new }
+    ensures no { result ≡ false → (passed.new < end) × (done_at slots.now.items passed.new ≡ false) }
+    ensures high { (limit : ℕ) → passed.old ≤ limit → end ≤ limit → passed.new ≤ limit }
+{
+    'walk: while *passed < end {
+        if !slots[(*passed % 1024) as usize].done {
+            return false;
+        }
+        *passed += 1;
+    }
+    true
+}
+
+/// Passes the transactions that lead and are done, and notes the last of them.
+pub fn pass_done(slots: &Vec<Slot>, passed: &mut u64, done: &mut Rung, rung: &mut VecDeque<Rung>)
+    requires { length slots.now.items ≡ 1024 }
+    ensures capacity { deque_capacity rung.old ≤ deque_capacity rung.new }
+    ensures walk { (limit : ℕ) → AreEnds done.old.end limit rung.old.items → done.old.end ≤ passed.old → passed.old ≤ limit → Walks slots.now.items limit passed.old done.old rung.old.items passed.new done.new rung.new.items }
+{
+    'transactions: while let Some(next) = first_of(rung) {
+        if !pass_to(slots, passed, next.end) {
+            return;
+        }
+        drop_first(rung);
+        *done = next;
+    }
+}
+
+// The first of them.
+fn first_of(rung: &VecDeque<Rung>) -> Option<Rung>
+    ensures { rung.now.items ≡ option_to_list result ++ drop 1 rung.now.items }
+{
+    rung.front().copied()
+}
+
+fn drop_first(rung: &mut VecDeque<Rung>)
+    ensures items { rung.new.items ≡ drop 1 rung.old.items }
+    ensures capacity { deque_capacity rung.new ≡ deque_capacity rung.old }
+{
+    rung.pop_front();
+}
