@@ -3,18 +3,19 @@ use Rattle.std.proofs.Common.{◌≡◌, ◌<◌, ◌≤◌, ◌^◌, ℕ, zero,
 use Rattle.std.specs.Prelude.{Contains, IfSome, Result, Err}
 use Rattle.std.proofs.lemmas.Bool.{cases_lt}
 use Rattle.mq_blocks.specs.Drive.{counted}
-use Rattle.mq_drive.specs.Emu.{emu_state, emu_faults, happened_of}
+use Rattle.mq_drive.specs.Emu.{emu_state, emu_faults, drawn_by}
+use Rattle.mq_drive.specs.Fuse.{above, below}
 use Rattle.mq_drive.specs.Steps.{Fault, PowerOff, CommandError, Gains}
 use Rattle.mq_drive.specs.declared.emu.EmuPort.{EmuPort}
-use Rattle.mq_drive.proofs.Faults.{off_limit, off_unlimited, no_error, command_error_is_none}
+use Rattle.mq_drive.proofs.Faults.{off_above, off_unlimited, no_error, command_error_is_none}
 use Rattle.mqfs.specs.Blocks.{output_of}
 use Rattle.mqfs.specs.Causes.{HasTextCause}
-use Rattle.mqfs.specs.Cuts.{events_of, IsReached, IsPrefixAt}
+use Rattle.mqfs.specs.Cuts.{events_of, IsReached, IsPrefixAt, StandsUnder}
 use Rattle.mqfs.specs.Lines.{live_from, map_after, named}
-use Rattle.mqfs.specs.Text.{printed}
+use Rattle.mq_text.specs.Text.{printed}
 use Rattle.mqfs.specs.declared.commit.TextRefusal.{TextRefusal}
 use Rattle.mqfs.specs.declared.commit.TextRefusal.TheVariants.{Off, Failed}
-use Rattle.mqfs.specs.declared.text.item.BlockItem.{BlockItem}
+use Rattle.mq_text.specs.declared.item.BlockItem.{BlockItem}
 
 abbrev Lines : Type 0
 Lines = List (List BlockItem)
@@ -39,27 +40,40 @@ counted-small n (suc k) m low is small = elim (cases_lt n (2 ^ 64 - 1)) [
 ]
 
 -- so many events happened on a port where no home write began
-happened-events : (p : EmuPort) (e m : ℕ) → (emu_state p).begins ≡ 0 → (emu_state p).events ≡ counted 0 e → happened_of p ≡ m → m < 2 ^ 63 → e ≡ m
-happened-events p e m none counts is small =
-    let all = counted-small 0 e m (omega arith) (sym counts ∙ sym (p.events_counted none) ∙ is) (omega (arith, small)) in
+happened-events : (p : EmuPort) (e l : ℕ) → (emu_state p).begins ≡ 0 → (emu_state p).events ≡ counted 0 e → l < 2 ^ 63 → (emu_state p).fuse.limit ≡ Some l → e ≡ below l (drawn_by p)
+happened-events p e l none counts small is =
+    let same = p.device.power.counted l is in
+    let few = p.device.power.seat.apart l in
+    let all = counted-small 0 e (below l (drawn_by p)) (omega arith) (sym counts ∙ sym (p.device.events_counted none) ∙ same) (omega (arith, small, few)) in
     omega (arith, all)
 
 -- all lines stand where all of them were committed
-pub all_stand : (lines : Lines) (cut : Option ℕ) (p : EmuPort) → IfSome cut (λ k. k < 2 ^ 63) → (emu_state p).limit ≡ cut → (emu_state p).begins ≡ 0 → (emu_state p).events ≡ counted 0 (events_of lines (length lines)) → IsPrefixAt lines cut (length lines)
+pub all_stand : (lines : Lines) (cut : Option ℕ) (p : EmuPort) → IfSome cut (λ k. k < 2 ^ 63) → (emu_state p).fuse.limit ≡ cut → (emu_state p).begins ≡ 0 → (emu_state p).events ≡ counted 0 (events_of lines (length lines)) → StandsUnder lines cut (drawn_by p) (length lines)
 all_stand lines None p small limit none counts = refl
-all_stand lines (Some k) p small limit none counts =
-    let most : happened_of p ≤ k = (p.power.limited k limit).0 in
-    let e : events_of lines (length lines) ≡ happened_of p = happened-events p (events_of lines (length lines)) (happened_of p) none counts refl (omega (arith, most, small)) in
-    record { within = omega arith; ends = inl (omega (arith, e, most), λ less. absurd (omega (arith, less))) }
+all_stand lines (Some k) p small limit none counts = inl (refl, sym (happened-events p (events_of lines (length lines)) k none counts small limit))
 
--- where the power went off as many stand as are reached by its limit
-pub reached_stand : (lines : Lines) (cut : Option ℕ) (old : List Fault) (p : EmuPort) (e n : ℕ) → IfSome cut (λ k. k < 2 ^ 63) → (emu_state p).limit ≡ cut → (emu_state p).begins ≡ 0 → (emu_state p).events ≡ counted 0 e
-    → Gains PowerOff old (emu_faults p) → IsReached lines e n → IsPrefixAt lines cut n
-reached_stand lines None old p e n small limit none counts gains reached = absurd (off_unlimited old p gains limit)
+-- where the power went off as many stand as are reached by the events that happened
+pub reached_stand : (lines : Lines) (cut : Option ℕ) (old : List Fault) (p : EmuPort) (e n : ℕ) → IfSome cut (λ k. k < 2 ^ 63) → (emu_state p).fuse.limit ≡ cut → (emu_state p).begins ≡ 0 → (emu_state p).events ≡ counted 0 e
+    → Gains PowerOff old (emu_faults p) → IsReached lines e n → StandsUnder lines cut (drawn_by p) n
+reached_stand lines None old p e n small limit none counts gains reached = absurd (off_unlimited old p.device gains limit)
 reached_stand lines (Some k) old p e n small limit none counts gains reached =
-    let at : happened_of p ≡ k = off_limit old p k gains limit in
-    let is : e ≡ k = happened-events p e k none counts at small in
-    subst (λ (m : ℕ). IsReached lines m n) is reached
+    inr (subst (λ (m : ℕ). IsReached lines m n) (happened-events p e k none counts small limit) reached, off_above old p.device k gains limit)
+
+-- the events that the fuse counted, where the root's port drew no ticket
+pub prefix_stand : (lines : Lines) (cut : Option ℕ) (queue : List ℕ) (n : ℕ) (closed : ℕ) → StandsUnder lines cut queue n
+    → ((l : ℕ) → cut ≡ Some l → (closed ≡ below l queue) × (closed ≤ l) × (0 < above l queue → closed ≡ l)) → IsPrefixAt lines cut n
+prefix_stand lines None queue n closed stands fuse = stands
+prefix_stand lines (Some l) queue n closed (inl all) fuse =
+    let f = fuse l refl in
+    let same = f.0 in
+    let most = f.1 in
+    let whole = all.0 in
+    let events = all.1 in
+    subst (λ (m : ℕ). IsReached lines l m) (sym whole) (record { within = omega arith; ends = inl (omega (arith, same, most, events), λ less. absurd (omega (arith, less))) })
+prefix_stand lines (Some l) queue n closed (inr off) fuse =
+    let f = fuse l refl in
+    let is : below l queue ≡ l = sym f.0 ∙ f.2 off.1 in
+    subst (λ (m : ℕ). IsReached lines m n) is off.0
 
 pub prefix_within : (lines : Lines) (cut : Option ℕ) (n : ℕ) → IsPrefixAt lines cut n → n ≤ length lines
 prefix_within lines None n is = omega (arith, is)
@@ -68,7 +82,7 @@ prefix_within lines (Some k) n is = is.within
 -- no command of a port fails where none is to fail
 pub none_failed : (p : EmuPort) (tx status : ℕ) → (emu_state p).fail ≡ None → Gains (CommandError tx status) [] (emu_faults p) → ⊥
 none_failed p tx status none gains =
-    no_error [] p (CommandError tx status) (command_error_is_none tx status) gains none (λ has. let within = has.1 in omega (arith, within))
+    no_error [] p.device (CommandError tx status) (command_error_is_none tx status) gains none (λ has. let within = has.1 in omega (arith, within))
 
 -- ---- the causes of a text's refusals
 

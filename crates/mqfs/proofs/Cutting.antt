@@ -9,16 +9,14 @@ use Rattle.mq_drive.specs.Start.{IsPortOf}
 use Rattle.mq_drive.specs.declared.role.Role.{Role}
 use Rattle.mq_drive.specs.declared.role.Role.TheVariants.{Queue}
 use Rattle.mqfs.specs.Cuts.{HasEnded, IsEarly}
-use Rattle.mqfs.specs.Runs.{Items, IsApart, IsNewIn, commands_of, slots_with, entry_at, after_some, after_all}
+use Rattle.mq_pmr.specs.Runs.{Items, commands_of, slots_with, entry_at, after_some}
+use Rattle.mqfs.specs.Runs.{IsApart, IsNewIn, after_all}
 use Rattle.mqfs.proofs.Ended.{ended_all}
 use Rattle.mqfs.proofs.JournalItems.{length-slots_with}
 use Rattle.mqfs.proofs.Lines.{staged_all}
+use Rattle.mq_pmr.proofs.Staging.{other_slot}
 
 -- ---- slots and commands
-
--- a count of the ring's next 1,023 has another slot than the one before them
-other_slot : (head c : ℕ) → 0 < head → head ≤ c → c < head + 1023 → c % depth ≢ (head - 1) % depth
-other_slot head c some low high same = omega arith
 
 -- a slot in which nothing is staged
 pub slots_other : (slots : List (List ℕ)) (tx at k q : ℕ) (items : Items) → ((c : ℕ) → at ≤ c → c < at + length (commands_of tx at k items) → c % depth ≢ q)

@@ -2,8 +2,8 @@
 use Rattle.std.proofs.Common.{◌≡◌, ◌≤◌, ℕ, zero, suc, ◌+◌, ◌-◌, ◌*◌, ◌^◌, List, [], ◌∷◌, length, min, refl, ◌∙◌, ap, subst, arith}
 use Rattle.mq_blocks.specs.Drive.{counted}
 use Rattle.mqfs.specs.Cuts.{events_of, line_events}
-use Rattle.mqfs.specs.Text.{places_of}
-use Rattle.mqfs.specs.declared.text.item.BlockItem.{BlockItem}
+use Rattle.mq_text.specs.Text.{places_of}
+use Rattle.mq_text.specs.declared.item.BlockItem.{BlockItem}
 
 pub counted-counted : (n a b : ℕ) → counted (counted n a) b ≡ counted n (a + b)
 counted-counted n zero b = let e : b ≡ 0 + b = omega arith in ap (counted n) e

@@ -5,21 +5,22 @@ use Rattle.mq_blocks.specs.declared.geometry.Geometry.{Geometry}
 use Rattle.mq_drive.specs.Start.{IsPortOf}
 use Rattle.mq_drive.specs.declared.role.Role.{Role}
 use Rattle.mqfs.specs.Cuts.{HasBounds, HasEnded, IsCut, nearly_done}
-use Rattle.mqfs.specs.Runs.{Items, commands_of, after_some, after_all, after_line}
+use Rattle.mq_pmr.specs.Runs.{Items, commands_of, after_some}
+use Rattle.mqfs.specs.Runs.{after_all, after_line}
 use Rattle.mqfs.proofs.Events.{counted-counted}
 use Rattle.mqfs.proofs.Cutting.{port_flushed, port_rung, port_stored, port_ended, port_some, early_some, early_flushed, early_ended, early_all}
 use Rattle.mqfs.proofs.Ended.{ended_all}
-use Rattle.mqfs.proofs.Lines.{length-commands}
+use Rattle.mq_pmr.proofs.Staging.{length-commands}
 
 bounds_ended : (s t u : PortState) (n : ℕ) → HasBounds s t → HasEnded t u n → HasBounds s u
-bounds_ended s t u n bounds ended = subst (HasBounds s) (sym ended.is) (record { limit = bounds.limit; fail = bounds.fail; begins = bounds.begins })
+bounds_ended s t u n bounds ended = subst (HasBounds s) (sym ended.is) (record { fuse = bounds.fuse; fail = bounds.fail; begins = bounds.begins })
 
 pub bounds_then : (s t u : PortState) → HasBounds s t → HasBounds t u → HasBounds s u
-bounds_then s t u first second = record { limit = second.limit ∙ first.limit; fail = second.fail ∙ first.fail; begins = second.begins ∙ first.begins }
+bounds_then s t u first second = record { fuse = second.fuse ∙ first.fuse; fail = second.fail ∙ first.fail; begins = second.begins ∙ first.begins }
 
 pub bounds_line : (s : PortState) (tx : ℕ) (items : Items) → HasBounds s (after_line s tx items)
 unfolding after_line
-bounds_line s tx items = record { limit = refl; fail = refl; begins = refl }
+bounds_line s tx items = record { fuse = refl; fail = refl; begins = refl }
 
 -- Where the head is stored and not flushed, an image is one of before the store or one of after the
 -- flush.
@@ -86,7 +87,7 @@ module _ (s : PortState) (tx : ℕ) (items : Items) (quiet : IsQuiet s) where
     pub cut_staging : (k : ℕ) → k ≤ length items → new ≡ after_some s tx k items → IsCut s new tx items k
     cut_staging k few is = subst (λ (u : PortState). IsCut s u tx items k) (sym is) record {
       events_are = refl;
-      bounds = record { limit = refl; fail = refl; begins = refl };
+      bounds = record { fuse = refl; fail = refl; begins = refl };
       port = λ g role port. port_some s tx items quiet g role k port;
       stage = inl (early_some s tx items quiet done settled room k, omega arith);
     }
@@ -94,7 +95,7 @@ module _ (s : PortState) (tx : ℕ) (items : Items) (quiet : IsQuiet s) where
     pub cut_flushed : new ≡ after_flush (after_some s tx (length items) items) → IsCut s new tx items (length items + 1)
     cut_flushed is = subst (λ (u : PortState). IsCut s u tx items (length items + 1)) (sym is) record {
       events_are = counted-counted s.events (length items) 1;
-      bounds = record { limit = refl; fail = refl; begins = refl };
+      bounds = record { fuse = refl; fail = refl; begins = refl };
       port = λ g role port. port_flushed g role _ (port_some s tx items quiet g role (length items) port);
       stage = inl (early_flushed s tx items quiet done settled room, omega arith);
     }
@@ -106,7 +107,7 @@ module _ (s : PortState) (tx : ℕ) (items : Items) (quiet : IsQuiet s) where
         let few : n ≤ length items = omega (arith, at.left, rung_count) in
         record {
           events_are = ap (λ (u : PortState). u.events) at.is ∙ ap (λ (m : ℕ). counted m n) (counted-counted s.events (length items) 2) ∙ counted-counted s.events (length items + 2) n;
-          bounds = bounds_ended s rung new n (record { limit = refl; fail = refl; begins = refl }) at;
+          bounds = bounds_ended s rung new n (record { fuse = refl; fail = refl; begins = refl }) at;
           port = λ g role port. port_ended g role rung new n at (port_rung g role _ (port_flushed g role _ (port_some s tx items quiet g role (length items) port)));
           stage = inl (early_ended s tx items quiet done settled room new n at, omega arith);
         }
@@ -114,7 +115,7 @@ module _ (s : PortState) (tx : ℕ) (items : Items) (quiet : IsQuiet s) where
     pub cut_all : new ≡ after_all (after_ring (after_flush (after_some s tx (length items) items))) → IsCut s new tx items (2 * length items + 2)
     cut_all is = subst (λ (u : PortState). IsCut s u tx items (2 * length items + 2)) (sym is) record {
       events_are = events_all;
-      bounds = record { limit = refl; fail = refl; begins = refl };
+      bounds = record { fuse = refl; fail = refl; begins = refl };
       port = port_all;
       stage = inl (early_all s tx items quiet done settled room, omega arith);
     }
@@ -125,7 +126,7 @@ module _ (s : PortState) (tx : ℕ) (items : Items) (quiet : IsQuiet s) where
         let rung : PortState = after_ring (after_flush (after_some s tx (length items) items)) in
         record {
           events_are = ap (λ (u : PortState). u.events) is ∙ events_nearly;
-          bounds = subst (HasBounds s) (sym is) record { limit = refl; fail = refl; begins = refl };
+          bounds = subst (HasBounds s) (sym is) record { fuse = refl; fail = refl; begins = refl };
           port = λ g role port. subst (λ (u : PortState). IsPortOf g role u) (sym is)
               (port_stored g role (after_all rung) (staged_end s + length items) (port_all g role port));
           stage = inr (is, refl);

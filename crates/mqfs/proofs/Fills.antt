@@ -9,10 +9,10 @@ use Rattle.mq_blocks.specs.Machine.{Writes}
 use Rattle.mq_blocks.specs.declared.geometry.Geometry.{Geometry}
 use Rattle.mqfs.specs.Commits.{AreBelow, blocks_in, copies_from, items_from, items_of, descriptor_for}
 use Rattle.mqfs.specs.Lines.{set_in, with_write, writes_from, named}
-use Rattle.mqfs.specs.Runs.{Items}
-use Rattle.mqfs.specs.Text.{AreGoodItems, IsGoodItem, IsUnnamed, sets_in}
-use Rattle.mqfs.specs.declared.text.item.BlockItem.{BlockItem}
-use Rattle.mqfs.specs.declared.text.item.BlockItem.TheVariants.{Set, Free}
+use Rattle.mq_pmr.specs.Runs.{Items}
+use Rattle.mq_text.specs.Text.{AreGoodItems, IsGoodItem, IsUnnamed, sets_in}
+use Rattle.mq_text.specs.declared.item.BlockItem.{BlockItem}
+use Rattle.mq_text.specs.declared.item.BlockItem.TheVariants.{Set, Free}
 
 abbrev pub Fill : Type 0
 Fill = ℕ → Option ℕ

@@ -14,7 +14,8 @@ use Rattle.mq_blocks.specs.declared.geometry.Geometry.{Geometry}
 use Rattle.mq_blocks.specs.declared.command.Command.{Command}
 use Rattle.mq_drive.specs.Start.{IsPortOf}
 use Rattle.mq_drive.specs.declared.role.Role.TheVariants.{Queue}
-use Rattle.mqfs.specs.Runs.{Items, blocks_with, sure_with, commands_of, slots_with, entry_at, IsNewIn, AreDistinct, AreOwn}
+use Rattle.mq_pmr.specs.Runs.{Items, commands_of, slots_with, entry_at, AreOwn}
+use Rattle.mqfs.specs.Runs.{blocks_with, sure_with, IsNewIn, AreDistinct}
 use Rattle.mqfs.specs.Commits.{items_from}
 
 pub mod_small : (a n : ℕ) → a < n → a % n ≡ a

@@ -13,7 +13,8 @@ use Rattle.mq_blocks.specs.declared.geometry.Geometry.{Geometry}
 use Rattle.mq_blocks.specs.declared.command.Command.{Command}
 use Rattle.mq_drive.specs.Start.{IsPortOf}
 use Rattle.mq_drive.specs.declared.role.Role.TheVariants.{Queue}
-use Rattle.mqfs.specs.Runs.{Items, blocks_with, commands_of, slots_with, entry_at, after_line, after_some}
+use Rattle.mq_pmr.specs.Runs.{Items, commands_of, slots_with, entry_at, after_some}
+use Rattle.mqfs.specs.Runs.{blocks_with, after_line}
 use Rattle.mqfs.specs.Commits.{items_from, items_of, descriptor_for, blocks_in, Agrees, AllCarry, Keeps}
 use Rattle.mqfs.proofs.JournalItems.{mod_small, at_place, length-items, new_below, block_at-set_same, items_apart, length-blocks_with, length-sure_with, sure_all, length-slots_with, last_lba, last_slot}
 use Rattle.mqfs.proofs.Lines.{staged_all}

@@ -14,7 +14,8 @@ use Rattle.mq_drive.specs.declared.role.Role.TheVariants.{Queue}
 use Rattle.mqfs.specs.Lines.{empty_map}
 use Rattle.mqfs.specs.Commits.{Agrees, Carries, AllCarry, Keeps, ShowsMap}
 use Rattle.mqfs.specs.Cuts.{IsEarly}
-use Rattle.mqfs.specs.Runs.{Items, IsNewIn}
+use Rattle.mq_pmr.specs.Runs.{Items}
+use Rattle.mqfs.specs.Runs.{IsNewIn}
 
 -- ---- of descriptors
 

@@ -15,13 +15,5 @@ pub mod Lines
 pub mod Lists
 pub mod LiveBlocks
 pub mod RungEntries
-pub mod Staging
-pub mod TextFirst
-pub mod TextItems
-pub mod TextLines
-pub mod TextNumbers
-pub mod TextParts
-pub mod TextReads
 pub mod TextSteps
-pub mod TextWhole
 pub mod Words

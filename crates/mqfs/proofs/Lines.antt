@@ -1,7 +1,9 @@
 -- A whole transaction.
 use Rattle.std.proofs.Common.{◌≡◌, ℕ, suc, ◌+◌, [], ◌∷◌, ◌++◌, length, refl, sym, ◌∙◌, ap, subst}
 use Rattle.mq_blocks.specs.Drive.{PortState, IsQuiet, index_of, staged_end, after_flush, after_ring}
-use Rattle.mqfs.specs.Runs.{Items, IsApart, AreApart, IsNewIn, AreDistinct, commands_of, after_some}
+use Rattle.mq_pmr.specs.Runs.{Items, commands_of, after_some}
+use Rattle.mqfs.specs.Runs.{IsApart, AreApart, IsNewIn, AreDistinct}
+use Rattle.mq_pmr.proofs.Staging.{length-commands}
 
 apart_from : (at : ℕ → ℕ) (tx n k : ℕ) (items : Items) → IsNewIn at k items → IsApart at k (commands_of tx n (length items) items)
 apart_from at tx n k [] new = tt
@@ -17,10 +19,6 @@ apart_posted s t tx items quiet distinct is =
     (λ i. quiet.posted i ++ (quiet.pending i ++ commands_of tx (staged_end s) (length items) items)) in
     subst (λ (u : PortState). AreApart (index_of u) u.posted) (sym is)
     (subst (AreApart (index_of s)) (sym posted) (apart_commands (index_of s) tx (staged_end s) items distinct))
-
-pub length-commands : (tx at : ℕ) (items : Items) → length (commands_of tx at (length items) items) ≡ length items
-length-commands tx at [] = refl
-length-commands tx at (i ∷ is) = ap suc (length-commands tx (at + 1) is)
 
 pub staged_all : (s : PortState) (tx : ℕ) (items : Items) → IsQuiet s → staged_end (after_some s tx (length items) items) ≡ s.doorbell + length items
 staged_all s tx items quiet =

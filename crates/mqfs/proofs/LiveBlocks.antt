@@ -8,9 +8,9 @@ use Rattle.mq_blocks.specs.Journal.{is_among}
 use Rattle.mq_blocks.specs.Machine.{Map, Writes, write_of, or_kept, after}
 use Rattle.mqfs.specs.Lines.{set_in, freed_in, with_write, writes_from, named, transaction_of, map_after, live_one, live_from}
 use Rattle.mqfs.specs.Live.{AreMarks, marked}
-use Rattle.mqfs.specs.Text.{AreGoodItems, AreGoodLines, IsGoodItem, IsUnnamed}
-use Rattle.mqfs.specs.declared.text.item.BlockItem.{BlockItem}
-use Rattle.mqfs.specs.declared.text.item.BlockItem.TheVariants.{Set, Free}
+use Rattle.mq_text.specs.Text.{AreGoodItems, AreGoodLines, IsGoodItem, IsUnnamed}
+use Rattle.mq_text.specs.declared.item.BlockItem.{BlockItem}
+use Rattle.mq_text.specs.declared.item.BlockItem.TheVariants.{Set, Free}
 use Rattle.mqfs.proofs.Fills.{Fill, named_is}
 
 abbrev Lines : Type 0

@@ -5,14 +5,14 @@ use Rattle.std.specs.Prelude.{Result, Ok, Err, MatchResult, IfErr, IfOk, IsErr, 
 use Rattle.mqfs.specs.Blocks.{IsBlockText, output_of}
 use Rattle.mqfs.specs.Cuts.{IsPrefixAt}
 use Rattle.mqfs.specs.Program.{Words, AreBlocks, Said, usage, output, refused, fault, too_long, memory, memory_line, EndsWith, IsToSay, IsUnlessWanting, IsSaidOf, status_of, text_of, refusal_said, TakesWithin}
-use Rattle.mqfs.specs.Refusals.{RefusesText, IsRefused}
+use Rattle.mq_text.specs.Refusals.{RefusesText, IsRefused}
 use Rattle.mq_outside.specs.Outside.{Held, Holds}
-use Rattle.mqfs.specs.declared.text.item.BlockItem.{BlockItem}
-use Rattle.mqfs.specs.declared.text.refusal.BlockTextCause.{BlockTextCause}
-use Rattle.mqfs.specs.declared.text.refusal.BlockTextRefusal.{BlockTextRefusal}
-use Rattle.mqfs.specs.declared.text.refusal.BlockTextRefusal.TheVariants.{At, OutOfMemory}
+use Rattle.mq_text.specs.declared.item.BlockItem.{BlockItem}
+use Rattle.mq_text.specs.declared.refusal.BlockTextCause.{BlockTextCause}
+use Rattle.mq_text.specs.declared.refusal.BlockTextRefusal.{BlockTextRefusal}
+use Rattle.mq_text.specs.declared.refusal.BlockTextRefusal.TheVariants.{At, OutOfMemory}
 use Rattle.mq_outside.specs.Outside.{AppendsPrefix, appended}
-use Rattle.mqfs.proofs.TextWhole.{good_or_refused}
+use Rattle.mq_text.proofs.TextWhole.{good_or_refused}
 use Rattle.mqfs.proofs.Words.{one_command}
 
 pub match_result : {A E : Type 0} (r : Result A E) {P P' : A → Type 0} {Q Q' : E → Type 0} → MatchResult r P Q → ((x : A) → P x → P' x) → ((e : E) → Q e → Q' e) → MatchResult r P' Q'

@@ -3,7 +3,7 @@ use Rattle.std.proofs.Common.{◌≡◌, ◌<◌, ◌≤◌, ◌⊎◌, ⊎_elim
 use Rattle.std.specs.Prelude.{slice_get, Contains, Result, Ok, Err}
 use Rattle.mq_nvme.specs.Says.{says}
 use Rattle.mq_blocks.specs.Descriptor.{Descriptor}
-use Rattle.mq_blocks.specs.Drive.{PortState, PortImage, after_begin, after_end}
+use Rattle.mq_blocks.specs.Drive.{FuseName, PortState, PortImage, after_begin, after_end}
 use Rattle.mq_blocks.specs.Geometry.{homes_of, home_lba, zone_of}
 use Rattle.mq_blocks.specs.Journal.{shown, stands}
 use Rattle.mq_blocks.specs.Machine.{Map}
@@ -23,9 +23,9 @@ use Rattle.mq_recover.specs.RecoverCauses.{HasDriveCause, OnDrive, OnImage, OneG
 use Rattle.mq_recover.specs.Refusals.{RefusesImage}
 use Rattle.mq_recover.specs.Steps.{Event, BeginHome, EndHome, StoreBase, FlushBase, StoreHead, FlushHead, TwoPorts, two, at_home, after_event, after_events, StopsAt, IsCutShort, IsDone}
 use Rattle.mq_recover.proofs.Images.{reaches-same, reaches-refused, read-reaches}
-use Rattle.mqfs.specs.Text.{AreGoodItems, AreGoodLines}
-use Rattle.mqfs.specs.declared.text.item.BlockItem.{BlockItem}
-use Rattle.mqfs.specs.declared.text.item.BlockItem.TheVariants.{Set, Free}
+use Rattle.mq_text.specs.Text.{AreGoodItems, AreGoodLines}
+use Rattle.mq_text.specs.declared.item.BlockItem.{BlockItem}
+use Rattle.mq_text.specs.declared.item.BlockItem.TheVariants.{Set, Free}
 use Rattle.mq_recover.specs.declared.refusal.ImageFault.{ImageFault}
 use Rattle.mq_recover.specs.declared.refusal.ImageFault.TheVariants as fault
 use Rattle.mq_recover.specs.declared.refusal.RecoverRefusal.{RecoverRefusal}
@@ -52,28 +52,29 @@ pub record AreStarted (g : Geometry) (q r : PortImage) (queue root : PortState) 
   pub one : g.queues ≡ 1
   pub queue_image : IsImageOf g (Queue 0) q
   pub root_image : IsImageOf g Root r
-  pub queue_is : queue ≡ start_of g (Queue 0) q None None
-  pub root_is : root ≡ start_of g Root r None None
+  pub fuse : FuseName
+  pub queue_is : queue ≡ start_of g (Queue 0) q fuse None
+  pub root_is : root ≡ start_of g Root r fuse None
 
-still_start : (g : Geometry) (q r : PortImage) → g.queues ≡ 1 → IsImageOf g (Queue 0) q → IsImageOf g Root r → IsStill g (start_of g (Queue 0) q None None) (start_of g Root r None None)
-still_start g q r one queue root = record {
+still_start : (g : Geometry) (f : FuseName) (q r : PortImage) → g.queues ≡ 1 → IsImageOf g (Queue 0) q → IsImageOf g Root r → IsStill g (start_of g (Queue 0) q f None) (start_of g Root r f None)
+still_start g f q r one queue root = record {
   one = one;
-  queue_port = port_of-start g (Queue 0) q None None queue;
-  root_port = port_of-start g Root r None None root;
-  queue_quiet = quiet-start g (Queue 0) q None None;
-  root_quiet = quiet-start g Root r None None;
+  queue_port = port_of-start g (Queue 0) q f None queue;
+  root_port = port_of-start g Root r f None root;
+  queue_quiet = quiet-start g (Queue 0) q f None;
+  root_quiet = quiet-start g Root r f None;
 }
 
 pub started_still : (g : Geometry) (q r : PortImage) (queue root : PortState) → AreStarted g q r queue root → IsStill g queue root
 started_still g q r queue root a =
     subst (λ (s : PortState). IsStill g s root) (sym a.queue_is)
-    (subst (λ (s : PortState). IsStill g (start_of g (Queue 0) q None None) s) (sym a.root_is) (still_start g q r a.one a.queue_image a.root_image))
+    (subst (λ (s : PortState). IsStill g (start_of g (Queue 0) q a.fuse None) s) (sym a.root_is) (still_start g a.fuse q r a.one a.queue_image a.root_image))
 
 -- what they show to recovery is what the images show
 pub started_shows : (g : Geometry) (q r : PortImage) (queue root : PortState) (n : ℕ) (m : Map) → AreStarted g q r queue root → ShowsMap g (shown says g (q ∷ []) r) n m → ShowsMap g (view_of g queue root) n m
 started_shows g q r queue root n m a shows =
     subst (λ (s : PortState). ShowsMap g (view_of g s root) n m) (sym a.queue_is)
-    (subst (λ (s : PortState). ShowsMap g (view_of g (start_of g (Queue 0) q None None) s) n m) (sym a.root_is) shows)
+    (subst (λ (s : PortState). ShowsMap g (view_of g (start_of g (Queue 0) q a.fuse None) s) n m) (sym a.root_is) shows)
 
 -- after recovery so many lines stood, and the home blocks hold their map
 pub recovered_map : (g : Geometry) (queue root new_queue new_root : PortState) (n : ℕ) (m : Map) (prefix base : ℕ) → homes_of g ≡ 256 → ShowsMap g (view_of g queue root) n m → IsDone g (two queue root) prefix base (two new_queue new_root)
@@ -90,32 +91,32 @@ recovered_map g queue root new_queue new_root n m prefix base size shows done =
 
 -- the bounds of both ports are as before
 record KeepBounds (e f : TwoPorts) : Type 0 where
-  queue_limit : f.queue.limit ≡ e.queue.limit
+  queue_fuse : f.queue.fuse ≡ e.queue.fuse
   queue_fail : f.queue.fail ≡ e.queue.fail
-  root_limit : f.root.limit ≡ e.root.limit
+  root_fuse : f.root.fuse ≡ e.root.fuse
   root_fail : f.root.fail ≡ e.root.fail
 
-kept-home : (z : Option ℕ) (change : PortState → PortState) (e : TwoPorts) → ((s : PortState) → (change s).limit ≡ s.limit) → ((s : PortState) → (change s).fail ≡ s.fail) → KeepBounds e (at_home z change e)
-kept-home None change e limit fail = record { queue_limit = refl; queue_fail = refl; root_limit = limit e.root; root_fail = fail e.root }
-kept-home (Some q) change e limit fail = record { queue_limit = limit e.queue; queue_fail = fail e.queue; root_limit = refl; root_fail = refl }
+kept-home : (z : Option ℕ) (change : PortState → PortState) (e : TwoPorts) → ((s : PortState) → (change s).fuse ≡ s.fuse) → ((s : PortState) → (change s).fail ≡ s.fail) → KeepBounds e (at_home z change e)
+kept-home None change e fuse fail = record { queue_fuse = refl; queue_fail = refl; root_fuse = fuse e.root; root_fail = fail e.root }
+kept-home (Some q) change e fuse fail = record { queue_fuse = fuse e.queue; queue_fail = fail e.queue; root_fuse = refl; root_fail = refl }
 
 kept-event : (g : Geometry) (e : TwoPorts) (x : Event) → KeepBounds e (after_event g e x)
 kept-event g e (BeginHome b content) = kept-home (zone_of g b) (λ s. after_begin s (home_lba g b) content) e (λ s. refl) (λ s. refl)
 kept-event g e (EndHome b content) = kept-home (zone_of g b) (λ s. after_end s (home_lba g b) content) e (λ s. refl) (λ s. refl)
-kept-event g e (StoreBase base) = record { queue_limit = refl; queue_fail = refl; root_limit = refl; root_fail = refl }
-kept-event g e FlushBase = record { queue_limit = refl; queue_fail = refl; root_limit = refl; root_fail = refl }
-kept-event g e (StoreHead head) = record { queue_limit = refl; queue_fail = refl; root_limit = refl; root_fail = refl }
-kept-event g e FlushHead = record { queue_limit = refl; queue_fail = refl; root_limit = refl; root_fail = refl }
+kept-event g e (StoreBase base) = record { queue_fuse = refl; queue_fail = refl; root_fuse = refl; root_fail = refl }
+kept-event g e FlushBase = record { queue_fuse = refl; queue_fail = refl; root_fuse = refl; root_fail = refl }
+kept-event g e (StoreHead head) = record { queue_fuse = refl; queue_fail = refl; root_fuse = refl; root_fail = refl }
+kept-event g e FlushHead = record { queue_fuse = refl; queue_fail = refl; root_fuse = refl; root_fail = refl }
 
 kept-events : (g : Geometry) (e : TwoPorts) (xs : List Event) → KeepBounds e (after_events g e xs)
-kept-events g e [] = record { queue_limit = refl; queue_fail = refl; root_limit = refl; root_fail = refl }
+kept-events g e [] = record { queue_fuse = refl; queue_fail = refl; root_fuse = refl; root_fail = refl }
 kept-events g e (x ∷ xs) =
     let first = kept-event g e x in
     let rest = kept-events g (after_event g e x) xs in
     record {
-      queue_limit = rest.queue_limit ∙ first.queue_limit;
+      queue_fuse = rest.queue_fuse ∙ first.queue_fuse;
       queue_fail = rest.queue_fail ∙ first.queue_fail;
-      root_limit = rest.root_limit ∙ first.root_limit;
+      root_fuse = rest.root_fuse ∙ first.root_fuse;
       root_fail = rest.root_fail ∙ first.root_fail;
     }
 
@@ -129,9 +130,9 @@ kept-stop g (Failed b status) e f xs stops = subst (KeepBounds e) (sym stops.3) 
 pub record AreSound (g : Geometry) (queue root : EmuPort) : Type 0 where
   pub queue_faults : emu_faults queue ≡ []
   pub root_faults : emu_faults root ≡ []
-  pub queue_limit : (emu_state queue).limit ≡ None
+  pub queue_limit : (emu_state queue).fuse.limit ≡ None
   pub queue_fail : (emu_state queue).fail ≡ None
-  pub root_limit : (emu_state root).limit ≡ None
+  pub root_limit : (emu_state root).fuse.limit ≡ None
   pub root_fail : (emu_state root).fail ≡ None
 
 nothing : {f : Fault} → Contains [] f → ⊥
@@ -139,16 +140,16 @@ nothing {f} has = let within = has.1 in omega (arith, within)
 
 no_off : (g : Geometry) (queue root new_queue new_root : EmuPort) → AreSound g queue root → KeepBounds (two (emu_state queue) (emu_state root)) (two (emu_state new_queue) (emu_state new_root))
     → OneGains PowerOff (emu_faults queue) (emu_faults root) (emu_faults new_queue) (emu_faults new_root) → ⊥
-no_off g queue root new_queue new_root sound keep (inl gains) = off_unlimited (emu_faults queue) new_queue gains.0 (keep.queue_limit ∙ sound.queue_limit)
-no_off g queue root new_queue new_root sound keep (inr gains) = off_unlimited (emu_faults root) new_root gains.1 (keep.root_limit ∙ sound.root_limit)
+no_off g queue root new_queue new_root sound keep (inl gains) = off_unlimited (emu_faults queue) new_queue.device gains.0 (ap (λ (f : FuseName). f.limit) keep.queue_fuse ∙ sound.queue_limit)
+no_off g queue root new_queue new_root sound keep (inr gains) = off_unlimited (emu_faults root) new_root.device gains.1 (ap (λ (f : FuseName). f.limit) keep.root_fuse ∙ sound.root_limit)
 
 no_home_error : (g : Geometry) (queue root new_queue new_root : EmuPort) (lba status : ℕ) → AreSound g queue root → KeepBounds (two (emu_state queue) (emu_state root)) (two (emu_state new_queue) (emu_state new_root))
     → OneGains (HomeError lba status) (emu_faults queue) (emu_faults root) (emu_faults new_queue) (emu_faults new_root) → ⊥
 no_home_error g queue root new_queue new_root lba status sound keep (inl gains) =
-    no_error (emu_faults queue) new_queue (HomeError lba status) (home_error_is_none lba status) gains.0 (keep.queue_fail ∙ sound.queue_fail)
+    no_error (emu_faults queue) new_queue.device (HomeError lba status) (home_error_is_none lba status) gains.0 (keep.queue_fail ∙ sound.queue_fail)
     (λ has. nothing (subst (λ (l : List Fault). Contains l PowerOff) sound.queue_faults has))
 no_home_error g queue root new_queue new_root lba status sound keep (inr gains) =
-    no_error (emu_faults root) new_root (HomeError lba status) (home_error_is_none lba status) gains.1 (keep.root_fail ∙ sound.root_fail)
+    no_error (emu_faults root) new_root.device (HomeError lba status) (home_error_is_none lba status) gains.1 (keep.root_fail ∙ sound.root_fail)
     (λ has. nothing (subst (λ (l : List Fault). Contains l PowerOff) sound.root_faults has))
 
 -- on a readable image, over such ports, only memory is wanting

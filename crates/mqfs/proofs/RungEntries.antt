@@ -15,7 +15,7 @@ use Rattle.mq_drive.specs.Start.{IsPortOf}
 use Rattle.mq_drive.specs.declared.role.Role.TheVariants.{Queue}
 use Rattle.mqfs.specs.Commits.{items_from}
 use Rattle.mqfs.specs.Cuts.{IsRung}
-use Rattle.mqfs.specs.Runs.{Items, is_last, entry_at, slots_with}
+use Rattle.mq_pmr.specs.Runs.{Items, is_last, entry_at, slots_with}
 use Rattle.mqfs.proofs.Cutting.{slots_other, few_commands, start}
 use Rattle.mqfs.proofs.JournalItems.{length-items, last_lba, last_slot}
 use Rattle.mqfs.proofs.JournalShows.{AreReadable}

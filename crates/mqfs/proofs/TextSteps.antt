@@ -15,9 +15,10 @@ use Rattle.mq_nvme.specs.Says.{says}
 use Rattle.mqfs.specs.Commits.{IsCleanQueue, AllBelow, Keeps, ShowsMap, blocks_in, items_of, descriptor_for}
 use Rattle.mqfs.specs.Cuts.{HasBounds, IsCut, IsEarly, IsReached, QueueShows, events_of, line_events}
 use Rattle.mqfs.specs.Lines.{set_in, writes_from, named, transaction_of, transactions_of, map_after}
-use Rattle.mqfs.specs.Runs.{Items, AreOwn, AreDistinct, after_line}
-use Rattle.mqfs.specs.Text.{AreGoodItems, IsGoodLine, AreGoodLines, IsGoodText, sets_in, places_of}
-use Rattle.mqfs.specs.declared.text.item.BlockItem.{BlockItem}
+use Rattle.mq_pmr.specs.Runs.{Items, AreOwn}
+use Rattle.mqfs.specs.Runs.{AreDistinct, after_line}
+use Rattle.mq_text.specs.Text.{AreGoodItems, IsGoodLine, AreGoodLines, IsGoodText, sets_in, places_of}
+use Rattle.mq_text.specs.declared.item.BlockItem.{BlockItem}
 use Rattle.mqfs.proofs.Cutting.{early_all, early_none, settled_port}
 use Rattle.mqfs.proofs.Events.{counted-counted, events_more}
 use Rattle.mqfs.proofs.Exits.{bounds_line, bounds_then, events_line, nearly_image, port_all}
@@ -68,7 +69,7 @@ none_yet g s lines clean good below = record {
   doorbell = omega arith;
   rings = refl;
   events = refl;
-  bounds = record { limit = refl; fail = refl; begins = refl };
+  bounds = record { fuse = refl; fail = refl; begins = refl };
   room = omega (arith, good.1);
   good = good.0;
   below = below;

@@ -6,7 +6,7 @@ use Rattle.std.proofs.lemmas.Fmt.{decimal_injective}
 use Rattle.std.proofs.lemmas.Slice.Eq.{bytes_eq-Decides}
 use Rattle.std.specs.Str.{bytes_eq}
 use Rattle.mqfs.specs.Program.{Words, AreBlocks, AreOptions, option_words, options_of}
-use Rattle.mqfs.specs.Text.{number_text}
+use Rattle.mq_text.specs.Text.{number_text}
 
 -- ---- lists of words
 

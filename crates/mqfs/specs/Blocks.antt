@@ -1,8 +1,8 @@
 -- What `mqfs blocks` makes of the bytes of a file.
 use Rattle.std.specs.Prelude.{ℕ, List}
 use Rattle.mqfs.specs.Lines.{map_after, live_from, named}
-use Rattle.mqfs.specs.Text.{IsTextOf, IsGoodText, printed}
-use Rattle.mqfs.specs.declared.text.item.BlockItem.{BlockItem}
+use Rattle.mq_text.specs.Text.{IsTextOf, IsGoodText, printed}
+use Rattle.mq_text.specs.declared.item.BlockItem.{BlockItem}
 
 -- the bytes spell these lines, which are good
 pub record IsBlockText (bytes : List ℕ) (lines : List (List BlockItem)) : Type 0 where

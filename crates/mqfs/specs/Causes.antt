@@ -1,8 +1,8 @@
 -- Why a transaction is refused.
 use Rattle.std.specs.Prelude.{◌≡◌, ℕ, List, Result, Ok, Err}
 use Rattle.mq_drive.specs.Steps.{Fault, PowerOff, CommandError, Gains}
-use Rattle.mqfs.specs.declared.pmr.Refusal.{Refusal}
-use Rattle.mqfs.specs.declared.pmr.Refusal.TheVariants.{Off, Failed}
+use Rattle.mqfs.specs.declared.line.Refusal.{Refusal}
+use Rattle.mqfs.specs.declared.line.Refusal.TheVariants.{Off, Failed}
 use Rattle.mqfs.specs.declared.commit.TextRefusal.{TextRefusal}
 use Rattle.mqfs.specs.declared.commit.TextRefusal.TheVariants as text
 

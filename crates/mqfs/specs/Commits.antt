@@ -11,9 +11,9 @@ use Rattle.mq_blocks.specs.declared.geometry.Geometry.{Geometry}
 use Rattle.mq_drive.specs.Start.{IsPortOf}
 use Rattle.mq_drive.specs.declared.role.Role.TheVariants.{Queue, Root}
 use Rattle.mqfs.specs.Lines.{map_after}
-use Rattle.mqfs.specs.Runs.{Items}
-use Rattle.mqfs.specs.Text.{block_of}
-use Rattle.mqfs.specs.declared.text.item.BlockItem.{BlockItem}
+use Rattle.mq_pmr.specs.Runs.{Items}
+use Rattle.mq_text.specs.Text.{block_of}
+use Rattle.mq_text.specs.declared.item.BlockItem.{BlockItem}
 
 -- the entry before the head, where there is one, is a commit request whose number the base covers
 abbrev pub StartsBelow : ℕ → PortState → Type 0

@@ -5,13 +5,15 @@ use Rattle.mq_blocks.specs.Blocks.{block_at}
 use Rattle.mq_blocks.specs.Drive.{PortState, PortImage, IsImage, IsFlushed, IsCertain, counted, depth, index_of, staged_end, after_flush, after_ring, after_store_head}
 use Rattle.mq_blocks.specs.Journal.{shown}
 use Rattle.mq_blocks.specs.declared.geometry.Geometry.{Geometry}
+use Rattle.mq_drive.specs.Fuse.{above, below}
 use Rattle.mq_drive.specs.Start.{IsPortOf}
 use Rattle.mq_drive.specs.declared.role.Role.{Role}
 use Rattle.mqfs.specs.Commits.{ShowsMap}
 use Rattle.mqfs.specs.Lines.{line_at, map_after}
-use Rattle.mqfs.specs.Runs.{Items, IsApart, IsNewIn, slots_with, after_some, after_all}
-use Rattle.mqfs.specs.Text.{sets_in}
-use Rattle.mqfs.specs.declared.text.item.BlockItem.{BlockItem}
+use Rattle.mq_pmr.specs.Runs.{Items, slots_with, after_some}
+use Rattle.mqfs.specs.Runs.{IsApart, IsNewIn, after_all}
+use Rattle.mq_text.specs.Text.{sets_in}
+use Rattle.mq_text.specs.declared.item.BlockItem.{BlockItem}
 
 -- The events of a line: each of its copies and its descriptor is staged and completed, and there are
 -- the flush, the doorbell write, and the store and the flush of the head.
@@ -34,6 +36,14 @@ abbrev pub IsPrefixAt : List (List BlockItem) → Option ℕ → ℕ → Type 0
 IsPrefixAt lines None p = p ≡ length lines
 IsPrefixAt lines (Some events) p = IsReached lines events p
 
+-- How many lines stand, by the tickets of the queue's port, where its power is that of a fuse with this
+-- limit: all where the power stayed on, and its events were those of the whole text; where it went off,
+-- those that stand after so many events, and a ticket was at or above the limit.
+abbrev pub StandsUnder : List (List BlockItem) → Option ℕ → List ℕ → ℕ → Type 0
+StandsUnder lines None tickets p = p ≡ length lines
+StandsUnder lines (Some limit) tickets p =
+    ((p ≡ length lines) × (below limit tickets ≡ events_of lines (length lines))) ⊎ (IsReached lines (below limit tickets) p × (0 < above limit tickets))
+
 -- each image of the queue's port, with a root of base 0, shows as many lines as stand after these
 -- events
 abbrev pub QueueShows : Geometry → PortState → List (List BlockItem) → ℕ → Type 0
@@ -47,9 +57,9 @@ ShowsReached g queue root lines events =
 
 -- ---- in the middle of a transaction
 
--- the port's limit, its failing command and its home writes are as before
+-- the port's fuse, its failing command and its home writes are as before
 pub record HasBounds (s new : PortState) : Type 0 where
-  pub limit : new.limit ≡ s.limit
+  pub fuse : new.fuse ≡ s.fuse
   pub fail : new.fail ≡ s.fail
   pub begins : new.begins ≡ s.begins
 

@@ -1,6 +1,6 @@
 -- A drive on which nothing has happened.
-use Rattle.std.specs.Prelude.{◌≡◌, ℕ, Option, None, slice_index_or}
-use Rattle.mq_blocks.specs.Drive.{PortState, IsQuiet}
+use Rattle.std.specs.Prelude.{◌≡◌, ℕ, None, slice_index_or}
+use Rattle.mq_blocks.specs.Drive.{FuseName, PortState, IsQuiet}
 use Rattle.mq_blocks.specs.declared.geometry.Geometry.{Geometry}
 use Rattle.mq_drive.specs.Start.{IsPortOf}
 use Rattle.mq_drive.specs.declared.role.Role.{Role}
@@ -12,8 +12,8 @@ pub record IsTextGeometry (g : Geometry) : Type 0 where
   pub meta : g.meta ≡ 16
   pub zone : g.zone ≡ 240
 
--- a port of zeros, on which nothing has happened, whose power goes off after so many events
-pub record IsFresh (g : Geometry) (role : Role) (limit : Option ℕ) (s : PortState) : Type 0 where
+-- a port of zeros, on which nothing has happened, whose power is that of this fuse
+pub record IsFresh (g : Geometry) (role : Role) (fuse : FuseName) (s : PortState) : Type 0 where
   pub port : IsPortOf g role s
   pub quiet : IsQuiet s
   pub doorbell : s.doorbell ≡ 0
@@ -22,5 +22,5 @@ pub record IsFresh (g : Geometry) (role : Role) (limit : Option ℕ) (s : PortSt
   pub zeros : (k : ℕ) → slice_index_or s.blocks k None ≡ None
   pub begins : s.begins ≡ 0
   pub events : s.events ≡ 0
-  pub limit_is : s.limit ≡ limit
+  pub fuse_is : s.fuse ≡ fuse
   pub fail_is : s.fail ≡ None

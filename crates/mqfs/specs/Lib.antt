@@ -6,6 +6,4 @@ pub mod Fresh
 pub mod Lines
 pub mod Live
 pub mod Program
-pub mod Refusals
 pub mod Runs
-pub mod Text

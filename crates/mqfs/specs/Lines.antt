@@ -2,8 +2,8 @@
 use Rattle.std.specs.Prelude.{ℕ, zero, suc, ◌+◌, List, [], ◌∷◌, Option, Some, None, slice_index_or, nat_eq, if◌then◌else◌}
 use Rattle.mq_blocks.specs.Blocks.{filled}
 use Rattle.mq_blocks.specs.Machine.{Map, Writes, Transaction, after_all}
-use Rattle.mqfs.specs.declared.text.item.BlockItem.{BlockItem}
-use Rattle.mqfs.specs.declared.text.item.BlockItem.TheVariants.{Set, Free}
+use Rattle.mq_text.specs.declared.item.BlockItem.{BlockItem}
+use Rattle.mq_text.specs.declared.item.BlockItem.TheVariants.{Set, Free}
 
 -- the byte with which a line fills a block
 abbrev pub set_in : List BlockItem → ℕ → Option ℕ

@@ -2,13 +2,13 @@
 use Rattle.std.specs.Prelude.{◌≡◌, ◌<◌, ◌≤◌, ◌⊎◌, ℕ, ◌+◌, ◌^◌, List, [], ◌∷◌, ◌++◌, Option, Some, None, IfSome, nat_eq, if◌then◌else◌, codes}
 use Rattle.mqfs.specs.Blocks.{IsBlockText, output_of}
 use Rattle.mqfs.specs.Cuts.{IsPrefixAt}
-use Rattle.mqfs.specs.Refusals.{RefusesText, cause_name}
-use Rattle.mqfs.specs.Text.{number_text}
+use Rattle.mq_text.specs.Refusals.{RefusesText, cause_name}
+use Rattle.mq_text.specs.Text.{number_text}
 use Rattle.mq_outside.specs.Outside.{Held, Holds, HoldsOver, Rose, appended, AppendsPrefix, count_end, load_limit}
-use Rattle.mqfs.specs.declared.text.item.BlockItem.{BlockItem}
-use Rattle.mqfs.specs.declared.text.refusal.BlockTextCause.{BlockTextCause}
-use Rattle.mqfs.specs.declared.text.refusal.BlockTextRefusal.{BlockTextRefusal}
-use Rattle.mqfs.specs.declared.text.refusal.BlockTextRefusal.TheVariants.{At, OutOfMemory}
+use Rattle.mq_text.specs.declared.item.BlockItem.{BlockItem}
+use Rattle.mq_text.specs.declared.refusal.BlockTextCause.{BlockTextCause}
+use Rattle.mq_text.specs.declared.refusal.BlockTextRefusal.{BlockTextRefusal}
+use Rattle.mq_text.specs.declared.refusal.BlockTextRefusal.TheVariants.{At, OutOfMemory}
 
 -- the words after the program's name
 abbrev pub Words : Type 0

@@ -2,39 +2,7 @@
 use Rattle.std.specs.Prelude.{◌≢◌, ℕ, ◌+◌, ◌%◌, zero, suc, Bool, true, false, List, [], ◌∷◌, ◌++◌, length, Option, Some, slice_set}
 use Rattle.mq_blocks.specs.Drive.{PortState, Owns, counted, depth, index_of, staged_end, after_flush, after_ring, after_store_head}
 use Rattle.mq_blocks.specs.declared.command.Command.{Command}
-use Rattle.mq_nvme.specs.Entry.{entry_of}
-
--- what a transaction stages: Lbas with what is written there, the commit request last
-abbrev pub Items : Type 0
-Items = List (ℕ × List ℕ)
-
-abbrev pub is_last : Items → Bool
-is_last [] = true
-is_last (i ∷ is) = false
-
--- the entry of an item at a count, before the rest of its transaction
-abbrev pub entry_at : ℕ → ℕ → ℕ → Items → List ℕ
-entry_at tx at lba rest = entry_of record { tx = tx; slot = at % depth; lba = lba; commit = is_last rest }
-
--- the slots with the first k entries of a transaction from this count on
-abbrev pub slots_with : List (List ℕ) → ℕ → ℕ → ℕ → Items → List (List ℕ)
-slots_with slots tx at zero items = slots
-slots_with slots tx at (suc k) [] = slots
-slots_with slots tx at (suc k) (i ∷ is) = slots_with (slice_set slots (at % depth) (entry_at tx at i.0 is)) tx (at + 1) k is
-
--- its first k commands
-abbrev pub commands_of : ℕ → ℕ → ℕ → Items → List Command
-commands_of tx at zero items = []
-commands_of tx at (suc k) [] = []
-commands_of tx at (suc k) (i ∷ is) = record { count = at; tx = tx; lba = i.0; block = i.1 } ∷ commands_of tx (at + 1) k is
-
--- the first k items of a transaction are staged
-abbrev pub after_some : PortState → ℕ → ℕ → Items → PortState
-after_some s tx k items = record s {
-  staged = slots_with s.staged tx (staged_end s) k items;
-  pending = s.pending ++ commands_of tx (staged_end s) k items;
-  events = counted s.events k;
-}
+use Rattle.mq_pmr.specs.Runs.{Items, after_some}
 
 -- blocks with those of the commands written in this order, where `at` gives each Lba's place
 abbrev pub blocks_with : (ℕ → ℕ) → List (Option (List ℕ)) → List Command → List (Option (List ℕ))
@@ -71,11 +39,6 @@ IsNewIn at k (i ∷ is) = (k ≢ at i.0) × IsNewIn at k is
 abbrev pub AreDistinct : (ℕ → ℕ) → Items → Type 0
 AreDistinct at [] = Unit {0}
 AreDistinct at (i ∷ is) = IsNewIn at (at i.0) is × AreDistinct at is
-
--- the port has the blocks to which the items go
-abbrev pub AreOwn : PortState → Items → Type 0
-AreOwn s [] = Unit {0}
-AreOwn s (i ∷ is) = Owns s i.0 × AreOwn s is
 
 -- a whole transaction is staged, flushed and rung by one doorbell write, all its commands are
 -- executed, and the head is stored past it and flushed

@@ -1,5 +1,6 @@
 // A block text is run: committed on a fresh drive, cut from power, recovered, and printed.
 ghost use Rattle.std.specs.Prelude.{◌≡◌, ◌<◌, ◌≤◌, ◌+◌, ℕ, List, [], ◌∷◌, length, ◌^◌, IfErr, IfOk, IfSome, OnOk, MatchResult, Some, None, is_some, slice_get, slice_index_or};
+ghost use Rattle.std.specs.Option.{ForSome};
 ghost use Rattle.mq_blocks.specs.Drive.{PortImage as CutImage};
 ghost use Rattle.mq_blocks.specs.Geometry.{homes_of, queues_of};
 ghost use Rattle.mq_blocks.specs.Journal.{shown};
@@ -7,26 +8,27 @@ ghost use Rattle.mq_nvme.specs.Says.{says};
 ghost use Rattle.mq_blocks.specs.Drive.{IsQuiet};
 ghost use Rattle.mq_blocks.specs.Machine.{Map};
 ghost use Rattle.mq_drive.specs.Start.{IsRole, IsImageOf, IsPortOf, area_size_of, homes_size_of, start_of};
-ghost use Rattle.mq_drive.specs.Emu.{emu_state, emu_faults};
+ghost use Rattle.mq_drive.specs.Emu.{emu_state, emu_faults, drawn_by};
+ghost use Rattle.mq_drive.specs.Seats.{name_of, ports_of, fuse_of, tickets_of};
 ghost use Rattle.mq_drive.specs.Roles.{slots_of};
 ghost use Rattle.mq_drive.specs.declared.role.Role.TheVariants.{Queue, Root};
 ghost use Rattle.mqfs.specs.Commits.{AllBelow, ShowsMap};
 ghost use Rattle.mqfs.specs.Fresh.{IsTextGeometry, IsFresh};
 ghost use Rattle.mqfs.specs.Lines.{map_after};
-ghost use Rattle.mqfs.specs.Text.{IsGoodText};
+ghost use Rattle.mq_text.specs.Text.{IsGoodText};
 ghost use Rattle.mqfs.specs.Blocks.{IsBlockText, output_of};
-ghost use Rattle.mqfs.specs.Cuts.{IsPrefixAt};
-ghost use Rattle.mqfs.specs.declared.text.refusal.BlockTextCause.{BlockTextCause};
-ghost use Rattle.mqfs.specs.Refusals.{IsRefusal, IsRefused, RefusesText};
+ghost use Rattle.mqfs.specs.Cuts.{IsPrefixAt, StandsUnder};
+ghost use Rattle.mq_text.specs.declared.refusal.BlockTextCause.{BlockTextCause};
+ghost use Rattle.mq_text.specs.Refusals.{IsRefusal, IsRefused, RefusesText};
 ghost use Rattle.mqfs.specs.Live.{HoldsMap};
 
 use crate::commit::{TextRefusal, commit_text};
 use crate::live::{live_blocks, live_marks};
-use crate::text::{BlockItem, BlockText, BlockTextRefusal, print_blocks, read_block_text};
 use mq_blocks::{Block, Geometry, OutOfMemory, QueueNo};
-use mq_drive::{EmuPort, PortImage, Ports, Role};
+use mq_drive::{EmuPort, Fuse, FuseSeat, PortImage, Ports, Role};
 use mq_nvme::Entry;
 use mq_recover::{ImageFault, RecoverRefusal, recover};
+use mq_text::{BlockItem, BlockText, BlockTextRefusal, print_blocks, read_block_text};
 use std::alloc::Global;
 
 #[cfg(test)]
@@ -69,17 +71,36 @@ fn sizes(geometry: Geometry, role: Role) -> (usize, u32)
     }
 }
 
-// A port of zeros, whose power goes off after so many events, and whose choices follow from a number.
-fn fresh_port(
+// A fuse with a seat for the queue's port and one for the root's.
+fn power_of_two(
     alloc: Global,
+    limit: Option<u64>,
+) -> Result<(Fuse, FuseSeat, FuseSeat), OutOfMemory>
+    requires { ForSome limit (λ l. l ≤ 2 ^ 63) }
+    ensures fuse { IfOk result (λ r. ((name_of r.0).limit ≡ limit) × (ports_of r.0 ≡ 2)) }
+    ensures queue { IfOk result (λ r. (fuse_of r.1 ≡ name_of r.0) × (tickets_of r.1 ≡ [])) }
+    ensures root { IfOk result (λ r. (fuse_of r.2 ≡ name_of r.0) × (tickets_of r.2 ≡ [])) }
+{
+    let (fuse, mut seats) = Fuse::new(alloc, limit, 2)?;
+    let queue = seats.remove(0);
+    let root = seats.remove(0);
+    Ok((fuse, queue, root))
+}
+
+// A port of zeros, whose choices follow from a number.
+fn fresh_port<'f>(
+    alloc: Global,
+    fuse: &'f Fuse,
+    seat: FuseSeat,
     geometry: Geometry,
     role: Role,
-    limit: Option<u64>,
     pick: u64,
-) -> Result<EmuPort, OutOfMemory>
-    requires { IsRole geometry role }
-    ensures fresh { IfOk result (λ p. IsFresh geometry role limit (emu_state p)) }
+) -> Result<EmuPort<'f>, OutOfMemory>
+    requires role { IsRole geometry role }
+    requires seat { (fuse_of seat ≡ name_of fuse.now) × (tickets_of seat ≡ []) }
+    ensures fresh { IfOk result (λ p. IsFresh geometry role (name_of fuse.now) (emu_state p)) }
     ensures faults { IfOk result (λ p. emu_faults p ≡ []) }
+    ensures tickets { IfOk result (λ p. drawn_by p ≡ []) }
 {
     let (slots, count) = sizes(geometry, role);
     let image = PortImage {
@@ -89,7 +110,7 @@ fn fresh_port(
         slots: vec![in alloc; Entry::zeroed(); slots]?,
         blocks: absent_blocks(alloc, count)?,
     };
-    EmuPort::new(alloc, geometry, role, image, limit, None, pick)
+    EmuPort::new(alloc, fuse, seat, geometry, role, image, None, pick)
 }
 
 // Where no command fails, a text is refused by its power or for want of memory.
@@ -101,6 +122,44 @@ fn check_power(refusal: TextRefusal) -> Result<(), OutOfMemory>
         TextRefusal::Off => Ok(()),
         TextRefusal::OutOfMemory => Err(OutOfMemory),
         TextRefusal::Failed { .. } => unreachable!(),
+    }
+}
+
+// Commits a text on a fresh drive whose power is that of a fuse, and cuts it: what stays of the
+// queue's port and of the root's, and their seats.
+fn commit_until(
+    alloc: Global,
+    fuse: &Fuse,
+    seats: (FuseSeat, FuseSeat),
+    geometry: Geometry,
+    text: &BlockText,
+    pick: u64,
+) -> Result<((PortImage, FuseSeat), (PortImage, FuseSeat)), OutOfMemory>
+    requires geometry { IsTextGeometry geometry }
+    requires good { IsGoodText text.now }
+    requires below { AllBelow (homes_of geometry) text.now }
+    requires cut { IfSome (name_of fuse.now).limit (λ k. k < 2 ^ 63) }
+    requires queue_seat { (fuse_of seats.0 ≡ name_of fuse.now) × (tickets_of seats.0 ≡ []) }
+    requires root_seat { (fuse_of seats.1 ≡ name_of fuse.now) × (tickets_of seats.1 ≡ []) }
+    ensures shows { IfOk result (λ r. (p : ℕ) × StandsUnder text.now (name_of fuse.now).limit (tickets_of r.0.1) p × ShowsMap geometry (shown says geometry (r.0.0 ∷ []) r.1.0) p (map_after text.now p)) }
+    ensures queue { IfOk result (λ r. IsImageOf geometry (Queue 0) r.0.0) }
+    ensures root { IfOk result (λ r. IsImageOf geometry Root r.1.0) }
+    ensures queue_seat { IfOk result (λ r. fuse_of r.0.1 ≡ name_of fuse.now) }
+    ensures root_seat { IfOk result (λ r. (fuse_of r.1.1 ≡ name_of fuse.now) × (tickets_of r.1.1 ≡ [])) }
+{
+    let mut queues = Vec::with_capacity(alloc, 1)?;
+    let role = Role::Queue(QueueNo(0));
+    queues.push(fresh_port(alloc, fuse, seats.0, geometry, role, pick)?)?;
+    let root = fresh_port(alloc, fuse, seats.1, geometry, Role::Root, pick)?;
+    let (ports, answer) = commit_text(alloc, geometry, Ports { queues, root }, text);
+    let Ports { mut queues, root } = ports;
+    let queue = queues.remove(0);
+    match answer {
+        Ok(()) => Ok((queue.cut(pick), root.cut(pick))),
+        Err(refusal) => {
+            check_power(refusal)?;
+            Ok((queue.cut(pick), root.cut(pick)))
+        }
     }
 }
 
@@ -121,19 +180,13 @@ fn commit_fresh(
     ensures queue { IfOk result (λ r. IsImageOf geometry (Queue 0) r.0) }
     ensures root { IfOk result (λ r. IsImageOf geometry Root r.1) }
 {
-    let mut queues = Vec::with_capacity(alloc, 1)?;
-    queues.push(fresh_port(alloc, geometry, Role::Queue(QueueNo(0)), cut, pick)?)?;
-    let root = fresh_port(alloc, geometry, Role::Root, None, pick)?;
-    let (ports, answer) = commit_text(alloc, geometry, Ports { queues, root }, text);
-    let Ports { mut queues, root } = ports;
-    let queue = queues.remove(0);
-    match answer {
-        Ok(()) => Ok((queue.cut(pick), root.cut(pick))),
-        Err(refusal) => {
-            check_power(refusal)?;
-            Ok((queue.cut(pick), root.cut(pick)))
-        }
-    }
+    let (fuse, queue_seat, root_seat) = power_of_two(alloc, cut)?;
+    let (queue, root) = commit_until(alloc, &fuse, (queue_seat, root_seat), geometry, text, pick)?;
+    let mut seats = Vec::with_capacity(alloc, 2)?;
+    seats.push(queue.1)?;
+    seats.push(root.1)?;
+    fuse.close(seats);
+    Ok((queue.0, root.0))
 }
 
 // Where no port has a fault and the image is readable, memory is all that can be wanting.
@@ -151,40 +204,51 @@ fn only_image(refusal: RecoverRefusal) -> OutOfMemory
 
 /// A drive of one queue that starts from what stayed of its queue's port and of the root's. Its
 /// power stays on.
-fn restarted(
+fn restarted<'f>(
     alloc: Global,
+    fuse: &'f Fuse,
+    seats: (FuseSeat, FuseSeat),
     geometry: Geometry,
     images: (PortImage, PortImage),
     pick: u64,
-) -> Result<Ports<EmuPort>, OutOfMemory>
+) -> Result<Ports<EmuPort<'f>>, OutOfMemory>
+    requires queue_seat { (fuse_of seats.0 ≡ name_of fuse.now) × (tickets_of seats.0 ≡ []) }
+    requires root_seat { (fuse_of seats.1 ≡ name_of fuse.now) × (tickets_of seats.1 ≡ []) }
     requires one { 0 < queues_of geometry }
     requires queue { IsImageOf geometry (Queue 0) images.0 }
     requires root { IsImageOf geometry Root images.1 }
     ensures one { IfOk result (λ p. length p.queues.items ≡ 1) }
-    ensures queue { IfOk result (λ p. (q : EmuPort) → slice_get p.queues.items 0 ≡ Some q → (emu_state q ≡ start_of geometry (Queue 0) images.0 None None) × (emu_faults q ≡ [])) }
-    ensures root { IfOk result (λ p. (emu_state p.root ≡ start_of geometry Root images.1 None None) × (emu_faults p.root ≡ [])) }
+    ensures queue { IfOk result (λ p. (q : EmuPort) → slice_get p.queues.items 0 ≡ Some q → (emu_state q ≡ start_of geometry (Queue 0) images.0 (name_of fuse.now) None) × (emu_faults q ≡ [])) }
+    ensures root { IfOk result (λ p. (emu_state p.root ≡ start_of geometry Root images.1 (name_of fuse.now) None) × (emu_faults p.root ≡ [])) }
 {
     let mut queues = Vec::with_capacity(alloc, 1)?;
-    queues.push(EmuPort::new(
+    let role = Role::Queue(QueueNo(0));
+    queues.push(EmuPort::new(alloc, fuse, seats.0, geometry, role, images.0, None, pick)?)?;
+    let root = EmuPort::new(
         alloc,
+        fuse,
+        seats.1,
         geometry,
-        Role::Queue(QueueNo(0)),
-        images.0,
-        None,
+        Role::Root,
+        images.1,
         None,
         pick,
-    )?)?;
-    let root = EmuPort::new(alloc, geometry, Role::Root, images.1, None, None, pick)?;
+    )?;
     Ok(Ports { queues, root })
 }
 
 /// Recovers what stayed of two ports: how many transactions stand, the queue's port and the root's.
-fn recover_images(
+fn recover_images<'f>(
     alloc: Global,
+    fuse: &'f Fuse,
+    seats: (FuseSeat, FuseSeat),
     geometry: Geometry,
     images: (PortImage, PortImage),
     pick: u64,
-) -> Result<(u64, EmuPort, EmuPort), OutOfMemory>
+) -> Result<(u64, EmuPort<'f>, EmuPort<'f>), OutOfMemory>
+    requires on { (name_of fuse.now).limit ≡ None }
+    requires queue_seat { (fuse_of seats.0 ≡ name_of fuse.now) × (tickets_of seats.0 ≡ []) }
+    requires root_seat { (fuse_of seats.1 ≡ name_of fuse.now) × (tickets_of seats.1 ≡ []) }
     requires geometry { IsTextGeometry geometry }
     requires queue { IsImageOf geometry (Queue 0) images.0 }
     requires root { IsImageOf geometry Root images.1 }
@@ -193,7 +257,7 @@ fn recover_images(
     ensures queue { IfOk result (λ r. IsPortOf geometry (Queue 0) (emu_state r.1) × IsQuiet (emu_state r.1)) }
     ensures root { IfOk result (λ r. IsPortOf geometry Root (emu_state r.2) × IsQuiet (emu_state r.2)) }
 {
-    let mut ports = restarted(alloc, geometry, images, pick)?;
+    let mut ports = restarted(alloc, fuse, seats, geometry, images, pick)?;
     let answer = recover(alloc, geometry, &mut ports);
     let Ports { mut queues, root } = ports;
     let queue = queues.remove(0);
@@ -217,7 +281,9 @@ fn run_text(
 {
     let geometry = text_geometry();
     let images = commit_fresh(alloc, geometry, text, cut, pick)?;
-    let (prefix, queue, root) = recover_images(alloc, geometry, images, pick)?;
+    let (fuse, queue_seat, root_seat) = power_of_two(alloc, None)?;
+    let seats = (queue_seat, root_seat);
+    let (prefix, queue, root) = recover_images(alloc, &fuse, seats, geometry, images, pick)?;
     let marks = live_marks(alloc, text, prefix)?;
     let live = live_blocks(alloc, geometry, &queue, &root, &marks)?;
     print_blocks(alloc, prefix, &live)

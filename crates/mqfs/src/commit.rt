@@ -1,5 +1,5 @@
 // A block text is committed, each line as one transaction of the one queue.
-ghost use Rattle.std.specs.Prelude.{◌≡◌, ◌<◌, ◌≤◌, ◌+◌, ◌^◌, ℕ, List, length, OnOk, OnErr, Some, slice_get, [], ◌∷◌};
+ghost use Rattle.std.specs.Prelude.{◌≡◌, ◌<◌, ◌≤◌, ◌+◌, ◌^◌, ℕ, List, length, OnOk, OnErr, Some, slice_get, [], ◌∷◌, vec_capacity};
 ghost use Rattle.mq_blocks.specs.Drive.{PortState, PortImage, IsImage, IsQuiet, counted};
 ghost use Rattle.mq_blocks.specs.Geometry.{homes_of};
 ghost use Rattle.mq_blocks.specs.Journal.{shown};
@@ -10,13 +10,14 @@ ghost use Rattle.mqfs.specs.Causes.{HasTextCause};
 ghost use Rattle.mqfs.specs.Commits.{IsClean, IsCleanQueue, AllBelow, ShowsMap, ShowsLines};
 ghost use Rattle.mqfs.specs.Cuts.{HasBounds, QueueShows, ShowsReached, events_of};
 ghost use Rattle.mqfs.specs.Lines.{map_after};
-ghost use Rattle.mqfs.specs.Text.{IsGoodText};
+ghost use Rattle.mq_text.specs.Text.{IsGoodText};
 
 use crate::items::items_of_line;
-use crate::pmr::{Refusal, commit_line};
-use crate::text::BlockText;
-use mq_blocks::{Geometry, OutOfMemory, TxNo};
+use crate::line::{Refusal, commit_line};
+use mq_blocks::{Geometry, OutOfMemory, QueueNo, TxNo};
 use mq_drive::{Port, Ports};
+use mq_pmr::PmrQueue;
+use mq_text::BlockText;
 use std::alloc::Global;
 
 /// Why a text was not committed whole.
@@ -55,21 +56,22 @@ impl From<Refusal> for TextRefusal {
 pub fn commit_lines<P: Port>(
     alloc: Global,
     geometry: Geometry,
-    queue: &mut P,
+    queue: &mut PmrQueue<P>,
     text: &BlockText,
 ) -> Result<(), TextRefusal>
-    requires clean { IsCleanQueue geometry (P.state queue.old) }
+    requires clean { IsCleanQueue geometry (P.state queue.old.port) }
+    requires rung { queue.old.rung.items ≡ [] }
     requires good { IsGoodText text.now }
     requires below { AllBelow (homes_of geometry) text.now }
-    ensures ok { OnOk result ((q r : PortImage) → IsImage (P.state queue.new) q → r.base ≡ 0 → ShowsMap geometry (shown says geometry (q ∷ []) r) (length text.now) (map_after text.now (length text.now))) }
-    ensures rings { OnOk result ((P.state queue.new).rings ≡ counted (P.state queue.old).rings (length text.now)) }
-    ensures quiet { OnOk result (IsQuiet (P.state queue.new)) }
-    ensures done { OnOk result ((P.state queue.new).head ≡ (P.state queue.new).doorbell) }
-    ensures events { OnOk result ((P.state queue.new).events ≡ counted (P.state queue.old).events (events_of text.now (length text.now))) }
-    ensures cut { OnErr result ((e : ℕ) × ((P.state queue.new).events ≡ counted (P.state queue.old).events e) × QueueShows geometry (P.state queue.new) text.now e × (e < events_of text.now (length text.now))) }
-    ensures port { IsPortOf geometry (Queue 0) (P.state queue.new) }
-    ensures bounds { HasBounds (P.state queue.old) (P.state queue.new) }
-    ensures cause { HasTextCause result (P.faults queue.old) (P.faults queue.new) }
+    ensures ok { OnOk result ((q r : PortImage) → IsImage (P.state queue.new.port) q → r.base ≡ 0 → ShowsMap geometry (shown says geometry (q ∷ []) r) (length text.now) (map_after text.now (length text.now))) }
+    ensures rings { OnOk result ((P.state queue.new.port).rings ≡ counted (P.state queue.old.port).rings (length text.now)) }
+    ensures quiet { OnOk result (IsQuiet (P.state queue.new.port)) }
+    ensures done { OnOk result ((P.state queue.new.port).head ≡ (P.state queue.new.port).doorbell) }
+    ensures events { OnOk result ((P.state queue.new.port).events ≡ counted (P.state queue.old.port).events (events_of text.now (length text.now))) }
+    ensures cut { OnErr result ((e : ℕ) × ((P.state queue.new.port).events ≡ counted (P.state queue.old.port).events e) × QueueShows geometry (P.state queue.new.port) text.now e × (e < events_of text.now (length text.now))) }
+    ensures port { IsPortOf geometry (Queue 0) (P.state queue.new.port) }
+    ensures bounds { HasBounds (P.state queue.old.port) (P.state queue.new.port) }
+    ensures cause { HasTextCause result (P.faults queue.old.port) (P.faults queue.new.port) }
 {
     let mut number: u64 = 0;
     let mut next: u64 = 0;
@@ -83,6 +85,63 @@ pub fn commit_lines<P: Port>(
         last = next - 1;
     }
     Ok(())
+}
+
+// Commits the lines through the queue of a port, and hands the port back.
+fn commit_through<P: Port>(
+    alloc: Global,
+    geometry: Geometry,
+    port: P,
+    text: &BlockText,
+) -> (P, Result<(), TextRefusal>)
+    requires clean { IsCleanQueue geometry (P.state port) }
+    requires good { IsGoodText text.now }
+    requires below { AllBelow (homes_of geometry) text.now }
+    ensures ok { OnOk result.1 ((q r : PortImage) → IsImage (P.state result.0) q → r.base ≡ 0 → ShowsMap geometry (shown says geometry (q ∷ []) r) (length text.now) (map_after text.now (length text.now))) }
+    ensures rings { OnOk result.1 ((P.state result.0).rings ≡ counted (P.state port).rings (length text.now)) }
+    ensures quiet { OnOk result.1 (IsQuiet (P.state result.0)) }
+    ensures done { OnOk result.1 ((P.state result.0).head ≡ (P.state result.0).doorbell) }
+    ensures events { OnOk result.1 ((P.state result.0).events ≡ counted (P.state port).events (events_of text.now (length text.now))) }
+    ensures cut { OnErr result.1 ((e : ℕ) × ((P.state result.0).events ≡ counted (P.state port).events e) × QueueShows geometry (P.state result.0) text.now e × (e < events_of text.now (length text.now))) }
+    ensures port { IsPortOf geometry (Queue 0) (P.state result.0) }
+    ensures bounds { HasBounds (P.state port) (P.state result.0) }
+    ensures cause { HasTextCause result.1 (P.faults port) (P.faults result.0) }
+{
+    if text.0.is_empty() {
+        return (port, Ok(()));
+    }
+    match PmrQueue::open(alloc, port, geometry, QueueNo(0)) {
+        Ok(mut queue) => {
+            let answer = commit_lines(alloc, geometry, &mut queue, text);
+            (queue.into_port(), answer)
+        }
+        Err((port, full)) => (port, Err(TextRefusal::from(full))),
+    }
+}
+
+// Takes the one port out of a list, which keeps its room.
+fn take_one<P: Port>(ports: &mut Vec<P>) -> P
+    requires { length ports.old.items ≡ 1 }
+    ensures items { ports.old.items ≡ result ∷ [] }
+    ensures empty { ports.new.items ≡ [] }
+    ensures room { 1 ≤ vec_capacity ports.new }
+{
+    match ports.pop() {
+        Some(port) => port,
+        None => unreachable!(),
+    }
+}
+
+// Puts it back.
+fn put_one<P: Port>(ports: &mut Vec<P>, port: P)
+    requires empty { ports.old.items ≡ [] }
+    requires room { 1 ≤ vec_capacity ports.old }
+    ensures { ports.new.items ≡ port ∷ [] }
+{
+    match ports.push(port) {
+        Ok(()) => {}
+        Err(_) => unreachable!(),
+    }
 }
 
 /// Commits the lines of a text through the one queue of a clean drive, and hands the ports back.
@@ -109,6 +168,8 @@ pub fn commit_text<P: Port>(
     ensures root { result.0.root ≡ ports.root }
 {
     let mut ports = ports;
-    let answer = commit_lines(alloc, geometry, &mut ports.queues[0], text);
+    let port = take_one(&mut ports.queues);
+    let (port, answer) = commit_through(alloc, geometry, port, text);
+    put_one(&mut ports.queues, port);
     (ports, answer)
 }

@@ -3,13 +3,12 @@ ghost use Rattle.std.specs.Prelude.{◌≡◌, ◌<◌, ◌≤◌, ◌+◌, ◌^
 ghost use Rattle.mq_blocks.specs.Blocks.{filled as content_of};
 ghost use Rattle.mqfs.specs.Commits.{blocks_in, copies_from, items_of};
 ghost use Rattle.mqfs.specs.Lines.{set_in, writes_from, named};
-ghost use Rattle.mqfs.specs.Text.{AreGoodItems};
+ghost use Rattle.mq_text.specs.Text.{AreGoodItems};
 
-use crate::text::{BlockItem, BlockLine};
 use mq_area::{Descriptor, write_descriptor};
 use mq_blocks::{Block, BlockNo, Geometry, Lba, OutOfMemory, QueueNo};
+use mq_text::{BlockItem, BlockLine};
 use std::alloc::Global;
-use std::collections::VecDeque;
 
 /// Block texts name the blocks below this one.
 pub const NAMED: usize = 256;
@@ -61,19 +60,19 @@ fn copies(
     geometry: Geometry,
     fills: &[Option<u8>],
     place: u64,
-) -> Result<VecDeque<(Lba, Block)>, OutOfMemory>
+) -> Result<Vec<(Lba, Block)>, OutOfMemory>
     requires fills { length fills.now ≡ 256 }
     requires place { place < 2 ^ 61 }
     ensures { IfOk result (λ v. v.items ≡ copies_from geometry place (writes_from (λ b. slice_index_or fills.now b None) 0 named)) }
 {
-    let mut items = VecDeque::new(alloc);
+    let mut items = Vec::new(alloc);
     let mut place = place;
     for b in 0..NAMED {
         match fills[b] {
             None => {}
             Some(byte) => {
                 let lba = geometry.area_lba(QueueNo(0), place);
-                items.push_back((lba, filled(alloc, byte)?))?;
+                items.push((lba, filled(alloc, byte)?))?;
                 place += 1;
             }
         }
@@ -90,7 +89,7 @@ pub fn items_of_line(
     number: u64,
     next: u64,
     last: u64,
-) -> Result<VecDeque<(Lba, Block)>, OutOfMemory>
+) -> Result<Vec<(Lba, Block)>, OutOfMemory>
     requires good { AreGoodItems line.now }
     requires some { 1 ≤ number }
     requires low { next < 2 ^ 61 }
@@ -111,6 +110,6 @@ pub fn items_of_line(
     };
     let mut block = Block::zeroed(alloc)?;
     write_descriptor(&descriptor, &mut block);
-    items.push_back((geometry.area_lba(QueueNo(0), place), block))?;
+    items.push((geometry.area_lba(QueueNo(0), place), block))?;
     Ok(items)
 }

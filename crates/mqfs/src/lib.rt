@@ -4,16 +4,15 @@
 mod blocks;
 mod commit;
 mod items;
+mod line;
 mod live;
-mod pmr;
 mod program;
 #[cfg(test)]
 mod tests;
-mod text;
 
 pub use commit::{TextRefusal, commit_text};
-pub use program::mqfs;
-pub use text::{
+pub use mq_text::{
     BlockItem, BlockLine, BlockText, BlockTextCause, BlockTextRefusal, print_blocks,
     read_block_text,
 };
+pub use program::mqfs;

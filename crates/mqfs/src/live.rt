@@ -9,13 +9,13 @@ ghost use Rattle.mqfs.specs.Fresh.{IsTextGeometry};
 ghost use Rattle.mqfs.specs.Lines.{live_from, map_after, named};
 ghost use Rattle.mqfs.specs.Live.{AreMarks, HoldsMap, marked};
 ghost use Rattle.mq_drive.specs.Views.{view_of};
-ghost use Rattle.mqfs.specs.Text.{AreGoodItems, IsGoodText};
+ghost use Rattle.mq_text.specs.Text.{AreGoodItems, IsGoodText};
 
 use crate::items::NAMED;
-use crate::text::{BlockItem, BlockLine, BlockText};
 use mq_blocks::{Block, BlockNo, Geometry, OutOfMemory};
 use mq_drive::Port;
 use mq_recover::read_home;
+use mq_text::{BlockItem, BlockLine, BlockText};
 use std::alloc::Global;
 
 // Marks the blocks that a line sets, and takes the marks of those that it frees.

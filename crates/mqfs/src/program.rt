@@ -2,8 +2,8 @@
 ghost use Rattle.std.specs.Prelude.{◌≡◌, ◌≢◌, ◌⊎◌, ◌++◌, ◌∷◌, [], ◌<◌, ◌^◌, ℕ, List, IfOk, IfSome, IsErrOf, MatchResult, Option, Some, map, nat_eq, if◌then◌else◌};
 ghost use Rattle.std.specs.String.{string_bytes};
 ghost use Rattle.mqfs.specs.Blocks.{IsBlockText, output_of};
-ghost use Rattle.mqfs.specs.declared.text.refusal.BlockTextCause.{BlockTextCause};
-ghost use Rattle.mqfs.specs.Refusals.{RefusesText};
+ghost use Rattle.mq_text.specs.declared.refusal.BlockTextCause.{BlockTextCause};
+ghost use Rattle.mq_text.specs.Refusals.{RefusesText};
 ghost use Rattle.mq_outside.specs.Outside.{AppendsPrefix, Held, PutCause, Rose, appended};
 ghost use Rattle.mqfs.specs.Program.{AreBlocks, AreUnknown, EndsWith, IsDone, IsRefusedText, IsSaidOf, IsStatus, IsToSay, IsTooLong, IsUnlessWanting, Said, TakesWithin, memory_line, named_line, refusal_said, refused_line, status_of, text_of, usage_line};
 
@@ -11,8 +11,8 @@ mod words;
 
 use self::words::{BlocksCommand, read_blocks};
 use crate::blocks::blocks_output;
-use crate::text::{BlockItem, BlockTextCause, BlockTextRefusal};
 use mq_outside::{Files, LoadRefusal, PutRefusal, Sink, put_all};
+use mq_text::{BlockItem, BlockTextCause, BlockTextRefusal};
 use std::alloc::{AllocError, Global};
 
 const DONE: u8 = 0;

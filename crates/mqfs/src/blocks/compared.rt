@@ -1,53 +1,71 @@
-// What recovery leaves of the images of a cut text is what the plain program finds in them.
+// What recovery leaves of the images of a cut text is what stands in them, and what the plain program
+// finds there.
 ghost use Rattle.std.specs.Prelude.{◌≡◌, ◌<◌, ◌^◌, ℕ, [], ◌∷◌, IfOk};
 ghost use Rattle.mq_blocks.specs.Drive.{IsQuiet};
 ghost use Rattle.mq_blocks.specs.Geometry.{queues_of};
 ghost use Rattle.mq_blocks.specs.Journal.{shown};
 ghost use Rattle.mq_blocks.specs.Machine.{Map};
-ghost use Rattle.mq_drive.specs.Emu.{emu_state};
 ghost use Rattle.mq_drive.specs.Start.{IsImageOf, IsPortOf};
 ghost use Rattle.mq_drive.specs.declared.role.Role.TheVariants.{Queue, Root};
 ghost use Rattle.mq_nvme.specs.Says.{says};
 ghost use Rattle.mqfs.specs.Commits.{ShowsMap};
 ghost use Rattle.mqfs.specs.Fresh.{IsTextGeometry};
-ghost use Rattle.mqfs.specs.Text.{IsGoodText};
+ghost use Rattle.mq_text.specs.Text.{IsGoodText};
 
 use super::cuts::{all_events, some_text};
 use super::*;
-use mq_blocks::BlockNo;
+use mq_blocks::{BlockNo, TxNo};
+use mq_drive::Port;
 use mq_plain::{PlainStanding, plain_standing};
-use mq_recover::read_home;
+use mq_recover::{Chain, ChainRefusal, Standing, read_chain, read_home, stands};
 use std::alloc::AllocError;
+use std::ops::Range;
 use std::process::Abort;
 
-// What the plain program finds in two images.
-fn plain_of(
+// What three programs find in the same two images.
+#[derive(Drop)]
+struct Looked {
+    plain: Option<PlainStanding>,
+    standing: Result<Standing, ImageFault>,
+    chain: Result<Chain, ChainRefusal>,
+}
+
+// Looks at two images, and changes nothing.
+fn look_at(
     alloc: Global,
     geometry: Geometry,
     images: (PortImage, PortImage),
-) -> Result<Option<PlainStanding>, OutOfMemory>
+) -> Result<Looked, OutOfMemory>
     requires one { geometry.queues ≡ 1 }
     requires queue { IsImageOf geometry (Queue 0) images.0 }
     requires root { IsImageOf geometry Root images.1 }
 {
-    let ports = restarted(alloc, geometry, images, 0)?;
+    let (fuse, queue_seat, root_seat) = power_of_two(alloc, None)?;
+    let ports = restarted(alloc, &fuse, (queue_seat, root_seat), geometry, images, 0)?;
+    let standing = stands(alloc, geometry, &ports);
     let Ports { mut queues, root } = ports;
     let queue = queues.remove(0);
-    plain_standing(alloc, geometry, &queue, &root)
+    let chain = read_chain(alloc, geometry, &queue, TxNo(0));
+    let plain = plain_standing(alloc, geometry, &queue, &root)?;
+    Ok(Looked {
+        plain,
+        standing,
+        chain,
+    })
 }
 
 // All home blocks of a drive of one queue.
-fn read_homes(
+fn read_homes<P: Port>(
     alloc: Global,
     geometry: Geometry,
-    queue: &EmuPort,
-    root: &EmuPort,
+    queue: &P,
+    root: &P,
 ) -> Result<Vec<Block>, OutOfMemory>
     requires one { geometry.queues ≡ 1 }
-    requires queue { IsPortOf geometry (Queue 0) (emu_state queue.now) }
-    requires root { IsPortOf geometry Root (emu_state root.now) }
-    requires queue_quiet { IsQuiet (emu_state queue.now) }
-    requires root_quiet { IsQuiet (emu_state root.now) }
+    requires queue { IsPortOf geometry (Queue 0) (P.state queue.now) }
+    requires root { IsPortOf geometry Root (P.state root.now) }
+    requires queue_quiet { IsQuiet (P.state queue.now) }
+    requires root_quiet { IsQuiet (P.state root.now) }
 {
     let mut homes = Vec::new(alloc);
     for b in 0..geometry.homes() {
@@ -70,7 +88,9 @@ fn recovered_of(
     requires root { IsImageOf geometry Root images.1 }
     requires shows { (n : ℕ) × (m : Map) × ShowsMap geometry (shown says geometry (images.0 ∷ []) images.1) n m }
 {
-    let (prefix, queue, root) = recover_images(alloc, geometry, images, pick)?;
+    let (fuse, queue_seat, root_seat) = power_of_two(alloc, None)?;
+    let seats = (queue_seat, root_seat);
+    let (prefix, queue, root) = recover_images(alloc, &fuse, seats, geometry, images, pick)?;
     let homes = read_homes(alloc, geometry, &queue, &root);
     match homes {
         Ok(homes) => Ok((prefix, homes)),
@@ -110,7 +130,44 @@ fn cut_of(
     Ok(images)
 }
 
-// Whether both find the same where a text is cut after so many events.
+// Whether these blocks are those; None is a block of zeros.
+fn stand_there(these: &[Block], those: &[Option<Block>]) -> bool {
+    if these.len() != those.len() {
+        return false;
+    }
+    for k in 0..these.len() {
+        let same = match &those[k] {
+            Some(block) => these[k].bytes() == block.bytes(),
+            None => these[k].bytes().iter().all(|b| *b == 0),
+        };
+        if !same {
+            return false;
+        }
+    }
+    true
+}
+
+// Whether all find what recovery found and left: so many transactions, and these home blocks.
+fn find_the_same(looked: &Looked, prefix: u64, homes: &[Block]) -> bool {
+    let Some(plain) = &looked.plain else {
+        return false;
+    };
+    let Ok(standing) = &looked.standing else {
+        return false;
+    };
+    let Ok(chain) = &looked.chain else {
+        return false;
+    };
+    plain.prefix == prefix
+        && are_same(homes, &plain.blocks)
+        && standing.prefix == prefix
+        && standing.base.0 == 0
+        && standing.top.0 >= prefix
+        && stand_there(homes, &standing.blocks)
+        && chain.transactions.len() as u64 == prefix
+}
+
+// Whether all find the same where a text is cut after so many events.
 fn agree(
     alloc: Global,
     geometry: Geometry,
@@ -125,24 +182,24 @@ fn agree(
     let images = cut_of(alloc, geometry, text, events, pick)?;
     let again = cut_of(alloc, geometry, text, events, pick)?;
     let (prefix, homes) = recovered_of(alloc, geometry, images, pick)?;
-    match plain_of(alloc, geometry, again)? {
-        Some(plain) => Ok(prefix == plain.prefix && are_same(&homes, &plain.blocks)),
-        None => Ok(false),
-    }
+    let looked = look_at(alloc, geometry, again)?;
+    Ok(find_the_same(&looked, prefix, &homes))
 }
 
-// Whether both find the same where the texts of these seeds are cut at each of their events.
-fn all_agree(rt: &impl Abort, alloc: Global, first: u64, count: u64) -> Result<bool, AllocError> {
-    for k in 0..count {
-        let bytes = some_text(alloc, first.wrapping_add(k))?;
+// Whether all find the same where the texts of these seeds are cut at each of their events.
+fn all_agree(rt: &impl Abort, alloc: Global, seeds: Range<u64>) -> Result<bool, AllocError> {
+    for seed in seeds {
+        let bytes = some_text(alloc, seed)?;
         let text = read_block_text(alloc, &bytes).expect(rt, "the text is good");
         for events in 0..all_events(&text).min(1000) {
-            let same = agree(alloc, text_geometry(), &text, events, events % 5).expect(
-                rt,
-                "there is memory",
-            );
-            if !same {
-                return Ok(false);
+            for pick in 0..3 {
+                let same = agree(alloc, text_geometry(), &text, events, pick).expect(
+                    rt,
+                    "there is memory",
+                );
+                if !same {
+                    return Ok(false);
+                }
             }
         }
     }
@@ -151,21 +208,35 @@ fn all_agree(rt: &impl Abort, alloc: Global, first: u64, count: u64) -> Result<b
 
 #[test]
 fn recovery_leaves_what_stands(rt: HostRuntime) -> Result<(), AllocError> {
-    let same = all_agree(&rt, rt.alloc(), 0, 4)?;
+    let same = all_agree(&rt, rt.alloc(), 0..60)?;
     assert!(rt; same);
     Ok(())
 }
 
 #[test]
 fn recovery_leaves_what_stands_of_more_texts(rt: HostRuntime) -> Result<(), AllocError> {
-    let same = all_agree(&rt, rt.alloc(), 4, 4)?;
+    let same = all_agree(&rt, rt.alloc(), 60..120)?;
     assert!(rt; same);
     Ok(())
 }
 
 #[test]
 fn recovery_leaves_what_stands_of_a_third_lot(rt: HostRuntime) -> Result<(), AllocError> {
-    let same = all_agree(&rt, rt.alloc(), 8, 4)?;
+    let same = all_agree(&rt, rt.alloc(), 120..180)?;
+    assert!(rt; same);
+    Ok(())
+}
+
+#[test]
+fn recovery_leaves_what_stands_of_a_fourth_lot(rt: HostRuntime) -> Result<(), AllocError> {
+    let same = all_agree(&rt, rt.alloc(), 180..240)?;
+    assert!(rt; same);
+    Ok(())
+}
+
+#[test]
+fn recovery_leaves_what_stands_of_a_fifth_lot(rt: HostRuntime) -> Result<(), AllocError> {
+    let same = all_agree(&rt, rt.alloc(), 240..300)?;
     assert!(rt; same);
     Ok(())
 }

@@ -1,7 +1,7 @@
 // Generated texts, cut at each of their events: what is printed is what a plain program makes of the
 // text.
 use super::*;
-use crate::text::BlockLine;
+use mq_text::BlockLine;
 use rand_core::SeedableRng;
 use rand_core::utils::NextWord;
 use rand_pcg::Lcg128Xsl64;

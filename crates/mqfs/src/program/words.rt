@@ -2,9 +2,9 @@
 ghost use Rattle.std.specs.Prelude.{◌≡◌, ◌<◌, ◌^◌, ℕ, List, None, Option, Some, IfSome, codes, map};
 ghost use Rattle.std.specs.String.{string_bytes};
 ghost use Rattle.mqfs.specs.Program.{AreBlocks, AreOptions, AreUnknown};
-ghost use Rattle.mqfs.specs.Text.{number_text};
+ghost use Rattle.mq_text.specs.Text.{number_text};
 
-use crate::text::read_number;
+use mq_text::read_number;
 
 /// The numbers of words are below this one.
 const NUMBER_END: u64 = 1 << 63;

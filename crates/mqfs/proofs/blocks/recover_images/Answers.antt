@@ -1,6 +1,7 @@
 use Rattle.std.proofs.Common.{sym, ap, ◌∙◌}
 use Rattle.mq_blocks.specs.Drive.{PortState}
 use Rattle.mq_drive.specs.Emu.{emu_state, emu_faults}
+use Rattle.mq_drive.specs.Seats.{name_of}
 use Rattle.mq_drive.specs.Views.{view_of}
 use Rattle.mqfs.proofs.Drives.{one_item}
 use Rattle.mqfs.proofs.Restarts.{AreStarted, AreSound, text_homes, started_still, started_shows, recovered_map, only_memory, on_image, on_drive, single}
@@ -13,6 +14,7 @@ recover-answer-requires-clause-still c p is =
       one = c.requires.geometry.queues;
       queue_image = c.requires.queue;
       root_image = c.requires.root;
+      fuse = name_of c.args.fuse.now;
       queue_is = (c.in_ok-ports.ensures.queue p is).0;
       root_is = c.in_ok-ports.ensures.root.0;
     })
@@ -25,6 +27,7 @@ returns-in-Ok-clause-shows c n m shows =
       one = c.requires.geometry.queues;
       queue_image = c.requires.queue;
       root_image = c.requires.root;
+      fuse = name_of c.args.fuse.now;
       queue_is = (c.in_ok-ports.ensures.queue old.0 old.1).0;
       root_is = c.in_ok-ports.ensures.root.0;
     } in
@@ -57,6 +60,7 @@ only_image-requires c =
       one = c.requires.geometry.queues;
       queue_image = c.requires.queue;
       root_image = c.requires.root;
+      fuse = name_of c.args.fuse.now;
       queue_is = queue_is.0;
       root_is = root_is.0;
     } in
@@ -66,9 +70,9 @@ only_image-requires c =
     (record {
       queue_faults = queue_is.1;
       root_faults = root_is.1;
-      queue_limit = ap (λ (s : PortState). s.limit) queue_is.0;
+      queue_limit = ap (λ (s : PortState). s.fuse.limit) queue_is.0 ∙ c.requires.on;
       queue_fail = ap (λ (s : PortState). s.fail) queue_is.0;
-      root_limit = ap (λ (s : PortState). s.limit) root_is.0;
+      root_limit = ap (λ (s : PortState). s.fuse.limit) root_is.0 ∙ c.requires.on;
       root_fail = ap (λ (s : PortState). s.fail) root_is.0;
     })
     (λ f refuses. reaches-refused c.args.geometry (emu_state old.0) (emu_state c.in_ok-ports.ports.root) shows.ds f still shows.reaches refuses)
@@ -78,10 +82,10 @@ only_image-requires c =
 
 pub invariant_of-queue : goal.invariant_of-queue
 invariant_of-queue c =
-    let p = c.remove-queue.result in
+    let p = c.remove-queue.result.device in
     record { same_ring = p.same_ring; ring = p.ring; settled = p.settled; flushed_low = p.flushed_low; flushed_high = p.flushed_high; pending_room = p.pending_room; posted_room = p.posted_room; pending_ring = p.pending_ring; pending_few = p.pending_few; pending_last = p.pending_last; pending_order = p.pending_order; pending_counted = p.pending_counted; pending_own = p.pending_own; posted_counted = p.posted_counted; posted_own = p.posted_own; heads = p.heads; sized = p.sized; area_before = p.area_before; queue_base = p.queue_base; root_words = p.root_words; homes_end = p.homes_end; id_small = p.id_small; events_counted = p.events_counted; failure_counted = p.failure_counted; under_way_last = p.under_way_last; under_way_own = p.under_way_own; under_way_doubt = p.under_way_doubt }
 
 pub invariant_of-root : goal.invariant_of-root
 invariant_of-root c =
-    let p = c.recover-answer.new.ports.root in
+    let p = c.recover-answer.new.ports.root.device in
     record { same_ring = p.same_ring; ring = p.ring; settled = p.settled; flushed_low = p.flushed_low; flushed_high = p.flushed_high; pending_room = p.pending_room; posted_room = p.posted_room; pending_ring = p.pending_ring; pending_few = p.pending_few; pending_last = p.pending_last; pending_order = p.pending_order; pending_counted = p.pending_counted; pending_own = p.pending_own; posted_counted = p.posted_counted; posted_own = p.posted_own; heads = p.heads; sized = p.sized; area_before = p.area_before; queue_base = p.queue_base; root_words = p.root_words; homes_end = p.homes_end; id_small = p.id_small; events_counted = p.events_counted; failure_counted = p.failure_counted; under_way_last = p.under_way_last; under_way_own = p.under_way_own; under_way_doubt = p.under_way_doubt }

@@ -1,4 +1,4 @@
-use Rattle.std.proofs.Common.{◌≡◌}
+use Rattle.std.proofs.Common.{◌≡◌, []}
 use Rattle.mqfs.proofs.TextSteps.{SoFar}
 use Rattle.mqfs.proofs.commit.commit_lines.Given as goal
 
@@ -8,6 +8,7 @@ invariant-loop-line g l =
     let state = g.P.Port.state in
     record {
       number : l.number ≡ l.line-index;
-      so_far : SoFar l.geometry (state l.fn.queue) (state l.queue) l.fn.text l.line-index l.next l.last;
-      no_fault : g.P.Port.faults l.queue ≡ g.P.Port.faults l.fn.queue;
+      so_far : SoFar l.geometry (state l.fn.queue.port) (state l.queue.port) l.fn.text l.line-index l.next l.last;
+      no_fault : g.P.Port.faults l.queue.port ≡ g.P.Port.faults l.fn.queue.port;
+      rung : l.queue.rung.items ≡ [];
     }

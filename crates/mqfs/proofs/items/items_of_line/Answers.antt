@@ -23,6 +23,6 @@ returns c =
     let last : c.area_lba.result ≡ area_lba c.args.geometry 0 (c.args.next + length logged) = c.area_lba.ensures ∙ ap (λ (n : ℕ). area_lba c.args.geometry 0 (c.args.next + n)) count in
     let block : c.write_descriptor.new.into ≡ descriptor_bytes record { queue = 0; number = c.args.number; place = c.args.next + length logged; prev_place = c.args.last; prev_number = c.args.number - 1; logged = logged; revoked = [] } =
     c.write_descriptor.ensures ∙ (λ i. descriptor_bytes record { queue = 0; number = c.args.number; place = c.args.next + count i; prev_place = c.args.last; prev_number = c.args.number - 1; logged = logged; revoked = none i }) in
-    items_made c.args.geometry fills (set_in c.args.line.now) c.args.number c.args.next c.args.last logged c.in_ok-items.items.items c.push_back.new.self.items
+    items_made c.args.geometry fills (set_in c.args.line.now) c.args.number c.args.next c.args.last logged c.in_ok-items.items.items c.push.new.self.items
     is_logged (c.in_ok-items.ensures ∙ ap (λ (l : List (Option ℕ)). copies_from c.args.geometry c.args.next (writes_from (λ b. get_or l b None) 0 named)) c.deref-2.ensures.value) c.in_ok-fills.ensures.1
-    (c.in_ok-push_back.ensures.items ∙ (λ i. c.in_ok-items.items.items ++ (last i, block i) ∷ []))
+    (c.in_ok-push.ensures.items ∙ (λ i. c.in_ok-items.items.items ++ (last i, block i) ∷ []))

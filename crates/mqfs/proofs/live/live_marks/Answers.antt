@@ -2,8 +2,8 @@ use Rattle.std.proofs.Common.{◌≡◌, ◌<◌, ◌≤◌, ℕ, List, [], leng
 use Rattle.std.proofs.lemmas.List.{get_or_default, get_or-take, length-take-le}
 use Rattle.mqfs.specs.Lines.{map_after}
 use Rattle.mqfs.specs.Live.{AreMarks}
-use Rattle.mqfs.specs.Text.{AreGoodItems}
-use Rattle.mqfs.specs.declared.text.item.BlockItem.{BlockItem}
+use Rattle.mq_text.specs.Text.{AreGoodItems}
+use Rattle.mq_text.specs.declared.item.BlockItem.{BlockItem}
 use Rattle.mqfs.proofs.LiveBlocks.{marks_more, good_line_at}
 use Rattle.mqfs.proofs.live.live_marks.Goals as goal
 

@@ -1,6 +1,6 @@
 use Rattle.std.proofs.Common.{rules, ◌≡◌, ◌<◌, ◌-◌, List, length, subst, sym, ◌∙◌, arith, vec_len}
-use Rattle.mqfs.specs.Text.{AreGoodItems}
-use Rattle.mqfs.specs.declared.text.item.BlockItem.{BlockItem}
+use Rattle.mq_text.specs.Text.{AreGoodItems}
+use Rattle.mq_text.specs.declared.item.BlockItem.{BlockItem}
 use Rattle.mqfs.proofs.Fills.{good_at, good_set}
 use Rattle.mqfs.proofs.LiveBlocks.{good_free}
 use Rattle.mqfs.proofs.live.mark_line.Goals as goal

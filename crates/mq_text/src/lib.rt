@@ -1,0 +1,19 @@
+//! Block texts: reading them, and printing the blocks that a run leaves.
+#![tactic(auto)]
+
+mod item;
+mod line;
+mod number;
+mod parts;
+mod print;
+mod refusal;
+#[cfg(test)]
+mod tests;
+mod whole;
+
+pub use item::BlockItem;
+pub use line::BlockLine;
+pub use number::read_number;
+pub use print::print_blocks;
+pub use refusal::{BlockTextCause, BlockTextRefusal};
+pub use whole::{BlockText, read_block_text};
