@@ -1,6 +1,7 @@
 use Rattle.std.proofs.Common.{List, ℕ, length, refl, ap, arith}
 use Rattle.mq_blocks.specs.Drive.{PortImage}
 use Rattle.mq_drive.specs.Emu.{emu_state}
+use Rattle.mq_drive.specs.Seats.{name_of}
 use Rattle.mq_drive.specs.Start.{IsImageOf}
 use Rattle.mq_drive.specs.declared.role.Role.TheVariants.{Queue, Root}
 use Rattle.mq_plain.proofs.Started.{still-start}
