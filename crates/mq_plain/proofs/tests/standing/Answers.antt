@@ -23,7 +23,7 @@ plain_standing-requires c =
       blocks = omega (arith, c.in_ok-stored_blocks-2.ensures, is.2);
       words = (refl, refl);
     } in
-    still-start g (name_of c.in_ok-new.0) i j (emu_state c.in_ok-queue.queue) (emu_state c.in_ok-root.root) is.0 queue_image root_image c.in_ok-queue.ensures.state c.in_ok-root.ensures.state
+    still-start g (name_of c.in_ok-fuse.fuse) i j (emu_state c.in_ok-queue.queue) (emu_state c.in_ok-root.root) is.0 queue_image root_image c.in_ok-queue.ensures.state c.in_ok-root.ensures.state
 
 pub invariant_of-queue : goal.invariant_of-queue
 invariant_of-queue c =
