@@ -2,6 +2,7 @@ pub mod Commands
 pub mod Counts
 pub mod Cutting
 pub mod Doubts
+pub mod Executing
 pub mod Faults
 pub mod Flaking
 pub mod Fusing

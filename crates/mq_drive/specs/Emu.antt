@@ -2,6 +2,7 @@
 use Rattle.std.specs.Prelude.{ℕ, List, ◌++◌, replicate}
 use Rattle.std.specs.Option.{option_to_list}
 use Rattle.mq_blocks.specs.Drive.{PortState}
+use Rattle.mq_drive.specs.Emulated.{Counts}
 use Rattle.mq_drive.specs.Roles.{queue_in}
 use Rattle.mq_drive.specs.Steps.{Fault, PowerOff}
 use Rattle.mq_drive.specs.Failures.{failed_of, unended_of, errors_of}
@@ -41,6 +42,14 @@ device_state p = record {
 abbrev pub device_faults : Device → List Fault
 device_faults p = replicate p.power.offs PowerOff ++ errors_of p.failure
 
+-- how many commands it executed
+abbrev pub device_counts : Device → Counts
+device_counts p = record { completed = p.completions; executed = p.failing.executed }
+
+-- the tickets that its seat drew, the last first
+abbrev pub device_tickets : Device → List ℕ
+device_tickets p = tickets_of p.power.seat
+
 -- the same of the port that holds it
 abbrev pub emu_state : EmuPort → PortState
 emu_state p = device_state p.device
@@ -56,6 +65,9 @@ happened_of p = p.device.power.happened
 abbrev pub drawn_by : EmuPort → List ℕ
 drawn_by p = tickets_of p.device.power.seat
 
--- the commands that were executed, home writes among them
+-- the commands that were executed: those of its ring, and these and its home writes together
+abbrev pub counts_of : EmuPort → Counts
+counts_of p = device_counts p.device
+
 abbrev pub executed_of : EmuPort → ℕ
 executed_of p = p.device.failing.executed

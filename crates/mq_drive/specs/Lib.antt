@@ -1,4 +1,5 @@
 pub mod Emu
+pub mod Emulated
 pub mod Failures
 pub mod Flaky
 pub mod Fuse

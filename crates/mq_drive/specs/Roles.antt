@@ -1,5 +1,5 @@
 -- Which port a role is.
-use Rattle.std.specs.Prelude.{ℕ, Option, Some, None}
+use Rattle.std.specs.Prelude.{ℕ, ◌+◌, Option, Some, None}
 use Rattle.mq_drive.specs.declared.role.Role.{Role}
 use Rattle.mq_drive.specs.declared.role.Role.TheVariants.{Queue, Root}
 
@@ -15,3 +15,8 @@ queue_in Root = None
 abbrev pub slots_of : Role → ℕ
 slots_of (Queue q) = 1024
 slots_of Root = 0
+
+-- the identifier of a port's submission queue: the queue's number plus 1; the root has no queue
+abbrev pub id_of : Option ℕ → ℕ
+id_of (Some q) = q + 1
+id_of None = 0

@@ -4,7 +4,8 @@ ghost use Rattle.std.specs.Option.{ForSome};
 ghost use Rattle.std.specs.VecDeque.{deque_capacity};
 ghost use Rattle.mq_blocks.specs.Drive.{AreCounted, AreCounted-prop};
 ghost use Rattle.mq_drive.specs.Fuse.{above, below, earlier};
-ghost use Rattle.mq_drive.specs.Roles.{slots_of, queue_in};
+ghost use Rattle.mq_drive.specs.Emulated.{phase_after};
+ghost use Rattle.mq_drive.specs.Roles.{slots_of, queue_in, id_of};
 ghost use Rattle.mq_drive.specs.Slots.{AreSettled, index_in};
 
 use crate::blocks::Blocks;
@@ -24,7 +25,8 @@ use std::collections::VecDeque;
 // The phase of the completion after so many: 1 at first, and inverted at each pass through a
 // completion queue of 1,024 (NVM Express 1.4, "Completion Queue Entry").
 fn phase_after(completions: u64) -> bool
-    ensures { IsTrue result ↔ (completions / 1024 % 2 ≡ 0) }
+    ensures is { IsTrue result ↔ (completions / 1024 % 2 ≡ 0) }
+    ensures phase { result ≡ phase_after completions }
 {
     completions / 1024 % 2 == 0
 }
@@ -79,6 +81,7 @@ pub struct Device<'f> {
     ghost root_words: { IsNone (queue_in role) → (doorbell ≡ 0) × (head ≡ 0) × (stored_head ≡ 0) },
     ghost homes_end: { homes.first + homes.size ≤ 2 ^ 32 },
     ghost id_small: { id < 2 ^ 16 },
+    ghost id_is: { id ≡ id_of (queue_in role) },
     ghost events_counted: { begins ≡ 0 → power.happened ≡ events },
     ghost failure_counted: { is_some failure ≡ failing.failed },
     ghost under_way_last: { ForSome under_way (λ w. 0 < power.offs) },
@@ -111,6 +114,7 @@ impl<'f> Device<'f> {
         ensures faults { IfOk result (λ d. device_faults d ≡ []) }
         ensures power { IfOk result (λ d. d.power ≡ power.entry) }
         ensures failing { IfOk result (λ d. d.failing.executed ≡ 0) }
+        ensures completions { IfOk result (λ d. d.completions ≡ 0) }
     {
         let (area, homes) = extents(geometry, role);
         let number = port_number(role, geometry);
@@ -240,7 +244,12 @@ impl<'f> Device<'f> {
 }
 
 impl<'f> Port for Device<'f> {
-    ghost use Rattle.mq_drive.specs.Emu.{device_state, device_faults};
+    ghost use Rattle.mq_drive.specs.Emu.{device_state, device_faults, device_counts, device_tickets};
+    ghost use Rattle.mq_blocks.specs.Drive.{Owns, IsHome, AreFrom, staged_end, after_stage, after_flush, after_ring, after_store_head, after_store_base};
+    ghost use Rattle.mq_nvme.specs.Entry.{tx_of, lba_of};
+    ghost use Rattle.mq_drive.specs.Emulated.{StepCounts, HomeCounts, StepTickets, HomeTickets};
+    ghost use Rattle.mq_drive.specs.Seats.{Happens, IsRefused};
+    ghost use Rattle.mq_drive.specs.Steps.{StepGives, HomeGives, OffCause, IsOwnWrite};
 
     ghost state = { device_state };
 
@@ -271,7 +280,20 @@ impl<'f> Port for Device<'f> {
         self.blocks.read(index, into);
     }
 
-    fn stage(&mut self, at: u64, entry: Entry, block: Block) -> Result<(), Off> {
+    fn stage(&mut self, at: u64, entry: Entry, block: Block) -> Result<(), Off>
+        requires queue { IsSome (device_state self.old).queue }
+        requires next { at ≡ staged_end (device_state self.old) }
+        requires below { at < 2 ^ 63 }
+        requires order { (device_state self.old).stored_head ≤ (device_state self.old).doorbell }
+        requires room { at - (device_state self.old).head < 1023 }
+        requires write { IsOwnWrite (device_state self.old) at entry }
+        ensures ok { OnOk result (device_state self.new ≡ after_stage (device_state self.old) entry (tx_of entry) (lba_of entry) block) }
+        ensures off { OnErr result (device_state self.new ≡ device_state self.old) }
+        ensures cause { OffCause result (device_faults self.old) (device_faults self.new) }
+        ensures counts { device_counts self.new ≡ device_counts self.old }
+        ensures happens { OnOk result (Happens (device_state self.old).fuse.limit (device_tickets self.old) (device_tickets self.new)) }
+        ensures refused { OnErr result (IsRefused (device_state self.old).fuse.limit (device_tickets self.old) (device_tickets self.new)) }
+    {
         self.power.event()?;
         let command = Command {
             count: at,
@@ -285,7 +307,14 @@ impl<'f> Port for Device<'f> {
         Ok(())
     }
 
-    fn flush(&mut self) -> Result<(), Off> {
+    fn flush(&mut self) -> Result<(), Off>
+        ensures ok { OnOk result (device_state self.new ≡ after_flush (device_state self.old)) }
+        ensures off { OnErr result (device_state self.new ≡ device_state self.old) }
+        ensures cause { OffCause result (device_faults self.old) (device_faults self.new) }
+        ensures counts { device_counts self.new ≡ device_counts self.old }
+        ensures happens { OnOk result (Happens (device_state self.old).fuse.limit (device_tickets self.old) (device_tickets self.new)) }
+        ensures refused { OnErr result (IsRefused (device_state self.old).fuse.limit (device_tickets self.old) (device_tickets self.new)) }
+    {
         let end = self.end();
         self.power.event()?;
         settle(&mut self.flushed, &self.staged, self.flushed_end, end);
@@ -296,7 +325,16 @@ impl<'f> Port for Device<'f> {
         Ok(())
     }
 
-    fn ring(&mut self, tail: u64) -> Result<(), Off> {
+    fn ring(&mut self, tail: u64) -> Result<(), Off>
+        requires tail { tail ≡ staged_end (device_state self.old) }
+        requires flushed { (device_state self.old).flushed_end ≡ tail }
+        ensures ok { OnOk result (device_state self.new ≡ after_ring (device_state self.old)) }
+        ensures off { OnErr result (device_state self.new ≡ device_state self.old) }
+        ensures cause { OffCause result (device_faults self.old) (device_faults self.new) }
+        ensures counts { device_counts self.new ≡ device_counts self.old }
+        ensures happens { OnOk result (Happens (device_state self.old).fuse.limit (device_tickets self.old) (device_tickets self.new)) }
+        ensures refused { OnErr result (IsRefused (device_state self.old).fuse.limit (device_tickets self.old) (device_tickets self.new)) }
+    {
         self.power.event()?;
         add_all(&mut self.posted, &mut self.pending);
         self.doorbell = tail;
@@ -305,7 +343,11 @@ impl<'f> Port for Device<'f> {
         Ok(())
     }
 
-    fn step(&mut self) -> Result<Step, Off> {
+    fn step(&mut self) -> Result<Step, Off>
+        ensures gives { StepGives (device_state self.old) (device_faults self.old) result (device_state self.new) (device_faults self.new) }
+        ensures counts { StepCounts (device_state self.old) (device_counts self.old) result (device_counts self.new) }
+        ensures tickets { StepTickets (device_state self.old).fuse.limit (device_tickets self.old) result (device_tickets self.new) }
+    {
         if self.posted.is_empty() {
             return Ok(Step::Idle);
         }
@@ -335,21 +377,46 @@ impl<'f> Port for Device<'f> {
         Ok(Step::Done(completion_of(&ended)))
     }
 
-    fn store_head(&mut self, head: u64) -> Result<(), Off> {
+    fn store_head(&mut self, head: u64) -> Result<(), Off>
+        requires low { (device_state self.old).head ≤ head }
+        requires high { head ≤ (device_state self.old).doorbell }
+        requires posted { AreFrom head (device_state self.old).posted }
+        requires failed { AreFrom head (device_state self.old).failed }
+        ensures ok { OnOk result (device_state self.new ≡ after_store_head (device_state self.old) head) }
+        ensures off { OnErr result (device_state self.new ≡ device_state self.old) }
+        ensures cause { OffCause result (device_faults self.old) (device_faults self.new) }
+        ensures counts { device_counts self.new ≡ device_counts self.old }
+        ensures happens { OnOk result (Happens (device_state self.old).fuse.limit (device_tickets self.old) (device_tickets self.new)) }
+        ensures refused { OnErr result (IsRefused (device_state self.old).fuse.limit (device_tickets self.old) (device_tickets self.new)) }
+    {
         self.power.event()?;
         self.stored_head = head;
         self.events = bump(self.events);
         Ok(())
     }
 
-    fn store_base(&mut self, base: u64) -> Result<(), Off> {
+    fn store_base(&mut self, base: u64) -> Result<(), Off>
+        requires root { IsNone (device_state self.old).queue }
+        requires low { (device_state self.old).base ≤ base }
+        ensures ok { OnOk result (device_state self.new ≡ after_store_base (device_state self.old) base) }
+        ensures off { OnErr result (device_state self.new ≡ device_state self.old) }
+        ensures cause { OffCause result (device_faults self.old) (device_faults self.new) }
+        ensures counts { device_counts self.new ≡ device_counts self.old }
+        ensures happens { OnOk result (Happens (device_state self.old).fuse.limit (device_tickets self.old) (device_tickets self.new)) }
+        ensures refused { OnErr result (IsRefused (device_state self.old).fuse.limit (device_tickets self.old) (device_tickets self.new)) }
+    {
         self.power.event()?;
         self.stored_base = base;
         self.events = bump(self.events);
         Ok(())
     }
 
-    fn write_home(&mut self, lba: Lba, block: Block) -> Result<HomeStep, Off> {
+    fn write_home(&mut self, lba: Lba, block: Block) -> Result<HomeStep, Off>
+        requires { IsHome (device_state self.old) lba }
+        ensures gives { HomeGives (device_state self.old) (device_faults self.old) lba block result (device_state self.new) (device_faults self.new) }
+        ensures counts { HomeCounts (device_state self.old) (device_counts self.old) result (device_counts self.new) }
+        ensures tickets { HomeTickets (device_state self.old).fuse.limit (device_tickets self.old) result (device_tickets self.new) }
+    {
         self.power.event()?;
         let index = block_index(self.area, self.homes, lba);
         self.begins = bump(self.begins);

@@ -1,5 +1,5 @@
 // A port in memory, whose power may go off and on which one command may fail.
-ghost use Rattle.std.specs.Prelude.{◌≡◌, ◌<◌, ◌≤◌, ℕ, [], true, false, IfOk, All, Some, None, Contains};
+ghost use Rattle.std.specs.Prelude.{◌≡◌, ◌<◌, ◌≤◌, ◌-◌, ◌^◌, ℕ, [], true, false, IfOk, OnOk, OnErr, IsSome, IsNone, All, Some, None, Contains};
 ghost use Rattle.mq_drive.specs.Fuse.{above, below, earlier};
 
 use crate::device::Device;
@@ -18,7 +18,7 @@ pub struct EmuPort<'f> {
 }
 
 impl<'f> EmuPort<'f> {
-    ghost use Rattle.mq_drive.specs.Emu.{emu_state, emu_faults, happened_of, executed_of, drawn_by};
+    ghost use Rattle.mq_drive.specs.Emu.{emu_state, emu_faults, happened_of, executed_of, counts_of, drawn_by};
     ghost use Rattle.mq_drive.specs.Limits.{fails_by};
     ghost use Rattle.mq_drive.specs.Seats.{name_of, fuse_of, tickets_of};
     ghost use Rattle.mq_drive.specs.Start.{IsRole, IsImageOf, start_of};
@@ -45,6 +45,7 @@ impl<'f> EmuPort<'f> {
         ensures state { IfOk result (λ p. emu_state p ≡ start_of geometry role image (name_of fuse.now) fail) }
         ensures faults { IfOk result (λ p. emu_faults p ≡ []) }
         ensures tickets { IfOk result (λ p. (drawn_by p ≡ []) × (happened_of p ≡ 0)) }
+        ensures counts { IfOk result (λ p. counts_of p ≡ record { completed = 0; executed = 0 }) }
     {
         let power = Power::new(fuse, seat);
         Ok(EmuPort {
@@ -104,7 +105,12 @@ impl<'f> EmuPort<'f> {
 }
 
 impl<'f> Port for EmuPort<'f> {
-    ghost use Rattle.mq_drive.specs.Emu.{emu_state, emu_faults};
+    ghost use Rattle.mq_drive.specs.Emu.{emu_state, emu_faults, counts_of, drawn_by};
+    ghost use Rattle.mq_blocks.specs.Drive.{Owns, IsHome, AreFrom, staged_end, after_stage, after_flush, after_ring, after_store_head, after_store_base};
+    ghost use Rattle.mq_nvme.specs.Entry.{tx_of, lba_of};
+    ghost use Rattle.mq_drive.specs.Emulated.{StepCounts, HomeCounts, StepTickets, HomeTickets};
+    ghost use Rattle.mq_drive.specs.Seats.{Happens, IsRefused};
+    ghost use Rattle.mq_drive.specs.Steps.{StepGives, HomeGives, OffCause, IsOwnWrite};
 
     ghost state = { emu_state };
 
@@ -134,31 +140,89 @@ impl<'f> Port for EmuPort<'f> {
         self.device.read_block(lba, into);
     }
 
-    fn stage(&mut self, at: u64, entry: Entry, block: Block) -> Result<(), Off> {
+    fn stage(&mut self, at: u64, entry: Entry, block: Block) -> Result<(), Off>
+        requires queue { IsSome (emu_state self.old).queue }
+        requires next { at ≡ staged_end (emu_state self.old) }
+        requires below { at < 2 ^ 63 }
+        requires order { (emu_state self.old).stored_head ≤ (emu_state self.old).doorbell }
+        requires room { at - (emu_state self.old).head < 1023 }
+        requires write { IsOwnWrite (emu_state self.old) at entry }
+        ensures ok { OnOk result (emu_state self.new ≡ after_stage (emu_state self.old) entry (tx_of entry) (lba_of entry) block) }
+        ensures off { OnErr result (emu_state self.new ≡ emu_state self.old) }
+        ensures cause { OffCause result (emu_faults self.old) (emu_faults self.new) }
+        ensures counts { counts_of self.new ≡ counts_of self.old }
+        ensures happens { OnOk result (Happens (emu_state self.old).fuse.limit (drawn_by self.old) (drawn_by self.new)) }
+        ensures refused { OnErr result (IsRefused (emu_state self.old).fuse.limit (drawn_by self.old) (drawn_by self.new)) }
+    {
         self.device.stage(at, entry, block)
     }
 
-    fn flush(&mut self) -> Result<(), Off> {
+    fn flush(&mut self) -> Result<(), Off>
+        ensures ok { OnOk result (emu_state self.new ≡ after_flush (emu_state self.old)) }
+        ensures off { OnErr result (emu_state self.new ≡ emu_state self.old) }
+        ensures cause { OffCause result (emu_faults self.old) (emu_faults self.new) }
+        ensures counts { counts_of self.new ≡ counts_of self.old }
+        ensures happens { OnOk result (Happens (emu_state self.old).fuse.limit (drawn_by self.old) (drawn_by self.new)) }
+        ensures refused { OnErr result (IsRefused (emu_state self.old).fuse.limit (drawn_by self.old) (drawn_by self.new)) }
+    {
         self.device.flush()
     }
 
-    fn ring(&mut self, tail: u64) -> Result<(), Off> {
+    fn ring(&mut self, tail: u64) -> Result<(), Off>
+        requires tail { tail ≡ staged_end (emu_state self.old) }
+        requires flushed { (emu_state self.old).flushed_end ≡ tail }
+        ensures ok { OnOk result (emu_state self.new ≡ after_ring (emu_state self.old)) }
+        ensures off { OnErr result (emu_state self.new ≡ emu_state self.old) }
+        ensures cause { OffCause result (emu_faults self.old) (emu_faults self.new) }
+        ensures counts { counts_of self.new ≡ counts_of self.old }
+        ensures happens { OnOk result (Happens (emu_state self.old).fuse.limit (drawn_by self.old) (drawn_by self.new)) }
+        ensures refused { OnErr result (IsRefused (emu_state self.old).fuse.limit (drawn_by self.old) (drawn_by self.new)) }
+    {
         self.device.ring(tail)
     }
 
-    fn step(&mut self) -> Result<Step, Off> {
+    fn step(&mut self) -> Result<Step, Off>
+        ensures gives { StepGives (emu_state self.old) (emu_faults self.old) result (emu_state self.new) (emu_faults self.new) }
+        ensures counts { StepCounts (emu_state self.old) (counts_of self.old) result (counts_of self.new) }
+        ensures tickets { StepTickets (emu_state self.old).fuse.limit (drawn_by self.old) result (drawn_by self.new) }
+    {
         self.device.step()
     }
 
-    fn store_head(&mut self, head: u64) -> Result<(), Off> {
+    fn store_head(&mut self, head: u64) -> Result<(), Off>
+        requires low { (emu_state self.old).head ≤ head }
+        requires high { head ≤ (emu_state self.old).doorbell }
+        requires posted { AreFrom head (emu_state self.old).posted }
+        requires failed { AreFrom head (emu_state self.old).failed }
+        ensures ok { OnOk result (emu_state self.new ≡ after_store_head (emu_state self.old) head) }
+        ensures off { OnErr result (emu_state self.new ≡ emu_state self.old) }
+        ensures cause { OffCause result (emu_faults self.old) (emu_faults self.new) }
+        ensures counts { counts_of self.new ≡ counts_of self.old }
+        ensures happens { OnOk result (Happens (emu_state self.old).fuse.limit (drawn_by self.old) (drawn_by self.new)) }
+        ensures refused { OnErr result (IsRefused (emu_state self.old).fuse.limit (drawn_by self.old) (drawn_by self.new)) }
+    {
         self.device.store_head(head)
     }
 
-    fn store_base(&mut self, base: u64) -> Result<(), Off> {
+    fn store_base(&mut self, base: u64) -> Result<(), Off>
+        requires root { IsNone (emu_state self.old).queue }
+        requires low { (emu_state self.old).base ≤ base }
+        ensures ok { OnOk result (emu_state self.new ≡ after_store_base (emu_state self.old) base) }
+        ensures off { OnErr result (emu_state self.new ≡ emu_state self.old) }
+        ensures cause { OffCause result (emu_faults self.old) (emu_faults self.new) }
+        ensures counts { counts_of self.new ≡ counts_of self.old }
+        ensures happens { OnOk result (Happens (emu_state self.old).fuse.limit (drawn_by self.old) (drawn_by self.new)) }
+        ensures refused { OnErr result (IsRefused (emu_state self.old).fuse.limit (drawn_by self.old) (drawn_by self.new)) }
+    {
         self.device.store_base(base)
     }
 
-    fn write_home(&mut self, lba: Lba, block: Block) -> Result<HomeStep, Off> {
+    fn write_home(&mut self, lba: Lba, block: Block) -> Result<HomeStep, Off>
+        requires { IsHome (emu_state self.old) lba }
+        ensures gives { HomeGives (emu_state self.old) (emu_faults self.old) lba block result (emu_state self.new) (emu_faults self.new) }
+        ensures counts { HomeCounts (emu_state self.old) (counts_of self.old) result (counts_of self.new) }
+        ensures tickets { HomeTickets (emu_state self.old).fuse.limit (drawn_by self.old) result (drawn_by self.new) }
+    {
         self.device.write_home(lba, block)
     }
 }

@@ -1,5 +1,6 @@
 // Where the blocks of a port lie.
 ghost use Rattle.std.specs.Prelude.{◌≡◌, ◌<◌, ◌≤◌, ◌+◌, ◌^◌, ℕ};
+ghost use Rattle.mq_drive.specs.Roles.{id_of, queue_in};
 ghost use Rattle.mq_drive.specs.Slots.{index_in};
 ghost use Rattle.mq_drive.specs.Start.{IsRole, area_first_of, area_size_of, homes_first_of, homes_size_of};
 
@@ -36,7 +37,8 @@ pub fn port_number(role: Role, geometry: Geometry) -> u32 {
 /// The identifier of a submission queue: the queue's number plus 1; of the root 0.
 pub fn queue_id(role: Role, geometry: Geometry) -> u32
     requires { IsRole geometry role }
-    ensures { result < 2 ^ 16 }
+    ensures small { result < 2 ^ 16 }
+    ensures is { result ≡ id_of (queue_in role) }
 {
     match role {
         Role::Queue(queue) => {

@@ -1,9 +1,9 @@
 // Which command of an emulated port ends with an error.
-ghost use Rattle.std.specs.Prelude.{◌≡◌, ◌<◌, ◌≤◌, ◌↔◌, ℕ, Bool, true, false};
+ghost use Rattle.std.specs.Prelude.{◌≡◌, ◌<◌, ◌≤◌, ◌^◌, ◌↔◌, ℕ, Bool, true, false};
 ghost use Rattle.mq_blocks.specs.Drive.{counted};
 ghost use Rattle.mq_drive.specs.Failures.{failed_of, unended_of};
-ghost use Rattle.mq_drive.specs.Limits.{fails_by};
-ghost use Rattle.std.specs.Option.{option_to_list};
+ghost use Rattle.mq_drive.specs.Limits.{fails_by, fails_next};
+ghost use Rattle.std.specs.Option.{ForSome, option_to_list};
 
 use crate::store::bump;
 use mq_blocks::{Command, HomeWrite};
@@ -35,6 +35,7 @@ pub struct Failing {
     executed: u64,
     failed: bool,
     ghost exact: { failed ≡ fails_by named executed },
+    ghost small: { ForSome named (λ k. k < 2 ^ 64) },
 }
 
 impl Failing {
@@ -54,6 +55,7 @@ impl Failing {
     pub fn next(&mut self) -> bool
         ensures named { self.new.named ≡ self.old.named }
         ensures executed { self.new.executed ≡ counted self.old.executed 1 }
+        ensures is { result ≡ fails_next self.old.named self.old.executed }
         ensures fails { result ≡ true → (self.old.failed ≡ false) × (self.new.failed ≡ true) }
         ensures succeeds { result ≡ false → self.new.failed ≡ self.old.failed }
     {

@@ -118,6 +118,7 @@ pub trait Port {
 }
 
 /// The ports of a drive, the queues' in order.
+#[derive(Drop)]
 pub struct Ports<P: Port> {
     pub queues: Vec<P>,
     pub root: P,

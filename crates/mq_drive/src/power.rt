@@ -2,7 +2,7 @@
 ghost use Rattle.std.specs.Prelude.{◌≡◌, ◌<◌, ◌≤◌, ◌^◌, ℕ, [], OnOk, OnErr, Some, None};
 ghost use Rattle.mq_blocks.specs.Drive.{counted};
 ghost use Rattle.mq_drive.specs.Fuse.{above, below};
-ghost use Rattle.mq_drive.specs.Seats.{name_of, fuse_of, tickets_of};
+ghost use Rattle.mq_drive.specs.Seats.{name_of, fuse_of, tickets_of, Happens, IsRefused};
 
 use crate::store::bump;
 use crate::{Fuse, FuseSeat, Off};
@@ -43,6 +43,8 @@ impl<'f> Power<'f> {
         ensures fuse { fuse_of self.new.seat ≡ fuse_of self.old.seat }
         ensures happens { OnOk result ((self.new.happened ≡ counted self.old.happened 1) × (self.new.offs ≡ self.old.offs)) }
         ensures refused { OnErr result ((self.new.happened ≡ self.old.happened) × (self.new.offs ≡ counted self.old.offs 1)) }
+        ensures ticket { OnOk result (Happens (fuse_of self.old.seat).limit (tickets_of self.old.seat) (tickets_of self.new.seat)) }
+        ensures over { OnErr result (IsRefused (fuse_of self.old.seat).limit (tickets_of self.old.seat) (tickets_of self.new.seat)) }
         ensures range { self.old.offs < 2 ^ 64 }
         ensures first { OnOk result (self.old.offs ≡ 0) }
     {

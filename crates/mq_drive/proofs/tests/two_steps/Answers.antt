@@ -4,8 +4,8 @@ use Rattle.mq_drive.proofs.tests.two_steps.Goals as goal
 
 pub returns-clause-homes_first : goal.returns-clause-homes_first
 returns-clause-homes_first c =
-    (homes_kept _ _ _ _ c.step-second.result c.step-second.ensures).0 ∙ (homes_kept _ _ _ _ c.step-first.result c.step-first.ensures).0
+    (homes_kept _ _ _ _ c.step-second.result c.step-second.ensures.gives).0 ∙ (homes_kept _ _ _ _ c.step-first.result c.step-first.ensures.gives).0
 
 pub returns-clause-homes_size : goal.returns-clause-homes_size
 returns-clause-homes_size c =
-    (homes_kept _ _ _ _ c.step-second.result c.step-second.ensures).1 ∙ (homes_kept _ _ _ _ c.step-first.result c.step-first.ensures).1
+    (homes_kept _ _ _ _ c.step-second.result c.step-second.ensures.gives).1 ∙ (homes_kept _ _ _ _ c.step-first.result c.step-first.ensures.gives).1

@@ -9,12 +9,13 @@ use Rattle.mq_blocks.specs.Drive.{AreCounted}
 use Rattle.mq_blocks.specs.declared.command.Command.{Command}
 use Rattle.mq_drive.specs.declared.device.Device.{Device}
 use Rattle.mq_drive.specs.declared.failing.Failure.TheVariants.{Queued}
-use Rattle.mq_drive.specs.Emu.{device_state, device_faults}
-use Rattle.mq_drive.specs.Seats.{fuse_of}
+use Rattle.mq_drive.specs.Emu.{device_state, device_faults, device_counts, device_tickets}
+use Rattle.mq_drive.specs.Seats.{fuse_of, tickets_of}
 use Rattle.mq_drive.specs.Failures.{errors_of}
 use Rattle.mq_drive.specs.Steps.{PowerOff, CommandError, Gains}
 use Rattle.mq_drive.proofs.Commands.{counted_remove, all_remove, all_at}
 use Rattle.mq_drive.proofs.Doubts.{none_of, none_while, none_for}
+use Rattle.mq_drive.proofs.Executing.{next_is, same_counts, refused_counts, refused_tickets, fails_status, succeeds_status}
 use Rattle.mq_drive.proofs.Faults.{off_gains, refused_step, error_gains}
 use Rattle.mq_drive.proofs.Moves.{same_state, done_at, failed_at}
 use Rattle.mq_drive.proofs.Tearing.{IsOwn}
@@ -37,8 +38,8 @@ counted_left p at left is = subst (AreCounted p.stored_head p.doorbell) (sym is)
 nothing_open : (p : Device) → p.power.offs ≡ 0 → p.under_way ≡ None
 nothing_open p on = none_while p.under_way p.power.offs p.under_way_last on
 
-pub returns-in_err-event : goal.returns-in_err-event
-returns-in_err-event c =
+pub returns-in_err-event-clause-gives : goal.returns-in_err-event-clause-gives
+returns-in_err-event-clause-gives c =
     let some : 0 < length c.args.self.now.posted.items = search rules in
     refused_step (device_state c.args.self.now) _ (device_faults c.args.self.now) _ c.from_residual.result c.from_residual.ensures.0
     (λ none. let zero_long : length c.args.self.now.posted.items ≡ 0 = ap length none in omega (arith, some, zero_long))
@@ -99,8 +100,8 @@ invariant_of-self-2-clause-under_way_own c = none_for c.args.self.now.under_way 
 pub invariant_of-self-2-clause-under_way_doubt : goal.invariant_of-self-2-clause-under_way_doubt
 invariant_of-self-2-clause-under_way_doubt c = none_for c.args.self.now.under_way _ (nothing_open c.args.self.now c.in_ok-event.ensures.first)
 
-pub returns-then-next : goal.returns-then-next
-returns-then-next c =
+pub returns-then-next-clause-gives : goal.returns-then-next-clause-gives
+returns-then-next-clause-gives c =
     let status : status_of c.completion_of-completion.result ≡ 640 = c.completion_of-completion.ensures.status in
     let none : c.args.self.now.failure ≡ None = none_of c.args.self.now.failure (c.args.self.now.failure_counted ∙ (c.next.ensures.fails c.if-next.true).0) in
     record {
@@ -120,8 +121,8 @@ returns-then-next c =
       );
     }
 
-pub returns : goal.returns
-returns c =
+pub returns-clause-gives : goal.returns-clause-gives
+returns-clause-gives c =
     let success : status_of c.completion_of.result ≡ 0 = c.completion_of.ensures.status in
     record {
       at = c.choose-at.result;
@@ -139,3 +140,30 @@ returns c =
       );
       error = λ bad. absurd (bad success);
     }
+
+pub returns-in_err-event-clause-counts : goal.returns-in_err-event-clause-counts
+returns-in_err-event-clause-counts c = refused_counts (device_state c.args.self.now) (device_counts c.args.self.now) c.from_residual.result _ c.from_residual.ensures.0 refl
+
+pub returns-in_err-event-clause-tickets : goal.returns-in_err-event-clause-tickets
+returns-in_err-event-clause-tickets c =
+    refused_tickets (device_state c.args.self.now).fuse.limit (device_tickets c.args.self.now) c.from_residual.result (tickets_of c.event.new.self.seat) c.from_residual.ensures.0 c.in_err-event.ensures.over
+
+pub returns-then-next-clause-counts : goal.returns-then-next-clause-counts
+returns-then-next-clause-counts c = (
+  next_is (device_state c.args.self.now) (device_counts c.args.self.now) c.completion_of-completion.result _ c.completion_of-completion.ensures.is (omega arith)
+      refl c.args.self.now.id_is c.phase_after.ensures.phase (fails_status (device_state c.args.self.now) c.args.self.now.failing.executed (sym c.next.ensures.is ∙ c.if-next.true)),
+  same_counts _ _ _ _ c.bump-self.ensures c.next.ensures.executed,
+)
+
+pub returns-then-next-clause-tickets : goal.returns-then-next-clause-tickets
+returns-then-next-clause-tickets c = c.in_ok-event.ensures.ticket
+
+pub returns-clause-counts : goal.returns-clause-counts
+returns-clause-counts c = (
+  next_is (device_state c.args.self.now) (device_counts c.args.self.now) c.completion_of.result _ c.completion_of.ensures.is (omega arith)
+      refl c.args.self.now.id_is c.phase_after.ensures.phase (succeeds_status (device_state c.args.self.now) c.args.self.now.failing.executed (sym c.next.ensures.is ∙ c.if-next.false)),
+  same_counts _ _ _ _ c.bump-self.ensures c.next.ensures.executed,
+)
+
+pub returns-clause-tickets : goal.returns-clause-tickets
+returns-clause-tickets c = c.in_ok-event.ensures.ticket

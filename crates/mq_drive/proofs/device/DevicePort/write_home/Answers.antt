@@ -1,17 +1,18 @@
 use Rattle.std.proofs.Math.ListN.{length-set}
 use Rattle.std.proofs.Common.{◌≡◌, ◌<◌, ◌≤◌, ◌+◌, ℕ, Some, None, Bool, List, [], ◌∷◌, ◌++◌, length, get_or, All, inl, inr, refl, sym, ◌∙◌, ap, subst, arith, set, false}
 use Rattle.std.specs.Option.{option_to_list}
-use Rattle.mq_blocks.specs.Drive.{counted}
+use Rattle.mq_blocks.specs.Drive.{FuseName, counted}
 use Rattle.mq_blocks.specs.declared.command.Command.{Command}
 use Rattle.mq_blocks.specs.declared.command.HomeWrite.{HomeWrite}
 use Rattle.mq_drive.specs.declared.device.Device.{Device}
 use Rattle.mq_drive.specs.declared.failing.Failure.TheVariants.{Home}
-use Rattle.mq_drive.specs.Emu.{device_state, device_faults}
-use Rattle.mq_drive.specs.Seats.{fuse_of}
+use Rattle.mq_drive.specs.Emu.{device_state, device_faults, device_counts, device_tickets}
+use Rattle.mq_drive.specs.Seats.{fuse_of, tickets_of, Happens, IsRefused}
 use Rattle.mq_drive.specs.Failures.{errors_of, failed_of, unended_of}
 use Rattle.mq_drive.specs.Slots.{index_in}
 use Rattle.mq_drive.specs.Steps.{HomeError}
 use Rattle.mq_drive.proofs.Doubts.{none_of, none_while, none_for, some_for, false_at}
+use Rattle.mq_drive.proofs.Executing.{same_counts, refused_home_counts, refused_home_tickets}
 use Rattle.mq_drive.proofs.Faults.{off_gains, refused_home, error_gains}
 use Rattle.mq_drive.proofs.Moves.{set-set, same_state, begun_home, begun_failed, begun_open}
 use Rattle.mq_drive.proofs.Owned.{IsWithin, within_homes}
@@ -31,8 +32,8 @@ nothing_open p on = none_while p.under_way p.power.offs p.under_way_last on
 still_own : (p : Device) (n : ℕ) (cs : List Command) → n ≡ length p.blocks.stored.items → AllOwn p (length p.blocks.stored.items) cs → AllOwn p n cs
 still_own p n cs same own = subst (λ (m : ℕ). AllOwn p m cs) (sym same) own
 
-pub returns-in_err-event : goal.returns-in_err-event
-returns-in_err-event c =
+pub returns-in_err-event-clause-gives : goal.returns-in_err-event-clause-gives
+returns-in_err-event-clause-gives c =
     refused_home (device_state c.args.self.now) _ (device_faults c.args.self.now) _ c.args.lba c.args.block c.from_residual.result c.from_residual.ensures.0
     (inl (same_state (device_state c.args.self.now) (fuse_of c.event.new.self.seat) c.event.ensures.fuse))
     (off_gains c.args.self.now.power.offs c.event.new.self.offs (errors_of c.args.self.now.failure) c.event.ensures.range c.in_err-event.ensures.refused.1)
@@ -64,8 +65,8 @@ invariant_of-self-in-Err-clause-under_way_doubt c =
     ∙ ap (λ (l : List Bool). get_or l c.block_index-index.result false) c.begin.ensures.sure
     ∙ false_at c.args.self.now.blocks.sure.items c.block_index-index.result)
 
-pub returns-in-Err : goal.returns-in-Err
-returns-in-Err c =
+pub returns-in-Err-clause-gives : goal.returns-in-Err-clause-gives
+returns-in-Err-clause-gives c =
     let nothing : c.args.self.now.under_way ≡ None = nothing_open c.args.self.now c.in_ok-event.ensures.first in (
       inr (begun_home (device_state c.args.self.now) c.args.lba c.args.block (failed_of c.args.self.now.failure) (unended_of c.args.self.now.failure ++ record { lba = c.args.lba; block = c.args.block } ∷ [])
           c.begin.new.self.stored.items c.begin.new.self.sure.items c.bump-self.result (fuse_of c.event-2.new.self.seat) c.args.self.now.failing.named
@@ -97,8 +98,8 @@ invariant_of-self-then-next-clause-under_way_own c = none_for c.args.self.now.un
 pub invariant_of-self-then-next-clause-under_way_doubt : goal.invariant_of-self-then-next-clause-under_way_doubt
 invariant_of-self-then-next-clause-under_way_doubt c = none_for c.args.self.now.under_way _ (nothing_open c.args.self.now c.in_ok-event.ensures.first)
 
-pub returns-then-next : goal.returns-then-next
-returns-then-next c =
+pub returns-then-next-clause-gives : goal.returns-then-next-clause-gives
+returns-then-next-clause-gives c =
     let nothing : c.args.self.now.under_way ≡ None = nothing_open c.args.self.now c.in_ok-event.ensures.first in
     let none : c.args.self.now.failure ≡ None = none_of c.args.self.now.failure (c.args.self.now.failure_counted ∙ (c.next.ensures.fails c.if-next.true).0) in (
       λ zero. absurd (omega (arith, zero)),
@@ -132,3 +133,40 @@ invariant_of-self-2-clause-under_way_own c = none_for c.args.self.now.under_way 
 
 pub invariant_of-self-2-clause-under_way_doubt : goal.invariant_of-self-2-clause-under_way_doubt
 invariant_of-self-2-clause-under_way_doubt c = none_for c.args.self.now.under_way _ (nothing_open c.args.self.now c.in_ok-event.ensures.first)
+
+-- ---- what it counts, and its tickets
+
+pub returns-in_err-event-clause-counts : goal.returns-in_err-event-clause-counts
+returns-in_err-event-clause-counts c = refused_home_counts (device_state c.args.self.now) (device_counts c.args.self.now) c.from_residual.result _ c.from_residual.ensures.0 refl
+
+pub returns-in_err-event-clause-tickets : goal.returns-in_err-event-clause-tickets
+returns-in_err-event-clause-tickets c =
+    refused_home_tickets (device_state c.args.self.now).fuse.limit (device_tickets c.args.self.now) c.from_residual.result (tickets_of c.event.new.self.seat) c.from_residual.ensures.0 c.in_err-event.ensures.over
+
+pub returns-in-Err-clause-tickets : goal.returns-in-Err-clause-tickets
+returns-in-Err-clause-tickets c =
+    inr (
+      tickets_of c.event.new.self.seat,
+      c.in_ok-event.ensures.ticket,
+      subst (λ (f : FuseName). IsRefused f.limit (tickets_of c.event.new.self.seat) (tickets_of c.event-2.new.self.seat)) c.event.ensures.fuse c.in-Err.ensures.over,
+    )
+
+pub returns-then-next-clause-counts : goal.returns-then-next-clause-counts
+returns-then-next-clause-counts c = (sym c.next.ensures.is ∙ c.if-next.true, refl, same_counts _ _ _ _ refl c.next.ensures.executed)
+
+pub returns-then-next-clause-tickets : goal.returns-then-next-clause-tickets
+returns-then-next-clause-tickets c = (
+  tickets_of c.event.new.self.seat,
+  c.in_ok-event.ensures.ticket,
+  subst (λ (f : FuseName). Happens f.limit (tickets_of c.event.new.self.seat) (tickets_of c.event-2.new.self.seat)) c.event.ensures.fuse c.in_default.ensures.ticket,
+)
+
+pub returns-clause-counts : goal.returns-clause-counts
+returns-clause-counts c = (sym c.next.ensures.is ∙ c.if-next.false, same_counts _ _ _ _ refl c.next.ensures.executed)
+
+pub returns-clause-tickets : goal.returns-clause-tickets
+returns-clause-tickets c = (
+  tickets_of c.event.new.self.seat,
+  c.in_ok-event.ensures.ticket,
+  subst (λ (f : FuseName). Happens f.limit (tickets_of c.event.new.self.seat) (tickets_of c.event-2.new.self.seat)) c.event.ensures.fuse c.in_default.ensures.ticket,
+)

@@ -1,4 +1,4 @@
-use Rattle.std.proofs.Common.{◌<◌, ap, sym, subst}
+use Rattle.std.proofs.Common.{◌<◌, sym, subst}
 use Rattle.mq_drive.specs.Failures.{errors_of}
 use Rattle.mq_drive.specs.Fuse.{above}
 use Rattle.mq_drive.specs.Seats.{tickets_of}
