@@ -19,7 +19,7 @@ next_upto n (t ∷ us) = elim (cases_lt n t.number) [
   | inr at ↦ rw (upto-at n t us at) (omega arith)
 ]
 
-next_upto_more : (m n : ℕ) (us : List Tx) → m ≤ n → next (upto m us) ≤ next (upto n us)
+pub next_upto_more : (m n : ℕ) (us : List Tx) → m ≤ n → next (upto m us) ≤ next (upto n us)
 next_upto_more m n [] l = omega arith
 next_upto_more m n (t ∷ us) l = elim (cases_lt n t.number) [
   | inl past ↦ rw (upto-past n t us past, upto-past m t us (omega arith)) (next_upto_more m n us l)
@@ -33,7 +33,7 @@ total_upto n (t ∷ us) = elim (cases_lt n t.number) [
   | inr at ↦ rw (upto-at n t us at) (omega arith)
 ]
 
-total_upto_more : (m n : ℕ) (us : List Tx) → m ≤ n → total (upto m us) ≤ total (upto n us)
+pub total_upto_more : (m n : ℕ) (us : List Tx) → m ≤ n → total (upto m us) ≤ total (upto n us)
 total_upto_more m n [] l = omega arith
 total_upto_more m n (t ∷ us) l = elim (cases_lt n t.number) [
   | inl past ↦ rw (upto-past n t us past, upto-past m t us (omega arith)) (total_upto_more m n us l)

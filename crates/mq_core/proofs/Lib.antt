@@ -1,15 +1,16 @@
-mod Values
-mod Entries
-mod Fronts
-mod Queues
+pub mod Among
+pub mod Values
+pub mod Entries
+pub mod Fronts
+pub mod Queues
 mod Commands
 mod Ports
 mod Sources
 mod SideEvents
 mod SideCommands
-mod Growth
+pub mod Growth
 mod Homes
-mod Bases
+pub mod Bases
 mod StatePorts
 mod StateEvents
 mod StateBases
@@ -18,7 +19,24 @@ mod Reading
 mod Cuts
 mod Unique
 mod Safe
-mod Runs
+pub mod Runs
+mod Lifts
+mod Insides
+mod Settling
+mod HomeWrites
+mod Tellings
+mod HomeCalls
+mod BaseTests
+mod Running
 mod StartStates
 mod Examples
 mod Revocations
+mod Marks
+mod Rows
+mod Lists
+mod Stagings
+mod Ledgers
+mod Lookups
+mod Stages
+mod Nexts
+mod Draws

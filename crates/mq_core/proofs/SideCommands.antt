@@ -30,7 +30,7 @@ module _ (k : Known) (q : ℕ) (us : List Tx) (p : PortState) (log : LogOk k) (s
   abbrev pub IsLate : ℕ → Type 0
   IsLate n = (p.stored_head ≤ n) × (n < end_of (k.from q) us)
 
-  late_direct : (n x : ℕ) → IsLate n → (at n).target ≡ AtHome x → DirectIn k q us n x
+  pub late_direct : (n x : ℕ) → IsLate n → (at n).target ≡ AtHome x → DirectIn k q us n x
   late_direct n x l e = direct_in k q us n x s.part (let o = s.order in omega (arith, l.0, o.head_low, o.stored)) l.1 e
 
   -- it is apart from the place of another entry above the base

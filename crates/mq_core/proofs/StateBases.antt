@@ -17,7 +17,7 @@ use Rattle.mq_core.proofs.Bases.{log_based, side_based}
 use Rattle.mq_core.proofs.StateEvents.{zone-queue}
 
 -- a block whose last change, above the base, logged it is in the map
-logged_value : (start : Map) (base x : ℕ) (h : List Tx) → AreNumbered base h → base < last base h x → ((t : Tx) (ts : List Tx) → IsAt t ts h → t.number ≡ last base h x → is_among x (blocks_of t.logged) ≡ true) → (block : List ℕ) × (map_after start h x ≡ Some block)
+pub logged_value : (start : Map) (base x : ℕ) (h : List Tx) → AreNumbered base h → base < last base h x → ((t : Tx) (ts : List Tx) → IsAt t ts h → t.number ≡ last base h x → is_among x (blocks_of t.logged) ≡ true) → (block : List ℕ) × (map_after start h x ≡ Some block)
 logged_value start base x [] n l logged = absurd (omega arith)
 logged_value start base x (t ∷ ts) n l logged = elim (cases_Bool (changes t x)) [
   | inl c ↦

@@ -5,7 +5,15 @@ pub mod Sides
 pub mod State
 pub mod Events
 pub mod Machine
+pub mod Answers
 pub mod Start
 pub mod Plain
 pub mod Within
+pub mod Records
+pub mod Tables
+pub mod Settled
+pub mod Staged
+pub mod Homes
+pub mod Bases
+pub mod Form
 pub mod View

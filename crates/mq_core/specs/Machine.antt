@@ -1,26 +1,14 @@
 -- The machine: its events, where each is allowed, what each changes, and whole runs.
-use Rattle.std.specs.Prelude.{◌≡◌, ◌<◌, ◌≤◌, ℕ, true, List, [], ◌∷◌, slice_index_or}
+use Rattle.std.specs.Prelude.{◌≡◌, ◌<◌, ◌≤◌, ℕ, zero, suc, true, List, [], ◌∷◌, slice_index_or}
 use Rattle.mq_blocks.specs.Journal.{is_among}
 use Rattle.mq_core.specs.Items.{Entries}
 use Rattle.mq_core.specs.State.{State, IsLawful, known_of, front_of, from_at, port_at}
 use Rattle.mq_core.specs.Events.{us_of, draw, stage, flush, ring, complete, fail_command, store_head, clear, acknowledge, write_home, home_done, store_base, flush_base, MayDraw, HasRoom, MayStage, MayFlush, MayRing, MayEnd, MayStoreHead, MayClear, MayWriteHome, MayStoreBase}
+pub use Rattle.mq_core.specs.declared.event.Event.{Event}
+use Rattle.mq_core.specs.declared.event.CoreRefusal.{CoreRefusal}
+use Rattle.mq_core.specs.declared.event.CoreRefusal.TheVariants.{NotAllowed, OutOfMemory}
+pub use Rattle.mq_core.specs.declared.event.Event.TheVariants.{Draw, Stage, Flush, Ring, Complete, FailCommand, StoreHead, FlushHead, Clear, Acknowledge, WriteHome, HomeDone, StoreBase, FlushBase}
 use Rattle.mq_core.specs.declared.tx.Tx.{Tx}
-
-pub data Event : Type 0 where
-  Draw : Tx → Event
-  Stage : ℕ → Event
-  Flush : ℕ → Event
-  Ring : ℕ → Event
-  Complete : ℕ → ℕ → Event
-  FailCommand : ℕ → ℕ → Event
-  StoreHead : ℕ → ℕ → Event
-  FlushHead : ℕ → Event
-  Clear : ℕ → ℕ → Event
-  Acknowledge : ℕ → Event
-  WriteHome : ℕ → Event
-  HomeDone : ℕ → Event
-  StoreBase : ℕ → Event
-  FlushBase : Event
 
 abbrev pub happens : Entries → Event → State → State
 happens e (Draw t) s = draw t s
@@ -77,3 +65,14 @@ AreAllowed e (v ∷ vs) s = IsAllowed e v s × AreAllowed e vs (happens e v s)
 abbrev pub IsAlwaysLawful : Entries → List Event → State → Type 0
 IsAlwaysLawful e [] s = IsLawful e s
 IsAlwaysLawful e (v ∷ vs) s = IsLawful e s × IsAlwaysLawful e vs (happens e v s)
+
+-- the event at this index is the first that isn't allowed where it happens
+abbrev pub IsRefusedAt : Entries → List Event → State → ℕ → Type 0
+IsRefusedAt e [] s n = ⊥
+IsRefusedAt e (v ∷ vs) s zero = IsAllowed e v s → ⊥
+IsRefusedAt e (v ∷ vs) s (suc n) = IsAllowed e v s × IsRefusedAt e vs (happens e v s) n
+
+-- why a run is refused: an event isn't allowed, or memory was not to be had
+abbrev pub IsRefusal : Entries → List Event → State → CoreRefusal → Type 0
+IsRefusal e vs s (NotAllowed n) = IsRefusedAt e vs s n
+IsRefusal e vs s OutOfMemory = Unit {0}

@@ -1,23 +1,33 @@
--- The fields of a machine as its state. The newest transaction stands last in the code, and first in
--- the state.
-use Rattle.std.specs.Prelude.{reverse}
+-- The fields of a machine as its state. What is newest stands last in the code, and first in the state.
+use Rattle.std.specs.Prelude.{◌≡◌, ℕ, List, reverse}
+use Rattle.mq_blocks.specs.Drive.{PortState, staged_end}
 use Rattle.mq_core.specs.Plain.{plain}
-use Rattle.mq_core.specs.State.{State, Facts}
+use Rattle.mq_core.specs.Records.{Ledger}
+use Rattle.mq_core.specs.State.{State, Facts, front_of}
 use Rattle.mq_core.specs.declared.machine.Core.TheInside.{Inside}
 
-abbrev pub state_of : Inside → State
-state_of c = record {
-  geometry = c.geometry;
-  start = c.start.items;
-  base = c.base;
-  froms = c.froms.items;
-  history = reverse c.history.items;
-  ports = c.ports.items;
-  root = c.root;
-  marks = c.marks.items;
-  under = c.under.items;
-  acknowledged = c.acknowledged.items;
+abbrev pub state_with : Ledger → List PortState → PortState → List ℕ → List ℕ → List ℕ → State
+state_with ledger ports root marks under acknowledged = record {
+  geometry = ledger.geometry;
+  start = ledger.start;
+  base = ledger.base;
+  froms = ledger.froms;
+  history = ledger.history;
+  ports = ports;
+  root = root;
+  marks = marks;
+  under = under;
+  acknowledged = acknowledged;
 }
 
+abbrev pub state_of : Inside → State
+state_of c = state_with c.ledger c.ports.items c.root c.marks.items (reverse c.under.items) (reverse c.acknowledged.items)
+
+-- The state has the facts, this is its front, and nothing is staged at the root.
+pub record IsHeld (front : ℕ) (s : State) : Type 0 where
+  pub facts : Facts plain s
+  pub front_is : front ≡ front_of s
+  pub idle : staged_end s.root ≡ 0
+
 abbrev pub HasFacts : Inside → Type 0
-HasFacts c = Facts plain (state_of c)
+HasFacts c = IsHeld c.ledger.front (state_of c)

@@ -1,4 +1,6 @@
 // The lists of a transaction.
+ghost use Rattle.std.specs.Prelude.{◌≡◌};
+
 use mq_blocks::BlockNo;
 use std::marker::Model;
 
@@ -26,6 +28,14 @@ impl Model for Writes {
     ghost view = { λ w. w.0.items };
 }
 
+impl Writes {
+    pub fn as_slice(&self) -> &[(BlockNo, Content)]
+        ensures { result.now ≡ self.now }
+    {
+        &self.0
+    }
+}
+
 /// Home blocks.
 #[derive(Drop)]
 pub struct Blocks(pub Vec<BlockNo>);
@@ -36,4 +46,12 @@ impl Model for Blocks {
     ghost Value = { List ℕ };
 
     ghost view = { λ b. b.0.items };
+}
+
+impl Blocks {
+    pub fn as_slice(&self) -> &[BlockNo]
+        ensures { result.now ≡ self.now }
+    {
+        &self.0
+    }
 }

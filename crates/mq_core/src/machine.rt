@@ -1,11 +1,19 @@
 // The machine.
+mod bases;
+mod front;
+mod homes;
+mod numbers;
+mod rings;
+mod runs;
+
 ghost use Rattle.std.specs.Prelude.{◌≡◌, ◌≤◌, ◌<◌, ◌+◌, ◌^◌, IfOk, length, replicate};
 ghost use Rattle.mq_blocks.specs.Geometry.{homes_of};
 ghost use Rattle.mq_core.specs.Plain.{plain};
 ghost use Rattle.mq_core.specs.Start.{start_state, fresh_ports};
 ghost use Rattle.mq_core.specs.State.{IsLawful};
 
-use crate::{Content, Port, Tx};
+use crate::records::Ledger;
+use crate::{Content, Port};
 use mq_blocks::{BlockNo, Geometry, OutOfMemory, QueueNo, TxNo};
 use std::alloc::Global;
 use std::marker::Model;
@@ -45,11 +53,7 @@ pub fn repeated(alloc: Global, number: u64, times: usize) -> Result<Vec<u64>, Ou
 /// The journal as a pure machine, always in a lawful state.
 #[derive(Drop)]
 pub struct Core {
-    geometry: Geometry,
-    start: Vec<Option<Content>>,
-    base: u64,
-    froms: Vec<u64>,
-    history: Vec<Tx>,
+    ledger: Ledger,
     ports: Vec<Port>,
     root: Port,
     marks: Vec<u64>,
@@ -103,11 +107,7 @@ impl Core {
         let homes = copy_blocks(alloc, &blocks[..geometry.meta() as usize])?;
         let queues = geometry.queues() as usize;
         Ok(Core {
-            geometry,
-            start: copy_blocks(alloc, blocks)?,
-            base: base.0,
-            froms: repeated(alloc, 0, queues)?,
-            history: Vec::new(alloc),
+            ledger: Ledger::start(alloc, geometry, blocks, base)?,
             ports: fresh_queues(alloc, geometry, blocks)?,
             root: Port::fresh(alloc, geometry, None, homes, base)?,
             marks: repeated(alloc, u64::MAX, queues)?,
@@ -121,6 +121,6 @@ impl Core {
     pub fn is_lawful(&self)
         ensures { IsLawful plain self.now }
     {
-        let _ = &self.geometry;
+        let _ = &self.ledger;
     }
 }

@@ -1,15 +1,18 @@
 // A port of the machine: ring, doorbell, heads, and blocks.
-ghost use Rattle.std.specs.Prelude.{◌≡◌, ◌<◌, ◌≤◌, ◌+◌, ◌%◌, ◌^◌, ◌++◌, ◌-◌, ◌∷◌, [], ℕ, length, slice_index_or, slice_set, replicate, Some, None, true, false, IfSome, IfNone, IfOk, OnOk, OnErr};
+ghost use Rattle.std.specs.Prelude.{◌≡◌, nat_eq, ◌↔◌, IsTrue, ◌<◌, ◌≤◌, ◌+◌, ◌%◌, ◌^◌, ◌++◌, ◌-◌, ◌∷◌, [], ℕ, length, slice_index_or, slice_set, replicate, Some, None, true, false, IfSome, IfNone, IfOk, OnOk, OnErr};
 ghost use Rattle.std.specs.List.{remove};
 ghost use Rattle.std.specs.Bool.{OnTrue, OnFalse};
-ghost use Rattle.mq_blocks.specs.Drive.{PortState, counted, staged_end, after_stage, after_flush, after_ring, after_begin, after_store_head, after_store_base, index_of};
-ghost use Rattle.mq_core.specs.Events.{index_with, command_with, complete_side, fail_side};
+ghost use Rattle.mq_blocks.specs.Drive.{PortState, AreFrom, counted, staged_end, after_stage, after_flush, after_ring, after_begin, after_write, after_end, without_last, after_store_head, after_store_base, index_of};
+ghost use Rattle.mq_blocks.specs.Blocks.{zeros, content};
+ghost use Rattle.mq_core.specs.Bases.{Holds};
+ghost use Rattle.mq_core.specs.Answers.{Answers, IsStagedTo, IsFlushedTo, IsCompletedTo};
+ghost use Rattle.mq_core.specs.Events.{MayEnd, index_with, command_with, complete_side, fail_side};
 ghost use Rattle.mq_core.specs.Sides.{holds_count};
 ghost use Rattle.mq_core.specs.Within.{IsWithin};
 ghost use Rattle.mq_blocks.specs.Geometry.{queues_of};
 ghost use Rattle.mq_core.specs.Start.{port_over};
 
-use crate::Content;
+use crate::{Content, CoreRefusal};
 use mq_blocks::{Geometry, Lba, OutOfMemory, QueueNo, TxNo};
 use std::alloc::Global;
 use std::marker::Model;
@@ -101,6 +104,38 @@ impl Model for Port {
     ghost view = { λ p. record { queue = p.queue; area_first = p.area_first; area_size = p.area_size; homes_first = p.homes_first; homes_size = p.homes_size; flushed = p.flushed.items; staged = p.staged.items; flushed_end = p.flushed_end; pending = p.pending.items; doorbell = p.doorbell; posted = p.posted.items; failed = p.failed.items; head = p.head; stored_head = p.stored_head; base = p.base; stored_base = p.stored_base; blocks = p.blocks.items; sure = p.sure.items; begun = p.begun.items; rings = p.rings; begins = p.begins; events = p.events; fuse = no_fuse; fail = None } };
 }
 
+/// Whether these are the 4,096 zeros of a block that was never written.
+pub fn are_zeros(bytes: &[u8]) -> bool
+    ensures { IsTrue result ↔ (bytes.now ≡ zeros) }
+{
+    if bytes.len() != 4096 {
+        return false;
+    }
+    for byte in bytes {
+        if *byte != 0 {
+            return false;
+        }
+    }
+    true
+}
+
+/// Whether two blocks have the same bytes.
+pub fn same_bytes(one: &Content, other: &Content) -> bool
+    ensures { IsTrue result ↔ (one.now ≡ other.now) }
+{
+    one.0 == other.0
+}
+
+/// Whether a stored block reads as this one. One that was never written reads as zeros.
+pub fn same_content(stored: &Option<Content>, block: &Content) -> bool
+    ensures { IsTrue result ↔ (content stored.now ≡ block.now) }
+{
+    match stored {
+        Some(kept) => same_bytes(kept, block),
+        None => are_zeros(&block.0),
+    }
+}
+
 /// One more, up to the greatest number of 64 bits.
 pub fn bump(n: u64) -> u64
     ensures { result ≡ counted n 1 }
@@ -144,6 +179,18 @@ pub fn find_count(commands: &[Command], count: u64) -> Option<usize>
     None
 }
 
+/// Whether no command stands below a count.
+pub fn are_from(commands: &[Command], low: u64) -> bool
+    ensures { IsTrue result ↔ AreFrom low commands.now }
+{
+    for command in commands {
+        if command.count < low {
+            return false;
+        }
+    }
+    true
+}
+
 /// Takes the command of a count out, if there is one.
 pub fn take_count(commands: &mut Vec<Command>, count: u64) -> Option<Command>
     ensures some { IfSome result (λ c. (holds_count count commands.old.items ≡ true) × (command_with count commands.old.items ≡ c) × (commands.new.items ≡ remove commands.old.items (index_with count commands.old.items))) }
@@ -151,6 +198,35 @@ pub fn take_count(commands: &mut Vec<Command>, count: u64) -> Option<Command>
 {
     let at = find_count(commands, count)?;
     Some(commands.remove(at))
+}
+
+/// Whether a home write writes this block.
+pub fn writes(write: &HomeWrite, lba: Lba) -> bool
+    ensures { result ≡ nat_eq write.now.lba lba }
+{
+    write.lba.0 == lba.0
+}
+
+/// Where the last home write of a block stands.
+pub fn last_write(begun: &[HomeWrite], lba: Lba) -> Option<usize>
+    ensures some { IfSome result (λ at. (at < length begun.now) × (remove begun.now at ≡ without_last lba begun.now)) }
+    ensures none { IfNone result (begun.now ≡ without_last lba begun.now) }
+{
+    for at in (0..begun.len()).rev() {
+        if writes(&begun[at], lba) {
+            return Some(at);
+        }
+    }
+    None
+}
+
+/// Takes the last home write of a block out, if there is one.
+pub fn drop_last(begun: &mut Vec<HomeWrite>, lba: Lba)
+    ensures { begun.new.items ≡ without_last lba begun.old.items }
+{
+    if let Some(at) = last_write(begun, lba) {
+        begun.remove(at);
+    }
 }
 
 /// So many blocks that were never written, and then these.
@@ -235,38 +311,43 @@ impl Port {
         (self.area_size + (lba.0 - self.homes_first)) as usize
     }
 
-    /// Ends the posted command of a count with success, and answers whether there is one.
-    pub fn complete(&mut self, count: u64) -> bool
-        requires { IsWithin self.old (command_with count self.old.posted).lba }
-        ensures yes { OnTrue result ((holds_count count self.old.posted ≡ true) × (self.new ≡ complete_side count self.old)) }
-        ensures no { OnFalse result ((holds_count count self.old.posted ≡ false) × (self.new ≡ self.old)) }
+    /// Writes a block: it holds this content, and is in no doubt.
+    fn write(&mut self, lba: Lba, block: Content)
+        requires { IsWithin self.old lba }
+        ensures { self.new ≡ after_write self.old lba block }
     {
-        let Some(command) = take_count(&mut self.posted, count) else {
-            return false;
-        };
-        let at = self.index(command.lba);
-        put_block(&mut self.blocks, at, command.block);
+        let at = self.index(lba);
+        put_block(&mut self.blocks, at, block);
         put_flag(&mut self.sure, at, true);
-        self.events = bump(self.events);
-        true
     }
 
-    /// Ends the posted command of a count with an error, and answers whether there is one.
-    pub fn fail(&mut self, count: u64) -> Result<bool, OutOfMemory>
-        requires { IsWithin self.old (command_with count self.old.posted).lba }
-        ensures yes { IfOk result (λ found. OnTrue found ((holds_count count self.old.posted ≡ true) × (self.new ≡ fail_side count self.old))) }
-        ensures no { IfOk result (λ found. OnFalse found ((holds_count count self.old.posted ≡ false) × (self.new ≡ self.old))) }
-        ensures refused { OnErr result (self.new ≡ self.old) }
+    /// Ends the posted command of a count with success.
+    pub fn complete(&mut self, count: u64) -> Result<(), CoreRefusal>
+        requires { MayEnd count self.old → IsWithin self.old (command_with count self.old.posted).lba }
+        ensures { Answers (MayEnd count self.old) (complete_side count self.old) self.old self.new result }
+    {
+        let Some(command) = take_count(&mut self.posted, count) else {
+            return Err(CoreRefusal::NotAllowed { index: 0 });
+        };
+        self.write(command.lba, command.block);
+        self.events = bump(self.events);
+        Ok(())
+    }
+
+    /// Ends the posted command of a count with an error.
+    pub fn fail(&mut self, count: u64) -> Result<(), CoreRefusal>
+        requires { MayEnd count self.old → IsWithin self.old (command_with count self.old.posted).lba }
+        ensures { Answers (MayEnd count self.old) (fail_side count self.old) self.old self.new result }
     {
         self.failed.reserve(1)?;
         let Some(command) = take_count(&mut self.posted, count) else {
-            return Ok(false);
+            return Err(CoreRefusal::NotAllowed { index: 0 });
         };
         let at = self.index(command.lba);
         self.failed.push(command)?;
         put_flag(&mut self.sure, at, false);
         self.events = bump(self.events);
-        Ok(true)
+        Ok(())
     }
 
     /// Begins a home write of this content.
@@ -282,13 +363,76 @@ impl Port {
         Ok(())
     }
 
-    /// Rings: what was staged is posted.
-    pub fn ring(&mut self) -> Result<(), OutOfMemory>
-        requires room { staged_end self.old < 2 ^ 64 }
-        ensures ok { OnOk result (self.new ≡ after_ring self.old) }
-        ensures refused { OnErr result (self.new ≡ self.old) }
+    /// Ends the last home write of this block, with this content.
+    pub fn end_home(&mut self, lba: Lba, block: Content)
+        requires { IsWithin self.old lba }
+        ensures { self.new ≡ after_end self.old lba block }
     {
-        let end = self.doorbell + self.pending.len() as u64;
+        self.write(lba, block);
+        drop_last(&mut self.begun, lba);
+    }
+
+    /// The count of the next entry.
+    pub fn staged_end(&self) -> u64
+        requires { staged_end self.now < 2 ^ 64 }
+        ensures { result ≡ staged_end self.now }
+    {
+        self.doorbell + self.pending.len() as u64
+    }
+
+    /// Whether all that was drawn is rung and no command has failed, where the queue's transactions end
+    /// at this count.
+    pub fn is_rung_to(&self, end: u64) -> bool
+        ensures { IsTrue result ↔ ((self.now.doorbell ≡ end) × (self.now.failed ≡ [])) }
+    {
+        self.doorbell == end && self.failed.is_empty()
+    }
+
+    /// How many more entries the ring can take.
+    pub fn room(&self) -> u64
+        requires low { self.now.head ≤ staged_end self.now }
+        requires high { staged_end self.now ≤ self.now.head + 1023 }
+        requires small { staged_end self.now < 2 ^ 64 }
+        ensures { result ≡ 1023 - (staged_end self.now - self.now.head) }
+    {
+        1023 - (self.staged_end() - self.head)
+    }
+
+    /// Whether something is drawn that isn't rung, and it is wholly staged, where the queue's
+    /// transactions end at this count.
+    pub fn is_staged_to(&self, end: u64) -> bool
+        requires { staged_end self.now < 2 ^ 64 }
+        ensures { IsTrue result ↔ IsStagedTo end self.now }
+    {
+        self.doorbell < end && self.staged_end() == end
+    }
+
+    /// Whether it is flushed too.
+    pub fn is_flushed_to(&self, end: u64) -> bool
+        requires { staged_end self.now < 2 ^ 64 }
+        ensures { IsTrue result ↔ IsFlushedTo end self.now }
+    {
+        self.is_staged_to(end) && self.flushed_end == end
+    }
+
+    /// Whether the head may move up to this count: every command below it is completed with success.
+    pub fn is_completed_to(&self, head: u64) -> bool
+        ensures { IsTrue result ↔ IsCompletedTo head self.now }
+    {
+        self.stored_head <= head
+            && head <= self.doorbell
+            && are_from(&self.posted, head)
+            && are_from(&self.failed, head)
+    }
+
+    /// Rings, where the queue's transactions end at this count: what was staged is posted.
+    pub fn ring(&mut self, end: u64) -> Result<(), CoreRefusal>
+        requires { staged_end self.old < 2 ^ 64 }
+        ensures { Answers (IsFlushedTo end self.old) (after_ring self.old) self.old self.new result }
+    {
+        if !self.is_flushed_to(end) {
+            return Err(CoreRefusal::NotAllowed { index: 0 });
+        }
         self.posted.append(&mut self.pending)?;
         self.doorbell = end;
         self.rings = bump(self.rings);
@@ -335,11 +479,63 @@ impl Port {
         self.events = bump(self.events);
     }
 
+    /// The head as it was last flushed.
+    pub fn head(&self) -> u64
+        ensures { result ≡ self.now.head }
+    {
+        self.head
+    }
+
+    /// The commands that are posted.
+    pub fn posted(&self) -> &[Command]
+        ensures { result.now ≡ self.now.posted }
+    {
+        &self.posted
+    }
+
+    /// Whether this was written last to a block, and the block is in no doubt but for what posted
+    /// commands write.
+    pub fn holds(&self, lba: Lba, content: &Content) -> bool
+        requires { IsWithin self.now lba }
+        ensures { IsTrue result ↔ Holds self.now lba content.now }
+    {
+        let at = self.index(lba);
+        if !self.sure[at] {
+            return false;
+        }
+        same_content(&self.blocks[at], content)
+    }
+
+    /// The base as it was last flushed.
+    pub fn base(&self) -> u64
+        ensures { result ≡ self.now.base }
+    {
+        self.base
+    }
+
+    /// The base as it was last stored.
+    pub fn stored_base(&self) -> u64
+        ensures { result ≡ self.now.stored_base }
+    {
+        self.stored_base
+    }
+
     pub fn store_head(&mut self, head: u64)
         ensures { self.new ≡ after_store_head self.old head }
     {
         self.stored_head = head;
         self.events = bump(self.events);
+    }
+
+    /// Stores the head, where every command below it is completed with success.
+    pub fn try_store_head(&mut self, head: u64) -> Result<(), CoreRefusal>
+        ensures { Answers (IsCompletedTo head self.old) (after_store_head self.old head) self.old self.new result }
+    {
+        if !self.is_completed_to(head) {
+            return Err(CoreRefusal::NotAllowed { index: 0 });
+        }
+        self.store_head(head);
+        Ok(())
     }
 
     pub fn store_base(&mut self, base: TxNo)

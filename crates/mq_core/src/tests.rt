@@ -28,7 +28,8 @@ fn a_port_stages_and_rings(rt: HostRuntime) -> Result<(), OutOfMemory> {
     let block = Content(vec![in alloc; 0; 4096]?);
     port.stage(entry, TxNo(1), Lba(1024), block)?;
     port.flush();
-    port.ring()
+    assert!(rt; port.ring(1).is_ok());
+    Ok(())
 }
 
 #[test]

@@ -5,4 +5,4 @@ use Rattle.mq_core.proofs.Runs.{lawful_from}
 use Rattle.mq_core.proofs.machine.Core.is_lawful.Goals as goal
 
 pub returns : goal.returns
-returns c = subst (λ s. IsLawful plain s) c.self.view_is (lawful_from plain _ c.self.invariant)
+returns c = subst (λ s. IsLawful plain s) c.self.view_is (lawful_from plain _ c.self.invariant.facts)
