@@ -1,190 +1,226 @@
 -- Readable images: what reading finds is what is shown, and each image has one prefix and one top, or
 -- one cause for which it is refused.
-use Rattle.std.proofs.Common.{◌≡◌, ◌≢◌, ◌<◌, ◌≤◌, ◌⊎◌, inl, inr, ℕ, ◌+◌, ◌%◌, ◌^◌, max, List, [], ◌∷◌, ◌++◌, length, Option, Some, None, refl, sym, ◌∙◌, ap, subst, arith, get_or}
+use Rattle.std.proofs.Common.{◌≡◌, ◌<◌, ◌≤◌, ◌⊎◌, inl, inr, ℕ, ◌+◌, ◌^◌, List, [], ◌∷◌, length, Option, None, refl, sym, ◌∙◌, ap, subst, arith, get_or}
 use Rattle.std.proofs.lemmas.Bool.{cases_eq, cases_lt}
-use Rattle.std.proofs.Math.Nat.{le-max_left, le-max_right, max-eq_left, max-eq_right}
-use Rattle.std.specs.Prelude.{IsErrOf, Err}
+use Rattle.std.specs.Prelude.{IsErrOf, Err, slice_index_or}
+use Rattle.mq_blocks.specs.Blocks.{block_at}
 use Rattle.mq_blocks.specs.Descriptor.{Descriptor}
-use Rattle.mq_blocks.specs.Drive.{PortState, depth}
+use Rattle.mq_blocks.specs.Drive.{PortImage}
 use Rattle.mq_blocks.specs.Geometry.{homes_of}
-use Rattle.mq_blocks.specs.Journal.{Shown, IsQueueChain, Has, AreWhole, AreInRow, IsPrefix, Reaches, ShowsNumber, IsTop, number_limit}
+use Rattle.mq_blocks.specs.Journal.{Shown, IsQueueChain, Has, AreWhole, AreInRow, IsPrefix, Reaches, ShowsNumber, number_limit}
 use Rattle.mq_blocks.specs.declared.geometry.Geometry.{Geometry}
-use Rattle.mq_recover.specs.Plans.{newest_number, ArePlaced, IsFoundIn}
-use Rattle.mq_recover.specs.Recover.{IsSeenAt, AreGood, AreFalling}
-use Rattle.mq_drive.specs.Views.{view_of, IsStill}
+use Rattle.mq_nvme.specs.Says.{says}
+use Rattle.mq_core.specs.State.{port_at}
+use Rattle.mq_recover.specs.Drives.{DriveState, view_over}
+use Rattle.mq_recover.specs.Ends.{chain_at}
+use Rattle.mq_recover.specs.Plans.{AreChains, ArePlaced, AreRead, IsFoundIn}
+use Rattle.mq_recover.specs.Recover.{IsSeenAt, AreFalling}
 use Rattle.mq_recover.specs.Recovery.{IsRead}
-use Rattle.mq_recover.specs.Refusals.{IsReadable, IsGreatest, RefusesImage}
+use Rattle.mq_recover.specs.Refusals.{IsReadable, AreReadable, HasNumber, IsTwice, RefusesQueue, RefusesSome, RefusesTwice, RefusesImage}
 use Rattle.mq_recover.specs.declared.copies.Copies.{Copies}
+use Rattle.mq_recover.specs.declared.copies.Spot.{Spot}
 use Rattle.mq_recover.specs.declared.plan.Found.{Found}
+use Rattle.mq_recover.specs.declared.plan.QueuesRead.{QueuesRead}
+use Rattle.mq_recover.specs.declared.refusal.ChainRefusal.{ChainRefusal}
 use Rattle.mq_recover.specs.declared.refusal.ImageFault.{ImageFault}
-use Rattle.mq_recover.specs.declared.refusal.ImageFault.TheVariants.{Bad, Limit, OutOfMemory}
+use Rattle.mq_recover.specs.declared.refusal.ImageFault.TheVariants.{Bad, Limit, Twice, OutOfMemory}
+use Rattle.mq_recover.proofs.Popped.{falls-under}
 use Rattle.mq_recover.proofs.Readable.{readable-shown, shown-readable, queue-chain-once, chain-falls}
-use Rattle.mq_recover.proofs.RecoverCopies.{AreOf, chain-of, chain-good, has-right}
-use Rattle.mq_recover.proofs.Refusing.{readable-refused, refuses-queue-once}
+use Rattle.mq_recover.proofs.RecoverCopies.{chain-of, chain-good}
+use Rattle.mq_recover.proofs.Refusing.{readable-refused, readable-once, refuses-queue-once}
+use Rattle.mq_recover.proofs.Zones.{image-at}
 
-view-seen : (g : Geometry) (queue root : PortState) (base : ℕ) → base ≡ root.base → IsSeenAt 0 base queue (view_of g queue root)
-view-seen g queue root base is = record { base_is = sym is; head_is = refl; doorbell_is = refl; entry_is = λ k. refl; area_is = λ k. refl }
+-- ---- the view of a queue
+
+pub view-seen : (g : Geometry) (d : DriveState) (q base : ℕ) → base ≡ d.root.base → IsSeenAt q base (port_at d.queues q) (view_over g d)
+view-seen g d q base is =
+    let at = image-at d.queues q in
+    record {
+      base_is = sym is;
+      head_is = ap (λ (i : PortImage). i.head) at;
+      doorbell_is = ap (λ (i : PortImage). i.doorbell) at;
+      entry_is = λ k. ap (λ (i : PortImage). says (slice_index_or i.slots k [])) at;
+      area_is = λ k. ap (λ (i : PortImage). block_at i.blocks k) at;
+    }
 
 -- ---- what is found is read
 
-pub falls-under : (low high : ℕ) (ds : List Descriptor) (d : Descriptor) → AreFalling low high ds → Has ds d → d.number < high
-falls-under low high [] d falls has = absurd has
-falls-under low high (e ∷ ds) d falls has = elim has [
-  | inl h ↦ let same : e.number ≡ d.number = ap (λ (x : Descriptor). x.number) h in let b = falls.1 in omega (arith, same, b)
-  | inr h ↦ let b = falls-under low e.number ds d falls.2 h in let c = falls.1 in omega (arith, b, c)
-]
+queue-chain : (g : Geometry) (d : DriveState) (q : ℕ) (ds : List Descriptor) → IsReadable g (port_at d.queues q) q d.root.base ds → IsQueueChain g (view_over g d) q ds
+queue-chain g d q ds readable = readable-shown g (view_over g d) (port_at d.queues q) q d.root.base ds (view-seen g d q d.root.base refl) readable
 
-base-under : (base high : ℕ) (ds : List Descriptor) → AreFalling base high ds → base ≤ newest_number base ds
-base-under base high [] falls = omega arith
-base-under base high (d ∷ ds) falls = let a = falls.0 in omega (arith, a)
+pub queue-falls : (g : Geometry) (d : DriveState) (q : ℕ) (ds : List Descriptor) → IsReadable g (port_at d.queues q) q d.root.base ds → AreFalling d.root.base (2 ^ 64) ds
+queue-falls g d q ds readable =
+    let c = queue-chain g d q ds readable in
+    let number = c.limit in
+    chain-falls g (view_over g d) q c.number c.place (2 ^ 64) ds c.chain (omega (arith, number))
 
-newest-above : (base high : ℕ) (ds : List Descriptor) (d : Descriptor) → AreFalling base high ds → Has ds d → d.number ≤ newest_number base ds
-newest-above base high [] d falls has = absurd has
-newest-above base high (e ∷ ds) d falls has = elim has [
-  | inl h ↦ let same : e.number ≡ d.number = ap (λ (x : Descriptor). x.number) h in omega (arith, same)
-  | inr h ↦ let b = falls-under base e.number ds d falls.2 h in omega (arith, b)
-]
-
-queue-of : (q : ℕ) (ds : List Descriptor) (d : Descriptor) → AreOf q ds → Has ds d → d.queue ≡ q
-queue-of q [] d of has = absurd has
-queue-of q (e ∷ ds) d of has = elim has [ inl h ↦ ap (λ (x : Descriptor). x.queue) (sym h) ∙ of.0 | inr h ↦ queue-of q ds d of.1 h ]
-
-pub only-queue : (g : Geometry) (q : ℕ) → g.queues ≡ 1 → q < g.queues → q ≡ 0
-only-queue g q one low = omega (arith, one, low)
-
-pub whole-of : (g : Geometry) (i : Shown) (chains : ℕ → List Descriptor) → g.queues ≡ 1 → i.base ≤ number_limit → IsQueueChain g i 0 (chains 0) → AreWhole g i chains
-whole-of g i chains one limit c = record {
-  limit = limit;
-  each = λ q low. subst (λ (n : ℕ). IsQueueChain g i n (chains n)) (sym (only-queue g q one low)) c;
-  once = λ q r p s other d e hd he. absurd (other (only-queue g q one p ∙ sym (only-queue g r one s)));
-}
-
-newest-shown : (g : Geometry) (i : Shown) (all : List Descriptor) → g.queues ≡ 1 → ShowsNumber g i (λ q. all) (newest_number i.base all)
-newest-shown g i [] one = record { where_from = inl refl }
-newest-shown g i (d ∷ ds) one = record { where_from = inr (inl (0, d, omega (arith, one), inl refl, refl)) }
-
-top-one : (g : Geometry) (queue root : PortState) (all : List Descriptor) (k : ℕ) → g.queues ≡ 1 → AreWhole g (view_of g queue root) (λ q. all) → AreFalling root.base (2 ^ 64) all → IsGreatest queue queue.head queue.doorbell k
-    → IsTop g (view_of g queue root) (λ q. all) (max (newest_number root.base all) k)
-top-one g queue root all k one whole falls top =
-    let i = view_of g queue root in
-    let n = newest_number root.base all in
-    let left : n ≤ max n k = le-max_left n k in
-    let right : k ≤ max n k = le-max_right n k in
+-- what the chains of readable queues are good for
+pub good-chains : (g : Geometry) (d : DriveState) (read : QueuesRead) (base : ℕ) → base ≡ d.root.base → AreRead g d read → AreChains (homes_of g) base read.chains.items
+good-chains g d read base base_is are =
+    let count = are.count in
+    let within : (q : ℕ) → q < length read.chains.items → q < g.queues = λ q low. omega (arith, count, low) in
+    let few = g.queues_high in
     record {
-      whole = whole;
-      shown = elim (cases_lt n k) [
-        | inl h ↦
-            let is : max n k ≡ k = max-eq_right (omega (arith, h)) in
-            elim top.shown [
-              | inl z ↦ absurd (omega (arith, h, z))
-              | inr x ↦ record { where_from = inr (inr (0, x.0, x.1, omega (arith, one), x.2, x.3, x.4, x.5 ∙ sym is)) }
-            ]
-        | inr h ↦
-            let is : max n k ≡ n = max-eq_left (omega (arith, h)) in
-            subst (ShowsNumber g i (λ q. all)) (sym is) (newest-shown g i all one)
-      ];
-      greatest = λ m shows. elim shows.where_from [
-        | inl x ↦ let b = base-under root.base (2 ^ 64) all falls in omega (arith, x, b, left)
-        | inr y ↦ elim y [
-          | inl x ↦ let b = newest-above root.base (2 ^ 64) all x.1 falls x.3 in let same = x.4 in omega (arith, b, same, left)
-          | inr x ↦
-              let zero_is = only-queue g x.0 one x.3 in
-              let low = subst (λ (q : ℕ). i.head q ≤ x.1) zero_is x.4 in
-              let high = subst (λ (q : ℕ). x.1 < i.doorbell q) zero_is x.5 in
-              let says_is = subst (λ (q : ℕ). i.entry q (x.1 % depth) ≡ Some x.2) zero_is x.6 in
-              let b = top.above x.1 x.2 low high says_is in
-              let same = x.7 in
-              omega (arith, b, same, right)
-        ]
-      ];
+      few = omega (arith, count, few);
+      good = λ q low. let c = queue-chain g d q (chain_at read.chains.items q) (are.readable q (within q low)) in chain-good g (view_over g d) q c.number c.place (chain_at read.chains.items q) c.chain;
+      falling = λ q low. subst (λ (n : ℕ). AreFalling n (2 ^ 64) (chain_at read.chains.items q)) (sym base_is) (queue-falls g d q (chain_at read.chains.items q) (are.readable q (within q low)));
+      own = λ q low. let c = queue-chain g d q (chain_at read.chains.items q) (are.readable q (within q low)) in chain-of g (view_over g d) q c.number c.place (chain_at read.chains.items q) c.chain;
     }
 
-image-read : (g : Geometry) (queue root : PortState) (all gone ds : List Descriptor) (k : ℕ) → g.queues ≡ 1 → root.base ≤ number_limit → IsReadable g queue 0 root.base all → IsGreatest queue queue.head queue.doorbell k
-    → all ≡ gone ++ ds → AreInRow root.base ds → ((d : Descriptor) → Has all d → d.number ≢ root.base + length ds + 1) → IsRead g (view_of g queue root) ds (max (newest_number root.base all) k)
-image-read g queue root all gone ds k one limit readable top all_is row greatest =
-    let i = view_of g queue root in
-    let c : IsQueueChain g i 0 all = readable-shown g i queue 0 root.base all (view-seen g queue root root.base refl) readable in
-    let whole = whole-of g i (λ q. all) one limit c in
-    let number = c.limit in
+image-read : (g : Geometry) (d : DriveState) (read : QueuesRead) (base : ℕ) (c : Copies) → base ≡ d.root.base → base ≤ number_limit → AreRead g d read → (p : ArePlaced (homes_of g) base read.chains.items c) → IsRead g (view_over g d) p.ds read.top
+image-read g d read base c base_is limit are p =
+    let i = view_over g d in
+    let count = are.count in
+    let chains = chain_at read.chains.items in
+    let whole : AreWhole g i chains = record {
+      limit = omega (arith, limit, base_is);
+      each = λ q low. queue-chain g d q (chains q) (are.readable q low);
+      once = λ q r low lower other a b in_q in_r. p.once q r (omega (arith, count, low)) (omega (arith, count, lower)) other a b in_q in_r;
+    } in
     record {
-      chains = λ q. all;
+      chains = chains;
       whole = whole;
       prefix = record {
-        row = row;
-        whole = λ d has.
-            let there = subst (λ (l : List Descriptor). Has l d) (sym all_is) (has-right gone ds d has) in
-            let of = queue-of 0 all d (chain-of g i 0 c.number c.place all c.chain) there in
-            (omega (arith, of, one), there);
-        greatest = λ q d low has. greatest d has;
+        row = subst (λ (n : ℕ). AreInRow n p.ds) base_is p.row;
+        whole = λ x has. let at = p.from_chains x has in let low = at.0 in (omega (arith, count, low), at.1);
+        greatest = λ q x low has same. p.greatest q x (omega (arith, count, low)) has (omega (arith, same, base_is));
       };
-      top_is = top-one g queue root all k one whole (chain-falls g i 0 c.number c.place (2 ^ 64) all c.chain (omega (arith, number))) top;
+      top_is = record { whole = whole; shown = are.top.shown; greatest = are.top.greatest };
     }
 
--- what a readable queue's chain is good for
-pub record IsGoodChain (g : Geometry) (base : ℕ) (all : List Descriptor) : Type 0 where
-  pub good : AreGood (homes_of g) all
-  pub falling : AreFalling base (2 ^ 64) all
+pub found-in : (g : Geometry) (d : DriveState) (base : ℕ) (read : QueuesRead) (c : Copies) (found : Found) → base ≡ d.root.base → base ≤ number_limit → AreRead g d read → ArePlaced (homes_of g) base read.chains.items c
+    → found.places.items ≡ c.places.items → found.recovered.prefix ≡ c.prefix → found.recovered.base ≡ read.top → IsFoundIn g d found
+found-in g d base read c found base_is limit are p items prefix_is top_is = record {
+  ds = p.ds;
+  read = subst (IsRead g (view_over g d) p.ds) (sym top_is) (image-read g d read base c base_is limit are p);
+  whole = ap length items ∙ p.whole;
+  places_are = λ x. ap (λ (l : List (Option Spot)). get_or l x None) items ∙ p.places_are x;
+  prefix_is = prefix_is ∙ p.prefix_is;
+}
 
-pub good-chain : (g : Geometry) (queue root : PortState) (base : ℕ) (all : List Descriptor) → base ≡ root.base → IsReadable g queue 0 base all → IsGoodChain g base all
-good-chain g queue root base all base_is readable =
-    let i = view_of g queue root in
-    let c = readable-shown g i queue 0 base all (view-seen g queue root base base_is) readable in
-    let number = c.limit in
-    record {
-      good = chain-good g i 0 c.number c.place all c.chain;
-      falling = subst (λ (n : ℕ). AreFalling n (2 ^ 64) all) (sym base_is) (chain-falls g i 0 c.number c.place (2 ^ 64) all c.chain (omega (arith, number)));
-    }
+-- ---- why an image is refused
 
-pub found-in : (g : Geometry) (queue root : PortState) (base top k : ℕ) (all : List Descriptor) (c : Copies) (found : Found) → IsStill g queue root → base ≡ root.base → base ≤ number_limit → IsReadable g queue 0 base all
-    → IsGreatest queue queue.head queue.doorbell k → ArePlaced (homes_of g) base all c → top ≡ max (newest_number base all) k
-    → found.places.items ≡ c.places.items → found.recovered.prefix ≡ c.prefix → found.recovered.base ≡ top → IsFoundIn g queue root found
-found-in g queue root base top k all c found still base_is limit readable greatest placed top_is items prefix_is recovered_is =
-    let low : root.base ≤ number_limit = omega (arith, limit, base_is) in
-    let here = subst (λ (n : ℕ). IsReadable g queue 0 n all) base_is readable in
-    let row = subst (λ (n : ℕ). AreInRow n placed.ds) base_is placed.row in
-    let gap = subst (λ (n : ℕ). (d : Descriptor) → Has all d → d.number ≢ n + length placed.ds + 1) base_is placed.greatest in
-    let read = image-read g queue root all placed.gone placed.ds k still.one low here greatest placed.all_is row gap in
-    let top_at : max (newest_number root.base all) k ≡ found.recovered.base = ap (λ (n : ℕ). max (newest_number n all) k) (sym base_is) ∙ sym top_is ∙ sym recovered_is in
-    record {
-      ds = placed.ds;
-      read = subst (IsRead g (view_of g queue root) placed.ds) top_at read;
-      whole = ap length items ∙ placed.whole;
-      places_are = λ x. ap (λ (l : List (Option ℕ)). get_or l x None) items ∙ placed.places_are x;
-      prefix_is = prefix_is ∙ placed.prefix_is;
-    }
+pub some-refused : (g : Geometry) (d : DriveState) (e : ImageFault) → d.root.base ≤ number_limit → RefusesSome g d e → RefusesImage g d e
+some-refused g d (Bad q cause) limit r = (limit, r)
+some-refused g d (Limit n) limit r = absurd r
+some-refused g d (Twice n a b) limit r = absurd r
+some-refused g d OutOfMemory limit r = r
+
+pub twice-refused : (g : Geometry) (d : DriveState) (read : QueuesRead) (e : ImageFault) → d.root.base ≤ number_limit → AreRead g d read → RefusesTwice read.chains.items e → RefusesImage g d e
+twice-refused g d read (Twice n a b) limit are r = (limit, chain_at read.chains.items, are.readable, subst (λ (k : ℕ). IsTwice k (chain_at read.chains.items) n a b) are.count r)
+twice-refused g d read (Bad q cause) limit are r = absurd r
+twice-refused g d read (Limit n) limit are r = absurd r
+twice-refused g d read OutOfMemory limit are r = r
 
 -- ---- one cause at most
 
+reaches-readable : (g : Geometry) (d : DriveState) (ds : List Descriptor) (q : ℕ) (read : Reaches g (view_over g d) ds) → q < g.queues → IsReadable g (port_at d.queues q) q d.root.base (read.chains q)
+reaches-readable g d ds q read low = shown-readable g (view_over g d) (port_at d.queues q) q d.root.base (read.chains q) (view-seen g d q d.root.base refl) (read.whole.each q low)
+
 -- a readable image has no cause to be refused
-pub reaches-refused : (g : Geometry) (queue root : PortState) (ds : List Descriptor) (e : ImageFault) → IsStill g queue root → Reaches g (view_of g queue root) ds → RefusesImage g queue root e → ⊥
-reaches-refused g queue root ds (Limit base) still read r = let l = read.whole.limit in let is = r.0 in let high = r.1 in absurd (omega (arith, l, is, high))
-reaches-refused g queue root ds (Bad q cause) still read r =
-    let one = still.one in
-    readable-refused g queue 0 root.base (read.chains 0) cause
-    (shown-readable g (view_of g queue root) queue 0 root.base (read.chains 0) (view-seen g queue root root.base refl) (read.whole.each 0 (omega (arith, one)))) r.2
-reaches-refused g queue root ds OutOfMemory still read r = r
+pub reaches-refused : (g : Geometry) (d : DriveState) (ds : List Descriptor) (e : ImageFault) → Reaches g (view_over g d) ds → RefusesImage g d e → ⊥
+reaches-refused g d ds (Limit base) read r = let l = read.whole.limit in let is = r.0 in let high = r.1 in absurd (omega (arith, l, is, high))
+reaches-refused g d ds (Bad q cause) read r = readable-refused g (port_at d.queues q) q d.root.base (read.chains q) cause (reaches-readable g d ds q read r.1.0) r.1.3
+reaches-refused g d ds (Twice n a b) read r =
+    let chains = r.1 in
+    let twice = r.3 in
+    let order = twice.order in
+    let low = twice.within in
+    let lower : a < g.queues = omega (arith, order, low) in
+    let same : (q : ℕ) → q < g.queues → chains q ≡ read.chains q = λ q within. readable-once g (port_at d.queues q) q d.root.base (chains q) (read.chains q) (r.2 q within) (reaches-readable g d ds q read within) in
+    let one = twice.in_first in
+    let other = twice.in_second in
+    read.whole.once a b lower low (omega (arith, order)) one.0 other.0 (subst (λ (l : List Descriptor). Has l one.0) (same a lower) one.1) (subst (λ (l : List Descriptor). Has l other.0) (same b low) other.1) (one.2 ∙ sym other.2)
+reaches-refused g d ds OutOfMemory read r = r
 
 pub read-reaches : (g : Geometry) (i : Shown) (ds : List Descriptor) (top : ℕ) → IsRead g i ds top → Reaches g i ds
 read-reaches g i ds top read = record { chains = read.chains; whole = read.whole; prefix = read.prefix }
 
-pub refuses-image-once : (g : Geometry) (queue root : PortState) (e f : ImageFault) → RefusesImage g queue root e → RefusesImage g queue root f → e ≡ f
-refuses-image-once g queue root (Limit a) (Limit b) r s = ap (λ (n : ℕ). Limit n) (r.0 ∙ sym s.0)
-refuses-image-once g queue root (Limit a) (Bad q c) r s = let x = r.0 in let y = r.1 in let z = s.0 in absurd (omega (arith, x, y, z))
-refuses-image-once g queue root (Limit a) OutOfMemory r s = absurd s
-refuses-image-once g queue root (Bad q c) (Limit a) r s = let x = s.0 in let y = s.1 in let z = r.0 in absurd (omega (arith, x, y, z))
-refuses-image-once g queue root (Bad q c) (Bad p d) r s =
-    let at : q ≡ p = r.1 ∙ sym s.1 in
-    let same = refuses-queue-once g queue 0 root.base c d r.2 s.2 in
-    λ k. Bad (at k) (same k)
-refuses-image-once g queue root (Bad q c) OutOfMemory r s = absurd s
-refuses-image-once g queue root OutOfMemory f r s = absurd r
+-- ---- two causes are one
+
+-- queues that are readable up to one that is refused do not go past another that is refused
+bad-apart : (g : Geometry) (d : DriveState) (p q : ℕ) (chains : ℕ → List Descriptor) (cause : ChainRefusal) → p < q → AreReadable g d q chains → RefusesQueue g (port_at d.queues p) p d.root.base cause → ⊥
+bad-apart g d p q chains cause low readable refuses = readable-refused g (port_at d.queues p) p d.root.base (chains p) cause (readable p low) refuses
+
+number-along : (ds es : List Descriptor) (n : ℕ) → ds ≡ es → HasNumber ds n → HasNumber es n
+number-along ds es n same has = subst (λ (l : List Descriptor). HasNumber l n) same has
+
+-- of two pairs of the least two queues with a number the first are one
+first-low : (queues : ℕ) (chains others : ℕ → List Descriptor) (n a b c e : ℕ) → ((q : ℕ) → q < queues → chains q ≡ others q) → IsTwice queues chains n a b → IsTwice queues others n c e → a < c → ⊥
+first-low queues chains others n a b c e same s t low =
+    let x = t.order in
+    let y = t.within in
+    t.others a (omega (arith, low, x)) (omega (arith, low)) (number-along (chains a) (others a) n (same a (omega (arith, low, x, y))) s.in_first)
+
+second-low : (queues : ℕ) (chains others : ℕ → List Descriptor) (n a b c e : ℕ) → ((q : ℕ) → q < queues → chains q ≡ others q) → IsTwice queues chains n a b → IsTwice queues others n c e → a ≡ c → b < e → ⊥
+second-low queues chains others n a b c e same s t first low =
+    let x = s.order in
+    let y = t.within in
+    t.others b low (omega (arith, x, first)) (number-along (chains b) (others b) n (same b (omega (arith, low, y))) s.in_second)
+
+twice-least : (queues : ℕ) (chains others : ℕ → List Descriptor) (n m a b c e : ℕ) → ((q : ℕ) → q < queues → chains q ≡ others q) → IsTwice queues chains n a b → IsTwice queues others m c e → n ≤ m
+twice-least queues chains others n m a b c e same s t =
+    let x = t.order in
+    let y = t.within in
+    s.least m c e x y (number-along (others c) (chains c) m (sym (same c (omega (arith, x, y)))) t.in_first) (number-along (others e) (chains e) m (sym (same e y)) t.in_second)
+
+twice-same : (queues : ℕ) (chains others : ℕ → List Descriptor) (n m a b c e : ℕ) → ((q : ℕ) → q < queues → chains q ≡ others q) → IsTwice queues chains n a b → IsTwice queues others m c e
+    → (n ≡ m) × (a ≡ c) × (b ≡ e)
+twice-same queues chains others n m a b c e same s t =
+    let back : (q : ℕ) → q < queues → others q ≡ chains q = λ q low. sym (same q low) in
+    let u = twice-least queues chains others n m a b c e same s t in
+    let v = twice-least queues others chains m n c e a b back t s in
+    let number : n ≡ m = omega (arith, u, v) in
+    let t' : IsTwice queues others n c e = subst (λ (k : ℕ). IsTwice queues others k c e) (sym number) t in
+    let first : a ≡ c = elim (cases_lt a c) [
+      | inl low ↦ absurd (first-low queues chains others n a b c e same s t' low)
+      | inr high ↦ elim (cases_lt c a) [
+        | inl low ↦ absurd (first-low queues others chains n c e a b back t' s low)
+        | inr low ↦ omega (arith, high, low)
+      ]
+    ] in
+    let second : b ≡ e = elim (cases_lt b e) [
+      | inl low ↦ absurd (second-low queues chains others n a b c e same s t' first low)
+      | inr high ↦ elim (cases_lt e b) [
+        | inl low ↦ absurd (second-low queues others chains n c e a b back t' s (sym first) low)
+        | inr low ↦ omega (arith, high, low)
+      ]
+    ] in
+    (number, first, second)
+
+bad-once : (g : Geometry) (d : DriveState) (p q : ℕ) (c f : ChainRefusal) → RefusesSome g d (Bad p c) → RefusesSome g d (Bad q f) → Bad p c ≡ Bad q f
+bad-once g d p q c f r s = elim (cases_eq p q) [
+  | inl at ↦
+      let same = refuses-queue-once g (port_at d.queues p) p d.root.base c f r.3 (subst (λ (n : ℕ). RefusesQueue g (port_at d.queues n) n d.root.base f) (sym at) s.3) in
+      λ k. Bad (at k) (same k)
+  | inr other ↦ elim (cases_lt p q) [
+    | inl low ↦ absurd (bad-apart g d p q s.1 c low s.2 r.3)
+    | inr high ↦ absurd (bad-apart g d q p r.1 f (omega (arith, other, high)) r.2 s.3)
+  ]
+]
+
+pub refuses-image-once : (g : Geometry) (d : DriveState) (e f : ImageFault) → RefusesImage g d e → RefusesImage g d f → e ≡ f
+refuses-image-once g d (Limit a) (Limit b) r s = ap (λ (n : ℕ). Limit n) (r.0 ∙ sym s.0)
+refuses-image-once g d (Limit a) (Bad q c) r s = let x = r.0 in let y = r.1 in let z = s.0 in absurd (omega (arith, x, y, z))
+refuses-image-once g d (Limit a) (Twice n q p) r s = let x = r.0 in let y = r.1 in let z = s.0 in absurd (omega (arith, x, y, z))
+refuses-image-once g d (Limit a) OutOfMemory r s = absurd s
+refuses-image-once g d (Bad q c) (Limit a) r s = let x = s.0 in let y = s.1 in let z = r.0 in absurd (omega (arith, x, y, z))
+refuses-image-once g d (Bad q c) (Bad p f) r s = bad-once g d q p c f r.1 s.1
+refuses-image-once g d (Bad q c) (Twice n p t) r s = absurd (bad-apart g d q g.queues s.1 c r.1.0 s.2 r.1.3)
+refuses-image-once g d (Bad q c) OutOfMemory r s = absurd s
+refuses-image-once g d (Twice n q p) (Limit a) r s = let x = s.0 in let y = s.1 in let z = r.0 in absurd (omega (arith, x, y, z))
+refuses-image-once g d (Twice n p t) (Bad q c) r s = absurd (bad-apart g d q g.queues r.1 c s.1.0 r.2 s.1.3)
+refuses-image-once g d (Twice n q p) (Twice m t u) r s =
+    let same = twice-same g.queues r.1 s.1 n m q p t u (λ k low. readable-once g (port_at d.queues k) k d.root.base (r.1 k) (s.1 k) (r.2 k low) (s.2 k low)) r.3 s.3 in
+    λ k. Twice (same.0 k) (same.1 k) (same.2 k)
+refuses-image-once g d (Twice n q p) OutOfMemory r s = absurd s
+refuses-image-once g d OutOfMemory f r s = absurd r
 
 -- a refusal is the one cause
-pub err-exact : (A : Type 0) (g : Geometry) (queue root : PortState) (f e : ImageFault) → (f ≡ OutOfMemory) ⊎ RefusesImage g queue root f → RefusesImage g queue root e
-    → IsErrOf {T = A} (Err f) e ⊎ IsErrOf {T = A} (Err f) OutOfMemory
-err-exact A g queue root f e given r = elim given [
+pub err-exact : (A : Type 0) (g : Geometry) (d : DriveState) (f e : ImageFault) → (f ≡ OutOfMemory) ⊎ RefusesImage g d f → RefusesImage g d e → IsErrOf {T = A} (Err f) e ⊎ IsErrOf {T = A} (Err f) OutOfMemory
+err-exact A g d f e given r = elim given [
   | inl x ↦ inr (ap (λ (z : ImageFault). Err z) x)
-  | inr x ↦ inl (ap (λ (z : ImageFault). Err z) (refuses-image-once g queue root f e x r))
+  | inr x ↦ inl (ap (λ (z : ImageFault). Err z) (refuses-image-once g d f e x r))
 ]
 
 -- ---- one prefix and one top
@@ -283,11 +319,3 @@ read-same g i ds es top other a b =
       reaches-same g i ds es (read-reaches g i ds top a) (read-reaches g i es other b),
       omega (arith, x, y),
     )
-
--- the descriptors of the prefix of a drive of one queue are that queue's
-pub prefix-of : (g : Geometry) (i : Shown) (ds : List Descriptor) (top : ℕ) → g.queues ≡ 1 → IsRead g i ds top → AreOf 0 ds
-prefix-of g i ds top one read = all-of ds (λ d has. only-queue g d.queue one (read.prefix.whole d has).0)
-  where
-    all-of : (l : List Descriptor) → ((d : Descriptor) → Has l d → d.queue ≡ 0) → AreOf 0 l
-    all-of [] each = tt
-    all-of (d ∷ l) each = (each d (inl refl), all-of l (λ e has. each e (inr has)))

@@ -1,3 +1,5 @@
+pub mod Drives
+pub mod Ends
 pub mod Plans
 pub mod Recover
 pub mod RecoverCauses
@@ -6,3 +8,4 @@ pub mod Recovery
 pub mod Refusals
 pub mod Standing
 pub mod Steps
+pub mod Written

@@ -1,17 +1,20 @@
 -- Copies that are written home.
-use Rattle.std.specs.Prelude.{◌≡◌, ◌≢◌, ◌⊎◌, ◌<◌, ℕ, ◌+◌, ◌%◌, List, [], ◌∷◌, Option, Some, None, Result, Ok, Err, nat_eq, if◌then◌else◌}
-use Rattle.mq_blocks.specs.Drive.{PortState, after_begin, after_end, after_flush, after_store_base, after_store_head}
+use Rattle.std.specs.Prelude.{◌≡◌, ◌≢◌, ◌⊎◌, ◌<◌, ◌≤◌, ℕ, ◌+◌, ◌%◌, List, [], ◌∷◌, ◌++◌, length, map, take, drop, Option, Some, None, Result, Ok, Err, nat_eq, if◌then◌else◌}
+use Rattle.mq_blocks.specs.Drive.{PortState, IsQuiet, after_begin, after_end, after_flush, after_store_base, after_store_head}
 use Rattle.mq_blocks.specs.Geometry.{home_lba}
 use Rattle.mq_blocks.specs.Machine.{Writes, or_kept}
 use Rattle.mq_blocks.specs.declared.geometry.Geometry.{Geometry}
+use Rattle.mq_core.specs.State.{port_at}
+use Rattle.mq_recover.specs.Drives.{DriveState, at_queue, at_root}
+use Rattle.mq_recover.specs.declared.copies.Spot.{Spot}
 use Rattle.mq_recover.specs.declared.refusal.RecoverRefusal.{RecoverRefusal}
 use Rattle.mq_recover.specs.declared.refusal.RecoverRefusal.TheVariants.{Image, Off, Failed}
 
--- the writes of the copies at these places, which are those of the blocks from b on
-abbrev pub writes_from : (ℕ → List ℕ) → ℕ → ℕ → List (Option ℕ) → Writes
+-- the writes of the copies that stand there, which are those of the blocks from b on
+abbrev pub writes_from : (ℕ → ℕ → List ℕ) → ℕ → ℕ → List (Option Spot) → Writes
 writes_from area size b [] = []
 writes_from area size b (None ∷ copies) = writes_from area size (b + 1) copies
-writes_from area size b (Some place ∷ copies) = (b, area (place % size)) ∷ writes_from area size (b + 1) copies
+writes_from area size b (Some spot ∷ copies) = (b, area spot.queue (spot.place % size)) ∷ writes_from area size (b + 1) copies
 
 -- what is last written to a block
 abbrev pub written : Writes → ℕ → Option (List ℕ)
@@ -35,9 +38,9 @@ GivesHome g s b block (Err Off) t = (t ≡ s) ⊎ (t ≡ after_begin s (home_lba
 GivesHome g s b block (Err (Failed c _)) t = (c ≡ b) × (t ≡ after_begin s (home_lba g b) block)
 
 -- the same through the port of the block's zone
-abbrev pub GivesOne : {A : Type 0} → Geometry → Option ℕ → (queue root : PortState) → ℕ → List ℕ → Result A RecoverRefusal → (new_queue new_root : PortState) → Type 0
-GivesOne g None queue root b block result new_queue new_root = (new_queue ≡ queue) × GivesHome g root b block result new_root
-GivesOne g (Some q) queue root b block result new_queue new_root = GivesHome g queue b block result new_queue × (new_root ≡ root)
+abbrev pub GivesOne : {A : Type 0} → Geometry → Option ℕ → (old : DriveState) → ℕ → List ℕ → Result A RecoverRefusal → (new : DriveState) → Type 0
+GivesOne g None old b block result new = (t : PortState) × GivesHome g old.root b block result t × (new ≡ at_root (λ _. t) old)
+GivesOne g (Some q) old b block result new = (t : PortState) × GivesHome g (port_at old.queues q) b block result t × (new ≡ at_queue q (λ _. t) old)
 
 -- the base word is stored and flushed where it changes
 abbrev pub after_raise : PortState → ℕ → PortState
@@ -53,3 +56,12 @@ IsCutRaise s base t = (s.base ≢ base) × ((t ≡ s) ⊎ (t ≡ after_store_bas
 
 abbrev pub IsCutMove : PortState → PortState → Type 0
 IsCutMove s t = (s.head ≢ s.doorbell) × ((t ≡ s) ⊎ (t ≡ after_store_head s s.doorbell))
+
+-- the head may go to the doorbell
+pub record CanMove (s : PortState) : Type 0 where
+  pub quiet : IsQuiet s
+  pub order : s.head ≤ s.doorbell
+
+-- the heads before one went to their doorbells, this one was refused, and those after it are as before
+abbrev pub AreCutMoves : (olds news : List PortState) → Type 0
+AreCutMoves olds news = (q : ℕ) × (q < length olds) × (t : PortState) × IsCutMove (port_at olds q) t × (news ≡ map after_move (take q olds) ++ t ∷ drop (q + 1) olds)

@@ -1,14 +1,14 @@
--- What recovery on a drive of one queue makes of its two ports.
-use Rattle.std.specs.Prelude.{◌≡◌, ◌⊎◌, ◌<◌, ℕ, List, [], ◌∷◌}
+-- What recovery makes of the ports of a drive.
+use Rattle.std.specs.Prelude.{◌≡◌, ◌⊎◌, ◌<◌, ℕ, ◌^◌, ◌-◌, List, [], length, map, replicate, Option, Some, None, slice_index_or}
 use Rattle.mq_nvme.specs.Says.{says}
 use Rattle.mq_blocks.specs.Descriptor.{Descriptor}
-use Rattle.mq_blocks.specs.Drive.{PortState, PortImage, IsImage, IsQuiet}
+use Rattle.mq_blocks.specs.Drive.{PortState, PortImage}
 use Rattle.mq_blocks.specs.Geometry.{homes_of}
 use Rattle.mq_blocks.specs.Journal.{Shown, shown, AreWhole, IsPrefix, IsTop, stands}
 use Rattle.mq_blocks.specs.declared.geometry.Geometry.{Geometry}
-use Rattle.mq_drive.specs.Start.{IsPortOf}
-use Rattle.mq_drive.specs.Views.{view_of}
-use Rattle.mq_drive.specs.declared.role.Role.TheVariants.{Queue, Root}
+use Rattle.mq_core.specs.State.{State, IsStart, port_at}
+use Rattle.mq_recover.specs.Drives.{DriveState, IsStill, AreImages, view_over}
+use Rattle.mq_recover.specs.Written.{journal_entries}
 
 -- An image is readable: the descriptors of its prefix, newest first, and the greatest number that it
 -- shows.
@@ -18,24 +18,49 @@ pub record IsRead (g : Geometry) (i : Shown) (ds : List Descriptor) (top : ℕ) 
   pub prefix : IsPrefix g i chains ds
   pub top_is : IsTop g i chains top
 
--- The home blocks hold what stood before by these descriptors, the base is the greatest number that
--- the image showed, and the head is at the doorbell.
-pub record IsRecovered (g : Geometry) (queue root : PortState) (ds : List Descriptor) (top : ℕ) (new_queue new_root : PortState) : Type 0 where
-  pub queue_port : IsPortOf g (Queue 0) new_queue
-  pub root_port : IsPortOf g Root new_root
-  pub queue_quiet : IsQuiet new_queue
-  pub root_quiet : IsQuiet new_root
-  pub homes : (b : ℕ) → b < homes_of g → (view_of g new_queue new_root).home b ≡ stands g (view_of g queue root) ds b
-  pub base : new_root.base ≡ top
-  pub head : new_queue.head ≡ new_queue.doorbell
-  pub doorbell : new_queue.doorbell ≡ queue.doorbell
+-- a queue's head is at its doorbell, which is where it was
+pub record IsAtDoorbell (old new : PortState) : Type 0 where
+  pub head : new.head ≡ new.doorbell
+  pub doorbell : new.doorbell ≡ old.doorbell
 
--- Each image of the two ports is readable, shows the same greatest number, and stands for what stood
+-- The home blocks hold what stood before by these descriptors, the base is the greatest number that
+-- the image showed, and the heads are at the doorbells.
+pub record IsRecovered (g : Geometry) (old : DriveState) (ds : List Descriptor) (top : ℕ) (new : DriveState) : Type 0 where
+  pub still : IsStill g new
+  pub homes : (b : ℕ) → b < homes_of g → (view_over g new).home b ≡ stands g (view_over g old) ds b
+  pub base : new.root.base ≡ top
+  pub heads : (q : ℕ) → q < g.queues → IsAtDoorbell (port_at old.queues q) (port_at new.queues q)
+
+-- Each image of the ports is readable, shows the same greatest number, and stands for what stood
 -- before by these descriptors: by the same ones over the old base, or at home alone over the greatest
 -- number.
-abbrev pub StandsAs : (g : Geometry) (queue root : PortState) (ds : List Descriptor) (top : ℕ) (new_queue new_root : PortState) → Type 0
-StandsAs g queue root ds top new_queue new_root =
-    (q r : PortImage) → IsImage new_queue q → IsImage new_root r
-    → (es : List Descriptor) × IsRead g (shown says g (q ∷ []) r) es top
-    × (((r.base ≡ root.base) × (es ≡ ds)) ⊎ ((r.base ≡ top) × (es ≡ [])))
-    × ((b : ℕ) → b < homes_of g → stands g (shown says g (q ∷ []) r) es b ≡ stands g (view_of g queue root) ds b)
+abbrev pub StandsAs : (g : Geometry) (old : DriveState) (ds : List Descriptor) (top : ℕ) (new : DriveState) → Type 0
+StandsAs g old ds top new =
+    (queues : List PortImage) (root : PortImage) → AreImages g new queues root
+    → (es : List Descriptor) × IsRead g (shown says g queues root) es top
+    × (((root.base ≡ old.root.base) × (es ≡ ds)) ⊎ ((root.base ≡ top) × (es ≡ [])))
+    × ((b : ℕ) → b < homes_of g → stands g (shown says g queues root) es b ≡ stands g (view_over g old) ds b)
+
+-- ---- the start of a journal
+
+-- the state of the pure machine in which nothing has happened yet on these ports, over a map
+abbrev pub started : Geometry → DriveState → List (Option (List ℕ)) → State
+started g d start = record {
+  geometry = g;
+  start = start;
+  base = d.root.base;
+  froms = map (λ p. p.doorbell) d.queues;
+  history = [];
+  ports = d.queues;
+  root = d.root;
+  marks = replicate g.queues (2 ^ 64 - 1);
+  under = [];
+  acknowledged = [];
+}
+
+-- the drive is a start of the machine, over each map whose blocks stand at home
+abbrev pub IsStartDrive : Geometry → DriveState → Type 0
+IsStartDrive g d =
+    (start : List (Option (List ℕ))) → length start ≡ homes_of g
+    → ((x : ℕ) (content : List ℕ) → x < homes_of g → slice_index_or start x None ≡ Some content → (view_over g d).home x ≡ content)
+    → IsStart journal_entries (started g d start)

@@ -1,4 +1,4 @@
--- Why the image of a drive of one queue is not readable. Each cause is the first in the order of the
+-- Why the image of a drive is not readable. Each cause is the first in the order of the
 -- tests, and says what was found.
 use Rattle.std.specs.Prelude.{◌≡◌, ◌≢◌, ◌⊎◌, ◌<◌, ◌≤◌, ℕ, ◌+◌, ◌-◌, ◌%◌, Bool, true, false, List, [], ◌∷◌, length, Option, Some, None, slice_index_or}
 use Rattle.std.specs.Option.{unwrap_or}
@@ -6,7 +6,7 @@ use Rattle.mq_blocks.specs.Blocks.{block_at}
 use Rattle.mq_blocks.specs.Descriptor.{Descriptor}
 use Rattle.mq_blocks.specs.Drive.{PortState, depth}
 use Rattle.mq_blocks.specs.Geometry.{area_lba, area_of}
-use Rattle.mq_blocks.specs.Journal.{Says, number_limit}
+use Rattle.mq_blocks.specs.Journal.{Has, Says, number_limit}
 use Rattle.mq_blocks.specs.declared.geometry.Geometry.{Geometry}
 use Rattle.mq_nvme.specs.Entry.{refusal_of}
 use Rattle.mq_nvme.specs.Says.{says}
@@ -17,6 +17,9 @@ use Rattle.mq_area.specs.declared.descriptor.PlaceIs.{PlaceIs}
 use Rattle.mq_area.specs.declared.descriptor.PlaceIs.TheVariants.{Index, Exact}
 use Rattle.mq_area.specs.declared.refusal.DescriptorRefusal.{DescriptorRefusal}
 use Rattle.mq_area.specs.declared.refusal.DescriptorRefusal.TheVariants as descriptor
+use Rattle.mq_core.specs.State.{port_at}
+use Rattle.mq_recover.specs.Drives.{DriveState}
+use Rattle.mq_recover.specs.Ends.{chain_at}
 use Rattle.mq_recover.specs.Recover.{IsWithinReach, where_of}
 use Rattle.mq_recover.specs.declared.refusal.ChainRefusal.{ChainRefusal}
 use Rattle.mq_recover.specs.declared.refusal.ChainRefusal.TheVariants.{Words, Entry, Commit, AreaPlace, Descriptor as AtDescriptor, Span, Limit}
@@ -127,7 +130,7 @@ pub record IsGreatest (s : PortState) (from to number : ℕ) : Type 0 where
   pub above : (count : ℕ) (r : Says) → from ≤ count → count < to → says (entry_at s count) ≡ Some r → r.0 ≤ number
   pub shown : (number ≡ 0) ⊎ ((count : ℕ) × (r : Says) × (from ≤ count) × (count < to) × (says (entry_at s count) ≡ Some r) × (r.0 ≡ number))
 
--- ---- a queue, and a drive of one queue
+-- ---- a queue
 
 -- the queue is readable over this base, and this is its chain
 pub record IsReadable (g : Geometry) (s : PortState) (q base : ℕ) (ds : List Descriptor) : Type 0 where
@@ -147,8 +150,46 @@ pub data RefusesQueue (g : Geometry) (s : PortState) (q base : ℕ) : ChainRefus
   QueueChain : {cause : ChainRefusal} (number lba : ℕ) → AreWords s → IsNewest s number lba → RefusesChain g s q base number lba cause → RefusesQueue g s q base cause
   QueueRung : {cause : ChainRefusal} (number lba : ℕ) (ds : List Descriptor) → AreWords s → IsNewest s number lba → IsWholeChain g s q base number lba ds → RefusesRung s cause → RefusesQueue g s q base cause
 
--- the first cause for which the image of a drive of one queue is not readable
-abbrev pub RefusesImage : (g : Geometry) (queue root : PortState) → ImageFault → Type 0
-RefusesImage g queue root (fault.Limit base) = (base ≡ root.base) × (number_limit < base)
-RefusesImage g queue root (fault.Bad q cause) = (root.base ≤ number_limit) × (q ≡ 0) × RefusesQueue g queue 0 root.base cause
-RefusesImage g queue root fault.OutOfMemory = ⊥
+-- ---- a drive
+
+-- the queues below this one are readable over the base, and these are their chains
+abbrev pub AreReadable : (g : Geometry) (d : DriveState) (queues : ℕ) (chains : ℕ → List Descriptor) → Type 0
+AreReadable g d queues chains = (q : ℕ) → q < queues → IsReadable g (port_at d.queues q) q d.root.base (chains q)
+
+-- a descriptor of this number is among them
+abbrev pub HasNumber : List Descriptor → ℕ → Type 0
+HasNumber ds number = (d : Descriptor) × Has ds d × (d.number ≡ number)
+
+-- the least number that stands in the chains of two queues, and the two least queues in whose chains
+-- it stands
+pub record IsTwice (queues : ℕ) (chains : ℕ → List Descriptor) (number first second : ℕ) : Type 0 where
+  pub order : first < second
+  pub within : second < queues
+  pub in_first : HasNumber (chains first) number
+  pub in_second : HasNumber (chains second) number
+  pub least : (n q r : ℕ) → q < r → r < queues → HasNumber (chains q) n → HasNumber (chains r) n → number ≤ n
+  pub others : (q : ℕ) → q < second → q ≢ first → HasNumber (chains q) number → ⊥
+
+-- a number stands in two of these chains
+abbrev pub RefusesTwice : List (List Descriptor) → ImageFault → Type 0
+RefusesTwice chains (fault.Twice number first second) = IsTwice (length chains) (chain_at chains) number first second
+RefusesTwice chains (fault.Bad q cause) = ⊥
+RefusesTwice chains (fault.Limit base) = ⊥
+RefusesTwice chains fault.OutOfMemory = ⊥
+
+-- the first queue that is not readable, by rising queue
+abbrev pub RefusesSome : (g : Geometry) (d : DriveState) → ImageFault → Type 0
+RefusesSome g d (fault.Bad q cause) =
+    (q < g.queues) × (chains : ℕ → List Descriptor) × AreReadable g d q chains × RefusesQueue g (port_at d.queues q) q d.root.base cause
+RefusesSome g d (fault.Limit base) = ⊥
+RefusesSome g d (fault.Twice number first second) = ⊥
+RefusesSome g d fault.OutOfMemory = ⊥
+
+-- The first cause for which the image of a drive is not readable: the base, the queues in rising
+-- order, and then a number that stands in two chains.
+abbrev pub RefusesImage : (g : Geometry) (d : DriveState) → ImageFault → Type 0
+RefusesImage g d (fault.Limit base) = (base ≡ d.root.base) × (number_limit < base)
+RefusesImage g d (fault.Bad q cause) = (d.root.base ≤ number_limit) × RefusesSome g d (fault.Bad q cause)
+RefusesImage g d (fault.Twice number first second) =
+    (d.root.base ≤ number_limit) × (chains : ℕ → List Descriptor) × AreReadable g d g.queues chains × IsTwice g.queues chains number first second
+RefusesImage g d fault.OutOfMemory = ⊥

@@ -1,17 +1,15 @@
--- The events of a recovery, and what they make of the two ports of a drive of one queue.
-use Rattle.std.specs.Prelude.{◌≡◌, ◌<◌, ℕ, ◌+◌, List, [], ◌∷◌, ◌++◌, length, take, slice_get, Option, Some, None, map, nat_eq, if◌then◌else◌}
-use Rattle.mq_blocks.specs.Blocks.{block_at}
+-- The events of a recovery, and what they make of the ports of a drive.
+use Rattle.std.specs.Prelude.{◌≡◌, ◌⊎◌, ◌<◌, ℕ, ◌+◌, List, [], ◌∷◌, ◌++◌, length, take, slice_get, Option, Some, None, map, nat_eq, if◌then◌else◌}
 use Rattle.mq_blocks.specs.Descriptor.{Descriptor, AreRising}
 use Rattle.mq_blocks.specs.Drive.{PortState, after_begin, after_end, after_flush, after_store_base, after_store_head}
 use Rattle.mq_blocks.specs.Geometry.{homes_of, home_lba, zone_of, area_of}
 use Rattle.mq_blocks.specs.Machine.{Writes}
 use Rattle.mq_blocks.specs.declared.geometry.Geometry.{Geometry}
-use Rattle.mq_drive.specs.Start.{IsPortOf}
-use Rattle.mq_drive.specs.declared.role.Role.TheVariants.{Queue, Root}
+use Rattle.mq_core.specs.State.{port_at}
+use Rattle.mq_recover.specs.Drives.{DriveState, ArePorts, at_queue, at_root, view_over}
 use Rattle.mq_recover.specs.Recover.{copy_of, content_of}
 use Rattle.mq_recover.specs.RecoverHomes.{written}
-use Rattle.mq_drive.specs.Views.{view_of}
-use Rattle.mq_recover.specs.Recovery.{IsRead, IsRecovered, StandsAs}
+use Rattle.mq_recover.specs.Recovery.{IsRead, IsRecovered, StandsAs, IsStartDrive}
 use Rattle.mq_recover.specs.declared.refusal.RecoverRefusal.{RecoverRefusal}
 use Rattle.mq_recover.specs.declared.refusal.RecoverRefusal.TheVariants.{Image, Off, Failed}
 
@@ -20,33 +18,25 @@ pub data Event : Type 0 where
   EndHome : (block : ℕ) (content : List ℕ) → Event
   StoreBase : (base : ℕ) → Event
   FlushBase : Event
-  StoreHead : (head : ℕ) → Event
-  FlushHead : Event
-
--- the two ports of a drive of one queue
-pub record TwoPorts : Type 0 where
-  pub queue : PortState
-  pub root : PortState
-
-abbrev pub two : PortState → PortState → TwoPorts
-two queue root = record { queue = queue; root = root }
+  StoreHead : (queue head : ℕ) → Event
+  FlushHead : (queue : ℕ) → Event
 
 -- an event of a home block goes to the port that has the block
-abbrev pub at_home : Option ℕ → (PortState → PortState) → TwoPorts → TwoPorts
-at_home None f e = two e.queue (f e.root)
-at_home (Some q) f e = two (f e.queue) e.root
+abbrev pub at_home : Option ℕ → (PortState → PortState) → DriveState → DriveState
+at_home None f d = at_root f d
+at_home (Some q) f d = at_queue q f d
 
-abbrev pub after_event : Geometry → TwoPorts → Event → TwoPorts
-after_event g e (BeginHome b content) = at_home (zone_of g b) (λ s. after_begin s (home_lba g b) content) e
-after_event g e (EndHome b content) = at_home (zone_of g b) (λ s. after_end s (home_lba g b) content) e
-after_event g e (StoreBase base) = two e.queue (after_store_base e.root base)
-after_event g e FlushBase = two e.queue (after_flush e.root)
-after_event g e (StoreHead head) = two (after_store_head e.queue head) e.root
-after_event g e FlushHead = two (after_flush e.queue) e.root
+abbrev pub after_event : Geometry → DriveState → Event → DriveState
+after_event g d (BeginHome b content) = at_home (zone_of g b) (λ s. after_begin s (home_lba g b) content) d
+after_event g d (EndHome b content) = at_home (zone_of g b) (λ s. after_end s (home_lba g b) content) d
+after_event g d (StoreBase base) = at_root (λ s. after_store_base s base) d
+after_event g d FlushBase = at_root after_flush d
+after_event g d (StoreHead q head) = at_queue q (λ s. after_store_head s head) d
+after_event g d (FlushHead q) = at_queue q after_flush d
 
-abbrev pub after_events : Geometry → TwoPorts → List Event → TwoPorts
-after_events g e [] = e
-after_events g e (x ∷ xs) = after_events g (after_event g e x) xs
+abbrev pub after_events : Geometry → DriveState → List Event → DriveState
+after_events g d [] = d
+after_events g d (x ∷ xs) = after_events g (after_event g d x) xs
 
 abbrev pub home_events : Writes → List Event
 home_events [] = []
@@ -57,49 +47,67 @@ abbrev pub base_events : (old new : ℕ) → List Event
 base_events old new = if nat_eq old new then [] else StoreBase new ∷ FlushBase ∷ []
 
 -- a head that is at its doorbell is not stored
-abbrev pub head_events : (head doorbell : ℕ) → List Event
-head_events head doorbell = if nat_eq head doorbell then [] else StoreHead doorbell ∷ FlushHead ∷ []
+abbrev pub head_events : (queue head doorbell : ℕ) → List Event
+head_events queue head doorbell = if nat_eq head doorbell then [] else StoreHead queue doorbell ∷ FlushHead queue ∷ []
+
+-- those of all queues from this one on, which have these ports
+abbrev pub heads_events : ℕ → List PortState → List Event
+heads_events q [] = []
+heads_events q (p ∷ ps) = head_events q p.head p.doorbell ++ heads_events (q + 1) ps
 
 -- all events of a recovery of this drive, in their order
-abbrev pub recovery_events : TwoPorts → Writes → (top : ℕ) → List Event
-recovery_events e writes top = home_events writes ++ (base_events e.root.base top ++ head_events e.queue.head e.queue.doorbell)
+abbrev pub recovery_events : DriveState → Writes → (top : ℕ) → List Event
+recovery_events d writes top = home_events writes ++ (base_events d.root.base top ++ heads_events 0 d.queues)
 
 -- The home writes of a recovery: each home block that has a copy left, in rising order, with the
 -- content of its newest copy that no later transaction revokes.
-pub record AreHomeWrites (g : Geometry) (queue : PortState) (ds : List Descriptor) (writes : Writes) : Type 0 where
+pub record AreHomeWrites (g : Geometry) (d : DriveState) (ds : List Descriptor) (writes : Writes) : Type 0 where
   pub rising : AreRising 0 (homes_of g) (map (λ w. w.0) writes)
-  pub copies : (x : ℕ) → written writes x ≡ content_of (block_at queue.blocks) (area_of g) (copy_of ds x)
+  pub copies : (x : ℕ) → written writes x ≡ content_of (view_over g d).area (area_of g) (copy_of ds x)
 
 -- After a refusal by the drive the first of these events happened, and no other: fewer than all at
 -- an `Off`, and up to the begin of its home write at a `Failed`.
-abbrev pub StopsAt : Geometry → RecoverRefusal → (old : TwoPorts) → List Event → (new : TwoPorts) → Type 0
+abbrev pub StopsAt : Geometry → RecoverRefusal → (old : DriveState) → List Event → (new : DriveState) → Type 0
 StopsAt g (Image fault) old events new = ⊥
 StopsAt g Off old events new = (k : ℕ) × (k < length events) × (new ≡ after_events g old (take k events))
 StopsAt g (Failed block status) old events new =
     (k : ℕ) × (content : List ℕ) × (slice_get events k ≡ Some (BeginHome block content)) × (new ≡ after_events g old (take (k + 1) events))
 
+-- on each port the home writes that have begun and not ended are the same
+pub record AreBegunAs (g : Geometry) (old new : DriveState) : Type 0 where
+  pub queues : (q : ℕ) → q < g.queues → (port_at new.queues q).begun ≡ (port_at old.queues q).begun
+  pub root : new.root.begun ≡ old.root.begun
+
 -- A whole recovery: the prefix of the image at entry, and its greatest number, which is the new base.
--- Over it nothing is left to bring home, and no home write of this recovery is under way.
-pub record IsDone (g : Geometry) (old : TwoPorts) (found base : ℕ) (new : TwoPorts) : Type 0 where
+-- Over it nothing is left to bring home, no home write of this recovery is under way, and the pure
+-- machine may start.
+pub record IsDone (g : Geometry) (old : DriveState) (found base : ℕ) (new : DriveState) : Type 0 where
   pub ds : List Descriptor
-  pub read : IsRead g (view_of g old.queue old.root) ds base
+  pub read : IsRead g (view_over g old) ds base
   pub writes : Writes
-  pub home_writes : AreHomeWrites g old.queue ds writes
+  pub home_writes : AreHomeWrites g old ds writes
   pub prefix_is : found ≡ length ds
   pub events : new ≡ after_events g old (recovery_events old writes base)
-  pub recovered : IsRecovered g old.queue old.root ds base new.queue new.root
-  pub again : IsRead g (view_of g new.queue new.root) [] base
-  pub queue_begun : new.queue.begun ≡ old.queue.begun
-  pub root_begun : new.root.begun ≡ old.root.begun
+  pub recovered : IsRecovered g old ds base new
+  pub stands : StandsAs g old ds base new
+  pub again : IsRead g (view_over g new) [] base
+  pub begun : AreBegunAs g old new
+  pub start : IsStartDrive g new
 
 -- A recovery that the drive cut short: it may be begun again.
-pub record IsCutShort (g : Geometry) (refusal : RecoverRefusal) (old new : TwoPorts) : Type 0 where
+pub record IsCutShort (g : Geometry) (refusal : RecoverRefusal) (old new : DriveState) : Type 0 where
   pub ds : List Descriptor
   pub top : ℕ
-  pub read : IsRead g (view_of g old.queue old.root) ds top
+  pub read : IsRead g (view_over g old) ds top
   pub writes : Writes
-  pub home_writes : AreHomeWrites g old.queue ds writes
+  pub home_writes : AreHomeWrites g old ds writes
   pub events : StopsAt g refusal old (recovery_events old writes top) new
-  pub queue_port : IsPortOf g (Queue 0) new.queue
-  pub root_port : IsPortOf g Root new.root
-  pub stands : StandsAs g old.queue old.root ds top new.queue new.root
+  pub ports : ArePorts g new
+  pub stands : StandsAs g old ds top new
+
+-- A later recovery of what was left of this drive recovers what was to be recovered: from the same
+-- descriptors over the old base, or from none over the new one.
+pub record IsAgain (g : Geometry) (old : DriveState) (ds : List Descriptor) (top : ℕ) (start : DriveState) (es : List Descriptor) (base : ℕ) (later : DriveState) : Type 0 where
+  pub recovered : IsRecovered g old ds top later
+  pub base_is : base ≡ top
+  pub left : ((start.root.base ≡ old.root.base) × (es ≡ ds)) ⊎ ((start.root.base ≡ top) × (es ≡ []))

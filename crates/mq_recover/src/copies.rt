@@ -1,63 +1,76 @@
 // Where the copies stand that go home.
-ghost use Rattle.std.specs.Prelude.{◌≡◌, ◌<◌, ◌≤◌, ◌+◌, ◌^◌, length, IfOk};
+ghost use Rattle.std.specs.Prelude.{◌≡◌, ◌⊎◌, ◌<◌, ◌≤◌, ◌+◌, ◌^◌, length, IfOk, IfErr};
 ghost use Rattle.mq_blocks.specs.Descriptor.{AreRising};
 ghost use Rattle.mq_blocks.specs.Geometry.{homes_of};
-ghost use Rattle.mq_recover.specs.Plans.{ArePlaced};
-ghost use Rattle.mq_recover.specs.Recover.{forgotten, noted, with_transaction, AreFalling, AreGood};
+ghost use Rattle.mq_recover.specs.Plans.{AreChains, ArePlaced};
+ghost use Rattle.mq_recover.specs.Refusals.{RefusesTwice};
+ghost use Rattle.mq_recover.specs.Recover.{forgotten, noted, with_transaction};
 
 use crate::chain::Chain;
+use crate::oldest::find_oldest;
+use crate::refusal::ImageFault;
 use mq_area::Descriptor;
-use mq_blocks::{BlockNo, Geometry, OutOfMemory};
+use mq_blocks::{BlockNo, Geometry, QueueNo};
 use std::alloc::Global;
+
+// Where a copy stands: a place of a queue's journal area.
+#[derive(Clone, Copy, Debug, PartialEq, Eq)]
+pub struct Spot {
+    pub queue: QueueNo,
+    pub place: u64,
+}
 
 // Where the copies stand of the transactions right above the base.
 #[derive(Drop)]
 pub struct Copies {
-    // For each home block the place of its newest logged copy that no later transaction revokes.
-    pub places: Vec<Option<u64>>,
+    // For each home block where its newest logged copy stands that no later transaction revokes.
+    pub places: Vec<Option<Spot>>,
     // The number of these transactions.
     pub prefix: u64,
 }
 
-// Finds the copies of the transactions right above the base, of which the list falls, as far as
-// there is no gap.
+// Goes through the chains of all queues by rising number, and finds the copies of the transactions
+// right above the base, as far as there is no gap. What comes after a gap is tested all the same.
 pub fn place_copies(
     alloc: Global,
     geometry: Geometry,
-    chain: Chain,
+    chains: Vec<Chain>,
     base: u64,
-) -> Result<Copies, OutOfMemory>
-    requires good { AreGood (homes_of geometry) chain }
-    requires falling { AreFalling base (2 ^ 64) chain }
-    ensures { IfOk result (ArePlaced (homes_of geometry) base chain) }
+) -> Result<Copies, ImageFault>
+    requires { AreChains (homes_of geometry) base chains.items }
+    ensures ok { IfOk result (ArePlaced (homes_of geometry) base chains.items) }
+    ensures refused { IfErr result (λ e. (e ≡ ImageFault.OutOfMemory) ⊎ RefusesTwice chains.items e) }
 {
-    let mut transactions = chain.transactions;
+    let mut chains = chains;
     let mut places = vec![in alloc; None; geometry.homes() as usize]?;
     let mut prefix = 0;
-    while let Some(next) = transactions.pop() {
-        if next.number - base != prefix + 1 {
-            break;
+    while let Some(queue) = find_oldest(&chains)? {
+        if let Some(next) = chains[queue.0 as usize].transactions.pop() {
+            if next.number - base == prefix + 1 {
+                take_over(&mut places, &next);
+                prefix += 1;
+            }
         }
-        take_over(&mut places, &next);
-        prefix += 1;
     }
     Ok(Copies { places, prefix })
 }
 
 // The copies after one more transaction.
-fn take_over(copies: &mut [Option<u64>], next: &Descriptor)
+fn take_over(copies: &mut [Option<Spot>], next: &Descriptor)
     requires logged { AreRising 0 (length copies.old) next.now.logged }
     requires revoked { AreRising 0 (length copies.old) next.now.revoked }
     requires fits { length next.now.logged ≤ next.now.place }
     requires place { next.now.place < 2 ^ 62 }
+    requires queue { next.now.queue < 2 ^ 32 }
     ensures { copies.new ≡ with_transaction copies.old next.now }
 {
     forget(copies, &next.revoked);
-    note(copies, next.place - next.logged.len() as u64, &next.logged);
+    let first = next.place - next.logged.len() as u64;
+    note(copies, QueueNo(next.queue), first, &next.logged);
 }
 
 // No block of these has a copy any more.
-fn forget(copies: &mut [Option<u64>], revoked: &[BlockNo])
+fn forget(copies: &mut [Option<Spot>], revoked: &[BlockNo])
     requires { AreRising 0 (length copies.old) revoked.now }
     ensures { copies.new ≡ forgotten copies.old revoked.now }
 {
@@ -66,15 +79,15 @@ fn forget(copies: &mut [Option<u64>], revoked: &[BlockNo])
     }
 }
 
-// These blocks have copies from a place on.
-fn note(copies: &mut [Option<u64>], first: u64, logged: &[BlockNo])
+// These blocks have copies from a place of a queue on.
+fn note(copies: &mut [Option<Spot>], queue: QueueNo, first: u64, logged: &[BlockNo])
     requires rising { AreRising 0 (length copies.old) logged.now }
     requires end { first + length logged.now ≤ 2 ^ 62 }
-    ensures { copies.new ≡ noted copies.old first logged.now }
+    ensures { copies.new ≡ noted copies.old queue first logged.now }
 {
     let mut place = first;
     for b in logged {
-        copies[b.0 as usize] = Some(place);
+        copies[b.0 as usize] = Some(Spot { queue, place });
         place += 1;
     }
 }

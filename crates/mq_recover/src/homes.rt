@@ -1,36 +1,34 @@
-// Writing copies home, the base past them, and the head to the doorbell.
-ghost use Rattle.std.specs.Prelude.{◌≡◌, ◌<◌, ◌≤◌, ℕ, OnOk, OnErr, IfErr, IsNone};
+// Writing copies home, the base past them, and the heads to the doorbells.
+ghost use Rattle.std.specs.Prelude.{◌≡◌, ◌<◌, ◌≤◌, ℕ, OnOk, OnErr, IfErr, IsNone, length, map};
 ghost use Rattle.mq_blocks.specs.Drive.{IsHome, IsQuiet};
-ghost use Rattle.mq_blocks.specs.Geometry.{queues_of, homes_of, home_lba, zone_of};
-ghost use Rattle.mq_drive.specs.Start.{IsPortOf};
+ghost use Rattle.mq_blocks.specs.Geometry.{homes_of, home_lba, zone_of};
+ghost use Rattle.mq_core.specs.State.{port_at};
 ghost use Rattle.mq_drive.specs.Steps.{OffCause};
-ghost use Rattle.mq_recover.specs.RecoverHomes.{AreBelow, GivesHome, GivesOne, after_raise, after_move, IsCutRaise, IsCutMove};
-ghost use Rattle.mq_recover.specs.RecoverCauses.{HasHomeCause, HasDriveCause};
-ghost use Rattle.mq_recover.specs.Steps.{two, after_events, home_events, StopsAt};
+ghost use Rattle.mq_recover.specs.Drives.{ArePorts, states, faults_of};
+ghost use Rattle.mq_recover.specs.RecoverHomes.{AreBelow, GivesHome, GivesOne, CanMove, AreCutMoves, after_raise, after_move, IsCutRaise, IsCutMove};
+ghost use Rattle.mq_recover.specs.RecoverCauses.{HasHomeCause, HasDriveCause, HasMoveCause};
+ghost use Rattle.mq_recover.specs.Steps.{after_events, home_events, StopsAt};
 
 use crate::refusal::RecoverRefusal;
 use mq_blocks::{Block, BlockNo, Geometry, TxNo};
-use mq_drive::{HomeStep, Off, Port, Role};
+use mq_drive::{HomeStep, Off, Port, Ports};
 use std::collections::VecDeque;
 
 // Writes blocks home, each through the port of its zone.
 pub fn write_homes<P: Port>(
     geometry: Geometry,
-    queue: &mut P,
-    root: &mut P,
+    ports: &mut Ports<P>,
     writes: VecDeque<(BlockNo, Block)>,
 ) -> Result<(), RecoverRefusal>
-    requires one { queues_of geometry ≡ 1 }
-    requires queue { IsPortOf geometry (Role.Queue 0) (P.state queue.old) }
-    requires root { IsPortOf geometry Role.Root (P.state root.old) }
+    requires ports { ArePorts geometry (states P.state ports.old.queues.items ports.old.root) }
     requires below { AreBelow (homes_of geometry) writes.items }
-    ensures ok { OnOk result (two (P.state queue.new) (P.state root.new) ≡ after_events geometry (two (P.state queue.old) (P.state root.old)) (home_events writes.items)) }
-    ensures drive { IfErr result (λ e. StopsAt geometry e (two (P.state queue.old) (P.state root.old)) (home_events writes.items) (two (P.state queue.new) (P.state root.new))) }
-    ensures cause { HasDriveCause geometry result (P.faults queue.old) (P.faults root.old) (P.faults queue.new) (P.faults root.new) }
+    ensures ok { OnOk result (states P.state ports.new.queues.items ports.new.root ≡ after_events geometry (states P.state ports.old.queues.items ports.old.root) (home_events writes.items)) }
+    ensures drive { IfErr result (λ e. StopsAt geometry e (states P.state ports.old.queues.items ports.old.root) (home_events writes.items) (states P.state ports.new.queues.items ports.new.root)) }
+    ensures cause { HasDriveCause geometry result (faults_of P.faults ports.old.queues.items ports.old.root) (faults_of P.faults ports.new.queues.items ports.new.root) }
 {
     let mut writes = writes;
     while let Some((b, block)) = writes.pop_front() {
-        write_one(geometry, queue, root, b, block)?;
+        write_one(geometry, ports, b, block)?;
     }
     Ok(())
 }
@@ -38,21 +36,18 @@ pub fn write_homes<P: Port>(
 // Writes one block home.
 fn write_one<P: Port>(
     geometry: Geometry,
-    queue: &mut P,
-    root: &mut P,
+    ports: &mut Ports<P>,
     b: BlockNo,
     block: Block,
 ) -> Result<(), RecoverRefusal>
-    requires one { queues_of geometry ≡ 1 }
-    requires queue { IsPortOf geometry (Role.Queue 0) (P.state queue.old) }
-    requires root { IsPortOf geometry Role.Root (P.state root.old) }
+    requires ports { ArePorts geometry (states P.state ports.old.queues.items ports.old.root) }
     requires below { b < homes_of geometry }
-    ensures gives { GivesOne geometry (zone_of geometry b) (P.state queue.old) (P.state root.old) b block result (P.state queue.new) (P.state root.new) }
-    ensures cause { HasDriveCause geometry result (P.faults queue.old) (P.faults root.old) (P.faults queue.new) (P.faults root.new) }
+    ensures gives { GivesOne geometry (zone_of geometry b) (states P.state ports.old.queues.items ports.old.root) b block result (states P.state ports.new.queues.items ports.new.root) }
+    ensures cause { HasDriveCause geometry result (faults_of P.faults ports.old.queues.items ports.old.root) (faults_of P.faults ports.new.queues.items ports.new.root) }
 {
     match geometry.zone_of(b) {
-        None => write_through(geometry, root, b, block),
-        Some(_) => write_through(geometry, queue, b, block),
+        None => write_through(geometry, &mut ports.root, b, block),
+        Some(q) => write_through(geometry, &mut ports.queues[q.0 as usize], b, block),
     }
 }
 
@@ -90,10 +85,22 @@ pub fn raise_base<P: Port>(root: &mut P, base: TxNo) -> Result<(), Off>
     root.flush()
 }
 
+// Stores each head at its doorbell and flushes it, where it is not there.
+pub fn move_heads<P: Port>(queues: &mut [P]) -> Result<(), Off>
+    requires { (q : ℕ) → q < length queues.old → CanMove (port_at (map P.state queues.old) q) }
+    ensures ok { OnOk result (map P.state queues.new ≡ map after_move (map P.state queues.old)) }
+    ensures cut { OnErr result (AreCutMoves (map P.state queues.old) (map P.state queues.new)) }
+    ensures cause { HasMoveCause result (map P.faults queues.old) (map P.faults queues.new) }
+{
+    for queue in queues {
+        move_head(queue)?;
+    }
+    Ok(())
+}
+
 // Stores the head at the doorbell and flushes it, where it is not there.
-pub fn move_head<P: Port>(queue: &mut P) -> Result<(), Off>
-    requires quiet { IsQuiet (P.state queue.old) }
-    requires order { (P.state queue.old).head ≤ (P.state queue.old).doorbell }
+fn move_head<P: Port>(queue: &mut P) -> Result<(), Off>
+    requires { CanMove (P.state queue.old) }
     ensures ok { OnOk result (P.state queue.new ≡ after_move (P.state queue.old)) }
     ensures cut { OnErr result (IsCutMove (P.state queue.old) (P.state queue.new)) }
     ensures cause { OffCause result (P.faults queue.old) (P.faults queue.new) }

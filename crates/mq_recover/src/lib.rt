@@ -5,13 +5,16 @@
 mod chain;
 mod copies;
 mod homes;
+mod laws;
+mod oldest;
 mod plan;
 mod ports;
 mod refusal;
 mod standing;
 
 pub use chain::{Chain, read_chain};
+pub use laws::recovery_may_be_cut;
 pub use plan::Recovered;
-pub use ports::{recover, recover_ports};
+pub use ports::recover;
 pub use refusal::{ChainRefusal, ImageFault, RecoverRefusal};
 pub use standing::{Standing, read_home, stands};

@@ -1,19 +1,17 @@
 // What an image shows, and what goes home.
-ghost use Rattle.std.specs.Prelude.{◌≡◌, ◌≢◌, ◌⊎◌, ◌<◌, IfOk, IfErr, IsErrOf, length, max};
-ghost use Rattle.mq_blocks.specs.Blocks.{block_at};
-ghost use Rattle.mq_blocks.specs.Drive.{IsQuiet};
-ghost use Rattle.mq_blocks.specs.Geometry.{queues_of, area_of, homes_of};
-ghost use Rattle.mq_drive.specs.Start.{IsPortOf};
-ghost use Rattle.mq_recover.specs.Plans.{IsFoundIn, IsPlan, newest_number};
-ghost use Rattle.mq_drive.specs.Views.{IsStill};
+ghost use Rattle.std.specs.Prelude.{◌≡◌, ◌≢◌, ◌⊎◌, ◌<◌, ◌≤◌, ℕ, IfOk, IfErr, IsErrOf, None, length, max, slice_index_or, ◌%◌};
+ghost use Rattle.mq_blocks.specs.Geometry.{area_of, homes_of};
+ghost use Rattle.mq_recover.specs.Drives.{IsStill, states, view_over};
+ghost use Rattle.mq_recover.specs.Plans.{AreRead, IsFoundIn, IsPlan, newest_number};
+ghost use Rattle.mq_recover.specs.Recover.{IsSpotOf};
 ghost use Rattle.mq_recover.specs.RecoverHomes.{writes_from};
-ghost use Rattle.mq_recover.specs.Refusals.{RefusesImage};
+ghost use Rattle.mq_recover.specs.Refusals.{RefusesImage, RefusesSome};
 
 use crate::chain::{Chain, LIMIT, read_area, read_queue};
-use crate::copies::place_copies;
+use crate::copies::{Spot, place_copies};
 use crate::refusal::{ChainRefusal, ImageFault};
 use mq_blocks::{Block, BlockNo, Geometry, OutOfMemory, QueueNo, TxNo};
-use mq_drive::{Port, Role};
+use mq_drive::{Port, Ports};
 use std::alloc::Global;
 use std::collections::VecDeque;
 
@@ -26,10 +24,19 @@ pub struct Recovered {
     pub base: TxNo,
 }
 
+// What the queues show, where all are readable.
+#[derive(Drop)]
+pub struct QueuesRead {
+    // The chain of each queue.
+    pub chains: Vec<Chain>,
+    // The greatest number that the image shows.
+    pub top: TxNo,
+}
+
 // Where the copies of the home blocks stand, and what a recovery of them recovers.
 #[derive(Drop)]
 pub struct Found {
-    pub places: Vec<Option<u64>>,
+    pub places: Vec<Option<Spot>>,
     pub recovered: Recovered,
 }
 
@@ -40,51 +47,74 @@ pub struct Plan {
     pub recovered: Recovered,
 }
 
-// Reads and checks all that a recovery of a drive of one queue needs, and takes all of its memory.
+// Reads and checks all that a recovery of a drive needs, and takes all of its memory.
 pub fn make_plan<P: Port>(
     alloc: Global,
     geometry: Geometry,
-    queue: &P,
-    root: &P,
+    ports: &Ports<P>,
 ) -> Result<Plan, ImageFault>
-    requires { IsStill geometry (P.state queue.now) (P.state root.now) }
-    ensures ok { IfOk result (IsPlan geometry (P.state queue.now) (P.state root.now)) }
-    ensures refused { IfErr result (λ e. (e ≡ ImageFault.OutOfMemory) ⊎ RefusesImage geometry (P.state queue.now) (P.state root.now) e) }
-    ensures exact { (e : ImageFault) → RefusesImage geometry (P.state queue.now) (P.state root.now) e → IsErrOf result e ⊎ IsErrOf result ImageFault.OutOfMemory }
+    requires { IsStill geometry (states P.state ports.now.queues.items ports.now.root) }
+    ensures ok { IfOk result (IsPlan geometry (states P.state ports.now.queues.items ports.now.root)) }
+    ensures refused { IfErr result (λ e. (e ≡ ImageFault.OutOfMemory) ⊎ RefusesImage geometry (states P.state ports.now.queues.items ports.now.root) e) }
+    ensures exact { (e : ImageFault) → RefusesImage geometry (states P.state ports.now.queues.items ports.now.root) e → IsErrOf result e ⊎ IsErrOf result ImageFault.OutOfMemory }
 {
-    let found = find_copies(alloc, geometry, queue, root)?;
-    let writes = read_copies(alloc, geometry, QueueNo(0), queue, &found.places)?;
+    let found = find_copies(alloc, geometry, ports)?;
+    let writes = read_copies(alloc, geometry, ports, &found.places)?;
     let recovered = found.recovered;
     Ok(Plan { writes, recovered })
 }
 
-// Finds where the copies stand of the prefix of a drive of one queue, and its top.
+// Finds where the copies stand of the prefix of a drive, and its top. Each descriptor is read once.
 pub fn find_copies<P: Port>(
     alloc: Global,
     geometry: Geometry,
-    queue: &P,
-    root: &P,
+    ports: &Ports<P>,
 ) -> Result<Found, ImageFault>
-    requires { IsStill geometry (P.state queue.now) (P.state root.now) }
-    ensures ok { IfOk result (IsFoundIn geometry (P.state queue.now) (P.state root.now)) }
-    ensures refused { IfErr result (λ e. (e ≡ ImageFault.OutOfMemory) ⊎ RefusesImage geometry (P.state queue.now) (P.state root.now) e) }
+    requires { IsStill geometry (states P.state ports.now.queues.items ports.now.root) }
+    ensures ok { IfOk result (IsFoundIn geometry (states P.state ports.now.queues.items ports.now.root)) }
+    ensures refused { IfErr result (λ e. (e ≡ ImageFault.OutOfMemory) ⊎ RefusesImage geometry (states P.state ports.now.queues.items ports.now.root) e) }
 {
-    let base = root.base();
+    let base = ports.root.base();
     if base > LIMIT {
         return Err(ImageFault::Limit { base });
     }
-    let read = match read_queue(alloc, geometry, QueueNo(0), queue, TxNo(base)) {
-        Ok(read) => read,
-        Err(cause) => return Err(bad_queue(QueueNo(0), cause)),
-    };
-    let top = TxNo(top_of(&read.chain, base, read.greatest));
-    let copies = place_copies(alloc, geometry, read.chain, base)?;
+    let read = read_queues(alloc, geometry, ports, TxNo(base))?;
+    let copies = place_copies(alloc, geometry, read.chains, base)?;
     Ok(Found {
         places: copies.places,
         recovered: Recovered {
             prefix: copies.prefix,
-            base: top,
+            base: read.top,
         },
+    })
+}
+
+// What all queues show over this base, by rising queue.
+fn read_queues<P: Port>(
+    alloc: Global,
+    geometry: Geometry,
+    ports: &Ports<P>,
+    base: TxNo,
+) -> Result<QueuesRead, ImageFault>
+    requires still { IsStill geometry (states P.state ports.now.queues.items ports.now.root) }
+    requires base { base ≡ (P.state ports.now.root).base }
+    ensures ok { IfOk result (AreRead geometry (states P.state ports.now.queues.items ports.now.root)) }
+    ensures refused { IfErr result (λ e. (e ≡ ImageFault.OutOfMemory) ⊎ RefusesSome geometry (states P.state ports.now.queues.items ports.now.root) e) }
+{
+    let mut chains = Vec::new(alloc);
+    let mut top = base.0;
+    for (q, port) in ports.queues.iter().enumerate() {
+        let queue = QueueNo(q as u32);
+        let read = match read_queue(alloc, geometry, queue, port, base) {
+            Ok(read) => read,
+            Err(cause) => return Err(bad_queue(queue, cause)),
+        };
+        top = top.max(top_of(&read.chain, base.0, read.greatest));
+        chains.push(read.chain)?;
+    }
+    Ok(QueuesRead {
+        chains,
+        top: TxNo(top),
     })
 }
 
@@ -110,27 +140,35 @@ fn top_of(chain: &Chain, base: u64, greatest: u64) -> u64
     newest.max(greatest)
 }
 
-// Reads the copies at these places.
+// Reads the copies that stand there.
 fn read_copies<P: Port>(
     alloc: Global,
     geometry: Geometry,
-    queue: QueueNo,
-    port: &P,
-    copies: &[Option<u64>],
+    ports: &Ports<P>,
+    copies: &[Option<Spot>],
 ) -> Result<VecDeque<(BlockNo, Block)>, OutOfMemory>
-    requires queue { queue < queues_of geometry }
-    requires port { IsPortOf geometry (Role.Queue queue) (P.state port.now) }
-    requires quiet { IsQuiet (P.state port.now) }
+    requires still { IsStill geometry (states P.state ports.now.queues.items ports.now.root) }
     requires homes { length copies.now ≡ homes_of geometry }
-    ensures { IfOk result (λ w. w.items ≡ writes_from (block_at (P.state port.now).blocks) (area_of geometry) 0 copies.now) }
+    requires own { (x : ℕ) → IsSpotOf geometry.queues (slice_index_or copies.now x None) }
+    ensures { IfOk result (λ w. w.items ≡ writes_from (view_over geometry (states P.state ports.now.queues.items ports.now.root)).area (area_of geometry) 0 copies.now) }
 {
     let mut writes = VecDeque::new(alloc);
     for (b, copy) in copies.iter().enumerate() {
-        if let Some(place) = copy {
+        if let Some(spot) = copy {
             let mut block = Block::zeroed(alloc)?;
-            read_area(geometry, queue, *place, port, &mut block);
+            read_spot(geometry, ports, *spot, &mut block);
             writes.push_back((BlockNo(b as u32), block))?;
         }
     }
     Ok(writes)
+}
+
+// Reads the copy that stands there.
+pub fn read_spot<P: Port>(geometry: Geometry, ports: &Ports<P>, spot: Spot, into: &mut Block)
+    requires still { IsStill geometry (states P.state ports.now.queues.items ports.now.root) }
+    requires own { spot.queue < geometry.queues }
+    ensures { into.new ≡ (view_over geometry (states P.state ports.now.queues.items ports.now.root)).area spot.queue (spot.place % area_of geometry) }
+{
+    let port = &ports.queues[spot.queue.0 as usize];
+    read_area(geometry, spot.queue, spot.place, port, into);
 }

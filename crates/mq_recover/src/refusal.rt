@@ -1,6 +1,6 @@
 // Why recovery is refused.
 use mq_area::DescriptorRefusal;
-use mq_blocks::{BlockNo, OutOfMemory, QueueNo};
+use mq_blocks::{BlockNo, OutOfMemory, QueueNo, TxNo};
 use mq_drive::Off;
 use mq_nvme::EntryRefusal;
 use std::alloc::{AllocError, AllocFailed};
@@ -60,9 +60,20 @@ impl<T: Drop> From<AllocFailed<T>> for ChainRefusal {
 /// Why an image can't be read.
 #[derive(Clone, Copy, Debug, PartialEq, Eq)]
 pub enum ImageFault {
-    Bad { queue: QueueNo, cause: ChainRefusal },
+    Bad {
+        queue: QueueNo,
+        cause: ChainRefusal,
+    },
+    /// The number stands in the chains of two queues.
+    Twice {
+        number: TxNo,
+        first: QueueNo,
+        second: QueueNo,
+    },
     /// The base is above its limit.
-    Limit { base: u64 },
+    Limit {
+        base: u64,
+    },
     OutOfMemory,
 }
 
@@ -73,6 +84,28 @@ impl From<OutOfMemory> for ImageFault {
     ghost from_gives = { λ _ e. e ≡ fault.OutOfMemory };
 
     fn from(_: OutOfMemory) -> Self {
+        ImageFault::OutOfMemory
+    }
+}
+
+impl From<AllocError> for ImageFault {
+    ghost use Rattle.std.specs.Prelude.{◌≡◌};
+    ghost use Rattle.mq_recover.specs.declared.refusal.ImageFault.TheVariants as fault;
+
+    ghost from_gives = { λ _ e. e ≡ fault.OutOfMemory };
+
+    fn from(_: AllocError) -> Self {
+        ImageFault::OutOfMemory
+    }
+}
+
+impl<T: Drop> From<AllocFailed<T>> for ImageFault {
+    ghost use Rattle.std.specs.Prelude.{◌≡◌};
+    ghost use Rattle.mq_recover.specs.declared.refusal.ImageFault.TheVariants as fault;
+
+    ghost from_gives = { λ _ e. e ≡ fault.OutOfMemory };
+
+    fn from(_: AllocFailed<T>) -> Self {
         ImageFault::OutOfMemory
     }
 }

@@ -5,7 +5,7 @@ use Rattle.mq_recover.proofs.copies.note.Given as goal
 -- what is left leads to the same copies
 abbrev pub invariant-loop-b : goal.invariant-loop-b
 invariant-loop-b l = record {
-  goes_on : noted l.copies l.place (drop l.b-index l.logged) ≡ noted l.fn.copies l.first l.logged;
+  goes_on : noted l.copies l.queue l.place (drop l.b-index l.logged) ≡ noted l.fn.copies l.queue l.first l.logged;
   place_is : l.place ≡ l.first + l.b-index;
   same : length l.copies ≡ length l.fn.copies;
 }

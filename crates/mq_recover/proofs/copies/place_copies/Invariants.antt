@@ -1,14 +1,15 @@
-use Rattle.std.proofs.Common.{◌≡◌}
+use Rattle.std.specs.List.{sum_by}
+use Rattle.std.proofs.Common.{◌≡◌, length}
 use Rattle.mq_blocks.specs.Geometry.{homes_of}
-use Rattle.mq_recover.proofs.RecoverCopies.{AreTaken}
+use Rattle.mq_recover.proofs.Popped.{AreTaken}
 use Rattle.mq_recover.proofs.copies.place_copies.Given as goal
 
--- the copies are those of the transactions that are done
-abbrev pub invariant-loop-next : goal.invariant-loop-next
-invariant-loop-next l = record {
-  taken : AreTaken (homes_of l.fn.geometry) l.fn.base l.fn.chain l.transactions.items l.places.items l.prefix;
+-- the copies are those of the transactions that were taken
+abbrev pub invariant-loop-places : goal.invariant-loop-places
+invariant-loop-places l = record {
+  taken : AreTaken (homes_of l.fn.geometry) l.fn.base l.fn.chains.items l.chains.items l.places.items l.prefix;
   base_is : l.base ≡ l.fn.base;
 }
 
-abbrev pub decreases-loop-next : goal.decreases-loop-next
-decreases-loop-next l = goal.left-loop-next l
+abbrev pub decreases-loop-places : goal.decreases-loop-places
+decreases-loop-places l = sum_by length l.chains.items

@@ -1,10 +1,8 @@
 use Rattle.std.proofs.Common.{◌≡◌}
 use Rattle.std.specs.VecDeque.{deque_len}
 use Rattle.mq_blocks.specs.Geometry.{homes_of}
-use Rattle.mq_drive.specs.Start.{IsPortOf}
-use Rattle.mq_drive.specs.declared.role.Role.TheVariants.{Queue, Root}
+use Rattle.mq_recover.specs.Drives.{ArePorts, states, faults_of}
 use Rattle.mq_recover.specs.RecoverHomes.{AreBelow}
-use Rattle.mq_recover.specs.Steps.{two}
 use Rattle.mq_recover.proofs.RecoverEvents.{HasLeft}
 use Rattle.mq_recover.proofs.homes.write_homes.Given as goal
 
@@ -12,13 +10,12 @@ use Rattle.mq_recover.proofs.homes.write_homes.Given as goal
 abbrev pub invariant-loop-b : goal.invariant-loop-b
 invariant-loop-b g l =
     let state = g.P.Port.state in
+    let faults = g.P.Port.faults in
     record {
-      queue : IsPortOf l.fn.geometry (Queue 0) (state l.queue);
-      root : IsPortOf l.fn.geometry Root (state l.root);
+      ports : ArePorts l.fn.geometry (states state l.ports.queues.items l.ports.root);
       below : AreBelow (homes_of l.fn.geometry) l.writes.items;
-      so_far : HasLeft l.fn.geometry (two (state l.fn.queue) (state l.fn.root)) l.fn.writes.items l.writes.items (two (state l.queue) (state l.root));
-      queue_faults : g.P.Port.faults l.queue ≡ g.P.Port.faults l.fn.queue;
-      root_faults : g.P.Port.faults l.root ≡ g.P.Port.faults l.fn.root;
+      so_far : HasLeft l.fn.geometry (states state l.fn.ports.queues.items l.fn.ports.root) l.fn.writes.items l.writes.items (states state l.ports.queues.items l.ports.root);
+      faults : faults_of faults l.ports.queues.items l.ports.root ≡ faults_of faults l.fn.ports.queues.items l.fn.ports.root;
     }
 
 abbrev pub decreases-loop-b : goal.decreases-loop-b

@@ -1,24 +1,33 @@
-use Rattle.std.proofs.Common.{◌≡◌, ◌<◌, ◌≤◌, ℕ, ◌+◌, ◌-◌, ◌*◌, length, arith, subst, sym, ◌∙◌, ap}
-use Rattle.mq_blocks.specs.Blocks.{block_at}
-use Rattle.mq_blocks.specs.Drive.{index_of, IsApartFrom, IsCertain}
-use Rattle.mq_blocks.specs.Geometry.{home_lba}
-use Rattle.mq_recover.proofs.RecoverHomes.{home-zone, index-queue}
+use Rattle.std.proofs.Common.{◌≡◌, ◌<◌, inr, Some, None, sym, ◌∙◌, subst, refl}
+use Rattle.mq_blocks.specs.Drive.{Owns}
+use Rattle.mq_blocks.specs.Geometry.{zone_of}
+use Rattle.mq_drive.specs.Start.{IsPortOf}
+use Rattle.mq_drive.specs.declared.role.Role.TheVariants.{Queue}
+use Rattle.mq_recover.specs.Drives.{states}
+use Rattle.mq_recover.proofs.QueueReads.{port-own}
+use Rattle.mq_recover.proofs.Standings.{home-read}
+use Rattle.mq_recover.proofs.Zones.{IsZone, zone-is, home-own}
 use Rattle.mq_recover.proofs.standing.read_home.Goals as goal
 
-pub returns-else-b-meta : goal.returns-else-b-meta
-returns-else-b-meta g c =
-    let high : c.args.geometry.meta ≤ c.args.b = omega (arith, c.if-b-meta.false, c.b.view_is, c.meta.ensures) in
-    let at : index_of (g.P.Port.state c.args.queue.now) (home_lba c.args.geometry c.args.b) ≡ c.args.geometry.area + (c.args.b - c.args.geometry.meta) = index-queue c.args.geometry (g.P.Port.state c.args.queue.now) c.args.b c.requires.queue high in
-    let quiet = c.requires.queue_quiet in
-    let one : c.args.geometry.queues * c.args.geometry.zone ≡ 1 * c.args.geometry.zone = ap (λ (n : ℕ). n * c.args.geometry.zone) c.requires.one in
-    let within : c.args.b < c.args.geometry.meta + c.args.geometry.queues * c.args.geometry.zone = c.requires.within in
-    let sized : length (g.P.Port.state c.args.queue.now).blocks ≡ c.args.geometry.area + c.args.geometry.zone = c.requires.queue.blocks in
-    let inside : c.args.geometry.area + (c.args.b - c.args.geometry.meta) < length (g.P.Port.state c.args.queue.now).sure =
-    omega (arith, c.requires.queue.sure, sized, one, within, high) in
-    let certain : IsCertain (g.P.Port.state c.args.queue.now) (c.args.geometry.area + (c.args.b - c.args.geometry.meta)) =
-    record { sure = quiet.sure (c.args.geometry.area + (c.args.b - c.args.geometry.meta)) inside; apart = subst (IsApartFrom (g.P.Port.state c.args.queue.now) (c.args.geometry.area + (c.args.b - c.args.geometry.meta))) (sym quiet.posted) tt } in
-    let place : index_of (g.P.Port.state c.args.queue.now) c.home-lba.result ≡ c.args.geometry.area + (c.args.b - c.args.geometry.meta) =
-    ap (index_of (g.P.Port.state c.args.queue.now)) c.home-lba.ensures ∙ at in
-    c.read_block-else-b-meta.ensures (subst (IsCertain (g.P.Port.state c.args.queue.now)) (sym place) certain)
-    ∙ ap (block_at (g.P.Port.state c.args.queue.now).blocks) place
-    ∙ sym (home-zone c.args.geometry (g.P.Port.state c.args.queue.now) (g.P.Port.state c.args.root.now) c.args.b c.requires.one high c.requires.within)
+pub returns-in-None : goal.returns-in-None
+returns-in-None g c =
+    home-read c.args.geometry (states g.P.Port.state c.args.ports.now.queues.items c.args.ports.now.root) None c.args.b c.home-lba.result (g.P.Port.state c.args.ports.now.root) _ c.requires.still
+    (sym c.zone_of.ensures ∙ c.in-None.is) tt refl c.home-lba.ensures c.read_block.ensures
+
+pub read_block-requires-in-Some : goal.read_block-requires-in-Some
+read_block-requires-in-Some g c =
+    let geometry = c.args.geometry in
+    let zone : zone_of geometry c.args.b ≡ Some c.in-Some.queue = sym c.zone_of.ensures ∙ c.in-Some.is in
+    let low : c.in-Some.queue < geometry.queues = subst (IsZone geometry) zone (zone-is geometry c.args.b c.requires.within) in
+    let at = port-own geometry g.P.Port.state c.args.ports.now.queues.items c.args.ports.now.root c.in-Some.queue c.queue.inside.0 c.index.result.now c.requires.still low c.queue.view_is c.index.ensures in
+    let port : IsPortOf geometry (Queue c.in-Some.queue) (g.P.Port.state c.index.result.now) = subst (IsPortOf geometry (Queue c.in-Some.queue)) at (c.requires.still.each c.in-Some.queue low).port in
+    subst (Owns (g.P.Port.state c.index.result.now)) (sym c.home-lba.ensures) (inr (home-own geometry (Some c.in-Some.queue) (g.P.Port.state c.index.result.now) c.args.b zone port))
+
+pub returns-in-Some : goal.returns-in-Some
+returns-in-Some g c =
+    let geometry = c.args.geometry in
+    let zone : zone_of geometry c.args.b ≡ Some c.in-Some.queue = sym c.zone_of.ensures ∙ c.in-Some.is in
+    let low : c.in-Some.queue < geometry.queues = subst (IsZone geometry) zone (zone-is geometry c.args.b c.requires.within) in
+    let at = port-own geometry g.P.Port.state c.args.ports.now.queues.items c.args.ports.now.root c.in-Some.queue c.queue.inside.0 c.index.result.now c.requires.still low c.queue.view_is c.index.ensures in
+    home-read geometry (states g.P.Port.state c.args.ports.now.queues.items c.args.ports.now.root) (Some c.in-Some.queue) c.args.b c.home-lba.result (g.P.Port.state c.index.result.now) _ c.requires.still
+    zone low at c.home-lba.ensures c.read_block-in-Some.ensures

@@ -1,19 +1,35 @@
-use Rattle.std.proofs.Common.{subst}
-use Rattle.mq_blocks.specs.Drive.{PortState}
-use Rattle.mq_recover.specs.Standing.{StandsIn}
-use Rattle.mq_recover.proofs.RecoverChains.{ok-map, first-is, first-same}
+use Rattle.std.proofs.Common.{◌≡◌, ◌∙◌, List, Option, None, get_or, length, ap, refl}
+use Rattle.std.proofs.lemmas.Result.{err_from_is_err_and}
+use Rattle.mq_recover.specs.Drives.{states}
+use Rattle.mq_recover.specs.Standing.{newest_of}
+use Rattle.mq_recover.specs.declared.copies.Spot.{Spot}
+use Rattle.mq_recover.specs.declared.standing.Standing.{Standing}
+use Rattle.mq_recover.proofs.Images.{err-exact, read-reaches, reaches-refused}
+use Rattle.mq_recover.proofs.Plans.{found-within}
+use Rattle.mq_recover.proofs.RecoverChains.{base-of}
+use Rattle.mq_recover.proofs.Standings.{standing-of}
 use Rattle.mq_recover.proofs.standing.stands.Goals as goal
 
-pub stands_through-requires : goal.stands_through-requires
-stands_through-requires g c =
-    c.requires.still c.index.result.now (first-is c.args.ports.now.queues.items c.index.result.now c.requires.one c.index.ensures)
+pub read_blocks-requires-clause-homes : goal.read_blocks-requires-clause-homes
+read_blocks-requires-clause-homes g c = ap length c.deref.ensures.value ∙ c.in_ok-found.ensures.ok.whole
+
+pub read_blocks-requires-clause-own : goal.read_blocks-requires-clause-own
+read_blocks-requires-clause-own g c = found-within c.args.geometry (states g.P.Port.state c.args.ports.now.queues.items c.args.ports.now.root) c.in_ok-found.found c.deref.result.now c.in_ok-found.ensures.ok c.deref.ensures.value
+
+pub returns-in_err-found-clause-exact : goal.returns-in_err-found-clause-exact
+returns-in_err-found-clause-exact g c e refuses =
+    let p = err_from_is_err_and c.from_residual.result c.from_residual.ensures.1 in
+    rw (p.1, p.2) (err-exact Standing c.args.geometry (states g.P.Port.state c.args.ports.now.queues.items c.args.ports.now.root) c.in_err-found.field-0.0 e c.in_err-found.ensures.refused refuses)
 
 pub returns-clause-ok : goal.returns-clause-ok
 returns-clause-ok g c =
-    let state = g.P.Port.state in
-    let root : PortState = state c.args.ports.now.root in
-    ok-map c.stands_through.result _ _
-    (λ s is p there.
-    let same = first-same c.args.ports.now.queues.items c.index.result.now p c.requires.one c.index.ensures there in
-    subst (λ (x : g.row.P.Denot). StandsIn c.args.geometry (state x) root s) same is)
-    c.stands_through.ensures.ok
+    let d = states g.P.Port.state c.args.ports.now.queues.items c.args.ports.now.root in
+    let is : c.deref.result.now ≡ c.in_ok-found.found.places.items = c.deref.ensures.value in
+    standing-of c.args.geometry d c.in_ok-found.found _ c.in_ok-found.ensures.ok c.in_ok-blocks.ensures.0
+    (λ b below. c.in_ok-blocks.ensures.1 b below ∙ ap (λ (l : List (Option Spot)). newest_of c.args.geometry d (get_or l b None) b) is)
+    refl (base-of c.base.result d.root c.requires.root.quiet c.base.ensures) refl
+
+pub returns-clause-exact : goal.returns-clause-exact
+returns-clause-exact g c e refuses =
+    let is = c.in_ok-found.ensures.ok in
+    absurd (reaches-refused c.args.geometry (states g.P.Port.state c.args.ports.now.queues.items c.args.ports.now.root) is.ds e (read-reaches _ _ _ _ is.read) refuses)
