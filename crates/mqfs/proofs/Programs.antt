@@ -4,7 +4,7 @@ use Rattle.std.proofs.lemmas.Bool.{false≢true}
 use Rattle.std.specs.Prelude.{Result, Ok, Err, MatchResult, IfErr, IfOk, IsErr, ◌⊎◌, nat_eq}
 use Rattle.mqfs.specs.Blocks.{IsBlockText, output_of}
 use Rattle.mqfs.specs.Cuts.{IsPrefixAt}
-use Rattle.mqfs.specs.Program.{Words, AreBlocks, Said, usage, output, refused, fault, too_long, memory, memory_line, EndsWith, IsToSay, IsUnlessWanting, IsSaidOf, status_of, text_of, refusal_said, TakesWithin}
+use Rattle.mqfs.specs.Program.{Words, AreBlocks, Said, usage, output, refused, fault, too_long, memory, memory_line, EndsWith, IsRefusedText, IsToSay, IsUnlessWanting, IsSaidOf, status_of, text_of, refusal_said, TakesWithin}
 use Rattle.mq_text.specs.Refusals.{RefusesText, IsRefused}
 use Rattle.mq_outside.specs.Outside.{Held, Holds}
 use Rattle.mq_text.specs.declared.item.BlockItem.{BlockItem}
@@ -13,6 +13,7 @@ use Rattle.mq_text.specs.declared.refusal.BlockTextRefusal.{BlockTextRefusal}
 use Rattle.mq_text.specs.declared.refusal.BlockTextRefusal.TheVariants.{At, OutOfMemory}
 use Rattle.mq_outside.specs.Outside.{AppendsPrefix, appended}
 use Rattle.mq_text.proofs.TextWhole.{good_or_refused}
+use Rattle.mqfs.specs.declared.program.words.Options.{Options}
 use Rattle.mqfs.proofs.Words.{one_command}
 
 pub match_result : {A E : Type 0} (r : Result A E) {P P' : A → Type 0} {Q Q' : E → Type 0} → MatchResult r P Q → ((x : A) → P x → P' x) → ((e : E) → Q e → Q' e) → MatchResult r P' Q'
@@ -119,24 +120,45 @@ module _ (held : Held) (name : List ℕ) (cut : Option ℕ) (bytes : List ℕ) (
   refused_of line cause is memory says ends = still_memory 2 result ends
 
 module _ (words : Words) (told : Option Held) (f nf t nt status : ℕ) (text : List ℕ) (result : ℕ) (say : IsToSay words told f nf t nt status text) (ends : IsUnlessWanting status result)
-    (held : Held) (name : List ℕ) (cut pick : Option ℕ) (bytes : List ℕ) (are : AreBlocks words name cut pick) (tells : told ≡ Some held) (holds : held name ≡ Some bytes) where
+    (held : Held) (name : List ℕ) (options : Options) (bytes : List ℕ) (are : AreBlocks words name options) (tells : told ≡ Some held) (holds : held name ≡ Some bytes) where
   -- what was to be said of the name and the cut that the words ask
-  asked : (said : Said) × IsSaidOf said (Some held) name cut f nf t nt × IsUnlessWanting (status_of said) result
+  asked : (said : Said) × IsSaidOf said (Some held) name options.cut f nf t nt × IsUnlessWanting (status_of said) result
   asked = elim say [
-    | inl none ↦ absurd (none.0 name cut pick are)
+    | inl none ↦ absurd (none.0 name options are)
     | inr some ↦ (
-        let one = one_command words some.0 name some.1 cut some.2 pick some.4 are in (
-          some.3,
-          subst (λ (c : Option ℕ). IsSaidOf some.3 (Some held) name c f nf t nt) one.1
-              (subst (λ (n : List ℕ). IsSaidOf some.3 (Some held) n some.1 f nf t nt) one.0
-              (subst (λ (o : Option Held). IsSaidOf some.3 o some.0 some.1 f nf t nt) tells some.5)),
-          subst (λ (s : ℕ). IsUnlessWanting s result) some.6 ends,
+        let one = one_command words some.0 name some.1 options some.3 are in (
+          some.2,
+          subst (λ (o : Options). IsSaidOf some.2 (Some held) name o.cut f nf t nt) one.1
+              (subst (λ (n : List ℕ). IsSaidOf some.2 (Some held) n some.1.cut f nf t nt) one.0
+              (subst (λ (o : Option Held). IsSaidOf some.2 o some.0 some.1.cut f nf t nt) tells some.4)),
+          subst (λ (s : ℕ). IsUnlessWanting s result) some.5 ends,
         )
         )
   ]
 
   pub done_where : (lines : List (List BlockItem)) → IsBlockText bytes lines → IsUnlessWanting 0 result
-  done_where lines is = done_of held name cut bytes f nf t nt result holds lines is asked.0 asked.1 asked.2
+  done_where lines is = done_of held name options.cut bytes f nf t nt result holds lines is asked.0 asked.1 asked.2
 
   pub refused_where : (line : ℕ) (cause : BlockTextCause) → RefusesText bytes line cause → IsUnlessWanting 2 result
-  refused_where line cause is = refused_of held name cut bytes f nf t nt result holds line cause is asked.0 asked.1 asked.2
+  refused_where line cause is = refused_of held name options.cut bytes f nf t nt result holds line cause is asked.0 asked.1 asked.2
+
+-- what a refused text comes to, where that was said whole
+module _ (words : Words) (told : Option Held) (f nf t nt status : ℕ) (text : List ℕ) (result : ℕ) (contents new_contents : Option (List ℕ)) where
+  refusal_of : (name : List ℕ) (options : Options) (said : Said) → AreBlocks words name options → IsSaidOf said told name options.cut f nf t nt → status_of said ≡ 2 → new_contents ≡ appended contents (text_of name said) → IsRefusedText words told contents new_contents
+  refusal_of name options usage are says two is = absurd says
+  refusal_of name options (output lines p) are says two is = absurd (omega (arith, two))
+  refusal_of name options (refused line cause) are says two is = (name, options, says.0, line, cause, are, says.1, says.2, is)
+  refusal_of name options fault are says two is = absurd (omega (arith, two))
+  refusal_of name options too_long are says two is = absurd (omega (arith, two))
+  refusal_of name options memory are says two is = absurd (omega (arith, two))
+
+  not_wanting : (result ≡ 4) ⊎ (result ≡ 6) → result ≡ 2 → ⊥
+  not_wanting (inl e) two = omega (arith, e, two)
+  not_wanting (inr e) two = omega (arith, e, two)
+
+  pub refused_tells : (faults new_faults : ℕ) → IsToSay words told f nf t nt status text → EndsWith status text result contents new_contents faults new_faults → result ≡ 2 → IsRefusedText words told contents new_contents
+  refused_tells faults new_faults (inl say) (inl e) two = let one = say.1 in let same = e.0 in absurd (omega (arith, one, same, two))
+  refused_tells faults new_faults (inr say) (inl e) two =
+      refusal_of say.0 say.1 say.2 say.3 say.4 (sym say.5 ∙ sym e.0 ∙ two) (e.1 ∙ ap (appended contents) say.6)
+  refused_tells faults new_faults say (inr (inl e)) two = absurd (not_wanting (inl e.0) two)
+  refused_tells faults new_faults say (inr (inr e)) two = absurd (not_wanting (wanting (nat_eq status 4) result e.0) two)

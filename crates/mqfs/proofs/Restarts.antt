@@ -1,27 +1,30 @@
--- Two images of a drive of one queue, on which lines of a text stand, and their recovery.
-use Rattle.std.proofs.Common.{◌≡◌, ◌<◌, ◌≤◌, ◌⊎◌, ⊎_elim, ℕ, ◌+◌, ◌*◌, List, [], ◌∷◌, length, take, Option, Some, None, refl, inl, inr, sym, ◌∙◌, ap, subst, arith}
-use Rattle.std.specs.Prelude.{slice_get, Contains, Result, Ok, Err}
-use Rattle.mq_nvme.specs.Says.{says}
+-- Images of a drive of one queue, the drive that starts from them, and its recovery.
+use Rattle.std.proofs.Common.{◌≡◌, ◌<◌, ◌≤◌, ◌⊎◌, ⊎_elim, ℕ, zero, suc, ◌+◌, ◌*◌, List, [], ◌∷◌, length, map, get_or, Option, Some, None, refl, inl, inr, sym, ◌∙◌, ap, subst, arith}
+use Rattle.std.specs.Prelude.{Contains, Result, Ok, Err, IfOk}
+use Rattle.std.proofs.lemmas.List.{length-map}
 use Rattle.mq_blocks.specs.Descriptor.{Descriptor}
-use Rattle.mq_blocks.specs.Drive.{FuseName, PortState, PortImage, after_begin, after_end}
+use Rattle.mq_blocks.specs.Drive.{FuseName, PortState, PortImage, IsImage, IsQuiet}
 use Rattle.mq_blocks.specs.Geometry.{homes_of, home_lba, zone_of}
-use Rattle.mq_blocks.specs.Journal.{shown, stands}
-use Rattle.mq_blocks.specs.Machine.{Map}
+use Rattle.mq_blocks.specs.Journal.{Reaches, image_at, stands}
 use Rattle.mq_blocks.specs.declared.geometry.Geometry.{Geometry}
+use Rattle.mq_core.specs.State.{port_at}
 use Rattle.mq_drive.specs.Emu.{emu_state, emu_faults}
-use Rattle.mq_drive.specs.Start.{IsImageOf, start_of}
-use Rattle.mq_drive.specs.Steps.{Fault, PowerOff, HomeError}
+use Rattle.mq_drive.specs.Start.{IsImageOf, IsPortOf, start_of}
+use Rattle.mq_drive.specs.Views.{IsStill as AreTwoStill}
+use Rattle.mq_drive.specs.Steps.{Fault, PowerOff, HomeError, Gains}
 use Rattle.mq_drive.specs.declared.emu.EmuPort.{EmuPort}
 use Rattle.mq_drive.proofs.Faults.{off_unlimited, no_error, home_error_is_none}
 use Rattle.mq_drive.proofs.Starts.{port_of-start, quiet-start}
 use Rattle.mq_drive.specs.declared.role.Role.TheVariants.{Queue, Root}
-use Rattle.mqfs.specs.Commits.{AreBelow, AllBelow, ShowsMap}
+use Rattle.mqfs.specs.Commits.{AreBelow, AllBelow}
 use Rattle.mqfs.specs.Fresh.{IsTextGeometry}
-use Rattle.mqfs.specs.Live.{HoldsMap}
-use Rattle.mq_drive.specs.Views.{view_of, IsStill}
+use Rattle.mqfs.specs.Restart.{IsLeftOf, cut_view, no_faults}
+use Rattle.mq_recover.specs.Drives.{DriveState, IsStill, IsStillPort, AreImages, ArePorts, AreBoundsKept, IsBoundKept, drive, states, faults_of, view_over}
 use Rattle.mq_recover.specs.RecoverCauses.{HasDriveCause, OnDrive, OnImage, OneGains}
+use Rattle.mq_recover.specs.Recovery.{IsRead, StandsAs}
 use Rattle.mq_recover.specs.Refusals.{RefusesImage}
-use Rattle.mq_recover.specs.Steps.{Event, BeginHome, EndHome, StoreBase, FlushBase, StoreHead, FlushHead, TwoPorts, two, at_home, after_event, after_events, StopsAt, IsCutShort, IsDone}
+use Rattle.mq_recover.specs.Steps.{IsCutShort, IsDone}
+use Rattle.mq_recover.specs.declared.plan.Recovered.{Recovered}
 use Rattle.mq_recover.proofs.Images.{reaches-same, reaches-refused, read-reaches}
 use Rattle.mq_text.specs.Text.{AreGoodItems, AreGoodLines}
 use Rattle.mq_text.specs.declared.item.BlockItem.{BlockItem}
@@ -47,141 +50,181 @@ lines_below homes [] size good = tt
 lines_below homes ([] ∷ ls) size good = absurd good.0
 lines_below homes ((i ∷ is) ∷ ls) size good = (items_below homes (i ∷ is) size good.0, lines_below homes ls size good.1)
 
--- the two ports of a drive of one queue that starts from images
-pub record AreStarted (g : Geometry) (q r : PortImage) (queue root : PortState) : Type 0 where
-  pub one : g.queues ≡ 1
-  pub queue_image : IsImageOf g (Queue 0) q
-  pub root_image : IsImageOf g Root r
-  pub fuse : FuseName
-  pub queue_is : queue ≡ start_of g (Queue 0) q fuse None
-  pub root_is : root ≡ start_of g Root r fuse None
+-- ---- a drive that starts from images
 
-still_start : (g : Geometry) (f : FuseName) (q r : PortImage) → g.queues ≡ 1 → IsImageOf g (Queue 0) q → IsImageOf g Root r → IsStill g (start_of g (Queue 0) q f None) (start_of g Root r f None)
-still_start g f q r one queue root = record {
-  one = one;
-  queue_port = port_of-start g (Queue 0) q f None queue;
-  root_port = port_of-start g Root r f None root;
-  queue_quiet = quiet-start g (Queue 0) q f None;
-  root_quiet = quiet-start g Root r f None;
+abbrev pub start_drive : Geometry → FuseName → PortImage → PortImage → DriveState
+start_drive g f q r = drive (start_of g (Queue 0) q f None ∷ []) (start_of g Root r f None)
+
+start_still : (g : Geometry) (f : FuseName) (q r : PortImage) → g.queues ≡ 1 → IsImageOf g (Queue 0) q → IsImageOf g Root r → IsStill g (start_drive g f q r)
+start_still g f q r one queue root = record {
+  count = sym one;
+  each = λ k less.
+      let none : k ≡ 0 = omega (arith, one, less) in
+      subst (λ (n : ℕ). IsStillPort g (Queue n) (port_at (start_of g (Queue 0) q f None ∷ []) n)) (sym none) (record { port = port_of-start g (Queue 0) q f None queue; quiet = quiet-start g (Queue 0) q f None });
+  root = record { port = port_of-start g Root r f None root; quiet = quiet-start g Root r f None };
+  ringless = root.words;
 }
 
-pub started_still : (g : Geometry) (q r : PortImage) (queue root : PortState) → AreStarted g q r queue root → IsStill g queue root
-started_still g q r queue root a =
-    subst (λ (s : PortState). IsStill g s root) (sym a.queue_is)
-    (subst (λ (s : PortState). IsStill g (start_of g (Queue 0) q a.fuse None) s) (sym a.root_is) (still_start g a.fuse q r a.one a.queue_image a.root_image))
+pub started_still : (g : Geometry) (f : FuseName) (q r : PortImage) (d : DriveState) → g.queues ≡ 1 → IsImageOf g (Queue 0) q → IsImageOf g Root r → d ≡ start_drive g f q r → IsStill g d
+started_still g f q r d one queue root is = subst (IsStill g) (sym is) (start_still g f q r one queue root)
 
--- what they show to recovery is what the images show
-pub started_shows : (g : Geometry) (q r : PortImage) (queue root : PortState) (n : ℕ) (m : Map) → AreStarted g q r queue root → ShowsMap g (shown says g (q ∷ []) r) n m → ShowsMap g (view_of g queue root) n m
-started_shows g q r queue root n m a shows =
-    subst (λ (s : PortState). ShowsMap g (view_of g s root) n m) (sym a.queue_is)
-    (subst (λ (s : PortState). ShowsMap g (view_of g (start_of g (Queue 0) q a.fuse None) s) n m) (sym a.root_is) shows)
+-- what it shows to recovery is what the images show
+pub started_view : (g : Geometry) (f : FuseName) (q r : PortImage) (d : DriveState) → d ≡ start_drive g f q r → view_over g d ≡ cut_view g q r
+started_view g f q r d is = ap (view_over g) is
 
--- after recovery so many lines stood, and the home blocks hold their map
-pub recovered_map : (g : Geometry) (queue root new_queue new_root : PortState) (n : ℕ) (m : Map) (prefix base : ℕ) → homes_of g ≡ 256 → ShowsMap g (view_of g queue root) n m → IsDone g (two queue root) prefix base (two new_queue new_root)
-    → (prefix ≡ n) × HoldsMap g new_queue new_root m
-recovered_map g queue root new_queue new_root n m prefix base size shows done =
-    let same = reaches-same g (view_of g queue root) done.ds shows.ds (read-reaches g (view_of g queue root) done.ds base done.read) shows.reaches in (
-      done.prefix_is ∙ ap length same ∙ shows.prefix_is,
-      λ b v less some.
-          let below : b < homes_of g = omega (arith, size, less) in
-          done.recovered.homes b below ∙ ap (λ (l : List Descriptor). stands g (view_of g queue root) l b) same ∙ shows.blocks b v below some,
-    )
+pub started_reaches : (g : Geometry) (f : FuseName) (q r : PortImage) (d : DriveState) (ds : List Descriptor) → d ≡ start_drive g f q r → Reaches g (cut_view g q r) ds → Reaches g (view_over g d) ds
+started_reaches g f q r d ds is reaches = subst (λ e. Reaches g e ds) (sym (started_view g f q r d is)) reaches
+
+-- after a recovery so many transactions stood, and the home blocks hold what stood
+pub recovered_prefix : (g : Geometry) (d e : DriveState) (ds : List Descriptor) (prefix base : ℕ) → Reaches g (view_over g d) ds → IsDone g d prefix base e → prefix ≡ length ds
+recovered_prefix g d e ds prefix base reaches done = done.prefix_is ∙ ap length (reaches-same g (view_over g d) done.ds ds (read-reaches g (view_over g d) done.ds base done.read) reaches)
+
+pub recovered_home : (g : Geometry) (d e : DriveState) (ds : List Descriptor) (prefix base b : ℕ) → Reaches g (view_over g d) ds → IsDone g d prefix base e → b < homes_of g → (view_over g e).home b ≡ stands g (view_over g d) ds b
+recovered_home g d e ds prefix base b reaches done less =
+    let same = reaches-same g (view_over g d) done.ds ds (read-reaches g (view_over g d) done.ds base done.read) reaches in
+    done.recovered.homes b less ∙ ap (λ (l : List Descriptor). stands g (view_over g d) l b) same
 
 -- ---- refusals that can't come
-
--- the bounds of both ports are as before
-record KeepBounds (e f : TwoPorts) : Type 0 where
-  queue_fuse : f.queue.fuse ≡ e.queue.fuse
-  queue_fail : f.queue.fail ≡ e.queue.fail
-  root_fuse : f.root.fuse ≡ e.root.fuse
-  root_fail : f.root.fail ≡ e.root.fail
-
-kept-home : (z : Option ℕ) (change : PortState → PortState) (e : TwoPorts) → ((s : PortState) → (change s).fuse ≡ s.fuse) → ((s : PortState) → (change s).fail ≡ s.fail) → KeepBounds e (at_home z change e)
-kept-home None change e fuse fail = record { queue_fuse = refl; queue_fail = refl; root_fuse = fuse e.root; root_fail = fail e.root }
-kept-home (Some q) change e fuse fail = record { queue_fuse = fuse e.queue; queue_fail = fail e.queue; root_fuse = refl; root_fail = refl }
-
-kept-event : (g : Geometry) (e : TwoPorts) (x : Event) → KeepBounds e (after_event g e x)
-kept-event g e (BeginHome b content) = kept-home (zone_of g b) (λ s. after_begin s (home_lba g b) content) e (λ s. refl) (λ s. refl)
-kept-event g e (EndHome b content) = kept-home (zone_of g b) (λ s. after_end s (home_lba g b) content) e (λ s. refl) (λ s. refl)
-kept-event g e (StoreBase base) = record { queue_fuse = refl; queue_fail = refl; root_fuse = refl; root_fail = refl }
-kept-event g e FlushBase = record { queue_fuse = refl; queue_fail = refl; root_fuse = refl; root_fail = refl }
-kept-event g e (StoreHead head) = record { queue_fuse = refl; queue_fail = refl; root_fuse = refl; root_fail = refl }
-kept-event g e FlushHead = record { queue_fuse = refl; queue_fail = refl; root_fuse = refl; root_fail = refl }
-
-kept-events : (g : Geometry) (e : TwoPorts) (xs : List Event) → KeepBounds e (after_events g e xs)
-kept-events g e [] = record { queue_fuse = refl; queue_fail = refl; root_fuse = refl; root_fail = refl }
-kept-events g e (x ∷ xs) =
-    let first = kept-event g e x in
-    let rest = kept-events g (after_event g e x) xs in
-    record {
-      queue_fuse = rest.queue_fuse ∙ first.queue_fuse;
-      queue_fail = rest.queue_fail ∙ first.queue_fail;
-      root_fuse = rest.root_fuse ∙ first.root_fuse;
-      root_fail = rest.root_fail ∙ first.root_fail;
-    }
-
-kept-stop : (g : Geometry) (x : RecoverRefusal) (e f : TwoPorts) (xs : List Event) → StopsAt g x e xs f → KeepBounds e f
-kept-stop g (Image c) e f xs stops = absurd stops
-kept-stop g Off e f xs stops = subst (KeepBounds e) (sym stops.2) (kept-events g e (take stops.0 xs))
-kept-stop g (Failed b status) e f xs stops = subst (KeepBounds e) (sym stops.3) (kept-events g e (take (stops.0 + 1) xs))
-
--- Two ports in memory that have no faults, no limit and no command that fails, and over which recovery
--- may have been refused.
-pub record AreSound (g : Geometry) (queue root : EmuPort) : Type 0 where
-  pub queue_faults : emu_faults queue ≡ []
-  pub root_faults : emu_faults root ≡ []
-  pub queue_limit : (emu_state queue).fuse.limit ≡ None
-  pub queue_fail : (emu_state queue).fail ≡ None
-  pub root_limit : (emu_state root).fuse.limit ≡ None
-  pub root_fail : (emu_state root).fail ≡ None
 
 nothing : {f : Fault} → Contains [] f → ⊥
 nothing {f} has = let within = has.1 in omega (arith, within)
 
-no_off : (g : Geometry) (queue root new_queue new_root : EmuPort) → AreSound g queue root → KeepBounds (two (emu_state queue) (emu_state root)) (two (emu_state new_queue) (emu_state new_root))
-    → OneGains PowerOff (emu_faults queue) (emu_faults root) (emu_faults new_queue) (emu_faults new_root) → ⊥
-no_off g queue root new_queue new_root sound keep (inl gains) = off_unlimited (emu_faults queue) new_queue.device gains.0 (ap (λ (f : FuseName). f.limit) keep.queue_fuse ∙ sound.queue_limit)
-no_off g queue root new_queue new_root sound keep (inr gains) = off_unlimited (emu_faults root) new_root.device gains.1 (ap (λ (f : FuseName). f.limit) keep.root_fuse ∙ sound.root_limit)
+first_fault : (x : EmuPort) (faults : List Fault) → emu_faults x ∷ [] ≡ faults ∷ [] → faults ≡ emu_faults x
+first_fault x faults is = sym (ap (λ (l : List (List Fault)). get_or l 0 []) is)
 
-no_home_error : (g : Geometry) (queue root new_queue new_root : EmuPort) (lba status : ℕ) → AreSound g queue root → KeepBounds (two (emu_state queue) (emu_state root)) (two (emu_state new_queue) (emu_state new_root))
-    → OneGains (HomeError lba status) (emu_faults queue) (emu_faults root) (emu_faults new_queue) (emu_faults new_root) → ⊥
-no_home_error g queue root new_queue new_root lba status sound keep (inl gains) =
-    no_error (emu_faults queue) new_queue.device (HomeError lba status) (home_error_is_none lba status) gains.0 (keep.queue_fail ∙ sound.queue_fail)
-    (λ has. nothing (subst (λ (l : List Fault). Contains l PowerOff) sound.queue_faults has))
-no_home_error g queue root new_queue new_root lba status sound keep (inr gains) =
-    no_error (emu_faults root) new_root.device (HomeError lba status) (home_error_is_none lba status) gains.1 (keep.root_fail ∙ sound.root_fail)
-    (λ has. nothing (subst (λ (l : List Fault). Contains l PowerOff) sound.root_faults has))
+-- Without a limit the power of no port goes off.
+no_off : (items : List EmuPort) (root : EmuPort) (port : Option ℕ) → length items ≡ 1 → (port_at (map emu_state items) 0).fuse.limit ≡ None → (emu_state root).fuse.limit ≡ None → OneGains port PowerOff no_faults (faults_of emu_faults items root) → ⊥
+no_off [] root port one queue_on root_on gains = absurd (omega (arith, one))
+no_off (x ∷ y ∷ xs) root port one queue_on root_on gains = absurd (omega (arith, one))
+no_off (x ∷ []) root None one queue_on root_on gains = off_unlimited [] root.device gains.1 root_on
+no_off (x ∷ []) root (Some zero) one queue_on root_on gains = off_unlimited [] x.device (subst (Gains PowerOff []) (first_fault x gains.1 gains.3) gains.2) queue_on
+no_off (x ∷ []) root (Some (suc q)) one queue_on root_on gains = let less = gains.0 in absurd (omega (arith, less))
 
--- on a readable image, over such ports, only memory is wanting
-pub only_memory : {A : Type 0} (g : Geometry) (queue root new_queue new_root : EmuPort) (r : Result A RecoverRefusal) (e : RecoverRefusal) → AreSound g queue root
-    → ((f : ImageFault) → RefusesImage g (emu_state queue) (emu_state root) f → ⊥)
-    → OnImage r (λ f. (emu_state new_queue ≡ emu_state queue) × (emu_state new_root ≡ emu_state root) × ((f ≡ fault.OutOfMemory) ⊎ RefusesImage g (emu_state queue) (emu_state root) f))
-    → OnDrive r (λ x. IsCutShort g x (two (emu_state queue) (emu_state root)) (two (emu_state new_queue) (emu_state new_root)))
-    → HasDriveCause g r (emu_faults queue) (emu_faults root) (emu_faults new_queue) (emu_faults new_root) → r ≡ Err e → e ≡ Image fault.OutOfMemory
-only_memory {A} g queue root new_queue new_root r e sound readable image drive cause is =
-    by e (subst (λ (x : Result A RecoverRefusal). OnImage x (λ f. (emu_state new_queue ≡ emu_state queue) × (emu_state new_root ≡ emu_state root) × ((f ≡ fault.OutOfMemory) ⊎ RefusesImage g (emu_state queue) (emu_state root) f))) is image)
-    (subst (λ (x : Result A RecoverRefusal). OnDrive x (λ y. IsCutShort g y (two (emu_state queue) (emu_state root)) (two (emu_state new_queue) (emu_state new_root)))) is drive)
-    (subst (λ (x : Result A RecoverRefusal). HasDriveCause g x (emu_faults queue) (emu_faults root) (emu_faults new_queue) (emu_faults new_root)) is cause)
-  where
-    by : (x : RecoverRefusal) → OnImage {A = A} (Err x) (λ f. (emu_state new_queue ≡ emu_state queue) × (emu_state new_root ≡ emu_state root) × ((f ≡ fault.OutOfMemory) ⊎ RefusesImage g (emu_state queue) (emu_state root) f))
-        → OnDrive {A = A} (Err x) (λ y. IsCutShort g y (two (emu_state queue) (emu_state root)) (two (emu_state new_queue) (emu_state new_root)))
-        → HasDriveCause {A = A} g (Err x) (emu_faults queue) (emu_faults root) (emu_faults new_queue) (emu_faults new_root) → x ≡ Image fault.OutOfMemory
-    by (Image f) image drive cause = ⊎_elim (λ same. ap Image same) (λ refuses. absurd (readable f refuses)) image.2
-    by Off image drive cause = absurd (no_off g queue root new_queue new_root sound (kept-stop g Off _ _ _ drive.events) cause)
-    by (Failed b status) image drive cause = absurd (no_home_error g queue root new_queue new_root (home_lba g b) status sound (kept-stop g (Failed b status) _ _ _ drive.events) cause)
+-- where no command fails no home write ends with an error
+no_home_error : (items : List EmuPort) (root : EmuPort) (port : Option ℕ) (lba status : ℕ) → length items ≡ 1 → (port_at (map emu_state items) 0).fail ≡ None → (emu_state root).fail ≡ None
+    → OneGains port (HomeError lba status) no_faults (faults_of emu_faults items root) → ⊥
+no_home_error [] root port lba status one queue_sound root_sound gains = absurd (omega (arith, one))
+no_home_error (x ∷ y ∷ xs) root port lba status one queue_sound root_sound gains = absurd (omega (arith, one))
+no_home_error (x ∷ []) root None lba status one queue_sound root_sound gains = no_error [] root.device (HomeError lba status) (home_error_is_none lba status) gains.1 root_sound nothing
+no_home_error (x ∷ []) root (Some zero) lba status one queue_sound root_sound gains =
+    no_error [] x.device (HomeError lba status) (home_error_is_none lba status) (subst (Gains (HomeError lba status) []) (first_fault x gains.1 gains.3) gains.2) queue_sound nothing
+no_home_error (x ∷ []) root (Some (suc q)) lba status one queue_sound root_sound gains = let less = gains.0 in absurd (omega (arith, less))
 
-pub on_image : {A : Type 0} (r : Result A RecoverRefusal) (P Q : ImageFault → Type 0) → ((f : ImageFault) → P f → Q f) → OnImage r P → OnImage r Q
-on_image (Ok x) P Q each h = tt
-on_image (Err (Image f)) P Q each h = each f h
-on_image (Err Off) P Q each h = tt
-on_image (Err (Failed b status)) P Q each h = tt
+pub one_port : (items : List EmuPort) (root : EmuPort) (g : Geometry) (f : FuseName) (q r : PortImage) → states emu_state items root ≡ start_drive g f q r → length items ≡ 1
+one_port items root g f q r is = sym (length-map items emu_state) ∙ ap (λ (d : DriveState). length d.queues) is
 
-pub on_drive : {A : Type 0} (r : Result A RecoverRefusal) (P Q : RecoverRefusal → Type 0) → ((e : RecoverRefusal) → P e → Q e) → OnDrive r P → OnDrive r Q
-on_drive (Ok x) P Q each h = tt
-on_drive (Err (Image f)) P Q each h = tt
-on_drive (Err Off) P Q each h = each Off h
-on_drive (Err (Failed b status)) P Q each h = each (Failed b status) h
+-- What a recovery is asked and answers, over the ports of a drive of one queue that has started from
+-- images. None has a fault, and no command of theirs fails.
+pub record IsAnswered {A : Type 0} (g : Geometry) (f : FuseName) (q r : PortImage) (d : DriveState) (result : Result A RecoverRefusal) (items : List EmuPort) (root : EmuPort) : Type 0 where
+  pub one : g.queues ≡ 1
+  pub start : d ≡ start_drive g f q r
+  pub still : IsStill g d
+  pub ds : List Descriptor
+  pub reaches : Reaches g (view_over g d) ds
+  pub image : OnImage result (λ c. (states emu_state items root ≡ d) × ((c ≡ fault.OutOfMemory) ⊎ RefusesImage g d c))
+  pub cause : HasDriveCause g result no_faults (faults_of emu_faults items root)
+  pub bounds : AreBoundsKept g d (states emu_state items root)
+  pub count : length items ≡ 1
 
-pub single : {A : Type 0} (xs : List A) → length xs ≡ 1 → (x : A) × (slice_get xs 0 ≡ Some x)
-single [] one = absurd (omega arith)
-single (x ∷ xs) one = (x, refl)
+module _ {A : Type 0} (g : Geometry) (f : FuseName) (q r : PortImage) (d : DriveState) (result : Result A RecoverRefusal) (items : List EmuPort) (root : EmuPort) (a : IsAnswered g f q r d result items root) where
+  -- a refusal of the image is want of memory
+  pub image_memory : (c : ImageFault) → result ≡ Err (Image c) → c ≡ fault.OutOfMemory
+  image_memory c is =
+      let has = subst (λ (x : Result A RecoverRefusal). OnImage x (λ c. (states emu_state items root ≡ d) × ((c ≡ fault.OutOfMemory) ⊎ RefusesImage g d c))) is a.image in
+      ⊎_elim (λ same. same) (λ refuses. absurd (reaches-refused g d a.ds c a.reaches refuses)) has.1
+
+  queue_bound : IsBoundKept (port_at d.queues 0) (port_at (map emu_state items) 0)
+  queue_bound = a.bounds.queues 0 (let one = a.one in omega (arith, one))
+
+  start_fail : (port_at d.queues 0).fail ≡ None
+  start_fail = ap (λ (s : DriveState). (port_at s.queues 0).fail) a.start
+
+  root_fail : d.root.fail ≡ None
+  root_fail = ap (λ (s : DriveState). s.root.fail) a.start
+
+  -- no home write fails
+  pub none_failed : (b status : ℕ) → result ≡ Err (Failed b status) → ⊥
+  none_failed b status is =
+      let cause : OneGains (zone_of g b) (HomeError (home_lba g b) status) no_faults (faults_of emu_faults items root) = subst (λ (x : Result A RecoverRefusal). HasDriveCause g x no_faults (faults_of emu_faults items root)) is a.cause in
+      no_home_error items root (zone_of g b) (home_lba g b) status a.count (queue_bound.fail ∙ start_fail) (a.bounds.root.fail ∙ root_fail) cause
+
+  -- where the power has no limit it does not go off
+  pub never_off : f.limit ≡ None → result ≡ Err Off → ⊥
+  never_off on is =
+      let cause : (port : Option ℕ) × OneGains port PowerOff no_faults (faults_of emu_faults items root) = subst (λ (x : Result A RecoverRefusal). HasDriveCause g x no_faults (faults_of emu_faults items root)) is a.cause in
+      no_off items root cause.0 a.count (ap (λ (n : FuseName). n.limit) (queue_bound.fuse ∙ ap (λ (s : DriveState). (port_at s.queues 0).fuse) a.start) ∙ on)
+      (ap (λ (n : FuseName). n.limit) (a.bounds.root.fuse ∙ ap (λ (s : DriveState). s.root.fuse) a.start) ∙ on) cause.1
+
+  -- with such power only memory is wanting
+  pub only_memory : (e : RecoverRefusal) → f.limit ≡ None → result ≡ Err e → e ≡ Image fault.OutOfMemory
+  only_memory (Image c) on is = ap Image (image_memory c is)
+  only_memory Off on is = absurd (never_off on is)
+  only_memory (Failed b status) on is = absurd (none_failed b status is)
+
+-- ---- what a first recovery leaves
+
+-- images of a drive of one queue
+one_image : (g : Geometry) (e : DriveState) (q r : PortImage) → g.queues ≡ 1 → IsImage (port_at e.queues 0) q → IsImage e.root r → AreImages g e (q ∷ []) r
+one_image g e q r one queue root = record {
+  each = λ k less.
+      let none : k ≡ 0 = omega (arith, one, less) in
+      subst (λ (n : ℕ). IsImage (port_at e.queues n) (image_at (q ∷ []) n)) (sym none) queue;
+  root_is = root;
+}
+
+stands_left : (g : Geometry) (d e : DriveState) (q r : PortImage) (ds : List Descriptor) (noted : ℕ) (found : List Descriptor) (top : ℕ) → g.queues ≡ 1 → Reaches g (view_over g d) ds → noted ≡ length ds
+    → IsImage (port_at e.queues 0) q → IsImage e.root r → IsRead g (view_over g d) found top → StandsAs g d found top e → IsLeftOf g (view_over g d) (cut_view g q r) (Some noted) ds
+stands_left g d e q r ds noted found top one reaches noted_is queue root read stand =
+    let at = stand (q ∷ []) r (one_image g e q r one queue root) in
+    let same = reaches-same g (view_over g d) found ds (read-reaches g (view_over g d) found top read) reaches in
+    record {
+      left = at.0;
+      reaches = read-reaches g (cut_view g q r) at.0 top at.1;
+      prefix = noted_is;
+      alike = λ b less. at.3 b less ∙ ap (λ (l : List Descriptor). stands g (view_over g d) l b) same;
+    }
+
+-- What a whole recovery leaves, or one that was cut: the descriptors and the greatest number of the old
+-- image, the ports, and that each image stands as before.
+pub record IsLeft (g : Geometry) (d e : DriveState) : Type 0 where
+  pub found : List Descriptor
+  pub top : ℕ
+  pub read : IsRead g (view_over g d) found top
+  pub ports : ArePorts g e
+  pub stand : StandsAs g d found top e
+
+ports_of : (g : Geometry) (e : DriveState) → IsStill g e → ArePorts g e
+ports_of g e still = record { count = still.count; each = λ q less. (still.each q less).port; root = still.root.port }
+
+pub left : (g : Geometry) (d e : DriveState) (result : Result Recovered RecoverRefusal) → IfOk result (λ r. IsDone g d r.prefix r.base e) → OnDrive result (λ x. IsCutShort g x d e) → ((c : ImageFault) → result ≡ Err (Image c) → ⊥)
+    → ((b status : ℕ) → result ≡ Err (Failed b status) → ⊥) → IsLeft g d e
+left g d e (Ok r) done short no_image no_failure = record { found = done.ds; top = r.base; read = done.read; ports = ports_of g e done.recovered.still; stand = done.stands }
+left g d e (Err Off) done short no_image no_failure = record { found = short.ds; top = short.top; read = short.read; ports = short.ports; stand = short.stands }
+left g d e (Err (Image c)) done short no_image no_failure = absurd (no_image c refl)
+left g d e (Err (Failed b status)) done short no_image no_failure = absurd (no_failure b status refl)
+
+-- the one queue's port
+pub first_state : (items : List EmuPort) (x : EmuPort) → length items ≡ 1 → x ≡ get_or items 0 x → port_at (map emu_state items) 0 ≡ emu_state x
+first_state [] x one is = absurd (omega (arith, one))
+first_state (y ∷ ys) x one is = ap emu_state (sym is)
+
+-- the same of the images from which the drive started
+pub left_of : (g : Geometry) (f : FuseName) (old_queue old_root : PortImage) (d e : DriveState) (q r : PortImage) (ds : List Descriptor) (noted : ℕ) (found : List Descriptor) (top : ℕ) → d ≡ start_drive g f old_queue old_root → g.queues ≡ 1
+    → Reaches g (cut_view g old_queue old_root) ds → noted ≡ length ds → IsImage (port_at e.queues 0) q → IsImage e.root r → IsRead g (view_over g d) found top → StandsAs g d found top e
+    → IsLeftOf g (cut_view g old_queue old_root) (cut_view g q r) (Some noted) ds
+left_of g f old_queue old_root d e q r ds noted found top is one reaches noted_is queue root read stand =
+    subst (λ v. IsLeftOf g v (cut_view g q r) (Some noted) ds) (started_view g f old_queue old_root d is)
+    (stands_left g d e q r ds noted found top one (started_reaches g f old_queue old_root d ds is reaches) noted_is queue root read stand)
+
+-- a drive of one queue by its two ports
+pub two_still : (g : Geometry) (items : List EmuPort) (root x : EmuPort) → g.queues ≡ 1 → length items ≡ 1 → x ≡ get_or items 0 x → IsStill g (states emu_state items root) → AreTwoStill g (emu_state x) (emu_state root)
+two_still g items root x one count is still =
+    let queue = still.each 0 (omega (arith, one)) in
+    let same = first_state items x count is in
+    record {
+      one = one;
+      queue_port = subst (IsPortOf g (Queue 0)) same queue.port;
+      root_port = still.root.port;
+      queue_quiet = subst IsQuiet same queue.quiet;
+      root_quiet = still.root.quiet;
+    }

@@ -6,4 +6,5 @@ pub mod Fresh
 pub mod Lines
 pub mod Live
 pub mod Program
+pub mod Restart
 pub mod Runs

@@ -1,9 +1,8 @@
 -- Which blocks are live after a text, and what is printed of them.
 use Rattle.std.specs.Prelude.{◌≡◌, ◌<◌, ℕ, Bool, true, false, List, [], ◌∷◌, is_some, Some, slice_index_or, nat_eq, if◌then◌else◌}
-use Rattle.mq_blocks.specs.Drive.{PortState}
 use Rattle.mq_blocks.specs.Machine.{Map}
 use Rattle.mq_blocks.specs.declared.geometry.Geometry.{Geometry}
-use Rattle.mq_drive.specs.Views.{view_of}
+use Rattle.mq_recover.specs.Drives.{DriveState, view_over}
 use Rattle.mq_text.specs.declared.item.BlockItem.{BlockItem}
 use Rattle.mq_text.specs.declared.item.BlockItem.TheVariants.{Set, Free}
 
@@ -18,5 +17,5 @@ abbrev pub AreMarks : Map → List Bool → Type 0
 AreMarks m marks = (b : ℕ) → b < 256 → slice_index_or marks b false ≡ is_some (m b)
 
 -- the home blocks hold the map's contents
-abbrev pub HoldsMap : Geometry → PortState → PortState → Map → Type 0
-HoldsMap g queue root m = (b : ℕ) (v : List ℕ) → b < 256 → m b ≡ Some v → (view_of g queue root).home b ≡ v
+abbrev pub HoldsMap : Geometry → DriveState → Map → Type 0
+HoldsMap g d m = (b : ℕ) (v : List ℕ) → b < 256 → m b ≡ Some v → (view_over g d).home b ≡ v

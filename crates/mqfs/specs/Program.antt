@@ -5,6 +5,7 @@ use Rattle.mqfs.specs.Cuts.{IsPrefixAt}
 use Rattle.mq_text.specs.Refusals.{RefusesText, cause_name}
 use Rattle.mq_text.specs.Text.{number_text}
 use Rattle.mq_outside.specs.Outside.{Held, Holds, HoldsOver, Rose, appended, AppendsPrefix, count_end, load_limit}
+use Rattle.mqfs.specs.declared.program.words.Options.{Options}
 use Rattle.mq_text.specs.declared.item.BlockItem.{BlockItem}
 use Rattle.mq_text.specs.declared.refusal.BlockTextCause.{BlockTextCause}
 use Rattle.mq_text.specs.declared.refusal.BlockTextRefusal.{BlockTextRefusal}
@@ -19,22 +20,25 @@ abbrev pub option_words : List ℕ → Option ℕ → Words
 option_words option None = []
 option_words option (Some n) = option ∷ number_text n ∷ []
 
--- the options `--cut K` and `--pick S`, each at most once and in this order
-abbrev pub options_of : Option ℕ → Option ℕ → Words
-options_of cut pick = option_words (codes "--cut") cut ++ option_words (codes "--pick") pick
+-- the options `--cut K`, `--pick S` and `--again J`, each at most once and in this order
+abbrev pub options_of : Options → Words
+options_of o = option_words (codes "--cut") o.cut ++ (option_words (codes "--pick") o.pick ++ option_words (codes "--again") o.again)
 
--- the words are these options, with numbers below 2^63
-abbrev pub AreOptions : Words → Option ℕ → Option ℕ → Type 0
-AreOptions words cut pick = (words ≡ options_of cut pick) × IfSome cut (λ n. n < 2 ^ 63) × IfSome pick (λ n. n < 2 ^ 63)
+-- their numbers are below 2^63
+abbrev pub AreSmall : Options → Type 0
+AreSmall o = IfSome o.cut (λ n. n < 2 ^ 63) × IfSome o.pick (λ n. n < 2 ^ 63) × IfSome o.again (λ n. n < 2 ^ 63)
+
+-- the words are these options
+abbrev pub AreOptions : Words → Options → Type 0
+AreOptions words o = (words ≡ options_of o) × AreSmall o
 
 -- the words are `blocks`, this name and these options
-abbrev pub AreBlocks : Words → List ℕ → Option ℕ → Option ℕ → Type 0
-AreBlocks words name cut pick =
-    (words ≡ codes "blocks" ∷ name ∷ options_of cut pick) × IfSome cut (λ n. n < 2 ^ 63) × IfSome pick (λ n. n < 2 ^ 63)
+abbrev pub AreBlocks : Words → List ℕ → Options → Type 0
+AreBlocks words name o = (words ≡ codes "blocks" ∷ name ∷ options_of o) × AreSmall o
 
 -- the words are no command
 abbrev pub AreUnknown : Words → Type 0
-AreUnknown words = (name : List ℕ) (cut pick : Option ℕ) → AreBlocks words name cut pick → ⊥
+AreUnknown words = (name : List ℕ) (o : Options) → AreBlocks words name o → ⊥
 
 -- ---- the lines that are no output
 
@@ -120,7 +124,7 @@ refusal_said OutOfMemory = memory
 abbrev pub IsToSay : Words → Option Held → (faults new_faults taken new_taken status : ℕ) → List ℕ → Type 0
 IsToSay words told faults new_faults taken new_taken status text =
     (AreUnknown words × (status ≡ 1) × (text ≡ usage_line) × (new_faults ≡ faults) × (new_taken ≡ taken))
-    ⊎ ((name : List ℕ) × (cut : Option ℕ) × (pick : Option ℕ) × (said : Said) × AreBlocks words name cut pick × IsSaidOf said told name cut faults new_faults taken new_taken × (status ≡ status_of said) × (text ≡ text_of name said))
+    ⊎ ((name : List ℕ) × (options : Options) × (said : Said) × AreBlocks words name options × IsSaidOf said told name options.cut faults new_faults taken new_taken × (status ≡ status_of said) × (text ≡ text_of name said))
 
 -- ---- what each status tells
 
@@ -136,16 +140,16 @@ IsUnlessWanting s result = (result ≡ s) ⊎ ((result ≡ 4) ⊎ (result ≡ 6)
 -- of the lines that stand after the cut.
 abbrev pub IsDone : Words → Option Held → (contents new_contents : Option (List ℕ)) → Type 0
 IsDone words told contents new_contents =
-    (name : List ℕ) × (cut : Option ℕ) × (pick : Option ℕ) × (bytes : List ℕ) × (lines : List (List BlockItem)) × (p : ℕ)
-    × AreBlocks words name cut pick × Holds told name bytes × IsBlockText bytes lines × IsPrefixAt lines cut p × (new_contents ≡ appended contents (output_of lines p))
+    (name : List ℕ) × (options : Options) × (bytes : List ℕ) × (lines : List (List BlockItem)) × (p : ℕ)
+    × AreBlocks words name options × Holds told name bytes × IsBlockText bytes lines × IsPrefixAt lines options.cut p × (new_contents ≡ appended contents (output_of lines p))
 
 -- The words are `blocks`, a name that holds bytes that are refused, and options. The line of that
 -- was said.
 abbrev pub IsRefusedText : Words → Option Held → (contents new_contents : Option (List ℕ)) → Type 0
 IsRefusedText words told contents new_contents =
-    (name : List ℕ) × (cut : Option ℕ) × (pick : Option ℕ) × (bytes : List ℕ) × (line : ℕ) × (cause : BlockTextCause)
-    × AreBlocks words name cut pick × Holds told name bytes × RefusesText bytes line cause × (new_contents ≡ appended contents (refused_line line cause))
+    (name : List ℕ) × (options : Options) × (bytes : List ℕ) × (line : ℕ) × (cause : BlockTextCause)
+    × AreBlocks words name options × Holds told name bytes × RefusesText bytes line cause × (new_contents ≡ appended contents (refused_line line cause))
 
 -- the words are `blocks`, a name that holds more bytes than one load gives, and options
 abbrev pub IsTooLong : Words → Option Held → (taken new_taken : ℕ) → Type 0
-IsTooLong words told taken new_taken = (name : List ℕ) × (cut : Option ℕ) × (pick : Option ℕ) × AreBlocks words name cut pick × HoldsOver told name × TakesOver taken new_taken
+IsTooLong words told taken new_taken = (name : List ℕ) × (options : Options) × AreBlocks words name options × HoldsOver told name × TakesOver taken new_taken

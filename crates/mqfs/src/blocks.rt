@@ -24,10 +24,11 @@ ghost use Rattle.mqfs.specs.Live.{HoldsMap};
 
 use crate::commit::{TextRefusal, commit_text};
 use crate::live::{live_blocks, live_marks};
+use crate::power::power_of_two;
+use crate::restart::{recover_first, recover_images};
 use mq_blocks::{Block, Geometry, OutOfMemory, QueueNo};
 use mq_drive::{EmuPort, Fuse, FuseSeat, PortImage, Ports, Role};
 use mq_nvme::Entry;
-use mq_recover::{ImageFault, RecoverRefusal, recover};
 use mq_text::{BlockItem, BlockText, BlockTextRefusal, print_blocks, read_block_text};
 use std::alloc::Global;
 
@@ -69,22 +70,6 @@ fn sizes(geometry: Geometry, role: Role) -> (usize, u32)
         Role::Queue(_) => (1024, geometry.area() + geometry.zone()),
         Role::Root => (0, geometry.meta()),
     }
-}
-
-// A fuse with a seat for the queue's port and one for the root's.
-fn power_of_two(
-    alloc: Global,
-    limit: Option<u64>,
-) -> Result<(Fuse, FuseSeat, FuseSeat), OutOfMemory>
-    requires { ForSome limit (λ l. l ≤ 2 ^ 63) }
-    ensures fuse { IfOk result (λ r. ((name_of r.0).limit ≡ limit) × (ports_of r.0 ≡ 2)) }
-    ensures queue { IfOk result (λ r. (fuse_of r.1 ≡ name_of r.0) × (tickets_of r.1 ≡ [])) }
-    ensures root { IfOk result (λ r. (fuse_of r.2 ≡ name_of r.0) × (tickets_of r.2 ≡ [])) }
-{
-    let (fuse, mut seats) = Fuse::new(alloc, limit, 2)?;
-    let queue = seats.remove(0);
-    let root = seats.remove(0);
-    Ok((fuse, queue, root))
 }
 
 // A port of zeros, whose choices follow from a number.
@@ -189,120 +174,50 @@ fn commit_fresh(
     Ok((queue.0, root.0))
 }
 
-// Where no port has a fault and the image is readable, memory is all that can be wanting.
-fn only_image(refusal: RecoverRefusal) -> OutOfMemory
-    requires { refusal ≡ RecoverRefusal.Image ImageFault.OutOfMemory }
-{
-    match refusal {
-        RecoverRefusal::Image(ImageFault::OutOfMemory) => OutOfMemory,
-        RecoverRefusal::Image(ImageFault::Bad { .. }) => unreachable!(),
-        RecoverRefusal::Image(ImageFault::Limit { .. }) => unreachable!(),
-        RecoverRefusal::Off => unreachable!(),
-        RecoverRefusal::Failed { .. } => unreachable!(),
-    }
-}
-
-/// A drive of one queue that starts from what stayed of its queue's port and of the root's. Its
-/// power stays on.
-fn restarted<'f>(
-    alloc: Global,
-    fuse: &'f Fuse,
-    seats: (FuseSeat, FuseSeat),
-    geometry: Geometry,
-    images: (PortImage, PortImage),
-    pick: u64,
-) -> Result<Ports<EmuPort<'f>>, OutOfMemory>
-    requires queue_seat { (fuse_of seats.0 ≡ name_of fuse.now) × (tickets_of seats.0 ≡ []) }
-    requires root_seat { (fuse_of seats.1 ≡ name_of fuse.now) × (tickets_of seats.1 ≡ []) }
-    requires one { 0 < queues_of geometry }
-    requires queue { IsImageOf geometry (Queue 0) images.0 }
-    requires root { IsImageOf geometry Root images.1 }
-    ensures one { IfOk result (λ p. length p.queues.items ≡ 1) }
-    ensures queue { IfOk result (λ p. (q : EmuPort) → slice_get p.queues.items 0 ≡ Some q → (emu_state q ≡ start_of geometry (Queue 0) images.0 (name_of fuse.now) None) × (emu_faults q ≡ [])) }
-    ensures root { IfOk result (λ p. (emu_state p.root ≡ start_of geometry Root images.1 (name_of fuse.now) None) × (emu_faults p.root ≡ [])) }
-{
-    let mut queues = Vec::with_capacity(alloc, 1)?;
-    let role = Role::Queue(QueueNo(0));
-    queues.push(EmuPort::new(alloc, fuse, seats.0, geometry, role, images.0, None, pick)?)?;
-    let root = EmuPort::new(
-        alloc,
-        fuse,
-        seats.1,
-        geometry,
-        Role::Root,
-        images.1,
-        None,
-        pick,
-    )?;
-    Ok(Ports { queues, root })
-}
-
-/// Recovers what stayed of two ports: how many transactions stand, the queue's port and the root's.
-fn recover_images<'f>(
-    alloc: Global,
-    fuse: &'f Fuse,
-    seats: (FuseSeat, FuseSeat),
-    geometry: Geometry,
-    images: (PortImage, PortImage),
-    pick: u64,
-) -> Result<(u64, EmuPort<'f>, EmuPort<'f>), OutOfMemory>
-    requires on { (name_of fuse.now).limit ≡ None }
-    requires queue_seat { (fuse_of seats.0 ≡ name_of fuse.now) × (tickets_of seats.0 ≡ []) }
-    requires root_seat { (fuse_of seats.1 ≡ name_of fuse.now) × (tickets_of seats.1 ≡ []) }
-    requires geometry { IsTextGeometry geometry }
-    requires queue { IsImageOf geometry (Queue 0) images.0 }
-    requires root { IsImageOf geometry Root images.1 }
-    requires shows { (n : ℕ) × (m : Map) × ShowsMap geometry (shown says geometry (images.0 ∷ []) images.1) n m }
-    ensures shows { IfOk result (λ r. (n : ℕ) (m : Map) → ShowsMap geometry (shown says geometry (images.0 ∷ []) images.1) n m → (r.0 ≡ n) × HoldsMap geometry (emu_state r.1) (emu_state r.2) m) }
-    ensures queue { IfOk result (λ r. IsPortOf geometry (Queue 0) (emu_state r.1) × IsQuiet (emu_state r.1)) }
-    ensures root { IfOk result (λ r. IsPortOf geometry Root (emu_state r.2) × IsQuiet (emu_state r.2)) }
-{
-    let mut ports = restarted(alloc, fuse, seats, geometry, images, pick)?;
-    let answer = recover(alloc, geometry, &mut ports);
-    let Ports { mut queues, root } = ports;
-    let queue = queues.remove(0);
-    match answer {
-        Ok(recovered) => Ok((recovered.prefix, queue, root)),
-        Err(refusal) => Err(only_image(refusal)),
-    }
-}
-
 /// Commits a text on a fresh drive, pulls the plug after so many events or at the end, recovers, and
-/// prints what stands. What the cut leaves of what is uncertain follows from `pick`.
+/// prints what stands. A first recovery is itself cut, where it is told after how many events. What
+/// the cuts leave of what is uncertain follows from `pick`.
 fn run_text(
     alloc: Global,
     text: &BlockText,
     cut: Option<u64>,
     pick: u64,
+    again: Option<u64>,
 ) -> Result<Vec<u8>, OutOfMemory>
     requires good { IsGoodText text.now }
     requires cut { IfSome cut (λ k. k < 2 ^ 63) }
+    requires again { IfSome again (λ k. k < 2 ^ 63) }
     ensures { IfOk result (λ v. (p : ℕ) × IsPrefixAt text.now cut p × (v.items ≡ output_of text.now p)) }
 {
     let geometry = text_geometry();
     let images = commit_fresh(alloc, geometry, text, cut, pick)?;
+    let (noted, images) = recover_first(alloc, geometry, images, again, pick)?;
     let (fuse, queue_seat, root_seat) = power_of_two(alloc, None)?;
     let seats = (queue_seat, root_seat);
-    let (prefix, queue, root) = recover_images(alloc, &fuse, seats, geometry, images, pick)?;
+    let (found, ports) = recover_images(alloc, &fuse, seats, geometry, images, pick)?;
+    let prefix = noted.unwrap_or(found);
     let marks = live_marks(alloc, text, prefix)?;
-    let live = live_blocks(alloc, geometry, &queue, &root, &marks)?;
+    let live = live_blocks(alloc, geometry, &ports, &marks)?;
     print_blocks(alloc, prefix, &live)
 }
 
 /// What `mqfs blocks` prints of the bytes of a block text, where the power goes off after so many
-/// events. What the cut then leaves of what is uncertain follows from `pick`.
+/// events, and again after so many of a first recovery. What the cuts then leave of what is uncertain
+/// follows from `pick`.
 pub fn blocks_output(
     alloc: Global,
     bytes: &[u8],
     cut: Option<u64>,
     pick: u64,
+    again: Option<u64>,
 ) -> Result<Vec<u8>, BlockTextRefusal>
     requires cut { IfSome cut (λ k. k < 2 ^ 63) }
+    requires again { IfSome again (λ k. k < 2 ^ 63) }
     ensures ok { IfOk result (λ v. (lines : List (List BlockItem)) × (p : ℕ) × IsBlockText bytes.now lines × IsPrefixAt lines cut p × (v.items ≡ output_of lines p)) }
     ensures refused { IfErr result (IsRefused (RefusesText bytes.now)) }
     ensures exact { (line : ℕ) (cause : BlockTextCause) → RefusesText bytes.now line cause → IsRefusal result line cause }
     ensures only { (lines : List (List BlockItem)) → IsBlockText bytes.now lines → MatchResult result (λ _. Unit {0}) (λ e. e ≡ BlockTextRefusal.OutOfMemory) }
 {
     let text = read_block_text(alloc, bytes)?;
-    Ok(run_text(alloc, &text, cut, pick)?)
+    Ok(run_text(alloc, &text, cut, pick, again)?)
 }

@@ -6,7 +6,9 @@ mod commit;
 mod items;
 mod line;
 mod live;
+mod power;
 mod program;
+mod restart;
 #[cfg(test)]
 mod tests;
 

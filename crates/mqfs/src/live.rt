@@ -1,19 +1,16 @@
 // The blocks that a text leaves, and what stands on them.
 ghost use Rattle.std.specs.Prelude.{◌≡◌, ◌<◌, ◌≤◌, ◌+◌, ℕ, List, length, IfOk, false, slice_index_or};
-ghost use Rattle.mq_blocks.specs.Drive.{IsQuiet};
 ghost use Rattle.mq_blocks.specs.Geometry.{homes_of};
 ghost use Rattle.mq_blocks.specs.Machine.{Map};
-ghost use Rattle.mq_drive.specs.Start.{IsPortOf};
-ghost use Rattle.mq_drive.specs.declared.role.Role.TheVariants.{Queue, Root};
 ghost use Rattle.mqfs.specs.Fresh.{IsTextGeometry};
 ghost use Rattle.mqfs.specs.Lines.{live_from, map_after, named};
 ghost use Rattle.mqfs.specs.Live.{AreMarks, HoldsMap, marked};
-ghost use Rattle.mq_drive.specs.Views.{view_of};
+ghost use Rattle.mq_recover.specs.Drives.{IsStill, states, view_over};
 ghost use Rattle.mq_text.specs.Text.{AreGoodItems, IsGoodText};
 
 use crate::items::NAMED;
 use mq_blocks::{Block, BlockNo, Geometry, OutOfMemory};
-use mq_drive::Port;
+use mq_drive::{Port, Ports};
 use mq_recover::read_home;
 use mq_text::{BlockItem, BlockLine, BlockText};
 use std::alloc::Global;
@@ -53,17 +50,13 @@ pub fn live_marks(alloc: Global, text: &BlockText, count: u64) -> Result<Vec<boo
 pub fn live_blocks<P: Port>(
     alloc: Global,
     geometry: Geometry,
-    queue: &P,
-    root: &P,
+    ports: &Ports<P>,
     marks: &[bool],
 ) -> Result<Vec<(BlockNo, u8)>, OutOfMemory>
     requires geometry { IsTextGeometry geometry }
-    requires queue { IsPortOf geometry (Queue 0) (P.state queue.now) }
-    requires root { IsPortOf geometry Root (P.state root.now) }
-    requires queue_quiet { IsQuiet (P.state queue.now) }
-    requires root_quiet { IsQuiet (P.state root.now) }
+    requires still { IsStill geometry (states P.state ports.now.queues.items ports.now.root) }
     requires marks { length marks.now ≡ 256 }
-    ensures { IfOk result (λ v. (m : Map) → AreMarks m marks.now → HoldsMap geometry (P.state queue.now) (P.state root.now) m → v.items ≡ live_from m 0 named) }
+    ensures { IfOk result (λ v. (m : Map) → AreMarks m marks.now → HoldsMap geometry (states P.state ports.now.queues.items ports.now.root) m → v.items ≡ live_from m 0 named) }
 {
     let mut live = Vec::new(alloc);
     let mut block = Block::zeroed(alloc)?;
@@ -72,7 +65,7 @@ pub fn live_blocks<P: Port>(
             false => {}
             true => {
                 let number = BlockNo(b as u32);
-                read_home(geometry, queue, root, number, &mut block);
+                read_home(geometry, ports, number, &mut block);
                 live.push((number, block.bytes()[0]))?;
             }
         }

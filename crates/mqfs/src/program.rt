@@ -1,15 +1,16 @@
 // The words of a command, and what is said of it.
-ghost use Rattle.std.specs.Prelude.{◌≡◌, ◌≢◌, ◌⊎◌, ◌++◌, ◌∷◌, [], ◌<◌, ◌^◌, ℕ, List, IfOk, IfSome, IsErrOf, MatchResult, Option, Some, map, nat_eq, if◌then◌else◌};
+ghost use Rattle.std.specs.Prelude.{◌≡◌, ◌≢◌, ◌⊎◌, ◌++◌, ◌∷◌, [], ◌<◌, ◌^◌, ℕ, List, IfErr, IfOk, IsErrOf, MatchResult, Option, Some, map, nat_eq, if◌then◌else◌};
 ghost use Rattle.std.specs.String.{string_bytes};
 ghost use Rattle.mqfs.specs.Blocks.{IsBlockText, output_of};
 ghost use Rattle.mq_text.specs.declared.refusal.BlockTextCause.{BlockTextCause};
-ghost use Rattle.mq_text.specs.Refusals.{RefusesText};
+ghost use Rattle.mqfs.specs.Cuts.{IsPrefixAt};
+ghost use Rattle.mq_text.specs.Refusals.{IsRefused, RefusesText};
 ghost use Rattle.mq_outside.specs.Outside.{AppendsPrefix, Held, PutCause, Rose, appended};
-ghost use Rattle.mqfs.specs.Program.{AreBlocks, AreUnknown, EndsWith, IsDone, IsRefusedText, IsSaidOf, IsStatus, IsToSay, IsTooLong, IsUnlessWanting, Said, TakesWithin, memory_line, named_line, refusal_said, refused_line, status_of, text_of, usage_line};
+ghost use Rattle.mqfs.specs.Program.{AreBlocks, AreSmall, AreUnknown, EndsWith, IsDone, IsRefusedText, IsSaidOf, IsStatus, IsToSay, IsTooLong, IsUnlessWanting, Said, TakesWithin, memory_line, named_line, refusal_said, refused_line, status_of, text_of, usage_line};
 
 mod words;
 
-use self::words::{BlocksCommand, read_blocks};
+use self::words::{BlocksCommand, Options, read_blocks};
 use crate::blocks::blocks_output;
 use mq_outside::{Files, LoadRefusal, PutRefusal, Sink, put_all};
 use mq_text::{BlockItem, BlockTextCause, BlockTextRefusal};
@@ -104,21 +105,30 @@ fn say_output<K: Sink>(alloc: Global, output: Result<Vec<u8>, BlockTextRefusal>,
     }
 }
 
-// Runs `blocks NAME`, with a cut or none.
+// What the bytes of a block text come to under these options.
+fn run_blocks(alloc: Global, bytes: &[u8], options: Options) -> Result<Vec<u8>, BlockTextRefusal>
+    requires small { AreSmall options }
+    ensures ok { IfOk result (λ v. (lines : List (List BlockItem)) × (p : ℕ) × IsBlockText bytes.now lines × IsPrefixAt lines options.cut p × (v.items ≡ output_of lines p)) }
+    ensures refused { IfErr result (IsRefused (RefusesText bytes.now)) }
+{
+    let pick = options.pick.unwrap_or(0);
+    blocks_output(alloc, bytes, options.cut, pick, options.again)
+}
+
+// Runs `blocks NAME` with its options.
 fn blocks<F: Files, K: Sink>(
     alloc: Global,
     name: &str,
-    cut: Option<u64>,
-    pick: u64,
+    options: Options,
     files: &mut F,
     out: &mut K,
 ) -> u8
-    requires cut { IfSome cut (λ k. k < 2 ^ 63) }
-    ensures ends { (said : Said) × IsSaidOf said (F.told files.old) name.now cut (F.faults files.old) (F.faults files.new) (F.taken files.old) (F.taken files.new) × EndsWith (status_of said) (text_of name.now said) result (K.contents out.old) (K.contents out.new) (K.faults out.old) (K.faults out.new) }
+    requires small { AreSmall options }
+    ensures ends { (said : Said) × IsSaidOf said (F.told files.old) name.now options.cut (F.faults files.old) (F.faults files.new) (F.taken files.old) (F.taken files.new) × EndsWith (status_of said) (text_of name.now said) result (K.contents out.old) (K.contents out.new) (K.faults out.old) (K.faults out.new) }
     ensures told { F.told files.new ≡ F.told files.old }
 {
     match files.load(alloc, name) {
-        Ok(bytes) => say_output(alloc, blocks_output(alloc, &bytes, cut, pick), out),
+        Ok(bytes) => say_output(alloc, run_blocks(alloc, &bytes, options), out),
         Err(LoadRefusal::Failed) => say_named(b"fault load ", name.as_bytes(), out),
         Err(LoadRefusal::TooLong) => say_named(b"too long ", name.as_bytes(), out),
         Err(LoadRefusal::OutOfMemory) => say(NO_MEMORY, b"memory\n", out),
@@ -131,10 +141,7 @@ fn run<F: Files, K: Sink>(alloc: Global, words: &[String], files: &mut F, out: &
     ensures told { F.told files.new ≡ F.told files.old }
 {
     match read_blocks(words) {
-        Some(BlocksCommand { name, options }) => {
-            let pick = options.pick.unwrap_or(0);
-            blocks(alloc, name, options.cut, pick, files, out)
-        }
+        Some(BlocksCommand { name, options }) => blocks(alloc, name, options, files, out),
         None => say(USAGE, USAGE_LINE, out),
     }
 }
@@ -147,13 +154,13 @@ pub fn mqfs<F: Files, K: Sink>(alloc: Global, words: &[String], files: &mut F, o
     ensures status { IsStatus result }
     // The output is that of the lines that stand, of the text that the name holds.
     ensures done { result ≡ 0 → IsDone (map string_bytes words.now) (F.told files.old) (K.contents out.old) (K.contents out.new) }
-    ensures done_where { (held : Held) (name : List ℕ) (cut pick : Option ℕ) (bytes : List ℕ) (lines : List (List BlockItem)) → AreBlocks (map string_bytes words.now) name cut pick → F.told files.old ≡ Some held → held name ≡ Some bytes → IsBlockText bytes lines → IsUnlessWanting 0 result }
+    ensures done_where { (held : Held) (name : List ℕ) (options : Options) (bytes : List ℕ) (lines : List (List BlockItem)) → AreBlocks (map string_bytes words.now) name options → F.told files.old ≡ Some held → held name ≡ Some bytes → IsBlockText bytes lines → IsUnlessWanting 0 result }
     // The words are no command.
     ensures usage { result ≡ 1 → AreUnknown (map string_bytes words.now) × (K.contents out.new ≡ appended (K.contents out.old) usage_line) × (F.taken files.new ≡ F.taken files.old) }
     ensures usage_where { AreUnknown (map string_bytes words.now) → IsUnlessWanting 1 result }
     // The name holds bytes that are refused.
     ensures refused { result ≡ 2 → IsRefusedText (map string_bytes words.now) (F.told files.old) (K.contents out.old) (K.contents out.new) }
-    ensures refused_where { (held : Held) (name : List ℕ) (cut pick : Option ℕ) (bytes : List ℕ) (line : ℕ) (cause : BlockTextCause) → AreBlocks (map string_bytes words.now) name cut pick → F.told files.old ≡ Some held → held name ≡ Some bytes → RefusesText bytes line cause → IsUnlessWanting 2 result }
+    ensures refused_where { (held : Held) (name : List ℕ) (options : Options) (bytes : List ℕ) (line : ℕ) (cause : BlockTextCause) → AreBlocks (map string_bytes words.now) name options → F.told files.old ≡ Some held → held name ≡ Some bytes → RefusesText bytes line cause → IsUnlessWanting 2 result }
     // A file or the output failed, or a file was too long.
     ensures fault { result ≡ 4 → Rose (F.faults files.old) (F.faults files.new) ⊎ (Rose (K.faults out.old) (K.faults out.new) ⊎ IsTooLong (map string_bytes words.now) (F.told files.old) (F.taken files.old) (F.taken files.new)) }
     ensures fault_where { result ≢ 4 → (F.faults files.new ≡ F.faults files.old) × (K.faults out.new ≡ K.faults out.old) }

@@ -98,6 +98,9 @@ fn options_stand_once_and_in_order(rt: HostRuntime) -> Result<(), AllocError> {
         ["--pick", "1", "--cut", "1"],
         ["--cut", "1", "--Pick", "1"],
         ["--cut", "--pick", "1", "1"],
+        ["--again", "1", "--again", "1"],
+        ["--again", "1", "--cut", "1"],
+        ["--again", "1", "--pick", "1"],
     ] {
         let words = [
             "blocks", "t", options[0], options[1], options[2], options[3],
@@ -109,6 +112,9 @@ fn options_stand_once_and_in_order(rt: HostRuntime) -> Result<(), AllocError> {
     assert!(rt; is_no_command(alloc, &["blocks", "t", "--cut", "1", "--pick"])?);
     assert!(rt; is_no_command(alloc, &["blocks", "t", "--cut", "1", "1"])?);
     assert!(rt; is_no_command(alloc, &["blocks", "t", "--cut=1"])?);
+    assert!(rt; is_no_command(alloc, &["blocks", "t", "--again"])?);
+    assert!(rt; is_no_command(alloc, &["blocks", "t", "--cut", "1", "--again"])?);
+    assert!(rt; is_no_command(alloc, &["blocks", "t", "--again", "1", "--seed", "1"])?);
     assert!(rt; is_no_command(alloc, &["blocks", "t", "--seed", "1"])?);
     assert!(rt; is_no_command(alloc, &["blocks", "--cut", "1"])?);
     assert!(rt; is_no_command(alloc, &["blocks", "--cut", "1", "t"])?);
@@ -237,17 +243,31 @@ fn a_text_that_passes_the_area(rt: HostRuntime) -> Result<(), AllocError> {
     Ok(())
 }
 
-// What is printed of a text of two lines that is cut after so many events, with this pick.
-fn cut_after(alloc: Global, cut: u32, pick: u32) -> Result<Vec<u8>, AllocError> {
-    let cut = format!(in alloc; "{cut}")?;
-    let pick = format!(in alloc; "{pick}")?;
-    let words = words_of(alloc, &["blocks", "t", "--cut", &cut, "--pick", &pick])?;
+// What is printed of a text of two lines under these options.
+fn two_lines(alloc: Global, options: &[&str]) -> Result<Vec<u8>, AllocError> {
+    let mut words = words_of(alloc, &["blocks", "t"])?;
+    words.append(&mut words_of(alloc, options)?)?;
     let mut files = file_t(alloc, b"5=ab 7=01\n-7 9=ff\n", &[])?;
     let mut out = MemSink::new(alloc, Vec::new(alloc));
     if mqfs(alloc, &words, &mut files, &mut out) != 0 {
         return Ok(Vec::new(alloc));
     }
     Vec::from_slice(alloc, out.written())
+}
+
+// What is printed of them where they are cut after so many events, with this pick.
+fn cut_after(alloc: Global, cut: u32, pick: u32) -> Result<Vec<u8>, AllocError> {
+    let cut = format!(in alloc; "{cut}")?;
+    let pick = format!(in alloc; "{pick}")?;
+    two_lines(alloc, &["--cut", &cut, "--pick", &pick])
+}
+
+// The same where a first recovery is cut after so many events.
+fn cut_again(alloc: Global, cut: u32, pick: u32, again: u32) -> Result<Vec<u8>, AllocError> {
+    let cut = format!(in alloc; "{cut}")?;
+    let pick = format!(in alloc; "{pick}")?;
+    let again = format!(in alloc; "{again}")?;
+    two_lines(alloc, &["--cut", &cut, "--pick", &pick, "--again", &again])
 }
 
 // The first line takes 10 events and the second 8. After the store of a head, either value may stand.
@@ -285,5 +305,41 @@ fn a_stored_head_stands_or_not(rt: HostRuntime) -> Result<(), AllocError> {
         }
     }
     assert!(rt; 0 < stood && stood < 8);
+    Ok(())
+}
+
+#[test]
+fn a_recovery_of_two_lines_is_cut_at_each_event(rt: HostRuntime) -> Result<(), AllocError> {
+    let alloc = rt.alloc();
+    let two = b"prefix 2\n5 ab\n9 ff\n".as_slice();
+    for again in 0..13_u32 {
+        for pick in 0..8_u32 {
+            let output = cut_again(alloc, 18, pick, again)?;
+            assert!(rt; output.as_slice() == two, "again {again} pick {pick}");
+        }
+    }
+    let output = two_lines(alloc, &["--cut", "10", "--again", "3"])?;
+    assert!(rt; output.as_slice() == b"prefix 1\n5 ab\n7 01\n".as_slice());
+    let output = two_lines(alloc, &["--again", "0"])?;
+    assert!(rt; output.as_slice() == two);
+    Ok(())
+}
+
+// A recovery that was cut and begun again prints what one that was not cut prints.
+#[test]
+fn a_cut_of_a_recovery_changes_nothing(rt: HostRuntime) -> Result<(), AllocError> {
+    let alloc = rt.alloc();
+    for cut in 0..20_u32 {
+        for pick in 0..4_u32 {
+            let whole = cut_after(alloc, cut, pick)?;
+            for again in 0..13_u32 {
+                let output = cut_again(alloc, cut, pick, again)?;
+                assert!(rt;
+                    output.as_slice() == whole.as_slice(),
+                    "cut {cut} pick {pick} again {again}"
+                );
+            }
+        }
+    }
     Ok(())
 }

@@ -1,11 +1,11 @@
 // What recovery leaves of the images of a cut text is what stands in them, and what the plain program
 // finds there.
 ghost use Rattle.std.specs.Prelude.{◌≡◌, ◌<◌, ◌^◌, ℕ, [], ◌∷◌, IfOk};
-ghost use Rattle.mq_blocks.specs.Drive.{IsQuiet};
 ghost use Rattle.mq_blocks.specs.Geometry.{queues_of};
 ghost use Rattle.mq_blocks.specs.Journal.{shown};
 ghost use Rattle.mq_blocks.specs.Machine.{Map};
-ghost use Rattle.mq_drive.specs.Start.{IsImageOf, IsPortOf};
+ghost use Rattle.mq_drive.specs.Start.{IsImageOf};
+ghost use Rattle.mq_recover.specs.Drives.{IsStill, states};
 ghost use Rattle.mq_drive.specs.declared.role.Role.TheVariants.{Queue, Root};
 ghost use Rattle.mq_nvme.specs.Says.{says};
 ghost use Rattle.mqfs.specs.Commits.{ShowsMap};
@@ -14,10 +14,11 @@ ghost use Rattle.mq_text.specs.Text.{IsGoodText};
 
 use super::cuts::{all_events, some_text};
 use super::*;
+use crate::restart::restarted;
 use mq_blocks::{BlockNo, TxNo};
 use mq_drive::Port;
 use mq_plain::{PlainStanding, plain_standing};
-use mq_recover::{Chain, ChainRefusal, Standing, read_chain, read_home, stands};
+use mq_recover::{Chain, ChainRefusal, ImageFault, Standing, read_chain, read_home, stands};
 use std::alloc::AllocError;
 use std::ops::Range;
 use std::process::Abort;
@@ -54,23 +55,18 @@ fn look_at(
     })
 }
 
-// All home blocks of a drive of one queue.
+// All home blocks of a drive.
 fn read_homes<P: Port>(
     alloc: Global,
     geometry: Geometry,
-    queue: &P,
-    root: &P,
+    ports: &Ports<P>,
 ) -> Result<Vec<Block>, OutOfMemory>
-    requires one { geometry.queues ≡ 1 }
-    requires queue { IsPortOf geometry (Queue 0) (P.state queue.now) }
-    requires root { IsPortOf geometry Root (P.state root.now) }
-    requires queue_quiet { IsQuiet (P.state queue.now) }
-    requires root_quiet { IsQuiet (P.state root.now) }
+    requires { IsStill geometry (states P.state ports.now.queues.items ports.now.root) }
 {
     let mut homes = Vec::new(alloc);
     for b in 0..geometry.homes() {
         let mut block = Block::zeroed(alloc)?;
-        read_home(geometry, queue, root, BlockNo(b), &mut block);
+        read_home(geometry, ports, BlockNo(b), &mut block);
         homes.push(block)?;
     }
     Ok(homes)
@@ -90,8 +86,8 @@ fn recovered_of(
 {
     let (fuse, queue_seat, root_seat) = power_of_two(alloc, None)?;
     let seats = (queue_seat, root_seat);
-    let (prefix, queue, root) = recover_images(alloc, &fuse, seats, geometry, images, pick)?;
-    let homes = read_homes(alloc, geometry, &queue, &root);
+    let (prefix, ports) = recover_images(alloc, &fuse, seats, geometry, images, pick)?;
+    let homes = read_homes(alloc, geometry, &ports);
     match homes {
         Ok(homes) => Ok((prefix, homes)),
         Err(refusal) => Err(refusal),

@@ -1,5 +1,7 @@
 // Generated texts, cut at each of their events: what is printed is what a plain program makes of the
 // text.
+ghost use Rattle.std.specs.Prelude.{◌<◌, ◌^◌, IfSome};
+
 use super::*;
 use mq_text::BlockLine;
 use rand_core::SeedableRng;
@@ -115,7 +117,18 @@ fn is_right(
     Ok(output == output_after(alloc, text, lines)?.as_slice())
 }
 
-// Whether each text of these seeds, cut at each of its events and at none, leaves what it must.
+// After how many events the recovery of a cut is cut itself: with one of the picks it is not.
+fn again_of(events: u64, pick: u64) -> Option<u64>
+    ensures { IfSome result (λ k. k < 2 ^ 63) }
+{
+    match pick {
+        0 => None,
+        _ => Some(events % 13),
+    }
+}
+
+// Whether each text of these seeds, cut at each of its events and at none, leaves what it must, also
+// where the recovery is cut.
 fn are_right(rt: &impl Abort, alloc: Global, seeds: Range<u64>) -> Result<bool, AllocError> {
     for seed in seeds {
         let bytes = some_text(alloc, seed)?;
@@ -123,7 +136,8 @@ fn are_right(rt: &impl Abort, alloc: Global, seeds: Range<u64>) -> Result<bool, 
         let all = all_events(&text);
         for events in 0..all.saturating_add(2).min(1000) {
             for pick in 0..3 {
-                let output = blocks_output(alloc, &bytes, Some(events), pick).expect(
+                let again = again_of(events, pick);
+                let output = blocks_output(alloc, &bytes, Some(events), pick, again).expect(
                     rt,
                     "the text is good",
                 );
@@ -132,7 +146,7 @@ fn are_right(rt: &impl Abort, alloc: Global, seeds: Range<u64>) -> Result<bool, 
                 }
             }
         }
-        let output = blocks_output(alloc, &bytes, None, 0).expect(rt, "the text is good");
+        let output = blocks_output(alloc, &bytes, None, 0, None).expect(rt, "the text is good");
         if !is_right(alloc, &text, all, &output)? {
             return Ok(false);
         }

@@ -7,11 +7,11 @@ use Rattle.mqfs.proofs.program.blocks.Goals as goal
 
 pub returns-in-Ok-clause-ends : goal.returns-in-Ok-clause-ends
 returns-in-Ok-clause-ends g c =
-    said_output (λ v. v.items) c.blocks_output.result
+    said_output (λ v. v.items) c.run_blocks.result
     (λ (s : ℕ) (t : List ℕ). EndsWith s t c.say_output.result (g.K.Sink.contents c.args.out.now) (g.K.Sink.contents c.say_output.new.out) (g.K.Sink.faults c.args.out.now) (g.K.Sink.faults c.say_output.new.out))
-    (g.F.Files.told c.args.files.now) c.args.name.now c.deref.result.now c.args.cut
+    (g.F.Files.told c.args.files.now) c.args.name.now c.deref.result.now c.args.options.cut
     (g.F.Files.faults c.args.files.now) (g.F.Files.faults c.load.new.self) (g.F.Files.taken c.args.files.now) (g.F.Files.taken c.load.new.self)
-    c.blocks_output.ensures.ok c.blocks_output.ensures.refused c.say_output.ensures (subst (λ (l : List ℕ). Holds (g.F.Files.told c.args.files.now) c.args.name.now l) (sym c.deref.ensures.value) c.in-Ok.ensures.gives) c.in-Ok.ensures.cause c.in-Ok.ensures.takes
+    c.run_blocks.ensures.ok c.run_blocks.ensures.refused c.say_output.ensures (subst (λ (l : List ℕ). Holds (g.F.Files.told c.args.files.now) c.args.name.now l) (sym c.deref.ensures.value) c.in-Ok.ensures.gives) c.in-Ok.ensures.cause c.in-Ok.ensures.takes
 
 pub returns-in-Err-Failed-clause-ends : goal.returns-in-Err-Failed-clause-ends
 returns-in-Err-Failed-clause-ends g c = (

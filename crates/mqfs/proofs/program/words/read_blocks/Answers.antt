@@ -16,4 +16,4 @@ returns-in_ok-options-in-len2-up-clause-found c =
     ∙ ap (λ (n : List ℕ). codes "blocks" ∷ n ∷ map string_bytes (drop 2 c.args.words.now)) (sym c.deref.ensures)
     ∙ ap (λ l. codes "blocks" ∷ c.deref.result.now ∷ map string_bytes l) (sym (rest_whole c.args.words.now))
     ∙ ap (λ (l : List (List ℕ)). codes "blocks" ∷ c.deref.result.now ∷ l) found.0 in
-    (words, found.1, found.2)
+    (words, found.1)
