@@ -4,8 +4,8 @@ use Rattle.std.proofs.Math.Nat.{mod-add-mod, mod-mod, le-div_iff_mul-le}
 use Rattle.std.specs.Prelude.{slice_get, slice_index_or}
 use Rattle.mq_turns.specs.Chairs.{Starts}
 use Rattle.mq_turns.specs.Desk.{Follows, fresh, allotment}
-use Rattle.mq_turns.specs.Lists.{Each, tick, times}
-use Rattle.mq_turns.specs.Meaning.{newest, drawn}
+use Rattle.mq_turns.specs.Lists.{Each, tick}
+use Rattle.mq_turns.specs.Meaning.{drawn}
 use Rattle.mq_turns.specs.Desk.{slot_of, turn_at, refreshed, Sees, Stands, after_draw}
 use Rattle.mq_turns.specs.Counting.{votes, Counted, counted_along, counting}
 use Rattle.mq_turns.specs.declared.rule.Opening.{Opening}

@@ -1,15 +1,15 @@
 -- The end of a desk: what one view knows that stands for all chairs.
-use Rattle.std.proofs.Common.{◌≡◌, ◌≢◌, ℕ, zero, suc, ◌+◌, ◌-◌, ◌*◌, ◌<◌, ◌≤◌, Bool, true, false, List, [], ◌∷◌, ◌++◌, map, length, get_or, set, sym, refl, ap, ◌∙◌, subst, arith, Option, Some, None, length-append, get_or-set_other, get_or-set_same, append-nil, append_assoc}
+use Rattle.std.proofs.Common.{◌≡◌, ◌≢◌, ℕ, zero, suc, ◌+◌, ◌*◌, ◌<◌, ◌≤◌, List, [], ◌∷◌, ◌++◌, map, length, get_or, sym, refl, ap, ◌∙◌, subst, arith, Option, Some, None, length-append, append-nil, append_assoc}
 use Rattle.std.proofs.lemmas.List.{map-append}
 use mathlib.Core.Logic.{dite}
-use mathlib.Core.Option.{none, some, some-ne-none, some-injective}
+use mathlib.Core.Option.{some, some-ne-none, some-injective}
 use native.Mathlib.Decide.{ℕ_discrete}
 use lib.ListN.{get_elem?}
 use Rattle.std.specs.Prelude.{slice_get, All}
 use Rattle.atomic_table.specs.Table.{Final, Seen}
 use Rattle.mq_turns.specs.Meaning.{Meaning, Grows, newest, IsAt}
 use Rattle.mq_turns.specs.Lists.{total, Each, times}
-use Rattle.mq_turns.specs.Desk.{slots, turn_at, holders, allotment, Drawer, Ruled, Stands, drawn_of, read_of}
+use Rattle.mq_turns.specs.Desk.{slots, turn_at, holders, allotment, Drawer, Ruled, Stands, drawn_of, read_of, IsInOrder}
 use Rattle.mq_turns.specs.Chairs.{Ended}
 use Rattle.mq_turns.specs.Closing.{HasPages, HasSides, HasRoot, ArePages, AreSides, IsRoot}
 use Rattle.mq_turns.specs.declared.rule.Opening.{Opening}
@@ -19,7 +19,7 @@ use Rattle.mq_turns.specs.declared.turn.Turn.{Turn}
 use Rattle.mq_turns.specs.declared.turn.Turn.TheVariants.{Page, Side, Root}
 use Rattle.mq_turns.specs.declared.turn.Item.{Item}
 use Rattle.mq_turns.specs.declared.turn.Item.TheVariants as item
-use Rattle.mq_turns.proofs.Totals.{total_one, total_two, total_zero, total_only, total_append}
+use Rattle.mq_turns.proofs.Totals.{total_two, total_zero, total_only, total_append, each_append}
 use Rattle.mq_turns.proofs.Slots.{page_at, side_at, root_at}
 
 -- ---- lists of chairs
@@ -57,6 +57,10 @@ module _ {X P Q R E : Type 0} (f : X → View P Q R E) where
 
   pub read_moves : (ys xs : List X) (x : X) (l : List (E × Known P Q R E)) → ys ≡ xs ++ x ∷ [] → (l ++ (f x).read) ++ read_of (map f xs) ≡ l ++ read_of (map f ys)
   read_moves ys xs x l e = append_assoc l (f x).read (read_of (map f xs)) ∙ ap (λ z. l ++ z) (sym (ap read_of (map_last ys xs x e) ∙ read_last (map f xs) (f x)))
+
+  -- what holds of each view but the last, and of the last
+  pub each_last : (F : View P Q R E → Type 0) (ys xs : List X) (x : X) → ys ≡ xs ++ x ∷ [] → F (f x) → Each F (map f xs) → Each F (map f ys)
+  each_last F ys xs x e last all = subst (Each F) (sym (map_last ys xs x e)) (each_append F (map f xs) (f x ∷ []) all (last, tt))
 
   pub parts_of : ((x : X) → (f x).parts ≡ 1) → (xs : List X) → total (λ v. v.parts) (map f xs) ≡ length xs
   parts_of h [] = refl
@@ -155,8 +159,8 @@ module _ {M P Q R E : Type 0} (μ : Meaning P Q R E) (o : Opening P Q R) (chairs
 
     pub ended : (views : List (View P Q R E)) (pages : List P) (sides : List Q) (root : R) (count next : ℕ) → count ≡ length xs → get_elem? ws count ≡ some next
         → length pages ≡ length o.pages → ArePages xs pages → length sides ≡ length o.sides → AreSides (length o.pages) xs sides → IsRoot (length o.pages + length o.sides) xs root
-        → v.drawn ≡ drawn_of views → v.read ≡ read_of views → Ended μ o views pages sides root next
-    ended views pages sides root count next len at all_pages are_pages all_sides are_sides is_root drew read =
+        → v.drawn ≡ drawn_of views → v.read ≡ read_of views → Each (IsInOrder μ) views → Ended μ o views pages sides root next
+    ended views pages sides root count next len at all_pages are_pages all_sides are_sides is_root drew read ordered =
         let is : next ≡ newest h.known = sym (get_at ws count next at) ∙ (ap (λ i. get_or ws i 0) len ∙ h.counter) in
         let base : h.known.opening.base ≡ o.base = ap (λ p. p.base) h.opening in record {
           known = h.known;
@@ -171,4 +175,5 @@ module _ {M P Q R E : Type 0} (μ : Meaning P Q R E) (o : Opening P Q R) (chairs
           drew = subst (Each (λ d. IsAt h.known.opening.base h.known.log d.0 d.1)) drew h.drawer.drew;
           once = λ n lo hi. ap (times n) (sym drew) ∙ h.once n (omega arith) (omega arith);
           read = subst (Each (λ r. μ.ok r.1 × Grows r.1 h.known × μ.fits r.0 r.1)) read h.drawer.read;
+          ordered = ordered;
         }

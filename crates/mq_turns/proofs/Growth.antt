@@ -1,10 +1,10 @@
 -- What is known grows, and what stays as it does.
-use Rattle.std.proofs.Common.{◌≡◌, ◌≢◌, ℕ, zero, suc, ◌+◌, ◌<◌, ◌≤◌, eqb, Bool, true, false, List, [], ◌∷◌, ◌++◌, length, sym, refl, ap, ◌∙◌, subst, arith, append_assoc, length-append, inl, inr, ⊎_elim}
-use Rattle.std.proofs.lemmas.Bool.{false≢true, eq-eqb, eqb-true}
+use Rattle.std.proofs.Common.{◌≡◌, ◌≢◌, ℕ, ◌+◌, ◌<◌, ◌≤◌, false, List, [], ◌∷◌, ◌++◌, length, sym, refl, ap, ◌∙◌, subst, arith, append_assoc, length-append, inl, inr}
 use Rattle.mq_turns.specs.Meaning.{Touch, Lie, Apart, Stays, Grows, newest, drawn, claimed, written, raised, IsAt}
 use Rattle.mq_turns.specs.Lists.{Each}
 use Rattle.mq_turns.specs.declared.rule.Known.{Known}
 use Rattle.mq_turns.specs.declared.turn.Turn.{Turn}
+use Rattle.mq_turns.specs.declared.turn.Turn.TheVariants.{Side, Root}
 
 pub each_join : {A : Type 0} (F : A → Type 0) (l m : List A) → Each F l → Each F m → Each F (l ++ m)
 each_join F [] m a b = b
@@ -60,9 +60,9 @@ module _ {E : Type 0} (touches : Touch E) where
   apart_join [] ys zs t a b = b
   apart_join (x ∷ xs) ys zs t a b = (ap (λ l. touches l x t) (append_assoc xs ys zs) ∙ a.0, apart_join xs ys zs t a.1 b)
 
-  module _ {P Q R : Type 0} (lies : Lie) where
+  module _ {P Q R : Type 0} (lies : Lie P Q R) where
     pub stays_now : (t : Turn) (K : Known P Q R E) → Stays touches lies t K K
-    stays_now t K = record { grows = grows_now K; apart = tt; claims = tt; ended = tt }
+    stays_now t K = record { grows = grows_now K; apart = tt; claims = tt; ended = tt; word = λ _. refl }
 
     pub stays_on : (t : Turn) (K L N : Known P Q R E) → Stays touches lies t K L → Stays touches lies t L N → Stays touches lies t K N
     unfolding grows_on
@@ -70,5 +70,19 @@ module _ {E : Type 0} (touches : Touch E) where
       grows = grows_on K L N a.grows b.grows;
       apart = apart_join b.grows.newer a.grows.newer K.log t (subst (λ l. Apart touches b.grows.newer l t) a.grows.log b.apart) a.apart;
       claims = each_join _ b.grows.claimed a.grows.claimed b.claims a.claims;
-      ended = each_join _ b.grows.written a.grows.written b.ended a.ended;
+      ended = each_join (λ h. lies K.opening h t ≡ false) b.grows.written a.grows.written (subst (λ o. Each (λ h. lies o h t ≡ false) b.grows.written) a.grows.opening b.ended) a.ended;
+      word = λ e. b.word e ∙ a.word e;
     }
+
+    -- each kind of growth, for a turn that it is not about
+    pub stays_drawn : (t : Turn) (e : E) (K : Known P Q R E) → touches K.log e t ≡ false → Stays touches lies t K (drawn e K)
+    stays_drawn t e K apart = record { grows = grows_drawn e K; apart = (apart, tt); claims = tt; ended = tt; word = λ _. refl }
+
+    pub stays_claimed : (t : Turn) (c : ℕ × ℕ) (K : Known P Q R E) → Side c.0 ≢ t → Stays touches lies t K (claimed c K)
+    stays_claimed t c K other = record { grows = grows_claimed c K; apart = tt; claims = (other, tt); ended = tt; word = λ _. refl }
+
+    pub stays_written : (t : Turn) (h : ℕ × ℕ) (K : Known P Q R E) → lies K.opening h t ≡ false → Stays touches lies t K (written h K)
+    stays_written t h K apart = record { grows = grows_written h K; apart = tt; claims = tt; ended = (apart, tt); word = λ _. refl }
+
+    pub stays_raised : (t : Turn) (b : ℕ) (K : Known P Q R E) → K.word ≤ b → Root ≢ t → Stays touches lies t K (raised b K)
+    stays_raised t b K up other = record { grows = grows_raised b K up; apart = tt; claims = tt; ended = tt; word = λ is. absurd (other (sym is)) }

@@ -1,5 +1,5 @@
 -- Each kind of step keeps the rule, layer by layer, and tells what it tells.
-use Rattle.std.proofs.Common.{◌≡◌, ◌≢◌, ℕ, zero, suc, ◌+◌, ◌-◌, ◌*◌, ◌%◌, ◌^◌, ◌<◌, ◌≤◌, cond, Bool, true, false, List, [], ◌∷◌, ◌++◌, length, get_or, set, sym, refl, ap, ◌∙◌, subst, arith, Option, Some, None, IfSome, length-set, get_or-set_other, get_or-set_same, mod-eq_of_lt}
+use Rattle.std.proofs.Common.{◌≡◌, ℕ, zero, suc, ◌+◌, ◌*◌, ◌%◌, ◌^◌, ◌<◌, Bool, List, [], ◌∷◌, length, get_or, set, sym, refl, ap, ◌∙◌, subst, arith, Option, Some, None, IfSome, length-set, get_or-set_other, get_or-set_same, mod-eq_of_lt}
 use Rattle.std.specs.Option.{option_map}
 use mathlib.Core.Logic.{dite}
 use mathlib.Core.Option.{none, some}
@@ -10,16 +10,17 @@ use Rattle.atomic_table.specs.Table.{step, keeps, takes, gives, carried_after, A
 use Rattle.atomic_table.proofs.Lists.{set_again}
 use Rattle.mq_turns.specs.Meaning.{Meaning, Stays, newest, drawn}
 use Rattle.mq_turns.specs.Lists.{Each, times, without}
-use Rattle.mq_turns.specs.Desk.{slots, IsTurn, slot_of, turn_at, holders, Sat, Now, Stay, Sees, Covers, MayRead, Below, allotment, after_draw, after_look, Turns, Numbers, Ruled, Stands, taken, settled, reached, freed, drew_one, looked}
+use Rattle.mq_turns.specs.Desk.{slots, IsTurn, slot_of, turn_at, holders, Sat, Now, Stay, Sees, Covers, MayRead, Follows, IsInOrder, Below, allotment, after_draw, after_look, Turns, Numbers, Ruled, Stands, taken, settled, reached, freed, drew_one, looked}
 use Rattle.mq_turns.specs.declared.rule.Opening.{Opening}
 use Rattle.mq_turns.specs.declared.rule.Known.{Known}
 use Rattle.mq_turns.specs.declared.rule.View.{View}
 use Rattle.mq_turns.specs.declared.turn.Turn.{Turn}
 use Rattle.mq_turns.specs.declared.turn.Item.{Item}
-use Rattle.mq_turns.proofs.Totals.{total_one, each_map}
-use Rattle.mq_turns.proofs.Growth.{stays_now, grows_now}
+use Rattle.mq_turns.proofs.Totals.{each_map}
+use Rattle.mq_turns.proofs.Growth.{stays_drawn, grows_now}
 use Rattle.mq_turns.proofs.Turns.{Change, Homes, turns_look, turns_change, turns_take, turns_settle, turns_reach, turns_free, away_empty}
 use Rattle.mq_turns.proofs.Numbers.{numbers_stay, numbers_look, numbers_draw, room_left, below_newest}
+use Rattle.mq_turns.proofs.Order.{order_draw, order_look}
 use Rattle.mq_turns.proofs.Slots.{turn_at_slot, turn_of_slot, slot_of_turn}
 
 told_one : {E : Type 0} (o : Option E) (e d : E) (F : E → Type 0) → o ≡ Some e → o ≡ Some d → F e → F d
@@ -71,7 +72,7 @@ module _ {M P Q R E : Type 0} (μ : Meaning P Q R E) (o : Opening P Q R) (chairs
           K,
           rk.1,
           turns_take μ (turn_at o) K s id k v w r at (omega arith) none_holds live empty refl refl refl,
-          numbers_stay μ chairs K s id v w (set s.words k 1) (set s.homes k none) n at (length-set s.homes k none) (get_or-set_other s.words k (length s.homes) 1 0 (λ e. omega arith)) refl refl refl refl refl,
+          numbers_stay μ chairs K s id v w (set s.words k 1) (set s.homes k none) n at (length-set s.homes k none) (get_or-set_other s.words k (length s.homes) 1 0 (λ e. omega arith)) refl refl refl refl refl refl,
         ),
         ((λ _. (x.0, K, ap (λ (cs : List (ℕ × Option (Item M P Q R E))). (w, (k, Some x.0) ∷ cs)) bare, sees K s id v rk.1 r n at live, subst G (sym rk.1) x.2)), (λ ne. absurd (ne free))),
       ))
@@ -100,7 +101,7 @@ module _ {M P Q R E : Type 0} (μ : Meaning P Q R E) (o : Opening P Q R) (chairs
           K,
           rk.1,
           turns_settle μ (turn_at o) K s id k v w rk.2 at (omega arith) hand refl refl refl,
-          numbers_stay μ chairs K s id v w s.words homes' rk.3 at (length-set s.homes k (some None)) refl refl refl refl refl refl,
+          numbers_stay μ chairs K s id v w s.words homes' rk.3 at (length-set s.homes k (some None)) refl refl refl refl refl refl refl,
         ),
         refl,
       ))
@@ -120,7 +121,7 @@ module _ {M P Q R E : Type 0} (μ : Meaning P Q R E) (o : Opening P Q R) (chairs
           K,
           rk.1,
           turns_reach μ (turn_at o) K s id k v w rk.2 at (omega arith) hand mine refl refl refl,
-          numbers_stay μ chairs K s id v w s.words homes' rk.3 at (length-set s.homes k none) refl refl refl refl refl refl,
+          numbers_stay μ chairs K s id v w s.words homes' rk.3 at (length-set s.homes k none) refl refl refl refl refl refl refl,
         ),
         refl,
       ))
@@ -140,13 +141,13 @@ module _ {M P Q R E : Type 0} (μ : Meaning P Q R E) (o : Opening P Q R) (chairs
           K,
           rk.1,
           turns_free μ (turn_at o) K s id k v w x rk.2 at (omega arith) hand stands refl refl refl,
-          numbers_stay μ chairs K s id v w (set s.words k 0) homes' rk.3 at (length-set s.homes k (some (Some x))) (get_or-set_other s.words k (length s.homes) 0 0 (λ e. omega arith)) refl refl refl refl refl,
+          numbers_stay μ chairs K s id v w (set s.words k 0) homes' rk.3 at (length-set s.homes k (some (Some x))) (get_or-set_other s.words k (length s.homes) 0 0 (λ e. omega arith)) refl refl refl refl refl refl,
         ),
         refl,
       ))
 
   -- the counter is read, and an entry with it, if there is one
-  pub looks : (deep id : ℕ) (me : Sat M P Q R E) (word : ℕ) (e : Option E) → word ≡ deep → 0 < me.0.parts → ((d : E) → e ≡ Some d → MayRead μ d me.0)
+  pub looks : (deep id : ℕ) (me : Sat M P Q R E) (word : ℕ) (e : Option E) → word ≡ deep → 0 < me.0.parts → ((d : E) → e ≡ Some d → MayRead μ d me.0 × Follows μ d me.0)
       → Allows Rule deep id me word (λ n. n) (looked μ e (step deep word 0 0 none) me)
   looks deep id me word e is live may s rk len at fits =
       let K : Known P Q R E = rk.0 in
@@ -157,7 +158,8 @@ module _ {M P Q R E : Type 0} (μ : Meaning P Q R E) (o : Opening P Q R) (chairs
       let w : View P Q R E = after_look e K v in
       let now : get_or s.words word 0 ≡ newest K = ap (λ i. get_or s.words i 0) (is ∙ sym len) ∙ n.counter in
       let d = n.each_chair id v at in
-      let below = below_newest μ (allotment chairs) K v d in (
+      let below = below_newest μ (allotment chairs) K v d in
+      let order : v.parts ≡ 1 → IsInOrder μ w = λ one. order_look μ e K v (λ x y. (may x y).1) below.1 d.read (d.order one) in (
         w,
         keeps,
         tt,
@@ -165,9 +167,9 @@ module _ {M P Q R E : Type 0} (μ : Meaning P Q R E) (o : Opening P Q R) (chairs
           K,
           rk.1,
           turns_look μ (turn_at o) K s id v w s.words r at (same (λ u. u.parts) e K v refl (λ _. refl)) (same (λ u. u.hand) e K v refl (λ _. refl)) (same (λ u. u.held) e K v refl (λ _. refl)) refl (λ _ _. refl),
-          numbers_look μ chairs K s id v w s.words n at refl (same (λ u. u.parts) e K v refl (λ _. refl)) (same (λ u. u.opening) e K v refl (λ _. refl)) (same_seen e K v) (same (λ u. u.drawn) e K v refl (λ _. refl)) (reads e K v seen may d.read),
+          numbers_look μ chairs K s id v w s.words n at refl (same (λ u. u.parts) e K v refl (λ _. refl)) (same (λ u. u.opening) e K v refl (λ _. refl)) (same_seen e K v) (same (λ u. u.drawn) e K v refl (λ _. refl)) (reads e K v seen (λ x y. (may x y).0) d.read) order,
         ),
-        ((K, refl, sym now, seen), (subst (λ i. Below i v) (sym now) below)),
+        ((K, refl, sym now, seen), subst (λ i. Below i v) (sym now) below, order),
       )
     where
       same : {A : Type 0} (f : View P Q R E → A) (e : Option E) (K : Known P Q R E) (v : View P Q R E) → f (after_look None K v) ≡ f v → ((d : E) → f (after_look (Some d) K v) ≡ f v) → f (after_look e K v) ≡ f v
@@ -184,9 +186,9 @@ module _ {M P Q R E : Type 0} (μ : Meaning P Q R E) (o : Opening P Q R) (chairs
       reads (Some d) K v seen may old = ((seen.ok, grows_now K, may d refl K seen), old)
 
   -- the next number is drawn, with the entry
-  pub draws : (deep id : ℕ) (me : Sat M P Q R E) (word : ℕ) (e : E) → word ≡ deep → deep ≡ slots o → Covers μ e me.0 → length me.0.drawn < me.0.parts * allotment chairs
+  pub draws : (deep id : ℕ) (me : Sat M P Q R E) (word : ℕ) (e : E) → word ≡ deep → deep ≡ slots o → Covers μ e me.0 → Follows μ e me.0 → length me.0.drawn < me.0.parts * allotment chairs
       → Allows Rule deep id me word (λ n. (n + 1) % 2 ^ 64) (drew_one μ e (step deep word 1 0 none) me)
-  draws deep id me word e is wide may room s rk len at fits =
+  draws deep id me word e is wide may follows room s rk len at fits =
       let K : Known P Q R E = rk.0 in
       let L : Known P Q R E = drawn e K in
       let r = rk.2 in
@@ -199,15 +201,16 @@ module _ {M P Q R E : Type 0} (μ : Meaning P Q R E) (o : Opening P Q R) (chairs
       let now : get_or s.words word 0 ≡ newest K = ap (λ i. get_or s.words i 0) at_end ∙ n.counter in
       let few = room_left μ chairs K s id v n at room in
       let words_wide = r.wide in
+      let d = n.each_chair id v at in
       let small : newest K + 1 < 2 ^ 64 = omega arith in
       let wrapped : (get_or s.words word 0 + 1) % 2 ^ 64 ≡ suc (newest K) = ap (λ i. (i + 1) % 2 ^ 64) now ∙ (mod-eq_of_lt small ∙ omega arith) in
       let words' : List ℕ = set s.words word (suc (newest K)) in
       let touched : ℕ → Bool = λ k. μ.touches K.log e (turn_at K.opening k) in
-      let ok : μ.ok L = μ.ok_drawn e K r.ok (may.may K seen) in
+      let ok : μ.ok L = μ.ok_drawn e K r.ok (may.may K seen few) in
       let opening : turn_at K.opening ≡ turn_at o = ap turn_at rk.1 in
       let change : Change μ (turn_at K.opening) (length s.homes) touched K L v = record {
         ok = ok;
-        stays = λ k f. record { grows = Rattle.mq_turns.proofs.Growth.grows_drawn e K; apart = (f, tt); claims = tt; ended = tt };
+        stays = λ k f. stays_drawn μ.touches μ.lies (turn_at K.opening k) e K f;
         mine = λ k lt t.
             let here : k < slots K.opening = subst (λ p. k < slots p) (sym rk.1) (omega arith) in
             let z = may.held K seen (turn_at K.opening k) (turn_of_slot K.opening k here) t in
@@ -221,28 +224,28 @@ module _ {M P Q R E : Type 0} (μ : Meaning P Q R E) (o : Opening P Q R) (chairs
           L,
           rk.1,
           turns_change μ (turn_at o) touched K L s id v w words' r at change' refl refl refl (length-set s.words word (suc (newest K))) (λ k l. get_or-set_other s.words word k (suc (newest K)) 0 (λ q. omega arith)),
-          numbers_draw μ chairs e K s id v w words' n at room (let z = get_or-set_same s.words word (suc (newest K)) 0 (omega arith) in ap (λ i. get_or words' i 0) (sym at_end) ∙ z) refl refl refl refl refl,
+          numbers_draw μ chairs e K s id v w words' n at follows room (let z = get_or-set_same s.words word (suc (newest K)) 0 (omega arith) in ap (λ i. get_or words' i 0) (sym at_end) ∙ z) refl refl refl refl refl refl,
         ),
-        ((K, refl, sym now, seen), subst (λ i. Below i v) (sym now) (below_newest μ (allotment chairs) K v (n.each_chair id v at)), omega arith),
+        ((K, refl, sym now, seen), subst (λ i. Below i v) (sym now) (below_newest μ (allotment chairs) K v d), omega arith, λ one. order_draw μ e K v follows (below_newest μ (allotment chairs) K v d).1 d.read (d.order one)),
       )
     where
       some_parts : (parts drew : ℕ) → drew < parts * allotment chairs → 0 < parts
       some_parts zero drew lt = absurd (omega arith)
       some_parts (suc n) drew lt = omega arith
 
-  pub draws_told : (deep id : ℕ) (me : Sat M P Q R E) (word : ℕ) (e : E) (t : Option E) → word ≡ deep → deep ≡ slots o → Covers μ e me.0 → length me.0.drawn < me.0.parts * allotment chairs → t ≡ Some e
+  pub draws_told : (deep id : ℕ) (me : Sat M P Q R E) (word : ℕ) (e : E) (t : Option E) → word ≡ deep → deep ≡ slots o → Covers μ e me.0 → Follows μ e me.0 → length me.0.drawn < me.0.parts * allotment chairs → t ≡ Some e
       → Allows Rule deep id me word (λ n. (n + 1) % 2 ^ 64) (λ n me'. (d : E) → t ≡ Some d → drew_one μ d (step deep word 1 0 none) me n me')
-  draws_told deep id me word e t is wide may room told s r len at fits = let x = draws deep id me word e is wide may room s r len at fits in
+  draws_told deep id me word e t is wide may follows room told s r len at fits = let x = draws deep id me word e is wide may follows room s r len at fits in
       (x.0, x.1, x.2, x.3, λ d told'. told_one t e d (λ a. drew_one μ a (step deep word 1 0 none) me (get_or s.words word 0) (x.0, carried_after me.1 x.1)) told told' x.4)
 
   pub looks_nothing : (deep id : ℕ) (me : Sat M P Q R E) (word : ℕ) → word ≡ deep → 0 < me.0.parts → Allows Rule deep id me word (λ n. n) (looked μ None (step deep word 0 0 none) me)
   looks_nothing deep id me word is live = looks deep id me word None is live (λ d e. absurd (none_told None d refl e))
 
   -- the same, where the entry is seen through a reference
-  pub looks_told : {X : Type 0} (deep id : ℕ) (me : Sat M P Q R E) (word : ℕ) (f : X → E) (x : Option X) (t : Option E) → word ≡ deep → 0 < me.0.parts → IfSome x (λ a. MayRead μ (f a) me.0) → t ≡ option_map f x
+  pub looks_told : {X : Type 0} (deep id : ℕ) (me : Sat M P Q R E) (word : ℕ) (f : X → E) (x : Option X) (t : Option E) → word ≡ deep → 0 < me.0.parts → IfSome x (λ a. MayRead μ (f a) me.0 × Follows μ (f a) me.0) → t ≡ option_map f x
       → Allows Rule deep id me word (λ n. n) (looked μ t (step deep word 0 0 none) me)
   looks_told deep id me word f None t is live may told = looks deep id me word t is live (λ d e. absurd (none_told t d told e))
-  looks_told deep id me word f (Some a) t is live may told = looks deep id me word t is live (λ d e. told_one t (f a) d (λ b. MayRead μ b me.0) told e may)
+  looks_told deep id me word f (Some a) t is live may told = looks deep id me word t is live (λ d e. told_one t (f a) d (λ b. MayRead μ b me.0 × Follows μ b me.0) told e may)
 
   -- what is said by slots, said by turns
   pub stands_turn : (K : Known P Q R E) (v : View P Q R E) (t : Turn) (k : ℕ) (x : Item M P Q R E) → v.opening ≡ Some o → Sees μ v K → IsTurn o t → k ≡ slot_of o t → Stands μ (turn_at K.opening k) K x → Stands μ t K x

@@ -1,13 +1,13 @@
 -- A new desk: what one view holds at first, and how it lays it down.
-use Rattle.std.proofs.Common.{◌≡◌, ◌≢◌, ◌⊎◌, ℕ, zero, suc, ◌+◌, ◌-◌, ◌*◌, ◌<◌, ◌≤◌, cond, Bool, true, false, List, [], ◌∷◌, ◌++◌, map, length, get_or, set, sym, refl, ap, ◌∙◌, subst, ⊎_elim, inl, inr, arith, Option, Some, None, length-set, length-append, get_or-set_other, get_or-set_same, replicate, eq-eqb, ne_eqb}
+use Rattle.std.proofs.Common.{◌≡◌, ◌⊎◌, ℕ, zero, suc, ◌+◌, ◌-◌, ◌<◌, ◌≤◌, cond, Bool, List, [], ◌∷◌, ◌++◌, map, length, get_or, set, sym, refl, ap, ◌∙◌, subst, ⊎_elim, inl, inr, arith, Option, Some, None, length-set, get_or-set_other, get_or-set_same, replicate, eq-eqb, ne_eqb}
 use mathlib.Core.Logic.{dite}
-use mathlib.Core.Option.{none, some, some-ne-none, some-injective}
+use mathlib.Core.Option.{some, some-ne-none, some-injective}
 use native.Mathlib.Decide.{ℕ_discrete}
 use lib.ListN.{get_elem?, length-map, length-replicate, get_or-replicate}
 use Rattle.std.specs.Prelude.{slice_get}
 use Rattle.atomic_table.specs.Table.{opening}
 use Rattle.mq_turns.specs.Meaning.{Meaning, opened}
-use Rattle.mq_turns.specs.Lists.{total, Each, tick, times, without}
+use Rattle.mq_turns.specs.Lists.{Each, times, without}
 use Rattle.mq_turns.specs.Desk.{slots, turn_at, fresh, slots_from, laying, first_view, others, seated, Stay, Holder, Drawer, allotment, Ruled, Stands}
 use Rattle.mq_turns.specs.Chairs.{Starts}
 use Rattle.mq_turns.specs.declared.rule.Opening.{Opening}
@@ -16,9 +16,9 @@ use Rattle.mq_turns.specs.declared.rule.View.{View}
 use Rattle.mq_turns.specs.declared.turn.Turn.{Turn}
 use Rattle.mq_turns.specs.declared.turn.Turn.TheVariants.{Page, Side, Root}
 use Rattle.mq_turns.specs.declared.turn.Item.{Item}
-use Rattle.mq_turns.specs.declared.turn.Item.TheVariants as item
 use Rattle.mq_turns.proofs.Totals.{hit, miss}
 use Rattle.mq_turns.proofs.Growth.{stays_now}
+use Rattle.mq_turns.proofs.Order.{order_none}
 use Rattle.mq_turns.proofs.Turns.{Homes}
 use Rattle.mq_turns.proofs.Slots.{page_at, side_at, root_at}
 
@@ -164,7 +164,7 @@ module _ {M P Q R E : Type 0} (μ : Meaning P Q R E) (o : Opening P Q R) (chairs
           counted = omega arith;
           once = λ n lo hi. absurd (omega arith);
           bounds = (small, some_chair);
-          each_chair = λ j u e. only v j u e (Drawer μ (allotment chairs) (opened o)) record { few = omega arith; opening = λ _. refl; seen = omega arith; drew = tt; read = tt };
+          each_chair = λ j u e. only v j u e (Drawer μ (allotment chairs) (opened o)) record { few = omega arith; opening = λ _. refl; seen = omega arith; drew = tt; read = tt; order = λ one. order_none μ 0 };
         },
       )
     where

@@ -2,7 +2,9 @@ pub mod Totals
 pub mod Growth
 pub mod Slots
 pub mod Turns
+pub mod Order
 pub mod Numbers
+pub mod Changes
 pub mod Keeping
 pub mod Seats
 pub mod Laying

@@ -1,19 +1,19 @@
 -- What each kind of step does to the numbers.
-use Rattle.std.proofs.Common.{◌≡◌, ◌≢◌, ℕ, zero, suc, ◌+◌, ◌-◌, ◌*◌, ◌<◌, ◌≤◌, cond, Bool, true, false, List, [], ◌∷◌, ◌++◌, length, get_or, set, max, sym, refl, ap, ◌∙◌, subst, ⊎_elim, inl, inr, arith, Option, Some, None, length-set, length-append, get_or-set_other, get_or-set_same}
+use Rattle.std.proofs.Common.{◌≡◌, ◌≢◌, ℕ, suc, ◌+◌, ◌*◌, ◌<◌, ◌≤◌, List, [], ◌∷◌, ◌++◌, length, get_or, set, sym, refl, ap, ◌∙◌, subst, ⊎_elim, inl, arith, Some}
 use Rattle.std.proofs.Math.Nat.{mul-div-le}
 use mathlib.Core.Logic.{dite}
-use mathlib.Core.Option.{none, some}
+use mathlib.Core.Option.{some}
 use native.Mathlib.Decide.{ℕ_discrete}
 use lib.ListN.{get_elem?}
 use Rattle.atomic_table.proofs.Lists.{at_set, at_snoc, set_else}
 use Rattle.mq_turns.specs.Meaning.{Meaning, Grows, newest, drawn, IsAt}
 use Rattle.mq_turns.specs.Lists.{total, Each, tick, times}
-use Rattle.mq_turns.specs.Desk.{Now, Drawer, Numbers, allotment, Below, last_of}
+use Rattle.mq_turns.specs.Desk.{Now, Drawer, Numbers, allotment, Below, Follows, IsInOrder, last_of}
 use Rattle.mq_turns.specs.declared.rule.Known.{Known}
 use Rattle.mq_turns.specs.declared.rule.View.{View}
-use Rattle.mq_turns.specs.declared.turn.Item.{Item}
-use Rattle.mq_turns.proofs.Totals.{total_set, total_same, total_one, total_gap, total_scaled, total_append, total_pair, total_zero, each_map, hit, miss, times_none}
+use Rattle.mq_turns.proofs.Totals.{total_set, total_same, total_gap, total_scaled, total_append, total_pair, total_zero, each_map, hit, miss, times_none}
 use Rattle.mq_turns.proofs.Growth.{at_bounds, grows_on, grows_drawn, newest_grows, at_grows}
+use Rattle.mq_turns.proofs.Order.{order_same, order_draw}
 use Rattle.mq_turns.proofs.Turns.{Homes, chairs_stay}
 
 -- where a chair has room, fewer are drawn than all chairs may draw
@@ -51,15 +51,16 @@ module _ {P Q R E : Type 0} (μ : Meaning P Q R E) where
     seen = let a = newest_grows K L g in let b = d.seen in omega arith;
     drew = each_map _ _ (λ x a. at_grows K L x.0 x.1 g a) v.drawn d.drew;
     read = each_map _ _ (λ r a. (a.0, grows_on r.1 K L a.1 g, a.2)) v.read d.read;
+    order = d.order;
   }
 
 module _ {M P Q R E : Type 0} (μ : Meaning P Q R E) where
   -- a step that is not about numbers
   pub numbers_stay : (chairs : ℕ) (K : Known P Q R E) (s : Now M P Q R E) (id : ℕ) (v w : View P Q R E) (words' : List ℕ) (homes' : Homes M P Q R E) → Numbers μ chairs K s → get_elem? s.views id ≡ some v
       → length homes' ≡ length s.homes → get_or words' (length s.homes) 0 ≡ get_or s.words (length s.homes) 0
-      → w.parts ≡ v.parts → w.opening ≡ v.opening → w.seen ≡ v.seen → w.drawn ≡ v.drawn → w.read ≡ v.read
+      → w.parts ≡ v.parts → w.opening ≡ v.opening → w.session ≡ v.session → w.seen ≡ v.seen → w.drawn ≡ v.drawn → w.read ≡ v.read
       → Numbers μ chairs K record { words = words'; homes = homes'; views = set s.views id w }
-  numbers_stay chairs K s id v w words' homes' r at deep counter parts opening seen drew read =
+  numbers_stay chairs K s id v w words' homes' r at deep counter parts opening session seen drew read =
       let d = r.each_chair id v at in record {
         counter = ap (λ n. get_or words' n 0) deep ∙ (counter ∙ r.counter);
         whole = total_same (λ u. u.parts) s.views id v w at parts ∙ r.whole;
@@ -73,6 +74,7 @@ module _ {M P Q R E : Type 0} (μ : Meaning P Q R E) where
               seen = let a = d.seen in omega arith;
               drew = subst (Drawns μ K) (sym drew) d.drew;
               read = subst (Reads μ K) (sym read) d.read;
+              order = λ one. order_same μ v w session drew read (d.order (sym parts ∙ one));
             }
             (λ j u ne o. r.each_chair j u o);
       }
@@ -80,9 +82,9 @@ module _ {M P Q R E : Type 0} (μ : Meaning P Q R E) where
   -- the counter is read
   pub numbers_look : (chairs : ℕ) (K : Known P Q R E) (s : Now M P Q R E) (id : ℕ) (v w : View P Q R E) (words' : List ℕ) → Numbers μ chairs K s → get_elem? s.views id ≡ some v
       → get_or words' (length s.homes) 0 ≡ get_or s.words (length s.homes) 0
-      → w.parts ≡ v.parts → w.opening ≡ v.opening → w.seen ≡ newest K → w.drawn ≡ v.drawn → Each (λ r. μ.ok r.1 × Grows r.1 K × μ.fits r.0 r.1) w.read
+      → w.parts ≡ v.parts → w.opening ≡ v.opening → w.seen ≡ newest K → w.drawn ≡ v.drawn → Each (λ r. μ.ok r.1 × Grows r.1 K × μ.fits r.0 r.1) w.read → (v.parts ≡ 1 → IsInOrder μ w)
       → Numbers μ chairs K record { words = words'; homes = s.homes; views = set s.views id w }
-  numbers_look chairs K s id v w words' r at counter parts opening seen drew read =
+  numbers_look chairs K s id v w words' r at counter parts opening seen drew read order =
       let d = r.each_chair id v at in record {
         counter = counter ∙ r.counter;
         whole = total_same (λ u. u.parts) s.views id v w at parts ∙ r.whole;
@@ -96,6 +98,7 @@ module _ {M P Q R E : Type 0} (μ : Meaning P Q R E) where
               seen = omega arith;
               drew = subst (Drawns μ K) (sym drew) d.drew;
               read = read;
+              order = λ one. order (sym parts ∙ one);
             }
             (λ j u ne o. r.each_chair j u o);
       }
@@ -111,10 +114,10 @@ module _ {M P Q R E : Type 0} (μ : Meaning P Q R E) where
   -- a step by which L is known, and no number was drawn
   pub numbers_change : (chairs : ℕ) (K L : Known P Q R E) (s : Now M P Q R E) (id : ℕ) (v w : View P Q R E) (words' : List ℕ) → Numbers μ chairs K s → get_elem? s.views id ≡ some v → Grows K L → L.log ≡ K.log
       → get_or words' (length s.homes) 0 ≡ get_or s.words (length s.homes) 0
-      → w.parts ≡ v.parts → w.opening ≡ v.opening → w.seen ≡ v.seen → w.drawn ≡ v.drawn → w.read ≡ v.read
+      → w.parts ≡ v.parts → w.opening ≡ v.opening → w.session ≡ v.session → w.seen ≡ v.seen → w.drawn ≡ v.drawn → w.read ≡ v.read
       → Numbers μ chairs L record { words = words'; homes = s.homes; views = set s.views id w }
-  numbers_change chairs K L s id v w words' r at g same counter parts opening seen drew read =
-      let n = numbers_stay chairs K s id v w words' s.homes r at refl counter parts opening seen drew read in
+  numbers_change chairs K L s id v w words' r at g same counter parts opening session seen drew read =
+      let n = numbers_stay chairs K s id v w words' s.homes r at refl counter parts opening session seen drew read in
       let len : length L.log ≡ length K.log = ap length same in
       let base : L.opening.base ≡ K.opening.base = ap (λ o. o.base) g.opening in
       record {
@@ -128,10 +131,10 @@ module _ {M P Q R E : Type 0} (μ : Meaning P Q R E) where
 
   -- a number is drawn
   pub numbers_draw : (chairs : ℕ) (e : E) (K : Known P Q R E) (s : Now M P Q R E) (id : ℕ) (v w : View P Q R E) (words' : List ℕ) → Numbers μ chairs K s → get_elem? s.views id ≡ some v
-      → length v.drawn < v.parts * allotment chairs → get_or words' (length s.homes) 0 ≡ suc (newest K)
-      → w.parts ≡ v.parts → w.opening ≡ v.opening → w.seen ≡ suc (newest K) → w.drawn ≡ (suc (newest K), e) ∷ v.drawn → w.read ≡ v.read
+      → Follows μ e v → length v.drawn < v.parts * allotment chairs → get_or words' (length s.homes) 0 ≡ suc (newest K)
+      → w.parts ≡ v.parts → w.opening ≡ v.opening → w.session ≡ v.session → w.seen ≡ suc (newest K) → w.drawn ≡ (suc (newest K), e) ∷ v.drawn → w.read ≡ v.read
       → Numbers μ chairs (drawn e K) record { words = words'; homes = s.homes; views = set s.views id w }
-  numbers_draw chairs e K s id v w words' r at room counter parts opening seen drew read =
+  numbers_draw chairs e K s id v w words' r at follows room counter parts opening session seen drew read =
       let L : Known P Q R E = drawn e K in
       let d = r.each_chair id v at in
       let now = drawer_grows μ (allotment chairs) K L v (grows_drawn e K) d in
@@ -156,6 +159,7 @@ module _ {M P Q R E : Type 0} (μ : Meaning P Q R E) where
               seen = omega arith;
               drew = subst (Drawns μ L) (sym drew) (inl (refl, refl), now.drew);
               read = subst (Reads μ L) (sym read) now.read;
+              order = λ one. order_same μ (record v { drawn = (suc n, e) ∷ v.drawn }) w session drew read (order_draw μ e K v follows (drawns_below μ K v.drawn d.drew) d.read (d.order (sym parts ∙ one)));
             }
             (λ j u ne o. drawer_grows μ (allotment chairs) K L u (grows_drawn e K) (r.each_chair j u o));
       }

@@ -1,22 +1,15 @@
 -- Views that are cut and joined, the desk at its start and at its end.
-use Rattle.std.proofs.Common.{◌≡◌, ◌≢◌, ℕ, zero, suc, ◌+◌, ◌-◌, ◌*◌, ◌<◌, ◌≤◌, cond, Bool, true, false, List, [], ◌∷◌, ◌++◌, map, length, get_or, set, max, sym, refl, ap, ◌∙◌, subst, ⊎_elim, inl, inr, arith, Option, Some, None, length-set, length-append, get_or-set_other, get_or-set_same, replicate, eq-eqb, ne_eqb}
-use mathlib.Core.Logic.{dite}
-use mathlib.Core.Option.{none, some, some-ne-none, some-injective}
-use native.Mathlib.Decide.{ℕ_discrete}
-use lib.ListN.{get_elem?, length-map, length-replicate, get_or-replicate}
-use Rattle.std.specs.Prelude.{slice_get}
-use Rattle.atomic_table.specs.Table.{State, Splits, Joins, opening, Final, Seen}
-use Rattle.mq_turns.specs.Meaning.{Meaning, Grows, opened, newest, drawn, IsAt}
-use Rattle.mq_turns.specs.Lists.{total, Each, tick, times, without}
-use Rattle.mq_turns.specs.Desk.{slots, turn_at, hand_at, holders, hands, allotment, last_of, Now, Below, blank, fresh, slots_from, laying, first_view, others, seated, noted, heard, joined, Drawer, Holder, Turned, Turns, Numbers, Ruled, Stands}
-use Rattle.mq_turns.specs.Chairs.{Starts}
+use Rattle.std.proofs.Common.{◌≡◌, ℕ, suc, ◌<◌, ◌≤◌, [], length, sym, refl, ap, subst, arith, length-append}
+use Rattle.atomic_table.specs.Table.{Splits, Joins}
+use Rattle.mq_turns.specs.Meaning.{Meaning, Grows, newest, IsAt}
+use Rattle.mq_turns.specs.Lists.{Each, times}
+use Rattle.mq_turns.specs.Desk.{turn_at, allotment, Now, Below, blank, others, seated, noted, heard, joined, Drawer, Ruled}
 use Rattle.mq_turns.specs.declared.rule.Opening.{Opening}
 use Rattle.mq_turns.specs.declared.rule.Known.{Known}
 use Rattle.mq_turns.specs.declared.rule.View.{View}
-use Rattle.mq_turns.specs.declared.turn.Turn.{Turn}
-use Rattle.mq_turns.specs.declared.turn.Item.{Item}
-use Rattle.mq_turns.proofs.Totals.{total_one, total_two, total_zero, total_only, hit, miss, times_append}
-use Rattle.mq_turns.proofs.Growth.{each_join, stays_now}
+use Rattle.mq_turns.proofs.Totals.{times_append}
+use Rattle.mq_turns.proofs.Growth.{each_join}
+use Rattle.mq_turns.proofs.Order.{order_none, order_same}
 use Rattle.mq_turns.proofs.Turns.{turns_split, turns_join}
 use Rattle.mq_turns.proofs.Numbers.{numbers_split, numbers_join, drawns_below, last_of_le, last_of_bounds}
 
@@ -33,6 +26,7 @@ module _ {P Q R E : Type 0} (μ : Meaning P Q R E) where
     seen = seen;
     drew = subst (Each (λ d. IsAt K.opening.base K.log d.0 d.1)) (sym drew) tt;
     read = subst (Each (λ r. μ.ok r.1 × Grows r.1 K × μ.fits r.0 r.1)) (sym read) tt;
+    order = λ one. absurd (omega arith);
   }
 
 module _ {M P Q R E : Type 0} (μ : Meaning P Q R E) (o : Opening P Q R) (chairs : ℕ) where
@@ -50,16 +44,16 @@ module _ {M P Q R E : Type 0} (μ : Meaning P Q R E) (o : Opening P Q R) (chairs
       )
 
   -- a chair is set apart, while nothing is held or drawn
-  pub seats : (id : ℕ) (v : View P Q R E) → 0 < v.parts → v.held ≡ [] → v.drawn ≡ [] → Splits Rule id v (others v) (seated v)
-  seats id v live none_held none_drawn s rk at =
+  pub seats : (id : ℕ) (v : View P Q R E) → 0 < v.parts → v.held ≡ [] → v.drawn ≡ [] → v.read ≡ [] → Splits Rule id v (others v) (seated v)
+  seats id v live none_held none_drawn none_read s rk at =
       let K : Known P Q R E = rk.0 in
       let none_yet : length v.drawn ≡ 0 = ap length none_drawn in (
         K,
         rk.1,
         turns_split μ (turn_at o) K s id v (others v) (seated v) rk.2 at refl refl (λ _. none_held) refl refl,
         numbers_split μ chairs K s id v (others v) (seated v) rk.3 at (omega arith) refl refl (λ d. (
-          record { few = omega arith; opening = λ n. d.opening (λ e. omega arith); seen = d.seen; drew = d.drew; read = d.read },
-          record { few = omega arith; opening = λ n. d.opening (λ e. omega arith); seen = d.seen; drew = tt; read = tt },
+          record { few = omega arith; opening = λ n. d.opening (λ e. omega arith); seen = d.seen; drew = d.drew; read = d.read; order = λ one. order_same μ (record blank { session = suc v.session }) (others v) refl none_drawn none_read (order_none μ (suc v.session)) },
+          record { few = omega arith; opening = λ n. d.opening (λ e. omega arith); seen = d.seen; drew = tt; read = tt; order = λ one. order_none μ v.session },
         )),
       )
 
@@ -74,14 +68,14 @@ module _ {M P Q R E : Type 0} (μ : Meaning P Q R E) (o : Opening P Q R) (chairs
         turns_join μ (turn_at o) K s id v other w (heard v w) blank rk.2 at apart there (ap (λ u. u.hand) is) (ap (λ u. u.held) is) refl refl (λ z. z) refl refl,
         numbers_join μ chairs K s id v other w (heard v w) blank rk.3 at apart there (omega arith) (let a : length w.drawn ≡ 0 = ap length drew in omega arith) (λ k. let a : times k w.drawn ≡ 0 = ap (times k) drew in omega arith) refl
             (λ d e. (
-              record { few = d.few; opening = d.opening; seen = let a = d.seen in let b = e.seen in omega arith; drew = d.drew; read = d.read },
+              record { few = d.few; opening = d.opening; seen = let a = d.seen in let b = e.seen in omega arith; drew = d.drew; read = d.read; order = d.order },
               knows_none μ (allotment chairs) K blank refl (omega arith) refl refl,
             )),
       )
 
   -- two chairs, of which the second holds nothing, are one
-  pub glues : (id : ℕ) (v : View P Q R E) (other : ℕ) (w : View P Q R E) → 0 < v.parts → w.held ≡ [] → w.hand ≡ 0 → Joins Rule id v other w (joined v w) blank
-  glues id v other w live none_held no_hand s rk at apart there =
+  pub glues : (id : ℕ) (v : View P Q R E) (other : ℕ) (w : View P Q R E) → 0 < v.parts → w.parts ≡ 1 → w.held ≡ [] → w.hand ≡ 0 → Joins Rule id v other w (joined v w) blank
+  glues id v other w live one none_held no_hand s rk at apart there =
       let K : Known P Q R E = rk.0 in
       let l = length-append v.drawn w.drawn in (
         K,
@@ -95,6 +89,7 @@ module _ {M P Q R E : Type 0} (μ : Meaning P Q R E) (o : Opening P Q R) (chairs
                 seen = let a = d.seen in let b = e.seen in omega arith;
                 drew = each_join _ v.drawn w.drawn d.drew e.drew;
                 read = each_join _ v.read w.read d.read e.read;
+                order = λ z. absurd (omega arith);
               },
               knows_none μ (allotment chairs) K blank refl (omega arith) refl refl,
             )),

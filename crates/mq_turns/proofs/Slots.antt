@@ -1,5 +1,5 @@
 -- Turns and slots name each other.
-use Rattle.std.proofs.Common.{◌≡◌, ℕ, zero, suc, ◌+◌, ◌-◌, ◌<◌, ◌≤◌, nat_lt, cond, Bool, true, false, List, length, sym, refl, ap, ◌∙◌, subst, arith, inl, inr}
+use Rattle.std.proofs.Common.{◌≡◌, ℕ, ◌+◌, ◌-◌, ◌<◌, length, sym, refl, ap, subst, arith, inl, inr}
 use Rattle.std.proofs.lemmas.Bool.{lt-ltb, le-ltb, cases_lt}
 use Rattle.mq_turns.specs.Desk.{slots, IsTurn, slot_of, turn_at}
 use Rattle.mq_turns.specs.declared.rule.Opening.{Opening}

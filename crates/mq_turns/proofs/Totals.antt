@@ -1,5 +1,5 @@
 -- Totals over the views, and lists with numbers.
-use Rattle.std.proofs.Common.{◌≡◌, ◌≢◌, ℕ, zero, suc, ◌+◌, ◌-◌, ◌<◌, ◌≤◌, ◌==◌, eqb, cond, Bool, true, false, List, [], ◌∷◌, ◌++◌, length, set, sym, refl, ap, ◌∙◌, subst, eq-eqb, ne_eqb, add-mul, ◌*◌, arith, Option, Some}
+use Rattle.std.proofs.Common.{◌≡◌, ◌≢◌, ℕ, zero, suc, ◌+◌, ◌<◌, ◌≤◌, ◌==◌, cond, Bool, true, false, List, [], ◌∷◌, ◌++◌, set, sym, refl, ap, ◌∙◌, subst, eq-eqb, ne_eqb, add-mul, ◌*◌, arith}
 use mathlib.Core.Logic.{dite}
 use mathlib.Core.Option.{some, some-ne-none, some-injective}
 use native.Mathlib.Decide.{ℕ_discrete}
@@ -66,6 +66,11 @@ module _ {A : Type 0} where
   pub each_map : (P Q : A → Type 0) → ((a : A) → P a → Q a) → (l : List A) → Each P l → Each Q l
   each_map P Q f [] h = tt
   each_map P Q f (x ∷ xs) h = (f x h.0, each_map P Q f xs h.1)
+
+module _ {A : Type 0} where
+  pub each_both : (P Q S : A → Type 0) → ((a : A) → P a → Q a → S a) → (l : List A) → Each P l → Each Q l → Each S l
+  each_both P Q S f [] h k = tt
+  each_both P Q S f (x ∷ xs) h k = (f x h.0 k.0, each_both P Q S f xs h.1 k.1)
 
 pub hit : (a k : ℕ) → a ≡ k → tick a k ≡ 1
 hit a k e = let f : Bool → ℕ = λ b. cond b 1 0 in ap f (eq-eqb a k e)

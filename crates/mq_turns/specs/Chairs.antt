@@ -1,8 +1,8 @@
 -- Words on desks and chairs.
-use Rattle.std.specs.Prelude.{◌≡◌, ◌≢◌, ◌⊎◌, ℕ, zero, suc, ◌+◌, ◌<◌, ◌≤◌, List, [], ◌∷◌, ◌++◌, length, slice_get, Option, Some, None}
+use Rattle.std.specs.Prelude.{◌≡◌, ℕ, ◌<◌, ◌≤◌, List, ◌∷◌, length, slice_get, Some}
 use Rattle.mq_turns.specs.Lists.{Each, times, without}
 use Rattle.mq_turns.specs.Meaning.{Meaning, Grows, opened, newest, IsAt}
-use Rattle.mq_turns.specs.Desk.{opening_of, drawn_of, read_of}
+use Rattle.mq_turns.specs.Desk.{drawn_of, read_of, IsInOrder}
 use Rattle.mq_turns.specs.declared.rule.Opening.{Opening}
 use Rattle.mq_turns.specs.declared.rule.Known.{Known}
 use Rattle.mq_turns.specs.declared.rule.View.{View}
@@ -24,7 +24,7 @@ module _ {P Q R E : Type 0} (μ : Meaning P Q R E) where
     pub root : μ.root (opened o) o.root
 
   -- What a desk that has ended shows: there is one history, which is legal. The values are what it says, each number is one
-  -- draw of a chair, and what the chairs read was the machine's at its number.
+  -- draw of a chair, what the chairs read was the machine's at its number, and along each chair's groups the numbers are in order.
   pub record Ended (o : Opening P Q R) (views : List (View P Q R E)) (pages : List P) (sides : List Q) (root : R) (next : ℕ) : Type 0 where
     pub known : Known P Q R E
     pub opening : known.opening ≡ o
@@ -38,3 +38,4 @@ module _ {P Q R E : Type 0} (μ : Meaning P Q R E) where
     pub drew : Each (λ d. IsAt known.opening.base known.log d.0 d.1) (drawn_of views)
     pub once : (n : ℕ) → o.base < n → n ≤ next → times n (drawn_of views) ≡ 1
     pub read : Each (λ r. μ.ok r.1 × Grows r.1 known × μ.fits r.0 r.1) (read_of views)
+    pub ordered : Each (IsInOrder μ) views

@@ -1,10 +1,9 @@
 -- A machine for tests. An entry is a vote on a queue, and the port of the queue's side counts the votes.
-use Rattle.std.specs.Prelude.{◌≡◌, ◌==◌, ℕ, zero, suc, ◌+◌, ◌%◌, ◌<◌, Bool, true, false, cond, List, [], ◌∷◌, ◌++◌, slice_index_or, refl}
-use Rattle.std.proofs.Common.{ap, sym, ◌∙◌, subst, arith, map}
+use Rattle.std.specs.Prelude.{◌≡◌, ◌==◌, ℕ, ◌+◌, ◌%◌, false, cond, List, [], ◌∷◌, ◌++◌, slice_index_or, refl}
+use Rattle.std.proofs.Common.{ap, sym, ◌∙◌, arith, map}
 use Rattle.mq_turns.specs.Lists.{tick}
-use Rattle.mq_turns.specs.Meaning.{Meaning, Stays, Apart, Touch, Lie}
+use Rattle.mq_turns.specs.Meaning.{Meaning, Stays, Apart, Touch}
 use Rattle.mq_turns.specs.declared.rule.Known.{Known}
-use Rattle.mq_turns.specs.declared.turn.Turn.{Turn}
 use Rattle.mq_turns.specs.declared.turn.Turn.TheVariants.{Page, Side, Root}
 
 module _ {E : Type 0} (queue : E → ℕ) where
@@ -27,7 +26,7 @@ module _ {E : Type 0} (queue : E → ℕ) where
     abbrev pub Counted : ℕ → Known ℕ Q ℕ E → Q → Type 0
     Counted q K x = state x % 18446744073709551616 ≡ (slice_index_or (map state K.opening.sides) q 0 + votes q K.log) % 18446744073709551616
 
-    pub counted_along : (q : ℕ) (K L : Known ℕ Q ℕ E) (x : Q) → Stays vote_touches (λ h t. false) (Side q) K L → Counted q K x → Counted q L x
+    pub counted_along : (q : ℕ) (K L : Known ℕ Q ℕ E) (x : Q) → Stays vote_touches (λ o h t. false) (Side q) K L → Counted q K x → Counted q L x
     counted_along q K L x s is =
         let n : votes q L.log ≡ votes q K.log = ap (votes q) s.grows.log ∙ votes_apart q s.grows.newer K.log s.apart in
         let o = s.grows.opening in
@@ -38,7 +37,7 @@ module _ {E Q : Type 0} (queue session group : E → ℕ) (state : Q → ℕ) wh
   abbrev pub counting : Meaning ℕ Q ℕ E
   counting = record {
     touches = vote_touches queue;
-    lies = λ h t. false;
+    lies = λ o h t. false;
     queue = queue;
     session = session;
     group = group;

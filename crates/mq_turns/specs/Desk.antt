@@ -1,10 +1,10 @@
 -- The rule of the desk, and what each step tells.
 -- Word k, for each slot k, is 1 while a chair holds the turn of the slot and else 0. The word after these is the greatest number drawn.
-use Rattle.std.specs.Prelude.{◌≡◌, ◌≢◌, ◌==◌, ℕ, zero, suc, ◌+◌, ◌-◌, ◌*◌, ◌/◌, ◌<◌, ◌≤◌, nat_lt, max, Bool, true, false, cond, List, [], ◌∷◌, ◌++◌, length, slice_index, slice_get, Option, Some, None, IfSome, MatchOption}
+use Rattle.std.specs.Prelude.{◌≡◌, ◌≢◌, ◌⊎◌, ℕ, zero, suc, ◌+◌, ◌-◌, ◌*◌, ◌/◌, ◌<◌, ◌≤◌, nat_lt, max, Bool, true, cond, List, [], ◌∷◌, ◌++◌, length, slice_index, Option, Some, None}
 use mathlib.Core.Option.{some}
 use lib.ListN.{get_elem?}
 use Rattle.atomic_table.specs.Table.{State, Me, Step}
-use Rattle.mq_turns.specs.Lists.{total, Each, tick, times, without}
+use Rattle.mq_turns.specs.Lists.{total, Each, Sorted, tick, times, without}
 use Rattle.mq_turns.specs.Meaning.{Meaning, Stays, Grows, opened, newest, drawn, IsAt}
 use Rattle.mq_turns.specs.declared.rule.Opening.{Opening}
 use Rattle.mq_turns.specs.declared.rule.Known.{Known}
@@ -145,7 +145,7 @@ module _ {P Q R E : Type 0} (μ : Meaning P Q R E) where
   -- what a draw asks: whatever is known by now, the chair holds all that the entry changes, and the entry may be drawn
   pub record Covers (e : E) (v : View P Q R E) : Type 0 where
     pub held : (K : Known P Q R E) → Sees v K → (t : Turn) → IsTurn K.opening t → μ.touches K.log e t ≡ true → 0 < times (slot_of K.opening t) v.held
-    pub may : (K : Known P Q R E) → Sees v K → μ.may e K
+    pub may : (K : Known P Q R E) → Sees v K → newest K < 9223372036854775808 → μ.may e K
 
   -- what an entry asks that is read and not drawn
   abbrev pub MayRead : E → View P Q R E → Type 0
@@ -156,6 +156,33 @@ module _ {P Q R E : Type 0} (μ : Meaning P Q R E) where
     pub session : μ.session e ≡ v.session
     pub drawn : Each (λ d. μ.group d.1 < μ.group e) v.drawn
     pub read : Each (λ r. μ.group r.0 < μ.group e) v.read
+
+  -- a group of a session, as a draw with its number or as a read at a number, comes after another of that session: its number is
+  -- not below the other's, and above it where the later one is a draw
+  abbrev pub DrawAfterDraw : ℕ × E → ℕ × E → Type 0
+  DrawAfterDraw d before = (μ.group before.1 < μ.group d.1) × (before.0 < d.0)
+
+  abbrev pub DrawAfterRead : ℕ × E → E × Known P Q R E → Type 0
+  DrawAfterRead d before = (μ.group before.0 < μ.group d.1) × (newest before.1 < d.0)
+
+  abbrev pub ReadAfterDraw : E × Known P Q R E → ℕ × E → Type 0
+  ReadAfterDraw r before = (μ.group before.1 < μ.group r.0) × (before.0 ≤ newest r.1)
+
+  abbrev pub ReadAfterRead : E × Known P Q R E → E × Known P Q R E → Type 0
+  ReadAfterRead r before = (μ.group before.0 < μ.group r.0) × (newest before.1 ≤ newest r.1)
+
+  -- what was drawn and read is of the session, and of each two the one comes after the other: along the session's groups the
+  -- numbers never fall, a draw's is above all before it, and no group stands twice
+  pub record InOrder (session : ℕ) (drew : List (ℕ × E)) (read : List (E × Known P Q R E)) : Type 0 where
+    pub drew_own : Each (λ d. μ.session d.1 ≡ session) drew
+    pub read_own : Each (λ r. μ.session r.0 ≡ session) read
+    pub draws : Sorted DrawAfterDraw drew
+    pub reads : Sorted ReadAfterRead read
+    pub both : Each (λ d. Each (λ r. DrawAfterRead d r ⊎ ReadAfterDraw r d) read) drew
+
+  -- what a view has drawn and read is in order
+  abbrev pub IsInOrder : View P Q R E → Type 0
+  IsInOrder v = InOrder v.session v.drawn v.read
 
   abbrev pub after_draw : E → Known P Q R E → View P Q R E → View P Q R E
   after_draw e K v = record v {
@@ -180,6 +207,8 @@ module _ {P Q R E : Type 0} (μ : Meaning P Q R E) where
     pub seen : v.seen ≤ newest K
     pub drew : Each (λ d. IsAt K.opening.base K.log d.0 d.1) v.drawn
     pub read : Each (λ r. μ.ok r.1 × Grows r.1 K × μ.fits r.0 r.1) v.read
+    -- of one chair; where chairs became one, each was in order before
+    pub order : v.parts ≡ 1 → IsInOrder μ v
 
 module _ {M P Q R E : Type 0} (μ : Meaning P Q R E) where
   -- the value is what the machine says of the turn
@@ -230,10 +259,10 @@ module _ {M P Q R E : Type 0} (μ : Meaning P Q R E) where
       × (n ≢ 0 → me' ≡ me)
 
   abbrev pub drew_one : E → At M P Q R E → Sat M P Q R E → ℕ → Sat M P Q R E → Type 0
-  drew_one e st me n me' = ((K : Known P Q R E) × (me' ≡ (after_draw μ e K me.0, me.1)) × (newest K ≡ n) × Sees μ me.0 K) × Below n me.0 × (n < 9223372036854775808)
+  drew_one e st me n me' = ((K : Known P Q R E) × (me' ≡ (after_draw μ e K me.0, me.1)) × (newest K ≡ n) × Sees μ me.0 K) × Below n me.0 × (n < 9223372036854775808) × (me.0.parts ≡ 1 → IsInOrder μ me'.0)
 
   abbrev pub looked : Option E → At M P Q R E → Sat M P Q R E → ℕ → Sat M P Q R E → Type 0
-  looked o st me n me' = ((K : Known P Q R E) × (me' ≡ (after_look o K me.0, me.1)) × (newest K ≡ n) × Sees μ me.0 K) × Below n me.0
+  looked o st me n me' = ((K : Known P Q R E) × (me' ≡ (after_look o K me.0, me.1)) × (newest K ≡ n) × Sees μ me.0 K) × Below n me.0 × (me.0.parts ≡ 1 → IsInOrder μ me'.0)
 
 module _ {M P Q R E : Type 0} where
   abbrev pub settled : At M P Q R E → Sat M P Q R E → ℕ → Sat M P Q R E → Type 0

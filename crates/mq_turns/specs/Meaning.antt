@@ -1,5 +1,5 @@
 -- What is known together, how it grows, and what the values on a desk are by it.
-use Rattle.std.specs.Prelude.{◌≡◌, ◌≢◌, ℕ, zero, suc, ◌+◌, ◌≤◌, ◌⊎◌, Bool, true, false, List, [], ◌∷◌, ◌++◌, length}
+use Rattle.std.specs.Prelude.{◌≡◌, ◌≢◌, ℕ, suc, ◌+◌, ◌≤◌, ◌⊎◌, Bool, false, List, [], ◌∷◌, ◌++◌, length}
 use Rattle.mq_turns.specs.Lists.{Each}
 use Rattle.mq_turns.specs.declared.turn.Turn.{Turn}
 use Rattle.mq_turns.specs.declared.turn.Turn.TheVariants.{Page, Side, Root}
@@ -48,27 +48,29 @@ module _ {P Q R E : Type 0} where
 abbrev pub Touch : Type 0 → Type 0
 Touch E = List E → E → Turn → Bool
 
--- Of a home write, by its block and number: it is about what lies under the turn, the page or the port that has the block.
-abbrev pub Lie : Type 0
-Lie = ℕ × ℕ → Turn → Bool
+-- Of the values at the opening and a home write, by its block and number: it is about what lies under the turn, the page or the
+-- port that has the block.
+abbrev pub Lie : Type 0 → Type 0 → Type 0 → Type 0
+Lie P Q R = Opening P Q R → ℕ × ℕ → Turn → Bool
 
 -- none of the newer entries changes what lies under the turn
 abbrev pub Apart : {E : Type 0} → Touch E → List E → List E → Turn → Type 0
 Apart touches [] log t = Unit {0}
 Apart touches (e ∷ es) log t = (touches (es ++ log) e t ≡ false) × Apart touches es log t
 
-module _ {P Q R E : Type 0} (touches : Touch E) (lies : Lie) where
-  -- what is known grew from K to L, and nothing of it is about the turn
+module _ {P Q R E : Type 0} (touches : Touch E) (lies : Lie P Q R) where
+  -- what is known grew from K to L, and nothing of it is about the turn; the base word is about the root
   pub record Stays (t : Turn) (K L : Known P Q R E) : Type 0 where
     pub grows : Grows K L
     pub apart : Apart touches grows.newer K.log t
     pub claims : Each (λ c. Side c.0 ≢ t) grows.claimed
-    pub ended : Each (λ h. lies h t ≡ false) grows.written
+    pub ended : Each (λ h. lies K.opening h t ≡ false) grows.written
+    pub word : t ≡ Root → L.word ≡ K.word
 
 -- What a machine says of its values and entries. Pages are named by their block, sides by their queue.
 pub record Meaning (P Q R E : Type 0) : Type 1 where
   pub touches : Touch E
-  pub lies : Lie
+  pub lies : Lie P Q R
   -- the queue that the entry is drawn on, its session, and its group's place among those of its session
   pub queue : E → ℕ
   pub session : E → ℕ

@@ -1,11 +1,11 @@
 // The calls on a desk that many threads share.
-ghost use Rattle.std.specs.Prelude.{◌≡◌, ℕ, suc, ◌+◌, ◌<◌, ◌≤◌, [], ◌∷◌, Option, Some, None, IfSome, length};
+ghost use Rattle.std.specs.Prelude.{◌≡◌, ℕ, suc, ◌+◌, ◌^◌, ◌<◌, ◌≤◌, [], ◌∷◌, Option, Some, None, IfSome, length};
 ghost use Rattle.std.specs.Option.{option_map};
 ghost use Rattle.mq_turns.specs.Meaning.{newest};
 ghost use Rattle.mq_turns.specs.Lists.{Each, times};
 ghost use Rattle.mq_turns.specs.declared.rule.Known.{Known};
 ghost use Rattle.mq_turns.specs.declared.turn.Turn.TheVariants.{Side};
-ghost use Rattle.mq_turns.specs.Desk.{IsTurn, slot_of, allotment, Covers, MayRead, Follows, Below, Sees, Stands, after_draw, after_look};
+ghost use Rattle.mq_turns.specs.Desk.{IsTurn, slot_of, allotment, Covers, MayRead, Follows, Below, IsInOrder, Sees, Stands, after_draw, after_look};
 ghost use Rattle.mq_turns.specs.Chairs.{holding, giving};
 ghost use Rattle.mq_turns.specs.AtDesk.{AtDesk, view, start_of, chairs_of};
 
@@ -62,6 +62,7 @@ impl<M: Machine> Desk<M> {
         ensures at { AtDesk self.now chair.new }
         ensures looked { (K : Known M.Page M.Side M.Root M.Entry) × (view chair.new ≡ after_look (option_map (λ e. e.now) read.entry) K (view chair.old)) × (newest K ≡ result) × Sees M.meaning (view chair.old) K }
         ensures below { Below result (view chair.old) }
+        ensures order { IsInOrder M.meaning (view chair.new) }
     {
         TxNo(steps::look(
             &self.table.shared,
@@ -82,7 +83,9 @@ impl<M: Machine> Desk<M> {
         requires room { length (view chair.old).drawn < allotment (chairs_of self.now) }
         ensures at { AtDesk self.now chair.new }
         ensures drew { (K : Known M.Page M.Side M.Root M.Entry) × (view chair.new ≡ after_draw M.meaning entry.now K (view chair.old)) × (result ≡ suc (newest K)) × Sees M.meaning (view chair.old) K }
+        ensures limit { result ≤ 2 ^ 63 }
         ensures above { ((view chair.old).seen < result) × Each (λ d. d.0 < result) (view chair.old).drawn }
+        ensures order { IsInOrder M.meaning (view chair.new) }
     {
         let _ = queue;
         let last = steps::draw(

@@ -1,8 +1,8 @@
 // The end of a desk: its chairs become one, and its values come out.
 ghost use Rattle.std.specs.Prelude.{◌≡◌, ◌≢◌, ℕ, ◌+◌, ◌<◌, ◌≤◌, ◌++◌, [], true, false, IfOk, IfErr, All, map, length, vec_len, vec_capacity, slice_index_or};
 ghost use Rattle.std.specs.Slots.{slots_items, slots_filled, slots_len, IsFull};
-ghost use Rattle.mq_turns.specs.Lists.{total};
-ghost use Rattle.mq_turns.specs.Desk.{drawn_of, read_of};
+ghost use Rattle.mq_turns.specs.Lists.{Each, total};
+ghost use Rattle.mq_turns.specs.Desk.{drawn_of, read_of, IsInOrder};
 ghost use Rattle.mq_turns.specs.Chairs.{Ended};
 ghost use Rattle.mq_turns.specs.Closing.{HasPages, HasSides, HasRoot, ArePages, AreSides, IsRoot};
 ghost use Rattle.mq_turns.specs.AtDesk.{AtDesk, view, start_of, chairs_of};
@@ -10,7 +10,7 @@ ghost use Rattle.mq_turns.specs.AtDesk.{AtDesk, view, start_of, chairs_of};
 use crate::desk::{Chair, Desk};
 use crate::machine::Machine;
 use crate::plays::Glue;
-use crate::steps::{Place, Top};
+use crate::steps::{self, Place, Top};
 use crate::turn::Item;
 use atomic_table::Closed;
 use mq_blocks::{OutOfMemory, TxNo};
@@ -27,17 +27,44 @@ pub struct Parts<M: Machine> {
     pub base: TxNo,
 }
 
-fn join_all<M: Machine>(top: &Top<M>, place: &mut Place<M>, mut chairs: Vec<Chair<M>>)
-    requires table { (place.old.table_id ≡ top.now.table_id) × (0 < top.now.table_id.words) × (place.old.me.1 ≡ []) × (place.old.me.0.held ≡ []) × (0 < place.old.me.0.parts) }
+// Joins the chairs in. Each looks once more: what it drew and read is in order by itself.
+fn join_all<M: Machine>(
+    top: &Top<M>,
+    place: &mut Place<M>,
+    counter: usize,
+    mut chairs: Vec<Chair<M>>,
+)
+    requires counter { (counter ≡ top.now.table_id.slots) × (counter < top.now.table_id.words) }
+    requires table { (place.old.table_id ≡ top.now.table_id) × (place.old.me.1 ≡ []) × (place.old.me.0.held ≡ []) × (0 < place.old.me.0.parts) }
     requires theirs { All (λ ch. (ch.place.table_id ≡ top.now.table_id) × ((view ch).held ≡ [])) chairs.items }
     ensures seat { (place.new.table_id ≡ place.old.table_id) × (place.new.id ≡ place.old.id) × (place.new.me.1 ≡ []) × (place.new.me.0.held ≡ []) }
+    ensures order { Each (IsInOrder M.meaning) (map (λ ch. view ch) chairs.items) }
     ensures parts { place.new.me.0.parts ≡ place.old.me.0.parts + total (λ v. v.parts) (map (λ ch. view ch) chairs.items) }
     ensures all { (place.new.me.0.drawn ≡ place.old.me.0.drawn ++ drawn_of (map (λ ch. view ch) chairs.items)) × (place.new.me.0.read ≡ place.old.me.0.read ++ read_of (map (λ ch. view ch) chairs.items)) }
 {
-    while let Some(Chair { place: other }) = chairs.pop() {
+    while let Some(Chair { place: mut other }) = chairs.pop() {
+        steps::count(top, &mut other, counter);
         top.join_seat::<Glue>(place, other);
     }
     chairs.destroy_empty();
+}
+
+// Makes one seat of all chairs.
+fn gather<M: Machine>(top: &Top<M>, counter: usize, mut chairs: Vec<Chair<M>>) -> Place<M>
+    requires counter { (counter ≡ top.now.table_id.slots) × (counter < top.now.table_id.words) }
+    requires theirs { All (λ ch. (ch.place.table_id ≡ top.now.table_id) × ((view ch).held ≡ [])) chairs.items }
+    requires some { 0 < length chairs.items }
+    ensures seat { (result.table_id ≡ top.now.table_id) × (result.me.1 ≡ []) × (result.me.0.held ≡ []) }
+    ensures parts { result.me.0.parts ≡ length chairs.items }
+    ensures all { (result.me.0.drawn ≡ drawn_of (map (λ ch. view ch) chairs.items)) × (result.me.0.read ≡ read_of (map (λ ch. view ch) chairs.items)) }
+    ensures order { Each (IsInOrder M.meaning) (map (λ ch. view ch) chairs.items) }
+{
+    let Some(Chair { place: mut one }) = chairs.pop() else {
+        unreachable!()
+    };
+    steps::count(top, &mut one, counter);
+    join_all(top, &mut one, counter, chairs);
+    one
 }
 
 // Takes the pages out, which lie first.
@@ -128,16 +155,12 @@ impl<M: Machine> Desk<M> {
             pages.destroy_empty();
             return Err((self, chairs, OutOfMemory));
         };
-        let mut rest = chairs;
-        let Some(Chair { place: mut first }) = rest.pop() else {
-            unreachable!()
-        };
-        join_all(&self.table.shared, &mut first, rest);
+        let one = gather(&self.table.shared, self.table.slot_count(), chairs);
         let base = self.base;
         let page_count = self.pages as usize;
         let side_count = self.sides as usize;
         let Desk { table, .. } = self;
-        let mut closed = table.close_with(first);
+        let mut closed = table.close_with(one);
         let last = page_count + side_count;
         let next = TxNo(closed.word(last + 1));
         let pages = unload_pages(&mut closed, page_count, pages);

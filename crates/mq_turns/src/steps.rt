@@ -5,7 +5,7 @@ ghost use Rattle.atomic_table.specs.Seated.{TableId};
 ghost use Rattle.mq_turns.specs.Meaning.{newest};
 ghost use Rattle.mq_turns.specs.Lists.{Each, times, without};
 ghost use Rattle.mq_turns.specs.declared.rule.Known.{Known};
-ghost use Rattle.mq_turns.specs.Desk.{slots, turn_at, opening_of, allotment, Covers, MayRead, Below, Sees, Stands, after_draw, after_look};
+ghost use Rattle.mq_turns.specs.Desk.{slots, turn_at, opening_of, allotment, Covers, MayRead, Follows, Below, IsInOrder, Sees, Stands, after_draw, after_look};
 
 use crate::machine::Machine;
 use crate::plays::{Draw, Free, Look, Reach, Settle, Take, Told};
@@ -78,11 +78,12 @@ fn look_as<M: Machine, N: Told<M::Entry>>(
     read: Option<&M::Entry>,
 ) -> u64
     requires table { (place.old.table_id ≡ top.now.table_id) × (counter ≡ top.now.table_id.slots) × (counter < top.now.table_id.words) × (0 < place.old.me.0.parts) }
-    requires read { IfSome read (λ e. MayRead M.meaning e.now place.old.me.0) }
+    requires read { IfSome read (λ e. MayRead M.meaning e.now place.old.me.0 × Follows M.meaning e.now place.old.me.0) }
     requires told { N.told ≡ option_map (λ e. e.now) read }
     ensures seat { (place.new.table_id ≡ place.old.table_id) × (place.new.id ≡ place.old.id) }
     ensures looked { (K : Known M.Page M.Side M.Root M.Entry) × (place.new.me ≡ (after_look (option_map (λ e. e.now) read.entry) K place.old.me.0, place.old.me.1)) × (newest K ≡ result) × Sees M.meaning place.old.me.0 K }
     ensures below { Below result place.old.me.0 }
+    ensures order { place.old.me.0.parts ≡ 1 → IsInOrder M.meaning place.new.me.0 }
 {
     let _ = read;
     top.load::<Look<M, N>>(place, counter)
@@ -96,10 +97,11 @@ pub(crate) fn look<M: Machine>(
     read: Option<&M::Entry>,
 ) -> u64
     requires table { (place.old.table_id ≡ top.now.table_id) × (counter ≡ top.now.table_id.slots) × (counter < top.now.table_id.words) × (0 < place.old.me.0.parts) }
-    requires read { IfSome read (λ e. MayRead M.meaning e.now place.old.me.0) }
+    requires read { IfSome read (λ e. MayRead M.meaning e.now place.old.me.0 × Follows M.meaning e.now place.old.me.0) }
     ensures seat { (place.new.table_id ≡ place.old.table_id) × (place.new.id ≡ place.old.id) }
     ensures looked { (K : Known M.Page M.Side M.Root M.Entry) × (place.new.me ≡ (after_look (option_map (λ e. e.now) read.entry) K place.old.me.0, place.old.me.1)) × (newest K ≡ result) × Sees M.meaning place.old.me.0 K }
     ensures below { Below result place.old.me.0 }
+    ensures order { place.old.me.0.parts ≡ 1 → IsInOrder M.meaning place.new.me.0 }
 {
     look_as::<M, Brand>(top, place, counter, read)
 }
@@ -110,6 +112,7 @@ pub(crate) fn count<M: Machine>(top: &Top<M>, place: &mut Place<M>, counter: usi
     ensures seat { (place.new.table_id ≡ place.old.table_id) × (place.new.id ≡ place.old.id) }
     ensures counted { place.new.me ≡ (record place.old.me.0 { seen = result }, place.old.me.1) }
     ensures below { Below result place.old.me.0 }
+    ensures order { place.old.me.0.parts ≡ 1 → IsInOrder M.meaning place.new.me.0 }
 {
     top.load::<Look<M, Brand>>(place, counter)
 }
@@ -121,11 +124,12 @@ fn draw_as<M: Machine, N: Told<M::Entry>>(
     entry: &M::Entry,
 ) -> u64
     requires table { (place.old.table_id ≡ top.now.table_id) × (counter ≡ top.now.table_id.slots) × (counter < top.now.table_id.words) × (counter ≡ slots (opening_of top.now.key)) }
-    requires may { Covers M.meaning entry.now place.old.me.0 × (length place.old.me.0.drawn < place.old.me.0.parts * allotment top.now.key.chairs) }
+    requires may { Covers M.meaning entry.now place.old.me.0 × Follows M.meaning entry.now place.old.me.0 × (length place.old.me.0.drawn < place.old.me.0.parts * allotment top.now.key.chairs) }
     requires told { N.told ≡ Some entry.now }
     ensures seat { (place.new.table_id ≡ place.old.table_id) × (place.new.id ≡ place.old.id) }
     ensures drew { (K : Known M.Page M.Side M.Root M.Entry) × (place.new.me ≡ (after_draw M.meaning entry.now K place.old.me.0, place.old.me.1)) × (newest K ≡ result) × Sees M.meaning place.old.me.0 K }
     ensures below { Below result place.old.me.0 × (result < 9223372036854775808) }
+    ensures order { place.old.me.0.parts ≡ 1 → IsInOrder M.meaning place.new.me.0 }
 {
     let _ = entry;
     top.fetch_add::<Draw<M, N>>(place, counter, 1)
@@ -139,10 +143,11 @@ pub(crate) fn draw<M: Machine>(
     entry: &M::Entry,
 ) -> u64
     requires table { (place.old.table_id ≡ top.now.table_id) × (counter ≡ top.now.table_id.slots) × (counter < top.now.table_id.words) × (counter ≡ slots (opening_of top.now.key)) }
-    requires may { Covers M.meaning entry.now place.old.me.0 × (length place.old.me.0.drawn < place.old.me.0.parts * allotment top.now.key.chairs) }
+    requires may { Covers M.meaning entry.now place.old.me.0 × Follows M.meaning entry.now place.old.me.0 × (length place.old.me.0.drawn < place.old.me.0.parts * allotment top.now.key.chairs) }
     ensures seat { (place.new.table_id ≡ place.old.table_id) × (place.new.id ≡ place.old.id) }
     ensures drew { (K : Known M.Page M.Side M.Root M.Entry) × (place.new.me ≡ (after_draw M.meaning entry.now K place.old.me.0, place.old.me.1)) × (newest K ≡ result) × Sees M.meaning place.old.me.0 K }
     ensures below { Below result place.old.me.0 × (result < 9223372036854775808) }
+    ensures order { place.old.me.0.parts ≡ 1 → IsInOrder M.meaning place.new.me.0 }
 {
     draw_as::<M, Brand>(top, place, counter, entry)
 }

@@ -9,7 +9,7 @@ use mq_blocks::{OutOfMemory, QueueNo, TxNo};
 use std::alloc::Global;
 use std::marker::PhantomData;
 use std::sync::Wait;
-use std::thread::{Threads, join};
+use std::thread::{self, Threads, join};
 
 pub(crate) trait Port: Drop {
     ghost state: { Self → ℕ };
@@ -165,6 +165,56 @@ fn cast_many<R: Wait>(rt: &R, desk: &Desk<Counting<Word>>, task: Task) -> Drawn
     (chair, numbers)
 }
 
+// Waits until a look gives this number, and casts one vote: what it saw before, drew, and saw after.
+fn cast_from<R: Wait>(rt: &R, desk: &Desk<Counting<Word>>, task: Task, from: u64) -> Drawn
+    requires at { AtDesk desk.now task.chair × (view task.chair ≡ fresh (start_of desk.now) task.session) }
+    requires queue { task.queue < length (start_of desk.now).sides }
+    requires room { (task.numbers.items ≡ []) × (vec_capacity task.numbers ≡ 3) × (0 < allotment (chairs_of desk.now)) }
+    ensures { AtDesk desk.now result.0 × ((view result.0).held ≡ []) }
+{
+    let Task {
+        mut chair,
+        queue,
+        session,
+        mut numbers,
+    } = task;
+    for _ in rt.forever() {
+        if desk.look(&mut chair, None).0 >= from {
+            break;
+        }
+        thread::yield_now();
+    }
+    let entry = Vote {
+        queue,
+        session: u64::from(session),
+        group: 0,
+    };
+    let (before, number, after) = cast(rt, desk, &mut chair, &entry);
+    numbers.push_reserved(before.0);
+    numbers.push_reserved(number.0);
+    numbers.push_reserved(after.0);
+    (chair, numbers)
+}
+
+// The second chair takes the side after the first has drawn.
+fn cast_one_after_the_other<R: Threads + Wait + Sync>(
+    rt: &R,
+    desk: &Desk<Counting<Word>>,
+    a: Task,
+    b: Task,
+) -> (Drawn, Drawn)
+    requires a { AtDesk desk.now a.chair × (view a.chair ≡ fresh (start_of desk.now) a.session) × (a.queue < length (start_of desk.now).sides) × (a.numbers.items ≡ []) × (vec_capacity a.numbers ≡ 3) × (0 < allotment (chairs_of desk.now)) }
+    requires b { AtDesk desk.now b.chair × (view b.chair ≡ fresh (start_of desk.now) b.session) × (b.queue < length (start_of desk.now).sides) × (b.numbers.items ≡ []) × (vec_capacity b.numbers ≡ 3) × (0 < allotment (chairs_of desk.now)) }
+    ensures a { AtDesk desk.now result.0.0 × ((view result.0.0).held ≡ []) }
+    ensures b { AtDesk desk.now result.1.0 × ((view result.1.0).held ≡ []) }
+{
+    join(
+        rt,
+        || cast_from(rt, desk, a, 10),
+        || cast_from(rt, desk, b, 11),
+    )
+}
+
 fn cast_by_two<R: Threads + Wait + Sync>(
     rt: &R,
     desk: &Desk<Counting<Word>>,
@@ -221,6 +271,25 @@ fn draws_eleven_after_ten(rt: HostRuntime) -> Result<(), OutOfMemory> {
     };
     assert_eq!(rt; [parts.next.0, parts.base.0], [11, 10]);
     assert_eq!(rt; parts.sides[0].port.count, 1);
+    Ok(())
+}
+
+#[test]
+fn draws_twelve_after_the_other_drew_eleven(rt: HostRuntime) -> Result<(), OutOfMemory> {
+    let (desk, mut chairs) = opened(rt.alloc(), 1, 10, 2)?;
+    let mut all = Vec::with_capacity(rt.alloc(), 2)?;
+    let b = task_of_last(rt.alloc(), &desk, &mut chairs, 0, 3)?;
+    let a = task_of_last(rt.alloc(), &desk, &mut chairs, 0, 3)?;
+    let ((first, x), (second, y)) = cast_one_after_the_other(&rt, &desk, a, b);
+    assert_eq!(rt; x.as_slice(), [10, 11, 11].as_slice());
+    assert_eq!(rt; y.as_slice(), [11, 12, 12].as_slice());
+    all.push_reserved(first);
+    all.push_reserved(second);
+    let Ok(parts) = desk.into_parts(rt.alloc(), all) else {
+        return Err(OutOfMemory);
+    };
+    assert_eq!(rt; [parts.next.0, parts.base.0], [12, 10]);
+    assert_eq!(rt; parts.sides[0].port.count, 2);
     Ok(())
 }
 

@@ -1,7 +1,7 @@
 use Rattle.std.proofs.Common.{◌≡◌, ◌+◌, ◌<◌, ◌++◌, [], map, vec_len}
 use Rattle.std.specs.Prelude.{All}
-use Rattle.mq_turns.specs.Lists.{total}
-use Rattle.mq_turns.specs.Desk.{drawn_of, read_of}
+use Rattle.mq_turns.specs.Lists.{Each, total}
+use Rattle.mq_turns.specs.Desk.{drawn_of, read_of, IsInOrder}
 use Rattle.mq_turns.specs.AtDesk.{view}
 use Rattle.mq_turns.proofs.close.join_all.Given as goal
 
@@ -9,6 +9,7 @@ abbrev pub invariant-loop-other : goal.invariant-loop-other
 invariant-loop-other g l = record {
   table : (l.place.table_id ≡ l.initial.place.table_id) × (l.place.id ≡ l.initial.place.id) × (l.place.me.1 ≡ []) × (l.place.me.0.held ≡ []) × (0 < l.place.me.0.parts);
   theirs : All (λ ch. (ch.place.table_id ≡ l.top.table_id) × ((view ch).held ≡ [])) l.chairs.items;
+  order : Each (IsInOrder g.M.Machine.meaning) (map (λ ch. view ch) l.chairs.items) → Each (IsInOrder g.M.Machine.meaning) (map (λ ch. view ch) l.initial.chairs.items);
   parts : l.place.me.0.parts + total (λ v. v.parts) (map (λ ch. view ch) l.chairs.items) ≡ l.initial.place.me.0.parts + total (λ v. v.parts) (map (λ ch. view ch) l.initial.chairs.items);
   drawn : l.place.me.0.drawn ++ drawn_of (map (λ ch. view ch) l.chairs.items) ≡ l.initial.place.me.0.drawn ++ drawn_of (map (λ ch. view ch) l.initial.chairs.items);
   read : l.place.me.0.read ++ read_of (map (λ ch. view ch) l.chairs.items) ≡ l.initial.place.me.0.read ++ read_of (map (λ ch. view ch) l.initial.chairs.items);

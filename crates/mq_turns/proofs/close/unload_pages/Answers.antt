@@ -1,5 +1,5 @@
-use Rattle.std.proofs.Common.{rules, arith, ◌≡◌, ◌≤◌, ◌<◌, ℕ, ◌+◌, length, false, true, get_or, set, ap, sym, ◌∙◌, subst, Some, ⊎_elim, get_or-set_other, get_or-set_same, vec_len}
-use Rattle.std.specs.Slots.{slots_items, slots_filled, slots_len, slots_counts}
+use Rattle.std.proofs.Common.{rules, arith, ◌≡◌, length, false, get_or, set, ap, sym, ◌∙◌, subst, Some, ⊎_elim, get_or-set_other, get_or-set_same, vec_len}
+use Rattle.std.specs.Slots.{slots_items, slots_filled, slots_counts}
 use Rattle.std.specs.Prelude.{slice_get}
 use mathlib.Core.Option.{some}
 use mathlib.Core.Logic.{dite}

@@ -1,4 +1,4 @@
-use Rattle.std.proofs.Common.{rules, arith, ap, ◌≡◌, ◌∙◌, ◌+◌, suc, [], vec_len, length}
+use Rattle.std.proofs.Common.{rules, arith, ap, ◌≡◌, ◌∙◌, ◌+◌, [], vec_len, length}
 use Rattle.mq_turns.specs.Desk.{opening_of, laying, slots}
 use Rattle.mq_turns.specs.declared.turn.Turn.TheVariants.{Root}
 use Rattle.mq_turns.specs.declared.turn.Item.TheVariants as item

@@ -1,4 +1,4 @@
-use Rattle.std.proofs.Common.{rules, ◌≡◌, ◌∙◌, ap, None}
+use Rattle.std.proofs.Common.{rules, ◌∙◌, ap}
 use Rattle.mq_turns.proofs.Keeping.{looks_nothing}
 use Rattle.mq_turns.proofs.steps.count.Goals as goal
 
@@ -10,3 +10,6 @@ returns-clause-counted g c = let t = c.load.ensures.2.0 in t.1 ∙ ap (λ n. (re
 
 pub returns-clause-below : goal.returns-clause-below
 returns-clause-below g c = c.load.ensures.2.1
+
+pub returns-clause-order : goal.returns-clause-order
+returns-clause-order g c = c.load.ensures.2.2

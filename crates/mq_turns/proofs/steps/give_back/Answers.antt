@@ -1,4 +1,4 @@
-use Rattle.std.proofs.Common.{rules, arith, ◌≡◌, ◌∷◌, [], sym, ap, ◌∙◌, suc, subst, ℕ, Some, None}
+use Rattle.std.proofs.Common.{rules, arith, ◌≡◌, ◌∷◌, sym, ap, ◌∙◌, subst, Some}
 use Rattle.atomic_table.specs.Table.{rest}
 use Rattle.mq_turns.specs.Desk.{Stands, turn_at, opening_of}
 use Rattle.mq_turns.specs.Lists.{Each}

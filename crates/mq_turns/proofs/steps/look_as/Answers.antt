@@ -1,8 +1,4 @@
-use Rattle.std.proofs.Common.{rules, ◌≡◌, sym, ◌∙◌, Option, Some, None, IfSome, refl}
-use Rattle.std.specs.Option.{option_map}
-use Rattle.mq_turns.specs.Meaning.{Meaning}
-use Rattle.mq_turns.specs.Desk.{MayRead, opening_of}
-use Rattle.mq_turns.specs.declared.rule.View.{View}
+use Rattle.std.proofs.Common.{rules, sym}
 use Rattle.mq_turns.proofs.Keeping.{looks_told}
 use Rattle.mq_turns.proofs.steps.look_as.Goals as goal
 
@@ -14,3 +10,6 @@ returns-clause-looked g c = let t = c.load.ensures.2.0 in (t.0, rw (sym c.requir
 
 pub returns-clause-below : goal.returns-clause-below
 returns-clause-below g c = c.load.ensures.2.1
+
+pub returns-clause-order : goal.returns-clause-order
+returns-clause-order g c = c.load.ensures.2.2

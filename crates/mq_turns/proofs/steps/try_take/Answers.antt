@@ -1,4 +1,4 @@
-use Rattle.std.proofs.Common.{rules, arith, ◌≡◌, ◌∷◌, [], sym, ap, ◌∙◌, suc, subst, Some, None}
+use Rattle.std.proofs.Common.{rules, arith, ◌≡◌, ◌∷◌, [], sym, ap, ◌∙◌, subst, Some, None}
 use Rattle.atomic_table.specs.Table.{rest}
 use Rattle.mq_turns.specs.Desk.{opening_of, turn_at, Stands}
 use Rattle.mq_turns.proofs.Keeping.{takes_turn, settles}

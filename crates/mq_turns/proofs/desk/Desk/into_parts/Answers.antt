@@ -1,13 +1,10 @@
-use Rattle.std.proofs.Common.{rules, arith, ◌≡◌, ap, sym, ◌∙◌, subst, map, ◌+◌, ◌++◌, ℕ, [], length, Some, false, true}
-use Rattle.std.specs.Slots.{slots_items, slots_len, slots_counts, IsFull}
-use mathlib.Core.Option.{some}
+use Rattle.std.proofs.Common.{rules, arith, ◌≡◌, ap, sym, ◌∙◌, map, ◌+◌, length}
+use Rattle.std.specs.Slots.{slots_items, slots_counts}
 use lib.ListN.{get_elem?}
-use Rattle.mq_turns.specs.Lists.{total}
-use Rattle.mq_turns.specs.Desk.{slots, drawn_of, read_of}
-use Rattle.mq_turns.specs.Chairs.{Ended}
+use Rattle.mq_turns.specs.Desk.{slots}
 use Rattle.mq_turns.specs.AtDesk.{view, start_of}
-use Rattle.mq_turns.specs.Closing.{ArePages, AreSides, IsRoot, HasPages, HasSides, HasRoot}
-use Rattle.mq_turns.proofs.Ending.{ends, has_pages, has_sides, has_root, ended, parts_last, drawn_moves, read_moves, parts_of}
+use Rattle.mq_turns.specs.Closing.{AreSides}
+use Rattle.mq_turns.proofs.Ending.{ends, has_pages, has_sides, has_root, ended}
 use Rattle.mq_turns.proofs.desk.Desk.into_parts.Goals as goal
 
 pub unload_pages-pages-requires-clause-full : goal.unload_pages-pages-requires-clause-full
@@ -15,10 +12,7 @@ unload_pages-pages-requires-clause-full g c = λ j lt. c.close_with-closed.ensur
 
 pub unload_pages-pages-requires-clause-home : goal.unload_pages-pages-requires-clause-home
 unload_pages-pages-requires-clause-home g c =
-    let p = parts_last (λ (ch : _). view ch) _ _ _ c.in-Some.ensures.items in
-    let q = c.join_all.ensures.parts in
-    let a = parts_of (λ (ch : _). view ch) (λ ch. ch.live) c.args.chairs.items ∙ c.requires.all in
-    let h = ends g.M.Machine.meaning (start_of c.args.self) _ _ _ _ (slots_items c.close_with-closed.result.slots) c.close_with-closed.ensures.values.2 (omega (arith, p, q, a)) c.join_all.ensures.seat.3 in
+    let h = ends g.M.Machine.meaning (start_of c.args.self) _ _ _ _ (slots_items c.close_with-closed.result.slots) c.close_with-closed.ensures.values.2 (c.gather-one.ensures.parts ∙ c.requires.all) c.gather-one.ensures.seat.2 in
     let n = (slots_counts c.close_with-closed.result.slots).0 in
     let k = c.close_with-closed.ensures.counts in
     let z = c.args.self.slots in
@@ -28,10 +22,7 @@ unload_pages-pages-requires-clause-home g c =
 
 pub unload_sides-sides-requires-clause-home : goal.unload_sides-sides-requires-clause-home
 unload_sides-sides-requires-clause-home g c =
-    let p = parts_last (λ (ch : _). view ch) _ _ _ c.in-Some.ensures.items in
-    let q = c.join_all.ensures.parts in
-    let a = parts_of (λ (ch : _). view ch) (λ ch. ch.live) c.args.chairs.items ∙ c.requires.all in
-    let h = ends g.M.Machine.meaning (start_of c.args.self) _ _ _ _ (slots_items c.close_with-closed.result.slots) c.close_with-closed.ensures.values.2 (omega (arith, p, q, a)) c.join_all.ensures.seat.3 in
+    let h = ends g.M.Machine.meaning (start_of c.args.self) _ _ _ _ (slots_items c.close_with-closed.result.slots) c.close_with-closed.ensures.values.2 (c.gather-one.ensures.parts ∙ c.requires.all) c.gather-one.ensures.seat.2 in
     let n = (slots_counts c.close_with-closed.result.slots).0 in
     let k = c.close_with-closed.ensures.counts in
     let z = c.args.self.slots in
@@ -43,10 +34,7 @@ unload_sides-sides-requires-clause-home g c =
 
 pub unload_root-root-requires-clause-home : goal.unload_root-root-requires-clause-home
 unload_root-root-requires-clause-home g c =
-    let p = parts_last (λ (ch : _). view ch) _ _ _ c.in-Some.ensures.items in
-    let q = c.join_all.ensures.parts in
-    let a = parts_of (λ (ch : _). view ch) (λ ch. ch.live) c.args.chairs.items ∙ c.requires.all in
-    let h = ends g.M.Machine.meaning (start_of c.args.self) _ _ _ _ (slots_items c.close_with-closed.result.slots) c.close_with-closed.ensures.values.2 (omega (arith, p, q, a)) c.join_all.ensures.seat.3 in
+    let h = ends g.M.Machine.meaning (start_of c.args.self) _ _ _ _ (slots_items c.close_with-closed.result.slots) c.close_with-closed.ensures.values.2 (c.gather-one.ensures.parts ∙ c.requires.all) c.gather-one.ensures.seat.2 in
     let n = (slots_counts c.close_with-closed.result.slots).0 in
     let k = c.close_with-closed.ensures.counts in
     let z = c.args.self.slots in
@@ -58,10 +46,7 @@ unload_root-root-requires-clause-home g c =
 
 pub returns-clause-ok : goal.returns-clause-ok
 returns-clause-ok g c =
-    let p = parts_last (λ (ch : _). view ch) _ _ _ c.in-Some.ensures.items in
-    let q = c.join_all.ensures.parts in
-    let a = parts_of (λ (ch : _). view ch) (λ ch. ch.live) c.args.chairs.items ∙ c.requires.all in
-    let h = ends g.M.Machine.meaning (start_of c.args.self) _ _ _ _ (slots_items c.close_with-closed.result.slots) c.close_with-closed.ensures.values.2 (omega (arith, p, q, a)) c.join_all.ensures.seat.3 in
+    let h = ends g.M.Machine.meaning (start_of c.args.self) _ _ _ _ (slots_items c.close_with-closed.result.slots) c.close_with-closed.ensures.values.2 (c.gather-one.ensures.parts ∙ c.requires.all) c.gather-one.ensures.seat.2 in
     let n = (slots_counts c.close_with-closed.result.slots).0 in
     let k = c.close_with-closed.ensures.counts in
     let z = c.args.self.slots in
@@ -78,5 +63,4 @@ returns-clause-ok g c =
     ended g.M.Machine.meaning (start_of c.args.self) _ _ _ xs h deep
     (map (λ ch. view ch) c.args.chairs.items) c.unload_pages-pages.result.items c.unload_sides-sides.result.items c.unload_root-root.result (c.args.self.pages + c.args.self.sides + 1) c.word.result (omega arith) c.word.ensures
     pages c.unload_pages-pages.ensures.pages.1 sides are_sides root
-    (c.join_all.ensures.all.0 ∙ drawn_moves (λ (ch : _). view ch) _ _ _ [] c.in-Some.ensures.items)
-    (c.join_all.ensures.all.1 ∙ read_moves (λ (ch : _). view ch) _ _ _ [] c.in-Some.ensures.items)
+    c.gather-one.ensures.all.0 c.gather-one.ensures.all.1 c.gather-one.ensures.order

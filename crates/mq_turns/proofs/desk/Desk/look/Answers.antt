@@ -1,4 +1,4 @@
-use Rattle.std.proofs.Common.{rules, ap}
+use Rattle.std.proofs.Common.{ap}
 use Rattle.mq_turns.proofs.desk.Desk.look.Goals as goal
 
 pub returns-clause-looked : goal.returns-clause-looked

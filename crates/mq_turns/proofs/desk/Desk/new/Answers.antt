@@ -1,5 +1,5 @@
-use Rattle.std.proofs.Common.{rules, arith, ◌≡◌, ap, sym, ◌∙◌, subst, ◌+◌, suc, [], length, set}
-use Rattle.mq_turns.specs.Desk.{opening_of, first_view, slots}
+use Rattle.std.proofs.Common.{rules, ◌≡◌, ap, ◌∙◌, ◌+◌, set}
+use Rattle.mq_turns.specs.Desk.{opening_of, slots}
 use Rattle.mq_turns.specs.declared.rule.Start.{Start}
 use Rattle.mq_turns.proofs.Laying.{opens, ones_then}
 use Rattle.mq_turns.proofs.desk.Desk.new.Goals as goal

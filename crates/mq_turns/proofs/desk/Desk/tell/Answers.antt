@@ -1,5 +1,5 @@
-use Rattle.std.proofs.Common.{rules, arith, ap, ◌∙◌, ◌≡◌, subst, refl}
-use Rattle.mq_turns.specs.Desk.{Below, heard, noted}
+use Rattle.std.proofs.Common.{rules, arith, ap, ◌∙◌, subst}
+use Rattle.mq_turns.specs.Desk.{Below, heard}
 use Rattle.mq_turns.specs.declared.rule.View.{View}
 use Rattle.mq_turns.proofs.Seats.{notes, hears_note, told}
 use Rattle.mq_turns.proofs.desk.Desk.tell.Goals as goal

@@ -1,0 +1,235 @@
+-- A transaction of one copy, drawn by a chair that holds its page and its queue's side.
+use Rattle.std.proofs.Common.{◌≡◌, ℕ, suc, ◌+◌, ◌<◌, Bool, true, false, cond, List, [], ◌∷◌, ◌++◌, length, Some, sym, refl, ap, subst, ◌∙◌, inl, inr, arith, lit≤}
+use Rattle.std.proofs.lemmas.Bool.{cases_eq, eq-eqb, ne_eqb, eqb-true, false≢true}
+use Rattle.std.proofs.lemmas.List.Elements.{All-cons, All-nil}
+use Rattle.mq_blocks.specs.Drive.{PortState}
+use Rattle.mq_blocks.specs.Geometry.{homes_of}
+use Rattle.mq_blocks.specs.Machine.{write_of}
+use Rattle.mq_core.specs.Events.{MayDraw, draw_known}
+use Rattle.mq_core.specs.Events as events
+use Rattle.mq_core.specs.History.{writes, changes, of_queue, upto, last_logged}
+use Rattle.mq_core.specs.Items.{end_of, next}
+use Rattle.mq_core.specs.Known.{Known}
+use Rattle.mq_core.specs.Sides.{SideOk}
+use Rattle.mq_core.specs.declared.tx.Tx.{Tx}
+use Rattle.mq_core.proofs.Values.{upto-past, last-changed, map_written}
+use Rattle.mq_core.proofs.Entries.{of_queue-own}
+use Rattle.mq_core.proofs.Growth.{front_low, side_drawn, side_extends}
+use Rattle.mq_pages.specs.declared.page.PageCell.{PageCell}
+use Rattle.mq_turns.specs.Desk.{IsTurn, slot_of, turn_at, Covers, Sees, Stands, Stay, after_draw, refreshed}
+use Rattle.mq_turns.specs.Lists.{Each, times, tick}
+use Rattle.mq_turns.specs.Meaning.{newest, drawn}
+use Rattle.mq_turns.specs.declared.rule.Known.{Known as Shared}
+use Rattle.mq_turns.specs.declared.rule.Opening.{Opening}
+use Rattle.mq_turns.specs.declared.rule.View.{View}
+use Rattle.mq_turns.specs.declared.turn.Turn.{Turn}
+use Rattle.mq_turns.specs.declared.turn.Turn.TheVariants.{Page, Side, Root}
+use Rattle.mq_turns.specs.declared.turn.Item.TheVariants as item
+use Rattle.mq_turns.proofs.Slots.{page_at, side_at}
+use Rattle.mq_turns.proofs.Totals.{hit}
+use Rattle.mq_port_desk.specs.Laws.{unclaimed, length_history}
+use Rattle.mq_port_desk.specs.Machine.{tx_of, side_of, root_of, shape_of, ports}
+use Rattle.mq_port_desk.specs.Ports
+use Rattle.mq_port_desk.specs.Room.{HasRoom}
+use Rattle.mq_port_desk.specs.declared.machine.Commit.{Commit}
+use Rattle.mq_port_desk.specs.declared.machine.QueuePort.{QueuePort}
+use Rattle.mq_port_desk.specs.declared.machine.RootPort.{RootPort}
+
+some_same : {A : Type 0} {a b : A} → Some a ≡ Some b → a ≡ b
+some_same e = cc
+
+-- it changes its block alone
+changes_one : (e : Commit) (b : ℕ) → changes (tx_of e) b ≡ true → e.block ≡ b
+changes_one e b t = elim (cases_eq e.block b) [
+  | inl same ↦ same
+  | inr other ↦ absurd (false≢true (rw (ne_eqb e.block b other) at t))
+]
+
+module _ {P : Type 0} (state : P → PortState) where
+  abbrev Shown : Type 0
+  Shown = Shared PageCell (QueuePort P) (RootPort P) Commit
+
+  abbrev μ : Rattle.mq_turns.specs.Meaning.Meaning PageCell (QueuePort P) (RootPort P) Commit
+  μ = ports state
+
+  abbrev core : Shown → Known
+  core = Ports.core_of (side_of state) (root_of state) shape_of tx_of
+
+  abbrev next_tx : Commit → Shown → Tx
+  next_tx = Ports.next_tx (side_of state) (root_of state) shape_of tx_of
+
+  abbrev start : Opening PageCell (QueuePort P) (RootPort P) → Rattle.mq_blocks.specs.Machine.Map
+  start = Ports.start_of (side_of state) (root_of state) shape_of tx_of
+
+  abbrev hist : ℕ → List Commit → List Tx
+  hist = Ports.history (side_of state) (root_of state) shape_of tx_of
+
+  may_draw : (e : Commit) (K : Shown) → e.block < homes_of K.opening.root.geometry → e.queue < K.opening.root.geometry.queues → length e.content ≡ 4096 → newest K < 9223372036854775808 → μ.may e K
+  may_draw e K block queue whole few =
+      let n = length_history (side_of state) (root_of state) shape_of tx_of K.opening.base K.log in
+      record {
+        form = record {
+          queue = queue;
+          logged = (omega arith, block, tt);
+          direct = tt;
+          revoked = tt;
+          freed = tt;
+          whole = All-cons (λ w. length w.1 ≡ 4096) (e.block, e.content) [] whole (All-nil (λ w. length w.1 ≡ 4096));
+          few = lit≤ tt;
+          apart = (tt, tt);
+          kept = tt;
+          zoned = λ x among. absurd (false≢true among);
+          revokes = λ x among. absurd (false≢true among);
+        };
+        number = omega arith;
+        limit = omega arith;
+        freed = λ x among. absurd (false≢true among);
+        free = λ x among. absurd (false≢true among);
+        settled = λ x among. absurd (false≢true among);
+        revoked = λ x among above. absurd (false≢true among);
+      }
+
+  module _ (o : Opening PageCell (QueuePort P) (RootPort P)) (e : Commit) (v : View PageCell (QueuePort P) (RootPort P) Commit) (K1 K2 : Shown) (opening : v.opening ≡ Some o) (held : v.held ≡ (length o.pages + e.queue, K2) ∷ (e.block, K1) ∷ []) where
+    opening_is : (K : Shown) → Sees μ v K → K.opening ≡ o
+    opening_is K sees = some_same (sym sees.opening ∙ opening)
+
+    pub covers : e.block < homes_of o.root.geometry → e.queue < o.root.geometry.queues → length e.content ≡ 4096 → Covers μ e v
+    covers block queue whole = record { held = holds; may = may }
+      where
+        may : (K : Shown) → Sees μ v K → newest K < 9223372036854775808 → μ.may e K
+        may K sees few = let F : Opening PageCell (QueuePort P) (RootPort P) → Type 0 = λ p. (e.block < homes_of p.root.geometry) × (e.queue < p.root.geometry.queues) in let now = subst F (sym (opening_is K sees)) (block, queue) in may_draw e K now.0 now.1 whole few
+
+        holds : (K : Shown) → Sees μ v K → (t : Turn) → IsTurn K.opening t → μ.touches K.log e t ≡ true → 0 < times (slot_of K.opening t) v.held
+        holds K sees (Page b) mine t = let one = hit e.block b (changes_one e b t) in let sum : times b v.held ≡ tick (length o.pages + e.queue) b + (tick e.block b + 0) = ap (times b) held in omega arith
+        holds K sees (Side q) mine t =
+            let pages : length K.opening.pages ≡ length o.pages = ap (λ p. length p.pages) (opening_is K sees) in
+            let same = eqb-true e.queue q t in
+            let k : ℕ = length K.opening.pages + q in
+            let one = hit (length o.pages + e.queue) k (omega arith) in
+            let sum : times k v.held ≡ tick (length o.pages + e.queue) k + (tick e.block k + 0) = ap (times k) held in omega arith
+        holds K sees Root mine t = absurd (false≢true t)
+
+    module _ (K : Shown) (sees : Sees μ v K) (page_turn : e.block < length o.pages) (side_turn : e.queue < length o.sides) where
+      pub may_now : e.block < homes_of o.root.geometry → e.queue < o.root.geometry.queues → length e.content ≡ 4096 → newest K < 9223372036854775808 → μ.may e K
+      may_now block queue whole few = (covers block queue whole).may K sees few
+
+      -- what is known of the two by the draw
+      known : (μ.ok K2 × Stay μ (Side e.queue) K2 K) × (μ.ok K1 × Stay μ (Page e.block) K1 K)
+      known =
+          let all = subst (λ l. Each (λ h. μ.ok h.1 × Stay μ (turn_at K.opening h.0) h.1 K) l) held sees.held in
+          let is = opening_is K sees in
+          let s : turn_at K.opening (length o.pages + e.queue) ≡ Side e.queue = ap (λ p. turn_at p (length o.pages + e.queue)) is ∙ side_at o e.queue side_turn in
+          let p : turn_at K.opening e.block ≡ Page e.block = ap (λ q. turn_at q e.block) is ∙ page_at o e.block page_turn in
+          ((all.0.0, subst (λ t. Stay μ t K2 K) s all.0.1), (all.1.0.0, subst (λ t. Stay μ t K1 K) p all.1.0.1))
+
+      held_after : (after_draw μ e K v).held ≡ (length o.pages + e.queue, drawn e K) ∷ (e.block, drawn e K) ∷ []
+      held_after =
+          let is = opening_is K sees in
+          let f : ℕ → Bool = λ k. μ.touches K.log e (turn_at K.opening k) in
+          let s : f (length o.pages + e.queue) ≡ true = ap (λ p. μ.touches K.log e (turn_at p (length o.pages + e.queue))) is ∙ (ap (μ.touches K.log e) (side_at o e.queue side_turn) ∙ eq-eqb e.queue e.queue refl) in
+          let p : f e.block ≡ true = ap (λ q. μ.touches K.log e (turn_at q e.block)) is ∙ (ap (μ.touches K.log e) (page_at o e.block page_turn) ∙ changed e) in
+          ap (refreshed f (drawn e K)) held ∙ (λ i. (length o.pages + e.queue, cond (s i) (drawn e K) K2) ∷ (e.block, cond (p i) (drawn e K) K1) ∷ [])
+        where
+          changed : (e : Commit) → changes (tx_of e) e.block ≡ true
+          changed e = rw (eq-eqb e.block e.block refl) refl
+
+      abbrev t : Tx
+      t = next_tx e K
+
+      abbrev us : List Tx
+      us = of_queue e.queue (core K).history
+
+      own : of_queue e.queue (t ∷ (core K).history) ≡ t ∷ us
+      own = of_queue-own e.queue t (core K).history refl
+
+      module _ (may : μ.may e K) where
+        above : K.word < t.number
+        above = let n = may.number in let high = sees.ok.log.word_high in let low = front_low (core K) in omega arith
+
+        module _ (w : QueuePort P) (was : μ.side e.queue K2 w) (room : HasRoom (side_of state w)) where
+          now : μ.side e.queue K w
+          now = μ.side_along e.queue K2 K w known.0.1 known.0.0 sees.ok was
+
+          -- the entries of the transaction are its own copy and its descriptor
+          fits : events.HasRoom (core K).geometry ((core K).from e.queue) K.word us t (state w.port)
+          fits =
+              let side = now in
+              let order = side.port.order in
+              let a = side.end in
+              let b = side.place in
+              let c = side.floor in
+              let d = side.low in
+              let f = side.area in
+              let ring = room.ring in
+              let limit = room.limit in
+              let area = room.area in
+              let places = room.places in
+              let rung : (state w.port).doorbell ≡ end_of ((core K).from e.queue) us = room.rung ∙ side.end in
+              let two : writes t + 1 ≡ 2 = refl in
+              let one : length t.logged ≡ 1 = refl in
+              let staged = order.drawn in
+              let low = order.stored in
+              let high = order.rung in
+              record {
+                rung = rung;
+                failed = side.sound room.sound;
+                ring = omega arith;
+                area = omega arith;
+                places = omega arith;
+                limit = omega arith;
+              }
+
+          port_now : SideOk (core (drawn e K)) e.queue (of_queue e.queue (t ∷ (core K).history)) (state w.port)
+          port_now =
+              let side = now in
+              let new : (core K).done t (core K).history ≡ false = unclaimed (newest K) K.claims t sees.ok.claims (omega arith) in
+              let as_drawn = side_drawn (core K) t sees.ok.log may.number new e.queue us (state w.port) side.port in
+              subst (λ vs. SideOk (core (drawn e K)) e.queue vs (state w.port)) (sym own) (side_extends (draw_known t (core K)) e.queue t us (state w.port) ([], own) above as_drawn fits)
+
+          own_side : μ.side e.queue (drawn e K) (record w { end = w.end + 2; place = w.place + 2 })
+          own_side =
+              let side = now in
+              let a = side.end in
+              let b = side.place in
+              let end = ap (end_of ((core K).from e.queue)) own in
+              let place = ap next own in
+              let floor : next (upto K.word (of_queue e.queue (t ∷ (core K).history))) ≡ next (upto K.word us) = ap (λ vs. next (upto K.word vs)) own ∙ ap next (upto-past K.word t us above) in
+              let c = side.floor in
+              record {
+                port = port_now;
+                end = omega arith;
+                place = omega arith;
+                low = side.low;
+                floor = omega arith;
+                sound = side.sound;
+                area = side.area;
+              }
+
+          -- the side, given back after the draw
+          pub side_stands : (M : Type 0) (slot : ℕ) → slot ≡ length o.pages + e.queue
+              → Each (λ h. h.0 ≡ slot → Stands {M = M} μ (Side e.queue) h.1 (item.Side (record w { end = w.end + 2; place = w.place + 2 }))) (after_draw μ e K v).held
+          side_stands M slot at =
+              let F : List (ℕ × Shown) → Type 0 = λ l. Each (λ h. h.0 ≡ slot → Stands {M = M} μ (Side e.queue) h.1 (item.Side (record w { end = w.end + 2; place = w.place + 2 }))) l in
+              subst F (sym held_after) ((λ _. own_side), (λ same. absurd (omega arith), tt))
+
+      module _ (c : PageCell) (n : ℕ) (number : n ≡ suc (newest K)) (was : μ.page e.block K1 c) where
+        own_page : μ.page e.block (drawn e K) (record c { content = Some e.content; version = n; last_logged = n })
+        own_page =
+            let page : μ.page e.block K c = μ.page_along e.block K1 K c known.1.1 known.1.0 sees.ok was in
+            let there : write_of (t.logged ++ t.direct) e.block ≡ Some e.content = rw (eq-eqb e.block e.block refl) refl in
+            let changed : changes t e.block ≡ true = rw (eq-eqb e.block e.block refl) refl in
+            let logged : last_logged K.opening.base (t ∷ (core K).history) e.block ≡ t.number = rw (eq-eqb e.block e.block refl) refl in
+            let version = last-changed K.opening.base t (core K).history e.block changed in
+            record {
+              content = sym (map_written (start K.opening) t (core K).history e.block e.content there);
+              version = omega arith;
+              last_logged = omega arith;
+              home_version = page.home_version;
+            }
+
+        -- the page, given back after the side
+        pub page_stands : (M : Type 0) (slot : ℕ) → slot ≡ e.block
+            → Each (λ h. h.0 ≡ slot → Stands {M = M} μ (Page e.block) h.1 (item.Page (record c { content = Some e.content; version = n; last_logged = n }))) (after_draw μ e K v).held
+        page_stands M slot at =
+            let F : List (ℕ × Shown) → Type 0 = λ l. Each (λ h. h.0 ≡ slot → Stands {M = M} μ (Page e.block) h.1 (item.Page (record c { content = Some e.content; version = n; last_logged = n }))) l in
+            subst F (sym held_after) ((λ same. absurd (omega arith)), (λ _. own_page, tt))

@@ -1,0 +1,6 @@
+pub mod Ports
+pub mod Along
+pub mod Laws
+pub mod Machine
+pub mod Opening
+pub mod Room

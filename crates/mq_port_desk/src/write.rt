@@ -1,0 +1,76 @@
+// A call on a desk over ports.
+ghost use Rattle.std.specs.Prelude.{◌≡◌, ℕ, suc, ◌+◌, ◌<◌, ◌≤◌, [], ◌∷◌, true, IfSome, IfNone, length};
+ghost use Rattle.mq_blocks.specs.Geometry.{homes_of};
+ghost use Rattle.mq_turns.specs.AtDesk.{AtDesk, view, start_of, chairs_of};
+ghost use Rattle.mq_turns.specs.Desk.{Follows, allotment};
+ghost use Rattle.mq_port_desk.specs.Machine.{side_of, ports};
+ghost use Rattle.mq_port_desk.specs.Room.{HasRoom};
+
+use crate::machine::{Commit, PortMachine, QueuePort};
+use mq_blocks::TxNo;
+use mq_drive::Port;
+use mq_pages::PageCell;
+use mq_turns::{Chair, Desk, Item, Turn};
+use std::sync::Wait;
+
+impl<P: Port> QueuePort<P> {
+    // Whether ring and journal area have room for a copy and its descriptor.
+    fn has_room(&self) -> bool
+        ensures { result ≡ true → HasRoom (side_of P.state self.now) }
+    {
+        self.sound
+            && self.port.doorbell() == self.end
+            && self.low <= self.end
+            && self.end - self.low <= 1021
+            && self.end <= 1 << 62
+            && self.place < (1 << 62) - 2
+            && self.place + 2 <= self.floor.saturating_add(u64::from(self.area))
+    }
+}
+
+/// Writes a block by a transaction: takes its page and its queue's side, looks, draws, and gives both
+/// back. There is no number where the side has no room.
+pub fn write_block<P: Port + Drop, R: Wait>(
+    rt: &R,
+    desk: &Desk<PortMachine<P>>,
+    chair: &mut Chair<PortMachine<P>>,
+    entry: Commit,
+) -> Option<TxNo>
+    requires at { AtDesk desk.now chair.old }
+    requires turns { (entry.block < length (start_of desk.now).pages) × (entry.queue < length (start_of desk.now).sides) }
+    requires shape { (entry.block < homes_of (start_of desk.now).root.geometry) × (entry.queue < (start_of desk.now).root.geometry.queues) × (length entry.content ≡ 4096) }
+    requires idle { (view chair.old).held ≡ [] }
+    requires follows { Follows (ports P.state) entry (view chair.old) }
+    requires room { length (view chair.old).drawn < allotment (chairs_of desk.now) }
+    ensures at { AtDesk desk.now chair.new }
+    ensures idle { (view chair.new).held ≡ [] }
+    ensures drew { IfSome result (λ n. (view chair.new).drawn ≡ (n, entry) ∷ (view chair.old).drawn) }
+    ensures rest { ((view chair.new).session ≡ (view chair.old).session) × ((view chair.new).read ≡ (view chair.old).read) }
+    ensures none { IfNone result ((view chair.new).drawn ≡ (view chair.old).drawn) }
+{
+    let (block, queue) = (entry.block, entry.queue);
+    let Item::Page(page) = desk.take(rt, chair, Turn::Page(block)) else {
+        unreachable!()
+    };
+    let Item::Side(mut side) = desk.take(rt, chair, Turn::Side(queue)) else {
+        unreachable!()
+    };
+    if !side.has_room() {
+        desk.give_back(chair, Turn::Side(queue), Item::Side(side));
+        desk.give_back(chair, Turn::Page(block), Item::Page(page));
+        return None;
+    }
+    desk.look(chair, None);
+    let number = desk.draw(chair, queue, &entry);
+    side.end += 2;
+    side.place += 2;
+    desk.give_back(chair, Turn::Side(queue), Item::Side(side));
+    let written = PageCell {
+        content: Some(entry.content),
+        version: number,
+        last_logged: number,
+        home_version: page.home_version,
+    };
+    desk.give_back(chair, Turn::Page(block), Item::Page(written));
+    Some(number)
+}
