@@ -1,0 +1,4 @@
+mod Placing
+mod Drawing
+mod Unique
+mod Counting
