@@ -1,0 +1,15 @@
+pub mod Claiming
+pub mod CleanLaid
+pub mod Decoding
+pub mod Empties
+pub mod Examples
+pub mod LaidClean
+pub mod Maps
+pub mod Naming
+pub mod Phases
+pub mod Pointed
+pub mod Refuted
+pub mod Mounting
+pub mod Regions
+pub mod Unique
+pub mod Uses

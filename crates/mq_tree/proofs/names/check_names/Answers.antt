@@ -1,0 +1,20 @@
+use Rattle.mq_tree.specs.declared.corrupt.CorruptCause.TheVariants.{Kind}
+use Rattle.mq_tree.proofs.Mounting.{inode-form, inode-low, inode-seen, inodes-end, refuses-at}
+use Rattle.mq_tree.proofs.Naming.{dir-seen, name-found, named-more, names-all}
+use Rattle.mq_tree.proofs.names.check_names.Goals as goal
+
+pub bad_name-requires-clause-form : goal.bad_name-requires-clause-form
+bad_name-requires-clause-form c = inode-form c.args.geometry c.args.blocks.now c.args.inodes.now c.loop-i.i _ c.requires.inodes c.loop-i-test.true c.requires.table
+
+pub returns-in-Some-clause-cause : goal.returns-in-Some-clause-cause
+returns-in-Some-clause-cause c =
+    refuses-at _ _ Kind _ _ c.corrupt.ensures (name-found c.args.geometry c.args.blocks.now c.args.inodes.now c.loop-i.i c.in-Some.b _ c.requires.table c.requires.inodes (inode-seen _ _ c.args.inodes.now c.loop-i.i _ c.requires.inodes c.loop-i-test.true) (inode-low c.args.geometry c.args.blocks.now c.args.inodes.now c.loop-i.i c.requires.inodes c.loop-i-test.true) c.in-Some.ensures)
+
+pub loop-i-preserved : goal.loop-i-preserved
+loop-i-preserved c = named-more c.args.geometry c.args.blocks.now c.args.inodes.now c.loop-i.i _ c.loop-i.invariant (inode-seen _ _ c.args.inodes.now c.loop-i.i _ c.requires.inodes c.loop-i-test.true) c.in_default.ensures
+
+pub bad_name-requires-clause-dir : goal.bad_name-requires-clause-dir
+bad_name-requires-clause-dir c = dir-seen c.args.geometry c.args.blocks.now c.args.inodes.now c.loop-i.i _ c.requires.inodes c.loop-i-test.true c.requires.dirs
+
+pub returns-clause-ok : goal.returns-clause-ok
+returns-clause-ok c = names-all c.args.geometry c.args.blocks.now c.args.inodes.now c.requires.table c.requires.inodes (λ i low. c.loop-i.invariant i (inodes-end c.args.geometry c.args.blocks.now c.args.inodes.now c.loop-i.i i c.requires.inodes c.loop-i-test.false low))

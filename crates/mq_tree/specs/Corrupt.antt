@@ -1,0 +1,102 @@
+-- The causes for which home blocks have no tree, each with a block at which it holds.
+use Rattle.std.specs.Prelude.{◌≡◌, ◌≢◌, ℕ, ◌+◌, ◌*◌, ◌/◌, ◌<◌, ◌≤◌, true, false, slice_index, Some}
+use Rattle.mq_blocks.specs.Blocks.{block_at}
+use Rattle.mq_blocks.specs.Geometry.{meta_of, queues_of, zone_size}
+use Rattle.mq_blocks.specs.declared.geometry.Geometry.{Geometry}
+use Rattle.mq_layout.specs.Bits.{bit_of}
+use Rattle.mq_layout.specs.Inodes.{wrong_inode}
+use Rattle.mq_layout.specs.Places.{inode_bitmap, inode_block, inode_place, inodes_of, table_first, zone_bitmap}
+use Rattle.mq_layout.specs.Slots.{Entry, wrong_slot}
+use Rattle.mq_layout.specs.Superblock.{wrong_super}
+use Rattle.mq_layout.specs.declared.refusal.LayoutRefusal.{LayoutRefusal}
+use Rattle.mq_tree.specs.Clean.{IsInZone}
+use Rattle.mq_tree.specs.Decoded.{Stored, byte_of, count_of, pointer_to, the_inode, volume_in}
+use Rattle.mq_tree.specs.Laid.{zone_block}
+use Rattle.mq_tree.specs.Volume.{Use, Way, block_in, body, inode_at, is_taken, is_used, slot}
+use Rattle.mq_tree.specs.declared.corrupt.CorruptCause.{CorruptCause}
+use Rattle.mq_tree.specs.declared.corrupt.CorruptCause.TheVariants.{Layout, Pointer, Unmarked, Shared, Twin, Unreached, Kind, Tail}
+use Rattle.mq_tree.specs.declared.corrupt.MountRefusal.{MountRefusal}
+use Rattle.mq_tree.specs.declared.corrupt.MountRefusal.TheVariants.{Corrupt, OutOfMemory}
+
+-- A codec refuses, or a byte or a bit has to be 0 and is not.
+pub data BadLayout (g : Geometry) (s : Stored) (b : ℕ) : Type 0 where
+  superblock : (e : LayoutRefusal) → b ≡ 0 → wrong_super g (block_at s b) ≡ Some e → BadLayout g s b
+  zone_bit : (zone k : ℕ) → zone < queues_of g → b ≡ zone_bitmap zone → zone_size g ≤ k → k < 32768 → bit_of (block_at s b) k ≡ 1 → BadLayout g s b
+  inode_bit : (k : ℕ) → b ≡ inode_bitmap g → inodes_of g ≤ k → k < 32768 → bit_of (block_at s b) k ≡ 1 → BadLayout g s b
+  table_inode : (i : ℕ) (e : LayoutRefusal) → i < inodes_of g → b ≡ inode_block g i → wrong_inode (block_at s b) (inode_place i) ≡ Some e → BadLayout g s b
+  table_rest : (k : ℕ) → table_first g + 1024 ≤ b → b < meta_of g → slice_index (block_at s b) k ≢ 0 → BadLayout g s b
+  in_slot : (i place at : ℕ) (e : LayoutRefusal) → i < inodes_of g → (the_inode g s i).kind ≡ 2 → place < count_of (the_inode g s i) → b ≡ pointer_to s (the_inode g s i) place → at < 15
+      → wrong_slot (block_at s b) at ≡ Some e → BadLayout g s b
+  behind_slots : (i place k : ℕ) → i < inodes_of g → (the_inode g s i).kind ≡ 2 → place < count_of (the_inode g s i) → b ≡ pointer_to s (the_inode g s i) place → 4080 ≤ k → k < 4096
+      → slice_index (block_at s b) k ≢ 0 → BadLayout g s b
+
+-- the block that has the pointer to this place
+pub data BadPointer (g : Geometry) (s : Stored) (b : ℕ) : Type 0 where
+  direct : (i k : ℕ) → i < inodes_of g → b ≡ inode_block g i → k < 12 → k < count_of (the_inode g s i) → (IsInZone g (pointer_to s (the_inode g s i) k) → ⊥) → BadPointer g s b
+  not_direct : (i k : ℕ) → i < inodes_of g → b ≡ inode_block g i → count_of (the_inode g s i) ≤ k → k < 12 → slice_index (the_inode g s i).direct k ≢ 0 → BadPointer g s b
+  indirect : (i : ℕ) → i < inodes_of g → b ≡ inode_block g i → 12 < count_of (the_inode g s i) → (IsInZone g (the_inode g s i).indirect → ⊥) → BadPointer g s b
+  not_indirect : (i : ℕ) → i < inodes_of g → b ≡ inode_block g i → count_of (the_inode g s i) ≤ 12 → (the_inode g s i).indirect ≢ 0 → BadPointer g s b
+  far : (i k : ℕ) → i < inodes_of g → b ≡ (the_inode g s i).indirect → 12 ≤ k → k < count_of (the_inode g s i) → (IsInZone g (pointer_to s (the_inode g s i) k) → ⊥) → BadPointer g s b
+  not_far : (i k : ℕ) → i < inodes_of g → b ≡ (the_inode g s i).indirect → 12 < count_of (the_inode g s i) → count_of (the_inode g s i) ≤ k → k < 1036 → pointer_to s (the_inode g s i) k ≢ 0 → BadPointer g s b
+
+-- the block that has this slot
+abbrev pub block_of_slot : Geometry → Stored → (d k : ℕ) → ℕ
+block_of_slot g s d k = pointer_to s (the_inode g s d) (k / 15)
+
+pub data BadKind (g : Geometry) (s : Stored) (b : ℕ) : Type 0 where
+  not_root : b ≡ inode_block g 0 → (the_inode g s 0).kind ≢ 2 → BadKind g s b
+  names_root : (d k : ℕ) (e : Entry) → slot (volume_in g s) d k ≡ Some e → b ≡ block_of_slot g s d k → e.inode ≡ 0 → BadKind g s b
+  -- free, or not below the number of inodes
+  names_free : (d k : ℕ) (e : Entry) → slot (volume_in g s) d k ≡ Some e → b ≡ block_of_slot g s d k → is_used (body (volume_in g s) e.inode) ≡ false → BadKind g s b
+
+pub record IsTwin (g : Geometry) (s : Stored) (b : ℕ) : Type 0 where
+  pub d : ℕ
+  pub k : ℕ
+  pub l : ℕ
+  pub e : Entry
+  pub f : Entry
+  pub first : slot (volume_in g s) d k ≡ Some e
+  pub second : slot (volume_in g s) d l ≡ Some f
+  pub same : e.name ≡ f.name
+  pub apart : k ≢ l
+  pub is : b ≡ block_of_slot g s d k
+
+pub data IsShared (g : Geometry) (s : Stored) (b : ℕ) : Type 0 where
+  shared_block : (u w : Use) → block_in (volume_in g s) u ≡ Some b → block_in (volume_in g s) w ≡ Some b → u ≢ w → IsShared g s b
+  -- the inode that a slot of this block names, another slot names too
+  shared_inode : (d k c l : ℕ) (e f : Entry) → slot (volume_in g s) d k ≡ Some e → slot (volume_in g s) c l ≡ Some f → e.inode ≡ f.inode → ((d ≡ c) × (k ≡ l) → ⊥) → b ≡ block_of_slot g s d k → IsShared g s b
+
+pub data IsUnmarked (g : Geometry) (s : Stored) (b : ℕ) : Type 0 where
+  unmarked_block : (zone k : ℕ) → zone < queues_of g → k < zone_size g → b ≡ zone_bitmap zone → is_taken (volume_in g s) (zone_block g zone k) ≡ true → bit_of (block_at s b) k ≡ 0 → IsUnmarked g s b
+  unmarked_inode : (i : ℕ) → i < inodes_of g → b ≡ inode_bitmap g → is_used (body (volume_in g s) i) ≡ true → bit_of (block_at s b) i ≡ 0 → IsUnmarked g s b
+
+pub data IsUnreached (g : Geometry) (s : Stored) (b : ℕ) : Type 0 where
+  unused_block : (zone k : ℕ) → zone < queues_of g → k < zone_size g → b ≡ zone_bitmap zone → is_taken (volume_in g s) (zone_block g zone k) ≡ false → bit_of (block_at s b) k ≡ 1 → IsUnreached g s b
+  unused_inode : (i : ℕ) → i < inodes_of g → b ≡ inode_bitmap g → is_used (body (volume_in g s) i) ≡ false → bit_of (block_at s b) i ≡ 1 → IsUnreached g s b
+  lost_inode : (i : ℕ) → i < inodes_of g → b ≡ inode_block g i → is_used (body (volume_in g s) i) ≡ true → ((way : Way) → inode_at (volume_in g s) way ≢ Some i) → IsUnreached g s b
+
+pub record HasTail (g : Geometry) (s : Stored) (b : ℕ) : Type 0 where
+  pub i : ℕ
+  pub k : ℕ
+  pub low : i < inodes_of g
+  pub file : (the_inode g s i).kind ≡ 1
+  pub past : (the_inode g s i).size ≤ k
+  pub inside : k < 4096 * count_of (the_inode g s i)
+  pub is : b ≡ pointer_to s (the_inode g s i) (k / 4096)
+  pub not_zero : byte_of s (the_inode g s i) k ≢ 0
+
+-- the cause holds at the block
+abbrev pub IsCorrupt : Geometry → Stored → CorruptCause → ℕ → Type 0
+IsCorrupt g s Layout b = BadLayout g s b
+IsCorrupt g s Pointer b = BadPointer g s b
+IsCorrupt g s Unmarked b = IsUnmarked g s b
+IsCorrupt g s Shared b = IsShared g s b
+IsCorrupt g s Twin b = IsTwin g s b
+IsCorrupt g s Unreached b = IsUnreached g s b
+IsCorrupt g s Kind b = BadKind g s b
+IsCorrupt g s Tail b = HasTail g s b
+
+-- want of memory says nothing
+abbrev pub Refuses : Geometry → Stored → MountRefusal → Type 0
+Refuses g s (Corrupt cause b) = IsCorrupt g s cause b
+Refuses g s OutOfMemory = Unit {0}

@@ -1,0 +1,12 @@
+pub mod Clean
+pub mod Corrupt
+pub mod Decoded
+pub mod Empty
+pub mod Free
+pub mod Laid
+pub mod Looks
+pub mod Parts
+pub mod Pointers
+pub mod Requests
+pub mod Sound
+pub mod Volume

@@ -1,0 +1,19 @@
+-- Pointers that are there exactly where a block is.
+use Rattle.std.specs.Prelude.{◌≡◌, ℕ, ◌<◌, ◌≤◌, Bool, true, false, nat_lt, slice_index}
+use Rattle.mq_blocks.specs.declared.geometry.Geometry.{Geometry}
+use Rattle.mq_layout.specs.declared.inode.Inode.{Inode}
+use Rattle.mq_tree.specs.Clean.{IsInZone}
+use Rattle.mq_tree.specs.Decoded.{Stored, pointer_to}
+
+-- a pointer that has to be there leads into a zone, and one that has not is 0
+abbrev pub IsRight : Geometry → (wanted : Bool) → ℕ → Type 0
+IsRight g true p = IsInZone g p
+IsRight g false p = p ≡ 0
+
+-- the twelve in the inode, where it has so many blocks
+abbrev pub AreNear : Geometry → Inode → (count : ℕ) → Type 0
+AreNear g n count = (k : ℕ) → k < 12 → IsRight g (nat_lt k count) (slice_index n.direct k)
+
+-- the 1,024 in its block of pointers
+abbrev pub AreFar : Geometry → Stored → Inode → (count : ℕ) → Type 0
+AreFar g s n count = (k : ℕ) → 12 ≤ k → k < 1036 → IsRight g (nat_lt k count) (pointer_to s n k)

@@ -1,0 +1,57 @@
+// A phase of a mount: the bytes past the end of a file are zeros.
+ghost use Rattle.std.specs.Prelude.{◌≡◌, ◌<◌, ℕ, IfErr, IfOk, MatchOption};
+ghost use Rattle.mq_blocks.specs.Blocks.{zeros};
+ghost use Rattle.mq_layout.specs.Inodes.{IsInode};
+ghost use Rattle.mq_tree.specs.Clean.{AreEnded, IsTable};
+ghost use Rattle.mq_tree.specs.Corrupt.{Refuses};
+ghost use Rattle.mq_tree.specs.Decoded.{inodes_in};
+ghost use Rattle.mq_tree.specs.Parts.{HasEndAt, IsEnded};
+
+use crate::corrupt::{CorruptCause, MountRefusal};
+use crate::pointers::pointer_at;
+use crate::stored::{corrupt, stored_block};
+use mq_blocks::{Block, Geometry};
+use mq_layout::Inode;
+
+/// The kind of a file.
+const FILE: u8 = 1;
+
+/// The last block of a file, where a byte past the end is not 0.
+fn bad_end(blocks: &[Option<Block>], zero: &Block, inode: &Inode) -> Option<u32>
+    requires zero { zero.now ≡ zeros }
+    requires form { IsInode inode.now }
+    ensures { MatchOption result (IsEnded blocks.now inode.now) (HasEndAt blocks.now inode.now) }
+{
+    let from = (inode.size % 4096) as usize;
+    if inode.kind != FILE || from == 0 {
+        return None;
+    }
+    let b = pointer_at(blocks, zero, inode, (inode.size / 4096) as u32);
+    let bytes = stored_block(blocks, zero, b).bytes();
+    for k in from..4096 {
+        if bytes[k] != 0 {
+            return Some(b);
+        }
+    }
+    None
+}
+
+pub fn check_ends(
+    geometry: Geometry,
+    blocks: &[Option<Block>],
+    zero: &Block,
+    inodes: &[Inode],
+) -> Result<(), MountRefusal>
+    requires zero { zero.now ≡ zeros }
+    requires inodes { inodes.now ≡ inodes_in geometry blocks.now }
+    requires table { IsTable geometry blocks.now }
+    ensures ok { IfOk result (λ _. AreEnded geometry blocks.now) }
+    ensures cause { IfErr result (Refuses geometry blocks.now) }
+{
+    for (i, inode) in inodes.iter().enumerate() {
+        if let Some(b) = bad_end(blocks, zero, inode) {
+            return Err(corrupt(CorruptCause::Tail, b));
+        }
+    }
+    Ok(())
+}

@@ -1,0 +1,35 @@
+// What holds of the trees of maps.
+ghost use Rattle.std.specs.Prelude.{◌≡◌, ◌<◌, ℕ, List, [], ◌∷◌, Option, Some, None};
+ghost use Rattle.mq_blocks.specs.Blocks.{block_at};
+ghost use Rattle.mq_blocks.specs.Geometry.{homes_of};
+ghost use Rattle.mq_blocks.specs.Machine.{Map};
+ghost use Rattle.mq_blocks.specs.declared.geometry.Geometry.{Geometry};
+ghost use Rattle.mq_layout.specs.Empty.{empty_block};
+ghost use Rattle.mq_tree.specs.Clean.{IsClean};
+ghost use Rattle.mq_tree.specs.Corrupt.{IsCorrupt};
+ghost use Rattle.mq_tree.specs.Decoded.{Stored, volume_in};
+ghost use Rattle.mq_tree.specs.Empty.{ArePages, empty_volume};
+ghost use Rattle.mq_tree.specs.Laid.{IsLaid, Laid, map_of};
+ghost use Rattle.mq_tree.specs.Volume.{ADir, Layout, Path, Things, Volume, tree};
+ghost use Rattle.mq_tree.specs.declared.corrupt.CorruptCause.{CorruptCause};
+
+/// A map has at most one volume, and so at most one tree, which lies on it in one way.
+pub fn one_tree()
+    ensures volume { (g : Geometry) (map : Map) (v w : Volume) → IsLaid g map v → IsLaid g map w → v ≡ w }
+    ensures tree { (g : Geometry) (map : Map) (t u : Things) (a c : Layout) → Laid g map t a → Laid g map u c → (path : Path) → (t path ≡ u path) × (a path ≡ c path) }
+{}
+
+/// The blocks of an empty file system have the tree with the root alone.
+pub fn empty_tree()
+    ensures laid { (g : Geometry) (stored : List (Option (List ℕ))) → ArePages stored → ((b : ℕ) → b < homes_of g → block_at stored b ≡ empty_block g b) → IsLaid g (map_of g stored) (empty_volume g) }
+    ensures root { (g : Geometry) → tree (empty_volume g) [] ≡ Some ADir }
+    ensures others { (g : Geometry) (name : List ℕ) (path : Path) → tree (empty_volume g) (name ∷ path) ≡ None }
+{}
+
+/// Stored blocks have a tree exactly where they are clean, and no cause holds at a block of clean ones.
+pub fn clean_blocks()
+    ensures laid { (g : Geometry) (s : Stored) → ArePages s → IsClean g s → IsLaid g (map_of g s) (volume_in g s) }
+    ensures clean { (g : Geometry) (s : Stored) (v : Volume) → ArePages s → IsLaid g (map_of g s) v → IsClean g s }
+    ensures only { (g : Geometry) (s : Stored) (v : Volume) → IsLaid g (map_of g s) v → volume_in g s ≡ v }
+    ensures corrupt { (g : Geometry) (s : Stored) (cause : CorruptCause) (b : ℕ) → IsCorrupt g s cause b → IsClean g s → ⊥ }
+{}
