@@ -43,15 +43,6 @@ IsAllowed e (HomeDone x) s = is_among x s.under ≡ true
 IsAllowed e (StoreBase b) s = MayStoreBase e s b
 IsAllowed e FlushBase s = Unit {0}
 
--- For now nothing is written directly or revoked by a drawn transaction.
-pub record IsAllLogged (t : Tx) : Type 0 where
-  pub direct : t.direct ≡ []
-  pub revoked : t.revoked ≡ []
-
-abbrev pub IsForNow : Event → Type 0
-IsForNow (Draw t) = IsAllLogged t
-IsForNow v = Unit {0}
-
 abbrev pub run : Entries → List Event → State → State
 run e [] s = s
 run e (v ∷ vs) s = run e vs (happens e v s)
