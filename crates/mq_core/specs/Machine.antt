@@ -1,14 +1,14 @@
 -- The machine: its events, where each is allowed, what each changes, and whole runs.
 use Rattle.std.specs.Prelude.{◌≡◌, ◌<◌, ◌≤◌, ℕ, zero, suc, true, List, [], ◌∷◌, slice_index_or}
 use Rattle.mq_blocks.specs.Journal.{is_among}
-use Rattle.mq_core.specs.Items.{Entries}
-use Rattle.mq_core.specs.State.{State, IsLawful, known_of, front_of, from_at, port_at}
-use Rattle.mq_core.specs.Events.{us_of, draw, stage, flush, ring, complete, fail_command, store_head, clear, acknowledge, write_home, home_done, store_base, flush_base, MayDraw, HasRoom, MayStage, MayFlush, MayRing, MayEnd, MayStoreHead, MayClear, MayWriteHome, MayStoreBase}
+use Rattle.mq_ledger.specs.Items.{Entries}
+use Rattle.mq_ledger.specs.State.{State, IsLawful, known_of, front_of, from_at, port_at}
+use Rattle.mq_ledger.specs.Known.{MayDraw}
+use Rattle.mq_core.specs.Events.{us_of, draw, stage, flush, ring, complete, fail_command, store_head, clear, acknowledge, write_home, home_done, store_base, flush_base, HasRoom, MayStage, MayFlush, MayRing, MayEnd, MayStoreHead, MayClear, MayWriteHome, MayStoreBase}
 pub use Rattle.mq_core.specs.declared.event.Event.{Event}
 use Rattle.mq_core.specs.declared.event.CoreRefusal.{CoreRefusal}
 use Rattle.mq_core.specs.declared.event.CoreRefusal.TheVariants.{NotAllowed, OutOfMemory}
 pub use Rattle.mq_core.specs.declared.event.Event.TheVariants.{Draw, Stage, Flush, Ring, Complete, FailCommand, StoreHead, FlushHead, Clear, Acknowledge, WriteHome, HomeDone, StoreBase, FlushBase}
-use Rattle.mq_core.specs.declared.tx.Tx.{Tx}
 
 abbrev pub happens : Entries → Event → State → State
 happens e (Draw t) s = draw t s

@@ -5,15 +5,14 @@ use Rattle.std.proofs.lemmas.List.Elements.{All-cons, All-nil}
 use Rattle.mq_blocks.specs.Drive.{PortState}
 use Rattle.mq_blocks.specs.Geometry.{homes_of}
 use Rattle.mq_blocks.specs.Machine.{write_of}
-use Rattle.mq_core.specs.Events.{MayDraw, draw_known}
+use Rattle.mq_ledger.specs.Known.{MayDraw, draw_known, Known}
+use Rattle.mq_ledger.specs.History.{writes, changes, of_queue, upto, last_logged}
+use Rattle.mq_ledger.specs.Items.{end_of, next}
+use Rattle.mq_ledger.specs.Sides.{SideOk}
+use Rattle.mq_ledger.specs.declared.tx.Tx.{Tx}
+use Rattle.mq_ledger.proofs.Values.{upto-past, last-changed, map_written}
+use Rattle.mq_ledger.proofs.Entries.{of_queue-own}
 use Rattle.mq_core.specs.Events as events
-use Rattle.mq_core.specs.History.{writes, changes, of_queue, upto, last_logged}
-use Rattle.mq_core.specs.Items.{end_of, next}
-use Rattle.mq_core.specs.Known.{Known}
-use Rattle.mq_core.specs.Sides.{SideOk}
-use Rattle.mq_core.specs.declared.tx.Tx.{Tx}
-use Rattle.mq_core.proofs.Values.{upto-past, last-changed, map_written}
-use Rattle.mq_core.proofs.Entries.{of_queue-own}
 use Rattle.mq_core.proofs.Growth.{front_low, side_drawn, side_extends}
 use Rattle.mq_pages.specs.declared.page.PageCell.{PageCell}
 use Rattle.mq_turns.specs.Desk.{IsTurn, slot_of, turn_at, Covers, Sees, Stands, Stay, after_draw, refreshed}
