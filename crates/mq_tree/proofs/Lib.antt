@@ -3,6 +3,9 @@ pub mod CleanLaid
 pub mod Decoding
 pub mod Empties
 pub mod Examples
+pub mod KeepFree
+pub mod KeepPaths
+pub mod KeepUses
 pub mod LaidClean
 pub mod Maps
 pub mod Naming
