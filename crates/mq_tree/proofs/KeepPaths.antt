@@ -146,11 +146,6 @@ leads-used v t (n ∷ q) i e =
 abbrev pub thing_at : Volume → Way → Option Thing
 thing_at v q = option_and_then (λ i. thing (body v i)) (inode_at v q)
 
-same-somes : (o p : Option ℕ) → ((x : ℕ) → o ≡ Some x → p ≡ Some x) → ((x : ℕ) → p ≡ Some x → o ≡ Some x) → o ≡ p
-same-somes None None f h = refl
-same-somes None (Some y) f h = h y refl
-same-somes (Some x) p f h = sym (f x refl)
-
 pub nothing-at : (v : Volume) (q : Way) → ((x : ℕ) → inode_at v q ≡ Some x → ⊥) → thing_at v q ≡ None
 nothing-at v q n = go (inode_at v q) refl
   where

@@ -3,7 +3,9 @@ pub mod CleanLaid
 pub mod Decoding
 pub mod Empties
 pub mod Examples
+pub mod KeepCut
 pub mod KeepFree
+pub mod KeepMake
 pub mod KeepPaths
 pub mod KeepUses
 pub mod LaidClean
