@@ -1,12 +1,12 @@
 -- A slot less, and with it the inode that it names. A file with other bytes.
-use Rattle.std.proofs.Common.{◌≡◌, ◌≢◌, ℕ, List, [], ◌∷◌, get_or, ◌⊎◌, inl, inr, true, refl, sym, ap, ◌∙◌}
-use Rattle.std.specs.Prelude.{Option, Some, None}
+use Rattle.std.proofs.Common.{◌≡◌, ◌≢◌, ℕ, List, [], ◌∷◌, inl, inr, refl, sym, ap, ◌∙◌}
+use Rattle.std.specs.Prelude.{Some, None}
 use Rattle.std.proofs.lemmas.Bool.{cases_eq}
 use Rattle.std.proofs.lemmas.Option.{none-some, same_Some}
 use Rattle.mq_layout.specs.Slots.{Entry}
-use Rattle.mq_tree.specs.Volume.{ADir, AFile, Thing, Volume, Way, body, inode_at, is_used, slot, thing}
+use Rattle.mq_tree.specs.Volume.{ADir, AFile, Volume, Way, body, inode_at, is_used, slot, thing}
 use Rattle.mq_tree.proofs.KeepMake.{Edit, none-used}
-use Rattle.mq_tree.proofs.KeepPaths.{AreNames, IsTree, Slots, last-step, leads-used, next-step, nothing-at, one-way, same-things, same-used, slots-names, slots-once, slots-used, thing-here, thing-used, thing_at}
+use Rattle.mq_tree.proofs.KeepPaths.{AreNames, IsTree, Slots, last-step, next-step, nothing-at, one-way, same-things, same-used, slots-names, slots-once, slots-used, thing-here, thing-used, thing_at}
 
 pub record IsCut (v w : Volume) (d k : ℕ) (e : Entry) : Type 0 where
   pub edit : Edit v w d k None e.inode None
@@ -39,8 +39,8 @@ cut-slots v w d k e g c = record {
   new_inode = λ x l y n a f p old kept same. p;
   new_used = λ x l a p. absurd p;
   old_used = λ x l f old kept.
-    let n = cut-other v w d k e g c x l f old (λ a b. kept (a, b)) in
-    same-used (body w f.inode) (body v f.inode) (c.edit.things f.inode n) ∙ (g.named x l f old).1;
+      let n = cut-other v w d k e g c x l f old (λ a b. kept (a, b)) in
+      same-used (body w f.inode) (body v f.inode) (c.edit.things f.inode n) ∙ (g.named x l f old).1;
 }
 
 cut-names : (v w : Volume) (d k : ℕ) (e : Entry) → IsTree v → IsCut v w d k e → AreNames w
@@ -101,8 +101,8 @@ cut-here v w d k e g c p at = nothing-at w (e.name ∷ p) (λ x is.
 pub cut-others : (v w : Volume) (d k : ℕ) (e : Entry) → IsTree v → IsCut v w d k e → (p : Way) → inode_at v p ≡ Some d → (q : Way) → q ≢ e.name ∷ p → thing_at w q ≡ thing_at v q
 cut-others v w d k e g c p at q other = same-things v w q q
     (λ x is.
-      let n : x ≢ e.inode = λ same. other (one-way v g.named g.once q (e.name ∷ p) e.inode (is ∙ ap (λ (j : ℕ). Some j) same) (cut-way v w d k e g c p at)) in
-      (cut-old v w d k e g c q x is n, c.edit.things x n))
+    let n : x ≢ e.inode = λ same. other (one-way v g.named g.once q (e.name ∷ p) e.inode (is ∙ ap (λ (j : ℕ). Some j) same) (cut-way v w d k e g c p at)) in
+    (cut-old v w d k e g c q x is n, c.edit.things x n))
     (λ x is. (cut-only v w d k e g c q x is).0)
 
 -- ---- other bytes

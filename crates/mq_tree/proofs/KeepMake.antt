@@ -1,6 +1,6 @@
 -- A slot more, which names an inode that was free.
 use Rattle.std.proofs.Common.{◌≡◌, ◌≢◌, ℕ, List, [], ◌∷◌, get_or, ◌⊎◌, inl, inr, true, refl, sym, ap, ◌∙◌}
-use Rattle.std.specs.Prelude.{Option, Some, None, option_and_then}
+use Rattle.std.specs.Prelude.{Option, Some, None}
 use Rattle.std.proofs.lemmas.Bool.{cases_eq, true≢false}
 use Rattle.std.proofs.lemmas.Option.{none-some, same_Some}
 use Rattle.mq_layout.specs.Slots.{Entry}
@@ -57,11 +57,13 @@ made-slots v w d k e t g m = record {
   ];
   new_once = λ x l y n a b p q. (p.0 ∙ sym q.0, p.1 ∙ sym q.1);
   new_name = λ x l n a f p old kept same.
-  find-missing e.name (slots_of (body v d)) m.missing n f (ap (λ (y : ℕ). slot v y n) (sym p.0) ∙ old) (sym same ∙ ap (λ (z : Entry). z.name) p.2);
+      find-missing e.name (slots_of (body v d)) m.missing n f (ap (λ (y : ℕ). slot v y n) (sym p.0) ∙ old) (sym same ∙ ap (λ (z : Entry). z.name) p.2);
   new_inode = λ x l y n a f p old kept same.
-  none-used v e.inode m.free (ap (λ (j : ℕ). is_used (body v j)) (ap (λ (z : Entry). z.inode) (sym p.2) ∙ same) ∙ (g.named y n f old).1);
-  new_used = λ x l a p. (λ zero. none-some ADir (sym m.free ∙ ap (λ (j : ℕ). thing (body v j)) (ap (λ (z : Entry). z.inode) (sym p.2) ∙ zero) ∙ g.root),
-    ap (λ (z : Entry). is_used (body w z.inode)) p.2 ∙ thing-used (body w e.inode) t m.edit.thing_here);
+      none-used v e.inode m.free (ap (λ (j : ℕ). is_used (body v j)) (ap (λ (z : Entry). z.inode) (sym p.2) ∙ same) ∙ (g.named y n f old).1);
+  new_used = λ x l a p. (
+    λ zero. none-some ADir (sym m.free ∙ ap (λ (j : ℕ). thing (body v j)) (ap (λ (z : Entry). z.inode) (sym p.2) ∙ zero) ∙ g.root),
+    ap (λ (z : Entry). is_used (body w z.inode)) p.2 ∙ thing-used (body w e.inode) t m.edit.thing_here,
+  );
   old_used = λ x l f old kept. made-used v w d k e t m f.inode (g.named x l f old).1;
 }
 

@@ -6,6 +6,7 @@ pub mod Examples
 pub mod KeepCut
 pub mod KeepFree
 pub mod KeepMake
+pub mod KeepMove
 pub mod KeepPaths
 pub mod KeepUses
 pub mod LaidClean
