@@ -7,8 +7,10 @@ pub mod KeepCut
 pub mod KeepFree
 pub mod KeepMake
 pub mod KeepMove
+pub mod KeepNodes
 pub mod KeepPaths
 pub mod KeepUses
+pub mod KeepVolumes
 pub mod LaidClean
 pub mod Maps
 pub mod Naming
