@@ -61,25 +61,25 @@ used-low v i u = elim (cases_lt i (length v)) [
 -- ---- one inode is changed
 
 -- the body of `d` is `b`, and those of the others are as they were
-record Bodies (v w : Volume) (d : ℕ) (b : Body) : Type 0 where
-  here : body w d ≡ b
-  rest : (x : ℕ) → x ≢ d → body w x ≡ body v x
+pub record Bodies (v w : Volume) (d : ℕ) (b : Body) : Type 0 where
+  pub here : body w d ≡ b
+  pub rest : (x : ℕ) → x ≢ d → body w x ≡ body v x
 
-bodies-set : (v : Volume) (i : ℕ) (n : Node) → i < length v → Bodies v (set v i n) i n.body
+pub bodies-set : (v : Volume) (i : ℕ) (n : Node) → i < length v → Bodies v (set v i n) i n.body
 bodies-set v i n l = record { here = ap (λ (m : Node). m.body) (node-here v i n l); rest = λ x other. ap (λ (m : Node). m.body) (node-other v i x n other) }
 
-nodes-set : (v : Volume) (i : ℕ) (n : Node) → i < length v → ((x : ℕ) → x ≢ i → IsNode (node v x)) → IsNode n → (x : ℕ) → IsNode (node (set v i n) x)
+pub nodes-set : (v : Volume) (i : ℕ) (n : Node) → i < length v → ((x : ℕ) → x ≢ i → IsNode (node v x)) → IsNode n → (x : ℕ) → IsNode (node (set v i n) x)
 nodes-set v i n l good fine x = elim (cases_eq x i) [
   | inl same ↦ subst (λ m. IsNode m) (sym (ap (λ (y : ℕ). node (set v i n) y) same ∙ node-here v i n l)) fine
   | inr other ↦ subst (λ m. IsNode m) (sym (node-other v i x n other)) (good x other)
 ]
 
 -- its blocks are some of those that it had
-record FewerBlocks (n m : Node) : Type 0 where
-  blocks : (k b : ℕ) → slice_get n.blocks k ≡ Some b → slice_get m.blocks k ≡ Some b
-  pointers : (b : ℕ) → n.indirect ≡ Some b → m.indirect ≡ Some b
+pub record FewerBlocks (n m : Node) : Type 0 where
+  pub blocks : (k b : ℕ) → slice_get n.blocks k ≡ Some b → slice_get m.blocks k ≡ Some b
+  pub pointers : (b : ℕ) → n.indirect ≡ Some b → m.indirect ≡ Some b
 
-within-set : (v : Volume) (i : ℕ) (n : Node) → i < length v → FewerBlocks n (node v i) → IsWithin (set v i n) v
+pub within-set : (v : Volume) (i : ℕ) (n : Node) → i < length v → FewerBlocks n (node v i) → IsWithin (set v i n) v
 within-set v i n l few (Part j k) b e = elim (cases_eq j i) [
   | inl same ↦
       let h : slice_get n.blocks k ≡ Some b = ap (λ (m : Node). slice_get m.blocks k) (sym (node-here v i n l)) ∙ ap (λ (y : ℕ). slice_get (node (set v i n) y).blocks k) (sym same) ∙ e in
@@ -94,12 +94,12 @@ within-set v i n l few (Pointers j) b e = elim (cases_eq j i) [
 ]
 
 -- slots and things where a directory has other slots
-record Slotted (v w : Volume) (d : ℕ) (new : List (Option Entry)) : Type 0 where
-  here : (l : ℕ) → slot w d l ≡ get_or new l None
-  rest : (x l : ℕ) → x ≢ d → slot w x l ≡ slot v x l
-  things : (x : ℕ) → thing (body w x) ≡ thing (body v x)
+pub record Slotted (v w : Volume) (d : ℕ) (new : List (Option Entry)) : Type 0 where
+  pub here : (l : ℕ) → slot w d l ≡ get_or new l None
+  pub rest : (x l : ℕ) → x ≢ d → slot w x l ≡ slot v x l
+  pub things : (x : ℕ) → thing (body w x) ≡ thing (body v x)
 
-slotted : (v w : Volume) (d : ℕ) (slots new : List (Option Entry)) → body v d ≡ Dir slots → Bodies v w d (Dir new) → Slotted v w d new
+pub slotted : (v w : Volume) (d : ℕ) (slots new : List (Option Entry)) → body v d ≡ Dir slots → Bodies v w d (Dir new) → Slotted v w d new
 slotted v w d slots new was h = record {
   here = λ l. ap (λ (b : Body). get_or (slots_of b) l None) h.here;
   rest = λ x l other. ap (λ (b : Body). get_or (slots_of b) l None) (h.rest x other);
@@ -110,10 +110,10 @@ slotted v w d slots new was h = record {
 }
 
 -- the slots of a directory, and those of another inode
-slot-in : (v : Volume) (d l : ℕ) (slots : List (Option Entry)) → body v d ≡ Dir slots → slot v d l ≡ get_or slots l None
+pub slot-in : (v : Volume) (d l : ℕ) (slots : List (Option Entry)) → body v d ≡ Dir slots → slot v d l ≡ get_or slots l None
 slot-in v d l slots is = ap (λ (b : Body). get_or (slots_of b) l None) is
 
-dir-node : (n : Node) (slots : List (Option Entry)) → n.body ≡ Dir slots → IsNode n → IsBody (Dir slots) (length n.blocks)
+pub dir-node : (n : Node) (slots : List (Option Entry)) → n.body ≡ Dir slots → IsNode n → IsBody (Dir slots) (length n.blocks)
 dir-node n slots is good = subst (λ b. IsBody b (length n.blocks)) is good.body
 
 -- ---- an entry more

@@ -3,12 +3,14 @@ pub mod CleanLaid
 pub mod Decoding
 pub mod Empties
 pub mod Examples
+pub mod KeepChanges
 pub mod KeepCut
 pub mod KeepFree
 pub mod KeepMake
 pub mod KeepMove
 pub mod KeepNodes
 pub mod KeepPaths
+pub mod KeepTargets
 pub mod KeepUses
 pub mod KeepVolumes
 pub mod LaidClean
