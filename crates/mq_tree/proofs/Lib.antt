@@ -12,6 +12,7 @@ pub mod KeepNodes
 pub mod KeepPaths
 pub mod KeepTargets
 pub mod KeepUses
+pub mod KeepVerdicts
 pub mod KeepVolumes
 pub mod LaidClean
 pub mod Maps
