@@ -10,6 +10,7 @@ pub mod KeepMake
 pub mod KeepMove
 pub mod KeepNodes
 pub mod KeepPaths
+pub mod KeepSound
 pub mod KeepTargets
 pub mod KeepUses
 pub mod KeepVerdicts
