@@ -28,7 +28,7 @@ refused-else : (b : Bool) (fault : Fault) (x : Verdict) (n : ℕ) (w : Volume) �
 refused-else true fault x n w e = says-makes _ n w e
 refused-else false fault x n w e = (refl, e)
 
-makes-then : (b : Bool) (fault : Fault) (x : Verdict) (n : ℕ) (w : Volume) → cond b x (refused fault) ≡ Makes n w → (b ≡ true) × (x ≡ Makes n w)
+pub makes-then : (b : Bool) (fault : Fault) (x : Verdict) (n : ℕ) (w : Volume) → cond b x (refused fault) ≡ Makes n w → (b ≡ true) × (x ≡ Makes n w)
 makes-then true fault x n w e = (refl, e)
 makes-then false fault x n w e = says-makes _ n w e
 

@@ -11,6 +11,7 @@ pub mod KeepMove
 pub mod KeepNodes
 pub mod KeepPaths
 pub mod KeepSound
+pub mod KeepSteps
 pub mod KeepTargets
 pub mod KeepUses
 pub mod KeepVerdicts
