@@ -5,6 +5,7 @@ pub mod Empties
 pub mod Examples
 pub mod KeepChanges
 pub mod KeepCut
+pub mod KeepExamples
 pub mod KeepFree
 pub mod KeepMake
 pub mod KeepMove
