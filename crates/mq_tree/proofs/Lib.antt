@@ -3,6 +3,7 @@ pub mod CleanLaid
 pub mod Decoding
 pub mod Empties
 pub mod Examples
+pub mod KeepAsks
 pub mod KeepChanges
 pub mod KeepCut
 pub mod KeepExamples

@@ -1,8 +1,14 @@
 -- What requests do to the tree, path by path.
-use Rattle.std.specs.Prelude.{◌≡◌, ◌≢◌, ℕ, List, [], ◌∷◌, ◌++◌, Some, None}
+use Rattle.std.specs.Prelude.{◌≡◌, ◌≢◌, ℕ, List, [], ◌∷◌, ◌++◌, length, Some, None, true}
 use Rattle.std.specs.Bool.{⊤}
+use Rattle.std.specs.Cmp.Lexicographic.{slice_cmp}
+use Rattle.std.specs.List.{Contains}
+use Rattle.std.specs.Ordering.{is_lt, nat_cmp}
+use Rattle.mq_blocks.specs.declared.geometry.Geometry.{Geometry}
+use Rattle.mq_tree.specs.Requests.{step}
 use Rattle.mq_tree.specs.Sound.{AreBytes}
 use Rattle.mq_tree.specs.Volume.{AFile, Path, Thing, Volume, tree}
+use Rattle.mq_tree.specs.declared.request.Reply.TheVariants.{Dir as Count, Names}
 use Rattle.mq_tree.specs.declared.request.Request.{Request}
 use Rattle.mq_tree.specs.declared.request.Request.TheVariants.{Mkdir, Create, Write, Truncate, Unlink, Rmdir, Rename, Read, List as ListOf, Stat}
 
@@ -58,3 +64,28 @@ pub record IsRenamed (v w : Volume) (from to : Path) : Type 0 where
   pub here : (below : Path) → tree w (to ++ below) ≡ tree v (from ++ below)
   pub gone : (below : Path) → tree w (from ++ below) ≡ None
   pub others : (other : Path) → IsApart other from → IsApart other to → tree w other ≡ tree v other
+
+-- ---- what is asked
+
+-- the first of these names, if there is one, comes after this one in the order of bytes
+abbrev pub IsBefore : List ℕ → List (List ℕ) → Type 0
+IsBefore name [] = ⊤
+IsBefore name (next ∷ names) = is_lt (slice_cmp nat_cmp name next) ≡ true
+
+-- in rising order of bytes, so none of them twice
+abbrev pub AreRising : List (List ℕ) → Type 0
+AreRising [] = ⊤
+AreRising (name ∷ names) = IsBefore name names × AreRising names
+
+-- just these names stand in the directory at the path
+pub record AreNamesAt (v : Volume) (path : Path) (names : List (List ℕ)) : Type 0 where
+  pub rising : AreRising names
+  pub found : (name : List ℕ) → Contains names name → (there : Thing) × (tree v (path ++ name ∷ []) ≡ Some there)
+  pub all : (name : List ℕ) (there : Thing) → tree v (path ++ name ∷ []) ≡ Some there → Contains names name
+
+-- the names in a directory are those that `List` answers, and `Stat` says how many there are
+pub record IsListed (g : Geometry) (queue : ℕ) (v : Volume) (path : Path) : Type 0 where
+  pub names : List (List ℕ)
+  pub at : AreNamesAt v path names
+  pub list : (step g queue v (ListOf path)).reply ≡ Names names
+  pub stat : (step g queue v (Stat path)).reply ≡ Count (length names)

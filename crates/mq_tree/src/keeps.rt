@@ -1,16 +1,17 @@
 // What requests keep, and what they do to the tree.
-ghost use Rattle.std.specs.Prelude.{◌≡◌, ◌<◌, ◌⊎◌, ℕ, true, false, List, [], Option};
-ghost use Rattle.std.specs.List.{All};
+ghost use Rattle.std.specs.Prelude.{◌≡◌, ◌<◌, ◌⊎◌, ℕ, true, false, List, [], length, take, drop, Some};
+ghost use Rattle.std.specs.List.{All, list_all};
 ghost use Rattle.mq_blocks.specs.Geometry.{queues_of};
 ghost use Rattle.mq_blocks.specs.declared.geometry.Geometry.{Geometry};
-ghost use Rattle.mq_tree.specs.Kept.{HasBytes, IsAdded, IsBare, IsRemoved, IsRenamed, IsRewritten};
+ghost use Rattle.mq_layout.specs.Names.{is_name};
+ghost use Rattle.mq_tree.specs.Kept.{HasBytes, IsAdded, IsBare, IsListed, IsRemoved, IsRenamed, IsRewritten};
 ghost use Rattle.mq_tree.specs.Requests.{after_group, cut_to, is_change, spliced, step};
 ghost use Rattle.mq_tree.specs.Sound.{AreBytes, IsSound};
-ghost use Rattle.mq_tree.specs.Volume.{ADir, AFile, Path, Volume};
+ghost use Rattle.mq_tree.specs.Volume.{ADir, AFile, Path, Volume, tree};
 ghost use Rattle.mq_tree.specs.declared.request.Fault.{Fault};
-ghost use Rattle.mq_tree.specs.declared.request.Reply.TheVariants.{Ok as Done, Refused};
+ghost use Rattle.mq_tree.specs.declared.request.Reply.TheVariants.{Ok as Done, Data, File as Size, Refused};
 ghost use Rattle.mq_tree.specs.declared.request.Request.{Request};
-ghost use Rattle.mq_tree.specs.declared.request.Request.TheVariants.{Mkdir, Create, Write, Truncate, Unlink, Rmdir, Rename};
+ghost use Rattle.mq_tree.specs.declared.request.Request.TheVariants.{Mkdir, Create, Write, Truncate, Unlink, Rmdir, Rename, Read, Stat};
 
 /// A sound volume stays sound under every request of every queue, and so under every group.
 pub fn a_group_keeps_a_volume_sound()
@@ -50,4 +51,11 @@ pub fn refusals_change_nothing()
     ensures refused { (g : Geometry) (queue : ℕ) (v : Volume) (r : Request) (fault : Fault) → (step g queue v r).reply ≡ Refused fault → (step g queue v r).next ≡ v }
     ensures reads { (g : Geometry) (queue : ℕ) (v : Volume) (r : Request) → is_change r ≡ false → (step g queue v r).next ≡ v }
     ensures answers { (g : Geometry) (queue : ℕ) (v : Volume) (r : Request) → is_change r ≡ true → ((step g queue v r).reply ≡ Done) ⊎ ((fault : Fault) × ((step g queue v r).reply ≡ Refused fault)) }
+{}
+
+/// `Read`, `Stat` and `List` answer what the tree has at their path.
+pub fn replies_are_those_of_the_tree()
+    ensures read { (g : Geometry) (queue : ℕ) (v : Volume) (path : Path) (at count : ℕ) (bytes : List ℕ) → IsSound g v → list_all is_name path ≡ true → tree v path ≡ Some (AFile bytes) → (step g queue v (Read path at count)).reply ≡ Data (take count (drop at bytes)) }
+    ensures size { (g : Geometry) (queue : ℕ) (v : Volume) (path : Path) (bytes : List ℕ) → IsSound g v → list_all is_name path ≡ true → tree v path ≡ Some (AFile bytes) → (step g queue v (Stat path)).reply ≡ Size (length bytes) }
+    ensures listed { (g : Geometry) (queue : ℕ) (v : Volume) (path : Path) → IsSound g v → list_all is_name path ≡ true → tree v path ≡ Some ADir → IsListed g queue v path }
 {}
