@@ -148,14 +148,14 @@ names-rising (Some e ∷ slots) once = insert-rising e.name (names_in slots) (na
     let s = once zero (suc f.place) e f.entry refl f.there (sym f.named) in
     absurd (omega arith))
 
-names-count : (slots : List (Option Entry)) → length (names_in slots) ≡ count_names slots
+pub names-count : (slots : List (Option Entry)) → length (names_in slots) ≡ count_names slots
 names-count [] = refl
 names-count (None ∷ slots) = names-count slots
 names-count (Some e ∷ slots) = insert-length e.name (names_in slots) ∙ ap (λ (n : ℕ). suc n) (names-count slots)
 
 -- ---- what a path that leads somewhere is asked
 
-file-bytes : (b : Body) (bytes : List ℕ) → thing b ≡ Some (AFile bytes) → b ≡ File bytes
+pub file-bytes : (b : Body) (bytes : List ℕ) → thing b ≡ Some (AFile bytes) → b ≡ File bytes
 file-bytes Free bytes e = absurd (none-some _ e)
 file-bytes (File old) bytes e = let h = same_Some (AFile old) (AFile bytes) e in let s : old ≡ bytes = cc in ap (λ (x : List ℕ). File x) s
 file-bytes (Dir slots) bytes e = absurd (dir-file bytes e)
@@ -181,7 +181,7 @@ asks-leads : (v : Volume) (reply : Body → Reply) (q : Way) (i : ℕ) → IsTre
 asks-leads v reply [] i t at = ap (λ (x : ℕ). Says (reply (body v x))) (same_Some 0 i at)
 asks-leads v reply (name ∷ q) i t at = let r = target-leads v name q i t at in ap (λ (x : Target). asks v reply x) r.1
 
-answers-says : (g : Geometry) (v : Volume) (good : Bool) (x : Verdict) (reply : Reply) → good ≡ true → x ≡ Says reply → (carried_out g v (cond good x (refused BadName))).reply ≡ reply
+pub answers-says : (g : Geometry) (v : Volume) (good : Bool) (x : Verdict) (reply : Reply) → good ≡ true → x ≡ Says reply → (carried_out g v (cond good x (refused BadName))).reply ≡ reply
 answers-says g v good x reply e f = ap (λ (b : Bool). (carried_out g v (cond b x (refused BadName))).reply) e ∙ ap (λ (y : Verdict). (carried_out g v y).reply) f
 
 -- the reply of a request whose path leads to an inode
@@ -204,7 +204,7 @@ stat-file g q v path bytes s good e =
 
 -- ---- directories
 
-names-at : (g : Geometry) (v : Volume) (path : Path) (i : ℕ) (slots : List (Option Entry)) → IsSound g v → inode_at v (way path) ≡ Some i → body v i ≡ Dir slots → AreNamesAt v path (names_in slots)
+pub names-at : (g : Geometry) (v : Volume) (path : Path) (i : ℕ) (slots : List (Option Entry)) → IsSound g v → inode_at v (way path) ≡ Some i → body v i ≡ Dir slots → AreNamesAt v path (names_in slots)
 names-at g v path i slots s at is =
     let t = sound-tree g v s in
     let same : slots_of (body v i) ≡ slots = ap (λ (b : Body). slots_of b) is in

@@ -7,11 +7,13 @@ pub mod KeepAsks
 pub mod KeepChanges
 pub mod KeepCut
 pub mod KeepExamples
+pub mod KeepFaults
 pub mod KeepFree
 pub mod KeepMake
 pub mod KeepMove
 pub mod KeepNodes
 pub mod KeepPaths
+pub mod KeepRefusals
 pub mod KeepSound
 pub mod KeepSteps
 pub mod KeepTargets

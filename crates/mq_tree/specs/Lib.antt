@@ -2,6 +2,7 @@ pub mod Clean
 pub mod Corrupt
 pub mod Decoded
 pub mod Empty
+pub mod Faults
 pub mod Free
 pub mod Kept
 pub mod Laid
