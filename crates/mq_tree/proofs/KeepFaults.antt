@@ -24,7 +24,7 @@ found-used v name d i t is =
     let f = find-found name (slots_of (body v d)) i is in
     ap (λ (x : ℕ). is_used (body v x)) (sym f.leads) ∙ (t.named d f.place f.entry f.there).1
 
-used-there : (b : Body) → is_used b ≡ true → (t : Thing) × (thing b ≡ Some t)
+pub used-there : (b : Body) → is_used b ≡ true → (t : Thing) × (thing b ≡ Some t)
 used-there Free e = absurd (cc)
 used-there (File bytes) e = (AFile bytes, refl)
 used-there (Dir slots) e = (ADir, refl)
@@ -153,7 +153,7 @@ abbrev pub IsView : Volume → Path → Target → Type 0
 IsView v path Root = path ≡ []
 IsView v path (Lost fault) = IsLost v path fault
 IsView v path (In d name None) = IsMissing v path
-IsView v path (In d name (Some i)) = (path ≢ []) × (tree v path ≡ thing (body v i)) × (is_used (body v i) ≡ true)
+IsView v path (In d name (Some i)) = (path ≢ []) × (inode_at v (way path) ≡ Some i) × (is_used (body v i) ≡ true)
 
 -- the path of a way
 path-of : (path : Path) (name : List ℕ) (q : Way) → way path ≡ name ∷ q → path ≡ reverse q ++ name ∷ []
@@ -188,7 +188,7 @@ view-in v path n q d t is at dir None found = record {
   nothing = tree-way v path (n ∷ q) is ∙ ap (λ (x : Option ℕ). option_and_then (λ i. thing (body v i)) x) (under-name v n q d None at found);
 }
 view-in v path n q d t is at dir (Some i) found =
-    (λ e. none-cons n q (ap (λ (p : Path). way p) (sym e) ∙ is), tree-way v path (n ∷ q) is ∙ thing-here v (n ∷ q) i (under-name v n q d (Some i) at found), found-used v n d i t found)
+    (λ e. none-cons n q (ap (λ (p : Path). way p) (sym e) ∙ is), ap (λ (w : Way). inode_at v w) is ∙ under-name v n q d (Some i) at found, found-used v n d i t found)
   where
     none-cons : (n : List ℕ) (r : Way) → [] ≡ n ∷ r → ⊥
     none-cons n r e = cc

@@ -96,7 +96,7 @@ bare-none g v path i slots s at is none name = go (tree v (path ++ name ∷ []))
         let n = names-count slots in
         absurd (omega arith)
 
-bare-count : (g : Geometry) (v : Volume) (path : Path) (i : ℕ) (slots : List (Option Entry)) → IsSound g v → inode_at v (way path) ≡ Some i → body v i ≡ Dir slots → IsBare v path → count_names slots ≡ 0
+pub bare-count : (g : Geometry) (v : Volume) (path : Path) (i : ℕ) (slots : List (Option Entry)) → IsSound g v → inode_at v (way path) ≡ Some i → body v i ≡ Dir slots → IsBare v path → count_names slots ≡ 0
 bare-count g v path i slots s at is bare = go (names_in slots) refl (names-at g v path i slots s at is)
   where
     go : (names : List (List ℕ)) → names_in slots ≡ names → AreNamesAt v path names → count_names slots ≡ 0

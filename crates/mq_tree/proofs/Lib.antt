@@ -12,6 +12,7 @@ pub mod KeepFree
 pub mod KeepMake
 pub mod KeepMove
 pub mod KeepNodes
+pub mod KeepOnly
 pub mod KeepPaths
 pub mod KeepRefusals
 pub mod KeepSound
