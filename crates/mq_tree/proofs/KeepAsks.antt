@@ -185,7 +185,7 @@ pub answers-says : (g : Geometry) (v : Volume) (good : Bool) (x : Verdict) (repl
 answers-says g v good x reply e f = ap (λ (b : Bool). (carried_out g v (cond b x (refused BadName))).reply) e ∙ ap (λ (y : Verdict). (carried_out g v y).reply) f
 
 -- the reply of a request whose path leads to an inode
-reads-leads : (g : Geometry) (q : ℕ) (v : Volume) (r : Request) (path : Path) (reply : Body → Reply) (i : ℕ) → IsTree v → is_named r ≡ true → act g q v r ≡ asks v reply (target v (way path)) → inode_at v (way path) ≡ Some i
+pub reads-leads : (g : Geometry) (q : ℕ) (v : Volume) (r : Request) (path : Path) (reply : Body → Reply) (i : ℕ) → IsTree v → is_named r ≡ true → act g q v r ≡ asks v reply (target v (way path)) → inode_at v (way path) ≡ Some i
     → (step g q v r).reply ≡ reply (body v i)
 unfolding step
 reads-leads g q v r path reply i t good is at = answers-says g v (is_named r) (act g q v r) (reply (body v i)) good (is ∙ asks-leads v reply (way path) i t at)

@@ -73,13 +73,13 @@ lost-target v path fault t l =
     go [] is more q e = absurd (more (same-way l.rest [] is))
     go (n ∷ r) is more q e = ap (λ (x : Result ℕ Fault). target_in v n x) (walk-on v r q fault e)
 
-pub missing-target : (v : Volume) (path : Path) → IsTree v → IsMissing v path → (d : ℕ) × (name : List ℕ) × (target v (way path) ≡ In d name None)
+pub missing-target : (v : Volume) (path : Path) → IsTree v → (m : IsMissing v path) → (d : ℕ) × (name : List ℕ) × (target v (way path) ≡ In d name None) × (inode_at v (way m.parent) ≡ Some d)
 missing-target v path t m =
     let d = thing-leads v m.parent ADir m.directory in
     let whole : way path ≡ m.name ∷ way m.parent = ap (λ (p : Path). way p) m.is ∙ way-append m.parent (m.name ∷ []) in
     let walked = leads-walk v (way m.parent) d.0 t d.1 d.2 in
     let none = nothing-found v m.name (way m.parent) d.0 t d.1 (sym (tree-way v path (m.name ∷ way m.parent) whole) ∙ m.nothing) in
-    (d.0, m.name, ap (λ (w : Way). target v w) whole ∙ ap (λ (r : Result ℕ Fault). target_in v m.name r) walked ∙ ap (λ (o : Option ℕ). In d.0 m.name o) none)
+    (d.0, m.name, ap (λ (w : Way). target v w) whole ∙ ap (λ (r : Result ℕ Fault). target_in v m.name r) walked ∙ ap (λ (o : Option ℕ). In d.0 m.name o) none, d.1)
 
 -- what stands at a path is at its target
 pub record IsThere (v : Volume) (path : Path) (t : Thing) : Type 0 where
@@ -152,7 +152,7 @@ walk-lost v (n ∷ q) fault t e = go (walk v q) refl e (λ f is. walk-lost v q f
 abbrev pub IsView : Volume → Path → Target → Type 0
 IsView v path Root = path ≡ []
 IsView v path (Lost fault) = IsLost v path fault
-IsView v path (In d name None) = IsMissing v path
+IsView v path (In d name None) = (m : IsMissing v path) × (inode_at v (way m.parent) ≡ Some d)
 IsView v path (In d name (Some i)) = (path ≢ []) × (inode_at v (way path) ≡ Some i) × (is_used (body v i) ≡ true)
 
 -- the path of a way
@@ -180,13 +180,16 @@ view-lost v path n q fault is l =
     cons-none n r e = cc
 
 view-in : (v : Volume) (path : Path) (n : List ℕ) (q : Way) (d : ℕ) → IsTree v → way path ≡ n ∷ q → inode_at v q ≡ Some d → thing (body v d) ≡ Some ADir → (o : Option ℕ) → find n (slots_of (body v d)) ≡ o → IsView v path (In d n o)
-view-in v path n q d t is at dir None found = record {
-  parent = reverse q;
-  name = n;
-  is = path-of path n q is;
-  directory = tree-back v q ∙ thing-here v q d at ∙ dir;
-  nothing = tree-way v path (n ∷ q) is ∙ ap (λ (x : Option ℕ). option_and_then (λ i. thing (body v i)) x) (under-name v n q d None at found);
-}
+view-in v path n q d t is at dir None found = (
+  record {
+    parent = reverse q;
+    name = n;
+    is = path-of path n q is;
+    directory = tree-back v q ∙ thing-here v q d at ∙ dir;
+    nothing = tree-way v path (n ∷ q) is ∙ ap (λ (x : Option ℕ). option_and_then (λ i. thing (body v i)) x) (under-name v n q d None at found);
+  },
+  ap (λ (w : Way). inode_at v w) (reverse-reverse q) ∙ at,
+)
 view-in v path n q d t is at dir (Some i) found =
     (λ e. none-cons n q (ap (λ (p : Path). way p) (sym e) ∙ is), ap (λ (w : Way). inode_at v w) is ∙ under-name v n q d (Some i) at found, found-used v n d i t found)
   where

@@ -1,11 +1,14 @@
 -- Where a request is refused, the tree says so, or there is no room.
-use Rattle.std.proofs.Common.{◌≡◌, ◌≢◌, ℕ, ◌+◌, ◌<◌, ◌⊎◌, inl, inr, List, [], length, Bool, true, false, cond, refl, sym, ap, subst, ◌∙◌}
+use Rattle.std.proofs.Common.{◌≡◌, ◌≢◌, ℕ, ◌+◌, ◌<◌, ◌≤◌, ◌⊎◌, inl, inr, List, [], ◌∷◌, length, Bool, true, false, cond, refl, sym, ap, subst, ◌∙◌, arith}
 use Rattle.std.specs.Prelude.{Option, Some, None, nat_eq, nat_le, nat_lt}
-use Rattle.std.proofs.lemmas.Bool.{cond-true, eqb-false, ltb-true, true≢false}
+use Rattle.std.specs.List.{list_all}
+use Rattle.std.proofs.lemmas.List.Folds.{list_all-append}
+use Rattle.std.proofs.lemmas.Bool.{and_parts, cond-false, cond-true, eqb-false, false_from_ne_true, le-leb, leb-false, leb-true, lt-ltb, ltb-true, true≢false}
 use Rattle.mq_blocks.specs.declared.geometry.Geometry.{Geometry}
+use Rattle.mq_layout.specs.Names.{is_name}
 use Rattle.mq_layout.specs.Places.{file_limit, names_limit}
 use Rattle.mq_layout.specs.Slots.{Entry}
-use Rattle.mq_tree.specs.Faults.{IsAddFault, IsDirFault, IsFault, IsFileFault, IsFull, IsLost, IsMoveFault, IsRenameFault, IsRmdirFault, IsSizeFault, IsUnfound}
+use Rattle.mq_tree.specs.Faults.{IsAddFault, IsAddFull, IsAddRoomFault, IsDirFault, IsFault, IsFileFault, IsFull, IsFullDir, IsLost, IsMissing, IsMoveFault, IsRenameFault, IsRmdirFault, IsSizeFault, IsSpaceFault, IsTargetFull, IsUnfound}
 use Rattle.mq_tree.specs.Free.{first_free, free_blocks}
 use Rattle.mq_tree.specs.Kept.{IsBare}
 use Rattle.mq_tree.specs.Requests.{Root, Lost, In, Outcome, Target, Verdict, Says, Makes, act, asks, carried_out, count_names, cut_to, freed, is_below, is_named, list_in, make, make_free, move, read_in, refused, rename, rmdir, rmdir_in, set_bytes, spliced, stat_in, step, target, truncate, truncate_in, unlink, unlink_in, unlinked, verdict, write, write_in}
@@ -17,9 +20,12 @@ use Rattle.mq_tree.specs.declared.request.Reply.{Reply}
 use Rattle.mq_tree.specs.declared.request.Reply.TheVariants.{Ok as Done, Data, Names, File as Size, Dir as Count, Refused}
 use Rattle.mq_tree.specs.declared.request.Request.{Request}
 use Rattle.mq_tree.specs.declared.request.Request.TheVariants.{Mkdir, Create, Write, Truncate, Unlink, Rmdir, Rename, Read, List as ListOf, Stat}
-use Rattle.mq_tree.proofs.KeepFaults.{IsView, target-view, used-there}
+use Rattle.mq_tree.proofs.KeepAsks.{answers-says, reads-leads}
+use Rattle.mq_tree.proofs.KeepFaults.{IsView, missing-target, target-view, used-there}
 use Rattle.mq_tree.proofs.KeepPaths.{IsTree, thing-here}
 use Rattle.mq_tree.proofs.KeepRefusals.{bare-count}
+use Rattle.mq_tree.proofs.KeepSteps.{asks-makes}
+use Rattle.mq_tree.proofs.KeepVerdicts.{makes-parts, makes-then, says-makes}
 use Rattle.mq_tree.proofs.KeepVolumes.{dir-slots, sound-tree}
 
 -- ---- verdicts that refuse
@@ -54,14 +60,14 @@ target-only : (v : Volume) (p : Path) (fault : Fault) (verdict_on : Target → V
     → (t : Target) → IsView v p t → verdict_on t ≡ refused fault → IsUnfound v p fault ⊎ P
 target-only v p fault verdict_on P lost missing root there Root view e = inr (root view e)
 target-only v p fault verdict_on P lost missing root there (Lost f) view e = inl (inl (lost-same v p f fault view (same-refused f fault (sym (lost f) ∙ e))))
-target-only v p fault verdict_on P lost missing root there (In d name None) view e = inl (inr (view, same-refused NotFound fault (sym (missing d name) ∙ e)))
+target-only v p fault verdict_on P lost missing root there (In d name None) view e = inl (inr (view.0, same-refused NotFound fault (sym (missing d name) ∙ e)))
 target-only v p fault verdict_on P lost missing root there (In d name (Some i)) view e = inr (there d name i view.0 view.1 view.2 e)
 
 add-only : (v : Volume) (p : Path) (fault : Fault) (verdict_on : Target → Verdict) (Q : Type 0) → IsTree v → verdict_on Root ≡ refused Exists → ((f : Fault) → verdict_on (Lost f) ≡ refused f) → ((d : ℕ) (name : List ℕ) (i : ℕ) → verdict_on (In d name (Some i)) ≡ refused Exists)
-    → ((d : ℕ) (name : List ℕ) → verdict_on (In d name None) ≡ refused fault → Q) → (t : Target) → IsView v p t → verdict_on t ≡ refused fault → IsAddFault v p fault ⊎ Q
+    → ((d : ℕ) (name : List ℕ) → IsView v p (In d name None) → verdict_on (In d name None) ≡ refused fault → Q) → (t : Target) → IsView v p t → verdict_on t ≡ refused fault → IsAddFault v p fault ⊎ Q
 add-only v p fault verdict_on Q k root lost there missing Root view e = inl (inr (ADir, root-tree v p k view, same-refused Exists fault (sym root ∙ e)))
 add-only v p fault verdict_on Q k root lost there missing (Lost f) view e = inl (inl (lost-same v p f fault view (same-refused f fault (sym (lost f) ∙ e))))
-add-only v p fault verdict_on Q k root lost there missing (In d name None) view e = inr (missing d name e)
+add-only v p fault verdict_on Q k root lost there missing (In d name None) view e = inr (missing d name view e)
 add-only v p fault verdict_on Q k root lost there missing (In d name (Some i)) view e =
     let u = used-there (body v i) view.2 in
     inl (inr (u.0, thing-here v (way p) i view.1 ∙ u.1, same-refused Exists fault (sym (there d name i) ∙ e)))
@@ -72,18 +78,60 @@ body-tree v p i b at is = thing-here v (way p) i at ∙ ap (λ (x : Body). thing
 
 -- ---- each request
 
-make-only : (g : Geometry) (q : ℕ) (v : Volume) (new : Body) (r : Request) (p : Path) (fault : Fault) → IsTree v → make g q v new (target v (way p)) ≡ refused fault → IsAddFault v p fault ⊎ IsFull g q v r fault
-make-only g q v new r p fault k e = add-only v p fault (λ t. make g q v new t) (IsFull g q v r fault) k refl (λ f. refl) (λ d name i. refl) room (target v (way p)) (target-view v p k) e
+-- what `Stat` answers at a directory
+stat-count : (g : Geometry) (q : ℕ) (v : Volume) (p : Path) (d : ℕ) → IsTree v → list_all is_name p ≡ true → inode_at v (way p) ≡ Some d → tree v p ≡ Some ADir → (step g q v (Stat p)).reply ≡ Count (count_names (slots_of (body v d)))
+stat-count g q v p d k good at dir =
+    let s = dir-slots (body v d) (sym (thing-here v (way p) d at) ∙ dir) in
+    reads-leads g q v (Stat p) p stat_in d k good refl at ∙ ap (λ (b : Body). stat_in b) s.1 ∙ ap (λ (b : Body). Count (count_names (slots_of b))) (sym s.1)
+
+-- the names of a directory are good where those of a path in it are
+parent-good : (v : Volume) (p : Path) (m : IsMissing v p) → list_all is_name p ≡ true → list_all is_name m.parent ≡ true
+parent-good v p m good = (and_parts (list_all is_name m.parent) (list_all is_name (m.name ∷ [])) (sym (list_all-append is_name m.parent (m.name ∷ [])) ∙ ap (λ (x : Path). list_all is_name x) (sym m.is) ∙ good)).0
+
+same-count : (m n : ℕ) → Count m ≡ Count n → m ≡ n
+same-count m n e = cc
+
+-- a directory is full just where it has so many names
+full-dir : (g : Geometry) (q : ℕ) (v : Volume) (p : Path) (d : ℕ) → IsTree v → list_all is_name p ≡ true → inode_at v (way p) ≡ Some d → tree v p ≡ Some ADir → IsFullDir g q v p → names_limit ≤ count_names (slots_of (body v d))
+full-dir g q v p d k good at dir f =
+    let e = same-count f.0 (count_names (slots_of (body v d))) (sym f.1 ∙ stat-count g q v p d k good at dir) in
+    let l = f.2 in
+    omega arith
+
+make-only : (g : Geometry) (q : ℕ) (v : Volume) (new : Body) (p : Path) (fault : Fault) → IsTree v → list_all is_name p ≡ true → make g q v new (target v (way p)) ≡ refused fault → IsAddFault v p fault ⊎ IsAddFull g q v p fault
+make-only g q v new p fault k good e = add-only v p fault (λ t. make g q v new t) (IsAddFull g q v p fault) k refl (λ f. refl) (λ d name i. refl) room (target v (way p)) (target-view v p k) e
   where
-    no-inode : (d : ℕ) (name : List ℕ) (o : Option ℕ) → first_free 0 v ≡ o → make_free g q v new d name o ≡ refused fault → IsFull g q v r fault
-    no-inode d name None is h = inr (inl (same-refused NoInodes fault h, is))
+    no-inode : (d : ℕ) (name : List ℕ) (o : Option ℕ) → first_free 0 v ≡ o → make_free g q v new d name o ≡ refused fault → (first_free 0 v ≡ None) × (fault ≡ NoInodes)
+    no-inode d name None is h = (is, same-refused NoInodes fault h)
     no-inode d name (Some i) is h = makes-refused _ _ fault h
 
-    room : (d : ℕ) (name : List ℕ) → make g q v new (In d name None) ≡ refused fault → IsFull g q v r fault
-    room d name h = elim (cond-refused (nat_le names_limit (count_names (slots_of (body v d)))) TooBig (make_free g q v new d name (first_free 0 v)) fault h) [
-      | inl big ↦ inl big.1
-      | inr rest ↦ no-inode d name (first_free 0 v) refl rest.1
-    ]
+    room : (d : ℕ) (name : List ℕ) → IsView v p (In d name None) → make g q v new (In d name None) ≡ refused fault → IsAddFull g q v p fault
+    room d name view h =
+        let m = view.0 in
+        let names = count_names (slots_of (body v d)) in
+        let fine = parent-good v p m good in
+        elim (cond-refused (nat_le names_limit names) TooBig (make_free g q v new d name (first_free 0 v)) fault h) [
+          | inl big ↦ (m, inl ((names, stat-count g q v m.parent d k fine view.1 m.directory, leb-true names_limit names big.0), big.1))
+          | inr rest ↦
+              let few = leb-false names_limit names rest.0 in
+              let n = no-inode d name (first_free 0 v) refl rest.1 in
+              (m, inr (λ f. let l = full-dir g q v m.parent d k fine view.1 m.directory f in absurd (omega arith), n.0, n.1))
+        ]
+
+-- the other way round
+make-full : (g : Geometry) (q : ℕ) (v : Volume) (new : Body) (p : Path) (fault : Fault) → IsTree v → list_all is_name p ≡ true → IsAddFull g q v p fault → make g q v new (target v (way p)) ≡ refused fault
+make-full g q v new p fault k good f = go f.0 f.1
+  where
+    go : (m : IsMissing v p) → IsAddRoomFault g q v m.parent fault → make g q v new (target v (way p)) ≡ refused fault
+    go m (inl big) =
+        let r = missing-target v p k m in
+        let l = full-dir g q v m.parent r.0 k (parent-good v p m good) r.3 m.directory big.0 in
+        ap (λ (t : Target). make g q v new t) r.2 ∙ cond-true (nat_le names_limit (count_names (slots_of (body v r.0)))) _ _ (le-leb names_limit (count_names (slots_of (body v r.0))) l) ∙ ap (λ (x : Fault). refused x) (sym big.1)
+    go m (inr none) =
+        let r = missing-target v p k m in
+        let names = count_names (slots_of (body v r.0)) in
+        let few : nat_le names_limit names ≡ false = false_from_ne_true (nat_le names_limit names) (λ y. none.0 (names, stat-count g q v m.parent r.0 k (parent-good v p m good) r.3 m.directory, leb-true names_limit names y)) in
+        ap (λ (t : Target). make g q v new t) r.2 ∙ cond-false (nat_le names_limit names) _ _ few ∙ ap (λ (o : Option ℕ). make_free g q v new r.0 r.1 o) none.1 ∙ ap (λ (x : Fault). refused x) (sym none.2)
 
 -- a fault of the size, or that a directory is there
 abbrev IsBytesFault : Volume → Path → ℕ → Fault → Type 0
@@ -138,13 +186,13 @@ rmdir-only g v p fault s e = order (target-only v p fault (λ t. rmdir v t) (((p
 
 -- it is refused by the tree, or the target directory has no room
 abbrev IsMoveOnly : Volume → Path → Path → Fault → Type 0
-IsMoveOnly v from to fault = ((from ≡ []) × (fault ≡ Subtree)) ⊎ (((there : Thing) × (from ≢ []) × (tree v from ≡ Some there) × IsMoveFault v from to fault) ⊎ (fault ≡ TooBig))
+IsMoveOnly v from to fault = ((from ≡ []) × (fault ≡ Subtree)) ⊎ (((there : Thing) × (from ≢ []) × (tree v from ≡ Some there) × IsMoveFault v from to fault) ⊎ (IsMissing v to × (fault ≡ TooBig)))
 
-rename-only : (g : Geometry) (q : ℕ) (v : Volume) (from to : Path) (fault : Fault) → IsTree v → rename g q v from to (target v (way from)) ≡ refused fault → IsRenameFault v from to fault ⊎ (fault ≡ TooBig)
+rename-only : (g : Geometry) (q : ℕ) (v : Volume) (from to : Path) (fault : Fault) → IsTree v → rename g q v from to (target v (way from)) ≡ refused fault → IsRenameFault v from to fault ⊎ (IsMissing v to × (fault ≡ TooBig))
 rename-only g q v from to fault k e = order (target-only v from fault (λ t. rename g q v from to t) (IsMoveOnly v from to fault) (λ f. refl) (λ d name. refl) (λ is h. inl (is, same-refused Subtree fault h)) there (target v (way from)) (target-view v from k) e)
   where
-    room : (u : Volume) (i d : ℕ) (name : List ℕ) → move g q u i (In d name None) ≡ refused fault → fault ≡ TooBig
-    room u i d name h = elim (cond-refused (nat_le names_limit (count_names (slots_of (body u d)))) TooBig _ fault h) [ inl big ↦ big.1 | inr made ↦ makes-refused _ _ fault made.1 ]
+    room : (u : Volume) (i d : ℕ) (name : List ℕ) → IsView v to (In d name None) → move g q u i (In d name None) ≡ refused fault → IsMissing v to × (fault ≡ TooBig)
+    room u i d name view h = elim (cond-refused (nat_le names_limit (count_names (slots_of (body u d)))) TooBig _ fault h) [ inl big ↦ (view.0, big.1) | inr made ↦ makes-refused _ _ fault made.1 ]
 
     there : (d : ℕ) (name : List ℕ) (i : ℕ) → from ≢ [] → inode_at v (way from) ≡ Some i → is_used (body v i) ≡ true → rename g q v from to (In d name (Some i)) ≡ refused fault → IsMoveOnly v from to fault
     there d name i some at used h =
@@ -153,13 +201,13 @@ rename-only g q v from to fault k e = order (target-only v from fault (λ t. ren
         let is = thing-here v (way from) i at ∙ t.1 in
         elim (cond-refused (is_below from to) Subtree (move g q u i (target v (way to))) fault h) [
           | inl below ↦ inr (inl (t.0, some, is, inl below))
-          | inr apart ↦ elim (add-only v to fault (λ x. move g q u i x) (fault ≡ TooBig) k refl (λ f. refl) (λ c new j. refl) (room u i) (target v (way to)) (target-view v to k) apart.1) [
+          | inr apart ↦ elim (add-only v to fault (λ x. move g q u i x) (IsMissing v to × (fault ≡ TooBig)) k refl (λ f. refl) (λ c new j. refl) (room u i) (target v (way to)) (target-view v to k) apart.1) [
             | inl add ↦ inr (inl (t.0, some, is, inr (apart.0, add)))
             | inr big ↦ inr (inr big)
           ]
         ]
 
-    order : IsUnfound v from fault ⊎ IsMoveOnly v from to fault → IsRenameFault v from to fault ⊎ (fault ≡ TooBig)
+    order : IsUnfound v from fault ⊎ IsMoveOnly v from to fault → IsRenameFault v from to fault ⊎ (IsMissing v to × (fault ≡ TooBig))
     order (inl u) = inl (inr (inl u))
     order (inr (inl r)) = inl (inl r)
     order (inr (inr (inl m))) = inl (inr (inr m))
@@ -205,17 +253,89 @@ stat-body v p fault i (Dir slots) leads used is e = count-refused _ fault e
 
 -- ---- all of them
 
-act-only : (g : Geometry) (q : ℕ) (v : Volume) (r : Request) (fault : Fault) → IsSound g v → act g q v r ≡ refused fault → IsFault v r fault ⊎ IsFull g q v r fault
-act-only g q v (Mkdir p) fault s e = make-only g q v (Dir []) (Mkdir p) p fault (sound-tree g v s) e
-act-only g q v (Create p) fault s e = make-only g q v (File []) (Create p) p fault (sound-tree g v s) e
-act-only g q v (Write p at bytes) fault s e = inl (write-only g q v p at bytes fault (sound-tree g v s) e)
-act-only g q v (Truncate p size) fault s e = inl (truncate-only g q v p size fault (sound-tree g v s) e)
-act-only g q v (Unlink p) fault s e = inl (unlink-only v p fault (sound-tree g v s) e)
-act-only g q v (Rmdir p) fault s e = inl (rmdir-only g v p fault s e)
-act-only g q v (Rename p to) fault s e = elim (rename-only g q v p to fault (sound-tree g v s) e) [ inl f ↦ inl f | inr big ↦ inr (inl big) ]
-act-only g q v (Read p at count) fault s e = inl (asks-only v p fault (read_in at count) (IsDirFault v p fault) (sound-tree g v s) (λ i b leads used is h. read-body v p fault at count i b leads used is h) e)
-act-only g q v (ListOf p) fault s e = inl (asks-only v p fault list_in (IsFileFault v p fault) (sound-tree g v s) (λ i b leads used is h. list-body v p fault i b leads used is h) e)
-act-only g q v (Stat p) fault s e = elim (asks-only v p fault stat_in ⊥ (sound-tree g v s) (λ i b leads used is h. stat-body v p fault i b leads used is h) e) [ inl u ↦ inl u | inr never ↦ absurd never ]
+-- what refuses a request before its blocks are counted
+abbrev IsEarly : Geometry → ℕ → Volume → Request → Fault → Type 0
+IsEarly g q v (Mkdir p) fault = IsAddFault v p fault ⊎ IsAddFull g q v p fault
+IsEarly g q v (Create p) fault = IsAddFault v p fault ⊎ IsAddFull g q v p fault
+IsEarly g q v (Write p at bytes) fault = IsSizeFault v p (at + length bytes) fault
+IsEarly g q v (Truncate p size) fault = IsSizeFault v p size fault
+IsEarly g q v (Unlink p) fault = IsUnfound v p fault ⊎ IsDirFault v p fault
+IsEarly g q v (Rmdir p) fault = IsRmdirFault v p fault
+IsEarly g q v (Rename p to) fault = IsRenameFault v p to fault ⊎ (IsMissing v to × (fault ≡ TooBig))
+IsEarly g q v (Read p at count) fault = IsUnfound v p fault ⊎ IsDirFault v p fault
+IsEarly g q v (ListOf p) fault = IsUnfound v p fault ⊎ IsFileFault v p fault
+IsEarly g q v (Stat p) fault = IsUnfound v p fault
+
+act-early : (g : Geometry) (q : ℕ) (v : Volume) (r : Request) (fault : Fault) → IsSound g v → is_named r ≡ true → act g q v r ≡ refused fault → IsEarly g q v r fault
+act-early g q v (Mkdir p) fault s good e = make-only g q v (Dir []) p fault (sound-tree g v s) good e
+act-early g q v (Create p) fault s good e = make-only g q v (File []) p fault (sound-tree g v s) good e
+act-early g q v (Write p at bytes) fault s good e = write-only g q v p at bytes fault (sound-tree g v s) e
+act-early g q v (Truncate p size) fault s good e = truncate-only g q v p size fault (sound-tree g v s) e
+act-early g q v (Unlink p) fault s good e = unlink-only v p fault (sound-tree g v s) e
+act-early g q v (Rmdir p) fault s good e = rmdir-only g v p fault s e
+act-early g q v (Rename p to) fault s good e = rename-only g q v p to fault (sound-tree g v s) e
+act-early g q v (Read p at count) fault s good e = asks-only v p fault (read_in at count) (IsDirFault v p fault) (sound-tree g v s) (λ i b leads used is h. read-body v p fault at count i b leads used is h) e
+act-early g q v (ListOf p) fault s good e = asks-only v p fault list_in (IsFileFault v p fault) (sound-tree g v s) (λ i b leads used is h. list-body v p fault i b leads used is h) e
+act-early g q v (Stat p) fault s good e = elim (asks-only v p fault stat_in ⊥ (sound-tree g v s) (λ i b leads used is h. stat-body v p fault i b leads used is h) e) [ inl u ↦ u | inr never ↦ absurd never ]
+
+-- the tree says so, or there is no room
+abbrev IsSaid : Geometry → ℕ → Volume → Request → Fault → Type 0
+IsSaid g q v r fault = IsFault v r fault ⊎ (IsFull g q v r fault ⊎ IsTargetFull v r fault)
+
+early-said : (g : Geometry) (q : ℕ) (v : Volume) (r : Request) (fault : Fault) → IsEarly g q v r fault → IsSaid g q v r fault
+early-said g q v (Mkdir p) fault (inl f) = inl f
+early-said g q v (Mkdir p) fault (inr f) = inr (inl (inl f))
+early-said g q v (Create p) fault (inl f) = inl f
+early-said g q v (Create p) fault (inr f) = inr (inl (inl f))
+early-said g q v (Write p at bytes) fault f = inl f
+early-said g q v (Truncate p size) fault f = inl f
+early-said g q v (Unlink p) fault f = inl f
+early-said g q v (Rmdir p) fault f = inl f
+early-said g q v (Rename p to) fault (inl f) = inl f
+early-said g q v (Rename p to) fault (inr f) = inr (inr f)
+early-said g q v (Read p at count) fault f = inl f
+early-said g q v (ListOf p) fault f = inl f
+early-said g q v (Stat p) fault f = inl f
+
+-- ---- blocks
+
+-- no request without new blocks needs more than are free
+no-blocks : (g : Geometry) (v : Volume) (n : ℕ) → n ≡ 0 → free_blocks g v < n → ⊥
+no-blocks g v n e l = omega arith
+
+unlink-blocks : (v : Volume) (t : Target) (n : ℕ) (w : Volume) → unlink v t ≡ Makes n w → n ≡ 0
+unlink-blocks v Root n w e = says-makes _ n w e
+unlink-blocks v (Lost fault) n w e = says-makes _ n w e
+unlink-blocks v (In d name None) n w e = says-makes _ n w e
+unlink-blocks v (In d name (Some i)) n w e = go (body v i) e
+  where
+    go : (b : Body) → unlink_in v d name i b ≡ Makes n w → n ≡ 0
+    go Free h = says-makes _ n w h
+    go (File old) h = (makes-parts 0 n (freed (unlinked v d name) i) w h).0
+    go (Dir slots) h = says-makes _ n w h
+
+rmdir-blocks : (v : Volume) (t : Target) (n : ℕ) (w : Volume) → rmdir v t ≡ Makes n w → n ≡ 0
+rmdir-blocks v Root n w e = says-makes _ n w e
+rmdir-blocks v (Lost fault) n w e = says-makes _ n w e
+rmdir-blocks v (In d name None) n w e = says-makes _ n w e
+rmdir-blocks v (In d name (Some i)) n w e = go (body v i) e
+  where
+    go : (b : Body) → rmdir_in v d name i b ≡ Makes n w → n ≡ 0
+    go Free h = says-makes _ n w h
+    go (File old) h = says-makes _ n w h
+    go (Dir slots) h = let r = makes-then (nat_eq (count_names slots) 0) NotEmpty (Makes 0 (freed (unlinked v d name) i)) n w h in (makes-parts 0 n (freed (unlinked v d name) i) w r.1).0
+
+space-said : (g : Geometry) (q : ℕ) (v : Volume) (r : Request) (fault : Fault) → IsSpaceFault g q v r fault → IsFull g q v r fault
+space-said g q v (Mkdir p) fault f = inr f
+space-said g q v (Create p) fault f = inr f
+space-said g q v (Write p at bytes) fault f = f
+space-said g q v (Truncate p size) fault f = f
+space-said g q v (Unlink p) fault f = no-blocks g v f.0 (unlink-blocks v (target v (way p)) f.0 f.1 f.2) f.3
+space-said g q v (Rmdir p) fault f = no-blocks g v f.0 (rmdir-blocks v (target v (way p)) f.0 f.1 f.2) f.3
+space-said g q v (Rename p to) fault f = f
+space-said g q v (Read p at count) fault f = asks-makes v (read_in at count) (target v (way p)) f.0 f.1 f.2
+space-said g q v (ListOf p) fault f = asks-makes v list_in (target v (way p)) f.0 f.1 f.2
+space-said g q v (Stat p) fault f = asks-makes v stat_in (target v (way p)) f.0 f.1 f.2
 
 done-refused : {R : Type 0} (fault : Fault) → Done ≡ Refused fault → R
 done-refused fault e = absurd (cc)
@@ -223,19 +343,49 @@ done-refused fault e = absurd (cc)
 abbrev outcome : Bool → Volume → Volume → Outcome
 outcome full v w = cond full (record { reply = Refused NoSpace; next = v }) (record { reply = Done; next = w })
 
-carried-only : (g : Geometry) (v : Volume) (x : Verdict) (fault : Fault) → (carried_out g v x).reply ≡ Refused fault → (x ≡ refused fault) ⊎ ((fault ≡ NoSpace) × (n : ℕ) × (w : Volume) × (x ≡ Makes n w) × (free_blocks g v < n))
+carried-only : (g : Geometry) (v : Volume) (x : Verdict) (fault : Fault) → (carried_out g v x).reply ≡ Refused fault → (x ≡ refused fault) ⊎ ((n : ℕ) × (w : Volume) × (x ≡ Makes n w) × (free_blocks g v < n) × (fault ≡ NoSpace))
 carried-only g v (Says reply) fault e = inl (ap (λ (r : Reply). Says r) e)
 carried-only g v (Makes n w) fault e = go (nat_lt (free_blocks g v) n) refl e
   where
-    go : (b : Bool) → nat_lt (free_blocks g v) n ≡ b → (outcome b v w).reply ≡ Refused fault → (Makes n w ≡ refused fault) ⊎ ((fault ≡ NoSpace) × (m : ℕ) × (u : Volume) × (Makes n w ≡ Makes m u) × (free_blocks g v < m))
-    go true is h = inr (same-reply NoSpace fault h, n, w, refl, ltb-true (free_blocks g v) n is)
+    go : (b : Bool) → nat_lt (free_blocks g v) n ≡ b → (outcome b v w).reply ≡ Refused fault → (Makes n w ≡ refused fault) ⊎ ((m : ℕ) × (u : Volume) × (Makes n w ≡ Makes m u) × (free_blocks g v < m) × (fault ≡ NoSpace))
+    go true is h = inr (n, w, refl, ltb-true (free_blocks g v) n is, same-reply NoSpace fault h)
     go false is h = done-refused fault h
 
-pub refused-only : (g : Geometry) (q : ℕ) (v : Volume) (r : Request) (fault : Fault) → IsSound g v → is_named r ≡ true → (step g q v r).reply ≡ Refused fault → IsFault v r fault ⊎ IsFull g q v r fault
+pub refused-only : (g : Geometry) (q : ℕ) (v : Volume) (r : Request) (fault : Fault) → IsSound g v → is_named r ≡ true → (step g q v r).reply ≡ Refused fault → IsFault v r fault ⊎ (IsFull g q v r fault ⊎ IsTargetFull v r fault)
 unfolding step
 refused-only g q v r fault s good e =
     let same : verdict g q v r ≡ act g q v r = cond-true (is_named r) _ _ good in
     elim (carried-only g v (act g q v r) fault (ap (λ (x : Verdict). (carried_out g v x).reply) (sym same) ∙ e)) [
-      | inl refuses ↦ act-only g q v r fault s refuses
-      | inr full ↦ inr (inr (inr full))
+      | inl refuses ↦ early-said g q v r fault (act-early g q v r fault s good refuses)
+      | inr full ↦ inr (inl (space-said g q v r fault full))
     ]
+
+-- ---- no room
+
+space-reply : (g : Geometry) (v : Volume) (x : Verdict) (n : ℕ) (w : Volume) (fault : Fault) → x ≡ Makes n w → free_blocks g v < n → fault ≡ NoSpace → (carried_out g v x).reply ≡ Refused fault
+space-reply g v x n w fault e l same =
+    ap (λ (y : Verdict). (carried_out g v y).reply) e ∙ ap (λ (b : Bool). (outcome b v w).reply) (lt-ltb (free_blocks g v) n l) ∙ ap (λ (f : Fault). Refused f) (sym same)
+
+step-space : (g : Geometry) (q : ℕ) (v : Volume) (r : Request) (fault : Fault) → is_named r ≡ true → IsSpaceFault g q v r fault → (step g q v r).reply ≡ Refused fault
+unfolding step
+step-space g q v r fault good f =
+    let same : verdict g q v r ≡ act g q v r = cond-true (is_named r) _ _ good in
+    ap (λ (x : Verdict). (carried_out g v x).reply) same ∙ space-reply g v (act g q v r) f.0 f.1 fault f.2 f.3 f.4
+
+step-refuses : (g : Geometry) (q : ℕ) (v : Volume) (r : Request) (fault : Fault) → is_named r ≡ true → act g q v r ≡ refused fault → (step g q v r).reply ≡ Refused fault
+unfolding step
+step-refuses g q v r fault good e = answers-says g v (is_named r) (act g q v r) (Refused fault) good e
+
+pub room-refused : (g : Geometry) (q : ℕ) (v : Volume) (r : Request) (fault : Fault) → IsSound g v → is_named r ≡ true → IsFull g q v r fault → (step g q v r).reply ≡ Refused fault
+room-refused g q v (Mkdir p) fault s good (inl f) = step-refuses g q v (Mkdir p) fault good (make-full g q v (Dir []) p fault (sound-tree g v s) good f)
+room-refused g q v (Mkdir p) fault s good (inr f) = step-space g q v (Mkdir p) fault good f
+room-refused g q v (Create p) fault s good (inl f) = step-refuses g q v (Create p) fault good (make-full g q v (File []) p fault (sound-tree g v s) good f)
+room-refused g q v (Create p) fault s good (inr f) = step-space g q v (Create p) fault good f
+room-refused g q v (Write p at bytes) fault s good f = step-space g q v (Write p at bytes) fault good f
+room-refused g q v (Truncate p size) fault s good f = step-space g q v (Truncate p size) fault good f
+room-refused g q v (Unlink p) fault s good f = absurd f
+room-refused g q v (Rmdir p) fault s good f = absurd f
+room-refused g q v (Rename p to) fault s good f = step-space g q v (Rename p to) fault good f
+room-refused g q v (Read p at count) fault s good f = absurd f
+room-refused g q v (ListOf p) fault s good f = absurd f
+room-refused g q v (Stat p) fault s good f = absurd f

@@ -69,7 +69,7 @@ rmdir-kept g q v p n w s e =
 rename-kept : (g : Geometry) (q : ℕ) (v : Volume) (p to : Path) (n : ℕ) (w : Volume) → q < queues_of g → IsSound g v → list_all is_name to ≡ true → n ≤ free_blocks g v → act g q v (Rename p to) ≡ Makes n w → IsSound g w × IsRenamed v w p to
 rename-kept g q v p to n w low s good enough e = moves-kept g q v p to n w low s good enough (rename-moves g q v p to n w (root-dir g v s) e)
 
-asks-makes : {R : Type 0} (v : Volume) (reply : Body → Reply) (t : Target) (n : ℕ) (w : Volume) → asks v reply t ≡ Makes n w → R
+pub asks-makes : {R : Type 0} (v : Volume) (reply : Body → Reply) (t : Target) (n : ℕ) (w : Volume) → asks v reply t ≡ Makes n w → R
 asks-makes v reply Root n w e = says-makes _ n w e
 asks-makes v reply (Lost fault) n w e = says-makes _ n w e
 asks-makes v reply (In d name None) n w e = says-makes _ n w e

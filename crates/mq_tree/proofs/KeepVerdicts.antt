@@ -21,7 +21,7 @@ use Rattle.mq_tree.proofs.KeepTargets.{IsIn, target-in}
 pub says-makes : {R : Type 0} (reply : Reply) (n : ℕ) (w : Volume) → Says reply ≡ Makes n w → R
 says-makes reply n w e = absurd (cc)
 
-makes-parts : (m n : ℕ) (u w : Volume) → Makes m u ≡ Makes n w → (n ≡ m) × (w ≡ u)
+pub makes-parts : (m n : ℕ) (u w : Volume) → Makes m u ≡ Makes n w → (n ≡ m) × (w ≡ u)
 makes-parts m n u w e = (cc, cc)
 
 refused-else : (b : Bool) (fault : Fault) (x : Verdict) (n : ℕ) (w : Volume) → cond b (refused fault) x ≡ Makes n w → (b ≡ false) × (x ≡ Makes n w)

@@ -1,13 +1,14 @@
 -- Which requests are refused, and why, by the tree alone.
-use Rattle.std.specs.Prelude.{◌≡◌, ◌≢◌, ◌<◌, ◌⊎◌, ℕ, ◌+◌, List, [], ◌∷◌, ◌++◌, length, Option, Some, None, true, false}
+use Rattle.std.specs.Prelude.{◌≡◌, ◌≢◌, ◌<◌, ◌≤◌, ◌⊎◌, ℕ, ◌+◌, List, [], ◌∷◌, ◌++◌, length, Option, Some, None, true, false}
 use Rattle.mq_blocks.specs.declared.geometry.Geometry.{Geometry}
-use Rattle.mq_layout.specs.Places.{file_limit}
+use Rattle.mq_layout.specs.Places.{file_limit, names_limit}
 use Rattle.mq_tree.specs.Free.{first_free, free_blocks}
 use Rattle.mq_tree.specs.Kept.{IsBare}
-use Rattle.mq_tree.specs.Requests.{Makes, act, is_below}
+use Rattle.mq_tree.specs.Requests.{Makes, act, is_below, step}
 use Rattle.mq_tree.specs.Volume.{ADir, AFile, Path, Thing, Volume, tree}
 use Rattle.mq_tree.specs.declared.request.Fault.{Fault}
 use Rattle.mq_tree.specs.declared.request.Fault.TheVariants.{NotFound, Exists, NotDir, IsDir, NotEmpty, BadName, TooBig, Subtree, NoSpace, NoInodes}
+use Rattle.mq_tree.specs.declared.request.Reply.TheVariants.{Dir as Count}
 use Rattle.mq_tree.specs.declared.request.Request.{Request}
 use Rattle.mq_tree.specs.declared.request.Request.TheVariants.{Mkdir, Create, Write, Truncate, Unlink, Rmdir, Rename, Read, List as ListOf, Stat}
 
@@ -76,6 +77,46 @@ IsFault v (Read p at count) fault = IsUnfound v p fault ⊎ IsDirFault v p fault
 IsFault v (ListOf p) fault = IsUnfound v p fault ⊎ IsFileFault v p fault
 IsFault v (Stat p) fault = IsUnfound v p fault
 
--- it is refused for want of room: in the directory, of inodes or of blocks
+-- ---- room
+
+-- the directory has as many names as it may have
+abbrev pub IsFullDir : Geometry → (queue : ℕ) → Volume → Path → Type 0
+IsFullDir g q v path = (count : ℕ) × ((step g q v (Stat path)).reply ≡ Count count) × (names_limit ≤ count)
+
+-- the request needs more new blocks than are free
+abbrev pub IsSpaceFault : Geometry → (queue : ℕ) → Volume → Request → Fault → Type 0
+IsSpaceFault g q v r fault = (blocks : ℕ) × (next : Volume) × (act g q v r ≡ Makes blocks next) × (free_blocks g v < blocks) × (fault ≡ NoSpace)
+
+-- the directory has no room for the last name, or there is no inode for what is new
+abbrev pub IsAddRoomFault : Geometry → (queue : ℕ) → Volume → (parent : Path) → Fault → Type 0
+IsAddRoomFault g q v parent fault = (IsFullDir g q v parent × (fault ≡ TooBig)) ⊎ ((IsFullDir g q v parent → ⊥) × (first_free 0 v ≡ None) × (fault ≡ NoInodes))
+
+abbrev pub IsAddFull : Geometry → (queue : ℕ) → Volume → Path → Fault → Type 0
+IsAddFull g q v path fault = (m : IsMissing v path) × IsAddRoomFault g q v m.parent fault
+
+-- nothing is in the way of a request, but there is no room
 abbrev pub IsFull : Geometry → (queue : ℕ) → Volume → Request → Fault → Type 0
-IsFull g q v r fault = (fault ≡ TooBig) ⊎ (((fault ≡ NoInodes) × (first_free 0 v ≡ None)) ⊎ ((fault ≡ NoSpace) × (blocks : ℕ) × (next : Volume) × (act g q v r ≡ Makes blocks next) × (free_blocks g v < blocks)))
+IsFull g q v (Mkdir p) fault = IsAddFull g q v p fault ⊎ IsSpaceFault g q v (Mkdir p) fault
+IsFull g q v (Create p) fault = IsAddFull g q v p fault ⊎ IsSpaceFault g q v (Create p) fault
+IsFull g q v (Write p at bytes) fault = IsSpaceFault g q v (Write p at bytes) fault
+IsFull g q v (Truncate p size) fault = IsSpaceFault g q v (Truncate p size) fault
+IsFull g q v (Unlink p) fault = ⊥
+IsFull g q v (Rmdir p) fault = ⊥
+IsFull g q v (Rename p to) fault = IsSpaceFault g q v (Rename p to) fault
+IsFull g q v (Read p at count) fault = ⊥
+IsFull g q v (ListOf p) fault = ⊥
+IsFull g q v (Stat p) fault = ⊥
+
+-- without what moves, the directory to which it is to move has as many names as it may have; this says no more
+-- of it than that nothing else is in the way
+abbrev pub IsTargetFull : Volume → Request → Fault → Type 0
+IsTargetFull v (Mkdir p) fault = ⊥
+IsTargetFull v (Create p) fault = ⊥
+IsTargetFull v (Write p at bytes) fault = ⊥
+IsTargetFull v (Truncate p size) fault = ⊥
+IsTargetFull v (Unlink p) fault = ⊥
+IsTargetFull v (Rmdir p) fault = ⊥
+IsTargetFull v (Rename p to) fault = IsMissing v to × (fault ≡ TooBig)
+IsTargetFull v (Read p at count) fault = ⊥
+IsTargetFull v (ListOf p) fault = ⊥
+IsTargetFull v (Stat p) fault = ⊥
