@@ -16,7 +16,7 @@ use Rattle.mq_tree.specs.Volume.{ADir, Body, Free, File, Dir, Node, Thing, Volum
 use Rattle.mq_tree.proofs.KeepCut.{IsCut, IsFilled}
 use Rattle.mq_tree.proofs.KeepMake.{IsMade, free-slot}
 use Rattle.mq_tree.proofs.KeepMove.{IsMoved}
-use Rattle.mq_tree.proofs.KeepNodes.{cleared-entries, cleared-is, cleared-length}
+use Rattle.mq_tree.proofs.KeepNodes.{cleared-count, cleared-entries, cleared-is, cleared-length, count-most}
 use Rattle.mq_tree.proofs.KeepPaths.{cases-slot, thing-used}
 use Rattle.mq_tree.proofs.KeepUses.{IsWithin, free-within, grown-is, node-here, node-other, uses-within}
 use Rattle.mq_tree.proofs.KeepVolumes.{AreNodes, bodies-set, dir-node, dir-slots, linked-is, nodes-set, slot-in, slotted, used-low, within-set}
@@ -165,6 +165,25 @@ pub unlinked-is : (g : Geometry) (v : Volume) (d : ℕ) (name : List ℕ) (i : �
 unlinked-is g v d name i good dir found =
     let s = dir-slots (body v d) dir in
     unlinked-slots g v d name i s.0 good s.1 (ap (λ (b : Body). find name (slots_of b)) (sym s.1) ∙ found)
+
+-- without one of its names a directory is not full
+pub unlinked-room : (g : Geometry) (v : Volume) (d : ℕ) (name : List ℕ) (i : ℕ) → AreNodes g v → thing (body v d) ≡ Some ADir → find name (slots_of (body v d)) ≡ Some i → count_names (slots_of (body (unlinked v d name) d)) < names_limit
+unlinked-room g v d name i good dir found =
+    let s = dir-slots (body v d) dir in
+    let form = dir-node (node v d) s.0 s.1 (good.nodes d) in
+    let l = used-low v d (thing-used (body v d) ADir dir) in
+    let here : slots_of (body (unlinked v d name) d) ≡ cleared name (slots_of (body v d)) = ap (λ (m : Node). slots_of m.body) (node-here v d _ l) in
+    let same : slots_of (body v d) ≡ s.0 = ap (λ (b : Body). slots_of b) s.1 in
+    let few = form.0 in
+    let size = form.1 in
+    let most = count-most s.0 in
+    let less = cleared-count name s.0 i (ap (λ (xs : List (Option Entry)). find name xs) (sym same) ∙ found) in
+    let count : count_names (slots_of (body (unlinked v d name) d)) ≡ count_names (cleared name s.0) = ap (λ (xs : List (Option Entry)). count_names xs) (here ∙ ap (λ (xs : List (Option Entry)). cleared name xs) same) in
+    omega arith
+
+-- another directory stays
+pub unlinked-other : (v : Volume) (d c : ℕ) (name : List ℕ) → c ≢ d → body (unlinked v d name) c ≡ body v c
+unlinked-other v d c name other = ap (λ (m : Node). m.body) (node-other v d c _ other)
 
 -- ---- an inode less
 

@@ -10,7 +10,7 @@ use Rattle.mq_tree.specs.declared.request.Fault.{Fault}
 use Rattle.mq_tree.specs.declared.request.Fault.TheVariants.{NotDir, NotFound}
 use Rattle.mq_tree.proofs.KeepAsks.{file-bytes, target-leads, thing-leads}
 use Rattle.mq_tree.proofs.KeepPaths.{IsTree, find-found, thing-here, thing_at}
-use Rattle.mq_tree.proofs.KeepTargets.{leads-walk, same-way, tree-way, walk-leads, way-append, way-below}
+use Rattle.mq_tree.proofs.KeepTargets.{IsIn, leads-walk, same-way, target-in, tree-way, walk-leads, way-append, way-below}
 
 -- ---- steps of a walk
 
@@ -89,6 +89,7 @@ pub record IsThere (v : Volume) (path : Path) (t : Thing) : Type 0 where
   pub target_is : target v (way path) ≡ In directory name (Some inode)
   pub thing_is : thing (body v inode) ≡ Some t
   pub leads : inode_at v (way path) ≡ Some inode
+  pub is_in : IsIn v path directory name (Some inode)
 
 pub there-target : (v : Volume) (path : Path) (t : Thing) → IsTree v → path ≢ [] → tree v path ≡ Some t → IsThere v path t
 there-target v path t k some e = let r = thing-leads v path t e in go (way path) refl r.0 r.1 r.2
@@ -97,7 +98,7 @@ there-target v path t k some e = let r = thing-leads v path t e in go (way path)
     go [] is i at there = absurd (some (same-way path [] is))
     go (n ∷ q) is i at there =
         let r = target-leads v n q i k (ap (λ (w : Way). inode_at v w) (sym is) ∙ at) in
-        record { directory = r.0; name = n; inode = i; target_is = ap (λ (w : Way). target v w) is ∙ r.1; thing_is = there; leads = at }
+        record { directory = r.0; name = n; inode = i; target_is = ap (λ (w : Way). target v w) is ∙ r.1; thing_is = there; leads = at; is_in = target-in v path r.0 n (Some i) k.root (ap (λ (w : Way). target v w) is ∙ r.1) }
 
 -- ---- from the walk to the tree
 
@@ -153,10 +154,10 @@ abbrev pub IsView : Volume → Path → Target → Type 0
 IsView v path Root = path ≡ []
 IsView v path (Lost fault) = IsLost v path fault
 IsView v path (In d name None) = (m : IsMissing v path) × (inode_at v (way m.parent) ≡ Some d)
-IsView v path (In d name (Some i)) = (path ≢ []) × (inode_at v (way path) ≡ Some i) × (is_used (body v i) ≡ true)
+IsView v path (In d name (Some i)) = (path ≢ []) × (inode_at v (way path) ≡ Some i) × (is_used (body v i) ≡ true) × IsIn v path d name (Some i)
 
 -- the path of a way
-path-of : (path : Path) (name : List ℕ) (q : Way) → way path ≡ name ∷ q → path ≡ reverse q ++ name ∷ []
+pub path-of : (path : Path) (name : List ℕ) (q : Way) → way path ≡ name ∷ q → path ≡ reverse q ++ name ∷ []
 path-of path name q is = sym (reverse-reverse path) ∙ ap (λ (w : Way). reverse w) is ∙ reverse-append (name ∷ []) q
 
 tree-back : (v : Volume) (q : Way) → tree v (reverse q) ≡ thing_at v q
@@ -191,7 +192,7 @@ view-in v path n q d t is at dir None found = (
   ap (λ (w : Way). inode_at v w) (reverse-reverse q) ∙ at,
 )
 view-in v path n q d t is at dir (Some i) found =
-    (λ e. none-cons n q (ap (λ (p : Path). way p) (sym e) ∙ is), ap (λ (w : Way). inode_at v w) is ∙ under-name v n q d (Some i) at found, found-used v n d i t found)
+    (λ e. none-cons n q (ap (λ (p : Path). way p) (sym e) ∙ is), ap (λ (w : Way). inode_at v w) is ∙ under-name v n q d (Some i) at found, found-used v n d i t found, record { parent = q; is = is; leads = at; directory = dir; found_is = found })
   where
     none-cons : (n : List ℕ) (r : Way) → [] ≡ n ∷ r → ⊥
     none-cons n r e = cc

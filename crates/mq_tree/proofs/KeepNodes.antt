@@ -140,6 +140,23 @@ cleared-length name (Some s ∷ slots) = elim (cases_Bool (bytes_eq s.name name)
   | inr n ↦ ap (λ (b : Bool). length (cond b (None ∷ slots) (Some s ∷ cleared name slots))) n ∙ ap (λ (n : ℕ). suc n) (cleared-length name slots)
 ]
 
+-- there is a name less
+pub cleared-count : (name : List ℕ) (slots : List (Option Entry)) (i : ℕ) → find name slots ≡ Some i → suc (count_names (cleared name slots)) ≡ count_names slots
+cleared-count name [] i e = absurd (none-some i e)
+cleared-count name (None ∷ slots) i e = cleared-count name slots i e
+cleared-count name (Some s ∷ slots) i e = elim (cases_Bool (bytes_eq s.name name)) [
+  | inl y ↦ ap (λ (b : Bool). suc (count_names (cond b (None ∷ slots) (Some s ∷ cleared name slots)))) y
+  | inr n ↦
+      let f : find name slots ≡ Some i = ap (λ (b : Bool). cond b (Some s.inode) (find name slots)) (sym n) ∙ e in
+      ap (λ (b : Bool). suc (count_names (cond b (None ∷ slots) (Some s ∷ cleared name slots)))) n ∙ ap (λ (k : ℕ). suc k) (cleared-count name slots i f)
+]
+
+-- there are no more names than slots
+pub count-most : (slots : List (Option Entry)) → count_names slots ≤ length slots
+count-most [] = omega arith
+count-most (None ∷ slots) = let l = count-most slots in omega arith
+count-most (Some e ∷ slots) = let l = count-most slots in omega arith
+
 pub cleared-entries : (slots new : List (Option Entry)) (name : List ℕ) (i : ℕ) → AreEntries slots → Cleared slots new name i → AreEntries new
 cleared-entries slots new name i good c k f is = elim (cases_eq k c.place) [
   | inl same ↦ absurd (none-some f (sym c.gone ∙ ap (λ (j : ℕ). get_or new j None) (sym same) ∙ is))

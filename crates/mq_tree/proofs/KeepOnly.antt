@@ -1,19 +1,21 @@
 -- Where a request is refused, the tree says so, or there is no room.
-use Rattle.std.proofs.Common.{◌≡◌, ◌≢◌, ℕ, ◌+◌, ◌<◌, ◌≤◌, ◌⊎◌, inl, inr, List, [], ◌∷◌, length, Bool, true, false, cond, refl, sym, ap, subst, ◌∙◌, arith}
-use Rattle.std.specs.Prelude.{Option, Some, None, nat_eq, nat_le, nat_lt}
+use Rattle.std.proofs.Common.{◌≡◌, ◌≢◌, ℕ, ◌+◌, ◌<◌, ◌≤◌, ◌⊎◌, inl, inr, List, [], ◌∷◌, ◌++◌, length, Bool, true, false, cond, refl, sym, ap, subst, ◌∙◌, arith}
+use Rattle.std.specs.Prelude.{Option, Some, None, reverse, nat_eq, nat_le, nat_lt}
 use Rattle.std.specs.List.{list_all}
+use Rattle.std.proofs.lemmas.List.{reverse-reverse}
+use Rattle.std.proofs.lemmas.Option.{same_Some}
 use Rattle.std.proofs.lemmas.List.Folds.{list_all-append}
-use Rattle.std.proofs.lemmas.Bool.{and_parts, cond-false, cond-true, eqb-false, false_from_ne_true, le-leb, leb-false, leb-true, lt-ltb, ltb-true, true≢false}
+use Rattle.std.proofs.lemmas.Bool.{and_parts, cond-false, cond-true, eqb-false, false_from_ne_true, le-leb, leb-false, leb-true, lt-ltb, ltb-true, cases_eq, true≢false}
 use Rattle.mq_blocks.specs.declared.geometry.Geometry.{Geometry}
 use Rattle.mq_layout.specs.Names.{is_name}
 use Rattle.mq_layout.specs.Places.{file_limit, names_limit}
 use Rattle.mq_layout.specs.Slots.{Entry}
-use Rattle.mq_tree.specs.Faults.{IsAddFault, IsAddFull, IsAddRoomFault, IsDirFault, IsFault, IsFileFault, IsFull, IsFullDir, IsLost, IsMissing, IsMoveFault, IsRenameFault, IsRmdirFault, IsSizeFault, IsSpaceFault, IsTargetFull, IsUnfound}
+use Rattle.mq_tree.specs.Faults.{IsAddFault, IsAddFull, IsAddRoomFault, IsDirFault, IsFault, IsFileFault, IsFull, IsFullDir, IsLost, IsMissing, IsMoveFull, IsMoveFault, IsRenameFault, IsRmdirFault, IsSizeFault, IsSpaceFault, IsUnfound}
 use Rattle.mq_tree.specs.Free.{first_free, free_blocks}
 use Rattle.mq_tree.specs.Kept.{IsBare}
 use Rattle.mq_tree.specs.Requests.{Root, Lost, In, Outcome, Target, Verdict, Says, Makes, act, asks, carried_out, count_names, cut_to, freed, is_below, is_named, list_in, make, make_free, move, read_in, refused, rename, rmdir, rmdir_in, set_bytes, spliced, stat_in, step, target, truncate, truncate_in, unlink, unlink_in, unlinked, verdict, write, write_in}
 use Rattle.mq_tree.specs.Sound.{IsSound}
-use Rattle.mq_tree.specs.Volume.{ADir, AFile, Body, Free, File, Dir, Path, Thing, Volume, body, inode_at, is_used, slots_of, thing, tree, way}
+use Rattle.mq_tree.specs.Volume.{ADir, AFile, Body, Free, File, Dir, Path, Thing, Volume, Way, body, inode_at, is_used, slots_of, thing, tree, way}
 use Rattle.mq_tree.specs.declared.request.Fault.{Fault}
 use Rattle.mq_tree.specs.declared.request.Fault.TheVariants.{NotFound, Exists, NotDir, IsDir, NotEmpty, BadName, TooBig, Subtree, NoSpace, NoInodes}
 use Rattle.mq_tree.specs.declared.request.Reply.{Reply}
@@ -21,12 +23,14 @@ use Rattle.mq_tree.specs.declared.request.Reply.TheVariants.{Ok as Done, Data, N
 use Rattle.mq_tree.specs.declared.request.Request.{Request}
 use Rattle.mq_tree.specs.declared.request.Request.TheVariants.{Mkdir, Create, Write, Truncate, Unlink, Rmdir, Rename, Read, List as ListOf, Stat}
 use Rattle.mq_tree.proofs.KeepAsks.{answers-says, reads-leads}
-use Rattle.mq_tree.proofs.KeepFaults.{IsView, missing-target, target-view, used-there}
-use Rattle.mq_tree.proofs.KeepPaths.{IsTree, thing-here}
+use Rattle.mq_tree.proofs.KeepChanges.{unlinked-other, unlinked-room}
+use Rattle.mq_tree.proofs.KeepFaults.{IsView, missing-target, path-of, target-view, there-target, used-there}
+use Rattle.mq_tree.proofs.KeepPaths.{IsTree, one-way, thing-here}
 use Rattle.mq_tree.proofs.KeepRefusals.{bare-count}
 use Rattle.mq_tree.proofs.KeepSteps.{asks-makes}
 use Rattle.mq_tree.proofs.KeepVerdicts.{makes-parts, makes-then, says-makes}
-use Rattle.mq_tree.proofs.KeepVolumes.{dir-slots, sound-tree}
+use Rattle.mq_tree.proofs.KeepTargets.{IsIn, way-append}
+use Rattle.mq_tree.proofs.KeepVolumes.{dir-slots, sound-nodes, sound-tree}
 
 -- ---- verdicts that refuse
 
@@ -56,12 +60,12 @@ lost-same v p f fault l same = subst (λ x. IsLost v p x) (sym same) l
 
 target-only : (v : Volume) (p : Path) (fault : Fault) (verdict_on : Target → Verdict) (P : Type 0) → ((f : Fault) → verdict_on (Lost f) ≡ refused f) → ((d : ℕ) (name : List ℕ) → verdict_on (In d name None) ≡ refused NotFound)
     → (p ≡ [] → verdict_on Root ≡ refused fault → P)
-    → ((d : ℕ) (name : List ℕ) (i : ℕ) → p ≢ [] → inode_at v (way p) ≡ Some i → is_used (body v i) ≡ true → verdict_on (In d name (Some i)) ≡ refused fault → P)
+    → ((d : ℕ) (name : List ℕ) (i : ℕ) → IsView v p (In d name (Some i)) → verdict_on (In d name (Some i)) ≡ refused fault → P)
     → (t : Target) → IsView v p t → verdict_on t ≡ refused fault → IsUnfound v p fault ⊎ P
 target-only v p fault verdict_on P lost missing root there Root view e = inr (root view e)
 target-only v p fault verdict_on P lost missing root there (Lost f) view e = inl (inl (lost-same v p f fault view (same-refused f fault (sym (lost f) ∙ e))))
 target-only v p fault verdict_on P lost missing root there (In d name None) view e = inl (inr (view.0, same-refused NotFound fault (sym (missing d name) ∙ e)))
-target-only v p fault verdict_on P lost missing root there (In d name (Some i)) view e = inr (there d name i view.0 view.1 view.2 e)
+target-only v p fault verdict_on P lost missing root there (In d name (Some i)) view e = inr (there d name i view e)
 
 add-only : (v : Volume) (p : Path) (fault : Fault) (verdict_on : Target → Verdict) (Q : Type 0) → IsTree v → verdict_on Root ≡ refused Exists → ((f : Fault) → verdict_on (Lost f) ≡ refused f) → ((d : ℕ) (name : List ℕ) (i : ℕ) → verdict_on (In d name (Some i)) ≡ refused Exists)
     → ((d : ℕ) (name : List ℕ) → IsView v p (In d name None) → verdict_on (In d name None) ≡ refused fault → Q) → (t : Target) → IsView v p t → verdict_on t ≡ refused fault → IsAddFault v p fault ⊎ Q
@@ -148,14 +152,14 @@ size-body g q v p size fault i verdict_on change dirs files at used (File old) i
 
 write-only : (g : Geometry) (q : ℕ) (v : Volume) (p : Path) (at : ℕ) (new : List ℕ) (fault : Fault) → IsTree v → write g q v at new (target v (way p)) ≡ refused fault → IsSizeFault v p (at + length new) fault
 write-only g q v p at new fault k e = target-only v p fault (λ t. write g q v at new t) (IsBytesFault v p (at + length new) fault) (λ f. refl) (λ d name. refl) (λ is h. inl (root-tree v p k is, same-refused IsDir fault h))
-    (λ d name i some leads used h. size-body g q v p (at + length new) fault i (λ b. write_in g q v i at new b) (λ old. spliced at new old) (λ slots. refl) (λ old. refl) leads used (body v i) refl h) (target v (way p)) (target-view v p k) e
+    (λ d name i view h. size-body g q v p (at + length new) fault i (λ b. write_in g q v i at new b) (λ old. spliced at new old) (λ slots. refl) (λ old. refl) view.1 view.2 (body v i) refl h) (target v (way p)) (target-view v p k) e
 
 truncate-only : (g : Geometry) (q : ℕ) (v : Volume) (p : Path) (size : ℕ) (fault : Fault) → IsTree v → truncate g q v size (target v (way p)) ≡ refused fault → IsSizeFault v p size fault
 truncate-only g q v p size fault k e = target-only v p fault (λ t. truncate g q v size t) (IsBytesFault v p size fault) (λ f. refl) (λ d name. refl) (λ is h. inl (root-tree v p k is, same-refused IsDir fault h))
-    (λ d name i some leads used h. size-body g q v p size fault i (λ b. truncate_in g q v i size b) (λ old. cut_to size old) (λ slots. refl) (λ old. refl) leads used (body v i) refl h) (target v (way p)) (target-view v p k) e
+    (λ d name i view h. size-body g q v p size fault i (λ b. truncate_in g q v i size b) (λ old. cut_to size old) (λ slots. refl) (λ old. refl) view.1 view.2 (body v i) refl h) (target v (way p)) (target-view v p k) e
 
 unlink-only : (v : Volume) (p : Path) (fault : Fault) → IsTree v → unlink v (target v (way p)) ≡ refused fault → IsUnfound v p fault ⊎ IsDirFault v p fault
-unlink-only v p fault k e = target-only v p fault (λ t. unlink v t) (IsDirFault v p fault) (λ f. refl) (λ d name. refl) (λ is h. (root-tree v p k is, same-refused IsDir fault h)) (λ d name i some leads used h. go d name i leads used (body v i) refl h)
+unlink-only v p fault k e = target-only v p fault (λ t. unlink v t) (IsDirFault v p fault) (λ f. refl) (λ d name. refl) (λ is h. (root-tree v p k is, same-refused IsDir fault h)) (λ d name i view h. go d name i view.1 view.2 (body v i) refl h)
     (target v (way p)) (target-view v p k) e
   where
     go : (d : ℕ) (name : List ℕ) (i : ℕ) → inode_at v (way p) ≡ Some i → is_used (body v i) ≡ true → (b : Body) → body v i ≡ b → unlink_in v d name i b ≡ refused fault → IsDirFault v p fault
@@ -168,7 +172,7 @@ IsEmptyFault v p fault = (p ≢ []) × (tree v p ≡ Some ADir) × (IsBare v p �
 
 rmdir-only : (g : Geometry) (v : Volume) (p : Path) (fault : Fault) → IsSound g v → rmdir v (target v (way p)) ≡ refused fault → IsRmdirFault v p fault
 rmdir-only g v p fault s e = order (target-only v p fault (λ t. rmdir v t) (((p ≡ []) × (fault ≡ BadName)) ⊎ (IsFileFault v p fault ⊎ IsEmptyFault v p fault)) (λ f. refl) (λ d name. refl)
-    (λ is h. inl (is, same-refused BadName fault h)) (λ d name i some leads used h. go d name i some leads used (body v i) refl h) (target v (way p)) (target-view v p (sound-tree g v s)) e)
+    (λ is h. inl (is, same-refused BadName fault h)) (λ d name i view h. go d name i view.0 view.1 view.2 (body v i) refl h) (target v (way p)) (target-view v p (sound-tree g v s)) e)
   where
     go : (d : ℕ) (name : List ℕ) (i : ℕ) → p ≢ [] → inode_at v (way p) ≡ Some i → is_used (body v i) ≡ true → (b : Body) → body v i ≡ b → rmdir_in v d name i b ≡ refused fault → ((p ≡ []) × (fault ≡ BadName)) ⊎ (IsFileFault v p fault ⊎ IsEmptyFault v p fault)
     go d name i some at used Free is h = free-used (body v i) used is
@@ -184,34 +188,90 @@ rmdir-only g v p fault s e = order (target-only v p fault (λ t. rmdir v t) (((p
     order (inr (inl r)) = inl r
     order (inr (inr rest)) = inr (inr rest)
 
--- it is refused by the tree, or the target directory has no room
-abbrev IsMoveOnly : Volume → Path → Path → Fault → Type 0
-IsMoveOnly v from to fault = ((from ≡ []) × (fault ≡ Subtree)) ⊎ (((there : Thing) × (from ≢ []) × (tree v from ≡ Some there) × IsMoveFault v from to fault) ⊎ (IsMissing v to × (fault ≡ TooBig)))
+-- it is refused by the tree, or the target directory is full
+abbrev IsMoveOnly : Geometry → ℕ → Volume → Path → Path → Fault → Type 0
+IsMoveOnly g q v from to fault = ((from ≡ []) × (fault ≡ Subtree)) ⊎ (((there : Thing) × (from ≢ []) × (tree v from ≡ Some there) × IsMoveFault v from to fault) ⊎ IsMoveFull g q v from to fault)
 
-rename-only : (g : Geometry) (q : ℕ) (v : Volume) (from to : Path) (fault : Fault) → IsTree v → rename g q v from to (target v (way from)) ≡ refused fault → IsRenameFault v from to fault ⊎ (IsMissing v to × (fault ≡ TooBig))
-rename-only g q v from to fault k e = order (target-only v from fault (λ t. rename g q v from to t) (IsMoveOnly v from to fault) (λ f. refl) (λ d name. refl) (λ is h. inl (is, same-refused Subtree fault h)) there (target v (way from)) (target-view v from k) e)
+-- the directory of what moves, by its path
+parent-same : (v : Volume) (from parent : Path) (d c : ℕ) (name other : List ℕ) (found : Option ℕ) → IsTree v → IsIn v from d name found → inode_at v (way parent) ≡ Some c → from ≡ parent ++ other ∷ [] → c ≡ d
+parent-same v from parent d c name other found k source at is =
+    let whole : way from ≡ other ∷ way parent = ap (λ (p : Path). way p) is ∙ way-append parent (other ∷ []) in
+    let tails : source.parent ≡ way parent = same-tail name other source.parent (way parent) (sym source.is ∙ whole) in
+    same_Some c d (sym at ∙ ap (λ (w : Way). inode_at v w) (sym tails) ∙ source.leads)
   where
-    room : (u : Volume) (i d : ℕ) (name : List ℕ) → IsView v to (In d name None) → move g q u i (In d name None) ≡ refused fault → IsMissing v to × (fault ≡ TooBig)
-    room u i d name view h = elim (cond-refused (nat_le names_limit (count_names (slots_of (body u d)))) TooBig _ fault h) [ inl big ↦ (view.0, big.1) | inr made ↦ makes-refused _ _ fault made.1 ]
+    same-tail : (a b : List ℕ) (s t : Way) → a ∷ s ≡ b ∷ t → s ≡ t
+    same-tail a b s t e = cc
 
-    there : (d : ℕ) (name : List ℕ) (i : ℕ) → from ≢ [] → inode_at v (way from) ≡ Some i → is_used (body v i) ≡ true → rename g q v from to (In d name (Some i)) ≡ refused fault → IsMoveOnly v from to fault
-    there d name i some at used h =
-        let t = used-there (body v i) used in
-        let u = unlinked v d name in
-        let is = thing-here v (way from) i at ∙ t.1 in
-        elim (cond-refused (is_below from to) Subtree (move g q u i (target v (way to))) fault h) [
-          | inl below ↦ inr (inl (t.0, some, is, inl below))
-          | inr apart ↦ elim (add-only v to fault (λ x. move g q u i x) (IsMissing v to × (fault ≡ TooBig)) k refl (λ f. refl) (λ c new j. refl) (room u i) (target v (way to)) (target-view v to k) apart.1) [
-            | inl add ↦ inr (inl (t.0, some, is, inr (apart.0, add)))
-            | inr big ↦ inr (inr big)
-          ]
+parent-other : (v : Volume) (from parent : Path) (d c : ℕ) (name : List ℕ) (found : Option ℕ) → IsTree v → IsIn v from d name found → inode_at v (way parent) ≡ Some c → c ≡ d → from ≡ parent ++ name ∷ []
+parent-other v from parent d c name found k source at same =
+    let ways : source.parent ≡ way parent = one-way v k.named k.once source.parent (way parent) d source.leads (at ∙ ap (λ (x : ℕ). Some x) same) in
+    path-of from name source.parent source.is ∙ ap (λ (w : Way). reverse w ++ name ∷ []) ways ∙ ap (λ (p : Path). p ++ name ∷ []) (reverse-reverse parent)
+
+-- what is full without a name is another directory, and is full with it
+target-full : (g : Geometry) (q : ℕ) (v : Volume) (from to : Path) (d : ℕ) (name : List ℕ) (i c : ℕ) → IsSound g v → list_all is_name to ≡ true → IsIn v from d name (Some i) → (m : IsMissing v to) → inode_at v (way m.parent) ≡ Some c
+    → names_limit ≤ count_names (slots_of (body (unlinked v d name) c)) → ((other : List ℕ) → from ≢ m.parent ++ other ∷ []) × IsFullDir g q v m.parent
+target-full g q v from to d name i c s good source m at big = elim (cases_eq c d) [
+  | inl same ↦
+      let room = unlinked-room g v d name i (sound-nodes g v s) source.directory source.found_is in
+      let e : count_names (slots_of (body (unlinked v d name) c)) ≡ count_names (slots_of (body (unlinked v d name) d)) = ap (λ (x : ℕ). count_names (slots_of (body (unlinked v d name) x))) same in
+      absurd (omega arith)
+  | inr apart ↦
+      let k = sound-tree g v s in
+      let e : count_names (slots_of (body (unlinked v d name) c)) ≡ count_names (slots_of (body v c)) = ap (λ (b : Body). count_names (slots_of b)) (unlinked-other v d c name apart) in
+      (λ other is. apart (parent-same v from m.parent d c name other (Some i) k source at is), (count_names (slots_of (body v c)), stat-count g q v m.parent c k (parent-good v to m good) at m.directory, omega arith))
+]
+
+rename-only : (g : Geometry) (q : ℕ) (v : Volume) (from to : Path) (fault : Fault) → IsSound g v → list_all is_name to ≡ true → rename g q v from to (target v (way from)) ≡ refused fault → IsRenameFault v from to fault ⊎ IsMoveFull g q v from to fault
+rename-only g q v from to fault s good e = order (target-only v from fault (λ t. rename g q v from to t) (IsMoveOnly g q v from to fault) (λ f. refl) (λ d name. refl) (λ is h. inl (is, same-refused Subtree fault h)) there (target v (way from)) (target-view v from (sound-tree g v s)) e)
+  where
+    room : (d : ℕ) (name : List ℕ) (i : ℕ) → IsView v from (In d name (Some i)) → is_below from to ≡ false → (c : ℕ) (new : List ℕ) → IsView v to (In c new None) → move g q (unlinked v d name) i (In c new None) ≡ refused fault → IsMoveFull g q v from to fault
+    room d name i view apart c new missing h =
+        let names = count_names (slots_of (body (unlinked v d name) c)) in
+        let t = used-there (body v i) view.2 in
+        elim (cond-refused (nat_le names_limit names) TooBig _ fault h) [
+          | inl big ↦
+              let f = target-full g q v from to d name i c s good view.3 missing.0 missing.1 (leb-true names_limit names big.0) in
+              record { some = view.0; old = t.0; there = thing-here v (way from) i view.1 ∙ t.1; apart = apart; missing = missing.0; other = f.0; full = f.1; fault_is = big.1 }
+          | inr made ↦ makes-refused _ _ fault made.1
         ]
 
-    order : IsUnfound v from fault ⊎ IsMoveOnly v from to fault → IsRenameFault v from to fault ⊎ (IsMissing v to × (fault ≡ TooBig))
+    there : (d : ℕ) (name : List ℕ) (i : ℕ) → IsView v from (In d name (Some i)) → rename g q v from to (In d name (Some i)) ≡ refused fault → IsMoveOnly g q v from to fault
+    there d name i view h =
+        let t = used-there (body v i) view.2 in
+        let u = unlinked v d name in
+        let is = thing-here v (way from) i view.1 ∙ t.1 in
+        elim (cond-refused (is_below from to) Subtree (move g q u i (target v (way to))) fault h) [
+          | inl below ↦ inr (inl (t.0, view.0, is, inl below))
+          | inr apart ↦
+              elim (add-only v to fault (λ x. move g q u i x) (IsMoveFull g q v from to fault) (sound-tree g v s) refl (λ f. refl) (λ c new j. refl) (λ c new missing k. room d name i view apart.0 c new missing k) (target v (way to))
+                (target-view v to (sound-tree g v s)) apart.1) [
+                | inl add ↦ inr (inl (t.0, view.0, is, inr (apart.0, add)))
+                | inr full ↦ inr (inr full)
+              ]
+        ]
+
+    order : IsUnfound v from fault ⊎ IsMoveOnly g q v from to fault → IsRenameFault v from to fault ⊎ IsMoveFull g q v from to fault
     order (inl u) = inl (inr (inl u))
     order (inr (inl r)) = inl (inl r)
     order (inr (inr (inl m))) = inl (inr (inr m))
-    order (inr (inr (inr big))) = inr big
+    order (inr (inr (inr full))) = inr full
+
+-- the other way round
+rename-full : (g : Geometry) (q : ℕ) (v : Volume) (from to : Path) (fault : Fault) → IsSound g v → list_all is_name to ≡ true → IsMoveFull g q v from to fault → rename g q v from to (target v (way from)) ≡ refused fault
+rename-full g q v from to fault s good f =
+    let k = sound-tree g v s in
+    let m = f.missing in
+    let t = there-target v from f.old k f.some f.there in
+    let r = missing-target v to k m in
+    let d = t.directory in
+    let c = r.0 in
+    let u = unlinked v d t.name in
+    let apart : c ≢ d = λ same. f.other t.name (parent-other v from m.parent d c t.name (Some t.inode) k t.is_in r.3 same) in
+    let l = full-dir g q v m.parent c k (parent-good v to m good) r.3 m.directory f.full in
+    let e : count_names (slots_of (body u c)) ≡ count_names (slots_of (body v c)) = ap (λ (b : Body). count_names (slots_of b)) (unlinked-other v d c t.name apart) in
+    let big : names_limit ≤ count_names (slots_of (body u c)) = omega arith in
+    ap (λ (x : Target). rename g q v from to x) t.target_is ∙ cond-false (is_below from to) (refused Subtree) (move g q u t.inode (target v (way to))) f.apart ∙ ap (λ (x : Target). move g q u t.inode x) r.2
+    ∙ cond-true (nat_le names_limit (count_names (slots_of (body u c)))) _ _ (le-leb names_limit (count_names (slots_of (body u c))) big) ∙ ap (λ (x : Fault). refused x) (sym f.fault_is)
 
 -- ---- requests that read
 
@@ -234,7 +294,7 @@ asks-only : (v : Volume) (p : Path) (fault : Fault) (reply : Body → Reply) (P 
     → asks v reply (target v (way p)) ≡ refused fault → IsUnfound v p fault ⊎ P
 asks-only v p fault reply P k on e = target-only v p fault (λ t. asks v reply t) P (λ f. refl) (λ d name. refl)
     (λ is h. let r = dir-slots (body v 0) k.root in on 0 (body v 0) (ap (λ (x : Path). inode_at v (way x)) is) (ap (λ (b : Body). is_used b) r.1) refl (says-refused (reply (body v 0)) fault h))
-    (λ d name i some at used h. on i (body v i) at used refl (says-refused (reply (body v i)) fault h)) (target v (way p)) (target-view v p k) e
+    (λ d name i view h. on i (body v i) view.1 view.2 refl (says-refused (reply (body v i)) fault h)) (target v (way p)) (target-view v p k) e
 
 read-body : (v : Volume) (p : Path) (fault : Fault) (at count : ℕ) (i : ℕ) (b : Body) → inode_at v (way p) ≡ Some i → is_used b ≡ true → body v i ≡ b → read_in at count b ≡ Refused fault → IsDirFault v p fault
 read-body v p fault at count i Free leads used is e = absurd (true≢false (sym used))
@@ -261,7 +321,7 @@ IsEarly g q v (Write p at bytes) fault = IsSizeFault v p (at + length bytes) fau
 IsEarly g q v (Truncate p size) fault = IsSizeFault v p size fault
 IsEarly g q v (Unlink p) fault = IsUnfound v p fault ⊎ IsDirFault v p fault
 IsEarly g q v (Rmdir p) fault = IsRmdirFault v p fault
-IsEarly g q v (Rename p to) fault = IsRenameFault v p to fault ⊎ (IsMissing v to × (fault ≡ TooBig))
+IsEarly g q v (Rename p to) fault = IsRenameFault v p to fault ⊎ IsMoveFull g q v p to fault
 IsEarly g q v (Read p at count) fault = IsUnfound v p fault ⊎ IsDirFault v p fault
 IsEarly g q v (ListOf p) fault = IsUnfound v p fault ⊎ IsFileFault v p fault
 IsEarly g q v (Stat p) fault = IsUnfound v p fault
@@ -273,26 +333,26 @@ act-early g q v (Write p at bytes) fault s good e = write-only g q v p at bytes 
 act-early g q v (Truncate p size) fault s good e = truncate-only g q v p size fault (sound-tree g v s) e
 act-early g q v (Unlink p) fault s good e = unlink-only v p fault (sound-tree g v s) e
 act-early g q v (Rmdir p) fault s good e = rmdir-only g v p fault s e
-act-early g q v (Rename p to) fault s good e = rename-only g q v p to fault (sound-tree g v s) e
+act-early g q v (Rename p to) fault s good e = rename-only g q v p to fault s (and_parts (list_all is_name p) (list_all is_name to) good).1 e
 act-early g q v (Read p at count) fault s good e = asks-only v p fault (read_in at count) (IsDirFault v p fault) (sound-tree g v s) (λ i b leads used is h. read-body v p fault at count i b leads used is h) e
 act-early g q v (ListOf p) fault s good e = asks-only v p fault list_in (IsFileFault v p fault) (sound-tree g v s) (λ i b leads used is h. list-body v p fault i b leads used is h) e
 act-early g q v (Stat p) fault s good e = elim (asks-only v p fault stat_in ⊥ (sound-tree g v s) (λ i b leads used is h. stat-body v p fault i b leads used is h) e) [ inl u ↦ u | inr never ↦ absurd never ]
 
 -- the tree says so, or there is no room
 abbrev IsSaid : Geometry → ℕ → Volume → Request → Fault → Type 0
-IsSaid g q v r fault = IsFault v r fault ⊎ (IsFull g q v r fault ⊎ IsTargetFull v r fault)
+IsSaid g q v r fault = IsFault v r fault ⊎ IsFull g q v r fault
 
 early-said : (g : Geometry) (q : ℕ) (v : Volume) (r : Request) (fault : Fault) → IsEarly g q v r fault → IsSaid g q v r fault
 early-said g q v (Mkdir p) fault (inl f) = inl f
-early-said g q v (Mkdir p) fault (inr f) = inr (inl (inl f))
+early-said g q v (Mkdir p) fault (inr f) = inr (inl f)
 early-said g q v (Create p) fault (inl f) = inl f
-early-said g q v (Create p) fault (inr f) = inr (inl (inl f))
+early-said g q v (Create p) fault (inr f) = inr (inl f)
 early-said g q v (Write p at bytes) fault f = inl f
 early-said g q v (Truncate p size) fault f = inl f
 early-said g q v (Unlink p) fault f = inl f
 early-said g q v (Rmdir p) fault f = inl f
 early-said g q v (Rename p to) fault (inl f) = inl f
-early-said g q v (Rename p to) fault (inr f) = inr (inr f)
+early-said g q v (Rename p to) fault (inr f) = inr (inl f)
 early-said g q v (Read p at count) fault f = inl f
 early-said g q v (ListOf p) fault f = inl f
 early-said g q v (Stat p) fault f = inl f
@@ -332,7 +392,7 @@ space-said g q v (Write p at bytes) fault f = f
 space-said g q v (Truncate p size) fault f = f
 space-said g q v (Unlink p) fault f = no-blocks g v f.0 (unlink-blocks v (target v (way p)) f.0 f.1 f.2) f.3
 space-said g q v (Rmdir p) fault f = no-blocks g v f.0 (rmdir-blocks v (target v (way p)) f.0 f.1 f.2) f.3
-space-said g q v (Rename p to) fault f = f
+space-said g q v (Rename p to) fault f = inr f
 space-said g q v (Read p at count) fault f = asks-makes v (read_in at count) (target v (way p)) f.0 f.1 f.2
 space-said g q v (ListOf p) fault f = asks-makes v list_in (target v (way p)) f.0 f.1 f.2
 space-said g q v (Stat p) fault f = asks-makes v stat_in (target v (way p)) f.0 f.1 f.2
@@ -351,13 +411,13 @@ carried-only g v (Makes n w) fault e = go (nat_lt (free_blocks g v) n) refl e
     go true is h = inr (n, w, refl, ltb-true (free_blocks g v) n is, same-reply NoSpace fault h)
     go false is h = done-refused fault h
 
-pub refused-only : (g : Geometry) (q : ℕ) (v : Volume) (r : Request) (fault : Fault) → IsSound g v → is_named r ≡ true → (step g q v r).reply ≡ Refused fault → IsFault v r fault ⊎ (IsFull g q v r fault ⊎ IsTargetFull v r fault)
+pub refused-only : (g : Geometry) (q : ℕ) (v : Volume) (r : Request) (fault : Fault) → IsSound g v → is_named r ≡ true → (step g q v r).reply ≡ Refused fault → IsFault v r fault ⊎ IsFull g q v r fault
 unfolding step
 refused-only g q v r fault s good e =
     let same : verdict g q v r ≡ act g q v r = cond-true (is_named r) _ _ good in
     elim (carried-only g v (act g q v r) fault (ap (λ (x : Verdict). (carried_out g v x).reply) (sym same) ∙ e)) [
       | inl refuses ↦ early-said g q v r fault (act-early g q v r fault s good refuses)
-      | inr full ↦ inr (inl (space-said g q v r fault full))
+      | inr full ↦ inr (space-said g q v r fault full)
     ]
 
 -- ---- no room
@@ -385,7 +445,8 @@ room-refused g q v (Write p at bytes) fault s good f = step-space g q v (Write p
 room-refused g q v (Truncate p size) fault s good f = step-space g q v (Truncate p size) fault good f
 room-refused g q v (Unlink p) fault s good f = absurd f
 room-refused g q v (Rmdir p) fault s good f = absurd f
-room-refused g q v (Rename p to) fault s good f = step-space g q v (Rename p to) fault good f
+room-refused g q v (Rename p to) fault s good (inl f) = step-refuses g q v (Rename p to) fault good (rename-full g q v p to fault s (and_parts (list_all is_name p) (list_all is_name to) good).1 f)
+room-refused g q v (Rename p to) fault s good (inr f) = step-space g q v (Rename p to) fault good f
 room-refused g q v (Read p at count) fault s good f = absurd f
 room-refused g q v (ListOf p) fault s good f = absurd f
 room-refused g q v (Stat p) fault s good f = absurd f

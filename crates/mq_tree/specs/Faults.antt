@@ -94,6 +94,18 @@ IsAddRoomFault g q v parent fault = (IsFullDir g q v parent × (fault ≡ TooBig
 abbrev pub IsAddFull : Geometry → (queue : ℕ) → Volume → Path → Fault → Type 0
 IsAddFull g q v path fault = (m : IsMissing v path) × IsAddRoomFault g q v m.parent fault
 
+-- Nothing is in the way of an entry that moves, but the directory has no room for it. Within one directory there
+-- is always room.
+pub record IsMoveFull (g : Geometry) (q : ℕ) (v : Volume) (from to : Path) (fault : Fault) : Type 0 where
+  pub some : from ≢ []
+  pub old : Thing
+  pub there : tree v from ≡ Some old
+  pub apart : is_below from to ≡ false
+  pub missing : IsMissing v to
+  pub other : (name : List ℕ) → from ≢ missing.parent ++ name ∷ []
+  pub full : IsFullDir g q v missing.parent
+  pub fault_is : fault ≡ TooBig
+
 -- nothing is in the way of a request, but there is no room
 abbrev pub IsFull : Geometry → (queue : ℕ) → Volume → Request → Fault → Type 0
 IsFull g q v (Mkdir p) fault = IsAddFull g q v p fault ⊎ IsSpaceFault g q v (Mkdir p) fault
@@ -102,21 +114,7 @@ IsFull g q v (Write p at bytes) fault = IsSpaceFault g q v (Write p at bytes) fa
 IsFull g q v (Truncate p size) fault = IsSpaceFault g q v (Truncate p size) fault
 IsFull g q v (Unlink p) fault = ⊥
 IsFull g q v (Rmdir p) fault = ⊥
-IsFull g q v (Rename p to) fault = IsSpaceFault g q v (Rename p to) fault
+IsFull g q v (Rename p to) fault = IsMoveFull g q v p to fault ⊎ IsSpaceFault g q v (Rename p to) fault
 IsFull g q v (Read p at count) fault = ⊥
 IsFull g q v (ListOf p) fault = ⊥
 IsFull g q v (Stat p) fault = ⊥
-
--- without what moves, the directory to which it is to move has as many names as it may have; this says no more
--- of it than that nothing else is in the way
-abbrev pub IsTargetFull : Volume → Request → Fault → Type 0
-IsTargetFull v (Mkdir p) fault = ⊥
-IsTargetFull v (Create p) fault = ⊥
-IsTargetFull v (Write p at bytes) fault = ⊥
-IsTargetFull v (Truncate p size) fault = ⊥
-IsTargetFull v (Unlink p) fault = ⊥
-IsTargetFull v (Rmdir p) fault = ⊥
-IsTargetFull v (Rename p to) fault = IsMissing v to × (fault ≡ TooBig)
-IsTargetFull v (Read p at count) fault = ⊥
-IsTargetFull v (ListOf p) fault = ⊥
-IsTargetFull v (Stat p) fault = ⊥

@@ -4,7 +4,7 @@ ghost use Rattle.std.specs.List.{All, list_all};
 ghost use Rattle.mq_blocks.specs.Geometry.{queues_of};
 ghost use Rattle.mq_blocks.specs.declared.geometry.Geometry.{Geometry};
 ghost use Rattle.mq_layout.specs.Names.{is_name};
-ghost use Rattle.mq_tree.specs.Faults.{IsFault, IsFull, IsTargetFull};
+ghost use Rattle.mq_tree.specs.Faults.{IsFault, IsFull};
 ghost use Rattle.mq_tree.specs.Kept.{HasBytes, IsAdded, IsBare, IsListed, IsRemoved, IsRenamed, IsRewritten};
 ghost use Rattle.mq_tree.specs.Requests.{after_group, cut_to, is_change, is_named, spliced, step};
 ghost use Rattle.mq_tree.specs.Sound.{AreBytes, IsSound};
@@ -62,11 +62,11 @@ pub fn replies_are_those_of_the_tree()
     ensures listed { (g : Geometry) (queue : ℕ) (v : Volume) (path : Path) → IsSound g v → list_all is_name path ≡ true → tree v path ≡ Some ADir → IsListed g queue v path }
 {}
 
-/// A request is refused for what stands at its paths, or for want of room where nothing there is in
-/// the way. Of a target directory that is full, `only` says no more than that.
+/// A request is refused exactly for what stands at its paths, or for want of room where nothing there
+/// is in the way.
 pub fn refusals_are_those_of_the_tree()
     ensures names { (g : Geometry) (queue : ℕ) (v : Volume) (r : Request) → is_named r ≡ false → (step g queue v r).reply ≡ Refused BadName }
     ensures refused { (g : Geometry) (queue : ℕ) (v : Volume) (r : Request) (fault : Fault) → IsSound g v → is_named r ≡ true → IsFault v r fault → (step g queue v r).reply ≡ Refused fault }
     ensures room { (g : Geometry) (queue : ℕ) (v : Volume) (r : Request) (fault : Fault) → IsSound g v → is_named r ≡ true → IsFull g queue v r fault → (step g queue v r).reply ≡ Refused fault }
-    ensures only { (g : Geometry) (queue : ℕ) (v : Volume) (r : Request) (fault : Fault) → IsSound g v → is_named r ≡ true → (step g queue v r).reply ≡ Refused fault → IsFault v r fault ⊎ (IsFull g queue v r fault ⊎ IsTargetFull v r fault) }
+    ensures only { (g : Geometry) (queue : ℕ) (v : Volume) (r : Request) (fault : Fault) → IsSound g v → is_named r ≡ true → (step g queue v r).reply ≡ Refused fault → IsFault v r fault ⊎ IsFull g queue v r fault }
 {}
