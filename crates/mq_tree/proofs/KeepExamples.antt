@@ -1,18 +1,23 @@
 -- The laws of requests on a small file system: their premises hold, and they say what stands where.
-use Rattle.std.proofs.Common.{◌≡◌, ℕ, zero, suc, ◌<◌, List, [], ◌∷◌, refl, ◌∙◌, arith}
+use Rattle.std.proofs.Common.{◌≡◌, ℕ, zero, suc, ◌<◌, ◌⊎◌, inr, true, List, [], ◌∷◌, refl, ◌∙◌, arith}
 use Rattle.std.specs.Prelude.{Some, None}
 use Rattle.std.specs.List.{All}
 use Rattle.mq_blocks.specs.Geometry.{queues_of}
 use Rattle.mq_layout.specs.Names.{is_name}
 use Rattle.mq_tree.specs.Empty.{empty_volume}
-use Rattle.mq_tree.specs.Kept.{HasBytes, IsAdded, IsBare, IsRemoved, IsRenamed, IsRewritten}
-use Rattle.mq_tree.specs.Requests.{after_group, cut_to, spliced, step}
+use Rattle.mq_tree.specs.Faults.{IsFault, IsFull}
+use Rattle.mq_tree.specs.Kept.{HasBytes, IsAdded, IsBare, IsListed, IsRemoved, IsRenamed, IsRewritten}
+use Rattle.mq_tree.specs.Requests.{after_group, cut_to, is_named, spliced, step}
 use Rattle.mq_tree.specs.Sound.{AreBytes, IsSound}
 use Rattle.mq_tree.specs.Volume.{ADir, AFile, Volume, tree}
-use Rattle.mq_tree.specs.declared.request.Reply.TheVariants.{Ok as Done}
+use Rattle.mq_tree.specs.declared.request.Fault.TheVariants.{Exists, NoSpace}
+use Rattle.mq_tree.specs.declared.request.Reply.TheVariants.{Ok as Done, Refused}
 use Rattle.mq_tree.specs.declared.request.Request.TheVariants.{Mkdir, Create, Write, Truncate, Unlink, Rmdir, Rename}
 use Rattle.mq_tree.proofs.Empties.{empty-sound}
 use Rattle.mq_tree.proofs.Examples.{a, f, first, small, v}
+use Rattle.mq_tree.proofs.KeepAsks.{listed}
+use Rattle.mq_tree.proofs.KeepExact.{refused-only}
+use Rattle.mq_tree.proofs.KeepRefusals.{tree-refused}
 use Rattle.mq_tree.proofs.KeepSteps.{group-sound, ok-create, ok-mkdir, ok-rename, ok-rmdir, ok-truncate, ok-unlink, ok-write, step-sound}
 
 one-queue : 0 < queues_of small
@@ -103,3 +108,32 @@ file-after = renamed.here (f ∷ []) ∙ file-before
 
 file-gone : tree (step small 0 v (Rename (a ∷ []) (f ∷ []))).next (a ∷ f ∷ []) ≡ None
 file-gone = renamed.gone (f ∷ [])
+
+-- ---- refusals
+
+exists-named : is_named (Mkdir (a ∷ [])) ≡ true
+unfolding is_name
+exists-named = refl
+
+the-directory : tree v (a ∷ []) ≡ Some ADir
+unfolding step after_group small is_name
+the-directory = refl
+
+exists : (step small 0 v (Mkdir (a ∷ []))).reply ≡ Refused Exists
+exists = tree-refused small 0 v (Mkdir (a ∷ [])) Exists sound exists-named (inr (ADir, the-directory, refl))
+
+-- no block is left
+space-named : is_named (Truncate (a ∷ f ∷ []) 5000) ≡ true
+unfolding is_name
+space-named = refl
+
+space-refused : (step small 0 v (Truncate (a ∷ f ∷ []) 5000)).reply ≡ Refused NoSpace
+unfolding step after_group small is_name
+space-refused = refl
+
+no-space : IsFault v (Truncate (a ∷ f ∷ []) 5000) NoSpace ⊎ IsFull small 0 v (Truncate (a ∷ f ∷ []) 5000) NoSpace
+no-space = refused-only small 0 v (Truncate (a ∷ f ∷ []) 5000) NoSpace sound space-named space-refused
+
+-- what is read and listed
+listed-names : IsListed small 0 v (a ∷ [])
+listed-names = listed small 0 v (a ∷ []) sound exists-named the-directory

@@ -5,30 +5,27 @@ use Rattle.std.specs.List.{list_all}
 use Rattle.std.proofs.lemmas.List.{reverse-reverse}
 use Rattle.std.proofs.lemmas.Option.{same_Some}
 use Rattle.std.proofs.lemmas.List.Folds.{list_all-append}
-use Rattle.std.proofs.lemmas.Bool.{and_parts, cond-false, cond-true, eqb-false, false_from_ne_true, le-leb, leb-false, leb-true, lt-ltb, ltb-true, cases_eq, true≢false}
+use Rattle.std.proofs.lemmas.Bool.{and_parts, cond-false, cond-true, eqb-false, false_from_ne_true, le-leb, leb-false, leb-true, ltb-true, cases_eq, true≢false}
 use Rattle.mq_blocks.specs.declared.geometry.Geometry.{Geometry}
 use Rattle.mq_layout.specs.Names.{is_name}
 use Rattle.mq_layout.specs.Places.{file_limit, names_limit}
 use Rattle.mq_layout.specs.Slots.{Entry}
-use Rattle.mq_tree.specs.Faults.{IsAddFault, IsAddFull, IsAddRoomFault, IsDirFault, IsFault, IsFileFault, IsFull, IsFullDir, IsLost, IsMissing, IsMoveFull, IsMoveFault, IsRenameFault, IsRmdirFault, IsSizeFault, IsSpaceFault, IsUnfound}
-use Rattle.mq_tree.specs.Free.{first_free, free_blocks}
+use Rattle.mq_tree.specs.Faults.{IsAddFault, IsAddFull, IsAddRoomFault, IsDirFault, IsFileFault, IsFullDir, IsLost, IsMissing, IsMoveFull, IsMoveFault, IsRenameFault, IsRmdirFault, IsSizeFault, IsUnfound}
+use Rattle.mq_tree.specs.Free.{first_free}
 use Rattle.mq_tree.specs.Kept.{IsBare}
-use Rattle.mq_tree.specs.Requests.{Root, Lost, In, Outcome, Target, Verdict, Says, Makes, act, asks, carried_out, count_names, cut_to, freed, is_below, is_named, list_in, make, make_free, move, read_in, refused, rename, rmdir, rmdir_in, set_bytes, spliced, stat_in, step, target, truncate, truncate_in, unlink, unlink_in, unlinked, verdict, write, write_in}
+use Rattle.mq_tree.specs.Requests.{Root, Lost, In, Target, Verdict, Says, Makes, asks, count_names, cut_to, freed, is_below, list_in, make, make_free, move, read_in, refused, rename, rmdir, rmdir_in, set_bytes, spliced, stat_in, step, target, truncate, truncate_in, unlink, unlink_in, unlinked, write, write_in}
 use Rattle.mq_tree.specs.Sound.{IsSound}
 use Rattle.mq_tree.specs.Volume.{ADir, AFile, Body, Free, File, Dir, Path, Thing, Volume, Way, body, inode_at, is_used, slots_of, thing, tree, way}
 use Rattle.mq_tree.specs.declared.request.Fault.{Fault}
-use Rattle.mq_tree.specs.declared.request.Fault.TheVariants.{NotFound, Exists, NotDir, IsDir, NotEmpty, BadName, TooBig, Subtree, NoSpace, NoInodes}
+use Rattle.mq_tree.specs.declared.request.Fault.TheVariants.{NotFound, Exists, NotDir, IsDir, NotEmpty, BadName, TooBig, Subtree, NoInodes}
 use Rattle.mq_tree.specs.declared.request.Reply.{Reply}
-use Rattle.mq_tree.specs.declared.request.Reply.TheVariants.{Ok as Done, Data, Names, File as Size, Dir as Count, Refused}
-use Rattle.mq_tree.specs.declared.request.Request.{Request}
-use Rattle.mq_tree.specs.declared.request.Request.TheVariants.{Mkdir, Create, Write, Truncate, Unlink, Rmdir, Rename, Read, List as ListOf, Stat}
-use Rattle.mq_tree.proofs.KeepAsks.{answers-says, reads-leads}
+use Rattle.mq_tree.specs.declared.request.Reply.TheVariants.{Data, Names, File as Size, Dir as Count, Refused}
+use Rattle.mq_tree.specs.declared.request.Request.TheVariants.{Stat}
+use Rattle.mq_tree.proofs.KeepAsks.{reads-leads}
 use Rattle.mq_tree.proofs.KeepChanges.{unlinked-other, unlinked-room}
 use Rattle.mq_tree.proofs.KeepFaults.{IsView, missing-target, path-of, target-view, there-target, used-there}
 use Rattle.mq_tree.proofs.KeepPaths.{IsTree, one-way, thing-here}
 use Rattle.mq_tree.proofs.KeepRefusals.{bare-count}
-use Rattle.mq_tree.proofs.KeepSteps.{asks-makes}
-use Rattle.mq_tree.proofs.KeepVerdicts.{makes-parts, makes-then, says-makes}
 use Rattle.mq_tree.proofs.KeepTargets.{IsIn, way-append}
 use Rattle.mq_tree.proofs.KeepVolumes.{dir-slots, sound-nodes, sound-tree}
 
@@ -102,7 +99,7 @@ full-dir g q v p d k good at dir f =
     let l = f.2 in
     omega arith
 
-make-only : (g : Geometry) (q : ℕ) (v : Volume) (new : Body) (p : Path) (fault : Fault) → IsTree v → list_all is_name p ≡ true → make g q v new (target v (way p)) ≡ refused fault → IsAddFault v p fault ⊎ IsAddFull g q v p fault
+pub make-only : (g : Geometry) (q : ℕ) (v : Volume) (new : Body) (p : Path) (fault : Fault) → IsTree v → list_all is_name p ≡ true → make g q v new (target v (way p)) ≡ refused fault → IsAddFault v p fault ⊎ IsAddFull g q v p fault
 make-only g q v new p fault k good e = add-only v p fault (λ t. make g q v new t) (IsAddFull g q v p fault) k refl (λ f. refl) (λ d name i. refl) room (target v (way p)) (target-view v p k) e
   where
     no-inode : (d : ℕ) (name : List ℕ) (o : Option ℕ) → first_free 0 v ≡ o → make_free g q v new d name o ≡ refused fault → (first_free 0 v ≡ None) × (fault ≡ NoInodes)
@@ -123,7 +120,7 @@ make-only g q v new p fault k good e = add-only v p fault (λ t. make g q v new 
         ]
 
 -- the other way round
-make-full : (g : Geometry) (q : ℕ) (v : Volume) (new : Body) (p : Path) (fault : Fault) → IsTree v → list_all is_name p ≡ true → IsAddFull g q v p fault → make g q v new (target v (way p)) ≡ refused fault
+pub make-full : (g : Geometry) (q : ℕ) (v : Volume) (new : Body) (p : Path) (fault : Fault) → IsTree v → list_all is_name p ≡ true → IsAddFull g q v p fault → make g q v new (target v (way p)) ≡ refused fault
 make-full g q v new p fault k good f = go f.0 f.1
   where
     go : (m : IsMissing v p) → IsAddRoomFault g q v m.parent fault → make g q v new (target v (way p)) ≡ refused fault
@@ -150,15 +147,15 @@ size-body g q v p size fault i verdict_on change dirs files at used (File old) i
   | inr made ↦ makes-refused _ _ fault made.1
 ]
 
-write-only : (g : Geometry) (q : ℕ) (v : Volume) (p : Path) (at : ℕ) (new : List ℕ) (fault : Fault) → IsTree v → write g q v at new (target v (way p)) ≡ refused fault → IsSizeFault v p (at + length new) fault
+pub write-only : (g : Geometry) (q : ℕ) (v : Volume) (p : Path) (at : ℕ) (new : List ℕ) (fault : Fault) → IsTree v → write g q v at new (target v (way p)) ≡ refused fault → IsSizeFault v p (at + length new) fault
 write-only g q v p at new fault k e = target-only v p fault (λ t. write g q v at new t) (IsBytesFault v p (at + length new) fault) (λ f. refl) (λ d name. refl) (λ is h. inl (root-tree v p k is, same-refused IsDir fault h))
     (λ d name i view h. size-body g q v p (at + length new) fault i (λ b. write_in g q v i at new b) (λ old. spliced at new old) (λ slots. refl) (λ old. refl) view.1 view.2 (body v i) refl h) (target v (way p)) (target-view v p k) e
 
-truncate-only : (g : Geometry) (q : ℕ) (v : Volume) (p : Path) (size : ℕ) (fault : Fault) → IsTree v → truncate g q v size (target v (way p)) ≡ refused fault → IsSizeFault v p size fault
+pub truncate-only : (g : Geometry) (q : ℕ) (v : Volume) (p : Path) (size : ℕ) (fault : Fault) → IsTree v → truncate g q v size (target v (way p)) ≡ refused fault → IsSizeFault v p size fault
 truncate-only g q v p size fault k e = target-only v p fault (λ t. truncate g q v size t) (IsBytesFault v p size fault) (λ f. refl) (λ d name. refl) (λ is h. inl (root-tree v p k is, same-refused IsDir fault h))
     (λ d name i view h. size-body g q v p size fault i (λ b. truncate_in g q v i size b) (λ old. cut_to size old) (λ slots. refl) (λ old. refl) view.1 view.2 (body v i) refl h) (target v (way p)) (target-view v p k) e
 
-unlink-only : (v : Volume) (p : Path) (fault : Fault) → IsTree v → unlink v (target v (way p)) ≡ refused fault → IsUnfound v p fault ⊎ IsDirFault v p fault
+pub unlink-only : (v : Volume) (p : Path) (fault : Fault) → IsTree v → unlink v (target v (way p)) ≡ refused fault → IsUnfound v p fault ⊎ IsDirFault v p fault
 unlink-only v p fault k e = target-only v p fault (λ t. unlink v t) (IsDirFault v p fault) (λ f. refl) (λ d name. refl) (λ is h. (root-tree v p k is, same-refused IsDir fault h)) (λ d name i view h. go d name i view.1 view.2 (body v i) refl h)
     (target v (way p)) (target-view v p k) e
   where
@@ -170,7 +167,7 @@ unlink-only v p fault k e = target-only v p fault (λ t. unlink v t) (IsDirFault
 abbrev IsEmptyFault : Volume → Path → Fault → Type 0
 IsEmptyFault v p fault = (p ≢ []) × (tree v p ≡ Some ADir) × (IsBare v p → ⊥) × (fault ≡ NotEmpty)
 
-rmdir-only : (g : Geometry) (v : Volume) (p : Path) (fault : Fault) → IsSound g v → rmdir v (target v (way p)) ≡ refused fault → IsRmdirFault v p fault
+pub rmdir-only : (g : Geometry) (v : Volume) (p : Path) (fault : Fault) → IsSound g v → rmdir v (target v (way p)) ≡ refused fault → IsRmdirFault v p fault
 rmdir-only g v p fault s e = order (target-only v p fault (λ t. rmdir v t) (((p ≡ []) × (fault ≡ BadName)) ⊎ (IsFileFault v p fault ⊎ IsEmptyFault v p fault)) (λ f. refl) (λ d name. refl)
     (λ is h. inl (is, same-refused BadName fault h)) (λ d name i view h. go d name i view.0 view.1 view.2 (body v i) refl h) (target v (way p)) (target-view v p (sound-tree g v s)) e)
   where
@@ -221,7 +218,7 @@ target-full g q v from to d name i c s good source m at big = elim (cases_eq c d
       (λ other is. apart (parent-same v from m.parent d c name other (Some i) k source at is), (count_names (slots_of (body v c)), stat-count g q v m.parent c k (parent-good v to m good) at m.directory, omega arith))
 ]
 
-rename-only : (g : Geometry) (q : ℕ) (v : Volume) (from to : Path) (fault : Fault) → IsSound g v → list_all is_name to ≡ true → rename g q v from to (target v (way from)) ≡ refused fault → IsRenameFault v from to fault ⊎ IsMoveFull g q v from to fault
+pub rename-only : (g : Geometry) (q : ℕ) (v : Volume) (from to : Path) (fault : Fault) → IsSound g v → list_all is_name to ≡ true → rename g q v from to (target v (way from)) ≡ refused fault → IsRenameFault v from to fault ⊎ IsMoveFull g q v from to fault
 rename-only g q v from to fault s good e = order (target-only v from fault (λ t. rename g q v from to t) (IsMoveOnly g q v from to fault) (λ f. refl) (λ d name. refl) (λ is h. inl (is, same-refused Subtree fault h)) there (target v (way from)) (target-view v from (sound-tree g v s)) e)
   where
     room : (d : ℕ) (name : List ℕ) (i : ℕ) → IsView v from (In d name (Some i)) → is_below from to ≡ false → (c : ℕ) (new : List ℕ) → IsView v to (In c new None) → move g q (unlinked v d name) i (In c new None) ≡ refused fault → IsMoveFull g q v from to fault
@@ -244,7 +241,7 @@ rename-only g q v from to fault s good e = order (target-only v from fault (λ t
           | inl below ↦ inr (inl (t.0, view.0, is, inl below))
           | inr apart ↦
               elim (add-only v to fault (λ x. move g q u i x) (IsMoveFull g q v from to fault) (sound-tree g v s) refl (λ f. refl) (λ c new j. refl) (λ c new missing k. room d name i view apart.0 c new missing k) (target v (way to))
-                (target-view v to (sound-tree g v s)) apart.1) [
+              (target-view v to (sound-tree g v s)) apart.1) [
                 | inl add ↦ inr (inl (t.0, view.0, is, inr (apart.0, add)))
                 | inr full ↦ inr (inr full)
               ]
@@ -257,7 +254,7 @@ rename-only g q v from to fault s good e = order (target-only v from fault (λ t
     order (inr (inr (inr full))) = inr full
 
 -- the other way round
-rename-full : (g : Geometry) (q : ℕ) (v : Volume) (from to : Path) (fault : Fault) → IsSound g v → list_all is_name to ≡ true → IsMoveFull g q v from to fault → rename g q v from to (target v (way from)) ≡ refused fault
+pub rename-full : (g : Geometry) (q : ℕ) (v : Volume) (from to : Path) (fault : Fault) → IsSound g v → list_all is_name to ≡ true → IsMoveFull g q v from to fault → rename g q v from to (target v (way from)) ≡ refused fault
 rename-full g q v from to fault s good f =
     let k = sound-tree g v s in
     let m = f.missing in
@@ -287,166 +284,26 @@ size-refused size fault e = absurd (cc)
 count-refused : {R : Type 0} (count : ℕ) (fault : Fault) → Count count ≡ Refused fault → R
 count-refused count fault e = absurd (cc)
 
-same-reply : (f fault : Fault) → Refused f ≡ Refused fault → fault ≡ f
+pub same-reply : (f fault : Fault) → Refused f ≡ Refused fault → fault ≡ f
 same-reply f fault e = cc
 
-asks-only : (v : Volume) (p : Path) (fault : Fault) (reply : Body → Reply) (P : Type 0) → IsTree v → ((i : ℕ) (b : Body) → inode_at v (way p) ≡ Some i → is_used b ≡ true → body v i ≡ b → reply b ≡ Refused fault → P)
+pub asks-only : (v : Volume) (p : Path) (fault : Fault) (reply : Body → Reply) (P : Type 0) → IsTree v → ((i : ℕ) (b : Body) → inode_at v (way p) ≡ Some i → is_used b ≡ true → body v i ≡ b → reply b ≡ Refused fault → P)
     → asks v reply (target v (way p)) ≡ refused fault → IsUnfound v p fault ⊎ P
 asks-only v p fault reply P k on e = target-only v p fault (λ t. asks v reply t) P (λ f. refl) (λ d name. refl)
     (λ is h. let r = dir-slots (body v 0) k.root in on 0 (body v 0) (ap (λ (x : Path). inode_at v (way x)) is) (ap (λ (b : Body). is_used b) r.1) refl (says-refused (reply (body v 0)) fault h))
     (λ d name i view h. on i (body v i) view.1 view.2 refl (says-refused (reply (body v i)) fault h)) (target v (way p)) (target-view v p k) e
 
-read-body : (v : Volume) (p : Path) (fault : Fault) (at count : ℕ) (i : ℕ) (b : Body) → inode_at v (way p) ≡ Some i → is_used b ≡ true → body v i ≡ b → read_in at count b ≡ Refused fault → IsDirFault v p fault
+pub read-body : (v : Volume) (p : Path) (fault : Fault) (at count : ℕ) (i : ℕ) (b : Body) → inode_at v (way p) ≡ Some i → is_used b ≡ true → body v i ≡ b → read_in at count b ≡ Refused fault → IsDirFault v p fault
 read-body v p fault at count i Free leads used is e = absurd (true≢false (sym used))
 read-body v p fault at count i (File bytes) leads used is e = data-refused _ fault e
 read-body v p fault at count i (Dir slots) leads used is e = (body-tree v p i (Dir slots) leads is, same-reply IsDir fault e)
 
-list-body : (v : Volume) (p : Path) (fault : Fault) (i : ℕ) (b : Body) → inode_at v (way p) ≡ Some i → is_used b ≡ true → body v i ≡ b → list_in b ≡ Refused fault → IsFileFault v p fault
+pub list-body : (v : Volume) (p : Path) (fault : Fault) (i : ℕ) (b : Body) → inode_at v (way p) ≡ Some i → is_used b ≡ true → body v i ≡ b → list_in b ≡ Refused fault → IsFileFault v p fault
 list-body v p fault i Free leads used is e = absurd (true≢false (sym used))
 list-body v p fault i (File bytes) leads used is e = (bytes, body-tree v p i (File bytes) leads is, same-reply NotDir fault e)
 list-body v p fault i (Dir slots) leads used is e = names-refused _ fault e
 
-stat-body : (v : Volume) (p : Path) (fault : Fault) (i : ℕ) (b : Body) → inode_at v (way p) ≡ Some i → is_used b ≡ true → body v i ≡ b → stat_in b ≡ Refused fault → ⊥
+pub stat-body : (v : Volume) (p : Path) (fault : Fault) (i : ℕ) (b : Body) → inode_at v (way p) ≡ Some i → is_used b ≡ true → body v i ≡ b → stat_in b ≡ Refused fault → ⊥
 stat-body v p fault i Free leads used is e = true≢false (sym used)
 stat-body v p fault i (File bytes) leads used is e = size-refused _ fault e
 stat-body v p fault i (Dir slots) leads used is e = count-refused _ fault e
-
--- ---- all of them
-
--- what refuses a request before its blocks are counted
-abbrev IsEarly : Geometry → ℕ → Volume → Request → Fault → Type 0
-IsEarly g q v (Mkdir p) fault = IsAddFault v p fault ⊎ IsAddFull g q v p fault
-IsEarly g q v (Create p) fault = IsAddFault v p fault ⊎ IsAddFull g q v p fault
-IsEarly g q v (Write p at bytes) fault = IsSizeFault v p (at + length bytes) fault
-IsEarly g q v (Truncate p size) fault = IsSizeFault v p size fault
-IsEarly g q v (Unlink p) fault = IsUnfound v p fault ⊎ IsDirFault v p fault
-IsEarly g q v (Rmdir p) fault = IsRmdirFault v p fault
-IsEarly g q v (Rename p to) fault = IsRenameFault v p to fault ⊎ IsMoveFull g q v p to fault
-IsEarly g q v (Read p at count) fault = IsUnfound v p fault ⊎ IsDirFault v p fault
-IsEarly g q v (ListOf p) fault = IsUnfound v p fault ⊎ IsFileFault v p fault
-IsEarly g q v (Stat p) fault = IsUnfound v p fault
-
-act-early : (g : Geometry) (q : ℕ) (v : Volume) (r : Request) (fault : Fault) → IsSound g v → is_named r ≡ true → act g q v r ≡ refused fault → IsEarly g q v r fault
-act-early g q v (Mkdir p) fault s good e = make-only g q v (Dir []) p fault (sound-tree g v s) good e
-act-early g q v (Create p) fault s good e = make-only g q v (File []) p fault (sound-tree g v s) good e
-act-early g q v (Write p at bytes) fault s good e = write-only g q v p at bytes fault (sound-tree g v s) e
-act-early g q v (Truncate p size) fault s good e = truncate-only g q v p size fault (sound-tree g v s) e
-act-early g q v (Unlink p) fault s good e = unlink-only v p fault (sound-tree g v s) e
-act-early g q v (Rmdir p) fault s good e = rmdir-only g v p fault s e
-act-early g q v (Rename p to) fault s good e = rename-only g q v p to fault s (and_parts (list_all is_name p) (list_all is_name to) good).1 e
-act-early g q v (Read p at count) fault s good e = asks-only v p fault (read_in at count) (IsDirFault v p fault) (sound-tree g v s) (λ i b leads used is h. read-body v p fault at count i b leads used is h) e
-act-early g q v (ListOf p) fault s good e = asks-only v p fault list_in (IsFileFault v p fault) (sound-tree g v s) (λ i b leads used is h. list-body v p fault i b leads used is h) e
-act-early g q v (Stat p) fault s good e = elim (asks-only v p fault stat_in ⊥ (sound-tree g v s) (λ i b leads used is h. stat-body v p fault i b leads used is h) e) [ inl u ↦ u | inr never ↦ absurd never ]
-
--- the tree says so, or there is no room
-abbrev IsSaid : Geometry → ℕ → Volume → Request → Fault → Type 0
-IsSaid g q v r fault = IsFault v r fault ⊎ IsFull g q v r fault
-
-early-said : (g : Geometry) (q : ℕ) (v : Volume) (r : Request) (fault : Fault) → IsEarly g q v r fault → IsSaid g q v r fault
-early-said g q v (Mkdir p) fault (inl f) = inl f
-early-said g q v (Mkdir p) fault (inr f) = inr (inl f)
-early-said g q v (Create p) fault (inl f) = inl f
-early-said g q v (Create p) fault (inr f) = inr (inl f)
-early-said g q v (Write p at bytes) fault f = inl f
-early-said g q v (Truncate p size) fault f = inl f
-early-said g q v (Unlink p) fault f = inl f
-early-said g q v (Rmdir p) fault f = inl f
-early-said g q v (Rename p to) fault (inl f) = inl f
-early-said g q v (Rename p to) fault (inr f) = inr (inl f)
-early-said g q v (Read p at count) fault f = inl f
-early-said g q v (ListOf p) fault f = inl f
-early-said g q v (Stat p) fault f = inl f
-
--- ---- blocks
-
--- no request without new blocks needs more than are free
-no-blocks : (g : Geometry) (v : Volume) (n : ℕ) → n ≡ 0 → free_blocks g v < n → ⊥
-no-blocks g v n e l = omega arith
-
-unlink-blocks : (v : Volume) (t : Target) (n : ℕ) (w : Volume) → unlink v t ≡ Makes n w → n ≡ 0
-unlink-blocks v Root n w e = says-makes _ n w e
-unlink-blocks v (Lost fault) n w e = says-makes _ n w e
-unlink-blocks v (In d name None) n w e = says-makes _ n w e
-unlink-blocks v (In d name (Some i)) n w e = go (body v i) e
-  where
-    go : (b : Body) → unlink_in v d name i b ≡ Makes n w → n ≡ 0
-    go Free h = says-makes _ n w h
-    go (File old) h = (makes-parts 0 n (freed (unlinked v d name) i) w h).0
-    go (Dir slots) h = says-makes _ n w h
-
-rmdir-blocks : (v : Volume) (t : Target) (n : ℕ) (w : Volume) → rmdir v t ≡ Makes n w → n ≡ 0
-rmdir-blocks v Root n w e = says-makes _ n w e
-rmdir-blocks v (Lost fault) n w e = says-makes _ n w e
-rmdir-blocks v (In d name None) n w e = says-makes _ n w e
-rmdir-blocks v (In d name (Some i)) n w e = go (body v i) e
-  where
-    go : (b : Body) → rmdir_in v d name i b ≡ Makes n w → n ≡ 0
-    go Free h = says-makes _ n w h
-    go (File old) h = says-makes _ n w h
-    go (Dir slots) h = let r = makes-then (nat_eq (count_names slots) 0) NotEmpty (Makes 0 (freed (unlinked v d name) i)) n w h in (makes-parts 0 n (freed (unlinked v d name) i) w r.1).0
-
-space-said : (g : Geometry) (q : ℕ) (v : Volume) (r : Request) (fault : Fault) → IsSpaceFault g q v r fault → IsFull g q v r fault
-space-said g q v (Mkdir p) fault f = inr f
-space-said g q v (Create p) fault f = inr f
-space-said g q v (Write p at bytes) fault f = f
-space-said g q v (Truncate p size) fault f = f
-space-said g q v (Unlink p) fault f = no-blocks g v f.0 (unlink-blocks v (target v (way p)) f.0 f.1 f.2) f.3
-space-said g q v (Rmdir p) fault f = no-blocks g v f.0 (rmdir-blocks v (target v (way p)) f.0 f.1 f.2) f.3
-space-said g q v (Rename p to) fault f = inr f
-space-said g q v (Read p at count) fault f = asks-makes v (read_in at count) (target v (way p)) f.0 f.1 f.2
-space-said g q v (ListOf p) fault f = asks-makes v list_in (target v (way p)) f.0 f.1 f.2
-space-said g q v (Stat p) fault f = asks-makes v stat_in (target v (way p)) f.0 f.1 f.2
-
-done-refused : {R : Type 0} (fault : Fault) → Done ≡ Refused fault → R
-done-refused fault e = absurd (cc)
-
-abbrev outcome : Bool → Volume → Volume → Outcome
-outcome full v w = cond full (record { reply = Refused NoSpace; next = v }) (record { reply = Done; next = w })
-
-carried-only : (g : Geometry) (v : Volume) (x : Verdict) (fault : Fault) → (carried_out g v x).reply ≡ Refused fault → (x ≡ refused fault) ⊎ ((n : ℕ) × (w : Volume) × (x ≡ Makes n w) × (free_blocks g v < n) × (fault ≡ NoSpace))
-carried-only g v (Says reply) fault e = inl (ap (λ (r : Reply). Says r) e)
-carried-only g v (Makes n w) fault e = go (nat_lt (free_blocks g v) n) refl e
-  where
-    go : (b : Bool) → nat_lt (free_blocks g v) n ≡ b → (outcome b v w).reply ≡ Refused fault → (Makes n w ≡ refused fault) ⊎ ((m : ℕ) × (u : Volume) × (Makes n w ≡ Makes m u) × (free_blocks g v < m) × (fault ≡ NoSpace))
-    go true is h = inr (n, w, refl, ltb-true (free_blocks g v) n is, same-reply NoSpace fault h)
-    go false is h = done-refused fault h
-
-pub refused-only : (g : Geometry) (q : ℕ) (v : Volume) (r : Request) (fault : Fault) → IsSound g v → is_named r ≡ true → (step g q v r).reply ≡ Refused fault → IsFault v r fault ⊎ IsFull g q v r fault
-unfolding step
-refused-only g q v r fault s good e =
-    let same : verdict g q v r ≡ act g q v r = cond-true (is_named r) _ _ good in
-    elim (carried-only g v (act g q v r) fault (ap (λ (x : Verdict). (carried_out g v x).reply) (sym same) ∙ e)) [
-      | inl refuses ↦ early-said g q v r fault (act-early g q v r fault s good refuses)
-      | inr full ↦ inr (space-said g q v r fault full)
-    ]
-
--- ---- no room
-
-space-reply : (g : Geometry) (v : Volume) (x : Verdict) (n : ℕ) (w : Volume) (fault : Fault) → x ≡ Makes n w → free_blocks g v < n → fault ≡ NoSpace → (carried_out g v x).reply ≡ Refused fault
-space-reply g v x n w fault e l same =
-    ap (λ (y : Verdict). (carried_out g v y).reply) e ∙ ap (λ (b : Bool). (outcome b v w).reply) (lt-ltb (free_blocks g v) n l) ∙ ap (λ (f : Fault). Refused f) (sym same)
-
-step-space : (g : Geometry) (q : ℕ) (v : Volume) (r : Request) (fault : Fault) → is_named r ≡ true → IsSpaceFault g q v r fault → (step g q v r).reply ≡ Refused fault
-unfolding step
-step-space g q v r fault good f =
-    let same : verdict g q v r ≡ act g q v r = cond-true (is_named r) _ _ good in
-    ap (λ (x : Verdict). (carried_out g v x).reply) same ∙ space-reply g v (act g q v r) f.0 f.1 fault f.2 f.3 f.4
-
-step-refuses : (g : Geometry) (q : ℕ) (v : Volume) (r : Request) (fault : Fault) → is_named r ≡ true → act g q v r ≡ refused fault → (step g q v r).reply ≡ Refused fault
-unfolding step
-step-refuses g q v r fault good e = answers-says g v (is_named r) (act g q v r) (Refused fault) good e
-
-pub room-refused : (g : Geometry) (q : ℕ) (v : Volume) (r : Request) (fault : Fault) → IsSound g v → is_named r ≡ true → IsFull g q v r fault → (step g q v r).reply ≡ Refused fault
-room-refused g q v (Mkdir p) fault s good (inl f) = step-refuses g q v (Mkdir p) fault good (make-full g q v (Dir []) p fault (sound-tree g v s) good f)
-room-refused g q v (Mkdir p) fault s good (inr f) = step-space g q v (Mkdir p) fault good f
-room-refused g q v (Create p) fault s good (inl f) = step-refuses g q v (Create p) fault good (make-full g q v (File []) p fault (sound-tree g v s) good f)
-room-refused g q v (Create p) fault s good (inr f) = step-space g q v (Create p) fault good f
-room-refused g q v (Write p at bytes) fault s good f = step-space g q v (Write p at bytes) fault good f
-room-refused g q v (Truncate p size) fault s good f = step-space g q v (Truncate p size) fault good f
-room-refused g q v (Unlink p) fault s good f = absurd f
-room-refused g q v (Rmdir p) fault s good f = absurd f
-room-refused g q v (Rename p to) fault s good (inl f) = step-refuses g q v (Rename p to) fault good (rename-full g q v p to fault s (and_parts (list_all is_name p) (list_all is_name to) good).1 f)
-room-refused g q v (Rename p to) fault s good (inr f) = step-space g q v (Rename p to) fault good f
-room-refused g q v (Read p at count) fault s good f = absurd f
-room-refused g q v (ListOf p) fault s good f = absurd f
-room-refused g q v (Stat p) fault s good f = absurd f

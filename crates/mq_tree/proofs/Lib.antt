@@ -6,6 +6,7 @@ pub mod Examples
 pub mod KeepAsks
 pub mod KeepChanges
 pub mod KeepCut
+pub mod KeepExact
 pub mod KeepExamples
 pub mod KeepFaults
 pub mod KeepFree

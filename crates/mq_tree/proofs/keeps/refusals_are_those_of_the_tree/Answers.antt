@@ -1,4 +1,4 @@
-use Rattle.mq_tree.proofs.KeepOnly.{refused-only, room-refused}
+use Rattle.mq_tree.proofs.KeepExact.{refused-only, room-refused}
 use Rattle.mq_tree.proofs.KeepRefusals.{name-refused, tree-refused}
 use Rattle.mq_tree.proofs.keeps.refusals_are_those_of_the_tree.Goals as goal
 
