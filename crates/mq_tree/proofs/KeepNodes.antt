@@ -193,7 +193,7 @@ zeros n = replicate n 0
 zeros-length : (n : ℕ) → length (zeros n) ≡ n
 zeros-length n = length-replicate n 0
 
-zeros-at : (n k : ℕ) → get_or (zeros n) k 0 ≡ 0
+pub zeros-at : (n k : ℕ) → get_or (zeros n) k 0 ≡ 0
 zeros-at n k = elim (cases_lt k n) [
   | inl low ↦ get_or-replicate n k 0 0 low
   | inr past ↦ get_or_past (zeros n) k 0 (let s = zeros-length n in omega arith)

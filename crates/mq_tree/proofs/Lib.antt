@@ -4,6 +4,7 @@ pub mod Decoding
 pub mod Empties
 pub mod Examples
 pub mod KeepAsks
+pub mod KeepBytes
 pub mod KeepChanges
 pub mod KeepCut
 pub mod KeepExact

@@ -1,5 +1,5 @@
 -- What requests do to the tree, path by path.
-use Rattle.std.specs.Prelude.{◌≡◌, ◌≢◌, ℕ, List, [], ◌∷◌, ◌++◌, length, Some, None, true}
+use Rattle.std.specs.Prelude.{◌≡◌, ◌≢◌, ℕ, List, [], ◌∷◌, ◌++◌, length, Some, None, true, ◌<◌, ◌≤◌, ◌+◌, ◌⊎◌, max, slice_index}
 use Rattle.std.specs.Bool.{⊤}
 use Rattle.std.specs.Cmp.Lexicographic.{slice_cmp}
 use Rattle.std.specs.List.{Contains}
@@ -41,6 +41,19 @@ pub record IsRewritten (v w : Volume) (path : Path) (change : List ℕ → List 
   pub before : tree v path ≡ Some (AFile old)
   pub here : tree w path ≡ Some (AFile (change old))
   pub others : AreOthers v w path
+
+-- What a `Write` makes of the bytes of a file, read as zeros past their end.
+pub record IsSpliced (at : ℕ) (bytes old new : List ℕ) : Type 0 where
+  -- without bytes nothing changes
+  pub none : bytes ≡ [] → new ≡ old
+  pub size : bytes ≢ [] → length new ≡ max (length old) (at + length bytes)
+  pub here : (k : ℕ) → k < length bytes → slice_index new (at + k) ≡ slice_index bytes k
+  pub others : (k : ℕ) → (k < at) ⊎ (at + length bytes ≤ k) → slice_index new k ≡ slice_index old k
+
+-- what a `Truncate` makes of them
+pub record IsCut (size : ℕ) (old new : List ℕ) : Type 0 where
+  pub length_is : length new ≡ size
+  pub bytes : (k : ℕ) → k < size → slice_index new k ≡ slice_index old k
 
 -- the path had this, and has nothing
 pub record IsRemoved (v w : Volume) (path : Path) (old : Thing) : Type 0 where

@@ -5,7 +5,7 @@ ghost use Rattle.mq_blocks.specs.Geometry.{queues_of};
 ghost use Rattle.mq_blocks.specs.declared.geometry.Geometry.{Geometry};
 ghost use Rattle.mq_layout.specs.Names.{is_name};
 ghost use Rattle.mq_tree.specs.Faults.{IsFault, IsFull};
-ghost use Rattle.mq_tree.specs.Kept.{HasBytes, IsAdded, IsBare, IsListed, IsRemoved, IsRenamed, IsRewritten};
+ghost use Rattle.mq_tree.specs.Kept.{HasBytes, IsAdded, IsBare, IsCut, IsListed, IsRemoved, IsRenamed, IsRewritten, IsSpliced};
 ghost use Rattle.mq_tree.specs.Requests.{after_group, cut_to, is_change, is_named, spliced, step};
 ghost use Rattle.mq_tree.specs.Sound.{AreBytes, IsSound};
 ghost use Rattle.mq_tree.specs.Volume.{ADir, AFile, Path, Volume, tree};
@@ -28,10 +28,13 @@ pub fn new_things_are_added()
     ensures create { (g : Geometry) (queue : ℕ) (v : Volume) (path : Path) → IsSound g v → queue < queues_of g → (step g queue v (Create path)).reply ≡ Done → IsAdded v (step g queue v (Create path)).next path (AFile []) }
 {}
 
-/// The file at the path of a `Write` or a `Truncate` has other bytes, and nothing else changes in the tree.
+/// The file at the path of a `Write` or a `Truncate` has other bytes, and nothing else changes in the
+/// tree.
 pub fn files_are_rewritten()
     ensures write { (g : Geometry) (queue : ℕ) (v : Volume) (path : Path) (at : ℕ) (bytes : List ℕ) → IsSound g v → queue < queues_of g → AreBytes bytes → (step g queue v (Write path at bytes)).reply ≡ Done → IsRewritten v (step g queue v (Write path at bytes)).next path (λ old. spliced at bytes old) }
     ensures truncate { (g : Geometry) (queue : ℕ) (v : Volume) (path : Path) (size : ℕ) → IsSound g v → queue < queues_of g → (step g queue v (Truncate path size)).reply ≡ Done → IsRewritten v (step g queue v (Truncate path size)).next path (λ old. cut_to size old) }
+    ensures spliced { (at : ℕ) (bytes old : List ℕ) → IsSpliced at bytes old (spliced at bytes old) }
+    ensures cut { (size : ℕ) (old : List ℕ) → IsCut size old (cut_to size old) }
 {}
 
 /// The file at the path of an `Unlink`, or the directory without names at that of an `Rmdir`, is
