@@ -19,7 +19,7 @@ use Rattle.mq_tree.proofs.KeepMove.{IsMoved}
 use Rattle.mq_tree.proofs.KeepNodes.{cleared-count, cleared-entries, cleared-is, cleared-length, count-most}
 use Rattle.mq_tree.proofs.KeepPaths.{cases-slot, thing-used}
 use Rattle.mq_tree.proofs.KeepUses.{IsWithin, free-within, grown-is, node-here, node-other, uses-within}
-use Rattle.mq_tree.proofs.KeepVolumes.{AreNodes, bodies-set, dir-node, dir-slots, linked-is, nodes-set, slot-in, slotted, used-low, within-set}
+use Rattle.mq_tree.proofs.KeepVolumes.{AreNodes, IsLinked, bodies-set, dir-node, dir-slots, linked-is, nodes-set, slot-in, slotted, used-low, within-set}
 
 -- ---- a new inode
 
@@ -71,6 +71,40 @@ pub record MakesEntry (g : Geometry) (v w : Volume) (d : ℕ) (e : Entry) (t : T
 abbrev pub with_new : Volume → ℕ → Body → Volume
 with_new v i new = set v i (record { body = new; blocks = []; indirect = None })
 
+-- `u` is `v` with a new thing, which no slot names yet
+record HasNew (v u : Volume) (i : ℕ) (t : Thing) : Type 0 where
+  slots : (x l : ℕ) → slot u x l ≡ slot v x l
+  here : thing (body u i) ≡ Some t
+  others : (x : ℕ) → x ≢ i → thing (body u x) ≡ thing (body v x)
+  size : length u ≡ length v
+
+new-slots : (v : Volume) (i : ℕ) (n : Node) (x j : ℕ) → i < length v → thing (body v i) ≡ None → get_or (slots_of n.body) j None ≡ None → slot (set v i n) x j ≡ slot v x j
+new-slots v i n x j l free empty = elim (cases_eq x i) [
+  | inl same ↦
+      ap (λ (y : ℕ). slot (set v i n) y j) same ∙ ap (λ (m : Node). get_or (slots_of m.body) j None) (node-here v i n l) ∙ empty
+      ∙ sym (ap (λ (y : ℕ). slot v y j) same ∙ free-slot v i j free)
+  | inr other ↦ ap (λ (m : Node). get_or (slots_of m.body) j None) (node-other v i x n other)
+]
+
+new-linked : (g : Geometry) (v u w : Volume) (d : ℕ) (e : Entry) (t : Thing) → HasNew v u e.inode t → thing (body v e.inode) ≡ None → thing (body v d) ≡ Some ADir → find e.name (slots_of (body v d)) ≡ None → IsLinked g u w d e → MakesEntry g v w d e t
+new-linked g v u w d e t new free dir missing k = record {
+  place = k.place;
+  made = record {
+    edit = record {
+      here = k.here;
+      rest = λ x j other. k.rest x j other ∙ new.slots x j;
+      thing_here = k.things e.inode ∙ new.here;
+      things = λ x other. k.things x ∙ new.others x other;
+    };
+    unused = sym (new.slots d k.place) ∙ k.was;
+    free = free;
+    directory = dir;
+    missing = missing;
+  };
+  size = k.size ∙ new.size;
+  nodes = k.nodes;
+}
+
 pub made-is : (g : Geometry) (q : ℕ) (v : Volume) (new : Body) (t : Thing) (d i : ℕ) (name : List ℕ) → q < queues_of g → length v ≡ inodes_of g → AreNodes g v → IsNew new t
     → thing (body v d) ≡ Some ADir → find name (slots_of (body v d)) ≡ None → count_names (slots_of (body v d)) < names_limit → IsName name → first_free 0 v ≡ Some i → link_needs (node v d) ≤ free_blocks g v
     → MakesEntry g v (linked g q (with_new v i new) d (record { inode = i; name = name })) d (record { inode = i; name = name }) t
@@ -90,31 +124,13 @@ made-is g q v new t d i name low count good fresh dir missing few fine first eno
     let free_needs = ap (λ (m : Node). link_needs m) there in
     let names = ap (λ (m : Node). count_names (slots_of m.body)) there in
     let k = linked-is g q u d e low (ap (λ (m : Node). thing m.body) there ∙ dir) nodes entry (omega arith) (omega arith) in
-    record {
-      place = k.place;
-      made = record {
-        edit = record {
-          here = k.here;
-          rest = λ x j other. k.rest x j other ∙ new-slots v i n x j l f.1 (fresh.empty j);
-          thing_here = k.things i ∙ ap (λ (m : Node). thing m.body) (node-here v i n l) ∙ fresh.thing_is;
-          things = λ x other. k.things x ∙ ap (λ (m : Node). thing m.body) (node-other v i x n other);
-        };
-        unused = ap (λ (m : Node). get_or (slots_of m.body) k.place None) (sym there) ∙ k.was;
-        free = f.1;
-        directory = dir;
-        missing = missing;
-      };
-      size = k.size ∙ length-set v i n;
-      nodes = k.nodes;
-    }
-  where
-    new-slots : (v : Volume) (i : ℕ) (n : Node) (x j : ℕ) → i < length v → thing (body v i) ≡ None → get_or (slots_of n.body) j None ≡ None → slot (set v i n) x j ≡ slot v x j
-    new-slots v i n x j l free empty = elim (cases_eq x i) [
-      | inl same ↦
-          ap (λ (y : ℕ). slot (set v i n) y j) same ∙ ap (λ (m : Node). get_or (slots_of m.body) j None) (node-here v i n l) ∙ empty
-          ∙ sym (ap (λ (y : ℕ). slot v y j) same ∙ free-slot v i j free)
-      | inr other ↦ ap (λ (m : Node). get_or (slots_of m.body) j None) (node-other v i x n other)
-    ]
+    let added : HasNew v u i t = record {
+      slots = λ x j. new-slots v i n x j l f.1 (fresh.empty j);
+      here = ap (λ (m : Node). thing m.body) (node-here v i n l) ∙ fresh.thing_is;
+      others = λ x other. ap (λ (m : Node). thing m.body) (node-other v i x n other);
+      size = length-set v i n;
+    } in
+    new-linked g v u (linked g q u d e) d e t added f.1 dir missing k
 
 -- ---- an entry less
 
