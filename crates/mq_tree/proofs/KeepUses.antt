@@ -1,6 +1,6 @@
 -- The blocks of an inode that grows are free ones of the zones, each used once.
 use Rattle.std.proofs.Common.{set, ◌≡◌, ◌≢◌, ℕ, zero, suc, ◌+◌, ◌<◌, ◌≤◌, ◌⊎◌, inl, inr, List, [], ◌∷◌, ◌++◌, length, Bool, true, false, cond, refl, sym, ap, subst, ◌∙◌, arith, get_or-set_same, get_or-set_other, length-set, length-append}
-use Rattle.std.specs.Prelude.{Some, is_some, nat_eq, nat_lt, slice_get, if◌then◌else◌}
+use Rattle.std.specs.Prelude.{Option, Some, is_some, nat_eq, nat_lt, slice_get, if◌then◌else◌}
 use Rattle.std.proofs.lemmas.Bool.{cases_eq, cases_lt, eq-eqb, false_from_ne_true, le-leb, le-ltb, lt-leb, lt-ltb, ne_eqb, true≢false}
 use Rattle.std.proofs.lemmas.Option.{none-some, same_Some}
 use Rattle.mq_blocks.specs.Geometry.{homes_of, meta_of, queues_of}
@@ -115,6 +115,59 @@ more-pointers v i b l (Pointers j) c e = elim (cases_eq j i) [
   | inr other ↦ inl (ap (λ (m : Node). m.indirect) (sym (node-other v i j _ other)) ∙ e)
 ]
 
+-- what is used stays so
+
+append-get : (xs ys : List ℕ) (k c : ℕ) → slice_get xs k ≡ Some c → slice_get (xs ++ ys) k ≡ Some c
+append-get [] ys k c e = absurd (none-some c e)
+append-get (x ∷ xs) ys zero c e = e
+append-get (x ∷ xs) ys (suc k) c e = append-get xs ys k c e
+
+block-kept : (v : Volume) (i b : ℕ) → i < length v → IsWithin v (with_block v i (Some b))
+block-kept v i b l (Part j k) c e = elim (cases_eq j i) [
+  | inl same ↦
+      let n : Node = record { body = (node v i).body; blocks = (node v i).blocks ++ b ∷ []; indirect = (node v i).indirect } in
+      ap (λ (x : ℕ). slice_get (node (set v i n) x).blocks k) same ∙ ap (λ (m : Node). slice_get m.blocks k) (node-here v i n l)
+      ∙ append-get (node v i).blocks (b ∷ []) k c (ap (λ (x : ℕ). slice_get (node v x).blocks k) (sym same) ∙ e)
+  | inr other ↦ ap (λ (m : Node). slice_get m.blocks k) (node-other v i j _ other) ∙ e
+]
+block-kept v i b l (Pointers j) c e = elim (cases_eq j i) [
+  | inl same ↦
+      let n : Node = record { body = (node v i).body; blocks = (node v i).blocks ++ b ∷ []; indirect = (node v i).indirect } in
+      ap (λ (x : ℕ). (node (set v i n) x).indirect) same ∙ ap (λ (m : Node). m.indirect) (node-here v i n l) ∙ ap (λ (x : ℕ). (node v x).indirect) (sym same) ∙ e
+  | inr other ↦ ap (λ (m : Node). m.indirect) (node-other v i j _ other) ∙ e
+]
+
+no-pointers : {R : Type 0} (o : Option ℕ) (c : ℕ) → is_some o ≡ false → o ≡ Some c → R
+no-pointers o c n e = absurd (true≢false (ap (λ (x : Option ℕ). is_some x) (sym e) ∙ n))
+
+pointers-kept : (v : Volume) (i b : ℕ) → i < length v → is_some (node v i).indirect ≡ false → IsWithin v (with_pointers v i (Some b))
+pointers-kept v i b l none (Part j k) c e = elim (cases_eq j i) [
+  | inl same ↦
+      let n : Node = record { body = (node v i).body; blocks = (node v i).blocks; indirect = Some b } in
+      ap (λ (x : ℕ). slice_get (node (set v i n) x).blocks k) same ∙ ap (λ (m : Node). slice_get m.blocks k) (node-here v i n l) ∙ ap (λ (x : ℕ). slice_get (node v x).blocks k) (sym same) ∙ e
+  | inr other ↦ ap (λ (m : Node). slice_get m.blocks k) (node-other v i j _ other) ∙ e
+]
+pointers-kept v i b l none (Pointers j) c e = elim (cases_eq j i) [
+  | inl same ↦ no-pointers (node v i).indirect c none (ap (λ (x : ℕ). (node v x).indirect) (sym same) ∙ e)
+  | inr other ↦ ap (λ (m : Node). m.indirect) (node-other v i j _ other) ∙ e
+]
+
+-- what is used beyond that was free
+abbrev pub IsFresh : Volume → Volume → Type 0
+IsFresh v w = (u : Use) (b : ℕ) → block_in w u ≡ Some b → (block_in v u ≡ Some b) ⊎ (is_taken v b ≡ false)
+
+fresh-more : (v w : Volume) (u : Use) (b : ℕ) → is_taken v b ≡ false → IsMore v w u b → IsFresh v w
+fresh-more v w u b free more x c e = elim (more x c e) [
+  | inl old ↦ inl old
+  | inr new ↦ inr (ap (λ (y : ℕ). is_taken v y) new.1 ∙ free)
+]
+
+fresh-then : (v u w : Volume) → IsWithin v u → IsFresh v u → IsFresh u w → IsFresh v w
+fresh-then v u w kept first more x b e = elim (more x b e) [
+  | inl old ↦ first x b old
+  | inr free ↦ inr (taken-within u v kept b free)
+]
+
 -- ---- growing
 
 -- an inode has so many blocks more, and nothing else changed but its block of pointers
@@ -125,6 +178,8 @@ pub record IsGrown (g : Geometry) (v w : Volume) (i count : ℕ) : Type 0 where
   pub longer : length (node w i).blocks ≡ length (node v i).blocks + count
   pub indirect : is_some (node w i).indirect ≡ nat_lt 12 (length (node w i).blocks)
   pub uses : AreUses g w
+  pub kept : IsWithin v w
+  pub fresh : IsFresh v w
 
 -- `cost` blocks are taken at most
 record IsTaken (g : Geometry) (v w : Volume) (i count cost : ℕ) (pointers : Bool) : Type 0 where
@@ -134,6 +189,8 @@ record IsTaken (g : Geometry) (v w : Volume) (i count cost : ℕ) (pointers : Bo
   longer : length (node w i).blocks ≡ length (node v i).blocks + count
   indirect : is_some (node w i).indirect ≡ pointers
   uses : AreUses g w
+  kept : IsWithin v w
+  fresh : IsFresh v w
   free : free_blocks g v ≤ free_blocks g w + cost
 
 bodies-set : (v : Volume) (i : ℕ) (n : Node) → i < length v → n.body ≡ body v i → (x : ℕ) → body (set v i n) x ≡ body v x
@@ -159,12 +216,14 @@ block-taken g q v i pointers low l uses has some =
       longer = ap (λ (m : Node). length m.blocks) (node-here v i n l) ∙ length-append (node v i).blocks (b ∷ []);
       indirect = ap (λ (m : Node). is_some m.indirect) (node-here v i n l) ∙ has;
       uses = uses-more g v w (Part i (length (node v i).blocks)) b uses (first-zones g q v b low r.1) (first-not_taken v (order g q) b r.1) more;
+      kept = block-kept v i b l;
+      fresh = fresh-more v w (Part i (length (node v i).blocks)) b (first-not_taken v (order g q) b r.1) more;
       free = (let f = uses-free g v w (Part i (length (node v i).blocks)) b more in omega arith);
     } in
     subst (λ o. IsTaken g v (with_block v i o) i 1 1 pointers) (sym r.1) taken
 
-pointers-taken : (g : Geometry) (q : ℕ) (v : Volume) (i : ℕ) → q < queues_of g → i < length v → AreUses g v → 1 ≤ free_blocks g v → IsTaken g v (with_pointers v i (first_of v (order g q))) i 0 1 true
-pointers-taken g q v i low l uses some =
+pointers-taken : (g : Geometry) (q : ℕ) (v : Volume) (i : ℕ) → q < queues_of g → i < length v → AreUses g v → is_some (node v i).indirect ≡ false → 1 ≤ free_blocks g v → IsTaken g v (with_pointers v i (first_of v (order g q))) i 0 1 true
+pointers-taken g q v i low l uses none some =
     let r = some-taken g q v low some in
     let b = r.0 in
     let n : Node = record { body = (node v i).body; blocks = (node v i).blocks; indirect = Some b } in
@@ -177,6 +236,8 @@ pointers-taken g q v i low l uses some =
       longer = (let e = ap (λ (m : Node). length m.blocks) (node-here v i n l) in omega arith);
       indirect = ap (λ (m : Node). is_some m.indirect) (node-here v i n l);
       uses = uses-more g v w (Pointers i) b uses (first-zones g q v b low r.1) (first-not_taken v (order g q) b r.1) more;
+      kept = pointers-kept v i b l none;
+      fresh = fresh-more v w (Pointers i) b (first-not_taken v (order g q) b r.1) more;
       free = (let f = uses-free g v w (Pointers i) b more in omega arith);
     } in
     subst (λ o. IsTaken g v (with_pointers v i o) i 0 1 true) (sym r.1) taken
@@ -193,6 +254,8 @@ both-taken g v u w i a b c d e s t is = record {
   longer = (let p = s.longer in let q = t.longer in omega arith);
   indirect = t.indirect;
   uses = t.uses;
+  kept = λ x y z. t.kept x y (s.kept x y z);
+  fresh = fresh-then v u w s.kept s.fresh t.fresh;
   free = (let p = s.free in let q = t.free in omega arith);
 }
 
@@ -203,7 +266,8 @@ next-taken g q v i low l uses has few = elim (cases_eq (length (node v i).blocks
       let y = eq-eqb (length (node v i).blocks) 12 twelve in
       let cost : next_cost (length (node v i).blocks) ≡ 2 = ap (λ (b : Bool). cond b 2 1) y in
       let u = with_pointers v i (first_of v (order g q)) in
-      let s = pointers-taken g q v i low l uses (omega arith) in
+      let none = has ∙ le-ltb 12 (length (node v i).blocks) (omega arith) in
+      let s = pointers-taken g q v i low l uses none (omega arith) in
       let size = s.size in
       let f = s.free in
       let t = block-taken g q u i true low (omega arith) s.uses s.indirect (omega arith) in
@@ -256,7 +320,7 @@ needs-next have count = elim (cases_eq have 12) [
 
 pub grown-is : (g : Geometry) (q : ℕ) (v : Volume) (i count : ℕ) → q < queues_of g → i < length v → AreUses g v → is_some (node v i).indirect ≡ nat_lt 12 (length (node v i).blocks)
     → needs (length (node v i).blocks) (length (node v i).blocks + count) ≤ free_blocks g v → IsGrown g v (grown g q v i count) i count
-grown-is g q v i zero low l uses has few = record { bodies = λ x. refl; rest = λ x other. refl; size = refl; longer = omega arith; indirect = has; uses = uses }
+grown-is g q v i zero low l uses has few = record { bodies = λ x. refl; rest = λ x other. refl; size = refl; longer = omega arith; indirect = has; uses = uses; kept = λ u b e. e; fresh = λ u b e. inl e }
 grown-is g q v i (suc count) low l uses has few =
     let have = length (node v i).blocks in
     let w = one_more g q (pointed g q v i) i in
@@ -276,4 +340,6 @@ grown-is g q v i (suc count) low l uses has few =
       longer = omega arith;
       indirect = r.indirect;
       uses = r.uses;
+      kept = λ u b e. r.kept u b (t.kept u b e);
+      fresh = fresh-then v w (grown g q w i count) t.kept t.fresh r.fresh;
     }
