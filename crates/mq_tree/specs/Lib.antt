@@ -2,7 +2,9 @@ pub mod Clean
 pub mod Corrupt
 pub mod Decoded
 pub mod Empty
+pub mod Faults
 pub mod Free
+pub mod Kept
 pub mod Laid
 pub mod Looks
 pub mod Parts
