@@ -4,6 +4,7 @@ pub mod Decoding
 pub mod Empties
 pub mod Examples
 pub mod LaidClean
+pub mod Linking
 pub mod Maps
 pub mod Naming
 pub mod Phases
@@ -13,3 +14,4 @@ pub mod Mounting
 pub mod Regions
 pub mod Unique
 pub mod Uses
+pub mod Walking

@@ -1,6 +1,7 @@
 pub mod Clean
 pub mod Corrupt
 pub mod Decoded
+pub mod Directories
 pub mod Empty
 pub mod Free
 pub mod Laid
@@ -10,3 +11,4 @@ pub mod Pointers
 pub mod Requests
 pub mod Sound
 pub mod Volume
+pub mod Walks

@@ -4,6 +4,7 @@
 
 mod claims;
 mod corrupt;
+mod directory;
 mod dirs;
 mod ends;
 mod laws;
@@ -13,10 +14,13 @@ mod names;
 mod path;
 mod pointers;
 mod request;
+mod slots;
 mod stored;
 mod table;
 #[cfg(test)]
 mod tests;
+mod twins;
+mod walk;
 
 pub use corrupt::{CorruptCause, MountRefusal};
 pub use laws::{clean_blocks, empty_tree, one_tree};

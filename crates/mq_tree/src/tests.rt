@@ -34,7 +34,8 @@ fn found(alloc: Global, b: usize, at: usize, byte: u8) -> Option<MountRefusal>
     if let Some(Some(block)) = blocks.get_mut(b) {
         block.bytes_mut()[at] = byte;
     }
-    read_volume(alloc, geometry, &blocks).err()
+    let zero = Block::zeroed(alloc).ok()?;
+    read_volume(alloc, geometry, &blocks, &zero).err()
 }
 
 fn corrupt(cause: CorruptCause, b: u32) -> Option<MountRefusal> {
