@@ -3,6 +3,7 @@ pub mod CleanLaid
 pub mod Decoding
 pub mod Empties
 pub mod Examples
+pub mod Keeping
 pub mod LaidClean
 pub mod Linking
 pub mod Maps
@@ -10,8 +11,10 @@ pub mod Naming
 pub mod Phases
 pub mod Pointed
 pub mod Refuted
+pub mod Mounted
 pub mod Mounting
 pub mod Regions
 pub mod Unique
 pub mod Uses
 pub mod Walking
+pub mod Walkways

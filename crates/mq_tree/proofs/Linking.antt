@@ -1,5 +1,5 @@
 -- The names of a directory, and the map of them.
-use Rattle.std.proofs.Common.{get_or, ◌≡◌, ◌≢◌, ℕ, zero, suc, ◌+◌, ◌*◌, ◌/◌, ◌<◌, List, [], ◌∷◌, ◌++◌, length, Bool, true, false, cond, refl, sym, ap, subst, ◌∙◌, arith, inl, inr, Vec, below_more}
+use Rattle.std.proofs.Common.{get_or, ◌≡◌, ℕ, zero, suc, ◌+◌, ◌*◌, ◌/◌, ◌<◌, List, [], ◌∷◌, ◌++◌, length, Bool, true, false, cond, refl, sym, ap, subst, ◌∙◌, arith, inl, inr, Vec}
 use Rattle.std.specs.Prelude.{Option, Some, None, is_some, not, if◌then◌else◌}
 use Rattle.std.specs.Bool.{MatchBool}
 use Rattle.std.specs.BTreeMap.{insert_entry}
@@ -9,9 +9,8 @@ use Rattle.std.specs.Ordering.{is_eq, match_ordering, nat_cmp}
 use Rattle.std.specs.declared.cmp.Ordering.{Ordering}
 use Rattle.std.specs.declared.cmp.Ordering.TheVariants.{Less, Equal, Greater}
 use Rattle.std.specs.Str.{bytes_eq}
-use Rattle.std.proofs.lemmas.Bool.{cases_Bool, cases_eq, ne_eqb, eq-eqb, true≢false}
+use Rattle.std.proofs.lemmas.Bool.{cases_Bool, cases_eq, true≢false}
 use Rattle.std.proofs.lemmas.Bool.Decides.{same_from_decides, Decides-like}
-use Rattle.std.proofs.lemmas.List.{get_or_append_left, get_or_push, length_push}
 use Rattle.std.proofs.lemmas.Map.Text.{is_eq-slice_cmp}
 use Rattle.std.proofs.lemmas.Slice.Eq.{bytes_eq-Decides}
 use Rattle.mq_blocks.specs.declared.geometry.Geometry.{Geometry}
@@ -22,11 +21,11 @@ use Rattle.mq_tree.specs.Clean.{AreOnce, IsTable}
 use Rattle.mq_tree.specs.Corrupt.{IsCorrupt, Refuses}
 use Rattle.mq_tree.specs.Decoded.{Stored, body_of, count_of, entry_of, pointer_to, table_of, the_inode, volume_in}
 use Rattle.mq_tree.specs.Directories.{Adds, FindsAlike, Has, HasTwin, IsOnce, OnceBelow, RefusesTwin, as_slots}
-use Rattle.mq_tree.specs.Volume.{body, find, slots_of}
+use Rattle.mq_tree.specs.Volume.{find, slots_of}
 use Rattle.mq_tree.specs.declared.corrupt.CorruptCause.TheVariants.{Twin}
 use Rattle.mq_tree.specs.declared.corrupt.MountRefusal.{MountRefusal}
 use Rattle.mq_tree.specs.declared.corrupt.MountRefusal.TheVariants.{Corrupt, OutOfMemory}
-use Rattle.mq_tree.proofs.Decoding.{body-dir, body-in, length-table, table-at}
+use Rattle.mq_tree.proofs.Decoding.{body-dir, length-table, table-at}
 use Rattle.mq_tree.proofs.Mounting.{table-more}
 use Rattle.mq_tree.proofs.Naming.{slot-found, slot-is}
 
@@ -214,16 +213,6 @@ built-add at k names more e b h a = record { alike = alike; once = once }
 
 -- ---- what a directory's map says of it
 
-pub slots-none : (s : Stored) (n : Inode) → n.kind ≢ 2 → slots_of (body_of s n) ≡ []
-unfolding body_of
-slots-none s n other = let f = ne_eqb n.kind 2 other in elim (cases_eq n.kind 1) [
-  | inl one ↦ let t = eq-eqb n.kind 1 one in rw t refl
-  | inr free ↦ let t = ne_eqb n.kind 1 free in rw t (rw f refl)
-]
-
-pub alike-none : (s : Stored) (n : Inode) (names : List (Option Entry)) → names ≡ [] → n.kind ≢ 2 → FindsAlike names (slots_of (body_of s n))
-alike-none s n names e other q = ap (find q) (e ∙ sym (slots-none s n other))
-
 pub alike-all : (s : Stored) (n : Inode) (k : ℕ) (names : List (Option Entry)) → n.kind ≡ 2 → k ≡ 15 * count_of n → Built (entry_of s n) k names → FindsAlike names (slots_of (body_of s n))
 alike-all s n k names two e b q = b.alike q ∙ ap (find q) (ap (λ (m : ℕ). table_of m (entry_of s n)) e ∙ sym (ap slots_of (body-dir s n two)))
 
@@ -272,12 +261,6 @@ twin-found g s i n (Corrupt cause b) e low h =
       is = t.is;
     })
 
--- the maps of the directories below an inode
-pub record Read (g : Geometry) (s : Stored) (i : ℕ) (dirs : List (List (Option Entry))) : Type 0 where
-  pub size : length dirs ≡ i
-  pub alike : (j : ℕ) → j < i → FindsAlike (get_or dirs j []) (slots_of (body_of s (the_inode g s j)))
-  pub once : (j : ℕ) → j < i → IsOnce s (the_inode g s j)
-
 pub once-volume : (g : Geometry) (s : Stored) → IsTable g s → ((i : ℕ) → i < inodes_of g → IsOnce s (the_inode g s i)) → AreOnce (volume_in g s)
 once-volume g s table all d k l e f first second same =
     let p = slot-found g s d k e table first in
@@ -294,25 +277,3 @@ built-unused at k names now b h same = subst (λ xs. Built at (k + 1) xs) (sym s
 pub has-twin : (names more : List (Option Entry)) (e : Entry) (t : Bool) → MatchBool t (Adds names more e.name e.inode) (Has names e.name) → t ≡ false → Has names e.name
 has-twin names more e true h is = absurd (true≢false is)
 has-twin names more e false h is = h
-
-pub read-start : (g : Geometry) (s : Stored) (dirs : List (List (Option Entry))) → dirs ≡ [] → Read g s 0 dirs
-read-start g s dirs e = record { size = ap length e; alike = λ j low. absurd (omega arith); once = λ j low. absurd (omega arith) }
-
-pub read-more : (g : Geometry) (s : Stored) (i : ℕ) (dirs more : List (List (Option Entry))) (n : Inode) (names : List (Option Entry)) → Read g s i dirs → n ≡ the_inode g s i → FindsAlike names (slots_of (body_of s n)) → IsOnce s n → more ≡ dirs ++ names ∷ []
-    → Read g s (i + 1) more
-read-more g s i dirs more n names r e alike once is = record {
-  size = ap length is ∙ length_push dirs names ∙ (let z = r.size in omega arith);
-  alike = λ j low. elim (cases_eq j i) [
-    | inl y ↦
-        let at : get_or more j [] ≡ names = ap (λ (xs : List (List (Option Entry))). get_or xs j []) is ∙ get_or_push dirs names [] j (r.size ∙ sym y) in
-        let h : FindsAlike names (slots_of (body_of s (the_inode g s j))) = subst (λ m. FindsAlike names (slots_of (body_of s m))) (e ∙ ap (the_inode g s) (sym y)) alike in
-        subst (λ xs. FindsAlike xs (slots_of (body_of s (the_inode g s j)))) (sym at) h
-    | inr o ↦
-        let at : get_or more j [] ≡ get_or dirs j [] = ap (λ (xs : List (List (Option Entry))). get_or xs j []) is ∙ get_or_append_left dirs (names ∷ []) [] j (let z = r.size in omega arith) in
-        subst (λ xs. FindsAlike xs (slots_of (body_of s (the_inode g s j)))) (sym at) (r.alike j (omega arith))
-  ];
-  once = below_more (λ j. IsOnce s (the_inode g s j)) i r.once (subst (IsOnce s) e once);
-}
-
-pub read-all : (g : Geometry) (s : Stored) (dirs : List (List (Option Entry))) (i n : ℕ) → Read g s n dirs → i < n → i < inodes_of g → FindsAlike (get_or dirs i []) (slots_of (body (volume_in g s) i))
-read-all g s dirs i n r inside low = subst (λ b. FindsAlike (get_or dirs i []) (slots_of b)) (sym (body-in g s i low)) (r.alike i inside)

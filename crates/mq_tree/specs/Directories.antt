@@ -1,12 +1,10 @@
 -- The names of a directory, as a map has them.
-use Rattle.std.specs.Prelude.{◌≡◌, ℕ, ◌*◌, ◌/◌, ◌<◌, ◌≢◌, List, [], ◌∷◌, Option, Some, None, slice_index_or, if◌then◌else◌, Vec}
+use Rattle.std.specs.Prelude.{◌≡◌, ℕ, ◌*◌, ◌/◌, ◌<◌, ◌≢◌, List, [], ◌∷◌, Option, Some, None, if◌then◌else◌, Vec}
 use Rattle.std.specs.Str.{bytes_eq}
-use Rattle.mq_blocks.specs.declared.geometry.Geometry.{Geometry}
-use Rattle.mq_layout.specs.Places.{inodes_of}
 use Rattle.mq_layout.specs.Slots.{Entry}
 use Rattle.mq_layout.specs.declared.inode.Inode.{Inode}
-use Rattle.mq_tree.specs.Decoded.{Stored, count_of, entry_of, pointer_to, volume_in}
-use Rattle.mq_tree.specs.Volume.{body, find, slots_of}
+use Rattle.mq_tree.specs.Decoded.{Stored, count_of, entry_of, pointer_to}
+use Rattle.mq_tree.specs.Volume.{find}
 use Rattle.mq_tree.specs.declared.corrupt.CorruptCause.TheVariants.{Twin}
 use Rattle.mq_tree.specs.declared.corrupt.MountRefusal.{MountRefusal}
 use Rattle.mq_tree.specs.declared.corrupt.MountRefusal.TheVariants.{Corrupt, OutOfMemory}
@@ -55,7 +53,3 @@ RefusesTwin s n OutOfMemory = Unit {0}
 -- no name stands twice in what an inode says
 abbrev pub IsOnce : Stored → Inode → Type 0
 IsOnce s n = n.kind ≡ 2 → OnceBelow (entry_of s n) (15 * count_of n)
-
--- the maps of the directories, by inode
-abbrev pub AreDirectories : Geometry → Stored → List (List (Option Entry)) → Type 0
-AreDirectories g s dirs = (i : ℕ) → i < inodes_of g → FindsAlike (slice_index_or dirs i []) (slots_of (body (volume_in g s) i))

@@ -10,5 +10,6 @@ pub mod Parts
 pub mod Pointers
 pub mod Requests
 pub mod Sound
+pub mod Trees
 pub mod Volume
 pub mod Walks

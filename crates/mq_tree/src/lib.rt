@@ -3,13 +3,14 @@
 #![tactic(auto)]
 
 mod claims;
+mod contents;
 mod corrupt;
 mod directory;
 mod dirs;
 mod ends;
 mod laws;
 mod marks;
-mod mount;
+mod mounts;
 mod names;
 mod path;
 mod pointers;
@@ -19,10 +20,13 @@ mod stored;
 mod table;
 #[cfg(test)]
 mod tests;
+mod tree;
 mod twins;
 mod walk;
 
 pub use corrupt::{CorruptCause, MountRefusal};
 pub use laws::{clean_blocks, empty_tree, one_tree};
+pub use mounts::mount;
 pub use path::{Bytes, Name, Names, Path};
 pub use request::{Fault, Reply, Request, changes};
+pub use tree::Tree;

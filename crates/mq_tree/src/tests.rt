@@ -1,8 +1,7 @@
 // The phases of a mount on an empty file system, whole and with one byte changed.
 ghost use Rattle.std.specs.Prelude.{◌<◌};
 
-use crate::mount::read_volume;
-use crate::{CorruptCause, MountRefusal, Path, Request, changes};
+use crate::{CorruptCause, MountRefusal, Path, Request, changes, mount};
 use mq_blocks::{Block, BlockNo, Geometry};
 use mq_layout::format_block;
 use std::alloc::Global;
@@ -34,8 +33,7 @@ fn found(alloc: Global, b: usize, at: usize, byte: u8) -> Option<MountRefusal>
     if let Some(Some(block)) = blocks.get_mut(b) {
         block.bytes_mut()[at] = byte;
     }
-    let zero = Block::zeroed(alloc).ok()?;
-    read_volume(alloc, geometry, &blocks, &zero).err()
+    mount(alloc, geometry, &blocks).err()
 }
 
 fn corrupt(cause: CorruptCause, b: u32) -> Option<MountRefusal> {
