@@ -81,6 +81,10 @@ kept-push [] c j low = absurd (omega arith)
 kept-push (d ∷ cs) c zero low = refl
 kept-push (d ∷ cs) c (suc j) low = kept-push cs c j (omega arith)
 
+pub length-kept : (cs : List Content) → length (kept cs) ≡ length cs
+length-kept [] = refl
+length-kept (c ∷ cs) = ap suc (length-kept cs)
+
 kept-last : (cs : List Content) (c : Content) → body (kept (cs ++ c ∷ [])) (length cs) ≡ body_kept c
 kept-last [] c = refl
 kept-last (d ∷ cs) c = kept-last cs c

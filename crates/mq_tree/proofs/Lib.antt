@@ -6,6 +6,7 @@ pub mod Examples
 pub mod Keeping
 pub mod LaidClean
 pub mod Linking
+pub mod LinesOf
 pub mod Maps
 pub mod Naming
 pub mod Phases

@@ -5,6 +5,7 @@ pub mod Directories
 pub mod Empty
 pub mod Free
 pub mod Laid
+pub mod ListText
 pub mod Looks
 pub mod Parts
 pub mod Pointers

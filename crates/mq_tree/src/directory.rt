@@ -1,9 +1,11 @@
 // The names of a directory, as a map.
-ghost use Rattle.std.specs.Prelude.{◌≡◌, IfOk, [], OnErr};
+ghost use Rattle.std.specs.Prelude.{◌≡◌, IfOk, [], map};
 ghost use Rattle.std.specs.Bool.{MatchBool};
 ghost use Rattle.mq_tree.specs.Directories.{Adds, Has};
+ghost use Rattle.mq_tree.specs.ListText.{entries_in, entry_of_link};
 ghost use Rattle.mq_tree.specs.Volume.{find};
 
+use crate::slots::Link;
 use mq_blocks::OutOfMemory;
 use std::alloc::Global;
 use std::collections::BTreeMap;
@@ -48,5 +50,19 @@ impl Directory {
         ensures { result ≡ find name.now self.now }
     {
         self.links.get(name).copied()
+    }
+
+    /// The names with their inodes, in rising order of names.
+    pub fn links(&self, alloc: Global) -> Result<Vec<Link<'_>>, OutOfMemory>
+        ensures { IfOk result (λ links. map entry_of_link links.items ≡ entries_in self.now) }
+    {
+        let mut found = Vec::with_capacity(alloc, self.links.len())?;
+        for (name, inode) in self.links.iter() {
+            found.push(Link {
+                inode: *inode,
+                name,
+            })?;
+        }
+        Ok(found)
     }
 }

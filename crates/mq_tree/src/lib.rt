@@ -9,6 +9,7 @@ mod directory;
 mod dirs;
 mod ends;
 mod laws;
+mod listing;
 mod marks;
 mod mounts;
 mod names;

@@ -1,5 +1,5 @@
 // The tree of a file system, and the files in it.
-ghost use Rattle.std.specs.Prelude.{◌≡◌, MatchOption, MatchResult, Ok, Err};
+ghost use Rattle.std.specs.Prelude.{◌≡◌, MatchOption, MatchResult, Ok, Err, length};
 ghost use Rattle.std.specs.List.{list_all};
 ghost use Rattle.mq_layout.specs.Names.{is_name};
 ghost use Rattle.mq_tree.specs.Requests.{into_dir, walk};
@@ -34,8 +34,15 @@ impl Tree {
         Tree { contents }
     }
 
+    /// How many inodes there are.
+    pub(crate) fn count(&self) -> usize
+        ensures { result ≡ length self.now }
+    {
+        self.contents.len()
+    }
+
     /// What an inode is, where there is one of this number.
-    fn content(&self, inode: u32) -> Option<&Content>
+    pub(crate) fn content(&self, inode: u32) -> Option<&Content>
         ensures { MatchOption result (body self.now inode ≡ Free) (λ content. body self.now inode ≡ body_kept content.now) }
     {
         self.contents.get(inode as usize)
