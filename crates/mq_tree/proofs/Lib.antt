@@ -1,3 +1,4 @@
+pub mod Alike
 pub mod Claiming
 pub mod CleanLaid
 pub mod Decoding

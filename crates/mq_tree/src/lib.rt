@@ -26,7 +26,7 @@ mod twins;
 mod walk;
 
 pub use corrupt::{CorruptCause, MountRefusal};
-pub use laws::{clean_blocks, empty_tree, one_tree};
+pub use laws::{alike_trees, clean_blocks, empty_tree, one_tree};
 pub use mounts::mount;
 pub use path::{Bytes, Name, Names, Path};
 pub use request::{Fault, Reply, Request, changes};

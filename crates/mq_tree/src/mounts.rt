@@ -1,7 +1,6 @@
 // A mount: its phases, one after another.
-ghost use Rattle.std.specs.Prelude.{◌≡◌, ◌≢◌, IfErr, IfOk, OnOk, length};
+ghost use Rattle.std.specs.Prelude.{◌≡◌, ◌≢◌, IfErr, IfOk, OnOk};
 ghost use Rattle.mq_blocks.specs.Blocks.{zeros};
-ghost use Rattle.mq_blocks.specs.Geometry.{homes_of};
 ghost use Rattle.mq_tree.specs.Clean.{IsClean};
 ghost use Rattle.mq_tree.specs.Corrupt.{Refuses};
 ghost use Rattle.mq_tree.specs.Decoded.{volume_in};
@@ -52,13 +51,12 @@ fn read_volume(
     Ok(contents)
 }
 
-/// The tree of the home blocks of a drive, of which an absent one is zeros.
+/// The tree of the home blocks of a drive, of which an absent one is zeros, as are those past the last item.
 pub fn mount(
     alloc: Global,
     geometry: Geometry,
     blocks: &[Option<Block>],
 ) -> Result<Tree, MountRefusal>
-    requires { length blocks.now ≡ homes_of geometry }
     ensures tree { IfOk result (λ t. IsTreeOf geometry (map_of geometry blocks.now) (tree t)) }
     ensures alike { IfOk result (λ t. (v : Volume) → IsLaid geometry (map_of geometry blocks.now) v → IsAlike t v) }
     ensures cause { IfErr result (Refuses geometry blocks.now) }
