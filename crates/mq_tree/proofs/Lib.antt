@@ -1,3 +1,4 @@
+pub mod Alike
 pub mod Claiming
 pub mod CleanLaid
 pub mod Decoding
@@ -23,13 +24,19 @@ pub mod KeepTargets
 pub mod KeepUses
 pub mod KeepVerdicts
 pub mod KeepVolumes
+pub mod Keeping
 pub mod LaidClean
+pub mod LinesOf
+pub mod Linking
 pub mod Maps
+pub mod Mounted
+pub mod Mounting
 pub mod Naming
 pub mod Phases
 pub mod Pointed
 pub mod Refuted
-pub mod Mounting
 pub mod Regions
 pub mod Unique
 pub mod Uses
+pub mod Walking
+pub mod Walkways
