@@ -1,5 +1,5 @@
 // A call on a desk over ports.
-ghost use Rattle.std.specs.Prelude.{◌≡◌, ℕ, suc, ◌+◌, ◌<◌, ◌≤◌, [], ◌∷◌, true, IfSome, IfNone, length};
+ghost use Rattle.std.specs.Prelude.{◌≡◌, ℕ, suc, ◌+◌, ◌<◌, ◌≤◌, [], ◌∷◌, true, false, IfSome, IfNone, length};
 ghost use Rattle.mq_blocks.specs.Geometry.{homes_of};
 ghost use Rattle.mq_turns.specs.AtDesk.{AtDesk, view, start_of, chairs_of};
 ghost use Rattle.mq_turns.specs.Desk.{Follows, allotment};
@@ -30,7 +30,7 @@ impl<P: Port> QueuePort<P> {
 }
 
 /// Writes a block by a transaction: takes its page and its queue's side, looks, draws, and gives both
-/// back. There is no number exactly where the side that it took has no room.
+/// back. There is no number where the side that it took has no room.
 pub fn write_block<P: Port + Drop, R: Wait>(
     rt: &R,
     desk: &Desk<PortMachine<P>>,
