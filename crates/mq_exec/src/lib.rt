@@ -1,0 +1,11 @@
+//! Requests on the pages of the file system that a session holds: what they answer, and which pages
+//! they lack.
+#![tactic(auto)]
+
+mod blocks;
+mod inode;
+mod lack;
+mod view;
+mod working;
+
+pub use view::View;
