@@ -1,3 +1,5 @@
-pub mod Nodes
+pub mod Directories
+pub mod Entries
 pub mod Needs
+pub mod Nodes
 pub mod Showing

@@ -1,3 +1,4 @@
+pub mod Dirs
 pub mod Fits
 pub mod Lacks
 pub mod Pages

@@ -4,7 +4,9 @@
 
 mod blocks;
 mod inode;
+mod directory;
 mod lack;
+mod slots;
 mod view;
 mod working;
 

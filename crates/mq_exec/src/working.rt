@@ -10,6 +10,7 @@ use std::alloc::Global;
 use std::collections::BTreeMap;
 
 /// What is known of a home block.
+#[derive(Clone, Copy)]
 pub enum Page<'a> {
     Absent,
     /// It is not in the map.
