@@ -3,3 +3,4 @@ pub mod Entries
 pub mod Needs
 pub mod Nodes
 pub mod Showing
+pub mod Walking

@@ -2,3 +2,4 @@ pub mod Dirs
 pub mod Fits
 pub mod Lacks
 pub mod Pages
+pub mod Walks

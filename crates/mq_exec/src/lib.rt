@@ -8,6 +8,7 @@ mod directory;
 mod lack;
 mod slots;
 mod view;
+mod walk;
 mod working;
 
 pub use view::View;
