@@ -1,13 +1,11 @@
 // The blocks of an inode.
 ghost use Rattle.std.specs.Prelude.{◌≡◌, ◌++◌, ◌<◌, ◌≤◌, IfErr, IfOk, Some, length, take};
-ghost use Rattle.mq_exec.specs.Fits.{Agrees, IsPossible};
-ghost use Rattle.mq_exec.specs.Lacks.{Lacks};
-ghost use Rattle.mq_exec.specs.Pages.{pages_of};
+ghost use Rattle.mq_exec.specs.Lacks.{HasVolume, LacksOf, OfEach};
 ghost use Rattle.mq_layout.specs.Bits.{pointer_of};
 ghost use Rattle.mq_tree.specs.Decoded.{table_of};
 ghost use Rattle.mq_tree.specs.Laid.{inode_of};
 ghost use Rattle.mq_tree.specs.Sound.{blocks_for};
-ghost use Rattle.mq_tree.specs.Volume.{Volume, node};
+ghost use Rattle.mq_tree.specs.Volume.{node};
 
 use crate::lack::Lack;
 use crate::working::Working;
@@ -53,10 +51,10 @@ fn near_blocks(alloc: Global, inode: &Inode, count: u32) -> Result<Vec<BlockNo>,
 impl<'a> Working<'a> {
     /// The blocks of an inode, in order. The block of pointers is looked at where there is one.
     pub fn blocks(&self, alloc: Global, i: u32, inode: &Inode) -> Result<Vec<BlockNo>, Lack>
-        requires possible { IsPossible self.now.geometry (pages_of self.now) }
-        requires inode { (v : Volume) → Agrees self.now.geometry (pages_of self.now) v → inode.now ≡ inode_of (node v i) }
-        ensures ok { IfOk result (λ blocks. (v : Volume) → Agrees self.now.geometry (pages_of self.now) v → blocks.items ≡ (node v i).blocks) }
-        ensures lack { IfErr result (Lacks (pages_of self.now) (λ b. (v : Volume) → Agrees self.now.geometry (pages_of self.now) v → (node v i).indirect ≡ Some b)) }
+        requires possible { HasVolume self.now }
+        requires inode { OfEach self.now (λ v. inode.now ≡ inode_of (node v i)) }
+        ensures ok { IfOk result (λ blocks. OfEach self.now (λ v. blocks.items ≡ (node v i).blocks)) }
+        ensures lack { IfErr result (LacksOf self.now (λ v b. (node v i).indirect ≡ Some b)) }
     {
         let count = count_for(inode.size);
         let mut blocks = near_blocks(alloc, inode, count)?;

@@ -2,12 +2,11 @@
 ghost use Rattle.std.specs.Prelude.{◌≡◌, ◌≢◌, ◌≤◌, ◌*◌, ℕ, length, true, Bool, IfErr, IfOk, OnOk, Some, None};
 ghost use Rattle.std.specs.List.{All, Contains};
 ghost use Rattle.mq_exec.specs.Dirs.{AreDirsAt, slots_at};
-ghost use Rattle.mq_exec.specs.Fits.{Agrees, IsPossible};
-ghost use Rattle.mq_exec.specs.Lacks.{Lacks};
+ghost use Rattle.mq_exec.specs.Lacks.{HasVolume, Lacks, LacksOf, OfEach};
 ghost use Rattle.mq_exec.specs.Pages.{IsHeld, content as content_at, pages_of};
 ghost use Rattle.mq_tree.specs.Laid.{inode_of};
 ghost use Rattle.mq_tree.specs.Requests.{count_names};
-ghost use Rattle.mq_tree.specs.Volume.{Dir, Volume, body, find as find_name, has_block, node};
+ghost use Rattle.mq_tree.specs.Volume.{Dir, body, find as find_name, has_block, node};
 
 use crate::lack::Lack;
 use crate::slots::{count_in, find_in};
@@ -48,13 +47,13 @@ impl<'a> Working<'a> {
 
     /// The blocks of a directory, which are held.
     pub fn directory(&self, alloc: Global, d: u32, inode: &Inode) -> Result<Vec<BlockNo>, Lack>
-        requires possible { IsPossible self.now.geometry (pages_of self.now) }
-        requires inode { (v : Volume) → Agrees self.now.geometry (pages_of self.now) v → inode.now ≡ inode_of (node v d) }
+        requires possible { HasVolume self.now }
+        requires inode { OfEach self.now (λ v. inode.now ≡ inode_of (node v d)) }
         requires kind { inode.now.kind ≡ 2 }
         ensures held { IfOk result (λ blocks. AreDirsAt (pages_of self.now) blocks.items) }
-        ensures slots { IfOk result (λ blocks. (v : Volume) → Agrees self.now.geometry (pages_of self.now) v → body v d ≡ Dir (slots_at (pages_of self.now) blocks.items)) }
+        ensures slots { IfOk result (λ blocks. OfEach self.now (λ v. body v d ≡ Dir (slots_at (pages_of self.now) blocks.items))) }
         ensures few { IfOk result (λ blocks. length blocks.items ≤ 1036) }
-        ensures lack { IfErr result (Lacks (pages_of self.now) (λ b. (v : Volume) → Agrees self.now.geometry (pages_of self.now) v → has_block (node v d) b ≡ true)) }
+        ensures lack { IfErr result (LacksOf self.now (λ v b. has_block (node v d) b ≡ true)) }
     {
         let blocks = self.blocks(alloc, d, inode)?;
         self.look_for(alloc, &blocks)?;

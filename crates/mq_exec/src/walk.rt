@@ -1,11 +1,9 @@
 // Walking along a path.
 ghost use Rattle.std.specs.Prelude.{◌≡◌, IfErr, IfOk};
-ghost use Rattle.mq_exec.specs.Fits.{Agrees, IsPossible};
-ghost use Rattle.mq_exec.specs.Lacks.{Lacks};
-ghost use Rattle.mq_exec.specs.Pages.{pages_of};
+ghost use Rattle.mq_exec.specs.Lacks.{HasVolume, LacksOf, OfEach};
 ghost use Rattle.mq_exec.specs.Walks.{IsDirectory, LeadsPast, LooksIn, LooksUnder, named};
 ghost use Rattle.mq_tree.specs.Requests.{enter as enter_found, target as target_of, walk as walk_of};
-ghost use Rattle.mq_tree.specs.Volume.{Volume, body, find as find_name, slots_of, way};
+ghost use Rattle.mq_tree.specs.Volume.{body, find as find_name, slots_of, way};
 
 use crate::lack::Lack;
 use crate::working::Working;
@@ -28,10 +26,10 @@ pub enum Target {
 impl<'a> Working<'a> {
     /// The inode under a name of a directory.
     pub fn lookup(&self, alloc: Global, d: u32, name: &Name) -> Result<Option<u32>, Lack>
-        requires possible { IsPossible self.now.geometry (pages_of self.now) }
-        requires dir { (v : Volume) → Agrees self.now.geometry (pages_of self.now) v → IsDirectory v d }
-        ensures ok { IfOk result (λ found. (v : Volume) → Agrees self.now.geometry (pages_of self.now) v → found ≡ find_name name.now (slots_of (body v d))) }
-        ensures lack { IfErr result (Lacks (pages_of self.now) (λ b. (v : Volume) → Agrees self.now.geometry (pages_of self.now) v → LooksIn self.now.geometry v d b)) }
+        requires possible { HasVolume self.now }
+        requires dir { OfEach self.now (λ v. IsDirectory v d) }
+        ensures ok { IfOk result (λ found. OfEach self.now (λ v. found ≡ find_name name.now (slots_of (body v d)))) }
+        ensures lack { IfErr result (LacksOf self.now (λ v b. LooksIn self.now.geometry v d b)) }
     {
         let inode = self.inode(alloc, d)?;
         let blocks = self.directory(alloc, d, &inode)?;
@@ -40,10 +38,10 @@ impl<'a> Working<'a> {
 
     /// Into the directory under a name of a directory.
     fn enter(&self, alloc: Global, d: u32, name: &Name) -> Result<Result<u32, Fault>, Lack>
-        requires possible { IsPossible self.now.geometry (pages_of self.now) }
-        requires dir { (v : Volume) → Agrees self.now.geometry (pages_of self.now) v → IsDirectory v d }
-        ensures ok { IfOk result (λ entered. (v : Volume) → Agrees self.now.geometry (pages_of self.now) v → entered ≡ enter_found v (find_name name.now (slots_of (body v d)))) }
-        ensures lack { IfErr result (Lacks (pages_of self.now) (λ b. (v : Volume) → Agrees self.now.geometry (pages_of self.now) v → LooksUnder self.now.geometry v d name.now b)) }
+        requires possible { HasVolume self.now }
+        requires dir { OfEach self.now (λ v. IsDirectory v d) }
+        ensures ok { IfOk result (λ entered. OfEach self.now (λ v. entered ≡ enter_found v (find_name name.now (slots_of (body v d))))) }
+        ensures lack { IfErr result (LacksOf self.now (λ v b. LooksUnder self.now.geometry v d name.now b)) }
     {
         let Some(i) = self.lookup(alloc, d, name)? else {
             return Ok(Err(Fault::NotFound));
@@ -58,9 +56,9 @@ impl<'a> Working<'a> {
 
     /// Through all these names, from the root on.
     fn walk(&self, alloc: Global, names: &[Name]) -> Result<Result<u32, Fault>, Lack>
-        requires { IsPossible self.now.geometry (pages_of self.now) }
-        ensures ok { IfOk result (λ end. (v : Volume) → Agrees self.now.geometry (pages_of self.now) v → end ≡ walk_of v (way names.now)) }
-        ensures lack { IfErr result (Lacks (pages_of self.now) (λ b. (v : Volume) → Agrees self.now.geometry (pages_of self.now) v → LeadsPast self.now.geometry v (way names.now) b)) }
+        requires { HasVolume self.now }
+        ensures ok { IfOk result (λ end. OfEach self.now (λ v. end ≡ walk_of v (way names.now))) }
+        ensures lack { IfErr result (LacksOf self.now (λ v b. LeadsPast self.now.geometry v (way names.now) b)) }
     {
         let mut at = 0;
         for name in names {
@@ -74,9 +72,9 @@ impl<'a> Working<'a> {
 
     /// What a path names.
     pub fn target(&self, alloc: Global, path: &Path) -> Result<Target, Lack>
-        requires { IsPossible self.now.geometry (pages_of self.now) }
-        ensures ok { IfOk result (λ target. (v : Volume) → Agrees self.now.geometry (pages_of self.now) v → named (way path.now) target ≡ target_of v (way path.now)) }
-        ensures lack { IfErr result (Lacks (pages_of self.now) (λ b. (v : Volume) → Agrees self.now.geometry (pages_of self.now) v → LeadsPast self.now.geometry v (way path.now) b)) }
+        requires { HasVolume self.now }
+        ensures ok { IfOk result (λ target. OfEach self.now (λ v. named (way path.now) target ≡ target_of v (way path.now))) }
+        ensures lack { IfErr result (LacksOf self.now (λ v b. LeadsPast self.now.geometry v (way path.now) b)) }
     {
         let Some((last, names)) = path.0.split_last() else {
             return Ok(Target::Root);
