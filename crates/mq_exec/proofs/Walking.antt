@@ -81,6 +81,9 @@ walk-end g v (name ∷ w) d sound e = end-more g v name w d (walk v w) refl (λ 
 pub walk-dir : (g : Geometry) (v : Volume) (way : Way) (d : ℕ) → IsSound g v → walk v way ≡ Ok d → IsDirectory v d
 walk-dir g v way d sound e = (walk-end g v way d sound e).dir
 
+pub walk-at : (g : Geometry) (v : Volume) (way : Way) (d : ℕ) → IsSound g v → walk v way ≡ Ok d → inode_at v way ≡ Some d
+walk-at g v way d sound e = (walk-end g v way d sound e).at
+
 -- ---- a name more
 
 pub way-more : (names : List (List ℕ)) (k : ℕ) (name : List ℕ) → k < length names → name ≡ get_or names k name → way (take (k + 1) names) ≡ name ∷ way (take k names)
@@ -101,7 +104,7 @@ walk-refused v names k fault e = sym (ap (λ (w : Way). walk v w) (way-rest name
 
 -- ---- what is looked at on the way
 
-leads-here : (v : Volume) (way : Way) (i : ℕ) → inode_at v way ≡ Some i → Leads v way i
+pub leads-here : (v : Volume) (way : Way) (i : ℕ) → inode_at v way ≡ Some i → Leads v way i
 leads-here v [] i e = e
 leads-here v (name ∷ way) i e = inl e
 

@@ -2,4 +2,5 @@ pub mod Dirs
 pub mod Fits
 pub mod Lacks
 pub mod Pages
+pub mod Reads
 pub mod Walks

@@ -3,10 +3,12 @@
 #![tactic(auto)]
 
 mod blocks;
+mod bytes;
 mod inode;
 mod directory;
 mod lack;
 mod slots;
+mod subject;
 mod view;
 mod walk;
 mod working;
