@@ -11,7 +11,7 @@ use Rattle.mq_blocks.specs.declared.geometry.Geometry.{Geometry}
 use Rattle.mq_layout.specs.declared.inode.Inode.{Inode}
 use Rattle.mq_exec.specs.Fits.{Agrees}
 use Rattle.mq_exec.specs.Pages.{IsHeld, Pages, content}
-use Rattle.mq_exec.specs.Reads.{HasByte, IsFileOf, LooksInFile, bytes_at}
+use Rattle.mq_exec.specs.Reads.{LooksInFile, bytes_at}
 use Rattle.mq_exec.proofs.Showing.{IsUse, use-shown, use-there}
 use Rattle.mq_tree.specs.Laid.{ShowsPart, inode_of, size_of}
 use Rattle.mq_tree.specs.Sound.{IsBody, blocks_for}
@@ -46,8 +46,8 @@ gathered-more page rest out new all skip left e whole low end is h =
     let over : take (left - (e - skip)) rest ≡ take (left - length (drop skip page)) rest = after (omega arith) in
     ap (λ (xs : List ℕ). xs ++ take (left - (e - skip)) rest) is ∙ append_assoc out (take (e - skip) (drop skip page)) (take (left - (e - skip)) rest)
     ∙ ap (λ (xs : List ℕ). out ++ xs) (
-      ap (λ (xs : List ℕ). take (e - skip) (drop skip page) ++ xs) over ∙ ap (λ (xs : List ℕ). xs ++ take (left - length (drop skip page)) rest) (take-same (drop skip page) (e - skip) left same)
-      ∙ sym (take-both (drop skip page) rest left) ∙ ap (λ (xs : List ℕ). take left xs) (sym (drop-append-le skip page rest (omega arith))))
+    ap (λ (xs : List ℕ). take (e - skip) (drop skip page) ++ xs) over ∙ ap (λ (xs : List ℕ). xs ++ take (left - length (drop skip page)) rest) (take-same (drop skip page) (e - skip) left same)
+    ∙ sym (take-both (drop skip page) rest left) ∙ ap (λ (xs : List ℕ). take left xs) (sym (drop-append-le skip page rest (omega arith))))
     ∙ h
   where
     after : left - (e - skip) ≡ left - length (drop skip page) → take (left - (e - skip)) rest ≡ take (left - length (drop skip page)) rest
@@ -106,22 +106,24 @@ pub run-read : (g : Geometry) (pages : Pages) (v : Volume) (i : ℕ) (all blocks
     → length blocks ≡ (end - 1) / 4096 + 1 - at / 4096 → take (end - at) (drop (at % 4096) (bytes_at pages blocks)) ≡ take count (drop at all)
 run-read g pages v i all blocks at count end h held e some n =
     same_lists _ _ (left ∙ sym right) (λ k d l.
-      let inside : k < end - at = (let m = left in omega arith) in
-      let j = at % 4096 + k in
-      let small : j % 4096 < 4096 = omega arith in
-      let place : j / 4096 < length blocks = omega arith in
-      let split : 4096 * (j / 4096) + j % 4096 ≡ at % 4096 + k = omega arith in
-      let there : 4096 * (at / 4096 + j / 4096) + j % 4096 ≡ at + k = omega arith in
-      get_or-take (end - at) (drop (at % 4096) (bytes_at pages blocks)) k d inside ∙ get_or-drop (at % 4096) (bytes_at pages blocks) k d
-      ∙ get_or_default (bytes_at pages blocks) (at % 4096 + k) d 0 (let m = whole in omega arith)
-      ∙ ap (λ (x : ℕ). get_or (bytes_at pages blocks) x 0) (sym split) ∙ run-byte g pages v i all blocks (at / 4096) (j / 4096) (j % 4096) h held place small
-      ∙ ap (λ (x : ℕ). get_or all x 0) there ∙ get_or_default all (at + k) 0 d (omega arith)
-      ∙ sym (get_or-take count (drop at all) k d (omega arith) ∙ get_or-drop at all k d))
+    let inside : k < end - at = (let m = left in omega arith) in
+    let j = at % 4096 + k in
+    let small : j % 4096 < 4096 = omega arith in
+    let place : j / 4096 < length blocks = omega arith in
+    let split : 4096 * (j / 4096) + j % 4096 ≡ at % 4096 + k = omega arith in
+    let there : 4096 * (at / 4096 + j / 4096) + j % 4096 ≡ at + k = omega arith in
+    get_or-take (end - at) (drop (at % 4096) (bytes_at pages blocks)) k d inside ∙ get_or-drop (at % 4096) (bytes_at pages blocks) k d
+    ∙ get_or_default (bytes_at pages blocks) (at % 4096 + k) d 0 (let m = whole in omega arith)
+    ∙ ap (λ (x : ℕ). get_or (bytes_at pages blocks) x 0) (sym split) ∙ run-byte g pages v i all blocks (at / 4096) (j / 4096) (j % 4096) h held place small
+    ∙ ap (λ (x : ℕ). get_or all x 0) there ∙ get_or_default all (at + k) 0 d (omega arith)
+    ∙ sym (get_or-take count (drop at all) k d (omega arith) ∙ get_or-drop at all k d))
   where
     whole : length (bytes_at pages blocks) ≡ 4096 * length blocks
     whole = length-bytes_at pages blocks (run-whole g pages v i all blocks (at / 4096) h held)
+
     left : length (take (end - at) (drop (at % 4096) (bytes_at pages blocks))) ≡ end - at
     left = length-take (end - at) (drop (at % 4096) (bytes_at pages blocks)) ∙ (let m = whole in let o = length-drop (at % 4096) (bytes_at pages blocks) in omega arith)
+
     right : length (take count (drop at all)) ≡ end - at
     right = length-take count (drop at all) ∙ (let o = length-drop at all in omega arith)
 
@@ -139,11 +141,11 @@ touched-run g pages v i all blocks touched at end agrees is same some low t = re
   agrees = agrees;
   is = is;
   run = λ k l.
-    let n = ap length t ∙ length-take ((end - 1) / 4096 + 1 - at / 4096) (drop (at / 4096) blocks) in
-    let m = length-drop (at / 4096) blocks in
-    let inside : at / 4096 + k < length blocks = omega arith in
-    ap (λ (xs : List ℕ). slice_get xs (at / 4096 + k)) (sym same) ∙ slice_get-get_or blocks (at / 4096 + k) 0 inside
-    ∙ ap (λ (x : ℕ). Some x) (sym (ap (λ (xs : List ℕ). get_or xs k 0) t ∙ get_or-take ((end - 1) / 4096 + 1 - at / 4096) (drop (at / 4096) blocks) k 0 (omega arith) ∙ get_or-drop (at / 4096) blocks k 0));
+      let n = ap length t ∙ length-take ((end - 1) / 4096 + 1 - at / 4096) (drop (at / 4096) blocks) in
+      let m = length-drop (at / 4096) blocks in
+      let inside : at / 4096 + k < length blocks = omega arith in
+      ap (λ (xs : List ℕ). slice_get xs (at / 4096 + k)) (sym same) ∙ slice_get-get_or blocks (at / 4096 + k) 0 inside
+      ∙ ap (λ (x : ℕ). Some x) (sym (ap (λ (xs : List ℕ). get_or xs k 0) t ∙ get_or-take ((end - 1) / 4096 + 1 - at / 4096) (drop (at / 4096) blocks) k 0 (omega arith) ∙ get_or-drop (at / 4096) blocks k 0));
 }
 
 file-count : (g : Geometry) (pages : Pages) (v : Volume) (i : ℕ) (all : List ℕ) → Agrees g pages v → body v i ≡ File all → length (node v i).blocks ≡ blocks_for (length all)
@@ -176,12 +178,15 @@ touched-byte g pages v i all blocks touched at count end b agrees is same some e
     min' : ℕ → ℕ → ℕ
     min' at zero = at
     min' at (suc k) = 4096 * (at / 4096 + suc k)
+
     place-of : (at k : ℕ) → min' at k / 4096 ≡ at / 4096 + k
     place-of at zero = omega arith
     place-of at (suc k) = omega arith
+
     first : (at k : ℕ) → at ≤ min' at k
     first at zero = omega arith
     first at (suc k) = omega arith
+
     past : (at k end : ℕ) → k < (end - 1) / 4096 + 1 - at / 4096 → at < end → min' at k < end
     past at zero end l some = some
     past at (suc k) end l some = omega arith

@@ -1,9 +1,9 @@
 -- The slots of a directory, block by block.
-use Rattle.std.proofs.Common.{get_or, ◌≡◌, ◌≢◌, ℕ, zero, suc, ◌+◌, ◌-◌, ◌*◌, ◌/◌, ◌%◌, ◌<◌, ◌≤◌, Bool, true, false, cond, List, [], ◌∷◌, ◌++◌, length, drop, take, refl, sym, ap, subst, ◌∙◌, arith, drop-cons, inl, inr}
+use Rattle.std.proofs.Common.{get_or, ◌≡◌, ◌≢◌, ℕ, zero, suc, ◌+◌, ◌-◌, ◌*◌, ◌/◌, ◌%◌, ◌<◌, Bool, true, cond, List, [], ◌∷◌, ◌++◌, length, drop, refl, sym, ap, subst, ◌∙◌, arith, drop-cons, inl, inr}
 use Rattle.std.specs.Prelude.{Option, Some, None, slice_get}
 use Rattle.std.specs.List.{All, Contains}
 use Rattle.std.specs.Str.{bytes_eq}
-use Rattle.std.proofs.lemmas.Bool.{cases_Bool, cases_lt}
+use Rattle.std.proofs.lemmas.Bool.{cases_Bool}
 use Rattle.std.proofs.lemmas.List.{get_or_append_left, get_or-append_right, get_or_default, length-append, same_lists}
 use Rattle.std.proofs.lemmas.Option.{slice_get-get_or}
 use Rattle.mq_blocks.specs.declared.geometry.Geometry.{Geometry}
@@ -14,7 +14,6 @@ use Rattle.mq_exec.specs.Fits.{Agrees}
 use Rattle.mq_exec.specs.Pages.{IsHeld, Pages, content}
 use Rattle.mq_exec.proofs.Entries.{length-slots_in, slots_in-at}
 use Rattle.mq_exec.proofs.Showing.{use-shown, use-there}
-use Rattle.mq_tree.specs.Clean.{IsDirBlock}
 use Rattle.mq_tree.specs.Decoded.{slot_of}
 use Rattle.mq_tree.specs.Laid.{ShowsPart, inode_of, kind_of}
 use Rattle.mq_tree.specs.Requests.{count_names}
@@ -95,16 +94,17 @@ dir-form g pages v d slots blocks agrees is same held k x l =
 pub dir-slots : (g : Geometry) (pages : Pages) (v : Volume) (d : ℕ) (slots : List (Option Entry)) (blocks : List ℕ) → Agrees g pages v → body v d ≡ Dir slots → blocks ≡ (node v d).blocks → All (IsHeld pages) blocks → slots ≡ slots_at pages blocks
 dir-slots g pages v d slots blocks agrees is same held =
     same_lists slots (slots_at pages blocks) (long ∙ sym (length-slots_at pages blocks)) (λ k x l.
-      let inside : k / 15 < length blocks = (let n = long in omega arith) in
-      let small : k % 15 < 15 = omega arith in
-      let i : 15 * (k / 15) + k % 15 ≡ k = omega arith in
-      let b = get_or blocks (k / 15) 0 in
-      let at : slice_get (node v d).blocks (k / 15) ≡ Some b = ap (λ (bs : List ℕ). slice_get bs (k / 15)) (sym same) ∙ slice_get-get_or blocks (k / 15) 0 inside in
-      let p = part-shown g pages v d (k / 15) b slots agrees is at (held (k / 15) 0 inside) in
-      get_or_default slots k x None l ∙ ap (λ (j : ℕ). get_or slots j None) (sym i) ∙ sym (slot-decoded (content (pages b)) (k % 15) _ (p.0 (k % 15) small)) ∙ sym (slots_at-at pages blocks (k / 15) (k % 15) x inside small) ∙ ap (λ (j : ℕ). get_or (slots_at pages blocks) j x) i)
+    let inside : k / 15 < length blocks = (let n = long in omega arith) in
+    let small : k % 15 < 15 = omega arith in
+    let i : 15 * (k / 15) + k % 15 ≡ k = omega arith in
+    let b = get_or blocks (k / 15) 0 in
+    let at : slice_get (node v d).blocks (k / 15) ≡ Some b = ap (λ (bs : List ℕ). slice_get bs (k / 15)) (sym same) ∙ slice_get-get_or blocks (k / 15) 0 inside in
+    let p = part-shown g pages v d (k / 15) b slots agrees is at (held (k / 15) 0 inside) in
+    get_or_default slots k x None l ∙ ap (λ (j : ℕ). get_or slots j None) (sym i) ∙ sym (slot-decoded (content (pages b)) (k % 15) _ (p.0 (k % 15) small)) ∙ sym (slots_at-at pages blocks (k / 15) (k % 15) x inside small) ∙ ap (λ (j : ℕ). get_or (slots_at pages blocks) j x) i)
   where
     fine : IsBody (Dir slots) (length (node v d).blocks)
     fine = subst (λ x. IsBody x (length (node v d).blocks)) is (agrees.sound.nodes d).body
+
     long : length slots ≡ 15 * length blocks
     long = fine.1 ∙ ap (λ (bs : List ℕ). 15 * length bs) (sym same)
 

@@ -1,10 +1,10 @@
 -- Slots, one after another.
-use Rattle.std.proofs.Common.{get_or, ◌≡◌, ◌≢◌, ℕ, suc, ◌+◌, ◌-◌, ◌*◌, ◌<◌, ◌≤◌, Bool, true, false, cond, List, [], ◌∷◌, ◌++◌, length, drop, refl, sym, ap, subst, ◌∙◌, arith, drop-cons, add-one}
+use Rattle.std.proofs.Common.{get_or, ◌≡◌, ℕ, suc, ◌+◌, ◌<◌, ◌≤◌, Bool, true, false, cond, List, [], ◌∷◌, length, drop, sym, ap, ◌∙◌, arith, drop-cons}
 use Rattle.std.specs.Prelude.{Option, Some, None}
 use Rattle.std.proofs.lemmas.List.{drop_all}
 use Rattle.std.specs.Str.{bytes_eq}
 use Rattle.mq_layout.specs.Slots.{Entry}
-use Rattle.mq_exec.specs.Dirs.{slots_in}
+use Rattle.mq_exec.specs.Dirs.{names_of, slots_in}
 use Rattle.mq_tree.specs.Decoded.{slot_of}
 use Rattle.mq_tree.specs.Requests.{count_names}
 use Rattle.mq_tree.specs.Volume.{find}
@@ -46,3 +46,9 @@ find-pass name page at e l is other = find-used name page at e l is ∙ ap (λ (
 
 pub drop-all : (page : List ℕ) (at : ℕ) → 15 ≤ at → drop at (slots_in page) ≡ []
 drop-all page at l = drop_all at (slots_in page) (let n = length-slots_in page in omega arith)
+
+pub names-unused : (page : List ℕ) (at : ℕ) → at < 15 → slot_of page at ≡ None → names_of (drop at (slots_in page)) ≡ names_of (drop (at + 1) (slots_in page))
+names-unused page at l e = ap (λ (s : List (Option Entry)). names_of s) (slots_in-next page at l ∙ ap (λ (o : Option Entry). o ∷ drop (at + 1) (slots_in page)) e)
+
+pub names-used : (page : List ℕ) (at : ℕ) (e : Entry) → at < 15 → slot_of page at ≡ Some e → names_of (drop at (slots_in page)) ≡ e.name ∷ names_of (drop (at + 1) (slots_in page))
+names-used page at e l is = ap (λ (s : List (Option Entry)). names_of s) (slots_in-next page at l ∙ ap (λ (o : Option Entry). o ∷ drop (at + 1) (slots_in page)) is)

@@ -1,8 +1,11 @@
+pub mod Answering
 pub mod Contents
 pub mod Directories
 pub mod Entries
+pub mod Grouping
 pub mod Naming
 pub mod Needs
 pub mod Nodes
 pub mod Showing
+pub mod Sorting
 pub mod Walking

@@ -1,19 +1,18 @@
 -- What a path names, for a request that reads.
-use Rattle.std.proofs.Common.{get_or, ◌≡◌, ℕ, ◌<◌, Bool, true, false, cond, List, [], ◌∷◌, refl, sym, ap, subst, ◌∙◌}
+use Rattle.std.proofs.Common.{◌≡◌, ℕ, ◌<◌, Bool, true, cond, List, [], ◌∷◌, refl, sym, ap, subst, ◌∙◌}
 use Rattle.std.specs.Prelude.{Option, Some, None, Result, Ok, Err, option_and_then}
 use Rattle.std.specs.List.{list_all}
 use Rattle.mq_blocks.specs.declared.geometry.Geometry.{Geometry}
 use Rattle.mq_layout.specs.Names.{is_name}
 use Rattle.mq_layout.specs.Places.{inode_block, inodes_of}
-use Rattle.mq_layout.specs.Slots.{Entry}
 use Rattle.mq_layout.specs.declared.inode.Inode.{Inode}
-use Rattle.mq_exec.specs.Reads.{IsInodeOf, IsNamed, NamesLeadPast, asked, number_of}
-use Rattle.mq_exec.specs.Walks.{LeadsPast, inode, named}
+use Rattle.mq_exec.specs.Reads.{IsNamed, NamesLeadPast, number_of}
+use Rattle.mq_exec.specs.Walks.{inode, named}
 use Rattle.mq_exec.specs.declared.walk.Target.{Target}
 use Rattle.mq_exec.specs.declared.walk.Target.TheVariants.{Root, Lost, In}
 use Rattle.mq_exec.proofs.Walking.{found-used, leads-here, used-low, walk-at}
 use Rattle.mq_tree.specs.Laid.{inode_of}
-use Rattle.mq_tree.specs.Requests.{Target as Named, Root as AtRoot, Lost as AtFault, In as AtName, Says, asks, refused, target, target_in, walk}
+use Rattle.mq_tree.specs.Requests.{Root as AtRoot, Lost as AtFault, In as AtName, Says, asks, refused, target, target_in, walk}
 use Rattle.mq_tree.specs.Sound.{IsSound}
 use Rattle.mq_tree.specs.Volume.{Body, Path, Volume, Way, body, find, inode_at, is_used, node, slots_of, way}
 use Rattle.mq_tree.specs.declared.request.Fault.{Fault}

@@ -4,12 +4,15 @@ use Rattle.std.specs.Prelude.{Option, Some, None}
 use Rattle.std.specs.List.{All, Contains}
 use Rattle.std.proofs.lemmas.List.{length-append, take_all}
 use Rattle.std.proofs.lemmas.List.Elements.{All-more, All-nil, All-push, All-weaker}
+use Rattle.mq_blocks.specs.declared.geometry.Geometry.{Geometry}
+use Rattle.mq_exec.specs.Fits.{Agrees}
 use Rattle.mq_exec.specs.Lacks.{IsNeed, Lacks}
 use Rattle.mq_exec.specs.Pages.{IsHeld, Pages, content, known}
 use Rattle.mq_exec.specs.declared.working.Page.{Page}
 use Rattle.mq_exec.specs.declared.working.Page.TheVariants.{Absent, Free, Held}
 use Rattle.mq_exec.specs.declared.lack.Lack.{Lack}
 use Rattle.mq_exec.specs.declared.lack.Lack.TheVariants.{Need, OutOfMemory}
+use Rattle.mq_tree.specs.Volume.{Volume}
 
 pub lacks-weaker : (pages : Pages) (P Q : ℕ → Type 0) (lack : Lack) → ((b : ℕ) → P b → Q b) → Lacks pages P lack → Lacks pages Q lack
 lacks-weaker pages P Q (Need blocks) f n = record { some = n.some; absent = n.absent; looked = All-weaker P Q f blocks.items n.looked }
@@ -53,3 +56,22 @@ sought-need pages blocks absent k some h = record { some = some; absent = h.abse
 
 pub sought-none : (pages : Pages) (blocks absent : List ℕ) → absent ≡ [] → IsSought pages blocks absent 0
 sought-none pages blocks absent e = subst (λ (xs : List ℕ). IsSought pages blocks xs 0) (sym e) (record { absent_all = All-nil (λ b. pages b ≡ None); among = All-nil (Contains blocks); held = λ zero. All-nil (IsHeld pages) })
+
+-- ---- pages that are the same, block by block
+
+pub agrees-alike : (g : Geometry) (p q : Pages) (v : Volume) → ((b : ℕ) → p b ≡ q b) → Agrees g p v → Agrees g q v
+agrees-alike g p q v same h = record {
+  sound = h.sound;
+  fits = record { held = λ b page e. h.fits.held b page (same b ∙ e); free = λ b e. h.fits.free b (same b ∙ e) };
+}
+
+pub need-alike : (p q : Pages) (looks more : ℕ → Type 0) (blocks : List ℕ) → ((b : ℕ) → p b ≡ q b) → ((b : ℕ) → looks b → more b) → IsNeed p looks blocks → IsNeed q more blocks
+need-alike p q looks more blocks same f h = record {
+  some = h.some;
+  absent = λ k d l. sym (same (get_or blocks k d)) ∙ h.absent k d l;
+  looked = All-weaker looks more f blocks h.looked;
+}
+
+-- a volume of a view's pages is one of the working pages over it
+pub agrees-working : (g h : Geometry) (held pages : Pages) (v : Volume) → h ≡ g → ((b : ℕ) → pages b ≡ held b) → Agrees g held v → Agrees h pages v
+agrees-working g h held pages v e same a = subst (λ (x : Geometry). Agrees x pages v) (sym e) (agrees-alike g held pages v (λ b. sym (same b)) a)

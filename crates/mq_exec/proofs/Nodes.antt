@@ -1,10 +1,9 @@
 -- What an inode says of its blocks.
-use Rattle.std.proofs.Common.{get_or, ◌≡◌, ◌≢◌, ℕ, zero, suc, ◌+◌, ◌-◌, ◌*◌, ◌/◌, ◌<◌, ◌≤◌, List, [], ◌∷◌, ◌++◌, length, take, true, append_assoc, refl, sym, ap, subst, ◌∙◌, arith, inl, inr}
-use Rattle.std.specs.Prelude.{Some, None, is_some, nat_lt, slice_index}
+use Rattle.std.proofs.Common.{get_or, ◌≡◌, ℕ, zero, suc, ◌+◌, ◌-◌, ◌<◌, ◌≤◌, List, [], ◌∷◌, ◌++◌, length, take, append_assoc, refl, sym, ap, ◌∙◌, arith, inl, inr}
+use Rattle.std.specs.Prelude.{Some}
 use Rattle.std.proofs.lemmas.Bool.{cases_lt, lt-ltb}
 use Rattle.std.proofs.lemmas.List.{get_or_append_left, get_or-append_right, get_or-take, get_or_default, length-append, length-take, same_lists, take_all}
 use Rattle.mq_layout.specs.Bits.{pointer_of}
-use Rattle.mq_layout.specs.Places.{file_limit}
 use Rattle.mq_layout.specs.declared.inode.Inode.{Inode}
 use Rattle.mq_tree.specs.Decoded.{table_of}
 use Rattle.mq_tree.specs.Laid.{ShowsPointers, inode_of, or_zero, padded, size_of}
@@ -53,16 +52,17 @@ blocks-near blocks few = same_lists _ blocks (let a = length-take (length blocks
 
 pub blocks-far : (blocks page : List ℕ) → 12 < length blocks → length blocks ≤ 1036 → ShowsPointers blocks page → padded 12 blocks ++ table_of (length blocks - 12) (pointer_of page) ≡ blocks
 blocks-far blocks page many few shows = same_lists _ blocks whole (λ k d l. elim (cases_lt k 12) [
-    | inl low ↦
-        get_or_append_left (padded 12 blocks) _ d k (let t = twelve in omega arith) ∙ get_or_default (padded 12 blocks) k d 0 (let t = twelve in omega arith) ∙ padded-at 12 blocks k low ∙ get_or_default blocks k 0 d (let w = whole in omega arith)
-    | inr high ↦
-        let e : 12 + (k - 12) ≡ k = omega arith in
-        get_or-append_right (padded 12 blocks) _ 12 k d twelve high ∙ table-at (length blocks - 12) (pointer_of page) (k - 12) d (let w = whole in omega arith) ∙ shows (k - 12) (let w = whole in omega arith)
-        ∙ ap (λ (j : ℕ). get_or blocks j 0) e ∙ get_or_default blocks k 0 d (let w = whole in omega arith)
-  ])
+  | inl low ↦
+      get_or_append_left (padded 12 blocks) _ d k (let t = twelve in omega arith) ∙ get_or_default (padded 12 blocks) k d 0 (let t = twelve in omega arith) ∙ padded-at 12 blocks k low ∙ get_or_default blocks k 0 d (let w = whole in omega arith)
+  | inr high ↦
+      let e : 12 + (k - 12) ≡ k = omega arith in
+      get_or-append_right (padded 12 blocks) _ 12 k d twelve high ∙ table-at (length blocks - 12) (pointer_of page) (k - 12) d (let w = whole in omega arith) ∙ shows (k - 12) (let w = whole in omega arith)
+      ∙ ap (λ (j : ℕ). get_or blocks j 0) e ∙ get_or_default blocks k 0 d (let w = whole in omega arith)
+])
   where
     twelve : length (padded 12 blocks) ≡ 12
     twelve = length-padded 12 blocks
+
     whole : length (padded 12 blocks ++ table_of (length blocks - 12) (pointer_of page)) ≡ length blocks
     whole = length-append (padded 12 blocks) _ ∙ (let a = length-table (length blocks - 12) (pointer_of page) in let t = twelve in omega arith)
 

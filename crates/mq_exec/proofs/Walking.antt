@@ -1,11 +1,11 @@
 -- Walking along a path, name by name.
-use Rattle.std.proofs.Common.{get_or, ◌≡◌, ◌≢◌, ℕ, zero, suc, ◌+◌, ◌<◌, ◌≤◌, Bool, true, false, cond, List, [], ◌∷◌, ◌++◌, length, take, drop, refl, sym, ap, subst, ◌∙◌, arith, inl, inr, ◌⊎◌}
+use Rattle.std.proofs.Common.{get_or, ◌≡◌, ◌≢◌, ℕ, zero, suc, ◌+◌, ◌<◌, Bool, true, cond, List, [], ◌∷◌, ◌++◌, length, take, drop, refl, sym, ap, subst, ◌∙◌, arith, inl, inr}
 use Rattle.std.specs.Prelude.{Option, Some, None, Result, Ok, Err, option_and_then, reverse}
 use Rattle.std.specs.Str.{bytes_eq}
 use Rattle.std.proofs.lemmas.Bool.{cases_Bool, cases_lt, true≢false}
 use Rattle.std.proofs.lemmas.List.{get_or_past, reverse-append, take-append-drop, take_more}
 use Rattle.mq_blocks.specs.declared.geometry.Geometry.{Geometry}
-use Rattle.mq_layout.specs.Places.{inode_block, inodes_of}
+use Rattle.mq_layout.specs.Places.{inodes_of}
 use Rattle.mq_layout.specs.Slots.{Entry}
 use Rattle.mq_layout.specs.declared.inode.Inode.{Inode}
 use Rattle.mq_exec.specs.Walks.{IsDirectory, LeadsPast, LooksIn, LooksUnder, directory, inode}
@@ -13,7 +13,7 @@ use Rattle.mq_tree.specs.Laid.{inode_of, kind_of}
 use Rattle.mq_tree.specs.Looks.{Leads}
 use Rattle.mq_tree.specs.Requests.{enter, go_on, into_dir, walk}
 use Rattle.mq_tree.specs.Sound.{IsSound}
-use Rattle.mq_tree.specs.Volume.{Body, Free, File, Dir, Node, Volume, Way, body, find, free_node, has_block, inode_at, is_used, node, slots_of, way}
+use Rattle.mq_tree.specs.Volume.{Body, Free, File, Dir, Node, Volume, Way, body, find, free_node, inode_at, is_used, node, slots_of, way}
 use Rattle.mq_tree.specs.declared.request.Fault.{Fault}
 use Rattle.mq_tree.specs.declared.request.Fault.TheVariants.{NotDir}
 
@@ -128,7 +128,7 @@ past-under g v name way d b sound e (inr (i, is, h)) = inode i (inl (ap (λ (o :
 pub past-walk : (g : Geometry) (v : Volume) (names : List (List ℕ)) (k : ℕ) (name : List ℕ) (d b : ℕ) → IsSound g v → k < length names → name ≡ get_or names k name → walk v (way (take k names)) ≡ Ok d → LooksUnder g v d name b → LeadsPast g v (way names) b
 past-walk g v names k name d b sound l is e h =
     subst (λ (w : Way). LeadsPast g v w b) (sym (way-rest names (k + 1))) (past-longer g v (way (drop (k + 1) names)) (way (take (k + 1) names)) b
-      (subst (λ (w : Way). LeadsPast g v w b) (sym (way-more names k name l is)) (past-under g v name (way (take k names)) d b sound e h)))
+    (subst (λ (w : Way). LeadsPast g v w b) (sym (way-more names k name l is)) (past-under g v name (way (take k names)) d b sound e h)))
 
 -- ---- the last name
 

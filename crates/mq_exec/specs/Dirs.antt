@@ -1,5 +1,5 @@
 -- The slots that held blocks of a directory have.
-use Rattle.std.specs.Prelude.{◌≡◌, ℕ, List, [], ◌∷◌, ◌++◌, Option}
+use Rattle.std.specs.Prelude.{ℕ, List, [], ◌∷◌, ◌++◌, Option, Some, None}
 use Rattle.std.specs.List.{All}
 use Rattle.mq_exec.specs.Pages.{IsHeld, Pages, content}
 use Rattle.mq_layout.specs.Slots.{Entry}
@@ -9,6 +9,12 @@ use Rattle.mq_tree.specs.Decoded.{slot_of, table_of}
 -- the slots of one block
 unfoldable pub slots_in : List ℕ → List (Option Entry)
 slots_in page = table_of 15 (slot_of page)
+
+-- the names in slots, in the order of these
+abbrev pub names_of : List (Option Entry) → List (List ℕ)
+names_of [] = []
+names_of (None ∷ slots) = names_of slots
+names_of (Some e ∷ slots) = e.name ∷ names_of slots
 
 -- of blocks one after another
 abbrev pub slots_at : Pages → (blocks : List ℕ) → List (Option Entry)

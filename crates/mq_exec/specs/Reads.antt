@@ -10,11 +10,15 @@ use Rattle.mq_exec.specs.declared.subject.Subject.{Subject}
 use Rattle.mq_layout.specs.Names.{is_name}
 use Rattle.mq_layout.specs.declared.inode.Inode.{Inode}
 use Rattle.mq_tree.specs.Laid.{inode_of}
-use Rattle.mq_tree.specs.Requests.{Says, Verdict, asks, refused, target}
+use Rattle.mq_tree.specs.Looks.{Looks}
+use Rattle.mq_tree.specs.Requests.{Says, Verdict, asks, list_in, read_in, refused, stat_in, step, target}
 use Rattle.mq_tree.specs.Volume.{Body, File, Path, Volume, body, has_block, inode_at, is_used, node, way}
 use Rattle.mq_tree.specs.declared.request.Fault.{Fault}
 use Rattle.mq_tree.specs.declared.request.Fault.TheVariants.{BadName, NotFound}
 use Rattle.mq_tree.specs.declared.request.Reply.{Reply}
+use Rattle.mq_tree.specs.declared.request.Reply.TheVariants.{Ok as Ready}
+use Rattle.mq_tree.specs.declared.request.Request.{Request}
+use Rattle.mq_tree.specs.declared.request.Request.TheVariants.{Mkdir, Create, Write, Truncate, Unlink, Rmdir, Rename, Read, List as ListOf, Stat}
 
 -- the inode that is read at a target
 abbrev pub number_of : Target → Result ℕ Fault
@@ -73,3 +77,39 @@ pub record IsFileOf (v : Volume) (i : ℕ) (inode : Inode) : Type 0 where
   pub says : inode ≡ inode_of (node v i)
   pub bytes : List ℕ
   pub is : body v i ≡ File bytes
+
+-- ---- by request
+
+-- the first path of a request
+abbrev pub path_of : Request → Path
+path_of (Mkdir p) = p
+path_of (Create p) = p
+path_of (Write p at bytes) = p
+path_of (Truncate p size) = p
+path_of (Unlink p) = p
+path_of (Rmdir p) = p
+path_of (Rename p to) = p
+path_of (Read p at count) = p
+path_of (ListOf p) = p
+path_of (Stat p) = p
+
+-- what one that reads answers of what stands there
+abbrev pub reading : Request → Body → Reply
+reading (Mkdir p) x = Ready
+reading (Create p) x = Ready
+reading (Write p at bytes) x = Ready
+reading (Truncate p size) x = Ready
+reading (Unlink p) x = Ready
+reading (Rmdir p) x = Ready
+reading (Rename p to) x = Ready
+reading (Read p at count) x = read_in at count x
+reading (ListOf p) x = list_in x
+reading (Stat p) x = stat_in x
+
+-- its answer, after which all stands as before
+abbrev pub Reads : Geometry → Volume → Request → Reply → Type 0
+Reads g v r reply = (q : ℕ) → step g q v r ≡ record { reply = reply; next = v }
+
+-- it looks at the block, whichever queue its session has
+abbrev pub LooksAlways : Geometry → Volume → Request → ℕ → Type 0
+LooksAlways g v r b = (q : ℕ) → Looks g q v r b

@@ -1,18 +1,19 @@
 // Directories: the blocks with their slots, and what these say together.
 ghost use Rattle.std.specs.Prelude.{◌≡◌, ◌≢◌, ◌≤◌, ◌*◌, ℕ, length, true, Bool, IfErr, IfOk, OnOk, Some, None};
 ghost use Rattle.std.specs.List.{All, Contains};
-ghost use Rattle.mq_exec.specs.Dirs.{AreDirsAt, slots_at};
+ghost use Rattle.mq_exec.specs.Dirs.{AreDirsAt, names_of, slots_at};
 ghost use Rattle.mq_exec.specs.Lacks.{HasVolume, Lacks, LacksOf, OfEach};
 ghost use Rattle.mq_exec.specs.Pages.{IsHeld, content as content_at, pages_of};
 ghost use Rattle.mq_tree.specs.Laid.{inode_of};
-ghost use Rattle.mq_tree.specs.Requests.{count_names};
+ghost use Rattle.mq_tree.specs.Requests.{count_names, names_in};
 ghost use Rattle.mq_tree.specs.Volume.{Dir, body, find as find_name, has_block, node};
 
 use crate::lack::Lack;
-use crate::slots::{count_in, find_in};
+use crate::slots::{count_in, find_in, push_names};
 use crate::working::{Page, Working};
-use mq_blocks::{Block, BlockNo};
+use mq_blocks::{Block, BlockNo, OutOfMemory};
 use mq_layout::Inode;
+use mq_tree::Name;
 use std::alloc::Global;
 
 impl<'a> Working<'a> {
@@ -84,5 +85,27 @@ impl<'a> Working<'a> {
             count += count_in(self.held(*b));
         }
         count
+    }
+
+    /// The names, in rising order of bytes.
+    pub fn names(&self, alloc: Global, blocks: &[BlockNo]) -> Result<Vec<Name>, OutOfMemory>
+        requires { AreDirsAt (pages_of self.now) blocks.now }
+        ensures { IfOk result (λ names. names.items ≡ names_in (slots_at (pages_of self.now) blocks.now)) }
+    {
+        let mut names = self.unsorted(alloc, blocks)?;
+        names.sort_by(|a, b| a.0.cmp(&b.0))?;
+        Ok(names)
+    }
+
+    /// The names, in the order of the slots.
+    fn unsorted(&self, alloc: Global, blocks: &[BlockNo]) -> Result<Vec<Name>, OutOfMemory>
+        requires { AreDirsAt (pages_of self.now) blocks.now }
+        ensures { IfOk result (λ names. names.items ≡ names_of (slots_at (pages_of self.now) blocks.now)) }
+    {
+        let mut names = Vec::new(alloc);
+        for b in blocks {
+            push_names(alloc, &mut names, self.held(*b))?;
+        }
+        Ok(names)
     }
 }

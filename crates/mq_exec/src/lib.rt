@@ -2,15 +2,19 @@
 //! they lack.
 #![tactic(auto)]
 
+mod answer;
 mod blocks;
 mod bytes;
-mod inode;
 mod directory;
+mod group;
+mod inode;
 mod lack;
+mod outcome;
 mod slots;
 mod subject;
 mod view;
 mod walk;
 mod working;
 
+pub use outcome::{Done, Outcome};
 pub use view::View;

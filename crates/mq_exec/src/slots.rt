@@ -1,17 +1,20 @@
 // The slots of one block of a directory.
-ghost use Rattle.std.specs.Prelude.{◌≡◌, ◌≤◌, ◌<◌, ◌+◌, ◌*◌, ℕ, IfSome, MatchOption, Some, None};
+ghost use Rattle.std.specs.Prelude.{◌≡◌, ◌≤◌, ◌<◌, ◌+◌, ◌*◌, ◌++◌, IfOk, MatchOption, Some, None};
 ghost use Rattle.mq_blocks.specs.Windows.{window};
-ghost use Rattle.mq_exec.specs.Dirs.{slots_in};
+ghost use Rattle.mq_exec.specs.Dirs.{names_of, slots_in};
 ghost use Rattle.mq_tree.specs.Clean.{IsDirBlock};
 ghost use Rattle.mq_tree.specs.Decoded.{slot_of};
 ghost use Rattle.mq_tree.specs.Requests.{count_names};
 ghost use Rattle.mq_tree.specs.Volume.{find as find_name};
 
-use mq_blocks::Block;
+use mq_blocks::{Block, OutOfMemory};
 use mq_layout::{SLOTS_PER_BLOCK, read_slot};
+use mq_tree::Name;
+use std::alloc::Global;
 
 /// The bytes of a slot, and where its name stands in it.
 const SLOT: usize = 272;
+
 const NAME: usize = 16;
 
 fn name_at(block: &Block, at: u32, length: u8) -> &[u8]
@@ -63,4 +66,17 @@ pub fn count_in(block: &Block) -> u32
         }
     }
     count
+}
+
+/// Adds copies of the names, in the order of the slots.
+pub fn push_names(alloc: Global, names: &mut Vec<Name>, block: &Block) -> Result<(), OutOfMemory>
+    requires { IsDirBlock block.now }
+    ensures { IfOk result (λ _. names.new.items ≡ names.old.items ++ names_of (slots_in block.now)) }
+{
+    for at in 0..SLOTS_PER_BLOCK {
+        if let Some((_, name)) = entry(block, at) {
+            names.push(Name(Vec::from_slice(alloc, name)?))?;
+        }
+    }
+    Ok(())
 }

@@ -1,9 +1,10 @@
 // The pages as they are between two requests of a group.
 ghost use Rattle.std.specs.Prelude.{◌≡◌, ◌≢◌, ℕ, IfErr, IfOk, Some, None};
 ghost use Rattle.mq_exec.specs.Lacks.{Lacks};
-ghost use Rattle.mq_exec.specs.Pages.{known, pages_of};
+ghost use Rattle.mq_exec.specs.Pages.{held_pages, known, pages_of};
 
 use crate::lack::{Lack, one};
+use crate::view::View;
 use mq_blocks::{Block, BlockNo, Geometry};
 use mq_pages::Held;
 use std::alloc::Global;
@@ -27,6 +28,19 @@ pub struct Working<'a> {
 }
 
 impl<'a> Working<'a> {
+    /// The pages of a view, of which none is changed yet.
+    #[tactic(auto, unfolding(crate::specs::Pages::pages_of))]
+    pub fn new(alloc: Global, geometry: Geometry, view: &View<'a>) -> Working<'a>
+        ensures geometry { result.geometry ≡ geometry }
+        ensures pages { (b : ℕ) → pages_of result b ≡ held_pages view.now.held.now.cells b }
+    {
+        Working {
+            geometry,
+            held: view.held,
+            changed: BTreeMap::new(alloc),
+        }
+    }
+
     #[tactic(auto, unfolding(crate::specs::Pages::pages_of))]
     pub fn page(&self, b: BlockNo) -> Page<'_>
         ensures { known result ≡ pages_of self.now b }

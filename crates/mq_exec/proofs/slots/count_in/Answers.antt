@@ -1,4 +1,4 @@
-use Rattle.std.proofs.Common.{arith, sym, ap, ◌∙◌, List}
+use Rattle.std.proofs.Common.{arith, ap, List}
 use Rattle.std.specs.Prelude.{Option}
 use Rattle.mq_layout.specs.Slots.{Entry}
 use Rattle.mq_tree.specs.Requests.{count_names}

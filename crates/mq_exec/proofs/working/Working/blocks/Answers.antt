@@ -1,4 +1,4 @@
-use Rattle.std.proofs.Common.{◌∙◌, sym, ap, ◌-◌, ◌++◌, List, ℕ}
+use Rattle.std.proofs.Common.{◌∙◌, ap, ◌-◌, ◌++◌, List, ℕ}
 use Rattle.std.specs.Prelude.{Vec}
 use Rattle.mq_layout.specs.Bits.{pointer_of}
 use Rattle.mq_exec.specs.Pages.{pages_of}

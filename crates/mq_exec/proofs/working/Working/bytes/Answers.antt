@@ -1,4 +1,4 @@
-use Rattle.std.proofs.Common.{sym, ap, subst, ◌∙◌, ℕ, ◌≡◌, List, arith, refl, length, ◌≤◌, take, drop, ◌-◌, ◌+◌, ◌/◌}
+use Rattle.std.proofs.Common.{◌∙◌, arith, refl, length, ◌≤◌, take, drop, ◌-◌, ◌+◌, ◌/◌}
 use Rattle.std.specs.List.{Contains}
 use Rattle.std.proofs.lemmas.Result.{err_from_is_err_and}
 use Rattle.mq_exec.specs.Fits.{Agrees}
@@ -27,11 +27,11 @@ returns-in_err-look_for-clause-lack c =
     let touched = take ((c.min-end.result - 1) / 4096 + 1 - c.args.at / 4096) (drop (c.args.at / 4096) c.deref.result.now) in
     let p = err_from_is_err_and c.from_residual-in_err-look_for.result c.from_residual-in_err-look_for.ensures.1 in
     rw (p.1, p.2) (lacks-weaker pages (Contains touched) (λ b. (v : Volume) → Agrees g pages v → LooksInFile v c.args.i c.args.at c.args.count b) c.in_err-look_for.field-0.0
-      (λ b among v agrees.
-        let f = c.requires.file v agrees in
-        let low = file-low g pages v c.args.i f.bytes agrees f.is in
-        let e = file-end (node v c.args.i) c.args.inode.now f.bytes c.saturating_add.result c.min-end.result c.args.at c.args.count f.says f.is low c.saturating_add.ensures c.min-end.ensures in
-        touched-byte g pages v c.args.i f.bytes c.deref.result.now touched c.args.at c.args.count c.min-end.result b agrees f.is (c.deref.ensures.value ∙ c.in_ok-blocks.ensures.ok v agrees) c.if-at-end.false e refl among) c.in_err-look_for.ensures.lack)
+    (λ b among v agrees.
+    let f = c.requires.file v agrees in
+    let low = file-low g pages v c.args.i f.bytes agrees f.is in
+    let e = file-end (node v c.args.i) c.args.inode.now f.bytes c.saturating_add.result c.min-end.result c.args.at c.args.count f.says f.is low c.saturating_add.ensures c.min-end.ensures in
+    touched-byte g pages v c.args.i f.bytes c.deref.result.now touched c.args.at c.args.count c.min-end.result b agrees f.is (c.deref.ensures.value ∙ c.in_ok-blocks.ensures.ok v agrees) c.if-at-end.false e refl among) c.in_err-look_for.ensures.lack)
 
 pub returns-clause-ok : goal.returns-clause-ok
 returns-clause-ok c v agrees bytes is =
@@ -43,4 +43,4 @@ returns-clause-ok c v agrees bytes is =
     let same = c.deref.ensures.value ∙ c.in_ok-blocks.ensures.ok v agrees in
     let inside : c.min-end.result ≤ length bytes = omega arith in
     c.in_ok-gather.ensures ∙ run-read g pages v c.args.i bytes _ c.args.at c.args.count c.min-end.result (touched-run g pages v c.args.i bytes c.deref.result.now _ c.args.at c.min-end.result agrees is same c.if-at-end.false inside refl) c.in_ok-look_for.ensures.ok e c.if-at-end.false
-      (touched-length g pages v c.args.i bytes c.deref.result.now _ c.args.at c.min-end.result agrees is same c.if-at-end.false inside refl)
+    (touched-length g pages v c.args.i bytes c.deref.result.now _ c.args.at c.min-end.result agrees is same c.if-at-end.false inside refl)

@@ -1,4 +1,4 @@
-use Rattle.std.proofs.Common.{sym, ap, ◌∙◌, ℕ}
+use Rattle.std.proofs.Common.{sym, ◌∙◌}
 use Rattle.mq_exec.proofs.Walking.{found-low, not-entered}
 use Rattle.mq_exec.proofs.working.Working.enter.Goals as goal
 

@@ -1,6 +1,3 @@
-use Rattle.std.proofs.Common.{sym, ap, subst, ◌∙◌, ◌≡◌, ℕ, List, drop}
-use Rattle.std.specs.Prelude.{Some, None}
-use Rattle.mq_exec.specs.Dirs.{slots_at, slots_in}
 use Rattle.mq_exec.specs.Pages.{pages_of}
 use Rattle.mq_exec.proofs.Directories.{found-here, found-beyond}
 use Rattle.mq_exec.proofs.working.Working.find.Goals as goal

@@ -1,4 +1,4 @@
-use Rattle.std.proofs.Common.{sym, ap, ◌∙◌, ℕ, ◌≡◌, true, ◌+◌, take}
+use Rattle.std.proofs.Common.{◌∙◌, ◌+◌, take}
 use Rattle.std.proofs.lemmas.Result.{err_from_is_err_and}
 use Rattle.mq_exec.specs.Fits.{Agrees}
 use Rattle.mq_exec.specs.Pages.{pages_of}
@@ -15,7 +15,7 @@ pub returns-in_err-i-clause-lack : goal.returns-in_err-i-clause-lack
 returns-in_err-i-clause-lack c =
     let p = err_from_is_err_and c.from_residual.result c.from_residual.ensures.1 in
     rw (p.1, p.2) (lacks-weaker (pages_of c.args.self.now) (λ b. (v : Volume) → Agrees c.args.self.now.geometry (pages_of c.args.self.now) v → LooksUnder c.args.self.now.geometry v c.loop-name.at c.name-item.result b) (λ b. (v : Volume) → Agrees c.args.self.now.geometry (pages_of c.args.self.now) v → LeadsPast c.args.self.now.geometry v (way c.args.names.now) b) c.in_err-i.field-0.0
-      (λ b h v agrees. past-walk c.args.self.now.geometry v c.args.names.now c.loop-name.name-index c.name-item.result c.loop-name.at b agrees.sound c.loop-name-test.true c.name-item.is (c.loop-name.invariant v agrees) (h v agrees)) c.in_err-i.ensures.lack)
+    (λ b h v agrees. past-walk c.args.self.now.geometry v c.args.names.now c.loop-name.name-index c.name-item.result c.loop-name.at b agrees.sound c.loop-name-test.true c.name-item.is (c.loop-name.invariant v agrees) (h v agrees)) c.in_err-i.ensures.lack)
 
 pub returns-in-Err-clause-ok : goal.returns-in-Err-clause-ok
 returns-in-Err-clause-ok c v agrees =
