@@ -25,7 +25,7 @@ fn stopped(lack: Lack) -> Result<Outcome, OutOfMemory>
 }
 
 /// The outcome of a group of requests that only read.
-pub fn read_group(
+pub(crate) fn read_group(
     alloc: Global,
     geometry: Geometry,
     requests: &[Request],

@@ -9,6 +9,7 @@ mod directory;
 mod group;
 mod inode;
 mod lack;
+mod laws;
 mod outcome;
 mod slots;
 mod subject;
@@ -16,5 +17,6 @@ mod view;
 mod walk;
 mod working;
 
+pub use laws::pages_of_a_map;
 pub use outcome::{Done, Outcome};
 pub use view::View;

@@ -4,6 +4,7 @@ ghost use Rattle.std.specs.Prelude.{◌≡◌};
 use mq_pages::Held;
 
 /// Pages that a session holds, as a group of requests finds them.
+#[derive(Clone, Copy)]
 pub struct View<'a> {
     pub(crate) held: &'a Held,
 }
