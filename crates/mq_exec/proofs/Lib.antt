@@ -3,6 +3,7 @@ pub mod Contents
 pub mod Directories
 pub mod Entries
 pub mod Grouping
+pub mod Marking
 pub mod Naming
 pub mod Needs
 pub mod Nodes

@@ -10,6 +10,7 @@ mod group;
 mod inode;
 mod lack;
 mod laws;
+mod marks;
 mod outcome;
 mod slots;
 mod subject;

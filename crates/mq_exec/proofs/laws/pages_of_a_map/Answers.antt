@@ -1,4 +1,3 @@
-use Rattle.std.proofs.Common.{◌≡◌}
 use Rattle.std.specs.Prelude.{Some, None}
 use Rattle.mq_exec.proofs.laws.pages_of_a_map.Goals as goal
 
