@@ -1,0 +1,12 @@
+pub mod Answering
+pub mod Contents
+pub mod Directories
+pub mod Entries
+pub mod Grouping
+pub mod Marking
+pub mod Naming
+pub mod Needs
+pub mod Nodes
+pub mod Showing
+pub mod Sorting
+pub mod Walking
