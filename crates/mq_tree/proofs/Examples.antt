@@ -13,7 +13,7 @@ use Rattle.mq_tree.specs.declared.request.Reply.TheVariants.{Ok as Done, Data, N
 use Rattle.mq_tree.specs.declared.request.Request.{Request}
 use Rattle.mq_tree.specs.declared.request.Request.TheVariants.{Mkdir, Create, Write, Truncate, Unlink, Rmdir, Rename, Read, List as ListOf, Stat}
 
-small : Geometry
+unfoldable pub small : Geometry
 small = record {
   queues = 1;
   area = 1024;
@@ -28,17 +28,17 @@ small = record {
   homes_high = lit≤ tt;
 }
 
-abbrev a : List ℕ
+abbrev pub a : List ℕ
 a = 97 ∷ []
 
-abbrev f : List ℕ
+abbrev pub f : List ℕ
 f = 102 ∷ []
 
 -- mkdir /a, create /a/f, write /a/f 0 "hi"
-abbrev first : List Request
+abbrev pub first : List Request
 first = Mkdir (a ∷ []) ∷ Create (a ∷ f ∷ []) ∷ Write (a ∷ f ∷ []) 0 (104 ∷ 105 ∷ []) ∷ []
 
-abbrev v : Volume
+abbrev pub v : Volume
 v = after_group small 0 (empty_volume small) first
 
 all-done : replies small 0 (empty_volume small) first ≡ Done ∷ Done ∷ Done ∷ []

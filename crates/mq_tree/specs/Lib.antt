@@ -3,6 +3,7 @@ pub mod Corrupt
 pub mod Decoded
 pub mod Empty
 pub mod Free
+pub mod Kept
 pub mod Laid
 pub mod Looks
 pub mod Parts
