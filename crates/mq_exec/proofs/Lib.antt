@@ -1,6 +1,7 @@
 pub mod Contents
 pub mod Directories
 pub mod Entries
+pub mod LocalRegions
 pub mod Naming
 pub mod Needs
 pub mod Nodes
