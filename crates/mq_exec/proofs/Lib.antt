@@ -1,6 +1,10 @@
 pub mod Contents
 pub mod Directories
 pub mod Entries
+pub mod LocalFits
+pub mod LocalFrame
+pub mod LocalPages
+pub mod LocalParts
 pub mod LocalRegions
 pub mod Naming
 pub mod Needs

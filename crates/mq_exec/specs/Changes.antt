@@ -1,0 +1,51 @@
+-- Pages that change, one after another, from those of one volume to those of another.
+use Rattle.std.specs.Prelude.{◌≡◌, ◌≢◌, ◌⊎◌, ◌<◌, ◌↔◌, ⊤, ℕ, false, List, [], Option, Some, None}
+use Rattle.mq_blocks.specs.Geometry.{queues_of, zone_size}
+use Rattle.mq_blocks.specs.Journal.{is_among}
+use Rattle.mq_blocks.specs.declared.geometry.Geometry.{Geometry}
+use Rattle.mq_exec.specs.Fits.{Fits}
+use Rattle.mq_exec.specs.Pages.{Pages}
+use Rattle.mq_layout.specs.Places.{inode_bitmap, inode_block, zone_bitmap}
+use Rattle.mq_tree.specs.Laid.{IsVacant, Shows, ShowsUse, inode_of, zone_block}
+use Rattle.mq_tree.specs.Volume.{Use, Part, Pointers, Volume, block_in, body, has_block, is_used, node}
+
+-- what is known of a block fits the volume
+abbrev pub FitsAt : Geometry → Option (Option (List ℕ)) → Volume → ℕ → Type 0
+FitsAt g None v b = ⊤
+FitsAt g (Some None) v b = IsVacant g v b
+FitsAt g (Some (Some page)) v b = Shows g v b page
+
+-- The pages fit the volume, except perhaps at these blocks.
+abbrev pub FitsBut : Geometry → Pages → Volume → (blocks : List ℕ) → Type 0
+FitsBut g pages v blocks = (b : ℕ) → is_among b blocks ≡ false → FitsAt g (pages b) v b
+
+-- a page was put there, with content or free, and no other changed
+pub record IsPut (old new : Pages) (b : ℕ) (page : Option (List ℕ)) : Type 0 where
+  pub here : new b ≡ Some page
+  pub others : (x : ℕ) → x ≢ b → new x ≡ old x
+
+-- no inode but this one changes
+abbrev pub AreOthers : (v w : Volume) → ℕ → Type 0
+AreOthers v w i = (x : ℕ) → x ≢ i → node w x ≡ node v x
+
+-- the inode for which a block is used
+abbrev pub owner : Use → ℕ
+owner (Part i place) = i
+owner (Pointers i) = i
+
+-- both volumes use the block so, and show the same there
+pub record IsKept (v w : Volume) (b : ℕ) : Type 0 where
+  pub purpose : Use
+  pub before : block_in v purpose ≡ Some b
+  pub after : block_in w purpose ≡ Some b
+  pub shows : (page : List ℕ) → ShowsUse v purpose page ↔ ShowsUse w purpose page
+
+-- One inode changes, and what is shown changes at these blocks alone.
+pub record ChangesAt (g : Geometry) (v w : Volume) (i : ℕ) (blocks : List ℕ) : Type 0 where
+  pub others : AreOthers v w i
+  -- of its own blocks
+  pub own : (b : ℕ) → is_among b blocks ≡ false → ((has_block (node v i) b ≡ false) × (has_block (node w i) b ≡ false)) ⊎ IsKept v w b
+  -- of the bitmaps of the zones
+  pub marks : (zone k : ℕ) → zone < queues_of g → k < zone_size g → is_among (zone_bitmap zone) blocks ≡ false → has_block (node v i) (zone_block g zone k) ≡ has_block (node w i) (zone_block g zone k)
+  pub inode_marks : is_among (inode_bitmap g) blocks ≡ false → is_used (body v i) ≡ is_used (body w i)
+  pub table : is_among (inode_block g i) blocks ≡ false → inode_of (node v i) ≡ inode_of (node w i)
