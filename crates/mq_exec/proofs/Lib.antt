@@ -3,9 +3,12 @@ pub mod Directories
 pub mod Entries
 pub mod LocalFits
 pub mod LocalFrame
+pub mod LocalMoves
+pub mod LocalOnce
 pub mod LocalPages
 pub mod LocalParts
 pub mod LocalRegions
+pub mod LocalUses
 pub mod Naming
 pub mod Needs
 pub mod Nodes
