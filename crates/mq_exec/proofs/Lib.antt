@@ -1,6 +1,7 @@
 pub mod Contents
 pub mod Directories
 pub mod Entries
+pub mod LocalChanges
 pub mod LocalFits
 pub mod LocalFrame
 pub mod LocalMoves
