@@ -1,6 +1,7 @@
 pub mod Contents
 pub mod Directories
 pub mod Entries
+pub mod LocalBodies
 pub mod LocalChanges
 pub mod LocalFits
 pub mod LocalFrame
@@ -9,6 +10,7 @@ pub mod LocalOnce
 pub mod LocalPages
 pub mod LocalParts
 pub mod LocalRegions
+pub mod LocalSteps
 pub mod LocalUses
 pub mod Naming
 pub mod Needs

@@ -20,7 +20,7 @@ fits-at g v b (Some (Some page)) held free = held page refl
 pub fits-all : (g : Geometry) (pages : Pages) (v : Volume) → Fits g pages v → (b : ℕ) → FitsAt g (pages b) v b
 fits-all g pages v fits b = fits-at g v b (pages b) (fits.held b) (fits.free b)
 
-same-fits : (g : Geometry) (v w : Volume) (b : ℕ) (o : Option (Option (List ℕ))) → SameAt g v w b → FitsAt g o v b → FitsAt g o w b
+pub same-fits : (g : Geometry) (v w : Volume) (b : ℕ) (o : Option (Option (List ℕ))) → SameAt g v w b → FitsAt g o v b → FitsAt g o w b
 same-fits g v w b None same f = tt
 same-fits g v w b (Some None) same f = same.vacant.0 f
 same-fits g v w b (Some (Some page)) same f = (same.shows page).0 f

@@ -4,6 +4,7 @@ use Rattle.mq_blocks.specs.Geometry.{queues_of, zone_size}
 use Rattle.mq_blocks.specs.Journal.{is_among}
 use Rattle.mq_blocks.specs.declared.geometry.Geometry.{Geometry}
 use Rattle.mq_exec.specs.Fits.{Fits}
+use Rattle.mq_exec.specs.Moves.{SameAt}
 use Rattle.mq_exec.specs.Pages.{Pages}
 use Rattle.mq_layout.specs.Places.{inode_bitmap, inode_block, zone_bitmap}
 use Rattle.mq_tree.specs.Laid.{IsVacant, Shows, ShowsUse, inode_of, zone_block}
@@ -49,3 +50,8 @@ pub record ChangesAt (g : Geometry) (v w : Volume) (i : ℕ) (blocks : List ℕ)
   pub marks : (zone k : ℕ) → zone < queues_of g → k < zone_size g → is_among (zone_bitmap zone) blocks ≡ false → has_block (node v i) (zone_block g zone k) ≡ has_block (node w i) (zone_block g zone k)
   pub inode_marks : is_among (inode_bitmap g) blocks ≡ false → is_used (body v i) ≡ is_used (body w i)
   pub table : is_among (inode_block g i) blocks ≡ false → inode_of (node v i) ≡ inode_of (node w i)
+
+-- Pages of one volume became pages of another, which shows something else at these blocks alone.
+pub record Stepped (g : Geometry) (v w : Volume) (new : Pages) (blocks : List ℕ) : Type 0 where
+  pub fits : Fits g new w
+  pub same : (b : ℕ) → is_among b blocks ≡ false → SameAt g v w b
