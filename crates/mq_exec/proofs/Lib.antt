@@ -11,6 +11,7 @@ pub mod LocalPages
 pub mod LocalParts
 pub mod LocalRegions
 pub mod LocalSteps
+pub mod LocalTaken
 pub mod LocalUses
 pub mod Naming
 pub mod Needs

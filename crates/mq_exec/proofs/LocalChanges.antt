@@ -8,7 +8,7 @@ use Rattle.std.proofs.lemmas.Option.{none-some, same_Some}
 use Rattle.mq_blocks.specs.Geometry.{homes_of, meta_of, queues_of, zone_size}
 use Rattle.mq_blocks.specs.Journal.{is_among}
 use Rattle.mq_blocks.specs.declared.geometry.Geometry.{Geometry}
-use Rattle.mq_exec.specs.Changes.{AreOthers}
+use Rattle.mq_exec.specs.Changes.{AreOthers, zone_in}
 use Rattle.mq_exec.proofs.LocalFrame.{has-use, same-bool}
 use Rattle.mq_exec.proofs.LocalParts.{pointers-along}
 use Rattle.mq_exec.proofs.LocalUses.{Rewrites, use-cases, uses-fewer, uses-new}
@@ -21,10 +21,6 @@ use Rattle.mq_tree.proofs.Unique.{padded-at}
 use Rattle.mq_tree.proofs.Uses.{use-has}
 
 -- ---- zones
-
--- the zone in which a block is
-abbrev pub zone_in : Geometry → ℕ → ℕ
-zone_in g b = (b - meta_of g) / zone_size g
 
 pub zone-of-block : (g : Geometry) (zone k : ℕ) → k < zone_size g → zone_in g (zone_block g zone k) ≡ zone
 zone-of-block g zone k low =
@@ -70,12 +66,12 @@ kept-uses g v w i uses o bs ind = uses-fewer g v w i uses o (λ k c e. ap (λ (x
 
 -- ---- a block more
 
-get-push : (xs : List ℕ) (b k c : ℕ) → slice_get xs k ≡ Some c → slice_get (xs ++ b ∷ []) k ≡ Some c
+pub get-push : (xs : List ℕ) (b k c : ℕ) → slice_get xs k ≡ Some c → slice_get (xs ++ b ∷ []) k ≡ Some c
 get-push [] b k c e = absurd (none-some c e)
 get-push (x ∷ xs) b zero c e = e
 get-push (x ∷ xs) b (suc k) c e = get-push xs b k c e
 
-push-get : (xs : List ℕ) (b k c : ℕ) → slice_get (xs ++ b ∷ []) k ≡ Some c → (slice_get xs k ≡ Some c) ⊎ ((k ≡ length xs) × (c ≡ b))
+pub push-get : (xs : List ℕ) (b k c : ℕ) → slice_get (xs ++ b ∷ []) k ≡ Some c → (slice_get xs k ≡ Some c) ⊎ ((k ≡ length xs) × (c ≡ b))
 push-get [] b zero c e = inr (refl, sym (same_Some b c e))
 push-get [] b (suc k) c e = absurd (none-some c e)
 push-get (x ∷ xs) b zero c e = inl e
@@ -84,7 +80,7 @@ push-get (x ∷ xs) b (suc k) c e = elim (push-get xs b k c e) [
   | inr r ↦ let h = r.0 in inr (omega arith, r.1)
 ]
 
-among-push : (xs : List ℕ) (b c : ℕ) → c ≢ b → is_among c (xs ++ b ∷ []) ≡ is_among c xs
+pub among-push : (xs : List ℕ) (b c : ℕ) → c ≢ b → is_among c (xs ++ b ∷ []) ≡ is_among c xs
 among-push [] b c other = let n = ne_eqb b c (λ e. other (sym e)) in ap (λ (t : Bool). cond t true false) n
 among-push (x ∷ xs) b c other = ap (λ (t : Bool). cond (nat_eq x c) true t) (among-push xs b c other)
 

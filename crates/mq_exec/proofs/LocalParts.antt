@@ -106,7 +106,7 @@ zeros-at k = zero_bytes-at 4096 k
 pub zeros-page : IsPage zeros
 zeros-page = record { whole = length-zeros; bytes = λ k. let e = zeros-at k in omega arith }
 
-zeros-number : (p n : ℕ) → p + n ≤ 4096 → ShowsBytes zeros p (zero_bytes n)
+pub zeros-number : (p n : ℕ) → p + n ≤ 4096 → ShowsBytes zeros p (zero_bytes n)
 zeros-number p n h =
     let l = length-zeros in
     let m = length-zero_bytes n in

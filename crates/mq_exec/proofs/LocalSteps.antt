@@ -7,11 +7,11 @@ use Rattle.mq_blocks.specs.Geometry.{homes_of, meta_of, queues_of, zone_size}
 use Rattle.mq_blocks.specs.Journal.{is_among}
 use Rattle.mq_blocks.specs.Windows.{written}
 use Rattle.mq_blocks.specs.declared.geometry.Geometry.{Geometry}
-use Rattle.mq_exec.specs.Changes.{AreOthers, FitsAt, FitsBut, IsPut, Stepped, owner}
+use Rattle.mq_exec.specs.Changes.{AreOthers, FitsAt, FitsBut, IsPut, Stepped, owner, zone_in}
 use Rattle.mq_exec.specs.Fits.{Fits}
 use Rattle.mq_exec.specs.Moves.{SameAt}
 use Rattle.mq_exec.specs.Pages.{Pages}
-use Rattle.mq_exec.proofs.LocalChanges.{zone_in, zone-of-block}
+use Rattle.mq_exec.proofs.LocalChanges.{zone-of-block}
 use Rattle.mq_exec.proofs.LocalFits.{fits-all, fits-end, fits-put, fits-start, same-fits}
 use Rattle.mq_exec.proofs.LocalFrame.{frame, has-taken, has-use, owner-has, taken-same, use-along, zone-use}
 use Rattle.mq_exec.proofs.LocalPages.{inode_marks-one, marks-cleared, marks-one, table-put}

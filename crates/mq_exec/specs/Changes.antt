@@ -1,13 +1,19 @@
 -- Pages that change, one after another, from those of one volume to those of another.
-use Rattle.std.specs.Prelude.{◌≡◌, ◌≢◌, ◌⊎◌, ◌<◌, ◌↔◌, ⊤, ℕ, false, List, [], Option, Some, None}
-use Rattle.mq_blocks.specs.Geometry.{queues_of, zone_size}
+use Rattle.std.specs.Prelude.{◌≡◌, ◌≢◌, ◌⊎◌, ◌<◌, ◌↔◌, ⊤, ℕ, ◌-◌, ◌*◌, ◌/◌, ◌%◌, Bool, false, List, [], Option, Some, None, if◌then◌else◌}
+use Rattle.std.specs.Int.{to_le_bytes, w32}
+use Rattle.mq_blocks.specs.Blocks.{zeros}
+use Rattle.mq_blocks.specs.Geometry.{meta_of, queues_of, zone_size}
 use Rattle.mq_blocks.specs.Journal.{is_among}
+use Rattle.mq_blocks.specs.Windows.{written}
 use Rattle.mq_blocks.specs.declared.geometry.Geometry.{Geometry}
 use Rattle.mq_exec.specs.Fits.{Fits}
 use Rattle.mq_exec.specs.Moves.{SameAt}
 use Rattle.mq_exec.specs.Pages.{Pages}
-use Rattle.mq_layout.specs.Places.{inode_bitmap, inode_block, zone_bitmap}
-use Rattle.mq_tree.specs.Laid.{IsVacant, Shows, ShowsUse, inode_of, zone_block}
+use Rattle.mq_layout.specs.Bits.{bit_of}
+use Rattle.mq_layout.specs.Inodes.{inode_bytes}
+use Rattle.mq_layout.specs.Places.{inode_bitmap, inode_block, inode_place, zone_bitmap}
+use Rattle.mq_layout.specs.declared.inode.Inode.{Inode}
+use Rattle.mq_tree.specs.Laid.{IsPage, IsVacant, Shows, ShowsUse, inode_of, zone_block}
 use Rattle.mq_tree.specs.Volume.{Use, Part, Pointers, Volume, block_in, body, has_block, is_used, node}
 
 -- what is known of a block fits the volume
@@ -50,6 +56,53 @@ pub record ChangesAt (g : Geometry) (v w : Volume) (i : ℕ) (blocks : List ℕ)
   pub marks : (zone k : ℕ) → zone < queues_of g → k < zone_size g → is_among (zone_bitmap zone) blocks ≡ false → has_block (node v i) (zone_block g zone k) ≡ has_block (node w i) (zone_block g zone k)
   pub inode_marks : is_among (inode_bitmap g) blocks ≡ false → is_used (body v i) ≡ is_used (body w i)
   pub table : is_among (inode_block g i) blocks ≡ false → inode_of (node v i) ≡ inode_of (node w i)
+
+-- the zone in which a block is, and its bit there
+abbrev pub zone_in : Geometry → ℕ → ℕ
+zone_in g b = (b - meta_of g) / zone_size g
+
+abbrev pub bit_in : Geometry → ℕ → ℕ
+bit_in g b = (b - meta_of g) % zone_size g
+
+-- The bit of a block was set, and zeros stand there.
+pub record IsTakenIn (g : Geometry) (old new : Pages) (b : ℕ) : Type 0 where
+  pub before : List ℕ
+  pub after : List ℕ
+  pub marked : Pages
+  pub was : old (zone_bitmap (zone_in g b)) ≡ Some (Some before)
+  pub marks : IsPut old marked (zone_bitmap (zone_in g b)) (Some after)
+  pub form : IsPage after
+  pub set : bit_of after (bit_in g b) ≡ 1
+  pub rest : (k : ℕ) → k ≢ bit_in g b → bit_of after k ≡ bit_of before k
+  pub blank : IsPut marked new b (Some zeros)
+
+-- An inode was written at its place.
+pub record IsInodePut (g : Geometry) (old new : Pages) (i : ℕ) (inode : Inode) : Type 0 where
+  pub before : List ℕ
+  pub after : List ℕ
+  pub was : old (inode_block g i) ≡ Some (Some before)
+  pub put : IsPut old new (inode_block g i) (Some after)
+  pub form : IsPage after
+  pub is : after ≡ written before (128 * inode_place i) (inode_bytes inode)
+
+-- A pointer was set in a block of pointers.
+pub record IsPointerPut (old new : Pages) (p at x : ℕ) : Type 0 where
+  pub before : List ℕ
+  pub after : List ℕ
+  pub was : old p ≡ Some (Some before)
+  pub put : IsPut old new p (Some after)
+  pub form : IsPage after
+  pub is : after ≡ written before (4 * at) (to_le_bytes w32 x)
+
+-- The bit of an inode was set or cleared.
+pub record IsInodeMarked (g : Geometry) (old new : Pages) (i : ℕ) (value : Bool) : Type 0 where
+  pub before : List ℕ
+  pub after : List ℕ
+  pub was : old (inode_bitmap g) ≡ Some (Some before)
+  pub put : IsPut old new (inode_bitmap g) (Some after)
+  pub form : IsPage after
+  pub bit : bit_of after i ≡ (if value then 1 else 0)
+  pub rest : (k : ℕ) → k ≢ i → bit_of after k ≡ bit_of before k
 
 -- Pages of one volume became pages of another, which shows something else at these blocks alone.
 pub record Stepped (g : Geometry) (v w : Volume) (new : Pages) (blocks : List ℕ) : Type 0 where
