@@ -5,6 +5,7 @@ pub mod LocalBodies
 pub mod LocalChanges
 pub mod LocalFits
 pub mod LocalFrame
+pub mod LocalInodes
 pub mod LocalMoves
 pub mod LocalOnce
 pub mod LocalPages

@@ -3,7 +3,6 @@ use Rattle.std.proofs.Common.{get_or, ◌≡◌, ◌≢◌, ℕ, ◌+◌, ◌-�
 use Rattle.std.specs.Prelude.{if◌then◌else◌, ◌&&◌, nat_lt}
 use Rattle.std.proofs.lemmas.Bool.{cases_Bool, cases_eq, cases_lt, lt-ltb}
 use Rattle.mq_blocks.specs.Geometry.{meta_of, queues_of, zone_size}
-use Rattle.mq_blocks.specs.Journal.{is_among}
 use Rattle.mq_blocks.specs.Windows.{written}
 use Rattle.mq_blocks.specs.declared.geometry.Geometry.{Geometry}
 use Rattle.mq_exec.specs.Changes.{AreOthers}
@@ -77,13 +76,13 @@ marks-one g v w zone at value old new low inside is same s form bit rest = marks
     | inr other ↦ inr (rest k other, λ h. same k h other)
   ])
 
--- the bits of these blocks were cleared
-pub marks-cleared : (g : Geometry) (v w : Volume) (zone : ℕ) (gone old new : List ℕ) → zone < queues_of g → ((b : ℕ) → is_among b gone ≡ true → is_taken w b ≡ false)
-    → ((b : ℕ) → is_among b gone ≡ false → is_taken v b ≡ is_taken w b) → Shows g v (zone_bitmap zone) old → IsPage new
-    → ((k : ℕ) → k < zone_size g → is_among (zone_block g zone k) gone ≡ true → bit_of new k ≡ 0)
-    → ((k : ℕ) → (k < zone_size g → is_among (zone_block g zone k) gone ≡ false) → bit_of new k ≡ bit_of old k) → Shows g w (zone_bitmap zone) new
+-- the bits of the blocks that are gone were cleared
+pub marks-cleared : (g : Geometry) (v w : Volume) (zone : ℕ) (gone : ℕ → Bool) (old new : List ℕ) → zone < queues_of g → ((b : ℕ) → gone b ≡ true → is_taken w b ≡ false)
+    → ((b : ℕ) → gone b ≡ false → is_taken v b ≡ is_taken w b) → Shows g v (zone_bitmap zone) old → IsPage new
+    → ((k : ℕ) → k < zone_size g → gone (zone_block g zone k) ≡ true → bit_of new k ≡ 0)
+    → ((k : ℕ) → (k < zone_size g → gone (zone_block g zone k) ≡ false) → bit_of new k ≡ bit_of old k) → Shows g w (zone_bitmap zone) new
 marks-cleared g v w zone gone old new low free same s form bits rest = marks-put g v w zone old new low s form (λ k l. elim (cases_lt k (zone_size g)) [
-    | inl inside ↦ elim (cases_Bool (is_among (zone_block g zone k) gone)) [
+    | inl inside ↦ elim (cases_Bool (gone (zone_block g zone k))) [
       | inl y ↦ inl (inside, bits k inside y ∙ sym (ap (λ (b : Bool). if b then 1 else 0) (free (zone_block g zone k) y)))
       | inr n ↦ inr (rest k (λ h. n), λ h. same (zone_block g zone k) n)
     ]

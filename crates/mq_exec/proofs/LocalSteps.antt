@@ -113,9 +113,9 @@ mark-put g v w b value before after high home is same s form bit rest =
     (λ k l other. same (zone_block g (zone_in g b) k) (λ e. other (let f = e ∙ sym here in omega arith))) s form bit rest
 
 -- the blocks of an inode that it has no more are cleared
-pub marks-gone : (g : Geometry) (v w : Volume) (i zone : ℕ) (gone before after : List ℕ) → AreUses g v → AreOthers v w i → zone < queues_of g
-    → ((b : ℕ) → is_among b gone ≡ true → (has_block (node v i) b ≡ true) × (has_block (node w i) b ≡ false)) → ((b : ℕ) → is_among b gone ≡ false → has_block (node v i) b ≡ has_block (node w i) b)
-    → Shows g v (zone_bitmap zone) before → IsPage after → ((k : ℕ) → k < zone_size g → is_among (zone_block g zone k) gone ≡ true → bit_of after k ≡ 0)
-    → ((k : ℕ) → (k < zone_size g → is_among (zone_block g zone k) gone ≡ false) → bit_of after k ≡ bit_of before k) → Shows g w (zone_bitmap zone) after
+pub marks-gone : (g : Geometry) (v w : Volume) (i zone : ℕ) (gone : ℕ → Bool) (before after : List ℕ) → AreUses g v → AreOthers v w i → zone < queues_of g
+    → ((b : ℕ) → gone b ≡ true → (has_block (node v i) b ≡ true) × (has_block (node w i) b ≡ false)) → ((b : ℕ) → gone b ≡ false → has_block (node v i) b ≡ has_block (node w i) b)
+    → Shows g v (zone_bitmap zone) before → IsPage after → ((k : ℕ) → k < zone_size g → gone (zone_block g zone k) ≡ true → bit_of after k ≡ 0)
+    → ((k : ℕ) → (k < zone_size g → gone (zone_block g zone k) ≡ false) → bit_of after k ≡ bit_of before k) → Shows g w (zone_bitmap zone) after
 marks-gone g v w i zone gone before after uses o low lost left s form bits rest =
     marks-cleared g v w zone gone before after low (λ b y. let r = lost b y in gone-free g v w i b uses o r.0 r.1) (λ b n. taken-same v w i b o (left b n)) s form bits rest

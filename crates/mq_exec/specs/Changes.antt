@@ -1,5 +1,5 @@
 -- Pages that change, one after another, from those of one volume to those of another.
-use Rattle.std.specs.Prelude.{◌≡◌, ◌≢◌, ◌⊎◌, ◌<◌, ◌↔◌, ⊤, ℕ, ◌-◌, ◌*◌, ◌/◌, ◌%◌, Bool, false, List, [], Option, Some, None, if◌then◌else◌}
+use Rattle.std.specs.Prelude.{◌≡◌, ◌≢◌, ◌⊎◌, ◌<◌, ◌↔◌, ◌≤◌, ⊤, ℕ, ◌+◌, ◌-◌, ◌*◌, ◌/◌, ◌%◌, Bool, true, false, List, [], Option, Some, None, if◌then◌else◌}
 use Rattle.std.specs.Int.{to_le_bytes, w32}
 use Rattle.mq_blocks.specs.Blocks.{zeros}
 use Rattle.mq_blocks.specs.Geometry.{meta_of, queues_of, zone_size}
@@ -9,7 +9,7 @@ use Rattle.mq_blocks.specs.declared.geometry.Geometry.{Geometry}
 use Rattle.mq_exec.specs.Fits.{Fits}
 use Rattle.mq_exec.specs.Moves.{SameAt}
 use Rattle.mq_exec.specs.Pages.{Pages}
-use Rattle.mq_layout.specs.Bits.{bit_of}
+use Rattle.mq_layout.specs.Bits.{bit_of, pointer_of}
 use Rattle.mq_layout.specs.Inodes.{inode_bytes}
 use Rattle.mq_layout.specs.Places.{inode_bitmap, inode_block, inode_place, zone_bitmap}
 use Rattle.mq_layout.specs.declared.inode.Inode.{Inode}
@@ -103,6 +103,43 @@ pub record IsInodeMarked (g : Geometry) (old new : Pages) (i : ℕ) (value : Boo
   pub form : IsPage after
   pub bit : bit_of after i ≡ (if value then 1 else 0)
   pub rest : (k : ℕ) → k ≢ i → bit_of after k ≡ bit_of before k
+
+-- Content turned into other content.
+pub record Turns (old new : Pages) (b : ℕ) (before after : List ℕ) : Type 0 where
+  pub was : old b ≡ Some (Some before)
+  pub now : new b ≡ Some (Some after)
+  pub form : IsPage after
+
+-- The bits of the blocks of a zone that are gone were cleared.
+pub record IsCleared (g : Geometry) (old new : Pages) (zone : ℕ) (gone : ℕ → Bool) : Type 0 where
+  pub before : List ℕ
+  pub after : List ℕ
+  pub turns : Turns old new (zone_bitmap zone) before after
+  pub clear : (k : ℕ) → k < zone_size g → gone (zone_block g zone k) ≡ true → bit_of after k ≡ 0
+  pub rest : (k : ℕ) → (k < zone_size g → gone (zone_block g zone k) ≡ false) → bit_of after k ≡ bit_of before k
+
+-- An inode was written, among other changes.
+pub record IsInodeTurned (g : Geometry) (old new : Pages) (i : ℕ) (inode : Inode) : Type 0 where
+  pub before : List ℕ
+  pub after : List ℕ
+  pub turns : Turns old new (inode_block g i) before after
+  pub is : after ≡ written before (128 * inode_place i) (inode_bytes inode)
+
+-- The bit of an inode was set or cleared, among other changes.
+pub record IsMarkTurned (g : Geometry) (old new : Pages) (i : ℕ) (value : Bool) : Type 0 where
+  pub before : List ℕ
+  pub after : List ℕ
+  pub turns : Turns old new (inode_bitmap g) before after
+  pub bit : bit_of after i ≡ (if value then 1 else 0)
+  pub rest : (k : ℕ) → k ≢ i → bit_of after k ≡ bit_of before k
+
+-- The pointers from the one past the last were cleared, among other changes.
+pub record IsPointersCut (old new : Pages) (p count : ℕ) : Type 0 where
+  pub before : List ℕ
+  pub after : List ℕ
+  pub turns : Turns old new p before after
+  pub left : (k : ℕ) → k < 1024 → 12 + k < count → pointer_of after k ≡ pointer_of before k
+  pub cut : (k : ℕ) → k < 1024 → count ≤ 12 + k → pointer_of after k ≡ 0
 
 -- Pages of one volume became pages of another, which shows something else at these blocks alone.
 pub record Stepped (g : Geometry) (v w : Volume) (new : Pages) (blocks : List ℕ) : Type 0 where
