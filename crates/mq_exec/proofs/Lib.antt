@@ -3,6 +3,7 @@ pub mod Directories
 pub mod Entries
 pub mod LocalBodies
 pub mod LocalChanges
+pub mod LocalCut
 pub mod LocalFits
 pub mod LocalFrame
 pub mod LocalInodes
