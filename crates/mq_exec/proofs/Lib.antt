@@ -15,6 +15,7 @@ pub mod LocalRegions
 pub mod LocalSteps
 pub mod LocalTaken
 pub mod LocalUses
+pub mod LocalVolumes
 pub mod Naming
 pub mod Needs
 pub mod Nodes
