@@ -2,11 +2,13 @@ pub mod Contents
 pub mod Directories
 pub mod Entries
 pub mod LocalBodies
+pub mod LocalBytes
 pub mod LocalChanges
 pub mod LocalCut
 pub mod LocalFits
 pub mod LocalFrame
 pub mod LocalInodes
+pub mod LocalKinds
 pub mod LocalMoves
 pub mod LocalOnce
 pub mod LocalPages

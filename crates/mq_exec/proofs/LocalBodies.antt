@@ -4,7 +4,7 @@ use Rattle.std.specs.Prelude.{Option, Some, None, ◌↔◌, slice_get}
 use Rattle.std.specs.List.{All}
 use Rattle.std.proofs.lemmas.Bool.{cases_lt, eq-eqb, true≢false}
 use Rattle.std.proofs.lemmas.List.{get_or_default, get_or_past}
-use Rattle.std.proofs.lemmas.Option.{same_Some, slice_get-get_or, slice_get_within}
+use Rattle.std.proofs.lemmas.Option.{none-some, same_Some, slice_get-get_or, slice_get_within}
 use Rattle.mq_blocks.specs.Geometry.{homes_of}
 use Rattle.mq_blocks.specs.Journal.{is_among}
 use Rattle.mq_blocks.specs.Windows.{written}
@@ -77,6 +77,10 @@ inode-form g w i uses used few =
     used-form (body w i) (length (node w i).blocks) (node w i).blocks (or_zero (node w i).indirect) used few
     (direct-low (node w i).blocks (λ k c e. let z = (uses.zones (Part i k) c e).1 in omega arith))
     (indirect-low (node w i).indirect (λ c e. let z = (uses.zones (Pointers i) c e).1 in omega arith))
+
+-- a new file or directory, without blocks
+pub bare-form : (x : Body) → is_used x ≡ true → size_of x 0 ≤ file_limit → IsInode (inode_of (record { body = x; blocks = []; indirect = None }))
+bare-form x used few = used-form x 0 [] 0 used few (direct-low [] (λ k c e. absurd (none-some c e))) (omega arith)
 
 -- ---- one part
 

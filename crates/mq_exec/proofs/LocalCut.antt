@@ -31,7 +31,7 @@ cut_node n count bytes = record { body = File bytes; blocks = take count n.block
 abbrev pub cut_file : Volume → ℕ → (count : ℕ) → List ℕ → Volume
 cut_file v i count bytes = set v i (cut_node (node v i) count bytes)
 
-take-get : (n : ℕ) (xs : List ℕ) (k c : ℕ) → slice_get (take n xs) k ≡ Some c → slice_get xs k ≡ Some c
+pub take-get : (n : ℕ) (xs : List ℕ) (k c : ℕ) → slice_get (take n xs) k ≡ Some c → slice_get xs k ≡ Some c
 take-get zero xs k c e = absurd (none-some c e)
 take-get (suc n) [] k c e = absurd (none-some c e)
 take-get (suc n) (x ∷ xs) zero c e = e
@@ -43,7 +43,7 @@ get-take (suc n) [] k c l e = e
 get-take (suc n) (x ∷ xs) zero c l e = e
 get-take (suc n) (x ∷ xs) (suc k) c l e = get-take n xs k c (omega arith) e
 
-kept-option : (t : Bool) (o : Option ℕ) (c : ℕ) → cond t o None ≡ Some c → o ≡ Some c
+pub kept-option : (t : Bool) (o : Option ℕ) (c : ℕ) → cond t o None ≡ Some c → o ≡ Some c
 kept-option true o c e = e
 kept-option false o c e = absurd (none-some c e)
 

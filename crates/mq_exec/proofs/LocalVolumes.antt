@@ -3,31 +3,32 @@ use Rattle.std.proofs.Common.{get_or, set, ◌≡◌, ◌≢◌, ℕ, zero, suc,
 use Rattle.std.specs.Prelude.{Option, Some, None, is_some, nat_eq, nat_lt, slice_get, if◌then◌else◌}
 use Rattle.std.proofs.lemmas.Bool.{cases_Bool, eq-eqb, ne_eqb, true≢false}
 use Rattle.std.proofs.lemmas.List.{get_or_past, take_all}
+use Rattle.std.proofs.lemmas.Option.{none-some}
 use Rattle.mq_blocks.specs.Blocks.{zeros}
 use Rattle.mq_blocks.specs.Geometry.{homes_of, meta_of, queues_of}
 use Rattle.mq_blocks.specs.Journal.{is_among}
 use Rattle.mq_blocks.specs.declared.geometry.Geometry.{Geometry}
-use Rattle.mq_exec.specs.Changes.{AreOthers, Stepped}
+use Rattle.mq_exec.specs.Changes.{AreOthers, IsInodeMarked, IsInodePut, Stepped}
 use Rattle.mq_exec.specs.Fits.{Agrees, Fits}
 use Rattle.mq_exec.specs.Moves.{LeadsTo, SameAt}
 use Rattle.mq_exec.specs.Pages.{Pages, over}
-use Rattle.mq_exec.proofs.LocalBodies.{rebodied}
+use Rattle.mq_exec.proofs.LocalBodies.{bare-form, rebodied}
 use Rattle.mq_exec.proofs.LocalChanges.{kept-uses, more-uses, pointed-uses}
-use Rattle.mq_exec.proofs.LocalCut.{cut_file, cut_node}
-use Rattle.mq_exec.proofs.LocalInodes.{bare}
+use Rattle.mq_exec.proofs.LocalCut.{cut_file, cut_node, kept-option, take-get}
+use Rattle.mq_exec.proofs.LocalInodes.{bare, bare-step}
 use Rattle.mq_exec.proofs.LocalParts.{zeros-dir, zeros-file}
 use Rattle.mq_exec.proofs.LocalRegions.{same-self, same-then}
 use Rattle.mq_exec.proofs.LocalTaken.{IsFree, longer, with_indirect}
-use Rattle.mq_layout.specs.Inodes.{IsInode}
+use Rattle.mq_exec.proofs.LocalUses.{uses-fewer}
+use Rattle.mq_layout.specs.Places.{file_limit, inode_bitmap, inode_block, inodes_of}
 use Rattle.mq_layout.specs.Slots.{Entry}
 use Rattle.mq_tree.specs.Free.{first_of, grown, one_more, order, pointed, with_block, with_pointers}
-use Rattle.mq_tree.specs.Laid.{ShowsPart, inode_of}
+use Rattle.mq_tree.specs.Laid.{ShowsPart, inode_of, size_of}
 use Rattle.mq_tree.specs.Requests.{freed, resized, with_body}
 use Rattle.mq_tree.specs.Sound.{IsBody, IsNode, IsSound, blocks_for}
-use Rattle.mq_tree.specs.Volume.{Body, Free, File, Dir, Node, Volume, body, free_node, is_taken, node}
+use Rattle.mq_tree.specs.Volume.{Body, Free, File, Dir, Node, Volume, body, free_node, is_taken, is_used, node}
 use Rattle.mq_tree.proofs.KeepFree.{first-not_taken, first-zones}
-use Rattle.mq_tree.proofs.KeepUses.{AreUses, node-here, node-other, uses-within}
-use Rattle.mq_tree.proofs.KeepVolumes.{FewerBlocks, within-set}
+use Rattle.mq_tree.proofs.KeepUses.{AreUses, node-here, node-other}
 
 -- ---- a free block
 
@@ -67,9 +68,22 @@ with_pointers-uses g v i b uses low f =
     let here = node-here v i (with_indirect (node v i) b) low in
     pointed-uses g v (with_pointers v i (Some b)) i b uses (λ x other. node-other v i x (with_indirect (node v i) b) other) (ap (λ (n : Node). n.blocks) here) (ap (λ (n : Node). n.indirect) here) f.high f.home f.free
 
--- with an inode that has no more blocks than before
-pub fewer-uses : (g : Geometry) (v : Volume) (i : ℕ) (n : Node) → AreUses g v → i < length v → FewerBlocks n (node v i) → AreUses g (set v i n)
-fewer-uses g v i n uses low few = uses-within g v (set v i n) uses (within-set v i n low few)
+-- an inode without blocks, as a new one or one that was freed
+pub bare-uses : (g : Geometry) (v : Volume) (i : ℕ) (n : Node) → AreUses g v → i < length v → n.blocks ≡ [] → n.indirect ≡ None → AreUses g (set v i n)
+bare-uses g v i n uses low bs ind =
+    let here = node-here v i n low in
+    uses-fewer g v (set v i n) i uses (λ x other. node-other v i x n other) (λ k c e. absurd (none-some c (sym (ap (λ (m : Node). slice_get m.blocks k) here ∙ ap (λ (xs : List ℕ). slice_get xs k) bs) ∙ e)))
+    (λ c e. absurd (none-some c (sym (ap (λ (m : Node). m.indirect) here ∙ ind) ∙ e)))
+
+pub freed-uses : (g : Geometry) (v : Volume) (i : ℕ) → AreUses g v → i < length v → AreUses g (freed v i)
+freed-uses g v i uses low = bare-uses g v i free_node uses low refl refl
+
+pub cut-uses : (g : Geometry) (v : Volume) (i count : ℕ) (bytes : List ℕ) → AreUses g v → i < length v → AreUses g (cut_file v i count bytes)
+cut-uses g v i count bytes uses low =
+    let n = cut_node (node v i) count bytes in
+    let here = node-here v i n low in
+    uses-fewer g v (set v i n) i uses (λ x other. node-other v i x n other) (λ k c e. take-get count (node v i).blocks k c (sym (ap (λ (m : Node). slice_get m.blocks k) here) ∙ e))
+    (λ c e. kept-option (nat_lt 12 count) (node v i).indirect c (sym (ap (λ (m : Node). m.indirect) here) ∙ e))
 
 -- ---- an inode that is free, or new
 
@@ -84,6 +98,13 @@ free-bare n good is =
     missing : (o : Option ℕ) → is_some o ≡ false → o ≡ None
     missing None e = refl
     missing (Some b) e = absurd (true≢false e)
+
+-- a free inode becomes a new file or directory
+pub made-step : (g : Geometry) (v : Volume) (i : ℕ) (y : Body) (old mid new : Pages) → AreUses g v → i < length v → i < inodes_of g → IsNode (node v i) → body v i ≡ Free → is_used y ≡ true → size_of y 0 ≤ file_limit
+    → Fits g old v → IsInodeMarked g old mid i true → IsInodePut g mid new i (inode_of (bare y)) → Stepped g v (set v i (bare y)) new (inode_bitmap g ∷ inode_block g i ∷ [])
+made-step g v i y old mid new uses low inside good is used few fits m p =
+    let none = free-bare (node v i) good is in
+    bare-step g v i y old mid new uses low inside none.0 none.1 (bare-form y used few) fits (subst (λ t. IsInodeMarked g old mid i t) (sym used) m) p
 
 -- ---- one change behind another
 
