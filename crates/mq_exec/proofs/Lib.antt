@@ -9,6 +9,7 @@ pub mod LocalFits
 pub mod LocalFrame
 pub mod LocalInodes
 pub mod LocalKinds
+pub mod LocalLinked
 pub mod LocalMoves
 pub mod LocalOnce
 pub mod LocalPages
