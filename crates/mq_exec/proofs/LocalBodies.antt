@@ -1,5 +1,5 @@
 -- A body changes over the same blocks: one part of it, or its size.
-use Rattle.std.proofs.Common.{get_or, set, ◌≡◌, ◌≢◌, ℕ, ◌+◌, ◌*◌, ◌/◌, ◌%◌, ◌^◌, ◌<◌, ◌≤◌, inl, inr, List, [], ◌∷◌, length, Bool, true, false, cond, refl, sym, ap, subst, ◌∙◌, arith}
+use Rattle.std.proofs.Common.{get_or, ◌≡◌, ◌≢◌, ℕ, ◌+◌, ◌*◌, ◌/◌, ◌%◌, ◌^◌, ◌<◌, ◌≤◌, inl, inr, List, [], ◌∷◌, length, Bool, true, cond, refl, sym, ap, subst, ◌∙◌, arith}
 use Rattle.std.specs.Prelude.{Option, Some, None, ◌↔◌, slice_get}
 use Rattle.std.specs.List.{All}
 use Rattle.std.proofs.lemmas.Bool.{cases_lt, eq-eqb, true≢false}
@@ -23,7 +23,6 @@ use Rattle.mq_layout.specs.Fields.{zero_bytes}
 use Rattle.mq_layout.specs.Inodes.{IsInode, inode_bytes}
 use Rattle.mq_layout.specs.Places.{file_limit, inode_block, inode_place, inodes_of}
 use Rattle.mq_layout.specs.Slots.{Entry, IsEntry, slot_bytes}
-use Rattle.mq_layout.specs.declared.inode.Inode.{Inode}
 use Rattle.mq_tree.specs.Laid.{IsPage, ShowsPart, inode_of, kind_of, links_of, or_zero, padded, size_of}
 use Rattle.mq_tree.specs.Requests.{with_body}
 use Rattle.mq_tree.specs.Volume.{Body, Free, File, Dir, Node, Part, Pointers, Volume, body, is_used, node}
@@ -101,8 +100,8 @@ part-step g v i place b y old new page uses low there used inode show fits put f
     let bd : body w i ≡ y = ap (λ (n : Node). n.body) here in
     let fine = kept-uses g v w i uses o bs ind in
     let r : Rewrites g v w i (b ∷ []) = kept-rewrites g v w i (b ∷ []) o bs ind (used ∙ ap is_used (sym bd)) (λ out. inode ∙ ap inode_of (sym here)) (λ k c out e other.
-      let away : k ≢ place = λ same. true≢false (sym (among-first b c [] (sym (same_Some b c (sym there ∙ ap (λ (j : ℕ). slice_get (node v i).blocks j) (sym same) ∙ e)))) ∙ out) in
-      subst (λ x. ShowsPart (body v i) k other ↔ ShowsPart x k other) (sym bd) (show k away other)) in
+    let away : k ≢ place = λ same. true≢false (sym (among-first b c [] (sym (same_Some b c (sym there ∙ ap (λ (j : ℕ). slice_get (node v i).blocks j) (sym same) ∙ e)))) ∙ out) in
+    subst (λ x. ShowsPart (body v i) k other ↔ ShowsPart x k other) (sym bd) (show k away other)) in
     let at = ap (λ (xs : List ℕ). slice_get xs place) bs ∙ there in
     let now = zone-put g w (Part i place) b page fine at form (subst (λ x. ShowsPart x place page) (sym bd) shows) in
     step-end g v w i (b ∷ []) new uses fine r (fits-put g old new w [] b (Some page) (step-start g v w i (b ∷ []) old uses fine r fits) put now)
@@ -123,8 +122,8 @@ pub bytes-step : (g : Geometry) (v : Volume) (i place b : ℕ) (bytes now : List
 bytes-step g v i place b bytes now old new page uses low is size there rest fits put form shows =
     part-step g v i place b (File now) old new page uses low there (ap is_used is) (inode-same (node v i) (File bytes) (File now) is refl refl (sym size))
     (λ p away other.
-      let same : (k : ℕ) → k < 4096 → get_or bytes (4096 * p + k) 0 ≡ get_or now (4096 * p + k) 0 = λ k l. rest (4096 * p + k) (λ e. away (omega arith)) in
-      subst (λ x. ShowsPart x p other ↔ ShowsPart (File now) p other) (sym is) (file-along bytes now p other same, file-along now bytes p other (λ k l. sym (same k l))))
+    let same : (k : ℕ) → k < 4096 → get_or bytes (4096 * p + k) 0 ≡ get_or now (4096 * p + k) 0 = λ k l. rest (4096 * p + k) (λ e. away (omega arith)) in
+    subst (λ x. ShowsPart x p other ↔ ShowsPart (File now) p other) (sym is) (file-along bytes now p other same, file-along now bytes p other (λ k l. sym (same k l))))
     fits put form shows
 
 -- one slot of a directory
@@ -133,8 +132,8 @@ slot-step : (g : Geometry) (v : Volume) (d slot b : ℕ) (slots now : List (Opti
 slot-step g v d slot b slots now old new page uses low is there rest fits put form shows =
     part-step g v d (slot / 15) b (Dir now) old new page uses low there (ap is_used is) (inode-same (node v d) (Dir slots) (Dir now) is refl refl refl)
     (λ p away other.
-      let same : (k : ℕ) → k < 15 → get_or slots (15 * p + k) None ≡ get_or now (15 * p + k) None = λ k l. sym (rest (15 * p + k) (λ e. away (omega arith))) in
-      subst (λ x. ShowsPart x p other ↔ ShowsPart (Dir now) p other) (sym is) (dir-along slots now p other same, dir-along now slots p other (λ k l. sym (same k l))))
+    let same : (k : ℕ) → k < 15 → get_or slots (15 * p + k) None ≡ get_or now (15 * p + k) None = λ k l. sym (rest (15 * p + k) (λ e. away (omega arith))) in
+    subst (λ x. ShowsPart x p other ↔ ShowsPart (Dir now) p other) (sym is) (dir-along slots now p other same, dir-along now slots p other (λ k l. sym (same k l))))
     fits put form shows
 
 dir-held : (g : Geometry) (v : Volume) (d place b : ℕ) (slots : List (Option Entry)) (old : Pages) (before : List ℕ) → AreUses g v → body v d ≡ Dir slots → slice_get (node v d).blocks place ≡ Some b → Fits g old v → old b ≡ Some (Some before) → ShowsPart (Dir slots) place before
@@ -177,7 +176,7 @@ size-step g v i at y old new before page uses low inside used still few show fit
     let bd : body w i ≡ y = ap (λ (n : Node). n.body) here in
     let fine = kept-uses g v w i uses o bs ind in
     let r : Rewrites g v w i (b ∷ []) = kept-rewrites g v w i (b ∷ []) o bs ind (used ∙ sym still ∙ ap is_used (sym bd)) (λ out. absurd (true≢false (sym (among-first b b [] refl) ∙ out))) (λ k c out h other.
-      subst (λ x. ShowsPart (body v i) k other ↔ ShowsPart x k other) (sym bd) (show k (got-low (node v i).blocks k c h) other)) in
+    subst (λ x. ShowsPart (body v i) k other ↔ ShowsPart x k other) (sym bd) (show k (got-low (node v i).blocks k c h) other)) in
     let size : size_of (body w i) (length (node w i).blocks) ≤ file_limit = subst (λ (n : Node). size_of n.body (length n.blocks) ≤ file_limit) (sym here) few in
     let good = inode-form g w i fine (ap is_used bd ∙ still) size in
     let now = table-put g v w i at before page inside o (fits.held b before held) form is good (e ∙ ap (λ (n : Node). written before (128 * at) (inode_bytes (inode_of n))) (sym here)) in

@@ -1,5 +1,5 @@
 -- A file gets other bytes over the same blocks, in several of them at once.
-use Rattle.std.proofs.Common.{get_or, set, ◌≡◌, ◌≢◌, ℕ, zero, suc, ◌+◌, ◌-◌, ◌*◌, ◌/◌, ◌%◌, ◌<◌, ◌≤◌, ◌⊎◌, inl, inr, List, [], ◌∷◌, ◌++◌, length, take, drop, replicate, Bool, true, false, refl, sym, ap, subst, ◌∙◌, arith, length-append, length-take}
+use Rattle.std.proofs.Common.{get_or, ◌≡◌, ℕ, ◌+◌, ◌-◌, ◌<◌, ◌≤◌, ◌⊎◌, inl, inr, List, [], ◌∷◌, ◌++◌, length, take, drop, replicate, true, false, refl, sym, ap, subst, ◌∙◌, arith, length-append, length-take}
 use Rattle.std.specs.Prelude.{Some, ◌↔◌, slice_get}
 use Rattle.std.proofs.lemmas.Bool.{cases_lt}
 use Rattle.std.proofs.lemmas.List.{get_or_append_left, get_or-append_right, get_or-drop, get_or-replicate, get_or-take, get_or_past, length-replicate}
@@ -17,7 +17,7 @@ use Rattle.mq_layout.specs.Inodes.{IsInode}
 use Rattle.mq_layout.specs.Places.{file_limit, inode_block, inodes_of}
 use Rattle.mq_tree.specs.Laid.{IsPage, ShowsPart, inode_of, size_of}
 use Rattle.mq_tree.specs.Requests.{cut_to, spliced, with_body}
-use Rattle.mq_tree.specs.Volume.{Body, File, Node, Part, Volume, body, is_used, node}
+use Rattle.mq_tree.specs.Volume.{Body, Node, Part, Volume, body, is_used, node}
 use Rattle.mq_tree.proofs.KeepNodes.{cut-length}
 use Rattle.mq_tree.proofs.KeepUses.{AreUses, node-here, node-other}
 
@@ -40,23 +40,32 @@ body-step g v i y blocks old new uses low inside used still few inode show fits 
   where
     w : Volume
     w = with_body v i y
+
     here : node w i ≡ rebodied (node v i) y
     here = node-here v i (rebodied (node v i) y) low
+
     o : AreOthers v w i
     o = λ x other. node-other v i x (rebodied (node v i) y) other
+
     bs : (node w i).blocks ≡ (node v i).blocks
     bs = ap (λ (n : Node). n.blocks) here
+
     ind : (node w i).indirect ≡ (node v i).indirect
     ind = ap (λ (n : Node). n.indirect) here
+
     bd : body w i ≡ y
     bd = ap (λ (n : Node). n.body) here
+
     fine : AreUses g w
     fine = kept-uses g v w i uses o bs ind
+
     r : Rewrites g v w i blocks
     r = kept-rewrites g v w i blocks o bs ind (used ∙ sym still ∙ ap is_used (sym bd)) (λ out. inode out ∙ ap inode_of (sym here))
         (λ k c out e page. subst (λ x. ShowsPart (body v i) k page ↔ ShowsPart x k page) (sym bd) (show k c out e page))
+
     good : IsInode (inode_of (node w i))
     good = inode-form g w i fine (ap is_used bd ∙ still) (subst (λ (n : Node). size_of n.body (length n.blocks) ≤ file_limit) (sym here) few)
+
     put : (x : ℕ) → is_among x blocks ≡ true → FitsAt g (new x) w x
     put x among = elim (turns x among) [
       | inl p ↦

@@ -1,11 +1,11 @@
 -- The changes of one inode of which requests are made.
-use Rattle.std.proofs.Common.{get_or, ◌≡◌, ◌≢◌, ℕ, zero, suc, ◌+◌, ◌-◌, ◌*◌, ◌/◌, ◌<◌, ◌≤◌, ◌⊎◌, inl, inr, List, [], ◌∷◌, ◌++◌, length, take, Bool, true, false, cond, refl, sym, ap, subst, ◌∙◌, arith}
+use Rattle.std.proofs.Common.{get_or, ◌≡◌, ◌≢◌, ℕ, zero, suc, ◌+◌, ◌-◌, ◌*◌, ◌/◌, ◌<◌, ◌≤◌, ◌⊎◌, inl, inr, List, [], ◌∷◌, ◌++◌, length, Bool, true, false, cond, refl, sym, ap, subst, ◌∙◌, arith}
 use Rattle.std.specs.Prelude.{Option, Some, None, ◌↔◌, ◌||◌, slice_get, nat_eq}
-use Rattle.std.proofs.lemmas.Bool.{cases_Bool, cases_eq, ne_eqb, true≢false}
+use Rattle.std.proofs.lemmas.Bool.{cases_Bool, ne_eqb, true≢false}
 use Rattle.std.proofs.lemmas.List.{get_or_past, get_or_append_left, get_or_default, length-append, same_lists}
 use Rattle.std.proofs.lemmas.Nat.{div-mul-add}
 use Rattle.std.proofs.lemmas.Option.{none-some, same_Some}
-use Rattle.mq_blocks.specs.Geometry.{homes_of, meta_of, queues_of, zone_size}
+use Rattle.mq_blocks.specs.Geometry.{homes_of, meta_of, zone_size}
 use Rattle.mq_blocks.specs.Journal.{is_among}
 use Rattle.mq_blocks.specs.declared.geometry.Geometry.{Geometry}
 use Rattle.mq_exec.specs.Changes.{AreOthers, zone_in}
@@ -15,7 +15,7 @@ use Rattle.mq_exec.proofs.LocalUses.{Rewrites, use-cases, uses-fewer, uses-new}
 use Rattle.mq_exec.proofs.Nodes.{length-padded}
 use Rattle.mq_layout.specs.Places.{inode_bitmap, inode_block, zone_bitmap}
 use Rattle.mq_tree.specs.Laid.{ShowsPart, ShowsPointers, inode_of, padded, zone_block}
-use Rattle.mq_tree.specs.Volume.{Body, Node, Use, Part, Pointers, Volume, block_in, body, has_block, is_block, is_taken, is_used, node}
+use Rattle.mq_tree.specs.Volume.{Body, Part, Pointers, Volume, block_in, body, has_block, is_block, is_taken, is_used, node}
 use Rattle.mq_tree.proofs.KeepUses.{AreUses}
 use Rattle.mq_tree.proofs.Unique.{padded-at}
 use Rattle.mq_tree.proofs.Uses.{use-has}
@@ -93,9 +93,9 @@ more-rewrites g v w i b blocks o bd bs ind here zone inode far = record {
   parts = λ k c out e. ap (λ (xs : List ℕ). slice_get xs k) bs ∙ get-push (node v i).blocks b k c e;
   parts_show = λ k c out e page. body-shows _ _ k page (sym bd);
   parts_were = λ k c out e. elim (push-get (node v i).blocks b k c (ap (λ (xs : List ℕ). slice_get xs k) (sym bs) ∙ e)) [
-      | inl old ↦ old
-      | inr new ↦ absurd (other-listed blocks b c here out new.1)
-    ];
+    | inl old ↦ old
+    | inr new ↦ absurd (other-listed blocks b c here out new.1)
+  ];
   pointers = λ c out e. ind ∙ e;
   pointers_show = λ c out e page.
       let few = far c e out in
@@ -127,8 +127,8 @@ padded-push xs b many =
     let m = length-padded 12 (xs ++ b ∷ []) in
     let n = length-padded 12 xs in
     same_lists _ _ (m ∙ sym n) (λ k d l.
-      let low : k < 12 = omega arith in
-      get_or_default _ k d 0 l ∙ padded-at 12 (xs ++ b ∷ []) k low ∙ get_or_append_left xs (b ∷ []) 0 k (omega arith) ∙ sym (padded-at 12 xs k low) ∙ get_or_default (padded 12 xs) k 0 d (omega arith))
+    let low : k < 12 = omega arith in
+    get_or_default _ k d 0 l ∙ padded-at 12 (xs ++ b ∷ []) k low ∙ get_or_append_left xs (b ∷ []) 0 k (omega arith) ∙ sym (padded-at 12 xs k low) ∙ get_or_default (padded 12 xs) k 0 d (omega arith))
 
 -- ---- a block of pointers
 
@@ -185,6 +185,7 @@ fewer-rewrites g v w i blocks o parts pointers left listed zones show used inode
           | inl p ↦ use-has (node v i) c (inl (p.0, parts p.0 c (subst (λ x. block_in w x ≡ Some c) p.1 u.2)))
           | inr p ↦ use-has (node v i) c (inr (pointers c (subst (λ x. block_in w x ≡ Some c) p u.2)))
         ]
+
     there : (zone k : ℕ) → k < zone_size g → is_among (zone_bitmap zone) blocks ≡ false → has_block (node v i) (zone_block g zone k) ≡ true → (has_block (node w i) (zone_block g zone k) ≡ true) ⊎ (has_block (node w i) (zone_block g zone k) ≡ false)
         → has_block (node w i) (zone_block g zone k) ≡ true
     there zone k l out y (inl t) = t

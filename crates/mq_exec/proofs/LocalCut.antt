@@ -1,5 +1,5 @@
 -- A file is cut: its blocks past the new end are free, and its block of pointers where it is not needed.
-use Rattle.std.proofs.Common.{get_or, set, ◌≡◌, ◌≢◌, ℕ, zero, suc, ◌+◌, ◌-◌, ◌*◌, ◌/◌, ◌<◌, ◌≤◌, ◌⊎◌, inl, inr, List, [], ◌∷◌, length, take, Bool, true, false, cond, refl, sym, ap, subst, ◌∙◌, arith}
+use Rattle.std.proofs.Common.{get_or, set, ◌≡◌, ℕ, zero, suc, ◌+◌, ◌*◌, ◌<◌, ◌≤◌, ◌⊎◌, inl, inr, List, [], ◌∷◌, length, take, Bool, true, false, cond, sym, ap, subst, ◌∙◌, arith}
 use Rattle.std.specs.Prelude.{Option, Some, None, ◌↔◌, nat_lt, slice_get, if◌then◌else◌}
 use Rattle.std.proofs.lemmas.Bool.{cases_Bool, cases_lt, true≢false}
 use Rattle.std.proofs.lemmas.List.{get_or-take, get_or_past, length-take}
@@ -16,12 +16,11 @@ use Rattle.mq_exec.proofs.LocalInodes.{fits-cleared, fits-gone, fits-inode}
 use Rattle.mq_exec.proofs.LocalParts.{file-along}
 use Rattle.mq_exec.proofs.LocalSteps.{step-over, zone-held, zone-put}
 use Rattle.mq_exec.proofs.LocalUses.{Rewrites, uses-fewer}
-use Rattle.mq_layout.specs.Bits.{pointer_of}
 use Rattle.mq_layout.specs.Inodes.{IsInode}
-use Rattle.mq_layout.specs.Places.{file_limit, inode_bitmap, inode_block, zone_bitmap}
+use Rattle.mq_layout.specs.Places.{file_limit, inode_block, zone_bitmap}
 use Rattle.mq_layout.specs.Places.{inodes_of}
 use Rattle.mq_tree.specs.Laid.{ShowsPart, ShowsPointers, inode_of, size_of}
-use Rattle.mq_tree.specs.Volume.{Body, File, Node, Part, Pointers, Volume, body, has_block, is_used, node}
+use Rattle.mq_tree.specs.Volume.{Body, File, Node, Pointers, Volume, body, has_block, is_used, node}
 use Rattle.mq_tree.proofs.KeepUses.{AreUses, node-here, node-other}
 
 -- a file with so many of its blocks
@@ -65,39 +64,53 @@ cut-step g v i count bytes now blocks gone old new uses low inside is few same l
   where
     w : Volume
     w = cut_file v i count now
+
     here : node w i ≡ cut_node (node v i) count now
     here = node-here v i (cut_node (node v i) count now) low
+
     o : AreOthers v w i
     o = λ x other. node-other v i x (cut_node (node v i) count now) other
+
     bs : (node w i).blocks ≡ take count (node v i).blocks
     bs = ap (λ (n : Node). n.blocks) here
+
     bd : body w i ≡ File now
     bd = ap (λ (n : Node). n.body) here
+
     parts : (k c : ℕ) → slice_get (node w i).blocks k ≡ Some c → slice_get (node v i).blocks k ≡ Some c
     parts k c e = take-get count (node v i).blocks k c (ap (λ (xs : List ℕ). slice_get xs k) (sym bs) ∙ e)
+
     pointers : (c : ℕ) → (node w i).indirect ≡ Some c → (node v i).indirect ≡ Some c
     pointers c e = kept-option (nat_lt 12 count) (node v i).indirect c (sym (ap (λ (n : Node). n.indirect) here) ∙ e)
+
     fine : AreUses g w
     fine = uses-fewer g v w i uses o parts pointers
+
     low-place : (k c : ℕ) → slice_get (node v i).blocks k ≡ Some c → is_among c blocks ≡ false → k < count
     low-place k c e out = elim (cases_lt k count) [
       | inl l ↦ l
       | inr past ↦ absurd (true≢false (sym (listed.past k c past e) ∙ out))
     ]
+
     stays : (k c : ℕ) → slice_get (node v i).blocks k ≡ Some c → is_among c blocks ≡ false → slice_get (node w i).blocks k ≡ Some c
     stays k c e out = ap (λ (xs : List ℕ). slice_get xs k) bs ∙ get-take count (node v i).blocks k c (low-place k c e out) e
+
     show : (k c : ℕ) → is_among c blocks ≡ false → slice_get (node v i).blocks k ≡ Some c → (page : List ℕ) → ShowsPart (body v i) k page ↔ ShowsPart (body w i) k page
     show k c out e page =
         let l = low-place k c e out in
         let alike : (j : ℕ) → j < 4096 → get_or bytes (4096 * k + j) 0 ≡ get_or now (4096 * k + j) 0 = λ j small. same (4096 * k + j) (omega arith) in
         subst (λ x. ShowsPart x k page ↔ ShowsPart (body w i) k page) (sym is) (subst (λ x. ShowsPart (File bytes) k page ↔ ShowsPart x k page) (sym bd)
-          (file-along bytes now k page alike, file-along now bytes k page (λ j small. sym (alike j small))))
+        (file-along bytes now k page alike, file-along now bytes k page (λ j small. sym (alike j small))))
+
     used : is_used (body v i) ≡ is_used (body w i)
     used = ap is_used is ∙ sym (ap is_used bd)
+
     r : Rewrites g v w i blocks
     r = fewer-rewrites g v w i blocks o parts pointers stays listed.pointers listed.zones show (λ out. used) listed.inode
+
     good : IsInode (inode_of (node w i))
     good = inode-form g w i fine (ap is_used bd) (subst (λ (x : Body). size_of x (length (node w i).blocks) ≤ file_limit) (sym bd) few)
+
     at-pointers : (p : ℕ) → (node w i).indirect ≡ Some p → FitsAt g (new p) w p
     at-pointers p e =
         let c = cut p e in
@@ -108,6 +121,7 @@ cut-step g v i count bytes now blocks gone old new uses low inside is few same l
           | inr past ↦ c.cut k l past ∙ sym (get_or_past (take count (node v i).blocks) (12 + k) 0 (let n = length-take count (node v i).blocks in omega arith))
         ] in
         subst (λ x. FitsAt g x w p) (sym c.turns.now) (zone-put g w (Pointers i) p c.after fine e c.turns.form (subst (λ xs. ShowsPointers xs c.after) (sym bs) shows))
+
     put : (x : ℕ) → is_among x blocks ≡ true → FitsAt g (new x) w x
     put x y = elim (listed.only x y) [
       | inl e ↦ subst (λ b. FitsAt g (new b) w b) (sym e) (fits-inode g v w i old new inside o fits good (subst (λ n. IsInodeTurned g old new i (inode_of n)) (sym here) inode))

@@ -1,17 +1,17 @@
 -- Where one inode changes, the volume shows the same at all blocks that are not its own.
-use Rattle.std.proofs.Common.{◌≡◌, ◌≢◌, ℕ, zero, suc, ◌+◌, ◌-◌, ◌*◌, ◌/◌, ◌%◌, ◌<◌, ◌≤◌, ◌⊎◌, inl, inr, List, [], ◌∷◌, Bool, true, false, refl, sym, ap, subst, ◌∙◌, arith}
+use Rattle.std.proofs.Common.{◌≡◌, ◌≢◌, ℕ, zero, suc, ◌+◌, ◌*◌, ◌≤◌, inl, inr, List, [], ◌∷◌, Bool, true, false, refl, sym, ap, subst, ◌∙◌, arith}
 use Rattle.std.specs.Prelude.{Some, ◌↔◌, slice_get}
-use Rattle.std.proofs.lemmas.Bool.{cases_Bool, cases_eq, false_from_ne_true, or_left, true≢false}
+use Rattle.std.proofs.lemmas.Bool.{cases_eq, false_from_ne_true, or_left, true≢false}
 use Rattle.std.proofs.lemmas.Option.{none-some}
-use Rattle.mq_blocks.specs.Geometry.{homes_of, meta_of}
+use Rattle.mq_blocks.specs.Geometry.{homes_of}
 use Rattle.mq_blocks.specs.Journal.{is_among}
 use Rattle.mq_blocks.specs.declared.geometry.Geometry.{Geometry}
 use Rattle.mq_exec.specs.Changes.{AreOthers, ChangesAt, IsKept, owner}
 use Rattle.mq_exec.specs.Moves.{SameAt}
 use Rattle.mq_exec.proofs.LocalRegions.{Lies, at_super, at_marks, at_inode_marks, at_table, at_zone, at_outside, lies, same-super, same-marks, same-inode_marks, same-table, same-zone, same-outside}
-use Rattle.mq_layout.specs.Places.{inode_bitmap, inode_block, table_first, zone_bitmap}
+use Rattle.mq_layout.specs.Places.{inode_bitmap, inode_block, zone_bitmap}
 use Rattle.mq_tree.specs.Laid.{ShowsUse, ShowsZone, inode_of, zone_block}
-use Rattle.mq_tree.specs.Volume.{Body, Node, Use, Part, Pointers, Volume, block_in, body, has_block, is_taken, is_used, node}
+use Rattle.mq_tree.specs.Volume.{Node, Use, Part, Pointers, Volume, block_in, body, has_block, is_taken, is_used, node}
 use Rattle.mq_tree.proofs.Decoding.{taken-use}
 use Rattle.mq_tree.proofs.KeepUses.{AreUses}
 use Rattle.mq_tree.proofs.Uses.{use-has, use-taken}
@@ -90,9 +90,9 @@ zone-use g v u b page uses e s = subst (λ x. ShowsUse v x page) (uses.apart s.p
 
 pub zone-kept : (g : Geometry) (v w : Volume) (b : ℕ) → AreUses g v → AreUses g w → IsKept v w b → (page : List ℕ) → ShowsZone v b page ↔ ShowsZone w b page
 zone-kept g v w b uses fine k page = (
-    λ s. record { purpose = k.purpose; is = k.after; shows = (k.shows page).0 (zone-use g v k.purpose b page uses k.before s) },
-    λ s. record { purpose = k.purpose; is = k.before; shows = (k.shows page).1 (zone-use g w k.purpose b page fine k.after s) }
-  )
+  λ s. record { purpose = k.purpose; is = k.after; shows = (k.shows page).0 (zone-use g v k.purpose b page uses k.before s) },
+  λ s. record { purpose = k.purpose; is = k.before; shows = (k.shows page).1 (zone-use g w k.purpose b page fine k.after s) },
+)
 
 -- ---- the frame
 
@@ -111,6 +111,7 @@ frame g v w i blocks uses fine c b out = at (lies g b)
   where
     o : AreOthers v w i
     o = c.others
+
     at : Lies g b → SameAt g v w b
     at (at_super e) = subst (λ x. SameAt g v w x) (sym e) (same-super g v w)
     at (at_marks zone low e) =
@@ -121,8 +122,8 @@ frame g v w i blocks uses fine c b out = at (lies g b)
         subst (λ x. SameAt g v w x) (sym e) (same-inode_marks g v w (used-same v w i o (c.inode_marks h)))
     at (at_table block low e) =
         subst (λ x. SameAt g v w x) (sym e) (same-table g v w block low (λ k l. inode-at v w i (32 * block + k) o (λ same.
-          let place : inode_block g i ≡ b = omega arith in
-          c.table (ap (λ (x : ℕ). is_among x blocks) place ∙ out))))
+        let place : inode_block g i ≡ b = omega arith in
+        c.table (ap (λ (x : ℕ). is_among x blocks) place ∙ out))))
     at (at_zone high home) = elim (c.own b out) [
       | inl lacks ↦ same-zone g v w b high home (taken-same v w i b o (lacks.0 ∙ sym lacks.1)) (zone-other v w i b o lacks.0 lacks.1)
       | inr k ↦ same-zone g v w b high home (use-taken v k.purpose b k.before ∙ sym (use-taken w k.purpose b k.after)) (zone-kept g v w b uses fine k)

@@ -1,30 +1,27 @@
 -- An inode that is made or freed, and a file that is cut.
-use Rattle.std.proofs.Common.{get_or, set, ◌≡◌, ◌≢◌, ℕ, zero, suc, ◌+◌, ◌-◌, ◌*◌, ◌/◌, ◌%◌, ◌<◌, ◌≤◌, ◌⊎◌, inl, inr, List, [], ◌∷◌, ◌++◌, length, take, Bool, true, false, cond, refl, sym, ap, subst, ◌∙◌, arith}
-use Rattle.std.specs.Prelude.{Option, Some, None, ◌↔◌, nat_eq, slice_get}
-use Rattle.std.proofs.lemmas.Bool.{cases_Bool, cases_lt, eq-eqb, true≢false}
-use Rattle.std.proofs.lemmas.List.{get_or-take, get_or_past, length-take}
-use Rattle.std.proofs.lemmas.Option.{none-some, same_Some}
-use Rattle.mq_blocks.specs.Geometry.{homes_of, meta_of, queues_of}
+use Rattle.std.proofs.Common.{set, ◌≡◌, ◌≢◌, ℕ, ◌*◌, ◌<◌, ◌⊎◌, inl, inr, List, [], ◌∷◌, length, Bool, true, false, cond, refl, sym, ap, subst, ◌∙◌, arith}
+use Rattle.std.specs.Prelude.{Some, None, nat_eq, slice_get}
+use Rattle.std.proofs.lemmas.Bool.{cases_Bool, eq-eqb, true≢false}
+use Rattle.std.proofs.lemmas.Option.{none-some}
+use Rattle.mq_blocks.specs.Geometry.{queues_of}
 use Rattle.mq_blocks.specs.Journal.{is_among}
 use Rattle.mq_blocks.specs.Windows.{written}
 use Rattle.mq_blocks.specs.declared.geometry.Geometry.{Geometry}
-use Rattle.mq_exec.specs.Changes.{AreOthers, FitsAt, IsCleared, IsInodeMarked, IsInodePut, IsInodeTurned, IsMarkTurned, IsPointersCut, Stepped, zone_in}
+use Rattle.mq_exec.specs.Changes.{AreOthers, FitsAt, IsCleared, IsInodeMarked, IsInodePut, IsInodeTurned, IsMarkTurned, Stepped, zone_in}
 use Rattle.mq_exec.specs.Fits.{Fits}
 use Rattle.mq_exec.specs.Pages.{Pages}
-use Rattle.mq_exec.proofs.LocalBodies.{inode-form}
 use Rattle.mq_exec.proofs.LocalChanges.{bare-rewrites, fewer-rewrites}
 use Rattle.mq_exec.proofs.LocalFits.{fits-put}
 use Rattle.mq_exec.proofs.LocalPages.{inode_marks-one, table-put}
-use Rattle.mq_exec.proofs.LocalSteps.{gone-vacant, marks-gone, put-before, step-end, step-over, step-start, zone-held, zone-put}
+use Rattle.mq_exec.proofs.LocalSteps.{gone-vacant, marks-gone, put-before, step-end, step-over, step-start}
 use Rattle.mq_exec.proofs.LocalUses.{Rewrites, uses-fewer}
-use Rattle.mq_layout.specs.Bits.{pointer_of}
 use Rattle.mq_layout.specs.Empty.{free_inode}
 use Rattle.mq_layout.specs.Inodes.{IsInode, ShowsInode, inode_bytes}
-use Rattle.mq_layout.specs.Places.{file_limit, inode_bitmap, inode_block, inode_place, inodes_of, zone_bitmap}
+use Rattle.mq_layout.specs.Places.{inode_bitmap, inode_block, inode_place, inodes_of, zone_bitmap}
 use Rattle.mq_layout.proofs.EmptyLaws.{zeros-free}
-use Rattle.mq_tree.specs.Laid.{IsVacant, Shows, ShowsPart, ShowsPointers, inode_of, padded, size_of}
+use Rattle.mq_tree.specs.Laid.{inode_of, padded}
 use Rattle.mq_tree.specs.Requests.{freed}
-use Rattle.mq_tree.specs.Volume.{Body, File, Node, Part, Pointers, Volume, body, free_node, has_block, is_used, node}
+use Rattle.mq_tree.specs.Volume.{Body, Node, Volume, body, free_node, has_block, is_used, node}
 use Rattle.mq_tree.proofs.KeepUses.{AreUses, node-here, node-other}
 use Rattle.mq_tree.proofs.Uses.{use-has}
 
@@ -108,27 +105,38 @@ freed-step g v i blocks old new uses low inside listed fits rest inode used gone
   where
     w : Volume
     w = freed v i
+
     here : node w i ≡ free_node
     here = node-here v i free_node low
+
     o : AreOthers v w i
     o = λ x other. node-other v i x free_node other
+
     bs : (node w i).blocks ≡ []
     bs = ap (λ (n : Node). n.blocks) here
+
     ind : (node w i).indirect ≡ None
     ind = ap (λ (n : Node). n.indirect) here
+
     none : (c : ℕ) → has_block (node w i) c ≡ false
     none c = ap (λ (n : Node). has_block n c) here
+
     parts : (k c : ℕ) → slice_get (node w i).blocks k ≡ Some c → slice_get (node v i).blocks k ≡ Some c
     parts k c e = absurd (none-some c (ap (λ (xs : List ℕ). slice_get xs k) (sym bs) ∙ e))
+
     pointers : (c : ℕ) → (node w i).indirect ≡ Some c → (node v i).indirect ≡ Some c
     pointers c e = absurd (none-some c (sym ind ∙ e))
+
     fine : AreUses g w
     fine = uses-fewer g v w i uses o parts pointers
+
     out-own : (k c : ℕ) → slice_get (node v i).blocks k ≡ Some c → is_among c blocks ≡ false → ⊥
     out-own k c e out = true≢false (sym (listed.own c (use-has (node v i) c (inl (k, e)))).0 ∙ out)
+
     r : Rewrites g v w i blocks
     r = fewer-rewrites g v w i blocks o parts pointers (λ k c e out. absurd (out-own k c e out)) (λ c e. (listed.own c (use-has (node v i) c (inr e))).0) (λ c had has. (listed.own c had).1)
         (λ k c out e. absurd (out-own k c e out)) (λ out. absurd (true≢false (sym listed.used ∙ out))) listed.inode
+
     put : (x : ℕ) → is_among x blocks ≡ true → FitsAt g (new x) w x
     put x y = elim (listed.only x y) [
       | inl e ↦

@@ -1,7 +1,7 @@
 -- Which blocks have parts of files, for the kind under which they are written.
-use Rattle.std.proofs.Common.{◌≡◌, ◌≢◌, ℕ, ◌+◌, ◌<◌, ◌≤◌, inl, inr, List, true, false, refl, sym, ap, subst, ◌∙◌, arith}
+use Rattle.std.proofs.Common.{◌≡◌, ◌≢◌, ℕ, ◌<◌, List, false, sym, ap, ◌∙◌, arith}
 use Rattle.std.specs.Prelude.{Option, Some, ◌↔◌}
-use Rattle.std.proofs.lemmas.Bool.{cases_eq, true≢false}
+use Rattle.std.proofs.lemmas.Bool.{true≢false}
 use Rattle.mq_blocks.specs.Geometry.{meta_of}
 use Rattle.mq_blocks.specs.declared.geometry.Geometry.{Geometry}
 use Rattle.mq_exec.specs.Changes.{AreOthers, owner}
@@ -9,7 +9,7 @@ use Rattle.mq_exec.specs.Moves.{IsOfFile}
 use Rattle.mq_exec.proofs.LocalFrame.{others-back, owner-has, use-along}
 use Rattle.mq_layout.specs.Slots.{Entry}
 use Rattle.mq_tree.specs.Laid.{kind_of}
-use Rattle.mq_tree.specs.Volume.{Body, File, Dir, Node, Use, Part, Pointers, Volume, block_in, body, has_block, node}
+use Rattle.mq_tree.specs.Volume.{File, Dir, Node, Use, Part, Pointers, Volume, block_in, body, has_block, node}
 use Rattle.mq_tree.proofs.KeepUses.{AreUses}
 
 -- a part of a file

@@ -1,5 +1,5 @@
 -- A directory with an entry more, or without one.
-use Rattle.std.proofs.Common.{get_or, set, ◌≡◌, ◌≢◌, ℕ, zero, suc, ◌+◌, ◌-◌, ◌*◌, ◌/◌, ◌%◌, ◌<◌, ◌≤◌, inl, inr, List, [], ◌∷◌, ◌++◌, length, replicate, Bool, refl, sym, ap, subst, ◌∙◌, arith, get_or-set_same, get_or-set_other}
+use Rattle.std.proofs.Common.{get_or, set, ◌≡◌, ◌≢◌, ℕ, suc, ◌-◌, ◌*◌, ◌/◌, ◌%◌, ◌<◌, inl, inr, List, [], ◌∷◌, ◌++◌, length, replicate, refl, sym, ap, subst, ◌∙◌, arith, get_or-set_same, get_or-set_other}
 use Rattle.std.specs.Prelude.{Option, Some, None, slice_get}
 use Rattle.std.proofs.lemmas.Bool.{cases_lt}
 use Rattle.std.proofs.lemmas.List.{get_or_append_left, get_or-append_right, get_or_at, get_or-replicate, get_or_past, length-replicate}
@@ -16,7 +16,7 @@ use Rattle.mq_layout.specs.Slots.{Entry, IsEntry, slot_bytes}
 use Rattle.mq_tree.specs.Laid.{IsPage}
 use Rattle.mq_tree.specs.Free.{first_of, grown, one_more, order, with_block, with_pointers}
 use Rattle.mq_tree.specs.Requests.{cleared, linked, linked_at, unlinked, unused, with_body}
-use Rattle.mq_tree.specs.Volume.{Body, Dir, Volume, body, find, node, slots_of}
+use Rattle.mq_tree.specs.Volume.{Dir, Volume, body, find, node, slots_of}
 use Rattle.mq_tree.proofs.KeepNodes.{cleared-is}
 use Rattle.mq_tree.proofs.KeepUses.{AreUses}
 

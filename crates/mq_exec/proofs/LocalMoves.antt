@@ -1,20 +1,19 @@
 -- What a transaction writes and frees is determined, and is what changed over the pages of a view.
-use Rattle.std.proofs.Common.{get_or, ◌≡◌, ◌≢◌, ℕ, zero, suc, ◌+◌, ◌<◌, ◌≤◌, ◌⊎◌, inl, inr, List, [], ◌∷◌, length, true, false, refl, sym, ap, subst, ◌∙◌, arith}
+use Rattle.std.proofs.Common.{get_or, ◌≡◌, ◌≢◌, ℕ, zero, suc, ◌<◌, ◌≤◌, ◌⊎◌, inl, inr, List, [], ◌∷◌, length, refl, sym, ap, subst, ◌∙◌, arith}
 use Rattle.std.specs.Prelude.{Option, Some, None, ◌↔◌}
 use Rattle.std.specs.List.{AllPairs, Contains}
 use Rattle.std.proofs.lemmas.Bool.{true≢false}
-use Rattle.std.proofs.lemmas.Option.{none-some, same_Some}
+use Rattle.std.proofs.lemmas.Option.{none-some}
 use Rattle.mq_blocks.specs.Geometry.{meta_of}
 use Rattle.mq_blocks.specs.declared.geometry.Geometry.{Geometry}
-use Rattle.mq_exec.specs.Fits.{Agrees}
-use Rattle.mq_exec.specs.Moves.{Differs, IsFreed, IsOfFile, IsWritten, LeadsTo, Moves, SameAt}
+use Rattle.mq_exec.specs.Moves.{Differs, IsFreed, IsOfFile, IsWritten, LeadsTo, Moves}
 use Rattle.mq_exec.specs.Pages.{IsHeld, Pages, content, over}
 use Rattle.mq_exec.proofs.LocalOnce.{page-once, shown-taken, shown-vacant}
 use Rattle.mq_pages.specs.declared.page.Kind.{Kind}
 use Rattle.mq_pages.specs.declared.page.Kind.TheVariants.{Data, Meta}
 use Rattle.mq_pages.specs.declared.page.Write.{Write}
 use Rattle.mq_tree.specs.Laid.{IsVacant, Shows}
-use Rattle.mq_tree.specs.Volume.{Volume, is_taken}
+use Rattle.mq_tree.specs.Volume.{Volume}
 use Rattle.mq_tree.proofs.Decoding.{taken-use}
 use Rattle.mq_tree.proofs.KeepVolumes.{sound-nodes}
 use Rattle.mq_tree.proofs.KeepUses.{AreUses}
@@ -43,9 +42,9 @@ same-first {X} n x y xs ys (inr a) (inr b) = let p = a.1 in let q = b.1 in absur
 
 tails : {X : Type 0} (n : X → ℕ) (x y : X) (xs ys : List X) → x ≡ y → AllPairs (λ a b. n a < n b) (x ∷ xs) → AllPairs (λ a b. n a < n b) (y ∷ ys) → ((z : X) → Contains (x ∷ xs) z → Contains (y ∷ ys) z) → (z : X) → Contains xs z → Contains ys z
 tails {X} n x y xs ys same r t h z c = elim (later n y ys z t (h z (contains-later x xs z c))) [
-    | inl e ↦ absurd (below c e)
-    | inr m ↦ m.0
-  ]
+  | inl e ↦ absurd (below c e)
+  | inr m ↦ m.0
+]
   where
     below : Contains xs z → z ≡ y → ⊥
     below (k, l, e) f =
@@ -62,15 +61,15 @@ rising-same {X} n (x ∷ xs) [] r t h = let c = (h x).0 (contains-first x xs) in
 rising-same {X} n (x ∷ xs) (y ∷ ys) r t h =
     let same = same-first n x y xs ys (later n y ys x t ((h x).0 (contains-first x xs))) (later n x xs y r ((h y).1 (contains-first y ys))) in
     let rest = rising-same n xs ys (tail-rises n x xs r) (tail-rises n y ys t) (λ z.
-      (tails n x y xs ys same r t (λ a. (h a).0) z, tails n y x ys xs (sym same) t r (λ a. (h a).1) z)) in
+    (tails n x y xs ys same r t (λ a. (h a).0) z, tails n y x ys xs (sym same) t r (λ a. (h a).1) z)) in
     ap (λ (a : X). a ∷ xs) same ∙ ap (λ (zs : List X). y ∷ zs) rest
 
 -- two volumes have one transaction between them
 pub moves-once : (g : Geometry) (v w : Volume) (writes others : List Write) (frees rest : List ℕ) → Moves g v w writes frees → Moves g v w others rest → (writes ≡ others) × (frees ≡ rest)
 moves-once g v w writes others frees rest m o = (
-    rising-same (λ (x : Write). x.block) writes others m.writes_rise o.writes_rise (λ x. (λ c. (o.written x).1 ((m.written x).0 c), λ c. (m.written x).1 ((o.written x).0 c))),
-    rising-same (λ (b : ℕ). b) frees rest m.frees_rise o.frees_rise (λ b. (λ c. (o.freed b).1 ((m.freed b).0 c), λ c. (m.freed b).1 ((o.freed b).0 c)))
-  )
+  rising-same (λ (x : Write). x.block) writes others m.writes_rise o.writes_rise (λ x. (λ c. (o.written x).1 ((m.written x).0 c), λ c. (m.written x).1 ((o.written x).0 c))),
+  rising-same (λ (b : ℕ). b) frees rest m.frees_rise o.frees_rise (λ b. (λ c. (o.freed b).1 ((m.freed b).0 c), λ c. (m.freed b).1 ((o.freed b).0 c))),
+)
 
 -- ---- what changed over a view
 
@@ -114,11 +113,13 @@ differs-moves g view changed v w writes frees t d kinds = record {
   where
     uses-of : AreUses g v
     uses-of = (sound-nodes g v t.before.sound).uses
+
     uses-after : AreUses g w
     uses-after = (sound-nodes g w t.after.sound).uses
 
     now-held : (b : ℕ) (page : List ℕ) → changed b ≡ Some (Some page) → Shows g w b page
     now-held b page e = t.after.fits.held b page (over-changed view changed b (Some page) e)
+
     now-free : (b : ℕ) → changed b ≡ Some None → IsVacant g w b
     now-free b e = t.after.fits.free b (over-changed view changed b None e)
 
@@ -156,6 +157,7 @@ differs-moves g view changed v w writes frees t d kinds = record {
       where
         high : meta_of g ≤ b
         high = let u = taken-use v b is.0 in (uses-of.zones u.0 b u.1).0
+
         find : Known (changed b) → Contains frees b
         find (unknown e) = absurd (true≢false (sym is.0 ∙ ((t.same b e).vacant.1 (high, is.1)).1))
         find (full page e) = absurd (true≢false (sym (shown-taken g w b page high (now-held b page e)) ∙ is.1))

@@ -1,9 +1,9 @@
 -- A volume has at most one page at a block.
-use Rattle.std.proofs.Common.{get_or, ◌≡◌, ℕ, ◌+◌, ◌*◌, ◌<◌, ◌≤◌, List, Bool, true, length, refl, sym, ap, subst, ◌∙◌, arith}
+use Rattle.std.proofs.Common.{get_or, ◌≡◌, ℕ, ◌+◌, ◌*◌, ◌<◌, ◌≤◌, List, Bool, true, sym, ap, ◌∙◌, arith}
 use Rattle.std.specs.Prelude.{None}
 use Rattle.std.proofs.lemmas.Bool.{true≢false}
 use Rattle.std.proofs.lemmas.Grind.{same_number_lists}
-use Rattle.mq_blocks.specs.Geometry.{homes_of, meta_of}
+use Rattle.mq_blocks.specs.Geometry.{meta_of}
 use Rattle.mq_blocks.specs.declared.geometry.Geometry.{Geometry}
 use Rattle.mq_exec.proofs.LocalFrame.{zone-use}
 use Rattle.mq_exec.proofs.LocalRegions.{Lies, at_super, at_marks, at_inode_marks, at_table, at_zone, at_outside, lies, shown-in, zone-marks-region}

@@ -1,15 +1,15 @@
 -- What a page shows after it was changed: the inode table, and the bitmaps.
-use Rattle.std.proofs.Common.{get_or, ◌≡◌, ◌≢◌, ℕ, ◌+◌, ◌-◌, ◌*◌, ◌/◌, ◌%◌, ◌<◌, ◌≤◌, ◌⊎◌, inl, inr, List, Bool, true, false, length, refl, sym, ap, subst, ◌∙◌, arith}
+use Rattle.std.proofs.Common.{◌≡◌, ◌≢◌, ℕ, ◌+◌, ◌*◌, ◌/◌, ◌%◌, ◌<◌, ◌⊎◌, inl, inr, List, Bool, true, false, length, refl, sym, ap, subst, ◌∙◌, arith}
 use Rattle.std.specs.Prelude.{if◌then◌else◌, ◌&&◌, nat_lt}
 use Rattle.std.proofs.lemmas.Bool.{cases_Bool, cases_eq, cases_lt, lt-ltb}
-use Rattle.mq_blocks.specs.Geometry.{meta_of, queues_of, zone_size}
+use Rattle.mq_blocks.specs.Geometry.{queues_of, zone_size}
 use Rattle.mq_blocks.specs.Windows.{written}
 use Rattle.mq_blocks.specs.declared.geometry.Geometry.{Geometry}
 use Rattle.mq_exec.specs.Changes.{AreOthers}
 use Rattle.mq_exec.proofs.LocalRegions.{marked-same, shown-in, shows-in, zone-marks-region}
 use Rattle.mq_layout.specs.Bits.{bit_of}
 use Rattle.mq_layout.specs.Inodes.{IsInode, ShowsInode, inode_bytes}
-use Rattle.mq_layout.specs.Places.{inode_bitmap, inode_block, inode_place, inodes_of, table_first, zone_bitmap}
+use Rattle.mq_layout.specs.Places.{inode_bitmap, inode_block, inode_place, inodes_of, zone_bitmap}
 use Rattle.mq_layout.proofs.Laws.{inode-kept, inode-written}
 use Rattle.mq_tree.specs.Laid.{InodeMarks, IsPage, Shows, ShowsMarks, ShowsTable, Table, ZoneMarks, inode_marked, inode_of, zone_block, zone_marked}
 use Rattle.mq_tree.specs.Volume.{Node, Volume, body, is_taken, is_used, node}
@@ -70,11 +70,11 @@ pub marks-one : (g : Geometry) (v w : Volume) (zone at : ℕ) (value : Bool) (ol
     → ((k : ℕ) → k < zone_size g → k ≢ at → is_taken v (zone_block g zone k) ≡ is_taken w (zone_block g zone k)) → Shows g v (zone_bitmap zone) old → IsPage new
     → bit_of new at ≡ (if value then 1 else 0) → ((k : ℕ) → k ≢ at → bit_of new k ≡ bit_of old k) → Shows g w (zone_bitmap zone) new
 marks-one g v w zone at value old new low inside is same s form bit rest = marks-put g v w zone old new low s form (λ k l. elim (cases_eq k at) [
-    | inl e ↦
-        let here : bit_of new at ≡ (if is_taken w (zone_block g zone at) then 1 else 0) = bit ∙ ap (λ (b : Bool). if b then 1 else 0) (sym is) in
-        inl (subst (λ x. x < zone_size g) (sym e) inside, subst (λ x. bit_of new x ≡ (if is_taken w (zone_block g zone x) then 1 else 0)) (sym e) here)
-    | inr other ↦ inr (rest k other, λ h. same k h other)
-  ])
+  | inl e ↦
+      let here : bit_of new at ≡ (if is_taken w (zone_block g zone at) then 1 else 0) = bit ∙ ap (λ (b : Bool). if b then 1 else 0) (sym is) in
+      inl (subst (λ x. x < zone_size g) (sym e) inside, subst (λ x. bit_of new x ≡ (if is_taken w (zone_block g zone x) then 1 else 0)) (sym e) here)
+  | inr other ↦ inr (rest k other, λ h. same k h other)
+])
 
 -- the bits of the blocks that are gone were cleared
 pub marks-cleared : (g : Geometry) (v w : Volume) (zone : ℕ) (gone : ℕ → Bool) (old new : List ℕ) → zone < queues_of g → ((b : ℕ) → gone b ≡ true → is_taken w b ≡ false)
@@ -82,12 +82,12 @@ pub marks-cleared : (g : Geometry) (v w : Volume) (zone : ℕ) (gone : ℕ → B
     → ((k : ℕ) → k < zone_size g → gone (zone_block g zone k) ≡ true → bit_of new k ≡ 0)
     → ((k : ℕ) → (k < zone_size g → gone (zone_block g zone k) ≡ false) → bit_of new k ≡ bit_of old k) → Shows g w (zone_bitmap zone) new
 marks-cleared g v w zone gone old new low free same s form bits rest = marks-put g v w zone old new low s form (λ k l. elim (cases_lt k (zone_size g)) [
-    | inl inside ↦ elim (cases_Bool (gone (zone_block g zone k))) [
-      | inl y ↦ inl (inside, bits k inside y ∙ sym (ap (λ (b : Bool). if b then 1 else 0) (free (zone_block g zone k) y)))
-      | inr n ↦ inr (rest k (λ h. n), λ h. same (zone_block g zone k) n)
-    ]
-    | inr past ↦ inr (rest k (λ h. absurd (omega arith)), λ h. absurd (omega arith))
-  ])
+  | inl inside ↦ elim (cases_Bool (gone (zone_block g zone k))) [
+    | inl y ↦ inl (inside, bits k inside y ∙ sym (ap (λ (b : Bool). if b then 1 else 0) (free (zone_block g zone k) y)))
+    | inr n ↦ inr (rest k (λ h. n), λ h. same (zone_block g zone k) n)
+  ]
+  | inr past ↦ inr (rest k (λ h. absurd (omega arith)), λ h. absurd (omega arith))
+])
 
 -- ---- the bitmap of the inodes
 

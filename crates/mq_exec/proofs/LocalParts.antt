@@ -1,11 +1,11 @@
 -- What a block of a file, of slots or of pointers shows after it was changed, and where it shows the same.
-use Rattle.std.proofs.Common.{get_or, ◌≡◌, ◌≢◌, ℕ, ◌+◌, ◌-◌, ◌*◌, ◌/◌, ◌%◌, ◌^◌, ◌<◌, ◌≤◌, ◌⊎◌, inl, inr, List, ◌∷◌, length, replicate, refl, sym, ap, subst, ◌∙◌, arith}
+use Rattle.std.proofs.Common.{get_or, ◌≡◌, ◌≢◌, ℕ, ◌+◌, ◌-◌, ◌*◌, ◌^◌, ◌<◌, ◌≤◌, ◌⊎◌, inl, inr, List, length, sym, ap, subst, ◌∙◌, arith}
 use Rattle.std.specs.Prelude.{Option, Some, None}
 use Rattle.std.specs.Int.{to_le_bytes, w32}
 use Rattle.std.proofs.lemmas.Bool.{cases_eq, cases_lt}
 use Rattle.std.proofs.lemmas.List.{length-replicate}
 use Rattle.mq_blocks.specs.Blocks.{zeros}
-use Rattle.mq_blocks.specs.Windows.{Shows as ShowsBytes, number_at, written}
+use Rattle.mq_blocks.specs.Windows.{Shows as ShowsBytes, written}
 use Rattle.mq_blocks.proofs.Windows.{number-kept, shows-all, shows-at, shows-kept, shows-written}
 use Rattle.mq_layout.specs.Bits.{pointer_of}
 use Rattle.mq_layout.specs.Fields.{zero_bytes}
@@ -15,7 +15,7 @@ use Rattle.mq_layout.proofs.Laws.{pointer-kept, pointer-written, slot-cleared, s
 use Rattle.mq_layout.proofs.SlotForms.{length-slot_bytes}
 use Rattle.mq_layout.proofs.Zeros.{length-zero_bytes, number_at-byte, zero_bytes-at}
 use Rattle.mq_tree.specs.Laid.{IsPage, ShowsPart, ShowsPointers}
-use Rattle.mq_tree.specs.Volume.{Body, File, Dir}
+use Rattle.mq_tree.specs.Volume.{File, Dir}
 
 -- ---- where the same is shown
 
@@ -47,6 +47,7 @@ file-written bytes now place from xs old new whole room e inside outside s k l =
   where
     out : (k < from) ⊎ (from + length xs ≤ k) → get_or (written old from xs) k 0 ≡ get_or now (4096 * place + k) 0
     out beside = written-out old from xs k (omega arith) beside ∙ s k l ∙ sym (outside k l beside)
+
     at : get_or (written old from xs) k 0 ≡ get_or now (4096 * place + k) 0
     at = elim (cases_lt k from) [
       | inl low ↦ out (inl low)
@@ -64,14 +65,14 @@ file-written bytes now place from xs old new whole room e inside outside s k l =
 dir-put : (slots now : List (Option Entry)) (place at : ℕ) (o : Option Entry) (bytes old new : List ℕ) → length old ≡ 4096 → at < 15 → length bytes ≡ 272 → new ≡ written old (272 * at) bytes → ShowsSlot (written old (272 * at) bytes) at o
     → get_or now (15 * place + at) None ≡ o → ((l : ℕ) → l ≢ 15 * place + at → get_or now l None ≡ get_or slots l None) → ShowsPart (Dir slots) place old → ShowsPart (Dir now) place new
 dir-put slots now place at o bytes old new whole low size e here is rest s = (
-    λ k l. subst (λ p. ShowsSlot p k (get_or now (15 * place + k) None)) (sym e) (elim (cases_eq at k) [
-      | inl same ↦ subst (λ x. ShowsSlot (written old (272 * at) bytes) x (get_or now (15 * place + x) None)) same (subst (λ x. ShowsSlot (written old (272 * at) bytes) at x) (sym is) here)
-      | inr other ↦
-          let kept = slot-kept old at k bytes (get_or slots (15 * place + k) None) whole low other size (s.0 k l) in
-          subst (λ x. ShowsSlot (written old (272 * at) bytes) k x) (sym (rest (15 * place + k) (λ h. other (omega arith)))) kept
-    ]),
-    subst (λ p. ShowsBytes p 4080 (zero_bytes 16)) (sym e) (let z = length-zero_bytes 16 in shows-kept old (272 * at) bytes 4080 (zero_bytes 16) (omega arith) (inr (omega arith)) s.1)
-  )
+  λ k l. subst (λ p. ShowsSlot p k (get_or now (15 * place + k) None)) (sym e) (elim (cases_eq at k) [
+    | inl same ↦ subst (λ x. ShowsSlot (written old (272 * at) bytes) x (get_or now (15 * place + x) None)) same (subst (λ x. ShowsSlot (written old (272 * at) bytes) at x) (sym is) here)
+    | inr other ↦
+        let kept = slot-kept old at k bytes (get_or slots (15 * place + k) None) whole low other size (s.0 k l) in
+        subst (λ x. ShowsSlot (written old (272 * at) bytes) k x) (sym (rest (15 * place + k) (λ h. other (omega arith)))) kept
+  ]),
+  subst (λ p. ShowsBytes p 4080 (zero_bytes 16)) (sym e) (let z = length-zero_bytes 16 in shows-kept old (272 * at) bytes 4080 (zero_bytes 16) (omega arith) (inr (omega arith)) s.1),
+)
 
 -- a used slot was written
 pub dir-written : (slots now : List (Option Entry)) (place at : ℕ) (entry : Entry) (old new : List ℕ) → length old ≡ 4096 → at < 15 → IsEntry entry → new ≡ written old (272 * at) (slot_bytes entry)
@@ -89,9 +90,9 @@ dir-cleared slots now place at old new whole low e is rest s = dir-put slots now
 pub pointers-written : (blocks now : List ℕ) (at x : ℕ) (old new : List ℕ) → length old ≡ 4096 → at < 1024 → x < 2 ^ 32 → new ≡ written old (4 * at) (to_le_bytes w32 x) → get_or now (12 + at) 0 ≡ x
     → ((k : ℕ) → k < 1024 → k ≢ at → get_or now (12 + k) 0 ≡ get_or blocks (12 + k) 0) → ShowsPointers blocks old → ShowsPointers now new
 pointers-written blocks now at x old new whole low small e is rest s k l = ap (λ (p : List ℕ). pointer_of p k) e ∙ elim (cases_eq at k) [
-    | inl same ↦ ap (λ (j : ℕ). pointer_of (written old (4 * at) (to_le_bytes w32 x)) j) (sym same) ∙ pointer-written old at x whole low small ∙ sym is ∙ ap (λ (j : ℕ). get_or now (12 + j) 0) same
-    | inr other ↦ pointer-kept old at k x whole low other ∙ s k l ∙ sym (rest k l (λ h. other (sym h)))
-  ]
+  | inl same ↦ ap (λ (j : ℕ). pointer_of (written old (4 * at) (to_le_bytes w32 x)) j) (sym same) ∙ pointer-written old at x whole low small ∙ sym is ∙ ap (λ (j : ℕ). get_or now (12 + j) 0) same
+  | inr other ↦ pointer-kept old at k x whole low other ∙ s k l ∙ sym (rest k l (λ h. other (sym h)))
+]
 
 -- ---- a new block is all zeros
 

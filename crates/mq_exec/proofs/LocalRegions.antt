@@ -1,13 +1,13 @@
 -- Volumes that show the same in a region of the home blocks.
-use Rattle.std.proofs.Common.{◌≡◌, ◌≢◌, ℕ, ◌+◌, ◌-◌, ◌*◌, ◌/◌, ◌<◌, ◌≤◌, ◌⊎◌, inl, inr, List, Bool, true, false, refl, sym, ap, subst, ◌∙◌, arith}
-use Rattle.std.specs.Prelude.{Some, ◌↔◌, ◌&&◌, nat_lt, if◌then◌else◌}
+use Rattle.std.proofs.Common.{◌≡◌, ℕ, ◌+◌, ◌-◌, ◌*◌, ◌<◌, ◌≤◌, inl, inr, List, Bool, refl, sym, ap, subst, ◌∙◌, arith}
+use Rattle.std.specs.Prelude.{◌↔◌, ◌&&◌, nat_lt, if◌then◌else◌}
 use Rattle.std.proofs.lemmas.Bool.{and_left, cases_eq, cases_lt, le-ltb}
 use Rattle.mq_blocks.specs.Geometry.{homes_of, meta_of, queues_of, zone_size}
 use Rattle.mq_blocks.specs.declared.geometry.Geometry.{Geometry}
 use Rattle.mq_exec.specs.Moves.{SameAt}
 use Rattle.mq_layout.specs.Inodes.{ShowsInode}
 use Rattle.mq_layout.specs.Places.{inode_bitmap, table_first, zone_bitmap}
-use Rattle.mq_tree.specs.Laid.{InodeMarks, IsPage, IsVacant, Outside, Region, Shows, ShowsMarks, ShowsRegion, ShowsTable, ShowsZone, Super, Table, Zone, ZoneMarks, inode_marked, inode_of, region, zone_block, zone_marked}
+use Rattle.mq_tree.specs.Laid.{InodeMarks, IsPage, Outside, Region, Shows, ShowsMarks, ShowsRegion, ShowsTable, ShowsZone, Super, Table, Zone, ZoneMarks, inode_of, region, zone_block, zone_marked}
 use Rattle.mq_tree.specs.Volume.{Volume, body, is_taken, is_used, node}
 use Rattle.mq_tree.proofs.Regions.{region-inode_marks, region-marks, region-outside, region-table, region-zone}
 

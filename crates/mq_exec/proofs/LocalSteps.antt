@@ -1,27 +1,23 @@
 -- Pages that are put one after another, until they fit the volume in which one inode changed.
-use Rattle.std.proofs.Common.{get_or, set, ◌≡◌, ◌≢◌, ℕ, ◌+◌, ◌-◌, ◌*◌, ◌/◌, ◌%◌, ◌^◌, ◌<◌, ◌≤◌, ◌⊎◌, inl, inr, List, [], ◌∷◌, ◌++◌, length, Bool, true, false, cond, refl, sym, ap, subst, ◌∙◌, arith}
-use Rattle.std.specs.Prelude.{Option, Some, None, ◌↔◌, ◌||◌, if◌then◌else◌, nat_eq, slice_get}
-use Rattle.std.specs.Int.{to_le_bytes, w32}
-use Rattle.std.proofs.lemmas.Bool.{cases_Bool, cases_eq, false_from_ne_true, ne_eqb, or_parts, true≢false}
+use Rattle.std.proofs.Common.{◌≡◌, ◌≢◌, ℕ, ◌-◌, ◌%◌, ◌<◌, ◌≤◌, inl, inr, List, [], ◌∷◌, ◌++◌, Bool, true, false, cond, refl, sym, ap, subst, ◌∙◌, arith}
+use Rattle.std.specs.Prelude.{Option, Some, if◌then◌else◌, nat_eq}
+use Rattle.std.proofs.lemmas.Bool.{cases_Bool, cases_eq, false_from_ne_true, true≢false}
 use Rattle.mq_blocks.specs.Geometry.{homes_of, meta_of, queues_of, zone_size}
 use Rattle.mq_blocks.specs.Journal.{is_among}
-use Rattle.mq_blocks.specs.Windows.{written}
 use Rattle.mq_blocks.specs.declared.geometry.Geometry.{Geometry}
 use Rattle.mq_exec.specs.Changes.{AreOthers, FitsAt, FitsBut, IsPut, Stepped, owner, zone_in}
 use Rattle.mq_exec.specs.Fits.{Fits}
 use Rattle.mq_exec.specs.Moves.{SameAt}
 use Rattle.mq_exec.specs.Pages.{Pages}
-use Rattle.mq_exec.proofs.LocalChanges.{zone-of-block}
-use Rattle.mq_exec.proofs.LocalFits.{fits-all, fits-end, fits-put, fits-start, same-fits}
-use Rattle.mq_exec.proofs.LocalFrame.{frame, has-taken, has-use, owner-has, taken-same, use-along, zone-use}
-use Rattle.mq_exec.proofs.LocalPages.{inode_marks-one, marks-cleared, marks-one, table-put}
+use Rattle.mq_exec.proofs.LocalFits.{fits-all, fits-end, fits-start, same-fits}
+use Rattle.mq_exec.proofs.LocalFrame.{frame, has-use, owner-has, taken-same, use-along, zone-use}
+use Rattle.mq_exec.proofs.LocalPages.{marks-cleared, marks-one}
 use Rattle.mq_exec.proofs.LocalRegions.{same-then, shows-in, shown-in}
 use Rattle.mq_exec.proofs.LocalUses.{Rewrites, changes-at}
 use Rattle.mq_layout.specs.Bits.{bit_of}
-use Rattle.mq_layout.specs.Inodes.{IsInode, inode_bytes}
-use Rattle.mq_layout.specs.Places.{inode_bitmap, inode_block, inode_place, inodes_of, zone_bitmap}
-use Rattle.mq_tree.specs.Laid.{IsPage, IsVacant, Shows, ShowsUse, ShowsZone, Zone, inode_of, zone_block}
-use Rattle.mq_tree.specs.Volume.{Node, Use, Part, Pointers, Volume, block_in, body, has_block, is_taken, is_used, node}
+use Rattle.mq_layout.specs.Places.{zone_bitmap}
+use Rattle.mq_tree.specs.Laid.{IsPage, IsVacant, Shows, ShowsUse, ShowsZone, Zone, zone_block}
+use Rattle.mq_tree.specs.Volume.{Use, Volume, block_in, has_block, is_taken, node}
 use Rattle.mq_tree.proofs.Decoding.{taken-use}
 use Rattle.mq_tree.proofs.KeepUses.{AreUses}
 use Rattle.mq_tree.proofs.Maps.{zone-low, zone-place, zone-rest}

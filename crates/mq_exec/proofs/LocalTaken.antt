@@ -1,9 +1,9 @@
 -- A free block is taken for an inode: for its next part, or for its pointers.
-use Rattle.std.proofs.Common.{get_or, set, ◌≡◌, ◌≢◌, ℕ, zero, suc, ◌+◌, ◌-◌, ◌*◌, ◌/◌, ◌%◌, ◌^◌, ◌<◌, ◌≤◌, inl, inr, List, [], ◌∷◌, ◌++◌, length, Bool, true, false, cond, refl, sym, ap, subst, ◌∙◌, arith}
+use Rattle.std.proofs.Common.{get_or, ◌≡◌, ◌≢◌, ℕ, zero, suc, ◌+◌, ◌-◌, ◌*◌, ◌<◌, ◌≤◌, inl, inr, List, [], ◌∷◌, ◌++◌, length, Bool, true, false, cond, refl, sym, ap, subst, ◌∙◌, arith}
 use Rattle.std.specs.Int.{to_le_bytes, w32}
 use Rattle.std.specs.Prelude.{Option, Some, None, ◌||◌, nat_eq, slice_get}
-use Rattle.std.proofs.lemmas.Bool.{cases_Bool, cases_eq, cases_lt, eq-eqb, ne_eqb, true≢false}
-use Rattle.std.proofs.lemmas.List.{get_or_append_left, get_or_at, get_or_past, length-append}
+use Rattle.std.proofs.lemmas.Bool.{cases_Bool, eq-eqb, ne_eqb, true≢false}
+use Rattle.std.proofs.lemmas.List.{get_or_at, get_or_past, length-append}
 use Rattle.std.proofs.lemmas.Option.{same_Some}
 use Rattle.mq_blocks.specs.Blocks.{zeros}
 use Rattle.mq_blocks.specs.Geometry.{homes_of, meta_of}
@@ -11,7 +11,7 @@ use Rattle.mq_blocks.specs.Journal.{is_among}
 use Rattle.mq_blocks.specs.Windows.{Shows as ShowsBytes, written}
 use Rattle.mq_blocks.specs.declared.geometry.Geometry.{Geometry}
 use Rattle.mq_blocks.proofs.Windows.{number-shown}
-use Rattle.mq_exec.specs.Changes.{AreOthers, FitsBut, IsInodePut, IsPointerPut, IsPut, IsTakenIn, Stepped, bit_in, zone_in}
+use Rattle.mq_exec.specs.Changes.{AreOthers, FitsBut, IsInodePut, IsPointerPut, IsTakenIn, Stepped, zone_in}
 use Rattle.mq_exec.specs.Fits.{Fits}
 use Rattle.mq_exec.specs.Pages.{Pages}
 use Rattle.mq_exec.proofs.LocalBodies.{inode-form}
@@ -23,14 +23,13 @@ use Rattle.mq_exec.proofs.LocalParts.{pointers-written, zeros-number, zeros-page
 use Rattle.mq_exec.proofs.LocalSteps.{mark-put, put-before, step-end, step-start, zone-held, zone-put}
 use Rattle.mq_exec.proofs.LocalUses.{Rewrites}
 use Rattle.mq_layout.specs.Bits.{pointer_of}
-use Rattle.mq_layout.specs.Fields.{zero_bytes}
 use Rattle.mq_layout.specs.Inodes.{inode_bytes}
 use Rattle.mq_layout.specs.Places.{file_limit, inode_block, inode_place, inodes_of, zone_bitmap}
 use Rattle.mq_layout.specs.declared.inode.Inode.{Inode}
 use Rattle.mq_layout.proofs.Writes.{four_zeros}
 use Rattle.mq_tree.specs.Free.{with_block, with_pointers}
 use Rattle.mq_tree.specs.Laid.{IsPage, Shows, ShowsPart, ShowsPointers, inode_of, kind_of, links_of, or_zero, padded, size_of}
-use Rattle.mq_tree.specs.Volume.{Body, Node, Use, Part, Pointers, Volume, block_in, body, has_block, is_block, is_taken, is_used, node}
+use Rattle.mq_tree.specs.Volume.{Node, Use, Part, Pointers, Volume, block_in, body, has_block, is_block, is_taken, is_used, node}
 use Rattle.mq_tree.proofs.KeepUses.{AreUses, node-here, node-other}
 use Rattle.mq_tree.proofs.Maps.{zone-low}
 use Rattle.mq_tree.proofs.Uses.{use-taken}
@@ -251,7 +250,7 @@ pointed-step g v i b old mid new uses low inside used few near none f fits t p =
     let blocks = z ∷ b ∷ a ∷ [] in
     let r = pointed-rewrites g v w i b blocks o bd bs none ind (among-rest z b (b ∷ a ∷ []) (among-first b (a ∷ []))) (among-first z (b ∷ a ∷ [])) (among-rest z a (b ∷ a ∷ []) (among-rest b a (a ∷ []) (among-first a []))) in
     let taken_same : (x : ℕ) → x ≢ b → is_taken v x ≡ is_taken w x = λ x other. taken-same v w i x o (ap (λ (q : Option ℕ). is_among x (node v i).blocks || is_block x q) none
-      ∙ ap (λ (s : Bool). is_among x (node v i).blocks || s) (sym (ne_eqb b x (λ e. other (sym e)))) ∙ ap (λ (n : Node). has_block n x) (sym here)) in
+    ∙ ap (λ (s : Bool). is_among x (node v i).blocks || s) (sym (ne_eqb b x (λ e. other (sym e)))) ∙ ap (λ (n : Node). has_block n x) (sym here)) in
     let blank = zone-put g w (Pointers i) b zeros fine ind zeros-page (subst (λ (n : Node). ShowsPointers n.blocks zeros) (sym here) (zeros-pointers (node v i).blocks near)) in
     let was = taken-held g old mid b a p.before t (inode-away g v b i f inside) p.was in
     let good = inode-form g w i fine (ap is_used bd ∙ used) (subst (λ (n : Node). size_of n.body (length n.blocks) ≤ file_limit) (sym here) few) in

@@ -1,15 +1,15 @@
 -- The uses of a volume where one inode changes, and how it changes.
-use Rattle.std.proofs.Common.{get_or, set, ◌≡◌, ◌≢◌, ℕ, zero, suc, ◌+◌, ◌*◌, ◌<◌, ◌≤◌, ◌⊎◌, inl, inr, List, [], ◌∷◌, length, Bool, true, false, refl, sym, ap, subst, ◌∙◌, arith}
-use Rattle.std.specs.Prelude.{Option, Some, None, ◌↔◌, slice_get}
+use Rattle.std.proofs.Common.{◌≡◌, ◌≢◌, ℕ, ◌<◌, ◌≤◌, ◌⊎◌, inl, inr, List, false, sym, ap, subst, ◌∙◌}
+use Rattle.std.specs.Prelude.{Some, ◌↔◌, slice_get}
 use Rattle.std.proofs.lemmas.Bool.{cases_Bool, cases_eq, false_from_ne_true, true≢false}
 use Rattle.mq_blocks.specs.Geometry.{homes_of, meta_of, queues_of, zone_size}
 use Rattle.mq_blocks.specs.Journal.{is_among}
 use Rattle.mq_blocks.specs.declared.geometry.Geometry.{Geometry}
 use Rattle.mq_exec.specs.Changes.{AreOthers, ChangesAt, IsKept, owner}
-use Rattle.mq_exec.proofs.LocalFrame.{has-use, owner-has, use-along}
+use Rattle.mq_exec.proofs.LocalFrame.{has-use, use-along}
 use Rattle.mq_layout.specs.Places.{inode_bitmap, inode_block, zone_bitmap}
 use Rattle.mq_tree.specs.Laid.{ShowsPart, ShowsPointers, inode_of, zone_block}
-use Rattle.mq_tree.specs.Volume.{Body, Node, Use, Part, Pointers, Volume, block_in, body, has_block, is_taken, is_used, node}
+use Rattle.mq_tree.specs.Volume.{Use, Part, Pointers, Volume, block_in, body, has_block, is_taken, is_used, node}
 use Rattle.mq_tree.proofs.KeepUses.{AreUses, uses-within}
 use Rattle.mq_tree.proofs.Uses.{use-has, use-taken}
 
@@ -67,12 +67,12 @@ uses-new g v w i new b a o high home free parts pointers =
 pub uses-fewer : (g : Geometry) (v w : Volume) (i : ℕ) → AreUses g v → AreOthers v w i → ((k c : ℕ) → slice_get (node w i).blocks k ≡ Some c → slice_get (node v i).blocks k ≡ Some c)
     → ((c : ℕ) → (node w i).indirect ≡ Some c → (node v i).indirect ≡ Some c) → AreUses g w
 uses-fewer g v w i a o parts pointers = uses-within g v w a (λ u c e. elim (cases_eq (owner u) i) [
-    | inl own ↦ elim (use-cases u i own) [
-      | inl p ↦ subst (λ x. block_in v x ≡ Some c) (sym p.1) (parts p.0 c (subst (λ x. block_in w x ≡ Some c) p.1 e))
-      | inr p ↦ subst (λ x. block_in v x ≡ Some c) (sym p) (pointers c (subst (λ x. block_in w x ≡ Some c) p e))
-    ]
-    | inr other ↦ use-along w v u c (sym (o (owner u) other)) e
-  ])
+  | inl own ↦ elim (use-cases u i own) [
+    | inl p ↦ subst (λ x. block_in v x ≡ Some c) (sym p.1) (parts p.0 c (subst (λ x. block_in w x ≡ Some c) p.1 e))
+    | inr p ↦ subst (λ x. block_in v x ≡ Some c) (sym p) (pointers c (subst (λ x. block_in w x ≡ Some c) p e))
+  ]
+  | inr other ↦ use-along w v u c (sym (o (owner u) other)) e
+])
 
 -- ---- how it changes
 
@@ -102,12 +102,15 @@ own-in g v w i blocks r c out = elim (cases_Bool (has_block (node v i) c)) [
             let e : (node v i).indirect ≡ Some c = subst (λ x. block_in v x ≡ Some c) p u.2 in
             inr (record { purpose = Pointers i; before = e; after = r.pointers c out e; shows = r.pointers_show c out e })
       ]
-  | inr n ↦ inl (n, false_from_ne_true _ (λ h.
-      let u = has-use w i c h in
-      elim (use-cases u.0 i u.1) [
-        | inl p ↦ true≢false (sym (use-has (node v i) c (inl (p.0, r.parts_were p.0 c out (subst (λ x. block_in w x ≡ Some c) p.1 u.2)))) ∙ n)
-        | inr p ↦ true≢false (sym (use-has (node v i) c (inr (r.pointers_were c out (subst (λ x. block_in w x ≡ Some c) p u.2)))) ∙ n)
-      ]))
+  | inr n ↦ inl (
+    n,
+    false_from_ne_true _ (λ h.
+        let u = has-use w i c h in
+        elim (use-cases u.0 i u.1) [
+          | inl p ↦ true≢false (sym (use-has (node v i) c (inl (p.0, r.parts_were p.0 c out (subst (λ x. block_in w x ≡ Some c) p.1 u.2)))) ∙ n)
+          | inr p ↦ true≢false (sym (use-has (node v i) c (inr (r.pointers_were c out (subst (λ x. block_in w x ≡ Some c) p u.2)))) ∙ n)
+        ]),
+  )
 ]
 
 -- a block that is not listed is had by the inode in both volumes or in none
@@ -135,9 +138,9 @@ changes-at g v w i blocks r = record {
   others = r.others;
   own = own-in g v w i blocks r;
   marks = λ zone k low l out. elim (r.marks zone k low l out) [
-      | inl away ↦ has-same g v w i blocks r (zone_block g zone k) away
-      | inr same ↦ same
-    ];
+    | inl away ↦ has-same g v w i blocks r (zone_block g zone k) away
+    | inr same ↦ same
+  ];
   inode_marks = r.inode_marks;
   table = r.table;
 }

@@ -1,16 +1,16 @@
 -- The volumes of which changes are made: their uses, and how they are put together.
-use Rattle.std.proofs.Common.{get_or, set, ◌≡◌, ◌≢◌, ℕ, zero, suc, ◌+◌, ◌-◌, ◌*◌, ◌<◌, ◌≤◌, inl, inr, List, [], ◌∷◌, ◌++◌, length, take, Bool, true, false, cond, refl, sym, ap, subst, ◌∙◌, arith}
-use Rattle.std.specs.Prelude.{Option, Some, None, is_some, nat_eq, nat_lt, slice_get, if◌then◌else◌}
-use Rattle.std.proofs.lemmas.Bool.{cases_Bool, eq-eqb, ne_eqb, true≢false}
+use Rattle.std.proofs.Common.{set, ◌≡◌, ◌≢◌, ℕ, zero, suc, ◌+◌, ◌-◌, ◌*◌, ◌<◌, ◌≤◌, List, [], ◌∷◌, length, Bool, true, false, cond, refl, sym, ap, subst, ◌∙◌, arith}
+use Rattle.std.specs.Prelude.{Option, Some, None, is_some, nat_lt, slice_get, if◌then◌else◌}
+use Rattle.std.proofs.lemmas.Bool.{eq-eqb, ne_eqb, true≢false}
 use Rattle.std.proofs.lemmas.List.{get_or_past, take_all}
 use Rattle.std.proofs.lemmas.Option.{none-some}
 use Rattle.mq_blocks.specs.Blocks.{zeros}
-use Rattle.mq_blocks.specs.Geometry.{homes_of, meta_of, queues_of}
+use Rattle.mq_blocks.specs.Geometry.{queues_of}
 use Rattle.mq_blocks.specs.Journal.{is_among}
 use Rattle.mq_blocks.specs.declared.geometry.Geometry.{Geometry}
-use Rattle.mq_exec.specs.Changes.{AreOthers, IsInodeMarked, IsInodePut, Stepped}
+use Rattle.mq_exec.specs.Changes.{IsInodeMarked, IsInodePut, Stepped}
 use Rattle.mq_exec.specs.Fits.{Agrees, Fits}
-use Rattle.mq_exec.specs.Moves.{LeadsTo, SameAt}
+use Rattle.mq_exec.specs.Moves.{LeadsTo}
 use Rattle.mq_exec.specs.Pages.{Pages, over}
 use Rattle.mq_exec.proofs.LocalBodies.{bare-form, rebodied}
 use Rattle.mq_exec.proofs.LocalChanges.{kept-uses, more-uses, pointed-uses}
@@ -26,7 +26,7 @@ use Rattle.mq_tree.specs.Free.{first_of, grown, one_more, order, pointed, with_b
 use Rattle.mq_tree.specs.Laid.{ShowsPart, inode_of, size_of}
 use Rattle.mq_tree.specs.Requests.{freed, resized, with_body}
 use Rattle.mq_tree.specs.Sound.{IsBody, IsNode, IsSound, blocks_for}
-use Rattle.mq_tree.specs.Volume.{Body, Free, File, Dir, Node, Volume, body, free_node, is_taken, is_used, node}
+use Rattle.mq_tree.specs.Volume.{Body, Free, File, Dir, Node, Volume, body, free_node, is_used, node}
 use Rattle.mq_tree.proofs.KeepFree.{first-not_taken, first-zones}
 use Rattle.mq_tree.proofs.KeepUses.{AreUses, node-here, node-other}
 
@@ -95,6 +95,7 @@ free-bare n good is =
     nothing : (xs : List ℕ) → length xs ≡ 0 → xs ≡ []
     nothing [] e = refl
     nothing (x ∷ xs) e = absurd (omega arith)
+
     missing : (o : Option ℕ) → is_some o ≡ false → o ≡ None
     missing None e = refl
     missing (Some b) e = absurd (true≢false e)
@@ -156,9 +157,9 @@ pub leads-step : (g : Geometry) (view changed next pages : Pages) (v u w : Volum
 leads-step g view changed next pages v u w blocks l s sound is known left = record {
   before = l.before;
   after = record {
-      sound = sound;
-      fits = record { held = λ b page e. s.fits.held b page (is b ∙ e); free = λ b e. s.fits.free b (is b ∙ e) };
-    };
+    sound = sound;
+    fits = record { held = λ b page e. s.fits.held b page (is b ∙ e); free = λ b e. s.fits.free b (is b ∙ e) };
+  };
   known = known;
   same = λ b e. let r = left b e in same-then g v u w b (l.same b r.0) (s.same b r.1);
 }

@@ -4,7 +4,6 @@ use Rattle.std.specs.List.{AllPairs, Contains}
 use Rattle.mq_blocks.specs.declared.geometry.Geometry.{Geometry}
 use Rattle.mq_exec.specs.Fits.{Agrees}
 use Rattle.mq_exec.specs.Pages.{IsHeld, Pages, over}
-use Rattle.mq_pages.specs.declared.page.Kind.{Kind}
 use Rattle.mq_pages.specs.declared.page.Kind.TheVariants.{Data}
 use Rattle.mq_pages.specs.declared.page.Write.{Write}
 use Rattle.mq_tree.specs.Laid.{IsVacant, Shows}
