@@ -15,6 +15,7 @@ pub mod LocalOnce
 pub mod LocalPages
 pub mod LocalParts
 pub mod LocalRegions
+pub mod LocalSpace
 pub mod LocalSteps
 pub mod LocalTaken
 pub mod LocalUses
