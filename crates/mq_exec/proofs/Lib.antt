@@ -7,6 +7,7 @@ pub mod LocalChanges
 pub mod LocalCut
 pub mod LocalFits
 pub mod LocalFrame
+pub mod LocalGrown
 pub mod LocalInodes
 pub mod LocalKinds
 pub mod LocalLinked
