@@ -11,6 +11,7 @@ pub mod LocalGrown
 pub mod LocalInodes
 pub mod LocalKinds
 pub mod LocalLinked
+pub mod LocalLists
 pub mod LocalMoves
 pub mod LocalOnce
 pub mod LocalPages
