@@ -81,12 +81,10 @@ no-item x c = let l = c.1 in absurd (omega arith)
 
 pub moves-none : (g : Geometry) (v : Volume) → Moves g v v [] []
 moves-none g v = record {
-  rising = λ i j d l m. absurd (omega arith);
-  written = λ k d l. absurd (omega arith);
-  frees_rising = λ i j d l m. absurd (omega arith);
-  freed = λ k d l. absurd (omega arith);
-  all = λ b f. absurd (true≢false (sym f.had ∙ f.gone));
-  same = λ b w f. record { kept = λ page h. h; back = λ page h. h; vacant = λ h. h; taken = λ h. h };
+  writes_rise = λ i j d l m. absurd (omega arith);
+  written = λ x. (λ c. absurd (no-item x c), λ w. absurd (w.new w.now));
+  frees_rise = λ i j d l m. absurd (omega arith);
+  freed = λ b. (λ c. absurd (no-item b c), λ f. absurd (true≢false (sym f.0 ∙ f.1)));
 }
 
 pub moves-still : (g : Geometry) (v w : Volume) (writes : List Write) (frees : List ℕ) → w ≡ v → writes ≡ [] → frees ≡ [] → Moves g v w writes frees

@@ -1,3 +1,4 @@
+pub mod Changes
 pub mod Dirs
 pub mod Fits
 pub mod Lacks
