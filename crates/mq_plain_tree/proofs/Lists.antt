@@ -1,0 +1,17 @@
+-- Lists that change at one place.
+use Rattle.std.proofs.Common.{suc, ◌≡◌, ℕ, ◌+◌, ◌-◌, ◌<◌, ◌≤◌, Bool, true, Option, None, Some, List, [], ◌∷◌, ◌++◌, length, get_or, take, drop, slice_set, sym, refl, ap, ◌∙◌, arith, append_assoc, length-append, length-take, drop-cons}
+use Rattle.std.proofs.lemmas.Bool.{false≢true}
+use Rattle.std.proofs.lemmas.List.{set_split}
+use Rattle.std.specs.Prelude.{replicate}
+use Rattle.mq_layout.specs.Slots.{Entry}
+use Rattle.mq_tree.specs.Requests.{cleared, cut_to}
+use Rattle.mq_plain_tree.specs.Plain.{is_called}
+
+cleared-here : (name : List ℕ) (s : Option Entry) (slots : List (Option Entry)) → is_called name s ≡ true → cleared name (s ∷ slots) ≡ None ∷ slots
+cleared-here name None slots is = absurd (false≢true is)
+cleared-here name (Some e) slots is = rw is refl
+
+-- the slots where the first entry of the name is found
+pub cleared-at : (name : List ℕ) (slots now : List (Option Entry)) (k : ℕ) (d : Option Entry) → k < length slots → now ≡ slots → cleared name slots ≡ take k slots ++ cleared name (drop k slots) → true ≡ is_called name (get_or now k d) → slice_set now k None ≡ cleared name slots
+cleared-at name slots now k d low same e is =
+    rw same (set_split slots k None low ∙ ap (λ s. take k slots ++ s) (sym (ap (cleared name) (drop-cons slots k d low) ∙ cleared-here name (get_or slots k d) (drop (suc k) slots) (sym (rw same at is)))) ∙ sym e)
