@@ -4,9 +4,12 @@
 
 mod bytes;
 mod entry;
+mod free;
 mod names;
 mod node;
 mod slots;
+mod volume;
 
 pub use entry::NamedInode;
 pub use node::{Body, Node};
+pub use volume::Volume;

@@ -1,6 +1,6 @@
 // Inodes, and what they are.
 ghost use Rattle.std.specs.Prelude.{◌≡◌, ◌++◌, ◌∷◌, [], Some, None, IfOk, OnOk, take, nat_lt, if◌then◌else◌};
-ghost use Rattle.mq_tree.specs.Volume.{has_block, is_block, is_used, slots_of};
+ghost use Rattle.mq_tree.specs.Volume.{File, has_block, is_block, is_used, slots_of};
 ghost use Rattle.mq_blocks.specs.Journal.{is_among};
 ghost use Rattle.mq_plain_tree.specs.Bodies.{body_of};
 
@@ -149,10 +149,12 @@ impl Node {
         Ok(())
     }
 
-    // Keeps so many blocks, and the block of pointers where it is needed.
-    pub fn cut_blocks(&mut self, count: usize)
-        ensures { self.new ≡ record { body = self.old.body; blocks = take count self.old.blocks; indirect = if nat_lt 12 count then self.old.indirect else None } }
+    // A file with these bytes, which keeps so many blocks, and the block of pointers where it is
+    // needed.
+    pub fn set_file(&mut self, bytes: Vec<u8>, count: usize)
+        ensures { self.new ≡ record { body = File bytes.items; blocks = take count self.old.blocks; indirect = if nat_lt 12 count then self.old.indirect else None } }
     {
+        self.body = Body::File(bytes);
         self.blocks.truncate(count);
         if count <= DIRECT {
             self.indirect = None;
