@@ -27,3 +27,8 @@ pub nodes-more : (now next : List Node) (n : Node) → now ≡ empty_node ∷ re
 nodes-more now next n is some more free =
     let e : length next - 1 ≡ suc (length now - 1) = let a = ap length more in let b = length-append now (n ∷ []) in omega arith in
     more ∙ rw free (ap (λ xs. xs ++ free_node ∷ []) is) ∙ sym (ap (λ k. empty_node ∷ replicate k free_node) e ∙ ap (λ xs. empty_node ∷ xs) (replicate-more (length now - 1) free_node))
+
+-- one unused slot more
+pub slots-more : (old now next : List (Option Entry)) (e : Entry) (n m : ℕ) → m ≡ suc n → now ≡ old ++ (Some e ∷ replicate n None) → next ≡ now ++ None ∷ [] → next ≡ old ++ (Some e ∷ replicate m None)
+slots-more old now next e n m k is more =
+    more ∙ ap (λ xs. xs ++ None ∷ []) is ∙ append_assoc old (Some e ∷ replicate n None) (None ∷ []) ∙ sym (ap (λ i. old ++ (Some e ∷ replicate i None)) k ∙ ap (λ xs. old ++ (Some e ∷ xs)) (replicate-more n None))
