@@ -12,6 +12,7 @@ mod make;
 mod names;
 mod node;
 mod slots;
+mod step;
 mod verdict;
 mod volume;
 mod walk;

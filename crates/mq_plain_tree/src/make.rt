@@ -182,7 +182,7 @@ impl Volume {
         }
     }
 
-    // Without the old name, and then into the new place.
+    // To what the new path names, where the old name is gone.
     fn renamed(
         &self,
         alloc: Global,
@@ -193,11 +193,11 @@ impl Volume {
         entry: NamedInode,
     ) -> Result<Verdict, OutOfMemory>
         requires { queue < queues_of geometry }
-        ensures { IfOk result (λ w. verdict_of w ≡ move geometry queue (unlinked self.now d entry.name) entry.inode (target (unlinked self.now d entry.name) (way to.now))) }
+        ensures { IfOk result (λ w. verdict_of w ≡ move geometry queue (unlinked self.now d entry.name) entry.inode (target self.now (way to.now))) }
     {
         let mut without = self.copy(alloc)?;
         without.unlinked(alloc, d, &entry.name)?;
-        let target = without.target(alloc, to)?;
+        let target = self.target(alloc, to)?;
         without.move_to(alloc, geometry, queue, entry.inode, target)
     }
 
