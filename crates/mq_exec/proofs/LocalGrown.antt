@@ -1,10 +1,9 @@
 -- What the inode of a longer or shorter file or directory says, and the thirteenth block.
-use Rattle.std.proofs.Common.{get_or, set, ◌≡◌, ◌≢◌, ℕ, zero, suc, ◌+◌, ◌-◌, ◌*◌, ◌<◌, ◌≤◌, List, [], ◌∷◌, ◌++◌, length, take, refl, sym, ap, subst, ◌∙◌, arith, inl, inr, length-append, length-set, length-take, get_or-set_same, get_or-set_other}
+use Rattle.std.proofs.Common.{get_or, set, ◌≡◌, ℕ, ◌+◌, ◌-◌, ◌<◌, ◌≤◌, List, [], ◌∷◌, ◌++◌, length, take, sym, ap, subst, ◌∙◌, arith, inl, inr, length-append, length-set, length-take, get_or-set_same, get_or-set_other}
 use Rattle.std.specs.Prelude.{Option, Some, None}
 use Rattle.std.proofs.lemmas.Bool.{cases_eq, cases_lt}
 use Rattle.std.proofs.lemmas.List.{get_or_append_left, get_or_at, get_or_default, get_or_past, get_or-take, same_lists}
 use Rattle.mq_blocks.specs.Blocks.{zeros}
-use Rattle.mq_blocks.specs.Geometry.{homes_of, meta_of}
 use Rattle.mq_blocks.specs.declared.geometry.Geometry.{Geometry}
 use Rattle.mq_exec.specs.Changes.{IsInodePut, IsPointerPut, IsTakenIn, Stepped, zone_in}
 use Rattle.mq_exec.specs.Fits.{Fits}
@@ -31,8 +30,8 @@ padded-near xs b near =
     let n = length-padded 12 xs in
     let s = length-set (padded 12 xs) (length xs) b in
     same_lists _ _ (omega arith) (λ k d l.
-      let low : k < 12 = omega arith in
-      get_or_default (padded 12 (xs ++ b ∷ [])) k d 0 l ∙ padded-at 12 (xs ++ b ∷ []) k low ∙ at k low ∙ get_or_default (set (padded 12 xs) (length xs) b) k 0 d (omega arith))
+    let low : k < 12 = omega arith in
+    get_or_default (padded 12 (xs ++ b ∷ [])) k d 0 l ∙ padded-at 12 (xs ++ b ∷ []) k low ∙ at k low ∙ get_or_default (set (padded 12 xs) (length xs) b) k 0 d (omega arith))
   where
     at : (k : ℕ) → k < 12 → get_or (xs ++ b ∷ []) k 0 ≡ get_or (set (padded 12 xs) (length xs) b) k 0
     at k low = elim (cases_eq k (length xs)) [

@@ -1,9 +1,9 @@
 -- The blocks that change where an inode is freed or a file is cut.
-use Rattle.std.proofs.Common.{◌≡◌, ◌≢◌, ℕ, zero, suc, ◌+◌, ◌-◌, ◌*◌, ◌/◌, ◌<◌, ◌≤◌, ◌⊎◌, inl, inr, List, [], ◌∷◌, ◌++◌, length, drop, take, length-take, Bool, true, false, cond, refl, sym, ap, subst, ◌∙◌, arith}
-use Rattle.std.specs.Prelude.{Option, Some, None, ◌||◌, map, nat_eq, nat_lt, slice_get, if◌then◌else◌}
-use Rattle.std.proofs.lemmas.Bool.{cases_Bool, cases_eq, cases_lt, eq-eqb, eqb-true, false_from_ne_true, le-ltb, lt-ltb, or_cases, true≢false}
+use Rattle.std.proofs.Common.{◌≡◌, ℕ, zero, suc, ◌<◌, ◌≤◌, ◌⊎◌, inl, inr, List, [], ◌∷◌, ◌++◌, length, drop, take, length-take, Bool, true, false, cond, refl, sym, ap, subst, ◌∙◌, arith}
+use Rattle.std.specs.Prelude.{Option, Some, None, ◌||◌, nat_eq, nat_lt, slice_get, if◌then◌else◌}
+use Rattle.std.proofs.lemmas.Bool.{cases_Bool, eq-eqb, eqb-true, false_from_ne_true, or_cases, true≢false}
 use Rattle.std.proofs.lemmas.Option.{none-some, same_Some, slice_get_within}
-use Rattle.mq_blocks.specs.Geometry.{meta_of, queues_of, zone_size}
+use Rattle.mq_blocks.specs.Geometry.{queues_of}
 use Rattle.mq_blocks.specs.Journal.{is_among}
 use Rattle.mq_blocks.specs.declared.geometry.Geometry.{Geometry}
 use Rattle.mq_exec.specs.Changes.{zone_in}
@@ -189,25 +189,32 @@ cut-listed g v i count bytes zs uses low zones zone_low = record {
   where
     w : Volume
     w = cut_file v i count bytes
+
     more : List ℕ
     more = bitmaps zs ++ drop count (node v i).blocks
+
     here : node w i ≡ cut_node (node v i) count bytes
     here = node-here v i (cut_node (node v i) count bytes) low
+
     rest : (c : ℕ) → is_among c (if_some (node v i).indirect ++ more) ≡ true → is_among c (cut_list g i count zs (node v i)) ≡ true
     rest c e = among-behind (inode_block g i) c (if_some (node v i).indirect ++ more) e
+
     some-is : (o : Option ℕ) (c : ℕ) → is_among c (if_some o) ≡ true → o ≡ Some c
     some-is None c e = absurd (true≢false (sym e))
     some-is (Some p) c e = elim (among-cons p c [] e) [
       | inl same ↦ ap (λ (x : ℕ). Some x) (sym same)
       | inr none ↦ absurd (true≢false (sym none))
     ]
+
     -- what it still has
     part-left : (k c : ℕ) → slice_get (node w i).blocks k ≡ Some c → (k < count) × (slice_get (node v i).blocks k ≡ Some c)
     part-left k c e =
         let f = ap (λ (n : Node). slice_get n.blocks k) (sym here) ∙ e in
         (take-low count (node v i).blocks k c f, take-get count (node v i).blocks k c f)
+
     pointers-left : (c : ℕ) → (node w i).indirect ≡ Some c → (node v i).indirect ≡ Some c
     pointers-left c e = kept-option (nat_lt 12 count) (node v i).indirect c (ap (λ (n : Node). n.indirect) (sym here) ∙ e)
+
     part-gone : (k c : ℕ) → count ≤ k → slice_get (node v i).blocks k ≡ Some c → has_block (node w i) c ≡ false
     part-gone k c past e = false_from_ne_true _ (λ h.
         let u = has-use w i c h in
@@ -221,16 +228,20 @@ cut-listed g v i count bytes zs uses low zones zone_low = record {
               let same : number_of (Part i k) ≡ number_of (Pointers i) = ap number_of (uses.apart (Part i k) (Pointers i) c e (pointers-left c (subst (λ x. block_in w x ≡ Some c) p u.2))) in
               absurd (omega arith)
         ])
+
     pointers-kept : (nat_lt 12 count ≡ true) ⊎ (nat_lt 12 count ≡ false) → (c : ℕ) → (node v i).indirect ≡ Some c → ((node w i).indirect ≡ Some c) ⊎ ((has_block (node v i) c ≡ true) × (has_block (node w i) c ≡ false))
     pointers-kept (inl y) c e = inl (ap (λ (n : Node). n.indirect) here ∙ ap (λ (t : Bool). if t then (node v i).indirect else None) y ∙ e)
-    pointers-kept (inr n) c e = inr (use-has (node v i) c (inr e), false_from_ne_true _ (λ h.
-        let u = has-use w i c h in
-        elim (use-cases u.0 i u.1) [
-          | inl p ↦
-              let l = part-left p.0 c (subst (λ x. block_in w x ≡ Some c) p.1 u.2) in
-              let same : number_of (Part i p.0) ≡ number_of (Pointers i) = ap number_of (uses.apart (Part i p.0) (Pointers i) c l.1 e) in
-              absurd (omega arith)
-          | inr p ↦
-              let none : (node w i).indirect ≡ None = ap (λ (m : Node). m.indirect) here ∙ ap (λ (t : Bool). if t then (node v i).indirect else None) n in
-              absurd (none-some c (sym none ∙ subst (λ x. block_in w x ≡ Some c) p u.2))
-        ]))
+    pointers-kept (inr n) c e = inr (
+      use-has (node v i) c (inr e),
+      false_from_ne_true _ (λ h.
+          let u = has-use w i c h in
+          elim (use-cases u.0 i u.1) [
+            | inl p ↦
+                let l = part-left p.0 c (subst (λ x. block_in w x ≡ Some c) p.1 u.2) in
+                let same : number_of (Part i p.0) ≡ number_of (Pointers i) = ap number_of (uses.apart (Part i p.0) (Pointers i) c l.1 e) in
+                absurd (omega arith)
+            | inr p ↦
+                let none : (node w i).indirect ≡ None = ap (λ (m : Node). m.indirect) here ∙ ap (λ (t : Bool). if t then (node v i).indirect else None) n in
+                absurd (none-some c (sym none ∙ subst (λ x. block_in w x ≡ Some c) p u.2))
+          ]),
+    )

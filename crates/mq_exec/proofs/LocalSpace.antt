@@ -1,6 +1,6 @@
 -- What the bitmaps say of free blocks and inodes, and how the first free one is found bit by bit.
-use Rattle.std.proofs.Common.{◌≡◌, ℕ, zero, suc, ◌+◌, ◌-◌, ◌*◌, ◌/◌, ◌%◌, ◌<◌, ◌≤◌, List, [], ◌∷◌, ◌++◌, length, Bool, true, false, cond, refl, sym, ap, subst, ◌∙◌, arith, inl, inr}
-use Rattle.std.specs.Prelude.{Option, Some, None, ◌&&◌, nat_lt, if◌then◌else◌}
+use Rattle.std.proofs.Common.{◌≡◌, ℕ, zero, suc, ◌+◌, ◌*◌, ◌<◌, ◌≤◌, List, [], ◌∷◌, ◌++◌, length, Bool, true, false, cond, refl, sym, ap, ◌∙◌, arith, inl, inr}
+use Rattle.std.specs.Prelude.{Some, None, ◌&&◌, if◌then◌else◌}
 use Rattle.std.specs.List.{range_with_len}
 use Rattle.std.proofs.Math.Nat.{mul-le-mul_right}
 use Rattle.std.proofs.lemmas.Bool.{cases_Bool, lt-ltb}
@@ -15,7 +15,7 @@ use Rattle.mq_layout.specs.Bits.{bit_of}
 use Rattle.mq_layout.specs.Places.{inode_bitmap, zone_bitmap}
 use Rattle.mq_tree.specs.Free.{count_free, first_free, first_of}
 use Rattle.mq_tree.specs.Laid.{InodeMarks, ShowsMarks, ZoneMarks, inode_marked, zone_block, zone_marked}
-use Rattle.mq_tree.specs.Volume.{Node, Volume, body, free_node, is_taken, is_used, node}
+use Rattle.mq_tree.specs.Volume.{Volume, body, is_taken, is_used}
 use Rattle.mq_tree.proofs.Maps.{zone-low, zone-place, zone-rest}
 use Rattle.mq_tree.proofs.Regions.{region-inode_marks}
 
