@@ -18,6 +18,6 @@ mod view;
 mod walk;
 mod working;
 
-pub use laws::pages_of_a_map;
+pub use laws::{a_change_is_determined, a_difference_is_the_change, pages_of_a_map};
 pub use outcome::{Done, Outcome};
 pub use view::View;
