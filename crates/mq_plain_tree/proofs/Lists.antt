@@ -1,11 +1,11 @@
 -- Lists that change at one place.
-use Rattle.std.proofs.Common.{zero, suc, ◌≡◌, ℕ, ◌+◌, ◌-◌, ◌<◌, ◌≤◌, Bool, true, Option, None, Some, List, [], ◌∷◌, ◌++◌, length, get_or, take, drop, slice_set, sym, refl, ap, ◌∙◌, arith, append_assoc, length-append, length-take, drop-cons}
+use Rattle.std.proofs.Common.{zero, suc, ◌≡◌, ℕ, ◌-◌, ◌<◌, ◌≤◌, true, Option, None, Some, List, [], ◌∷◌, ◌++◌, length, get_or, take, drop, slice_set, sym, refl, ap, ◌∙◌, arith, append_assoc, length-append, drop-cons}
 use Rattle.std.proofs.lemmas.Bool.{false≢true}
 use Rattle.std.proofs.lemmas.List.{set_split}
 use Rattle.std.specs.Prelude.{replicate}
 use Rattle.mq_layout.specs.Slots.{Entry}
 use Rattle.mq_tree.specs.Empty.{empty_node}
-use Rattle.mq_tree.specs.Requests.{cleared, cut_to}
+use Rattle.mq_tree.specs.Requests.{cleared}
 use Rattle.mq_tree.specs.Volume.{Node, free_node}
 use Rattle.mq_plain_tree.specs.Plain.{is_called}
 
@@ -27,3 +27,11 @@ pub nodes-more : (now next : List Node) (n : Node) → now ≡ empty_node ∷ re
 nodes-more now next n is some more free =
     let e : length next - 1 ≡ suc (length now - 1) = let a = ap length more in let b = length-append now (n ∷ []) in omega arith in
     more ∙ rw free (ap (λ xs. xs ++ free_node ∷ []) is) ∙ sym (ap (λ k. empty_node ∷ replicate k free_node) e ∙ ap (λ xs. empty_node ∷ xs) (replicate-more (length now - 1) free_node))
+
+-- one unused slot more
+pub slots-more : (old now next : List (Option Entry)) (e : Entry) (n m : ℕ) → m ≡ suc n → now ≡ old ++ (Some e ∷ replicate n None) → next ≡ now ++ None ∷ [] → next ≡ old ++ (Some e ∷ replicate m None)
+slots-more old now next e n m k is more =
+    more ∙ ap (λ xs. xs ++ None ∷ []) is ∙ append_assoc old (Some e ∷ replicate n None) (None ∷ []) ∙ sym (ap (λ i. old ++ (Some e ∷ replicate i None)) k ∙ ap (λ xs. old ++ (Some e ∷ xs)) (replicate-more n None))
+
+pub slots-all : (old now : List (Option Entry)) (e : Entry) (n : ℕ) → now ≡ old ++ (Some e ∷ replicate n None) → n ≡ 14 → now ≡ old ++ (Some e ∷ replicate 14 None)
+slots-all old now e n is all = is ∙ ap (λ i. old ++ (Some e ∷ replicate i None)) all

@@ -40,7 +40,7 @@ impl NamedInode {
     }
 }
 
-fn same_name(name: &Name, other: &Name) -> bool
+pub fn same_name(name: &Name, other: &Name) -> bool
     ensures { result ≡ bytes_eq name.now other.now }
 {
     name.0.as_slice() == other.0.as_slice()

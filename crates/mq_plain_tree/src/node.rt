@@ -1,5 +1,5 @@
 // Inodes, and what they are.
-ghost use Rattle.std.specs.Prelude.{◌≡◌, ◌++◌, ◌∷◌, [], Some, None, IfOk, OnOk, take, nat_lt, if◌then◌else◌};
+ghost use Rattle.std.specs.Prelude.{◌≡◌, ◌<◌, ◌^◌, ◌++◌, length, ◌∷◌, [], Some, None, IfOk, OnOk, take, nat_lt, if◌then◌else◌};
 ghost use Rattle.mq_tree.specs.Volume.{File, has_block, is_block, is_used, slots_of};
 ghost use Rattle.mq_blocks.specs.Journal.{is_among};
 ghost use Rattle.mq_plain_tree.specs.Bodies.{body_of};
@@ -118,7 +118,8 @@ impl Node {
     }
 
     pub fn blocks(&self) -> &[BlockNo]
-        ensures { result.now ≡ self.now.blocks }
+        ensures is { result.now ≡ self.now.blocks }
+        ensures few { length self.now.blocks < 2 ^ 62 }
     {
         &self.blocks
     }

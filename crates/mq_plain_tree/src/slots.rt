@@ -1,5 +1,5 @@
 // The slots of directories.
-ghost use Rattle.std.specs.Prelude.{◌≡◌, IfOk};
+ghost use Rattle.std.specs.Prelude.{◌≡◌, ◌<◌, length, IfOk, IfSome};
 ghost use Rattle.mq_tree.specs.Requests.{cleared, count_names, unused};
 ghost use Rattle.mq_tree.specs.Volume.{find};
 ghost use Rattle.mq_plain_tree.specs.Plain.{is_called};
@@ -38,7 +38,8 @@ pub fn count_names(slots: &[Option<NamedInode>]) -> usize
 
 // The first unused slot.
 pub fn unused(slots: &[Option<NamedInode>]) -> Option<usize>
-    ensures { result ≡ unused 0 slots.now }
+    ensures is { result ≡ unused 0 slots.now }
+    ensures within { IfSome result (λ k. k < length slots.now) }
 {
     for (k, slot) in slots.iter().enumerate() {
         if slot.is_none() {

@@ -1,5 +1,5 @@
 // What a file system holds.
-ghost use Rattle.std.specs.Prelude.{◌≡◌, ◌≤◌, ◌++◌, ◌∷◌, [], length, slice_set, IfOk, OnOk, Some};
+ghost use Rattle.std.specs.Prelude.{◌≡◌, ◌<◌, ◌≤◌, ◌^◌, ◌++◌, ◌∷◌, [], length, slice_set, IfOk, OnOk, Some};
 ghost use Rattle.std.specs.Option.{option_copied};
 ghost use Rattle.mq_tree.specs.Empty.{empty_volume};
 ghost use Rattle.mq_tree.specs.Free.{with_block, with_pointers};
@@ -85,7 +85,8 @@ impl Volume {
 
     // How many blocks an inode has.
     pub fn count_blocks(&self, i: u32) -> usize
-        ensures { result ≡ length (node self.now i).blocks }
+        ensures is { result ≡ length (node self.now i).blocks }
+        ensures few { result < 2 ^ 62 }
     {
         match self.nodes.get(i as usize) {
             Some(node) => node.blocks().len(),

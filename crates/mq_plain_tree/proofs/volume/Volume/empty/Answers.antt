@@ -1,4 +1,4 @@
-use Rattle.std.proofs.Common.{arith, ap, length, length-append, rules}
+use Rattle.std.proofs.Common.{rules}
 use Rattle.mq_plain_tree.proofs.Lists.{nodes-more}
 use Rattle.mq_plain_tree.proofs.volume.Volume.empty.Goals as goal
 
