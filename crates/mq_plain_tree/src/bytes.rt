@@ -27,7 +27,11 @@ pub fn needs(have: usize, want: usize) -> usize
     requires { want < 2 ^ 63 }
     ensures { result ≡ needs have want }
 {
-    let pointers = if have <= DIRECT && DIRECT < want { 1 } else { 0 };
+    let pointers = if have <= DIRECT && DIRECT < want {
+        1
+    } else {
+        0
+    };
     want.saturating_sub(have) + pointers
 }
 
@@ -43,12 +47,7 @@ pub fn cut_to(size: usize, bytes: &mut Vec<u8>) -> Result<(), OutOfMemory>
 }
 
 // The bytes with new ones at this offset, and zeros up to there where there were fewer.
-pub fn spliced(
-    alloc: Global,
-    at: usize,
-    new: &[u8],
-    bytes: &[u8],
-) -> Result<Vec<u8>, OutOfMemory>
+pub fn spliced(alloc: Global, at: usize, new: &[u8], bytes: &[u8]) -> Result<Vec<u8>, OutOfMemory>
     requires { at + length new.now < 2 ^ 64 }
     ensures { IfOk result (λ b. b.items ≡ spliced at new.now bytes.now) }
 {

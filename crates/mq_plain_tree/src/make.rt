@@ -78,13 +78,7 @@ impl Volume {
     }
 
     // Without a name, and without the inode under it.
-    fn without(
-        &self,
-        alloc: Global,
-        d: u32,
-        name: &Name,
-        i: u32,
-    ) -> Result<Verdict, OutOfMemory>
+    fn without(&self, alloc: Global, d: u32, name: &Name, i: u32) -> Result<Verdict, OutOfMemory>
         ensures { IfOk result (λ w. verdict_of w ≡ Makes 0 (freed (unlinked self.now d name.now) i)) }
     {
         let mut next = self.copy(alloc)?;
@@ -119,13 +113,7 @@ impl Volume {
         }
     }
 
-    fn rmdir_in(
-        &self,
-        alloc: Global,
-        d: u32,
-        name: &Name,
-        i: u32,
-    ) -> Result<Verdict, OutOfMemory>
+    fn rmdir_in(&self, alloc: Global, d: u32, name: &Name, i: u32) -> Result<Verdict, OutOfMemory>
         ensures { IfOk result (λ w. verdict_of w ≡ rmdir_in self.now d name.now i (body self.now i)) }
     {
         match self.body(i) {

@@ -37,10 +37,7 @@ fn insert_name(name: Name, names: &mut Vec<Name>) -> Result<(), OutOfMemory>
 }
 
 // The names in these slots, each put where it goes among those behind it.
-pub fn names_in(
-    alloc: Global,
-    slots: &[Option<NamedInode>],
-) -> Result<Vec<Name>, OutOfMemory>
+pub fn names_in(alloc: Global, slots: &[Option<NamedInode>]) -> Result<Vec<Name>, OutOfMemory>
     ensures { IfOk result (λ names. names.items ≡ names_in slots.now) }
 {
     let mut names = Vec::new(alloc);

@@ -71,10 +71,7 @@ pub fn clear(slots: &mut [Option<NamedInode>], name: &Name)
     }
 }
 
-fn copy_slot(
-    alloc: Global,
-    slot: &Option<NamedInode>,
-) -> Result<Option<NamedInode>, OutOfMemory>
+fn copy_slot(alloc: Global, slot: &Option<NamedInode>) -> Result<Option<NamedInode>, OutOfMemory>
     ensures { IfOk result (λ s. s ≡ slot.now) }
 {
     match slot {

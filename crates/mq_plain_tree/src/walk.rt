@@ -69,11 +69,7 @@ impl Volume {
         let name = &path[last];
         match self.walk(&path[..last]) {
             Err(fault) => Ok(Target::Lost(fault)),
-            Ok(d) => Ok(Target::In(
-                d,
-                copy_name(alloc, name)?,
-                find(name, self.slots(d)),
-            )),
+            Ok(d) => Ok(Target::In(d, copy_name(alloc, name)?, find(name, self.slots(d)))),
         }
     }
 }
