@@ -48,7 +48,7 @@ impl Volume {
         }
     }
 
-    pub fn read(
+    pub(crate) fn read(
         &self,
         alloc: Global,
         at: u64,
@@ -73,7 +73,7 @@ impl Volume {
         }
     }
 
-    pub fn list(&self, alloc: Global, target: &Target) -> Result<Verdict, OutOfMemory>
+    pub(crate) fn list(&self, alloc: Global, target: &Target) -> Result<Verdict, OutOfMemory>
         ensures { IfOk result (λ w. verdict_of w ≡ asks self.now list_in (target_of target.now)) }
     {
         match named_inode(target) {
@@ -92,7 +92,7 @@ impl Volume {
         }
     }
 
-    pub fn stat(&self, target: &Target) -> Verdict
+    pub(crate) fn stat(&self, target: &Target) -> Verdict
         ensures { verdict_of result ≡ asks self.now stat_in (target_of target.now) }
     {
         match named_inode(target) {

@@ -62,7 +62,7 @@ impl Volume {
         }
     }
 
-    pub fn write(
+    pub(crate) fn write(
         &self,
         alloc: Global,
         geometry: Geometry,
@@ -107,7 +107,7 @@ impl Volume {
         }
     }
 
-    pub fn truncate(
+    pub(crate) fn truncate(
         &self,
         alloc: Global,
         geometry: Geometry,

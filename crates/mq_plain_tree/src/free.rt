@@ -12,7 +12,7 @@ use mq_blocks::{BlockNo, Geometry, OutOfMemory, QueueNo};
 
 impl Volume {
     // The least free inode.
-    pub fn first_free(&self) -> Option<u32>
+    pub(crate) fn first_free(&self) -> Option<u32>
         ensures { result ≡ first_free 0 self.now }
     {
         for (i, node) in self.nodes().iter().enumerate() {
@@ -38,7 +38,7 @@ impl Volume {
     }
 
     // In all zones.
-    pub fn free_blocks(&self, geometry: Geometry) -> u32
+    pub(crate) fn free_blocks(&self, geometry: Geometry) -> u32
         ensures { result ≡ free_blocks geometry self.now }
     {
         self.count_free(geometry.meta(), geometry.homes() - geometry.meta())
@@ -82,7 +82,7 @@ impl Volume {
     }
 
     // The first free block: of the queue's own zone, or of the other zones by rising number.
-    pub fn first_in_order(&self, geometry: Geometry, queue: QueueNo) -> Option<BlockNo>
+    pub(crate) fn first_in_order(&self, geometry: Geometry, queue: QueueNo) -> Option<BlockNo>
         requires { queue < queues_of geometry }
         ensures { result ≡ first_of self.now (order geometry queue) }
     {
@@ -115,7 +115,7 @@ impl Volume {
     }
 
     // Gives an inode so many blocks more, each the first that is free then.
-    pub fn grown(
+    pub(crate) fn grown(
         &mut self,
         geometry: Geometry,
         queue: QueueNo,
@@ -136,7 +136,7 @@ impl Volume {
 
     // A file with these bytes. It takes the blocks that it lacks; those past the end are freed, and
     // the block of pointers where it is not needed.
-    pub fn resized(
+    pub(crate) fn resized(
         &mut self,
         geometry: Geometry,
         queue: QueueNo,

@@ -15,7 +15,7 @@ use std::alloc::Global;
 
 impl Volume {
     // How many blocks an entry more takes: none where a slot is unused.
-    pub fn link_needs(&self, d: u32) -> usize
+    pub(crate) fn link_needs(&self, d: u32) -> usize
         ensures { result ≡ link_needs (node self.now d) }
     {
         match unused(self.slots(d)) {
@@ -28,7 +28,7 @@ impl Volume {
     }
 
     // A directory with an entry more: in its first unused slot, or in the first of a new block.
-    pub fn linked(
+    pub(crate) fn linked(
         &mut self,
         alloc: Global,
         geometry: Geometry,

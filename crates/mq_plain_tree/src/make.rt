@@ -47,7 +47,7 @@ impl Volume {
     }
 
     // A new file or directory, without blocks.
-    pub fn make(
+    pub(crate) fn make(
         &self,
         alloc: Global,
         geometry: Geometry,
@@ -87,7 +87,7 @@ impl Volume {
         Ok(Verdict::Makes(0, next))
     }
 
-    pub fn unlink(&self, alloc: Global, target: &Target) -> Result<Verdict, OutOfMemory>
+    pub(crate) fn unlink(&self, alloc: Global, target: &Target) -> Result<Verdict, OutOfMemory>
         ensures { IfOk result (λ w. verdict_of w ≡ unlink self.now (target_of target.now)) }
     {
         match target {
@@ -102,7 +102,7 @@ impl Volume {
         }
     }
 
-    pub fn rmdir(&self, alloc: Global, target: &Target) -> Result<Verdict, OutOfMemory>
+    pub(crate) fn rmdir(&self, alloc: Global, target: &Target) -> Result<Verdict, OutOfMemory>
         ensures { IfOk result (λ w. verdict_of w ≡ rmdir self.now (target_of target.now)) }
     {
         match target {
@@ -189,7 +189,7 @@ impl Volume {
         without.move_to(alloc, geometry, queue, entry.inode, target)
     }
 
-    pub fn rename(
+    pub(crate) fn rename(
         &self,
         alloc: Global,
         geometry: Geometry,

@@ -24,11 +24,11 @@ pub enum Body {
 /// An inode.
 #[derive(Drop)]
 pub struct Node {
-    pub body: Body,
+    body: Body,
     /// The blocks of its bytes or slots, in order.
-    pub blocks: Vec<BlockNo>,
+    blocks: Vec<BlockNo>,
     /// The block with the pointers to those beyond the twelfth.
-    pub indirect: Option<BlockNo>,
+    indirect: Option<BlockNo>,
 }
 
 impl Model for Node {
@@ -61,7 +61,7 @@ impl Body {
         }
     }
 
-    pub fn copy(&self, alloc: Global) -> Result<Body, OutOfMemory>
+    pub(crate) fn copy(&self, alloc: Global) -> Result<Body, OutOfMemory>
         ensures { IfOk result (λ b. body_of b ≡ body_of self.now) }
     {
         match self {
@@ -74,7 +74,7 @@ impl Body {
 
 impl Node {
     // An inode without blocks.
-    pub fn new(alloc: Global, body: Body) -> Node
+    pub(crate) fn new(alloc: Global, body: Body) -> Node
         ensures { result ≡ record { body = body_of body; blocks = []; indirect = None } }
     {
         Node {
@@ -84,7 +84,7 @@ impl Node {
         }
     }
 
-    pub fn copy(&self, alloc: Global) -> Result<Node, OutOfMemory>
+    pub(crate) fn copy(&self, alloc: Global) -> Result<Node, OutOfMemory>
         ensures { IfOk result (λ n. n ≡ self.now) }
     {
         Ok(Node {
@@ -95,7 +95,7 @@ impl Node {
     }
 
     // Whether it has this block.
-    pub fn has_block(&self, b: BlockNo) -> bool
+    pub(crate) fn has_block(&self, b: BlockNo) -> bool
         ensures { result ≡ has_block self.now b }
     {
         is_among(b, &self.blocks) || self.has_pointers(b)
@@ -130,20 +130,20 @@ impl Node {
         self.indirect
     }
 
-    pub fn set_body(&mut self, body: Body)
+    pub(crate) fn set_body(&mut self, body: Body)
         ensures { self.new ≡ record { body = body_of body; blocks = self.old.blocks; indirect = self.old.indirect } }
     {
         self.body = body;
     }
 
-    pub fn set_indirect(&mut self, b: BlockNo)
+    pub(crate) fn set_indirect(&mut self, b: BlockNo)
         ensures { self.new ≡ record { body = self.old.body; blocks = self.old.blocks; indirect = Some b } }
     {
         self.indirect = Some(b);
     }
 
     // With a block more.
-    pub fn add_block(&mut self, b: BlockNo) -> Result<(), OutOfMemory>
+    pub(crate) fn add_block(&mut self, b: BlockNo) -> Result<(), OutOfMemory>
         ensures { OnOk result (self.new ≡ record { body = self.old.body; blocks = self.old.blocks ++ b ∷ []; indirect = self.old.indirect }) }
     {
         self.blocks.push(b)?;
@@ -152,7 +152,7 @@ impl Node {
 
     // A file with these bytes, which keeps so many blocks, and the block of pointers where it is
     // needed.
-    pub fn set_file(&mut self, bytes: Vec<u8>, count: usize)
+    pub(crate) fn set_file(&mut self, bytes: Vec<u8>, count: usize)
         ensures { self.new ≡ record { body = File bytes.items; blocks = take count self.old.blocks; indirect = if nat_lt 12 count then self.old.indirect else None } }
     {
         self.body = Body::File(bytes);

@@ -24,7 +24,7 @@ pub fn refused(fault: Fault) -> Verdict
 
 impl Volume {
     // More blocks than are free are refused last.
-    pub fn carried_out(&mut self, geometry: Geometry, verdict: Verdict) -> Reply
+    pub(crate) fn carried_out(&mut self, geometry: Geometry, verdict: Verdict) -> Reply
         ensures reply { result ≡ (carried_out geometry self.old (verdict_of verdict)).reply }
         ensures next { self.new ≡ (carried_out geometry self.old (verdict_of verdict)).next }
     {

@@ -74,7 +74,7 @@ impl Volume {
         }
     }
 
-    pub fn slots(&self, i: u32) -> &[Option<NamedInode>]
+    pub(crate) fn slots(&self, i: u32) -> &[Option<NamedInode>]
         ensures { result.now ≡ slots_of (body self.now i) }
     {
         match self.body(i) {
@@ -84,7 +84,7 @@ impl Volume {
     }
 
     // How many blocks an inode has.
-    pub fn count_blocks(&self, i: u32) -> usize
+    pub(crate) fn count_blocks(&self, i: u32) -> usize
         ensures is { result ≡ length (node self.now i).blocks }
         ensures few { result < 2 ^ 62 }
     {
@@ -95,7 +95,7 @@ impl Volume {
     }
 
     // Whether some inode uses the block.
-    pub fn is_taken(&self, b: BlockNo) -> bool
+    pub(crate) fn is_taken(&self, b: BlockNo) -> bool
         ensures { result ≡ is_taken self.now b }
     {
         for node in self.nodes() {
@@ -107,7 +107,7 @@ impl Volume {
     }
 
     // Puts an inode in the place of another.
-    pub fn set(&mut self, i: u32, node: Node)
+    pub(crate) fn set(&mut self, i: u32, node: Node)
         ensures { self.new ≡ slice_set self.old i node }
     {
         if (i as usize) < self.nodes.len() {
@@ -115,7 +115,7 @@ impl Volume {
         }
     }
 
-    pub fn with_body(&mut self, i: u32, body: Body)
+    pub(crate) fn with_body(&mut self, i: u32, body: Body)
         ensures { self.new ≡ with_body self.old i (body_of body) }
     {
         if (i as usize) < self.nodes.len() {
@@ -123,14 +123,14 @@ impl Volume {
         }
     }
 
-    pub fn freed(&mut self, alloc: Global, i: u32)
+    pub(crate) fn freed(&mut self, alloc: Global, i: u32)
         ensures { self.new ≡ freed self.old i }
     {
         self.set(i, Node::new(alloc, Body::Free));
     }
 
     // Gives an inode this block, where there is one.
-    pub fn with_block(&mut self, i: u32, b: Option<BlockNo>) -> Result<(), OutOfMemory>
+    pub(crate) fn with_block(&mut self, i: u32, b: Option<BlockNo>) -> Result<(), OutOfMemory>
         ensures { OnOk result (self.new ≡ with_block self.old i b) }
     {
         if let Some(b) = b {
@@ -142,7 +142,7 @@ impl Volume {
     }
 
     // Gives an inode this block of pointers, where there is one.
-    pub fn with_pointers(&mut self, i: u32, b: Option<BlockNo>)
+    pub(crate) fn with_pointers(&mut self, i: u32, b: Option<BlockNo>)
         ensures { self.new ≡ with_pointers self.old i b }
     {
         if let Some(b) = b {
@@ -153,7 +153,7 @@ impl Volume {
     }
 
     // Keeps so many blocks of an inode, which becomes a file with these bytes.
-    pub fn with_file(&mut self, i: u32, bytes: Vec<u8>, count: usize)
+    pub(crate) fn with_file(&mut self, i: u32, bytes: Vec<u8>, count: usize)
         ensures { self.new ≡ with_file self.old i bytes.items count }
     {
         if (i as usize) < self.nodes.len() {
@@ -162,7 +162,7 @@ impl Volume {
     }
 
     // A directory without a name.
-    pub fn unlinked(&mut self, alloc: Global, d: u32, name: &Name) -> Result<(), OutOfMemory>
+    pub(crate) fn unlinked(&mut self, alloc: Global, d: u32, name: &Name) -> Result<(), OutOfMemory>
         ensures { OnOk result (self.new ≡ unlinked self.old d name.now) }
     {
         let mut slots = copy_slots(alloc, self.slots(d))?;

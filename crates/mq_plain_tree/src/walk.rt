@@ -59,7 +59,7 @@ impl Volume {
     }
 
     // Through all the names of a path but the last.
-    pub fn target(&self, alloc: Global, path: &[Name]) -> Result<Target, OutOfMemory>
+    pub(crate) fn target(&self, alloc: Global, path: &[Name]) -> Result<Target, OutOfMemory>
         ensures { IfOk result (λ t. target_of t ≡ target self.now (way path.now)) }
     {
         if path.is_empty() {
