@@ -10,6 +10,8 @@ mod journal;
 mod lane;
 mod reference;
 mod scripts;
+#[cfg(test)]
+mod tests;
 
 pub use drive::{Drive, Refused};
 pub use entries::{Place, items_of};
