@@ -7,21 +7,21 @@ use Rattle.mq_blocks.specs.Drive.{PortState, IsApartFrom, index_of}
 use Rattle.mq_blocks.specs.Geometry.{homes_of, zone_of, home_lba, area_lba}
 use Rattle.mq_blocks.specs.declared.command.Command.{Command}
 use Rattle.mq_blocks.specs.declared.geometry.Geometry.{Geometry}
+use Rattle.mq_ledger.specs.History.{map_after, last, upto}
+use Rattle.mq_ledger.specs.Items.{Target, AtPlace, AtHome, lba_of, command_of, item_at}
+use Rattle.mq_ledger.specs.Known.{Known}
+use Rattle.mq_ledger.specs.Plain.{plain}
+use Rattle.mq_ledger.specs.Sides.{AreOwn, Certainly, holds_count, home_index}
+use Rattle.mq_ledger.specs.State.{State, Facts, front_of, from_at, known_of, port_at, port_of, start_map}
+use Rattle.mq_ledger.specs.declared.tx.Tx.{Tx}
+use Rattle.mq_ledger.proofs.Values.{value_settled, upto-upto}
 use Rattle.mq_core.specs.Bases.{due_at, home_of, is_due, writes_none, post_none, Holds}
 use Rattle.mq_core.specs.Events.{MayStoreBase, us_of, command_with}
-use Rattle.mq_core.specs.History.{map_after, last, upto}
-use Rattle.mq_core.specs.Items.{Target, AtPlace, AtHome, lba_of, command_of, item_at}
-use Rattle.mq_core.specs.Known.{Known}
-use Rattle.mq_core.specs.Plain.{plain}
-use Rattle.mq_core.specs.Sides.{AreOwn, Certainly, holds_count, home_index}
-use Rattle.mq_core.specs.State.{State, Facts, front_of, from_at, known_of, port_at, port_of, start_map}
-use Rattle.mq_core.specs.declared.tx.Tx.{Tx}
 use Rattle.mq_core.proofs.Commands.{own_with, apart_own, apart_with}
 use Rattle.mq_core.proofs.Ports.{index-place, index-zone, index-root, zone-apart, row-below}
 use Rattle.mq_core.proofs.SideCommands.{IsLate, posted_late, late_direct}
 use Rattle.mq_core.proofs.Sources.{direct-zone}
 use Rattle.mq_core.proofs.StateEvents.{zone-queue}
-use Rattle.mq_core.proofs.Values.{value_settled, upto-upto}
 
 -- a block that is due
 pub record IsDue (s : State) (b x : ℕ) (content : List ℕ) : Type 0 where

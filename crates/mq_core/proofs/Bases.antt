@@ -2,13 +2,13 @@
 use Rattle.std.proofs.Common.{◌≡◌, ℕ, ◌+◌, ◌≤◌, true, Bool, List, [], ◌∷◌, ◌++◌, Some, sym, refl, subst, inl, inr, arith}
 use Rattle.std.proofs.lemmas.Bool.{cases_lt}
 use Rattle.mq_blocks.specs.Drive.{PortState}
-use Rattle.mq_core.specs.History.{writes, upto, IsAt}
-use Rattle.mq_core.specs.Items.{end_of, next, total}
-use Rattle.mq_core.specs.Known.{Known, LogOk, front}
-use Rattle.mq_core.specs.Sides.{AreHome, SideOk}
-use Rattle.mq_core.specs.declared.tx.Tx.{Tx}
-use Rattle.mq_core.proofs.Values.{upto-at, upto-past}
-use Rattle.mq_core.proofs.Queues.{FromQueue-of}
+use Rattle.mq_ledger.specs.History.{writes, upto, IsAt}
+use Rattle.mq_ledger.specs.Items.{end_of, next, total}
+use Rattle.mq_ledger.specs.Known.{Known, LogOk, front}
+use Rattle.mq_ledger.specs.Sides.{AreHome, SideOk}
+use Rattle.mq_ledger.specs.declared.tx.Tx.{Tx}
+use Rattle.mq_ledger.proofs.Values.{upto-at, upto-past}
+use Rattle.mq_ledger.proofs.Queues.{FromQueue-of}
 use Rattle.mq_core.proofs.Fronts.{done_below}
 use Rattle.mq_core.proofs.Growth.{side_moved, placed_front}
 

@@ -5,10 +5,10 @@ use Rattle.std.specs.List.{remove}
 use Rattle.mq_blocks.specs.Drive.{PortState, AreFrom, AreCounted, IsApartFrom, index_of}
 use Rattle.mq_blocks.specs.declared.command.Command.{Command}
 use Rattle.mq_blocks.specs.declared.geometry.Geometry.{Geometry}
-use Rattle.mq_core.specs.Items.{command_of, item_at}
-use Rattle.mq_core.specs.Sides.{AreOwn, AreNext, holds_count}
+use Rattle.mq_ledger.specs.Items.{command_of, item_at}
+use Rattle.mq_ledger.specs.Sides.{AreOwn, AreNext, holds_count}
+use Rattle.mq_ledger.specs.declared.tx.Tx.{Tx}
 use Rattle.mq_core.specs.Events.{index_with, command_with}
-use Rattle.mq_core.specs.declared.tx.Tx.{Tx}
 
 -- the command of a count that stands in a list
 pub count-with : (n : ℕ) (cs : List Command) → holds_count n cs ≡ true → (command_with n cs).count ≡ n

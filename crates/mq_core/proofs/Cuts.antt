@@ -8,15 +8,15 @@ use Rattle.mq_blocks.specs.Drive.{PortState, PortImage, IsImage, depth}
 use Rattle.mq_blocks.specs.Geometry.{homes_of, zone_of}
 use Rattle.mq_blocks.specs.Journal.{Shown, is_among, image_at, home_block, shown, logged_copy, or_else, stands}
 use Rattle.mq_blocks.specs.Machine.{Map, write_of, or_kept, after}
-use Rattle.mq_core.specs.History.{blocks_of, writes, changes, map_after, last, upto, of_queue, AreNumbered, IsAt}
-use Rattle.mq_core.specs.Items.{Entries, Item, AtPlace, AtHome, write_at, item_at, item_of, end_of, next, IsEnd, descriptor_for}
-use Rattle.mq_core.specs.Known.{Known}
-use Rattle.mq_core.specs.Sides.{Certainly, IsDone, flushed_at, home_index, home_index_in}
-use Rattle.mq_core.specs.State.{State, Facts, AreImages, port_at, port_of, from_at, known_of, front_of, start_map}
-use Rattle.mq_core.specs.declared.tx.Tx.{Tx}
-use Rattle.mq_core.proofs.Values.{upto-at, upto-past, upto_all, upto_newer, at_most, last_upto_bound, last-changed, last-same, last_le, length-upto, unchanged, among_written, unwritten, write_of-append}
-use Rattle.mq_core.proofs.Entries.{item-logged, item-direct, item-commit, item_of_at}
-use Rattle.mq_core.proofs.Queues.{IsFalling-of, at_own, end_above}
+use Rattle.mq_ledger.specs.History.{blocks_of, writes, changes, map_after, last, upto, of_queue, AreNumbered, IsAt}
+use Rattle.mq_ledger.specs.Items.{Entries, Item, AtPlace, AtHome, write_at, item_at, item_of, end_of, next, IsEnd, descriptor_for}
+use Rattle.mq_ledger.specs.Known.{Known}
+use Rattle.mq_ledger.specs.Sides.{Certainly, IsDone, flushed_at, home_index, home_index_in}
+use Rattle.mq_ledger.specs.State.{State, Facts, AreImages, port_at, port_of, from_at, known_of, front_of, start_map}
+use Rattle.mq_ledger.specs.declared.tx.Tx.{Tx}
+use Rattle.mq_ledger.proofs.Values.{upto-at, upto-past, upto_all, upto_newer, at_most, last_upto_bound, last-changed, last-same, last_le, length-upto, unchanged, among_written, unwritten, write_of-append}
+use Rattle.mq_ledger.proofs.Entries.{item-logged, item-direct, item-commit, item_of_at}
+use Rattle.mq_ledger.proofs.Queues.{IsFalling-of, at_own, end_above}
 use Rattle.mq_core.proofs.Commands.{below_from, from_counted}
 use Rattle.mq_core.proofs.Ports.{index-place, index-zone, index-root}
 use Rattle.mq_core.proofs.SideEvents.{slot_clear}
@@ -255,7 +255,7 @@ module _ (e : Entries) (s : State) (i : Shown) (f : Facts e s) (cut : IsCut e s 
       ]
     where
       missing : is_among x (blocks_of t.direct) ≡ true → write_of t.direct x ≡ None → ⊥
-      missing among none = (let w = Rattle.mq_core.proofs.Values.written_among t.direct x among in no w.1 none)
+      missing among none = (let w = Rattle.mq_ledger.proofs.Values.written_among t.direct x among in no w.1 none)
         where
           no : {o : Option (List ℕ)} {b : List ℕ} → o ≡ Some b → o ≡ None → ⊥
           no a b = cc

@@ -6,12 +6,12 @@ use Rattle.std.proofs.lemmas.List.{length-replicate}
 use Rattle.std.proofs.lemmas.List.Elements.{All-cons, All-nil}
 use Rattle.mq_blocks.specs.Blocks.{filled}
 use Rattle.mq_blocks.specs.declared.geometry.Geometry.{Geometry}
-use Rattle.mq_core.specs.Known.{IsTx}
+use Rattle.mq_ledger.specs.Known.{IsTx}
+use Rattle.mq_ledger.specs.Plain.{plain}
+use Rattle.mq_ledger.specs.State.{State, front_of}
+use Rattle.mq_ledger.specs.declared.tx.Tx.{Tx}
 use Rattle.mq_core.specs.Machine.{Clear, Event, Draw, Stage, Flush, Ring, Complete, StoreHead, FlushHead, Acknowledge, IsAllowed, AreAllowed, run}
-use Rattle.mq_core.specs.Plain.{plain}
 use Rattle.mq_core.specs.Start.{start_state}
-use Rattle.mq_core.specs.State.{State, front_of}
-use Rattle.mq_core.specs.declared.tx.Tx.{Tx}
 
 abbrev pub tiny : Geometry
 tiny = record {

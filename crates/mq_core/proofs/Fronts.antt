@@ -1,9 +1,9 @@
 -- The front: the greatest number up to which all are done.
 use Rattle.std.proofs.Common.{◌≡◌, ℕ, ◌+◌, ◌≤◌, Bool, true, false, List, [], ◌∷◌, length, sym, refl, ap, ◌∙◌, inl, inr, arith}
 use Rattle.std.proofs.lemmas.Bool.{cases_Bool, and_parts, and_from, and_cases, false≢true}
-use Rattle.mq_core.specs.History.{upto, all_of, part_of, AreNumbered, IsAt}
-use Rattle.mq_core.specs.declared.tx.Tx.{Tx}
-use Rattle.mq_core.proofs.Values.{upto-at, upto-past, at_most}
+use Rattle.mq_ledger.specs.History.{upto, all_of, part_of, AreNumbered, IsAt}
+use Rattle.mq_ledger.specs.declared.tx.Tx.{Tx}
+use Rattle.mq_ledger.proofs.Values.{upto-at, upto-past, at_most}
 
 pub part-all : (w : Tx → List Tx → Bool) (t : Tx) (ts : List Tx) → all_of w (t ∷ ts) ≡ true → part_of w (t ∷ ts) ≡ t ∷ ts
 part-all w t ts e = rw e refl

@@ -4,14 +4,13 @@ use Rattle.std.proofs.lemmas.Bool.{false≢true, false_from_ne_true}
 use Rattle.std.proofs.lemmas.List.{length-map}
 use Rattle.mq_blocks.specs.Descriptor.{IsGood}
 use Rattle.mq_blocks.specs.Geometry.{homes_of}
-use Rattle.mq_core.specs.History.{blocks_of, of_queue, AreNumbered, IsAt}
-use Rattle.mq_core.specs.Items.{next, number_before, place_before, descriptor_for}
-use Rattle.mq_core.specs.Known.{Known, LogOk}
-use Rattle.mq_core.specs.declared.tx.Tx.{Tx}
-use Rattle.mq_core.proofs.Among.{rising_within, apart_from}
-use Rattle.mq_core.proofs.Values.{at_most, at_numbered}
-use Rattle.mq_core.proofs.Queues.{IsFalling-of, FromQueue-of}
-use Rattle.mq_core.proofs.Homes.{apart_among}
+use Rattle.mq_ledger.specs.History.{blocks_of, of_queue, AreNumbered, IsAt}
+use Rattle.mq_ledger.specs.Items.{next, number_before, place_before, descriptor_for}
+use Rattle.mq_ledger.specs.Known.{Known, LogOk}
+use Rattle.mq_ledger.specs.declared.tx.Tx.{Tx}
+use Rattle.mq_ledger.proofs.Among.{rising_within, apart_from, apart_among}
+use Rattle.mq_ledger.proofs.Values.{at_most, at_numbered}
+use Rattle.mq_ledger.proofs.Queues.{IsFalling-of, FromQueue-of}
 
 -- numbers and places before it
 record IsBefore (t : Tx) (us : List Tx) : Type 0 where

@@ -7,14 +7,14 @@ use Rattle.mq_blocks.specs.Journal.{is_among}
 use Rattle.mq_blocks.specs.Machine.{Map, write_of}
 use Rattle.mq_blocks.specs.declared.command.Command.{Command}
 use Rattle.mq_blocks.specs.declared.geometry.Geometry.{Geometry}
-use Rattle.mq_core.specs.History.{writes, map_after, last, last_logged, is_exposed, upto, of_queue, part_of, IsAt, IsPart}
-use Rattle.mq_core.specs.Items.{command_of, end_of, next, item_at, IsEnd}
-use Rattle.mq_core.specs.Known.{Known, LogOk, IsPlaced, front}
-use Rattle.mq_core.specs.Sides.{AreOwn, AreHome, SideOk, RootOk, holds_count}
-use Rattle.mq_core.specs.Events.{draw_known, MayDraw, HasRoom}
-use Rattle.mq_core.specs.declared.tx.Tx.{Tx}
-use Rattle.mq_core.proofs.Values.{upto-past, last_upto_more}
-use Rattle.mq_core.proofs.Entries.{of_queue-own, of_queue-other, item_at-before, below-past}
+use Rattle.mq_ledger.specs.History.{writes, map_after, last, last_logged, is_exposed, upto, of_queue, part_of, IsAt, IsPart}
+use Rattle.mq_ledger.specs.Items.{command_of, end_of, next, item_at, IsEnd}
+use Rattle.mq_ledger.specs.Known.{Known, LogOk, IsPlaced, front, draw_known, MayDraw}
+use Rattle.mq_ledger.specs.Sides.{AreOwn, AreHome, SideOk, RootOk, holds_count}
+use Rattle.mq_ledger.specs.declared.tx.Tx.{Tx}
+use Rattle.mq_ledger.proofs.Values.{upto-past, last_upto_more}
+use Rattle.mq_ledger.proofs.Entries.{of_queue-own, of_queue-other, item_at-before, below-past}
+use Rattle.mq_core.specs.Events.{HasRoom}
 use Rattle.mq_core.proofs.Fronts.{part-less, part_le, part_more, DoneMore}
 use Rattle.mq_core.proofs.Commands.{count_range, counted_next}
 

@@ -3,16 +3,16 @@ use Rattle.std.proofs.Common.{◌≡◌, ℕ, ◌<◌, ◌≤◌, true, List, �
 use Rattle.mq_blocks.specs.Drive.{PortState}
 use Rattle.mq_blocks.specs.Geometry.{homes_of, zone_of, home_lba}
 use Rattle.mq_blocks.specs.Journal.{is_among}
+use Rattle.mq_ledger.specs.History.{blocks_of, map_after, last, IsAt}
+use Rattle.mq_ledger.specs.Plain.{plain}
+use Rattle.mq_ledger.specs.State.{State, Facts, front_of, port_at, port_of, start_map}
 use Rattle.mq_core.specs.Events.{MayWriteHome, with_port, begin_home, end_home, content_at, without}
-use Rattle.mq_core.specs.History.{blocks_of, map_after, last, IsAt}
 use Rattle.mq_core.specs.Homes.{ports_after, root_after, IsIn, IsInZone}
 use Rattle.mq_core.specs.Machine.{WriteHome, HomeDone}
-use Rattle.mq_core.specs.Plain.{plain}
-use Rattle.mq_core.specs.State.{State, Facts, front_of, port_at, port_of, start_map}
 use Rattle.mq_core.specs.View.{IsHeld}
 use Rattle.mq_core.specs.Within.{IsWithin}
 use Rattle.std.specs.Prelude.{Ok}
-use Rattle.mq_core.specs.declared.tx.Tx.{Tx}
+use Rattle.mq_ledger.specs.declared.tx.Tx.{Tx}
 use Rattle.mq_core.proofs.Insides.{home_within, root_within}
 use Rattle.mq_core.proofs.Lifts.{Told, front_stays}
 use Rattle.mq_core.proofs.StateBases.{logged_value}

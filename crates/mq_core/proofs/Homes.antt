@@ -1,22 +1,22 @@
 -- Home writes keep what holds of a port: whoever needs a block's content at home needs none that a
 -- later transaction logged.
-use Rattle.std.proofs.Common.{◌≡◌, ◌≢◌, ℕ, ◌<◌, ◌≤◌, true, false, Bool, List, [], ◌∷◌, length, get_or, Option, Some, None, sym, refl, ap, subst, ◌∙◌, inl, inr, arith, eqb}
-use Rattle.std.proofs.lemmas.Bool.{cases_lt, cases_eq, cases_Bool, eqb-true, eq-eqb, false≢true}
+use Rattle.std.proofs.Common.{◌≡◌, ◌≢◌, ℕ, ◌<◌, ◌≤◌, true, false, Bool, List, length, get_or, Option, Some, None, sym, refl, ap, subst, ◌∙◌, arith}
+use Rattle.std.proofs.lemmas.Bool.{false≢true}
 use Rattle.std.proofs.lemmas.List.{length-set, get_or-set_other}
 use Rattle.mq_blocks.specs.Blocks.{block_at, content}
-use Rattle.mq_blocks.specs.Descriptor.{AreApart, IsNoneOf}
 use Rattle.mq_blocks.specs.Drive.{PortState, index_of}
 use Rattle.mq_blocks.specs.Geometry.{homes_of, zone_of, home_lba}
 use Rattle.mq_blocks.specs.Journal.{is_among}
 use Rattle.mq_blocks.specs.declared.command.HomeWrite.{HomeWrite}
 use Rattle.mq_blocks.specs.declared.geometry.Geometry.{Geometry}
-use Rattle.mq_core.specs.History.{blocks_of, last, upto, IsAt}
-use Rattle.mq_core.specs.Items.{item_at}
-use Rattle.mq_core.specs.Known.{Known, LogOk, front}
-use Rattle.mq_core.specs.Sides.{IsPort, Certainly, IsDone, SideOk, RootOk, home_index, place_index}
+use Rattle.mq_ledger.specs.History.{blocks_of, last, upto, IsAt}
+use Rattle.mq_ledger.specs.Items.{item_at}
+use Rattle.mq_ledger.specs.Known.{Known, LogOk, front}
+use Rattle.mq_ledger.specs.Sides.{IsPort, Certainly, IsDone, SideOk, RootOk, home_index, place_index}
+use Rattle.mq_ledger.specs.declared.tx.Tx.{Tx}
+use Rattle.mq_ledger.proofs.Among.{apart_among}
+use Rattle.mq_ledger.proofs.Values.{last_at, last_settled, changes_direct}
 use Rattle.mq_core.specs.Events.{begin_home, end_home}
-use Rattle.mq_core.specs.declared.tx.Tx.{Tx}
-use Rattle.mq_core.proofs.Values.{last_at, last_settled, changes_direct}
 use Rattle.mq_core.proofs.Commands.{apart_along}
 use Rattle.mq_core.proofs.Ports.{index-place, index-zone, zone-apart}
 use Rattle.mq_core.proofs.Sources.{direct_in, direct-zone}
@@ -26,17 +26,6 @@ pub record IsLoggedLast (k : Known) (x : ℕ) : Type 0 where
   pub due : (v : ℕ) → k.due x v ≡ true → v < last k.base k.history x
   pub high : last k.base k.history x ≤ front k
   pub logged : (t : Tx) (ts : List Tx) → IsAt t ts k.history → t.number ≡ last k.base k.history x → is_among x (blocks_of t.logged) ≡ true
-
-none_of : (x : ℕ) (ys : List ℕ) → IsNoneOf x ys → is_among x ys ≡ false
-none_of x [] none = refl
-none_of x (y ∷ ys) none = rw (Rattle.std.proofs.lemmas.Bool.ne_eqb y x (λ e. none.0 (sym e))) (none_of x ys none.1)
-
-pub apart_among : (xs ys : List ℕ) (x : ℕ) → AreApart xs ys → is_among x xs ≡ true → is_among x ys ≡ false
-apart_among [] ys x apart e = absurd (false≢true e)
-apart_among (y ∷ xs) ys x apart e = elim (cases_Bool (eqb y x)) [
-  | inl same ↦ subst (λ z. is_among z ys ≡ false) (eqb-true _ _ same) (none_of y ys apart.0)
-  | inr other ↦ apart_among xs ys x apart.1 (rw other at e)
-]
 
 -- the port with other contents and home writes
 abbrev pub written_to : PortState → List (Option (List ℕ)) → List Bool → List HomeWrite → ℕ → PortState
@@ -147,7 +136,7 @@ root_written k p x blocks sure begun begins log r zone block u els =
     }
   where
     root-apart : (y : ℕ) → zone_of k.geometry y ≡ None → home_index k.geometry y ≡ home_index k.geometry x → y ≡ x
-    root-apart y z e = sym (ap (λ w. Rattle.mq_core.specs.Sides.home_index_in k.geometry w y) z) ∙ e ∙ ap (λ w. Rattle.mq_core.specs.Sides.home_index_in k.geometry w x) zone
+    root-apart y z e = sym (ap (λ w. Rattle.mq_ledger.specs.Sides.home_index_in k.geometry w y) z) ∙ e ∙ ap (λ w. Rattle.mq_ledger.specs.Sides.home_index_in k.geometry w x) zone
 
 -- ---- a home write begins, or ends
 

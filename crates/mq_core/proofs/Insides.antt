@@ -5,12 +5,12 @@ use Rattle.mq_blocks.specs.Drive.{PortState, staged_end}
 use Rattle.mq_blocks.specs.Geometry.{homes_of, zone_of, home_lba, area_lba}
 use Rattle.mq_blocks.specs.declared.command.Command.{Command}
 use Rattle.mq_blocks.specs.declared.geometry.Geometry.{Geometry}
+use Rattle.mq_ledger.specs.Items.{Target, AtPlace, AtHome, lba_of, item_at}
+use Rattle.mq_ledger.specs.Known.{Known, LogOk}
+use Rattle.mq_ledger.specs.Sides.{SideOk, IsPort}
+use Rattle.mq_ledger.specs.declared.tx.Tx.{Tx}
 use Rattle.mq_core.specs.Events.{MayEnd, command_with}
-use Rattle.mq_core.specs.Items.{Target, AtPlace, AtHome, lba_of, item_at}
-use Rattle.mq_core.specs.Known.{Known, LogOk}
-use Rattle.mq_core.specs.Sides.{SideOk, IsPort}
 use Rattle.mq_core.specs.Within.{IsWithin}
-use Rattle.mq_core.specs.declared.tx.Tx.{Tx}
 use Rattle.mq_core.proofs.Commands.{own_with}
 use Rattle.mq_core.proofs.Ports.{index-place, index-zone, index-root, row-below, zone-row}
 use Rattle.mq_core.proofs.SideCommands.{IsLate, posted_late, late_direct}

@@ -1,8 +1,4 @@
-pub mod Among
-pub mod Values
-pub mod Entries
 pub mod Fronts
-pub mod Queues
 mod Commands
 mod Ports
 mod Sources
@@ -31,12 +27,3 @@ mod Running
 mod StartStates
 mod Examples
 mod Revocations
-mod Marks
-mod Rows
-mod Lists
-mod Stagings
-mod Ledgers
-mod Lookups
-mod Stages
-mod Nexts
-mod Draws

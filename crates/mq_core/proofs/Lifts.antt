@@ -4,17 +4,17 @@ use Rattle.std.proofs.lemmas.Bool.{cases_eq}
 use Rattle.std.proofs.lemmas.List.{set-get_or, get_or_read}
 use Rattle.mq_blocks.specs.Drive.{PortState, staged_end}
 use Rattle.mq_blocks.specs.Geometry.{zone_of}
+use Rattle.mq_ledger.specs.History.{part_of, writes, of_queue}
+use Rattle.mq_ledger.specs.Items.{end_of}
+use Rattle.mq_ledger.specs.Plain.{plain}
+use Rattle.mq_ledger.specs.State.{State, Facts, port_at, port_of, from_at, front_of}
+use Rattle.mq_ledger.specs.declared.tx.Tx.{Tx}
 use Rattle.mq_core.specs.Answers.{Answers}
 use Rattle.mq_core.specs.Events.{with_port, begin_home, end_home, content_at}
-use Rattle.mq_core.specs.History.{part_of, writes, of_queue}
-use Rattle.mq_core.specs.Items.{end_of}
 use Rattle.mq_core.specs.Machine.{Event, Draw, Stage, Flush, Ring, Complete, FailCommand, StoreHead, FlushHead, Clear, Acknowledge, WriteHome, HomeDone, StoreBase, FlushBase, IsAllowed, happens}
-use Rattle.mq_core.specs.Plain.{plain}
-use Rattle.mq_core.specs.State.{State, Facts, port_at, port_of, from_at, front_of}
 use Rattle.mq_core.specs.View.{IsHeld}
 use Rattle.mq_core.specs.declared.event.CoreRefusal.{CoreRefusal}
 use Rattle.mq_core.specs.declared.event.CoreRefusal.TheVariants.{NotAllowed, OutOfMemory}
-use Rattle.mq_core.specs.declared.tx.Tx.{Tx}
 use Rattle.mq_core.proofs.StatePorts.{port_same, port_other}
 use Rattle.mq_core.proofs.Runs.{keeps}
 

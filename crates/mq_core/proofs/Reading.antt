@@ -7,10 +7,10 @@ use Rattle.mq_blocks.specs.Geometry.{homes_of}
 use Rattle.mq_blocks.specs.Journal.{Shown, IsChain, AreInReach, AreInRow, Has, is_among, logged_copy, or_else, stands}
 use Rattle.mq_blocks.specs.Machine.{Writes, write_of}
 use Rattle.mq_blocks.specs.declared.geometry.Geometry.{Geometry}
-use Rattle.mq_core.specs.History.{blocks_of, is_exposed, of_queue, AreNumbered, IsAt}
-use Rattle.mq_core.specs.Items.{write_at, next, number_before, place_before, descriptor_for}
-use Rattle.mq_core.specs.declared.tx.Tx.{Tx}
-use Rattle.mq_core.proofs.Queues.{IsFalling, number_falls}
+use Rattle.mq_ledger.specs.History.{blocks_of, is_exposed, of_queue, AreNumbered, IsAt}
+use Rattle.mq_ledger.specs.Items.{write_at, next, number_before, place_before, descriptor_for}
+use Rattle.mq_ledger.specs.declared.tx.Tx.{Tx}
+use Rattle.mq_ledger.proofs.Queues.{IsFalling, number_falls}
 
 -- ---- the descriptors of a queue's transactions above a number
 

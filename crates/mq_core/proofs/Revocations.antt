@@ -10,13 +10,13 @@ use Rattle.mq_blocks.specs.Geometry.{zone_of}
 use Rattle.mq_blocks.specs.Journal.{is_among}
 use Rattle.mq_blocks.specs.Machine.{after}
 use Rattle.mq_blocks.specs.declared.geometry.Geometry.{Geometry}
-use Rattle.mq_core.specs.History.{map_after, last, last_logged}
-use Rattle.mq_core.specs.Known.{IsTx}
+use Rattle.mq_ledger.specs.History.{map_after, last, last_logged}
+use Rattle.mq_ledger.specs.Known.{IsTx}
+use Rattle.mq_ledger.specs.Plain.{plain}
+use Rattle.mq_ledger.specs.State.{State, start_map, is_done}
+use Rattle.mq_ledger.specs.declared.tx.Tx.{Tx}
 use Rattle.mq_core.specs.Machine.{Event, Draw, Stage, Flush, Ring, Complete, StoreHead, FlushHead, Clear, StoreBase, FlushBase, IsAllowed, AreAllowed, IsAlwaysLawful, run}
-use Rattle.mq_core.specs.Plain.{plain}
 use Rattle.mq_core.specs.Start.{start_state}
-use Rattle.mq_core.specs.State.{State, start_map, is_done}
-use Rattle.mq_core.specs.declared.tx.Tx.{Tx}
 use Rattle.mq_core.proofs.Examples.{long}
 use Rattle.mq_core.proofs.Runs.{run_is_lawful}
 use Rattle.mq_core.proofs.StartStates.{start_is}

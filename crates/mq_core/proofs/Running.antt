@@ -1,9 +1,9 @@
 -- A run of events, one by one.
 use Rattle.std.proofs.Common.{◌≡◌, ℕ, suc, ◌+◌, List, ◌∷◌, length, Err, refl, subst, arith}
+use Rattle.mq_ledger.specs.Plain.{plain}
+use Rattle.mq_ledger.specs.State.{State}
 use Rattle.mq_core.specs.Answers.{Answers, refusal_at}
 use Rattle.mq_core.specs.Machine.{Event, IsAllowed, AreAllowed, IsRefusedAt, IsRefusal, happens, run}
-use Rattle.mq_core.specs.Plain.{plain}
-use Rattle.mq_core.specs.State.{State}
 use Rattle.mq_core.specs.declared.event.CoreRefusal.{CoreRefusal}
 use Rattle.mq_core.specs.declared.event.CoreRefusal.TheVariants.{NotAllowed, OutOfMemory}
 

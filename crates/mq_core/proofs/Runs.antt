@@ -3,9 +3,9 @@ use Rattle.std.proofs.Common.{◌≡◌, ℕ, ◌<◌, List, [], ◌∷◌, leng
 use Rattle.std.proofs.lemmas.Bool.{eqb-true, or_cases, false≢true}
 use Rattle.mq_blocks.specs.Drive.{AreFrom, AreCounted}
 use Rattle.mq_blocks.specs.declared.command.Command.{Command}
-use Rattle.mq_core.specs.Items.{Entries}
-use Rattle.mq_core.specs.Sides.{SideOk, AreOwn, AreNext}
-use Rattle.mq_core.specs.State.{State, Facts, IsLawful, IsStart, IsStartPort, port_at, from_at, known_of}
+use Rattle.mq_ledger.specs.Items.{Entries}
+use Rattle.mq_ledger.specs.Sides.{SideOk, AreOwn, AreNext}
+use Rattle.mq_ledger.specs.State.{State, Facts, IsLawful, IsStart, IsStartPort, port_at, from_at, known_of}
 use Rattle.mq_core.specs.Machine.{Event, Draw, Stage, Flush, Ring, Complete, FailCommand, StoreHead, FlushHead, Clear, Acknowledge, WriteHome, HomeDone, StoreBase, FlushBase, IsAllowed, AreAllowed, IsAlwaysLawful, happens}
 use Rattle.mq_core.proofs.StatePorts.{stage_keeps, flush_keeps, store_head_keeps, ring_keeps, complete_keeps, fail_keeps}
 use Rattle.mq_core.proofs.StateEvents.{draw_keeps, clear_keeps, acknowledge_keeps, write_home_keeps, home_done_keeps}

@@ -5,16 +5,16 @@ use Rattle.mq_blocks.specs.Descriptor.{Descriptor, descriptor_bytes}
 use Rattle.mq_blocks.specs.Drive.{depth}
 use Rattle.mq_blocks.specs.Geometry.{area_lba}
 use Rattle.mq_blocks.specs.Journal.{Shown, Says, IsChain, IsQueueChain, AreWhole, IsPrefix, Has, shown, number_limit}
-use Rattle.mq_core.specs.History.{writes, upto, of_queue, all_of, part_of, AreNumbered, IsAt}
-use Rattle.mq_core.specs.Items.{Entries, item_at, commit_item, said_of, end_of, next, number_before, place_before, IsEnd, below, descriptor_for}
-use Rattle.mq_core.specs.Known.{Known, front}
-use Rattle.mq_core.specs.Sides.{flushed_at}
-use Rattle.mq_core.specs.State.{State, Facts, IsPostedOnce, Recovers, AreImages, IsSafe, is_done, port_at, from_at, known_of, front_of}
-use Rattle.mq_core.specs.declared.tx.Tx.{Tx}
-use Rattle.mq_core.proofs.Values.{at_most, at_same, last_upto_bound, numbered-upto}
-use Rattle.mq_core.proofs.Entries.{item_at-in, item_at-below, item-commit}
+use Rattle.mq_ledger.specs.History.{writes, upto, of_queue, all_of, part_of, AreNumbered, IsAt}
+use Rattle.mq_ledger.specs.Items.{Entries, item_at, commit_item, said_of, end_of, next, number_before, place_before, IsEnd, below, descriptor_for}
+use Rattle.mq_ledger.specs.Known.{Known, front}
+use Rattle.mq_ledger.specs.Sides.{flushed_at}
+use Rattle.mq_ledger.specs.State.{State, Facts, IsPostedOnce, Recovers, AreImages, IsSafe, is_done, port_at, from_at, known_of, front_of}
+use Rattle.mq_ledger.specs.declared.tx.Tx.{Tx}
+use Rattle.mq_ledger.proofs.Values.{at_most, at_same, last_upto_bound, numbered-upto}
+use Rattle.mq_ledger.proofs.Entries.{item_at-in, item_at-below, item-commit}
+use Rattle.mq_ledger.proofs.Queues.{IsFalling, IsFalling-of, IsFalling-below, at_own, FromQueue-of, at_in_below, at_from_below, next_above}
 use Rattle.mq_core.proofs.Fronts.{part-all, part-less, part_le, part_is, part_all, part_stops, all_of_at}
-use Rattle.mq_core.proofs.Queues.{IsFalling, IsFalling-of, IsFalling-below, at_own, FromQueue-of, at_in_below, at_from_below, next_above}
 use Rattle.mq_core.proofs.SideCommands.{posted_late}
 use Rattle.mq_core.proofs.Sources.{from_of, number-from, direct_in, late, clash}
 use Rattle.mq_core.proofs.Goodness.{good_of}
@@ -339,7 +339,7 @@ module _ (e : Entries) (s : State) (i : Shown) (f : Facts e s) (cut : IsCut e s 
         least = omega (arith, row.1, more);
         most = omega (arith, row.1, part_le (is_whole s i) s.history);
         stand = λ x v inside there.
-            let there' = subst (λ h. Rattle.mq_core.specs.History.map_after (Rattle.mq_core.specs.State.start_map s.start) h x ≡ Some v) (ap (λ n. upto n s.history) row.1 ∙ upto_is) there in
+            let there' = subst (λ h. Rattle.mq_ledger.specs.History.map_after (Rattle.mq_ledger.specs.State.start_map s.start) h x ≡ Some v) (ap (λ n. upto n s.history) row.1 ∙ upto_is) there in
             stand_of e s i f cut part x v inside numbered sub_of upto_is reach (omega (arith, more, last_upto_bound s.base (front_of s) s.history x f.log.numbers front_base)) there';
       }
 

@@ -1,19 +1,23 @@
 -- The front is brought forward one by one.
-use Rattle.std.proofs.Common.{set, ◌≡◌, ℕ, ◌+◌, ◌<◌, ◌≤◌, Bool, true, List, [], ◌∷◌, length, sym, refl, ◌∙◌, inl, inr, arith}
+use Rattle.std.proofs.Common.{set, ◌≡◌, ℕ, ◌+◌, ◌<◌, ◌≤◌, leb, Bool, true, List, [], ◌∷◌, length, get_or, sym, refl, ap, ◌∙◌, inl, inr, arith}
+use Rattle.std.specs.Bool.{IsTrue}
 use Rattle.std.proofs.lemmas.Bool.{cases_order, cases_lt, false≢true}
+use Rattle.std.proofs.lemmas.List.{get_or_read}
 use Rattle.mq_blocks.specs.Drive.{PortState, after_flush}
+use Rattle.mq_ledger.specs.History.{writes, of_queue, AreNumbered, IsAt, part_of}
+use Rattle.mq_ledger.specs.Items.{end_of}
+use Rattle.mq_ledger.specs.Plain.{plain}
+use Rattle.mq_ledger.specs.Records.{Ledger, IsNextEnd, settle_next}
+use Rattle.mq_ledger.specs.State.{State, Facts, is_done, from_at, port_at, no_port, front_of, known_of}
+use Rattle.mq_ledger.specs.declared.lanes.QueueEnd.{QueueEnd}
+use Rattle.mq_ledger.specs.declared.tx.Tx.{Tx}
+use Rattle.mq_ledger.proofs.Values.{at_most, at_same}
 use Rattle.mq_core.specs.Events.{flush, us_of}
-use Rattle.mq_core.specs.History.{AreNumbered, IsAt, part_of}
-use Rattle.mq_core.specs.Plain.{plain}
-use Rattle.mq_core.specs.Records.{Ledger, IsNextDone, settle_next}
-use Rattle.mq_core.specs.Settled.{IsSettled, with_front, settled}
-use Rattle.mq_core.specs.State.{State, Facts, is_done, port_at, front_of, known_of}
+use Rattle.mq_core.specs.Settled.{IsNextDone, IsSettled, with_front, settled}
 use Rattle.mq_core.specs.View.{IsHeld, state_with}
-use Rattle.mq_core.specs.declared.tx.Tx.{Tx}
 use Rattle.mq_core.proofs.Fronts.{part_le, part_stops, done_below}
 use Rattle.mq_core.proofs.SideEvents.{side_flush}
 use Rattle.mq_core.proofs.StatePorts.{flush_keeps, port_front}
-use Rattle.mq_core.proofs.Values.{at_most, at_same}
 
 -- the transaction of a number
 pub record Numbered (n : ℕ) (h : List Tx) : Type 0 where
@@ -43,6 +47,32 @@ front_found base front w h n low high below stops = elim (cases_order front (bas
       let is = r.is in
       absurd (false≢true (sym (part_stops base w r.t r.ts h n r.at is) ∙ below r.t r.ts r.at (omega arith)))
 ]
+
+-- ---- whether the next is done
+
+pub none_next : (l : Ledger) (ports : List PortState) → AreNumbered l.base l.history → l.base + length l.history ≤ l.front → IsNextDone l ports → ⊥
+none_next l ports numbers high d =
+    let k = at_most l.base d.tx d.before l.history numbers d.stands in
+    let n = d.number in
+    absurd (omega arith)
+
+module _ (l : Ledger) (ports : List PortState) (n : QueueEnd) (e : IsNextEnd l n) (full : length ports ≡ l.geometry.queues) (q count : ℕ) (here : q ≡ n.queue) (end : count ≡ n.count) (p : PortState) (read : p ≡ get_or ports q p) (head : ℕ) (is : head ≡ p.head) where
+  next_test : leb count head ≡ is_done l.froms ports e.tx e.before
+  next_test =
+      let inside : q < length ports = (let within = e.within in omega arith) in
+      let port : p ≡ port_at ports e.tx.queue = get_or_read ports q p inside read no_port ∙ ap (port_at ports) (here ∙ e.queue) in
+      let there : head ≡ (port_at ports e.tx.queue).head = is ∙ ap (λ (v : PortState). v.head) port in
+      ap (λ (c : ℕ). leb c head) (end ∙ e.count) ∙ ap (leb (end_of (from_at l.froms e.tx.queue) (of_queue e.tx.queue e.before) + (writes e.tx + 1))) there
+
+  pub next_done : AreNumbered l.base l.history → (IsTrue (leb count head) → IsNextDone l ports) × (IsNextDone l ports → IsTrue (leb count head))
+  next_done numbers = (
+    λ t. record { tx = e.tx; before = e.before; stands = e.stands; number = e.number; done = sym next_test ∙ t },
+    λ d.
+        let one = at_same l.base e.tx d.tx e.before d.before l.history numbers e.stands d.stands (e.number ∙ sym d.number) in
+        let tx : e.tx ≡ d.tx = cc in
+        let before : e.before ≡ d.before = cc in
+        next_test ∙ ap (λ (t : Tx). is_done l.froms ports t e.before) tx ∙ ap (is_done l.froms ports d.tx) before ∙ d.done,
+  )
 
 -- one more that is done
 pub settled_next : (l : Ledger) (ports : List PortState) → IsSettled l ports → IsNextDone l ports → IsSettled (settle_next l) ports

@@ -6,13 +6,13 @@ use Rattle.std.specs.List.{remove}
 use Rattle.mq_blocks.specs.Drive.{PortState, IsFlushed, IsApartFrom, index_of, staged_end, after_ring, depth}
 use Rattle.mq_blocks.specs.Geometry.{zone_of}
 use Rattle.mq_blocks.specs.declared.command.Command.{Command}
-use Rattle.mq_core.specs.History.{last, upto, map_after}
-use Rattle.mq_core.specs.Items.{Item, Target, AtPlace, AtHome, command_of, lba_of, end_of, item_at, IsEnd}
-use Rattle.mq_core.specs.Known.{Known, LogOk, front}
-use Rattle.mq_core.specs.Sides.{Certainly, IsDone, SideOk, home_index, place_index, holds_count}
+use Rattle.mq_ledger.specs.History.{last, upto, map_after}
+use Rattle.mq_ledger.specs.Items.{Item, Target, AtPlace, AtHome, command_of, lba_of, end_of, item_at, IsEnd}
+use Rattle.mq_ledger.specs.Known.{Known, LogOk, front}
+use Rattle.mq_ledger.specs.Sides.{Certainly, IsDone, SideOk, home_index, place_index, holds_count}
+use Rattle.mq_ledger.specs.declared.tx.Tx.{Tx}
+use Rattle.mq_ledger.proofs.Entries.{below-at, places_apart}
 use Rattle.mq_core.specs.Events.{MayRing, MayEnd, index_with, command_with, complete_side, fail_side}
-use Rattle.mq_core.specs.declared.tx.Tx.{Tx}
-use Rattle.mq_core.proofs.Entries.{below-at, places_apart}
 use Rattle.mq_core.proofs.Commands.{count-with, own_with, own_remove, own_append, counted_remove, counted_next, counted_append, count_range, from_append, left_out, taken_out, held_append, held_remove, next_holds, apart_own}
 use Rattle.mq_core.proofs.Ports.{index-place, index-zone, zone-apart, certainly_ring, certainly_complete, certainly_fail, certainly_new}
 use Rattle.mq_core.proofs.Sources.{DirectIn, direct_in, direct-zone, unneeded, clash}

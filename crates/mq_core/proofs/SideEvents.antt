@@ -4,11 +4,11 @@ use Rattle.std.proofs.lemmas.Bool.{cases_eq}
 use Rattle.std.proofs.lemmas.List.{length-set, get_or-set_same, get_or-set_other, length-append}
 use Rattle.mq_blocks.specs.Drive.{PortState, IsFlushed, index_of, staged_end, after_flush, after_store_head, depth}
 use Rattle.mq_blocks.specs.declared.command.Command.{Command}
-use Rattle.mq_core.specs.Items.{Item, said_of, command_of, item_at}
-use Rattle.mq_core.specs.Known.{Known, LogOk}
-use Rattle.mq_core.specs.Sides.{Certainly, IsRing, IsDone, IsArea, SideOk, flushed_at, staged_at}
+use Rattle.mq_ledger.specs.Items.{Item, said_of, command_of, item_at}
+use Rattle.mq_ledger.specs.Known.{Known, LogOk}
+use Rattle.mq_ledger.specs.Sides.{Certainly, IsRing, IsDone, IsArea, SideOk, flushed_at, staged_at}
+use Rattle.mq_ledger.specs.declared.tx.Tx.{Tx}
 use Rattle.mq_core.specs.Events.{stage_side, MayStage, MayStoreHead}
-use Rattle.mq_core.specs.declared.tx.Tx.{Tx}
 use Rattle.mq_core.proofs.Commands.{own_append, next_append, counted_from}
 use Rattle.mq_core.proofs.Ports.{certainly_along}
 use Rattle.mq_core.proofs.Sources.{from_of, may-say}

@@ -7,13 +7,13 @@ use Rattle.mq_blocks.specs.Drive.{PortState}
 use Rattle.mq_blocks.specs.Geometry.{homes_of, zone_of}
 use Rattle.mq_blocks.specs.Journal.{is_among}
 use Rattle.mq_blocks.specs.Machine.{Map, Writes}
-use Rattle.mq_core.specs.History.{blocks_of, writes, map_after, last, upto, of_queue, AreNumbered, IsAt, IsPart}
-use Rattle.mq_core.specs.Items.{Item, Target, AtPlace, AtHome, MaySay, write_at, item_at, item_of, total, end_of, said_of, lba_of}
-use Rattle.mq_core.specs.Known.{Known, LogOk, front}
-use Rattle.mq_core.specs.Sides.{SideOk}
-use Rattle.mq_core.specs.declared.tx.Tx.{Tx}
-use Rattle.mq_core.proofs.Values.{at_same, at_numbered, at_below, at_most, last_at, upto_number, free_at, changes_direct, written_among, map_written, write_of-append}
-use Rattle.mq_core.proofs.Entries.{Source-of, item_at-before, item-number, item-home}
+use Rattle.mq_ledger.specs.History.{blocks_of, writes, map_after, last, upto, of_queue, AreNumbered, IsAt, IsPart}
+use Rattle.mq_ledger.specs.Items.{Item, Target, AtPlace, AtHome, MaySay, write_at, item_at, item_of, total, end_of, said_of, lba_of}
+use Rattle.mq_ledger.specs.Known.{Known, LogOk, front}
+use Rattle.mq_ledger.specs.Sides.{SideOk}
+use Rattle.mq_ledger.specs.declared.tx.Tx.{Tx}
+use Rattle.mq_ledger.proofs.Values.{at_same, at_numbered, at_below, at_most, last_at, upto_number, free_at, changes_direct, written_among, map_written, write_of-append}
+use Rattle.mq_ledger.proofs.Entries.{Source-of, item_at-before, item-number, item-home}
 use Rattle.mq_core.proofs.Fronts.{done_below}
 use Rattle.mq_core.proofs.Ports.{row-below}
 

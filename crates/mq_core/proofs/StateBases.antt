@@ -5,14 +5,14 @@ use Rattle.mq_blocks.specs.Drive.{PortState, IsApartFrom, holds_write}
 use Rattle.mq_blocks.specs.Geometry.{homes_of, home_lba, zone_of}
 use Rattle.mq_blocks.specs.Journal.{is_among}
 use Rattle.mq_blocks.specs.Machine.{Map, write_of, or_kept}
-use Rattle.mq_core.specs.History.{blocks_of, changes, map_after, last, upto, of_queue, AreNumbered, IsAt}
-use Rattle.mq_core.specs.Items.{Entries}
-use Rattle.mq_core.specs.Known.{Known, front}
-use Rattle.mq_core.specs.Sides.{RootOk, AreHome, IsKept, home_index}
-use Rattle.mq_core.specs.State.{State, Facts, IsUnder, port_at, port_of, known_of, front_of, start_map}
+use Rattle.mq_ledger.specs.History.{blocks_of, changes, map_after, last, upto, of_queue, AreNumbered, IsAt}
+use Rattle.mq_ledger.specs.Items.{Entries}
+use Rattle.mq_ledger.specs.Known.{Known, front}
+use Rattle.mq_ledger.specs.Sides.{RootOk, AreHome, IsKept, home_index}
+use Rattle.mq_ledger.specs.State.{State, Facts, IsUnder, port_at, port_of, known_of, front_of, start_map}
+use Rattle.mq_ledger.specs.declared.tx.Tx.{Tx}
+use Rattle.mq_ledger.proofs.Values.{last-changed, last-same, last_settled, value_settled, unchanged, map_written, write_of-append, written_among}
 use Rattle.mq_core.specs.Events.{store_base, flush_base, MayStoreBase}
-use Rattle.mq_core.specs.declared.tx.Tx.{Tx}
-use Rattle.mq_core.proofs.Values.{last-changed, last-same, last_settled, value_settled, unchanged, map_written, write_of-append, written_among}
 use Rattle.mq_core.proofs.Bases.{log_based, side_based}
 use Rattle.mq_core.proofs.StateEvents.{zone-queue}
 

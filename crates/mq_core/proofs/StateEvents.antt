@@ -8,15 +8,15 @@ use Rattle.mq_blocks.specs.Geometry.{homes_of, zone_of, home_lba}
 use Rattle.mq_blocks.specs.Journal.{is_among}
 use Rattle.mq_blocks.specs.declared.command.HomeWrite.{HomeWrite}
 use Rattle.mq_blocks.specs.declared.geometry.Geometry.{Geometry}
-use Rattle.mq_core.specs.History.{blocks_of, changes, last, of_queue, IsAt}
-use Rattle.mq_core.specs.Items.{Entries}
-use Rattle.mq_core.specs.Known.{LogOk, front}
-use Rattle.mq_core.specs.Sides.{SideOk, RootOk, home_index, home_index_in}
-use Rattle.mq_core.specs.State.{State, Facts, IsUnder, port_at, port_of, from_at, known_of, front_of}
-use Rattle.mq_core.specs.Events.{with_port, us_of, draw, draw_known, clear, acknowledge, write_home, home_done, begin_home, end_home, content_at, unchanged_by, without, MayDraw, HasRoom, MayClear, MayWriteHome}
-use Rattle.mq_core.specs.declared.tx.Tx.{Tx}
-use Rattle.mq_core.proofs.Values.{last_le, last-same}
-use Rattle.mq_core.proofs.Entries.{of_queue-own, of_queue-other}
+use Rattle.mq_ledger.specs.History.{blocks_of, changes, last, of_queue, IsAt}
+use Rattle.mq_ledger.specs.Items.{Entries}
+use Rattle.mq_ledger.specs.Known.{LogOk, front, draw_known, MayDraw}
+use Rattle.mq_ledger.specs.Sides.{SideOk, RootOk, home_index, home_index_in}
+use Rattle.mq_ledger.specs.State.{State, Facts, IsUnder, port_at, port_of, from_at, known_of, front_of}
+use Rattle.mq_ledger.specs.declared.tx.Tx.{Tx}
+use Rattle.mq_ledger.proofs.Values.{last_le, last-same}
+use Rattle.mq_ledger.proofs.Entries.{of_queue-own, of_queue-other}
+use Rattle.mq_core.specs.Events.{with_port, us_of, draw, clear, acknowledge, write_home, home_done, begin_home, end_home, content_at, unchanged_by, without, HasRoom, MayClear, MayWriteHome}
 use Rattle.mq_core.proofs.Ports.{index-zone, index-root, zone-apart}
 use Rattle.mq_core.proofs.Growth.{front_drawn, side_drawn, root_drawn, log_drawn, side_extends}
 use Rattle.mq_core.proofs.Homes.{IsLoggedLast, side_written, root_written, else_begin, else_end}

@@ -5,14 +5,14 @@ use Rattle.std.proofs.lemmas.List.{length-set, get_or-set_same, get_or-set_other
 use Rattle.mq_blocks.specs.Drive.{PortState, holds_write, index_of, after_flush, after_ring, after_store_head}
 use Rattle.mq_blocks.specs.Geometry.{zone_of, home_lba}
 use Rattle.mq_blocks.specs.Journal.{is_among}
-use Rattle.mq_core.specs.History.{writes, last, of_queue}
-use Rattle.mq_core.specs.Items.{Entries, end_of}
-use Rattle.mq_core.specs.Known.{Known, front}
-use Rattle.mq_core.specs.Sides.{SideOk, home_index}
-use Rattle.mq_core.specs.State.{State, Facts, IsUnder, is_done, port_at, port_of, from_at, known_of, front_of}
+use Rattle.mq_ledger.specs.History.{writes, last, of_queue}
+use Rattle.mq_ledger.specs.Items.{Entries, end_of}
+use Rattle.mq_ledger.specs.Known.{Known, front}
+use Rattle.mq_ledger.specs.Sides.{SideOk, home_index}
+use Rattle.mq_ledger.specs.State.{State, Facts, IsUnder, is_done, port_at, port_of, from_at, known_of, front_of}
+use Rattle.mq_ledger.specs.declared.tx.Tx.{Tx}
+use Rattle.mq_ledger.proofs.Values.{last_at, changes_direct}
 use Rattle.mq_core.specs.Events.{with_port, us_of, stage, flush, ring, complete, fail_command, store_head, stage_side, complete_side, fail_side, command_with, MayStage, MayRing, MayEnd, MayStoreHead}
-use Rattle.mq_core.specs.declared.tx.Tx.{Tx}
-use Rattle.mq_core.proofs.Values.{last_at, changes_direct}
 use Rattle.mq_core.proofs.Commands.{own_with}
 use Rattle.mq_core.proofs.Sources.{late}
 use Rattle.mq_core.proofs.Fronts.{DoneMore}

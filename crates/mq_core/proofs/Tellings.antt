@@ -5,19 +5,20 @@ use Rattle.std.proofs.lemmas.List.{reverse-append, append-nil}
 use Rattle.std.proofs.lemmas.List.Elements.{filter-append}
 use Rattle.mq_blocks.specs.Drive.{PortState}
 use Rattle.mq_blocks.specs.Journal.{is_among}
-use Rattle.mq_core.specs.Events.{MayClear, HasRoom, MayDraw, us_of, draw, clear, unchanged_by, without}
-use Rattle.mq_core.specs.History.{writes, changes, last, of_queue, AreNumbered}
-use Rattle.mq_core.specs.Items.{end_of}
+use Rattle.mq_ledger.specs.Known.{MayDraw}
+use Rattle.mq_ledger.specs.History.{writes, changes, last, of_queue, AreNumbered}
+use Rattle.mq_ledger.specs.Items.{end_of}
+use Rattle.mq_ledger.specs.Plain.{plain}
+use Rattle.mq_ledger.specs.Records.{Ledger, IsClear, IsKnown, HasPlace, own}
+use Rattle.mq_ledger.specs.State.{State, front_of, known_of, from_at, port_at}
+use Rattle.mq_ledger.specs.declared.tx.Tx.{Tx}
+use Rattle.mq_ledger.proofs.Values.{last-changed, last-same, last_le}
+use Rattle.mq_core.specs.Events.{MayClear, HasRoom, us_of, draw, clear, unchanged_by, without}
 use Rattle.mq_core.specs.Machine.{Event, Draw, IsAllowed, happens}
-use Rattle.mq_core.specs.Plain.{plain}
-use Rattle.mq_core.specs.Records.{Ledger, IsClear, IsKnown, HasPlace, own}
-use Rattle.mq_core.specs.State.{State, front_of, known_of, from_at, port_at}
 use Rattle.mq_core.specs.View.{IsHeld, state_with}
-use Rattle.mq_core.specs.declared.tx.Tx.{Tx}
 use Rattle.mq_core.proofs.Growth.{front_drawn}
 use Rattle.mq_core.proofs.Lifts.{Told, idle_stays}
 use Rattle.mq_core.proofs.Runs.{keeps}
-use Rattle.mq_core.proofs.Values.{last-changed, last-same, last_le}
 
 -- an event that was allowed has happened, and left the front
 pub happened : (v : Event) (front : ℕ) (s new : State) → IsHeld front s → IsAllowed plain v s → new ≡ happens plain v s → front_of (happens plain v s) ≡ front_of s → Told v front s new (Ok tt)

@@ -5,8 +5,8 @@ use Rattle.mq_blocks.specs.Drive.{PortState, index_of}
 use Rattle.mq_blocks.specs.Geometry.{homes_of}
 use Rattle.mq_blocks.specs.declared.command.Command.{Command}
 use Rattle.mq_blocks.specs.declared.geometry.Geometry.{Geometry}
-use Rattle.mq_core.specs.History.{map_after, last, upto}
-use Rattle.mq_core.specs.State.{State, front_of, start_map}
+use Rattle.mq_ledger.specs.History.{map_after, last, upto}
+use Rattle.mq_ledger.specs.State.{State, front_of, start_map}
 
 -- the content of a block in the map after the base, where no number above it and up to the front
 -- changed the block

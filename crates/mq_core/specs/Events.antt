@@ -7,12 +7,11 @@ use Rattle.mq_blocks.specs.Geometry.{homes_of, zone_of, home_lba}
 use Rattle.mq_blocks.specs.Journal.{is_among, number_limit}
 use Rattle.mq_blocks.specs.declared.command.Command.{Command}
 use Rattle.mq_blocks.specs.declared.geometry.Geometry.{Geometry}
-use Rattle.mq_core.specs.History.{blocks_of, writes, changes, map_after, last, last_logged, upto, of_queue, IsAt}
-use Rattle.mq_core.specs.Items.{Entries, Item, said_of, lba_of, end_of, next, item_at, IsEnd}
-use Rattle.mq_core.specs.Known.{Known, IsTx, front}
-use Rattle.mq_core.specs.Sides.{IsKept, holds_count}
-use Rattle.mq_core.specs.State.{State, is_done, front_of, from_at, known_of, port_at, port_of, start_map}
-use Rattle.mq_core.specs.declared.tx.Tx.{Tx}
+use Rattle.mq_ledger.specs.History.{blocks_of, writes, changes, map_after, last, upto, of_queue, IsAt}
+use Rattle.mq_ledger.specs.Items.{Entries, Item, said_of, lba_of, end_of, next, item_at, IsEnd}
+use Rattle.mq_ledger.specs.Sides.{IsKept, holds_count}
+use Rattle.mq_ledger.specs.State.{State, is_done, front_of, from_at, known_of, port_at, port_of, start_map}
+use Rattle.mq_ledger.specs.declared.tx.Tx.{Tx}
 
 -- ---- of a queue's port, where its entries begin at `from` and are those of `us`
 
@@ -75,22 +74,6 @@ begin_home g x block p = after_begin p (home_lba g x) block
 
 abbrev pub end_home : Geometry → ℕ → List ℕ → PortState → PortState
 end_home g x block p = after_end p (home_lba g x) block
-
--- ---- of what is known
-
-abbrev pub draw_known : Tx → Known → Known
-draw_known t k = record k { history = t ∷ k.history }
-
--- The part of a draw's guard that speaks of the history: its number is the next, it frees blocks of the
--- map, its direct blocks are free and settled, and those that have a copy above the base are revoked.
-pub record MayDraw (k : Known) (t : Tx) : Type 0 where
-  pub form : IsTx k.geometry t
-  pub number : t.number ≡ k.base + length k.history + 1
-  pub limit : t.number ≤ number_limit
-  pub freed : (x : ℕ) → is_among x t.freed ≡ true → (block : List ℕ) × (map_after k.start k.history x ≡ Some block)
-  pub free : (x : ℕ) → is_among x (blocks_of t.direct) ≡ true → map_after k.start k.history x ≡ None
-  pub settled : (x : ℕ) → is_among x (blocks_of t.direct) ≡ true → last k.base k.history x ≤ front k
-  pub revoked : (x : ℕ) → is_among x (blocks_of t.direct) ≡ true → k.word < last_logged k.base k.history x → is_among x t.revoked ≡ true
 
 -- The part that speaks of its queue's port: nothing that was drawn waits for the ring, no command has
 -- failed, and the entries fit into the ring and the area.

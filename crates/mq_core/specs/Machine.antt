@@ -1,14 +1,14 @@
 -- The machine: its events, where each is allowed, what each changes, and whole runs.
 use Rattle.std.specs.Prelude.{◌≡◌, ◌<◌, ◌≤◌, ℕ, zero, suc, true, List, [], ◌∷◌, slice_index_or}
 use Rattle.mq_blocks.specs.Journal.{is_among}
-use Rattle.mq_core.specs.Items.{Entries}
-use Rattle.mq_core.specs.State.{State, IsLawful, known_of, front_of, from_at, port_at}
-use Rattle.mq_core.specs.Events.{us_of, draw, stage, flush, ring, complete, fail_command, store_head, clear, acknowledge, write_home, home_done, store_base, flush_base, MayDraw, HasRoom, MayStage, MayFlush, MayRing, MayEnd, MayStoreHead, MayClear, MayWriteHome, MayStoreBase}
+use Rattle.mq_ledger.specs.Items.{Entries}
+use Rattle.mq_ledger.specs.State.{State, IsLawful, known_of, front_of, from_at, port_at}
+use Rattle.mq_ledger.specs.Known.{MayDraw}
+use Rattle.mq_core.specs.Events.{us_of, draw, stage, flush, ring, complete, fail_command, store_head, clear, acknowledge, write_home, home_done, store_base, flush_base, HasRoom, MayStage, MayFlush, MayRing, MayEnd, MayStoreHead, MayClear, MayWriteHome, MayStoreBase}
 pub use Rattle.mq_core.specs.declared.event.Event.{Event}
 use Rattle.mq_core.specs.declared.event.CoreRefusal.{CoreRefusal}
 use Rattle.mq_core.specs.declared.event.CoreRefusal.TheVariants.{NotAllowed, OutOfMemory}
 pub use Rattle.mq_core.specs.declared.event.Event.TheVariants.{Draw, Stage, Flush, Ring, Complete, FailCommand, StoreHead, FlushHead, Clear, Acknowledge, WriteHome, HomeDone, StoreBase, FlushBase}
-use Rattle.mq_core.specs.declared.tx.Tx.{Tx}
 
 abbrev pub happens : Entries → Event → State → State
 happens e (Draw t) s = draw t s
@@ -42,15 +42,6 @@ IsAllowed e (WriteHome x) s = MayWriteHome s x
 IsAllowed e (HomeDone x) s = is_among x s.under ≡ true
 IsAllowed e (StoreBase b) s = MayStoreBase e s b
 IsAllowed e FlushBase s = Unit {0}
-
--- For now nothing is written directly or revoked by a drawn transaction.
-pub record IsAllLogged (t : Tx) : Type 0 where
-  pub direct : t.direct ≡ []
-  pub revoked : t.revoked ≡ []
-
-abbrev pub IsForNow : Event → Type 0
-IsForNow (Draw t) = IsAllLogged t
-IsForNow v = Unit {0}
 
 abbrev pub run : Entries → List Event → State → State
 run e [] s = s

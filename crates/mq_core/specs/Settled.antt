@@ -1,10 +1,18 @@
 -- A history whose front is the greatest number up to which all is done.
 use Rattle.std.specs.Prelude.{◌≡◌, ◌≤◌, ℕ, ◌+◌, true, List, length}
 use Rattle.mq_blocks.specs.Drive.{PortState}
-use Rattle.mq_core.specs.History.{AreNumbered, IsAt, part_of}
-use Rattle.mq_core.specs.Records.{Ledger}
-use Rattle.mq_core.specs.State.{is_done}
-use Rattle.mq_core.specs.declared.tx.Tx.{Tx}
+use Rattle.mq_ledger.specs.History.{AreNumbered, IsAt, part_of}
+use Rattle.mq_ledger.specs.Records.{Ledger}
+use Rattle.mq_ledger.specs.State.{is_done}
+use Rattle.mq_ledger.specs.declared.tx.Tx.{Tx}
+
+-- the transaction after the front is there, and done
+pub record IsNextDone (s : Ledger) (ports : List PortState) : Type 0 where
+  pub tx : Tx
+  pub before : List Tx
+  pub stands : IsAt tx before s.history
+  pub number : tx.number ≡ s.front + 1
+  pub done : is_done s.froms ports tx before ≡ true
 
 abbrev pub with_front : ℕ → Ledger → Ledger
 with_front n l = record { geometry = l.geometry; start = l.start; base = l.base; froms = l.froms; history = l.history; front = n }

@@ -1,9 +1,9 @@
 -- The fields of a machine as its state. What is newest stands last in the code, and first in the state.
 use Rattle.std.specs.Prelude.{◌≡◌, ℕ, List, reverse}
 use Rattle.mq_blocks.specs.Drive.{PortState, staged_end}
-use Rattle.mq_core.specs.Plain.{plain}
-use Rattle.mq_core.specs.Records.{Ledger}
-use Rattle.mq_core.specs.State.{State, Facts, front_of}
+use Rattle.mq_ledger.specs.Plain.{plain}
+use Rattle.mq_ledger.specs.Records.{Ledger}
+use Rattle.mq_ledger.specs.State.{State, Facts, front_of}
 use Rattle.mq_core.specs.declared.machine.Core.TheInside.{Inside}
 
 abbrev pub state_with : Ledger → List PortState → PortState → List ℕ → List ℕ → List ℕ → State

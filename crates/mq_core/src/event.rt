@@ -2,8 +2,8 @@
 ghost use Rattle.std.specs.Prelude.{◌≡◌};
 ghost use Rattle.mq_core.specs.declared.event.CoreRefusal.TheVariants.{OutOfMemory as out_of_memory};
 
-use crate::Tx;
 use mq_blocks::{BlockNo, OutOfMemory, QueueNo, TxNo};
+use mq_ledger::Tx;
 use std::alloc::{AllocError, AllocFailed};
 
 /// One event of the machine.

@@ -2,10 +2,10 @@
 ghost use Rattle.std.specs.Prelude.{◌≡◌, ◌≤◌, ℕ, ◌^◌, Option, List, length};
 ghost use Rattle.mq_blocks.specs.Geometry.{homes_of};
 ghost use Rattle.mq_blocks.specs.declared.geometry.Geometry.{Geometry};
-ghost use Rattle.mq_core.specs.Items.{Entries};
-ghost use Rattle.mq_core.specs.Plain.{plain};
+ghost use Rattle.mq_ledger.specs.Items.{Entries};
+ghost use Rattle.mq_ledger.specs.Plain.{plain};
+ghost use Rattle.mq_ledger.specs.State.{State, IsStart};
 ghost use Rattle.mq_core.specs.Start.{start_state};
-ghost use Rattle.mq_core.specs.State.{State, IsStart};
 ghost use Rattle.mq_core.specs.Machine.{Event, AreAllowed, IsAlwaysLawful};
 
 /// Every run of allowed events from a start state is lawful before, after and between its events:

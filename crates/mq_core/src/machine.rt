@@ -6,49 +6,17 @@ mod numbers;
 mod rings;
 mod runs;
 
-ghost use Rattle.std.specs.Prelude.{◌≡◌, ◌≤◌, ◌<◌, ◌+◌, ◌^◌, IfOk, length, replicate};
+ghost use Rattle.std.specs.Prelude.{◌≡◌, ◌≤◌, ◌<◌, ◌+◌, ◌^◌, IfOk, length};
 ghost use Rattle.mq_blocks.specs.Geometry.{homes_of};
-ghost use Rattle.mq_core.specs.Plain.{plain};
+ghost use Rattle.mq_ledger.specs.Plain.{plain};
+ghost use Rattle.mq_ledger.specs.State.{IsLawful};
 ghost use Rattle.mq_core.specs.Start.{start_state, fresh_ports};
-ghost use Rattle.mq_core.specs.State.{IsLawful};
 
-use crate::records::Ledger;
-use crate::{Content, Port};
+use crate::Port;
 use mq_blocks::{BlockNo, Geometry, OutOfMemory, QueueNo, TxNo};
+use mq_ledger::{Content, Ledger, copy_blocks, repeated};
 use std::alloc::Global;
 use std::marker::Model;
-
-/// The same bytes.
-pub fn copy_content(alloc: Global, content: &Content) -> Result<Content, OutOfMemory>
-    ensures { IfOk result (λ c. c ≡ content.now) }
-{
-    Ok(Content(Vec::from_slice(alloc, &content.0)?))
-}
-
-/// Blocks with the same contents.
-pub fn copy_blocks(
-    alloc: Global,
-    blocks: &[Option<Content>],
-) -> Result<Vec<Option<Content>>, OutOfMemory>
-    ensures { IfOk result (λ v. v.items ≡ blocks.now) }
-{
-    let mut copies = Vec::new(alloc);
-    for block in blocks {
-        let copy = match block {
-            Some(content) => Some(copy_content(alloc, content)?),
-            None => None,
-        };
-        copies.push(copy)?;
-    }
-    Ok(copies)
-}
-
-/// A number so many times.
-pub fn repeated(alloc: Global, number: u64, times: usize) -> Result<Vec<u64>, OutOfMemory>
-    ensures { IfOk result (λ v. v.items ≡ replicate times number) }
-{
-    Ok(vec![in alloc; number; times]?)
-}
 
 /// The journal as a pure machine, always in a lawful state.
 #[derive(Drop)]
@@ -62,7 +30,7 @@ pub struct Core {
 }
 
 impl Model for Core {
-    ghost use Rattle.mq_core.specs.State.{State};
+    ghost use Rattle.mq_ledger.specs.State.{State};
     ghost use Rattle.mq_core.specs.View.{state_of, HasFacts};
 
     ghost Value = { State };

@@ -4,37 +4,19 @@ ghost use Rattle.std.specs.List.{remove};
 ghost use Rattle.std.specs.Bool.{OnTrue, OnFalse};
 ghost use Rattle.mq_blocks.specs.Drive.{PortState, AreFrom, counted, staged_end, after_stage, after_flush, after_ring, after_begin, after_write, after_end, without_last, after_store_head, after_store_base, index_of};
 ghost use Rattle.mq_blocks.specs.Blocks.{zeros, content};
+ghost use Rattle.mq_ledger.specs.Sides.{holds_count};
 ghost use Rattle.mq_core.specs.Bases.{Holds};
 ghost use Rattle.mq_core.specs.Answers.{Answers, IsStagedTo, IsFlushedTo, IsCompletedTo};
 ghost use Rattle.mq_core.specs.Events.{MayEnd, index_with, command_with, complete_side, fail_side};
-ghost use Rattle.mq_core.specs.Sides.{holds_count};
 ghost use Rattle.mq_core.specs.Within.{IsWithin};
 ghost use Rattle.mq_blocks.specs.Geometry.{queues_of};
 ghost use Rattle.mq_core.specs.Start.{port_over};
 
-use crate::{Content, CoreRefusal};
+use crate::CoreRefusal;
 use mq_blocks::{Geometry, Lba, OutOfMemory, QueueNo, TxNo};
+use mq_ledger::{Content, Entry};
 use std::alloc::Global;
 use std::marker::Model;
-
-/// What an entry says: its transaction's number, the Lba that it writes, and whether it is the
-/// transaction's last.
-#[derive(Clone, Copy)]
-pub struct Entry {
-    pub number: u64,
-    pub lba: u64,
-    pub commit: bool,
-}
-
-impl Model for Entry {
-    ghost use Rattle.std.specs.Prelude.{ℕ, ◌<◌, ◌^◌, ◌==◌, List, [], ◌∷◌, slice_index, if◌then◌else◌};
-
-    ghost Value = { List ℕ };
-
-    ghost view = { λ e. e.number ∷ e.lba ∷ (if e.commit then 1 else 0) ∷ [] };
-
-    ghost inverse = { λ l. record { number = slice_index l 0; lba = slice_index l 1; commit = slice_index l 2 == 1 } };
-}
 
 /// A write command of a queue.
 #[derive(Drop)]

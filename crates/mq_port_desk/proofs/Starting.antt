@@ -4,10 +4,10 @@ use Rattle.std.proofs.lemmas.Bool.{or_cases, or_left, eqb-true, false≢true}
 use Rattle.std.specs.Prelude.{slice_get}
 use lib.ListN.{length-map}
 use Rattle.mq_blocks.specs.Drive.{PortState}
-use Rattle.mq_core.specs.Known.{Known, LogOk}
-use Rattle.mq_core.specs.Plain.{plain}
-use Rattle.mq_core.specs.Sides.{SideOk, AreHome}
-use Rattle.mq_core.specs.State.{State, Facts, known_of, no_port}
+use Rattle.mq_ledger.specs.Known.{Known, LogOk}
+use Rattle.mq_ledger.specs.Plain.{plain}
+use Rattle.mq_ledger.specs.Sides.{SideOk, AreHome}
+use Rattle.mq_ledger.specs.State.{State, Facts, known_of, no_port}
 use Rattle.mq_core.proofs.Growth.{side_moved}
 use Rattle.mq_core.proofs.Runs.{start_facts}
 use Rattle.mq_pages.specs.declared.page.PageCell.{PageCell}

@@ -1,21 +1,21 @@
 -- A transaction of one copy, drawn by a chair that holds its page and its queue's side.
-use Rattle.std.proofs.Common.{◌≡◌, ℕ, suc, ◌+◌, ◌<◌, Bool, true, false, cond, List, [], ◌∷◌, ◌++◌, length, Some, sym, refl, ap, subst, ◌∙◌, inl, inr, arith, lit≤}
+use Rattle.std.proofs.Common.{◌≡◌, ℕ, suc, ◌+◌, ◌<◌, ◌≤◌, Bool, true, false, cond, List, [], ◌∷◌, ◌++◌, length, Some, sym, refl, ap, subst, ◌∙◌, inl, inr, arith, lit≤}
 use Rattle.std.proofs.lemmas.Bool.{cases_eq, eq-eqb, ne_eqb, eqb-true, false≢true}
 use Rattle.std.proofs.lemmas.List.Elements.{All-cons, All-nil}
 use Rattle.mq_blocks.specs.Drive.{PortState}
 use Rattle.mq_blocks.specs.Geometry.{homes_of}
 use Rattle.mq_blocks.specs.Machine.{write_of}
-use Rattle.mq_core.specs.Events.{MayDraw, draw_known}
+use Rattle.mq_ledger.specs.Known.{draw_known, Known}
+use Rattle.mq_ledger.specs.History.{writes, changes, of_queue, upto, last_logged}
+use Rattle.mq_ledger.specs.Items.{end_of, next}
+use Rattle.mq_ledger.specs.Sides.{SideOk}
+use Rattle.mq_ledger.specs.declared.tx.Tx.{Tx}
+use Rattle.mq_ledger.proofs.Values.{upto-past, last-changed, map_written}
+use Rattle.mq_ledger.proofs.Entries.{of_queue-own}
 use Rattle.mq_core.specs.Events as events
-use Rattle.mq_core.specs.History.{writes, changes, of_queue, upto, last_logged}
-use Rattle.mq_core.specs.Items.{end_of, next}
-use Rattle.mq_core.specs.Known.{Known}
-use Rattle.mq_core.specs.Sides.{SideOk}
-use Rattle.mq_core.specs.declared.tx.Tx.{Tx}
-use Rattle.mq_core.proofs.Values.{upto-past, last-changed, map_written}
-use Rattle.mq_core.proofs.Entries.{of_queue-own}
 use Rattle.mq_core.proofs.Growth.{front_low, side_drawn, side_extends}
 use Rattle.mq_pages.specs.declared.page.PageCell.{PageCell}
+use Rattle.mq_turns.specs.Chairs.{holding}
 use Rattle.mq_turns.specs.Desk.{IsTurn, slot_of, turn_at, Covers, Sees, Stands, Stay, after_draw, refreshed}
 use Rattle.mq_turns.specs.Lists.{Each, times, tick}
 use Rattle.mq_turns.specs.Meaning.{newest, drawn}
@@ -30,7 +30,7 @@ use Rattle.mq_turns.proofs.Totals.{hit}
 use Rattle.mq_port_desk.specs.Laws.{unclaimed, length_history}
 use Rattle.mq_port_desk.specs.Machine.{tx_of, side_of, root_of, shape_of, ports}
 use Rattle.mq_port_desk.specs.Ports
-use Rattle.mq_port_desk.specs.Room.{HasRoom}
+use Rattle.mq_port_desk.specs.Room.{HasRoom, WasFull}
 use Rattle.mq_port_desk.specs.declared.machine.Commit.{Commit}
 use Rattle.mq_port_desk.specs.declared.machine.QueuePort.{QueuePort}
 use Rattle.mq_port_desk.specs.declared.machine.RootPort.{RootPort}
@@ -63,6 +63,20 @@ module _ {P : Type 0} (state : P → PortState) where
 
   abbrev hist : ℕ → List Commit → List Tx
   hist = Ports.history (side_of state) (root_of state) shape_of tx_of
+
+  -- what is seen with one turn more in hand was to be seen before
+  sees_before : (k : ℕ) (K1 K : Shown) (v : View PageCell (QueuePort P) (RootPort P) Commit) → Sees μ (holding k K1 v) K → Sees μ v K
+  sees_before k K1 K v s = record { opening = s.opening; ok = s.ok; held = s.held.1; seen = s.seen; drew = s.drew }
+
+  -- a side that stands below what is drawn on it, and has no room, was full
+  pub was_full : (q k : ℕ) (K1 K : Shown) (v u : View PageCell (QueuePort P) (RootPort P) Commit) (w : QueuePort P) → u ≡ holding k K1 v → Sees μ u K → μ.side q K w → (w.low ≤ w.end → HasRoom (side_of state w) → ⊥) → WasFull state q v
+  was_full q k K1 K v u w took sees stands full = record {
+    known = K;
+    side = w;
+    sees = sees_before k K1 K v (subst (λ x. Sees μ x K) took sees);
+    stands = stands;
+    full = let low = stands.low in let end = stands.end in let a = stands.port.order.stored in let b = stands.port.order.rung in let c = stands.port.order.flushed in let d = stands.port.order.staged in let e = stands.port.order.drawn in full (omega arith);
+  }
 
   may_draw : (e : Commit) (K : Shown) → e.block < homes_of K.opening.root.geometry → e.queue < K.opening.root.geometry.queues → length e.content ≡ 4096 → newest K < 9223372036854775808 → μ.may e K
   may_draw e K block queue whole few =

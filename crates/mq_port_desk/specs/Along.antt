@@ -5,15 +5,15 @@ use Rattle.mq_blocks.specs.Drive.{PortState}
 use Rattle.mq_blocks.specs.Geometry.{zone_of}
 use Rattle.mq_blocks.specs.Journal.{is_among}
 use Rattle.mq_blocks.specs.Machine.{Map, Writes, write_of}
-use Rattle.mq_core.specs.History.{blocks_of, writes, changes, map_after, last, last_logged, upto, of_queue, part_of, all_of, AreNumbered, IsAt}
-use Rattle.mq_core.specs.Items.{end_of}
-use Rattle.mq_core.specs.Known.{Known, LogOk, front}
-use Rattle.mq_core.specs.Sides.{AreHome, SideOk, RootOk}
-use Rattle.mq_core.specs.declared.tx.Tx.{Tx}
-use Rattle.mq_core.proofs.Values.{upto-past, last_upto_more, last-same, unchanged, unwritten, changes_logged, changes_direct}
-use Rattle.mq_core.proofs.Entries.{of_queue-other}
+use Rattle.mq_ledger.specs.History.{blocks_of, writes, changes, map_after, last, last_logged, upto, of_queue, part_of, all_of, AreNumbered, IsAt}
+use Rattle.mq_ledger.specs.Items.{end_of}
+use Rattle.mq_ledger.specs.Known.{Known, LogOk, front}
+use Rattle.mq_ledger.specs.Sides.{AreHome, SideOk, RootOk}
+use Rattle.mq_ledger.specs.declared.tx.Tx.{Tx}
+use Rattle.mq_ledger.proofs.Values.{upto-past, last_upto_more, last-same, unchanged, unwritten, changes_logged, changes_direct}
+use Rattle.mq_ledger.proofs.Entries.{of_queue-other}
+use Rattle.mq_ledger.proofs.Queues.{FromQueue-of}
 use Rattle.mq_core.proofs.Fronts.{part-all, part-less, part_le, part_more, DoneMore, done_below}
-use Rattle.mq_core.proofs.Queues.{FromQueue-of}
 use Rattle.mq_core.proofs.Bases.{next_upto_more, total_upto_more, covered}
 use Rattle.mq_core.proofs.Growth.{front_low, moved_to, side_moved}
 use Rattle.mq_port_desk.specs.Ports.{last_direct}

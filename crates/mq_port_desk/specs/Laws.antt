@@ -4,12 +4,12 @@ use Rattle.std.proofs.lemmas.Bool.{cases_Bool, eq-eqb, ne_eqb, eqb-true, leb-tru
 use Rattle.mq_blocks.specs.Drive.{PortState}
 use Rattle.mq_blocks.specs.Geometry.{zone_of}
 use Rattle.mq_blocks.specs.declared.geometry.Geometry.{Geometry}
-use Rattle.mq_core.specs.History.{changes, of_queue, upto}
-use Rattle.mq_core.specs.Items.{end_of, next}
-use Rattle.mq_core.specs.Known.{Known, LogOk}
-use Rattle.mq_core.specs.Plain.{plain}
-use Rattle.mq_core.specs.Sides.{SideOk, RootOk}
-use Rattle.mq_core.specs.declared.tx.Tx.{Tx}
+use Rattle.mq_ledger.specs.History.{changes, of_queue, upto}
+use Rattle.mq_ledger.specs.Items.{end_of, next}
+use Rattle.mq_ledger.specs.Known.{Known, LogOk}
+use Rattle.mq_ledger.specs.Plain.{plain}
+use Rattle.mq_ledger.specs.Sides.{SideOk, RootOk}
+use Rattle.mq_ledger.specs.declared.tx.Tx.{Tx}
 use Rattle.mq_core.proofs.Bases.{next_upto_more}
 use Rattle.mq_core.proofs.Fronts.{DoneMore}
 use Rattle.mq_core.proofs.Growth.{log_drawn}
@@ -155,9 +155,9 @@ module _ {Q R E : Type 0} (side : Q → SideView) (root : R → PortState) (geom
       let r = same_block (start_of side root geometry tx K.opening) K.opening.base b (newer (Page b) K L s) (hist K.opening.base K.log) (apart_page b K.opening.base s.grows.newer K.log s.apart) in
       let home : last_ended L.opening.base L.ended b ≡ last_ended K.opening.base K.ended b = (λ i. last_ended (o i).base (s.grows.ended i) b) ∙ last_ended_apart K.opening.base b s.grows.written K.ended (each_map _ _ (λ h n. not_block b h n) s.grows.written s.ended) in
       record {
-        content = p.content ∙ (sym r.content ∙ (λ i. Rattle.mq_core.specs.History.map_after (start_of side root geometry tx (sym o i)) (sym h i) b));
-        version = p.version ∙ (sym r.version ∙ (λ i. Rattle.mq_core.specs.History.last (sym o i).base (sym h i) b));
-        last_logged = p.last_logged ∙ (sym r.logged ∙ (λ i. Rattle.mq_core.specs.History.last_logged (sym o i).base (sym h i) b));
+        content = p.content ∙ (sym r.content ∙ (λ i. Rattle.mq_ledger.specs.History.map_after (start_of side root geometry tx (sym o i)) (sym h i) b));
+        version = p.version ∙ (sym r.version ∙ (λ i. Rattle.mq_ledger.specs.History.last (sym o i).base (sym h i) b));
+        last_logged = p.last_logged ∙ (sym r.logged ∙ (λ i. Rattle.mq_ledger.specs.History.last_logged (sym o i).base (sym h i) b));
         home_version =
             let direct : last_direct L.opening.base (hist L.opening.base L.log) b ≡ last_direct K.opening.base (hist K.opening.base K.log) b = (λ i. last_direct (o i).base (h i) b) ∙ r.direct in
             p.home_version ∙ (λ i. max (sym direct i) (sym home i));

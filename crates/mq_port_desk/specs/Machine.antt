@@ -2,7 +2,7 @@
 use Rattle.std.specs.Prelude.{[], ◌∷◌}
 use Rattle.mq_blocks.specs.Drive.{PortState}
 use Rattle.mq_blocks.specs.declared.geometry.Geometry.{Geometry}
-use Rattle.mq_core.specs.declared.tx.Tx.{Tx}
+use Rattle.mq_ledger.specs.declared.tx.Tx.{Tx}
 use Rattle.mq_pages.specs.declared.page.PageCell.{PageCell}
 use Rattle.mq_turns.specs.Meaning.{Meaning}
 use Rattle.mq_port_desk.specs.Ports

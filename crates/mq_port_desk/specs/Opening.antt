@@ -1,8 +1,8 @@
 -- A desk over the ports of a journal in which nothing was drawn.
 use Rattle.std.specs.Prelude.{◌≡◌, ◌≤◌, ◌-◌, ◌^◌, ℕ, [], map, slice_get, Some}
 use Rattle.mq_blocks.specs.Drive.{PortState}
-use Rattle.mq_core.specs.Plain.{plain}
-use Rattle.mq_core.specs.State.{State, IsStart}
+use Rattle.mq_ledger.specs.Plain.{plain}
+use Rattle.mq_ledger.specs.State.{State, IsStart}
 use Rattle.mq_pages.specs.declared.page.PageCell.{PageCell}
 use Rattle.mq_turns.specs.declared.rule.Opening.{Opening}
 use Rattle.mq_port_desk.specs.declared.machine.QueuePort.{QueuePort}

@@ -1,6 +1,15 @@
 -- Room on a side.
-use Rattle.std.specs.Prelude.{◌≡◌, ◌<◌, ◌≤◌, ◌+◌, ◌^◌, true}
-use Rattle.mq_port_desk.specs.Ports.{SideView}
+use Rattle.std.specs.Prelude.{◌≡◌, ◌<◌, ◌≤◌, ◌+◌, ◌^◌, ℕ, true}
+use Rattle.mq_blocks.specs.Drive.{PortState}
+use Rattle.mq_pages.specs.declared.page.PageCell.{PageCell}
+use Rattle.mq_turns.specs.Desk.{Sees}
+use Rattle.mq_turns.specs.declared.rule.Known.{Known}
+use Rattle.mq_turns.specs.declared.rule.View.{View}
+use Rattle.mq_port_desk.specs.Machine.{side_of, root_of, shape_of, tx_of, ports}
+use Rattle.mq_port_desk.specs.Ports.{SideView, IsSide}
+use Rattle.mq_port_desk.specs.declared.machine.Commit.{Commit}
+use Rattle.mq_port_desk.specs.declared.machine.QueuePort.{QueuePort}
+use Rattle.mq_port_desk.specs.declared.machine.RootPort.{RootPort}
 
 -- all that was drawn is rung, no command has failed, and ring and area have room for a copy and a descriptor
 pub record HasRoom (w : SideView) : Type 0 where
@@ -10,3 +19,11 @@ pub record HasRoom (w : SideView) : Type 0 where
   pub area : w.place + 2 ≤ w.floor + w.area
   pub places : w.place + 2 < 2 ^ 62
   pub limit : w.end ≤ 2 ^ 62
+
+-- Of all that this chair could know, something is so that what lay on the desk as the queue's side has no room.
+pub record WasFull {P : Type 0} (state : P → PortState) (q : ℕ) (v : View PageCell (QueuePort P) (RootPort P) Commit) : Type 0 where
+  pub known : Known PageCell (QueuePort P) (RootPort P) Commit
+  pub side : QueuePort P
+  pub sees : Sees (ports state) v known
+  pub stands : IsSide (side_of state) (root_of state) shape_of tx_of q known side
+  pub full : HasRoom (side_of state side) → ⊥

@@ -1,10 +1,10 @@
 // A call on a desk over ports.
-ghost use Rattle.std.specs.Prelude.{◌≡◌, ℕ, suc, ◌+◌, ◌<◌, ◌≤◌, [], ◌∷◌, true, IfSome, IfNone, length};
+ghost use Rattle.std.specs.Prelude.{◌≡◌, ℕ, suc, ◌+◌, ◌<◌, ◌≤◌, [], ◌∷◌, true, false, IfSome, IfNone, length};
 ghost use Rattle.mq_blocks.specs.Geometry.{homes_of};
 ghost use Rattle.mq_turns.specs.AtDesk.{AtDesk, view, start_of, chairs_of};
 ghost use Rattle.mq_turns.specs.Desk.{Follows, allotment};
 ghost use Rattle.mq_port_desk.specs.Machine.{side_of, ports};
-ghost use Rattle.mq_port_desk.specs.Room.{HasRoom};
+ghost use Rattle.mq_port_desk.specs.Room.{HasRoom, WasFull};
 
 use crate::machine::{Commit, PortMachine, QueuePort};
 use mq_blocks::TxNo;
@@ -16,7 +16,8 @@ use std::sync::Wait;
 impl<P: Port> QueuePort<P> {
     // Whether ring and journal area have room for a copy and its descriptor.
     fn has_room(&self) -> bool
-        ensures { result ≡ true → HasRoom (side_of P.state self.now) }
+        ensures room { result ≡ true → HasRoom (side_of P.state self.now) }
+        ensures full { result ≡ false → self.now.low ≤ self.now.end → HasRoom (side_of P.state self.now) → ⊥ }
     {
         self.sound
             && self.port.doorbell() == self.end
@@ -29,7 +30,7 @@ impl<P: Port> QueuePort<P> {
 }
 
 /// Writes a block by a transaction: takes its page and its queue's side, looks, draws, and gives both
-/// back. There is no number where the side has no room.
+/// back. There is no number where the side that it took has no room.
 pub fn write_block<P: Port + Drop, R: Wait>(
     rt: &R,
     desk: &Desk<PortMachine<P>>,
@@ -46,7 +47,7 @@ pub fn write_block<P: Port + Drop, R: Wait>(
     ensures idle { (view chair.new).held ≡ [] }
     ensures drew { IfSome result (λ n. (view chair.new).drawn ≡ (n, entry) ∷ (view chair.old).drawn) }
     ensures rest { ((view chair.new).session ≡ (view chair.old).session) × ((view chair.new).read ≡ (view chair.old).read) }
-    ensures none { IfNone result ((view chair.new).drawn ≡ (view chair.old).drawn) }
+    ensures none { IfNone result (((view chair.new).drawn ≡ (view chair.old).drawn) × WasFull P.state entry.queue (view chair.old)) }
 {
     let (block, queue) = (entry.block, entry.queue);
     let Item::Page(page) = desk.take(rt, chair, Turn::Page(block)) else {

@@ -7,7 +7,7 @@ use Rattle.std.specs.Prelude.{Result, Ok, Err, OnErr}
 use Rattle.mq_blocks.specs.Drive.{PortState, IsHome}
 use Rattle.mq_blocks.specs.Geometry.{homes_of, home_lba, zone_of}
 use Rattle.mq_blocks.specs.declared.geometry.Geometry.{Geometry}
-use Rattle.mq_core.specs.State.{no_port, port_at}
+use Rattle.mq_ledger.specs.State.{no_port, port_at}
 use Rattle.mq_drive.specs.Steps.{Fault, PowerOff, HomeError, Gains}
 use Rattle.mq_drive.specs.declared.port.Off.{Off as IsOff}
 use Rattle.mq_recover.specs.Drives.{drive, states, faults_of, ArePorts}

@@ -9,8 +9,8 @@ use Rattle.mq_blocks.specs.Geometry.{homes_of, home_lba, zone_of}
 use Rattle.mq_blocks.specs.Journal.{or_else}
 use Rattle.mq_blocks.specs.Machine.{Writes}
 use Rattle.mq_blocks.specs.declared.geometry.Geometry.{Geometry}
-use Rattle.mq_core.specs.Sides.{home_index}
-use Rattle.mq_core.specs.State.{no_port, port_at}
+use Rattle.mq_ledger.specs.Sides.{home_index}
+use Rattle.mq_ledger.specs.State.{no_port, port_at}
 use Rattle.mq_drive.specs.Start.{IsPortOf, area_size_of}
 use Rattle.mq_drive.specs.declared.role.Role.{Role}
 use Rattle.mq_recover.specs.Drives.{DriveState, IsStill}

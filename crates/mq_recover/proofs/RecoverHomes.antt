@@ -12,8 +12,8 @@ use Rattle.mq_blocks.specs.Journal.{or_else}
 use Rattle.mq_blocks.specs.Machine.{Writes, or_kept}
 use Rattle.mq_blocks.specs.declared.command.HomeWrite.{HomeWrite}
 use Rattle.mq_blocks.specs.declared.geometry.Geometry.{Geometry}
-use Rattle.mq_core.specs.Sides.{home_index}
-use Rattle.mq_core.specs.State.{port_at}
+use Rattle.mq_ledger.specs.Sides.{home_index}
+use Rattle.mq_ledger.specs.State.{port_at}
 use Rattle.mq_drive.specs.Start.{IsPortOf, area_size_of}
 use Rattle.mq_drive.specs.declared.role.Role.{Role}
 use Rattle.mq_recover.specs.Drives.{DriveState, ArePorts}

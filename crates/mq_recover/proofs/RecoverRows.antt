@@ -4,7 +4,7 @@ use Rattle.std.proofs.lemmas.List.{length-map}
 use Rattle.std.specs.Prelude.{Result, Err}
 use Rattle.mq_blocks.specs.Drive.{PortState}
 use Rattle.mq_blocks.specs.declared.geometry.Geometry.{Geometry}
-use Rattle.mq_core.specs.State.{port_at}
+use Rattle.mq_ledger.specs.State.{port_at}
 use Rattle.mq_drive.specs.Steps.{Fault, PowerOff, Gains}
 use Rattle.mq_recover.specs.Drives.{DriveState, DriveFaults, IsStill, states, faults_of}
 use Rattle.mq_recover.specs.Plans.{IsPlan}

@@ -11,8 +11,8 @@ use Rattle.mq_blocks.specs.Journal.{Shown, image_at, shown, or_else, stands}
 use Rattle.mq_blocks.specs.Machine.{Writes}
 use Rattle.mq_blocks.specs.declared.geometry.Geometry.{Geometry}
 use Rattle.mq_blocks.specs.declared.command.Command.{Command}
-use Rattle.mq_core.specs.Sides.{home_index}
-use Rattle.mq_core.specs.State.{port_at}
+use Rattle.mq_ledger.specs.Sides.{home_index}
+use Rattle.mq_ledger.specs.State.{port_at}
 use Rattle.mq_drive.specs.Start.{area_size_of}
 use Rattle.mq_recover.specs.Drives.{DriveState, IsStill, AreImages, view_over}
 use Rattle.mq_recover.specs.Recovery.{IsRead, StandsAs}

@@ -10,8 +10,8 @@ use Rattle.mq_blocks.specs.Geometry.{homes_of, home_lba, zone_of}
 use Rattle.mq_blocks.specs.Journal.{or_else, stands}
 use Rattle.mq_blocks.specs.Machine.{Writes}
 use Rattle.mq_blocks.specs.declared.geometry.Geometry.{Geometry}
-use Rattle.mq_core.specs.Sides.{home_index}
-use Rattle.mq_core.specs.State.{no_port, port_at}
+use Rattle.mq_ledger.specs.Sides.{home_index}
+use Rattle.mq_ledger.specs.State.{no_port, port_at}
 use Rattle.mq_drive.specs.Start.{IsPortOf}
 use Rattle.mq_drive.specs.declared.role.Role.TheVariants.{Queue, Root}
 use Rattle.mq_recover.specs.Drives.{DriveState, ArePorts, IsStill, AreImages, AreBoundsKept, drive, view_over}

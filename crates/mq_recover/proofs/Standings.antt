@@ -4,7 +4,7 @@ use Rattle.mq_blocks.specs.Blocks.{block_at}
 use Rattle.mq_blocks.specs.Drive.{PortState, IsApartFrom, IsCertain, index_of}
 use Rattle.mq_blocks.specs.Geometry.{homes_of, home_lba, zone_of}
 use Rattle.mq_blocks.specs.declared.geometry.Geometry.{Geometry}
-use Rattle.mq_core.specs.Sides.{home_index_in}
+use Rattle.mq_ledger.specs.Sides.{home_index_in}
 use Rattle.mq_recover.specs.Drives.{DriveState, IsStillPort, IsStill, view_over}
 use Rattle.mq_recover.specs.Plans.{IsFoundIn}
 use Rattle.mq_recover.specs.Standing.{newest_of, StandsIn}

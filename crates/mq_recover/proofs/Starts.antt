@@ -8,9 +8,9 @@ use Rattle.mq_blocks.specs.Drive.{PortState, PortImage}
 use Rattle.mq_blocks.specs.Geometry.{homes_of, zone_of}
 use Rattle.mq_blocks.specs.Journal.{IsQueueChain, number_limit}
 use Rattle.mq_blocks.specs.declared.geometry.Geometry.{Geometry}
-use Rattle.mq_core.specs.Items.{AreRead}
-use Rattle.mq_core.specs.Sides.{AreHome, home_index, home_index_in, flushed_at}
-use Rattle.mq_core.specs.State.{IsStartPort, known_of, port_at, from_at}
+use Rattle.mq_ledger.specs.Items.{AreRead}
+use Rattle.mq_ledger.specs.Sides.{AreHome, home_index, home_index_in, flushed_at}
+use Rattle.mq_ledger.specs.State.{IsStartPort, known_of, port_at, from_at}
 use Rattle.mq_recover.specs.Drives.{DriveState, IsStillPort, IsStill, view_over}
 use Rattle.mq_recover.specs.Recovery.{IsRead, IsStartDrive, started}
 use Rattle.mq_recover.specs.Written.{journal_entries}

@@ -5,7 +5,7 @@ use Rattle.std.proofs.lemmas.List.{append-nil, get_or_at, length-append, length-
 use Rattle.std.specs.Prelude.{nat_eq, if◌then◌else◌}
 use Rattle.mq_blocks.specs.Drive.{PortState, IsQuiet, after_flush, after_store_base, after_store_head}
 use Rattle.mq_blocks.specs.declared.geometry.Geometry.{Geometry}
-use Rattle.mq_core.specs.State.{no_port, port_at}
+use Rattle.mq_ledger.specs.State.{no_port, port_at}
 use Rattle.mq_drive.specs.Start.{IsPortOf}
 use Rattle.mq_drive.specs.declared.role.Role.{Role}
 use Rattle.mq_drive.specs.declared.role.Role.TheVariants.{Root}

@@ -8,8 +8,8 @@ use Rattle.mq_blocks.specs.Drive.{PortState, PortImage, IsImage, IsHome, index_o
 use Rattle.mq_blocks.specs.Geometry.{homes_of, home_lba, zone_of}
 use Rattle.mq_blocks.specs.Journal.{image_at, home_block}
 use Rattle.mq_blocks.specs.declared.geometry.Geometry.{Geometry}
-use Rattle.mq_core.specs.Sides.{IsPort, home_index, home_index_in}
-use Rattle.mq_core.specs.State.{port_at}
+use Rattle.mq_ledger.specs.Sides.{IsPort, home_index, home_index_in}
+use Rattle.mq_ledger.specs.State.{port_at}
 use Rattle.mq_drive.specs.Start.{IsPortOf, area_size_of}
 use Rattle.mq_drive.specs.declared.role.Role.{Role}
 use Rattle.mq_drive.specs.declared.role.Role.TheVariants.{Queue, Root}

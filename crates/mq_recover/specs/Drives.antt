@@ -4,7 +4,7 @@ use Rattle.mq_nvme.specs.Says.{says}
 use Rattle.mq_blocks.specs.Drive.{PortState, PortImage, IsImage, IsQuiet, image_of}
 use Rattle.mq_blocks.specs.Journal.{Shown, shown, image_at}
 use Rattle.mq_blocks.specs.declared.geometry.Geometry.{Geometry}
-use Rattle.mq_core.specs.State.{port_at}
+use Rattle.mq_ledger.specs.State.{port_at}
 use Rattle.mq_drive.specs.Start.{IsPortOf, HasWords}
 use Rattle.mq_drive.specs.Steps.{Fault}
 use Rattle.mq_drive.specs.declared.role.Role.{Role}

@@ -4,7 +4,7 @@ use Rattle.mq_blocks.specs.Drive.{PortState, IsQuiet, after_begin, after_end, af
 use Rattle.mq_blocks.specs.Geometry.{home_lba}
 use Rattle.mq_blocks.specs.Machine.{Writes, or_kept}
 use Rattle.mq_blocks.specs.declared.geometry.Geometry.{Geometry}
-use Rattle.mq_core.specs.State.{port_at}
+use Rattle.mq_ledger.specs.State.{port_at}
 use Rattle.mq_recover.specs.Drives.{DriveState, at_queue, at_root}
 use Rattle.mq_recover.specs.declared.copies.Spot.{Spot}
 use Rattle.mq_recover.specs.declared.refusal.RecoverRefusal.{RecoverRefusal}

@@ -6,7 +6,7 @@ use Rattle.mq_blocks.specs.Drive.{PortState, PortImage}
 use Rattle.mq_blocks.specs.Geometry.{homes_of}
 use Rattle.mq_blocks.specs.Journal.{Shown, shown, AreWhole, IsPrefix, IsTop, stands}
 use Rattle.mq_blocks.specs.declared.geometry.Geometry.{Geometry}
-use Rattle.mq_core.specs.State.{State, IsStart, port_at}
+use Rattle.mq_ledger.specs.State.{State, IsStart, port_at}
 use Rattle.mq_recover.specs.Drives.{DriveState, IsStill, AreImages, view_over}
 use Rattle.mq_recover.specs.Written.{journal_entries}
 

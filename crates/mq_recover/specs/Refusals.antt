@@ -17,7 +17,7 @@ use Rattle.mq_area.specs.declared.descriptor.PlaceIs.{PlaceIs}
 use Rattle.mq_area.specs.declared.descriptor.PlaceIs.TheVariants.{Index, Exact}
 use Rattle.mq_area.specs.declared.refusal.DescriptorRefusal.{DescriptorRefusal}
 use Rattle.mq_area.specs.declared.refusal.DescriptorRefusal.TheVariants as descriptor
-use Rattle.mq_core.specs.State.{port_at}
+use Rattle.mq_ledger.specs.State.{port_at}
 use Rattle.mq_recover.specs.Drives.{DriveState}
 use Rattle.mq_recover.specs.Ends.{chain_at}
 use Rattle.mq_recover.specs.Recover.{IsWithinReach, where_of}

@@ -5,7 +5,7 @@ use Rattle.mq_blocks.specs.Drive.{PortState, after_begin, after_end, after_flush
 use Rattle.mq_blocks.specs.Geometry.{homes_of, home_lba, zone_of, area_of}
 use Rattle.mq_blocks.specs.Machine.{Writes}
 use Rattle.mq_blocks.specs.declared.geometry.Geometry.{Geometry}
-use Rattle.mq_core.specs.State.{port_at}
+use Rattle.mq_ledger.specs.State.{port_at}
 use Rattle.mq_recover.specs.Drives.{DriveState, ArePorts, at_queue, at_root, view_over}
 use Rattle.mq_recover.specs.Recover.{copy_of, content_of}
 use Rattle.mq_recover.specs.RecoverHomes.{written}

@@ -2,7 +2,7 @@
 ghost use Rattle.std.specs.Prelude.{◌≡◌, ◌<◌, ◌≤◌, ℕ, OnOk, OnErr, IfErr, IsNone, length, map};
 ghost use Rattle.mq_blocks.specs.Drive.{IsHome, IsQuiet};
 ghost use Rattle.mq_blocks.specs.Geometry.{homes_of, home_lba, zone_of};
-ghost use Rattle.mq_core.specs.State.{port_at};
+ghost use Rattle.mq_ledger.specs.State.{port_at};
 ghost use Rattle.mq_drive.specs.Steps.{OffCause};
 ghost use Rattle.mq_recover.specs.Drives.{ArePorts, states, faults_of};
 ghost use Rattle.mq_recover.specs.RecoverHomes.{AreBelow, GivesHome, GivesOne, CanMove, AreCutMoves, after_raise, after_move, IsCutRaise, IsCutMove};

@@ -4,7 +4,7 @@ use Rattle.std.proofs.lemmas.Bool.{cases_lt}
 use Rattle.std.proofs.lemmas.List.{length-map, map-append, get_or_append_left, get_or_push}
 use Rattle.mq_blocks.specs.Drive.{FuseName, PortState, image_of, PortImage}
 use Rattle.mq_blocks.specs.declared.geometry.Geometry.{Geometry}
-use Rattle.mq_core.specs.State.{port_at, no_port}
+use Rattle.mq_ledger.specs.State.{port_at, no_port}
 use Rattle.mq_drive.specs.Emu.{emu_state}
 use Rattle.mq_drive.specs.Start.{HasWords, IsImageOf, start_of}
 use Rattle.mq_drive.specs.declared.emu.EmuPort.{EmuPort}

@@ -3,9 +3,9 @@ use Rattle.std.proofs.Common.{◌≡◌, ◌<◌, ℕ, ◌+◌, Bool, List, [], 
 use Rattle.std.proofs.lemmas.List.{take_more, reverse-append}
 use Rattle.mq_blocks.specs.Journal.{is_among}
 use Rattle.mq_blocks.specs.Machine.{Map, Transaction, write_of, or_kept, after}
-use Rattle.mq_core.specs.History.{change_of, map_after}
-use Rattle.mq_core.specs.declared.tx.Tx.{Tx}
-use Rattle.mq_core.proofs.Values.{write_of-append}
+use Rattle.mq_ledger.specs.History.{change_of, map_after}
+use Rattle.mq_ledger.specs.declared.tx.Tx.{Tx}
+use Rattle.mq_ledger.proofs.Values.{write_of-append}
 
 -- by the parts of the transaction
 pub after_parts : (old : Option (List ℕ)) (t : Tx) (x : ℕ) (a b : Option (List ℕ)) (f : Bool) → write_of t.logged x ≡ a → write_of t.direct x ≡ b → is_among x t.freed ≡ f

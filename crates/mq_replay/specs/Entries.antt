@@ -4,8 +4,8 @@ use Rattle.mq_blocks.specs.Descriptor.{descriptor_bytes}
 use Rattle.mq_blocks.specs.Geometry.{homes_of, queues_of, area_lba, home_lba}
 use Rattle.mq_blocks.specs.Machine.{Writes}
 use Rattle.mq_blocks.specs.declared.geometry.Geometry.{Geometry}
-use Rattle.mq_core.specs.Items.{next, number_before, place_before, descriptor_for}
-use Rattle.mq_core.specs.declared.tx.Tx.{Tx}
+use Rattle.mq_ledger.specs.Items.{next, number_before, place_before, descriptor_for}
+use Rattle.mq_ledger.specs.declared.tx.Tx.{Tx}
 use Rattle.mq_replay.specs.declared.entries.Place.{Place}
 
 -- these transactions of a queue leave this place for the next one

@@ -2,9 +2,9 @@
 ghost use Rattle.std.specs.Prelude.{◌≡◌, ◌<◌, ◌≤◌, ◌+◌, ◌++◌, ◌∷◌, ◌^◌, [], ℕ, List, All, length, IfOk, IsTrue};
 ghost use Rattle.mq_blocks.specs.Geometry.{homes_of, queues_of};
 ghost use Rattle.mq_blocks.specs.Descriptor.{descriptor_bytes};
-ghost use Rattle.mq_core.specs.History.{blocks_of};
-ghost use Rattle.mq_core.specs.Items.{descriptor_for};
-ghost use Rattle.mq_core.specs.declared.tx.Tx.{Tx as Text};
+ghost use Rattle.mq_ledger.specs.History.{blocks_of};
+ghost use Rattle.mq_ledger.specs.Items.{descriptor_for};
+ghost use Rattle.mq_ledger.specs.declared.tx.Tx.{Tx as Text};
 ghost use Rattle.mq_replay.specs.Entries.{IsAfter, MayWrite, AreWrites, copies_from, homes_from, items_of};
 
 use mq_area::{Descriptor, write_descriptor};

@@ -3,8 +3,8 @@ ghost use Rattle.std.specs.Prelude.{◌≡◌, ◌<◌, ℕ, length, reverse, If
 ghost use Rattle.std.specs.Option.{option_copied};
 ghost use Rattle.mq_blocks.specs.Journal.{is_among};
 ghost use Rattle.mq_blocks.specs.Machine.{write_of, after};
-ghost use Rattle.mq_core.specs.History.{map_after, change_of};
-ghost use Rattle.mq_core.specs.State.{start_map};
+ghost use Rattle.mq_ledger.specs.History.{map_after, change_of};
+ghost use Rattle.mq_ledger.specs.State.{start_map};
 
 use mq_blocks::{BlockNo, OutOfMemory};
 use mq_core::{Content, Tx, copy_content};

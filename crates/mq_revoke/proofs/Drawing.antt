@@ -7,11 +7,10 @@ use Rattle.std.proofs.lemmas.List.Elements.{All-contains}
 use Rattle.mq_blocks.specs.Descriptor.{AreApart}
 use Rattle.mq_blocks.specs.Geometry.{homes_of, zone_of}
 use Rattle.mq_blocks.specs.Journal.{is_among}
-use Rattle.mq_core.specs.Events.{MayDraw}
-use Rattle.mq_core.specs.History.{blocks_of, writes, map_after, last, last_logged}
-use Rattle.mq_core.specs.Known.{Known, IsTx, front}
-use Rattle.mq_core.specs.declared.tx.Tx.{Tx}
-use Rattle.mq_core.proofs.Among.{rising_within, apart_from}
+use Rattle.mq_ledger.specs.Known.{MayDraw, Known, IsTx, front}
+use Rattle.mq_ledger.specs.History.{blocks_of, writes, map_after, last, last_logged}
+use Rattle.mq_ledger.specs.declared.tx.Tx.{Tx}
+use Rattle.mq_ledger.proofs.Among.{rising_within, apart_from}
 use Rattle.mq_revoke.specs.Guard.{IsOfHistory, MeetsRest, placed_of}
 use Rattle.mq_revoke.specs.Placing.{IsDirect, AreInOrder, IsPlacement}
 use Rattle.mq_revoke.specs.declared.placement.Planned.{Planned}

@@ -5,7 +5,7 @@ use Rattle.mq_blocks.specs.Descriptor.{AreRising}
 use Rattle.mq_blocks.specs.Geometry.{homes_of}
 use Rattle.mq_blocks.specs.Journal.{is_among}
 use Rattle.mq_blocks.specs.declared.geometry.Geometry.{Geometry}
-use Rattle.mq_core.proofs.Among.{among_low, among_first, among_rest}
+use Rattle.mq_ledger.proofs.Among.{among_low, among_first, among_rest}
 use Rattle.mq_revoke.specs.Placed.{Placed}
 use Rattle.mq_revoke.specs.Placing.{IsDirect, IsCopied, AreThose, IsPlacement}
 use Rattle.mq_revoke.specs.declared.placement.Planned.{Planned}

@@ -3,9 +3,9 @@ use Rattle.std.specs.Prelude.{◌≡◌, ◌<◌, ◌≤◌, ◌↔◌, ℕ, ◌
 use Rattle.mq_blocks.specs.Descriptor.{AreRising, AreApart}
 use Rattle.mq_blocks.specs.Geometry.{homes_of}
 use Rattle.mq_blocks.specs.Journal.{is_among, number_limit}
-use Rattle.mq_core.specs.History.{blocks_of, map_after, last, last_logged}
-use Rattle.mq_core.specs.Known.{Known}
-use Rattle.mq_core.specs.declared.tx.Tx.{Tx}
+use Rattle.mq_ledger.specs.History.{blocks_of, map_after, last, last_logged}
+use Rattle.mq_ledger.specs.Known.{Known}
+use Rattle.mq_ledger.specs.declared.tx.Tx.{Tx}
 use Rattle.mq_revoke.specs.Placed.{Placed}
 use Rattle.mq_revoke.specs.declared.placement.Planned.{Planned}
 

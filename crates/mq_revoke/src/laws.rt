@@ -2,9 +2,8 @@
 ghost use Rattle.std.specs.Prelude.{◌≡◌, ℕ, ◌≤◌, List, length};
 ghost use Rattle.std.specs.List.{All};
 ghost use Rattle.mq_blocks.specs.declared.geometry.Geometry.{Geometry};
-ghost use Rattle.mq_core.specs.Events.{MayDraw};
-ghost use Rattle.mq_core.specs.Known.{Known, front};
-ghost use Rattle.mq_core.specs.declared.tx.Tx.{Tx};
+ghost use Rattle.mq_ledger.specs.Known.{MayDraw, Known, front};
+ghost use Rattle.mq_ledger.specs.declared.tx.Tx.{Tx};
 ghost use Rattle.mq_revoke.specs.Guard.{IsOfHistory, MeetsRest, placed_of};
 ghost use Rattle.mq_revoke.specs.Placed.{Placed};
 ghost use Rattle.mq_revoke.specs.Placing.{AreInOrder, IsPlacement};

@@ -62,7 +62,7 @@ blank-nodes n (suc i) = let free : IsNode free_node = record { body = refl; indi
 some-none : {X R : Type 0} (o : Option X) (x : X) → o ≡ None → o ≡ Some x → R
 some-none o x e f = absurd (cc)
 
-empty-sound : (g : Geometry) → IsSound g (empty_volume g)
+pub empty-sound : (g : Geometry) → IsSound g (empty_volume g)
 empty-sound g =
     let n = inodes_of g - 1 in
     let m = g.meta_low in

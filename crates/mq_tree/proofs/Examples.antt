@@ -1,11 +1,13 @@
 -- Requests on a small file system: one queue, 32 inodes, and a zone of 3 blocks from block 4 on.
 use Rattle.std.proofs.Common.{◌≡◌, ℕ, List, [], ◌∷◌, refl, lit≤}
-use Rattle.std.specs.Prelude.{Option, Some, None, replicate}
+use Rattle.std.specs.Prelude.{Option, Some, None, codes, replicate}
+use Rattle.std.specs.Fmt.{digits}
 use Rattle.mq_blocks.specs.declared.geometry.Geometry.{Geometry}
 use Rattle.mq_layout.specs.Names.{is_name}
 use Rattle.mq_layout.specs.Slots.{Entry}
 use Rattle.mq_tree.specs.Empty.{empty_volume}
 use Rattle.mq_tree.specs.Free.{needs, order}
+use Rattle.mq_tree.specs.ListText.{lines, list_text}
 use Rattle.mq_tree.specs.Requests.{after_group, replies, step}
 use Rattle.mq_tree.specs.Volume.{AFile, Dir, File, Volume, free_node, node, tree}
 use Rattle.mq_tree.specs.declared.request.Fault.TheVariants.{NotFound, Exists, NotDir, IsDir, BadName, Subtree, NoSpace}
@@ -13,7 +15,7 @@ use Rattle.mq_tree.specs.declared.request.Reply.TheVariants.{Ok as Done, Data, N
 use Rattle.mq_tree.specs.declared.request.Request.{Request}
 use Rattle.mq_tree.specs.declared.request.Request.TheVariants.{Mkdir, Create, Write, Truncate, Unlink, Rmdir, Rename, Read, List as ListOf, Stat}
 
-small : Geometry
+unfoldable pub small : Geometry
 small = record {
   queues = 1;
   area = 1024;
@@ -28,17 +30,17 @@ small = record {
   homes_high = lit≤ tt;
 }
 
-abbrev a : List ℕ
+abbrev pub a : List ℕ
 a = 97 ∷ []
 
-abbrev f : List ℕ
+abbrev pub f : List ℕ
 f = 102 ∷ []
 
 -- mkdir /a, create /a/f, write /a/f 0 "hi"
-abbrev first : List Request
+abbrev pub first : List Request
 first = Mkdir (a ∷ []) ∷ Create (a ∷ f ∷ []) ∷ Write (a ∷ f ∷ []) 0 (104 ∷ 105 ∷ []) ∷ []
 
-abbrev v : Volume
+abbrev pub v : Volume
 v = after_group small 0 (empty_volume small) first
 
 all-done : replies small 0 (empty_volume small) first ≡ Done ∷ Done ∷ Done ∷ []
@@ -107,3 +109,12 @@ order-own = refl
 -- the thirteenth block takes one for the pointers with it
 needs-thirteen : (needs 12 13 ≡ 2) × (needs 0 12 ≡ 12) × (needs 13 14 ≡ 1) × (needs 14 3 ≡ 0)
 needs-thirteen = (refl, refl, refl, refl)
+
+-- what lists it
+the-text : list_text v ≡ codes "d /\nd /a\nf 2 /a/f\n"
+unfolding step after_group small is_name lines digits
+the-text = refl
+
+the-empty_text : list_text (empty_volume small) ≡ codes "d /\n"
+unfolding small lines
+the-empty_text = refl

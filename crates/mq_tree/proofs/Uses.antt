@@ -17,7 +17,7 @@ among-get (x ∷ xs) (suc k) b e = elim (cases_Bool (nat_eq x b)) [
   | inr n ↦ ap (λ (c : Bool). cond c true (is_among b xs)) n ∙ among-get xs k b e
 ]
 
-use-has : (n : Node) (b : ℕ) → ((k : ℕ) × (slice_get n.blocks k ≡ Some b)) ⊎ (n.indirect ≡ Some b) → has_block n b ≡ true
+pub use-has : (n : Node) (b : ℕ) → ((k : ℕ) × (slice_get n.blocks k ≡ Some b)) ⊎ (n.indirect ≡ Some b) → has_block n b ≡ true
 use-has n b (inl (k, e)) = or_left _ _ (among-get n.blocks k b e)
 use-has n b (inr e) = or_right (is_among b n.blocks) (is_block b n.indirect) (ap (λ (o : Option ℕ). is_block b o) e ∙ eq-eqb b b refl)
 

@@ -14,7 +14,7 @@ use mq_blocks::{Block, Geometry};
 use mq_layout::Inode;
 
 /// The kind of a file.
-const FILE: u8 = 1;
+pub const FILE: u8 = 1;
 
 /// The last block of a file, where a byte past the end is not 0.
 fn bad_end(blocks: &[Option<Block>], zero: &Block, inode: &Inode) -> Option<u32>

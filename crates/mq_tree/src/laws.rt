@@ -10,8 +10,11 @@ ghost use Rattle.mq_tree.specs.Corrupt.{IsCorrupt};
 ghost use Rattle.mq_tree.specs.Decoded.{Stored, volume_in};
 ghost use Rattle.mq_tree.specs.Empty.{ArePages, empty_volume};
 ghost use Rattle.mq_tree.specs.Laid.{IsLaid, Laid, map_of};
+ghost use Rattle.mq_tree.specs.Requests.{verdict};
+ghost use Rattle.mq_tree.specs.Trees.{IsAlike};
 ghost use Rattle.mq_tree.specs.Volume.{ADir, Layout, Path, Things, Volume, tree};
 ghost use Rattle.mq_tree.specs.declared.corrupt.CorruptCause.{CorruptCause};
+ghost use Rattle.mq_tree.specs.declared.request.Request.TheVariants.{Read};
 
 /// A map has at most one volume, and so at most one tree, which lies on it in one way.
 pub fn one_tree()
@@ -32,4 +35,10 @@ pub fn clean_blocks()
     ensures clean { (g : Geometry) (s : Stored) (v : Volume) → ArePages s → IsLaid g (map_of g s) v → IsClean g s }
     ensures only { (g : Geometry) (s : Stored) (v : Volume) → IsLaid g (map_of g s) v → volume_in g s ≡ v }
     ensures corrupt { (g : Geometry) (s : Stored) (cause : CorruptCause) (b : ℕ) → IsCorrupt g s cause b → IsClean g s → ⊥ }
+{}
+
+/// Trees that are alike have the same at each path, and answer requests to read alike.
+pub fn alike_trees()
+    ensures tree { (v w : Volume) → IsAlike v w → (path : Path) → tree v path ≡ tree w path }
+    ensures reads { (g : Geometry) (q : ℕ) (v w : Volume) → IsAlike v w → (path : Path) (at count : ℕ) → verdict g q v (Read path at count) ≡ verdict g q w (Read path at count) }
 {}

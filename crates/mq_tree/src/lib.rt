@@ -3,22 +3,37 @@
 #![tactic(auto)]
 
 mod claims;
+mod contents;
 mod corrupt;
+mod directory;
 mod dirs;
 mod ends;
+mod keeps;
 mod laws;
+mod listing;
 mod marks;
-mod mount;
+mod mounts;
 mod names;
 mod path;
 mod pointers;
 mod request;
+mod slots;
 mod stored;
 mod table;
 #[cfg(test)]
 mod tests;
+mod tree;
+mod twins;
+mod walk;
 
 pub use corrupt::{CorruptCause, MountRefusal};
-pub use laws::{clean_blocks, empty_tree, one_tree};
+pub use keeps::{
+    a_group_keeps_a_volume_sound, files_are_rewritten, new_things_are_added,
+    refusals_are_those_of_the_tree, refusals_change_nothing, replies_are_those_of_the_tree,
+    things_are_removed, things_are_renamed,
+};
+pub use laws::{alike_trees, clean_blocks, empty_tree, one_tree};
+pub use mounts::mount;
 pub use path::{Bytes, Name, Names, Path};
 pub use request::{Fault, Reply, Request, changes};
+pub use tree::Tree;

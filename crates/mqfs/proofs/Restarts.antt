@@ -7,7 +7,7 @@ use Rattle.mq_blocks.specs.Drive.{FuseName, PortState, PortImage, IsImage, IsQui
 use Rattle.mq_blocks.specs.Geometry.{homes_of, home_lba, zone_of}
 use Rattle.mq_blocks.specs.Journal.{Reaches, image_at, stands}
 use Rattle.mq_blocks.specs.declared.geometry.Geometry.{Geometry}
-use Rattle.mq_core.specs.State.{port_at}
+use Rattle.mq_ledger.specs.State.{port_at}
 use Rattle.mq_drive.specs.Emu.{emu_state, emu_faults}
 use Rattle.mq_drive.specs.Start.{IsImageOf, IsPortOf, start_of}
 use Rattle.mq_drive.specs.Views.{IsStill as AreTwoStill}

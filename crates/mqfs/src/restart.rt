@@ -1,5 +1,5 @@
 // A drive of one queue that starts from what a power cut left of it, and its recovery.
-ghost use Rattle.std.specs.Prelude.{◌≡◌, ◌<◌, ◌≤◌, ◌⊎◌, ◌^◌, ℕ, List, [], ◌∷◌, length, IfOk, IfSome, OnOk, Some, None};
+ghost use Rattle.std.specs.Prelude.{◌≡◌, ◌<◌, ◌≤◌, ◌⊎◌, ◌^◌, ℕ, List, [], ◌∷◌, length, IfOk, IfSome, OnOk, Some, None, is_some};
 ghost use Rattle.mq_blocks.specs.Descriptor.{Descriptor};
 ghost use Rattle.mq_blocks.specs.Geometry.{homes_of, queues_of};
 ghost use Rattle.mq_blocks.specs.Journal.{Reaches, stands};
@@ -179,6 +179,8 @@ pub fn recover_first(
     requires root { IsImageOf geometry Root images.1 }
     requires reaches { (ds : List Descriptor) × Reaches geometry (cut_view geometry images.0 images.1) ds }
     ensures left { IfOk result (λ r. (ds : List Descriptor) → Reaches geometry (cut_view geometry images.0 images.1) ds → IsLeftOf geometry (cut_view geometry images.0 images.1) (cut_view geometry r.1.0 r.1.1) r.0 ds) }
+    ensures looked { IfOk result (λ r. is_some r.0 ≡ is_some again) }
+    ensures nothing { again ≡ None → IfOk result (λ r. r.1 ≡ images) }
     ensures queue { IfOk result (λ r. IsImageOf geometry (Queue 0) r.1.0) }
     ensures root { IfOk result (λ r. IsImageOf geometry Root r.1.1) }
 {

@@ -1,17 +1,18 @@
 // Events on the base.
 ghost use Rattle.std.specs.Prelude.{◌≡◌, ◌<◌, ◌↔◌, ℕ, IsTrue, MatchOption, Some, None};
 ghost use Rattle.mq_blocks.specs.Geometry.{homes_of, zone_of, home_lba};
+ghost use Rattle.mq_ledger.specs.Plain.{plain};
+ghost use Rattle.mq_ledger.specs.State.{port_of};
 ghost use Rattle.mq_core.specs.Answers.{Answers};
 ghost use Rattle.mq_core.specs.Bases.{due_at, is_due, home_of, writes_none, post_none, Holds};
 ghost use Rattle.mq_core.specs.Events.{MayStoreBase};
 ghost use Rattle.mq_core.specs.Machine.{IsAllowed, happens, StoreBase, FlushBase};
-ghost use Rattle.mq_core.specs.Plain.{plain};
-ghost use Rattle.mq_core.specs.State.{port_of};
 ghost use Rattle.mq_core.specs.Within.{IsWithin};
 
 use super::Core;
-use crate::{Command, Content, CoreRefusal, Port};
+use crate::{Command, CoreRefusal, Port};
 use mq_blocks::{BlockNo, Geometry, TxNo};
+use mq_ledger::Content;
 
 /// The home block that a command writes, if it writes one.
 pub fn home_block(geometry: Geometry, command: &Command) -> Option<BlockNo>

@@ -1,9 +1,20 @@
 // The number up to which all is done.
-ghost use Rattle.std.specs.Prelude.{◌≡◌, length};
-ghost use Rattle.mq_core.specs.Settled.{IsSettled, settled};
+ghost use Rattle.std.specs.Prelude.{◌≡◌, ◌↔◌, IsTrue, length};
+ghost use Rattle.mq_core.specs.Settled.{IsNextDone, IsSettled, settled};
 
 use crate::Port;
-use crate::records::Ledger;
+use mq_ledger::Ledger;
+
+/// Whether the transaction after the front is there, and the flushed head of its queue is past it.
+fn is_next_done(ledger: &Ledger, ports: &[Port]) -> bool
+    requires { length ports.now ≡ ledger.now.geometry.queues }
+    ensures { IsTrue result ↔ IsNextDone ledger.now ports.now }
+{
+    match ledger.next_end() {
+        Some(end) => end.count <= ports[end.queue.0 as usize].head(),
+        None => false,
+    }
+}
 
 /// Brings the front forward, as far as all is done.
 pub fn settle_all(ledger: &mut Ledger, ports: &[Port])
@@ -11,7 +22,7 @@ pub fn settle_all(ledger: &mut Ledger, ports: &[Port])
     requires done { IsSettled ledger.old ports.now }
     ensures { ledger.new ≡ settled ports.now ledger.old }
 {
-    while ledger.is_next_done(ports) {
+    while is_next_done(ledger, ports) {
         ledger.settle();
     }
 }

@@ -2,17 +2,18 @@
 ghost use Rattle.std.specs.Prelude.{◌≡◌, ◌↔◌, ◌<◌, ◌++◌, ◌∷◌, [], IfOk, OnOk, OnErr, IsTrue, IsSome, length, filter, not, reverse, nat_eq};
 ghost use Rattle.mq_blocks.specs.Geometry.{homes_of, zone_of, home_lba};
 ghost use Rattle.mq_blocks.specs.Journal.{is_among};
+ghost use Rattle.mq_ledger.specs.Plain.{plain};
+ghost use Rattle.mq_ledger.specs.State.{start_map};
+ghost use Rattle.mq_ledger.specs.History.{map_after};
 ghost use Rattle.mq_core.specs.Answers.{Answers};
 ghost use Rattle.mq_core.specs.Events.{MayWriteHome, begin_home, end_home, content_at};
 ghost use Rattle.mq_core.specs.Homes.{ports_after, root_after, IsIn};
 ghost use Rattle.mq_core.specs.Machine.{IsAllowed, happens, WriteHome, HomeDone};
-ghost use Rattle.mq_core.specs.Plain.{plain};
-ghost use Rattle.mq_core.specs.State.{start_map};
-ghost use Rattle.mq_core.specs.History.{map_after};
 
-use super::{Core, copy_content};
-use crate::{Content, CoreRefusal, Port};
+use super::Core;
+use crate::{CoreRefusal, Port};
 use mq_blocks::{BlockNo, Geometry, OutOfMemory};
+use mq_ledger::{Content, copy_content};
 use std::alloc::Global;
 
 /// Begins a home write of a block on its port, and counts it as under way.

@@ -1,19 +1,19 @@
 // Events on numbers: a transaction is drawn, marks move up, numbers are acknowledged.
 ghost use Rattle.std.specs.Prelude.{◌≡◌, ◌<◌, ◌≤◌, ◌↔◌, ◌+◌, ◌&&◌, length, slice_index_or, IsTrue, filter, not, nat_eq, nat_lt};
 ghost use Rattle.mq_blocks.specs.Geometry.{homes_of};
+ghost use Rattle.mq_ledger.specs.History.{last};
+ghost use Rattle.mq_ledger.specs.Known.{IsTx};
+ghost use Rattle.mq_ledger.specs.Plain.{plain};
+ghost use Rattle.mq_ledger.specs.State.{from_at, front_of, port_at};
 ghost use Rattle.mq_core.specs.Answers.{Answers};
 ghost use Rattle.mq_core.specs.Events.{HasRoom, us_of};
-ghost use Rattle.mq_core.specs.History.{last};
-ghost use Rattle.mq_core.specs.Known.{IsTx};
-ghost use Rattle.mq_core.specs.Machine.{IsAllowed, happens, Draw, Clear, Acknowledge};
-ghost use Rattle.mq_core.specs.Plain.{plain};
 ghost use Rattle.mq_blocks.specs.Journal.{is_among};
-ghost use Rattle.mq_core.specs.State.{from_at, front_of, port_at};
+ghost use Rattle.mq_core.specs.Machine.{IsAllowed, happens, Draw, Clear, Acknowledge};
 
 use super::Core;
-use crate::records::Ledger;
-use crate::{CoreRefusal, Tx};
+use crate::CoreRefusal;
 use mq_blocks::{BlockNo, QueueNo, TxNo};
+use mq_ledger::{Ledger, Tx};
 
 /// Whether this number changed a block last. Of a block that is no home block it didn't.
 pub fn is_last_change(ledger: &Ledger, block: BlockNo, number: TxNo) -> bool

@@ -1,15 +1,15 @@
 // Events on the ring of a queue.
 ghost use Rattle.std.specs.Prelude.{◌≡◌, ◌<◌};
+ghost use Rattle.mq_ledger.specs.Plain.{plain};
 ghost use Rattle.mq_core.specs.Answers.{Answers};
 ghost use Rattle.mq_core.specs.Events.{flush};
 ghost use Rattle.mq_core.specs.Machine.{IsAllowed, happens, Stage, Flush, Ring, Complete, FailCommand, StoreHead, FlushHead};
-ghost use Rattle.mq_core.specs.Plain.{plain};
 
 use super::Core;
 use super::front::settle_all;
 use crate::CoreRefusal;
-use crate::staging::Staged;
 use mq_blocks::QueueNo;
+use mq_ledger::Staged;
 use std::alloc::Global;
 
 impl Core {

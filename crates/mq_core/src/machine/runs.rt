@@ -1,8 +1,8 @@
 // One event, and runs of events.
 ghost use Rattle.std.specs.Prelude.{◌≡◌, IfOk, IfErr};
+ghost use Rattle.mq_ledger.specs.Plain.{plain};
 ghost use Rattle.mq_core.specs.Answers.{Answers};
 ghost use Rattle.mq_core.specs.Machine.{IsAllowed, happens, run, AreAllowed, IsAlwaysLawful, IsRefusal};
-ghost use Rattle.mq_core.specs.Plain.{plain};
 
 use super::Core;
 use crate::{CoreRefusal, Event};

@@ -1,5 +1,5 @@
 use Rattle.std.proofs.Common.{◌≡◌, ◌+◌, drop}
-use Rattle.mq_core.specs.Sides.{holds_count}
+use Rattle.mq_ledger.specs.Sides.{holds_count}
 use Rattle.mq_core.specs.Events.{index_with}
 use Rattle.mq_core.proofs.port.find_count.Given as goal
 

@@ -1,5 +1,5 @@
 use Rattle.std.proofs.Common.{◌≡◌, take}
-use Rattle.mq_core.specs.History.{blocks_of}
+use Rattle.mq_ledger.specs.History.{blocks_of}
 use Rattle.mq_replay.proofs.entries.blocks_in.Given as goal
 
 -- the blocks so far

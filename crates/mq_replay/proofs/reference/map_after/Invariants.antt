@@ -1,6 +1,6 @@
 use Rattle.std.proofs.Common.{◌≡◌, ◌<◌, ℕ, None, length, reverse, get_or}
-use Rattle.mq_core.specs.History.{map_after}
-use Rattle.mq_core.specs.State.{start_map}
+use Rattle.mq_ledger.specs.History.{map_after}
+use Rattle.mq_ledger.specs.State.{start_map}
 use Rattle.mq_replay.proofs.reference.map_after.Given as goal
 
 -- the blocks so far

@@ -1,5 +1,5 @@
 use Rattle.std.specs.Option.{option_copied}
-use Rattle.mq_core.specs.State.{start_map}
+use Rattle.mq_ledger.specs.State.{start_map}
 use Rattle.mq_replay.proofs.Values.{value_step}
 use Rattle.mq_replay.proofs.reference.value_after.Goals as goal
 

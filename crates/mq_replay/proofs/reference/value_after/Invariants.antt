@@ -1,7 +1,7 @@
 use Rattle.std.proofs.Common.{◌≡◌, take, reverse}
 use Rattle.std.specs.Option.{option_copied}
-use Rattle.mq_core.specs.History.{map_after}
-use Rattle.mq_core.specs.State.{start_map}
+use Rattle.mq_ledger.specs.History.{map_after}
+use Rattle.mq_ledger.specs.State.{start_map}
 use Rattle.mq_replay.proofs.reference.value_after.Given as goal
 
 -- the value after the transactions so far

@@ -2,7 +2,7 @@ use Rattle.std.proofs.Common.{◌≡◌, ℕ, List, Some, None, true, false, ref
 use Rattle.std.specs.Option.{option_copied}
 use Rattle.mq_blocks.specs.Journal.{is_among}
 use Rattle.mq_blocks.specs.Machine.{Writes, write_of}
-use Rattle.mq_core.specs.declared.tx.Tx.{Tx}
+use Rattle.mq_ledger.specs.declared.tx.Tx.{Tx}
 use Rattle.mq_replay.proofs.Values.{after_parts}
 use Rattle.mq_replay.proofs.reference.value_after_one.Goals as goal
 

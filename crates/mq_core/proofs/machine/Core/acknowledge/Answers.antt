@@ -1,6 +1,6 @@
 use Rattle.std.proofs.Common.{◌≡◌, ◌≤◌, ◌∷◌, reverse, Ok, refl, ap, ◌∙◌, arith}
+use Rattle.mq_ledger.specs.State.{front_of}
 use Rattle.mq_core.specs.Machine.{Acknowledge}
-use Rattle.mq_core.specs.State.{front_of}
 use Rattle.mq_core.specs.View.{state_of}
 use Rattle.mq_core.proofs.Lifts.{Told, answer_at}
 use Rattle.mq_core.proofs.Tellings.{happened, reverse_push}

@@ -1,8 +1,8 @@
 use Rattle.std.proofs.Common.{◌≡◌, Some, sym, refl, ap, subst, ◌∙◌, inl, inr, arith}
 use Rattle.std.proofs.lemmas.Bool.{cases_lt, false≢true}
 use Rattle.mq_blocks.specs.Geometry.{homes_of, zone_of, home_lba}
+use Rattle.mq_ledger.specs.State.{State, port_of}
 use Rattle.mq_core.specs.Bases.{due_at, Holds}
-use Rattle.mq_core.specs.State.{State, port_of}
 use Rattle.mq_core.proofs.machine.Core.are_home.Goals as goal
 use Rattle.mq_core.proofs.machine.Core.are_home.Goals.{After-homes-block-end}
 

@@ -1,7 +1,7 @@
 use Rattle.std.proofs.Common.{◌≡◌, ◌<◌, ℕ, List, Some}
 use Rattle.mq_blocks.specs.Geometry.{zone_of, home_lba}
+use Rattle.mq_ledger.specs.State.{port_of}
 use Rattle.mq_core.specs.Bases.{due_at, Holds}
-use Rattle.mq_core.specs.State.{port_of}
 use Rattle.mq_core.proofs.machine.Core.are_home.Given as goal
 
 -- the blocks so far hold what is due

@@ -1,9 +1,9 @@
 use Rattle.std.proofs.Common.{◌≡◌, ◌<◌, length, set, Ok, sym, refl, ap, subst, ◌∙◌, arith}
 use Rattle.std.proofs.lemmas.Bool.{false≢true}
 use Rattle.mq_blocks.specs.Drive.{PortState}
+use Rattle.mq_ledger.specs.State.{State, port_at}
 use Rattle.mq_core.specs.Events.{MayClear}
 use Rattle.mq_core.specs.Machine.{Clear}
-use Rattle.mq_core.specs.State.{State, port_at}
 use Rattle.mq_core.specs.View.{state_of}
 use Rattle.mq_core.proofs.Lifts.{Told, same_port, answer_at}
 use Rattle.mq_core.proofs.Tellings.{happened, may_clear, is_clear}

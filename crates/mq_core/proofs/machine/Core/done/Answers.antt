@@ -1,5 +1,5 @@
-use Rattle.std.proofs.Common.{◌≡◌, ap, ◌∙◌, sym}
-use Rattle.mq_core.specs.State.{front_of}
+use Rattle.std.proofs.Common.{ap, ◌∙◌}
+use Rattle.mq_ledger.specs.State.{front_of}
 use Rattle.mq_core.proofs.machine.Core.done.Goals as goal
 
 pub returns : goal.returns

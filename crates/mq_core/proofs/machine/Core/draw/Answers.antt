@@ -1,10 +1,10 @@
 use Rattle.std.proofs.Common.{◌≡◌, Ok, reverse, filter, not, sym, ap, subst, ◌∙◌}
 use Rattle.mq_blocks.specs.Geometry.{homes_of}
+use Rattle.mq_ledger.specs.Plain.{plain}
+use Rattle.mq_ledger.specs.Records.{Ledger, push_tx}
+use Rattle.mq_ledger.specs.State.{State}
 use Rattle.mq_core.specs.Events.{unchanged_by}
 use Rattle.mq_core.specs.Machine.{IsAllowed, Draw}
-use Rattle.mq_core.specs.Plain.{plain}
-use Rattle.mq_core.specs.Records.{Ledger, push_tx}
-use Rattle.mq_core.specs.State.{State}
 use Rattle.mq_core.specs.View.{IsHeld, state_of, state_with}
 use Rattle.mq_core.proofs.Lifts.{Told, answer_at}
 use Rattle.mq_core.proofs.Tellings.{happened, drawn_front, has_place, is_new, left_by}

@@ -1,9 +1,9 @@
 use Rattle.std.proofs.Common.{◌<◌, length, set, sym, refl, subst, arith}
 use Rattle.mq_blocks.specs.Drive.{PortState}
+use Rattle.mq_ledger.specs.Plain.{plain}
+use Rattle.mq_ledger.specs.State.{known_of, port_at}
 use Rattle.mq_core.specs.Events.{MayEnd, fail_side, command_with, us_of}
 use Rattle.mq_core.specs.Machine.{FailCommand}
-use Rattle.mq_core.specs.Plain.{plain}
-use Rattle.mq_core.specs.State.{known_of, port_at}
 use Rattle.mq_core.specs.View.{state_of}
 use Rattle.mq_core.specs.Within.{IsWithin}
 use Rattle.mq_core.proofs.Lifts.{Told, same_port, port_told, answer_at}

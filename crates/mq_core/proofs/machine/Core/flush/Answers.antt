@@ -1,12 +1,12 @@
 use Rattle.std.proofs.Common.{◌≡◌, ◌<◌, ◌^◌, length, refl, sym, subst, ◌∙◌, arith}
 use Rattle.std.proofs.lemmas.Bool.{false≢true}
 use Rattle.mq_blocks.specs.Drive.{PortState, staged_end}
+use Rattle.mq_ledger.specs.Items.{end_of}
+use Rattle.mq_ledger.specs.Plain.{plain}
+use Rattle.mq_ledger.specs.State.{State, known_of, port_at, from_at}
 use Rattle.mq_core.specs.Answers.{IsStagedTo}
 use Rattle.mq_core.specs.Events.{MayFlush, us_of}
-use Rattle.mq_core.specs.Items.{end_of}
 use Rattle.mq_core.specs.Machine.{IsAllowed, Flush}
-use Rattle.mq_core.specs.Plain.{plain}
-use Rattle.mq_core.specs.State.{State, known_of, port_at, from_at}
 use Rattle.mq_core.specs.View.{state_of}
 use Rattle.mq_core.proofs.Lifts.{same_port}
 use Rattle.mq_core.proofs.Insides.{staged_small}

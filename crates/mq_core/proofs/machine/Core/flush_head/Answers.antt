@@ -1,5 +1,5 @@
 use Rattle.std.proofs.Common.{◌<◌, subst, arith}
-use Rattle.mq_core.specs.State.{State}
+use Rattle.mq_ledger.specs.State.{State}
 use Rattle.mq_core.proofs.machine.Core.flush_head.Goals as goal
 use Rattle.mq_core.proofs.machine.Core.flush_head.Goals.{Else-queue-len}
 

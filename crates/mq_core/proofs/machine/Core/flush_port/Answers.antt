@@ -1,11 +1,11 @@
 use Rattle.std.proofs.Common.{◌≡◌, ℕ, ◌<◌, ◌^◌, List, length, set, sym, ap, subst, ◌∙◌, arith}
 use Rattle.std.proofs.lemmas.List.{length-set}
 use Rattle.mq_blocks.specs.Drive.{PortState, staged_end, after_flush}
+use Rattle.mq_ledger.specs.Plain.{plain}
+use Rattle.mq_ledger.specs.Records.{Ledger}
+use Rattle.mq_ledger.specs.State.{State, known_of, port_at}
 use Rattle.mq_core.specs.Events.{flush, us_of}
-use Rattle.mq_core.specs.Plain.{plain}
-use Rattle.mq_core.specs.Records.{Ledger}
 use Rattle.mq_core.specs.Settled.{IsSettled, settled}
-use Rattle.mq_core.specs.State.{State, known_of, port_at}
 use Rattle.mq_core.specs.View.{IsHeld, state_of, state_with}
 use Rattle.mq_core.proofs.Lifts.{same_port, set_port}
 use Rattle.mq_core.proofs.Insides.{staged_small}

@@ -3,11 +3,11 @@ use Rattle.std.proofs.lemmas.Bool.{false≢true}
 use Rattle.mq_blocks.specs.declared.geometry.Geometry.{Geometry}
 use Rattle.mq_blocks.specs.Geometry.{zone_of, homes_of}
 use Rattle.mq_blocks.specs.Journal.{is_among}
+use Rattle.mq_ledger.specs.History.{map_after}
+use Rattle.mq_ledger.specs.State.{State, IsUnder, start_map}
 use Rattle.mq_core.specs.Events.{end_home, content_at}
-use Rattle.mq_core.specs.History.{map_after}
 use Rattle.mq_core.specs.Homes.{IsIn, ports_after, root_after}
 use Rattle.mq_core.specs.Machine.{HomeDone}
-use Rattle.mq_core.specs.State.{State, IsUnder, start_map}
 use Rattle.mq_core.specs.View.{state_of}
 use Rattle.mq_core.proofs.HomeCalls.{is_in, is_there, ended}
 use Rattle.mq_core.proofs.Lifts.{Told, answer_at}

@@ -1,7 +1,7 @@
 use Rattle.std.proofs.Common.{◌≡◌, ◌<◌, length, Some, sym, ap, subst, ◌∙◌, arith}
 use Rattle.mq_blocks.specs.Drive.{PortState}
 use Rattle.mq_blocks.specs.Geometry.{homes_of, zone_of, home_lba}
-use Rattle.mq_core.specs.State.{State, port_of}
+use Rattle.mq_ledger.specs.State.{State, port_of}
 use Rattle.mq_core.specs.View.{state_of}
 use Rattle.mq_core.specs.Within.{IsWithin}
 use Rattle.mq_core.proofs.HomeCalls.{port_within, zone_there}

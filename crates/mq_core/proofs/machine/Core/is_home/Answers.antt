@@ -1,8 +1,8 @@
 use Rattle.std.proofs.Common.{◌≡◌, ℕ, List, Some, sym, ap, subst, ◌∙◌}
 use Rattle.mq_blocks.specs.Drive.{PortState}
 use Rattle.mq_blocks.specs.Geometry.{zone_of, home_lba}
+use Rattle.mq_ledger.specs.State.{State, port_of}
 use Rattle.mq_core.specs.Bases.{Holds}
-use Rattle.mq_core.specs.State.{State, port_of}
 use Rattle.mq_core.specs.Within.{IsWithin}
 use Rattle.mq_core.proofs.machine.Core.is_home.Goals as goal
 use Rattle.mq_core.proofs.machine.Core.is_home.Goals.{After-home-lba}

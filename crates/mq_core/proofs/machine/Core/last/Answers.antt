@@ -1,5 +1,5 @@
-use Rattle.std.proofs.Common.{◌≡◌, ◌+◌, ap, length, ◌∙◌, sym}
-use Rattle.mq_core.specs.State.{State}
+use Rattle.std.proofs.Common.{◌+◌, ap, length, ◌∙◌}
+use Rattle.mq_ledger.specs.State.{State}
 use Rattle.mq_core.proofs.machine.Core.last.Goals as goal
 
 pub returns : goal.returns

@@ -1,9 +1,9 @@
 use Rattle.std.proofs.Common.{◌≡◌, length, get_or, sym, ap, subst, ◌∙◌, arith}
 use Rattle.std.proofs.lemmas.Bool.{false≢true}
-use Rattle.mq_core.specs.Events.{MayDraw}
-use Rattle.mq_core.specs.Plain.{plain}
-use Rattle.mq_core.specs.Records.{IsKnown}
-use Rattle.mq_core.specs.State.{State, known_of}
+use Rattle.mq_ledger.specs.Known.{MayDraw}
+use Rattle.mq_ledger.specs.Plain.{plain}
+use Rattle.mq_ledger.specs.Records.{IsKnown}
+use Rattle.mq_ledger.specs.State.{State, known_of}
 use Rattle.mq_core.specs.View.{state_of}
 use Rattle.mq_core.proofs.Tellings.{known_is}
 use Rattle.mq_core.proofs.machine.Core.may_draw.Goals as goal

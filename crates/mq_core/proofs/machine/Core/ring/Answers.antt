@@ -1,11 +1,11 @@
 use Rattle.std.proofs.Common.{◌≡◌, ◌<◌, ◌^◌, length, set, sym, refl, subst, arith}
 use Rattle.mq_blocks.specs.Drive.{PortState, after_ring, staged_end}
+use Rattle.mq_ledger.specs.Items.{end_of}
+use Rattle.mq_ledger.specs.Plain.{plain}
+use Rattle.mq_ledger.specs.State.{known_of, port_at, from_at}
 use Rattle.mq_core.specs.Answers.{IsFlushedTo}
 use Rattle.mq_core.specs.Events.{us_of}
-use Rattle.mq_core.specs.Items.{end_of}
 use Rattle.mq_core.specs.Machine.{Ring}
-use Rattle.mq_core.specs.Plain.{plain}
-use Rattle.mq_core.specs.State.{known_of, port_at, from_at}
 use Rattle.mq_core.specs.View.{state_of}
 use Rattle.mq_core.proofs.Lifts.{Told, same_port, port_told, answer_at}
 use Rattle.mq_core.proofs.Insides.{staged_small}

@@ -1,14 +1,14 @@
 use Rattle.std.proofs.Common.{◌≡◌, ◌<◌, ◌^◌, Result, Ok, Err, length, set, refl, sym, ap, subst, ◌∙◌, arith}
 use Rattle.std.proofs.lemmas.Result.{err_from_is_err_and}
 use Rattle.mq_blocks.specs.Drive.{PortState, staged_end, after_stage}
+use Rattle.mq_ledger.specs.History.{of_queue}
+use Rattle.mq_ledger.specs.Items.{end_of, item_at}
+use Rattle.mq_ledger.specs.Plain.{plain}
+use Rattle.mq_ledger.specs.Staged.{IsStaged}
+use Rattle.mq_ledger.specs.State.{known_of, port_at, from_at}
 use Rattle.mq_core.specs.Answers.{Answers}
 use Rattle.mq_core.specs.Events.{us_of, stage_side, staged_with}
-use Rattle.mq_core.specs.History.{of_queue}
-use Rattle.mq_core.specs.Items.{end_of, item_at}
 use Rattle.mq_core.specs.Machine.{Stage}
-use Rattle.mq_core.specs.Plain.{plain}
-use Rattle.mq_core.specs.Staged.{IsStaged}
-use Rattle.mq_core.specs.State.{known_of, port_at, from_at}
 use Rattle.mq_core.specs.View.{state_of}
 use Rattle.mq_core.specs.declared.event.CoreRefusal.{CoreRefusal}
 use Rattle.mq_core.specs.declared.event.CoreRefusal.TheVariants.{OutOfMemory}

@@ -2,10 +2,10 @@ use Rattle.std.proofs.Common.{add-zero, ◌≡◌, ◌≤◌, ℕ, ◌^◌, ◌-
 use Rattle.mq_blocks.specs.Geometry.{homes_of}
 use Rattle.mq_blocks.specs.Drive.{PortState, staged_end}
 use Rattle.mq_blocks.specs.declared.geometry.Geometry.{Geometry}
-use Rattle.mq_core.specs.Plain.{plain}
+use Rattle.mq_ledger.specs.Plain.{plain}
+use Rattle.mq_ledger.specs.State.{State, Facts, front_of}
+use Rattle.mq_ledger.specs.Records.{Ledger, start_ledger}
 use Rattle.mq_core.specs.Start.{start_state, fresh_ports, fresh_port, port_over}
-use Rattle.mq_core.specs.State.{State, Facts, front_of}
-use Rattle.mq_core.specs.Records.{Ledger, start_ledger}
 use Rattle.mq_core.specs.View.{state_with}
 use Rattle.mq_core.proofs.Runs.{start_facts}
 use Rattle.mq_core.proofs.StartStates.{start_is}

@@ -1,8 +1,8 @@
 use Rattle.std.proofs.Common.{Ok, sym, refl, subst}
+use Rattle.mq_ledger.specs.Plain.{plain}
+use Rattle.mq_ledger.specs.State.{State}
 use Rattle.mq_core.specs.Events.{MayStoreBase}
 use Rattle.mq_core.specs.Machine.{StoreBase}
-use Rattle.mq_core.specs.Plain.{plain}
-use Rattle.mq_core.specs.State.{State}
 use Rattle.mq_core.specs.View.{state_of}
 use Rattle.mq_core.proofs.Lifts.{Told, answer_at}
 use Rattle.mq_core.proofs.Tellings.{happened}

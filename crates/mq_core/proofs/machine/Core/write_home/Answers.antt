@@ -1,9 +1,9 @@
 use Rattle.std.proofs.Common.{◌≡◌, ◌<◌, Ok, sym, ap, subst, ◌∙◌, reverse}
 use Rattle.mq_blocks.specs.declared.geometry.Geometry.{Geometry}
+use Rattle.mq_ledger.specs.State.{State}
 use Rattle.mq_core.specs.Events.{MayWriteHome, begin_home, content_at}
 use Rattle.mq_core.specs.Homes.{IsIn, ports_after, root_after}
 use Rattle.mq_core.specs.Machine.{WriteHome}
-use Rattle.mq_core.specs.State.{State}
 use Rattle.mq_core.specs.View.{state_of}
 use Rattle.mq_blocks.specs.Geometry.{zone_of, homes_of}
 use Rattle.mq_core.proofs.HomeCalls.{is_in, written}

@@ -1,0 +1,51 @@
+-- Which blocks have parts of files, for the kind under which they are written.
+use Rattle.std.proofs.Common.{◌≡◌, ◌≢◌, ℕ, ◌<◌, List, false, sym, ap, ◌∙◌, arith}
+use Rattle.std.specs.Prelude.{Option, Some, ◌↔◌}
+use Rattle.std.proofs.lemmas.Bool.{true≢false}
+use Rattle.mq_blocks.specs.Geometry.{meta_of}
+use Rattle.mq_blocks.specs.declared.geometry.Geometry.{Geometry}
+use Rattle.mq_exec.specs.Changes.{AreOthers, owner}
+use Rattle.mq_exec.specs.Moves.{IsOfFile}
+use Rattle.mq_exec.proofs.LocalFrame.{others-back, owner-has, use-along}
+use Rattle.mq_layout.specs.Slots.{Entry}
+use Rattle.mq_tree.specs.Laid.{kind_of}
+use Rattle.mq_tree.specs.Volume.{File, Dir, Node, Use, Part, Pointers, Volume, block_in, body, has_block, node}
+use Rattle.mq_tree.proofs.KeepUses.{AreUses}
+
+-- a part of a file
+pub part-of-file : (w : Volume) (i place b : ℕ) (bytes : List ℕ) → block_in w (Part i place) ≡ Some b → body w i ≡ File bytes → IsOfFile w b
+part-of-file w i place b bytes e is = record { inode = i; place = place; bytes = bytes; there = e; is = is }
+
+file-dir : (bytes : List ℕ) (slots : List (Option Entry)) → File bytes ≡ Dir slots → ⊥
+file-dir bytes slots e = let k : kind_of (File bytes) ≡ kind_of (Dir slots) = ap kind_of e in omega arith
+
+part-use : (i place j k : ℕ) → Part i place ≡ Part j k → i ≡ j
+part-use i place j k e = ap owner e
+
+abbrev use_number : Use → ℕ
+use_number (Part i k) = 0
+use_number (Pointers i) = 1
+
+-- a block of a directory, one of pointers, and one of the metadata region have none
+pub dir-not-file : (g : Geometry) (w : Volume) (d place b : ℕ) (slots : List (Option Entry)) → AreUses g w → block_in w (Part d place) ≡ Some b → body w d ≡ Dir slots → IsOfFile w b → ⊥
+dir-not-file g w d place b slots uses e is f =
+    let same = part-use f.inode f.place d place (uses.apart (Part f.inode f.place) (Part d place) b f.there e) in
+    file-dir f.bytes slots (sym f.is ∙ ap (λ (x : ℕ). body w x) same ∙ is)
+
+pub pointers-not-file : (g : Geometry) (w : Volume) (i b : ℕ) → AreUses g w → block_in w (Pointers i) ≡ Some b → IsOfFile w b → ⊥
+pointers-not-file g w i b uses e f =
+    let k : use_number (Part f.inode f.place) ≡ use_number (Pointers i) = ap use_number (uses.apart (Part f.inode f.place) (Pointers i) b f.there e) in
+    absurd (omega arith)
+
+pub meta-not-file : (g : Geometry) (w : Volume) (b : ℕ) → AreUses g w → b < meta_of g → IsOfFile w b → ⊥
+meta-not-file g w b uses low f = let z = (uses.zones (Part f.inode f.place) b f.there).0 in absurd (omega arith)
+
+-- one inode changes, and the block is not its own
+of-file-from : (v w : Volume) (i b : ℕ) → AreOthers v w i → has_block (node v i) b ≡ false → IsOfFile v b → IsOfFile w b
+of-file-from v w i b o lacks f =
+    let other : f.inode ≢ i = λ e. true≢false (sym (owner-has v (Part f.inode f.place) b f.there) ∙ ap (λ (x : ℕ). has_block (node v x) b) e ∙ lacks) in
+    let same = o f.inode other in
+    record { inode = f.inode; place = f.place; bytes = f.bytes; there = use-along v w (Part f.inode f.place) b same f.there; is = ap (λ (n : Node). n.body) same ∙ f.is }
+
+pub of-file-same : (v w : Volume) (i b : ℕ) → AreOthers v w i → has_block (node v i) b ≡ false → has_block (node w i) b ≡ false → IsOfFile v b ↔ IsOfFile w b
+of-file-same v w i b o lacks none = (of-file-from v w i b o lacks, of-file-from w v i b (others-back v w i o) none)

@@ -1,0 +1,77 @@
+-- What is lacked for a part is lacked for the whole.
+use Rattle.std.proofs.Common.{get_or, ◌≡◌, ◌≢◌, ℕ, ◌+◌, ◌<◌, ◌≤◌, List, [], ◌∷◌, ◌++◌, length, take, refl, sym, ap, subst, ◌∙◌, arith}
+use Rattle.std.specs.Prelude.{Option, Some, None}
+use Rattle.std.specs.List.{All, Contains}
+use Rattle.std.proofs.lemmas.List.{length-append, take_all}
+use Rattle.std.proofs.lemmas.List.Elements.{All-more, All-nil, All-push, All-weaker}
+use Rattle.mq_blocks.specs.declared.geometry.Geometry.{Geometry}
+use Rattle.mq_exec.specs.Fits.{Agrees}
+use Rattle.mq_exec.specs.Lacks.{IsNeed, Lacks}
+use Rattle.mq_exec.specs.Pages.{IsHeld, Pages, content, known}
+use Rattle.mq_exec.specs.declared.working.Page.{Page}
+use Rattle.mq_exec.specs.declared.working.Page.TheVariants.{Absent, Free, Held}
+use Rattle.mq_exec.specs.declared.lack.Lack.{Lack}
+use Rattle.mq_exec.specs.declared.lack.Lack.TheVariants.{Need, OutOfMemory}
+use Rattle.mq_tree.specs.Volume.{Volume}
+
+pub lacks-weaker : (pages : Pages) (P Q : ℕ → Type 0) (lack : Lack) → ((b : ℕ) → P b → Q b) → Lacks pages P lack → Lacks pages Q lack
+lacks-weaker pages P Q (Need blocks) f n = record { some = n.some; absent = n.absent; looked = All-weaker P Q f blocks.items n.looked }
+lacks-weaker pages P Q OutOfMemory f n = n
+
+-- a page that is looked up, and is neither absent nor free
+known-held : (p : Page) (page : Option (Option (List ℕ))) → known p ≡ page → (p ≡ Absent → ⊥) → page ≢ Some None → page ≡ Some (Some (content page))
+known-held Absent page e there used = absurd (there refl)
+known-held Free page e there used = absurd (used (sym e))
+known-held (Held block) page e there used = sym e ∙ ap (λ (o : Option (Option (List ℕ))). Some (Some (content o))) e
+
+-- looking for blocks, one after another: those that were absent
+pub record IsSought (pages : Pages) (blocks absent : List ℕ) (k : ℕ) : Type 0 where
+  pub absent_all : All (λ b. pages b ≡ None) absent
+  pub among : All (Contains blocks) absent
+  pub held : length absent ≡ 0 → All (IsHeld pages) (take k blocks)
+
+pub sought-absent : (pages : Pages) (blocks absent more : List ℕ) (k b : ℕ) (p : Page) → k < length blocks → b ≡ get_or blocks k b → known p ≡ pages b → p ≡ Absent → more ≡ absent ++ b ∷ [] → IsSought pages blocks absent k → IsSought pages blocks more (k + 1)
+sought-absent pages blocks absent more k b p l at e none is h =
+    let gone : pages b ≡ None = sym e ∙ ap known none in
+    subst (λ (xs : List ℕ). IsSought pages blocks xs (k + 1)) (sym is) (record {
+      absent_all = All-push (λ x. pages x ≡ None) absent b h.absent_all gone;
+      among = All-push (Contains blocks) absent b h.among (k, l, sym at);
+      held = λ zero. absurd (let n = length-append absent (b ∷ []) in omega arith);
+    })
+
+pub sought-held : (pages : Pages) (blocks absent : List ℕ) (k b : ℕ) (p : Page) → k < length blocks → b ≡ get_or blocks k b → known p ≡ pages b → (p ≡ Absent → ⊥) → All (λ x. pages x ≢ Some None) blocks → IsSought pages blocks absent k → IsSought pages blocks absent (k + 1)
+sought-held pages blocks absent k b p l at e there used h =
+    let here : IsHeld pages b = known-held p (pages b) e there (λ f. used k b l (ap pages (sym at) ∙ f)) in
+    record {
+      absent_all = h.absent_all;
+      among = h.among;
+      held = λ zero. All-more (IsHeld pages) blocks k b l (h.held zero) (subst (λ x. IsHeld pages x) at here);
+    }
+
+pub sought-all : (pages : Pages) (blocks absent : List ℕ) (k : ℕ) → length blocks ≤ k → length absent ≡ 0 → IsSought pages blocks absent k → All (IsHeld pages) blocks
+sought-all pages blocks absent k l none h = subst (λ (xs : List ℕ). All (IsHeld pages) xs) (take_all k blocks l) (h.held none)
+
+pub sought-need : (pages : Pages) (blocks absent : List ℕ) (k : ℕ) → 1 ≤ length absent → IsSought pages blocks absent k → IsNeed pages (Contains blocks) absent
+sought-need pages blocks absent k some h = record { some = some; absent = h.absent_all; looked = h.among }
+
+pub sought-none : (pages : Pages) (blocks absent : List ℕ) → absent ≡ [] → IsSought pages blocks absent 0
+sought-none pages blocks absent e = subst (λ (xs : List ℕ). IsSought pages blocks xs 0) (sym e) (record { absent_all = All-nil (λ b. pages b ≡ None); among = All-nil (Contains blocks); held = λ zero. All-nil (IsHeld pages) })
+
+-- ---- pages that are the same, block by block
+
+pub agrees-alike : (g : Geometry) (p q : Pages) (v : Volume) → ((b : ℕ) → p b ≡ q b) → Agrees g p v → Agrees g q v
+agrees-alike g p q v same h = record {
+  sound = h.sound;
+  fits = record { held = λ b page e. h.fits.held b page (same b ∙ e); free = λ b e. h.fits.free b (same b ∙ e) };
+}
+
+pub need-alike : (p q : Pages) (looks more : ℕ → Type 0) (blocks : List ℕ) → ((b : ℕ) → p b ≡ q b) → ((b : ℕ) → looks b → more b) → IsNeed p looks blocks → IsNeed q more blocks
+need-alike p q looks more blocks same f h = record {
+  some = h.some;
+  absent = λ k d l. sym (same (get_or blocks k d)) ∙ h.absent k d l;
+  looked = All-weaker looks more f blocks h.looked;
+}
+
+-- a volume of a view's pages is one of the working pages over it
+pub agrees-working : (g h : Geometry) (held pages : Pages) (v : Volume) → h ≡ g → ((b : ℕ) → pages b ≡ held b) → Agrees g held v → Agrees h pages v
+agrees-working g h held pages v e same a = subst (λ (x : Geometry). Agrees x pages v) (sym e) (agrees-alike g held pages v (λ b. sym (same b)) a)

@@ -1,0 +1,32 @@
+-- What a group of requests does on pages of which some are absent.
+use Rattle.std.specs.Prelude.{◌≡◌, ℕ, List}
+use Rattle.mq_blocks.specs.declared.geometry.Geometry.{Geometry}
+use Rattle.mq_exec.specs.Fits.{Agrees}
+use Rattle.mq_exec.specs.Lacks.{IsNeed}
+use Rattle.mq_exec.specs.Moves.{Moves}
+use Rattle.mq_exec.specs.Pages.{Pages}
+use Rattle.mq_exec.specs.declared.lack.Lack.{Lack}
+use Rattle.mq_exec.specs.declared.lack.Lack.TheVariants.{Need as NeedOf, OutOfMemory as Wanting}
+use Rattle.mq_exec.specs.declared.outcome.Done.{Done as Carried}
+use Rattle.mq_exec.specs.declared.outcome.Outcome.{Outcome}
+use Rattle.mq_exec.specs.declared.outcome.Outcome.TheVariants.{Done, Need}
+use Rattle.mq_tree.specs.Looks.{GroupLooks}
+use Rattle.mq_tree.specs.Requests.{after_group, replies}
+use Rattle.mq_tree.specs.Volume.{Volume}
+use Rattle.mq_tree.specs.declared.request.Request.{Request}
+
+-- The replies are the group's, and writes and frees are its change.
+pub record IsDone (g : Geometry) (q : ℕ) (v : Volume) (requests : List Request) (done : Carried) : Type 0 where
+  pub replies : done.replies.items ≡ replies g q v requests
+  pub moves : Moves g v (after_group g q v requests) done.writes.items done.frees.items
+
+-- Where the group is done, this holds on each volume of which the pages may be a part. Else at least one
+-- page is named; each is absent, and the group looks at it on each of these volumes.
+abbrev pub Answers : Geometry → (queue : ℕ) → Pages → List Request → Outcome → Type 0
+Answers g q pages requests (Done done) = (v : Volume) → Agrees g pages v → IsDone g q v requests done
+Answers g q pages requests (Need blocks) = IsNeed pages (λ b. (v : Volume) → Agrees g pages v → GroupLooks g q v requests b) blocks.items
+
+-- the outcome where something is lacked
+abbrev pub NeedsOf : Lack → Outcome → Type 0
+NeedsOf (NeedOf blocks) outcome = outcome ≡ Need blocks
+NeedsOf Wanting outcome = ⊥

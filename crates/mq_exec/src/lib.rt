@@ -1,0 +1,23 @@
+//! Requests on the pages of the file system that a session holds: what they answer, and which pages
+//! they lack.
+#![tactic(auto)]
+
+mod answer;
+mod blocks;
+mod bytes;
+mod directory;
+mod group;
+mod inode;
+mod lack;
+mod laws;
+mod marks;
+mod outcome;
+mod slots;
+mod subject;
+mod view;
+mod walk;
+mod working;
+
+pub use laws::pages_of_a_map;
+pub use outcome::{Done, Outcome};
+pub use view::View;

@@ -1,0 +1,13 @@
+pub mod Among
+pub mod Values
+pub mod Entries
+pub mod Queues
+mod Marks
+mod Rows
+mod Lists
+mod Stagings
+mod Ledgers
+mod Lookups
+mod Stages
+mod Nexts
+mod Draws

@@ -1,0 +1,10 @@
+pub mod History
+pub mod Items
+pub mod Known
+pub mod Sides
+pub mod State
+pub mod Plain
+pub mod Records
+pub mod Tables
+pub mod Form
+pub mod Staged

@@ -1,0 +1,21 @@
+//! The history of a journal, with what is asked of it kept beside: transactions and their form, the last
+//! change of each home block, and where the transactions of each queue end.
+#![tactic(auto)]
+
+mod content;
+mod entry;
+mod form;
+mod lanes;
+mod latest;
+mod records;
+mod staging;
+#[cfg(test)]
+mod tests;
+mod tx;
+
+pub use content::{Blocks, Content, Writes, copy_blocks, copy_content};
+pub use entry::Entry;
+pub use lanes::QueueEnd;
+pub use records::{Ledger, repeated};
+pub use staging::Staged;
+pub use tx::Tx;

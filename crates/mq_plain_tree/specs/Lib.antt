@@ -1,0 +1,4 @@
+pub mod Bodies
+pub mod Plain
+pub mod Targets
+pub mod Verdicts

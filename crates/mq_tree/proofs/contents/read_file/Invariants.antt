@@ -1,0 +1,5 @@
+use Rattle.mq_tree.proofs.Keeping.{ReadTo}
+use Rattle.mq_tree.proofs.contents.read_file.Given as goal
+
+abbrev pub invariant-loop-place : goal.invariant-loop-place
+invariant-loop-place l = ReadTo l.blocks l.inode l.place l.bytes.items

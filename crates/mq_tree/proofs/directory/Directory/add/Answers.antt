@@ -1,0 +1,5 @@
+use Rattle.mq_tree.proofs.Linking.{added}
+use Rattle.mq_tree.proofs.directory.Directory.add.Goals as goal
+
+pub returns : goal.returns
+returns c = added c.self.inside.links.entries c.insert.new.self.entries c.args.self.now c.in_ok-key.key c.args.name.now c.args.inode c.in_ok-before.before c.is_none.result c.self.view_is c.in_ok-key.ensures.items c.in_ok-before.ensures.old c.in_ok-before.ensures.entries c.is_none.ensures

@@ -1,0 +1,5 @@
+use Rattle.mq_tree.proofs.KeepSteps.{group-sound, step-sound}
+use Rattle.mq_tree.proofs.keeps.a_group_keeps_a_volume_sound.Goals as goal
+
+pub returns : goal.returns
+returns c = record { request = step-sound; group = group-sound }

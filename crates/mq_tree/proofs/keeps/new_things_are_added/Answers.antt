@@ -1,0 +1,5 @@
+use Rattle.mq_tree.proofs.KeepSteps.{ok-create, ok-mkdir}
+use Rattle.mq_tree.proofs.keeps.new_things_are_added.Goals as goal
+
+pub returns : goal.returns
+returns c = record { mkdir = ok-mkdir; create = ok-create }

@@ -1,0 +1,5 @@
+use Rattle.mq_tree.proofs.KeepSteps.{ok-rename}
+use Rattle.mq_tree.proofs.keeps.things_are_renamed.Goals as goal
+
+pub returns : goal.returns
+returns c = record { rename = ok-rename }

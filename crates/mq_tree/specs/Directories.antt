@@ -1,0 +1,55 @@
+-- The names of a directory, as a map has them.
+use Rattle.std.specs.Prelude.{◌≡◌, ℕ, ◌*◌, ◌/◌, ◌<◌, ◌≢◌, List, [], ◌∷◌, Option, Some, None, if◌then◌else◌, Vec}
+use Rattle.std.specs.Str.{bytes_eq}
+use Rattle.mq_layout.specs.Slots.{Entry}
+use Rattle.mq_layout.specs.declared.inode.Inode.{Inode}
+use Rattle.mq_tree.specs.Decoded.{Stored, count_of, entry_of, pointer_to}
+use Rattle.mq_tree.specs.Volume.{find}
+use Rattle.mq_tree.specs.declared.corrupt.CorruptCause.TheVariants.{Twin}
+use Rattle.mq_tree.specs.declared.corrupt.MountRefusal.{MountRefusal}
+use Rattle.mq_tree.specs.declared.corrupt.MountRefusal.TheVariants.{Corrupt, OutOfMemory}
+
+-- names with their inodes, as used slots
+abbrev pub as_slots : {A : Type 0} → List (Vec ℕ A × ℕ) → List (Option Entry)
+as_slots [] = []
+as_slots (e ∷ es) = Some (record { inode = e.1; name = e.0.items }) ∷ as_slots es
+
+-- a name leads to the same inode in both
+abbrev pub FindsAlike : List (Option Entry) → List (Option Entry) → Type 0
+FindsAlike xs ys = (name : List ℕ) → find name xs ≡ find name ys
+
+-- a name that was not there was added
+abbrev pub Adds : List (Option Entry) → List (Option Entry) → (name : List ℕ) → (inode : ℕ) → Type 0
+Adds xs ys name i = (find name xs ≡ None) × ((q : List ℕ) → find q ys ≡ (if bytes_eq name q then Some i else find q xs))
+
+-- a name is there
+abbrev pub Has : List (Option Entry) → (name : List ℕ) → Type 0
+Has xs name = (i : ℕ) × (find name xs ≡ Some i)
+
+-- no name stands in two of the first slots
+abbrev pub OnceBelow : (ℕ → Option Entry) → (count : ℕ) → Type 0
+OnceBelow at count = (k l : ℕ) (e f : Entry) → k < count → l < count → at k ≡ Some e → at l ≡ Some f → e.name ≡ f.name → k ≡ l
+
+-- the name in a slot of this block stands in another slot too
+pub record HasTwin (s : Stored) (n : Inode) (b : ℕ) : Type 0 where
+  pub k : ℕ
+  pub l : ℕ
+  pub e : Entry
+  pub f : Entry
+  pub dir : n.kind ≡ 2
+  pub inside : k < 15 * count_of n
+  pub other : l < 15 * count_of n
+  pub first : entry_of s n k ≡ Some e
+  pub second : entry_of s n l ≡ Some f
+  pub same : e.name ≡ f.name
+  pub apart : k ≢ l
+  pub is : b ≡ pointer_to s n (k / 15)
+
+-- a directory is refused for such a name, or for want of memory
+abbrev pub RefusesTwin : Stored → Inode → MountRefusal → Type 0
+RefusesTwin s n (Corrupt cause b) = (cause ≡ Twin) × HasTwin s n b
+RefusesTwin s n OutOfMemory = Unit {0}
+
+-- no name stands twice in what an inode says
+abbrev pub IsOnce : Stored → Inode → Type 0
+IsOnce s n = n.kind ≡ 2 → OnceBelow (entry_of s n) (15 * count_of n)

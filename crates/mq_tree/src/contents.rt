@@ -1,0 +1,100 @@
+// What the inodes of a file system are: the bytes of files, and the names of directories.
+ghost use Rattle.std.specs.Prelude.{◌≡◌, IfErr, IfOk, OnOk};
+ghost use Rattle.mq_blocks.specs.Blocks.{zeros};
+ghost use Rattle.mq_layout.specs.Inodes.{IsInode};
+ghost use Rattle.mq_tree.specs.Clean.{AreDirs, AreOnce, IsTable};
+ghost use Rattle.mq_tree.specs.Corrupt.{Refuses};
+ghost use Rattle.mq_tree.specs.Decoded.{body_of, byte_of, inodes_in, table_of, volume_in};
+ghost use Rattle.mq_tree.specs.Directories.{IsOnce, RefusesTwin};
+ghost use Rattle.mq_tree.specs.Parts.{AreDirBlocks};
+ghost use Rattle.mq_tree.specs.Trees.{IsAlike, IsSameBody, body_kept, kept};
+
+use crate::corrupt::MountRefusal;
+use crate::directory::Directory;
+use crate::ends::FILE;
+use crate::path::Bytes;
+use crate::pointers::{block_count, pointer_at};
+use crate::stored::stored_block;
+use crate::table::DIRECTORY;
+use crate::twins::read_directory;
+use mq_blocks::{Block, Geometry, OutOfMemory};
+use mq_layout::Inode;
+use std::alloc::Global;
+
+/// What an inode is.
+#[derive(Drop)]
+pub enum Content {
+    Free,
+    File(Bytes),
+    Dir(Directory),
+}
+
+/// The bytes of a file.
+fn read_file(
+    alloc: Global,
+    blocks: &[Option<Block>],
+    zero: &Block,
+    inode: &Inode,
+) -> Result<Vec<u8>, OutOfMemory>
+    requires zero { zero.now ≡ zeros }
+    requires form { IsInode inode.now }
+    ensures { IfOk result (λ bytes. bytes.items ≡ table_of inode.now.size (byte_of blocks.now inode.now)) }
+{
+    let mut bytes = Vec::with_capacity(alloc, inode.size as usize)?;
+    for place in 0..block_count(inode) {
+        let b = pointer_at(blocks, zero, inode, place);
+        let block = stored_block(blocks, zero, b).bytes();
+        let count = (inode.size - 4096 * place as u64).min(4096) as usize;
+        bytes.extend_from_slice(&block[..count])?;
+    }
+    Ok(bytes)
+}
+
+/// What an inode is, where no name stands twice in a directory.
+fn read_content(
+    alloc: Global,
+    blocks: &[Option<Block>],
+    zero: &Block,
+    inode: &Inode,
+) -> Result<Content, MountRefusal>
+    requires zero { zero.now ≡ zeros }
+    requires form { IsInode inode.now }
+    requires dir { AreDirBlocks blocks.now inode.now }
+    ensures ok { IfOk result (λ content. IsSameBody (body_kept content) (body_of blocks.now inode.now)) }
+    ensures once { OnOk result (IsOnce blocks.now inode.now) }
+    ensures cause { IfErr result (RefusesTwin blocks.now inode.now) }
+{
+    if inode.kind == FILE {
+        let bytes = read_file(alloc, blocks, zero, inode)?;
+        return Ok(Content::File(Bytes(bytes)));
+    }
+    if inode.kind == DIRECTORY {
+        let names = read_directory(alloc, blocks, zero, inode)?;
+        return Ok(Content::Dir(names));
+    }
+    Ok(Content::Free)
+}
+
+/// What all inodes are, by number, where no name stands twice in a directory.
+pub fn read_contents(
+    alloc: Global,
+    geometry: Geometry,
+    blocks: &[Option<Block>],
+    zero: &Block,
+    inodes: &[Inode],
+) -> Result<Vec<Content>, MountRefusal>
+    requires zero { zero.now ≡ zeros }
+    requires inodes { inodes.now ≡ inodes_in geometry blocks.now }
+    requires table { IsTable geometry blocks.now }
+    requires dirs { AreDirs geometry blocks.now }
+    ensures ok { IfOk result (λ found. IsAlike (kept found.items) (volume_in geometry blocks.now)) }
+    ensures once { OnOk result (AreOnce (volume_in geometry blocks.now)) }
+    ensures cause { IfErr result (Refuses geometry blocks.now) }
+{
+    let mut found = Vec::with_capacity(alloc, inodes.len())?;
+    for (i, inode) in inodes.iter().enumerate() {
+        let content = read_content(alloc, blocks, zero, inode)?;
+        found.push(content)?;
+    }
+    Ok(found)
+}
