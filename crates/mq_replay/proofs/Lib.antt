@@ -1,0 +1,4 @@
+pub mod Lanes
+pub mod Opened
+pub mod Rising
+pub mod Values
