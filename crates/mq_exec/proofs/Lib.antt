@@ -3,6 +3,7 @@ pub mod Contents
 pub mod Directories
 pub mod Entries
 pub mod Grouping
+pub mod Lifting
 pub mod LocalBodies
 pub mod LocalBytes
 pub mod LocalChanges

@@ -14,6 +14,8 @@ mod marks;
 mod outcome;
 mod slots;
 mod subject;
+#[cfg(test)]
+mod tests;
 mod view;
 mod walk;
 mod working;

@@ -1,0 +1,335 @@
+// Requests that read, on a small file system whose pages are lifted one after another, as they are needed.
+ghost use Rattle.std.specs.Prelude.{◌≡◌, ◌<◌, ◌≤◌, ℕ, List, Option, Some, true, false, IfOk};
+ghost use Rattle.std.specs.List.{All};
+ghost use Rattle.mq_blocks.specs.Blocks.{block_at};
+ghost use Rattle.mq_blocks.specs.Geometry.{homes_of, meta_of};
+ghost use Rattle.mq_exec.specs.Pages.{held_pages};
+ghost use Rattle.mq_tree.specs.Laid.{IsTreeOf, is_marked as is_marked_in, map_of};
+ghost use Rattle.mq_tree.specs.Requests.{is_change};
+ghost use Rattle.mq_tree.specs.Volume.{tree as tree_of};
+
+use crate::group::read_group;
+use crate::laws::pages_of_a_map;
+use crate::outcome::Outcome;
+use crate::view::View;
+use mq_blocks::bytes::put;
+use mq_blocks::{Block, BlockNo, Geometry, OutOfMemory, TxNo};
+use mq_layout::{bit, format_block};
+use mq_pages::{Held, PageCell};
+use mq_tree::{Bytes, Fault, Name, Path, Reply, Request, Tree, changes, mount};
+use std::alloc::Global;
+
+/// Writes bytes into a block, where they fit.
+fn patch(blocks: &mut [Option<Block>], b: usize, at: usize, bytes: &[u8]) {
+    if let Some(Some(block)) = blocks.get_mut(b) {
+        if at <= 4096 && bytes.len() <= 4096 - at {
+            put(block.bytes_mut(), at, bytes);
+        }
+    }
+}
+
+/// The first bytes of an inode with this first block.
+fn inode(kind: u8, size: [u8; 2], block: u8) -> [u8; 20] {
+    [
+        kind, 0, 1, 0, 0, 0, 0, 0, size[0], size[1], 0, 0, 0, 0, 0, 0, block, 0, 0, 0,
+    ]
+}
+
+/// The first bytes of a slot whose name has one byte.
+fn slot(inode: u8, name: u8) -> [u8; 17] {
+    [inode, 0, 0, 0, 1, 1, 0, 0, 0, 0, 0, 0, 0, 0, 0, 0, name]
+}
+
+/// The root in block 4 names `b` and `a`. The directory `/b` in block 5 names `f`, whose bytes are in
+/// block 20. The file `/a` has 12 blocks, each full of its place from 1 on, and 10 bytes in block 19,
+/// to which the block of pointers 18 points. Block 21 is free.
+fn small(alloc: Global, geometry: Geometry) -> Result<Vec<Option<Block>>, OutOfMemory> {
+    let mut blocks = Vec::with_capacity(alloc, geometry.homes() as usize)?;
+    for b in 0..geometry.homes() {
+        let mut block = Block::zeroed(alloc)?;
+        if b < 6 || b > 17 {
+            format_block(geometry, BlockNo(b), &mut block);
+        } else {
+            block.fill((b - 5) as u8);
+        }
+        blocks.push(Some(block))?;
+    }
+    patch(&mut blocks, 1, 0, &[255, 255, 1]);
+    patch(&mut blocks, 2, 0, &[15]);
+    patch(&mut blocks, 3, 0, &inode(2, [0, 16], 4));
+    patch(&mut blocks, 3, 128, &inode(2, [0, 16], 5));
+    patch(&mut blocks, 3, 256, &inode(1, [10, 192], 6));
+    for k in 1..12usize {
+        patch(&mut blocks, 3, 272 + 4 * k, &[6 + k as u8]);
+    }
+    patch(&mut blocks, 3, 320, &[18]);
+    patch(&mut blocks, 3, 384, &inode(1, [3, 0], 20));
+    patch(&mut blocks, 4, 3 * 272, &slot(1, b'b'));
+    patch(&mut blocks, 4, 9 * 272, &slot(2, b'a'));
+    patch(&mut blocks, 5, 7 * 272, &slot(3, b'f'));
+    patch(&mut blocks, 18, 0, &[19]);
+    patch(&mut blocks, 19, 0, &[13; 10]);
+    patch(&mut blocks, 20, 0, b"hi!");
+    Ok(blocks)
+}
+
+/// A copy of a block, where an absent one is zeros.
+fn stored(alloc: Global, blocks: &[Option<Block>], b: u32) -> Result<Block, OutOfMemory>
+    ensures { IfOk result (λ block. block ≡ block_at blocks.now b) }
+{
+    match blocks.get(b as usize) {
+        Some(Some(block)) => block.copy(alloc),
+        _ => Block::zeroed(alloc),
+    }
+}
+
+/// Whether the bit of a zone's block is set.
+fn is_marked(
+    alloc: Global,
+    geometry: Geometry,
+    blocks: &[Option<Block>],
+    b: u32,
+) -> Result<bool, OutOfMemory>
+    requires low { meta_of geometry ≤ b }
+    requires high { b < homes_of geometry }
+    ensures { IfOk result (λ is. is ≡ is_marked_in geometry blocks.now b) }
+{
+    let place = b - geometry.meta();
+    let bitmap = stored(alloc, blocks, 1 + place / geometry.zone())?;
+    Ok(bit(&bitmap, place % geometry.zone()))
+}
+
+/// The page of a block, or `None` where the block is free.
+fn page(
+    alloc: Global,
+    geometry: Geometry,
+    blocks: &[Option<Block>],
+    b: u32,
+) -> Result<Option<Block>, OutOfMemory>
+    requires { b < homes_of geometry }
+    ensures { IfOk result (λ page. page ≡ map_of geometry blocks.now b) }
+{
+    if b < geometry.meta() || is_marked(alloc, geometry, blocks, b)? {
+        Ok(Some(stored(alloc, blocks, b)?))
+    } else {
+        Ok(None)
+    }
+}
+
+/// The cells of the blocks that are known.
+fn lift(
+    alloc: Global,
+    geometry: Geometry,
+    blocks: &[Option<Block>],
+    known: &[bool],
+) -> Result<Held, OutOfMemory>
+    ensures { IfOk result (λ held. (b : ℕ) (page : Option (List ℕ)) → held_pages held.cells b ≡ Some page → map_of geometry blocks.now b ≡ page) }
+{
+    let mut held = Held::new(alloc, geometry.homes())?;
+    for b in 0..geometry.homes() {
+        if known.get(b as usize).copied().unwrap_or(false) {
+            let cell = PageCell {
+                content: page(alloc, geometry, blocks, b)?,
+                version: TxNo(0),
+                last_logged: TxNo(0),
+                home_version: TxNo(0),
+            };
+            held.push(BlockNo(b), cell);
+        }
+    }
+    Ok(held)
+}
+
+fn only_read(requests: &[Request]) -> bool
+    ensures { result ≡ true → All (λ r. is_change r ≡ false) requests.now }
+{
+    for request in requests {
+        if changes(request) {
+            return false;
+        }
+    }
+    true
+}
+
+/// Makes needed blocks known, of which none may be known already.
+fn note(known: &mut [bool], need: &[BlockNo]) -> bool {
+    for b in need {
+        match known.get_mut(b.0 as usize) {
+            Some(is) if !*is => *is = true,
+            _ => return false,
+        }
+    }
+    !need.is_empty()
+}
+
+/// The replies of a group, and how often it needed pages. `None` where a needed page was known.
+fn replies(
+    alloc: Global,
+    geometry: Geometry,
+    blocks: &[Option<Block>],
+    tree: &Tree,
+    known: &mut [bool],
+    requests: &[Request],
+) -> Result<Option<(Vec<Reply>, u32)>, OutOfMemory>
+    requires laid { IsTreeOf geometry (map_of geometry blocks.now) (tree_of tree.now) }
+    requires reads { All (λ r. is_change r ≡ false) requests.now }
+{
+    pages_of_a_map();
+    for rounds in 0..40 {
+        let held = lift(alloc, geometry, blocks, known)?;
+        match read_group(alloc, geometry, requests, &View::new(&held))? {
+            Outcome::Done(done) => return Ok(Some((done.replies, rounds))),
+            Outcome::Need(need) => {
+                if !note(known, &need) {
+                    return Ok(None);
+                }
+            }
+        }
+    }
+    Ok(None)
+}
+
+/// A letter for the kind of reply, and what it has.
+fn show(text: &mut Vec<u8>, reply: &Reply) -> Result<(), OutOfMemory> {
+    match reply {
+        Reply::Ok => text.push(b'O')?,
+        Reply::Data(Bytes(bytes)) => {
+            text.push(b'D')?;
+            text.extend_from_slice(bytes)?;
+        }
+        Reply::Names(names) => {
+            text.push(b'N')?;
+            for name in &names.0 {
+                text.push(b' ')?;
+                text.extend_from_slice(&name.0)?;
+            }
+        }
+        Reply::File(size) => {
+            text.push(b'F')?;
+            text.extend_from_slice(&size.to_le_bytes())?;
+        }
+        Reply::Dir(count) => {
+            text.push(b'C')?;
+            text.extend_from_slice(&count.to_le_bytes())?;
+        }
+        Reply::Refused(Fault::NotFound) => text.push(b'f')?,
+        Reply::Refused(Fault::NotDir) => text.push(b'd')?,
+        Reply::Refused(Fault::IsDir) => text.push(b'i')?,
+        Reply::Refused(Fault::BadName) => text.push(b'b')?,
+        Reply::Refused(_) => text.push(b'?')?,
+    }
+    Ok(())
+}
+
+/// The replies of a group as text, and how often it needed pages, where at first each page is known or
+/// none is. `None` where that is not so, or where the blocks have no tree.
+fn told(
+    alloc: Global,
+    is_known: bool,
+    requests: &[Request],
+) -> Result<Option<(Vec<u8>, u32)>, OutOfMemory> {
+    let Ok(geometry) = Geometry::new(1, 1024, 4, 18) else {
+        return Ok(None);
+    };
+    let blocks = small(alloc, geometry)?;
+    let Ok(tree) = mount(alloc, geometry, &blocks) else {
+        return Ok(None);
+    };
+    if !only_read(requests) {
+        return Ok(None);
+    }
+    let mut known = vec![in alloc; is_known; geometry.homes() as usize]?;
+    let Some((replies, rounds)) = replies(alloc, geometry, &blocks, &tree, &mut known, requests)?
+    else {
+        return Ok(None);
+    };
+    let mut text = Vec::new(alloc);
+    for reply in &replies {
+        show(&mut text, reply)?;
+    }
+    Ok(Some((text, rounds)))
+}
+
+/// A path of names of one byte.
+fn path(alloc: Global, names: &[u8]) -> Result<Path, OutOfMemory> {
+    let mut path = Vec::new(alloc);
+    for name in names {
+        path.push(Name(Vec::from_slice(alloc, &[*name])?))?;
+    }
+    Ok(Path(path))
+}
+
+fn requests(alloc: Global) -> Result<Vec<Request>, OutOfMemory> {
+    let mut requests = Vec::new(alloc);
+    requests.push(Request::Stat(path(alloc, b"")?))?;
+    requests.push(Request::List(path(alloc, b"")?))?;
+    requests.push(Request::List(path(alloc, b"b")?))?;
+    requests.push(Request::Stat(path(alloc, b"a")?))?;
+    requests.push(Request::Read(path(alloc, b"a")?, 4094, 5))?;
+    requests.push(Request::Read(path(alloc, b"a")?, 49150, 5))?;
+    requests.push(Request::Read(path(alloc, b"a")?, 49160, u64::MAX))?;
+    requests.push(Request::Read(path(alloc, b"a")?, u64::MAX, 5))?;
+    requests.push(Request::Read(path(alloc, b"bf")?, 0, 99))?;
+    requests.push(Request::Read(path(alloc, b"ax")?, 0, 1))?;
+    requests.push(Request::Stat(path(alloc, b"c")?))?;
+    requests.push(Request::Read(path(alloc, b"")?, 0, 1))?;
+    requests.push(Request::Stat(path(alloc, b"c/")?))?;
+    Ok(requests)
+}
+
+/// What each of the requests answers.
+fn expected() -> [&'static [u8]; 13] {
+    [
+        b"C\x02\0\0\0\0\0\0\0",
+        b"N a b",
+        b"N f",
+        b"F\x0a\xc0\0\0\0\0\0\0",
+        b"D\x01\x01\x02\x02\x02",
+        b"D\x0c\x0c\x0d\x0d\x0d",
+        b"D\x0d\x0d",
+        b"D",
+        b"Dhi!",
+        b"d",
+        b"f",
+        b"i",
+        b"b",
+    ]
+}
+
+#[test]
+fn a_group_reads_page_by_page(rt: HostRuntime) -> Result<(), OutOfMemory> {
+    let alloc = rt.alloc();
+    let requests = requests(alloc)?;
+    let mut wanted = Vec::new(alloc);
+    for text in &expected() {
+        wanted.extend_from_slice(*text)?;
+    }
+    let found = told(alloc, false, &requests)?;
+    assert!(rt; found.is_some_and(|(text, rounds)| text == wanted && rounds > 1));
+    let found = told(alloc, true, &requests)?;
+    assert!(rt; found.is_some_and(|(text, rounds)| text == wanted && rounds == 0));
+    Ok(())
+}
+
+#[test]
+fn each_request_reads_alone(rt: HostRuntime) -> Result<(), OutOfMemory> {
+    let alloc = rt.alloc();
+    let requests = requests(alloc)?;
+    let mut needs = Vec::new(alloc);
+    for (k, wanted) in expected().iter().enumerate() {
+        let Some(request) = requests.get(k..k + 1) else {
+            return Err(OutOfMemory);
+        };
+        let Some((text, rounds)) = told(alloc, false, request)? else {
+            return Err(OutOfMemory);
+        };
+        assert_eq!(rt; text.as_slice(), *wanted);
+        needs.push(rounds)?;
+    }
+    // a name that is not good is found before any page
+    assert_eq!(rt;
+        needs.as_slice(),
+        [2, 2, 3, 2, 4, 4, 4, 2, 4, 2, 2, 1, 0].as_slice()
+    );
+    Ok(())
+}
