@@ -1,10 +1,10 @@
 -- What is kept beside a port goes along with what its calls make of it.
-use Rattle.std.proofs.Common.{◌≡◌, ◌≢◌, ◌<◌, ◌≤◌, ◌⊎◌, inl, inr, ℕ, zero, suc, ◌+◌, ◌-◌, ◌%◌, Bool, true, false, List, [], ◌∷◌, ◌++◌, length, map, Option, Some, None, is_some, get_or, refl, sym, ◌∙◌, ap, subst, arith, true≢false}
+use Rattle.std.proofs.Common.{◌≡◌, ◌<◌, ◌≤◌, inl, inr, ℕ, zero, suc, ◌+◌, ◌%◌, List, [], ◌∷◌, ◌++◌, length, Option, Some, None, is_some, get_or, refl, sym, ◌∙◌, ap, subst, arith, true≢false}
 use Rattle.std.specs.Prelude.{slice_get}
 use Rattle.std.specs.List.{remove}
 use Rattle.std.proofs.lemmas.Bool.{cases_lt}
-use Rattle.std.proofs.lemmas.List.{length-append, length-map, map-append}
-use Rattle.mq_blocks.specs.Drive.{PortState, AreCounted, AreFrom, depth, staged_end, after_stage, after_flush, after_ring, after_done, after_failed, after_store_head, after_store_base, after_begin, after_end}
+use Rattle.std.proofs.lemmas.List.{map-append}
+use Rattle.mq_blocks.specs.Drive.{PortState, AreCounted, AreFrom, depth, after_done, after_failed}
 use Rattle.mq_blocks.specs.declared.command.Command.{Command}
 use Rattle.mq_nvme.specs.Completion.{identifier_of}
 use Rattle.mq_nvme.specs.Field.{place, get_field, bits_of}

@@ -1,5 +1,5 @@
 -- What stands on a block after a transaction, and after one more of a history.
-use Rattle.std.proofs.Common.{◌≡◌, ◌<◌, ℕ, ◌+◌, Bool, List, [], ◌∷◌, ◌++◌, Option, Some, None, length, cond, take, reverse, get_or, sym, ◌∙◌, ap}
+use Rattle.std.proofs.Common.{◌≡◌, ◌<◌, ℕ, ◌+◌, Bool, List, [], ◌∷◌, Option, None, length, cond, take, reverse, get_or, sym, ◌∙◌, ap}
 use Rattle.std.proofs.lemmas.List.{take_more, reverse-append}
 use Rattle.mq_blocks.specs.Journal.{is_among}
 use Rattle.mq_blocks.specs.Machine.{Map, Transaction, write_of, or_kept, after}

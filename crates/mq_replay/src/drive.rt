@@ -5,9 +5,9 @@ ghost use Rattle.mq_drive.specs.Start.{IsRole};
 
 use crate::entries::{Place, items_of, may_write};
 use crate::images::{Left, take_seat};
-use crate::lane::{Ended, Lane};
+use crate::lane::{Due, Ended, Lane};
 use mq_blocks::{Block, BlockNo, Geometry, Lba, OutOfMemory, QueueNo};
-use mq_core::{Content, Tx};
+use mq_core::{Content, Event, Tx};
 use mq_drive::{Fuse, FuseSeat, Off, PortImage, Role};
 use std::alloc::{AllocError, AllocFailed, Global};
 
@@ -282,6 +282,26 @@ impl<'f> Drive<'f> {
             }
         }
         None
+    }
+
+    /// The event that brings what is drawn on a queue nearer to its end. None is left where the head
+    /// behind it is certain, or a command has failed.
+    pub fn due(&self, queue: QueueNo) -> Option<Event> {
+        let side = self.sides.get(queue.0 as usize)?;
+        let lane = self.queues.get(queue.0 as usize)?;
+        if !side.entries.is_empty() {
+            return Some(Event::Stage { queue });
+        }
+        Some(match lane.due()? {
+            Due::Flush => Event::Flush { queue },
+            Due::Ring => Event::Ring { queue },
+            Due::Step => Event::Complete { queue, count: 0 },
+            Due::StoreHead => Event::StoreHead {
+                queue,
+                head: lane.doorbell().saturating_sub(side.first),
+            },
+            Due::FlushHead => Event::FlushHead { queue },
+        })
     }
 
     /// What a cut of the power leaves.

@@ -43,6 +43,7 @@ pub struct Tally {
     pub revoked: u64,
     pub freed: u64,
     pub homes: u64,
+    /// How often the base rose.
     pub bases: u64,
     pub failed: u64,
 }
@@ -269,8 +270,10 @@ impl Journal {
             Call::StoreHead(queue, head) => drive.store_head(queue, head),
             Call::StoreBase(base) => drive.store_base(base.0),
             Call::FlushBase => {
-                add(&mut self.tally.bases, 1);
-                drive.flush_base()
+                let before = drive.base();
+                let answer = drive.flush_base();
+                add(&mut self.tally.bases, usize::from(drive.base() > before));
+                answer
             }
             Call::Acknowledge(number) => {
                 self.acknowledged = self.acknowledged.max(number);

@@ -27,6 +27,16 @@ pub enum Ended {
     Failed { count: u64 },
 }
 
+/// What brings the entries of a queue nearer to their end.
+#[derive(Clone, Copy, Debug, PartialEq, Eq)]
+pub enum Due {
+    Flush,
+    Ring,
+    Step,
+    StoreHead,
+    FlushHead,
+}
+
 /// Blocks of a namespace that follow one another.
 #[derive(Clone, Copy, Debug, PartialEq, Eq)]
 pub struct Extent {
@@ -160,6 +170,26 @@ impl<'f> Lane<'f> {
         ensures { result ≡ staged_end (emu_state self.now.port) }
     {
         self.doorbell + self.pending.len() as u64
+    }
+
+    /// What is to be done next, so that what is staged ends and the head behind it is certain. Nothing
+    /// is where a command has failed.
+    pub fn due(&self) -> Option<Due> {
+        if self.flushed_end != self.end() {
+            Some(Due::Flush)
+        } else if !self.pending.is_empty() {
+            Some(Due::Ring)
+        } else if !self.posted.is_empty() {
+            Some(Due::Step)
+        } else if !self.failed.is_empty() {
+            None
+        } else if self.stored_head != self.doorbell {
+            Some(Due::StoreHead)
+        } else if self.head != self.stored_head {
+            Some(Due::FlushHead)
+        } else {
+            None
+        }
     }
 
     /// Stages a write of a transaction as the next entry.

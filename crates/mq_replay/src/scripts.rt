@@ -2,6 +2,7 @@
 ghost use Rattle.std.specs.Prelude.{◌≡◌, ◌<◌, IfOk};
 ghost use Rattle.mq_replay.specs.Scripts.{MayGain};
 ghost use Rattle.mq_blocks.specs.Geometry.{homes_of};
+ghost use Rattle.mq_revoke.specs.Placing.{AreInOrder};
 
 use crate::drive::Drive;
 use crate::journal::{Journal, Told};
@@ -13,18 +14,37 @@ use rand_core::utils::NextWord;
 use rand_pcg::Lcg128Xsl64;
 use std::alloc::Global;
 
-/// A generator of events, with those that it has chosen and not given, the next one last.
+/// What a script is about to choose.
+#[derive(Drop)]
+enum Wish {
+    Event(Event),
+    /// What is drawn on a queue ends, in at most so many events.
+    Finish {
+        queue: QueueNo,
+        most: u32,
+    },
+    /// A transaction of a queue changes the block.
+    Change {
+        queue: QueueNo,
+        block: BlockNo,
+        is_freed: bool,
+    },
+    /// The front is stored as the base.
+    Raise,
+}
+
+/// A generator of events, with what it wishes next, the first wish last.
 #[derive(Drop)]
 pub struct Script {
     words: Lcg128Xsl64,
-    chosen: Vec<Event>,
+    wishes: Vec<Wish>,
 }
 
 impl Script {
     pub fn new(alloc: Global, seed: u64) -> Script {
         Script {
             words: Lcg128Xsl64::seed_from_u64(seed),
-            chosen: Vec::new(alloc),
+            wishes: Vec::new(alloc),
         }
     }
 
@@ -43,57 +63,183 @@ impl Script {
         journal: &Journal,
         drive: &Drive<'_>,
     ) -> Result<Event, OutOfMemory> {
-        if let Some(event) = self.chosen.pop() {
-            return Ok(event);
-        }
-        let queue = QueueNo(self.below(u64::from(drive.geometry().queues())) as u32);
-        match self.below(16) {
-            0 | 1 | 2 => {
-                let tx = self.transaction(alloc, journal, drive, queue)?;
-                self.chosen.push(Event::Draw(tx))?;
-                let low = journal.front().0.saturating_add(1);
-                Ok(Event::Clear { queue, low })
+        for _ in 0..20 {
+            let Some(wish) = self.wishes.pop() else {
+                return self.choose(alloc, journal, drive);
+            };
+            if let Some(event) = self.granted(alloc, journal, drive, wish)? {
+                return Ok(event);
             }
-            3 | 4 | 5 | 6 => Ok(Event::Stage { queue }),
-            7 => Ok(Event::Flush { queue }),
-            8 => Ok(Event::Ring { queue }),
-            9 | 10 | 11 => Ok(Event::Complete { queue, count: 0 }),
-            12 => {
+        }
+        self.choose(alloc, journal, drive)
+    }
+
+    // The event that a wish comes to, if it comes to one.
+    fn granted(
+        &mut self,
+        alloc: Global,
+        journal: &Journal,
+        drive: &Drive<'_>,
+        wish: Wish,
+    ) -> Result<Option<Event>, OutOfMemory> {
+        match wish {
+            Wish::Event(event) => Ok(Some(event)),
+            Wish::Finish { queue, most } => {
+                if most == 0 {
+                    return Ok(None);
+                }
+                let Some(event) = drive.due(queue) else {
+                    return Ok(None);
+                };
+                let most = most - 1;
+                self.wishes.push(Wish::Finish { queue, most })?;
+                Ok(Some(event))
+            }
+            Wish::Change {
+                queue,
+                block,
+                is_freed,
+            } => {
+                let tx = self.change(alloc, journal, drive, queue, block, is_freed)?;
+                Ok(Some(self.draw(journal, tx)?))
+            }
+            Wish::Raise => Ok(Some(Event::StoreBase {
+                base: journal.front(),
+            })),
+        }
+    }
+
+    // A transaction is drawn after the first of these events.
+    fn draw(&mut self, journal: &Journal, tx: Tx) -> Result<Event, OutOfMemory> {
+        let queue = tx.queue;
+        let low = journal.front().0.saturating_add(1);
+        self.wishes.push(Wish::Event(Event::Draw(tx)))?;
+        Ok(Event::Clear { queue, low })
+    }
+
+    // An event where nothing is wished.
+    fn choose(
+        &mut self,
+        alloc: Global,
+        journal: &Journal,
+        drive: &Drive<'_>,
+    ) -> Result<Event, OutOfMemory> {
+        let queue = QueueNo(self.below(u64::from(drive.geometry().queues())) as u32);
+        match self.below(32) {
+            0..=5 => {
+                let tx = self.transaction(alloc, journal, drive, queue)?;
+                self.draw(journal, tx)
+            }
+            6..=13 => Ok(Event::Stage { queue }),
+            14 | 15 => Ok(Event::Flush { queue }),
+            16 | 17 => Ok(Event::Ring { queue }),
+            18..=23 => Ok(Event::Complete { queue, count: 0 }),
+            24 | 25 => {
                 let which = self.below(2);
                 let head = drive.end_above(queue, which).unwrap_or(0);
                 Ok(Event::StoreHead { queue, head })
             }
-            13 => Ok(Event::FlushHead { queue }),
-            14 => Ok(Event::Acknowledge {
+            26 | 27 => Ok(Event::FlushHead { queue }),
+            28 => Ok(Event::Acknowledge {
                 number: journal.front(),
             }),
-            _ => self.checkpoint(journal, drive),
+            29 => self.write_again(drive),
+            30 => self.raise(drive),
+            _ => self.write_home(drive),
         }
     }
 
-    // A home write, the base as it is, or a whole checkpoint.
-    fn checkpoint(&mut self, journal: &Journal, drive: &Drive<'_>) -> Result<Event, OutOfMemory> {
+    fn finish_all(&mut self, drive: &Drive<'_>) -> Result<(), OutOfMemory> {
+        for q in 0..drive.geometry().queues() {
+            let queue = QueueNo(q);
+            self.wishes.push(Wish::Finish { queue, most: 100 })?;
+        }
+        Ok(())
+    }
+
+    // One home write, or the base becomes certain.
+    fn write_home(&mut self, drive: &Drive<'_>) -> Result<Event, OutOfMemory> {
         let homes = drive.geometry().homes();
-        match self.below(3) {
+        match self.below(2) {
             0 => Ok(Event::FlushBase),
-            1 => Ok(Event::WriteHome {
+            _ => Ok(Event::WriteHome {
                 block: BlockNo(self.below(u64::from(homes)) as u32),
             }),
-            _ => {
-                let base = journal.front();
-                if self.below(2) == 0 {
-                    self.chosen.push(Event::FlushBase)?;
-                }
-                self.chosen.push(Event::StoreBase { base })?;
-                for b in 0..homes {
-                    self.chosen.push(Event::WriteHome { block: BlockNo(b) })?;
-                }
-                Ok(Event::FlushBase)
-            }
         }
     }
 
-    // A transaction of a queue, placed by what the journal says.
+    // All that is drawn ends, and the base is raised to the front.
+    fn raise(&mut self, drive: &Drive<'_>) -> Result<Event, OutOfMemory> {
+        if self.below(4) != 0 {
+            self.wishes.push(Wish::Event(Event::FlushBase))?;
+        }
+        self.wishes.push(Wish::Raise)?;
+        for b in 0..drive.geometry().homes() {
+            let block = BlockNo(b);
+            self.wishes.push(Wish::Event(Event::WriteHome { block }))?;
+        }
+        self.finish_all(drive)?;
+        Ok(Event::FlushBase)
+    }
+
+    // A block of a zone is logged by another queue, then freed, and then written by the zone's own queue,
+    // which revokes the copy.
+    fn write_again(&mut self, drive: &Drive<'_>) -> Result<Event, OutOfMemory> {
+        let geometry = drive.geometry();
+        let block = BlockNo(self.below(u64::from(geometry.homes())) as u32);
+        let Some(own) = geometry.zone_of(block) else {
+            return Ok(Event::FlushBase);
+        };
+        let other = match own.0 {
+            0 => QueueNo(geometry.queues() - 1),
+            q => QueueNo(q - 1),
+        };
+        self.change_and_end(own, block, false)?;
+        self.change_and_end(other, block, true)?;
+        self.change_and_end(other, block, false)?;
+        self.finish_all(drive)?;
+        Ok(Event::FlushBase)
+    }
+
+    fn change_and_end(
+        &mut self,
+        queue: QueueNo,
+        block: BlockNo,
+        is_freed: bool,
+    ) -> Result<(), OutOfMemory> {
+        self.wishes.push(Wish::Finish { queue, most: 20 })?;
+        self.wishes.push(Wish::Change {
+            queue,
+            block,
+            is_freed,
+        })?;
+        Ok(())
+    }
+
+    // A transaction of a queue that changes this block, and no other.
+    fn change(
+        &mut self,
+        alloc: Global,
+        journal: &Journal,
+        drive: &Drive<'_>,
+        queue: QueueNo,
+        block: BlockNo,
+        is_freed: bool,
+    ) -> Result<Tx, OutOfMemory> {
+        let geometry = drive.geometry();
+        let mut writes = Vec::new(alloc);
+        let mut freed = Vec::new(alloc);
+        if is_freed {
+            freed.push(block)?;
+        } else if block.0 < geometry.homes() {
+            let is_data = geometry.zone_of(block).is_some();
+            writes.push(planned(journal, block, is_data))?;
+        }
+        let base = TxNo(drive.base());
+        self.placed(alloc, journal, geometry, base, queue, writes, freed)
+    }
+
+    // A transaction of a queue.
     fn transaction(
         &mut self,
         alloc: Global,
@@ -105,27 +251,29 @@ impl Script {
         let mut writes = Vec::new(alloc);
         let mut freed = Vec::new(alloc);
         for b in 0..geometry.homes() {
-            self.consider(
-                journal,
-                geometry,
-                queue,
-                BlockNo(b),
-                &mut writes,
-                &mut freed,
-            )?;
+            let block = BlockNo(b);
+            self.consider(journal, geometry, queue, block, &mut writes, &mut freed)?;
         }
-        let mut placement = Placement::new(alloc)?;
         let base = TxNo(drive.base());
-        if plan(
-            &writes,
-            geometry,
-            queue,
-            journal.front(),
-            base,
-            &mut placement,
-        )
-        .is_err()
-        {
+        self.placed(alloc, journal, geometry, base, queue, writes, freed)
+    }
+
+    // The next transaction of a queue, with these writes placed by what the journal says.
+    fn placed(
+        &mut self,
+        alloc: Global,
+        journal: &Journal,
+        geometry: Geometry,
+        base: TxNo,
+        queue: QueueNo,
+        writes: Vec<Planned>,
+        freed: Vec<BlockNo>,
+    ) -> Result<Tx, OutOfMemory>
+        requires { AreInOrder geometry writes.items }
+    {
+        let front = journal.front();
+        let mut placement = Placement::new(alloc)?;
+        if plan(&writes, geometry, queue, front, base, &mut placement).is_err() {
             return Err(OutOfMemory);
         }
         let Placement {

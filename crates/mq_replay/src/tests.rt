@@ -1,5 +1,6 @@
 // What recovery makes of what a cut leaves, after runs of the machine on the ports.
 mod by_hand;
+mod random;
 
 use crate::*;
 use mq_blocks::{Block, BlockNo, Geometry, OutOfMemory, QueueNo, TxNo};
