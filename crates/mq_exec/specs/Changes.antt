@@ -7,7 +7,7 @@ use Rattle.mq_blocks.specs.Journal.{is_among}
 use Rattle.mq_blocks.specs.Windows.{written}
 use Rattle.mq_blocks.specs.declared.geometry.Geometry.{Geometry}
 use Rattle.mq_exec.specs.Fits.{Fits}
-use Rattle.mq_exec.specs.Moves.{SameAt}
+use Rattle.mq_exec.specs.Moves.{IsOfFile, SameAt}
 use Rattle.mq_exec.specs.Pages.{Pages}
 use Rattle.mq_layout.specs.Bits.{bit_of, pointer_of}
 use Rattle.mq_layout.specs.Inodes.{inode_bytes}
@@ -94,6 +94,25 @@ pub record IsPointerPut (old new : Pages) (p at x : ℕ) : Type 0 where
   pub form : IsPage after
   pub is : after ≡ written before (4 * at) (to_le_bytes w32 x)
 
+-- The bit of a block was set or cleared.
+pub record IsBlockMarked (g : Geometry) (old new : Pages) (b : ℕ) (value : Bool) : Type 0 where
+  pub before : List ℕ
+  pub after : List ℕ
+  pub was : old (zone_bitmap (zone_in g b)) ≡ Some (Some before)
+  pub put : IsPut old new (zone_bitmap (zone_in g b)) (Some after)
+  pub form : IsPage after
+  pub bit : bit_of after (bit_in g b) ≡ (if value then 1 else 0)
+  pub rest : (k : ℕ) → k ≢ bit_in g b → bit_of after k ≡ bit_of before k
+
+-- Bytes were written at a place of a page.
+pub record IsTextPut (old new : Pages) (b at : ℕ) (text : List ℕ) : Type 0 where
+  pub before : List ℕ
+  pub after : List ℕ
+  pub was : old b ≡ Some (Some before)
+  pub put : IsPut old new b (Some after)
+  pub form : IsPage after
+  pub is : after ≡ written before at text
+
 -- The bit of an inode was set or cleared.
 pub record IsInodeMarked (g : Geometry) (old new : Pages) (i : ℕ) (value : Bool) : Type 0 where
   pub before : List ℕ
@@ -145,3 +164,5 @@ pub record IsPointersCut (old new : Pages) (p count : ℕ) : Type 0 where
 pub record Stepped (g : Geometry) (v w : Volume) (new : Pages) (blocks : List ℕ) : Type 0 where
   pub fits : Fits g new w
   pub same : (b : ℕ) → is_among b blocks ≡ false → SameAt g v w b
+  -- the other blocks have parts of files as before
+  pub files : (b : ℕ) → is_among b blocks ≡ false → IsOfFile v b ↔ IsOfFile w b

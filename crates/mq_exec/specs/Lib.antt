@@ -1,9 +1,11 @@
 pub mod Changes
 pub mod Dirs
+pub mod Edits
 pub mod Fits
 pub mod Lacks
 pub mod Moves
 pub mod Outcomes
 pub mod Pages
+pub mod Picks
 pub mod Reads
 pub mod Walks

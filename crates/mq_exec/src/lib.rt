@@ -6,6 +6,7 @@ mod answer;
 mod blocks;
 mod bytes;
 mod directory;
+mod edits;
 mod group;
 mod inode;
 mod lack;

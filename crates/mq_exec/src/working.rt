@@ -1,12 +1,14 @@
 // The pages as they are between two requests of a group.
-ghost use Rattle.std.specs.Prelude.{◌≡◌, ◌≢◌, ℕ, IfErr, IfOk, Some, None};
+ghost use Rattle.std.specs.Prelude.{◌≡◌, ◌≢◌, ℕ, IfErr, IfOk, OnOk, Some, None};
+ghost use Rattle.mq_exec.specs.Changes.{IsPut};
+ghost use Rattle.mq_exec.specs.Edits.{IsKindPut, IsLifted, IsSameView};
 ghost use Rattle.mq_exec.specs.Lacks.{Lacks};
-ghost use Rattle.mq_exec.specs.Pages.{held_pages, known, pages_of};
+ghost use Rattle.mq_exec.specs.Pages.{IsHeld, held_pages, known, pages_of};
 
 use crate::lack::{Lack, one};
 use crate::view::View;
-use mq_blocks::{Block, BlockNo, Geometry};
-use mq_pages::Held;
+use mq_blocks::{Block, BlockNo, Geometry, OutOfMemory};
+use mq_pages::{Held, Kind};
 use std::alloc::Global;
 use std::collections::BTreeMap;
 
@@ -19,12 +21,20 @@ pub enum Page<'a> {
     Held(&'a Block),
 }
 
+/// The content of a block that was changed, and whether it is metadata. Of a block of the metadata region
+/// the kind isn't looked at.
+#[derive(Drop)]
+pub struct Change {
+    pub kind: Kind,
+    pub content: Block,
+}
+
 /// The pages of a view, and over them those that the requests before have changed.
 #[derive(Drop)]
 pub struct Working<'a> {
     pub geometry: Geometry,
     held: &'a Held,
-    changed: BTreeMap<u32, Option<Block>>,
+    changed: BTreeMap<u32, Option<Change>>,
 }
 
 impl<'a> Working<'a> {
@@ -47,7 +57,7 @@ impl<'a> Working<'a> {
     {
         if let Some(page) = self.changed.get(&b.0) {
             return match page {
-                Some(block) => Page::Held(block),
+                Some(change) => Page::Held(&change.content),
                 None => Page::Free,
             };
         }
@@ -71,5 +81,41 @@ impl<'a> Working<'a> {
             Page::Absent => Err(Lack::Need(one(alloc, b)?)),
             Page::Free => unreachable!(),
         }
+    }
+
+    /// Puts the content of a block.
+    #[tactic(auto, unfolding(crate::specs::Pages::pages_of, crate::specs::Pages::view_of, crate::specs::Pages::kinds_of))]
+    pub fn put(&mut self, b: BlockNo, kind: Kind, content: Block) -> Result<(), OutOfMemory>
+        ensures view { OnOk result (IsSameView self.old self.new) }
+        ensures page { OnOk result (IsPut (pages_of self.old) (pages_of self.new) b (Some content)) }
+        ensures kind { OnOk result (IsKindPut self.old self.new b (Some kind)) }
+    {
+        self.changed.insert(b.0, Some(Change { kind, content }))?;
+        Ok(())
+    }
+
+    /// Puts that a block is free.
+    #[tactic(auto, unfolding(crate::specs::Pages::pages_of, crate::specs::Pages::view_of, crate::specs::Pages::kinds_of))]
+    pub fn put_free(&mut self, b: BlockNo) -> Result<(), OutOfMemory>
+        ensures view { OnOk result (IsSameView self.old self.new) }
+        ensures page { OnOk result (IsPut (pages_of self.old) (pages_of self.new) b None) }
+        ensures kind { OnOk result (IsKindPut self.old self.new b None) }
+    {
+        self.changed.insert(b.0, None)?;
+        Ok(())
+    }
+
+    /// Takes out the content of a block, to be changed and put again: the content that was put, or a copy
+    /// of that in the view.
+    #[tactic(auto, unfolding(crate::specs::Pages::pages_of, crate::specs::Pages::view_of, crate::specs::Pages::kinds_of))]
+    pub fn lift(&mut self, alloc: Global, b: BlockNo) -> Result<Block, OutOfMemory>
+        requires { IsHeld (pages_of self.old) b }
+        ensures content { IfOk result (λ block. pages_of self.old b ≡ Some (Some block)) }
+        ensures rest { OnOk result (IsLifted self.old self.new b) }
+    {
+        if let Some(Some(change)) = self.changed.remove(&b.0) {
+            return Ok(change.content);
+        }
+        self.held(b).copy(alloc)
     }
 }
