@@ -9,6 +9,7 @@ use Rattle.mq_blocks.specs.Journal.{is_among}
 use Rattle.mq_blocks.specs.declared.geometry.Geometry.{Geometry}
 use Rattle.mq_exec.specs.Changes.{AreOthers, FitsAt, IsCleared, IsInodeTurned, IsPointersCut, Stepped, zone_in}
 use Rattle.mq_exec.specs.Fits.{Fits}
+use Rattle.mq_exec.specs.Opened.{cut_file, cut_node}
 use Rattle.mq_exec.specs.Pages.{Pages}
 use Rattle.mq_exec.proofs.LocalBodies.{inode-form}
 use Rattle.mq_exec.proofs.LocalChanges.{fewer-rewrites}
@@ -22,13 +23,6 @@ use Rattle.mq_layout.specs.Places.{inodes_of}
 use Rattle.mq_tree.specs.Laid.{ShowsPart, ShowsPointers, inode_of, size_of}
 use Rattle.mq_tree.specs.Volume.{Body, File, Node, Pointers, Volume, body, has_block, is_used, node}
 use Rattle.mq_tree.proofs.KeepUses.{AreUses, node-here, node-other}
-
--- a file with so many of its blocks
-abbrev pub cut_node : Node → (count : ℕ) → List ℕ → Node
-cut_node n count bytes = record { body = File bytes; blocks = take count n.blocks; indirect = if nat_lt 12 count then n.indirect else None }
-
-abbrev pub cut_file : Volume → ℕ → (count : ℕ) → List ℕ → Volume
-cut_file v i count bytes = set v i (cut_node (node v i) count bytes)
 
 pub take-get : (n : ℕ) (xs : List ℕ) (k c : ℕ) → slice_get (take n xs) k ≡ Some c → slice_get xs k ≡ Some c
 take-get zero xs k c e = absurd (none-some c e)

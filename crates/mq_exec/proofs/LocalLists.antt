@@ -7,7 +7,8 @@ use Rattle.mq_blocks.specs.Geometry.{queues_of}
 use Rattle.mq_blocks.specs.Journal.{is_among}
 use Rattle.mq_blocks.specs.declared.geometry.Geometry.{Geometry}
 use Rattle.mq_exec.specs.Changes.{zone_in}
-use Rattle.mq_exec.proofs.LocalCut.{AreCut, cut_file, cut_node, kept-option, take-get}
+use Rattle.mq_exec.specs.Opened.{cut_file, cut_node}
+use Rattle.mq_exec.proofs.LocalCut.{AreCut, kept-option, take-get}
 use Rattle.mq_exec.proofs.LocalFrame.{has-use}
 use Rattle.mq_exec.proofs.LocalInodes.{AreFreed}
 use Rattle.mq_exec.proofs.LocalUses.{use-cases}

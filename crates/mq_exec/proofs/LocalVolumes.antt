@@ -14,7 +14,8 @@ use Rattle.mq_exec.specs.Moves.{LeadsTo}
 use Rattle.mq_exec.specs.Pages.{Pages, over}
 use Rattle.mq_exec.proofs.LocalBodies.{bare-form, rebodied}
 use Rattle.mq_exec.proofs.LocalChanges.{kept-uses, more-uses, pointed-uses}
-use Rattle.mq_exec.proofs.LocalCut.{cut_file, cut_node, kept-option, take-get}
+use Rattle.mq_exec.specs.Opened.{cut_file, cut_node}
+use Rattle.mq_exec.proofs.LocalCut.{kept-option, take-get}
 use Rattle.mq_exec.proofs.LocalInodes.{bare, bare-step}
 use Rattle.mq_exec.proofs.LocalParts.{zeros-dir, zeros-file}
 use Rattle.mq_exec.proofs.LocalRegions.{same-self, same-then}

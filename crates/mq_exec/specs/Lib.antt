@@ -4,6 +4,7 @@ pub mod Edits
 pub mod Fits
 pub mod Lacks
 pub mod Moves
+pub mod Opened
 pub mod Outcomes
 pub mod Pages
 pub mod Picks

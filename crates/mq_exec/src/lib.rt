@@ -8,12 +8,17 @@ mod bytes;
 mod directory;
 mod edits;
 mod group;
+mod grow;
 mod inode;
 mod lack;
 mod laws;
+mod link;
 mod marks;
+mod opened;
 mod outcome;
+mod release;
 mod slots;
+mod space;
 mod subject;
 #[cfg(test)]
 mod tests;
