@@ -12,7 +12,7 @@ use Rattle.mq_blocks.specs.declared.geometry.Geometry.{Geometry}
 use Rattle.mq_exec.specs.Changes.{AreOthers, IsPut, Stepped}
 use Rattle.mq_exec.specs.Fits.{Fits}
 use Rattle.mq_exec.specs.Pages.{Pages}
-use Rattle.mq_exec.proofs.LocalChanges.{kept-rewrites, kept-uses}
+use Rattle.mq_exec.proofs.LocalChanges.{kept-rewrites, kept-uses, used-kind}
 use Rattle.mq_exec.proofs.LocalFits.{fits-put}
 use Rattle.mq_exec.proofs.LocalPages.{table-put}
 use Rattle.mq_exec.proofs.LocalParts.{dir-along, dir-cleared, dir-written, file-along}
@@ -23,6 +23,7 @@ use Rattle.mq_layout.specs.Fields.{zero_bytes}
 use Rattle.mq_layout.specs.Inodes.{IsInode, inode_bytes}
 use Rattle.mq_layout.specs.Places.{file_limit, inode_block, inode_place, inodes_of}
 use Rattle.mq_layout.specs.Slots.{Entry, IsEntry, slot_bytes}
+use Rattle.mq_layout.specs.declared.inode.Inode.{Inode}
 use Rattle.mq_tree.specs.Laid.{IsPage, ShowsPart, inode_of, kind_of, links_of, or_zero, padded, size_of}
 use Rattle.mq_tree.specs.Requests.{with_body}
 use Rattle.mq_tree.specs.Volume.{Body, Free, File, Dir, Node, Part, Pointers, Volume, body, is_used, node}
@@ -88,10 +89,10 @@ abbrev pub rebodied : Node → Body → Node
 rebodied n y = record { body = y; blocks = n.blocks; indirect = n.indirect }
 
 pub part-step : (g : Geometry) (v : Volume) (i place b : ℕ) (y : Body) (old new : Pages) (page : List ℕ) → AreUses g v → i < length v → slice_get (node v i).blocks place ≡ Some b
-    → is_used (body v i) ≡ is_used y → inode_of (node v i) ≡ inode_of (rebodied (node v i) y)
+    → inode_of (node v i) ≡ inode_of (rebodied (node v i) y)
     → ((p : ℕ) → p ≢ place → (other : List ℕ) → ShowsPart (body v i) p other ↔ ShowsPart y p other)
     → Fits g old v → IsPut old new b (Some page) → IsPage page → ShowsPart y place page → Stepped g v (with_body v i y) new (b ∷ [])
-part-step g v i place b y old new page uses low there used inode show fits put form shows =
+part-step g v i place b y old new page uses low there inode show fits put form shows =
     let w = with_body v i y in
     let here : node w i ≡ rebodied (node v i) y = node-here v i (rebodied (node v i) y) low in
     let o : AreOthers v w i = λ x other. node-other v i x (rebodied (node v i) y) other in
@@ -99,7 +100,7 @@ part-step g v i place b y old new page uses low there used inode show fits put f
     let ind : (node w i).indirect ≡ (node v i).indirect = ap (λ (n : Node). n.indirect) here in
     let bd : body w i ≡ y = ap (λ (n : Node). n.body) here in
     let fine = kept-uses g v w i uses o bs ind in
-    let r : Rewrites g v w i (b ∷ []) = kept-rewrites g v w i (b ∷ []) o bs ind (used ∙ ap is_used (sym bd)) (λ out. inode ∙ ap inode_of (sym here)) (λ k c out e other.
+    let r : Rewrites g v w i (b ∷ []) = kept-rewrites g v w i (b ∷ []) o bs ind (ap (λ (n : Inode). n.kind) inode ∙ ap kind_of (sym bd)) (λ out. inode ∙ ap inode_of (sym here)) (λ k c out e other.
     let away : k ≢ place = λ same. true≢false (sym (among-first b c [] (sym (same_Some b c (sym there ∙ ap (λ (j : ℕ). slice_get (node v i).blocks j) (sym same) ∙ e)))) ∙ out) in
     subst (λ x. ShowsPart (body v i) k other ↔ ShowsPart x k other) (sym bd) (show k away other)) in
     let at = ap (λ (xs : List ℕ). slice_get xs place) bs ∙ there in
@@ -120,7 +121,7 @@ inode-same n x y is kind links size =
 pub bytes-step : (g : Geometry) (v : Volume) (i place b : ℕ) (bytes now : List ℕ) (old new : Pages) (page : List ℕ) → AreUses g v → i < length v → body v i ≡ File bytes → length now ≡ length bytes → slice_get (node v i).blocks place ≡ Some b
     → ((k : ℕ) → k / 4096 ≢ place → get_or bytes k 0 ≡ get_or now k 0) → Fits g old v → IsPut old new b (Some page) → IsPage page → ShowsPart (File now) place page → Stepped g v (with_body v i (File now)) new (b ∷ [])
 bytes-step g v i place b bytes now old new page uses low is size there rest fits put form shows =
-    part-step g v i place b (File now) old new page uses low there (ap is_used is) (inode-same (node v i) (File bytes) (File now) is refl refl (sym size))
+    part-step g v i place b (File now) old new page uses low there (inode-same (node v i) (File bytes) (File now) is refl refl (sym size))
     (λ p away other.
     let same : (k : ℕ) → k < 4096 → get_or bytes (4096 * p + k) 0 ≡ get_or now (4096 * p + k) 0 = λ k l. rest (4096 * p + k) (λ e. away (omega arith)) in
     subst (λ x. ShowsPart x p other ↔ ShowsPart (File now) p other) (sym is) (file-along bytes now p other same, file-along now bytes p other (λ k l. sym (same k l))))
@@ -130,7 +131,7 @@ bytes-step g v i place b bytes now old new page uses low is size there rest fits
 slot-step : (g : Geometry) (v : Volume) (d slot b : ℕ) (slots now : List (Option Entry)) (old new : Pages) (page : List ℕ) → AreUses g v → d < length v → body v d ≡ Dir slots → slice_get (node v d).blocks (slot / 15) ≡ Some b
     → ((l : ℕ) → l ≢ slot → get_or now l None ≡ get_or slots l None) → Fits g old v → IsPut old new b (Some page) → IsPage page → ShowsPart (Dir now) (slot / 15) page → Stepped g v (with_body v d (Dir now)) new (b ∷ [])
 slot-step g v d slot b slots now old new page uses low is there rest fits put form shows =
-    part-step g v d (slot / 15) b (Dir now) old new page uses low there (ap is_used is) (inode-same (node v d) (Dir slots) (Dir now) is refl refl refl)
+    part-step g v d (slot / 15) b (Dir now) old new page uses low there (inode-same (node v d) (Dir slots) (Dir now) is refl refl refl)
     (λ p away other.
     let same : (k : ℕ) → k < 15 → get_or slots (15 * p + k) None ≡ get_or now (15 * p + k) None = λ k l. sym (rest (15 * p + k) (λ e. away (omega arith))) in
     subst (λ x. ShowsPart x p other ↔ ShowsPart (Dir now) p other) (sym is) (dir-along slots now p other same, dir-along now slots p other (λ k l. sym (same k l))))
@@ -162,11 +163,11 @@ slot_cleared-step g v d slot b slots now old new before page uses low is there h
 -- ---- the size alone
 
 -- the inode is written, where each part of the body shows what it did
-pub size-step : (g : Geometry) (v : Volume) (i at : ℕ) (y : Body) (old new : Pages) (before page : List ℕ) → AreUses g v → i < length v → i < inodes_of g → is_used (body v i) ≡ true → is_used y ≡ true → size_of y (length (node v i).blocks) ≤ file_limit
+pub size-step : (g : Geometry) (v : Volume) (i at : ℕ) (y : Body) (old new : Pages) (before page : List ℕ) → AreUses g v → i < length v → i < inodes_of g → is_used (body v i) ≡ true → kind_of (body v i) ≡ kind_of y → size_of y (length (node v i).blocks) ≤ file_limit
     → ((p : ℕ) → p < length (node v i).blocks → (other : List ℕ) → ShowsPart (body v i) p other ↔ ShowsPart y p other)
     → Fits g old v → old (inode_block g i) ≡ Some (Some before) → IsPut old new (inode_block g i) (Some page) → IsPage page → at ≡ inode_place i → page ≡ written before (128 * at) (inode_bytes (inode_of (rebodied (node v i) y)))
     → Stepped g v (with_body v i y) new (inode_block g i ∷ [])
-size-step g v i at y old new before page uses low inside used still few show fits held put form is e =
+size-step g v i at y old new before page uses low inside used kind few show fits held put form is e =
     let b = inode_block g i in
     let w = with_body v i y in
     let here : node w i ≡ rebodied (node v i) y = node-here v i (rebodied (node v i) y) low in
@@ -175,10 +176,10 @@ size-step g v i at y old new before page uses low inside used still few show fit
     let ind : (node w i).indirect ≡ (node v i).indirect = ap (λ (n : Node). n.indirect) here in
     let bd : body w i ≡ y = ap (λ (n : Node). n.body) here in
     let fine = kept-uses g v w i uses o bs ind in
-    let r : Rewrites g v w i (b ∷ []) = kept-rewrites g v w i (b ∷ []) o bs ind (used ∙ sym still ∙ ap is_used (sym bd)) (λ out. absurd (true≢false (sym (among-first b b [] refl) ∙ out))) (λ k c out h other.
+    let r : Rewrites g v w i (b ∷ []) = kept-rewrites g v w i (b ∷ []) o bs ind (kind ∙ ap kind_of (sym bd)) (λ out. absurd (true≢false (sym (among-first b b [] refl) ∙ out))) (λ k c out h other.
     subst (λ x. ShowsPart (body v i) k other ↔ ShowsPart x k other) (sym bd) (show k (got-low (node v i).blocks k c h) other)) in
     let size : size_of (body w i) (length (node w i).blocks) ≤ file_limit = subst (λ (n : Node). size_of n.body (length n.blocks) ≤ file_limit) (sym here) few in
-    let good = inode-form g w i fine (ap is_used bd ∙ still) size in
+    let good = inode-form g w i fine (sym (used-kind (body v i) (body w i) (kind ∙ ap kind_of (sym bd))) ∙ used) size in
     let now = table-put g v w i at before page inside o (fits.held b before held) form is good (e ∙ ap (λ (n : Node). written before (128 * at) (inode_bytes (inode_of n))) (sym here)) in
     step-end g v w i (b ∷ []) new uses fine r (fits-put g old new w [] b (Some page) (step-start g v w i (b ∷ []) old uses fine r fits) put now)
   where

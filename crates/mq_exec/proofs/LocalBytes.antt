@@ -9,13 +9,13 @@ use Rattle.mq_exec.specs.Changes.{AreOthers, FitsAt, IsInodeTurned, Stepped}
 use Rattle.mq_exec.specs.Fits.{Fits}
 use Rattle.mq_exec.specs.Pages.{Pages}
 use Rattle.mq_exec.proofs.LocalBodies.{inode-form, rebodied}
-use Rattle.mq_exec.proofs.LocalChanges.{kept-rewrites, kept-uses}
+use Rattle.mq_exec.proofs.LocalChanges.{kept-rewrites, kept-uses, used-kind}
 use Rattle.mq_exec.proofs.LocalInodes.{fits-inode}
 use Rattle.mq_exec.proofs.LocalSteps.{step-over, zone-put}
 use Rattle.mq_exec.proofs.LocalUses.{Rewrites}
 use Rattle.mq_layout.specs.Inodes.{IsInode}
 use Rattle.mq_layout.specs.Places.{file_limit, inode_block, inodes_of}
-use Rattle.mq_tree.specs.Laid.{IsPage, ShowsPart, inode_of, size_of}
+use Rattle.mq_tree.specs.Laid.{IsPage, ShowsPart, inode_of, kind_of, size_of}
 use Rattle.mq_tree.specs.Requests.{cut_to, spliced, with_body}
 use Rattle.mq_tree.specs.Volume.{Body, Node, Part, Volume, body, is_used, node}
 use Rattle.mq_tree.proofs.KeepNodes.{cut-length}
@@ -31,12 +31,12 @@ pub record IsPartPut (v : Volume) (i : ℕ) (y : Body) (new : Pages) (x : ℕ) :
   pub shows : ShowsPart y place page
 
 -- Each listed block shows its part of the new body, or is that of the inode.
-pub body-step : (g : Geometry) (v : Volume) (i : ℕ) (y : Body) (blocks : List ℕ) (old new : Pages) → AreUses g v → i < length v → i < inodes_of g → is_used (body v i) ≡ true → is_used y ≡ true → size_of y (length (node v i).blocks) ≤ file_limit
+pub body-step : (g : Geometry) (v : Volume) (i : ℕ) (y : Body) (blocks : List ℕ) (old new : Pages) → AreUses g v → i < length v → i < inodes_of g → is_used (body v i) ≡ true → kind_of (body v i) ≡ kind_of y → size_of y (length (node v i).blocks) ≤ file_limit
     → (is_among (inode_block g i) blocks ≡ false → inode_of (node v i) ≡ inode_of (rebodied (node v i) y))
     → ((k c : ℕ) → is_among c blocks ≡ false → slice_get (node v i).blocks k ≡ Some c → (page : List ℕ) → ShowsPart (body v i) k page ↔ ShowsPart y k page)
     → Fits g old v → ((x : ℕ) → is_among x blocks ≡ false → new x ≡ old x)
     → ((x : ℕ) → is_among x blocks ≡ true → IsPartPut v i y new x ⊎ ((x ≡ inode_block g i) × IsInodeTurned g old new i (inode_of (rebodied (node v i) y)))) → Stepped g v (with_body v i y) new blocks
-body-step g v i y blocks old new uses low inside used still few inode show fits rest turns = step-over g v w i blocks old new uses fine r fits rest put
+body-step g v i y blocks old new uses low inside used kind few inode show fits rest turns = step-over g v w i blocks old new uses fine r fits rest put
   where
     w : Volume
     w = with_body v i y
@@ -60,11 +60,11 @@ body-step g v i y blocks old new uses low inside used still few inode show fits 
     fine = kept-uses g v w i uses o bs ind
 
     r : Rewrites g v w i blocks
-    r = kept-rewrites g v w i blocks o bs ind (used ∙ sym still ∙ ap is_used (sym bd)) (λ out. inode out ∙ ap inode_of (sym here))
+    r = kept-rewrites g v w i blocks o bs ind (kind ∙ ap kind_of (sym bd)) (λ out. inode out ∙ ap inode_of (sym here))
         (λ k c out e page. subst (λ x. ShowsPart (body v i) k page ↔ ShowsPart x k page) (sym bd) (show k c out e page))
 
     good : IsInode (inode_of (node w i))
-    good = inode-form g w i fine (ap is_used bd ∙ still) (subst (λ (n : Node). size_of n.body (length n.blocks) ≤ file_limit) (sym here) few)
+    good = inode-form g w i fine (sym (used-kind (body v i) (body w i) (kind ∙ ap kind_of (sym bd))) ∙ used) (subst (λ (n : Node). size_of n.body (length n.blocks) ≤ file_limit) (sym here) few)
 
     put : (x : ℕ) → is_among x blocks ≡ true → FitsAt g (new x) w x
     put x among = elim (turns x among) [

@@ -14,8 +14,8 @@ use Rattle.mq_exec.proofs.LocalParts.{pointers-along}
 use Rattle.mq_exec.proofs.LocalUses.{Rewrites, use-cases, uses-fewer, uses-new}
 use Rattle.mq_exec.proofs.Nodes.{length-padded}
 use Rattle.mq_layout.specs.Places.{inode_bitmap, inode_block, zone_bitmap}
-use Rattle.mq_tree.specs.Laid.{ShowsPart, ShowsPointers, inode_of, padded, zone_block}
-use Rattle.mq_tree.specs.Volume.{Body, Part, Pointers, Volume, block_in, body, has_block, is_block, is_taken, is_used, node}
+use Rattle.mq_tree.specs.Laid.{ShowsPart, ShowsPointers, inode_of, kind_of, padded, zone_block}
+use Rattle.mq_tree.specs.Volume.{Body, Free, File, Dir, Part, Pointers, Volume, block_in, body, has_block, is_block, is_taken, is_used, node}
 use Rattle.mq_tree.proofs.KeepUses.{AreUses}
 use Rattle.mq_tree.proofs.Unique.{padded-at}
 use Rattle.mq_tree.proofs.Uses.{use-has}
@@ -38,6 +38,17 @@ other-listed blocks b c listed out e = true≢false (sym listed ∙ ap (λ (x : 
 
 -- ---- the blocks stay
 
+pub used-kind : (x y : Body) → kind_of x ≡ kind_of y → is_used x ≡ is_used y
+used-kind Free Free e = refl
+used-kind Free (File bytes) e = absurd (omega arith)
+used-kind Free (Dir slots) e = absurd (omega arith)
+used-kind (File bytes) Free e = absurd (omega arith)
+used-kind (File bytes) (File now) e = refl
+used-kind (File bytes) (Dir slots) e = refl
+used-kind (Dir slots) Free e = absurd (omega arith)
+used-kind (Dir slots) (File bytes) e = refl
+used-kind (Dir slots) (Dir now) e = refl
+
 body-shows : (x y : Body) (k : ℕ) (page : List ℕ) → x ≡ y → ShowsPart x k page ↔ ShowsPart y k page
 body-shows x y k page e = (subst (λ b. ShowsPart b k page) e, subst (λ b. ShowsPart b k page) (sym e))
 
@@ -45,10 +56,10 @@ pointers-show : (xs ys : List ℕ) (page : List ℕ) → xs ≡ ys → ShowsPoin
 pointers-show xs ys page e = (subst (λ b. ShowsPointers b page) e, subst (λ b. ShowsPointers b page) (sym e))
 
 -- a body changes, over the same blocks
-pub kept-rewrites : (g : Geometry) (v w : Volume) (i : ℕ) (blocks : List ℕ) → AreOthers v w i → (node w i).blocks ≡ (node v i).blocks → (node w i).indirect ≡ (node v i).indirect → is_used (body v i) ≡ is_used (body w i)
+pub kept-rewrites : (g : Geometry) (v w : Volume) (i : ℕ) (blocks : List ℕ) → AreOthers v w i → (node w i).blocks ≡ (node v i).blocks → (node w i).indirect ≡ (node v i).indirect → kind_of (body v i) ≡ kind_of (body w i)
     → (is_among (inode_block g i) blocks ≡ false → inode_of (node v i) ≡ inode_of (node w i))
     → ((k c : ℕ) → is_among c blocks ≡ false → slice_get (node v i).blocks k ≡ Some c → (page : List ℕ) → ShowsPart (body v i) k page ↔ ShowsPart (body w i) k page) → Rewrites g v w i blocks
-kept-rewrites g v w i blocks o bs ind used inode show = record {
+kept-rewrites g v w i blocks o bs ind kind inode show = record {
   others = o;
   parts = λ k c out e. ap (λ (xs : List ℕ). slice_get xs k) bs ∙ e;
   parts_show = show;
@@ -57,8 +68,9 @@ kept-rewrites g v w i blocks o bs ind used inode show = record {
   pointers_show = λ c out e page. pointers-show _ _ page (sym bs);
   pointers_were = λ c out e. sym ind ∙ e;
   marks = λ zone k low l out. inr (ap (λ (xs : List ℕ). is_among (zone_block g zone k) xs || is_block (zone_block g zone k) (node v i).indirect) (sym bs) ∙ ap (λ (x : Option ℕ). is_among (zone_block g zone k) (node w i).blocks || is_block (zone_block g zone k) x) (sym ind));
-  inode_marks = λ out. used;
+  inode_marks = λ out. used-kind (body v i) (body w i) kind;
   table = inode;
+  kind = λ k c out e. kind;
 }
 
 pub kept-uses : (g : Geometry) (v w : Volume) (i : ℕ) → AreUses g v → AreOthers v w i → (node w i).blocks ≡ (node v i).blocks → (node w i).indirect ≡ (node v i).indirect → AreUses g w
@@ -110,6 +122,7 @@ more-rewrites g v w i b blocks o bd bs ind here zone inode far = record {
       ∙ ap (λ (x : Option ℕ). is_among c (node w i).blocks || is_block c x) (sym ind));
   inode_marks = λ out. ap is_used (sym bd);
   table = inode;
+  kind = λ k c out e. ap kind_of (sym bd);
 }
 
 pub more-uses : (g : Geometry) (v w : Volume) (i b : ℕ) → AreUses g v → AreOthers v w i → (node w i).blocks ≡ (node v i).blocks ++ b ∷ [] → (node w i).indirect ≡ (node v i).indirect → meta_of g ≤ b → b < homes_of g → is_taken v b ≡ false → AreUses g w
@@ -149,6 +162,7 @@ pointed-rewrites g v w i b blocks o bd bs was ind here zone inode = record {
       ∙ ap (λ (xs : List ℕ). is_among c xs || nat_eq b c) (sym bs) ∙ ap (λ (x : Option ℕ). is_among c (node w i).blocks || is_block c x) (sym ind));
   inode_marks = λ out. ap is_used (sym bd);
   table = λ out. absurd (true≢false (sym inode ∙ out));
+  kind = λ k c out e. ap kind_of (sym bd);
 }
 
 pub pointed-uses : (g : Geometry) (v w : Volume) (i b : ℕ) → AreUses g v → AreOthers v w i → (node w i).blocks ≡ (node v i).blocks → (node w i).indirect ≡ Some b → meta_of g ≤ b → b < homes_of g → is_taken v b ≡ false → AreUses g w
@@ -164,8 +178,9 @@ pub fewer-rewrites : (g : Geometry) (v w : Volume) (i : ℕ) (blocks : List ℕ)
     → ((k c : ℕ) → slice_get (node v i).blocks k ≡ Some c → is_among c blocks ≡ false → slice_get (node w i).blocks k ≡ Some c) → ((c : ℕ) → (node v i).indirect ≡ Some c → is_among c blocks ≡ true)
     → ((c : ℕ) → has_block (node v i) c ≡ true → has_block (node w i) c ≡ false → is_among (zone_bitmap (zone_in g c)) blocks ≡ true)
     → ((k c : ℕ) → is_among c blocks ≡ false → slice_get (node v i).blocks k ≡ Some c → (page : List ℕ) → ShowsPart (body v i) k page ↔ ShowsPart (body w i) k page)
-    → (is_among (inode_bitmap g) blocks ≡ false → is_used (body v i) ≡ is_used (body w i)) → is_among (inode_block g i) blocks ≡ true → Rewrites g v w i blocks
-fewer-rewrites g v w i blocks o parts pointers left listed zones show used inode = record {
+    → (is_among (inode_bitmap g) blocks ≡ false → is_used (body v i) ≡ is_used (body w i)) → is_among (inode_block g i) blocks ≡ true
+    → ((k c : ℕ) → is_among c blocks ≡ false → slice_get (node v i).blocks k ≡ Some c → kind_of (body v i) ≡ kind_of (body w i)) → Rewrites g v w i blocks
+fewer-rewrites g v w i blocks o parts pointers left listed zones show used inode kind = record {
   others = o;
   parts = λ k c out e. left k c e out;
   parts_show = show;
@@ -176,6 +191,7 @@ fewer-rewrites g v w i blocks o parts pointers left listed zones show used inode
   marks = λ zone k low l out. inr (same-bool _ _ (λ y. there zone k l out y (cases_Bool (has_block (node w i) (zone_block g zone k)))) (within (zone_block g zone k)));
   inode_marks = used;
   table = λ out. absurd (true≢false (sym inode ∙ out));
+  kind = kind;
 }
   where
     within : (c : ℕ) → has_block (node w i) c ≡ true → has_block (node v i) c ≡ true
@@ -208,4 +224,5 @@ bare-rewrites g v w i blocks o was bs none ind used inode = record {
       inr (ap (λ (xs : List ℕ). is_among c xs || is_block c (node v i).indirect) (was ∙ sym bs) ∙ ap (λ (x : Option ℕ). is_among c (node w i).blocks || is_block c x) (none ∙ sym ind));
   inode_marks = used;
   table = inode;
+  kind = λ k c out e. absurd (none-some c (ap (λ (xs : List ℕ). slice_get xs k) (sym was) ∙ e));
 }

@@ -20,7 +20,7 @@ use Rattle.mq_exec.proofs.LocalUses.{Rewrites, uses-fewer}
 use Rattle.mq_layout.specs.Inodes.{IsInode}
 use Rattle.mq_layout.specs.Places.{file_limit, inode_block, zone_bitmap}
 use Rattle.mq_layout.specs.Places.{inodes_of}
-use Rattle.mq_tree.specs.Laid.{ShowsPart, ShowsPointers, inode_of, size_of}
+use Rattle.mq_tree.specs.Laid.{ShowsPart, ShowsPointers, inode_of, kind_of, size_of}
 use Rattle.mq_tree.specs.Volume.{Body, File, Node, Pointers, Volume, body, has_block, is_used, node}
 use Rattle.mq_tree.proofs.KeepUses.{AreUses, node-here, node-other}
 
@@ -100,7 +100,7 @@ cut-step g v i count bytes now blocks gone old new uses low inside is few same l
     used = ap is_used is ∙ sym (ap is_used bd)
 
     r : Rewrites g v w i blocks
-    r = fewer-rewrites g v w i blocks o parts pointers stays listed.pointers listed.zones show (λ out. used) listed.inode
+    r = fewer-rewrites g v w i blocks o parts pointers stays listed.pointers listed.zones show (λ out. used) listed.inode (λ k c out e. ap kind_of is ∙ sym (ap kind_of bd))
 
     good : IsInode (inode_of (node w i))
     good = inode-form g w i fine (ap is_used bd) (subst (λ (x : Body). size_of x (length (node w i).blocks) ≤ file_limit) (sym bd) few)

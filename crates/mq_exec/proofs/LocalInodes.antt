@@ -135,7 +135,7 @@ freed-step g v i blocks old new uses low inside listed fits rest inode used gone
 
     r : Rewrites g v w i blocks
     r = fewer-rewrites g v w i blocks o parts pointers (λ k c e out. absurd (out-own k c e out)) (λ c e. (listed.own c (use-has (node v i) c (inr e))).0) (λ c had has. (listed.own c had).1)
-        (λ k c out e. absurd (out-own k c e out)) (λ out. absurd (true≢false (sym listed.used ∙ out))) listed.inode
+        (λ k c out e. absurd (out-own k c e out)) (λ out. absurd (true≢false (sym listed.used ∙ out))) listed.inode (λ k c out e. absurd (out-own k c e out))
 
     put : (x : ℕ) → is_among x blocks ≡ true → FitsAt g (new x) w x
     put x y = elim (listed.only x y) [

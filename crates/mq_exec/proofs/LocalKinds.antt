@@ -1,15 +1,17 @@
 -- Which blocks have parts of files, for the kind under which they are written.
-use Rattle.std.proofs.Common.{◌≡◌, ◌≢◌, ℕ, ◌<◌, List, false, sym, ap, ◌∙◌, arith}
-use Rattle.std.specs.Prelude.{Option, Some, ◌↔◌}
-use Rattle.std.proofs.lemmas.Bool.{true≢false}
+use Rattle.std.proofs.Common.{◌≡◌, ◌≢◌, ℕ, ◌<◌, inl, inr, List, false, refl, sym, ap, ◌∙◌, arith}
+use Rattle.std.specs.Prelude.{Option, Some, ◌↔◌, slice_get}
+use Rattle.std.proofs.lemmas.Bool.{cases_eq, true≢false}
 use Rattle.mq_blocks.specs.Geometry.{meta_of}
+use Rattle.mq_blocks.specs.Journal.{is_among}
 use Rattle.mq_blocks.specs.declared.geometry.Geometry.{Geometry}
 use Rattle.mq_exec.specs.Changes.{AreOthers, owner}
 use Rattle.mq_exec.specs.Moves.{IsOfFile}
 use Rattle.mq_exec.proofs.LocalFrame.{others-back, owner-has, use-along}
+use Rattle.mq_exec.proofs.LocalUses.{Rewrites}
 use Rattle.mq_layout.specs.Slots.{Entry}
 use Rattle.mq_tree.specs.Laid.{kind_of}
-use Rattle.mq_tree.specs.Volume.{File, Dir, Node, Use, Part, Pointers, Volume, block_in, body, has_block, node}
+use Rattle.mq_tree.specs.Volume.{Body, Free, File, Dir, Node, Use, Part, Pointers, Volume, block_in, body, has_block, node}
 use Rattle.mq_tree.proofs.KeepUses.{AreUses}
 
 -- a part of a file
@@ -49,3 +51,28 @@ of-file-from v w i b o lacks f =
 
 pub of-file-same : (v w : Volume) (i b : ℕ) → AreOthers v w i → has_block (node v i) b ≡ false → has_block (node w i) b ≡ false → IsOfFile v b ↔ IsOfFile w b
 of-file-same v w i b o lacks none = (of-file-from v w i b o lacks, of-file-from w v i b (others-back v w i o) none)
+
+-- ---- blocks that are not listed
+
+file-kind : (x y : Body) (bytes : List ℕ) → x ≡ File bytes → kind_of x ≡ kind_of y → (now : List ℕ) × (y ≡ File now)
+file-kind x Free bytes is kind = let k = ap kind_of is in absurd (omega arith)
+file-kind x (File now) bytes is kind = (now, refl)
+file-kind x (Dir slots) bytes is kind = let k = ap kind_of is in absurd (omega arith)
+
+-- an inode whose part stays where it is, and which stays a file
+files-along : (v w : Volume) (i b : ℕ) → AreOthers v w i → ((k : ℕ) → slice_get (node v i).blocks k ≡ Some b → (slice_get (node w i).blocks k ≡ Some b) × (kind_of (body v i) ≡ kind_of (body w i))) → IsOfFile v b → IsOfFile w b
+files-along v w i b o part f = elim (cases_eq f.inode i) [
+  | inl e ↦
+      let r = part f.place (ap (λ (x : ℕ). slice_get (node v x).blocks f.place) (sym e) ∙ f.there) in
+      let n = file-kind (body v i) (body w i) f.bytes (ap (λ (x : ℕ). body v x) (sym e) ∙ f.is) r.1 in
+      part-of-file w i f.place b n.0 r.0 n.1
+  | inr other ↦
+      let same = o f.inode other in
+      part-of-file w f.inode f.place b f.bytes (ap (λ (n : Node). slice_get n.blocks f.place) same ∙ f.there) (ap (λ (n : Node). n.body) same ∙ f.is)
+]
+
+pub files-same : (g : Geometry) (v w : Volume) (i : ℕ) (blocks : List ℕ) → Rewrites g v w i blocks → (b : ℕ) → is_among b blocks ≡ false → IsOfFile v b ↔ IsOfFile w b
+files-same g v w i blocks r b out = (
+  files-along v w i b r.others (λ k e. (r.parts k b out e, r.kind k b out e)),
+  files-along w v i b (others-back v w i r.others) (λ k e. let was = r.parts_were k b out e in (was, sym (r.kind k b out was))),
+)

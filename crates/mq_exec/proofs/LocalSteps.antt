@@ -11,6 +11,7 @@ use Rattle.mq_exec.specs.Moves.{SameAt}
 use Rattle.mq_exec.specs.Pages.{Pages}
 use Rattle.mq_exec.proofs.LocalFits.{fits-all, fits-end, fits-start, same-fits}
 use Rattle.mq_exec.proofs.LocalFrame.{frame, has-use, owner-has, taken-same, use-along, zone-use}
+use Rattle.mq_exec.proofs.LocalKinds.{files-same}
 use Rattle.mq_exec.proofs.LocalPages.{marks-cleared, marks-one}
 use Rattle.mq_exec.proofs.LocalRegions.{same-then, shows-in, shown-in}
 use Rattle.mq_exec.proofs.LocalUses.{Rewrites, changes-at}
@@ -33,7 +34,7 @@ pub step-start : (g : Geometry) (v w : Volume) (i : ℕ) (blocks : List ℕ) (pa
 step-start g v w i blocks pages uses fine r fits = fits-start g pages v w blocks fits (step-same g v w i blocks uses fine r)
 
 pub step-end : (g : Geometry) (v w : Volume) (i : ℕ) (blocks : List ℕ) (new : Pages) → AreUses g v → AreUses g w → Rewrites g v w i blocks → FitsBut g new w [] → Stepped g v w new blocks
-step-end g v w i blocks new uses fine r fits = record { fits = fits-end g new w fits; same = step-same g v w i blocks uses fine r }
+step-end g v w i blocks new uses fine r fits = record { fits = fits-end g new w fits; same = step-same g v w i blocks uses fine r; files = files-same g v w i blocks r }
 
 -- all at once: where no page is put the pages are as they were, and where one is it fits
 pub step-over : (g : Geometry) (v w : Volume) (i : ℕ) (blocks : List ℕ) (old new : Pages) → AreUses g v → AreUses g w → Rewrites g v w i blocks → Fits g old v
@@ -59,6 +60,11 @@ pub step-then : (g : Geometry) (v u w : Volume) (mid new : Pages) (blocks more :
 step-then g v u w mid new blocks more s t = record {
   fits = t.fits;
   same = λ b out. let r = among-parts blocks more b out in same-then g v u w b (s.same b r.0) (t.same b r.1);
+  files = λ b out.
+      let r = among-parts blocks more b out in
+      let f = s.files b r.0 in
+      let h = t.files b r.1 in
+      (λ x. h.0 (f.0 x), λ x. f.1 (h.1 x));
 }
 
 -- a page that was not put yet is as it was

@@ -8,7 +8,7 @@ use Rattle.mq_blocks.specs.declared.geometry.Geometry.{Geometry}
 use Rattle.mq_exec.specs.Changes.{AreOthers, ChangesAt, IsKept, owner}
 use Rattle.mq_exec.proofs.LocalFrame.{has-use, use-along}
 use Rattle.mq_layout.specs.Places.{inode_bitmap, inode_block, zone_bitmap}
-use Rattle.mq_tree.specs.Laid.{ShowsPart, ShowsPointers, inode_of, zone_block}
+use Rattle.mq_tree.specs.Laid.{ShowsPart, ShowsPointers, inode_of, kind_of, zone_block}
 use Rattle.mq_tree.specs.Volume.{Use, Part, Pointers, Volume, block_in, body, has_block, is_taken, is_used, node}
 use Rattle.mq_tree.proofs.KeepUses.{AreUses, uses-within}
 use Rattle.mq_tree.proofs.Uses.{use-has, use-taken}
@@ -89,6 +89,8 @@ pub record Rewrites (g : Geometry) (v w : Volume) (i : ℕ) (blocks : List ℕ) 
       → (is_among (zone_block g zone k) blocks ≡ false) ⊎ (has_block (node v i) (zone_block g zone k) ≡ has_block (node w i) (zone_block g zone k))
   pub inode_marks : is_among (inode_bitmap g) blocks ≡ false → is_used (body v i) ≡ is_used (body w i)
   pub table : is_among (inode_block g i) blocks ≡ false → inode_of (node v i) ≡ inode_of (node w i)
+  -- where a part is not listed, a file stays a file
+  pub kind : (k c : ℕ) → is_among c blocks ≡ false → slice_get (node v i).blocks k ≡ Some c → kind_of (body v i) ≡ kind_of (body w i)
 
 own-in : (g : Geometry) (v w : Volume) (i : ℕ) (blocks : List ℕ) → Rewrites g v w i blocks → (c : ℕ) → is_among c blocks ≡ false → ((has_block (node v i) c ≡ false) × (has_block (node w i) c ≡ false)) ⊎ IsKept v w c
 own-in g v w i blocks r c out = elim (cases_Bool (has_block (node v i) c)) [
