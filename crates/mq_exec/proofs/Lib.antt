@@ -1,4 +1,5 @@
 pub mod Answering
+pub mod Becoming
 pub mod Contents
 pub mod Directories
 pub mod Entries
