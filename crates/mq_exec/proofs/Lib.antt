@@ -30,6 +30,7 @@ pub mod Marking
 pub mod Naming
 pub mod Needs
 pub mod Nodes
+pub mod Picking
 pub mod Showing
 pub mod Sorting
 pub mod Walking

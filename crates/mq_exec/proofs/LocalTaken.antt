@@ -34,7 +34,7 @@ use Rattle.mq_tree.proofs.KeepUses.{AreUses, node-here, node-other}
 use Rattle.mq_tree.proofs.Maps.{zone-low}
 use Rattle.mq_tree.proofs.Uses.{use-taken}
 
-among-first : (b : ℕ) (bs : List ℕ) → is_among b (b ∷ bs) ≡ true
+pub among-first : (b : ℕ) (bs : List ℕ) → is_among b (b ∷ bs) ≡ true
 among-first b bs = ap (λ (t : Bool). cond t true (is_among b bs)) (eq-eqb b b refl)
 
 among-rest : (x b : ℕ) (bs : List ℕ) → is_among b bs ≡ true → is_among b (x ∷ bs) ≡ true
@@ -86,7 +86,7 @@ take-fits g v w u b rest old new fine f fits t is same blank but =
 abbrev pub longer : Node → ℕ → Node
 longer n b = record { body = n.body; blocks = n.blocks ++ b ∷ []; indirect = n.indirect }
 
-get-last : (xs : List ℕ) (b : ℕ) → slice_get (xs ++ b ∷ []) (length xs) ≡ Some b
+pub get-last : (xs : List ℕ) (b : ℕ) → slice_get (xs ++ b ∷ []) (length xs) ≡ Some b
 get-last [] b = refl
 get-last (x ∷ xs) b = get-last xs b
 
