@@ -6,8 +6,8 @@ use Rattle.std.specs.Str.{bytes_eq}
 use Rattle.mq_layout.specs.Slots.{Entry}
 use Rattle.mq_exec.specs.Dirs.{names_of, slots_in}
 use Rattle.mq_tree.specs.Decoded.{slot_of}
-use Rattle.mq_tree.specs.Requests.{count_names}
-use Rattle.mq_tree.specs.Volume.{find}
+use Rattle.mq_tree.specs.Requests.{count_names, unused}
+use Rattle.mq_tree.specs.Volume.{find, slot_number}
 use Rattle.mq_tree.proofs.Decoding.{length-table, table-at}
 
 pub length-slots_in : (page : List ℕ) → length (slots_in page) ≡ 15
@@ -52,3 +52,25 @@ names-unused page at l e = ap (λ (s : List (Option Entry)). names_of s) (slots_
 
 pub names-used : (page : List ℕ) (at : ℕ) (e : Entry) → at < 15 → slot_of page at ≡ Some e → names_of (drop at (slots_in page)) ≡ e.name ∷ names_of (drop (at + 1) (slots_in page))
 names-used page at e l is = ap (λ (s : List (Option Entry)). names_of s) (slots_in-next page at l ∙ ap (λ (o : Option Entry). o ∷ drop (at + 1) (slots_in page)) is)
+
+-- ---- the place of a slot
+
+pub unused-free : (page : List ℕ) (at : ℕ) → at < 15 → slot_of page at ≡ None → unused at (drop at (slots_in page)) ≡ Some at
+unused-free page at l e = ap (λ (s : List (Option Entry)). unused at s) (slots_in-next page at l ∙ ap (λ (o : Option Entry). o ∷ drop (at + 1) (slots_in page)) e)
+
+pub unused-used : (page : List ℕ) (at : ℕ) (e : Entry) → at < 15 → slot_of page at ≡ Some e → unused at (drop at (slots_in page)) ≡ unused (at + 1) (drop (at + 1) (slots_in page))
+unused-used page at e l is =
+    let n : suc at ≡ at + 1 = omega arith in
+    ap (λ (s : List (Option Entry)). unused at s) (slots_in-next page at l ∙ ap (λ (o : Option Entry). o ∷ drop (at + 1) (slots_in page)) is) ∙ ap (λ (k : ℕ). unused k (drop (at + 1) (slots_in page))) n
+
+pub number-unused : (name page : List ℕ) (at : ℕ) → at < 15 → slot_of page at ≡ None → slot_number at name (drop at (slots_in page)) ≡ slot_number (at + 1) name (drop (at + 1) (slots_in page))
+number-unused name page at l e = ap (λ (s : List (Option Entry)). slot_number at name s) (slots_in-next page at l ∙ ap (λ (o : Option Entry). o ∷ drop (at + 1) (slots_in page)) e)
+
+number-used : (name page : List ℕ) (at : ℕ) (e : Entry) → at < 15 → slot_of page at ≡ Some e → slot_number at name (drop at (slots_in page)) ≡ cond (bytes_eq e.name name) (Some at) (slot_number (at + 1) name (drop (at + 1) (slots_in page)))
+number-used name page at e l is = ap (λ (s : List (Option Entry)). slot_number at name s) (slots_in-next page at l ∙ ap (λ (o : Option Entry). o ∷ drop (at + 1) (slots_in page)) is)
+
+pub number-hit : (name page : List ℕ) (at : ℕ) (e : Entry) → at < 15 → slot_of page at ≡ Some e → bytes_eq e.name name ≡ true → slot_number at name (drop at (slots_in page)) ≡ Some at
+number-hit name page at e l is same = number-used name page at e l is ∙ ap (λ (b : Bool). cond b (Some at) (slot_number (at + 1) name (drop (at + 1) (slots_in page)))) same
+
+pub number-pass : (name page : List ℕ) (at : ℕ) (e : Entry) → at < 15 → slot_of page at ≡ Some e → bytes_eq e.name name ≡ false → slot_number at name (drop at (slots_in page)) ≡ slot_number (at + 1) name (drop (at + 1) (slots_in page))
+number-pass name page at e l is other = number-used name page at e l is ∙ ap (λ (b : Bool). cond b (Some at) (slot_number (at + 1) name (drop (at + 1) (slots_in page)))) other

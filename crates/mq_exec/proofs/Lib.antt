@@ -32,5 +32,6 @@ pub mod Needs
 pub mod Nodes
 pub mod Picking
 pub mod Showing
+pub mod SlotNumbers
 pub mod Sorting
 pub mod Walking

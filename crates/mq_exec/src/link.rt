@@ -7,11 +7,11 @@ ghost use Rattle.mq_exec.specs.Opened.{HoldsPointers, IsTakeable, MayLink, MayUn
 ghost use Rattle.mq_exec.specs.Pages.{IsHeld, pages_of};
 ghost use Rattle.mq_layout.specs.Names.{IsName};
 ghost use Rattle.mq_layout.specs.Places.{inode_block as inode_block_of};
-ghost use Rattle.mq_tree.specs.Requests.{linked, unlinked, unused as unused_in};
+ghost use Rattle.mq_tree.specs.Requests.{linked, unlinked, unused as first_unused};
 ghost use Rattle.mq_tree.specs.Volume.{Volume, find as find_name, slot_number};
 
 use crate::opened::Opened;
-use crate::slots::entry;
+use crate::slots::{number_in, unused_in};
 use crate::working::Working;
 use mq_blocks::{Block, BlockNo, OutOfMemory};
 use mq_layout::SLOTS_PER_BLOCK;
@@ -22,8 +22,15 @@ impl<'a> Working<'a> {
     pub fn unused(&self, blocks: &[BlockNo]) -> Option<u32>
         requires held { AreDirsAt (pages_of self.now) blocks.now }
         requires few { length blocks.now ≤ 1036 }
-        ensures { result ≡ unused_in 0 (slots_at (pages_of self.now) blocks.now) }
+        ensures { result ≡ first_unused 0 (slots_at (pages_of self.now) blocks.now) }
     {
+        let mut first = 0;
+        for b in blocks {
+            if let Some(at) = unused_in(self.held(*b)) {
+                return Some(first + at);
+            }
+            first += SLOTS_PER_BLOCK;
+        }
         None
     }
 
@@ -33,6 +40,13 @@ impl<'a> Working<'a> {
         requires few { length blocks.now ≤ 1036 }
         ensures { result ≡ slot_number 0 name.now (slots_at (pages_of self.now) blocks.now) }
     {
+        let mut first = 0;
+        for b in blocks {
+            if let Some(at) = number_in(self.held(*b), name) {
+                return Some(first + at);
+            }
+            first += SLOTS_PER_BLOCK;
+        }
         None
     }
 

@@ -1,11 +1,12 @@
 // The slots of one block of a directory.
 ghost use Rattle.std.specs.Prelude.{◌≡◌, ◌≤◌, ◌<◌, ◌+◌, ◌*◌, ◌++◌, IfOk, MatchOption, Some, None};
+ghost use Rattle.std.specs.Option.{IfSome};
 ghost use Rattle.mq_blocks.specs.Windows.{window};
 ghost use Rattle.mq_exec.specs.Dirs.{names_of, slots_in};
 ghost use Rattle.mq_tree.specs.Clean.{IsDirBlock};
 ghost use Rattle.mq_tree.specs.Decoded.{slot_of};
-ghost use Rattle.mq_tree.specs.Requests.{count_names};
-ghost use Rattle.mq_tree.specs.Volume.{find as find_name};
+ghost use Rattle.mq_tree.specs.Requests.{count_names, unused};
+ghost use Rattle.mq_tree.specs.Volume.{find as find_name, slot_number};
 
 use mq_blocks::{Block, OutOfMemory};
 use mq_layout::{SLOTS_PER_BLOCK, read_slot};
@@ -66,6 +67,36 @@ pub fn count_in(block: &Block) -> u32
         }
     }
     count
+}
+
+/// The first unused slot.
+pub fn unused_in(block: &Block) -> Option<u32>
+    requires { IsDirBlock block.now }
+    ensures is { result ≡ unused 0 (slots_in block.now) }
+    ensures low { IfSome result (λ at. at < 15) }
+{
+    for at in 0..SLOTS_PER_BLOCK {
+        if let None = entry(block, at) {
+            return Some(at);
+        }
+    }
+    None
+}
+
+/// The slot of a name.
+pub fn number_in(block: &Block, name: &[u8]) -> Option<u32>
+    requires { IsDirBlock block.now }
+    ensures is { result ≡ slot_number 0 name.now (slots_in block.now) }
+    ensures low { IfSome result (λ at. at < 15) }
+{
+    for at in 0..SLOTS_PER_BLOCK {
+        if let Some((_, found)) = entry(block, at) {
+            if found == name {
+                return Some(at);
+            }
+        }
+    }
+    None
 }
 
 /// Adds copies of the names, in the order of the slots.
