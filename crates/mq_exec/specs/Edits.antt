@@ -35,6 +35,11 @@ pub record IsKindPut (old new : Working) (b : ℕ) (kind : Option Kind) : Type 0
   pub here : kinds_of new b ≡ kind
   pub others : (x : ℕ) → x ≢ b → kinds_of new x ≡ kinds_of old x
 
+-- the same of the blocks of the zones alone
+pub record IsZoneKindPut (old new : Working) (b : ℕ) (kind : Option Kind) : Type 0 where
+  pub here : kinds_of new b ≡ kind
+  pub others : (x : ℕ) → meta_of old.geometry ≤ x → x ≢ b → kinds_of new x ≡ kinds_of old x
+
 -- A page was taken out, to be put again.
 pub record IsLifted (old new : Working) (b : ℕ) : Type 0 where
   pub view : IsSameView old new

@@ -3,7 +3,7 @@ ghost use Rattle.std.specs.Prelude.{◌≡◌, ◌<◌, ◌≤◌, ◌*◌, OnOk
 ghost use Rattle.std.specs.Int.{to_le_bytes, w32};
 ghost use Rattle.mq_blocks.specs.Geometry.{meta_of};
 ghost use Rattle.mq_exec.specs.Changes.{IsBlockMarked, IsInodeMarked, IsInodePut, IsPointerPut, IsTakenIn, IsTextPut};
-ghost use Rattle.mq_exec.specs.Edits.{IsKindPut, IsOver, KeepsKinds};
+ghost use Rattle.mq_exec.specs.Edits.{IsKindPut, IsOver, IsZoneKindPut, KeepsKinds};
 ghost use Rattle.mq_exec.specs.Pages.{IsHeld, pages_of};
 ghost use Rattle.mq_exec.specs.Picks.{IsMarkable};
 ghost use Rattle.mq_layout.specs.Fields.{zero_bytes};
@@ -13,6 +13,7 @@ ghost use Rattle.mq_layout.specs.Places.{inode_bitmap as inode_bitmap_of, inode_
 ghost use Rattle.mq_layout.specs.Slots.{slot_bytes};
 ghost use Rattle.mq_pages.specs.declared.page.Kind.TheVariants.{Meta};
 ghost use Rattle.mq_tree.specs.Laid.{IsPage};
+ghost use Rattle.mq_tree.specs.Sound.{AreBytes};
 
 use crate::working::Working;
 use mq_blocks::{Block, BlockNo, OutOfMemory, QueueNo};
@@ -27,7 +28,14 @@ use std::alloc::Global;
 pub fn look_at(block: &Block)
     ensures { IsPage block.now }
 {
-    let _bytes = block.bytes();
+    are_bytes(block.bytes());
+}
+
+/// Says of each byte that it is one.
+fn are_bytes(bytes: &[u8])
+    ensures { AreBytes bytes.now }
+{
+    let _bytes = bytes;
 }
 
 impl<'a> Working<'a> {
@@ -52,7 +60,7 @@ impl<'a> Working<'a> {
         requires marks { IsMarkable self.old.geometry (pages_of self.old) b }
         requires free { pages_of self.old b ≡ Some None }
         ensures over { OnOk result (IsOver self.old self.new) }
-        ensures kinds { OnOk result (IsKindPut self.old self.new b (Some kind)) }
+        ensures kinds { OnOk result (IsZoneKindPut self.old self.new b (Some kind)) }
         ensures taken { OnOk result (IsTakenIn self.old.geometry (pages_of self.old) (pages_of self.new) b) }
     {
         self.mark_block(alloc, b, true)?;
