@@ -10,10 +10,12 @@ use Rattle.mq_blocks.specs.declared.geometry.Geometry.{Geometry}
 use Rattle.mq_layout.specs.Slots.{Entry, ShowsSlot}
 use Rattle.mq_layout.specs.declared.inode.Inode.{Inode}
 use Rattle.mq_exec.specs.Dirs.{IsDirAt, slots_at, slots_in}
+use Rattle.mq_exec.specs.Edits.{Carries}
 use Rattle.mq_exec.specs.Fits.{Agrees}
 use Rattle.mq_exec.specs.Pages.{IsHeld, Pages, content}
+use Rattle.mq_exec.proofs.Becoming.{carries-sound}
 use Rattle.mq_exec.proofs.Entries.{length-slots_in, slots_in-at}
-use Rattle.mq_exec.proofs.Showing.{use-shown, use-there}
+use Rattle.mq_exec.proofs.Showing.{use-carried, use-there}
 use Rattle.mq_tree.specs.Decoded.{slot_of}
 use Rattle.mq_tree.specs.Laid.{ShowsPart, inode_of, kind_of}
 use Rattle.mq_tree.specs.Requests.{count_names}
@@ -65,7 +67,7 @@ count-append [] ys = omega arith
 count-append (None ∷ xs) ys = count-append xs ys
 count-append (Some x ∷ xs) ys = let h = count-append xs ys in omega arith
 
--- ---- a directory of each volume of which the pages may be a part
+-- ---- a directory of each volume that the pages carry, or of which they may be a part
 
 pub kind-dir : (n : Node) (inode : Inode) → inode ≡ inode_of n → inode.kind ≡ 2 → (slots : List (Option Entry)) × (n.body ≡ Dir slots)
 kind-dir n inode e two = go n.body refl
@@ -75,14 +77,14 @@ kind-dir n inode e two = go n.body refl
     go (File bytes) is = absurd (let f = ap (λ (i : Inode). i.kind) e ∙ ap kind_of is in omega arith)
     go (Dir slots) is = (slots, is)
 
-part-shown : (g : Geometry) (pages : Pages) (v : Volume) (d place b : ℕ) (slots : List (Option Entry)) → Agrees g pages v → body v d ≡ Dir slots → slice_get (node v d).blocks place ≡ Some b → IsHeld pages b → ShowsPart (Dir slots) place (content (pages b))
-part-shown g pages v d place b slots agrees is at held = subst (λ x. ShowsPart x place (content (pages b))) is (use-shown g pages v (Part d place) b (content (pages b)) agrees at held).shows
+part-carried : (g : Geometry) (pages : Pages) (v : Volume) (d place b : ℕ) (slots : List (Option Entry)) → Carries g pages v → body v d ≡ Dir slots → slice_get (node v d).blocks place ≡ Some b → IsHeld pages b → ShowsPart (Dir slots) place (content (pages b))
+part-carried g pages v d place b slots c is at held = subst (λ x. ShowsPart x place (content (pages b))) is (use-carried g pages v (Part d place) b (content (pages b)) c at held).shows
 
-pub dir-form : (g : Geometry) (pages : Pages) (v : Volume) (d : ℕ) (slots : List (Option Entry)) (blocks : List ℕ) → Agrees g pages v → body v d ≡ Dir slots → blocks ≡ (node v d).blocks → All (IsHeld pages) blocks → All (IsDirAt pages) blocks
-dir-form g pages v d slots blocks agrees is same held k x l =
+pub carried-form : (g : Geometry) (pages : Pages) (v : Volume) (d : ℕ) (slots : List (Option Entry)) (blocks : List ℕ) → Carries g pages v → body v d ≡ Dir slots → blocks ≡ (node v d).blocks → All (IsHeld pages) blocks → All (IsDirAt pages) blocks
+carried-form g pages v d slots blocks c is same held k x l =
     let b = get_or blocks k x in
     let at : slice_get (node v d).blocks k ≡ Some b = ap (λ (bs : List ℕ). slice_get bs k) (sym same) ∙ slice_get-get_or blocks k x l in
-    let p = part-shown g pages v d k b slots agrees is at (held k x l) in
+    let p = part-carried g pages v d k b slots c is at (held k x l) in
     record {
       held = held k x l;
       form = record {
@@ -91,22 +93,25 @@ dir-form g pages v d slots blocks agrees is same held k x l =
       };
     }
 
-pub dir-slots : (g : Geometry) (pages : Pages) (v : Volume) (d : ℕ) (slots : List (Option Entry)) (blocks : List ℕ) → Agrees g pages v → body v d ≡ Dir slots → blocks ≡ (node v d).blocks → All (IsHeld pages) blocks → slots ≡ slots_at pages blocks
-dir-slots g pages v d slots blocks agrees is same held =
+-- where it has 15 slots in each block
+pub carried-slots : (g : Geometry) (pages : Pages) (v : Volume) (d : ℕ) (slots : List (Option Entry)) (blocks : List ℕ) → Carries g pages v → body v d ≡ Dir slots → blocks ≡ (node v d).blocks → length slots ≡ 15 * length blocks → All (IsHeld pages) blocks → slots ≡ slots_at pages blocks
+carried-slots g pages v d slots blocks c is same long held =
     same_lists slots (slots_at pages blocks) (long ∙ sym (length-slots_at pages blocks)) (λ k x l.
     let inside : k / 15 < length blocks = (let n = long in omega arith) in
     let small : k % 15 < 15 = omega arith in
     let i : 15 * (k / 15) + k % 15 ≡ k = omega arith in
     let b = get_or blocks (k / 15) 0 in
     let at : slice_get (node v d).blocks (k / 15) ≡ Some b = ap (λ (bs : List ℕ). slice_get bs (k / 15)) (sym same) ∙ slice_get-get_or blocks (k / 15) 0 inside in
-    let p = part-shown g pages v d (k / 15) b slots agrees is at (held (k / 15) 0 inside) in
+    let p = part-carried g pages v d (k / 15) b slots c is at (held (k / 15) 0 inside) in
     get_or_default slots k x None l ∙ ap (λ (j : ℕ). get_or slots j None) (sym i) ∙ sym (slot-decoded (content (pages b)) (k % 15) _ (p.0 (k % 15) small)) ∙ sym (slots_at-at pages blocks (k / 15) (k % 15) x inside small) ∙ ap (λ (j : ℕ). get_or (slots_at pages blocks) j x) i)
-  where
-    fine : IsBody (Dir slots) (length (node v d).blocks)
-    fine = subst (λ x. IsBody x (length (node v d).blocks)) is (agrees.sound.nodes d).body
 
-    long : length slots ≡ 15 * length blocks
-    long = fine.1 ∙ ap (λ (bs : List ℕ). 15 * length bs) (sym same)
+pub dir-form : (g : Geometry) (pages : Pages) (v : Volume) (d : ℕ) (slots : List (Option Entry)) (blocks : List ℕ) → Agrees g pages v → body v d ≡ Dir slots → blocks ≡ (node v d).blocks → All (IsHeld pages) blocks → All (IsDirAt pages) blocks
+dir-form g pages v d slots blocks agrees is same held = carried-form g pages v d slots blocks (carries-sound g pages v agrees) is same held
+
+pub dir-slots : (g : Geometry) (pages : Pages) (v : Volume) (d : ℕ) (slots : List (Option Entry)) (blocks : List ℕ) → Agrees g pages v → body v d ≡ Dir slots → blocks ≡ (node v d).blocks → All (IsHeld pages) blocks → slots ≡ slots_at pages blocks
+dir-slots g pages v d slots blocks agrees is same held =
+    let fine : IsBody (Dir slots) (length (node v d).blocks) = subst (λ x. IsBody x (length (node v d).blocks)) is (agrees.sound.nodes d).body in
+    carried-slots g pages v d slots blocks (carries-sound g pages v agrees) is same (fine.1 ∙ ap (λ (bs : List ℕ). 15 * length bs) (sym same)) held
 
 -- its blocks are not known to be free, and are looked at
 pub blocks-there : (g : Geometry) (pages : Pages) (v : Volume) (d : ℕ) (blocks : List ℕ) → Agrees g pages v → blocks ≡ (node v d).blocks → All (λ b. pages b ≢ Some None) blocks

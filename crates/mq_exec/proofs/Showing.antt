@@ -5,8 +5,10 @@ use Rattle.std.proofs.lemmas.Bool.{true≢false}
 use Rattle.mq_blocks.specs.declared.geometry.Geometry.{Geometry}
 use Rattle.mq_layout.specs.Inodes.{ShowsInode}
 use Rattle.mq_layout.specs.Places.{inode_block, inode_place, inodes_of}
+use Rattle.mq_exec.specs.Edits.{Carries}
 use Rattle.mq_exec.specs.Fits.{Agrees}
 use Rattle.mq_exec.specs.Pages.{Pages}
+use Rattle.mq_exec.proofs.Becoming.{carries-sound}
 use Rattle.mq_tree.specs.Laid.{IsPage, ShowsRegion, ShowsTable, ShowsUse, ShowsZone, inode_of}
 use Rattle.mq_tree.specs.Volume.{Use, Volume, block_in, node}
 use Rattle.mq_tree.proofs.Regions.{region-table, region-zone, table-holds}
@@ -26,12 +28,15 @@ pub record IsUse (v : Volume) (u : Use) (page : List ℕ) : Type 0 where
   pub form : IsPage page
   pub shows : ShowsUse v u page
 
-pub use-shown : (g : Geometry) (pages : Pages) (v : Volume) (u : Use) (b : ℕ) (page : List ℕ) → Agrees g pages v → block_in v u ≡ Some b → pages b ≡ Some (Some page) → IsUse v u page
-use-shown g pages v u b page agrees is e =
-    let z = agrees.sound.zones u b is in
-    let shown = agrees.fits.held b page e in
+pub use-carried : (g : Geometry) (pages : Pages) (v : Volume) (u : Use) (b : ℕ) (page : List ℕ) → Carries g pages v → block_in v u ≡ Some b → pages b ≡ Some (Some page) → IsUse v u page
+use-carried g pages v u b page c is e =
+    let z = c.uses.zones u b is in
+    let shown = c.fits.held b page e in
     let at : ShowsZone v b page = subst (λ r. ShowsRegion g v b r page) (region-zone g b z.0 z.1) shown.1 in
-    record { form = shown.0; shows = subst (λ w. ShowsUse v w page) (agrees.sound.apart at.purpose u b at.is is) at.shows }
+    record { form = shown.0; shows = subst (λ w. ShowsUse v w page) (c.uses.apart at.purpose u b at.is is) at.shows }
+
+pub use-shown : (g : Geometry) (pages : Pages) (v : Volume) (u : Use) (b : ℕ) (page : List ℕ) → Agrees g pages v → block_in v u ≡ Some b → pages b ≡ Some (Some page) → IsUse v u page
+use-shown g pages v u b page agrees is e = use-carried g pages v u b page (carries-sound g pages v agrees) is e
 
 -- is not known to be free
 pub use-there : (g : Geometry) (pages : Pages) (v : Volume) (u : Use) (b : ℕ) → Agrees g pages v → block_in v u ≡ Some b → pages b ≢ Some None

@@ -1,15 +1,16 @@
 -- The place of a slot, counted over the blocks of a directory.
-use Rattle.std.proofs.Common.{get_or, ◌≡◌, ℕ, suc, ◌+◌, ◌<◌, Bool, cond, List, [], ◌∷◌, ◌++◌, length, drop, sym, ap, ◌∙◌, arith, inl, inr}
+use Rattle.std.proofs.Common.{get_or, ◌≡◌, ℕ, zero, suc, ◌+◌, ◌/◌, ◌<◌, Bool, cond, List, [], ◌∷◌, ◌++◌, length, drop, refl, sym, ap, ◌∙◌, arith, inl, inr}
 use Rattle.std.specs.Prelude.{Option, Some, None}
 use Rattle.std.specs.Str.{bytes_eq}
 use Rattle.std.proofs.lemmas.Bool.{cases_Bool}
+use Rattle.std.proofs.lemmas.Slice.Eq.{bytes_eq-Decides}
 use Rattle.mq_layout.specs.Slots.{Entry}
 use Rattle.mq_exec.specs.Dirs.{slots_at, slots_in}
 use Rattle.mq_exec.specs.Pages.{Pages, content}
-use Rattle.mq_exec.proofs.Directories.{slots-drop}
+use Rattle.mq_exec.proofs.Directories.{length-slots_at, slots-drop}
 use Rattle.mq_exec.proofs.Entries.{length-slots_in}
 use Rattle.mq_tree.specs.Requests.{unused}
-use Rattle.mq_tree.specs.Volume.{slot_number}
+use Rattle.mq_tree.specs.Volume.{find, slot_number}
 
 -- ---- the first unused slot
 
@@ -74,3 +75,56 @@ number-passed pages name blocks k b page n l is same e h =
     let m = length-slots_in (content (pages b)) in
     sym (number-beyond n 0 (n + 15) name (slots_in (content (pages b))) (slots_at pages (drop (k + 1) blocks)) (omega arith) (e ∙ ap (λ (p : List ℕ). slot_number 0 name (slots_in p)) same))
     ∙ sym (ap (λ (s : List (Option Entry)). slot_number n name s) (slots-drop pages blocks k b l is)) ∙ h
+
+-- where the slot is found
+pub record IsNumbered (name : List ℕ) (xs : List (Option Entry)) (k n : ℕ) : Type 0 where
+  pub place : ℕ
+  pub entry : Entry
+  pub is : n ≡ k + place
+  pub there : get_or xs place None ≡ Some entry
+  pub inside : place < length xs
+  pub named : entry.name ≡ name
+  pub finds : find name xs ≡ Some entry.inode
+
+pub numbered : (k n : ℕ) (name : List ℕ) (xs : List (Option Entry)) → Some n ≡ slot_number k name xs → IsNumbered name xs k n
+numbered k n name [] e = absurd (cc)
+numbered k n name (None ∷ xs) e =
+    let r = numbered (k + 1) n name xs e in
+    let p = r.is in
+    let l = r.inside in
+    record { place = suc r.place; entry = r.entry; is = omega arith; there = r.there; inside = omega arith; named = r.named; finds = r.finds }
+numbered k n name (Some x ∷ xs) e = elim (cases_Bool (bytes_eq x.name name)) [
+  | inl y ↦
+      let f : Some n ≡ Some k = e ∙ ap (λ (b : Bool). cond b (Some k) (slot_number (k + 1) name xs)) y in
+      let same : n ≡ k = cc in
+      record {
+        place = zero;
+        entry = x;
+        is = omega arith;
+        there = refl;
+        inside = omega arith;
+        named = (bytes_eq-Decides x.name name).0 y;
+        finds = ap (λ (b : Bool). cond b (Some x.inode) (find name xs)) y;
+      }
+  | inr other ↦
+      let r = numbered (k + 1) n name xs (e ∙ ap (λ (b : Bool). cond b (Some k) (slot_number (k + 1) name xs)) other) in
+      let p = r.is in
+      let l = r.inside in
+      record { place = suc r.place; entry = r.entry; is = omega arith; there = r.there; inside = omega arith; named = r.named; finds = ap (λ (b : Bool). cond b (Some x.inode) (find name xs)) other ∙ r.finds }
+]
+
+pub number-none : (k : ℕ) (name : List ℕ) (xs : List (Option Entry)) → None ≡ slot_number k name xs → find name xs ≡ None
+number-none k name [] e = refl
+number-none k name (None ∷ xs) e = number-none (k + 1) name xs e
+number-none k name (Some x ∷ xs) e = elim (cases_Bool (bytes_eq x.name name)) [
+  | inl y ↦ (let f : None ≡ Some k = e ∙ ap (λ (b : Bool). cond b (Some k) (slot_number (k + 1) name xs)) y in absurd (cc))
+  | inr other ↦ ap (λ (b : Bool). cond b (Some x.inode) (find name xs)) other ∙ number-none (k + 1) name xs (e ∙ ap (λ (b : Bool). cond b (Some k) (slot_number (k + 1) name xs)) other)
+]
+
+pub number-inside : (pages : Pages) (name blocks : List ℕ) (n : ℕ) → Some n ≡ slot_number 0 name (slots_at pages blocks) → n / 15 < length blocks
+number-inside pages name blocks n e =
+    let r = numbered 0 n name (slots_at pages blocks) e in
+    let p = r.is in
+    let l = r.inside in
+    let m = length-slots_at pages blocks in
+    omega arith

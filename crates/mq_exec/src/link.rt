@@ -7,7 +7,7 @@ ghost use Rattle.mq_exec.specs.Opened.{HoldsPointers, IsTakeable, MayLink, MayUn
 ghost use Rattle.mq_exec.specs.Pages.{IsHeld, pages_of};
 ghost use Rattle.mq_layout.specs.Names.{IsName};
 ghost use Rattle.mq_layout.specs.Places.{inode_block as inode_block_of};
-ghost use Rattle.mq_tree.specs.Requests.{linked, unlinked, unused as first_unused};
+ghost use Rattle.mq_tree.specs.Requests.{cleared, linked, unlinked, unused as first_unused};
 ghost use Rattle.mq_tree.specs.Volume.{Volume, find as find_name, slot_number};
 
 use crate::opened::Opened;
@@ -57,11 +57,14 @@ impl<'a> Working<'a> {
         blocks: &[BlockNo],
         name: &[u8],
     ) -> Result<(), OutOfMemory>
+        requires possible { (v : Volume) × (d : ℕ) × Carries self.old.geometry (pages_of self.old) v × MayUnlink self.old.geometry v d blocks.now }
         requires held { AreDirsAt (pages_of self.old) blocks.now }
         requires few { length blocks.now ≤ 1036 }
         requires found { find_name name.now (slots_at (pages_of self.old) blocks.now) ≢ None }
         ensures over { OnOk result (IsOver self.old self.new) }
         ensures unlinked { OnOk result ((v : Volume) (d : ℕ) → Carries self.old.geometry (pages_of self.old) v → MayUnlink self.old.geometry v d blocks.now → Becomes self.old.geometry v (unlinked v d name.now) self.old self.new) }
+        ensures dirs { OnOk result (AreDirsAt (pages_of self.new) blocks.now) }
+        ensures slots { OnOk result (slots_at (pages_of self.new) blocks.now ≡ cleared name.now (slots_at (pages_of self.old) blocks.now)) }
     {
         let Some(slot) = self.slot_of(blocks, name) else {
             unreachable!();
