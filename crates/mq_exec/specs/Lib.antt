@@ -8,5 +8,7 @@ pub mod Opened
 pub mod Outcomes
 pub mod Pages
 pub mod Picks
+pub mod Plans
 pub mod Reads
+pub mod Removes
 pub mod Walks

@@ -1,7 +1,9 @@
 // The blocks of an inode.
-ghost use Rattle.std.specs.Prelude.{◌≡◌, ◌++◌, ◌<◌, ◌≤◌, IfErr, IfOk, Some, length, take};
+ghost use Rattle.std.specs.Prelude.{◌≡◌, ◌++◌, ◌<◌, ◌≤◌, ◌^◌, IfErr, IfOk, Some, length, take};
 ghost use Rattle.mq_exec.specs.Lacks.{HasVolume, LacksOf, OfEach};
+ghost use Rattle.mq_exec.specs.Pages.{IsHeld, pages_of};
 ghost use Rattle.mq_layout.specs.Bits.{pointer_of};
+ghost use Rattle.mq_tree.specs.Free.{needs as needs_of};
 ghost use Rattle.mq_tree.specs.Decoded.{table_of};
 ghost use Rattle.mq_tree.specs.Laid.{inode_of};
 ghost use Rattle.mq_tree.specs.Sound.{blocks_for};
@@ -23,6 +25,15 @@ pub fn count_for(size: u64) -> u32
     ensures few { result ≤ 1036 }
 {
     ((size + 4095) / 4096) as u32
+}
+
+/// How many blocks are taken to have so many, where more than twelve need a block of pointers.
+pub fn needs(have: u32, want: u32) -> u32
+    requires { want < 2 ^ 31 }
+    ensures { result ≡ needs_of have want }
+{
+    let pointers = u32::from(have <= DIRECT && want > DIRECT);
+    want.saturating_sub(have) + pointers
 }
 
 /// Adds the first pointers of a block of pointers.
@@ -54,6 +65,7 @@ impl<'a> Working<'a> {
         requires possible { HasVolume self.now }
         requires inode { OfEach self.now (λ v. inode.now ≡ inode_of (node v i)) }
         ensures ok { IfOk result (λ blocks. OfEach self.now (λ v. blocks.items ≡ (node v i).blocks)) }
+        ensures pointers { IfOk result (λ blocks. 12 < length blocks.items → IsHeld (pages_of self.now) inode.now.indirect) }
         ensures lack { IfErr result (LacksOf self.now (λ v b. (node v i).indirect ≡ Some b)) }
     {
         let count = count_for(inode.size);

@@ -1,5 +1,5 @@
 // Directories: the blocks with their slots, and what these say together.
-ghost use Rattle.std.specs.Prelude.{◌≡◌, ◌≢◌, ◌≤◌, ◌*◌, ℕ, length, true, Bool, IfErr, IfOk, OnOk, Some, None};
+ghost use Rattle.std.specs.Prelude.{◌≡◌, ◌≢◌, ◌≤◌, ◌*◌, ◌<◌, ℕ, length, true, Bool, IfErr, IfOk, OnOk, Some, None};
 ghost use Rattle.std.specs.List.{All, Contains};
 ghost use Rattle.mq_exec.specs.Dirs.{AreDirsAt, names_of, slots_at};
 ghost use Rattle.mq_exec.specs.Lacks.{HasVolume, Lacks, LacksOf, OfEach};
@@ -28,10 +28,9 @@ impl<'a> Working<'a> {
         }
     }
 
-    /// That these blocks are held, or those of them that are absent.
-    pub fn look_for(&self, alloc: Global, blocks: &[BlockNo]) -> Result<(), Lack>
-        requires { All (λ b. pages_of self.now b ≢ Some None) blocks.now }
-        ensures ok { OnOk result (All (IsHeld (pages_of self.now)) blocks.now) }
+    /// That these blocks are known, or those of them that are absent.
+    pub fn look_for_all(&self, alloc: Global, blocks: &[BlockNo]) -> Result<(), Lack>
+        ensures ok { OnOk result (All (λ b. pages_of self.now b ≢ None) blocks.now) }
         ensures lack { IfErr result (Lacks (pages_of self.now) (Contains blocks.now)) }
     {
         let mut absent = Vec::new(alloc);
@@ -46,6 +45,15 @@ impl<'a> Working<'a> {
         Err(Lack::Need(absent))
     }
 
+    /// That these blocks are held, or those of them that are absent.
+    pub fn look_for(&self, alloc: Global, blocks: &[BlockNo]) -> Result<(), Lack>
+        requires { All (λ b. pages_of self.now b ≢ Some None) blocks.now }
+        ensures ok { OnOk result (All (IsHeld (pages_of self.now)) blocks.now) }
+        ensures lack { IfErr result (Lacks (pages_of self.now) (Contains blocks.now)) }
+    {
+        self.look_for_all(alloc, blocks)
+    }
+
     /// The blocks of a directory, which are held.
     pub fn directory(&self, alloc: Global, d: u32, inode: &Inode) -> Result<Vec<BlockNo>, Lack>
         requires possible { HasVolume self.now }
@@ -54,6 +62,7 @@ impl<'a> Working<'a> {
         ensures held { IfOk result (λ blocks. AreDirsAt (pages_of self.now) blocks.items) }
         ensures slots { IfOk result (λ blocks. OfEach self.now (λ v. body v d ≡ Dir (slots_at (pages_of self.now) blocks.items))) }
         ensures few { IfOk result (λ blocks. length blocks.items ≤ 1036) }
+        ensures pointers { IfOk result (λ blocks. 12 < length blocks.items → IsHeld (pages_of self.now) inode.now.indirect) }
         ensures lack { IfErr result (LacksOf self.now (λ v b. has_block (node v d) b ≡ true)) }
     {
         let blocks = self.blocks(alloc, d, inode)?;

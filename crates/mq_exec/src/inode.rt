@@ -1,7 +1,7 @@
 // Inodes.
 ghost use Rattle.std.specs.Prelude.{◌≡◌, ◌<◌, ◌≤◌, IfErr, IfOk};
 ghost use Rattle.mq_exec.specs.Lacks.{HasVolume, Lacks, LacksOf, OfEach};
-ghost use Rattle.mq_exec.specs.Pages.{pages_of};
+ghost use Rattle.mq_exec.specs.Pages.{IsHeld, pages_of};
 ghost use Rattle.mq_layout.specs.Places.{inode_block as inode_block_of, inodes_of};
 ghost use Rattle.mq_tree.specs.Laid.{inode_of};
 ghost use Rattle.mq_tree.specs.Volume.{node};
@@ -17,6 +17,7 @@ impl<'a> Working<'a> {
         requires low { i < inodes_of self.now.geometry }
         requires possible { HasVolume self.now }
         ensures ok { IfOk result (λ inode. OfEach self.now (λ v. inode ≡ inode_of (node v i))) }
+        ensures held { IfOk result (λ _. IsHeld (pages_of self.now) (inode_block_of self.now.geometry i)) }
         ensures lack { IfErr result (Lacks (pages_of self.now) (λ b. b ≡ inode_block_of self.now.geometry i)) }
     {
         let block = self.content(alloc, inode_block(self.geometry, i))?;

@@ -2,6 +2,7 @@
 ghost use Rattle.std.specs.Prelude.{◌≡◌, ◌<◌, ◌≤◌, IfErr, IfOk};
 ghost use Rattle.mq_blocks.specs.Geometry.{queues_of};
 ghost use Rattle.mq_exec.specs.Lacks.{HasVolume, LacksOf, OfEach};
+ghost use Rattle.mq_exec.specs.Pages.{IsHeld, pages_of};
 ghost use Rattle.mq_layout.specs.Places.{inode_bitmap as inode_bitmap_of, zone_bitmap as zone_bitmap_of};
 ghost use Rattle.mq_tree.specs.Free.{count_free, first_free, zone_blocks};
 
@@ -16,6 +17,7 @@ impl<'a> Working<'a> {
     pub fn free_inode(&self, alloc: Global) -> Result<Option<u32>, Lack>
         requires { HasVolume self.now }
         ensures ok { IfOk result (λ found. OfEach self.now (λ v. found ≡ first_free 0 v)) }
+        ensures held { IfOk result (λ _. IsHeld (pages_of self.now) (inode_bitmap_of self.now.geometry)) }
         ensures lack { IfErr result (LacksOf self.now (λ v b. b ≡ inode_bitmap_of self.now.geometry)) }
     {
         let marks = self.content(alloc, inode_bitmap(self.geometry))?;

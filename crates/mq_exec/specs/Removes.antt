@@ -1,0 +1,26 @@
+-- What is looked at where blocks are freed.
+use Rattle.std.specs.Prelude.{◌≡◌, ◌≤◌, ◌<◌, ◌⊎◌, ℕ, true, slice_get, Some}
+use Rattle.mq_blocks.specs.Geometry.{homes_of, meta_of}
+use Rattle.mq_blocks.specs.declared.geometry.Geometry.{Geometry}
+use Rattle.mq_exec.specs.Changes.{zone_in}
+use Rattle.mq_layout.specs.Places.{inode_bitmap, zone_bitmap}
+use Rattle.mq_tree.specs.Volume.{Volume, has_block, node}
+
+pub record IsInZones (g : Geometry) (b : ℕ) : Type 0 where
+  pub high : meta_of g ≤ b
+  pub home : b < homes_of g
+
+-- a block of the inode, or the bitmap of its zone
+abbrev pub LooksGone : Geometry → Volume → (i b : ℕ) → Type 0
+LooksGone g v i b = (has_block (node v i) b ≡ true) ⊎ ((c : ℕ) × (has_block (node v i) c ≡ true) × (b ≡ zone_bitmap (zone_in g c)))
+
+-- or the bitmap of inodes
+abbrev pub LooksFreed : Geometry → Volume → (i b : ℕ) → Type 0
+LooksFreed g v i b = (b ≡ inode_bitmap g) ⊎ LooksGone g v i b
+
+-- where a file is cut: a block from its new last one on, the bitmap of the zone of one that goes, or its
+-- block of pointers
+pub data LooksCut (g : Geometry) (v : Volume) (i first count b : ℕ) : Type 0 where
+  part : (place : ℕ) → first ≤ place → slice_get (node v i).blocks place ≡ Some b → LooksCut g v i first count b
+  marks : (place c : ℕ) → count ≤ place → slice_get (node v i).blocks place ≡ Some c → b ≡ zone_bitmap (zone_in g c) → LooksCut g v i first count b
+  pointers : (c : ℕ) → count ≤ 12 → (node v i).indirect ≡ Some c → b ≡ zone_bitmap (zone_in g c) → LooksCut g v i first count b

