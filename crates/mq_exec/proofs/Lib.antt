@@ -32,7 +32,9 @@ pub mod Naming
 pub mod Needs
 pub mod Nodes
 pub mod Picking
+pub mod Searching
 pub mod Showing
 pub mod SlotNumbers
 pub mod Sorting
 pub mod Walking
+pub mod Zones

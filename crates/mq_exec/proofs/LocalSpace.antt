@@ -1,10 +1,8 @@
--- What the bitmaps say of free blocks and inodes, and how the first free one is found bit by bit.
-use Rattle.std.proofs.Common.{◌≡◌, ℕ, zero, suc, ◌+◌, ◌*◌, ◌<◌, ◌≤◌, List, [], ◌∷◌, ◌++◌, length, Bool, true, false, cond, refl, sym, ap, ◌∙◌, arith, inl, inr}
+-- What the bitmaps say of free blocks and inodes, and how the first free inode is found bit by bit.
+use Rattle.std.proofs.Common.{◌≡◌, ℕ, zero, suc, ◌+◌, ◌*◌, ◌<◌, ◌≤◌, List, [], ◌∷◌, length, Bool, true, false, cond, refl, sym, ap, ◌∙◌, arith}
 use Rattle.std.specs.Prelude.{Some, None, ◌&&◌, if◌then◌else◌}
-use Rattle.std.specs.List.{range_with_len}
 use Rattle.std.proofs.Math.Nat.{mul-le-mul_right}
-use Rattle.std.proofs.lemmas.Bool.{cases_Bool, lt-ltb}
-use Rattle.std.proofs.lemmas.Option.{none-some}
+use Rattle.std.proofs.lemmas.Bool.{lt-ltb}
 use Rattle.mq_blocks.specs.Geometry.{homes_of, meta_of, queues_of, zone_size}
 use Rattle.mq_blocks.specs.declared.geometry.Geometry.{Geometry}
 use Rattle.mq_exec.specs.Changes.{bit_in, zone_in}
@@ -13,7 +11,7 @@ use Rattle.mq_exec.specs.Pages.{Pages}
 use Rattle.mq_exec.proofs.LocalRegions.{shown-in, zone-marks-region}
 use Rattle.mq_layout.specs.Bits.{bit_of}
 use Rattle.mq_layout.specs.Places.{inode_bitmap, zone_bitmap}
-use Rattle.mq_tree.specs.Free.{count_free, first_free, first_of}
+use Rattle.mq_tree.specs.Free.{first_free}
 use Rattle.mq_tree.specs.Laid.{InodeMarks, ShowsMarks, ZoneMarks, inode_marked, zone_block, zone_marked}
 use Rattle.mq_tree.specs.Volume.{Volume, body, is_taken, is_used}
 use Rattle.mq_tree.proofs.Maps.{zone-low, zone-place, zone-rest}
@@ -51,66 +49,6 @@ bit-true bit false e one = absurd (omega arith)
 pub bit-false : (bit : ℕ) (t : Bool) → bit ≡ (if t then 1 else 0) → bit ≡ 0 → t ≡ false
 bit-false bit true e none = absurd (omega arith)
 bit-false bit false e none = refl
-
--- ---- the first free block, one after another
-
-range-push : (a n : ℕ) → range_with_len a (n + 1) ≡ range_with_len a n ++ (a + n) ∷ []
-range-push a zero = let e : a + zero ≡ a = omega arith in ap (λ (x : ℕ). x ∷ []) (sym e)
-range-push a (suc n) =
-    let e : a + 1 + n ≡ a + suc n = omega arith in
-    let s : suc n + 1 ≡ suc (n + 1) = omega arith in
-    ap (λ (k : ℕ). range_with_len a k) s ∙ ap (λ (xs : List ℕ). a ∷ xs) (range-push (a + 1) n) ∙ ap (λ (x : ℕ). a ∷ (range_with_len (a + 1) n ++ x ∷ [])) e
-
--- where none of the first is free, it is the first of the rest
-pub first-later : (v : Volume) (xs ys : List ℕ) → first_of v xs ≡ None → first_of v (xs ++ ys) ≡ first_of v ys
-first-later v [] ys e = refl
-first-later v (x ∷ xs) ys e = elim (cases_Bool (is_taken v x)) [
-  | inl y ↦ ap (λ (t : Bool). cond t (first_of v (xs ++ ys)) (Some x)) y ∙ first-later v xs ys (ap (λ (t : Bool). cond t (first_of v xs) (Some x)) (sym y) ∙ e)
-  | inr n ↦ absurd (none-some x (sym e ∙ ap (λ (t : Bool). cond t (first_of v xs) (Some x)) n))
-]
-
-pub first-earlier : (v : Volume) (xs ys : List ℕ) (b : ℕ) → first_of v xs ≡ Some b → first_of v (xs ++ ys) ≡ Some b
-first-earlier v [] ys b e = absurd (none-some b e)
-first-earlier v (x ∷ xs) ys b e = elim (cases_Bool (is_taken v x)) [
-  | inl y ↦ ap (λ (t : Bool). cond t (first_of v (xs ++ ys)) (Some x)) y ∙ first-earlier v xs ys b (ap (λ (t : Bool). cond t (first_of v xs) (Some x)) (sym y) ∙ e)
-  | inr n ↦ ap (λ (t : Bool). cond t (first_of v (xs ++ ys)) (Some x)) n ∙ ap (λ (t : Bool). cond t (first_of v xs) (Some x)) (sym n) ∙ e
-]
-
--- the next block of a range is taken, or is the first that is free
-pub first-taken : (v : Volume) (a n : ℕ) → first_of v (range_with_len a n) ≡ None → is_taken v (a + n) ≡ true → first_of v (range_with_len a (n + 1)) ≡ None
-first-taken v a n e t = ap (first_of v) (range-push a n) ∙ first-later v (range_with_len a n) ((a + n) ∷ []) e ∙ ap (λ (c : Bool). cond c (first_of v []) (Some (a + n))) t
-
-pub first-found : (v : Volume) (a n m : ℕ) → first_of v (range_with_len a n) ≡ None → is_taken v (a + n) ≡ false → n < m → first_of v (range_with_len a m) ≡ Some (a + n)
-first-found v a zero zero e t l = absurd (omega arith)
-first-found v a zero (suc m) e t l =
-    let z : a + zero ≡ a = omega arith in
-    ap (λ (c : Bool). cond c (first_of v (range_with_len (a + 1) m)) (Some a)) (ap (is_taken v) (sym z) ∙ t) ∙ ap (λ (x : ℕ). Some x) (sym z)
-first-found v a (suc n) zero e t l = absurd (omega arith)
-first-found v a (suc n) (suc m) e t l = elim (cases_Bool (is_taken v a)) [
-  | inl y ↦
-      let j : a + 1 + n ≡ a + suc n = omega arith in
-      let rest : first_of v (range_with_len (a + 1) n) ≡ None = ap (λ (c : Bool). cond c (first_of v (range_with_len (a + 1) n)) (Some a)) (sym y) ∙ e in
-      ap (λ (c : Bool). cond c (first_of v (range_with_len (a + 1) m)) (Some a)) y ∙ first-found v (a + 1) n m rest (ap (is_taken v) j ∙ t) (omega arith) ∙ ap (λ (x : ℕ). Some x) j
-  | inr f ↦ absurd (none-some a (sym e ∙ ap (λ (c : Bool). cond c (first_of v (range_with_len (a + 1) n)) (Some a)) f))
-]
-
--- ---- how many are free, one after another
-
-count-append : (v : Volume) (xs ys : List ℕ) → count_free v (xs ++ ys) ≡ count_free v xs + count_free v ys
-count-append v [] ys = omega arith
-count-append v (x ∷ xs) ys =
-    let rest = count-append v xs ys in
-    elim (cases_Bool (is_taken v x)) [
-      | inl y ↦ rw y rest
-      | inr n ↦ rw n (omega (arith, rest))
-    ]
-
-pub count-next : (v : Volume) (a n : ℕ) → count_free v (range_with_len a (n + 1)) ≡ count_free v (range_with_len a n) + (if is_taken v (a + n) then 0 else 1)
-count-next v a n = ap (count_free v) (range-push a n) ∙ count-append v (range_with_len a n) ((a + n) ∷ []) ∙ ap (λ (k : ℕ). count_free v (range_with_len a n) + k) (one (is_taken v (a + n)))
-  where
-    one : (t : Bool) → cond t 0 (suc 0) ≡ (if t then 0 else 1)
-    one true = refl
-    one false = refl
 
 -- ---- the first free inode
 

@@ -1,17 +1,15 @@
 -- Bitmaps of each volume of which pages may be a part.
-use Rattle.std.proofs.Common.{get_or, ◌≡◌, ℕ, suc, ◌+◌, ◌-◌, ◌*◌, ◌<◌, ◌≤◌, Bool, true, false, cond, List, drop, refl, sym, ap, subst, ◌∙◌, arith, drop-cons}
+use Rattle.std.proofs.Common.{◌≡◌, ℕ, suc, ◌+◌, ◌-◌, ◌*◌, ◌<◌, ◌≤◌, Bool, true, false, cond, List, drop, refl, sym, ap, subst, ◌∙◌, arith, drop-cons}
 use Rattle.std.specs.Prelude.{Some, ◌&&◌}
 use Rattle.std.proofs.Math.Nat.{mul-le-mul_right}
 use Rattle.std.proofs.lemmas.Bool.{lt-ltb}
-use Rattle.std.proofs.lemmas.List.{drop_all}
-use Rattle.std.proofs.lemmas.List.FromFn.{get_or-range_with_len, length-range_with_len}
 use Rattle.mq_blocks.specs.Geometry.{queues_of, zone_size}
 use Rattle.mq_blocks.specs.declared.geometry.Geometry.{Geometry}
 use Rattle.mq_layout.specs.Bits.{bit_of}
 use Rattle.mq_layout.specs.Places.{inode_bitmap, inodes_of, zone_bitmap}
 use Rattle.mq_exec.specs.Fits.{Agrees}
 use Rattle.mq_exec.specs.Pages.{Pages}
-use Rattle.mq_tree.specs.Free.{count_free, first_free, zone_blocks}
+use Rattle.mq_tree.specs.Free.{first_free}
 use Rattle.mq_tree.specs.Laid.{ShowsMarks, ShowsRegion, ZoneMarks, inode_marked, region, zone_block, zone_marked}
 use Rattle.mq_tree.specs.Volume.{Volume, body, free_node, is_taken, is_used}
 use Rattle.mq_tree.proofs.Regions.{region-inode_marks, region-marks}
@@ -20,7 +18,7 @@ inodes-shown : (g : Geometry) (pages : Pages) (v : Volume) (b : ℕ) (page : Lis
 inodes-shown g pages v b page agrees is e =
     subst (λ r. ShowsRegion g v (inode_bitmap g) r page) (region-inode_marks g) (agrees.fits.held (inode_bitmap g) page (ap pages (sym is) ∙ e)).1
 
-zone-shown : (g : Geometry) (pages : Pages) (v : Volume) (zone b : ℕ) (page : List ℕ) → Agrees g pages v → zone < queues_of g → b ≡ zone_bitmap zone → pages b ≡ Some (Some page) → ShowsMarks page (zone_marked g v zone)
+pub zone-shown : (g : Geometry) (pages : Pages) (v : Volume) (zone b : ℕ) (page : List ℕ) → Agrees g pages v → zone < queues_of g → b ≡ zone_bitmap zone → pages b ≡ Some (Some page) → ShowsMarks page (zone_marked g v zone)
 zone-shown g pages v zone b page agrees low is e =
     let r : region g (zone_bitmap zone) ≡ ZoneMarks zone = region-marks g (zone_bitmap zone) (omega arith) (omega arith) ∙ ap (λ (z : ℕ). ZoneMarks z) (let z : 1 + zone - 1 ≡ zone = omega arith in z) in
     subst (λ x. ShowsRegion g v (zone_bitmap zone) x page) r (agrees.fits.held (zone_bitmap zone) page (ap pages (sym is) ∙ e)).1
@@ -52,32 +50,14 @@ free-beyond g pages v i agrees low used h = sym (free-drop g pages v i agrees lo
 
 -- ---- blocks of a zone
 
-pub zone-bit : (g : Geometry) (pages : Pages) (v : Volume) (zone b k : ℕ) (page : List ℕ) (set : Bool) → Agrees g pages v → zone < queues_of g → b ≡ zone_bitmap zone → pages b ≡ Some (Some page) → k < zone_size g → k < 32768 → as_bit set ≡ bit_of page k
-    → set ≡ is_taken v (zone_block g zone k)
-zone-bit g pages v zone b k page set agrees low is e inside small bit =
-    set-bit (zone_marked g v zone k) set (bit ∙ zone-shown g pages v zone b page agrees low is e k small) ∙ ap (λ (t : Bool). t && is_taken v (zone_block g zone k)) (lt-ltb k (zone_size g) inside)
-
 pub zone-small : (g : Geometry) (k : ℕ) → k < zone_size g → k < 32768
 zone-small g k inside =
     let h = g.homes_high in
     let m : 1 * zone_size g ≤ queues_of g * zone_size g = mul-le-mul_right (zone_size g) g.queues_low in
     omega arith
 
-count-drop : (g : Geometry) (v : Volume) (zone k : ℕ) → k < zone_size g
-    → count_free v (drop k (zone_blocks g zone)) ≡ cond (is_taken v (zone_block g zone k)) (count_free v (drop (k + 1) (zone_blocks g zone))) (suc (count_free v (drop (k + 1) (zone_blocks g zone))))
-count-drop g v zone k inside =
-    let n : k + 1 ≡ suc k = omega arith in
-    let m = length-range_with_len (zone_block g zone 0) (zone_size g) in
-    let at : get_or (zone_blocks g zone) k 0 ≡ zone_block g zone k = get_or-range_with_len (zone_block g zone 0) (zone_size g) k 0 inside ∙ (omega arith) in
-    ap (λ (bs : List ℕ). count_free v bs) (drop-cons (zone_blocks g zone) k 0 (omega arith))
-    ∙ ap (λ (b : ℕ). cond (is_taken v b) (count_free v (drop (suc k) (zone_blocks g zone))) (suc (count_free v (drop (suc k) (zone_blocks g zone))))) at
-    ∙ ap (λ (j : ℕ). cond (is_taken v (zone_block g zone k)) (count_free v (drop j (zone_blocks g zone))) (suc (count_free v (drop j (zone_blocks g zone))))) (sym n)
-
-pub count-free : (g : Geometry) (v : Volume) (zone k : ℕ) → k < zone_size g → false ≡ is_taken v (zone_block g zone k) → count_free v (drop k (zone_blocks g zone)) ≡ suc (count_free v (drop (k + 1) (zone_blocks g zone)))
-count-free g v zone k inside free = count-drop g v zone k inside ∙ ap (λ (t : Bool). cond t (count_free v (drop (k + 1) (zone_blocks g zone))) (suc (count_free v (drop (k + 1) (zone_blocks g zone))))) (sym free)
-
-pub count-taken : (g : Geometry) (v : Volume) (zone k : ℕ) → k < zone_size g → true ≡ is_taken v (zone_block g zone k) → count_free v (drop k (zone_blocks g zone)) ≡ count_free v (drop (k + 1) (zone_blocks g zone))
-count-taken g v zone k inside taken = count-drop g v zone k inside ∙ ap (λ (t : Bool). cond t (count_free v (drop (k + 1) (zone_blocks g zone))) (suc (count_free v (drop (k + 1) (zone_blocks g zone))))) (sym taken)
-
-pub count-end : (g : Geometry) (v : Volume) (zone k : ℕ) → zone_size g ≤ k → count_free v (drop k (zone_blocks g zone)) ≡ 0
-count-end g v zone k past = ap (λ (bs : List ℕ). count_free v bs) (drop_all k (zone_blocks g zone) (let m = length-range_with_len (zone_block g zone 0) (zone_size g) in omega arith))
+-- a bit says whether its block is taken
+pub marks-bit : (g : Geometry) (v : Volume) (zone k : ℕ) (page : List ℕ) (set : Bool) → ShowsMarks page (zone_marked g v zone) → k < zone_size g → as_bit set ≡ bit_of page k → set ≡ is_taken v (zone_block g zone 0 + k)
+marks-bit g v zone k page set shown inside bit =
+    let here : zone_block g zone k ≡ zone_block g zone 0 + k = omega arith in
+    set-bit (zone_marked g v zone k) set (bit ∙ shown k (zone-small g k inside)) ∙ ap (λ (t : Bool). t && is_taken v (zone_block g zone k)) (lt-ltb k (zone_size g) inside) ∙ ap (is_taken v) here

@@ -12,7 +12,7 @@ use Rattle.mq_tree.specs.Volume.{Volume, is_taken}
 
 -- ---- how many there are
 
-count-append : (v : Volume) (xs ys : List ℕ) → count_free v (xs ++ ys) ≡ count_free v xs + count_free v ys
+pub count-append : (v : Volume) (xs ys : List ℕ) → count_free v (xs ++ ys) ≡ count_free v xs + count_free v ys
 count-append v [] ys = omega arith
 count-append v (x ∷ xs) ys =
     let rest = count-append v xs ys in
@@ -21,7 +21,7 @@ count-append v (x ∷ xs) ys =
       | inr n ↦ rw n (omega (arith, rest))
     ]
 
-range-split : (a n m : ℕ) → range_with_len a (n + m) ≡ range_with_len a n ++ range_with_len (a + n) m
+pub range-split : (a n m : ℕ) → range_with_len a (n + m) ≡ range_with_len a n ++ range_with_len (a + n) m
 range-split a zero m =
     let e : zero + m ≡ m = omega arith in
     let f : a + zero ≡ a = omega arith in
@@ -38,7 +38,7 @@ count-split v a n m k b e f =
     ∙ count-append v (range_with_len a n) (range_with_len (a + n) m)
     ∙ ap (λ (c : ℕ). count_free v (range_with_len a n) + count_free v (range_with_len c m)) (sym f)
 
-zones-split : (k q z : ℕ) → q < k → k * z ≡ q * z + (z + (k - suc q) * z)
+pub zones-split : (k q z : ℕ) → q < k → k * z ≡ q * z + (z + (k - suc q) * z)
 zones-split k q z low =
     let e : k ≡ q + 1 + (k - suc q) = omega arith in
     let f : (q + 1 + (k - suc q)) * z ≡ q * z + (z + (k - suc q) * z) = omega arith in
