@@ -5,6 +5,7 @@ pub mod Directories
 pub mod Entries
 pub mod Grouping
 pub mod Lifting
+pub mod LinkedGrown
 pub mod Linking
 pub mod LocalBodies
 pub mod LocalBytes

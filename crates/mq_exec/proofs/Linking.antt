@@ -1,5 +1,5 @@
 -- Names that are added to directories, and that go.
-use Rattle.std.proofs.Common.{get_or, ◌≡◌, ◌≢◌, ℕ, ◌*◌, ◌/◌, ◌%◌, ◌<◌, inl, inr, List, [], ◌∷◌, length, Bool, true, false, cond, sym, ap, subst, ◌∙◌, arith, length-set}
+use Rattle.std.proofs.Common.{get_or, set, ◌≡◌, ◌≢◌, ℕ, ◌*◌, ◌/◌, ◌%◌, ◌<◌, inl, inr, List, [], ◌∷◌, length, Bool, true, false, cond, sym, ap, subst, ◌∙◌, arith, length-set}
 use Rattle.std.specs.Prelude.{Option, Some, None, Result, Ok, Err, OnOk, slice_get}
 use Rattle.std.specs.List.{All}
 use Rattle.std.proofs.lemmas.Bool.{cases_eq, eq-eqb, ne_eqb, true≢false}
@@ -10,20 +10,21 @@ use Rattle.mq_exec.specs.Changes.{IsTextPut, Stepped}
 use Rattle.mq_exec.specs.Dirs.{AreDirsAt, slots_at}
 use Rattle.mq_exec.specs.Edits.{Becomes, Carries, IsKindPut}
 use Rattle.mq_exec.specs.Moves.{IsOfFile}
-use Rattle.mq_exec.specs.Opened.{MayUnlink}
+use Rattle.mq_exec.specs.Opened.{MayLink, MayUnlink}
 use Rattle.mq_exec.specs.Pages.{IsHeld, Pages, content, kinds_of, pages_of}
+use Rattle.mq_exec.specs.declared.opened.Opened.{Opened}
 use Rattle.mq_exec.specs.declared.working.Working.{Working}
 use Rattle.mq_exec.proofs.Becoming.{becomes-stepped}
 use Rattle.mq_exec.proofs.Directories.{carried-form, carried-slots}
 use Rattle.mq_exec.proofs.LocalBodies.{rebodied}
 use Rattle.mq_exec.proofs.LocalKinds.{dir-not-file}
-use Rattle.mq_exec.proofs.LocalLinked.{unlinked-step}
+use Rattle.mq_exec.proofs.LocalLinked.{entry-step, linked-here, unlinked-step}
 use Rattle.mq_exec.proofs.LocalVolumes.{with_body-uses}
-use Rattle.mq_exec.proofs.SlotNumbers.{numbered}
+use Rattle.mq_exec.proofs.SlotNumbers.{numbered, unused-low}
 use Rattle.mq_layout.specs.Fields.{zero_bytes}
-use Rattle.mq_layout.specs.Slots.{Entry}
+use Rattle.mq_layout.specs.Slots.{Entry, slot_bytes}
 use Rattle.mq_pages.specs.declared.page.Kind.TheVariants.{Data, Meta}
-use Rattle.mq_tree.specs.Requests.{cleared, unlinked, with_body}
+use Rattle.mq_tree.specs.Requests.{cleared, linked, unlinked, unused, with_body}
 use Rattle.mq_tree.specs.Volume.{Dir, Node, Volume, body, node, slot_number, slots_of}
 use Rattle.mq_tree.proofs.KeepNodes.{cleared-length}
 use Rattle.mq_tree.proofs.KeepUses.{node-here}
@@ -119,3 +120,20 @@ name-unlinked g v d name blocks slot b old new c m dirs found is kind t = record
     slots-now =
         let long : length now ≡ 15 * length blocks = cleared-length name (slots_of (body v d)) ∙ ap (λ (s : List (Option Entry)). length s) (ap slots_of m.is) ∙ m.size in
         sym (carried-slots g (pages_of new) w d now blocks becomes.carries body-now blocks-now long held-now) ∙ ap (λ (s : List (Option Entry)). cleared name s) (ap slots_of m.is ∙ same)
+
+-- ---- a name is added in an unused slot
+
+pub name-linked : (g : Geometry) (q : ℕ) (v : Volume) (o : Opened) (entry : Entry) (picks : List ℕ) (slot b : ℕ) (old new : Working) → Carries g (pages_of old) v → MayLink g q v o entry picks → AreDirsAt (pages_of old) o.blocks.items
+    → Some slot ≡ unused 0 (slots_at (pages_of old) o.blocks.items) → b ≡ get_or o.blocks.items (slot / 15) b → IsKindPut old new b (Some Meta) → IsTextPut (pages_of old) (pages_of new) b (272 * (slot % 15)) (slot_bytes entry) → Becomes g v (linked g q v o.number entry) old new
+name-linked g q v o entry picks slot b old new c m dirs found is kind t =
+    let d = o.number in
+    let blocks = o.blocks.items in
+    let size = m.size in
+    let low : d < length v = (let l = m.opened.low in let e = c.count in omega arith) in
+    let same : m.slots ≡ slots_at (pages_of old) blocks = carried-slots g (pages_of old) v d m.slots blocks c m.is m.opened.blocks m.size (λ k x l. (dirs k x l).held) in
+    let first : unused 0 m.slots ≡ Some slot = ap (λ (s : List (Option Entry)). unused 0 s) same ∙ sym found in
+    let inside : slot < length m.slots = (let l = unused-low 0 slot m.slots (sym first) in omega arith) in
+    let there : slice_get (node v d).blocks (slot / 15) ≡ Some b = ap (λ (bs : List ℕ). slice_get bs (slot / 15)) (sym m.opened.blocks) ∙ slice_get-get_or blocks (slot / 15) b (omega arith) ∙ ap (λ (x : ℕ). Some x) (sym is) in
+    let step = entry-step g v d slot b m.slots entry (pages_of old) (pages_of new) t.before t.after c.uses low m.is inside there m.form c.fits t.was t.put t.form t.is in
+    let becomes = becomes-slot g v d (slot / 15) b (set m.slots slot (Some entry)) old new c low there (λ none. none-some _ (sym none ∙ t.was)) kind step in
+    subst (λ (x : Volume). Becomes g v x old new) (sym (linked-here g q v d slot m.slots entry m.is first)) becomes

@@ -39,6 +39,17 @@ unused-passed pages blocks k b page n l is same e h =
     sym (unused-beyond n 0 (n + 15) (slots_in (content (pages b))) (slots_at pages (drop (k + 1) blocks)) (omega arith) (e ∙ ap (λ (p : List ℕ). unused 0 (slots_in p)) same))
     ∙ sym (ap (λ (s : List (Option Entry)). unused n s) (slots-drop pages blocks k b l is)) ∙ h
 
+pub unused-low : (k n : ℕ) (xs : List (Option Entry)) → Some n ≡ unused k xs → n < k + length xs
+unused-low k n [] e = absurd (cc)
+unused-low k n (None ∷ xs) e = (let f : n ≡ k = cc in omega arith)
+unused-low k n (Some x ∷ xs) e = (let l = unused-low (suc k) n xs e in omega arith)
+
+pub unused-inside : (pages : Pages) (blocks : List ℕ) (n : ℕ) → Some n ≡ unused 0 (slots_at pages blocks) → n / 15 < length blocks
+unused-inside pages blocks n e =
+    let l = unused-low 0 n (slots_at pages blocks) e in
+    let m = length-slots_at pages blocks in
+    omega arith
+
 -- ---- the slot of a name
 
 number-here : (n k j : ℕ) (name : List ℕ) (xs ys : List (Option Entry)) → Some j ≡ slot_number k name xs → slot_number (n + k) name (xs ++ ys) ≡ Some (n + j)

@@ -87,6 +87,7 @@ impl<'a> Working<'a> {
     ) -> Result<(), OutOfMemory>
         requires possible { (q : ℕ) × (v : Volume) × Carries self.old.geometry (pages_of self.old) v × MayLink self.old.geometry q v o.old (record { inode = inode; name = name.now }) picks.now }
         requires held { AreDirsAt (pages_of self.old) o.old.blocks.items }
+        requires few { length o.old.blocks.items ≤ 1036 }
         requires picks { All (IsTakeable self.old.geometry (pages_of self.old)) picks.now }
         requires table { IsHeld (pages_of self.old) (inode_block_of self.old.geometry o.old.number) }
         requires pointers { HoldsPointers (pages_of self.old) o.old }
