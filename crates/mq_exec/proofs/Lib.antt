@@ -28,6 +28,7 @@ pub mod LocalSteps
 pub mod LocalTaken
 pub mod LocalUses
 pub mod LocalVolumes
+pub mod Making
 pub mod Marking
 pub mod Naming
 pub mod Needs
