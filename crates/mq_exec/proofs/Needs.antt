@@ -18,17 +18,26 @@ pub lacks-weaker : (pages : Pages) (P Q : ℕ → Type 0) (lack : Lack) → ((b 
 lacks-weaker pages P Q (Need blocks) f n = record { some = n.some; absent = n.absent; looked = All-weaker P Q f blocks.items n.looked }
 lacks-weaker pages P Q OutOfMemory f n = n
 
--- a page that is looked up, and is neither absent nor free
-known-held : (p : Page) (page : Option (Option (List ℕ))) → known p ≡ page → (p ≡ Absent → ⊥) → page ≢ Some None → page ≡ Some (Some (content page))
-known-held Absent page e there used = absurd (there refl)
-known-held Free page e there used = absurd (used (sym e))
-known-held (Held block) page e there used = sym e ∙ ap (λ (o : Option (Option (List ℕ))). Some (Some (content o))) e
+-- a page that is looked up, and isn't absent
+known-there : (p : Page) → (p ≡ Absent → ⊥) → known p ≢ None
+known-there Absent there e = there refl
+known-there Free there e = absurd (cc)
+known-there (Held block) there e = absurd (cc)
+
+-- a page that is known, and isn't free
+page-held : (page : Option (Option (List ℕ))) → page ≢ None → page ≢ Some None → page ≡ Some (Some (content page))
+page-held None there used = absurd (there refl)
+page-held (Some None) there used = absurd (used refl)
+page-held (Some (Some page)) there used = refl
+
+pub all-held : (pages : Pages) (blocks : List ℕ) → All (λ b. pages b ≢ Some None) blocks → All (λ b. pages b ≢ None) blocks → All (IsHeld pages) blocks
+all-held pages blocks used there k d l = page-held (pages (get_or blocks k d)) (there k d l) (used k d l)
 
 -- looking for blocks, one after another: those that were absent
 pub record IsSought (pages : Pages) (blocks absent : List ℕ) (k : ℕ) : Type 0 where
   pub absent_all : All (λ b. pages b ≡ None) absent
   pub among : All (Contains blocks) absent
-  pub held : length absent ≡ 0 → All (IsHeld pages) (take k blocks)
+  pub known_all : length absent ≡ 0 → All (λ b. pages b ≢ None) (take k blocks)
 
 pub sought-absent : (pages : Pages) (blocks absent more : List ℕ) (k b : ℕ) (p : Page) → k < length blocks → b ≡ get_or blocks k b → known p ≡ pages b → p ≡ Absent → more ≡ absent ++ b ∷ [] → IsSought pages blocks absent k → IsSought pages blocks more (k + 1)
 sought-absent pages blocks absent more k b p l at e none is h =
@@ -36,26 +45,26 @@ sought-absent pages blocks absent more k b p l at e none is h =
     subst (λ (xs : List ℕ). IsSought pages blocks xs (k + 1)) (sym is) (record {
       absent_all = All-push (λ x. pages x ≡ None) absent b h.absent_all gone;
       among = All-push (Contains blocks) absent b h.among (k, l, sym at);
-      held = λ zero. absurd (let n = length-append absent (b ∷ []) in omega arith);
+      known_all = λ zero. absurd (let n = length-append absent (b ∷ []) in omega arith);
     })
 
-pub sought-held : (pages : Pages) (blocks absent : List ℕ) (k b : ℕ) (p : Page) → k < length blocks → b ≡ get_or blocks k b → known p ≡ pages b → (p ≡ Absent → ⊥) → All (λ x. pages x ≢ Some None) blocks → IsSought pages blocks absent k → IsSought pages blocks absent (k + 1)
-sought-held pages blocks absent k b p l at e there used h =
-    let here : IsHeld pages b = known-held p (pages b) e there (λ f. used k b l (ap pages (sym at) ∙ f)) in
+pub sought-there : (pages : Pages) (blocks absent : List ℕ) (k b : ℕ) (p : Page) → k < length blocks → b ≡ get_or blocks k b → known p ≡ pages b → (p ≡ Absent → ⊥) → IsSought pages blocks absent k → IsSought pages blocks absent (k + 1)
+sought-there pages blocks absent k b p l at e there h =
+    let here : pages b ≢ None = λ f. known-there p there (e ∙ f) in
     record {
       absent_all = h.absent_all;
       among = h.among;
-      held = λ zero. All-more (IsHeld pages) blocks k b l (h.held zero) (subst (λ x. IsHeld pages x) at here);
+      known_all = λ zero. All-more (λ x. pages x ≢ None) blocks k b l (h.known_all zero) (subst (λ x. pages x ≢ None) at here);
     }
 
-pub sought-all : (pages : Pages) (blocks absent : List ℕ) (k : ℕ) → length blocks ≤ k → length absent ≡ 0 → IsSought pages blocks absent k → All (IsHeld pages) blocks
-sought-all pages blocks absent k l none h = subst (λ (xs : List ℕ). All (IsHeld pages) xs) (take_all k blocks l) (h.held none)
+pub sought-all : (pages : Pages) (blocks absent : List ℕ) (k : ℕ) → length blocks ≤ k → length absent ≡ 0 → IsSought pages blocks absent k → All (λ b. pages b ≢ None) blocks
+sought-all pages blocks absent k l none h = subst (λ (xs : List ℕ). All (λ b. pages b ≢ None) xs) (take_all k blocks l) (h.known_all none)
 
 pub sought-need : (pages : Pages) (blocks absent : List ℕ) (k : ℕ) → 1 ≤ length absent → IsSought pages blocks absent k → IsNeed pages (Contains blocks) absent
 sought-need pages blocks absent k some h = record { some = some; absent = h.absent_all; looked = h.among }
 
 pub sought-none : (pages : Pages) (blocks absent : List ℕ) → absent ≡ [] → IsSought pages blocks absent 0
-sought-none pages blocks absent e = subst (λ (xs : List ℕ). IsSought pages blocks xs 0) (sym e) (record { absent_all = All-nil (λ b. pages b ≡ None); among = All-nil (Contains blocks); held = λ zero. All-nil (IsHeld pages) })
+sought-none pages blocks absent e = subst (λ (xs : List ℕ). IsSought pages blocks xs 0) (sym e) (record { absent_all = All-nil (λ b. pages b ≡ None); among = All-nil (Contains blocks); known_all = λ zero. All-nil (λ b. pages b ≢ None) })
 
 -- ---- pages that are the same, block by block
 

@@ -1,22 +1,7 @@
-use Rattle.std.proofs.Common.{sym, ap, ◌∙◌, ◌≡◌, ℕ, List, length, subst, ◌+◌, rules}
-use Rattle.std.specs.Prelude.{Vec}
+use Rattle.std.proofs.lemmas.Result.{on_ok_weaker}
 use Rattle.mq_exec.specs.Pages.{pages_of}
-use Rattle.mq_exec.proofs.Needs.{IsSought, sought-absent, sought-all, sought-held, sought-none}
+use Rattle.mq_exec.proofs.Needs.{all-held}
 use Rattle.mq_exec.proofs.working.Working.look_for.Goals as goal
-use Rattle.mq_exec.proofs.working.Working.look_for.Goals.{in-Absent+in_ok-push, in_default}
 
-pub loop-b-init : goal.loop-b-init
-loop-b-init c = sought-none (pages_of c.args.self.now) c.args.blocks.now c.new-absent.result.items c.new-absent.ensures.items
-
-pub loop-b-preserved : goal.loop-b-preserved
-loop-b-preserved c = elim c.match-page.branch [
-  | in-Absent+in_ok-push w ↦
-      sought-absent (pages_of c.args.self.now) c.args.blocks.now c.loop-b.absent.items _ c.loop-b.b-index c.b-item.result c.page.result c.loop-b-test.true c.b-item.is c.page.ensures w.in-Absent.is
-      (ap (λ (v : Vec ℕ _). v.items) w.absent-is ∙ w.in_ok-push.ensures.items) c.loop-b.invariant
-  | in_default w ↦
-      subst (λ (xs : List ℕ). IsSought (pages_of c.args.self.now) c.args.blocks.now xs (c.loop-b.b-index + 1)) (ap (λ (v : Vec ℕ _). v.items) (sym w.absent-is))
-      (sought-held (pages_of c.args.self.now) c.args.blocks.now c.loop-b.absent.items c.loop-b.b-index c.b-item.result c.page.result c.loop-b-test.true c.b-item.is c.page.ensures w.in_default.not-Absent c.requires c.loop-b.invariant)
-]
-
-pub returns-then-is_empty-clause-ok : goal.returns-then-is_empty-clause-ok
-returns-then-is_empty-clause-ok c = sought-all (pages_of c.args.self.now) c.args.blocks.now c.loop-b.absent.items c.loop-b.b-index c.loop-b-test.false (let e : length c.loop-b.absent.items ≡ 0 = search rules in e) c.loop-b.invariant
+pub returns-clause-ok : goal.returns-clause-ok
+returns-clause-ok c = on_ok_weaker c.look_for_all.result (all-held (pages_of c.args.self.now) c.args.blocks.now c.requires) c.look_for_all.ensures.ok
