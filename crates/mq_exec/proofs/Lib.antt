@@ -33,10 +33,12 @@ pub mod Marking
 pub mod Naming
 pub mod Needs
 pub mod Nodes
+pub mod Opening
 pub mod Picking
 pub mod Searching
 pub mod Showing
 pub mod SlotNumbers
 pub mod Sorting
+pub mod Targets
 pub mod Walking
 pub mod Zones

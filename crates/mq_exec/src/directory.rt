@@ -59,6 +59,7 @@ impl<'a> Working<'a> {
         requires possible { HasVolume self.now }
         requires inode { OfEach self.now (λ v. inode.now ≡ inode_of (node v d)) }
         requires kind { inode.now.kind ≡ 2 }
+        ensures blocks { IfOk result (λ blocks. OfEach self.now (λ v. blocks.items ≡ (node v d).blocks)) }
         ensures held { IfOk result (λ blocks. AreDirsAt (pages_of self.now) blocks.items) }
         ensures slots { IfOk result (λ blocks. OfEach self.now (λ v. body v d ≡ Dir (slots_at (pages_of self.now) blocks.items))) }
         ensures few { IfOk result (λ blocks. length blocks.items ≤ 1036) }
