@@ -2,9 +2,11 @@ pub mod Answering
 pub mod Becoming
 pub mod Contents
 pub mod Directories
+pub mod EmptyInodes
 pub mod Entries
 pub mod Grouping
 pub mod Lifting
+pub mod Keeping
 pub mod LinkedGrown
 pub mod Linking
 pub mod LocalBodies

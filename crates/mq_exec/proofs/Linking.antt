@@ -8,14 +8,15 @@ use Rattle.mq_blocks.specs.Journal.{is_among}
 use Rattle.mq_blocks.specs.declared.geometry.Geometry.{Geometry}
 use Rattle.mq_exec.specs.Changes.{IsTextPut, Stepped}
 use Rattle.mq_exec.specs.Dirs.{AreDirsAt, slots_at}
-use Rattle.mq_exec.specs.Edits.{Becomes, Carries, IsKindPut}
+use Rattle.mq_exec.specs.Edits.{Becomes, Carries, IsKindPut, KeepsHeld}
 use Rattle.mq_exec.specs.Moves.{IsOfFile}
 use Rattle.mq_exec.specs.Opened.{MayLink, MayUnlink}
-use Rattle.mq_exec.specs.Pages.{IsHeld, Pages, content, kinds_of, pages_of}
+use Rattle.mq_exec.specs.Pages.{IsHeld, Pages, kinds_of, pages_of}
 use Rattle.mq_exec.specs.declared.opened.Opened.{Opened}
 use Rattle.mq_exec.specs.declared.working.Working.{Working}
 use Rattle.mq_exec.proofs.Becoming.{becomes-stepped}
 use Rattle.mq_exec.proofs.Directories.{carried-form, carried-slots}
+use Rattle.mq_exec.proofs.Keeping.{keeps-put}
 use Rattle.mq_exec.proofs.LocalBodies.{rebodied}
 use Rattle.mq_exec.proofs.LocalKinds.{dir-not-file}
 use Rattle.mq_exec.proofs.LocalLinked.{entry-step, linked-here, unlinked-step}
@@ -60,11 +61,8 @@ becomes-slot g v d place b now old new c low there known kind s =
     let m : Meta ≡ k = same_Some _ _ (sym kind.here ∙ ap (λ (z : ℕ). kinds_of new z) (sym same) ∙ e) in
     (λ d. absurd (meta-not-data (m ∙ d)), λ f. absurd (dir-not-file g w d place b now fine at (ap (λ (n : Node). n.body) here) (subst (λ z. IsOfFile w z) same f))))
 
-pub held-put : (old new : Pages) (b at : ℕ) (text : List ℕ) (x : ℕ) → IsTextPut old new b at text → IsHeld old x → IsHeld new x
-held-put old new b at text x t held = elim (cases_eq x b) [
-  | inl e ↦ let f : new x ≡ Some (Some t.after) = ap new e ∙ t.put.here in f ∙ ap (λ (o : Option (Option (List ℕ))). Some (Some (content o))) (sym f)
-  | inr other ↦ subst (λ o. o ≡ Some (Some (content o))) (sym (t.put.others x other)) held
-]
+pub text-keeps : (old new : Pages) (b at : ℕ) (text : List ℕ) → IsTextPut old new b at text → KeepsHeld old new
+text-keeps old new b at text t = keeps-put old new b t.before t.after t.was t.put
 
 -- ---- a name goes
 
@@ -114,7 +112,7 @@ name-unlinked g v d name blocks slot b old new c m dirs found is kind t = record
     blocks-now = m.blocks_are ∙ sym (ap (λ (n : Node). n.blocks) here)
 
     held-now : All (IsHeld (pages_of new)) blocks
-    held-now k x l = held-put (pages_of old) (pages_of new) b (272 * (slot % 15)) (zero_bytes 272) (get_or blocks k x) t (held k x l)
+    held-now k x l = (text-keeps (pages_of old) (pages_of new) b (272 * (slot % 15)) (zero_bytes 272) t).held (get_or blocks k x) (held k x l)
 
     slots-now : slots_at (pages_of new) blocks ≡ cleared name (slots_at (pages_of old) blocks)
     slots-now =

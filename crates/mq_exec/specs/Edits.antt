@@ -1,10 +1,10 @@
 -- Working pages that are edited, and the volumes that they carry.
-use Rattle.std.specs.Prelude.{◌≡◌, ◌≢◌, ◌<◌, ◌≤◌, ◌↔◌, ℕ, Option, Some, None}
+use Rattle.std.specs.Prelude.{◌≡◌, ◌≢◌, ◌≤◌, ◌↔◌, ℕ, Option, Some, None}
 use Rattle.mq_blocks.specs.Geometry.{meta_of}
 use Rattle.mq_blocks.specs.declared.geometry.Geometry.{Geometry}
 use Rattle.mq_exec.specs.Fits.{Fits}
 use Rattle.mq_exec.specs.Moves.{IsOfFile, SameAt}
-use Rattle.mq_exec.specs.Pages.{Pages, kinds_of, pages_of, view_of}
+use Rattle.mq_exec.specs.Pages.{IsHeld, Pages, kinds_of, pages_of, view_of}
 use Rattle.mq_exec.specs.declared.working.Working.{Working}
 use Rattle.mq_layout.specs.Places.{inodes_of}
 use Rattle.mq_pages.specs.declared.page.Kind.{Kind}
@@ -25,6 +25,11 @@ pub record IsOver (old new : Working) : Type 0 where
   pub view : IsSameView old new
   pub absent : (b : ℕ) → pages_of old b ≡ None → pages_of new b ≡ None
   pub known : (b : ℕ) → pages_of new b ≡ None → pages_of old b ≡ None
+
+-- what is held stays held, and what is free stays free
+pub record KeepsHeld (old new : Pages) : Type 0 where
+  pub held : (b : ℕ) → IsHeld old b → IsHeld new b
+  pub free : (b : ℕ) → old b ≡ Some None → new b ≡ Some None
 
 -- the kinds of the blocks of the zones stay; those of the metadata region follow from where they are
 abbrev pub KeepsKinds : (old new : Working) → Type 0

@@ -1,5 +1,5 @@
 -- Requests that change, once it is known what they come to.
-use Rattle.std.specs.Prelude.{◌≡◌, ◌≢◌, ◌<◌, ◌≤◌, ◌+◌, ◌-◌, ◌*◌, ◌/◌, ◌%◌, ◌⊎◌, ℕ, Bool, true, false, List, [], ◌∷◌, drop, length, slice_index, slice_set, if◌then◌else◌, Option, Some, None}
+use Rattle.std.specs.Prelude.{◌≡◌, ◌≢◌, ◌<◌, ◌≤◌, ◌-◌, ◌/◌, ℕ, Bool, true, false, List, [], drop, length, slice_index, slice_set, Some, None}
 use Rattle.std.specs.List.{All}
 use Rattle.mq_blocks.specs.declared.geometry.Geometry.{Geometry}
 use Rattle.mq_exec.specs.Dirs.{AreDirsAt}
@@ -17,10 +17,9 @@ use Rattle.mq_exec.specs.declared.file.Found.{Found}
 use Rattle.mq_exec.specs.declared.working.Working.{Working}
 use Rattle.mq_layout.specs.Places.{file_limit, inode_bitmap, inode_block, inodes_of}
 use Rattle.mq_layout.specs.Slots.{Entry}
-use Rattle.mq_tree.specs.Free.{free_blocks}
-use Rattle.mq_tree.specs.Requests.{In, Lost, Makes, Outcome, Root, Says, Target, Verdict, carried_out, freed, is_below, linked, make, refused, rename, resized, target, unlinked}
+use Rattle.mq_tree.specs.Requests.{In, Lost, Root, Target, Verdict, carried_out, freed, is_below, linked, make, refused, rename, resized, target, unlinked}
 use Rattle.mq_tree.specs.Sound.{blocks_for}
-use Rattle.mq_tree.specs.Volume.{Body, Free, File, Dir, Path, Volume, body, find, node, slots_of, way}
+use Rattle.mq_tree.specs.Volume.{Body, Free, File, Dir, Path, Volume, body, find, slots_of, way}
 use Rattle.mq_tree.specs.declared.request.Fault.{Fault}
 use Rattle.mq_tree.specs.declared.request.Fault.TheVariants.{IsDir, NotFound}
 use Rattle.mq_tree.specs.declared.request.Reply.{Reply}

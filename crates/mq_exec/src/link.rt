@@ -2,7 +2,7 @@
 ghost use Rattle.std.specs.Prelude.{◌≡◌, ◌≢◌, ◌≤◌, ℕ, length, None, OnOk};
 ghost use Rattle.std.specs.List.{All};
 ghost use Rattle.mq_exec.specs.Dirs.{AreDirsAt, slots_at};
-ghost use Rattle.mq_exec.specs.Edits.{Becomes, Carries, IsOver};
+ghost use Rattle.mq_exec.specs.Edits.{Becomes, Carries, IsOver, KeepsHeld};
 ghost use Rattle.mq_exec.specs.Opened.{HoldsPointers, IsTakeable, MayLink, MayUnlink};
 ghost use Rattle.mq_exec.specs.Pages.{IsHeld, pages_of};
 ghost use Rattle.mq_layout.specs.Names.{IsName};
@@ -63,6 +63,7 @@ impl<'a> Working<'a> {
         requires found { find_name name.now (slots_at (pages_of self.old) blocks.now) ≢ None }
         ensures over { OnOk result (IsOver self.old self.new) }
         ensures unlinked { OnOk result ((v : Volume) (d : ℕ) → Carries self.old.geometry (pages_of self.old) v → MayUnlink self.old.geometry v d blocks.now → Becomes self.old.geometry v (unlinked v d name.now) self.old self.new) }
+        ensures keeps { OnOk result (KeepsHeld (pages_of self.old) (pages_of self.new)) }
         ensures dirs { OnOk result (AreDirsAt (pages_of self.new) blocks.now) }
         ensures slots { OnOk result (slots_at (pages_of self.new) blocks.now ≡ cleared name.now (slots_at (pages_of self.old) blocks.now)) }
     {
