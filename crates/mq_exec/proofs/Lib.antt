@@ -4,6 +4,7 @@ pub mod Contents
 pub mod Directories
 pub mod EmptyInodes
 pub mod Entries
+pub mod Getting
 pub mod Grouping
 pub mod Lifting
 pub mod Keeping

@@ -2,6 +2,7 @@ pub mod Changes
 pub mod Dirs
 pub mod Edits
 pub mod Fits
+pub mod Growing
 pub mod Lacks
 pub mod Moves
 pub mod Opened
