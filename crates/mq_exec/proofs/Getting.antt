@@ -1,5 +1,5 @@
 -- An inode gets one block more: what the pages keep, and what the volume that they carry becomes.
-use Rattle.std.proofs.Common.{set, ◌≡◌, ◌≢◌, ℕ, ◌+◌, ◌-◌, ◌*◌, ◌<◌, ◌≤◌, inl, inr, List, [], ◌∷◌, ◌++◌, length, Bool, true, false, cond, refl, sym, ap, subst, ◌∙◌, arith, Ok, Err, Result}
+use Rattle.std.proofs.Common.{set, ◌≡◌, ◌≢◌, ℕ, ◌+◌, ◌-◌, ◌*◌, ◌<◌, ◌≤◌, inl, inr, List, [], ◌∷◌, ◌++◌, length, Bool, true, false, cond, refl, sym, ap, subst, ◌∙◌, arith, rules, vec_len, Ok, Err, Result}
 use Rattle.std.specs.Prelude.{Option, Some, None, OnOk, ◌↔◌, if◌then◌else◌, nat_eq, nat_lt}
 use Rattle.std.proofs.lemmas.Bool.{cases_Bool, cases_eq, cases_lt, eq-eqb, le-ltb, lt-ltb, ne_eqb, true≢false}
 use Rattle.std.proofs.lemmas.List.{length-append, length-set}
@@ -22,6 +22,7 @@ use Rattle.mq_exec.proofs.LocalGrown.{padded-near}
 use Rattle.mq_exec.proofs.LocalKinds.{dir-not-file, part-of-file, pointers-not-file}
 use Rattle.mq_exec.proofs.LocalTaken.{IsFree, far-step, far_inode-step, file-far, get-last, longer, near-step, pointed-step, with_indirect}
 use Rattle.mq_exec.proofs.LocalVolumes.{next-dir, next-file, with_block-uses, with_pointers-uses}
+use Rattle.mq_exec.proofs.Nodes.{length-padded}
 use Rattle.mq_layout.specs.Inodes.{IsInode}
 use Rattle.mq_layout.specs.Places.{file_limit, inode_block, inodes_of, zone_bitmap}
 use Rattle.mq_layout.specs.Slots.{Entry}
@@ -59,7 +60,7 @@ put-keeps old new z b page put other = record {
 had-some : (pages : Pages) (x : ℕ) (page : List ℕ) → pages x ≡ Some (Some page) → pages x ≢ Some None
 had-some pages x page e none = absurd (cc)
 
-keeps-then : (old mid new : Pages) (b : ℕ) → KeepsOthers old mid b → KeepsOthers mid new b → KeepsOthers old new b
+pub keeps-then : (old mid new : Pages) (b : ℕ) → KeepsOthers old mid b → KeepsOthers mid new b → KeepsOthers old new b
 keeps-then old mid new b k l = record { held = λ x h. l.held x (k.held x h); free = λ x other e. l.free x other (k.free x other e) }
 
 pub take-keeps : (g : Geometry) (old new : Pages) (b : ℕ) → IsTakenIn g old new b → KeepsOthers old new b
@@ -195,6 +196,16 @@ pub record Pointed (old new : Working) (p at b : ℕ) : Type 0 where
   pub kinds : IsKindPut old new p (Some Meta)
   pub put : IsPointerPut (pages_of old) (pages_of new) p at b
 
+pub took-as : (old new : Working) (b : ℕ) (kind other : Kind) → kind ≡ other → IsOver old new → IsZoneKindPut old new b (Some kind) → IsTakenIn old.geometry (pages_of old) (pages_of new) b → Took old new b other
+took-as old new b kind other e over kinds taken = record { over = over; kinds = subst (λ (k : Kind). IsZoneKindPut old new b (Some k)) e kinds; taken = taken }
+
+pub pointed-as : (old new : Working) (p q at place b : ℕ) → p ≡ q → at ≡ place → IsOver old new → IsKindPut old new p (Some Meta) → IsPointerPut (pages_of old) (pages_of new) p at b → Pointed old new q place b
+pointed-as old new p q at place b e f over kinds put = record {
+  over = over;
+  kinds = subst (λ (x : ℕ). IsKindPut old new x (Some Meta)) e kinds;
+  put = subst (λ (x : ℕ). IsPointerPut (pages_of old) (pages_of new) x place b) e (subst (λ (x : ℕ). IsPointerPut (pages_of old) (pages_of new) p x b) f put);
+}
+
 inode-put : (g h : Geometry) (old new : Pages) (i : ℕ) (inode said : Inode) → h ≡ g → inode ≡ said → IsInodePut h old new i inode → IsInodePut g old new i said
 inode-put g h old new i inode said e f p = subst (λ (x : Inode). IsInodePut g old new i x) f (subst (λ (x : Geometry). IsInodePut x old new i inode) e p)
 
@@ -248,7 +259,7 @@ becomes-with g v w old new b rest c fine size f s marks free right listed others
     let z = zone_bitmap (zone_in g b) in
     let low = bitmap-low g v b f in
     let all : (x : ℕ) → is_among x (z ∷ b ∷ rest) ≡ true → IsListed g w old new x =
-        each-more (IsListed g w old new) z (b ∷ rest) (none-not (pages_of old) z _ marks, λ h. absurd (omega arith)) (each-more (IsListed g w old new) b rest (none-not (pages_of old) b None free, λ h. right) listed) in
+    each-more (IsListed g w old new) z (b ∷ rest) (none-not (pages_of old) z _ marks, λ h. absurd (omega arith)) (each-more (IsListed g w old new) b rest (none-not (pages_of old) b None free, λ h. right) listed) in
     becomes-stepped g v w old new (z ∷ b ∷ rest) c fine size s (λ x e. (all x e).0)
     (λ x high out. let one = out-more z (b ∷ rest) x out in let two = out-more b rest x one.1 in others x high two.0 two.1)
     (λ x kind high e. (all x e).1 high kind)
@@ -290,7 +301,7 @@ point-got old mid new v o after b c m twelve zero pick table t number said block
     record {
       number = number;
       becomes = becomes-with g v w old new b (inode_block g i ∷ []) c fine (length-set v i (with_indirect (node v i) b)) r.free s pick.marks.marks pick.free right
-      (one-listed g w old new (inode_block g i) (table-listed g w old new i m.low table)) (λ x high other out. later x high ∙ t.kinds.others x high other);
+          (one-listed g w old new (inode_block g i) (table-listed g w old new i m.low table)) (λ x high other out. later x high ∙ t.kinds.others x high other);
       inode = inode ∙ ap inode_of (sym here);
       blocks = blocks ∙ m.blocks ∙ ap (λ (n : Node). n.blocks) (sym here);
     }
@@ -308,11 +319,20 @@ append-form g pages v o b c m =
     let form : IsInode (inode_of (longer n b)) = subst (λ (x : Node). IsInode (inode_of x)) here (inode-form g w o.number fine (ap (λ (x : Node). is_used x.body) here ∙ r.used) (subst (λ (x : Node). size_of x.body (length x.blocks) ≤ file_limit) (sym here) size)) in
     subst (λ (x : Inode). IsInode x) (longer-is n b ∙ ap (λ (x : Inode). longer_inode x (length n.blocks) b) (sym m.inode) ∙ ap (λ (xs : List ℕ). longer_inode o.inode (length xs) b) (sym m.blocks)) form
 
+pub count-items : (o : Opened) → vec_len o.blocks ≡ length o.blocks.items
+count-items o = search rules
+
+pub twelve-direct : (g : Geometry) (v : Volume) (o : Opened) (b : ℕ) → MayGet g v o b → length o.inode.direct ≡ 12
+twelve-direct g v o b m = ap (λ (x : Inode). length x.direct) m.inode ∙ length-padded 12 (node v o.number).blocks
+
 -- what the inode was found to say and to have
 pub record IsAppended (o after : Opened) (b : ℕ) : Type 0 where
   pub number : after.number ≡ o.number
   pub inode : after.inode ≡ longer_inode o.inode (length o.blocks.items) b
   pub blocks : after.blocks.items ≡ o.blocks.items ++ b ∷ []
+
+pub appended-as : (o after : Opened) (count b : ℕ) → count ≡ length o.blocks.items → after.number ≡ o.number → after.inode ≡ longer_inode o.inode count b → after.blocks.items ≡ o.blocks.items ++ b ∷ [] → IsAppended o after b
+appended-as o after count b e number inode blocks = record { number = number; inode = inode ∙ ap (λ (k : ℕ). longer_inode o.inode k b) e; blocks = blocks }
 
 appended-inode : (g : Geometry) (v : Volume) (o after : Opened) (b : ℕ) → MayGet g v o b → IsAppended o after b → after.inode ≡ inode_of (longer (node v o.number) b)
 appended-inode g v o after b m a =
