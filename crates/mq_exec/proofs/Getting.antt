@@ -138,14 +138,14 @@ file-size (Dir slots) count other = absurd (other refl)
 
 -- ---- the block of pointers
 
-some-indirect : (o : Option ℕ) (p : ℕ) → p ≡ or_zero o → p ≢ 0 → o ≡ Some p
+pub some-indirect : (o : Option ℕ) (p : ℕ) → p ≡ or_zero o → p ≢ 0 → o ≡ Some p
 some-indirect None p e other = absurd (other e)
 some-indirect (Some x) p e other = ap (λ (y : ℕ). Some y) (sym e)
 
 pub indirect-high : (g : Geometry) (v : Volume) (i p : ℕ) → AreUses g v → (node v i).indirect ≡ Some p → p ≢ 0
 indirect-high g v i p uses is e = let z = (uses.zones (Pointers i) p is).0 in let m = g.meta_low in omega arith
 
-no-indirect : (g : Geometry) (v : Volume) (i : ℕ) → AreUses g v → or_zero (node v i).indirect ≡ 0 → (node v i).indirect ≡ None
+pub no-indirect : (g : Geometry) (v : Volume) (i : ℕ) → AreUses g v → or_zero (node v i).indirect ≡ 0 → (node v i).indirect ≡ None
 no-indirect g v i uses e = at (node v i).indirect refl e
   where
     at : (o : Option ℕ) → (node v i).indirect ≡ o → or_zero o ≡ 0 → o ≡ None

@@ -6,6 +6,7 @@ pub mod EmptyInodes
 pub mod Entries
 pub mod Getting
 pub mod Grouping
+pub mod Growing
 pub mod Lifting
 pub mod Keeping
 pub mod LinkedGrown
