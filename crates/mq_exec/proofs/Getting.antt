@@ -1,7 +1,7 @@
 -- An inode gets one block more: what the pages keep, and what the volume that they carry becomes.
-use Rattle.std.proofs.Common.{set, ◌≡◌, ◌≢◌, ℕ, ◌+◌, ◌-◌, ◌*◌, ◌<◌, ◌≤◌, inl, inr, List, [], ◌∷◌, ◌++◌, length, Bool, true, false, cond, refl, sym, ap, subst, ◌∙◌, arith, rules, vec_len, Ok, Err, Result}
+use Rattle.std.proofs.Common.{set, ◌≡◌, ◌≢◌, ℕ, ◌+◌, ◌-◌, ◌<◌, ◌≤◌, inl, inr, List, [], ◌∷◌, ◌++◌, length, Bool, true, false, cond, refl, sym, ap, subst, ◌∙◌, arith, rules, vec_len, Ok, Err, Result}
 use Rattle.std.specs.Prelude.{Option, Some, None, OnOk, ◌↔◌, if◌then◌else◌, nat_eq, nat_lt}
-use Rattle.std.proofs.lemmas.Bool.{cases_Bool, cases_eq, cases_lt, eq-eqb, le-ltb, lt-ltb, ne_eqb, true≢false}
+use Rattle.std.proofs.lemmas.Bool.{cases_eq, cases_lt, eq-eqb, le-ltb, lt-ltb, ne_eqb, true≢false}
 use Rattle.std.proofs.lemmas.List.{length-append, length-set}
 use Rattle.mq_blocks.specs.Blocks.{zeros}
 use Rattle.mq_blocks.specs.Geometry.{meta_of}
@@ -25,13 +25,12 @@ use Rattle.mq_exec.proofs.LocalVolumes.{next-dir, next-file, with_block-uses, wi
 use Rattle.mq_exec.proofs.Nodes.{length-padded}
 use Rattle.mq_layout.specs.Inodes.{IsInode}
 use Rattle.mq_layout.specs.Places.{file_limit, inode_block, inodes_of, zone_bitmap}
-use Rattle.mq_layout.specs.Slots.{Entry}
 use Rattle.mq_layout.specs.declared.inode.Inode.{Inode}
 use Rattle.mq_pages.specs.declared.page.Kind.{Kind}
 use Rattle.mq_pages.specs.declared.page.Kind.TheVariants.{Data, Meta}
 use Rattle.mq_tree.specs.Free.{with_block, with_pointers}
 use Rattle.mq_tree.specs.Laid.{ShowsPart, inode_of, kind_of, links_of, or_zero, padded, size_of}
-use Rattle.mq_tree.specs.Volume.{Body, Free, File, Dir, Node, Part, Pointers, Volume, block_in, body, is_taken, is_used, node}
+use Rattle.mq_tree.specs.Volume.{Body, Free, File, Dir, Node, Part, Pointers, Volume, block_in, body, is_used, node}
 use Rattle.mq_tree.proofs.KeepUses.{AreUses, node-here}
 use Rattle.mq_tree.proofs.Maps.{zone-low}
 

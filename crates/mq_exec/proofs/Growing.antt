@@ -1,13 +1,14 @@
 -- An inode grows by the blocks that were picked, one after another.
-use Rattle.std.proofs.Common.{get_or, set, drop, ◌≡◌, ◌≢◌, ℕ, zero, suc, ◌+◌, ◌-◌, ◌<◌, ◌≤◌, ◌⊎◌, inl, inr, List, [], ◌∷◌, ◌++◌, length, Bool, true, false, cond, refl, sym, ap, subst, ◌∙◌, arith}
+use Rattle.std.proofs.Common.{get_or, ◌≡◌, ◌≢◌, ℕ, zero, suc, ◌+◌, ◌-◌, ◌<◌, ◌≤◌, ◌⊎◌, inl, inr, List, [], ◌∷◌, ◌++◌, length, Bool, true, false, cond, refl, sym, ap, subst, ◌∙◌, arith}
 use Rattle.std.specs.Prelude.{Option, Some, None, ◌&&◌, is_none, is_some, if◌then◌else◌, nat_eq, nat_le, nat_lt}
 use Rattle.std.specs.List.{All}
-use Rattle.std.proofs.lemmas.Bool.{cases_Bool, cases_eq, cases_lt, eq-eqb, le-ltb, lt-ltb, ltb-false, ltb-true, ne_eqb, true≢false}
+use Rattle.std.proofs.lemmas.Bool.{cases_eq, eq-eqb, le-ltb, lt-ltb, ltb-false, ltb-true, ne_eqb, true≢false}
 use Rattle.std.proofs.lemmas.Bool.Decides.{nat_tests}
 use Rattle.std.proofs.lemmas.List.{length-append}
 use Rattle.mq_blocks.specs.Geometry.{queues_of}
 use Rattle.mq_blocks.specs.Journal.{is_among}
 use Rattle.mq_blocks.specs.declared.geometry.Geometry.{Geometry}
+use Rattle.mq_exec.specs.Changes.{zone_in}
 use Rattle.mq_exec.specs.Edits.{Becomes, Carries, IsOver}
 use Rattle.mq_exec.specs.Growing.{HasGot, HoldsIndirect, KeepsOthers, MayGet, with_one}
 use Rattle.mq_exec.specs.Opened.{HasGrown, HoldsPointers, IsOpened, IsTakeable, IsWithin, MayGrow}
@@ -20,9 +21,9 @@ use Rattle.mq_exec.proofs.Getting.{indirect-high, more-within, no-indirect, some
 use Rattle.mq_exec.proofs.LocalTaken.{longer, with_indirect}
 use Rattle.mq_exec.proofs.LocalVolumes.{one_more-is, pointed-is, pointed-not}
 use Rattle.mq_exec.proofs.Picking.{IsTakenMore, block-more, picks-apart, picks-first, picks-free, picks-rest, pointers-more}
-use Rattle.mq_layout.specs.Places.{inode_block, inodes_of}
+use Rattle.mq_layout.specs.Places.{inode_block, inodes_of, zone_bitmap}
 use Rattle.mq_layout.specs.declared.inode.Inode.{Inode}
-use Rattle.mq_tree.specs.Free.{first_of, grown, needs, one_more, order, pointed, with_block, with_pointers}
+use Rattle.mq_tree.specs.Free.{first_of, grown, needs, one_more, order, with_block, with_pointers}
 use Rattle.mq_tree.specs.Laid.{inode_of, or_zero}
 use Rattle.mq_tree.specs.Volume.{Node, Volume, body, node}
 use Rattle.mq_tree.proofs.KeepUses.{node-here}
@@ -255,3 +256,162 @@ way-may g q v count i old now o b rest w =
       high = f.high;
       home = f.home;
     }
+
+-- the volume with one block more
+record IsNext (g : Geometry) (q : ℕ) (mid next : Volume) (i left after picks b : ℕ) : Type 0 where
+  grows : finish g q next i after ≡ finish g q mid i left
+  within : IsWithin (body next i) (length (node next i).blocks)
+  plan : IsPlanned (node next i) after picks
+  more : IsTakenMore mid next b
+
+way-next : (g : Geometry) (q : ℕ) (v next : Volume) (count i left : ℕ) (old now new : Working) (o after : Opened) (b : ℕ) (rest : List ℕ) (w : IsOnWay g q v count i old now o (b ∷ rest)) → with_one w.mid o.number b ≡ next → IsNext g q w.mid next i w.left left (length rest) b
+    → IsOver old now → HasGot g w.mid (with_one w.mid o.number b) now new o after → IsOnWay g q v count i old new after rest
+way-next g q v next count i left old now new o after b rest w e n over got =
+    let blocks : after.blocks.items ≡ (node next i).blocks = got.blocks ∙ ap (λ (x : Volume). (node x o.number).blocks) e ∙ ap (λ (j : ℕ). (node next j).blocks) w.number in
+    record {
+      mid = next;
+      left = left;
+      grows = n.grows ∙ w.grows;
+      becomes = becomes-then g v w.mid next old now new over w.becomes (subst (λ (x : Volume). Becomes g w.mid x now new) e got.becomes);
+      number = got.number ∙ w.number;
+      low = w.low;
+      queue = w.queue;
+      inode = got.inode ∙ ap (λ (x : Volume). inode_of (node x o.number)) e ∙ ap (λ (j : ℕ). inode_of (node next j)) w.number;
+      blocks = blocks;
+      within = subst (λ (xs : List ℕ). IsWithin (body next i) (length xs)) (sym blocks) n.within;
+      plan = n.plan;
+      picked = picks-rest g q w.mid next (length rest) b rest w.queue w.picked n.more;
+    }
+
+-- whether a block of pointers comes next
+comes-next : (n : Node) → ((length n.blocks ≡ 12) × (n.indirect ≡ None)) ⊎ (length n.blocks ≡ 12 → n.indirect ≢ None)
+comes-next n = elim (cases_eq (length n.blocks) 12) [
+  | inl e ↦ at e n.indirect refl
+  | inr other ↦ inr (λ e. absurd (other e))
+]
+  where
+    at : length n.blocks ≡ 12 → (o : Option ℕ) → n.indirect ≡ o → ((length n.blocks ≡ 12) × (n.indirect ≡ None)) ⊎ (length n.blocks ≡ 12 → n.indirect ≢ None)
+    at e None is = inl (e, is)
+    at e (Some x) is = inr (λ f none. (let g : Some x ≡ None = sym is ∙ none in absurd (cc)))
+
+pub way-step : (g : Geometry) (q : ℕ) (v : Volume) (count i : ℕ) (old now new : Working) (o after : Opened) (b : ℕ) (rest : List ℕ) (w : IsOnWay g q v count i old now o (b ∷ rest)) → IsOver old now → HasGot g w.mid (with_one w.mid o.number b) now new o after
+    → IsOnWay g q v count i old new after rest
+way-step g q v count i old now new o after b rest w over got =
+    let mid = w.mid in
+    let n = node mid i in
+    let s = plan-some n w.left (length rest) w.plan in
+    let more = s.1 in
+    let plan : IsPlanned n (suc s.0) (suc (length rest)) = subst (λ (k : ℕ). IsPlanned n k (suc (length rest))) more w.plan in
+    let count_in = w.becomes.carries.count in
+    let inside = w.low in
+    let low : i < length mid = omega arith in
+    let first = picks-first g q mid (length rest) b rest w.picked in
+    let within : IsWithin n.body (length n.blocks) = subst (λ (xs : List ℕ). IsWithin n.body (length xs)) w.blocks w.within in
+    elim (comes-next n) [
+      | inl next ↦
+          let u = with_pointers mid i (Some b) in
+          let here : node u i ≡ with_indirect n b = node-here mid i (with_indirect n b) low in
+          way-next g q v u count i (suc s.0) old now new o after b rest w (ap (λ (j : ℕ). with_one mid j b) w.number ∙ one-pointed mid i b next.0 next.1) (record {
+            grows = rest-pointed g q mid i b s.0 low next.0 next.1 first ∙ ap (λ (k : ℕ). finish g q mid i k) (sym more);
+            within = subst (λ (x : Node). IsWithin x.body (length x.blocks)) (sym here) within;
+            plan = subst (λ (x : Node). IsPlanned x (suc s.0) (length rest)) (sym here) (plan-pointed n s.0 (length rest) b next.0 next.1 plan);
+            more = pointers-more mid i b low next.1;
+          }) over got
+      | inr not ↦
+          let u = with_block mid i (Some b) in
+          let here : node u i ≡ longer n b = node-here mid i (longer n b) low in
+          way-next g q v u count i s.0 old now new o after b rest w (ap (λ (j : ℕ). with_one mid j b) w.number ∙ one-block mid i b not) (record {
+            grows = rest-block g q mid i b s.0 low not (early n plan) first ∙ ap (λ (k : ℕ). finish g q mid i k) (sym more);
+            within = subst (λ (x : Node). IsWithin x.body (length x.blocks)) (sym here) (subst (λ (k : ℕ). IsWithin n.body k) (sym (length-append n.blocks (b ∷ []))) (more-within n.body (length n.blocks) within));
+            plan = subst (λ (x : Node). IsPlanned x s.0 (length rest)) (sym here) (plan-block n s.0 (length rest) b not plan);
+            more = block-more mid i b low;
+          }) over got
+    ]
+  where
+    early : (n : Node) {left picks : ℕ} → IsPlanned n left picks → length n.blocks < 12 → n.indirect ≡ None
+    early n p near = at n.indirect refl
+      where
+        at : (x : Option ℕ) → n.indirect ≡ x → n.indirect ≡ None
+        at None e = e
+        at (Some y) e = let h = p.some (λ f. (let g : Some y ≡ None = sym e ∙ f in absurd (cc))) in absurd (omega arith)
+
+-- ---- where the geometry is that of the pages now
+
+pub way-possible : (g h : Geometry) (q : ℕ) (v : Volume) (count i : ℕ) (old now : Working) (o : Opened) (b : ℕ) (rest : List ℕ) → h ≡ g → IsOnWay g q v count i old now o (b ∷ rest) → (x : Volume) × Carries h (pages_of now) x × MayGet h x o b
+way-possible g h q v count i old now o b rest e w =
+    (w.mid, subst (λ (k : Geometry). Carries k (pages_of now) w.mid) (sym e) w.becomes.carries, subst (λ (k : Geometry). MayGet k w.mid o b) (sym e) (way-may g q v count i old now o b rest w))
+
+pub way-got : (g h : Geometry) (q : ℕ) (v : Volume) (count i : ℕ) (old now new : Working) (o after : Opened) (b : ℕ) (rest : List ℕ) → h ≡ g → (w : IsOnWay g q v count i old now o (b ∷ rest)) → ((x : Volume) → Carries h (pages_of now) x → MayGet h x o b → HasGot h x (with_one x o.number b) now new o after)
+    → HasGot g w.mid (with_one w.mid o.number b) now new o after
+way-got g h q v count i old now new o after b rest e w got =
+    let p = subst (λ (k : Geometry). Carries k (pages_of now) w.mid) (sym e) w.becomes.carries in
+    let m = subst (λ (k : Geometry). MayGet k w.mid o b) (sym e) (way-may g q v count i old now o b rest w) in
+    subst (λ (k : Geometry). HasGot k w.mid (with_one w.mid o.number b) now new o after) e (got w.mid p m)
+
+-- no pick is left
+pub way-end : (g : Geometry) (q : ℕ) (v : Volume) (count : ℕ) (old now : Working) (before o : Opened) → IsOnWay g q v count before.number old now o [] → HasGrown g q v old now before o count
+way-end g q v count old now before o w =
+    let i = before.number in
+    let last = plan-end (node w.mid i) w.left w.plan in
+    let is : w.mid ≡ grown g q v i count = ap (λ (k : ℕ). finish g q w.mid i k) (sym last.0) ∙ w.grows in
+    let opened : IsOpened g w.mid o = record {
+      low = subst (λ (j : ℕ). j < inodes_of g) (sym w.number) w.low;
+      inode = w.inode ∙ ap (λ (j : ℕ). inode_of (node w.mid j)) (sym w.number);
+      blocks = w.blocks ∙ ap (λ (j : ℕ). (node w.mid j).blocks) (sym w.number);
+      indirect = subst (λ (j : ℕ). is_some (node w.mid j).indirect ≡ nat_lt 12 (length (node w.mid j).blocks)) (sym w.number) last.1;
+    } in
+    record {
+      number = w.number;
+      becomes = subst (λ (x : Volume). Becomes g v x old now) is w.becomes;
+      opened = subst (λ (x : Volume). IsOpened g x o) is opened;
+    }
+
+-- ---- pages in the midst
+
+-- the other picks may be taken, and what is written with them is held
+pub record AreReady (g : Geometry) (now : Working) (o : Opened) (rest : List ℕ) : Type 0 where
+  pub picks : All (IsTakeable g (pages_of now)) rest
+  pub table : IsHeld (pages_of now) (inode_block g o.number)
+  pub pointers : HoldsIndirect (pages_of now) o.inode
+
+not-among : (b : ℕ) (xs : List ℕ) (k d : ℕ) → is_among b xs ≡ false → k < length xs → get_or xs k d ≢ b
+not-among b [] k d out l = absurd (omega arith)
+not-among b (x ∷ xs) zero d out l = λ e. true≢false (sym (ap (λ (t : Bool). cond t true (is_among b xs)) (eq-eqb x b e)) ∙ out)
+not-among b (x ∷ xs) (suc k) d out l = elim (cases_eq x b) [
+  | inl e ↦ absurd (true≢false (sym (ap (λ (t : Bool). cond t true (is_among b xs)) (eq-eqb x b e)) ∙ out))
+  | inr n ↦ not-among b xs k d (sym (ap (λ (t : Bool). cond t true (is_among b xs)) (ne_eqb x b n)) ∙ out) (omega arith)
+]
+
+pub ready-step : (g : Geometry) (q : ℕ) (v : Volume) (count i : ℕ) (old now new : Working) (o after : Opened) (b : ℕ) (rest : List ℕ) → IsOnWay g q v count i old now o (b ∷ rest) → AreReady g now o (b ∷ rest) → after.number ≡ o.number
+    → KeepsOthers (pages_of now) (pages_of new) b → HoldsIndirect (pages_of new) after.inode → AreReady g new after rest
+ready-step g q v count i old now new o after b rest w r number k indirect =
+    let apart = picks-apart g q w.mid (length rest) b rest w.queue w.picked in
+    record {
+      picks = λ j d l.
+          let t = r.picks (suc j) d (omega arith) in
+          record {
+            marks = record { high = t.marks.high; home = t.marks.home; marks = k.held (zone_bitmap (zone_in g (get_or rest j d))) t.marks.marks };
+            free = k.free (get_or rest j d) (not-among b rest j d apart l) t.free;
+          };
+      table = subst (λ (j : ℕ). IsHeld (pages_of new) (inode_block g j)) (sym number) (k.held (inode_block g o.number) r.table);
+      pointers = indirect;
+    }
+
+pub ready-pick : (g h : Geometry) (now : Working) (o : Opened) (b : ℕ) (rest : List ℕ) → h ≡ g → AreReady g now o (b ∷ rest) → IsTakeable h (pages_of now) b
+ready-pick g h now o b rest e r = subst (λ (k : Geometry). IsTakeable k (pages_of now) b) (sym e) (r.picks 0 b (omega arith))
+
+-- where there is a block of pointers, there are more than twelve blocks
+pub holds-start : (g : Geometry) (pages : Pages) (v : Volume) (o : Opened) → IsOpened g v o → HoldsPointers pages o → HoldsIndirect pages o.inode
+holds-start g pages v o is held other =
+    let some = some-indirect (node v o.number).indirect o.inode.indirect (ap (λ (x : Inode). x.indirect) is.inode) other in
+    let many = ltb-true 12 (length (node v o.number).blocks) (sym is.indirect ∙ ap is_some some) in
+    held (subst (λ (xs : List ℕ). 12 < length xs) (sym is.blocks) many)
+
+pub holds-end : (g : Geometry) (pages : Pages) (v : Volume) (o : Opened) → Carries g pages v → IsOpened g v o → HoldsIndirect pages o.inode → HoldsPointers pages o
+holds-end g pages v o c is held many =
+    let count : 12 < length (node v o.number).blocks = subst (λ (xs : List ℕ). 12 < length xs) is.blocks many in
+    held (there (node v o.number).indirect refl (is.indirect ∙ lt-ltb 12 (length (node v o.number).blocks) count))
+  where
+    there : (x : Option ℕ) → (node v o.number).indirect ≡ x → is_some x ≡ true → o.inode.indirect ≢ 0
+    there None e some = absurd (true≢false (sym some))
+    there (Some p) e some = λ none. indirect-high g v o.number p c.uses e (sym (ap (λ (x : Inode). x.indirect) is.inode ∙ ap or_zero e) ∙ none)

@@ -1,5 +1,5 @@
 -- Inodes that get one block more: for its next part, or for its pointers.
-use Rattle.std.specs.Prelude.{◌≡◌, ◌≢◌, ◌≤◌, ◌<◌, ◌+◌, ℕ, false, ◌&&◌, List, length, slice_set, Option, Some, None, is_none, nat_eq, nat_lt, if◌then◌else◌}
+use Rattle.std.specs.Prelude.{◌≡◌, ◌≢◌, ◌≤◌, ◌<◌, ◌+◌, ℕ, false, ◌&&◌, length, slice_set, Some, None, is_none, nat_eq, nat_lt, if◌then◌else◌}
 use Rattle.mq_blocks.specs.Geometry.{homes_of, meta_of}
 use Rattle.mq_blocks.specs.declared.geometry.Geometry.{Geometry}
 use Rattle.mq_exec.specs.Edits.{Becomes}
