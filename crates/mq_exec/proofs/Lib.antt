@@ -4,11 +4,12 @@ pub mod Contents
 pub mod Directories
 pub mod EmptyInodes
 pub mod Entries
+pub mod Freeing
 pub mod Getting
 pub mod Grouping
 pub mod Growing
-pub mod Lifting
 pub mod Keeping
+pub mod Lifting
 pub mod LinkedGrown
 pub mod Linking
 pub mod LocalBodies

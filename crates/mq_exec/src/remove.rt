@@ -1,18 +1,17 @@
 // Files and directories that are removed.
-ghost use Rattle.std.specs.Prelude.{◌≡◌, ℕ, true, IfErr, IfOk, MatchResult, OnOk, ⊤};
+ghost use Rattle.std.specs.Prelude.{◌≡◌, ℕ, true, IfErr, IfOk, MatchResult, OnOk, ⊤, ◌⊎◌};
 ghost use Rattle.std.specs.List.{All, Contains, list_all};
 ghost use Rattle.mq_exec.specs.Changes.{zone_in};
 ghost use Rattle.mq_exec.specs.Edits.{Becomes, IsOver};
 ghost use Rattle.mq_exec.specs.Fits.{Agrees};
 ghost use Rattle.mq_exec.specs.Lacks.{HasVolume, LacksOf, OfEach};
 ghost use Rattle.mq_exec.specs.Opened.{IsOpened};
-ghost use Rattle.mq_exec.specs.Pages.{pages_of};
+ghost use Rattle.mq_exec.specs.Pages.{IsHeld, pages_of};
 ghost use Rattle.mq_exec.specs.Plans.{ComesTo, HoldsRemove, IsRefused, MayRelease, PlansRemove};
-ghost use Rattle.mq_exec.specs.Removes.{IsInZones, LooksFreed};
+ghost use Rattle.mq_exec.specs.Removes.{IsInZones, LooksFreed, owned as owned_by};
 ghost use Rattle.mq_exec.specs.Walks.{last_of};
 ghost use Rattle.mq_layout.specs.Names.{is_name};
 ghost use Rattle.mq_layout.specs.Places.{inode_bitmap as inode_bitmap_of, zone_bitmap as zone_bitmap_of};
-ghost use Rattle.mq_exec.specs.Pages.{IsHeld};
 ghost use Rattle.mq_tree.specs.Looks.{LooksAt};
 ghost use Rattle.mq_tree.specs.Requests.{Verdict, freed, rmdir as rmdir_of, target as target_of, unlink as unlink_of, unlinked};
 ghost use Rattle.mq_tree.specs.Volume.{Volume, way};
@@ -23,8 +22,8 @@ use crate::lack::Lack;
 use crate::opened::Opened;
 use crate::walk::{DIRECTORY, Target};
 use crate::working::Working;
-use mq_blocks::{BlockNo, OutOfMemory, QueueNo};
-use mq_layout::{inode_bitmap, zone_bitmap};
+use mq_blocks::{BlockNo, Geometry, OutOfMemory, QueueNo};
+use mq_layout::{Inode, inode_bitmap, zone_bitmap};
 use mq_tree::{Fault, Path, Reply};
 use std::alloc::Global;
 
@@ -35,6 +34,48 @@ pub struct Removal {
     pub gone: Opened,
 }
 
+/// The bitmap of the zone of a block.
+fn bitmap_of(geometry: Geometry, b: BlockNo) -> BlockNo
+    requires { IsInZones geometry b }
+    ensures { result ≡ zone_bitmap_of (zone_in geometry b) }
+{
+    let zone = (b.0 - geometry.meta()) / geometry.zone();
+    zone_bitmap(geometry, QueueNo(zone))
+}
+
+/// Adds a block, but not where it was the last one added.
+fn push_new(blocks: &mut Vec<BlockNo>, b: BlockNo) -> Result<(), OutOfMemory>
+    ensures there { OnOk result (Contains blocks.new.items b) }
+    ensures kept { OnOk result ((x : ℕ) → Contains blocks.old.items x → Contains blocks.new.items x) }
+    ensures only { OnOk result ((x : ℕ) → Contains blocks.new.items x → Contains blocks.old.items x ⊎ (x ≡ b)) }
+{
+    if let Some(last) = blocks.last() {
+        if last.0 == b.0 {
+            return Ok(());
+        }
+    }
+    blocks.push(b)?;
+    Ok(())
+}
+
+/// The block of pointers.
+fn indirect(inode: &Inode) -> u32
+    ensures { result ≡ inode.now.indirect }
+{
+    inode.indirect
+}
+
+/// The blocks of an inode, and its block of pointers.
+fn owned(alloc: Global, o: &Opened) -> Result<Vec<BlockNo>, OutOfMemory>
+    ensures { IfOk result (λ blocks. blocks.items ≡ owned_by o.now) }
+{
+    let mut blocks = Vec::from_slice(alloc, &o.blocks)?;
+    if o.blocks.len() > DIRECT as usize {
+        blocks.push(BlockNo(indirect(&o.inode)))?;
+    }
+    Ok(blocks)
+}
+
 impl<'a> Working<'a> {
     /// The bitmaps of the zones of these blocks.
     pub fn bitmaps(&self, alloc: Global, blocks: &[BlockNo]) -> Result<Vec<BlockNo>, OutOfMemory>
@@ -42,7 +83,11 @@ impl<'a> Working<'a> {
         ensures all { IfOk result (λ bitmaps. All (λ b. Contains bitmaps.items (zone_bitmap_of (zone_in self.now.geometry b))) blocks.now) }
         ensures only { IfOk result (λ bitmaps. All (λ x. (b : ℕ) × Contains blocks.now b × (x ≡ zone_bitmap_of (zone_in self.now.geometry b))) bitmaps.items) }
     {
-        Ok(Vec::new(alloc))
+        let mut bitmaps = Vec::new(alloc);
+        for b in blocks {
+            push_new(&mut bitmaps, bitmap_of(self.geometry, *b))?;
+        }
+        Ok(bitmaps)
     }
 
     /// That all is known that changes where an inode is freed: its blocks, the bitmaps of their zones, and
@@ -54,10 +99,7 @@ impl<'a> Working<'a> {
         ensures marks { OnOk result (IsHeld (pages_of self.now) (inode_bitmap_of self.now.geometry)) }
         ensures lack { IfErr result (LacksOf self.now (λ v b. LooksFreed self.now.geometry v o.now.number b)) }
     {
-        let mut wanted = Vec::from_slice(alloc, &o.blocks)?;
-        if o.blocks.len() > DIRECT as usize {
-            wanted.push(BlockNo(o.inode.indirect))?;
-        }
+        let mut wanted = owned(alloc, o)?;
         let mut bitmaps = self.bitmaps(alloc, &wanted)?;
         bitmaps.push(inode_bitmap(self.geometry))?;
         bitmaps.append(&mut wanted)?;
