@@ -41,7 +41,7 @@ pub bitmaps-more : (g : Geometry) (blocks old new : List ℕ) (k b z : ℕ) → 
     → AreBitmaps g blocks old k → AreBitmaps g blocks new (k + 1)
 bitmaps-more g blocks old new k b z l at is there kept only h = record {
   all =
-    All-more (λ x. Contains new (zone_bitmap (zone_in g x))) blocks k b l (All-weaker (λ x. Contains old (zone_bitmap (zone_in g x))) (λ x. Contains new (zone_bitmap (zone_in g x))) (λ x c. kept (zone_bitmap (zone_in g x)) c) (take k blocks) h.all)
+      All-more (λ x. Contains new (zone_bitmap (zone_in g x))) blocks k b l (All-weaker (λ x. Contains old (zone_bitmap (zone_in g x))) (λ x. Contains new (zone_bitmap (zone_in g x))) (λ x c. kept (zone_bitmap (zone_in g x)) c) (take k blocks) h.all)
       (subst (λ (x : ℕ). Contains new (zone_bitmap (zone_in g x))) at (subst (λ (x : ℕ). Contains new x) is there));
   only = λ x c. elim (only x c) [
     | inl o ↦ h.only x o
@@ -134,7 +134,7 @@ may-release g pages v o bitmaps blocks all agrees is e marks f known = record {
     k = record {
       blocks = λ x c. there x (Contains-append_right (bitmaps ++ inode_bitmap g ∷ []) blocks x (inside x c));
       bitmaps = λ x c.
-        there (zone_bitmap (zone_in g x)) (Contains-append_left (bitmaps ++ inode_bitmap g ∷ []) blocks (zone_bitmap (zone_in g x)) (Contains-append_left bitmaps (inode_bitmap g ∷ []) (zone_bitmap (zone_in g x))
+          there (zone_bitmap (zone_in g x)) (Contains-append_left (bitmaps ++ inode_bitmap g ∷ []) blocks (zone_bitmap (zone_in g x)) (Contains-append_left bitmaps (inode_bitmap g ∷ []) (zone_bitmap (zone_in g x))
           (All-contains (λ b. Contains bitmaps (zone_bitmap (zone_in g b))) blocks x marks (inside x c))));
     }
 

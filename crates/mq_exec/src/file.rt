@@ -1,8 +1,10 @@
 // Files that requests change.
-ghost use Rattle.std.specs.Prelude.{◌≡◌, ℕ, List, IfErr, IfOk, MatchResult};
+ghost use Rattle.std.specs.Prelude.{◌≡◌, ℕ, List, IfErr, IfOk, MatchResult, ⊤};
 ghost use Rattle.mq_exec.specs.Lacks.{HasVolume, LacksOf, OfEach};
+ghost use Rattle.mq_exec.specs.Pages.{IsHeld, pages_of};
 ghost use Rattle.mq_exec.specs.Plans.{IsFound, on_file};
 ghost use Rattle.mq_exec.specs.Walks.{LeadsPast};
+ghost use Rattle.mq_layout.specs.Places.{inode_block as inode_block_of};
 ghost use Rattle.mq_tree.specs.Requests.{Verdict, refused, target as target_of};
 ghost use Rattle.mq_tree.specs.Volume.{way};
 
@@ -26,6 +28,7 @@ impl<'a> Working<'a> {
     pub fn file(&self, alloc: Global, path: &Path) -> Result<Result<Found, Fault>, Lack>
         requires { HasVolume self.now }
         ensures ok { IfOk result (λ found. OfEach self.now (λ v. MatchResult found (IsFound v path.now) (λ fault. (act : ℕ → List ℕ → ℕ → List ℕ → Verdict) → on_file v act (target_of v (way path.now)) ≡ refused fault))) }
+        ensures held { IfOk result (λ found. MatchResult found (λ f. IsHeld (pages_of self.now) (inode_block_of self.now.geometry f.number)) (λ _. ⊤)) }
         ensures lack { IfErr result (LacksOf self.now (λ v b. LeadsPast self.now.geometry v (way path.now) b)) }
     {
         let (directory, number) = match self.target(alloc, path)? {
