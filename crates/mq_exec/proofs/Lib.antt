@@ -39,6 +39,7 @@ pub mod Naming
 pub mod Needs
 pub mod Nodes
 pub mod Opening
+pub mod Overwriting
 pub mod Picking
 pub mod Searching
 pub mod Showing

@@ -7,6 +7,7 @@ pub mod Lacks
 pub mod Moves
 pub mod Opened
 pub mod Outcomes
+pub mod Overwrites
 pub mod Pages
 pub mod Picks
 pub mod Plans
