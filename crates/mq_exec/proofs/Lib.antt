@@ -1,5 +1,6 @@
 pub mod Answering
 pub mod Becoming
+pub mod Carrying
 pub mod Contents
 pub mod Directories
 pub mod EmptyInodes
@@ -41,6 +42,8 @@ pub mod Nodes
 pub mod Opening
 pub mod Overwriting
 pub mod Picking
+pub mod Regrown
+pub mod Rewriting
 pub mod Searching
 pub mod Showing
 pub mod SlotNumbers

@@ -1,5 +1,5 @@
 -- Bytes that are written over those of a file, in several of its blocks.
-use Rattle.std.specs.Prelude.{◌≡◌, ◌≢◌, ◌≤◌, ◌<◌, ◌+◌, ◌-◌, ◌*◌, ◌/◌, ◌==◌, ℕ, List, drop, length, max, min, slice_index, take, Some, if◌then◌else◌}
+use Rattle.std.specs.Prelude.{◌≡◌, ◌≢◌, ◌≤◌, ◌<◌, ◌+◌, ◌-◌, ◌*◌, ◌/◌, ◌==◌, ◌⊎◌, ℕ, List, drop, length, max, min, slice_index, take, Some, if◌then◌else◌}
 use Rattle.mq_exec.specs.Changes.{IsTextPut, Turns}
 use Rattle.mq_exec.specs.Pages.{Pages, kinds_of, pages_of}
 use Rattle.mq_exec.specs.declared.working.Working.{Working}
@@ -20,6 +20,11 @@ text_from at place = max at (4096 * place) - 4096 * place
 
 abbrev pub text_in : (at : ℕ) → List ℕ → (place : ℕ) → List ℕ
 text_in at bytes place = take (min (at + length bytes) (4096 * place + 4096) - max at (4096 * place)) (drop (max at (4096 * place) - at) bytes)
+
+-- The file has the bytes of a text at an offset, and is as before beside them.
+pub record IsSplicedAt (at : ℕ) (text bytes now : List ℕ) : Type 0 where
+  pub inside : (k : ℕ) → k < length text → slice_index now (at + k) ≡ slice_index text k
+  pub outside : (k : ℕ) → (k < at) ⊎ (at + length text ≤ k) → slice_index now k ≡ slice_index bytes k
 
 -- the block has its part of the bytes
 pub record IsPartWritten (old new : Pages) (b at : ℕ) (bytes : List ℕ) (place : ℕ) : Type 0 where

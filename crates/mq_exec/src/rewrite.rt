@@ -6,7 +6,7 @@ ghost use Rattle.mq_exec.specs.Changes.{IsTextPut};
 ghost use Rattle.mq_exec.specs.Edits.{Becomes, IsKindPut, IsOver};
 ghost use Rattle.mq_exec.specs.Fits.{Agrees};
 ghost use Rattle.mq_exec.specs.Lacks.{HasVolume, LacksOf, OfEach};
-ghost use Rattle.mq_exec.specs.Overwrites.{AreApart, IsOverwritten, past_place as past_place_of};
+ghost use Rattle.mq_exec.specs.Overwrites.{AreApart, IsOverwritten, IsSplicedAt, past_place as past_place_of};
 ghost use Rattle.mq_exec.specs.Pages.{IsHeld, pages_of};
 ghost use Rattle.mq_exec.specs.Plans.{ComesTo, HoldsPlaces, HoldsRewrite, IsRefused, PlansRewrite};
 ghost use Rattle.mq_layout.specs.Names.{is_name};
@@ -78,7 +78,7 @@ impl<'a> Working<'a> {
         ensures ok { IfOk result (λ plan. OfEach self.now (λ v. MatchResult plan (PlansRewrite self.now.geometry queue v (write_of self.now.geometry queue v at bytes.now (target_of v (way path.now))) (spliced at bytes.now)) (IsRefused self.now.geometry v (write_of self.now.geometry queue v at bytes.now (target_of v (way path.now)))))) }
         ensures pages { IfOk result (λ plan. MatchResult plan (HoldsRewrite self.now.geometry (pages_of self.now)) (λ _. ⊤)) }
         ensures places { IfOk result (λ plan. MatchResult plan (λ m. HoldsPlaces (pages_of self.now) m.file.blocks.items (at / 4096) (past_place_of at (length bytes.now))) (λ _. ⊤)) }
-        ensures limit { IfOk result (λ plan. MatchResult plan (λ m. at + length bytes.now ≤ 4243456) (λ _. ⊤)) }
+        ensures limit { IfOk result (λ plan. MatchResult plan (λ m. (at + length bytes.now ≤ 4243456) × (1 ≤ length bytes.now → at + length bytes.now ≤ m.size)) (λ _. ⊤)) }
         ensures lack { IfErr result (LacksOf self.now (λ v b. LooksAt self.now.geometry queue v (Write path.now at bytes.now) b)) }
     {
         let found = match self.file(alloc, path)? {
@@ -134,7 +134,7 @@ impl<'a> Working<'a> {
         bytes: &[u8],
     ) -> Result<(), OutOfMemory>
         requires limit { at + length bytes.now ≤ 4243456 }
-        requires inside { past_place_of at (length bytes.now) ≤ length blocks.now }
+        requires inside { (place : ℕ) → at / 4096 ≤ place → place < past_place_of at (length bytes.now) → place < length blocks.now }
         requires held { HoldsPlaces (pages_of self.old) blocks.now (at / 4096) (past_place_of at (length bytes.now)) }
         requires apart { AreApart blocks.now }
         ensures over { OnOk result (IsOver self.old self.new) }
@@ -145,25 +145,32 @@ impl<'a> Working<'a> {
             let start = BLOCK * place;
             let from = at.max(start);
             let to = end.min(start + BLOCK);
-            self.put_bytes(alloc, blocks[place], from - start, &bytes[from - at..to - at])?;
+            self.put_bytes(
+                alloc,
+                blocks[place],
+                from - start,
+                &bytes[from - at..to - at],
+            )?;
         }
         Ok(())
     }
 
-    /// Writes what was planned.
-    fn carry_write(
+    /// Carries out what was planned: the file gets the blocks that it lacks, the bytes at the offset, and its
+    /// new size.
+    pub fn carry_rewrite(
         &mut self,
         alloc: Global,
         at: u64,
         bytes: &[u8],
         rewriting: Rewriting,
     ) -> Result<(), OutOfMemory>
-        requires possible { (q : ℕ) × (v : Volume) × (verdict : Verdict) × Agrees self.old.geometry (pages_of self.old) v × PlansRewrite self.old.geometry q v verdict (spliced at bytes.now) rewriting }
+        requires possible { (q : ℕ) × (v : Volume) × (verdict : Verdict) × (rewritten : List ℕ → List ℕ) × Agrees self.old.geometry (pages_of self.old) v × (plan : PlansRewrite self.old.geometry q v verdict rewritten rewriting) × IsSplicedAt at bytes.now plan.bytes (rewritten plan.bytes) }
         requires pages { HoldsRewrite self.old.geometry (pages_of self.old) rewriting }
         requires places { HoldsPlaces (pages_of self.old) rewriting.file.blocks.items (at / 4096) (past_place_of at (length bytes.now)) }
         requires limit { at + length bytes.now ≤ 4243456 }
+        requires inside { 1 ≤ length bytes.now → at + length bytes.now ≤ rewriting.size }
         ensures over { OnOk result (IsOver self.old self.new) }
-        ensures written { OnOk result ((q : ℕ) (v : Volume) (verdict : Verdict) → Agrees self.old.geometry (pages_of self.old) v → (plan : PlansRewrite self.old.geometry q v verdict (spliced at bytes.now) rewriting) → Becomes self.old.geometry v (resized self.old.geometry q v rewriting.file.number (spliced at bytes.now plan.bytes)) self.old self.new) }
+        ensures written { OnOk result ((q : ℕ) (v : Volume) (verdict : Verdict) (rewritten : List ℕ → List ℕ) → Agrees self.old.geometry (pages_of self.old) v → (plan : PlansRewrite self.old.geometry q v verdict rewritten rewriting) → IsSplicedAt at bytes.now plan.bytes (rewritten plan.bytes) → Becomes self.old.geometry v (resized self.old.geometry q v rewriting.file.number (rewritten plan.bytes)) self.old self.new) }
     {
         let Rewriting {
             mut file,
@@ -193,7 +200,7 @@ impl<'a> Working<'a> {
         ensures lack { IfErr result (LacksOf self.old (λ v b. LooksAt self.old.geometry queue v (Write path.now at bytes.now) b)) }
     {
         match self.plan_write(alloc, queue, path, at, bytes)? {
-            Ok(rewriting) => self.carry_write(alloc, at, bytes, rewriting)?,
+            Ok(rewriting) => self.carry_rewrite(alloc, at, bytes, rewriting)?,
             Err(fault) => return Ok(Reply::Refused(fault)),
         }
         Ok(Reply::Ok)

@@ -20,8 +20,8 @@ loop-place-init c = record {
 pub put_bytes-requires-clause-held : goal.put_bytes-requires-clause-held
 put_bytes-requires-clause-held c =
     let i = c.loop-place.invariant in
-    let low : c.loop-place.place < length c.args.blocks.now = (let t = c.loop-place-test.true in let e = c.past_place-place-end.ensures in let n = c.requires.inside in omega arith) in
     let past : c.loop-place.place < past_place c.args.at (length c.args.bytes.now) = (let t = c.loop-place-test.true in let e = c.past_place-place-end.ensures in omega arith) in
+    let low = c.requires.inside c.loop-place.place i.first past in
     let b : c.index-blocks-place.result ≡ get_or c.args.blocks.now c.loop-place.place 0 = c.index-blocks-place.is ∙ get_or_default c.args.blocks.now c.loop-place.place c.index-blocks-place.result 0 low in
     subst (λ x. IsHeld (pages_of c.loop-place.self) x) (sym b)
     (still-held c.args.self.now c.loop-place.self c.args.blocks.now c.args.at c.loop-place.place c.args.bytes.now i.written i.first low c.requires.apart (c.requires.held c.loop-place.place i.first past low))
@@ -29,7 +29,8 @@ put_bytes-requires-clause-held c =
 pub loop-place-preserved : goal.loop-place-preserved
 loop-place-preserved c =
     let i = c.loop-place.invariant in
-    let low : c.loop-place.place < length c.args.blocks.now = (let t = c.loop-place-test.true in let e = c.past_place-place-end.ensures in let n = c.requires.inside in omega arith) in
+    let past : c.loop-place.place < past_place c.args.at (length c.args.bytes.now) = (let t = c.loop-place-test.true in let e = c.past_place-place-end.ensures in omega arith) in
+    let low = c.requires.inside c.loop-place.place i.first past in
     let b : c.index-blocks-place.result ≡ get_or c.args.blocks.now c.loop-place.place 0 = c.index-blocks-place.is ∙ get_or_default c.args.blocks.now c.loop-place.place c.index-blocks-place.result 0 low in
     record {
       over = over-then c.args.self.now c.loop-place.self c.put_bytes.new.self i.over c.in_ok-put_bytes.ensures.over;
