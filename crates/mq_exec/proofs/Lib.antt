@@ -2,6 +2,7 @@ pub mod Answering
 pub mod Becoming
 pub mod Carrying
 pub mod Contents
+pub mod Differing
 pub mod Directories
 pub mod EmptyInodes
 pub mod Entries

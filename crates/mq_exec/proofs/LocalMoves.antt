@@ -29,10 +29,10 @@ later {X} n y ys x r (suc k, l, e) =
 tail-rises : {X : Type 0} (n : X → ℕ) (y : X) (ys : List X) → AllPairs (λ a b. n a < n b) (y ∷ ys) → AllPairs (λ a b. n a < n b) ys
 tail-rises {X} n y ys r = λ i j d l h. r (suc i) (suc j) d (omega arith) (omega arith)
 
-contains-later : {X : Type 0} (y : X) (ys : List X) (x : X) → Contains ys x → Contains (y ∷ ys) x
+pub contains-later : {X : Type 0} (y : X) (ys : List X) (x : X) → Contains ys x → Contains (y ∷ ys) x
 contains-later {X} y ys x (k, l, e) = (suc k, (omega arith), e)
 
-contains-first : {X : Type 0} (y : X) (ys : List X) → Contains (y ∷ ys) y
+pub contains-first : {X : Type 0} (y : X) (ys : List X) → Contains (y ∷ ys) y
 contains-first {X} y ys = (zero, (omega arith), refl)
 
 same-first : {X : Type 0} (n : X → ℕ) (x y : X) (xs ys : List X) → (x ≡ y) ⊎ (Contains ys x × (n y < n x)) → (y ≡ x) ⊎ (Contains xs y × (n x < n y)) → x ≡ y

@@ -3,6 +3,7 @@ use Rattle.std.proofs.Common.{get_or, ◌≡◌, ℕ, zero, suc, ◌+◌, ◌-�
 use Rattle.std.specs.List.{All, range_with_len}
 use Rattle.std.proofs.Math.Nat.{mul-le-mul_right}
 use Rattle.std.proofs.lemmas.Bool.{cases_Bool}
+use Rattle.std.proofs.lemmas.List.{append-nil}
 use Rattle.std.proofs.lemmas.List.Elements.{All-append, All-cons, All-from_get_or, All-take}
 use Rattle.std.proofs.lemmas.List.FromFn.{get_or-range_with_len, length-range_with_len}
 use Rattle.mq_blocks.specs.Geometry.{queues_of, zone_size}
@@ -74,23 +75,10 @@ free-next v a k = ap (free_of v) (range-push a k) ∙ free-append v (range_with_
 abbrev pub picked : Volume → (count : ℕ) → List ℕ → (a k : ℕ) → List ℕ
 picked v n old a k = take n (old ++ free_of v (range_with_len a k))
 
-pub picked-none : (v : Volume) (n a : ℕ) (old : List ℕ) → length old ≤ n → old ≡ picked v n old a 0
-picked-none v n a old few = sym (all n old few)
-  where
-    all : (m : ℕ) (xs : List ℕ) → length xs ≤ m → take m (xs ++ []) ≡ xs
-    all zero [] l = refl
-    all zero (x ∷ xs) l = absurd (omega arith)
-    all (suc m) [] l = refl
-    all (suc m) (x ∷ xs) l = ap (λ (ys : List ℕ). x ∷ ys) (all m xs (omega arith))
-
 pub picked-taken : (v : Volume) (n a k : ℕ) (old picks : List ℕ) → true ≡ is_taken v (a + k) → picks ≡ picked v n old a k → picks ≡ picked v n old a (k + 1)
 picked-taken v n a k old picks t e =
     let none : free_of v (range_with_len a (k + 1)) ≡ free_of v (range_with_len a k) ++ [] = free-next v a k ∙ ap (λ (s : Bool). free_of v (range_with_len a k) ++ cond s [] ((a + k) ∷ [])) (sym t) in
-    e ∙ ap (λ (xs : List ℕ). take n (old ++ xs)) (sym (none ∙ whole (free_of v (range_with_len a k))))
-  where
-    whole : (xs : List ℕ) → xs ++ [] ≡ xs
-    whole [] = refl
-    whole (x ∷ xs) = ap (λ (ys : List ℕ). x ∷ ys) (whole xs)
+    e ∙ ap (λ (xs : List ℕ). take n (old ++ xs)) (sym (none ∙ append-nil (free_of v (range_with_len a k))))
 
 pub picked-free : (v : Volume) (n a k : ℕ) (old picks : List ℕ) → false ≡ is_taken v (a + k) → length picks < n → picks ≡ picked v n old a k → picks ++ (a + k) ∷ [] ≡ picked v n old a (k + 1)
 picked-free v n a k old picks f few e =

@@ -1,8 +1,9 @@
 -- Free blocks that are picked zone by zone: the queue's own zone, and then the others by rising zone.
-use Rattle.std.proofs.Common.{◌≡◌, ◌≢◌, ℕ, suc, ◌+◌, ◌-◌, ◌*◌, ◌<◌, ◌≤◌, inl, inr, List, [], ◌∷◌, ◌++◌, length, take, Bool, refl, sym, ap, subst, ◌∙◌, arith, append_assoc}
+use Rattle.std.proofs.Common.{◌≡◌, ◌≢◌, ℕ, suc, ◌+◌, ◌-◌, ◌*◌, ◌<◌, ◌≤◌, inl, inr, List, [], ◌++◌, length, take, Bool, refl, sym, ap, subst, ◌∙◌, arith, append_assoc}
 use Rattle.std.specs.Prelude.{min, if◌then◌else◌, nat_lt}
 use Rattle.std.specs.List.{range_with_len}
 use Rattle.std.proofs.lemmas.Bool.{cases_lt, eq-eqb, le-ltb, lt-ltb, ne_eqb}
+use Rattle.std.proofs.lemmas.List.{append-nil}
 use Rattle.mq_blocks.specs.Geometry.{meta_of, queues_of, zone_size}
 use Rattle.mq_blocks.specs.declared.geometry.Geometry.{Geometry}
 use Rattle.mq_exec.specs.Picks.{ArePicked, IsSearched, free_of}
@@ -25,20 +26,16 @@ parts g q a b = zone_blocks g q ++ range_with_len (meta_of g) (a * zone_size g) 
 abbrev pub reached : Geometry → (q zone : ℕ) → List ℕ
 reached g q z = parts g q (min z q) (z - suc q)
 
-whole : (xs : List ℕ) → xs ++ [] ≡ xs
-whole [] = refl
-whole (x ∷ xs) = ap (λ (ys : List ℕ). x ∷ ys) (whole xs)
-
 parts-none : (g : Geometry) (q a : ℕ) → parts g q a 0 ≡ zone_blocks g q ++ range_with_len (meta_of g) (a * zone_size g)
 parts-none g q a =
     let none : 0 * zone_size g ≡ 0 = omega arith in
     let own = zone_blocks g q ++ range_with_len (meta_of g) (a * zone_size g) in
-    ap (λ (n : ℕ). own ++ range_with_len (zone_block g (suc q) 0) n) none ∙ whole own
+    ap (λ (n : ℕ). own ++ range_with_len (zone_block g (suc q) 0) n) none ∙ append-nil own
 
 parts-own : (g : Geometry) (q : ℕ) → parts g q 0 0 ≡ zone_blocks g q
 parts-own g q =
     let none : 0 * zone_size g ≡ 0 = omega arith in
-    parts-none g q 0 ∙ ap (λ (n : ℕ). zone_blocks g q ++ range_with_len (meta_of g) n) none ∙ whole (zone_blocks g q)
+    parts-none g q 0 ∙ ap (λ (n : ℕ). zone_blocks g q ++ range_with_len (meta_of g) n) none ∙ append-nil (zone_blocks g q)
 
 range-zone : (a k size : ℕ) → range_with_len a ((k + 1) * size) ≡ range_with_len a (k * size) ++ range_with_len (a + k * size) size
 range-zone a k size =

@@ -7,6 +7,7 @@ mod bare;
 mod blocks;
 mod bytes;
 mod change;
+mod difference;
 mod directory;
 mod edits;
 mod file;

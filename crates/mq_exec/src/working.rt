@@ -33,8 +33,8 @@ pub struct Change {
 #[derive(Drop)]
 pub struct Working<'a> {
     pub geometry: Geometry,
-    held: &'a Held,
-    changed: BTreeMap<u32, Option<Change>>,
+    pub(crate) held: &'a Held,
+    pub(crate) changed: BTreeMap<u32, Option<Change>>,
 }
 
 impl<'a> Working<'a> {
