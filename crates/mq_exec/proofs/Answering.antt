@@ -47,7 +47,7 @@ named-reads g v r s reply reads h e = read-step g v r reply reads (h.answers (re
 
 -- ---- at what it looks
 
-past-looks : (g : Geometry) (q : ℕ) (v : Volume) (p : Path) (r : Request) (b : ℕ) → paths_of r ≡ p ∷ [] → LeadsPast g v (way p) b → LooksAt g q v r b
+pub past-looks : (g : Geometry) (q : ℕ) (v : Volume) (p : Path) (r : Request) (b : ℕ) → paths_of r ≡ p ∷ [] → LeadsPast g v (way p) b → LooksAt g q v r b
 past-looks g q v p r b e (inode i h at) = looks_inode i (subst (λ (ps : List Path). LeadsIn v ps i) (sym e) (inl h)) at
 past-looks g q v p r b e (directory i slots h is has) = looks_directory i slots (subst (λ (ps : List Path). LeadsIn v ps i) (sym e) (inl h)) is has
 

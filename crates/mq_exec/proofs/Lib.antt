@@ -36,9 +36,11 @@ pub mod LocalTaken
 pub mod LocalUses
 pub mod LocalVolumes
 pub mod Making
+pub mod MakingPlans
 pub mod Marking
 pub mod Naming
 pub mod Needs
+pub mod NewNames
 pub mod Nodes
 pub mod Opening
 pub mod Overwriting
@@ -49,6 +51,7 @@ pub mod Searching
 pub mod Showing
 pub mod SlotNumbers
 pub mod Sorting
+pub mod Taking
 pub mod Targets
 pub mod Walking
 pub mod Zones

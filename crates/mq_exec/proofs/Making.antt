@@ -1,9 +1,10 @@
 -- Files and directories that are made: what stays while an inode is made, before its name is added.
 use Rattle.std.proofs.Common.{get_or, ◌≡◌, ◌≢◌, ℕ, suc, ◌+◌, ◌-◌, ◌<◌, ◌≤◌, List, [], ◌∷◌, ◌++◌, length, Bool, false, cond, refl, sym, ap, subst, ◌∙◌, arith, take, drop, drop-cons}
 use Rattle.std.specs.Prelude.{Option, Some, None, nat_lt, is_some, slice_get}
-use Rattle.std.specs.List.{All}
+use Rattle.std.specs.List.{All, Contains}
 use Rattle.std.proofs.lemmas.Bool.{lt-ltb}
 use Rattle.std.proofs.lemmas.List.{drop_all, take-append-drop}
+use Rattle.std.proofs.lemmas.List.Elements.{All-contains, Contains-append_left, Contains-get_or, Contains-push}
 use Rattle.std.proofs.lemmas.Option.{none-some, same_Some, slice_get-get_or}
 use Rattle.mq_blocks.specs.Geometry.{meta_of, queues_of}
 use Rattle.mq_blocks.specs.declared.geometry.Geometry.{Geometry}
@@ -22,6 +23,9 @@ use Rattle.mq_exec.specs.declared.working.Working.{Working}
 use Rattle.mq_exec.proofs.Becoming.{becomes-then, carries-sound}
 use Rattle.mq_exec.proofs.LocalFrame.{taken-same}
 use Rattle.mq_exec.proofs.LocalInodes.{bare}
+use Rattle.mq_exec.proofs.LocalOnce.{shown-vacant}
+use Rattle.mq_exec.proofs.LocalTaken.{IsFree}
+use Rattle.mq_exec.proofs.Picking.{picks-all_free}
 use Rattle.mq_exec.proofs.LocalVolumes.{free-bare}
 use Rattle.mq_exec.proofs.Walking.{way-last}
 use Rattle.mq_layout.specs.Places.{inode_bitmap, inode_block, inodes_of, zone_bitmap}
@@ -104,6 +108,18 @@ meta-held g pages v b fits low known = go (pages b) refl
     go (Some None) e = absurd (let h = (fits.free b e).0 in omega arith)
     go (Some (Some page)) e = e ∙ ap (λ (o : Option (Option (List ℕ))). Some (Some (content o))) (sym e)
 
+-- a free block that is known is known to be free
+free-known : (g : Geometry) (pages : Pages) (v : Volume) (b : ℕ) → Fits g pages v → IsFree g v b → pages b ≢ None → pages b ≡ Some None
+free-known g pages v b fits f known = go (pages b) refl
+  where
+    go : (o : Option (Option (List ℕ))) → pages b ≡ o → pages b ≡ Some None
+    go None e = absurd (known e)
+    go (Some None) e = e
+    go (Some (Some page)) e = absurd (shown-vacant g v b page (fits.held b page e) (f.high, f.free))
+
+pub takeables : (g : Geometry) (q : ℕ) (pages : Pages) (v : Volume) (count : ℕ) (picks : List ℕ) → Fits g pages v → q < queues_of g → ArePicked g q v count picks → All (IsMarkable g pages) picks → All (λ b. pages b ≢ None) picks → All (IsTakeable g pages) picks
+takeables g q pages v count picks fits low p marks known k d l = record { marks = marks k d l; free = free-known g pages v _ fits (picks-all_free g q v count picks low p k d l) (known k d l) }
+
 -- the pages of the zones are as before
 abbrev pub SameZones : Geometry → (old new : Pages) → Type 0
 SameZones g old new = (b : ℕ) → meta_of g ≤ b → new b ≡ old b
@@ -142,6 +158,21 @@ made-marks g i old new rest zone low = rest (zone_bitmap zone) (λ e. omega arit
 pub made-table : (g : Geometry) (v : Volume) (d : ℕ) (old new : Working) → d < inodes_of g → Carries g (pages_of new) v → IsOver old new → IsHeld (pages_of old) (inode_block g d) → IsHeld (pages_of new) (inode_block g d)
 made-table g v d old new low c over held =
     meta-held g (pages_of new) v (inode_block g d) c.fits (omega arith) (λ none. none-some _ (sym (over.known (inode_block g d) none) ∙ held))
+
+pub holds-make : (g : Geometry) (q : ℕ) (pages : Pages) (v : Volume) (m : Making) (d need : ℕ) (known : List ℕ) → Agrees g pages v → q < queues_of g → m.directory.number ≡ d → AreDirsAt pages m.directory.blocks.items → length m.directory.blocks.items ≤ 1036 → IsHeld pages (inode_block g d)
+    → HoldsPointers pages m.directory → IsHeld pages (inode_bitmap g) → m.inode < inodes_of g → ArePicked g q v need m.picks.items → All (IsMarkable g pages) m.picks.items → known ≡ m.picks.items ++ inode_block g m.inode ∷ [] → All (λ b. pages b ≢ None) known → HoldsMake g pages m
+holds-make g q pages v m d need known agrees low same dirs few table pointers marks inode picked markable e all = record {
+  dirs = dirs;
+  few = few;
+  table = subst (λ (x : ℕ). IsHeld pages (inode_block g x)) (sym same) table;
+  pointers = pointers;
+  picks = takeables g q pages v need m.picks.items agrees.fits low picked markable (λ k x l. every _ (Contains-append_left m.picks.items (inode_block g m.inode ∷ []) _ (Contains-get_or m.picks.items k x l)));
+  marks = marks;
+  inode = meta-held g pages v (inode_block g m.inode) agrees.fits (omega arith) (every _ (Contains-push m.picks.items (inode_block g m.inode)));
+}
+  where
+    every : (b : ℕ) → Contains (m.picks.items ++ inode_block g m.inode ∷ []) b → pages b ≢ None
+    every b c = All-contains (λ x. pages x ≢ None) known b all (subst (λ (bs : List ℕ). Contains bs b) (sym e) c)
 
 -- ---- all that adding the name requires
 
