@@ -1,6 +1,7 @@
 pub mod Answering
 pub mod Becoming
 pub mod Carrying
+pub mod Coming
 pub mod Contents
 pub mod Differing
 pub mod Directories

@@ -15,6 +15,7 @@ use Rattle.mq_exec.specs.Walks.{LeadsPast, last_of}
 use Rattle.mq_exec.specs.declared.make.Making.{Making}
 use Rattle.mq_exec.specs.declared.opened.Opened.{Opened}
 use Rattle.mq_exec.proofs.Answering.{past-looks}
+use Rattle.mq_exec.proofs.Coming.{carried-enough, carried-few}
 use Rattle.mq_exec.proofs.LinkedGrown.{picked-enough}
 use Rattle.mq_exec.proofs.LocalInodes.{bare}
 use Rattle.mq_exec.proofs.LocalTaken.{IsFree}
@@ -40,14 +41,6 @@ use Rattle.mq_tree.proofs.KeepChanges.{first-free}
 use Rattle.mq_tree.proofs.KeepNodes.{unused-none}
 use Rattle.mq_tree.proofs.KeepPaths.{nothing-free}
 use Rattle.mq_tree.proofs.KeepUses.{AreUses, node-here}
-
--- ---- what is needed is free, or not
-
-pub carried-enough : (g : Geometry) (v : Volume) (need : ℕ) (next : Volume) → need ≤ free_blocks g v → IsCarried g v (Makes need next) next
-carried-enough g v need next l = ap (λ (t : Bool). cond t (record { reply = Refused NoSpace; next = v }) (record { reply = Done; next = next })) (le-ltb (free_blocks g v) need l)
-
-pub carried-few : (g : Geometry) (v : Volume) (need : ℕ) (next : Volume) → free_blocks g v < need → IsRefused g v (Makes need next) NoSpace
-carried-few g v need next l = ap (λ (t : Bool). cond t (record { reply = Refused NoSpace; next = v }) (record { reply = Done; next = next })) (lt-ltb (free_blocks g v) need l)
 
 -- ---- an entry may be added
 
