@@ -47,6 +47,8 @@ pub mod Opening
 pub mod Overwriting
 pub mod Picking
 pub mod Regrown
+pub mod RemoveLooks
+pub mod Removing
 pub mod Rewriting
 pub mod Searching
 pub mod Showing

@@ -1,19 +1,20 @@
 -- What stands under the last name of a path.
 use Rattle.std.proofs.Common.{◌≡◌, ◌≢◌, ℕ, ◌<◌, true, List, [], ◌∷◌, refl, sym, ap, subst, ◌∙◌, inl, inr}
-use Rattle.std.specs.Prelude.{Option, Some, None, Result, Ok, Err, option_and_then}
+use Rattle.std.specs.Prelude.{MatchResult, Option, Some, None, Result, Ok, Err, option_and_then}
 use Rattle.std.proofs.lemmas.Bool.{true≢false}
 use Rattle.mq_blocks.specs.declared.geometry.Geometry.{Geometry}
 use Rattle.mq_layout.specs.Places.{inode_block, inodes_of}
 use Rattle.mq_layout.specs.declared.inode.Inode.{Inode}
-use Rattle.mq_exec.specs.Plans.{IsFound}
+use Rattle.mq_exec.specs.Plans.{IsFound, on_file}
 use Rattle.mq_exec.specs.Reads.{IsFileOf}
 use Rattle.mq_exec.specs.Walks.{IsDirectory, LeadsPast, LooksIn, directory, inode, last_of, named}
+use Rattle.mq_exec.specs.declared.file.Found.{Found}
 use Rattle.mq_exec.specs.declared.walk.Target.{Target}
 use Rattle.mq_exec.specs.declared.walk.Target.TheVariants.{In}
 use Rattle.mq_exec.proofs.Walking.{found-used, leads-here, used-low, walk-at, walk-dir}
 use Rattle.mq_tree.specs.Laid.{inode_of, kind_of}
 use Rattle.mq_tree.specs.Looks.{Leads}
-use Rattle.mq_tree.specs.Requests.{In as AtName, target, target_in, walk}
+use Rattle.mq_tree.specs.Requests.{In as AtName, Verdict, refused, target, target_in, walk}
 use Rattle.mq_tree.specs.Sound.{IsSound}
 use Rattle.mq_tree.specs.Volume.{Body, Free, File, Dir, Path, Volume, Way, body, find, inode_at, is_used, node, slots_of, way}
 use Rattle.mq_tree.specs.declared.request.Fault.{Fault}
@@ -80,3 +81,16 @@ file-says v i n used says other =
 
 pub found-file : (v : Volume) (path : Path) (d i : ℕ) (n : Inode) → IsUnder v (way path) d i → n ≡ inode_of (node v i) → n.kind ≢ 2 → IsFound v path (record { directory = d; number = i; inode = n })
 found-file v path d i n u says other = record { target_is = u.target_is; file = file-says v i n u.used says other }
+
+-- each request that changes a file is refused there
+abbrev pub RefusesFile : Volume → Path → Fault → Type 0
+RefusesFile v path fault = (act : ℕ → List ℕ → ℕ → List ℕ → Verdict) → on_file v act (target v (way path)) ≡ refused fault
+
+pub file-found : (v : Volume) (path : Path) (r : Result Found Fault) (f : Found) → r ≡ Ok f → MatchResult r (IsFound v path) (RefusesFile v path) → IsFound v path f
+file-found v path r f e h = subst (λ (x : Result Found Fault). MatchResult x (IsFound v path) (RefusesFile v path)) e h
+
+pub file-refused : (v : Volume) (path : Path) (r : Result Found Fault) (fault : Fault) → r ≡ Err fault → MatchResult r (IsFound v path) (RefusesFile v path) → RefusesFile v path fault
+file-refused v path r fault e h = subst (λ (x : Result Found Fault). MatchResult x (IsFound v path) (RefusesFile v path)) e h
+
+pub found-under : (g : Geometry) (v : Volume) (path : Path) (f : Found) → IsSound g v → IsFound v path f → IsUnder v (way path) f.directory f.number
+found-under g v path f sound h = under-named g v (way path) f.directory f.number sound (sym h.target_is)

@@ -77,6 +77,7 @@ pub record HoldsMake (g : Geometry) (pages : Pages) (m : Making) : Type 0 where
 -- ---- removing
 
 pub record PlansRemove (g : Geometry) (v : Volume) (verdict : Verdict) (path : Path) (m : Removal) : Type 0 where
+  pub target_is : target v (way path) ≡ In m.directory.number (last_of (way path)) (Some m.gone.number)
   pub carried : IsCarried g v verdict (freed (unlinked v m.directory.number (last_of (way path))) m.gone.number)
   pub unlink : MayUnlink g v m.directory.number m.directory.blocks.items
   pub found : find (last_of (way path)) (slots_of (body v m.directory.number)) ≡ Some m.gone.number
