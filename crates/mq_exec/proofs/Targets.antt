@@ -74,7 +74,7 @@ file-body Free used other = absurd (true≢false (sym used))
 file-body (File bytes) used other = (bytes, refl)
 file-body (Dir slots) used other = absurd (other refl)
 
-file-says : (v : Volume) (i : ℕ) (n : Inode) → is_used (body v i) ≡ true → n ≡ inode_of (node v i) → n.kind ≢ 2 → IsFileOf v i n
+pub file-says : (v : Volume) (i : ℕ) (n : Inode) → is_used (body v i) ≡ true → n ≡ inode_of (node v i) → n.kind ≢ 2 → IsFileOf v i n
 file-says v i n used says other =
     let f = file-body (body v i) used (λ two. other (ap (λ (x : Inode). x.kind) says ∙ two)) in
     record { says = says; bytes = f.0; is = f.1 }
