@@ -3,13 +3,14 @@ use Rattle.std.proofs.Common.{get_or, ◌≡◌, ◌≢◌, ℕ, ◌+◌, ◌-�
 use Rattle.std.specs.Prelude.{Option, Some, None, slice_get}
 use Rattle.std.proofs.lemmas.Bool.{true≢false}
 use Rattle.std.proofs.lemmas.Option.{same_Some, slice_get-get_or, slice_get_within}
+use Rattle.mq_blocks.specs.Geometry.{meta_of}
 use Rattle.mq_blocks.specs.declared.geometry.Geometry.{Geometry}
 use Rattle.mq_exec.specs.Changes.{IsInodePut}
 use Rattle.mq_exec.specs.Edits.{Becomes, Carries, IsOver, KeepsKinds}
 use Rattle.mq_exec.specs.Fits.{Agrees}
 use Rattle.mq_exec.specs.Opened.{HasGrown, MayGrow}
 use Rattle.mq_exec.specs.Overwrites.{AreApart, IsOverwritten, IsSplicedAt, past_place}
-use Rattle.mq_exec.specs.Pages.{pages_of}
+use Rattle.mq_exec.specs.Pages.{IsHeld, Pages, content, pages_of}
 use Rattle.mq_exec.specs.Plans.{HoldsPlaces, PlansRewrite}
 use Rattle.mq_exec.specs.declared.opened.Opened.{Opened}
 use Rattle.mq_exec.specs.declared.rewrite.Rewriting.{Rewriting}
@@ -18,9 +19,9 @@ use Rattle.mq_exec.proofs.Becoming.{becomes-then, carries-sound}
 use Rattle.mq_exec.proofs.LocalBodies.{inode-form, rebodied}
 use Rattle.mq_exec.proofs.LocalVolumes.{with_body-uses}
 use Rattle.mq_exec.proofs.Regrown.{IsRegrown, blocks-apart, regrown, sized-inode, used-held}
-use Rattle.mq_exec.proofs.Rewriting.{past-of, rewrite-becomes}
+use Rattle.mq_exec.proofs.Rewriting.{past-of, rewrite-becomes, table-below}
 use Rattle.mq_layout.specs.Inodes.{IsInode}
-use Rattle.mq_layout.specs.Places.{file_limit}
+use Rattle.mq_layout.specs.Places.{file_limit, inode_block}
 use Rattle.mq_layout.specs.declared.inode.Inode.{Inode}
 use Rattle.mq_tree.specs.Laid.{inode_of, size_of}
 use Rattle.mq_tree.specs.Requests.{Verdict, resized, with_body}
@@ -30,14 +31,15 @@ use Rattle.mq_tree.proofs.KeepUses.{node-here}
 use Rattle.mq_tree.proofs.Uses.{use-taken}
 
 -- what `grow` says of each volume
-abbrev pub Grows : Geometry → (old mid : Working) → Rewriting → Opened → Type 0
-Grows g old mid m after = (q : ℕ) (v : Volume) (count : ℕ) → Carries g (pages_of old) v → MayGrow g q v m.file m.picks.items count → HasGrown g q v old mid m.file after count
+abbrev pub Grows : Geometry → (old mid : Working) → Rewriting → (picks : List ℕ) → Opened → Type 0
+Grows g old mid m picks after = (q : ℕ) (v : Volume) (count : ℕ) → Carries g (pages_of old) v → MayGrow g q v m.file picks count → HasGrown g q v old mid m.file after count
 
-pub regrown-of : (g : Geometry) (q : ℕ) (v : Volume) (verdict : Verdict) (rewritten : List ℕ → List ℕ) (m : Rewriting) (old mid : Working) (after : Opened) → Agrees g (pages_of old) v → (plan : PlansRewrite g q v verdict rewritten m)
-    → Grows g old mid m after → IsRegrown g q v m plan.bytes old mid after
-regrown-of g q v verdict rewritten m old mid after agrees plan grows =
+pub regrown-of : (g : Geometry) (q : ℕ) (v : Volume) (verdict : Verdict) (rewritten : List ℕ → List ℕ) (m : Rewriting) (old mid : Working) (after : Opened) (picks : List ℕ) → picks ≡ m.picks.items → Agrees g (pages_of old) v → (plan : PlansRewrite g q v verdict rewritten m)
+    → Grows g old mid m picks after → IsRegrown g q v m plan.bytes old mid after
+regrown-of g q v verdict rewritten m old mid after picks e agrees plan grows =
     let c = carries-sound g (pages_of old) v agrees in
-    regrown g q v verdict rewritten m old mid after c plan (grows q v (blocks_for m.size - blocks_for (length plan.bytes)) c plan.grow)
+    let count = blocks_for m.size - blocks_for (length plan.bytes) in
+    regrown g q v verdict rewritten m old mid after c plan (grows q v count c (subst (λ (xs : List ℕ). MayGrow g q v m.file xs count) (sym e) plan.grow))
 
 -- ---- before the bytes are written
 
@@ -84,7 +86,31 @@ mid-apart g q v m bytes old mid after r = subst (λ (xs : List ℕ). AreApart xs
 
 -- ---- the inode that is written
 
-pub mid-inode : (g : Geometry) (q : ℕ) (v : Volume) (m : Rewriting) (bytes now : List ℕ) (old mid : Working) (after : Opened) → IsRegrown g q v m bytes old mid after → length now ≡ m.size
+-- a block of the metadata region that is known is held
+meta-held : (g : Geometry) (pages : Pages) (u : Volume) (b : ℕ) → Carries g pages u → b < meta_of g → pages b ≢ None → IsHeld pages b
+meta-held g pages u b c low known = at (pages b) refl
+  where
+    at : (o : Option (Option (List ℕ))) → pages b ≡ o → IsHeld pages b
+    at None is = absurd (known is)
+    at (Some None) is = absurd (let f = (c.fits.free b is).0 in omega arith)
+    at (Some (Some page)) is = is ∙ ap (λ o. Some (Some (content o))) (sym is)
+
+pub mid-table : (g : Geometry) (q : ℕ) (v : Volume) (m : Rewriting) (bytes : List ℕ) (at : ℕ) (text : List ℕ) (old mid wrote : Working) (after : Opened) → IsRegrown g q v m bytes old mid after → IsOver old mid → wrote.geometry ≡ g → IsHeld (pages_of old) (inode_block g m.file.number)
+    → ((place : ℕ) → at / 4096 ≤ place → place < past_place at (length text) → place < length after.blocks.items) → IsOverwritten mid wrote after.blocks.items at text (past_place at (length text)) → IsHeld (pages_of wrote) (inode_block wrote.geometry after.number)
+mid-table g q v m bytes at text old mid wrote after r over same held past parts =
+    let b = inode_block g m.file.number in
+    let low = table-below g m.file.number r.low in
+    let there_mid = meta-held g (pages_of mid) r.u b r.becomes.carries low (λ none. none-held (sym (over.known b none) ∙ held)) in
+    let rest : pages_of wrote b ≡ pages_of mid b = parts.rest b (λ place first high e.
+    let z = (r.becomes.carries.uses.zones (Part m.file.number place) (get_or after.blocks.items place 0) (there r.u m.file.number after.blocks.items place r.blocks (past place first high))).0 in
+    omega arith) in
+    let here : IsHeld (pages_of wrote) b = subst (λ o. o ≡ Some (Some (content o))) (sym rest) there_mid in
+    subst (λ (x : Geometry). IsHeld (pages_of wrote) (inode_block x after.number)) (sym same) (subst (λ k. IsHeld (pages_of wrote) (inode_block g k)) (sym r.number) here)
+  where
+    none-held : {x : Option (List ℕ)} → None ≡ Some x → ⊥
+    none-held e = absurd (cc)
+
+pub mid-inode : (g : Geometry) (q : ℕ) (v : Volume) (m : Rewriting) (bytes now : List ℕ) (old mid : Working) (after : Opened) → (r : IsRegrown g q v m bytes old mid after) → length now ≡ m.size
     → record { kind = after.inode.kind; links = after.inode.links; size = m.size; direct = after.inode.direct; indirect = after.inode.indirect } ≡ inode_of (rebodied (node r.u m.file.number) (File now))
 mid-inode g q v m bytes now old mid after r e = sized-inode (node r.u m.file.number) after.inode bytes now m.size r.inode r.is (sym e)
 

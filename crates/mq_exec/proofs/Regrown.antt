@@ -52,7 +52,7 @@ regrown g q v verdict rewritten m old mid after c plan h = record {
   fresh = r.fresh;
   resized_is = λ now e.
       let same : blocks_for (length now) ≡ blocks_for m.size = ap (λ (k : ℕ). blocks_for k) e in
-      let grows : blocks_for (length now) - length (node v i).blocks ≡ more = omega arith in
+      let grows : blocks_for (length now) - length (node v i).blocks ≡ more = ap (λ (k : ℕ). blocks_for (length now) - k) have ∙ ap (λ (k : ℕ). k - blocks_for (length plan.bytes)) same in
       resized-grown g q v u i now (sym (ap (λ (k : ℕ). grown g q v i k) grows)) (count ∙ sym same) (r.indirect ∙ ap (λ (k : ℕ). nat_lt 12 k) (count ∙ sym same));
 }
   where

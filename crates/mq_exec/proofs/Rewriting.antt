@@ -147,7 +147,7 @@ pub record IsRewritten (g : Geometry) (u : Volume) (i at : ℕ) (text bytes now 
   pub kinds : KeepsKinds wrote new
   pub geometry : wrote.geometry ≡ g
 
-table-below : (g : Geometry) (j : ℕ) → j < inodes_of g → inode_block g j < meta_of g
+pub table-below : (g : Geometry) (j : ℕ) → j < inodes_of g → inode_block g j < meta_of g
 table-below g j l = omega arith
 
 pub rewrite-becomes : (g : Geometry) (u : Volume) (i at : ℕ) (text bytes now : List ℕ) (mid wrote new : Working) → IsRewritten g u i at text bytes now mid wrote new → Becomes g u (with_body u i (File now)) mid new
