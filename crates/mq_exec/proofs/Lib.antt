@@ -3,10 +3,12 @@ pub mod Becoming
 pub mod Carrying
 pub mod Coming
 pub mod Contents
+pub mod Cutting
 pub mod Differing
 pub mod Directories
 pub mod EmptyInodes
 pub mod Entries
+pub mod FreedInodes
 pub mod Freeing
 pub mod Getting
 pub mod Grouping
@@ -21,6 +23,7 @@ pub mod LocalChanges
 pub mod LocalCut
 pub mod LocalFits
 pub mod LocalFrame
+pub mod LocalGone
 pub mod LocalGrown
 pub mod LocalInodes
 pub mod LocalKinds
@@ -47,6 +50,7 @@ pub mod Opening
 pub mod Overwriting
 pub mod Picking
 pub mod Regrown
+pub mod Releasing
 pub mod RemoveLooks
 pub mod Removing
 pub mod Rewriting

@@ -42,7 +42,7 @@ among-one b x y = elim (cases_eq x b) [
   | inr other ↦ absurd (true≢false (sym y ∙ ap (λ (t : Bool). cond t true false) (ne_eqb b x (λ e. other (sym e)))))
 ]
 
-meta-not-data : Meta ≡ Data → ⊥
+pub meta-not-data : Meta ≡ Data → ⊥
 meta-not-data e = absurd (cc)
 
 -- the directory has other slots over the same blocks

@@ -89,7 +89,7 @@ pub record AreFreed (g : Geometry) (v : Volume) (i : ℕ) (blocks : List ℕ) : 
   pub own : (c : ℕ) → has_block (node v i) c ≡ true → (is_among c blocks ≡ true) × (is_among (zone_bitmap (zone_in g c)) blocks ≡ true)
   pub only : (c : ℕ) → is_among c blocks ≡ true → (c ≡ inode_block g i) ⊎ ((c ≡ inode_bitmap g) ⊎ ((has_block (node v i) c ≡ true) ⊎ ((zone : ℕ) × (zone < queues_of g) × (c ≡ zone_bitmap zone))))
 
-free-form : IsInode free_inode
+pub free-form : IsInode free_inode
 free-form = let s : ShowsInode _ 0 free_inode = zeros-free 0 (omega arith) in s.0
 
 free-inode : inode_of free_node ≡ free_inode

@@ -83,7 +83,7 @@ if_some (Some p) = p ∷ []
 abbrev pub own_blocks : Node → List ℕ
 own_blocks n = n.blocks ++ if_some n.indirect
 
-indirect-among : (o : Option ℕ) (b : ℕ) → is_among b (if_some o) ≡ is_block b o
+pub indirect-among : (o : Option ℕ) (b : ℕ) → is_among b (if_some o) ≡ is_block b o
 indirect-among None b = refl
 indirect-among (Some p) b = elim (cases_Bool (nat_eq p b)) [
   | inl y ↦ ap (λ (t : Bool). cond t true false) y ∙ sym y
@@ -145,7 +145,7 @@ drop-listed (suc n) [] k c l e = absurd (none-some c e)
 drop-listed (suc n) (x ∷ xs) zero c l e = absurd (omega arith)
 drop-listed (suc n) (x ∷ xs) (suc k) c l e = drop-listed n xs k c (omega arith) e
 
-listed-drop : (n : ℕ) (xs : List ℕ) (c : ℕ) → is_among c (drop n xs) ≡ true → (k : ℕ) × (n ≤ k) × (slice_get xs k ≡ Some c)
+pub listed-drop : (n : ℕ) (xs : List ℕ) (c : ℕ) → is_among c (drop n xs) ≡ true → (k : ℕ) × (n ≤ k) × (slice_get xs k ≡ Some c)
 listed-drop zero [] c e = absurd (true≢false (sym e))
 listed-drop zero (x ∷ xs) c e = elim (among-cons x c xs e) [
   | inl same ↦ (zero, (omega arith), ap (λ (y : ℕ). Some y) (sym same))
@@ -165,6 +165,48 @@ abbrev number_of : Use → ℕ
 number_of (Part i k) = 0
 number_of (Pointers i) = 1
 
+-- what it still has
+cut-here : (v : Volume) (i count : ℕ) (bytes : List ℕ) → i < length v → node (cut_file v i count bytes) i ≡ cut_node (node v i) count bytes
+cut-here v i count bytes low = node-here v i (cut_node (node v i) count bytes) low
+
+part-left : (v : Volume) (i count : ℕ) (bytes : List ℕ) (k c : ℕ) → i < length v → slice_get (node (cut_file v i count bytes) i).blocks k ≡ Some c → (k < count) × (slice_get (node v i).blocks k ≡ Some c)
+part-left v i count bytes k c low e =
+    let f = ap (λ (n : Node). slice_get n.blocks k) (sym (cut-here v i count bytes low)) ∙ e in
+    (take-low count (node v i).blocks k c f, take-get count (node v i).blocks k c f)
+
+pointers-left : (v : Volume) (i count : ℕ) (bytes : List ℕ) (c : ℕ) → i < length v → (node (cut_file v i count bytes) i).indirect ≡ Some c → (node v i).indirect ≡ Some c
+pointers-left v i count bytes c low e = kept-option (nat_lt 12 count) (node v i).indirect c (ap (λ (n : Node). n.indirect) (sym (cut-here v i count bytes low)) ∙ e)
+
+-- and what it has no more
+pub part-gone : (g : Geometry) (v : Volume) (i count : ℕ) (bytes : List ℕ) (k c : ℕ) → AreUses g v → i < length v → count ≤ k → slice_get (node v i).blocks k ≡ Some c → has_block (node (cut_file v i count bytes) i) c ≡ false
+part-gone g v i count bytes k c uses low past e = false_from_ne_true _ (λ h.
+    let w = cut_file v i count bytes in
+    let u = has-use w i c h in
+    elim (use-cases u.0 i u.1) [
+      | inl p ↦
+          let l = part-left v i count bytes p.0 c low (subst (λ x. block_in w x ≡ Some c) p.1 u.2) in
+          let low_place = l.0 in
+          let same : place_of (Part i k) ≡ place_of (Part i p.0) = ap place_of (uses.apart (Part i k) (Part i p.0) c e l.1) in
+          absurd (omega arith)
+      | inr p ↦
+          let same : number_of (Part i k) ≡ number_of (Pointers i) = ap number_of (uses.apart (Part i k) (Pointers i) c e (pointers-left v i count bytes c low (subst (λ x. block_in w x ≡ Some c) p u.2))) in
+          absurd (omega arith)
+    ])
+
+pub pointers-gone : (g : Geometry) (v : Volume) (i count : ℕ) (bytes : List ℕ) (c : ℕ) → AreUses g v → i < length v → nat_lt 12 count ≡ false → (node v i).indirect ≡ Some c → has_block (node (cut_file v i count bytes) i) c ≡ false
+pointers-gone g v i count bytes c uses low n e = false_from_ne_true _ (λ h.
+    let w = cut_file v i count bytes in
+    let u = has-use w i c h in
+    elim (use-cases u.0 i u.1) [
+      | inl p ↦
+          let l = part-left v i count bytes p.0 c low (subst (λ x. block_in w x ≡ Some c) p.1 u.2) in
+          let same : number_of (Part i p.0) ≡ number_of (Pointers i) = ap number_of (uses.apart (Part i p.0) (Pointers i) c l.1 e) in
+          absurd (omega arith)
+      | inr p ↦
+          let none : (node w i).indirect ≡ None = ap (λ (m : Node). m.indirect) (cut-here v i count bytes low) ∙ ap (λ (t : Bool). if t then (node v i).indirect else None) n in
+          absurd (none-some c (sym none ∙ subst (λ x. block_in w x ≡ Some c) p u.2))
+    ])
+
 -- the zones in which it loses blocks
 pub cut-listed : (g : Geometry) (v : Volume) (i count : ℕ) (bytes zs : List ℕ) → AreUses g v → i < length v → ((c : ℕ) → has_block (node v i) c ≡ true → has_block (node (cut_file v i count bytes) i) c ≡ false → is_among (zone_in g c) zs ≡ true)
     → ((z : ℕ) → is_among z zs ≡ true → z < queues_of g) → AreCut g v (cut_file v i count bytes) i count (cut_list g i count zs (node v i))
@@ -182,7 +224,7 @@ cut-listed g v i count bytes zs uses low zones zone_low = record {
       ]
       | inr r ↦ elim (among-either (bitmaps zs) (drop count (node v i).blocks) c r) [
         | inl z ↦ let t = bitmap-zone zs c z in inr (inr (inr (t.0, zone_low t.0 t.1, t.2)))
-        | inr d ↦ let t = listed-drop count (node v i).blocks c d in inr (inr (inl (use-has (node v i) c (inl (t.0, t.2)), part-gone t.0 c t.1 t.2)))
+        | inr d ↦ let t = listed-drop count (node v i).blocks c d in inr (inr (inl (use-has (node v i) c (inl (t.0, t.2)), part-gone g v i count bytes t.0 c uses low t.1 t.2)))
       ]
     ]
   ];
@@ -195,7 +237,7 @@ cut-listed g v i count bytes zs uses low zones zone_low = record {
     more = bitmaps zs ++ drop count (node v i).blocks
 
     here : node w i ≡ cut_node (node v i) count bytes
-    here = node-here v i (cut_node (node v i) count bytes) low
+    here = cut-here v i count bytes low
 
     rest : (c : ℕ) → is_among c (if_some (node v i).indirect ++ more) ≡ true → is_among c (cut_list g i count zs (node v i)) ≡ true
     rest c e = among-behind (inode_block g i) c (if_some (node v i).indirect ++ more) e
@@ -207,42 +249,6 @@ cut-listed g v i count bytes zs uses low zones zone_low = record {
       | inr none ↦ absurd (true≢false (sym none))
     ]
 
-    -- what it still has
-    part-left : (k c : ℕ) → slice_get (node w i).blocks k ≡ Some c → (k < count) × (slice_get (node v i).blocks k ≡ Some c)
-    part-left k c e =
-        let f = ap (λ (n : Node). slice_get n.blocks k) (sym here) ∙ e in
-        (take-low count (node v i).blocks k c f, take-get count (node v i).blocks k c f)
-
-    pointers-left : (c : ℕ) → (node w i).indirect ≡ Some c → (node v i).indirect ≡ Some c
-    pointers-left c e = kept-option (nat_lt 12 count) (node v i).indirect c (ap (λ (n : Node). n.indirect) (sym here) ∙ e)
-
-    part-gone : (k c : ℕ) → count ≤ k → slice_get (node v i).blocks k ≡ Some c → has_block (node w i) c ≡ false
-    part-gone k c past e = false_from_ne_true _ (λ h.
-        let u = has-use w i c h in
-        elim (use-cases u.0 i u.1) [
-          | inl p ↦
-              let l = part-left p.0 c (subst (λ x. block_in w x ≡ Some c) p.1 u.2) in
-              let low_place = l.0 in
-              let same : place_of (Part i k) ≡ place_of (Part i p.0) = ap place_of (uses.apart (Part i k) (Part i p.0) c e l.1) in
-              absurd (omega arith)
-          | inr p ↦
-              let same : number_of (Part i k) ≡ number_of (Pointers i) = ap number_of (uses.apart (Part i k) (Pointers i) c e (pointers-left c (subst (λ x. block_in w x ≡ Some c) p u.2))) in
-              absurd (omega arith)
-        ])
-
     pointers-kept : (nat_lt 12 count ≡ true) ⊎ (nat_lt 12 count ≡ false) → (c : ℕ) → (node v i).indirect ≡ Some c → ((node w i).indirect ≡ Some c) ⊎ ((has_block (node v i) c ≡ true) × (has_block (node w i) c ≡ false))
     pointers-kept (inl y) c e = inl (ap (λ (n : Node). n.indirect) here ∙ ap (λ (t : Bool). if t then (node v i).indirect else None) y ∙ e)
-    pointers-kept (inr n) c e = inr (
-      use-has (node v i) c (inr e),
-      false_from_ne_true _ (λ h.
-          let u = has-use w i c h in
-          elim (use-cases u.0 i u.1) [
-            | inl p ↦
-                let l = part-left p.0 c (subst (λ x. block_in w x ≡ Some c) p.1 u.2) in
-                let same : number_of (Part i p.0) ≡ number_of (Pointers i) = ap number_of (uses.apart (Part i p.0) (Pointers i) c l.1 e) in
-                absurd (omega arith)
-            | inr p ↦
-                let none : (node w i).indirect ≡ None = ap (λ (m : Node). m.indirect) here ∙ ap (λ (t : Bool). if t then (node v i).indirect else None) n in
-                absurd (none-some c (sym none ∙ subst (λ x. block_in w x ≡ Some c) p u.2))
-          ]),
-    )
+    pointers-kept (inr n) c e = inr (use-has (node v i) c (inr e), pointers-gone g v i count bytes c uses low n e)

@@ -46,7 +46,7 @@ step-over g v w i blocks old new uses fine r fits rest put =
       | inr n ↦ subst (λ o. FitsAt g o w x) (sym (rest x n)) (same-fits g v w x (old x) (same x n) (fits-all g old v fits x))
     ])
 
-among-parts : (xs ys : List ℕ) (b : ℕ) → is_among b (xs ++ ys) ≡ false → (is_among b xs ≡ false) × (is_among b ys ≡ false)
+pub among-parts : (xs ys : List ℕ) (b : ℕ) → is_among b (xs ++ ys) ≡ false → (is_among b xs ≡ false) × (is_among b ys ≡ false)
 among-parts [] ys b e = (refl, e)
 among-parts (x ∷ xs) ys b e = elim (cases_Bool (nat_eq x b)) [
   | inl y ↦ absurd (true≢false (ap (λ (t : Bool). cond t true (is_among b (xs ++ ys))) (sym y) ∙ e))

@@ -13,5 +13,6 @@ pub mod Pages
 pub mod Picks
 pub mod Plans
 pub mod Reads
+pub mod Released
 pub mod Removes
 pub mod Walks
