@@ -58,6 +58,7 @@ pub mod Searching
 pub mod Showing
 pub mod SlotNumbers
 pub mod Sorting
+pub mod Stepping
 pub mod Taking
 pub mod Targets
 pub mod Walking

@@ -32,7 +32,7 @@ pub fn look_at(block: &Block)
 }
 
 /// Says of each byte that it is one.
-fn are_bytes(bytes: &[u8])
+pub fn are_bytes(bytes: &[u8])
     ensures { AreBytes bytes.now }
 {
     let _bytes = bytes;

@@ -1,0 +1,46 @@
+-- One request of a group, by its kind.
+use Rattle.std.proofs.Common.{◌≡◌, ℕ, true, sym, ap, subst}
+use Rattle.std.specs.Prelude.{Result, IfErr}
+use Rattle.std.proofs.lemmas.Result.{IfErr-weaker}
+use Rattle.mq_blocks.specs.declared.geometry.Geometry.{Geometry}
+use Rattle.mq_exec.specs.Edits.{Becomes}
+use Rattle.mq_exec.specs.Fits.{Agrees}
+use Rattle.mq_exec.specs.Lacks.{LacksOf}
+use Rattle.mq_exec.specs.Pages.{pages_of}
+use Rattle.mq_exec.specs.Plans.{ComesTo}
+use Rattle.mq_exec.specs.Reads.{LooksAlways, Reads}
+use Rattle.mq_exec.specs.declared.lack.Lack.{Lack}
+use Rattle.mq_exec.specs.declared.working.Working.{Working}
+use Rattle.mq_exec.proofs.Becoming.{becomes-self, carries-sound}
+use Rattle.mq_exec.proofs.Needs.{lacks-each}
+use Rattle.mq_tree.specs.Looks.{Looks, LooksAt}
+use Rattle.mq_tree.specs.Requests.{Outcome, is_named, step, verdict}
+use Rattle.mq_tree.specs.Volume.{Volume}
+use Rattle.mq_tree.specs.declared.request.Reply.{Reply}
+use Rattle.mq_tree.specs.declared.request.Request.{Request}
+
+-- a request that reads leaves the pages
+pub comes-read : (g : Geometry) (q : ℕ) (v : Volume) (r : Request) (reply : Reply) (w : Working) → Agrees g (pages_of w) v → Reads g v r reply → ComesTo g v (verdict g q v r) reply w w
+unfolding step
+comes-read g q v r reply w agrees reads = record {
+  reply_is = sym (ap (λ (o : Outcome). o.reply) (reads q));
+  becomes = subst (λ (o : Outcome). Becomes g v o.next w w) (sym (reads q)) (becomes-self g v w (carries-sound g (pages_of w) v agrees));
+}
+
+-- ---- at what it looks
+
+-- what is lacked, where the request is told by its kind
+pub lack-of : (w : Working) (q : ℕ) (r s : Request) (result : Result Reply Lack) → r ≡ s → IfErr result (LacksOf w (λ v b. LooksAt w.geometry q v s b)) → IfErr result (LacksOf w (λ v b. LooksAt w.geometry q v r b))
+lack-of w q r s result e h = subst (λ (x : Request). IfErr result (LacksOf w (λ v b. LooksAt w.geometry q v x b))) (sym e) h
+
+-- and on each queue
+pub lack-on : (w : Working) (q : ℕ) (r s : Request) (result : Result Reply Lack) → r ≡ s → IfErr result (LacksOf w (λ v b. (x : ℕ) → LooksAt w.geometry x v s b)) → IfErr result (LacksOf w (λ v b. LooksAt w.geometry q v r b))
+lack-on w q r s result e h = lack-of w q r s result e
+    (IfErr-weaker result (LacksOf w (λ v b. (x : ℕ) → LooksAt w.geometry x v s b)) (LacksOf w (λ v b. LooksAt w.geometry q v s b)) (λ lack n. lacks-each w (λ v b. (x : ℕ) → LooksAt w.geometry x v s b) (λ v b. LooksAt w.geometry q v s b) lack (λ v b agrees looks. looks q) n) h)
+
+pub lack-read : (w : Working) (q : ℕ) (r : Request) (result : Result Reply Lack) → IfErr result (LacksOf w (λ v b. LooksAlways w.geometry v r b)) → IfErr result (LacksOf w (λ v b. Looks w.geometry q v r b))
+lack-read w q r result h = IfErr-weaker result (LacksOf w (λ v b. LooksAlways w.geometry v r b)) (LacksOf w (λ v b. Looks w.geometry q v r b)) (λ lack n. lacks-each w (λ v b. LooksAlways w.geometry v r b) (λ v b. Looks w.geometry q v r b) lack (λ v b agrees looks. looks q) n) h
+
+pub lack-named : (w : Working) (q : ℕ) (r : Request) (result : Result Reply Lack) → is_named r ≡ true → IfErr result (LacksOf w (λ v b. LooksAt w.geometry q v r b)) → IfErr result (LacksOf w (λ v b. Looks w.geometry q v r b))
+lack-named w q r result good h = IfErr-weaker result (LacksOf w (λ v b. LooksAt w.geometry q v r b)) (LacksOf w (λ v b. Looks w.geometry q v r b))
+    (λ lack n. lacks-each w (λ v b. LooksAt w.geometry q v r b) (λ v b. Looks w.geometry q v r b) lack (λ v b agrees looks. record { named = good; looks = looks }) n) h
