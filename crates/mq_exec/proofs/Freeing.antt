@@ -2,10 +2,9 @@
 use Rattle.std.proofs.Common.{get_or, ◌≡◌, ◌≢◌, ℕ, ◌+◌, ◌<◌, ◌≤◌, ◌⊎◌, Bool, true, false, cond, List, [], ◌∷◌, ◌++◌, length, take, refl, sym, ap, subst, ◌∙◌, arith, inl, inr}
 use Rattle.std.specs.Prelude.{Some, None, nat_lt}
 use Rattle.std.specs.List.{All, Contains}
-use Rattle.std.proofs.lemmas.Bool.{cases_Bool, lt-ltb, ltb-true}
+use Rattle.std.proofs.lemmas.Bool.{lt-ltb, ltb-true}
 use Rattle.std.proofs.lemmas.List.{take_all}
 use Rattle.std.proofs.lemmas.List.Elements.{All-contains, All-more, All-nil, All-weaker, Contains-append_cases, Contains-append_left, Contains-append_right, Contains-get_or, Contains-push, Contains-push_cases}
-use Rattle.mq_blocks.specs.Geometry.{meta_of}
 use Rattle.mq_blocks.specs.declared.geometry.Geometry.{Geometry}
 use Rattle.mq_exec.specs.Changes.{zone_in}
 use Rattle.mq_exec.specs.Fits.{Agrees}
@@ -16,10 +15,8 @@ use Rattle.mq_exec.specs.Removes.{IsInZones, LooksFreed, owned}
 use Rattle.mq_exec.specs.declared.opened.Opened.{Opened}
 use Rattle.mq_exec.proofs.Directories.{blocks-has, pointers-has}
 use Rattle.mq_exec.proofs.LocalFrame.{has-use}
-use Rattle.mq_exec.proofs.Needs.{page-held}
-use Rattle.mq_exec.proofs.Nodes.{node-pointers}
+use Rattle.mq_exec.proofs.Making.{meta-held, opened-pointers}
 use Rattle.mq_layout.specs.Places.{inode_bitmap, zone_bitmap}
-use Rattle.mq_layout.specs.declared.inode.Inode.{Inode}
 use Rattle.mq_tree.specs.Sound.{IsSound}
 use Rattle.mq_tree.specs.Volume.{Volume, has_block, node}
 use Rattle.mq_tree.proofs.Maps.{zone-low}
@@ -70,18 +67,13 @@ owned-few o x c = go (nat_lt 12 (length o.blocks.items))
 owned-pointers : (o : Opened) → 12 < length o.blocks.items → Contains (owned o) o.inode.indirect
 owned-pointers o many = subst (λ (t : Bool). Contains (owned_when o t) o.inode.indirect) (sym (lt-ltb 12 (length o.blocks.items) many)) (Contains-push o.blocks.items o.inode.indirect)
 
-pub opened-pointers : (g : Geometry) (v : Volume) (o : Opened) → IsSound g v → IsOpened g v o → 12 < length o.blocks.items → (node v o.number).indirect ≡ Some o.inode.indirect
-opened-pointers g v o sound is many =
-    let n = node v o.number in
-    node-pointers n (sound.nodes o.number) (subst (λ (bs : List ℕ). 12 < length bs) is.blocks many) ∙ ap (λ (i : Inode). Some i.indirect) (sym is.inode)
-
 pub owned-has : (g : Geometry) (v : Volume) (o : Opened) (x : ℕ) → IsSound g v → IsOpened g v o → Contains (owned o) x → has_block (node v o.number) x ≡ true
 owned-has g v o x sound is c = go (nat_lt 12 (length o.blocks.items)) refl c
   where
     go : (many : Bool) → nat_lt 12 (length o.blocks.items) ≡ many → Contains (owned_when o many) x → has_block (node v o.number) x ≡ true
     go true e h = elim (Contains-push_cases o.blocks.items o.inode.indirect x h) [
       | inl l ↦ blocks-has (node v o.number) o.blocks.items x is.blocks l
-      | inr at ↦ pointers-has (node v o.number) x (opened-pointers g v o sound is (ltb-true 12 (length o.blocks.items) e) ∙ ap (λ (b : ℕ). Some b) at)
+      | inr at ↦ pointers-has (node v o.number) x (opened-pointers g v o is (ltb-true 12 (length o.blocks.items) e) ∙ ap (λ (b : ℕ). Some b) at)
     ]
     go false e h = blocks-has (node v o.number) o.blocks.items x is.blocks h
 
@@ -97,10 +89,6 @@ owned-zones g v o blocks sound is e =
 
 -- ---- what is known once all was looked for
 
--- the metadata region has no free blocks
-pub low-held : (g : Geometry) (pages : Pages) (v : Volume) (b : ℕ) → Agrees g pages v → b < meta_of g → pages b ≢ None → IsHeld pages b
-low-held g pages v b agrees low there = page-held (pages b) there (λ e. let h = (agrees.fits.free b e).0 in omega arith)
-
 record IsAllKnown (g : Geometry) (pages : Pages) (o : Opened) : Type 0 where
   blocks : (x : ℕ) → Contains (owned o) x → pages x ≢ None
   bitmaps : (x : ℕ) → Contains (owned o) x → pages (zone_bitmap (zone_in g x)) ≢ None
@@ -111,7 +99,7 @@ released g pages v o x agrees is k c =
     let low = zone-low g x z.high z.home in
     let m = g.meta_low in
     record {
-      marks = record { high = z.high; home = z.home; marks = low-held g pages v (zone_bitmap (zone_in g x)) agrees (omega arith) (k.bitmaps x c) };
+      marks = record { high = z.high; home = z.home; marks = meta-held g pages v (zone_bitmap (zone_in g x)) agrees.fits (omega arith) (k.bitmaps x c) };
       known = k.blocks x c;
     }
 
@@ -141,7 +129,7 @@ may-release g pages v o bitmaps blocks all agrees is e marks f known = record {
 pub marks-held : (g : Geometry) (pages : Pages) (v : Volume) (bitmaps blocks all : List ℕ) → Agrees g pages v → all ≡ all_of g bitmaps blocks → All (λ b. pages b ≢ None) all → IsHeld pages (inode_bitmap g)
 marks-held g pages v bitmaps blocks all agrees f known =
     let m = g.meta_low in
-    low-held g pages v (inode_bitmap g) agrees (omega arith) (All-contains (λ b. pages b ≢ None) all (inode_bitmap g) known
+    meta-held g pages v (inode_bitmap g) agrees.fits (omega arith) (All-contains (λ b. pages b ≢ None) all (inode_bitmap g) known
     (subst (λ (xs : List ℕ). Contains xs (inode_bitmap g)) (sym f) (Contains-append_left (bitmaps ++ inode_bitmap g ∷ []) blocks (inode_bitmap g) (Contains-push bitmaps (inode_bitmap g)))))
 
 pub all-looked : (g : Geometry) (v : Volume) (o : Opened) (bitmaps blocks all : List ℕ) (x : ℕ) → IsSound g v → IsOpened g v o → blocks ≡ owned o → All (IsBitmapOf g blocks) bitmaps → all ≡ all_of g bitmaps blocks → Contains all x → LooksFreed g v o.number x

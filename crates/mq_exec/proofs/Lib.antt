@@ -51,6 +51,7 @@ pub mod Overwriting
 pub mod Picking
 pub mod Regrown
 pub mod Releasing
+pub mod RemoveCarried
 pub mod RemoveLooks
 pub mod Removing
 pub mod Rewriting

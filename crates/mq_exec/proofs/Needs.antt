@@ -30,7 +30,7 @@ known-there Free there e = absurd (cc)
 known-there (Held block) there e = absurd (cc)
 
 -- a page that is known, and isn't free
-pub page-held : (page : Option (Option (List ℕ))) → page ≢ None → page ≢ Some None → page ≡ Some (Some (content page))
+page-held : (page : Option (Option (List ℕ))) → page ≢ None → page ≢ Some None → page ≡ Some (Some (content page))
 page-held None there used = absurd (there refl)
 page-held (Some None) there used = absurd (used refl)
 page-held (Some (Some page)) there used = refl

@@ -1,6 +1,5 @@
 -- An inode that a request changes, as it is looked up.
-use Rattle.std.proofs.Common.{◌≡◌, ℕ, List, ap, true}
-use Rattle.std.specs.Prelude.{Vec}
+use Rattle.std.proofs.Common.{◌≡◌, ap, true}
 use Rattle.mq_blocks.specs.declared.geometry.Geometry.{Geometry}
 use Rattle.mq_exec.specs.Opened.{IsOpened}
 use Rattle.mq_exec.specs.Walks.{IsDirectory}

@@ -1,14 +1,11 @@
 -- At what removing a file or a directory looks.
-use Rattle.std.proofs.Common.{◌≡◌, ◌≢◌, ℕ, ◌+◌, ◌*◌, ◌/◌, ◌<◌, ◌≤◌, Bool, true, false, List, [], ◌∷◌, length, refl, sym, ap, subst, ◌∙◌, arith, inl, inr, length-set}
-use Rattle.std.specs.Prelude.{Option, Some, None, slice_get}
+use Rattle.std.proofs.Common.{◌≡◌, ◌≢◌, ℕ, ◌*◌, ◌<◌, true, false, List, length, refl, sym, ap, subst, ◌∙◌, arith, inl, inr, length-set}
+use Rattle.std.specs.Prelude.{Some, slice_get}
 use Rattle.std.specs.List.{list_all}
 use Rattle.std.proofs.lemmas.Bool.{true≢false}
 use Rattle.std.proofs.lemmas.Option.{slice_get_within}
 use Rattle.mq_blocks.specs.declared.geometry.Geometry.{Geometry}
 use Rattle.mq_layout.specs.Names.{is_name}
-use Rattle.mq_layout.specs.Places.{inodes_of}
-use Rattle.mq_layout.specs.Slots.{Entry}
-use Rattle.mq_exec.specs.Changes.{owner}
 use Rattle.mq_exec.specs.Plans.{IsFound}
 use Rattle.mq_exec.specs.Removes.{LooksFreed}
 use Rattle.mq_exec.specs.Walks.{IsDirectory, last_of}
@@ -21,10 +18,10 @@ use Rattle.mq_exec.proofs.LocalVolumes.{with_body-uses}
 use Rattle.mq_exec.proofs.Removing.{file-other, step-made, unlink-makes}
 use Rattle.mq_exec.proofs.Targets.{IsUnder, found-under}
 use Rattle.mq_exec.proofs.Walking.{leads-here, used-low}
-use Rattle.mq_tree.specs.Looks.{LooksAt, TakesInode, WorksOn, is_refused, bytes as at_bytes, directory as at_directory, freed as at_freed, marks as at_marks, pointers as at_pointers}
-use Rattle.mq_tree.specs.Requests.{Makes, Outcome, cleared, freed, is_named, rmdir, step, target, unlink, unlinked}
+use Rattle.mq_tree.specs.Looks.{LooksAt, WorksOn, is_refused, bytes as at_bytes, directory as at_directory, freed as at_freed, marks as at_marks, pointers as at_pointers}
+use Rattle.mq_tree.specs.Requests.{Makes, Outcome, cleared, freed, rmdir, step, target, unlink, unlinked}
 use Rattle.mq_tree.specs.Sound.{IsBody, IsSound}
-use Rattle.mq_tree.specs.Volume.{Body, File, Dir, Node, Part, Path, Pointers, Use, Volume, block_in, body, free_node, has_block, is_taken, is_used, node, slots_of, way}
+use Rattle.mq_tree.specs.Volume.{Body, File, Dir, Node, Path, Use, Volume, block_in, body, free_node, has_block, is_taken, is_used, node, slots_of, way}
 use Rattle.mq_tree.specs.declared.request.Reply.TheVariants.{Ok as Ready}
 use Rattle.mq_tree.specs.declared.request.Request.{Request}
 use Rattle.mq_tree.specs.declared.request.Request.TheVariants.{Rmdir, Unlink}

@@ -1,8 +1,7 @@
 -- What removing a file or a directory comes to.
-use Rattle.std.proofs.Common.{get_or, ◌≡◌, ◌≢◌, ℕ, ◌*◌, ◌<◌, ◌≤◌, Bool, true, false, cond, List, [], ◌∷◌, length, refl, sym, ap, subst, ◌∙◌, arith}
-use Rattle.std.specs.Prelude.{Option, Some, None, Result, Ok, Err, nat_eq, nat_lt}
-use Rattle.std.specs.Str.{bytes_eq}
-use Rattle.std.proofs.lemmas.Bool.{eq-eqb, le-ltb, ne_eqb}
+use Rattle.std.proofs.Common.{get_or, ◌≡◌, ◌≢◌, ℕ, ◌*◌, ◌<◌, Bool, true, false, cond, List, [], ◌∷◌, length, refl, sym, ap, subst, ◌∙◌, arith}
+use Rattle.std.specs.Prelude.{Option, Some, None, nat_eq}
+use Rattle.std.proofs.lemmas.Bool.{eq-eqb, ne_eqb}
 use Rattle.mq_blocks.specs.declared.geometry.Geometry.{Geometry}
 use Rattle.mq_layout.specs.Places.{inodes_of}
 use Rattle.mq_layout.specs.Slots.{Entry}
@@ -11,22 +10,20 @@ use Rattle.mq_exec.specs.Plans.{IsCarried, IsFound, IsRefused, PlansRemove, on_b
 use Rattle.mq_exec.specs.Walks.{IsDirectory, last_of}
 use Rattle.mq_exec.specs.declared.file.Found.{Found}
 use Rattle.mq_exec.specs.declared.remove.Removal.{Removal}
+use Rattle.mq_exec.proofs.Coming.{carried-enough}
 use Rattle.mq_exec.proofs.Targets.{IsUnder}
-use Rattle.mq_tree.specs.Free.{free_blocks}
-use Rattle.mq_tree.specs.Requests.{In, Lost, Makes, Outcome, Root, Target, Verdict, act, carried_out, count_names, freed, is_named, refused, rmdir, rmdir_in, step, target, unlink, unlink_in, unlinked}
+use Rattle.mq_tree.specs.Requests.{In, Lost, Makes, Root, Target, Verdict, act, carried_out, count_names, freed, is_named, refused, rmdir, rmdir_in, step, target, unlink, unlink_in, unlinked}
 use Rattle.mq_tree.specs.Sound.{IsBody, IsSound}
 use Rattle.mq_tree.specs.Volume.{Body, Free, File, Dir, Path, Volume, body, find, node, slot, slots_of, way}
 use Rattle.mq_tree.specs.declared.request.Fault.{Fault}
-use Rattle.mq_tree.specs.declared.request.Fault.TheVariants.{BadName, NoSpace, NotDir, NotEmpty}
-use Rattle.mq_tree.specs.declared.request.Reply.{Reply}
-use Rattle.mq_tree.specs.declared.request.Reply.TheVariants.{Ok as Ready, Refused}
+use Rattle.mq_tree.specs.declared.request.Fault.TheVariants.{BadName, NotDir, NotEmpty}
+use Rattle.mq_tree.specs.declared.request.Reply.TheVariants.{Ok as Ready}
 use Rattle.mq_tree.specs.declared.request.Request.{Request}
 
 -- ---- a verdict that takes no block is carried out
 
 pub carried-makes : (g : Geometry) (v : Volume) (verdict : Verdict) (w : Volume) → verdict ≡ Makes 0 w → IsCarried g v verdict w
-carried-makes g v verdict w e =
-    ap (λ (x : Verdict). carried_out g v x) e ∙ ap (λ (t : Bool). cond t (record { reply = Refused NoSpace; next = v }) (record { reply = Ready; next = w })) (le-ltb (free_blocks g v) 0 (omega arith))
+carried-makes g v verdict w e = ap (λ (x : Verdict). carried_out g v x) e ∙ carried-enough g v 0 w (omega arith)
 
 pub step-made : (g : Geometry) (q : ℕ) (v : Volume) (r : Request) (w : Volume) → is_named r ≡ true → act g q v r ≡ Makes 0 w → step g q v r ≡ record { reply = Ready; next = w }
 unfolding step

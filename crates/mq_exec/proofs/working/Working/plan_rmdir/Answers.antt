@@ -2,7 +2,7 @@ use Rattle.std.proofs.Common.{◌≡◌, ℕ, refl, sym, ap, subst, ◌∙◌, L
 use Rattle.std.proofs.lemmas.Result.{err_from_is_err_and}
 use Rattle.mq_exec.specs.Dirs.{slots_at}
 use Rattle.mq_exec.specs.Fits.{Agrees}
-use Rattle.mq_exec.specs.Pages.{pages_of}
+use Rattle.mq_exec.specs.Pages.{Pages, pages_of}
 use Rattle.mq_exec.specs.Removes.{LooksFreed}
 use Rattle.mq_exec.specs.Walks.{LeadsPast, LooksIn}
 use Rattle.mq_exec.proofs.Answering.{past-looks}
@@ -17,6 +17,10 @@ use Rattle.mq_tree.specs.Requests.{count_names}
 use Rattle.mq_tree.specs.Volume.{Volume, node, way}
 use Rattle.mq_tree.specs.declared.request.Request.TheVariants.{Rmdir}
 use Rattle.mq_exec.proofs.working.Working.plan_rmdir.Goals as goal
+
+-- no name was counted
+bare : (pages : Pages) (counted blocks : List ℕ) (count : ℕ) → counted ≡ blocks → count ≡ count_names (slots_at pages counted) → count ≡ 0 → count_names (slots_at pages blocks) ≡ 0
+bare pages counted blocks count same e none = ap (λ (xs : List ℕ). count_names (slots_at pages xs)) (sym same) ∙ sym e ∙ none
 
 pub returns-in_err-target-clause-lack : goal.returns-in_err-target-clause-lack
 returns-in_err-target-clause-lack c =
@@ -87,14 +91,14 @@ returns-in_err-look_to_free-clause-lack c =
     let path = c.args.path.now in
     let t = c.in-In-default-Some in
     let o = c.in_ok-gone.gone in
-    let bare : count_names (slots_at pages o.blocks.items) ≡ 0 = ap (λ (xs : List ℕ). count_names (slots_at pages xs)) (sym c.deref.ensures.value) ∙ sym c.count.ensures ∙ c.if-count-ne0.false in
+    let none = bare pages c.deref.result.now o.blocks.items c.count.result c.deref.ensures.value c.count.ensures c.if-count-ne0.false in
     let p = err_from_is_err_and c.from_residual-in_err-look_to_free.result c.from_residual-in_err-look_to_free.ensures.1 in
     rw (p.1, p.2) (lacks-weaker pages (λ b. (v : Volume) → Agrees g pages v → LooksFreed g v o.number b) (λ b. (v : Volume) → Agrees g pages v → (q : ℕ) → LooksAt g q v (Rmdir path) b) c.in_err-look_to_free.field-0.0
     (λ b h v agrees q.
     let u = under g v (way path) c.in_ok-target.field-0 _ _ _ agrees.sound t.is t.found-is (c.in_ok-target.ensures.ok v agrees) in
     let is = c.in_ok-gone.ensures.slots v agrees in
-    dir-freed g q v path t.directory t.i b agrees.sound c.requires.names u (slots_at pages o.blocks.items, is) (bare-other v path t.directory t.i (slots_at pages o.blocks.items) u is bare)
-    (rmdir-makes v path t.directory t.i (slots_at pages o.blocks.items) u is bare) (subst (λ (x : ℕ). LooksFreed g v x b) c.in_ok-gone.ensures.number (h v agrees))) c.in_err-look_to_free.ensures.lack)
+    dir-freed g q v path t.directory t.i b agrees.sound c.requires.names u (slots_at pages o.blocks.items, is) (bare-other v path t.directory t.i (slots_at pages o.blocks.items) u is none)
+    (rmdir-makes v path t.directory t.i (slots_at pages o.blocks.items) u is none) (subst (λ (x : ℕ). LooksFreed g v x b) c.in_ok-gone.ensures.number (h v agrees))) c.in_err-look_to_free.ensures.lack)
 
 pub returns-clause-ok : goal.returns-clause-ok
 returns-clause-ok c v agrees =
@@ -103,8 +107,8 @@ returns-clause-ok c v agrees =
     let path = c.args.path.now in
     let t = c.in-In-default-Some in
     let o = c.in_ok-gone.gone in
-    let bare : count_names (slots_at pages o.blocks.items) ≡ 0 = ap (λ (xs : List ℕ). count_names (slots_at pages xs)) (sym c.deref.ensures.value) ∙ sym c.count.ensures ∙ c.if-count-ne0.false in
+    let none = bare pages c.deref.result.now o.blocks.items c.count.result c.deref.ensures.value c.count.ensures c.if-count-ne0.false in
     let u = under g v (way path) c.in_ok-target.field-0 _ _ _ agrees.sound t.is t.found-is (c.in_ok-target.ensures.ok v agrees) in
     let is = c.in_ok-gone.ensures.slots v agrees in
-    plans g v _ path (record { directory = c.in_ok-directory.directory; gone = o }) t.directory t.i c.in_ok-directory.ensures.number c.in_ok-gone.ensures.number agrees.sound u (rmdir-makes v path t.directory t.i (slots_at pages o.blocks.items) u is bare)
-    (bare-other v path t.directory t.i (slots_at pages o.blocks.items) u is bare) (c.in_ok-directory.ensures.opened v agrees) (c.in_ok-gone.ensures.opened v agrees)
+    plans g v _ path (record { directory = c.in_ok-directory.directory; gone = o }) t.directory t.i c.in_ok-directory.ensures.number c.in_ok-gone.ensures.number agrees.sound u (rmdir-makes v path t.directory t.i (slots_at pages o.blocks.items) u is none)
+    (bare-other v path t.directory t.i (slots_at pages o.blocks.items) u is none) (c.in_ok-directory.ensures.opened v agrees) (c.in_ok-gone.ensures.opened v agrees)
