@@ -1,5 +1,6 @@
 pub mod Answering
 pub mod Becoming
+pub mod Below
 pub mod Carrying
 pub mod Coming
 pub mod Contents
