@@ -55,6 +55,7 @@ pub mod Releasing
 pub mod RemoveCarried
 pub mod RemoveLooks
 pub mod Removing
+pub mod RenamingPlans
 pub mod Rewriting
 pub mod Searching
 pub mod Showing

@@ -44,7 +44,7 @@ use Rattle.mq_tree.proofs.KeepUses.{AreUses, node-here}
 
 -- ---- an entry may be added
 
-need-is : (g : Geometry) (v : Volume) (o : Opened) (slots : List (Option Entry)) (need : ℕ) → IsOpened g v o → body v o.number ≡ Dir slots → need ≡ entry_needs (length o.blocks.items) (unused 0 slots) → need ≡ link_needs (node v o.number)
+pub need-is : (g : Geometry) (v : Volume) (o : Opened) (slots : List (Option Entry)) (need : ℕ) → IsOpened g v o → body v o.number ≡ Dir slots → need ≡ entry_needs (length o.blocks.items) (unused 0 slots) → need ≡ link_needs (node v o.number)
 need-is g v o slots need h is e =
     e ∙ ap (λ (bs : List ℕ). entry_needs (length bs) (unused 0 slots)) h.blocks ∙ ap (λ (x : Body). entry_needs (length (node v o.number).blocks) (unused 0 (slots_of x))) (sym is)
 

@@ -81,7 +81,7 @@ bare-other v path d i slots u is none same =
 
 -- ---- the plan
 
-may-unlink : (g : Geometry) (v : Volume) (d : ℕ) (blocks : List ℕ) → IsSound g v → IsDirectory v d → d < inodes_of g → blocks ≡ (node v d).blocks → MayUnlink g v d blocks
+pub may-unlink : (g : Geometry) (v : Volume) (d : ℕ) (blocks : List ℕ) → IsSound g v → IsDirectory v d → d < inodes_of g → blocks ≡ (node v d).blocks → MayUnlink g v d blocks
 may-unlink g v d blocks sound dir low same = record {
   low = low;
   slots = dir.0;

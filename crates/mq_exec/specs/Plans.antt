@@ -1,5 +1,5 @@
 -- Requests that change, once it is known what they come to.
-use Rattle.std.specs.Prelude.{◌≡◌, ◌≢◌, ◌<◌, ◌≤◌, ◌-◌, ◌/◌, ℕ, Bool, true, false, List, [], drop, length, slice_index, slice_set, Some, None}
+use Rattle.std.specs.Prelude.{◌≡◌, ◌≢◌, ◌<◌, ◌≤◌, ◌-◌, ◌/◌, ℕ, Bool, true, false, List, [], drop, length, slice_index, slice_set, Option, Some, None, if◌then◌else◌, nat_eq, nat_le}
 use Rattle.std.specs.List.{All}
 use Rattle.mq_blocks.specs.declared.geometry.Geometry.{Geometry}
 use Rattle.mq_exec.specs.Dirs.{AreDirsAt}
@@ -15,9 +15,9 @@ use Rattle.mq_exec.specs.declared.rename.Renaming.{Renaming}
 use Rattle.mq_exec.specs.declared.rewrite.Rewriting.{Rewriting}
 use Rattle.mq_exec.specs.declared.file.Found.{Found}
 use Rattle.mq_exec.specs.declared.working.Working.{Working}
-use Rattle.mq_layout.specs.Places.{file_limit, inode_bitmap, inode_block, inodes_of}
+use Rattle.mq_layout.specs.Places.{file_limit, inode_bitmap, inode_block, inodes_of, names_limit}
 use Rattle.mq_layout.specs.Slots.{Entry}
-use Rattle.mq_tree.specs.Requests.{In, Lost, Root, Target, Verdict, carried_out, freed, is_below, linked, make, refused, rename, resized, target, unlinked}
+use Rattle.mq_tree.specs.Requests.{In, Lost, Root, Target, Verdict, carried_out, count_names, entry_needs, freed, is_below, linked, make, refused, rename, resized, target, unlinked, unused}
 use Rattle.mq_tree.specs.Sound.{blocks_for}
 use Rattle.mq_tree.specs.Volume.{Body, Free, File, Dir, Path, Volume, body, find, slots_of, way}
 use Rattle.mq_tree.specs.declared.request.Fault.{Fault}
@@ -105,6 +105,13 @@ pub record IsSource (v : Volume) (from to : Path) (found : ℕ × ℕ) : Type 0 
 
 abbrev pub moved_entry : Path → Renaming → Entry
 moved_entry to m = record { inode = m.inode; name = last_of (way to) }
+
+-- Within one directory the slot of the old name is unused again: no block is needed, and there is room.
+abbrev pub move_needs : (from into : ℕ) → (count : ℕ) → List (Option Entry) → ℕ
+move_needs from into count slots = if nat_eq from into then 0 else entry_needs count (unused 0 slots)
+
+abbrev pub is_full : (from into : ℕ) → List (Option Entry) → Bool
+is_full from into slots = if nat_eq from into then false else nat_le names_limit (count_names slots)
 
 pub record PlansRename (g : Geometry) (q : ℕ) (v : Volume) (from to : Path) (m : Renaming) : Type 0 where
   pub carried : IsCarried g v (rename g q v from to (target v (way from))) (linked g q (unlinked v m.source.number (last_of (way from))) m.directory.number (moved_entry to m))

@@ -1,13 +1,14 @@
 // Files and directories that move.
-ghost use Rattle.std.specs.Prelude.{◌≡◌, ◌<◌, ℕ, true, IfErr, IfOk, MatchResult, OnOk, ⊤};
+ghost use Rattle.std.specs.Prelude.{◌≡◌, ◌<◌, ◌≤◌, ℕ, length, true, IfErr, IfOk, MatchResult, OnOk, ⊤};
 ghost use Rattle.std.specs.List.{list_all};
 ghost use Rattle.mq_blocks.specs.Geometry.{queues_of};
 ghost use Rattle.mq_blocks.specs.declared.geometry.Geometry.{Geometry};
+ghost use Rattle.mq_exec.specs.Dirs.{AreDirsAt, slots_at};
 ghost use Rattle.mq_exec.specs.Edits.{Becomes, IsOver};
 ghost use Rattle.mq_exec.specs.Fits.{Agrees};
 ghost use Rattle.mq_exec.specs.Lacks.{HasVolume, LacksOf, OfEach};
 ghost use Rattle.mq_exec.specs.Pages.{pages_of};
-ghost use Rattle.mq_exec.specs.Plans.{ComesTo, HoldsRename, IsRefused, IsSource, PlansRename, moved_entry};
+ghost use Rattle.mq_exec.specs.Plans.{ComesTo, HoldsRename, IsRefused, IsSource, PlansRename, is_full as is_full_of, move_needs, moved_entry};
 ghost use Rattle.mq_exec.specs.Walks.{LeadsPast, last_of};
 ghost use Rattle.mq_layout.specs.Names.{is_name};
 ghost use Rattle.mq_tree.specs.Looks.{LooksAt};
@@ -76,6 +77,27 @@ impl<'a> Working<'a> {
         Ok(Ok((d, i)))
     }
 
+    /// How many blocks a name more takes, once another is gone from this directory or that.
+    fn move_need(&self, from: u32, into: u32, blocks: &[BlockNo]) -> u32
+        requires held { AreDirsAt (pages_of self.now) blocks.now }
+        requires few { length blocks.now ≤ 1036 }
+        ensures { result ≡ move_needs from into (length blocks.now) (slots_at (pages_of self.now) blocks.now) }
+    {
+        if from == into {
+            return 0;
+        }
+        self.link_need(blocks)
+    }
+
+    /// Whether there is no room for a name more then.
+    fn is_full(&self, from: u32, into: u32, blocks: &[BlockNo]) -> bool
+        requires held { AreDirsAt (pages_of self.now) blocks.now }
+        requires few { length blocks.now ≤ 1036 }
+        ensures { result ≡ is_full_of from into (slots_at (pages_of self.now) blocks.now) }
+    {
+        from != into && self.count(blocks) >= NAMES_LIMIT
+    }
+
     /// What moving takes, or why it is refused.
     fn plan_rename(
         &self,
@@ -106,15 +128,10 @@ impl<'a> Working<'a> {
         };
         let source = self.open_directory(alloc, d)?;
         let directory = self.open_directory(alloc, into)?;
-        // Within one directory the slot of the old name is free again.
-        let need = if d == into {
-            0
-        } else {
-            self.link_need(&directory.blocks)
-        };
-        if d != into && self.count(&directory.blocks) >= NAMES_LIMIT {
+        if self.is_full(d, into, &directory.blocks) {
             return Ok(Err(Fault::TooBig));
         }
+        let need = self.move_need(d, into, &directory.blocks);
         let Some(picks) = self.pick(alloc, queue, need)? else {
             return Ok(Err(Fault::NoSpace));
         };
