@@ -129,7 +129,7 @@ run-read g pages v i all blocks at count end h held e some n =
 
 -- ---- which blocks are touched
 
-file-size : (n : Node) (inode : Inode) (all : List ℕ) → inode ≡ inode_of n → n.body ≡ File all → inode.size ≡ length all
+pub file-size : (n : Node) (inode : Inode) (all : List ℕ) → inode ≡ inode_of n → n.body ≡ File all → inode.size ≡ length all
 file-size n inode all e is = ap (λ (x : Inode). x.size) e ∙ ap (λ (x : Body). size_of x (length n.blocks)) is
 
 pub file-end : (n : Node) (inode : Inode) (all : List ℕ) (sum end at count : ℕ) → inode ≡ inode_of n → n.body ≡ File all → length all ≤ 4243456 → sum ≡ min (at + count) 18446744073709551615 → end ≡ min sum inode.size → end ≡ min (at + count) (length all)
@@ -148,7 +148,7 @@ touched-run g pages v i all blocks touched at end agrees is same some low t = re
       ∙ ap (λ (x : ℕ). Some x) (sym (ap (λ (xs : List ℕ). get_or xs k 0) t ∙ get_or-take ((end - 1) / 4096 + 1 - at / 4096) (drop (at / 4096) blocks) k 0 (omega arith) ∙ get_or-drop (at / 4096) blocks k 0));
 }
 
-file-count : (g : Geometry) (pages : Pages) (v : Volume) (i : ℕ) (all : List ℕ) → Agrees g pages v → body v i ≡ File all → length (node v i).blocks ≡ blocks_for (length all)
+pub file-count : (g : Geometry) (pages : Pages) (v : Volume) (i : ℕ) (all : List ℕ) → Agrees g pages v → body v i ≡ File all → length (node v i).blocks ≡ blocks_for (length all)
 file-count g pages v i all agrees is = let fine : IsBody (File all) (length (node v i).blocks) = subst (λ x. IsBody x (length (node v i).blocks)) is (agrees.sound.nodes i).body in fine.1
 
 pub touched-length : (g : Geometry) (pages : Pages) (v : Volume) (i : ℕ) (all blocks touched : List ℕ) (at end : ℕ) → Agrees g pages v → body v i ≡ File all → blocks ≡ (node v i).blocks → at < end → end ≤ length all

@@ -40,6 +40,7 @@ pub mod LocalSteps
 pub mod LocalTaken
 pub mod LocalUses
 pub mod LocalVolumes
+pub mod Longer
 pub mod Making
 pub mod MakingPlans
 pub mod Marking

@@ -11,7 +11,7 @@ use Rattle.mq_blocks.specs.declared.geometry.Geometry.{Geometry}
 use Rattle.mq_exec.specs.Changes.{IsInodePut, IsInodeTurned, Stepped}
 use Rattle.mq_exec.specs.Edits.{Becomes, Carries, IsOver, KeepsKinds}
 use Rattle.mq_exec.specs.Moves.{IsOfFile}
-use Rattle.mq_exec.specs.Overwrites.{IsOverwritten, IsPartWritten, IsSplicedAt, past_place, text_from, text_in}
+use Rattle.mq_exec.specs.Overwrites.{IsOverwritten, IsPartWritten, IsSplicedAt, blocks_at, past_place, text_from, text_in}
 use Rattle.mq_exec.specs.Pages.{Pages, kinds_of, pages_of}
 use Rattle.mq_exec.specs.declared.working.Working.{Working}
 use Rattle.mq_exec.proofs.Becoming.{becomes-stepped}
@@ -34,9 +34,6 @@ use Rattle.std.proofs.lemmas.List.{length-set}
 
 -- ---- the blocks at some places
 
-abbrev pub blocks_at : List ℕ → (first past : ℕ) → List ℕ
-blocks_at blocks first past = take (past - first) (drop first blocks)
-
 -- a block that stands at one of the places
 pub record StandsAt (blocks : List ℕ) (first past b : ℕ) : Type 0 where
   pub place : ℕ
@@ -45,14 +42,14 @@ pub record StandsAt (blocks : List ℕ) (first past b : ℕ) : Type 0 where
   pub inside : place < length blocks
   pub is : get_or blocks place 0 ≡ b
 
-among-at : (xs : List ℕ) (b : ℕ) → is_among b xs ≡ true → (k : ℕ) × (k < length xs) × (get_or xs k 0 ≡ b)
+pub among-at : (xs : List ℕ) (b : ℕ) → is_among b xs ≡ true → (k : ℕ) × (k < length xs) × (get_or xs k 0 ≡ b)
 among-at [] b e = absurd (true≢false (sym e))
 among-at (x ∷ xs) b e = elim (among-cons x b xs e) [
   | inl same ↦ (zero, omega arith, sym same)
   | inr later ↦ let r = among-at xs b later in let l = r.1 in (suc r.0, omega arith, r.2)
 ]
 
-at-among : (xs : List ℕ) (k : ℕ) → k < length xs → is_among (get_or xs k 0) xs ≡ true
+pub at-among : (xs : List ℕ) (k : ℕ) → k < length xs → is_among (get_or xs k 0) xs ≡ true
 at-among [] k l = absurd (omega arith)
 at-among (x ∷ xs) zero l = among-here x xs
 at-among (x ∷ xs) (suc k) l = among-behind x (get_or xs k 0) xs (at-among xs k (omega arith))

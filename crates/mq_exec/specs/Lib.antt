@@ -5,6 +5,7 @@ pub mod Edits
 pub mod Fits
 pub mod Growing
 pub mod Lacks
+pub mod Longer
 pub mod Moves
 pub mod Opened
 pub mod Outcomes

@@ -14,6 +14,10 @@ AreApart blocks = (j k : ℕ) → j < length blocks → k < length blocks → sl
 abbrev pub past_place : (at count : ℕ) → ℕ
 past_place at count = if count == 0 then at / 4096 else (at + count + 4095) / 4096
 
+-- the blocks at the places from the first on, and before another
+abbrev pub blocks_at : List ℕ → (first past : ℕ) → List ℕ
+blocks_at blocks first past = take (past - first) (drop first blocks)
+
 -- where the bytes at an offset begin in the block at a place, and those of them that stand in it
 abbrev pub text_from : (at place : ℕ) → ℕ
 text_from at place = max at (4096 * place) - 4096 * place

@@ -1,23 +1,28 @@
 // Files that get other bytes.
-ghost use Rattle.std.specs.Prelude.{◌≡◌, ◌<◌, ◌≤◌, ◌+◌, ◌/◌, ◌^◌, ℕ, List, length, max, true, if◌then◌else◌, ◌==◌, IfErr, IfOk, MatchResult, OnOk, Some, ⊤};
+ghost use Rattle.std.specs.Prelude.{◌≡◌, ◌<◌, ◌≤◌, ◌+◌, ◌/◌, ◌^◌, ℕ, List, length, max, true, if◌then◌else◌, ◌==◌, IfErr, IfOk, MatchOption, OnOk, Some, ⊤};
 ghost use Rattle.std.specs.List.{list_all};
 ghost use Rattle.mq_blocks.specs.Geometry.{queues_of};
 ghost use Rattle.mq_exec.specs.Changes.{IsTextPut};
 ghost use Rattle.mq_exec.specs.Edits.{Becomes, IsKindPut, IsOver};
 ghost use Rattle.mq_exec.specs.Fits.{Agrees};
 ghost use Rattle.mq_exec.specs.Lacks.{HasVolume, LacksOf, OfEach};
-ghost use Rattle.mq_exec.specs.Overwrites.{AreApart, IsOverwritten, IsSplicedAt, past_place as past_place_of};
+ghost use Rattle.mq_exec.specs.Overwrites.{AreApart, IsOverwritten, IsSplicedAt, blocks_at, past_place as past_place_of};
+ghost use Rattle.mq_exec.specs.Longer.{IsRewriting, LooksLonger};
 ghost use Rattle.mq_exec.specs.Pages.{IsHeld, pages_of};
 ghost use Rattle.mq_exec.specs.Plans.{ComesTo, HoldsPlaces, HoldsRewrite, IsRefused, PlansRewrite};
+ghost use Rattle.mq_exec.specs.Reads.{IsFileOf};
 ghost use Rattle.mq_layout.specs.Names.{is_name};
+ghost use Rattle.mq_layout.specs.Places.{inode_block as inode_block_of};
 ghost use Rattle.mq_pages.specs.declared.page.Kind.TheVariants.{Data};
 ghost use Rattle.mq_tree.specs.Looks.{LooksAt};
 ghost use Rattle.mq_tree.specs.Requests.{Verdict, resized, spliced, target as target_of, write as write_of};
 ghost use Rattle.mq_tree.specs.Volume.{Volume, way};
+ghost use Rattle.mq_tree.specs.declared.request.Fault.TheVariants.{NoSpace};
 ghost use Rattle.mq_tree.specs.declared.request.Request.TheVariants.{Write};
 
 use crate::blocks::{count_for, needs};
 use crate::edits::look_at;
+use crate::file::Found;
 use crate::lack::Lack;
 use crate::opened::Opened;
 use crate::working::Working;
@@ -62,47 +67,50 @@ fn past_place(at: usize, count: usize) -> usize
     }
 }
 
+/// The blocks that a file has at so many bytes from an offset on.
+fn touched(blocks: &[BlockNo], at: usize, count: usize) -> &[BlockNo]
+    requires { at + count ≤ 4243456 }
+    ensures { result.now ≡ blocks_at blocks.now (at / 4096) (past_place_of at count) }
+{
+    let past = past_place(at, count).min(blocks.len());
+    let first = (at / BLOCK).min(past);
+    &blocks[first..past]
+}
+
 impl<'a> Working<'a> {
-    /// What writing takes, or why it is refused.
-    fn plan_write(
+    /// What it takes that a file gets this size, which is not below its own, and other bytes at an offset.
+    /// `None` where there are not enough free blocks.
+    pub fn plan_longer(
         &self,
         alloc: Global,
         queue: QueueNo,
-        path: &Path,
-        at: u64,
-        bytes: &[u8],
-    ) -> Result<Result<Rewriting, Fault>, Lack>
+        found: &Found,
+        size: u64,
+        at: usize,
+        count: usize,
+    ) -> Result<Option<Rewriting>, Lack>
         requires possible { HasVolume self.now }
         requires queue { queue < queues_of self.now.geometry }
-        requires names { list_all is_name path.now ≡ true }
-        ensures ok { IfOk result (λ plan. OfEach self.now (λ v. MatchResult plan (PlansRewrite self.now.geometry queue v (write_of self.now.geometry queue v at bytes.now (target_of v (way path.now))) (spliced at bytes.now)) (IsRefused self.now.geometry v (write_of self.now.geometry queue v at bytes.now (target_of v (way path.now)))))) }
-        ensures pages { IfOk result (λ plan. MatchResult plan (HoldsRewrite self.now.geometry (pages_of self.now)) (λ _. ⊤)) }
-        ensures places { IfOk result (λ plan. MatchResult plan (λ m. HoldsPlaces (pages_of self.now) m.file.blocks.items (at / 4096) (past_place_of at (length bytes.now))) (λ _. ⊤)) }
-        ensures limit { IfOk result (λ plan. MatchResult plan (λ m. (at + length bytes.now ≤ 4243456) × (1 ≤ length bytes.now → at + length bytes.now ≤ m.size)) (λ _. ⊤)) }
-        ensures lack { IfErr result (LacksOf self.now (λ v b. LooksAt self.now.geometry queue v (Write path.now at bytes.now) b)) }
+        requires file { OfEach self.now (λ v. IsFileOf v found.now.number found.now.inode) }
+        requires table { IsHeld (pages_of self.now) (inode_block_of self.now.geometry found.now.number) }
+        requires limit { size ≤ 4243456 }
+        requires longer { found.now.inode.size ≤ size }
+        requires end { at + count ≤ 4243456 }
+        ensures number { IfOk result (λ plan. MatchOption plan ⊤ (λ m. (m.file.number ≡ found.now.number) × (m.size ≡ size))) }
+        ensures ok { IfOk result (λ plan. OfEach self.now (λ v. (verdict : Verdict) (rewritten : List ℕ → List ℕ) (bytes : List ℕ) → IsRewriting self.now.geometry queue v found.now.number size verdict rewritten bytes → MatchOption plan (IsRefused self.now.geometry v verdict NoSpace) (PlansRewrite self.now.geometry queue v verdict rewritten))) }
+        ensures pages { IfOk result (λ plan. MatchOption plan ⊤ (HoldsRewrite self.now.geometry (pages_of self.now))) }
+        ensures places { IfOk result (λ plan. MatchOption plan ⊤ (λ m. HoldsPlaces (pages_of self.now) m.file.blocks.items (at / 4096) (past_place_of at count))) }
+        ensures lack { IfErr result (LacksOf self.now (λ v b. LooksLonger self.now.geometry queue v found.now.number size at count b)) }
     {
-        let found = match self.file(alloc, path)? {
-            Ok(found) => found,
-            Err(fault) => return Ok(Err(fault)),
-        };
-        let end = at.saturating_add(bytes.len() as u64);
-        if end > FILE_LIMIT {
-            return Ok(Err(Fault::TooBig));
-        }
-        let size = size_after(found.inode.size, at, bytes.len() as u64);
-        let have = count_for(found.inode.size);
-        let Some(picks) = self.pick(alloc, queue, needs(have, count_for(size)))? else {
-            return Ok(Err(Fault::NoSpace));
+        let need = needs(count_for(found.inode.size), count_for(size));
+        let Some(picks) = self.pick(alloc, queue, need)? else {
+            return Ok(None);
         };
         let file = self.open_file(alloc, found.number, &found.inode)?;
         let mut wanted = Vec::from_slice(alloc, &picks)?;
-        if !bytes.is_empty() {
-            let first = ((at / BLOCK as u64) as usize).min(file.blocks.len());
-            let past = (count_for(end) as usize).min(file.blocks.len());
-            wanted.extend_from_slice(&file.blocks[first..past])?;
-        }
+        wanted.extend_from_slice(touched(&file.blocks, at, count))?;
         self.look_for_all(alloc, &wanted)?;
-        Ok(Ok(Rewriting { file, picks, size }))
+        Ok(Some(Rewriting { file, picks, size }))
     }
 
     /// Writes bytes into a block of a file.
@@ -160,7 +168,7 @@ impl<'a> Working<'a> {
     pub fn carry_rewrite(
         &mut self,
         alloc: Global,
-        at: u64,
+        at: usize,
         bytes: &[u8],
         rewriting: Rewriting,
     ) -> Result<(), OutOfMemory>
@@ -178,7 +186,7 @@ impl<'a> Working<'a> {
             size,
         } = rewriting;
         self.grow(alloc, &mut file, &picks)?;
-        self.overwrite(alloc, &file.blocks, at as usize, bytes)?;
+        self.overwrite(alloc, &file.blocks, at, bytes)?;
         file.inode.size = size;
         self.put_inode(alloc, file.number, &file.inode)
     }
@@ -199,9 +207,18 @@ impl<'a> Working<'a> {
         ensures ok { IfOk result (λ reply. OfEach self.old (λ v. ComesTo self.old.geometry v (write_of self.old.geometry queue v at bytes.now (target_of v (way path.now))) reply self.old self.new)) }
         ensures lack { IfErr result (LacksOf self.old (λ v b. LooksAt self.old.geometry queue v (Write path.now at bytes.now) b)) }
     {
-        match self.plan_write(alloc, queue, path, at, bytes)? {
-            Ok(rewriting) => self.carry_rewrite(alloc, at, bytes, rewriting)?,
+        let found = match self.file(alloc, path)? {
+            Ok(found) => found,
             Err(fault) => return Ok(Reply::Refused(fault)),
+        };
+        let count = bytes.len();
+        if at.saturating_add(count as u64) > FILE_LIMIT {
+            return Ok(Reply::Refused(Fault::TooBig));
+        }
+        let size = size_after(found.inode.size, at, count as u64);
+        match self.plan_longer(alloc, queue, &found, size, at as usize, count)? {
+            Some(rewriting) => self.carry_rewrite(alloc, at as usize, bytes, rewriting)?,
+            None => return Ok(Reply::Refused(Fault::NoSpace)),
         }
         Ok(Reply::Ok)
     }
