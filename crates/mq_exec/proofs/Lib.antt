@@ -12,9 +12,9 @@ pub mod Entries
 pub mod FreedInodes
 pub mod Freeing
 pub mod Getting
-pub mod Grouping
 pub mod Growing
 pub mod Keeping
+pub mod Leading
 pub mod Lifting
 pub mod LinkedGrown
 pub mod Linking
@@ -58,6 +58,7 @@ pub mod RemoveLooks
 pub mod Removing
 pub mod RenamingPlans
 pub mod Rewriting
+pub mod Running
 pub mod Searching
 pub mod Showing
 pub mod SlotNumbers

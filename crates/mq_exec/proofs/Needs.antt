@@ -79,10 +79,10 @@ agrees-alike g p q v same h = record {
   fits = record { held = λ b page e. h.fits.held b page (same b ∙ e); free = λ b e. h.fits.free b (same b ∙ e) };
 }
 
-pub need-alike : (p q : Pages) (looks more : ℕ → Type 0) (blocks : List ℕ) → ((b : ℕ) → p b ≡ q b) → ((b : ℕ) → looks b → more b) → IsNeed p looks blocks → IsNeed q more blocks
-need-alike p q looks more blocks same f h = record {
+pub need-weaker : (p q : Pages) (looks more : ℕ → Type 0) (blocks : List ℕ) → ((b : ℕ) → p b ≡ None → q b ≡ None) → ((b : ℕ) → looks b → more b) → IsNeed p looks blocks → IsNeed q more blocks
+need-weaker p q looks more blocks absent f h = record {
   some = h.some;
-  absent = λ k d l. sym (same (get_or blocks k d)) ∙ h.absent k d l;
+  absent = All-weaker (λ b. p b ≡ None) (λ b. q b ≡ None) absent blocks h.absent;
   looked = All-weaker looks more f blocks h.looked;
 }
 

@@ -1,16 +1,16 @@
 // A group of requests, one after another.
-ghost use Rattle.std.specs.Prelude.{◌≡◌, ℕ, false, IfOk};
-ghost use Rattle.std.specs.List.{All};
+ghost use Rattle.std.specs.Prelude.{◌<◌, IfOk};
+ghost use Rattle.mq_blocks.specs.Geometry.{queues_of};
 ghost use Rattle.mq_exec.specs.Fits.{IsPossible};
 ghost use Rattle.mq_exec.specs.Outcomes.{Answers, NeedsOf};
 ghost use Rattle.mq_exec.specs.Pages.{held_pages};
-ghost use Rattle.mq_tree.specs.Requests.{is_change};
 
+use crate::change::look_at_bytes;
 use crate::lack::Lack;
 use crate::outcome::{Done, Outcome};
 use crate::view::View;
 use crate::working::Working;
-use mq_blocks::{Geometry, OutOfMemory};
+use mq_blocks::{Geometry, OutOfMemory, QueueNo};
 use mq_tree::Request;
 use std::alloc::Global;
 
@@ -24,28 +24,31 @@ fn stopped(lack: Lack) -> Result<Outcome, OutOfMemory>
     }
 }
 
-/// The outcome of a group of requests that only read.
-pub(crate) fn read_group(
+/// The outcome of a group of requests of a session on this queue, on the pages that it finds.
+pub fn run(
     alloc: Global,
     geometry: Geometry,
+    queue: QueueNo,
     requests: &[Request],
     view: &View,
 ) -> Result<Outcome, OutOfMemory>
     requires possible { IsPossible geometry (held_pages view.now.held.now.cells) }
-    requires reads { All (λ r. is_change r ≡ false) requests.now }
-    ensures { IfOk result (λ outcome. (q : ℕ) → Answers geometry q (held_pages view.now.held.now.cells) requests.now outcome) }
+    requires queue { queue < queues_of geometry }
+    ensures { IfOk result (λ outcome. Answers geometry queue (held_pages view.now.held.now.cells) requests.now outcome) }
 {
-    let working = Working::new(alloc, geometry, view);
+    let mut working = Working::new(alloc, geometry, view);
     let mut replies = Vec::with_capacity(alloc, requests.len())?;
     for request in requests {
-        match working.answer(alloc, request) {
+        look_at_bytes(request);
+        match working.step(alloc, queue, request) {
             Ok(reply) => replies.push(reply)?,
             Err(lack) => return stopped(lack),
         }
     }
+    let (writes, frees) = working.difference(alloc)?;
     Ok(Outcome::Done(Done {
         replies,
-        writes: Vec::new(alloc),
-        frees: Vec::new(alloc),
+        writes,
+        frees,
     }))
 }

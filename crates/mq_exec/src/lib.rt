@@ -1,5 +1,5 @@
-//! Requests on the pages of the file system that a session holds: what they answer, and which pages
-//! they lack.
+//! Requests on the pages of the file system that a session holds: what they answer and change, and which
+//! pages they lack.
 #![tactic(auto)]
 
 mod answer;
@@ -35,6 +35,7 @@ mod view;
 mod walk;
 mod working;
 
+pub use group::run;
 pub use laws::{a_change_is_determined, a_difference_is_the_change, pages_of_a_map};
 pub use outcome::{Done, Outcome};
 pub use view::View;

@@ -1,22 +1,20 @@
 // Requests that read, on a small file system whose pages are lifted one after another, as they are needed.
 ghost use Rattle.std.specs.Prelude.{◌≡◌, ◌<◌, ◌≤◌, ℕ, List, Option, Some, true, false, IfOk};
-ghost use Rattle.std.specs.List.{All};
 ghost use Rattle.mq_blocks.specs.Blocks.{block_at};
 ghost use Rattle.mq_blocks.specs.Geometry.{homes_of, meta_of};
 ghost use Rattle.mq_exec.specs.Pages.{held_pages};
 ghost use Rattle.mq_tree.specs.Laid.{IsTreeOf, is_marked as is_marked_in, map_of};
-ghost use Rattle.mq_tree.specs.Requests.{is_change};
 ghost use Rattle.mq_tree.specs.Volume.{tree as tree_of};
 
-use crate::group::read_group;
+use crate::group::run;
 use crate::laws::pages_of_a_map;
 use crate::outcome::Outcome;
 use crate::view::View;
 use mq_blocks::bytes::put;
-use mq_blocks::{Block, BlockNo, Geometry, OutOfMemory, TxNo};
+use mq_blocks::{Block, BlockNo, Geometry, OutOfMemory, QueueNo, TxNo};
 use mq_layout::{bit, format_block};
 use mq_pages::{Held, PageCell};
-use mq_tree::{Bytes, Fault, Name, Path, Reply, Request, Tree, changes, mount};
+use mq_tree::{Bytes, Fault, Name, Path, Reply, Request, Tree, mount};
 use std::alloc::Global;
 
 /// Writes bytes into a block, where they fit.
@@ -140,17 +138,6 @@ fn lift(
     Ok(held)
 }
 
-fn only_read(requests: &[Request]) -> bool
-    ensures { result ≡ true → All (λ r. is_change r ≡ false) requests.now }
-{
-    for request in requests {
-        if changes(request) {
-            return false;
-        }
-    }
-    true
-}
-
 /// Makes needed blocks known, of which none may be known already.
 fn note(known: &mut [bool], need: &[BlockNo]) -> bool {
     for b in need {
@@ -171,13 +158,12 @@ fn replies(
     known: &mut [bool],
     requests: &[Request],
 ) -> Result<Option<(Vec<Reply>, u32)>, OutOfMemory>
-    requires laid { IsTreeOf geometry (map_of geometry blocks.now) (tree_of tree.now) }
-    requires reads { All (λ r. is_change r ≡ false) requests.now }
+    requires { IsTreeOf geometry (map_of geometry blocks.now) (tree_of tree.now) }
 {
     pages_of_a_map();
     for rounds in 0..40 {
         let held = lift(alloc, geometry, blocks, known)?;
-        match read_group(alloc, geometry, requests, &View::new(&held))? {
+        match run(alloc, geometry, QueueNo(0), requests, &View::new(&held))? {
             Outcome::Done(done) => return Ok(Some((done.replies, rounds))),
             Outcome::Need(need) => {
                 if !note(known, &need) {
@@ -235,9 +221,6 @@ fn told(
     let Ok(tree) = mount(alloc, geometry, &blocks) else {
         return Ok(None);
     };
-    if !only_read(requests) {
-        return Ok(None);
-    }
     let mut known = vec![in alloc; is_known; geometry.homes() as usize]?;
     let Some((replies, rounds)) = replies(alloc, geometry, &blocks, &tree, &mut known, requests)?
     else {

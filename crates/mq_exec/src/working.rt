@@ -3,7 +3,7 @@ ghost use Rattle.std.specs.Prelude.{◌≡◌, ◌≢◌, ℕ, IfErr, IfOk, OnOk
 ghost use Rattle.mq_exec.specs.Changes.{IsPut};
 ghost use Rattle.mq_exec.specs.Edits.{IsKindPut, IsLifted, IsSameView};
 ghost use Rattle.mq_exec.specs.Lacks.{Lacks};
-ghost use Rattle.mq_exec.specs.Pages.{IsHeld, held_pages, known, pages_of};
+ghost use Rattle.mq_exec.specs.Pages.{IsHeld, held_pages, kinds_of, known, pages_of, view_of};
 
 use crate::lack::{Lack, one};
 use crate::view::View;
@@ -39,10 +39,12 @@ pub struct Working<'a> {
 
 impl<'a> Working<'a> {
     /// The pages of a view, of which none is changed yet.
-    #[tactic(auto, unfolding(crate::specs::Pages::pages_of))]
+    #[tactic(auto, unfolding(crate::specs::Pages::pages_of, crate::specs::Pages::view_of, crate::specs::Pages::kinds_of))]
     pub fn new(alloc: Global, geometry: Geometry, view: &View<'a>) -> Working<'a>
         ensures geometry { result.geometry ≡ geometry }
         ensures pages { (b : ℕ) → pages_of result b ≡ held_pages view.now.held.now.cells b }
+        ensures view { (b : ℕ) → view_of result b ≡ held_pages view.now.held.now.cells b }
+        ensures kinds { (b : ℕ) → kinds_of result b ≡ None }
     {
         Working {
             geometry,

@@ -1,0 +1,148 @@
+-- A group of requests, one after another: each volume becomes the next, and the pages with it.
+use Rattle.std.proofs.Common.{get_or, ◌≡◌, ℕ, suc, ◌+◌, ◌<◌, ◌≤◌, List, [], ◌∷◌, ◌++◌, length, drop, refl, sym, ap, subst, ◌∙◌, arith, append_assoc, drop-cons, inl, inr}
+use Rattle.std.specs.Prelude.{None}
+use Rattle.std.proofs.lemmas.List.{drop_all}
+use Rattle.mq_blocks.specs.Geometry.{queues_of}
+use Rattle.mq_blocks.specs.declared.geometry.Geometry.{Geometry}
+use Rattle.mq_exec.specs.Edits.{Becomes, IsOver}
+use Rattle.mq_exec.specs.Fits.{Agrees, IsPossible}
+use Rattle.mq_exec.specs.Lacks.{HasVolume, Lacks, OfEach}
+use Rattle.mq_exec.specs.Outcomes.{Answers, NeedsOf}
+use Rattle.mq_exec.specs.Pages.{Pages, pages_of}
+use Rattle.mq_exec.specs.Plans.{ComesTo}
+use Rattle.mq_exec.specs.declared.lack.Lack.{Lack}
+use Rattle.mq_exec.specs.declared.lack.Lack.TheVariants.{Need as NeedOf, OutOfMemory as Wanting}
+use Rattle.mq_exec.specs.declared.outcome.Outcome.{Outcome as Stops}
+use Rattle.mq_exec.specs.declared.working.Working.{Working}
+use Rattle.mq_exec.proofs.Becoming.{becomes-self, becomes-then, carries-sound, over-self, over-then}
+use Rattle.mq_exec.proofs.Needs.{agrees-alike, need-weaker}
+use Rattle.mq_tree.specs.Kept.{HasBytes}
+use Rattle.mq_tree.specs.Looks.{GroupLooks, Looks}
+use Rattle.mq_tree.specs.Requests.{after_group, replies, step, verdict}
+use Rattle.mq_tree.specs.Sound.{IsSound}
+use Rattle.mq_tree.specs.Volume.{Volume}
+use Rattle.mq_tree.specs.declared.request.Reply.{Reply}
+use Rattle.mq_tree.specs.declared.request.Request.{Request}
+use Rattle.mq_tree.proofs.KeepSteps.{step-sound}
+
+-- So far these are the replies, and the pages carry this volume. The rest leads from it where the whole leads,
+-- and looks at no other block.
+pub record IsRunTo (g : Geometry) (q : ℕ) (v : Volume) (start now : Working) (whole rest : List Request) (so_far : List Reply) : Type 0 where
+  pub volume : Volume
+  pub same : replies g q v whole ≡ so_far ++ replies g q volume rest
+  pub after : after_group g q v whole ≡ after_group g q volume rest
+  pub looks : (b : ℕ) → GroupLooks g q volume rest b → GroupLooks g q v whole b
+  pub sound : IsSound g volume
+  pub becomes : Becomes g v volume start now
+
+-- so on each volume of which the pages that are held may be a part
+pub record IsRun (g : Geometry) (q : ℕ) (held : Pages) (start now : Working) (whole rest : List Request) (so_far : List Reply) : Type 0 where
+  pub over : IsOver start now
+  pub runs : (v : Volume) → Agrees g held v → IsRunTo g q v start now whole rest so_far
+
+pub run-none : (g : Geometry) (q : ℕ) (held : Pages) (start : Working) (whole : List Request) (so_far : List Reply) → ((b : ℕ) → pages_of start b ≡ held b) → so_far ≡ [] → IsRun g q held start start whole whole so_far
+run-none g q held start whole so_far pages e = record {
+  over = over-self start;
+  runs = λ v agrees.
+      let a = agrees-alike g held (pages_of start) v (λ b. sym (pages b)) agrees in
+      subst (λ (xs : List Reply). IsRunTo g q v start start whole whole xs) (sym e) (record { volume = v; same = refl; after = refl; looks = λ b h. h; sound = agrees.sound; becomes = becomes-self g v start (carries-sound g (pages_of start) v a) });
+}
+
+-- ---- the volume now
+
+pub run-agrees : (g : Geometry) (q : ℕ) (v : Volume) (start now : Working) (whole rest : List Request) (so_far : List Reply) → (h : IsRunTo g q v start now whole rest so_far) → Agrees g (pages_of now) h.volume
+run-agrees g q v start now whole rest so_far h = record { sound = h.sound; fits = h.becomes.carries.fits }
+
+pub run-geometry : (g : Geometry) (q : ℕ) (held : Pages) (start now : Working) (whole rest : List Request) (so_far : List Reply) → start.geometry ≡ g → IsRun g q held start now whole rest so_far → now.geometry ≡ g
+run-geometry g q held start now whole rest so_far e h = h.over.view.geometry ∙ e
+
+pub run-possible : (g : Geometry) (q : ℕ) (held : Pages) (start now : Working) (whole rest : List Request) (so_far : List Reply) → start.geometry ≡ g → IsPossible g held → IsRun g q held start now whole rest so_far → HasVolume now
+run-possible g q held start now whole rest so_far e possible h =
+    let r = h.runs possible.0 possible.1 in
+    (r.volume, subst (λ (x : Geometry). Agrees x (pages_of now) r.volume) (sym (run-geometry g q held start now whole rest so_far e h)) (run-agrees g q possible.0 start now whole rest so_far r))
+
+-- ---- one request more
+
+replies-more : (g : Geometry) (q : ℕ) (v : Volume) (r : Request) (rs : List Request) → replies g q v (r ∷ rs) ≡ (step g q v r).reply ∷ replies g q (step g q v r).next rs
+unfolding replies
+replies-more g q v r rs = refl
+
+after-more : (g : Geometry) (q : ℕ) (v : Volume) (r : Request) (rs : List Request) → after_group g q v (r ∷ rs) ≡ after_group g q (step g q v r).next rs
+unfolding after_group
+after-more g q v r rs = refl
+
+step-reply : (g : Geometry) (q : ℕ) (v : Volume) (r : Request) (reply : Reply) (old new : Working) → ComesTo g v (verdict g q v r) reply old new → reply ≡ (step g q v r).reply
+unfolding step
+step-reply g q v r reply old new c = c.reply_is
+
+step-becomes : (g : Geometry) (q : ℕ) (v : Volume) (r : Request) (reply : Reply) (old new : Working) → ComesTo g v (verdict g q v r) reply old new → Becomes g v (step g q v r).next old new
+unfolding step
+step-becomes g q v r reply old new c = c.becomes
+
+cut-next : (whole : List Request) (k : ℕ) (r : Request) → k < length whole → r ≡ get_or whole k r → drop k whole ≡ r ∷ drop (k + 1) whole
+cut-next whole k r l at =
+    let n : k + 1 ≡ suc k = omega arith in
+    drop-cons whole k r l ∙ ap (λ (x : Request). x ∷ drop (suc k) whole) (sym at) ∙ ap (λ (j : ℕ). r ∷ drop j whole) (sym n)
+
+run-to : (g : Geometry) (q : ℕ) (v : Volume) (start now new : Working) (whole rest : List Request) (r : Request) (reply : Reply) (so_far more : List Reply) → q < queues_of g → HasBytes r → IsOver start now → more ≡ so_far ++ reply ∷ []
+    → (h : IsRunTo g q v start now whole (r ∷ rest) so_far) → ComesTo g h.volume (verdict g q h.volume r) reply now new → IsRunTo g q v start new whole rest more
+run-to g q v start now new whole rest r reply so_far more low fine over is h c =
+    let u = h.volume in
+    let w = (step g q u r).next in
+    record {
+      volume = w;
+      same = h.same ∙ ap (λ (xs : List Reply). so_far ++ xs) (replies-more g q u r rest ∙ ap (λ (x : Reply). x ∷ replies g q w rest) (sym (step-reply g q u r reply now new c)))
+          ∙ sym (append_assoc so_far (reply ∷ []) (replies g q w rest)) ∙ ap (λ (xs : List Reply). xs ++ replies g q w rest) (sym is);
+      after = h.after ∙ after-more g q u r rest;
+      looks = λ b later. h.looks b (inr later);
+      sound = step-sound g q u r h.sound low fine;
+      becomes = becomes-then g v u w start now new over h.becomes (step-becomes g q u r reply now new c);
+    }
+
+pub run-more : (g : Geometry) (q : ℕ) (held : Pages) (start now new : Working) (whole : List Request) (k : ℕ) (r : Request) (reply : Reply) (so_far more : List Reply) → start.geometry ≡ g → q < queues_of g → HasBytes r → k < length whole → r ≡ get_or whole k r → more ≡ so_far ++ reply ∷ []
+    → IsOver now new → OfEach now (λ v. ComesTo now.geometry v (verdict now.geometry q v r) reply now new) → IsRun g q held start now whole (drop k whole) so_far → IsRun g q held start new whole (drop (k + 1) whole) more
+run-more g q held start now new whole k r reply so_far more e low fine l at is over comes h =
+    let shape = run-geometry g q held start now whole (drop k whole) so_far e h in
+    let each : (v : Volume) → Agrees g (pages_of now) v → ComesTo g v (verdict g q v r) reply now new = subst (λ (x : Geometry). (v : Volume) → Agrees x (pages_of now) v → ComesTo x v (verdict x q v r) reply now new) shape comes in
+    record {
+      over = over-then start now new h.over over;
+      runs = λ v agrees.
+          let t : IsRunTo g q v start now whole (r ∷ drop (k + 1) whole) so_far = subst (λ (rs : List Request). IsRunTo g q v start now whole rs so_far) (cut-next whole k r l at) (h.runs v agrees) in
+          run-to g q v start now new whole (drop (k + 1) whole) r reply so_far more low fine h.over is t (each t.volume (run-agrees g q v start now whole (r ∷ drop (k + 1) whole) so_far t));
+    }
+
+-- ---- where something is lacked
+
+pub run-looks : (g : Geometry) (q : ℕ) (held : Pages) (start now : Working) (whole : List Request) (k : ℕ) (r : Request) (so_far : List Reply) (b : ℕ) → start.geometry ≡ g → k < length whole → r ≡ get_or whole k r → IsRun g q held start now whole (drop k whole) so_far
+    → OfEach now (λ v. Looks now.geometry q v r b) → (v : Volume) → Agrees g held v → GroupLooks g q v whole b
+run-looks g q held start now whole k r so_far b e l at h looks v agrees =
+    let shape = run-geometry g q held start now whole (drop k whole) so_far e h in
+    let t : IsRunTo g q v start now whole (r ∷ drop (k + 1) whole) so_far = subst (λ (rs : List Request). IsRunTo g q v start now whole rs so_far) (cut-next whole k r l at) (h.runs v agrees) in
+    let each : (u : Volume) → Agrees g (pages_of now) u → Looks g q u r b = subst (λ (x : Geometry). (u : Volume) → Agrees x (pages_of now) u → Looks x q u r b) shape looks in
+    t.looks b (inl (each t.volume (run-agrees g q v start now whole (r ∷ drop (k + 1) whole) so_far t)))
+
+pub run-lacks : (g : Geometry) (q : ℕ) (held pages : Pages) (requests : List Request) (lack : Lack) (outcome : Stops) (P : ℕ → Type 0) → ((b : ℕ) → pages b ≡ None → held b ≡ None) → ((b : ℕ) → P b → (v : Volume) → Agrees g held v → GroupLooks g q v requests b) → Lacks pages P lack
+    → NeedsOf lack outcome → Answers g q held requests outcome
+run-lacks g q held pages requests (NeedOf blocks) outcome P absent f h is =
+    subst (λ o. Answers g q held requests o) (sym is) (need-weaker pages held P (λ b. (v : Volume) → Agrees g held v → GroupLooks g q v requests b) blocks.items absent f h)
+run-lacks g q held pages requests Wanting outcome P absent f h is = absurd is
+
+-- ---- at the end
+
+append-nil : (xs : List Reply) → xs ++ [] ≡ xs
+append-nil [] = refl
+append-nil (x ∷ xs) = ap (λ (ys : List Reply). x ∷ ys) (append-nil xs)
+
+replies-none : (g : Geometry) (q : ℕ) (v : Volume) → replies g q v [] ≡ []
+unfolding replies
+replies-none g q v = refl
+
+after-none : (g : Geometry) (q : ℕ) (v : Volume) → after_group g q v [] ≡ v
+unfolding after_group
+after-none g q v = refl
+
+pub run-replies : (g : Geometry) (q : ℕ) (v : Volume) (start now : Working) (whole : List Request) (k : ℕ) (so_far : List Reply) → length whole ≤ k → IsRunTo g q v start now whole (drop k whole) so_far → so_far ≡ replies g q v whole
+run-replies g q v start now whole k so_far l h = sym (h.same ∙ ap (λ (rs : List Request). so_far ++ replies g q h.volume rs) (drop_all k whole l) ∙ ap (λ (xs : List Reply). so_far ++ xs) (replies-none g q h.volume) ∙ append-nil so_far)
+
+pub run-after : (g : Geometry) (q : ℕ) (v : Volume) (start now : Working) (whole : List Request) (k : ℕ) (so_far : List Reply) → length whole ≤ k → (h : IsRunTo g q v start now whole (drop k whole) so_far) → after_group g q v whole ≡ h.volume
+run-after g q v start now whole k so_far l h = h.after ∙ ap (λ (rs : List Request). after_group g q h.volume rs) (drop_all k whole l) ∙ after-none g q h.volume

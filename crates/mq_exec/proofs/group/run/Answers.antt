@@ -1,0 +1,41 @@
+use Rattle.std.proofs.lemmas.Result.{IfOk-weaker}
+use Rattle.mq_exec.specs.Lacks.{OfEach}
+use Rattle.mq_exec.specs.Outcomes.{Answers, NeedsOf}
+use Rattle.mq_exec.specs.Pages.{held_pages, pages_of}
+use Rattle.std.proofs.Common.{sym, ◌∙◌}
+use Rattle.mq_exec.proofs.Leading.{run-moves}
+use Rattle.mq_exec.proofs.Running.{run-lacks, run-looks, run-more, run-none, run-possible, run-replies}
+use Rattle.mq_tree.specs.Looks.{Looks}
+use Rattle.mq_exec.proofs.group.run.Goals as goal
+
+pub loop-request-init : goal.loop-request-init
+loop-request-init c = run-none c.args.geometry c.args.queue (held_pages c.args.view.now.held.now.cells) c.new-working.result c.args.requests.now c.in_ok-replies.replies.items c.new-working.ensures.pages c.in_ok-replies.ensures.items
+
+pub step-requires-clause-possible : goal.step-requires-clause-possible
+step-requires-clause-possible c =
+    run-possible c.args.geometry c.args.queue (held_pages c.args.view.now.held.now.cells) c.new-working.result c.loop-request.working c.args.requests.now _ c.loop-request.replies.items c.new-working.ensures.geometry c.requires.possible c.loop-request.invariant
+
+pub returns-in-Err : goal.returns-in-Err
+returns-in-Err c =
+    let held = held_pages c.args.view.now.held.now.cells in
+    let now = c.loop-request.working in
+    let r = c.request-item.result in
+    IfOk-weaker c.stopped.result (NeedsOf c.in-Err.lack) (λ outcome. Answers c.args.geometry c.args.queue held c.args.requests.now outcome)
+    (λ outcome is. run-lacks c.args.geometry c.args.queue held (pages_of now) c.args.requests.now c.in-Err.lack outcome (λ b. OfEach now (λ v. Looks now.geometry c.args.queue v r b))
+    (λ b none. sym (c.new-working.ensures.pages b) ∙ c.loop-request.invariant.over.known b none)
+    (λ b looks. run-looks c.args.geometry c.args.queue held c.new-working.result now c.args.requests.now c.loop-request.request-index r c.loop-request.replies.items b c.new-working.ensures.geometry c.loop-request-test.true c.request-item.is c.loop-request.invariant looks)
+    c.in-Err.ensures.lack is) c.stopped.ensures
+
+pub loop-request-preserved : goal.loop-request-preserved
+loop-request-preserved c =
+    run-more c.args.geometry c.args.queue (held_pages c.args.view.now.held.now.cells) c.new-working.result c.loop-request.working c.step.new.self c.args.requests.now c.loop-request.request-index c.request-item.result c.in-Ok.reply c.loop-request.replies.items c.push.new.self.items
+    c.new-working.ensures.geometry c.requires.queue c.look_at_bytes.ensures c.loop-request-test.true c.request-item.is c.in_ok-push-in-Ok.ensures.items c.in-Ok.ensures.over c.in-Ok.ensures.ok c.loop-request.invariant
+
+pub returns : goal.returns
+returns c v agrees =
+    let held = held_pages c.args.view.now.held.now.cells in
+    record {
+      replies = run-replies c.args.geometry c.args.queue v c.new-working.result c.loop-request.working c.args.requests.now c.loop-request.request-index c.loop-request.replies.items c.loop-request-test.false (c.loop-request.invariant.runs v agrees);
+      moves = run-moves c.args.geometry c.args.queue held c.new-working.result c.loop-request.working c.args.requests.now c.loop-request.request-index c.loop-request.replies.items c.in_ok-writes.writes.items c.in_ok-writes.frees.items c.new-working.ensures.geometry c.new-working.ensures.pages c.new-working.ensures.view c.new-working.ensures.kinds
+          c.loop-request-test.false c.loop-request.invariant c.in_ok-writes.ensures.differs c.in_ok-writes.ensures.kinds v agrees;
+    }
