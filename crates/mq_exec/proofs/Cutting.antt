@@ -9,9 +9,8 @@ use Rattle.mq_blocks.specs.Journal.{is_among}
 use Rattle.mq_blocks.specs.declared.geometry.Geometry.{Geometry}
 use Rattle.mq_exec.specs.Changes.{IsCleared, IsInodePut, IsInodeTurned, IsPointersCut, Stepped, zone_in}
 use Rattle.mq_exec.specs.Edits.{Becomes, Carries, KeepsKinds}
-use Rattle.mq_exec.specs.Fits.{Fits}
 use Rattle.mq_exec.specs.Moves.{IsOfFile}
-use Rattle.mq_exec.specs.Opened.{IsOpened, IsReleasable, MayCut, cut_file, cut_node}
+use Rattle.mq_exec.specs.Opened.{HoldsPointers, IsOpened, IsReleasable, MayCut, cut_file, cut_node}
 use Rattle.mq_exec.specs.Pages.{IsHeld, Pages, kinds_of, pages_of}
 use Rattle.mq_exec.specs.Released.{CutsPointers, IsCutInode, IsReleased, Releases, gone_from}
 use Rattle.mq_exec.specs.declared.opened.Opened.{Opened}
@@ -29,17 +28,17 @@ use Rattle.mq_exec.proofs.LocalSteps.{among-parts}
 use Rattle.mq_exec.proofs.LocalVolumes.{cut-uses}
 use Rattle.mq_exec.proofs.Making.{held-same}
 use Rattle.mq_exec.proofs.Nodes.{length-padded}
-use Rattle.mq_exec.proofs.Releasing.{among-apart, high-marks, is-held, released-meta}
+use Rattle.mq_exec.proofs.Releasing.{among-apart, high-marks, released-meta}
 use Rattle.mq_layout.specs.Inodes.{IsInode}
 use Rattle.mq_layout.specs.Places.{file_limit, inode_block, inodes_of, zone_bitmap}
 use Rattle.mq_layout.specs.declared.inode.Inode.{Inode}
 use Rattle.mq_pages.specs.declared.page.Kind.{Kind}
 use Rattle.mq_pages.specs.declared.page.Kind.TheVariants.{Data, Meta}
 use Rattle.mq_tree.specs.Laid.{inode_of, kind_of, links_of, or_zero, padded, size_of}
-use Rattle.mq_tree.specs.Volume.{Body, File, Node, Part, Pointers, Volume, body, has_block, is_taken, is_used, node}
+use Rattle.mq_tree.specs.Volume.{Body, File, Node, Part, Pointers, Volume, body, has_block, is_used, node}
 use Rattle.mq_tree.proofs.KeepUses.{AreUses, node-here}
 use Rattle.mq_tree.proofs.Maps.{zone-low}
-use Rattle.mq_tree.proofs.Uses.{use-has, use-taken}
+use Rattle.mq_tree.proofs.Uses.{use-has}
 
 -- ---- what the inode says
 
@@ -86,15 +85,6 @@ pub opened-pointers : (g : Geometry) (v : Volume) (o : Opened) → IsOpened g v 
 opened-pointers g v o p many =
     some-zero (node v o.number).indirect (p.indirect ∙ lt-ltb 12 (length (node v o.number).blocks) (subst (λ (xs : List ℕ). 12 < length xs) p.blocks many)) ∙ ap (λ (x : Inode). Some x.indirect) (sym p.inode)
 
-held-taken : (g : Geometry) (v : Volume) (page : Option (Option (List ℕ))) (pages : Pages) (b : ℕ) → pages b ≡ page → page ≢ None → (page ≡ Some None → ⊥) → IsHeld pages b
-held-taken g v None pages b e known used = absurd (known refl)
-held-taken g v (Some None) pages b e known used = absurd (used refl)
-held-taken g v (Some (Some page)) pages b e known used = is-held pages b page e
-
--- a block that is used is held where it is known
-pub used-held : (g : Geometry) (v : Volume) (pages : Pages) (b : ℕ) → Fits g pages v → is_taken v b ≡ true → pages b ≢ None → IsHeld pages b
-used-held g v pages b fits taken known = held-taken g v (pages b) pages b refl known (λ e. true≢false (sym taken ∙ (fits.free b e).1))
-
 -- its block of pointers is not among the blocks that it has no more
 pub pointers-stay : (g : Geometry) (v : Volume) (i count : ℕ) (now : List ℕ) (p : ℕ) → AreUses g v → i < length v → 12 < count → (node v i).indirect ≡ Some p → is_among p (gone_node count (node v i)) ≡ false
 pointers-stay g v i count now p uses inside many had =
@@ -107,18 +97,22 @@ opened-inside g pages v o carries opened = let c = carries.count in let l = open
 
 -- ---- what the edits require
 
-pub pointers-held : (v : Volume) (o : Opened) (count : ℕ) (bytes now : List ℕ) (old mid : Working) → Carries old.geometry (pages_of old) v → MayCut old.geometry v o count bytes now → (12 < length o.blocks.items → IsReleasable old.geometry (pages_of old) o.inode.indirect)
-    → Releases old mid (gone_from o count) → 12 < count → IsHeld (pages_of mid) o.inode.indirect
-pointers-held v o count bytes now old mid carries may free s many =
+-- the block of pointers is one of the zones
+pub pointers-high : (v : Volume) (o : Opened) (old : Working) → Carries old.geometry (pages_of old) v → IsOpened old.geometry v o → 12 < length o.blocks.items → meta_of old.geometry ≤ o.inode.indirect
+pointers-high v o old carries opened many = (carries.uses.zones (Pointers o.number) o.inode.indirect (opened-pointers old.geometry v o opened many)).0
+
+pub pointers-held : (v : Volume) (o : Opened) (count : ℕ) (bytes now : List ℕ) (old mid : Working) → Carries old.geometry (pages_of old) v → MayCut old.geometry v o count bytes now → HoldsPointers (pages_of old) o → Releases old mid (gone_from o count) → 12 < count
+    → IsHeld (pages_of mid) o.inode.indirect
+pointers-held v o count bytes now old mid carries may holds s many =
     let g = old.geometry in
     let p = o.inode.indirect in
     let few = may.few in
     let blocks : 12 < length o.blocks.items = omega arith in
     let had = opened-pointers g v o may.opened blocks in
-    let f = free blocks in
+    let high = pointers-high v o old carries may.opened blocks in
     let out = pointers-stay g v o.number count now p carries.uses (opened-inside g (pages_of old) v o carries may.opened) many had in
-    let same = s.pages.rest p (ap (λ (xs : List ℕ). is_among p xs) (gone-opened g v o count may.opened) ∙ out) (λ c y e. let b = s.pages.inside c y in high-marks g p (zone_in g c) f.marks.high (zone-low g c b.0 b.1) (sym e)) in
-    held-same (pages_of old) (pages_of mid) p same (used-held g v (pages_of old) p carries.fits (use-taken v (Pointers o.number) p had) f.known)
+    let same = s.pages.rest p (ap (λ (xs : List ℕ). is_among p xs) (gone-opened g v o count may.opened) ∙ out) (λ c y e. let b = s.pages.inside c y in high-marks g p (zone_in g c) high (zone-low g c b.0 b.1) (sym e)) in
+    held-same (pages_of old) (pages_of mid) p same (holds blocks)
 
 pub table-along : (mid next : Working) (i p count : ℕ) → i < inodes_of mid.geometry → CutsPointers mid next p count → (12 < count → meta_of mid.geometry ≤ p) → IsHeld (pages_of mid) (inode_block mid.geometry i) → IsHeld (pages_of next) (inode_block next.geometry i)
 table-along mid next i p count low c high held =
@@ -126,10 +120,10 @@ table-along mid next i p count low c high held =
     subst (λ g. IsHeld (pages_of next) (inode_block g i)) (sym c.over.view.geometry)
     (held-same (pages_of mid) (pages_of next) (inode_block mid.geometry i) (c.others (inode_block mid.geometry i) (λ many e. let h = high many in omega arith)) held)
 
-pub table-cut : (o : Opened) (count : ℕ) (old mid next : Working) → o.number < inodes_of old.geometry → count ≤ length o.blocks.items → (12 < length o.blocks.items → IsReleasable old.geometry (pages_of old) o.inode.indirect) → IsHeld (pages_of old) (inode_block old.geometry o.number)
+pub table-cut : (o : Opened) (count : ℕ) (old mid next : Working) → o.number < inodes_of old.geometry → count ≤ length o.blocks.items → (12 < length o.blocks.items → meta_of old.geometry ≤ o.inode.indirect) → IsHeld (pages_of old) (inode_block old.geometry o.number)
     → Releases old mid (gone_from o count) → CutsPointers mid next o.inode.indirect count → IsHeld (pages_of next) (inode_block next.geometry o.number)
-table-cut o count old mid next low few free held s c =
-    table-along mid next o.number o.inode.indirect count (inside-along old mid o.number s.over low) c (λ many. subst (λ g. meta_of g ≤ o.inode.indirect) (sym s.over.view.geometry) (free (omega arith)).marks.high) (table-held old mid o.number (gone_from o count) low s held)
+table-cut o count old mid next low few high held s c =
+    table-along mid next o.number o.inode.indirect count (inside-along old mid o.number s.over low) c (λ many. subst (λ g. meta_of g ≤ o.inode.indirect) (sym s.over.view.geometry) (high (omega arith))) (table-held old mid o.number (gone_from o count) low s held)
 
 pub cut-form : (g : Geometry) (pages : Pages) (v : Volume) (o : Opened) (count : ℕ) (bytes now : List ℕ) (inode : Inode) → Carries g pages v → MayCut g v o count bytes now → IsCutInode o.inode inode count (length now) → IsInode inode
 cut-form g pages v o count bytes now inode carries may says =

@@ -1,6 +1,7 @@
 pub mod Answering
 pub mod Becoming
 pub mod Below
+pub mod Blanking
 pub mod Carrying
 pub mod Coming
 pub mod Contents
@@ -9,9 +10,11 @@ pub mod Differing
 pub mod Directories
 pub mod EmptyInodes
 pub mod Entries
+pub mod Filling
 pub mod FreedInodes
 pub mod Freeing
 pub mod Getting
+pub mod GoneBlocks
 pub mod Growing
 pub mod Keeping
 pub mod Leading
@@ -60,11 +63,13 @@ pub mod RenamingPlans
 pub mod Rewriting
 pub mod Running
 pub mod Searching
+pub mod Shortening
 pub mod Showing
 pub mod SlotNumbers
 pub mod Sorting
 pub mod Stepping
 pub mod Taking
 pub mod Targets
+pub mod TruncateLooks
 pub mod Walking
 pub mod Zones

@@ -107,7 +107,7 @@ part-step g v i place b y old new page uses low there inode show fits put form s
     let now = zone-put g w (Part i place) b page fine at form (subst (λ x. ShowsPart x place page) (sym bd) shows) in
     step-end g v w i (b ∷ []) new uses fine r (fits-put g old new w [] b (Some page) (step-start g v w i (b ∷ []) old uses fine r fits) put now)
 
-inode-same : (n : Node) (x y : Body) → n.body ≡ x → kind_of x ≡ kind_of y → links_of x ≡ links_of y → size_of x (length n.blocks) ≡ size_of y (length n.blocks) → inode_of n ≡ inode_of (rebodied n y)
+pub inode-same : (n : Node) (x y : Body) → n.body ≡ x → kind_of x ≡ kind_of y → links_of x ≡ links_of y → size_of x (length n.blocks) ≡ size_of y (length n.blocks) → inode_of n ≡ inode_of (rebodied n y)
 inode-same n x y is kind links size =
     let count = length n.blocks in
     let d = padded 12 n.blocks in

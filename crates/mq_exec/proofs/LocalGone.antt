@@ -1,8 +1,8 @@
 -- The blocks that an inode has no more, where it is freed or a file is cut.
-use Rattle.std.proofs.Common.{◌≡◌, ℕ, zero, suc, ◌<◌, inl, inr, List, [], ◌∷◌, ◌++◌, length, drop, take, Bool, true, false, cond, refl, sym, ap, subst, ◌∙◌, arith}
+use Rattle.std.proofs.Common.{◌≡◌, ℕ, zero, suc, ◌<◌, ◌≤◌, inl, inr, List, [], ◌∷◌, ◌++◌, length, drop, take, Bool, true, false, cond, refl, sym, ap, subst, ◌∙◌, arith}
 use Rattle.std.specs.Prelude.{Option, Some, None, ◌||◌, is_some, nat_eq, nat_lt, if◌then◌else◌}
 use Rattle.std.specs.List.{All}
-use Rattle.std.proofs.lemmas.Bool.{cases_Bool, ltb-true, true≢false}
+use Rattle.std.proofs.lemmas.Bool.{cases_Bool, ltb-false, ltb-true, true≢false}
 use Rattle.mq_blocks.specs.Geometry.{queues_of}
 use Rattle.mq_blocks.specs.Journal.{is_among}
 use Rattle.mq_blocks.specs.declared.geometry.Geometry.{Geometry}
@@ -114,19 +114,19 @@ among-all P (x ∷ xs) c all e = elim (among-cons x c xs e) [
   | inr later ↦ among-all P xs c (λ k d l. all (suc k) d (omega (arith, l))) later
 ]
 
-pub gone-releasable : (g : Geometry) (pages : Pages) (o : Opened) (count : ℕ) → All (IsReleasable g pages) (drop count o.blocks.items) → (12 < length o.blocks.items → IsReleasable g pages o.inode.indirect) → (c : ℕ) → is_among c (gone_from o count) ≡ true → IsReleasable g pages c
+pub gone-releasable : (g : Geometry) (pages : Pages) (o : Opened) (count : ℕ) → All (IsReleasable g pages) (drop count o.blocks.items) → (count ≤ 12 → 12 < length o.blocks.items → IsReleasable g pages o.inode.indirect) → (c : ℕ) → is_among c (gone_from o count) ≡ true → IsReleasable g pages c
 gone-releasable g pages o count blocks pointers c e = elim (among-either (drop count o.blocks.items) (if nat_lt 12 count then [] else (if nat_lt 12 (length o.blocks.items) then o.inode.indirect ∷ [] else [])) c e) [
   | inl d ↦ among-all (IsReleasable g pages) (drop count o.blocks.items) c blocks d
-  | inr p ↦ at (nat_lt 12 count) p
+  | inr p ↦ at (nat_lt 12 count) refl p
 ]
   where
-    many : (t : Bool) → nat_lt 12 (length o.blocks.items) ≡ t → is_among c (if t then o.inode.indirect ∷ [] else []) ≡ true → IsReleasable g pages c
-    many true t e = subst (IsReleasable g pages) (sym (among-one o.inode.indirect c e)) (pointers (ltb-true 12 (length o.blocks.items) t))
-    many false t e = absurd (true≢false (sym e))
+    many : count ≤ 12 → (t : Bool) → nat_lt 12 (length o.blocks.items) ≡ t → is_among c (if t then o.inode.indirect ∷ [] else []) ≡ true → IsReleasable g pages c
+    many few true t e = subst (IsReleasable g pages) (sym (among-one o.inode.indirect c e)) (pointers few (ltb-true 12 (length o.blocks.items) t))
+    many few false t e = absurd (true≢false (sym e))
 
-    at : (t : Bool) → is_among c (if t then [] else (if nat_lt 12 (length o.blocks.items) then o.inode.indirect ∷ [] else [])) ≡ true → IsReleasable g pages c
-    at true e = absurd (true≢false (sym e))
-    at false e = many (nat_lt 12 (length o.blocks.items)) refl e
+    at : (t : Bool) → nat_lt 12 count ≡ t → is_among c (if t then [] else (if nat_lt 12 (length o.blocks.items) then o.inode.indirect ∷ [] else [])) ≡ true → IsReleasable g pages c
+    at true t e = absurd (true≢false (sym e))
+    at false t e = many (ltb-false 12 count t) (nat_lt 12 (length o.blocks.items)) refl e
 
 -- ---- the bitmaps of their zones
 

@@ -1,4 +1,5 @@
 pub mod Changes
+pub mod Cuts
 pub mod Differences
 pub mod Dirs
 pub mod Edits

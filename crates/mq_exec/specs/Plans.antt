@@ -1,5 +1,5 @@
 -- Requests that change, once it is known what they come to.
-use Rattle.std.specs.Prelude.{◌≡◌, ◌≢◌, ◌<◌, ◌≤◌, ◌-◌, ◌/◌, ℕ, Bool, true, false, List, [], drop, length, slice_index, slice_set, Option, Some, None, if◌then◌else◌, nat_eq, nat_le}
+use Rattle.std.specs.Prelude.{◌≡◌, ◌≢◌, ◌<◌, ◌≤◌, ◌-◌, ℕ, Bool, true, false, List, [], length, slice_index, slice_set, Option, Some, None, if◌then◌else◌, nat_eq, nat_le}
 use Rattle.std.specs.List.{All}
 use Rattle.mq_blocks.specs.declared.geometry.Geometry.{Geometry}
 use Rattle.mq_exec.specs.Dirs.{AreDirsAt}
@@ -166,21 +166,3 @@ pub record HoldsRewrite (g : Geometry) (pages : Pages) (m : Rewriting) : Type 0 
 -- the blocks that a file has from a place on, and before another, are held
 abbrev pub HoldsPlaces : Pages → (blocks : List ℕ) → (first past : ℕ) → Type 0
 HoldsPlaces pages blocks first past = (place : ℕ) → first ≤ place → place < past → place < length blocks → IsHeld pages (slice_index blocks place)
-
--- A file is cut.
-pub record PlansCut (g : Geometry) (q : ℕ) (v : Volume) (verdict : Verdict) (m : Rewriting) : Type 0 where
-  pub bytes : List ℕ
-  pub is : body v m.file.number ≡ File bytes
-  pub now : List ℕ
-  pub carried : IsCarried g v verdict (resized g q v m.file.number now)
-  pub size : m.size ≡ length now
-  pub shorter : m.size < length bytes
-  pub same : (k : ℕ) → k < m.size → slice_index now k ≡ slice_index bytes k
-  pub count : length m.file.blocks.items ≡ blocks_for (length bytes)
-  pub opened : IsOpened g v m.file
-
-pub record HoldsCut (g : Geometry) (pages : Pages) (m : Rewriting) : Type 0 where
-  pub table : IsHeld pages (inode_block g m.file.number)
-  pub last : HoldsPlaces pages m.file.blocks.items (m.size / 4096) (blocks_for m.size)
-  pub blocks : All (IsReleasable g pages) (drop (blocks_for m.size) m.file.blocks.items)
-  pub pointers : 12 < length m.file.blocks.items → IsReleasable g pages m.file.inode.indirect

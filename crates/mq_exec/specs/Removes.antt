@@ -1,5 +1,5 @@
 -- What is looked at where blocks are freed.
-use Rattle.std.specs.Prelude.{◌≡◌, ◌≤◌, ◌<◌, ◌⊎◌, ℕ, true, List, [], ◌∷◌, ◌++◌, length, slice_get, Some, nat_lt, if◌then◌else◌}
+use Rattle.std.specs.Prelude.{◌≡◌, ◌≤◌, ◌<◌, ◌⊎◌, ℕ, true, List, [], ◌∷◌, ◌++◌, length, nat_lt, if◌then◌else◌}
 use Rattle.mq_blocks.specs.Geometry.{homes_of, meta_of}
 use Rattle.mq_blocks.specs.declared.geometry.Geometry.{Geometry}
 use Rattle.mq_exec.specs.Changes.{zone_in}
@@ -22,10 +22,3 @@ LooksGone g v i b = (has_block (node v i) b ≡ true) ⊎ ((c : ℕ) × (has_blo
 -- or the bitmap of inodes
 abbrev pub LooksFreed : Geometry → Volume → (i b : ℕ) → Type 0
 LooksFreed g v i b = (b ≡ inode_bitmap g) ⊎ LooksGone g v i b
-
--- where a file is cut: a block from its new last one on, the bitmap of the zone of one that goes, or its
--- block of pointers
-pub data LooksCut (g : Geometry) (v : Volume) (i first count b : ℕ) : Type 0 where
-  part : (place : ℕ) → first ≤ place → slice_get (node v i).blocks place ≡ Some b → LooksCut g v i first count b
-  marks : (place c : ℕ) → count ≤ place → slice_get (node v i).blocks place ≡ Some c → b ≡ zone_bitmap (zone_in g c) → LooksCut g v i first count b
-  pointers : (c : ℕ) → count ≤ 12 → (node v i).indirect ≡ Some c → b ≡ zone_bitmap (zone_in g c) → LooksCut g v i first count b

@@ -2,7 +2,7 @@
 ghost use Rattle.std.specs.Prelude.{◌≡◌, ◌<◌, ◌≤◌, ℕ, List, [], ◌∷◌, drop, length, OnOk, Some};
 ghost use Rattle.std.specs.List.{All};
 ghost use Rattle.mq_exec.specs.Edits.{Becomes, Carries, IsOver};
-ghost use Rattle.mq_exec.specs.Opened.{IsOpened, IsReleasable, MayCut, cut_file};
+ghost use Rattle.mq_exec.specs.Opened.{HoldsPointers, IsOpened, IsReleasable, MayCut, cut_file};
 ghost use Rattle.mq_exec.specs.Pages.{IsHeld, pages_of};
 ghost use Rattle.mq_exec.specs.Released.{CutsPointers, IsCutInode, Releases, gone_from};
 ghost use Rattle.mq_layout.specs.Bits.{pointer_of};
@@ -86,7 +86,7 @@ impl<'a> Working<'a> {
     fn release_from(&mut self, alloc: Global, o: &Opened, count: u32) -> Result<(), OutOfMemory>
         requires few { count ≤ length o.now.blocks.items }
         requires blocks { All (IsReleasable self.old.geometry (pages_of self.old)) (drop count o.now.blocks.items) }
-        requires pointers { 12 < length o.now.blocks.items → IsReleasable self.old.geometry (pages_of self.old) o.now.inode.indirect }
+        requires pointers { count ≤ 12 → 12 < length o.now.blocks.items → IsReleasable self.old.geometry (pages_of self.old) o.now.inode.indirect }
         ensures { OnOk result (Releases self.old self.new (gone_from o.now count)) }
     {
         self.release(alloc, &o.blocks[count as usize..])?;
@@ -136,7 +136,8 @@ impl<'a> Working<'a> {
         requires possible { (v : Volume) × (bytes now : List ℕ) × Carries self.old.geometry (pages_of self.old) v × MayCut self.old.geometry v o.now count bytes now × (length now ≡ size) }
         requires table { IsHeld (pages_of self.old) (inode_block_of self.old.geometry o.now.number) }
         requires blocks { All (IsReleasable self.old.geometry (pages_of self.old)) (drop count o.now.blocks.items) }
-        requires pointers { 12 < length o.now.blocks.items → IsReleasable self.old.geometry (pages_of self.old) o.now.inode.indirect }
+        requires pointers { HoldsPointers (pages_of self.old) o.now }
+        requires release { count ≤ 12 → 12 < length o.now.blocks.items → IsReleasable self.old.geometry (pages_of self.old) o.now.inode.indirect }
         ensures over { OnOk result (IsOver self.old self.new) }
         ensures cut { OnOk result ((v : Volume) (bytes now : List ℕ) → Carries self.old.geometry (pages_of self.old) v → MayCut self.old.geometry v o.now count bytes now → length now ≡ size → Becomes self.old.geometry v (cut_file v o.now.number count now) self.old self.new) }
     {

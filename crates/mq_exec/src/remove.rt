@@ -59,7 +59,7 @@ fn push_new(blocks: &mut Vec<BlockNo>, b: BlockNo) -> Result<(), OutOfMemory>
 }
 
 /// The block of pointers.
-fn indirect(inode: &Inode) -> u32
+pub fn indirect(inode: &Inode) -> u32
     ensures { result ≡ inode.now.indirect }
 {
     inode.indirect

@@ -114,7 +114,7 @@ impl<'a> Working<'a> {
     }
 
     /// Writes bytes into a block of a file.
-    fn put_bytes(
+    pub fn put_bytes(
         &mut self,
         alloc: Global,
         b: BlockNo,

@@ -1,7 +1,8 @@
 use Rattle.std.proofs.Common.{length, sym, ap, subst, ◌∙◌}
 use Rattle.mq_exec.specs.Pages.{pages_of}
 use Rattle.mq_exec.specs.Released.{IsCutInode}
-use Rattle.mq_exec.proofs.Cutting.{becomes-cut, cut-form, pointers-held, table-cut}
+use Rattle.mq_exec.proofs.Cutting.{becomes-cut, cut-form, pointers-held, pointers-high, table-cut}
+use Rattle.mq_exec.proofs.FreedInodes.{held-known}
 use Rattle.mq_exec.proofs.Linking.{on_ok-both}
 use Rattle.mq_exec.proofs.LocalGone.{gone-releasable}
 use Rattle.mq_exec.proofs.Nodes.{length-padded}
@@ -29,7 +30,7 @@ pub put_inode-requires-clause-held : goal.put_inode-requires-clause-held
 put_inode-requires-clause-held c =
     let x = c.requires.possible in
     let m = x.4 in
-    table-cut c.args.o.now c.args.count c.args.self.now c.release_from.new.self c.cut_pointers.new.self m.opened.low m.few c.requires.pointers c.requires.table c.in_ok-release_from.ensures c.in_ok-cut_pointers.ensures
+    table-cut c.args.o.now c.args.count c.args.self.now c.release_from.new.self c.cut_pointers.new.self m.opened.low m.few (pointers-high x.0 c.args.o.now c.args.self.now x.3 m.opened) c.requires.table c.in_ok-release_from.ensures c.in_ok-cut_pointers.ensures
 
 pub returns-clause-cut : goal.returns-clause-cut
 returns-clause-cut c =
@@ -38,9 +39,9 @@ returns-clause-cut c =
     on_ok-both c.put_inode.result c.put_inode.ensures.kinds c.put_inode.ensures.put (λ keeps put v bytes now carries may is. becomes-cut v o c.args.count bytes now old c.release_from.new.self c.cut_pointers.new.self c.put_inode.new.self c.cut_inode.result (record {
       carries = carries;
       may = may;
-      releasable = gone-releasable old.geometry (pages_of old) o c.args.count c.requires.blocks c.requires.pointers;
+      releasable = gone-releasable old.geometry (pages_of old) o c.args.count c.requires.blocks c.requires.release;
       table = c.requires.table;
-      known = λ many. (c.requires.pointers many).known;
+      known = λ many. held-known (pages_of old) o.inode.indirect (c.requires.pointers many);
       released = c.in_ok-release_from.ensures;
       pointers = c.in_ok-cut_pointers.ensures;
       keeps = keeps;
