@@ -1,9 +1,9 @@
 -- A file that is cut has zeros written behind its new end first, up to the end of that block.
-use Rattle.std.proofs.Common.{get_or, ◌≡◌, ◌≢◌, ℕ, ◌+◌, ◌-◌, ◌*◌, ◌/◌, ◌%◌, ◌<◌, ◌≤◌, inl, inr, List, [], ◌∷◌, ◌++◌, length, drop, replicate, true, refl, sym, ap, subst, ◌∙◌, arith, length-append, length-set}
-use Rattle.std.specs.Prelude.{Option, Some, None, is_some, min, nat_lt, slice_get}
+use Rattle.std.proofs.Common.{get_or, ◌≡◌, ◌≢◌, ℕ, ◌+◌, ◌-◌, ◌*◌, ◌/◌, ◌%◌, ◌<◌, ◌≤◌, inl, inr, List, [], ◌∷◌, ◌++◌, length, drop, replicate, refl, sym, ap, subst, ◌∙◌, arith, length-append, length-set}
+use Rattle.std.specs.Prelude.{Option, Some, is_some, min, nat_lt, slice_get}
 use Rattle.std.proofs.lemmas.Bool.{cases_lt, true≢false}
 use Rattle.std.proofs.lemmas.List.{get_or-drop, get_or_past, length-drop, length-replicate}
-use Rattle.std.proofs.lemmas.Option.{same_Some, slice_get-get_or}
+use Rattle.std.proofs.lemmas.Option.{none-some, same_Some, slice_get-get_or}
 use Rattle.mq_blocks.specs.Blocks.{zeros}
 use Rattle.mq_blocks.specs.Journal.{is_among}
 use Rattle.mq_blocks.specs.Windows.{written}
@@ -20,9 +20,10 @@ use Rattle.mq_exec.proofs.Becoming.{becomes-self, becomes-stepped}
 use Rattle.mq_exec.proofs.LocalBodies.{bytes-step, inode-same, rebodied}
 use Rattle.mq_exec.proofs.LocalBytes.{cut-at, spliced-after, spliced-before, spliced-in}
 use Rattle.mq_exec.proofs.LocalKinds.{part-of-file}
-use Rattle.mq_exec.proofs.LocalLists.{among-cons, among-here}
+use Rattle.mq_exec.proofs.LocalLists.{among-here}
 use Rattle.mq_exec.proofs.LocalParts.{file-written, length-zeros, zeros-at}
 use Rattle.mq_exec.proofs.LocalVolumes.{cut-body, with_body-uses}
+use Rattle.mq_exec.proofs.Releasing.{among-one}
 use Rattle.mq_exec.proofs.Showing.{use-carried}
 use Rattle.mq_layout.specs.Places.{file_limit}
 use Rattle.mq_pages.specs.declared.page.Kind.TheVariants.{Data}
@@ -123,9 +124,6 @@ pub record IsBlankFile (g : Geometry) (v : Volume) (i size : ℕ) (bytes : List 
   pub inode : inode_of (node u i) ≡ inode_of (node v i)
   pub cuts : (n : ℕ) (xs : List ℕ) → cut_file u i n xs ≡ cut_file v i n xs
 
-among-one : (b x : ℕ) → is_among x (b ∷ []) ≡ true → x ≡ b
-among-one b x y = elim (among-cons b x [] y) [ inl e ↦ e | inr later ↦ absurd (true≢false (sym later)) ]
-
 -- the block with the last byte that stays
 record IsLastPut (g : Geometry) (v : Volume) (i size b : ℕ) (bytes : List ℕ) (old new : Working) : Type 0 where
   carries : Carries g (pages_of old) v
@@ -147,13 +145,10 @@ last-step g v i size b bytes old new h =
     bytes-step g v i place b bytes now (pages_of old) (pages_of new) t.after h.carries.uses h.low h.is to.same_size h.there (blank-rest size bytes now to) h.carries.fits t.put t.form
     (blank-shows size bytes now t.before t.after h.part to used.form.whole t.is shown)
 
-none-held : {x : Option (List ℕ)} → None ≡ Some x → ⊥
-none-held e = absurd (cc)
-
 last-becomes : (g : Geometry) (v : Volume) (i size b : ℕ) (bytes : List ℕ) (old new : Working) → IsLastPut g v i size b bytes old new → Becomes g v (with_body v i (File (blank_to size bytes))) old new
 last-becomes g v i size b bytes old new h =
     becomes-stepped g v w old new (b ∷ []) h.carries (with_body-uses g v i (File now) h.carries.uses h.low) (length-set v i (rebodied (node v i) (File now))) (last-step g v i size b bytes old new h)
-    (λ x y none. none-held (sym none ∙ ap (pages_of old) (among-one b x y) ∙ h.put.text.was))
+    (λ x y none. none-some _ (sym none ∙ ap (pages_of old) (among-one b x y) ∙ h.put.text.was))
     (λ x high n. h.put.kind.others x (λ e. true≢false (sym (ap (λ (c : ℕ). is_among c (b ∷ [])) e ∙ among-here b []) ∙ n)))
     (λ x kind high y e. (λ d. subst (λ c. IsOfFile w c) (sym (among-one b x y)) file, λ f. same_Some kind Data (sym e ∙ ap (kinds_of new) (among-one b x y) ∙ h.put.kind.here)))
   where
