@@ -26,7 +26,7 @@ use Rattle.mq_exec.proofs.LocalKinds.{pointers-not-file}
 use Rattle.mq_exec.proofs.LocalLists.{among-cons, among-either, among-here, cut-listed, cut_list, if_some, listed-drop}
 use Rattle.mq_exec.proofs.LocalSteps.{among-parts}
 use Rattle.mq_exec.proofs.LocalVolumes.{cut-uses}
-use Rattle.mq_exec.proofs.Making.{held-same}
+use Rattle.mq_exec.proofs.Linkable.{held-same}
 use Rattle.mq_exec.proofs.Nodes.{length-padded}
 use Rattle.mq_exec.proofs.Releasing.{among-apart, high-marks, released-meta}
 use Rattle.mq_layout.specs.Inodes.{IsInode}

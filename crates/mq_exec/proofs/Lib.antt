@@ -19,6 +19,7 @@ pub mod Growing
 pub mod Keeping
 pub mod Leading
 pub mod Lifting
+pub mod Linkable
 pub mod LinkedGrown
 pub mod Linking
 pub mod LocalBodies
@@ -59,6 +60,7 @@ pub mod Releasing
 pub mod RemoveCarried
 pub mod RemoveLooks
 pub mod Removing
+pub mod Renamed
 pub mod RenamingPlans
 pub mod Rewriting
 pub mod Running

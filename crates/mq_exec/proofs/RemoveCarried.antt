@@ -26,13 +26,11 @@ use Rattle.mq_tree.proofs.KeepUses.{node-other}
 
 -- ---- the name that goes
 
-pub name-there : (g : Geometry) (pages : Pages) (v : Volume) (verdict : Verdict) (path : Path) (m : Removal) (name blocks : List ℕ) → Agrees g pages v → PlansRemove g v verdict path m → AreDirsAt pages m.directory.blocks.items → name ≡ last_of (way path) → blocks ≡ m.directory.blocks.items
-    → find name (slots_at pages blocks) ≢ None
-name-there g pages v verdict path m name blocks agrees plan dirs n same none =
-    let u = plan.unlink in
-    let slots = carried-slots g pages v m.directory.number u.slots m.directory.blocks.items (carries-sound g pages v agrees) u.is u.blocks_are u.size (λ k d l. (dirs k d l).held) in
-    let found : Some m.gone.number ≡ find (last_of (way path)) (slots_at pages m.directory.blocks.items) = sym plan.found ∙ ap (λ (x : Body). find (last_of (way path)) (slots_of x)) u.is ∙ ap (λ (s : List (Option Entry)). find (last_of (way path)) s) slots in
-    let lost : find (last_of (way path)) (slots_at pages m.directory.blocks.items) ≡ None = ap (λ (s : List ℕ). find s (slots_at pages m.directory.blocks.items)) (sym n) ∙ ap (λ (bs : List ℕ). find name (slots_at pages bs)) (sym same) ∙ none in
+pub name-there : (g : Geometry) (pages : Pages) (v : Volume) (d i : ℕ) (name last blocks items : List ℕ) → Agrees g pages v → MayUnlink g v d items → find last (slots_of (body v d)) ≡ Some i → AreDirsAt pages items → name ≡ last → blocks ≡ items → find name (slots_at pages blocks) ≢ None
+name-there g pages v d i name last blocks items agrees u is dirs n same none =
+    let slots = carried-slots g pages v d u.slots items (carries-sound g pages v agrees) u.is u.blocks_are u.size (λ k x l. (dirs k x l).held) in
+    let found : Some i ≡ find last (slots_at pages items) = sym is ∙ ap (λ (x : Body). find last (slots_of x)) u.is ∙ ap (λ (s : List (Option Entry)). find last s) slots in
+    let lost : find last (slots_at pages items) ≡ None = ap (λ (s : List ℕ). find s (slots_at pages items)) (sym n) ∙ ap (λ (bs : List ℕ). find name (slots_at pages bs)) (sym same) ∙ none in
     absurd (cc)
 
 -- ---- the inode behind it

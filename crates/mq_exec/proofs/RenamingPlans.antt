@@ -20,7 +20,7 @@ use Rattle.mq_exec.proofs.LinkedGrown.{picked-enough}
 use Rattle.mq_exec.proofs.LocalBodies.{rebodied}
 use Rattle.mq_exec.proofs.LocalTaken.{IsFree}
 use Rattle.mq_exec.proofs.LocalVolumes.{with_body-uses}
-use Rattle.mq_exec.proofs.Making.{link-same, picked-same, takeables}
+use Rattle.mq_exec.proofs.Linkable.{link-same, picked-same, takeables}
 use Rattle.mq_exec.proofs.MakingPlans.{may-link, need-is}
 use Rattle.mq_exec.proofs.NewNames.{IsNew, new-form}
 use Rattle.mq_exec.proofs.Picking.{picks-all_free}

@@ -10,7 +10,8 @@ use Rattle.mq_exec.specs.Opened.{IsTakeable}
 use Rattle.mq_layout.specs.Places.{inode_block}
 use Rattle.mq_tree.specs.Volume.{Path}
 use Rattle.mq_exec.proofs.Becoming.{becomes-then, carries-sound}
-use Rattle.mq_exec.proofs.Making.{last-name, link-at, made-for, made-link, name-added}
+use Rattle.mq_exec.proofs.Linkable.{last-name, link-at, name-added}
+use Rattle.mq_exec.proofs.Making.{made-link, made-linkable}
 use Rattle.mq_exec.proofs.working.Working.carry_make.Goals as goal
 
 pub link_name-requires-clause-possible : goal.link_name-requires-clause-possible
@@ -35,31 +36,35 @@ link_name-requires-clause-possible c =
 
 pub link_name-requires-clause-held : goal.link_name-requires-clause-held
 link_name-requires-clause-held c =
+    let g = c.args.self.now.geometry in
     let p = c.requires.possible in
     let e = c.in_ok-make_inode.ensures in
-    let plan = p.3 in
-    (made-for c.args.self.now.geometry p.0 p.1 (empty_body c.args.is_directory) c.args.path.now c.args.making c.args.self.now c.make_inode.new.self p.2 plan c.requires.pages e.rest e.over (e.made p.1 (carries-sound c.args.self.now.geometry (pages_of c.args.self.now) p.1 p.2) (p.2.sound.nodes c.args.making.inode) plan.free)).dirs
+    let h = made-linkable g p.0 p.1 (empty_body c.args.is_directory) c.args.path.now c.args.making c.args.self.now c.make_inode.new.self p.2 p.3 c.requires.pages e.over (e.made p.1 (carries-sound g (pages_of c.args.self.now) p.1 p.2) (p.2.sound.nodes c.args.making.inode) p.3.free) in
+    h.dirs
 
 pub link_name-requires-clause-picks : goal.link_name-requires-clause-picks
 link_name-requires-clause-picks c =
+    let g = c.args.self.now.geometry in
     let p = c.requires.possible in
     let e = c.in_ok-make_inode.ensures in
-    let plan = p.3 in
-    subst (λ (h : Geometry). All (IsTakeable h (pages_of c.make_inode.new.self)) c.deref-3.result.now) (sym e.over.view.geometry) (subst (λ (bs : List ℕ). All (IsTakeable c.args.self.now.geometry (pages_of c.make_inode.new.self)) bs) (sym c.deref-3.ensures.value) (made-for c.args.self.now.geometry p.0 p.1 (empty_body c.args.is_directory) c.args.path.now c.args.making c.args.self.now c.make_inode.new.self p.2 plan c.requires.pages e.rest e.over (e.made p.1 (carries-sound c.args.self.now.geometry (pages_of c.args.self.now) p.1 p.2) (p.2.sound.nodes c.args.making.inode) plan.free)).takes)
+    let h = made-linkable g p.0 p.1 (empty_body c.args.is_directory) c.args.path.now c.args.making c.args.self.now c.make_inode.new.self p.2 p.3 c.requires.pages e.over (e.made p.1 (carries-sound g (pages_of c.args.self.now) p.1 p.2) (p.2.sound.nodes c.args.making.inode) p.3.free) in
+    subst (λ (x : Geometry). All (IsTakeable x (pages_of c.make_inode.new.self)) c.deref-3.result.now) (sym e.over.view.geometry) (subst (λ (bs : List ℕ). All (IsTakeable g (pages_of c.make_inode.new.self)) bs) (sym c.deref-3.ensures.value) h.takes)
 
 pub link_name-requires-clause-table : goal.link_name-requires-clause-table
 link_name-requires-clause-table c =
+    let g = c.args.self.now.geometry in
     let p = c.requires.possible in
     let e = c.in_ok-make_inode.ensures in
-    let plan = p.3 in
-    subst (λ (h : Geometry). IsHeld (pages_of c.make_inode.new.self) (inode_block h c.args.making.directory.number)) (sym e.over.view.geometry) (made-for c.args.self.now.geometry p.0 p.1 (empty_body c.args.is_directory) c.args.path.now c.args.making c.args.self.now c.make_inode.new.self p.2 plan c.requires.pages e.rest e.over (e.made p.1 (carries-sound c.args.self.now.geometry (pages_of c.args.self.now) p.1 p.2) (p.2.sound.nodes c.args.making.inode) plan.free)).table
+    let h = made-linkable g p.0 p.1 (empty_body c.args.is_directory) c.args.path.now c.args.making c.args.self.now c.make_inode.new.self p.2 p.3 c.requires.pages e.over (e.made p.1 (carries-sound g (pages_of c.args.self.now) p.1 p.2) (p.2.sound.nodes c.args.making.inode) p.3.free) in
+    subst (λ (x : Geometry). IsHeld (pages_of c.make_inode.new.self) (inode_block x c.args.making.directory.number)) (sym e.over.view.geometry) h.table
 
 pub link_name-requires-clause-pointers : goal.link_name-requires-clause-pointers
 link_name-requires-clause-pointers c =
+    let g = c.args.self.now.geometry in
     let p = c.requires.possible in
     let e = c.in_ok-make_inode.ensures in
-    let plan = p.3 in
-    (made-for c.args.self.now.geometry p.0 p.1 (empty_body c.args.is_directory) c.args.path.now c.args.making c.args.self.now c.make_inode.new.self p.2 plan c.requires.pages e.rest e.over (e.made p.1 (carries-sound c.args.self.now.geometry (pages_of c.args.self.now) p.1 p.2) (p.2.sound.nodes c.args.making.inode) plan.free)).pointers
+    let h = made-linkable g p.0 p.1 (empty_body c.args.is_directory) c.args.path.now c.args.making c.args.self.now c.make_inode.new.self p.2 p.3 c.requires.pages e.over (e.made p.1 (carries-sound g (pages_of c.args.self.now) p.1 p.2) (p.2.sound.nodes c.args.making.inode) p.3.free) in
+    h.pointers
 
 pub returns-clause-made : goal.returns-clause-made
 returns-clause-made c =

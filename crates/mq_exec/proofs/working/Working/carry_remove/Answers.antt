@@ -5,9 +5,10 @@ use Rattle.mq_exec.specs.Dirs.{AreDirsAt}
 use Rattle.mq_exec.specs.Opened.{MayUnlink}
 use Rattle.mq_exec.specs.Pages.{pages_of}
 use Rattle.mq_exec.proofs.Becoming.{carries-sound}
-use Rattle.mq_exec.proofs.Making.{last-name}
+use Rattle.mq_exec.proofs.Linkable.{last-name}
 use Rattle.mq_exec.proofs.RemoveCarried.{gone-carried, may-free, name-there, removed}
-use Rattle.mq_tree.specs.Volume.{Path}
+use Rattle.mq_exec.specs.Walks.{last_of}
+use Rattle.mq_tree.specs.Volume.{Path, way}
 use Rattle.mq_exec.proofs.working.Working.carry_remove.Goals as goal
 
 pub unlink_name-requires-clause-possible : goal.unlink_name-requires-clause-possible
@@ -26,7 +27,7 @@ unlink_name-requires-clause-found c =
     let path : c.deref.result.now ≡ c.args.path.now = cc (c.path.view_is, c.deref.ensures.value) in
     let name : c.deref-3.result.now ≡ c.in-Some.name.now = cc (c.name.view_is, c.deref-3.ensures.value) in
     let last = last-name c.args.path.now c.in-Some.name.now (c.in-Some.ensures.value ∙ ap (λ (ns : Path). slice_get ns (length ns - 1)) path) in
-    name-there g (pages_of c.args.self.now) p.0 p.1 c.args.path.now c.args.removal.now c.deref-3.result.now c.deref-2.result.now p.2 p.3 c.requires.pages.dirs (name ∙ last) c.deref-2.ensures.value
+    name-there g (pages_of c.args.self.now) p.0 c.args.removal.now.directory.number c.args.removal.now.gone.number c.deref-3.result.now (last_of (way c.args.path.now)) c.deref-2.result.now _ p.2 p.3.unlink p.3.found c.requires.pages.dirs (name ∙ last) c.deref-2.ensures.value
 
 pub free_inode_of-requires-clause-possible : goal.free_inode_of-requires-clause-possible
 free_inode_of-requires-clause-possible c =

@@ -1,6 +1,5 @@
 use Rattle.std.proofs.Common.{refl}
 use Rattle.mq_exec.proofs.working.Working.move_need.Goals as goal
-use Rattle.mq_exec.proofs.RenamingPlans.{move-need}
 use Rattle.std.proofs.lemmas.Bool.{eq-eqb, ne_eqb}
 
 pub returns-then-from-into : goal.returns-then-from-into

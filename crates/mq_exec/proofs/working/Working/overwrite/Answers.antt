@@ -1,4 +1,4 @@
-use Rattle.std.proofs.Common.{get_or, drop, take, ◌≡◌, ◌<◌, ◌≤◌, ◌+◌, ◌-◌, ℕ, ◌/◌, ◌*◌, length, refl, sym, ap, subst, ◌∙◌, arith}
+use Rattle.std.proofs.Common.{get_or, drop, take, ◌≡◌, ◌<◌, ◌-◌, ℕ, ◌*◌, length, sym, ap, subst, ◌∙◌, arith}
 use Rattle.std.specs.Prelude.{Some}
 use Rattle.std.proofs.lemmas.List.{get_or_default}
 use Rattle.mq_pages.specs.declared.page.Kind.TheVariants.{Data}

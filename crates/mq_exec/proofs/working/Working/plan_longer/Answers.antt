@@ -1,18 +1,18 @@
-use Rattle.std.proofs.Common.{◌≡◌, ◌≢◌, ◌/◌, ◌<◌, ◌≤◌, ◌++◌, ℕ, List, length, sym, ap, subst, ◌∙◌, inl, inr}
+use Rattle.std.proofs.Common.{◌≡◌, ◌≢◌, ◌/◌, ◌++◌, ℕ, List, sym, ap, subst, ◌∙◌}
 use Rattle.std.specs.Prelude.{Some, None}
 use Rattle.std.specs.List.{All, Contains}
 use Rattle.std.proofs.lemmas.Result.{err_from_is_err_and}
 use Rattle.mq_exec.specs.Lacks.{OfEach}
-use Rattle.mq_exec.specs.Longer.{LooksLonger, indirect, longer_needs, part, picked, short}
+use Rattle.mq_exec.specs.Longer.{LooksLonger, indirect, short}
 use Rattle.mq_exec.specs.Overwrites.{blocks_at, past_place}
 use Rattle.mq_exec.specs.Pages.{IsHeld, pages_of}
-use Rattle.mq_exec.specs.Picks.{ArePicked, IsMarkable, IsSearched}
+use Rattle.mq_exec.specs.Picks.{ArePicked, IsSearched}
 use Rattle.mq_exec.specs.declared.rewrite.Rewriting.{Rewriting}
 use Rattle.mq_exec.proofs.Longer.{longer-few, longer-need, longer-plan, all-left, wanted-looks, wanted-places}
-use Rattle.mq_exec.proofs.Making.{takeables}
+use Rattle.mq_exec.proofs.Linkable.{takeables}
 use Rattle.mq_exec.proofs.Needs.{lacks-each, lacks-weaker}
 use Rattle.mq_layout.specs.Places.{inode_block}
-use Rattle.mq_tree.specs.Volume.{Volume, node}
+use Rattle.mq_tree.specs.Volume.{node}
 use Rattle.mq_exec.proofs.working.Working.plan_longer.Goals as goal
 
 pub returns-in_err-picks-clause-lack : goal.returns-in_err-picks-clause-lack

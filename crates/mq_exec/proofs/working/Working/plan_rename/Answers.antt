@@ -1,4 +1,4 @@
-use Rattle.std.proofs.Common.{Bool, ℕ, List, sym, ap, subst, ◌∙◌}
+use Rattle.std.proofs.Common.{ℕ, List, subst, ◌∙◌}
 use Rattle.std.specs.List.{Contains}
 use Rattle.std.proofs.lemmas.Result.{err_from_is_err_and}
 use Rattle.mq_exec.specs.Lacks.{OfEach}
