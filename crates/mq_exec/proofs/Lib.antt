@@ -74,4 +74,5 @@ pub mod Taking
 pub mod Targets
 pub mod TruncateLooks
 pub mod Walking
+pub mod Writing
 pub mod Zones

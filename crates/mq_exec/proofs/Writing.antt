@@ -1,0 +1,184 @@
+-- Writing bytes into a file: what it comes to, and at what it looks.
+use Rattle.std.proofs.Common.{◌≡◌, ℕ, ◌+◌, ◌-◌, ◌*◌, ◌/◌, ◌<◌, ◌≤◌, inl, inr, drop, List, [], ◌∷◌, ◌++◌, length, Bool, true, false, cond, refl, sym, ap, subst, ◌∙◌, arith, length-append}
+use Rattle.std.specs.Prelude.{Some, None, max, nat_eq, nat_lt}
+use Rattle.std.specs.List.{Contains, list_all}
+use Rattle.std.proofs.lemmas.Bool.{le-ltb, lt-ltb}
+use Rattle.std.proofs.lemmas.List.{length-drop}
+use Rattle.std.proofs.lemmas.List.Elements.{All-contains}
+use Rattle.mq_blocks.specs.Geometry.{queues_of}
+use Rattle.mq_blocks.specs.declared.geometry.Geometry.{Geometry}
+use Rattle.mq_exec.specs.Longer.{IsRewriting, LooksLonger, indirect, longer_needs, part, picked, short}
+use Rattle.mq_exec.specs.Overwrites.{IsSplicedAt, past_place}
+use Rattle.mq_exec.specs.Picks.{ArePicked}
+use Rattle.mq_exec.specs.Plans.{IsFound, IsRefused, on_body, on_file}
+use Rattle.mq_exec.specs.declared.file.Found.{Found}
+use Rattle.mq_exec.proofs.Coming.{carried-enough}
+use Rattle.mq_exec.proofs.Contents.{file-size}
+use Rattle.mq_exec.proofs.LinkedGrown.{picked-enough}
+use Rattle.mq_exec.proofs.LocalBytes.{spliced-after, spliced-before, spliced-in}
+use Rattle.mq_exec.proofs.LocalTaken.{IsFree}
+use Rattle.mq_exec.proofs.LocalVolumes.{resized-grown}
+use Rattle.mq_exec.proofs.Picking.{picks-all_free}
+use Rattle.mq_exec.proofs.Rewriting.{past-of}
+use Rattle.mq_exec.proofs.Taking.{body-taken, grown-takes}
+use Rattle.mq_exec.proofs.Targets.{found-under}
+use Rattle.mq_exec.proofs.TruncateLooks.{sized-count, sized-low, sized-uses}
+use Rattle.mq_layout.specs.Names.{is_name}
+use Rattle.mq_layout.specs.Places.{file_limit}
+use Rattle.mq_tree.specs.Free.{free_blocks, grown, needs}
+use Rattle.mq_tree.specs.Looks.{LooksAt, WorksOn, is_refused, needed, touched, bytes as at_bytes, pointers as at_pointers, searched as at_searched, taken as at_taken}
+use Rattle.mq_tree.specs.Requests.{In, Lost, Makes, Outcome, Root, Target, Verdict, carried_out, cut_to, refused, resized, set_bytes, spliced, step, target, verdict, with_body, write, write_in}
+use Rattle.mq_tree.specs.Sound.{IsSound, blocks_for}
+use Rattle.mq_tree.specs.Volume.{Body, Free, File, Dir, Path, Volume, body, inode_at, is_taken, node, way}
+use Rattle.mq_tree.specs.declared.request.Fault.{Fault}
+use Rattle.mq_tree.specs.declared.request.Fault.TheVariants.{BadName, TooBig}
+use Rattle.mq_tree.specs.declared.request.Reply.TheVariants.{Ok as Ready}
+use Rattle.mq_tree.specs.declared.request.Request.TheVariants.{Write}
+use Rattle.mq_tree.proofs.KeepNodes.{cut-length}
+use Rattle.mq_tree.proofs.KeepUses.{grown-is}
+
+-- ---- what the request comes to
+
+-- on what stands at its path
+abbrev written : Geometry → (queue : ℕ) → Volume → (at : ℕ) → List ℕ → ℕ → List ℕ → ℕ → List ℕ → Verdict
+written g q v at new d name i bytes = set_bytes g q v i (at + length new) (spliced at new bytes)
+
+write_in-on : (g : Geometry) (q : ℕ) (v : Volume) (at : ℕ) (new : List ℕ) (d : ℕ) (name : List ℕ) (i : ℕ) (x : Body) → write_in g q v i at new x ≡ on_body (written g q v at new) d name i x
+write_in-on g q v at new d name i Free = refl
+write_in-on g q v at new d name i (File bytes) = refl
+write_in-on g q v at new d name i (Dir slots) = refl
+
+write-on : (g : Geometry) (q : ℕ) (v : Volume) (at : ℕ) (new : List ℕ) (t : Target) → write g q v at new t ≡ on_file v (written g q v at new) t
+write-on g q v at new Root = refl
+write-on g q v at new (Lost fault) = refl
+write-on g q v at new (In d name None) = refl
+write-on g q v at new (In d name (Some i)) = write_in-on g q v at new d name i (body v i)
+
+pub write-refused : (g : Geometry) (q : ℕ) (v : Volume) (at : ℕ) (new : List ℕ) (t : Target) (fault : Fault) → ((act : ℕ → List ℕ → ℕ → List ℕ → Verdict) → on_file v act t ≡ refused fault) → IsRefused g v (write g q v at new t) fault
+write-refused g q v at new t fault h = ap (λ (x : Verdict). carried_out g v x) (write-on g q v at new t ∙ h (written g q v at new))
+
+write-found : (g : Geometry) (q : ℕ) (v : Volume) (path : Path) (at : ℕ) (new : List ℕ) (f : Found) → (h : IsFound v path f) → write g q v at new (target v (way path)) ≡ set_bytes g q v f.number (at + length new) (spliced at new h.file.bytes)
+write-found g q v path at new f h = ap (λ (t : Target). write g q v at new t) h.target_is ∙ ap (λ (x : Body). write_in g q v f.number at new x) h.file.is
+
+pub write-big : (g : Geometry) (q : ℕ) (v : Volume) (path : Path) (at : ℕ) (new : List ℕ) (f : Found) → IsFound v path f → file_limit < at + length new → IsRefused g v (write g q v at new (target v (way path))) TooBig
+write-big g q v path at new f h big =
+    let now = spliced at new h.file.bytes in
+    ap (λ (x : Verdict). carried_out g v x) (write-found g q v path at new f h
+    ∙ ap (λ (t : Bool). cond t (refused TooBig) (Makes (needs (length (node v f.number).blocks) (blocks_for (length now))) (resized g q v f.number now))) (lt-ltb file_limit (at + length new) big))
+
+-- ---- the bytes afterwards
+
+spliced-size : (at : ℕ) (new bytes : List ℕ) → length (spliced at new bytes) ≡ cond (nat_eq (length new) 0) (length bytes) (max (length bytes) (at + length new))
+spliced-size at [] bytes = refl
+spliced-size at (x ∷ xs) bytes =
+    let n = cut-length at bytes in
+    let m = length-append (cut_to at bytes) (x ∷ xs) in
+    let k = length-drop (at + length (x ∷ xs)) bytes in
+    let j = length-append (cut_to at bytes ++ (x ∷ xs)) (drop (at + length (x ∷ xs)) bytes) in
+    omega arith
+
+-- the size afterwards is that of the bytes
+pub size-is : (v : Volume) (path : Path) (at size : ℕ) (new : List ℕ) (f : Found) → (h : IsFound v path f) → size ≡ cond (nat_eq (length new) 0) f.inode.size (max f.inode.size (at + length new)) → size ≡ length (spliced at new h.file.bytes)
+size-is v path at size new f h e =
+    e ∙ ap (λ (k : ℕ). cond (nat_eq (length new) 0) k (max k (at + length new))) (file-size (node v f.number) f.inode h.file.bytes h.file.says h.file.is) ∙ sym (spliced-size at new h.file.bytes)
+
+pub written-spliced : (at : ℕ) (new bytes : List ℕ) → IsSplicedAt at new bytes (spliced at new bytes)
+written-spliced at new bytes = record {
+  inside = λ k l. spliced-in at new bytes k l;
+  outside = λ k beside. elim beside [ inl l ↦ spliced-before at new bytes k l | inr l ↦ spliced-after at new bytes k l ];
+}
+
+-- ---- a file into which bytes are written
+
+pub record IsWriting (g : Geometry) (q : ℕ) (v : Volume) (path : Path) (at : ℕ) (new : List ℕ) (i size : ℕ) (bytes : List ℕ) : Type 0 where
+  pub sound : IsSound g v
+  pub queue : q < queues_of g
+  pub named : list_all is_name path ≡ true
+  pub leads : inode_at v (way path) ≡ Some i
+  pub rewriting : IsRewriting g q v i size (write g q v at new (target v (way path))) (spliced at new) bytes
+  pub longer : length bytes ≤ size
+
+pub writing : (g : Geometry) (q : ℕ) (v : Volume) (path : Path) (at size : ℕ) (new : List ℕ) (f : Found) → IsSound g v → q < queues_of g → list_all is_name path ≡ true → (h : IsFound v path f) → at + length new ≤ file_limit → size ≡ length (spliced at new h.file.bytes)
+    → IsWriting g q v path at new f.number size h.file.bytes
+writing g q v path at size new f sound queue named h limit e =
+    let now = spliced at new h.file.bytes in
+    let n = spliced-size at new h.file.bytes in
+    record {
+      sound = sound;
+      queue = queue;
+      named = named;
+      leads = (found-under g v path f sound h).leads;
+      rewriting = record {
+        is = h.file.is;
+        makes = write-found g q v path at new f h
+        ∙ ap (λ (t : Bool). cond t (refused TooBig) (Makes (needs (length (node v f.number).blocks) (blocks_for (length now))) (resized g q v f.number now))) (le-ltb file_limit (at + length new) limit)
+        ∙ ap (λ (k : ℕ). Makes (needs (length (node v f.number).blocks) (blocks_for k)) (resized g q v f.number now)) (sym e);
+        length_is = sym e;
+      };
+      longer = longer-size at new h.file.bytes size e;
+    }
+  where
+    longer-size : (at : ℕ) (new bytes : List ℕ) (size : ℕ) → size ≡ length (spliced at new bytes) → length bytes ≤ size
+    longer-size at [] bytes size e = omega arith
+    longer-size at (x ∷ xs) bytes size e = let n = spliced-size at (x ∷ xs) bytes in omega arith
+
+writing-verdict : (g : Geometry) (q : ℕ) (v : Volume) (path : Path) (at : ℕ) (new : List ℕ) (i size : ℕ) (bytes : List ℕ) → IsWriting g q v path at new i size bytes → verdict g q v (Write path at new) ≡ Makes (longer_needs v i size) (resized g q v i (spliced at new bytes))
+writing-verdict g q v path at new i size bytes h = ap (λ (t : Bool). cond t (write g q v at new (target v (way path))) (refused BadName)) h.named ∙ h.rewriting.makes
+
+writing-does : (g : Geometry) (q : ℕ) (v : Volume) (path : Path) (at : ℕ) (new : List ℕ) (i size : ℕ) (bytes : List ℕ) → IsWriting g q v path at new i size bytes → longer_needs v i size ≤ free_blocks g v
+    → step g q v (Write path at new) ≡ record { reply = Ready; next = resized g q v i (spliced at new bytes) }
+unfolding step
+writing-does g q v path at new i size bytes h enough = ap (λ (x : Verdict). carried_out g v x) (writing-verdict g q v path at new i size bytes h) ∙ carried-enough g v (longer_needs v i size) (resized g q v i (spliced at new bytes)) enough
+
+writing-works : (g : Geometry) (q : ℕ) (v : Volume) (path : Path) (at : ℕ) (new : List ℕ) (i size : ℕ) (bytes : List ℕ) → IsWriting g q v path at new i size bytes → WorksOn v (Write path at new) i bytes
+writing-works g q v path at new i size bytes h = record { path = path; names = refl; leads = h.leads; is = h.rewriting.is }
+
+-- ---- at what it looks
+
+-- a block that is picked is taken in a file that is not shorter
+resized-takes : (g : Geometry) (q : ℕ) (v : Volume) (i size : ℕ) (bytes now picks : List ℕ) (b : ℕ) → IsSound g v → q < queues_of g → body v i ≡ File bytes → length bytes ≤ size → length now ≡ size → ArePicked g q v (longer_needs v i size) picks → Contains picks b
+    → is_taken (resized g q v i now) b ≡ true
+resized-takes g q v i size bytes now picks b sound queue file longer n p c =
+    let have = length (node v i).blocks in
+    let uses = sized-uses g v sound in
+    let low = sized-low g v i bytes sound file in
+    let count = sized-count g v i bytes sound file in
+    let more = blocks_for (length now) - have in
+    let total : have + more ≡ blocks_for size = omega arith in
+    let has = (sound.nodes i).indirect in
+    let enough : needs have (have + more) ≤ free_blocks g v = subst (λ (k : ℕ). needs have k ≤ free_blocks g v) (sym total) (picked-enough g q v (longer_needs v i size) picks queue p) in
+    let r = grown-is g q v i more queue low uses has enough in
+    let u = grown g q v i more in
+    let blocks : length (node u i).blocks ≡ blocks_for (length now) = (let l = r.longer in omega arith) in
+    let is : resized g q v i now ≡ with_body u i (File now) = resized-grown g q v u i now refl blocks (r.indirect ∙ ap (λ (k : ℕ). nat_lt 12 k) blocks) in
+    let inside : i < length u = (let s = r.size in omega arith) in
+    ap (λ (x : Volume). is_taken x b) is ∙ body-taken u i (File now) b inside
+    ∙ grown-takes g q v i more picks b queue low uses has (subst (λ (k : ℕ). ArePicked g q v (needs have k) picks) (sym total) p) c
+
+pub write-looks : (g : Geometry) (q : ℕ) (v : Volume) (path : Path) (at : ℕ) (new : List ℕ) (i size : ℕ) (bytes : List ℕ) (b : ℕ) → IsWriting g q v path at new i size bytes → LooksLonger g q v i size at (length new) b → LooksAt g q v (Write path at new) b
+write-looks g q v path at new i size bytes b h (short s) =
+    let same : needed (verdict g q v (Write path at new)) ≡ longer_needs v i size = ap needed (writing-verdict g q v path at new i size bytes h) in
+    at_searched s.zone s.inside (let few = s.few in omega arith) s.is
+write-looks g q v path at new i size bytes b h (indirect picks p e) =
+    let enough = picked-enough g q v (longer_needs v i size) picks h.queue p in
+    at_pointers i bytes (writing-works g q v path at new i size bytes h) (ap (λ (o : Outcome). is_refused o.reply) (writing-does g q v path at new i size bytes h enough)) e
+write-looks g q v path at new i size bytes b h (picked picks p c) =
+    let enough = picked-enough g q v (longer_needs v i size) picks h.queue p in
+    let free = All-contains (IsFree g v) picks b (picks-all_free g q v (longer_needs v i size) picks h.queue p) c in
+    at_taken free.free (ap (λ (o : Outcome). is_taken o.next b) (writing-does g q v path at new i size bytes h enough)
+    ∙ resized-takes g q v i size bytes (spliced at new bytes) picks b h.sound h.queue h.rewriting.is h.longer h.rewriting.length_is p c)
+write-looks g q v path at new i size bytes b h (part picks p place low high e) =
+    let enough = picked-enough g q v (longer_needs v i size) picks h.queue p in
+    let past = past-of at (length new) place low high in
+    let some = past.0 in
+    let end = past.1 in
+    at_bytes i place (max at (4096 * place)) bytes (writing-works g q v path at new i size bytes h) (ap (λ (o : Outcome). is_refused o.reply) (writing-does g q v path at new i size bytes h enough)) e (omega arith)
+    (first-touched new some) (past-touched new some end)
+  where
+    first-touched : (xs : List ℕ) → 1 ≤ length xs → (touched (Write path at xs) (length bytes)).0 ≤ max at (4096 * place)
+    first-touched [] some = absurd (omega arith)
+    first-touched (x ∷ xs) some = omega arith
+
+    past-touched : (xs : List ℕ) → 1 ≤ length xs → 4096 * place < at + length xs → max at (4096 * place) < (touched (Write path at xs) (length bytes)).1
+    past-touched [] some end = absurd (omega arith)
+    past-touched (x ∷ xs) some end = omega arith
