@@ -85,13 +85,13 @@ sized-found g q v path size f sound queue named limit h = record {
   comes = truncate-found g q v path size f h;
 }
 
-sized-uses : (g : Geometry) (v : Volume) → IsSound g v → AreUses g v
+pub sized-uses : (g : Geometry) (v : Volume) → IsSound g v → AreUses g v
 sized-uses g v sound = record { zones = sound.zones; apart = sound.apart }
 
-sized-low : (g : Geometry) (v : Volume) (i : ℕ) (bytes : List ℕ) → IsSound g v → body v i ≡ File bytes → i < length v
+pub sized-low : (g : Geometry) (v : Volume) (i : ℕ) (bytes : List ℕ) → IsSound g v → body v i ≡ File bytes → i < length v
 sized-low g v i bytes sound is = let l = used-low g v i sound (ap (λ (x : Body). is_used x) is) in let c = sound.count in omega arith
 
-sized-count : (g : Geometry) (v : Volume) (i : ℕ) (bytes : List ℕ) → IsSound g v → body v i ≡ File bytes → length (node v i).blocks ≡ blocks_for (length bytes)
+pub sized-count : (g : Geometry) (v : Volume) (i : ℕ) (bytes : List ℕ) → IsSound g v → body v i ≡ File bytes → length (node v i).blocks ≡ blocks_for (length bytes)
 sized-count g v i bytes sound is = let fine : IsBody (File bytes) (length (node v i).blocks) = subst (λ x. IsBody x (length (node v i).blocks)) is (sound.nodes i).body in fine.1
 
 sized-verdict : (g : Geometry) (q : ℕ) (v : Volume) (path : Path) (i size : ℕ) (bytes : List ℕ) → IsSized g q v path i size bytes → verdict g q v (Truncate path size) ≡ Makes (fill_needs v i size) (resized g q v i (cut_to size bytes))

@@ -1,8 +1,8 @@
 -- Writing bytes into a file: what it comes to, and at what it looks.
-use Rattle.std.proofs.Common.{◌≡◌, ℕ, ◌+◌, ◌-◌, ◌*◌, ◌/◌, ◌<◌, ◌≤◌, inl, inr, drop, List, [], ◌∷◌, ◌++◌, length, Bool, true, false, cond, refl, sym, ap, subst, ◌∙◌, arith, length-append}
+use Rattle.std.proofs.Common.{◌≡◌, ◌≢◌, ℕ, ◌+◌, ◌-◌, ◌*◌, ◌/◌, ◌<◌, ◌≤◌, inl, inr, drop, List, [], ◌∷◌, ◌++◌, length, Bool, true, false, cond, refl, sym, ap, subst, ◌∙◌, arith, length-append}
 use Rattle.std.specs.Prelude.{Some, None, max, nat_eq, nat_lt}
 use Rattle.std.specs.List.{Contains, list_all}
-use Rattle.std.proofs.lemmas.Bool.{le-ltb, lt-ltb}
+use Rattle.std.proofs.lemmas.Bool.{le-ltb, lt-ltb, ne_eqb}
 use Rattle.std.proofs.lemmas.List.{length-drop}
 use Rattle.std.proofs.lemmas.List.Elements.{All-contains}
 use Rattle.mq_blocks.specs.Geometry.{queues_of}
@@ -74,7 +74,16 @@ spliced-size at (x ∷ xs) bytes =
     let n = cut-length at bytes in
     let m = length-append (cut_to at bytes) (x ∷ xs) in
     let k = length-drop (at + length (x ∷ xs)) bytes in
-    let j = length-append (cut_to at bytes ++ (x ∷ xs)) (drop (at + length (x ∷ xs)) bytes) in
+    let some : length (x ∷ xs) ≢ 0 = λ e. absurd (omega arith) in
+    let whole : length (spliced at (x ∷ xs) bytes) ≡ length (cut_to at bytes ++ (x ∷ xs)) + length (drop (at + length (x ∷ xs)) bytes) = length-append (cut_to at bytes ++ (x ∷ xs)) (drop (at + length (x ∷ xs)) bytes) in
+    let sum : length (spliced at (x ∷ xs) bytes) ≡ max (length bytes) (at + length (x ∷ xs)) = omega arith in
+    sum ∙ sym (ap (λ (t : Bool). cond t (length bytes) (max (length bytes) (at + length (x ∷ xs)))) (ne_eqb (length (x ∷ xs)) 0 some))
+
+spliced-longer : (at : ℕ) (new bytes : List ℕ) → length bytes ≤ length (spliced at new bytes)
+spliced-longer at [] bytes = omega arith
+spliced-longer at (x ∷ xs) bytes =
+    let some : length (x ∷ xs) ≢ 0 = λ e. absurd (omega arith) in
+    let n : length (spliced at (x ∷ xs) bytes) ≡ max (length bytes) (at + length (x ∷ xs)) = spliced-size at (x ∷ xs) bytes ∙ ap (λ (t : Bool). cond t (length bytes) (max (length bytes) (at + length (x ∷ xs)))) (ne_eqb (length (x ∷ xs)) 0 some) in
     omega arith
 
 -- the size afterwards is that of the bytes
@@ -102,7 +111,6 @@ pub writing : (g : Geometry) (q : ℕ) (v : Volume) (path : Path) (at size : ℕ
     → IsWriting g q v path at new f.number size h.file.bytes
 writing g q v path at size new f sound queue named h limit e =
     let now = spliced at new h.file.bytes in
-    let n = spliced-size at new h.file.bytes in
     record {
       sound = sound;
       queue = queue;
@@ -111,16 +119,12 @@ writing g q v path at size new f sound queue named h limit e =
       rewriting = record {
         is = h.file.is;
         makes = write-found g q v path at new f h
-        ∙ ap (λ (t : Bool). cond t (refused TooBig) (Makes (needs (length (node v f.number).blocks) (blocks_for (length now))) (resized g q v f.number now))) (le-ltb file_limit (at + length new) limit)
-        ∙ ap (λ (k : ℕ). Makes (needs (length (node v f.number).blocks) (blocks_for k)) (resized g q v f.number now)) (sym e);
+            ∙ ap (λ (t : Bool). cond t (refused TooBig) (Makes (needs (length (node v f.number).blocks) (blocks_for (length now))) (resized g q v f.number now))) (le-ltb file_limit (at + length new) limit)
+            ∙ ap (λ (k : ℕ). Makes (needs (length (node v f.number).blocks) (blocks_for k)) (resized g q v f.number now)) (sym e);
         length_is = sym e;
       };
-      longer = longer-size at new h.file.bytes size e;
+      longer = let l = spliced-longer at new h.file.bytes in omega arith;
     }
-  where
-    longer-size : (at : ℕ) (new bytes : List ℕ) (size : ℕ) → size ≡ length (spliced at new bytes) → length bytes ≤ size
-    longer-size at [] bytes size e = omega arith
-    longer-size at (x ∷ xs) bytes size e = let n = spliced-size at (x ∷ xs) bytes in omega arith
 
 writing-verdict : (g : Geometry) (q : ℕ) (v : Volume) (path : Path) (at : ℕ) (new : List ℕ) (i size : ℕ) (bytes : List ℕ) → IsWriting g q v path at new i size bytes → verdict g q v (Write path at new) ≡ Makes (longer_needs v i size) (resized g q v i (spliced at new bytes))
 writing-verdict g q v path at new i size bytes h = ap (λ (t : Bool). cond t (write g q v at new (target v (way path))) (refused BadName)) h.named ∙ h.rewriting.makes
