@@ -20,7 +20,7 @@ use Rattle.mq_exec.specs.declared.opened.Opened.{Opened}
 use Rattle.mq_exec.proofs.Becoming.{carries-sound}
 use Rattle.mq_exec.proofs.FreedInodes.{held-known}
 use Rattle.mq_exec.proofs.Freeing.{IsBitmapOf}
-use Rattle.mq_exec.proofs.Making.{meta-held, opened-pointers}
+use Rattle.mq_exec.proofs.Linkable.{meta-held, opened-pointers}
 use Rattle.mq_exec.proofs.Regrown.{used-held}
 use Rattle.mq_layout.specs.Places.{zone_bitmap}
 use Rattle.mq_tree.specs.Sound.{IsSound, blocks_for}

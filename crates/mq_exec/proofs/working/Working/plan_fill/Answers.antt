@@ -8,7 +8,7 @@ use Rattle.mq_exec.specs.Pages.{IsHeld, pages_of}
 use Rattle.mq_exec.specs.Picks.{ArePicked, IsSearched}
 use Rattle.mq_exec.specs.declared.rewrite.Rewriting.{Rewriting}
 use Rattle.mq_exec.proofs.Filling.{fill-few, fill-plan, need-of}
-use Rattle.mq_exec.proofs.Making.{takeables}
+use Rattle.mq_exec.proofs.Linkable.{takeables}
 use Rattle.mq_exec.proofs.Needs.{lacks-each, lacks-weaker}
 use Rattle.mq_layout.specs.Places.{inode_block}
 use Rattle.mq_tree.specs.Volume.{node}
