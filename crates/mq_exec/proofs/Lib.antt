@@ -62,6 +62,7 @@ pub mod RemoveLooks
 pub mod Removing
 pub mod Renamed
 pub mod RenamingPlans
+pub mod Resized
 pub mod Rewriting
 pub mod Running
 pub mod Searching

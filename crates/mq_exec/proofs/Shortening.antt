@@ -2,9 +2,10 @@
 use Rattle.std.proofs.Common.{◌≡◌, ℕ, ◌<◌, ◌≤◌, inl, inr, List, length, sym, ap, subst, ◌∙◌, arith}
 use Rattle.std.proofs.lemmas.Bool.{cases_lt, le-leb, le-ltb, lt-leb}
 use Rattle.mq_blocks.specs.declared.geometry.Geometry.{Geometry}
-use Rattle.mq_exec.specs.Cuts.{HoldsCut, IsBlanked, PlansCut, fill_needs}
+use Rattle.mq_exec.specs.Cuts.{HoldsCut, IsBlanked, PlansCut}
 use Rattle.mq_exec.specs.Edits.{Becomes, Carries, IsOver, KeepsHeld}
 use Rattle.mq_exec.specs.Fits.{Agrees}
+use Rattle.mq_exec.specs.Longer.{longer_needs}
 use Rattle.mq_exec.specs.Opened.{IsOpened, MayCut, cut_file}
 use Rattle.mq_exec.specs.Pages.{Pages, pages_of}
 use Rattle.mq_exec.specs.Plans.{ComesTo, IsCarried}
@@ -113,7 +114,7 @@ cut-here g q v m old new agrees plan becomes =
     let few : blocks_for m.size ≤ length (node v i).blocks = (let c = file-count g (pages_of old) v i plan.bytes agrees plan.is in omega arith) in
     let none = needs-none (length (node v i).blocks) (blocks_for m.size) few in
     let carried : IsCarried g v (truncate_in g q v i m.size (body v i)) (resized g q v i now) =
-    ap (λ (x : Verdict). carried_out g v x) (truncate-makes g q v i m.size plan.bytes plan.is limit) ∙ carried-enough g v (fill_needs v i m.size) (resized g q v i now) (omega arith) in
+    ap (λ (x : Verdict). carried_out g v x) (truncate-makes g q v i m.size plan.bytes plan.is limit).makes ∙ carried-enough g v (longer_needs v i m.size) (resized g q v i now) (omega arith) in
     let is : resized g q v i now ≡ cut_file v i (blocks_for m.size) now = resized-cut g q v i now (omega arith) ∙ ap (λ (k : ℕ). cut_file v i (blocks_for k) now) n in
     comes-carried g v (truncate_in g q v i m.size (body v i)) (resized g q v i now) old new carried (subst (λ w. Becomes g v w old new) (sym is) becomes)
 

@@ -1,16 +1,16 @@
 -- At what getting another size looks.
-use Rattle.std.proofs.Common.{◌≡◌, ℕ, ◌+◌, ◌-◌, ◌*◌, ◌<◌, ◌≤◌, inl, inr, List, length, Bool, true, false, cond, refl, sym, ap, subst, ◌∙◌, arith}
-use Rattle.std.specs.Prelude.{Some, None, max, nat_lt}
-use Rattle.std.specs.List.{Contains, list_all}
+use Rattle.std.proofs.Common.{◌≡◌, ℕ, ◌-◌, ◌*◌, ◌<◌, ◌≤◌, inl, inr, List, length, Bool, true, false, cond, refl, ap, ◌∙◌, arith}
+use Rattle.std.specs.Prelude.{Some, None, max}
+use Rattle.std.specs.List.{list_all}
 use Rattle.std.proofs.lemmas.Bool.{le-ltb}
 use Rattle.std.proofs.lemmas.List.Elements.{All-contains}
 use Rattle.std.proofs.lemmas.Option.{slice_get_within}
 use Rattle.mq_blocks.specs.Geometry.{queues_of}
 use Rattle.mq_blocks.specs.declared.geometry.Geometry.{Geometry}
 use Rattle.mq_exec.specs.Changes.{zone_in}
-use Rattle.mq_exec.specs.Cuts.{LooksCut, LooksFilled, fill_needs, indirect, marks, part, picked, pointer_marks, pointers, short}
+use Rattle.mq_exec.specs.Cuts.{LooksCut, marks, pointer_marks, pointers, part as cut_part}
+use Rattle.mq_exec.specs.Longer.{LooksLonger, indirect, longer_needs, part, picked, short}
 use Rattle.mq_exec.specs.Opened.{cut_file, cut_node}
-use Rattle.mq_exec.specs.Picks.{ArePicked}
 use Rattle.mq_exec.specs.Plans.{IsFound, on_body, on_file}
 use Rattle.mq_exec.specs.declared.file.Found.{Found}
 use Rattle.mq_exec.proofs.Coming.{carried-enough}
@@ -19,25 +19,24 @@ use Rattle.mq_exec.proofs.LinkedGrown.{picked-enough}
 use Rattle.mq_exec.proofs.LocalLists.{part-gone, pointers-gone}
 use Rattle.mq_exec.proofs.LocalSteps.{gone-free}
 use Rattle.mq_exec.proofs.LocalTaken.{IsFree}
-use Rattle.mq_exec.proofs.LocalVolumes.{resized-cut, resized-grown}
+use Rattle.mq_exec.proofs.LocalVolumes.{resized-cut}
 use Rattle.mq_exec.proofs.Picking.{picks-all_free}
+use Rattle.mq_exec.proofs.Resized.{resized-takes, sized-count, sized-low, sized-uses}
 use Rattle.mq_exec.proofs.Shortening.{needs-none}
-use Rattle.mq_exec.proofs.Taking.{body-taken, grown-takes}
 use Rattle.mq_exec.proofs.Targets.{found-under}
-use Rattle.mq_exec.proofs.Walking.{used-low}
 use Rattle.mq_layout.specs.Names.{is_name}
 use Rattle.mq_layout.specs.Places.{file_limit, zone_bitmap}
-use Rattle.mq_tree.specs.Free.{free_blocks, grown, needs}
+use Rattle.mq_tree.specs.Free.{free_blocks}
 use Rattle.mq_tree.specs.Looks.{LooksAt, WorksOn, is_refused, needed, bytes as at_bytes, freed as at_freed, pointers as at_pointers, searched as at_searched, taken as at_taken}
-use Rattle.mq_tree.specs.Requests.{In, Lost, Makes, Outcome, Root, Target, Verdict, carried_out, cut_to, refused, resized, set_bytes, step, target, truncate, truncate_in, verdict, with_body}
-use Rattle.mq_tree.specs.Sound.{IsBody, IsSound, blocks_for}
-use Rattle.mq_tree.specs.Volume.{Body, Free, File, Dir, Part, Path, Pointers, Volume, body, has_block, inode_at, is_taken, is_used, node, way}
+use Rattle.mq_tree.specs.Requests.{In, Lost, Makes, Outcome, Root, Target, Verdict, carried_out, cut_to, refused, resized, set_bytes, step, target, truncate, truncate_in, verdict}
+use Rattle.mq_tree.specs.Sound.{IsSound, blocks_for}
+use Rattle.mq_tree.specs.Volume.{Body, Free, File, Dir, Part, Path, Pointers, Volume, body, has_block, inode_at, is_taken, node, way}
 use Rattle.mq_tree.specs.declared.request.Fault.{Fault}
 use Rattle.mq_tree.specs.declared.request.Fault.TheVariants.{BadName}
 use Rattle.mq_tree.specs.declared.request.Reply.TheVariants.{Ok as Ready}
 use Rattle.mq_tree.specs.declared.request.Request.TheVariants.{Truncate}
 use Rattle.mq_tree.proofs.KeepNodes.{cut-length}
-use Rattle.mq_tree.proofs.KeepUses.{AreUses, grown-is, node-other}
+use Rattle.mq_tree.proofs.KeepUses.{node-other}
 use Rattle.mq_tree.proofs.Uses.{use-has, use-taken}
 
 -- ---- what the request comes to
@@ -85,59 +84,32 @@ sized-found g q v path size f sound queue named limit h = record {
   comes = truncate-found g q v path size f h;
 }
 
-pub sized-uses : (g : Geometry) (v : Volume) → IsSound g v → AreUses g v
-sized-uses g v sound = record { zones = sound.zones; apart = sound.apart }
+sized-verdict : (g : Geometry) (q : ℕ) (v : Volume) (path : Path) (i size : ℕ) (bytes : List ℕ) → IsSized g q v path i size bytes → verdict g q v (Truncate path size) ≡ Makes (longer_needs v i size) (resized g q v i (cut_to size bytes))
+sized-verdict g q v path i size bytes h = ap (λ (t : Bool). cond t (truncate g q v size (target v (way path))) (refused BadName)) h.named ∙ h.comes ∙ (truncate-makes g q v i size bytes h.is h.limit).makes
 
-pub sized-low : (g : Geometry) (v : Volume) (i : ℕ) (bytes : List ℕ) → IsSound g v → body v i ≡ File bytes → i < length v
-sized-low g v i bytes sound is = let l = used-low g v i sound (ap (λ (x : Body). is_used x) is) in let c = sound.count in omega arith
-
-pub sized-count : (g : Geometry) (v : Volume) (i : ℕ) (bytes : List ℕ) → IsSound g v → body v i ≡ File bytes → length (node v i).blocks ≡ blocks_for (length bytes)
-sized-count g v i bytes sound is = let fine : IsBody (File bytes) (length (node v i).blocks) = subst (λ x. IsBody x (length (node v i).blocks)) is (sound.nodes i).body in fine.1
-
-sized-verdict : (g : Geometry) (q : ℕ) (v : Volume) (path : Path) (i size : ℕ) (bytes : List ℕ) → IsSized g q v path i size bytes → verdict g q v (Truncate path size) ≡ Makes (fill_needs v i size) (resized g q v i (cut_to size bytes))
-sized-verdict g q v path i size bytes h = ap (λ (t : Bool). cond t (truncate g q v size (target v (way path))) (refused BadName)) h.named ∙ h.comes ∙ truncate-makes g q v i size bytes h.is h.limit
-
-sized-does : (g : Geometry) (q : ℕ) (v : Volume) (path : Path) (i size : ℕ) (bytes : List ℕ) → IsSized g q v path i size bytes → fill_needs v i size ≤ free_blocks g v → step g q v (Truncate path size) ≡ record { reply = Ready; next = resized g q v i (cut_to size bytes) }
+sized-does : (g : Geometry) (q : ℕ) (v : Volume) (path : Path) (i size : ℕ) (bytes : List ℕ) → IsSized g q v path i size bytes → longer_needs v i size ≤ free_blocks g v → step g q v (Truncate path size) ≡ record { reply = Ready; next = resized g q v i (cut_to size bytes) }
 unfolding step
-sized-does g q v path i size bytes h enough = ap (λ (x : Verdict). carried_out g v x) (sized-verdict g q v path i size bytes h) ∙ carried-enough g v (fill_needs v i size) (resized g q v i (cut_to size bytes)) enough
+sized-does g q v path i size bytes h enough = ap (λ (x : Verdict). carried_out g v x) (sized-verdict g q v path i size bytes h) ∙ carried-enough g v (longer_needs v i size) (resized g q v i (cut_to size bytes)) enough
 
 sized-works : (g : Geometry) (q : ℕ) (v : Volume) (path : Path) (i size : ℕ) (bytes : List ℕ) → IsSized g q v path i size bytes → WorksOn v (Truncate path size) i bytes
 sized-works g q v path i size bytes h = record { path = path; names = refl; leads = h.leads; is = h.is }
 
-sized-pointers : (g : Geometry) (q : ℕ) (v : Volume) (path : Path) (i size : ℕ) (bytes : List ℕ) (b : ℕ) → IsSized g q v path i size bytes → fill_needs v i size ≤ free_blocks g v → (node v i).indirect ≡ Some b → LooksAt g q v (Truncate path size) b
+sized-pointers : (g : Geometry) (q : ℕ) (v : Volume) (path : Path) (i size : ℕ) (bytes : List ℕ) (b : ℕ) → IsSized g q v path i size bytes → longer_needs v i size ≤ free_blocks g v → (node v i).indirect ≡ Some b → LooksAt g q v (Truncate path size) b
 sized-pointers g q v path i size bytes b h enough e = at_pointers i bytes (sized-works g q v path i size bytes h) (ap (λ (o : Outcome). is_refused o.reply) (sized-does g q v path i size bytes h enough)) e
 
 -- ---- where it is filled
 
-fill-takes : (g : Geometry) (q : ℕ) (v : Volume) (path : Path) (i size : ℕ) (bytes picks : List ℕ) (b : ℕ) → IsSized g q v path i size bytes → length bytes ≤ size → ArePicked g q v (fill_needs v i size) picks → Contains picks b → is_taken (resized g q v i (cut_to size bytes)) b ≡ true
-fill-takes g q v path i size bytes picks b h longer p c =
-    let now = cut_to size bytes in
-    let have = length (node v i).blocks in
-    let uses = sized-uses g v h.sound in
-    let low = sized-low g v i bytes h.sound h.is in
-    let count = sized-count g v i bytes h.sound h.is in
-    let n = cut-length size bytes in
-    let more = blocks_for (length now) - have in
-    let total : have + more ≡ blocks_for size = omega arith in
-    let has = (h.sound.nodes i).indirect in
-    let enough : needs have (have + more) ≤ free_blocks g v = subst (λ (k : ℕ). needs have k ≤ free_blocks g v) (sym total) (picked-enough g q v (fill_needs v i size) picks h.queue p) in
-    let r = grown-is g q v i more h.queue low uses has enough in
-    let u = grown g q v i more in
-    let blocks : length (node u i).blocks ≡ blocks_for (length now) = (let l = r.longer in omega arith) in
-    let is : resized g q v i now ≡ with_body u i (File now) = resized-grown g q v u i now refl blocks (r.indirect ∙ ap (λ (k : ℕ). nat_lt 12 k) blocks) in
-    let inside : i < length u = (let s = r.size in omega arith) in
-    ap (λ (x : Volume). is_taken x b) is ∙ body-taken u i (File now) b inside
-    ∙ grown-takes g q v i more picks b h.queue low uses has (subst (λ (k : ℕ). ArePicked g q v (needs have k) picks) (sym total) p) c
-
-pub filled-looks : (g : Geometry) (q : ℕ) (v : Volume) (path : Path) (i size : ℕ) (bytes : List ℕ) (b : ℕ) → IsSized g q v path i size bytes → length bytes ≤ size → LooksFilled g q v i size b → LooksAt g q v (Truncate path size) b
+pub filled-looks : (g : Geometry) (q : ℕ) (v : Volume) (path : Path) (i size : ℕ) (bytes : List ℕ) (b : ℕ) → IsSized g q v path i size bytes → length bytes ≤ size → LooksLonger g q v i size 0 0 b → LooksAt g q v (Truncate path size) b
 filled-looks g q v path i size bytes b h longer (short s) =
-    let same : needed (verdict g q v (Truncate path size)) ≡ fill_needs v i size = ap needed (sized-verdict g q v path i size bytes h) in
+    let same : needed (verdict g q v (Truncate path size)) ≡ longer_needs v i size = ap needed (sized-verdict g q v path i size bytes h) in
     at_searched s.zone s.inside (let few = s.few in omega arith) s.is
-filled-looks g q v path i size bytes b h longer (indirect picks p e) = sized-pointers g q v path i size bytes b h (picked-enough g q v (fill_needs v i size) picks h.queue p) e
+filled-looks g q v path i size bytes b h longer (indirect picks p e) = sized-pointers g q v path i size bytes b h (picked-enough g q v (longer_needs v i size) picks h.queue p) e
 filled-looks g q v path i size bytes b h longer (picked picks p c) =
-    let enough = picked-enough g q v (fill_needs v i size) picks h.queue p in
-    let free = All-contains (IsFree g v) picks b (picks-all_free g q v (fill_needs v i size) picks h.queue p) c in
-    at_taken free.free (ap (λ (o : Outcome). is_taken o.next b) (sized-does g q v path i size bytes h enough) ∙ fill-takes g q v path i size bytes picks b h longer p c)
+    let enough = picked-enough g q v (longer_needs v i size) picks h.queue p in
+    let free = All-contains (IsFree g v) picks b (picks-all_free g q v (longer_needs v i size) picks h.queue p) c in
+    at_taken free.free (ap (λ (o : Outcome). is_taken o.next b) (sized-does g q v path i size bytes h enough)
+    ∙ resized-takes g q v i size bytes (cut_to size bytes) picks b h.sound h.queue h.is longer (cut-length size bytes) p c)
+filled-looks g q v path i size bytes b h longer (part picks p place low high e) = absurd (omega arith)
 
 -- ---- where it is cut
 
@@ -145,7 +117,7 @@ cut-few : (g : Geometry) (q : ℕ) (v : Volume) (path : Path) (i size : ℕ) (by
 cut-few g q v path i size bytes h shorter = let c = sized-count g v i bytes h.sound h.is in omega arith
 
 -- it takes no block
-cut-enough : (g : Geometry) (q : ℕ) (v : Volume) (path : Path) (i size : ℕ) (bytes : List ℕ) → IsSized g q v path i size bytes → size < length bytes → fill_needs v i size ≤ free_blocks g v
+cut-enough : (g : Geometry) (q : ℕ) (v : Volume) (path : Path) (i size : ℕ) (bytes : List ℕ) → IsSized g q v path i size bytes → size < length bytes → longer_needs v i size ≤ free_blocks g v
 cut-enough g q v path i size bytes h shorter = let n = needs-none (length (node v i).blocks) (blocks_for size) (cut-few g q v path i size bytes h shorter) in omega arith
 
 cut-makes : (g : Geometry) (q : ℕ) (v : Volume) (path : Path) (i size : ℕ) (bytes : List ℕ) → IsSized g q v path i size bytes → size < length bytes → resized g q v i (cut_to size bytes) ≡ cut_file v i (blocks_for size) (cut_to size bytes)
@@ -164,7 +136,7 @@ cut-frees g q v path i size bytes x b h shorter had has used at =
     at_freed x used (ap (λ (o : Outcome). is_taken o.next x) (sized-does g q v path i size bytes h (cut-enough g q v path i size bytes h shorter)) ∙ ap (λ (y : Volume). is_taken y x) (cut-makes g q v path i size bytes h shorter) ∙ free) at
 
 pub cut-looks : (g : Geometry) (q : ℕ) (v : Volume) (path : Path) (i size : ℕ) (bytes : List ℕ) (b : ℕ) → IsSized g q v path i size bytes → size < length bytes → LooksCut g v i size b → LooksAt g q v (Truncate path size) b
-cut-looks g q v path i size bytes b h shorter (part place low e) =
+cut-looks g q v path i size bytes b h shorter (cut_part place low e) =
     let c = sized-count g v i bytes h.sound h.is in
     let l = slice_get_within (node v i).blocks place b e in
     at_bytes i place (max size (4096 * place)) bytes (sized-works g q v path i size bytes h) (ap (λ (o : Outcome). is_refused o.reply) (sized-does g q v path i size bytes h (cut-enough g q v path i size bytes h shorter))) e (omega arith) (omega arith) (omega arith)

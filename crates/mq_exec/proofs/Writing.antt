@@ -1,15 +1,14 @@
 -- Writing bytes into a file: what it comes to, and at what it looks.
-use Rattle.std.proofs.Common.{◌≡◌, ◌≢◌, ℕ, ◌+◌, ◌-◌, ◌*◌, ◌/◌, ◌<◌, ◌≤◌, inl, inr, drop, List, [], ◌∷◌, ◌++◌, length, Bool, true, false, cond, refl, sym, ap, subst, ◌∙◌, arith, length-append}
-use Rattle.std.specs.Prelude.{Some, None, max, nat_eq, nat_lt}
-use Rattle.std.specs.List.{Contains, list_all}
+use Rattle.std.proofs.Common.{◌≡◌, ◌≢◌, ℕ, ◌+◌, ◌-◌, ◌*◌, ◌<◌, ◌≤◌, inl, inr, drop, List, [], ◌∷◌, ◌++◌, length, Bool, true, cond, refl, sym, ap, ◌∙◌, arith, length-append}
+use Rattle.std.specs.Prelude.{Some, None, max, nat_eq}
+use Rattle.std.specs.List.{list_all}
 use Rattle.std.proofs.lemmas.Bool.{le-ltb, lt-ltb, ne_eqb}
 use Rattle.std.proofs.lemmas.List.{length-drop}
 use Rattle.std.proofs.lemmas.List.Elements.{All-contains}
 use Rattle.mq_blocks.specs.Geometry.{queues_of}
 use Rattle.mq_blocks.specs.declared.geometry.Geometry.{Geometry}
 use Rattle.mq_exec.specs.Longer.{IsRewriting, LooksLonger, indirect, longer_needs, part, picked, short}
-use Rattle.mq_exec.specs.Overwrites.{IsSplicedAt, past_place}
-use Rattle.mq_exec.specs.Picks.{ArePicked}
+use Rattle.mq_exec.specs.Overwrites.{IsSplicedAt}
 use Rattle.mq_exec.specs.Plans.{IsFound, IsRefused, on_body, on_file}
 use Rattle.mq_exec.specs.declared.file.Found.{Found}
 use Rattle.mq_exec.proofs.Coming.{carried-enough}
@@ -17,17 +16,15 @@ use Rattle.mq_exec.proofs.Contents.{file-size}
 use Rattle.mq_exec.proofs.LinkedGrown.{picked-enough}
 use Rattle.mq_exec.proofs.LocalBytes.{spliced-after, spliced-before, spliced-in}
 use Rattle.mq_exec.proofs.LocalTaken.{IsFree}
-use Rattle.mq_exec.proofs.LocalVolumes.{resized-grown}
 use Rattle.mq_exec.proofs.Picking.{picks-all_free}
+use Rattle.mq_exec.proofs.Resized.{resized-takes}
 use Rattle.mq_exec.proofs.Rewriting.{past-of}
-use Rattle.mq_exec.proofs.Taking.{body-taken, grown-takes}
 use Rattle.mq_exec.proofs.Targets.{found-under}
-use Rattle.mq_exec.proofs.TruncateLooks.{sized-count, sized-low, sized-uses}
 use Rattle.mq_layout.specs.Names.{is_name}
 use Rattle.mq_layout.specs.Places.{file_limit}
-use Rattle.mq_tree.specs.Free.{free_blocks, grown, needs}
+use Rattle.mq_tree.specs.Free.{free_blocks, needs}
 use Rattle.mq_tree.specs.Looks.{LooksAt, WorksOn, is_refused, needed, touched, bytes as at_bytes, pointers as at_pointers, searched as at_searched, taken as at_taken}
-use Rattle.mq_tree.specs.Requests.{In, Lost, Makes, Outcome, Root, Target, Verdict, carried_out, cut_to, refused, resized, set_bytes, spliced, step, target, verdict, with_body, write, write_in}
+use Rattle.mq_tree.specs.Requests.{In, Lost, Makes, Outcome, Root, Target, Verdict, carried_out, cut_to, refused, resized, set_bytes, spliced, step, target, verdict, write, write_in}
 use Rattle.mq_tree.specs.Sound.{IsSound, blocks_for}
 use Rattle.mq_tree.specs.Volume.{Body, Free, File, Dir, Path, Volume, body, inode_at, is_taken, node, way}
 use Rattle.mq_tree.specs.declared.request.Fault.{Fault}
@@ -35,7 +32,6 @@ use Rattle.mq_tree.specs.declared.request.Fault.TheVariants.{BadName, TooBig}
 use Rattle.mq_tree.specs.declared.request.Reply.TheVariants.{Ok as Ready}
 use Rattle.mq_tree.specs.declared.request.Request.TheVariants.{Write}
 use Rattle.mq_tree.proofs.KeepNodes.{cut-length}
-use Rattle.mq_tree.proofs.KeepUses.{grown-is}
 
 -- ---- what the request comes to
 
@@ -138,26 +134,6 @@ writing-works : (g : Geometry) (q : ℕ) (v : Volume) (path : Path) (at : ℕ) (
 writing-works g q v path at new i size bytes h = record { path = path; names = refl; leads = h.leads; is = h.rewriting.is }
 
 -- ---- at what it looks
-
--- a block that is picked is taken in a file that is not shorter
-resized-takes : (g : Geometry) (q : ℕ) (v : Volume) (i size : ℕ) (bytes now picks : List ℕ) (b : ℕ) → IsSound g v → q < queues_of g → body v i ≡ File bytes → length bytes ≤ size → length now ≡ size → ArePicked g q v (longer_needs v i size) picks → Contains picks b
-    → is_taken (resized g q v i now) b ≡ true
-resized-takes g q v i size bytes now picks b sound queue file longer n p c =
-    let have = length (node v i).blocks in
-    let uses = sized-uses g v sound in
-    let low = sized-low g v i bytes sound file in
-    let count = sized-count g v i bytes sound file in
-    let more = blocks_for (length now) - have in
-    let total : have + more ≡ blocks_for size = omega arith in
-    let has = (sound.nodes i).indirect in
-    let enough : needs have (have + more) ≤ free_blocks g v = subst (λ (k : ℕ). needs have k ≤ free_blocks g v) (sym total) (picked-enough g q v (longer_needs v i size) picks queue p) in
-    let r = grown-is g q v i more queue low uses has enough in
-    let u = grown g q v i more in
-    let blocks : length (node u i).blocks ≡ blocks_for (length now) = (let l = r.longer in omega arith) in
-    let is : resized g q v i now ≡ with_body u i (File now) = resized-grown g q v u i now refl blocks (r.indirect ∙ ap (λ (k : ℕ). nat_lt 12 k) blocks) in
-    let inside : i < length u = (let s = r.size in omega arith) in
-    ap (λ (x : Volume). is_taken x b) is ∙ body-taken u i (File now) b inside
-    ∙ grown-takes g q v i more picks b queue low uses has (subst (λ (k : ℕ). ArePicked g q v (needs have k) picks) (sym total) p) c
 
 pub write-looks : (g : Geometry) (q : ℕ) (v : Volume) (path : Path) (at : ℕ) (new : List ℕ) (i size : ℕ) (bytes : List ℕ) (b : ℕ) → IsWriting g q v path at new i size bytes → LooksLonger g q v i size at (length new) b → LooksAt g q v (Write path at new) b
 write-looks g q v path at new i size bytes b h (short s) =

@@ -1,19 +1,17 @@
 -- Files that are cut: at what is looked, what is planned, and what is written.
 use Rattle.std.specs.Prelude.{◌≡◌, ◌≢◌, ◌≤◌, ◌<◌, ◌/◌, ◌%◌, ◌⊎◌, ℕ, List, drop, length, slice_get, slice_index, Some}
-use Rattle.std.specs.List.{All, Contains}
+use Rattle.std.specs.List.{All}
 use Rattle.mq_blocks.specs.Blocks.{zeros}
 use Rattle.mq_blocks.specs.declared.geometry.Geometry.{Geometry}
 use Rattle.mq_exec.specs.Changes.{IsTextPut, zone_in}
 use Rattle.mq_exec.specs.Edits.{IsKindPut}
 use Rattle.mq_exec.specs.Opened.{HoldsPointers, IsOpened, IsReleasable}
 use Rattle.mq_exec.specs.Pages.{IsHeld, Pages, pages_of}
-use Rattle.mq_exec.specs.Picks.{ArePicked, IsSearched}
 use Rattle.mq_exec.specs.Plans.{HoldsPlaces}
 use Rattle.mq_exec.specs.declared.truncate.Cutting.{Cutting}
 use Rattle.mq_exec.specs.declared.working.Working.{Working}
 use Rattle.mq_layout.specs.Places.{inode_block, zone_bitmap}
 use Rattle.mq_pages.specs.declared.page.Kind.TheVariants.{Data}
-use Rattle.mq_tree.specs.Free.{needs}
 use Rattle.mq_tree.specs.Sound.{blocks_for}
 use Rattle.mq_tree.specs.Volume.{File, Volume, body, node}
 
@@ -26,17 +24,6 @@ pub data LooksCut (g : Geometry) (v : Volume) (i size b : ℕ) : Type 0 where
   pointers : (node v i).indirect ≡ Some b → LooksCut g v i size b
   marks : (place c : ℕ) → blocks_for size ≤ place → slice_get (node v i).blocks place ≡ Some c → b ≡ zone_bitmap (zone_in g c) → LooksCut g v i size b
   pointer_marks : (c : ℕ) → blocks_for size ≤ 12 → (node v i).indirect ≡ Some c → b ≡ zone_bitmap (zone_in g c) → LooksCut g v i size b
-
--- how many blocks a file takes to have so many bytes
-abbrev pub fill_needs : Volume → (i size : ℕ) → ℕ
-fill_needs v i size = needs (length (node v i).blocks) (blocks_for size)
-
--- Where it is filled up to so many bytes: the bitmap of a zone before which there are not enough free blocks,
--- and where there are enough its block of pointers, or a block that it takes.
-pub data LooksFilled (g : Geometry) (q : ℕ) (v : Volume) (i size b : ℕ) : Type 0 where
-  short : IsSearched g q v (fill_needs v i size) b → LooksFilled g q v i size b
-  indirect : (picks : List ℕ) → ArePicked g q v (fill_needs v i size) picks → (node v i).indirect ≡ Some b → LooksFilled g q v i size b
-  picked : (picks : List ℕ) → ArePicked g q v (fill_needs v i size) picks → Contains picks b → LooksFilled g q v i size b
 
 -- ---- the plan
 

@@ -1,14 +1,15 @@
 // Files that get another size.
-ghost use Rattle.std.specs.Prelude.{◌≡◌, ◌<◌, ◌≤◌, ◌/◌, ℕ, length, true, IfErr, IfOk, MatchOption, OnOk, ⊤};
+ghost use Rattle.std.specs.Prelude.{◌≡◌, ◌<◌, ◌≤◌, ◌/◌, ℕ, length, true, IfErr, IfOk, OnOk};
 ghost use Rattle.std.specs.List.{All, list_all};
 ghost use Rattle.mq_blocks.specs.Geometry.{queues_of};
-ghost use Rattle.mq_exec.specs.Cuts.{HoldsCut, IsBlanked, LooksCut, LooksFilled, PlansCut};
+ghost use Rattle.mq_exec.specs.Cuts.{HoldsCut, IsBlanked, LooksCut, PlansCut};
 ghost use Rattle.mq_exec.specs.Edits.{Becomes, IsOver};
 ghost use Rattle.mq_exec.specs.Fits.{Agrees};
 ghost use Rattle.mq_exec.specs.Lacks.{HasVolume, LacksOf, OfEach};
+ghost use Rattle.mq_exec.specs.Longer.{LooksLonger};
 ghost use Rattle.mq_exec.specs.Opened.{HoldsPointers, IsOpened, IsReleasable, cut_file};
 ghost use Rattle.mq_exec.specs.Pages.{IsHeld, pages_of};
-ghost use Rattle.mq_exec.specs.Plans.{ComesTo, HoldsPlaces, HoldsRewrite, IsRefused, PlansRewrite};
+ghost use Rattle.mq_exec.specs.Plans.{ComesTo, HoldsPlaces};
 ghost use Rattle.mq_exec.specs.Reads.{IsFileOf};
 ghost use Rattle.mq_exec.specs.Released.{gone_from};
 ghost use Rattle.mq_layout.specs.Names.{is_name};
@@ -17,15 +18,13 @@ ghost use Rattle.mq_tree.specs.Looks.{LooksAt};
 ghost use Rattle.mq_tree.specs.Requests.{cut_to, target as target_of, truncate as truncate_of, truncate_in};
 ghost use Rattle.mq_tree.specs.Sound.{blocks_for};
 ghost use Rattle.mq_tree.specs.Volume.{Volume, body, way};
-ghost use Rattle.mq_tree.specs.declared.request.Fault.TheVariants.{NoSpace};
 ghost use Rattle.mq_tree.specs.declared.request.Request.TheVariants.{Truncate};
 
-use crate::blocks::{DIRECT, count_for, needs};
+use crate::blocks::{DIRECT, count_for};
 use crate::file::Found;
 use crate::lack::Lack;
 use crate::opened::Opened;
 use crate::remove::indirect;
-use crate::rewrite::Rewriting;
 use crate::working::Working;
 use mq_blocks::{Block, BlockNo, OutOfMemory, QueueNo};
 use mq_layout::FILE_LIMIT;
@@ -54,33 +53,6 @@ fn gone(alloc: Global, file: &Opened, count: u32) -> Result<Vec<BlockNo>, OutOfM
 }
 
 impl<'a> Working<'a> {
-    /// What filling up a file takes. `None` where there are not enough free blocks.
-    fn plan_fill(
-        &self,
-        alloc: Global,
-        queue: QueueNo,
-        found: &Found,
-        size: u64,
-    ) -> Result<Option<Rewriting>, Lack>
-        requires possible { HasVolume self.now }
-        requires queue { queue < queues_of self.now.geometry }
-        requires file { OfEach self.now (λ v. IsFileOf v found.now.number found.now.inode) }
-        requires table { IsHeld (pages_of self.now) (inode_block_of self.now.geometry found.now.number) }
-        requires limit { size ≤ 4243456 }
-        requires longer { found.now.inode.size ≤ size }
-        ensures ok { IfOk result (λ plan. OfEach self.now (λ v. MatchOption plan (IsRefused self.now.geometry v (truncate_in self.now.geometry queue v found.now.number size (body v found.now.number)) NoSpace) (λ m. (m.file.number ≡ found.now.number) × PlansRewrite self.now.geometry queue v (truncate_in self.now.geometry queue v found.now.number size (body v found.now.number)) (cut_to size) m))) }
-        ensures pages { IfOk result (λ plan. MatchOption plan ⊤ (HoldsRewrite self.now.geometry (pages_of self.now))) }
-        ensures lack { IfErr result (LacksOf self.now (λ v b. LooksFilled self.now.geometry queue v found.now.number size b)) }
-    {
-        let need = needs(count_for(found.inode.size), count_for(size));
-        let Some(picks) = self.pick(alloc, queue, need)? else {
-            return Ok(None);
-        };
-        let file = self.open_file(alloc, found.number, &found.inode)?;
-        self.look_for_all(alloc, &picks)?;
-        Ok(Some(Rewriting { file, picks, size }))
-    }
-
     /// Fills up a file with zeros.
     fn fill(
         &mut self,
@@ -97,9 +69,9 @@ impl<'a> Working<'a> {
         requires longer { found.now.inode.size ≤ size }
         ensures over { OnOk result (IsOver self.old self.new) }
         ensures ok { IfOk result (λ reply. OfEach self.old (λ v. ComesTo self.old.geometry v (truncate_in self.old.geometry queue v found.now.number size (body v found.now.number)) reply self.old self.new)) }
-        ensures lack { IfErr result (LacksOf self.old (λ v b. LooksFilled self.old.geometry queue v found.now.number size b)) }
+        ensures lack { IfErr result (LacksOf self.old (λ v b. LooksLonger self.old.geometry queue v found.now.number size 0 0 b)) }
     {
-        match self.plan_fill(alloc, queue, found, size)? {
+        match self.plan_longer(alloc, queue, found, size, 0, 0)? {
             Some(rewriting) => self.carry_rewrite(alloc, 0, &[], rewriting)?,
             None => return Ok(Reply::Refused(Fault::NoSpace)),
         }

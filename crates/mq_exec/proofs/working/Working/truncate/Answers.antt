@@ -1,7 +1,8 @@
 use Rattle.std.proofs.Common.{refl, sym, ap, subst, ◌∙◌, arith}
 use Rattle.std.proofs.lemmas.Result.{IfErr-weaker, IfOk-weaker, err_from_is_err_and}
-use Rattle.mq_exec.specs.Cuts.{LooksCut, LooksFilled}
+use Rattle.mq_exec.specs.Cuts.{LooksCut}
 use Rattle.mq_exec.specs.Lacks.{LacksOf, OfEach}
+use Rattle.mq_exec.specs.Longer.{LooksLonger}
 use Rattle.mq_exec.specs.Plans.{ComesTo}
 use Rattle.mq_exec.specs.Walks.{LeadsPast}
 use Rattle.mq_exec.proofs.Answering.{past-looks}
@@ -96,7 +97,7 @@ returns-clause-lack c =
     let f = c.in-Ok.found in
     let r = Truncate c.args.path.now c.args.size in
     IfErr-weaker c.fill.result _ (LacksOf c.args.self.now (λ v b. LooksAt g q v r b))
-    (λ lack n. lacks-each c.args.self.now (λ v b. LooksFilled g q v f.number c.args.size b) (λ v b. LooksAt g q v r b) lack
+    (λ lack n. lacks-each c.args.self.now (λ v b. LooksLonger g q v f.number c.args.size 0 0 b) (λ v b. LooksAt g q v r b) lack
     (λ v b agrees h.
     let found = file-found v c.args.path.now c.in_ok-found.field-0 f c.in-Ok.is (c.in_ok-found.ensures.ok v agrees) in
     let s = file-size (node v f.number) f.inode found.file.bytes found.file.says found.file.is in
