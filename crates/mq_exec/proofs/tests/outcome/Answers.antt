@@ -2,7 +2,7 @@ use Rattle.std.proofs.Common.{subst, sym}
 use Rattle.mq_exec.specs.Fits.{Agrees}
 use Rattle.mq_exec.specs.Pages.{held_pages}
 use Rattle.mq_tree.specs.Laid.{map_of}
-use Rattle.mq_exec.proofs.tests.replies.Goals as goal
+use Rattle.mq_exec.proofs.tests.outcome.Goals as goal
 
 pub run-requires-clause-possible : goal.run-requires-clause-possible
 run-requires-clause-possible c =
