@@ -56,7 +56,7 @@ over-none None view e = refl
 over-none (Some page) view e = absurd (none-some page (sym e))
 
 -- the pages that were put over a view lead from its volume to the one that they carry
-pub becomes-leads : (g : Geometry) (v u : Volume) (start now : Working) → Agrees g (view_of now) v → IsSound g u → IsOver start now → ((b : ℕ) → pages_of start b ≡ view_of now b) → Becomes g v u start now → LeadsTo g (view_of now) (changed_of now) v u
+becomes-leads : (g : Geometry) (v u : Volume) (start now : Working) → Agrees g (view_of now) v → IsSound g u → IsOver start now → ((b : ℕ) → pages_of start b ≡ view_of now b) → Becomes g v u start now → LeadsTo g (view_of now) (changed_of now) v u
 becomes-leads g v u start now agrees sound past pages becomes = record {
   before = agrees;
   after = record { sound = sound; fits = after };
@@ -72,7 +72,7 @@ becomes-leads g v u start now agrees sound past pages becomes = record {
 -- ---- kinds
 
 -- before anything is put
-pub kinds-none : (g : Geometry) (v : Volume) (w : Working) → ((b : ℕ) → kinds_of w b ≡ None) → KindsFit g (kinds_of w) v
+kinds-none : (g : Geometry) (v : Volume) (w : Working) → ((b : ℕ) → kinds_of w b ≡ None) → KindsFit g (kinds_of w) v
 kinds-none g v w none b kind high e = absurd (none-some kind (sym (none b) ∙ e))
 
 kind-fits : (g : Geometry) (u : Volume) (w : Working) (x : Write) → w.geometry ≡ g → AreUses g u → KindsFit g (kinds_of w) u → HasKind w x → (x.kind ≡ Data) ↔ IsOfFile u x.block
@@ -86,7 +86,7 @@ kind-fits g u w x shape uses fit has = elim (cases_lt x.block (meta_of g)) [
 kinds-fit : (g : Geometry) (u : Volume) (w : Working) (writes : List Write) → w.geometry ≡ g → AreUses g u → KindsFit g (kinds_of w) u → All (HasKind w) writes → (x : Write) → Contains writes x → (x.kind ≡ Data) ↔ IsOfFile u x.block
 kinds-fit g u w writes shape uses fit has x (k, l, e) = kind-fits g u w x shape uses fit (subst (λ (y : Write). HasKind w y) e (has k x l))
 
-pub difference-moves : (g : Geometry) (v u : Volume) (start now : Working) (writes : List Write) (frees : List ℕ) → now.geometry ≡ g → Agrees g (view_of now) v → IsSound g u → IsOver start now → ((b : ℕ) → pages_of start b ≡ view_of now b) → ((b : ℕ) → kinds_of start b ≡ None)
+difference-moves : (g : Geometry) (v u : Volume) (start now : Working) (writes : List Write) (frees : List ℕ) → now.geometry ≡ g → Agrees g (view_of now) v → IsSound g u → IsOver start now → ((b : ℕ) → pages_of start b ≡ view_of now b) → ((b : ℕ) → kinds_of start b ≡ None)
     → Becomes g v u start now → Differs (view_of now) (changed_of now) writes frees → All (HasKind now) writes → Moves g v u writes frees
 difference-moves g v u start now writes frees shape agrees sound past pages kinds becomes differs has =
     differs-moves g (view_of now) (changed_of now) v u writes frees (becomes-leads g v u start now agrees sound past pages becomes) differs

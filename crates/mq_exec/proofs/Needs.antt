@@ -85,7 +85,3 @@ need-weaker p q looks more blocks absent f h = record {
   absent = All-weaker (λ b. p b ≡ None) (λ b. q b ≡ None) absent blocks h.absent;
   looked = All-weaker looks more f blocks h.looked;
 }
-
--- a volume of a view's pages is one of the working pages over it
-pub agrees-working : (g h : Geometry) (held pages : Pages) (v : Volume) → h ≡ g → ((b : ℕ) → pages b ≡ held b) → Agrees g held v → Agrees h pages v
-agrees-working g h held pages v e same a = subst (λ (x : Geometry). Agrees x pages v) (sym e) (agrees-alike g held pages v (λ b. sym (same b)) a)

@@ -50,7 +50,7 @@ run-none g q held start whole so_far pages e = record {
 
 -- ---- the volume now
 
-pub run-agrees : (g : Geometry) (q : ℕ) (v : Volume) (start now : Working) (whole rest : List Request) (so_far : List Reply) → (h : IsRunTo g q v start now whole rest so_far) → Agrees g (pages_of now) h.volume
+run-agrees : (g : Geometry) (q : ℕ) (v : Volume) (start now : Working) (whole rest : List Request) (so_far : List Reply) → (h : IsRunTo g q v start now whole rest so_far) → Agrees g (pages_of now) h.volume
 run-agrees g q v start now whole rest so_far h = record { sound = h.sound; fits = h.becomes.carries.fits }
 
 pub run-geometry : (g : Geometry) (q : ℕ) (held : Pages) (start now : Working) (whole rest : List Request) (so_far : List Reply) → start.geometry ≡ g → IsRun g q held start now whole rest so_far → now.geometry ≡ g
