@@ -1,12 +1,12 @@
 -- Steps of pages are steps of the volumes that they carry.
-use Rattle.std.proofs.Common.{◌≡◌, ◌≢◌, ℕ, ◌≤◌, inl, inr, List, length, true, false, refl, sym, ap, subst, ◌∙◌}
+use Rattle.std.proofs.Common.{◌≡◌, ◌≢◌, ℕ, ◌≤◌, inl, inr, List, length, true, false, refl, sym, ◌∙◌}
 use Rattle.std.specs.Prelude.{Some, None, ◌↔◌}
 use Rattle.std.proofs.lemmas.Bool.{cases_Bool}
 use Rattle.mq_blocks.specs.Geometry.{meta_of}
 use Rattle.mq_blocks.specs.Journal.{is_among}
 use Rattle.mq_blocks.specs.declared.geometry.Geometry.{Geometry}
 use Rattle.mq_exec.specs.Changes.{Stepped}
-use Rattle.mq_exec.specs.Edits.{Becomes, Carries, IsOver, IsSameView, KindsFit}
+use Rattle.mq_exec.specs.Edits.{Becomes, Carries, IsOver, IsSameView}
 use Rattle.mq_exec.specs.Fits.{Agrees}
 use Rattle.mq_exec.specs.Moves.{IsOfFile}
 use Rattle.mq_exec.specs.Pages.{Pages, kinds_of, pages_of}

@@ -17,13 +17,12 @@ use Rattle.mq_exec.specs.Pages.{kinds_of, pages_of}
 use Rattle.mq_exec.specs.declared.truncate.Cutting.{Cutting}
 use Rattle.mq_exec.specs.declared.working.Working.{Working}
 use Rattle.mq_exec.proofs.Becoming.{becomes-self, becomes-stepped}
+use Rattle.mq_exec.proofs.Listed.{among-here, among-one}
 use Rattle.mq_exec.proofs.LocalBodies.{bytes-step, inode-same, rebodied}
 use Rattle.mq_exec.proofs.LocalBytes.{cut-at, spliced-after, spliced-before, spliced-in}
 use Rattle.mq_exec.proofs.LocalKinds.{part-of-file}
-use Rattle.mq_exec.proofs.LocalLists.{among-here}
 use Rattle.mq_exec.proofs.LocalParts.{file-written, length-zeros, zeros-at}
 use Rattle.mq_exec.proofs.LocalVolumes.{cut-body, with_body-uses}
-use Rattle.mq_exec.proofs.Releasing.{among-one}
 use Rattle.mq_exec.proofs.Showing.{use-carried}
 use Rattle.mq_layout.specs.Places.{file_limit}
 use Rattle.mq_pages.specs.declared.page.Kind.TheVariants.{Data}

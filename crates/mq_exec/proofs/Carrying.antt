@@ -1,32 +1,32 @@
 -- A file's rewriting, page by page, for one of the volumes.
-use Rattle.std.proofs.Common.{get_or, ◌≡◌, ◌≢◌, ℕ, ◌+◌, ◌-◌, ◌*◌, ◌/◌, ◌<◌, ◌≤◌, inl, inr, List, length, refl, sym, ap, subst, ◌∙◌, arith}
+use Rattle.std.proofs.Common.{get_or, ◌≡◌, ℕ, ◌+◌, ◌-◌, ◌/◌, ◌<◌, ◌≤◌, inl, inr, List, length, sym, ap, subst, ◌∙◌, arith}
 use Rattle.std.specs.Prelude.{Option, Some, None, slice_get}
 use Rattle.std.proofs.lemmas.Bool.{true≢false}
 use Rattle.std.proofs.lemmas.Option.{same_Some, slice_get-get_or, slice_get_within}
-use Rattle.mq_blocks.specs.Geometry.{meta_of}
 use Rattle.mq_blocks.specs.declared.geometry.Geometry.{Geometry}
 use Rattle.mq_exec.specs.Changes.{IsInodePut}
 use Rattle.mq_exec.specs.Edits.{Becomes, Carries, IsOver, KeepsKinds}
 use Rattle.mq_exec.specs.Fits.{Agrees}
 use Rattle.mq_exec.specs.Opened.{HasGrown, MayGrow}
 use Rattle.mq_exec.specs.Overwrites.{AreApart, IsOverwritten, IsSplicedAt, past_place}
-use Rattle.mq_exec.specs.Pages.{IsHeld, Pages, content, pages_of}
+use Rattle.mq_exec.specs.Pages.{IsHeld, content, pages_of}
 use Rattle.mq_exec.specs.Plans.{HoldsPlaces, PlansRewrite}
 use Rattle.mq_exec.specs.declared.opened.Opened.{Opened}
 use Rattle.mq_exec.specs.declared.rewrite.Rewriting.{Rewriting}
 use Rattle.mq_exec.specs.declared.working.Working.{Working}
 use Rattle.mq_exec.proofs.Becoming.{becomes-then, carries-sound}
+use Rattle.mq_exec.proofs.Held.{meta-held, table-low, used-held}
 use Rattle.mq_exec.proofs.LocalBodies.{inode-form, rebodied}
 use Rattle.mq_exec.proofs.LocalVolumes.{with_body-uses}
-use Rattle.mq_exec.proofs.Regrown.{IsRegrown, blocks-apart, regrown, sized-inode, used-held}
-use Rattle.mq_exec.proofs.Rewriting.{past-of, rewrite-becomes, table-below}
+use Rattle.mq_exec.proofs.Regrown.{IsRegrown, blocks-apart, regrown, sized-inode}
+use Rattle.mq_exec.proofs.Rewriting.{past-of, rewrite-becomes}
 use Rattle.mq_layout.specs.Inodes.{IsInode}
 use Rattle.mq_layout.specs.Places.{file_limit, inode_block}
 use Rattle.mq_layout.specs.declared.inode.Inode.{Inode}
 use Rattle.mq_tree.specs.Laid.{inode_of, size_of}
 use Rattle.mq_tree.specs.Requests.{Verdict, resized, with_body}
 use Rattle.mq_tree.specs.Sound.{blocks_for}
-use Rattle.mq_tree.specs.Volume.{File, Node, Part, Volume, body, is_used, node}
+use Rattle.mq_tree.specs.Volume.{File, Node, Part, Volume, is_used, node}
 use Rattle.mq_tree.proofs.KeepUses.{node-here}
 use Rattle.mq_tree.proofs.Uses.{use-taken}
 
@@ -86,21 +86,12 @@ mid-apart g q v m bytes old mid after r = subst (λ (xs : List ℕ). AreApart xs
 
 -- ---- the inode that is written
 
--- a block of the metadata region that is known is held
-meta-held : (g : Geometry) (pages : Pages) (u : Volume) (b : ℕ) → Carries g pages u → b < meta_of g → pages b ≢ None → IsHeld pages b
-meta-held g pages u b c low known = at (pages b) refl
-  where
-    at : (o : Option (Option (List ℕ))) → pages b ≡ o → IsHeld pages b
-    at None is = absurd (known is)
-    at (Some None) is = absurd (let f = (c.fits.free b is).0 in omega arith)
-    at (Some (Some page)) is = is ∙ ap (λ o. Some (Some (content o))) (sym is)
-
 pub mid-table : (g : Geometry) (q : ℕ) (v : Volume) (m : Rewriting) (bytes : List ℕ) (at : ℕ) (text : List ℕ) (old mid wrote : Working) (after : Opened) → IsRegrown g q v m bytes old mid after → IsOver old mid → wrote.geometry ≡ g → IsHeld (pages_of old) (inode_block g m.file.number)
     → ((place : ℕ) → at / 4096 ≤ place → place < past_place at (length text) → place < length after.blocks.items) → IsOverwritten mid wrote after.blocks.items at text (past_place at (length text)) → IsHeld (pages_of wrote) (inode_block wrote.geometry after.number)
 mid-table g q v m bytes at text old mid wrote after r over same held past parts =
     let b = inode_block g m.file.number in
-    let low = table-below g m.file.number r.low in
-    let there_mid = meta-held g (pages_of mid) r.u b r.becomes.carries low (λ none. none-held (sym (over.known b none) ∙ held)) in
+    let low = table-low g m.file.number r.low in
+    let there_mid = meta-held g (pages_of mid) r.u b r.becomes.carries.fits low (λ none. none-held (sym (over.known b none) ∙ held)) in
     let rest : pages_of wrote b ≡ pages_of mid b = parts.rest b (λ place first high e.
     let z = (r.becomes.carries.uses.zones (Part m.file.number place) (get_or after.blocks.items place 0) (there r.u m.file.number after.blocks.items place r.blocks (past place first high))).0 in
     omega arith) in

@@ -3,7 +3,7 @@ use Rattle.std.proofs.Common.{get_or, ◌≡◌, ◌≢◌, ℕ, zero, suc, ◌+
 use Rattle.std.specs.Prelude.{Some, None, min, slice_get}
 use Rattle.std.specs.List.{All, Contains}
 use Rattle.std.proofs.lemmas.Bool.{cases_lt}
-use Rattle.std.proofs.lemmas.List.{drop-append-le, get_or_append_left, get_or-append_right, get_or-drop, get_or-take, get_or_default, length-append, length-drop, length-take, same_lists, take-append-le, take_all}
+use Rattle.std.proofs.lemmas.List.{drop-append-le, get_or_append_left, get_or-append_right, get_or-drop, get_or-take, get_or_default, length-append, length-drop, length-take, same_lists, take-append-le, take_all, append-nil}
 use Rattle.std.proofs.Math.Seq.{take-append-add}
 use Rattle.std.proofs.lemmas.List.Elements.{All-head, All-tail}
 use Rattle.std.proofs.lemmas.Option.{slice_get-get_or}
@@ -28,10 +28,6 @@ take-both s t n = elim (cases_lt n (length s)) [
       let e : n ≡ length s + (n - length s) = omega arith in
       ap (λ (k : ℕ). take k (s ++ t)) e ∙ take-append-add s t (n - length s) ∙ ap (λ (xs : List ℕ). xs ++ take (n - length s) t) (sym (take_all n s high))
 ]
-  where
-    append-nil : (xs : List ℕ) → xs ++ [] ≡ xs
-    append-nil [] = refl
-    append-nil (x ∷ xs) = ap (λ (ys : List ℕ). x ∷ ys) (append-nil xs)
 
 take-same : (s : List ℕ) (n m : ℕ) → min n (length s) ≡ min m (length s) → take n s ≡ take m s
 take-same s n m e = same_lists (take n s) (take m s) (length-take n s ∙ e ∙ sym (length-take m s)) (λ k d l.

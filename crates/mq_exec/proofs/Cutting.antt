@@ -16,19 +16,19 @@ use Rattle.mq_exec.specs.Released.{CutsPointers, IsCutInode, IsReleased, Release
 use Rattle.mq_exec.specs.declared.opened.Opened.{Opened}
 use Rattle.mq_exec.specs.declared.working.Working.{Working}
 use Rattle.mq_exec.proofs.Becoming.{becomes-stepped}
-use Rattle.mq_exec.proofs.FreedInodes.{held-known, inside-along, table-held, table-low}
-use Rattle.mq_exec.proofs.Linking.{meta-not-data}
+use Rattle.mq_exec.proofs.FreedInodes.{inside-along, table-held}
+use Rattle.mq_exec.proofs.Held.{held-known, held-same, table-low}
+use Rattle.mq_exec.proofs.Linkable.{opened-pointers}
+use Rattle.mq_exec.proofs.Listed.{among-apart, among-cons, among-either, among-here, among-parts}
 use Rattle.mq_exec.proofs.LocalBodies.{inode-form}
 use Rattle.mq_exec.proofs.LocalCut.{AreCut, cut-step}
 use Rattle.mq_exec.proofs.LocalGone.{bitmap-in, cleared-by, gone-has, gone-left, gone-opened, gone_node, listed-zone, some-is, zone-listed, zones_of}
-use Rattle.mq_exec.proofs.LocalGrown.{padded-cut, padded-past}
-use Rattle.mq_exec.proofs.LocalKinds.{pointers-not-file}
-use Rattle.mq_exec.proofs.LocalLists.{among-cons, among-either, among-here, cut-listed, cut_list, if_some, listed-drop}
-use Rattle.mq_exec.proofs.LocalSteps.{among-parts}
+use Rattle.mq_exec.proofs.LocalKinds.{meta-not-data, pointers-not-file}
+use Rattle.mq_exec.proofs.LocalLists.{cut-listed, cut_list, if_some, listed-drop}
 use Rattle.mq_exec.proofs.LocalVolumes.{cut-uses}
-use Rattle.mq_exec.proofs.Linkable.{held-same}
 use Rattle.mq_exec.proofs.Nodes.{length-padded}
-use Rattle.mq_exec.proofs.Releasing.{among-apart, high-marks, released-meta}
+use Rattle.mq_exec.proofs.Padded.{padded-cut, padded-past}
+use Rattle.mq_exec.proofs.Releasing.{high-marks, released-meta}
 use Rattle.mq_layout.specs.Inodes.{IsInode}
 use Rattle.mq_layout.specs.Places.{file_limit, inode_block, inodes_of, zone_bitmap}
 use Rattle.mq_layout.specs.declared.inode.Inode.{Inode}
@@ -75,15 +75,6 @@ cut-inode n count bytes now old new is opened c =
     either false x = refl
 
 -- ---- the pointers
-
-some-zero : (x : Option ℕ) → is_some x ≡ true → x ≡ Some (or_zero x)
-some-zero None e = absurd (true≢false (sym e))
-some-zero (Some p) e = refl
-
--- where there are more than twelve blocks
-pub opened-pointers : (g : Geometry) (v : Volume) (o : Opened) → IsOpened g v o → 12 < length o.blocks.items → (node v o.number).indirect ≡ Some o.inode.indirect
-opened-pointers g v o p many =
-    some-zero (node v o.number).indirect (p.indirect ∙ lt-ltb 12 (length (node v o.number).blocks) (subst (λ (xs : List ℕ). 12 < length xs) p.blocks many)) ∙ ap (λ (x : Inode). Some x.indirect) (sym p.inode)
 
 -- its block of pointers is not among the blocks that it has no more
 pub pointers-stay : (g : Geometry) (v : Volume) (i count : ℕ) (now : List ℕ) (p : ℕ) → AreUses g v → i < length v → 12 < count → (node v i).indirect ≡ Some p → is_among p (gone_node count (node v i)) ≡ false

@@ -1,7 +1,6 @@
 -- An inode that becomes an empty file or directory.
-use Rattle.std.proofs.Common.{◌≡◌, ◌≢◌, ℕ, ◌<◌, ◌≤◌, ◌⊎◌, inl, inr, [], ◌∷◌, length, Bool, true, false, cond, refl, sym, ap, subst, ◌∙◌, arith, length-set}
+use Rattle.std.proofs.Common.{◌≡◌, ◌≢◌, ℕ, ◌<◌, ◌≤◌, ◌⊎◌, inl, inr, [], ◌∷◌, length, Bool, true, false, refl, sym, ap, subst, ◌∙◌, arith, length-set}
 use Rattle.std.specs.Prelude.{None, if◌then◌else◌}
-use Rattle.std.proofs.lemmas.Bool.{cases_eq, ne_eqb, true≢false}
 use Rattle.std.proofs.lemmas.Option.{none-some}
 use Rattle.mq_blocks.specs.Geometry.{meta_of}
 use Rattle.mq_blocks.specs.Journal.{is_among}
@@ -12,6 +11,7 @@ use Rattle.mq_exec.specs.Pages.{pages_of}
 use Rattle.mq_exec.specs.Plans.{empty_body, with_inode}
 use Rattle.mq_exec.specs.declared.working.Working.{Working}
 use Rattle.mq_exec.proofs.Becoming.{becomes-stepped}
+use Rattle.mq_exec.proofs.Listed.{among-cons, among-one}
 use Rattle.mq_exec.proofs.LocalBodies.{bare-form}
 use Rattle.mq_exec.proofs.LocalInodes.{bare}
 use Rattle.mq_exec.proofs.LocalVolumes.{bare-uses, made-step}
@@ -23,7 +23,7 @@ use Rattle.mq_tree.specs.Sound.{IsNode}
 use Rattle.mq_tree.specs.Volume.{Free, Volume, body, is_used, node}
 use Rattle.mq_tree.proofs.Regions.{table-holds}
 
-empty-used : (directory : Bool) → is_used (empty_body directory) ≡ true
+pub empty-used : (directory : Bool) → is_used (empty_body directory) ≡ true
 empty-used true = refl
 empty-used false = refl
 
@@ -41,14 +41,9 @@ empty-is kind false e = ap (λ (k : ℕ). record { kind = k; links = 1; size = 0
 
 -- one of both blocks
 among-two : (a b x : ℕ) → is_among x (a ∷ b ∷ []) ≡ true → (x ≡ a) ⊎ (x ≡ b)
-among-two a b x y = elim (cases_eq x a) [
+among-two a b x y = elim (among-cons a x (b ∷ []) y) [
   | inl e ↦ inl e
-  | inr other ↦ elim (cases_eq x b) [
-    | inl e ↦ inr e
-    | inr neither ↦
-        let rest : is_among x (a ∷ b ∷ []) ≡ false = ap (λ (t : Bool). cond t true (is_among x (b ∷ []))) (ne_eqb a x (λ e. other (sym e))) ∙ ap (λ (t : Bool). cond t true false) (ne_eqb b x (λ e. neither (sym e))) in
-        absurd (true≢false (sym y ∙ rest))
-  ]
+  | inr rest ↦ inr (among-one b x rest)
 ]
 
 -- both are in the metadata region

@@ -10,17 +10,19 @@ use Rattle.mq_exec.specs.Changes.{IsCleared, IsInodeMarked, IsInodePut, IsInodeT
 use Rattle.mq_exec.specs.Edits.{Becomes, Carries, IsOver, KeepsKinds}
 use Rattle.mq_exec.specs.Moves.{IsOfFile}
 use Rattle.mq_exec.specs.Opened.{IsOpened, IsReleasable}
-use Rattle.mq_exec.specs.Pages.{IsHeld, Pages, content, kinds_of, pages_of}
+use Rattle.mq_exec.specs.Pages.{IsHeld, kinds_of, pages_of}
 use Rattle.mq_exec.specs.Released.{IsReleased, Releases, gone_from}
 use Rattle.mq_exec.specs.declared.opened.Opened.{Opened}
 use Rattle.mq_exec.specs.declared.working.Working.{Working}
 use Rattle.mq_exec.proofs.Becoming.{becomes-stepped}
+use Rattle.mq_exec.proofs.Held.{bitmap-low, held-known, table-low}
+use Rattle.mq_exec.proofs.Listed.{among-apart, among-cons, among-one}
 use Rattle.mq_exec.proofs.LocalFrame.{same-bool}
 use Rattle.mq_exec.proofs.LocalGone.{bitmap-in, cleared-by, gone-opened, listed-zone, zone-listed, zones_of}
 use Rattle.mq_exec.proofs.LocalInodes.{AreFreed, freed-step}
-use Rattle.mq_exec.proofs.LocalLists.{among-cons, freed-listed, freed_list, listed-own, own-listed, own_blocks}
+use Rattle.mq_exec.proofs.LocalLists.{freed-listed, freed_list, listed-own, own-listed, own_blocks}
 use Rattle.mq_exec.proofs.LocalVolumes.{freed-uses}
-use Rattle.mq_exec.proofs.Releasing.{among-apart, among-one, held-along, released-low, released-meta}
+use Rattle.mq_exec.proofs.Releasing.{held-along, released-low, released-meta}
 use Rattle.mq_layout.specs.Empty.{free_inode}
 use Rattle.mq_layout.specs.Places.{inode_bitmap, inode_block, inodes_of, zone_bitmap}
 use Rattle.mq_pages.specs.declared.page.Kind.{Kind}
@@ -30,16 +32,6 @@ use Rattle.mq_tree.specs.Volume.{Node, Volume, free_node, has_block, node}
 use Rattle.mq_tree.proofs.Maps.{zone-low}
 
 -- ---- pages that are held
-
-pub held-known : (pages : Pages) (b : ℕ) → IsHeld pages b → pages b ≢ None
-held-known pages b h e = none-some (Some (content (pages b))) (sym e ∙ h)
-
--- a block of the table is one of the metadata region
-pub table-low : (g : Geometry) (i : ℕ) → i < inodes_of g → inode_block g i < meta_of g
-table-low g i low = let m = g.meta_low in omega arith
-
-pub bitmap-low : (g : Geometry) → inode_bitmap g < meta_of g
-bitmap-low g = let m = g.meta_low in omega arith
 
 -- behind the freeing of blocks
 pub table-held : (old mid : Working) (i : ℕ) (blocks : List ℕ) → i < inodes_of old.geometry → Releases old mid blocks → IsHeld (pages_of old) (inode_block old.geometry i) → IsHeld (pages_of mid) (inode_block mid.geometry i)

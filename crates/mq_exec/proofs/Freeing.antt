@@ -14,8 +14,9 @@ use Rattle.mq_exec.specs.Plans.{MayRelease}
 use Rattle.mq_exec.specs.Removes.{IsInZones, LooksFreed, owned}
 use Rattle.mq_exec.specs.declared.opened.Opened.{Opened}
 use Rattle.mq_exec.proofs.Directories.{blocks-has, pointers-has}
+use Rattle.mq_exec.proofs.Held.{meta-held}
 use Rattle.mq_exec.proofs.LocalFrame.{has-use}
-use Rattle.mq_exec.proofs.Linkable.{meta-held, opened-pointers}
+use Rattle.mq_exec.proofs.Linkable.{opened-pointers}
 use Rattle.mq_layout.specs.Places.{inode_bitmap, zone_bitmap}
 use Rattle.mq_tree.specs.Sound.{IsSound}
 use Rattle.mq_tree.specs.Volume.{Volume, has_block, node}

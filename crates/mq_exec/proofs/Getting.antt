@@ -16,13 +16,14 @@ use Rattle.mq_exec.specs.Pages.{IsHeld, Pages, content, kinds_of, pages_of}
 use Rattle.mq_exec.specs.declared.opened.Opened.{Opened}
 use Rattle.mq_exec.specs.declared.working.Working.{Working}
 use Rattle.mq_exec.proofs.Becoming.{becomes-stepped}
+use Rattle.mq_exec.proofs.Held.{held-is, table-low}
 use Rattle.mq_exec.proofs.LocalBodies.{inode-form}
 use Rattle.mq_exec.proofs.LocalChanges.{padded-push}
-use Rattle.mq_exec.proofs.LocalGrown.{padded-near}
-use Rattle.mq_exec.proofs.LocalKinds.{dir-not-file, part-of-file, pointers-not-file}
+use Rattle.mq_exec.proofs.LocalKinds.{dir-not-file, meta-not-data, part-of-file, pointers-not-file}
 use Rattle.mq_exec.proofs.LocalTaken.{IsFree, far-step, far_inode-step, file-far, get-last, longer, near-step, pointed-step, with_indirect}
 use Rattle.mq_exec.proofs.LocalVolumes.{next-dir, next-file, with_block-uses, with_pointers-uses}
 use Rattle.mq_exec.proofs.Nodes.{length-padded}
+use Rattle.mq_exec.proofs.Padded.{padded-near}
 use Rattle.mq_layout.specs.Inodes.{IsInode}
 use Rattle.mq_layout.specs.Places.{file_limit, inode_block, inodes_of, zone_bitmap}
 use Rattle.mq_layout.specs.declared.inode.Inode.{Inode}
@@ -40,15 +41,12 @@ on_ok_three (Err e) f p q s = tt
 
 -- ---- what the pages keep
 
-held-page : (pages : Pages) (x : ℕ) (page : List ℕ) → pages x ≡ Some (Some page) → IsHeld pages x
-held-page pages x page e = e ∙ ap (λ (o : Option (Option (List ℕ))). Some (Some (content o))) (sym e)
-
 -- content was put where there was some, or at the block itself
 put-keeps : (old new : Pages) (z b : ℕ) (page : List ℕ) → IsPut old new z (Some page) → (z ≢ b → old z ≢ Some None) → KeepsOthers old new b
 put-keeps old new z b page put other = record {
   held = λ x h. elim (cases_eq x z) [
-    | inl e ↦ held-page new x page (ap new e ∙ put.here)
-    | inr away ↦ held-page new x (content (old x)) (put.others x away ∙ h)
+    | inl e ↦ held-is new x page (ap new e ∙ put.here)
+    | inr away ↦ held-is new x (content (old x)) (put.others x away ∙ h)
   ];
   free = λ x away e. elim (cases_eq x z) [
     | inl same ↦ absurd (other (λ h. away (same ∙ h)) (ap old (sym same) ∙ e))
@@ -153,15 +151,12 @@ no-indirect g v i uses e = at (node v i).indirect refl e
 
 -- ---- kinds
 
-meta-data : Meta ≡ Data → ⊥
-meta-data e = absurd (cc)
-
 -- what a kind says of the block that was put with it
 abbrev IsRight : Volume → (new : Working) → ℕ → Type 0
 IsRight w new x = (kind : Kind) → kinds_of new x ≡ Some kind → (kind ≡ Data) ↔ IsOfFile w x
 
 right-pointers : (g : Geometry) (w : Volume) (new : Working) (i p : ℕ) → AreUses g w → block_in w (Pointers i) ≡ Some p → kinds_of new p ≡ Some Meta → IsRight w new p
-right-pointers g w new i p uses is e kind same = (λ d. absurd (meta-data (cc)), λ f. absurd (pointers-not-file g w i p uses is f))
+right-pointers g w new i p uses is e kind same = (λ d. absurd (meta-not-data (cc)), λ f. absurd (pointers-not-file g w i p uses is f))
 
 right-part : (g : Geometry) (w : Volume) (new : Working) (i place b : ℕ) (inode : Inode) → AreUses g w → block_in w (Part i place) ≡ Some b → is_used (body w i) ≡ true → inode.kind ≡ kind_of (body w i) → kinds_of new b ≡ Some (kind_in inode) → IsRight w new b
 right-part g w new i place b inode uses there used k e = at (body w i) refl used
@@ -173,7 +168,7 @@ right-part g w new i place b inode uses there used k e = at (body w i) refl used
         λ kind same. ((λ d. part-of-file w i place b bytes there is), (λ f. cc))
     at (Dir slots) is h =
         let dir : kind_in inode ≡ Meta = ap (λ (n : ℕ). if nat_eq n 2 then Meta else Data) (k ∙ ap kind_of is) in
-        λ kind same. ((λ d. absurd (meta-data (cc))), (λ f. absurd (dir-not-file g w i place b slots uses there is f)))
+        λ kind same. ((λ d. absurd (meta-not-data (cc))), (λ f. absurd (dir-not-file g w i place b slots uses there is f)))
 
 -- ---- what was done to the pages
 
@@ -237,9 +232,6 @@ ready g pages v o b c m =
 -- the blocks of the metadata region that change with a taken block
 bitmap-low : (g : Geometry) (v : Volume) (b : ℕ) → IsFree g v b → zone_bitmap (zone_in g b) < meta_of g
 bitmap-low g v b f = let z = zone-low g b f.high f.home in let m = g.meta_low in omega arith
-
-table-low : (g : Geometry) (i : ℕ) → i < inodes_of g → inode_block g i < meta_of g
-table-low g i low = omega arith
 
 -- ---- what the volume becomes
 

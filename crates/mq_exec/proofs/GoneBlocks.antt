@@ -1,10 +1,10 @@
 -- What is looked at before a file is cut: its blocks from that of the first byte that goes on, and the bitmaps
 -- of the zones of those that are freed.
-use Rattle.std.proofs.Common.{get_or, ◌≡◌, ◌≢◌, ℕ, zero, suc, ◌+◌, ◌/◌, ◌<◌, ◌≤◌, ◌⊎◌, inl, inr, List, [], ◌∷◌, ◌++◌, length, drop, take, ◌-◌, Bool, true, false, cond, refl, sym, ap, subst, ◌∙◌, arith}
+use Rattle.std.proofs.Common.{get_or, ◌≡◌, ◌≢◌, ℕ, zero, suc, ◌+◌, ◌/◌, ◌<◌, ◌≤◌, ◌⊎◌, inl, inr, List, [], ◌∷◌, ◌++◌, length, drop, ◌-◌, Bool, true, false, cond, refl, sym, ap, subst, ◌∙◌, arith}
 use Rattle.std.specs.Prelude.{Some, None, nat_lt, slice_get}
 use Rattle.std.specs.List.{All, Contains}
 use Rattle.std.proofs.lemmas.Bool.{le-ltb, lt-ltb, ltb-false, ltb-true}
-use Rattle.std.proofs.lemmas.List.{get_or-drop, length-drop, take_all}
+use Rattle.std.proofs.lemmas.List.{get_or-drop, length-drop}
 use Rattle.std.proofs.lemmas.List.Elements.{All-contains, Contains-append_cases, Contains-append_left, Contains-append_right, Contains-get_or}
 use Rattle.std.proofs.lemmas.Option.{slice_get-get_or}
 use Rattle.mq_blocks.specs.declared.geometry.Geometry.{Geometry}
@@ -18,10 +18,9 @@ use Rattle.mq_exec.specs.Released.{gone_from}
 use Rattle.mq_exec.specs.Removes.{IsInZones}
 use Rattle.mq_exec.specs.declared.opened.Opened.{Opened}
 use Rattle.mq_exec.proofs.Becoming.{carries-sound}
-use Rattle.mq_exec.proofs.FreedInodes.{held-known}
 use Rattle.mq_exec.proofs.Freeing.{IsBitmapOf}
-use Rattle.mq_exec.proofs.Linkable.{meta-held, opened-pointers}
-use Rattle.mq_exec.proofs.Regrown.{used-held}
+use Rattle.mq_exec.proofs.Held.{held-known, meta-held, used-held}
+use Rattle.mq_exec.proofs.Linkable.{opened-pointers}
 use Rattle.mq_layout.specs.Places.{zone_bitmap}
 use Rattle.mq_tree.specs.Sound.{IsSound, blocks_for}
 use Rattle.mq_tree.specs.Volume.{Part, Pointers, Volume, node}
@@ -143,11 +142,6 @@ sought-looks g v o size b gone bitmaps all sound is s c = elim (Contains-append_
       looks-gone g v o.number size r.0 b (gone-is g v o (blocks_for size) r.0 sound is (subst (λ (xs : List ℕ). Contains xs r.0) s.gone_is r.1)) r.2
   | inr own ↦ let r = drop-at v o.number (size / 4096) b o.blocks.items is.blocks own in part r.0 r.1 r.2
 ]
-
--- ---- a slice up to the end
-
-pub rest-of : (items seen : List ℕ) (n : ℕ) → seen ≡ items → take (length seen - n) (drop n seen) ≡ drop n items
-rest-of items seen n e = take_all (length seen - n) (drop n seen) (let d = length-drop n seen in omega arith) ∙ ap (λ (xs : List ℕ). drop n xs) e
 
 -- ---- what may be freed
 

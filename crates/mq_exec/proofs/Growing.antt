@@ -1,10 +1,10 @@
 -- An inode grows by the blocks that were picked, one after another.
-use Rattle.std.proofs.Common.{get_or, ◌≡◌, ◌≢◌, ℕ, zero, suc, ◌+◌, ◌-◌, ◌<◌, ◌≤◌, ◌⊎◌, inl, inr, List, [], ◌∷◌, ◌++◌, length, Bool, true, false, cond, refl, sym, ap, subst, ◌∙◌, arith}
+use Rattle.std.proofs.Common.{get_or, ◌≡◌, ◌≢◌, ℕ, zero, suc, ◌+◌, ◌-◌, ◌<◌, ◌≤◌, ◌⊎◌, inl, inr, List, [], ◌∷◌, ◌++◌, length, Bool, true, false, refl, sym, ap, subst, ◌∙◌, arith}
 use Rattle.std.specs.Prelude.{Option, Some, None, ◌&&◌, is_none, is_some, if◌then◌else◌, nat_eq, nat_le, nat_lt}
 use Rattle.std.specs.List.{All}
 use Rattle.std.proofs.lemmas.Bool.{cases_eq, eq-eqb, le-ltb, lt-ltb, ltb-false, ltb-true, ne_eqb, true≢false}
 use Rattle.std.proofs.lemmas.Bool.Decides.{nat_tests}
-use Rattle.std.proofs.lemmas.List.{length-append}
+use Rattle.std.proofs.lemmas.List.{get_or_default, length-append}
 use Rattle.mq_blocks.specs.Geometry.{queues_of}
 use Rattle.mq_blocks.specs.Journal.{is_among}
 use Rattle.mq_blocks.specs.declared.geometry.Geometry.{Geometry}
@@ -18,6 +18,7 @@ use Rattle.mq_exec.specs.declared.opened.Opened.{Opened}
 use Rattle.mq_exec.specs.declared.working.Working.{Working}
 use Rattle.mq_exec.proofs.Becoming.{becomes-self, becomes-then}
 use Rattle.mq_exec.proofs.Getting.{indirect-high, more-within, no-indirect, some-indirect}
+use Rattle.mq_exec.proofs.Listed.{at-among}
 use Rattle.mq_exec.proofs.LocalTaken.{longer, with_indirect}
 use Rattle.mq_exec.proofs.LocalVolumes.{one_more-is, pointed-is, pointed-not}
 use Rattle.mq_exec.proofs.Picking.{IsTakenMore, block-more, picks-apart, picks-first, picks-free, picks-rest, pointers-more}
@@ -66,9 +67,6 @@ got-block g v o b m not =
 abbrev finish : Geometry → (queue : ℕ) → Volume → ℕ → (left : ℕ) → Volume
 finish g q v i zero = v
 finish g q v i (suc left) = if nat_eq (length (node v i).blocks) 12 && is_some (node v i).indirect then grown g q (one_more g q v i) i left else grown g q v i (suc left)
-
-no-pointers : (o : Option ℕ) → o ≡ None → is_some o ≡ false
-no-pointers o e = ap is_some e
 
 finish-grown : (g : Geometry) (q : ℕ) (v : Volume) (i left : ℕ) → (length (node v i).blocks ≡ 12 → (node v i).indirect ≡ None) → finish g q v i left ≡ grown g q v i left
 finish-grown g q v i zero none = refl
@@ -375,12 +373,7 @@ pub record AreReady (g : Geometry) (now : Working) (o : Opened) (rest : List ℕ
   pub pointers : HoldsIndirect (pages_of now) o.inode
 
 not-among : (b : ℕ) (xs : List ℕ) (k d : ℕ) → is_among b xs ≡ false → k < length xs → get_or xs k d ≢ b
-not-among b [] k d out l = absurd (omega arith)
-not-among b (x ∷ xs) zero d out l = λ e. true≢false (sym (ap (λ (t : Bool). cond t true (is_among b xs)) (eq-eqb x b e)) ∙ out)
-not-among b (x ∷ xs) (suc k) d out l = elim (cases_eq x b) [
-  | inl e ↦ absurd (true≢false (sym (ap (λ (t : Bool). cond t true (is_among b xs)) (eq-eqb x b e)) ∙ out))
-  | inr n ↦ not-among b xs k d (sym (ap (λ (t : Bool). cond t true (is_among b xs)) (ne_eqb x b n)) ∙ out) (omega arith)
-]
+not-among b xs k d out l e = true≢false (sym (at-among xs k l) ∙ ap (λ (x : ℕ). is_among x xs) (get_or_default xs k 0 d l ∙ e) ∙ out)
 
 pub ready-step : (g : Geometry) (q : ℕ) (v : Volume) (count i : ℕ) (old now new : Working) (o after : Opened) (b : ℕ) (rest : List ℕ) → IsOnWay g q v count i old now o (b ∷ rest) → AreReady g now o (b ∷ rest) → after.number ≡ o.number
     → KeepsOthers (pages_of now) (pages_of new) b → HoldsIndirect (pages_of new) after.inode → AreReady g new after rest

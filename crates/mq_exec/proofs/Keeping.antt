@@ -1,18 +1,16 @@
 -- Pages that stay held or free while others are put.
 use Rattle.std.proofs.Common.{◌≡◌, ℕ, inl, inr, List, sym, ap, subst, ◌∙◌}
-use Rattle.std.specs.Prelude.{Option, Some, None}
+use Rattle.std.specs.Prelude.{Some, None}
 use Rattle.std.proofs.lemmas.Bool.{cases_eq}
 use Rattle.mq_blocks.specs.declared.geometry.Geometry.{Geometry}
 use Rattle.mq_exec.specs.Changes.{IsPut}
 use Rattle.mq_exec.specs.Edits.{IsOver, KeepsHeld}
-use Rattle.mq_exec.specs.Opened.{HoldsPointers, IsReleasable, IsTakeable}
-use Rattle.mq_exec.specs.Pages.{IsHeld, Pages, content, pages_of}
+use Rattle.mq_exec.specs.Opened.{HoldsPointers, IsReleasable}
+use Rattle.mq_exec.specs.Pages.{Pages, content, pages_of}
 use Rattle.mq_exec.specs.Picks.{IsMarkable}
 use Rattle.mq_exec.specs.declared.opened.Opened.{Opened}
 use Rattle.mq_exec.specs.declared.working.Working.{Working}
-
-pub held-is : (pages : Pages) (b : ℕ) (page : List ℕ) → pages b ≡ Some (Some page) → IsHeld pages b
-held-is pages b page e = e ∙ ap (λ (o : Option (Option (List ℕ))). Some (Some (content o))) (sym e)
+use Rattle.mq_exec.proofs.Held.{held-is}
 
 -- content is put where content was
 pub keeps-put : (old new : Pages) (b : ℕ) (before after : List ℕ) → old b ≡ Some (Some before) → IsPut old new b (Some after) → KeepsHeld old new
@@ -27,16 +25,10 @@ keeps-put old new b before after was put = record {
   ];
 }
 
-pub keeps-then : (a b c : Pages) → KeepsHeld a b → KeepsHeld b c → KeepsHeld a c
-keeps-then a b c s t = record { held = λ x h. t.held x (s.held x h); free = λ x e. t.free x (s.free x e) }
-
 -- ---- what may be done with blocks
 
 pub keeps-markable : (g : Geometry) (old new : Pages) (b : ℕ) → KeepsHeld old new → IsMarkable g old b → IsMarkable g new b
 keeps-markable g old new b k m = record { high = m.high; home = m.home; marks = k.held _ m.marks }
-
-pub keeps-takeable : (g : Geometry) (old new : Pages) (b : ℕ) → KeepsHeld old new → IsTakeable g old b → IsTakeable g new b
-keeps-takeable g old new b k t = record { marks = keeps-markable g old new b k t.marks; free = k.free b t.free }
 
 pub keeps-releasable : (g : Geometry) (old new : Working) (b : ℕ) → KeepsHeld (pages_of old) (pages_of new) → IsOver old new → IsReleasable g (pages_of old) b → IsReleasable g (pages_of new) b
 keeps-releasable g old new b k over r = record { marks = keeps-markable g (pages_of old) (pages_of new) b k r.marks; known = λ none. r.known (over.known b none) }

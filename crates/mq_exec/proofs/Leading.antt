@@ -13,9 +13,8 @@ use Rattle.mq_exec.specs.Fits.{Agrees, Fits}
 use Rattle.mq_exec.specs.Moves.{Differs, IsOfFile, LeadsTo, Moves, SameAt}
 use Rattle.mq_exec.specs.Pages.{Pages, changed_of, kinds_of, over, pages_of, view_of}
 use Rattle.mq_exec.specs.declared.working.Working.{Working}
-use Rattle.mq_exec.proofs.Linking.{meta-not-data}
 use Rattle.mq_exec.proofs.LocalFits.{fits-all}
-use Rattle.mq_exec.proofs.LocalKinds.{meta-not-file}
+use Rattle.mq_exec.proofs.LocalKinds.{meta-not-data, meta-not-file}
 use Rattle.mq_exec.proofs.LocalMoves.{differs-moves}
 use Rattle.mq_exec.proofs.LocalOnce.{page-once, shown-vacant}
 use Rattle.mq_exec.proofs.Needs.{agrees-alike}

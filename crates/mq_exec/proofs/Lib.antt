@@ -16,12 +16,14 @@ pub mod Freeing
 pub mod Getting
 pub mod GoneBlocks
 pub mod Growing
+pub mod Held
 pub mod Keeping
 pub mod Leading
 pub mod Lifting
 pub mod Linkable
 pub mod LinkedGrown
 pub mod Linking
+pub mod Listed
 pub mod LocalBodies
 pub mod LocalBytes
 pub mod LocalChanges
@@ -29,7 +31,6 @@ pub mod LocalCut
 pub mod LocalFits
 pub mod LocalFrame
 pub mod LocalGone
-pub mod LocalGrown
 pub mod LocalInodes
 pub mod LocalKinds
 pub mod LocalLinked
@@ -39,7 +40,6 @@ pub mod LocalOnce
 pub mod LocalPages
 pub mod LocalParts
 pub mod LocalRegions
-pub mod LocalSpace
 pub mod LocalSteps
 pub mod LocalTaken
 pub mod LocalUses
@@ -54,6 +54,7 @@ pub mod NewNames
 pub mod Nodes
 pub mod Opening
 pub mod Overwriting
+pub mod Padded
 pub mod Picking
 pub mod Regrown
 pub mod Releasing

@@ -1,44 +1,34 @@
 -- Names that are added to directories, after other steps of the same request.
-use Rattle.std.proofs.Common.{get_or, ◌≡◌, ◌≢◌, ℕ, suc, ◌+◌, ◌-◌, ◌<◌, ◌≤◌, List, [], ◌∷◌, ◌++◌, length, Bool, false, cond, refl, sym, ap, subst, ◌∙◌, arith, take, drop, drop-cons}
+use Rattle.std.proofs.Common.{get_or, ◌≡◌, ◌≢◌, ℕ, suc, ◌-◌, ◌<◌, List, [], ◌∷◌, ◌++◌, length, Bool, cond, refl, sym, ap, subst, ◌∙◌, arith, take, drop, drop-cons}
 use Rattle.std.specs.Prelude.{Option, Some, None, nat_lt, is_some, slice_get}
-use Rattle.std.specs.List.{All, Contains}
+use Rattle.std.specs.List.{All}
 use Rattle.std.proofs.lemmas.Bool.{lt-ltb}
 use Rattle.std.proofs.lemmas.List.{drop_all, take-append-drop}
-use Rattle.std.proofs.lemmas.List.Elements.{All-contains, Contains-append_left, Contains-get_or, Contains-push}
 use Rattle.std.proofs.lemmas.Option.{none-some, same_Some, slice_get-get_or}
 use Rattle.mq_blocks.specs.Geometry.{meta_of, queues_of}
 use Rattle.mq_blocks.specs.declared.geometry.Geometry.{Geometry}
-use Rattle.mq_exec.specs.Changes.{AreOthers, zone_in}
-use Rattle.mq_exec.specs.Dirs.{AreDirsAt, IsDirAt}
+use Rattle.mq_exec.specs.Dirs.{AreDirsAt}
 use Rattle.mq_exec.specs.Edits.{Becomes, Carries, IsOver}
-use Rattle.mq_exec.specs.Fits.{Agrees, Fits}
+use Rattle.mq_exec.specs.Fits.{Fits}
 use Rattle.mq_exec.specs.Opened.{HoldsPointers, IsOpened, IsTakeable, MayLink}
-use Rattle.mq_exec.specs.Pages.{IsHeld, Pages, content, pages_of}
+use Rattle.mq_exec.specs.Pages.{IsHeld, Pages, pages_of}
 use Rattle.mq_exec.specs.Picks.{ArePicked, IsMarkable, free_of}
-use Rattle.mq_exec.specs.Plans.{HoldsMake, PlansMake, with_inode}
 use Rattle.mq_exec.specs.Walks.{last_of}
-use Rattle.mq_exec.specs.declared.make.Making.{Making}
 use Rattle.mq_exec.specs.declared.opened.Opened.{Opened}
 use Rattle.mq_exec.specs.declared.working.Working.{Working}
-use Rattle.mq_exec.proofs.Becoming.{becomes-then, carries-sound}
 use Rattle.mq_exec.proofs.Directories.{carried-form}
-use Rattle.mq_exec.proofs.Regrown.{used-held}
-use Rattle.mq_exec.proofs.LocalInodes.{bare}
+use Rattle.mq_exec.proofs.Held.{meta-held, used-held}
 use Rattle.mq_exec.proofs.LocalOnce.{shown-vacant}
 use Rattle.mq_exec.proofs.LocalTaken.{IsFree}
 use Rattle.mq_exec.proofs.Picking.{picks-all_free}
-use Rattle.mq_exec.proofs.LocalVolumes.{free-bare}
 use Rattle.mq_exec.proofs.Walking.{way-last}
-use Rattle.mq_layout.specs.Places.{inode_bitmap, inode_block, inodes_of, zone_bitmap}
+use Rattle.mq_layout.specs.Places.{inode_block}
 use Rattle.mq_layout.specs.Slots.{Entry}
 use Rattle.mq_layout.specs.declared.inode.Inode.{Inode}
-use Rattle.mq_tree.specs.Clean.{IsDirBlock}
 use Rattle.mq_tree.specs.Free.{order}
 use Rattle.mq_tree.specs.Laid.{inode_of, or_zero}
 use Rattle.mq_tree.specs.Requests.{link_needs, linked}
-use Rattle.mq_tree.specs.Sound.{IsSound}
-use Rattle.mq_tree.specs.Volume.{Body, Free, Dir, Node, Part, Path, Pointers, Volume, body, has_block, is_taken, node, way}
-use Rattle.mq_tree.proofs.KeepUses.{AreUses, node-here, node-other}
+use Rattle.mq_tree.specs.Volume.{Node, Part, Path, Pointers, Volume, is_taken, node, way}
 use Rattle.mq_tree.proofs.Maps.{zone-low}
 use Rattle.mq_tree.proofs.Unique.{some-when}
 
@@ -72,18 +62,6 @@ link-same g q v w o entry picks e same h = record {
 }
 
 -- ---- pages
-
-pub held-same : (old new : Pages) (b : ℕ) → new b ≡ old b → IsHeld old b → IsHeld new b
-held-same old new b e h = subst (λ (o : Option (Option (List ℕ))). o ≡ Some (Some (content o))) (sym e) h
-
--- a block of the metadata region that is known is held
-pub meta-held : (g : Geometry) (pages : Pages) (v : Volume) (b : ℕ) → Fits g pages v → b < meta_of g → pages b ≢ None → IsHeld pages b
-meta-held g pages v b fits low known = go (pages b) refl
-  where
-    go : (o : Option (Option (List ℕ))) → pages b ≡ o → IsHeld pages b
-    go None e = absurd (known e)
-    go (Some None) e = absurd (let h = (fits.free b e).0 in omega arith)
-    go (Some (Some page)) e = e ∙ ap (λ (o : Option (Option (List ℕ))). Some (Some (content o))) (sym e)
 
 held-known : (old new : Working) (b : ℕ) → IsOver old new → IsHeld (pages_of old) b → pages_of new b ≢ None
 held-known old new b over held none = none-some _ (sym (over.known b none) ∙ held)

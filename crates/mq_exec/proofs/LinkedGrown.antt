@@ -18,15 +18,16 @@ use Rattle.mq_exec.specs.declared.opened.Opened.{Opened}
 use Rattle.mq_exec.specs.declared.working.Working.{Working}
 use Rattle.mq_exec.proofs.Becoming.{becomes-then}
 use Rattle.mq_exec.proofs.Directories.{carried-slots}
+use Rattle.mq_exec.proofs.Held.{held-else}
 use Rattle.mq_exec.proofs.Linking.{becomes-slot}
 use Rattle.mq_exec.proofs.LocalLinked.{block_entry-step, linked-grown, with_entry}
 use Rattle.mq_exec.proofs.LocalOnce.{page-once}
-use Rattle.mq_exec.proofs.LocalParts.{zeros-page}
 use Rattle.mq_exec.proofs.LocalSteps.{zone-put}
 use Rattle.mq_exec.proofs.LocalVolumes.{next-dir}
 use Rattle.mq_exec.proofs.Picking.{length-free}
 use Rattle.mq_layout.specs.Slots.{Entry, slot_bytes}
 use Rattle.mq_pages.specs.declared.page.Kind.TheVariants.{Meta}
+use Rattle.mq_tree.proofs.Mounting.{zeros-page}
 use Rattle.mq_tree.specs.Free.{free_blocks, grown, needs, order}
 use Rattle.mq_tree.specs.Requests.{entry_needs, link_needs, linked, unused}
 use Rattle.mq_tree.specs.Volume.{Body, Dir, Part, Volume, body, is_taken, node, slots_of}
@@ -69,11 +70,6 @@ pub record HasBlank (u : Volume) (before after : Opened) (mid : Working) (slots 
   pub longer : length after.blocks.items ≡ length before.blocks.items + 1
   pub there : (b : ℕ) → b ≡ get_or after.blocks.items (length before.blocks.items) b → slice_get (node u before.number).blocks (length before.blocks.items) ≡ Some b
   pub blank : (b : ℕ) → b ≡ get_or after.blocks.items (length before.blocks.items) b → pages_of mid b ≡ Some (Some zeros)
-
-held-else : (o : Option (Option (List ℕ))) → o ≢ None → o ≢ Some None → o ≡ Some (Some (content o))
-held-else None known used = absurd (known refl)
-held-else (Some None) known used = absurd (used refl)
-held-else (Some (Some page)) known used = refl
 
 pub has-blank : (g : Geometry) (q : ℕ) (v : Volume) (before after : Opened) (entry : Entry) (picks : List ℕ) (old mid : Working) (m : MayLink g q v before entry picks) → Carries g (pages_of old) v → unused 0 m.slots ≡ None → IsOver old mid → HasGrown g q v old mid before after 1
     → HasBlank (grown g q v before.number 1) before after mid m.slots

@@ -1,10 +1,9 @@
 -- Names that are added to directories, and that go.
-use Rattle.std.proofs.Common.{get_or, set, ◌≡◌, ◌≢◌, ℕ, ◌*◌, ◌/◌, ◌%◌, ◌<◌, inl, inr, List, [], ◌∷◌, length, Bool, true, false, cond, sym, ap, subst, ◌∙◌, arith, length-set}
+use Rattle.std.proofs.Common.{get_or, set, ◌≡◌, ◌≢◌, ℕ, ◌*◌, ◌/◌, ◌%◌, ◌<◌, List, [], ◌∷◌, length, Bool, true, false, cond, sym, ap, subst, ◌∙◌, arith, length-set}
 use Rattle.std.specs.Prelude.{Option, Some, None, Result, Ok, Err, OnOk, slice_get}
 use Rattle.std.specs.List.{All}
-use Rattle.std.proofs.lemmas.Bool.{cases_eq, eq-eqb, ne_eqb, true≢false}
+use Rattle.std.proofs.lemmas.Bool.{eq-eqb, true≢false}
 use Rattle.std.proofs.lemmas.Option.{none-some, same_Some, slice_get-get_or}
-use Rattle.mq_blocks.specs.Journal.{is_among}
 use Rattle.mq_blocks.specs.declared.geometry.Geometry.{Geometry}
 use Rattle.mq_exec.specs.Changes.{IsTextPut, Stepped}
 use Rattle.mq_exec.specs.Dirs.{AreDirsAt, slots_at}
@@ -17,14 +16,15 @@ use Rattle.mq_exec.specs.declared.working.Working.{Working}
 use Rattle.mq_exec.proofs.Becoming.{becomes-stepped}
 use Rattle.mq_exec.proofs.Directories.{carried-form, carried-slots}
 use Rattle.mq_exec.proofs.Keeping.{keeps-put}
+use Rattle.mq_exec.proofs.Listed.{among-one}
 use Rattle.mq_exec.proofs.LocalBodies.{rebodied}
-use Rattle.mq_exec.proofs.LocalKinds.{dir-not-file}
+use Rattle.mq_exec.proofs.LocalKinds.{dir-not-file, meta-not-data}
 use Rattle.mq_exec.proofs.LocalLinked.{entry-step, linked-here, unlinked-step}
 use Rattle.mq_exec.proofs.LocalVolumes.{with_body-uses}
 use Rattle.mq_exec.proofs.SlotNumbers.{numbered, unused-low}
 use Rattle.mq_layout.specs.Fields.{zero_bytes}
 use Rattle.mq_layout.specs.Slots.{Entry, slot_bytes}
-use Rattle.mq_pages.specs.declared.page.Kind.TheVariants.{Data, Meta}
+use Rattle.mq_pages.specs.declared.page.Kind.TheVariants.{Meta}
 use Rattle.mq_tree.specs.Requests.{cleared, linked, unlinked, unused, with_body}
 use Rattle.mq_tree.specs.Volume.{Dir, Node, Volume, body, node, slot_number, slots_of}
 use Rattle.mq_tree.proofs.KeepNodes.{cleared-length}
@@ -35,15 +35,6 @@ on_ok-both (Ok x) p q f = f p q
 on_ok-both (Err e) p q f = tt
 
 -- ---- a block of a directory is put
-
-among-one : (b x : ℕ) → is_among x (b ∷ []) ≡ true → x ≡ b
-among-one b x y = elim (cases_eq x b) [
-  | inl e ↦ e
-  | inr other ↦ absurd (true≢false (sym y ∙ ap (λ (t : Bool). cond t true false) (ne_eqb b x (λ e. other (sym e)))))
-]
-
-pub meta-not-data : Meta ≡ Data → ⊥
-meta-not-data e = absurd (cc)
 
 -- the directory has other slots over the same blocks
 pub becomes-slot : (g : Geometry) (v : Volume) (d place b : ℕ) (now : List (Option Entry)) (old new : Working) → Carries g (pages_of old) v → d < length v → slice_get (node v d).blocks place ≡ Some b → pages_of old b ≢ None → IsKindPut old new b (Some Meta)

@@ -1,10 +1,10 @@
 -- A body changes over the same blocks: one part of it, or its size.
-use Rattle.std.proofs.Common.{get_or, ◌≡◌, ◌≢◌, ℕ, ◌+◌, ◌*◌, ◌/◌, ◌%◌, ◌^◌, ◌<◌, ◌≤◌, inl, inr, List, [], ◌∷◌, length, Bool, true, cond, refl, sym, ap, subst, ◌∙◌, arith}
+use Rattle.std.proofs.Common.{get_or, ◌≡◌, ◌≢◌, ℕ, ◌+◌, ◌*◌, ◌/◌, ◌%◌, ◌^◌, ◌<◌, ◌≤◌, inl, inr, List, [], ◌∷◌, length, true, refl, sym, ap, subst, ◌∙◌, arith}
 use Rattle.std.specs.Prelude.{Option, Some, None, ◌↔◌, slice_get}
 use Rattle.std.specs.List.{All}
-use Rattle.std.proofs.lemmas.Bool.{cases_lt, eq-eqb, true≢false}
+use Rattle.std.proofs.lemmas.Bool.{cases_lt, true≢false}
 use Rattle.std.proofs.lemmas.List.{get_or_default, get_or_past}
-use Rattle.std.proofs.lemmas.Option.{none-some, same_Some, slice_get-get_or, slice_get_within}
+use Rattle.std.proofs.lemmas.Option.{none-some, same_Some, slice_get-get_or}
 use Rattle.mq_blocks.specs.Geometry.{homes_of}
 use Rattle.mq_blocks.specs.Journal.{is_among}
 use Rattle.mq_blocks.specs.Windows.{written}
@@ -12,16 +12,16 @@ use Rattle.mq_blocks.specs.declared.geometry.Geometry.{Geometry}
 use Rattle.mq_exec.specs.Changes.{AreOthers, IsPut, Stepped}
 use Rattle.mq_exec.specs.Fits.{Fits}
 use Rattle.mq_exec.specs.Pages.{Pages}
-use Rattle.mq_exec.proofs.LocalChanges.{kept-rewrites, kept-uses, used-kind}
+use Rattle.mq_exec.proofs.Listed.{among-here}
+use Rattle.mq_exec.proofs.LocalChanges.{kept-rewrites, kept-uses}
 use Rattle.mq_exec.proofs.LocalFits.{fits-put}
-use Rattle.mq_exec.proofs.LocalPages.{table-put}
 use Rattle.mq_exec.proofs.LocalParts.{dir-along, dir-cleared, dir-written, file-along}
 use Rattle.mq_exec.proofs.LocalSteps.{step-end, step-start, zone-held, zone-put}
 use Rattle.mq_exec.proofs.LocalUses.{Rewrites}
 use Rattle.mq_exec.proofs.Nodes.{length-padded}
 use Rattle.mq_layout.specs.Fields.{zero_bytes}
-use Rattle.mq_layout.specs.Inodes.{IsInode, inode_bytes}
-use Rattle.mq_layout.specs.Places.{file_limit, inode_block, inode_place, inodes_of}
+use Rattle.mq_layout.specs.Inodes.{IsInode}
+use Rattle.mq_layout.specs.Places.{file_limit}
 use Rattle.mq_layout.specs.Slots.{Entry, IsEntry, slot_bytes}
 use Rattle.mq_layout.specs.declared.inode.Inode.{Inode}
 use Rattle.mq_tree.specs.Laid.{IsPage, ShowsPart, inode_of, kind_of, links_of, or_zero, padded, size_of}
@@ -31,9 +31,6 @@ use Rattle.mq_tree.proofs.KeepUses.{AreUses, node-here, node-other}
 use Rattle.mq_tree.proofs.Unique.{padded-at}
 
 -- ---- the form of an inode
-
-among-first : (b c : ℕ) (bs : List ℕ) → c ≡ b → is_among c (b ∷ bs) ≡ true
-among-first b c bs e = ap (λ (t : Bool). cond t true (is_among c bs)) (eq-eqb b c (sym e))
 
 direct-low : (xs : List ℕ) → ((k c : ℕ) → slice_get xs k ≡ Some c → c < 2 ^ 32) → All (λ p. p < 2 ^ 32) (padded 12 xs)
 direct-low xs low k d l =
@@ -101,7 +98,7 @@ part-step g v i place b y old new page uses low there inode show fits put form s
     let bd : body w i ≡ y = ap (λ (n : Node). n.body) here in
     let fine = kept-uses g v w i uses o bs ind in
     let r : Rewrites g v w i (b ∷ []) = kept-rewrites g v w i (b ∷ []) o bs ind (ap (λ (n : Inode). n.kind) inode ∙ ap kind_of (sym bd)) (λ out. inode ∙ ap inode_of (sym here)) (λ k c out e other.
-    let away : k ≢ place = λ same. true≢false (sym (among-first b c [] (sym (same_Some b c (sym there ∙ ap (λ (j : ℕ). slice_get (node v i).blocks j) (sym same) ∙ e)))) ∙ out) in
+    let away : k ≢ place = λ same. true≢false (sym (ap (λ (x : ℕ). is_among x (b ∷ [])) (sym (same_Some b c (sym there ∙ ap (λ (j : ℕ). slice_get (node v i).blocks j) (sym same) ∙ e))) ∙ among-here b []) ∙ out) in
     subst (λ x. ShowsPart (body v i) k other ↔ ShowsPart x k other) (sym bd) (show k away other)) in
     let at = ap (λ (xs : List ℕ). slice_get xs place) bs ∙ there in
     let now = zone-put g w (Part i place) b page fine at form (subst (λ x. ShowsPart x place page) (sym bd) shows) in
@@ -159,29 +156,3 @@ slot_cleared-step g v d slot b slots now old new before page uses low is there h
     let s = dir-held g v d (slot / 15) b slots old before uses is there fits held in
     slot-step g v d slot b slots now old new page uses low is there rest fits put form
     (dir-cleared slots now (slot / 15) (slot % 15) before page (fits.held b before held).0.whole (omega arith) e (ap (λ (x : ℕ). get_or now x None) j ∙ here) (λ l other. rest l (λ f. other (f ∙ sym j))) s)
-
--- ---- the size alone
-
--- the inode is written, where each part of the body shows what it did
-pub size-step : (g : Geometry) (v : Volume) (i at : ℕ) (y : Body) (old new : Pages) (before page : List ℕ) → AreUses g v → i < length v → i < inodes_of g → is_used (body v i) ≡ true → kind_of (body v i) ≡ kind_of y → size_of y (length (node v i).blocks) ≤ file_limit
-    → ((p : ℕ) → p < length (node v i).blocks → (other : List ℕ) → ShowsPart (body v i) p other ↔ ShowsPart y p other)
-    → Fits g old v → old (inode_block g i) ≡ Some (Some before) → IsPut old new (inode_block g i) (Some page) → IsPage page → at ≡ inode_place i → page ≡ written before (128 * at) (inode_bytes (inode_of (rebodied (node v i) y)))
-    → Stepped g v (with_body v i y) new (inode_block g i ∷ [])
-size-step g v i at y old new before page uses low inside used kind few show fits held put form is e =
-    let b = inode_block g i in
-    let w = with_body v i y in
-    let here : node w i ≡ rebodied (node v i) y = node-here v i (rebodied (node v i) y) low in
-    let o : AreOthers v w i = λ x other. node-other v i x (rebodied (node v i) y) other in
-    let bs : (node w i).blocks ≡ (node v i).blocks = ap (λ (n : Node). n.blocks) here in
-    let ind : (node w i).indirect ≡ (node v i).indirect = ap (λ (n : Node). n.indirect) here in
-    let bd : body w i ≡ y = ap (λ (n : Node). n.body) here in
-    let fine = kept-uses g v w i uses o bs ind in
-    let r : Rewrites g v w i (b ∷ []) = kept-rewrites g v w i (b ∷ []) o bs ind (kind ∙ ap kind_of (sym bd)) (λ out. absurd (true≢false (sym (among-first b b [] refl) ∙ out))) (λ k c out h other.
-    subst (λ x. ShowsPart (body v i) k other ↔ ShowsPart x k other) (sym bd) (show k (got-low (node v i).blocks k c h) other)) in
-    let size : size_of (body w i) (length (node w i).blocks) ≤ file_limit = subst (λ (n : Node). size_of n.body (length n.blocks) ≤ file_limit) (sym here) few in
-    let good = inode-form g w i fine (sym (used-kind (body v i) (body w i) (kind ∙ ap kind_of (sym bd))) ∙ used) size in
-    let now = table-put g v w i at before page inside o (fits.held b before held) form is good (e ∙ ap (λ (n : Node). written before (128 * at) (inode_bytes (inode_of n))) (sym here)) in
-    step-end g v w i (b ∷ []) new uses fine r (fits-put g old new w [] b (Some page) (step-start g v w i (b ∷ []) old uses fine r fits) put now)
-  where
-    got-low : (xs : List ℕ) (k c : ℕ) → slice_get xs k ≡ Some c → k < length xs
-    got-low xs k c e = slice_get_within xs k c e

@@ -2,7 +2,7 @@
 use Rattle.std.proofs.Common.{get_or, ◌≡◌, ℕ, ◌+◌, ◌-◌, ◌<◌, ◌≤◌, ◌⊎◌, inl, inr, List, [], ◌∷◌, ◌++◌, length, take, drop, replicate, true, false, refl, sym, ap, subst, ◌∙◌, arith, length-append, length-take}
 use Rattle.std.specs.Prelude.{Some, ◌↔◌, slice_get}
 use Rattle.std.proofs.lemmas.Bool.{cases_lt}
-use Rattle.std.proofs.lemmas.List.{get_or_append_left, get_or-append_right, get_or-drop, get_or-replicate, get_or-take, get_or_past, length-replicate}
+use Rattle.std.proofs.lemmas.List.{get_or_append_left, get_or-append_right, get_or-drop, get_or-take, get_or_past}
 use Rattle.mq_blocks.specs.Journal.{is_among}
 use Rattle.mq_blocks.specs.declared.geometry.Geometry.{Geometry}
 use Rattle.mq_exec.specs.Changes.{AreOthers, FitsAt, IsInodeTurned, Stepped}
@@ -18,7 +18,7 @@ use Rattle.mq_layout.specs.Places.{file_limit, inode_block, inodes_of}
 use Rattle.mq_tree.specs.Laid.{IsPage, ShowsPart, inode_of, kind_of, size_of}
 use Rattle.mq_tree.specs.Requests.{cut_to, spliced, with_body}
 use Rattle.mq_tree.specs.Volume.{Body, Node, Part, Volume, body, is_used, node}
-use Rattle.mq_tree.proofs.KeepNodes.{cut-length}
+use Rattle.mq_tree.proofs.KeepNodes.{cut-length, zeros-at}
 use Rattle.mq_tree.proofs.KeepUses.{AreUses, node-here, node-other}
 
 -- a page that shows a part of the new body
@@ -78,12 +78,6 @@ body-step g v i y blocks old new uses low inside used kind few inode show fits r
 
 abbrev zeros : ℕ → List ℕ
 zeros n = replicate n 0
-
-zeros-at : (n k : ℕ) → get_or (zeros n) k 0 ≡ 0
-zeros-at n k = elim (cases_lt k n) [
-  | inl low ↦ get_or-replicate n k 0 0 low
-  | inr past ↦ get_or_past (zeros n) k 0 (let s : length (zeros n) ≡ n = length-replicate n 0 in omega arith)
-]
 
 -- before the new size a file has the bytes that it had, and zeros past them
 pub cut-at : (size : ℕ) (bytes : List ℕ) (k : ℕ) → k < size → get_or (cut_to size bytes) k 0 ≡ get_or bytes k 0

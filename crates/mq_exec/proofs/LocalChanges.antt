@@ -1,5 +1,5 @@
 -- The changes of one inode of which requests are made.
-use Rattle.std.proofs.Common.{get_or, ◌≡◌, ◌≢◌, ℕ, zero, suc, ◌+◌, ◌-◌, ◌*◌, ◌/◌, ◌<◌, ◌≤◌, ◌⊎◌, inl, inr, List, [], ◌∷◌, ◌++◌, length, Bool, true, false, cond, refl, sym, ap, subst, ◌∙◌, arith}
+use Rattle.std.proofs.Common.{get_or, ◌≡◌, ◌≢◌, ℕ, zero, suc, ◌+◌, ◌-◌, ◌*◌, ◌/◌, ◌<◌, ◌≤◌, ◌⊎◌, inl, inr, List, [], ◌∷◌, ◌++◌, length, Bool, true, false, refl, sym, ap, subst, ◌∙◌, arith}
 use Rattle.std.specs.Prelude.{Option, Some, None, ◌↔◌, ◌||◌, slice_get, nat_eq}
 use Rattle.std.proofs.lemmas.Bool.{cases_Bool, ne_eqb, true≢false}
 use Rattle.std.proofs.lemmas.List.{get_or_past, get_or_append_left, get_or_default, length-append, same_lists}
@@ -9,6 +9,7 @@ use Rattle.mq_blocks.specs.Geometry.{homes_of, meta_of, zone_size}
 use Rattle.mq_blocks.specs.Journal.{is_among}
 use Rattle.mq_blocks.specs.declared.geometry.Geometry.{Geometry}
 use Rattle.mq_exec.specs.Changes.{AreOthers, zone_in}
+use Rattle.mq_exec.proofs.Listed.{among-apart, among-push}
 use Rattle.mq_exec.proofs.LocalFrame.{has-use, same-bool}
 use Rattle.mq_exec.proofs.LocalParts.{pointers-along}
 use Rattle.mq_exec.proofs.LocalUses.{Rewrites, use-cases, uses-fewer, uses-new}
@@ -32,9 +33,6 @@ pub other-zone : (g : Geometry) (blocks : List ℕ) (b zone k : ℕ) → is_amon
 other-zone g blocks b zone k listed low out e =
     let same : zone_in g b ≡ zone = ap (λ (x : ℕ). zone_in g x) (sym e) ∙ zone-of-block g zone k low in
     true≢false (sym listed ∙ ap (λ (x : ℕ). is_among (zone_bitmap x) blocks) same ∙ out)
-
-other-listed : (blocks : List ℕ) (b c : ℕ) → is_among b blocks ≡ true → is_among c blocks ≡ false → c ≢ b
-other-listed blocks b c listed out e = true≢false (sym listed ∙ ap (λ (x : ℕ). is_among x blocks) (sym e) ∙ out)
 
 -- ---- the blocks stay
 
@@ -92,10 +90,6 @@ push-get (x ∷ xs) b (suc k) c e = elim (push-get xs b k c e) [
   | inr r ↦ let h = r.0 in inr (omega arith, r.1)
 ]
 
-pub among-push : (xs : List ℕ) (b c : ℕ) → c ≢ b → is_among c (xs ++ b ∷ []) ≡ is_among c xs
-among-push [] b c other = let n = ne_eqb b c (λ e. other (sym e)) in ap (λ (t : Bool). cond t true false) n
-among-push (x ∷ xs) b c other = ap (λ (t : Bool). cond (nat_eq x c) true t) (among-push xs b c other)
-
 -- a block is taken for the next part
 pub more-rewrites : (g : Geometry) (v w : Volume) (i b : ℕ) (blocks : List ℕ) → AreOthers v w i → body w i ≡ body v i → (node w i).blocks ≡ (node v i).blocks ++ b ∷ [] → (node w i).indirect ≡ (node v i).indirect
     → is_among b blocks ≡ true → is_among (zone_bitmap (zone_in g b)) blocks ≡ true → (is_among (inode_block g i) blocks ≡ false → inode_of (node v i) ≡ inode_of (node w i))
@@ -106,7 +100,7 @@ more-rewrites g v w i b blocks o bd bs ind here zone inode far = record {
   parts_show = λ k c out e page. body-shows _ _ k page (sym bd);
   parts_were = λ k c out e. elim (push-get (node v i).blocks b k c (ap (λ (xs : List ℕ). slice_get xs k) (sym bs) ∙ e)) [
     | inl old ↦ old
-    | inr new ↦ absurd (other-listed blocks b c here out new.1)
+    | inr new ↦ absurd (among-apart blocks b c here out new.1)
   ];
   pointers = λ c out e. ind ∙ e;
   pointers_show = λ c out e page.
@@ -154,7 +148,7 @@ pointed-rewrites g v w i b blocks o bd bs was ind here zone inode = record {
   parts_were = λ k c out e. ap (λ (xs : List ℕ). slice_get xs k) (sym bs) ∙ e;
   pointers = λ c out e. absurd (none-some c (sym was ∙ e));
   pointers_show = λ c out e. absurd (none-some c (sym was ∙ e));
-  pointers_were = λ c out e. absurd (other-listed blocks b c here out (sym (same_Some b c (sym ind ∙ e))));
+  pointers_were = λ c out e. absurd (among-apart blocks b c here out (sym (same_Some b c (sym ind ∙ e))));
   marks = λ zone_at k low l out.
       let c = zone_block g zone_at k in
       let other = other-zone g blocks b zone_at k zone l out in

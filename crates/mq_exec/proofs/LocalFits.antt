@@ -5,11 +5,10 @@ use Rattle.std.proofs.lemmas.Bool.{cases_eq, ne_eqb}
 use Rattle.mq_blocks.specs.Journal.{is_among}
 use Rattle.mq_blocks.specs.declared.geometry.Geometry.{Geometry}
 use Rattle.mq_exec.specs.Changes.{FitsAt, FitsBut, IsPut}
-use Rattle.mq_exec.specs.Fits.{Agrees, Fits}
+use Rattle.mq_exec.specs.Fits.{Fits}
 use Rattle.mq_exec.specs.Moves.{SameAt}
 use Rattle.mq_exec.specs.Pages.{Pages}
 use Rattle.mq_tree.specs.Laid.{IsVacant, Shows}
-use Rattle.mq_tree.specs.Sound.{IsSound}
 use Rattle.mq_tree.specs.Volume.{Volume}
 
 fits-at : (g : Geometry) (v : Volume) (b : ℕ) (o : Option (Option (List ℕ))) → ((page : List ℕ) → o ≡ Some (Some page) → Shows g v b page) → (o ≡ Some None → IsVacant g v b) → FitsAt g o v b
@@ -41,17 +40,6 @@ fits-put g old new v blocks b page fits put f x out = elim (cases_eq x b) [
       subst (λ o. FitsAt g o v x) (sym (put.others x other)) (fits x rest)
 ]
 
--- one that the pages do not have
-pub fits-absent : (g : Geometry) (pages : Pages) (v : Volume) (blocks : List ℕ) (b : ℕ) → FitsBut g pages v (b ∷ blocks) → pages b ≡ None → FitsBut g pages v blocks
-fits-absent g pages v blocks b fits none x out = elim (cases_eq x b) [
-  | inl e ↦
-      let here : pages x ≡ None = ap pages e ∙ none in
-      subst (λ o. FitsAt g o v x) (sym here) tt
-  | inr other ↦
-      let n = ne_eqb b x (λ e. other (sym e)) in
-      fits x (ap (λ (c : Bool). cond c true (is_among x blocks)) n ∙ out)
-]
-
 held-at : (g : Geometry) (v : Volume) (b : ℕ) (o : Option (Option (List ℕ))) (page : List ℕ) → o ≡ Some (Some page) → FitsAt g o v b → Shows g v b page
 held-at g v b o page e f = subst (λ x. FitsAt g x v b) e f
 
@@ -64,10 +52,3 @@ fits-end g pages v fits = record {
   held = λ b page e. held-at g v b (pages b) page e (fits b refl);
   free = λ b e. free-at g v b (pages b) e (fits b refl);
 }
-
--- the block of a change of one page
-pub fits-one : (g : Geometry) (old new : Pages) (v w : Volume) (b : ℕ) (page : Option (List ℕ)) → Fits g old v → ((x : ℕ) → is_among x (b ∷ []) ≡ false → SameAt g v w x) → IsPut old new b page → FitsAt g (Some page) w b → Fits g new w
-fits-one g old new v w b page fits same put f = fits-end g new w (fits-put g old new w [] b page (fits-start g old v w (b ∷ []) fits same) put f)
-
-pub agrees-end : (g : Geometry) (pages : Pages) (v : Volume) → IsSound g v → FitsBut g pages v [] → Agrees g pages v
-agrees-end g pages v sound fits = record { sound = sound; fits = fits-end g pages v fits }

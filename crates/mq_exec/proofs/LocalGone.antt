@@ -1,8 +1,9 @@
 -- The blocks that an inode has no more, where it is freed or a file is cut.
-use Rattle.std.proofs.Common.{◌≡◌, ℕ, zero, suc, ◌<◌, ◌≤◌, inl, inr, List, [], ◌∷◌, ◌++◌, length, drop, take, Bool, true, false, cond, refl, sym, ap, subst, ◌∙◌, arith}
+use Rattle.std.proofs.Common.{◌≡◌, ℕ, zero, suc, ◌<◌, ◌≤◌, inl, inr, List, [], ◌∷◌, ◌++◌, length, drop, take, Bool, true, false, cond, refl, sym, ap, subst, ◌∙◌}
 use Rattle.std.specs.Prelude.{Option, Some, None, ◌||◌, is_some, nat_eq, nat_lt, if◌then◌else◌}
 use Rattle.std.specs.List.{All}
 use Rattle.std.proofs.lemmas.Bool.{cases_Bool, ltb-false, ltb-true, true≢false}
+use Rattle.std.proofs.lemmas.List.Elements.{All-contains}
 use Rattle.mq_blocks.specs.Geometry.{queues_of}
 use Rattle.mq_blocks.specs.Journal.{is_among}
 use Rattle.mq_blocks.specs.declared.geometry.Geometry.{Geometry}
@@ -12,9 +13,8 @@ use Rattle.mq_exec.specs.Opened.{IsOpened, IsReleasable, cut_file}
 use Rattle.mq_exec.specs.Pages.{IsHeld, Pages, content}
 use Rattle.mq_exec.specs.Released.{IsReleased, gone_from}
 use Rattle.mq_exec.specs.declared.opened.Opened.{Opened}
-use Rattle.mq_exec.proofs.LocalLists.{among-cons, among-either, among-here, among-behind, bitmap-zone, bitmaps, if_some, indirect-among, listed-drop, part-gone, pointers-gone}
-use Rattle.mq_exec.proofs.LocalSteps.{among-parts}
-use Rattle.mq_exec.proofs.Releasing.{among-one}
+use Rattle.mq_exec.proofs.Listed.{among-behind, among-cons, among-contains, among-either, among-here, among-one, among-parts}
+use Rattle.mq_exec.proofs.LocalLists.{bitmap-zone, bitmaps, if_some, indirect-among, listed-drop, part-gone, pointers-gone}
 use Rattle.mq_layout.specs.Places.{zone_bitmap}
 use Rattle.mq_layout.specs.declared.inode.Inode.{Inode}
 use Rattle.mq_tree.specs.Laid.{or_zero}
@@ -108,11 +108,7 @@ bitmap-in g xs bs ys b e first last = elim (among-either xs (bitmaps (zones_of g
 -- ---- what is known of them
 
 among-all : (P : ℕ → Type 0) (xs : List ℕ) (c : ℕ) → All P xs → is_among c xs ≡ true → P c
-among-all P [] c all e = absurd (true≢false (sym e))
-among-all P (x ∷ xs) c all e = elim (among-cons x c xs e) [
-  | inl same ↦ subst P (sym same) (all 0 x (omega arith))
-  | inr later ↦ among-all P xs c (λ k d l. all (suc k) d (omega (arith, l))) later
-]
+among-all P xs c all e = All-contains P xs c all (among-contains xs c e)
 
 pub gone-releasable : (g : Geometry) (pages : Pages) (o : Opened) (count : ℕ) → All (IsReleasable g pages) (drop count o.blocks.items) → (count ≤ 12 → 12 < length o.blocks.items → IsReleasable g pages o.inode.indirect) → (c : ℕ) → is_among c (gone_from o count) ≡ true → IsReleasable g pages c
 gone-releasable g pages o count blocks pointers c e = elim (among-either (drop count o.blocks.items) (if nat_lt 12 count then [] else (if nat_lt 12 (length o.blocks.items) then o.inode.indirect ∷ [] else [])) c e) [

@@ -1,7 +1,7 @@
 -- An inode that is made or freed, and a file that is cut.
-use Rattle.std.proofs.Common.{set, ◌≡◌, ◌≢◌, ℕ, ◌*◌, ◌<◌, ◌⊎◌, inl, inr, List, [], ◌∷◌, length, Bool, true, false, cond, refl, sym, ap, subst, ◌∙◌, arith}
-use Rattle.std.specs.Prelude.{Some, None, nat_eq, slice_get}
-use Rattle.std.proofs.lemmas.Bool.{cases_Bool, eq-eqb, true≢false}
+use Rattle.std.proofs.Common.{set, ◌≡◌, ◌≢◌, ℕ, ◌*◌, ◌<◌, ◌⊎◌, inl, inr, List, [], ◌∷◌, length, Bool, true, false, refl, sym, ap, subst, ◌∙◌, arith}
+use Rattle.std.specs.Prelude.{Some, None, slice_get}
+use Rattle.std.proofs.lemmas.Bool.{true≢false}
 use Rattle.std.proofs.lemmas.Option.{none-some}
 use Rattle.mq_blocks.specs.Geometry.{queues_of}
 use Rattle.mq_blocks.specs.Journal.{is_among}
@@ -10,6 +10,7 @@ use Rattle.mq_blocks.specs.declared.geometry.Geometry.{Geometry}
 use Rattle.mq_exec.specs.Changes.{AreOthers, FitsAt, IsCleared, IsInodeMarked, IsInodePut, IsInodeTurned, IsMarkTurned, Stepped, zone_in}
 use Rattle.mq_exec.specs.Fits.{Fits}
 use Rattle.mq_exec.specs.Pages.{Pages}
+use Rattle.mq_exec.proofs.Listed.{among-behind, among-here}
 use Rattle.mq_exec.proofs.LocalChanges.{bare-rewrites, fewer-rewrites}
 use Rattle.mq_exec.proofs.LocalFits.{fits-put}
 use Rattle.mq_exec.proofs.LocalPages.{inode_marks-one, table-put}
@@ -30,15 +31,6 @@ use Rattle.mq_tree.proofs.Uses.{use-has}
 abbrev pub bare : Body → Node
 bare y = record { body = y; blocks = []; indirect = None }
 
-among-first : (b : ℕ) (bs : List ℕ) → is_among b (b ∷ bs) ≡ true
-among-first b bs = ap (λ (t : Bool). cond t true (is_among b bs)) (eq-eqb b b refl)
-
-among-second : (x b : ℕ) (bs : List ℕ) → x ≢ b → is_among b (x ∷ b ∷ bs) ≡ true
-among-second x b bs other = elim (cases_Bool (nat_eq x b)) [
-  | inl y ↦ ap (λ (t : Bool). cond t true (is_among b (b ∷ bs))) y
-  | inr n ↦ ap (λ (t : Bool). cond t true (is_among b (b ∷ bs))) n ∙ among-first b bs
-]
-
 marks-apart : (g : Geometry) (i : ℕ) → inode_bitmap g ≢ inode_block g i
 marks-apart g i e = omega arith
 
@@ -54,7 +46,7 @@ bare-step g v i y old mid new uses low inside was none good fits m p =
     let fine : AreUses g w = uses-fewer g v w i uses o (λ k c e. absurd (none-some c (ap (λ (xs : List ℕ). slice_get xs k) (sym bs) ∙ e))) (λ c e. absurd (none-some c (sym ind ∙ e))) in
     let a = inode_bitmap g in
     let b = inode_block g i in
-    let r : Rewrites g v w i (a ∷ b ∷ []) = bare-rewrites g v w i (a ∷ b ∷ []) o was bs none ind (λ out. absurd (true≢false (sym (among-first a (b ∷ [])) ∙ out))) (λ out. absurd (true≢false (sym (among-second a b [] (marks-apart g i)) ∙ out))) in
+    let r : Rewrites g v w i (a ∷ b ∷ []) = bare-rewrites g v w i (a ∷ b ∷ []) o was bs none ind (λ out. absurd (true≢false (sym (among-here a (b ∷ [])) ∙ out))) (λ out. absurd (true≢false (sym (among-behind a b (b ∷ []) (among-here b [])) ∙ out))) in
     let marks = inode_marks-one g v w i (is_used y) m.before m.after o (ap (λ (n : Node). is_used n.body) here) (fits.held a m.before m.was) m.form m.bit m.rest in
     let before = put-before old mid a b (Some m.after) (Some (Some p.before)) m.put (λ e. marks-apart g i (sym e)) p.was in
     let inode = table-put g v w i (inode_place i) p.before p.after inside o (fits.held b p.before before) p.form refl (subst (λ (n : Node). IsInode (inode_of n)) (sym here) good) (p.is ∙ ap (λ (n : Node). written p.before (128 * inode_place i) (inode_bytes (inode_of n))) (sym here)) in

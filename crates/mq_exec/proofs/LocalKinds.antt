@@ -1,17 +1,18 @@
 -- Which blocks have parts of files, for the kind under which they are written.
-use Rattle.std.proofs.Common.{◌≡◌, ◌≢◌, ℕ, ◌<◌, inl, inr, List, false, refl, sym, ap, ◌∙◌, arith}
+use Rattle.std.proofs.Common.{◌≡◌, ℕ, ◌<◌, inl, inr, List, false, refl, sym, ap, ◌∙◌, arith}
 use Rattle.std.specs.Prelude.{Option, Some, ◌↔◌, slice_get}
-use Rattle.std.proofs.lemmas.Bool.{cases_eq, true≢false}
+use Rattle.std.proofs.lemmas.Bool.{cases_eq}
 use Rattle.mq_blocks.specs.Geometry.{meta_of}
 use Rattle.mq_blocks.specs.Journal.{is_among}
 use Rattle.mq_blocks.specs.declared.geometry.Geometry.{Geometry}
 use Rattle.mq_exec.specs.Changes.{AreOthers, owner}
 use Rattle.mq_exec.specs.Moves.{IsOfFile}
-use Rattle.mq_exec.proofs.LocalFrame.{others-back, owner-has, use-along}
+use Rattle.mq_exec.proofs.LocalFrame.{others-back}
 use Rattle.mq_exec.proofs.LocalUses.{Rewrites}
 use Rattle.mq_layout.specs.Slots.{Entry}
+use Rattle.mq_pages.specs.declared.page.Kind.TheVariants.{Data, Meta}
 use Rattle.mq_tree.specs.Laid.{kind_of}
-use Rattle.mq_tree.specs.Volume.{Body, Free, File, Dir, Node, Use, Part, Pointers, Volume, block_in, body, has_block, node}
+use Rattle.mq_tree.specs.Volume.{Body, Free, File, Dir, Node, Use, Part, Pointers, Volume, block_in, body, node}
 use Rattle.mq_tree.proofs.KeepUses.{AreUses}
 
 -- a part of a file
@@ -42,16 +43,6 @@ pointers-not-file g w i b uses e f =
 pub meta-not-file : (g : Geometry) (w : Volume) (b : ℕ) → AreUses g w → b < meta_of g → IsOfFile w b → ⊥
 meta-not-file g w b uses low f = let z = (uses.zones (Part f.inode f.place) b f.there).0 in absurd (omega arith)
 
--- one inode changes, and the block is not its own
-of-file-from : (v w : Volume) (i b : ℕ) → AreOthers v w i → has_block (node v i) b ≡ false → IsOfFile v b → IsOfFile w b
-of-file-from v w i b o lacks f =
-    let other : f.inode ≢ i = λ e. true≢false (sym (owner-has v (Part f.inode f.place) b f.there) ∙ ap (λ (x : ℕ). has_block (node v x) b) e ∙ lacks) in
-    let same = o f.inode other in
-    record { inode = f.inode; place = f.place; bytes = f.bytes; there = use-along v w (Part f.inode f.place) b same f.there; is = ap (λ (n : Node). n.body) same ∙ f.is }
-
-pub of-file-same : (v w : Volume) (i b : ℕ) → AreOthers v w i → has_block (node v i) b ≡ false → has_block (node w i) b ≡ false → IsOfFile v b ↔ IsOfFile w b
-of-file-same v w i b o lacks none = (of-file-from v w i b o lacks, of-file-from w v i b (others-back v w i o) none)
-
 -- ---- blocks that are not listed
 
 file-kind : (x y : Body) (bytes : List ℕ) → x ≡ File bytes → kind_of x ≡ kind_of y → (now : List ℕ) × (y ≡ File now)
@@ -76,3 +67,6 @@ files-same g v w i blocks r b out = (
   files-along v w i b r.others (λ k e. (r.parts k b out e, r.kind k b out e)),
   files-along w v i b (others-back v w i r.others) (λ k e. let was = r.parts_were k b out e in (was, sym (r.kind k b out was))),
 )
+
+pub meta-not-data : Meta ≡ Data → ⊥
+meta-not-data e = absurd (cc)

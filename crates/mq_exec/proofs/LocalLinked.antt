@@ -10,11 +10,10 @@ use Rattle.mq_exec.specs.Changes.{IsPut, Stepped}
 use Rattle.mq_exec.specs.Fits.{Fits}
 use Rattle.mq_exec.specs.Pages.{Pages}
 use Rattle.mq_exec.proofs.LocalBodies.{slot_cleared-step, slot_written-step}
-use Rattle.mq_exec.proofs.LocalVolumes.{one_more-is, pointed-is, pointed-not}
 use Rattle.mq_layout.specs.Fields.{zero_bytes}
 use Rattle.mq_layout.specs.Slots.{Entry, IsEntry, slot_bytes}
 use Rattle.mq_tree.specs.Laid.{IsPage}
-use Rattle.mq_tree.specs.Free.{first_of, grown, one_more, order, with_block, with_pointers}
+use Rattle.mq_tree.specs.Free.{grown}
 use Rattle.mq_tree.specs.Requests.{cleared, linked, linked_at, unlinked, unused, with_body}
 use Rattle.mq_tree.specs.Volume.{Dir, Volume, body, find, node, slots_of}
 use Rattle.mq_tree.proofs.KeepNodes.{cleared-is}
@@ -68,14 +67,6 @@ linked-grown g q v u d slots entry is none e =
     let same : slots_of (body v d) ≡ slots = ap slots_of is in
     ap (λ (o : Option ℕ). linked_at g q v d entry o) (ap (λ (xs : List (Option Entry)). unused 0 xs) same ∙ none)
     ∙ ap (λ (xs : List (Option Entry)). with_body (grown g q v d 1) d (Dir (with_entry xs entry))) same ∙ ap (λ (x : Volume). with_body x d (Dir (with_entry slots entry))) e
-
--- a block more, without a block of pointers and with one
-pub grown-one : (g : Geometry) (q : ℕ) (v : Volume) (i b : ℕ) → length (node v i).blocks ≢ 12 → first_of v (order g q) ≡ Some b → grown g q v i 1 ≡ with_block v i (Some b)
-grown-one g q v i b other first = ap (λ (x : Volume). one_more g q x i) (pointed-not g q v i other) ∙ one_more-is g q v i b first
-
-pub grown-pointed : (g : Geometry) (q : ℕ) (v : Volume) (i p b : ℕ) → length (node v i).blocks ≡ 12 → first_of v (order g q) ≡ Some p → first_of (with_pointers v i (Some p)) (order g q) ≡ Some b
-    → grown g q v i 1 ≡ with_block (with_pointers v i (Some p)) i (Some b)
-grown-pointed g q v i p b twelve first next = ap (λ (x : Volume). one_more g q x i) (pointed-is g q v i p twelve first) ∙ one_more-is g q (with_pointers v i (Some p)) i b next
 
 -- ---- an entry less
 

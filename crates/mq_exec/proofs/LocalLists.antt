@@ -1,13 +1,14 @@
 -- The blocks that change where an inode is freed or a file is cut.
 use Rattle.std.proofs.Common.{◌≡◌, ℕ, zero, suc, ◌<◌, ◌≤◌, ◌⊎◌, inl, inr, List, [], ◌∷◌, ◌++◌, length, drop, take, length-take, Bool, true, false, cond, refl, sym, ap, subst, ◌∙◌, arith}
 use Rattle.std.specs.Prelude.{Option, Some, None, ◌||◌, nat_eq, nat_lt, slice_get, if◌then◌else◌}
-use Rattle.std.proofs.lemmas.Bool.{cases_Bool, eq-eqb, eqb-true, false_from_ne_true, or_cases, true≢false}
+use Rattle.std.proofs.lemmas.Bool.{cases_Bool, false_from_ne_true, or_cases, true≢false}
 use Rattle.std.proofs.lemmas.Option.{none-some, same_Some, slice_get_within}
 use Rattle.mq_blocks.specs.Geometry.{queues_of}
 use Rattle.mq_blocks.specs.Journal.{is_among}
 use Rattle.mq_blocks.specs.declared.geometry.Geometry.{Geometry}
 use Rattle.mq_exec.specs.Changes.{zone_in}
 use Rattle.mq_exec.specs.Opened.{cut_file, cut_node}
+use Rattle.mq_exec.proofs.Listed.{among-behind, among-cons, among-either, among-here, among-left, among-right}
 use Rattle.mq_exec.proofs.LocalCut.{AreCut, kept-option, take-get}
 use Rattle.mq_exec.proofs.LocalFrame.{has-use}
 use Rattle.mq_exec.proofs.LocalInodes.{AreFreed}
@@ -18,42 +19,6 @@ use Rattle.mq_tree.proofs.KeepUses.{AreUses, node-here}
 use Rattle.mq_tree.proofs.Uses.{use-has}
 
 -- ---- what is listed
-
-pub among-left : (xs ys : List ℕ) (b : ℕ) → is_among b xs ≡ true → is_among b (xs ++ ys) ≡ true
-among-left [] ys b e = absurd (true≢false (sym e))
-among-left (x ∷ xs) ys b e = elim (cases_Bool (nat_eq x b)) [
-  | inl y ↦ ap (λ (t : Bool). cond t true (is_among b (xs ++ ys))) y
-  | inr n ↦ ap (λ (t : Bool). cond t true (is_among b (xs ++ ys))) n ∙ among-left xs ys b (ap (λ (t : Bool). cond t true (is_among b xs)) (sym n) ∙ e)
-]
-
-pub among-right : (xs ys : List ℕ) (b : ℕ) → is_among b ys ≡ true → is_among b (xs ++ ys) ≡ true
-among-right [] ys b e = e
-among-right (x ∷ xs) ys b e = elim (cases_Bool (nat_eq x b)) [
-  | inl y ↦ ap (λ (t : Bool). cond t true (is_among b (xs ++ ys))) y
-  | inr n ↦ ap (λ (t : Bool). cond t true (is_among b (xs ++ ys))) n ∙ among-right xs ys b e
-]
-
-pub among-either : (xs ys : List ℕ) (b : ℕ) → is_among b (xs ++ ys) ≡ true → (is_among b xs ≡ true) ⊎ (is_among b ys ≡ true)
-among-either [] ys b e = inr e
-among-either (x ∷ xs) ys b e = elim (cases_Bool (nat_eq x b)) [
-  | inl y ↦ inl (ap (λ (t : Bool). cond t true (is_among b xs)) y)
-  | inr n ↦ elim (among-either xs ys b (ap (λ (t : Bool). cond t true (is_among b (xs ++ ys))) (sym n) ∙ e)) [
-    | inl l ↦ inl (ap (λ (t : Bool). cond t true (is_among b xs)) n ∙ l)
-    | inr r ↦ inr r
-  ]
-]
-
-pub among-cons : (x b : ℕ) (bs : List ℕ) → is_among b (x ∷ bs) ≡ true → (b ≡ x) ⊎ (is_among b bs ≡ true)
-among-cons x b bs e = elim (cases_Bool (nat_eq x b)) [
-  | inl y ↦ inl (sym (eqb-true x b y))
-  | inr n ↦ inr (ap (λ (t : Bool). cond t true (is_among b bs)) (sym n) ∙ e)
-]
-
-pub among-here : (b : ℕ) (bs : List ℕ) → is_among b (b ∷ bs) ≡ true
-among-here b bs = ap (λ (t : Bool). cond t true (is_among b bs)) (eq-eqb b b refl)
-
-pub among-behind : (x b : ℕ) (bs : List ℕ) → is_among b bs ≡ true → is_among b (x ∷ bs) ≡ true
-among-behind x b bs e = among-right (x ∷ []) bs b e
 
 -- the bitmaps of zones
 abbrev pub bitmaps : List ℕ → List ℕ

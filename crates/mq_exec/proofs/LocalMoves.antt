@@ -7,7 +7,8 @@ use Rattle.std.proofs.lemmas.Option.{none-some}
 use Rattle.mq_blocks.specs.Geometry.{meta_of}
 use Rattle.mq_blocks.specs.declared.geometry.Geometry.{Geometry}
 use Rattle.mq_exec.specs.Moves.{Differs, IsFreed, IsOfFile, IsWritten, LeadsTo, Moves}
-use Rattle.mq_exec.specs.Pages.{IsHeld, Pages, content, over}
+use Rattle.mq_exec.specs.Pages.{Pages, content, over}
+use Rattle.mq_exec.proofs.Held.{held-is}
 use Rattle.mq_exec.proofs.LocalOnce.{page-once, shown-taken, shown-vacant}
 use Rattle.mq_pages.specs.declared.page.Kind.{Kind}
 use Rattle.mq_pages.specs.declared.page.Kind.TheVariants.{Data, Meta}
@@ -95,9 +96,6 @@ known-cases None = unknown refl
 known-cases (Some None) = vacant refl
 known-cases (Some (Some page)) = full page refl
 
-held-page : (pages : Pages) (b : ℕ) (page : List ℕ) → pages b ≡ Some (Some page) → IsHeld pages b
-held-page pages b page e = e ∙ ap (λ (p : List ℕ). Some (Some p)) (sym (ap content e))
-
 over-changed : (view changed : Pages) (b : ℕ) (o : Option (List ℕ)) → changed b ≡ Some o → over (changed b) (view b) ≡ Some o
 over-changed view changed b o e = ap (λ (x : Option (Option (List ℕ))). over x (view b)) e
 
@@ -166,4 +164,4 @@ differs-moves g view changed v w writes frees t d kinds = record {
             was : changed b ≡ Some None → Known (view b) → Contains frees b
             was e (unknown h) = absurd (none-some None (sym (t.known b h) ∙ e))
             was e (vacant h) = absurd (true≢false (sym is.0 ∙ (t.before.fits.free b h).1))
-            was e (full page h) = d.frees_all b e (held-page view b page h)
+            was e (full page h) = d.frees_all b e (held-is view b page h)

@@ -14,7 +14,7 @@ use Rattle.mq_layout.proofs.EmptyLaws.{zeros-unused}
 use Rattle.mq_layout.proofs.Laws.{pointer-kept, pointer-written, slot-cleared, slot-kept, slot-written}
 use Rattle.mq_layout.proofs.SlotForms.{length-slot_bytes}
 use Rattle.mq_layout.proofs.Zeros.{length-zero_bytes, number_at-byte, zero_bytes-at}
-use Rattle.mq_tree.specs.Laid.{IsPage, ShowsPart, ShowsPointers}
+use Rattle.mq_tree.specs.Laid.{ShowsPart, ShowsPointers}
 use Rattle.mq_tree.specs.Volume.{File, Dir}
 
 -- ---- where the same is shown
@@ -103,9 +103,6 @@ length-zeros = length-replicate {A = ℕ} 4096 0
 pub zeros-at : (k : ℕ) → get_or zeros k 0 ≡ 0
 unfolding zeros zero_bytes
 zeros-at k = zero_bytes-at 4096 k
-
-pub zeros-page : IsPage zeros
-zeros-page = record { whole = length-zeros; bytes = λ k. let e = zeros-at k in omega arith }
 
 pub zeros-number : (p n : ℕ) → p + n ≤ 4096 → ShowsBytes zeros p (zero_bytes n)
 zeros-number p n h =

@@ -16,9 +16,6 @@ use Rattle.mq_tree.proofs.Regions.{region-inode_marks, region-marks, region-outs
 pub same-self : (g : Geometry) (v : Volume) (b : ℕ) → SameAt g v v b
 same-self g v b = record { shows = λ page. (λ s. s, λ s. s); vacant = (λ s. s, λ s. s) }
 
-pub same-back : (g : Geometry) (v w : Volume) (b : ℕ) → SameAt g v w b → SameAt g w v b
-same-back g v w b s = record { shows = λ page. ((s.shows page).1, (s.shows page).0); vacant = (s.vacant.1, s.vacant.0) }
-
 pub same-then : (g : Geometry) (v u w : Volume) (b : ℕ) → SameAt g v u b → SameAt g u w b → SameAt g v w b
 same-then g v u w b s t = record {
   shows = λ page. (λ x. (t.shows page).0 ((s.shows page).0 x), λ x. (s.shows page).1 ((t.shows page).1 x));

@@ -1,6 +1,6 @@
 -- Pages that are put one after another, until they fit the volume in which one inode changed.
-use Rattle.std.proofs.Common.{◌≡◌, ◌≢◌, ℕ, ◌-◌, ◌%◌, ◌<◌, ◌≤◌, inl, inr, List, [], ◌∷◌, ◌++◌, Bool, true, false, cond, refl, sym, ap, subst, ◌∙◌, arith}
-use Rattle.std.specs.Prelude.{Option, Some, if◌then◌else◌, nat_eq}
+use Rattle.std.proofs.Common.{◌≡◌, ◌≢◌, ℕ, ◌-◌, ◌%◌, ◌<◌, ◌≤◌, inl, inr, List, [], Bool, true, false, sym, ap, subst, ◌∙◌, arith}
+use Rattle.std.specs.Prelude.{Option, Some, if◌then◌else◌}
 use Rattle.std.proofs.lemmas.Bool.{cases_Bool, cases_eq, false_from_ne_true, true≢false}
 use Rattle.mq_blocks.specs.Geometry.{homes_of, meta_of, queues_of, zone_size}
 use Rattle.mq_blocks.specs.Journal.{is_among}
@@ -13,7 +13,7 @@ use Rattle.mq_exec.proofs.LocalFits.{fits-all, fits-end, fits-start, same-fits}
 use Rattle.mq_exec.proofs.LocalFrame.{frame, has-use, owner-has, taken-same, use-along, zone-use}
 use Rattle.mq_exec.proofs.LocalKinds.{files-same}
 use Rattle.mq_exec.proofs.LocalPages.{marks-cleared, marks-one}
-use Rattle.mq_exec.proofs.LocalRegions.{same-then, shows-in, shown-in}
+use Rattle.mq_exec.proofs.LocalRegions.{shows-in, shown-in}
 use Rattle.mq_exec.proofs.LocalUses.{Rewrites, changes-at}
 use Rattle.mq_layout.specs.Bits.{bit_of}
 use Rattle.mq_layout.specs.Places.{zone_bitmap}
@@ -45,27 +45,6 @@ step-over g v w i blocks old new uses fine r fits rest put =
       | inl y ↦ put x y
       | inr n ↦ subst (λ o. FitsAt g o w x) (sym (rest x n)) (same-fits g v w x (old x) (same x n) (fits-all g old v fits x))
     ])
-
-pub among-parts : (xs ys : List ℕ) (b : ℕ) → is_among b (xs ++ ys) ≡ false → (is_among b xs ≡ false) × (is_among b ys ≡ false)
-among-parts [] ys b e = (refl, e)
-among-parts (x ∷ xs) ys b e = elim (cases_Bool (nat_eq x b)) [
-  | inl y ↦ absurd (true≢false (ap (λ (t : Bool). cond t true (is_among b (xs ++ ys))) (sym y) ∙ e))
-  | inr n ↦
-      let r = among-parts xs ys b (ap (λ (t : Bool). cond t true (is_among b (xs ++ ys))) (sym n) ∙ e) in
-      (ap (λ (t : Bool). cond t true (is_among b xs)) n ∙ r.0, r.1)
-]
-
--- one step behind another
-pub step-then : (g : Geometry) (v u w : Volume) (mid new : Pages) (blocks more : List ℕ) → Stepped g v u mid blocks → Stepped g u w new more → Stepped g v w new (blocks ++ more)
-step-then g v u w mid new blocks more s t = record {
-  fits = t.fits;
-  same = λ b out. let r = among-parts blocks more b out in same-then g v u w b (s.same b r.0) (t.same b r.1);
-  files = λ b out.
-      let r = among-parts blocks more b out in
-      let f = s.files b r.0 in
-      let h = t.files b r.1 in
-      (λ x. h.0 (f.0 x), λ x. f.1 (h.1 x));
-}
 
 -- a page that was not put yet is as it was
 pub put-before : (old new : Pages) (b x : ℕ) (page : Option (List ℕ)) (o : Option (Option (List ℕ))) → IsPut old new b page → x ≢ b → new x ≡ o → old x ≡ o

@@ -1,8 +1,8 @@
 -- A free block is taken for an inode: for its next part, or for its pointers.
-use Rattle.std.proofs.Common.{get_or, ◌≡◌, ◌≢◌, ℕ, zero, suc, ◌+◌, ◌-◌, ◌*◌, ◌<◌, ◌≤◌, inl, inr, List, [], ◌∷◌, ◌++◌, length, Bool, true, false, cond, refl, sym, ap, subst, ◌∙◌, arith}
+use Rattle.std.proofs.Common.{get_or, ◌≡◌, ◌≢◌, ℕ, zero, suc, ◌+◌, ◌-◌, ◌*◌, ◌<◌, ◌≤◌, List, [], ◌∷◌, ◌++◌, length, Bool, true, false, refl, sym, ap, subst, ◌∙◌, arith}
 use Rattle.std.specs.Int.{to_le_bytes, w32}
-use Rattle.std.specs.Prelude.{Option, Some, None, ◌||◌, nat_eq, slice_get}
-use Rattle.std.proofs.lemmas.Bool.{cases_Bool, eq-eqb, ne_eqb, true≢false}
+use Rattle.std.specs.Prelude.{Option, Some, None, ◌||◌, slice_get}
+use Rattle.std.proofs.lemmas.Bool.{ne_eqb, true≢false}
 use Rattle.std.proofs.lemmas.List.{get_or_at, get_or_past, length-append}
 use Rattle.std.proofs.lemmas.Option.{same_Some}
 use Rattle.mq_blocks.specs.Blocks.{zeros}
@@ -14,12 +14,13 @@ use Rattle.mq_blocks.proofs.Windows.{number-shown}
 use Rattle.mq_exec.specs.Changes.{AreOthers, FitsBut, IsInodePut, IsPointerPut, IsTakenIn, Stepped, zone_in}
 use Rattle.mq_exec.specs.Fits.{Fits}
 use Rattle.mq_exec.specs.Pages.{Pages}
+use Rattle.mq_exec.proofs.Listed.{among-behind, among-here, among-push}
 use Rattle.mq_exec.proofs.LocalBodies.{inode-form}
-use Rattle.mq_exec.proofs.LocalChanges.{among-push, more-rewrites, more-uses, padded-push, pointed-rewrites, pointed-uses}
+use Rattle.mq_exec.proofs.LocalChanges.{more-rewrites, more-uses, padded-push, pointed-rewrites, pointed-uses}
 use Rattle.mq_exec.proofs.LocalFits.{fits-put}
 use Rattle.mq_exec.proofs.LocalFrame.{taken-same}
 use Rattle.mq_exec.proofs.LocalPages.{table-put}
-use Rattle.mq_exec.proofs.LocalParts.{pointers-written, zeros-number, zeros-page}
+use Rattle.mq_exec.proofs.LocalParts.{pointers-written, zeros-number}
 use Rattle.mq_exec.proofs.LocalSteps.{mark-put, put-before, step-end, step-start, zone-held, zone-put}
 use Rattle.mq_exec.proofs.LocalUses.{Rewrites}
 use Rattle.mq_layout.specs.Bits.{pointer_of}
@@ -27,21 +28,13 @@ use Rattle.mq_layout.specs.Inodes.{inode_bytes}
 use Rattle.mq_layout.specs.Places.{file_limit, inode_block, inode_place, inodes_of, zone_bitmap}
 use Rattle.mq_layout.specs.declared.inode.Inode.{Inode}
 use Rattle.mq_layout.proofs.Writes.{four_zeros}
+use Rattle.mq_tree.proofs.Mounting.{zeros-page}
 use Rattle.mq_tree.specs.Free.{with_block, with_pointers}
 use Rattle.mq_tree.specs.Laid.{IsPage, Shows, ShowsPart, ShowsPointers, inode_of, kind_of, links_of, or_zero, padded, size_of}
 use Rattle.mq_tree.specs.Volume.{Node, Use, Part, Pointers, Volume, block_in, body, has_block, is_block, is_taken, is_used, node}
 use Rattle.mq_tree.proofs.KeepUses.{AreUses, node-here, node-other}
 use Rattle.mq_tree.proofs.Maps.{zone-low}
 use Rattle.mq_tree.proofs.Uses.{use-taken}
-
-pub among-first : (b : ℕ) (bs : List ℕ) → is_among b (b ∷ bs) ≡ true
-among-first b bs = ap (λ (t : Bool). cond t true (is_among b bs)) (eq-eqb b b refl)
-
-among-rest : (x b : ℕ) (bs : List ℕ) → is_among b bs ≡ true → is_among b (x ∷ bs) ≡ true
-among-rest x b bs e = elim (cases_Bool (nat_eq x b)) [
-  | inl y ↦ ap (λ (t : Bool). cond t true (is_among b bs)) y
-  | inr n ↦ ap (λ (t : Bool). cond t true (is_among b bs)) n ∙ e
-]
 
 listed : (p q : ℕ) (blocks : List ℕ) → is_among p blocks ≡ true → Some p ≡ Some q → is_among q blocks ≡ false → ⊥
 listed p q blocks y e n = true≢false (sym y ∙ ap (λ (x : ℕ). is_among x blocks) (same_Some p q e) ∙ n)
@@ -149,8 +142,8 @@ near-step g v i b old mid new uses low inside used few near f shows fits t p =
     let z = zone_bitmap (zone_in g b) in
     let a = inode_block g i in
     let blocks = z ∷ b ∷ a ∷ [] in
-    let r = longer-rewrites g v w i b blocks l (among-rest z b (b ∷ a ∷ []) (among-first b (a ∷ []))) (among-first z (b ∷ a ∷ []))
-    (λ out. absurd (true≢false (sym (among-rest z a (b ∷ a ∷ []) (among-rest b a (a ∷ []) (among-first a []))) ∙ out))) (λ q e out. near) in
+    let r = longer-rewrites g v w i b blocks l (among-behind z b (b ∷ a ∷ []) (among-here b (a ∷ []))) (among-here z (b ∷ a ∷ []))
+    (λ out. absurd (true≢false (sym (among-behind z a (b ∷ a ∷ []) (among-behind b a (a ∷ []) (among-here a []))) ∙ out))) (λ q e out. near) in
     let was = taken-held g old mid b a p.before t (inode-away g v b i f inside) p.was in
     let inode = longer-inode g v w i b p.before p.after l inside used few (fits.held a p.before was) (record { form = p.form; is = p.is }) in
     let taken = take-fits g v w (Part i (length (node v i).blocks)) b (a ∷ []) old mid l.uses f fits t l.there l.taken l.blank (step-start g v w i blocks old uses l.uses r fits) in
@@ -185,8 +178,8 @@ far-step g v i b p old mid new uses low many few ind same f shows fits t put =
     let l = is-longer g v i b uses low f shows in
     let z = zone_bitmap (zone_in g b) in
     let blocks = z ∷ b ∷ p ∷ [] in
-    let r = longer-rewrites g v w i b blocks l (among-rest z b (b ∷ p ∷ []) (among-first b (p ∷ []))) (among-first z (b ∷ p ∷ []))
-    (λ out. same) (λ q e out. absurd (listed p q blocks (among-rest z p (b ∷ p ∷ []) (among-rest b p (p ∷ []) (among-first p []))) (sym ind ∙ e) out)) in
+    let r = longer-rewrites g v w i b blocks l (among-behind z b (b ∷ p ∷ []) (among-here b (p ∷ []))) (among-here z (b ∷ p ∷ []))
+    (λ out. same) (λ q e out. absurd (listed p q blocks (among-behind z p (b ∷ p ∷ []) (among-behind b p (p ∷ []) (among-here p []))) (sym ind ∙ e) out)) in
     let was = taken-held g old mid b p put.before t (used-away g v (Pointers i) b p uses f ind) put.was in
     let now = pointer-set g v w i b p put.before put.after uses l f.home many few ind (fits.held p put.before was) (record { form = put.form; is = put.is }) in
     let taken = take-fits g v w (Part i (length (node v i).blocks)) b (p ∷ []) old mid l.uses f fits t l.there l.taken l.blank (step-start g v w i blocks old uses l.uses r fits) in
@@ -203,9 +196,9 @@ far_inode-step g v i b p old mid next new uses low inside used size many few ind
     let z = zone_bitmap (zone_in g b) in
     let a = inode_block g i in
     let blocks = z ∷ b ∷ p ∷ a ∷ [] in
-    let there_p = among-rest z p (b ∷ p ∷ a ∷ []) (among-rest b p (p ∷ a ∷ []) (among-first p (a ∷ []))) in
-    let there_a = among-rest z a (b ∷ p ∷ a ∷ []) (among-rest b a (p ∷ a ∷ []) (among-rest p a (a ∷ []) (among-first a []))) in
-    let r = longer-rewrites g v w i b blocks l (among-rest z b (b ∷ p ∷ a ∷ []) (among-first b (p ∷ a ∷ []))) (among-first z (b ∷ p ∷ a ∷ []))
+    let there_p = among-behind z p (b ∷ p ∷ a ∷ []) (among-behind b p (p ∷ a ∷ []) (among-here p (a ∷ []))) in
+    let there_a = among-behind z a (b ∷ p ∷ a ∷ []) (among-behind b a (p ∷ a ∷ []) (among-behind p a (a ∷ []) (among-here a []))) in
+    let r = longer-rewrites g v w i b blocks l (among-behind z b (b ∷ p ∷ a ∷ []) (among-here b (p ∷ a ∷ []))) (among-here z (b ∷ p ∷ a ∷ []))
     (λ out. absurd (true≢false (sym there_a ∙ out))) (λ c e out. absurd (listed p c blocks there_p (sym ind ∙ e) out)) in
     let was = taken-held g old mid b p put.before t (used-away g v (Pointers i) b p uses f ind) put.was in
     let now = pointer-set g v w i b p put.before put.after uses l f.home many few ind (fits.held p put.before was) (record { form = put.form; is = put.is }) in
@@ -248,7 +241,7 @@ pointed-step g v i b old mid new uses low inside used few near none f fits t p =
     let z = zone_bitmap (zone_in g b) in
     let a = inode_block g i in
     let blocks = z ∷ b ∷ a ∷ [] in
-    let r = pointed-rewrites g v w i b blocks o bd bs none ind (among-rest z b (b ∷ a ∷ []) (among-first b (a ∷ []))) (among-first z (b ∷ a ∷ [])) (among-rest z a (b ∷ a ∷ []) (among-rest b a (a ∷ []) (among-first a []))) in
+    let r = pointed-rewrites g v w i b blocks o bd bs none ind (among-behind z b (b ∷ a ∷ []) (among-here b (a ∷ []))) (among-here z (b ∷ a ∷ [])) (among-behind z a (b ∷ a ∷ []) (among-behind b a (a ∷ []) (among-here a []))) in
     let taken_same : (x : ℕ) → x ≢ b → is_taken v x ≡ is_taken w x = λ x other. taken-same v w i x o (ap (λ (q : Option ℕ). is_among x (node v i).blocks || is_block x q) none
     ∙ ap (λ (s : Bool). is_among x (node v i).blocks || s) (sym (ne_eqb b x (λ e. other (sym e)))) ∙ ap (λ (n : Node). has_block n x) (sym here)) in
     let blank = zone-put g w (Pointers i) b zeros fine ind zeros-page (subst (λ (n : Node). ShowsPointers n.blocks zeros) (sym here) (zeros-pointers (node v i).blocks near)) in

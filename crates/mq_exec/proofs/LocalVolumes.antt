@@ -6,19 +6,16 @@ use Rattle.std.proofs.lemmas.List.{get_or_past, take_all}
 use Rattle.std.proofs.lemmas.Option.{none-some}
 use Rattle.mq_blocks.specs.Blocks.{zeros}
 use Rattle.mq_blocks.specs.Geometry.{queues_of}
-use Rattle.mq_blocks.specs.Journal.{is_among}
 use Rattle.mq_blocks.specs.declared.geometry.Geometry.{Geometry}
 use Rattle.mq_exec.specs.Changes.{IsInodeMarked, IsInodePut, Stepped}
-use Rattle.mq_exec.specs.Fits.{Agrees, Fits}
-use Rattle.mq_exec.specs.Moves.{LeadsTo}
-use Rattle.mq_exec.specs.Pages.{Pages, over}
+use Rattle.mq_exec.specs.Fits.{Fits}
+use Rattle.mq_exec.specs.Pages.{Pages}
 use Rattle.mq_exec.proofs.LocalBodies.{bare-form, rebodied}
 use Rattle.mq_exec.proofs.LocalChanges.{kept-uses, more-uses, pointed-uses}
 use Rattle.mq_exec.specs.Opened.{cut_file, cut_node}
 use Rattle.mq_exec.proofs.LocalCut.{kept-option, take-get}
 use Rattle.mq_exec.proofs.LocalInodes.{bare, bare-step}
 use Rattle.mq_exec.proofs.LocalParts.{zeros-dir, zeros-file}
-use Rattle.mq_exec.proofs.LocalRegions.{same-self, same-then}
 use Rattle.mq_exec.proofs.LocalTaken.{IsFree, longer, with_indirect}
 use Rattle.mq_exec.proofs.LocalUses.{uses-fewer}
 use Rattle.mq_layout.specs.Places.{file_limit, inode_bitmap, inode_block, inodes_of}
@@ -26,7 +23,7 @@ use Rattle.mq_layout.specs.Slots.{Entry}
 use Rattle.mq_tree.specs.Free.{first_of, grown, one_more, order, pointed, with_block, with_pointers}
 use Rattle.mq_tree.specs.Laid.{ShowsPart, inode_of, size_of}
 use Rattle.mq_tree.specs.Requests.{freed, resized, with_body}
-use Rattle.mq_tree.specs.Sound.{IsBody, IsNode, IsSound, blocks_for}
+use Rattle.mq_tree.specs.Sound.{IsBody, IsNode, blocks_for}
 use Rattle.mq_tree.specs.Volume.{Body, Free, File, Dir, Node, Volume, body, free_node, is_used, node}
 use Rattle.mq_tree.proofs.KeepFree.{first-not_taken, first-zones}
 use Rattle.mq_tree.proofs.KeepUses.{AreUses, node-here, node-other}
@@ -116,11 +113,6 @@ set-twice [] (suc i) a b = refl
 set-twice (x ∷ xs) zero a b = refl
 set-twice (x ∷ xs) (suc i) a b = ap (λ (ys : List Node). x ∷ ys) (set-twice xs i a b)
 
--- the last body counts
-pub body-twice : (v : Volume) (i : ℕ) (x y : Body) → i < length v → with_body (with_body v i x) i y ≡ with_body v i y
-body-twice v i x y low =
-    ap (λ (n : Node). set (with_body v i x) i (rebodied n y)) (node-here v i (rebodied (node v i) x) low) ∙ set-twice v i (rebodied (node v i) x) (rebodied (node v i) y)
-
 -- a file that is cut after its bytes changed
 pub cut-body : (v : Volume) (i count : ℕ) (x : Body) (bytes : List ℕ) → i < length v → cut_file (with_body v i x) i count bytes ≡ cut_file v i count bytes
 cut-body v i count x bytes low =
@@ -146,21 +138,3 @@ resized-grown g q v u i bytes is count indirect =
     kept true o e = refl
     kept false None e = refl
     kept false (Some b) e = absurd (true≢false e)
-
--- ---- from the volume of a view
-
-pub leads-start : (g : Geometry) (view : Pages) (v : Volume) → Agrees g view v → LeadsTo g view (λ b. None) v v
-leads-start g view v agrees = record { before = agrees; after = agrees; known = λ b e. refl; same = λ b e. same-self g v b }
-
--- a request behind those before it
-pub leads-step : (g : Geometry) (view changed next pages : Pages) (v u w : Volume) (blocks : List ℕ) → LeadsTo g view changed v u → Stepped g u w pages blocks → IsSound g w → ((b : ℕ) → pages b ≡ over (next b) (view b)) → ((b : ℕ) → view b ≡ None → next b ≡ None)
-    → ((b : ℕ) → next b ≡ None → (changed b ≡ None) × (is_among b blocks ≡ false)) → LeadsTo g view next v w
-leads-step g view changed next pages v u w blocks l s sound is known left = record {
-  before = l.before;
-  after = record {
-    sound = sound;
-    fits = record { held = λ b page e. s.fits.held b page (is b ∙ e); free = λ b e. s.fits.free b (is b ∙ e) };
-  };
-  known = known;
-  same = λ b e. let r = left b e in same-then g v u w b (l.same b r.0) (s.same b r.1);
-}

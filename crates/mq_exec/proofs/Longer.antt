@@ -1,13 +1,12 @@
 -- A file that gets other bytes and is not shorter then: what that takes, and at what it looks.
-use Rattle.std.proofs.Common.{get_or, true, ◌++◌, ◌≢◌, ◌≡◌, ℕ, ◌+◌, ◌-◌, ◌*◌, ◌/◌, ◌<◌, ◌≤◌, inl, inr, List, [], length, drop, take, refl, sym, ap, subst, ◌∙◌, arith}
+use Rattle.std.proofs.Common.{get_or, ◌++◌, ◌≢◌, ◌≡◌, ℕ, ◌+◌, ◌-◌, ◌/◌, ◌<◌, ◌≤◌, inl, inr, List, [], length, drop, take, sym, ap, subst, ◌∙◌, arith}
 use Rattle.std.specs.Prelude.{None, Some, min, slice_get}
 use Rattle.std.specs.List.{All, Contains}
 use Rattle.std.proofs.lemmas.Bool.{cases_lt}
-use Rattle.std.proofs.lemmas.List.{drop_all, get_or_append_left, get_or_default, length-append, length-drop, take_all}
+use Rattle.std.proofs.lemmas.List.{drop_all, get_or_append_left, length-append, length-drop, take_all}
 use Rattle.std.proofs.lemmas.List.Elements.{All-contains, Contains-append_cases, Contains-append_right}
 use Rattle.std.proofs.lemmas.Option.{slice_get-get_or}
 use Rattle.mq_blocks.specs.Geometry.{queues_of}
-use Rattle.mq_blocks.specs.Journal.{is_among}
 use Rattle.mq_blocks.specs.declared.geometry.Geometry.{Geometry}
 use Rattle.mq_exec.specs.Fits.{Agrees}
 use Rattle.mq_exec.specs.Longer.{IsRewriting, LooksLonger, longer_needs, part, picked}
@@ -22,15 +21,16 @@ use Rattle.mq_exec.specs.declared.rewrite.Rewriting.{Rewriting}
 use Rattle.mq_exec.proofs.Becoming.{carries-sound}
 use Rattle.mq_exec.proofs.Coming.{carried-enough, carried-few}
 use Rattle.mq_exec.proofs.Contents.{file-count, file-size}
+use Rattle.mq_exec.proofs.Held.{used-held}
 use Rattle.mq_exec.proofs.LinkedGrown.{picked-enough}
-use Rattle.mq_exec.proofs.Regrown.{used-held}
-use Rattle.mq_exec.proofs.Rewriting.{among-at, at-among, at-listed, listed-at}
+use Rattle.mq_exec.proofs.Listed.{among-contains, contains-among}
+use Rattle.mq_exec.proofs.Rewriting.{at-listed, listed-at}
 use Rattle.mq_layout.specs.Places.{file_limit}
 use Rattle.mq_layout.specs.declared.inode.Inode.{Inode}
 use Rattle.mq_tree.specs.Free.{free_blocks, needs}
 use Rattle.mq_tree.specs.Requests.{Verdict, carried_out, resized}
 use Rattle.mq_tree.specs.Sound.{blocks_for}
-use Rattle.mq_tree.specs.Volume.{Body, File, Part, Volume, body, node}
+use Rattle.mq_tree.specs.Volume.{Body, File, Part, Volume, node}
 use Rattle.mq_tree.specs.declared.request.Fault.TheVariants.{NoSpace}
 
 -- ---- what it needs
@@ -115,12 +115,6 @@ slice-at blocks first past low high e f = elim (cases_lt first high) [
 ]
 
 -- ---- what is wanted
-
-contains-among : (xs : List ℕ) (b : ℕ) → Contains xs b → is_among b xs ≡ true
-contains-among xs b h = ap (λ (x : ℕ). is_among x xs) (sym (get_or_default xs h.0 0 b h.1 ∙ h.2)) ∙ at-among xs h.0 h.1
-
-among-contains : (xs : List ℕ) (b : ℕ) → is_among b xs ≡ true → Contains xs b
-among-contains xs b e = let r = among-at xs b e in (r.0, r.1, get_or_default xs r.0 b 0 r.1 ∙ r.2)
 
 pub all-left : (P : ℕ → Type 0) (xs ys : List ℕ) → All P (xs ++ ys) → All P xs
 all-left P xs ys h k d l =

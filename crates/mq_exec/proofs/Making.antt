@@ -1,46 +1,31 @@
 -- Files and directories that are made: the inode, and then its name.
-use Rattle.std.proofs.Common.{get_or, ◌≡◌, ◌≢◌, ℕ, suc, ◌+◌, ◌-◌, ◌<◌, ◌≤◌, List, [], ◌∷◌, ◌++◌, length, Bool, false, cond, refl, sym, ap, subst, ◌∙◌, arith, take, drop, drop-cons}
-use Rattle.std.specs.Prelude.{Option, Some, None, nat_lt, is_some, slice_get}
+use Rattle.std.proofs.Common.{◌≡◌, ◌≢◌, ℕ, ◌<◌, ◌≤◌, List, [], ◌∷◌, ◌++◌, length, false, sym, ap, subst, ◌∙◌, arith}
+use Rattle.std.specs.Prelude.{Option, None}
 use Rattle.std.specs.List.{All, Contains}
-use Rattle.std.proofs.lemmas.Bool.{lt-ltb}
-use Rattle.std.proofs.lemmas.List.{drop_all, take-append-drop}
 use Rattle.std.proofs.lemmas.List.Elements.{All-contains, Contains-append_left, Contains-get_or, Contains-push}
-use Rattle.std.proofs.lemmas.Option.{none-some, same_Some, slice_get-get_or}
-use Rattle.mq_blocks.specs.Geometry.{meta_of, queues_of}
+use Rattle.mq_blocks.specs.Geometry.{queues_of}
 use Rattle.mq_blocks.specs.declared.geometry.Geometry.{Geometry}
-use Rattle.mq_exec.specs.Changes.{AreOthers, zone_in}
-use Rattle.mq_exec.specs.Dirs.{AreDirsAt, IsDirAt}
-use Rattle.mq_exec.specs.Edits.{Becomes, Carries, IsOver}
-use Rattle.mq_exec.specs.Fits.{Agrees, Fits}
-use Rattle.mq_exec.specs.Opened.{HoldsPointers, IsOpened, IsTakeable, MayLink}
-use Rattle.mq_exec.specs.Pages.{IsHeld, Pages, content, pages_of}
-use Rattle.mq_exec.specs.Picks.{ArePicked, IsMarkable, free_of}
+use Rattle.mq_exec.specs.Changes.{AreOthers}
+use Rattle.mq_exec.specs.Dirs.{AreDirsAt}
+use Rattle.mq_exec.specs.Edits.{Becomes, IsOver}
+use Rattle.mq_exec.specs.Fits.{Agrees}
+use Rattle.mq_exec.specs.Opened.{HoldsPointers, MayLink}
+use Rattle.mq_exec.specs.Pages.{IsHeld, Pages, pages_of}
+use Rattle.mq_exec.specs.Picks.{ArePicked, IsMarkable}
 use Rattle.mq_exec.specs.Plans.{HoldsMake, PlansMake, made_entry, with_inode}
-use Rattle.mq_exec.specs.Walks.{last_of}
 use Rattle.mq_exec.specs.declared.make.Making.{Making}
 use Rattle.mq_exec.specs.declared.opened.Opened.{Opened}
 use Rattle.mq_exec.specs.declared.working.Working.{Working}
-use Rattle.mq_exec.proofs.Becoming.{becomes-then, carries-sound}
-use Rattle.mq_exec.proofs.Linkable.{IsLinkable, link-kept, link-same, meta-held, takeables}
+use Rattle.mq_exec.proofs.Held.{meta-held}
+use Rattle.mq_exec.proofs.Linkable.{IsLinkable, link-kept, link-same, takeables}
 use Rattle.mq_exec.proofs.LocalFrame.{taken-same}
 use Rattle.mq_exec.proofs.LocalInodes.{bare}
-use Rattle.mq_exec.proofs.LocalOnce.{shown-vacant}
-use Rattle.mq_exec.proofs.LocalTaken.{IsFree}
-use Rattle.mq_exec.proofs.Picking.{picks-all_free}
 use Rattle.mq_exec.proofs.LocalVolumes.{free-bare}
-use Rattle.mq_exec.proofs.Walking.{way-last}
-use Rattle.mq_layout.specs.Places.{inode_bitmap, inode_block, inodes_of, zone_bitmap}
+use Rattle.mq_layout.specs.Places.{inode_bitmap, inode_block, inodes_of}
 use Rattle.mq_layout.specs.Slots.{Entry}
-use Rattle.mq_layout.specs.declared.inode.Inode.{Inode}
-use Rattle.mq_tree.specs.Clean.{IsDirBlock}
-use Rattle.mq_tree.specs.Free.{order}
-use Rattle.mq_tree.specs.Laid.{inode_of, or_zero}
-use Rattle.mq_tree.specs.Requests.{link_needs, linked}
 use Rattle.mq_tree.specs.Sound.{IsSound}
-use Rattle.mq_tree.specs.Volume.{Body, Free, Dir, Node, Part, Path, Pointers, Volume, body, has_block, is_taken, node, way}
-use Rattle.mq_tree.proofs.KeepUses.{AreUses, node-here, node-other}
-use Rattle.mq_tree.proofs.Maps.{zone-low}
-use Rattle.mq_tree.proofs.Unique.{some-when}
+use Rattle.mq_tree.specs.Volume.{Body, Free, Dir, Node, Path, Volume, body, has_block, node}
+use Rattle.mq_tree.proofs.KeepUses.{node-here, node-other}
 
 -- ---- an inode more
 

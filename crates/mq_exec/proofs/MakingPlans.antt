@@ -1,8 +1,8 @@
 -- What making a file or a directory comes to, and at what it looks.
-use Rattle.std.proofs.Common.{◌≡◌, ◌≢◌, ℕ, ◌+◌, ◌*◌, ◌^◌, ◌<◌, ◌≤◌, ◌⊎◌, inl, inr, List, [], ◌∷◌, ◌++◌, length, Bool, true, false, cond, refl, sym, ap, subst, ◌∙◌, arith, length-set}
+use Rattle.std.proofs.Common.{◌≡◌, ◌≢◌, ℕ, ◌*◌, ◌<◌, ◌≤◌, inl, inr, List, [], ◌∷◌, ◌++◌, length, Bool, true, false, cond, refl, sym, ap, subst, ◌∙◌, arith, length-set}
 use Rattle.std.specs.Prelude.{Option, Some, None}
-use Rattle.std.specs.List.{All, Contains, list_all}
-use Rattle.std.proofs.lemmas.Bool.{cases_lt, le-leb, le-ltb, lt-leb, lt-ltb, true≢false}
+use Rattle.std.specs.List.{Contains, list_all}
+use Rattle.std.proofs.lemmas.Bool.{cases_lt, lt-leb, true≢false}
 use Rattle.std.proofs.lemmas.List.Elements.{All-contains, Contains-push_cases}
 use Rattle.mq_blocks.specs.Geometry.{queues_of}
 use Rattle.mq_blocks.specs.declared.geometry.Geometry.{Geometry}
@@ -16,6 +16,7 @@ use Rattle.mq_exec.specs.declared.make.Making.{Making}
 use Rattle.mq_exec.specs.declared.opened.Opened.{Opened}
 use Rattle.mq_exec.proofs.Answering.{past-looks}
 use Rattle.mq_exec.proofs.Coming.{carried-enough, carried-few}
+use Rattle.mq_exec.proofs.EmptyInodes.{empty-used}
 use Rattle.mq_exec.proofs.LinkedGrown.{picked-enough}
 use Rattle.mq_exec.proofs.LocalInodes.{bare}
 use Rattle.mq_exec.proofs.LocalTaken.{IsFree}
@@ -29,14 +30,11 @@ use Rattle.mq_layout.specs.Places.{inode_bitmap, inode_block, inodes_of, names_l
 use Rattle.mq_layout.specs.Slots.{Entry}
 use Rattle.mq_tree.specs.Free.{first_free, free_blocks}
 use Rattle.mq_tree.specs.Looks.{LooksAt, TakesInode, is_making, marks, needed, no_inodes, no_space, paths_of, searched, taken, taken_inode}
-use Rattle.mq_tree.specs.Requests.{Makes, Outcome, Says, Verdict, carried_out, count_names, entry_needs, link_needs, linked, make, make_free, refused, step, target, unused, verdict}
+use Rattle.mq_tree.specs.Requests.{Makes, Outcome, Verdict, carried_out, count_names, entry_needs, link_needs, linked, make, make_free, refused, step, target, unused, verdict}
 use Rattle.mq_tree.specs.Sound.{IsBody, IsSound}
 use Rattle.mq_tree.specs.Volume.{Body, Dir, File, Free, Node, Path, Volume, body, is_taken, is_used, node, slots_of, way}
-use Rattle.mq_tree.specs.declared.request.Fault.{Fault}
 use Rattle.mq_tree.specs.declared.request.Fault.TheVariants.{BadName, NoInodes, NoSpace, TooBig}
-use Rattle.mq_tree.specs.declared.request.Reply.{Reply}
-use Rattle.mq_tree.specs.declared.request.Reply.TheVariants.{Ok as Done, Refused}
-use Rattle.mq_tree.specs.declared.request.Request.{Request}
+use Rattle.mq_tree.specs.declared.request.Reply.TheVariants.{Ok as Done}
 use Rattle.mq_tree.proofs.KeepChanges.{first-free}
 use Rattle.mq_tree.proofs.KeepNodes.{unused-none}
 use Rattle.mq_tree.proofs.KeepPaths.{nothing-free}
@@ -83,9 +81,6 @@ ready pages v path o d count n same is e few good =
 abbrev made_volume : Geometry → (queue : ℕ) → Volume → Body → Path → (d i : ℕ) → Volume
 made_volume g q v y path d i = linked g q (with_inode v i y) d (record { inode = i; name = last_of (way path) })
 
-pub make-full : (g : Geometry) (q : ℕ) (v : Volume) (y : Body) (path : Path) (d : ℕ) → IsNew v (way path) d → names_limit ≤ count_names (slots_of (body v d)) → IsRefused g v (make g q v y (target v (way path))) TooBig
-make-full g q v y path d n full = ap (λ (x : Verdict). carried_out g v x) (ap (make g q v y) n.target_is ∙ ap (λ (t : Bool). cond t (refused TooBig) (make_free g q v y d (last_of (way path)) (first_free 0 v))) (le-leb names_limit (count_names (slots_of (body v d))) full))
-
 make-ready : (g : Geometry) (q : ℕ) (v : Volume) (y : Body) (path : Path) (d : ℕ) (found : Option ℕ) → IsReady v path d → first_free 0 v ≡ found → make g q v y (target v (way path)) ≡ make_free g q v y d (last_of (way path)) found
 make-ready g q v y path d found r e =
     ap (make g q v y) r.new.target_is ∙ ap (λ (t : Bool). cond t (refused TooBig) (make_free g q v y d (last_of (way path)) (first_free 0 v))) (lt-leb names_limit (count_names (slots_of (body v d))) r.few) ∙ ap (make_free g q v y d (last_of (way path))) e
@@ -115,10 +110,6 @@ making-makes : (t : Bool) (path : Path) → is_making (making t path) ≡ true
 making-makes true path = refl
 making-makes false path = refl
 
-body-used : (t : Bool) → is_used (empty_body t) ≡ true
-body-used true = refl
-body-used false = refl
-
 making-verdict : (g : Geometry) (q : ℕ) (v : Volume) (t : Bool) (path : Path) → list_all is_name path ≡ true → verdict g q v (making t path) ≡ make g q v (empty_body t) (target v (way path))
 making-verdict g q v true path good = ap (λ (b : Bool). cond b (make g q v (Dir []) (target v (way path))) (refused BadName)) good
 making-verdict g q v false path good = ap (λ (b : Bool). cond b (make g q v (File []) (target v (way path))) (refused BadName)) good
@@ -145,7 +136,7 @@ make-takes g q v t path d i sound r e enough same =
     let other : i ≢ d = λ is. free-dir (sym f.1 ∙ ap (λ (x : ℕ). body v x) is ∙ r.new.dir.1) in
     let made : step g q v (making t path) ≡ record { reply = Done; next = made_volume g q v y path d i } = making-step g q v t path r.good ∙ make-enough g q v y path d i r e enough in
     let now : body (made_volume g q v y path d i) i ≡ y = ap (λ (n : Node). n.body) (linked-other g q (with_inode v i y) d _ i other ∙ node-here v i (bare y) low) in
-    true≢false (sym (ap (λ (o : Outcome). is_used (body o.next i)) made ∙ ap is_used now ∙ body-used t) ∙ sym same ∙ ap is_used f.1)
+    true≢false (sym (ap (λ (o : Outcome). is_used (body o.next i)) made ∙ ap is_used now ∙ empty-used t) ∙ sym same ∙ ap is_used f.1)
   where
     free-dir : {slots : List (Option Entry)} → Free ≡ Dir slots → ⊥
     free-dir f = cc

@@ -1,18 +1,19 @@
 -- What is lacked for a part is lacked for the whole.
 use Rattle.std.proofs.Common.{get_or, ◌≡◌, ◌≢◌, ℕ, ◌+◌, ◌<◌, ◌≤◌, List, [], ◌∷◌, ◌++◌, length, take, refl, sym, ap, subst, ◌∙◌, arith}
-use Rattle.std.specs.Prelude.{Option, Some, None}
+use Rattle.std.specs.Prelude.{Some, None}
 use Rattle.std.specs.List.{All, Contains}
 use Rattle.std.proofs.lemmas.List.{length-append, take_all}
 use Rattle.std.proofs.lemmas.List.Elements.{All-more, All-nil, All-push, All-weaker}
 use Rattle.mq_blocks.specs.declared.geometry.Geometry.{Geometry}
 use Rattle.mq_exec.specs.Fits.{Agrees}
 use Rattle.mq_exec.specs.Lacks.{IsNeed, Lacks, LacksOf, OfEach}
-use Rattle.mq_exec.specs.Pages.{IsHeld, Pages, content, known, pages_of}
+use Rattle.mq_exec.specs.Pages.{IsHeld, Pages, known, pages_of}
 use Rattle.mq_exec.specs.declared.working.Working.{Working}
 use Rattle.mq_exec.specs.declared.working.Page.{Page}
 use Rattle.mq_exec.specs.declared.working.Page.TheVariants.{Absent, Free, Held}
 use Rattle.mq_exec.specs.declared.lack.Lack.{Lack}
 use Rattle.mq_exec.specs.declared.lack.Lack.TheVariants.{Need, OutOfMemory}
+use Rattle.mq_exec.proofs.Held.{held-else}
 use Rattle.mq_tree.specs.Volume.{Volume}
 
 pub lacks-weaker : (pages : Pages) (P Q : ℕ → Type 0) (lack : Lack) → ((b : ℕ) → P b → Q b) → Lacks pages P lack → Lacks pages Q lack
@@ -29,14 +30,8 @@ known-there Absent there e = there refl
 known-there Free there e = absurd (cc)
 known-there (Held block) there e = absurd (cc)
 
--- a page that is known, and isn't free
-page-held : (page : Option (Option (List ℕ))) → page ≢ None → page ≢ Some None → page ≡ Some (Some (content page))
-page-held None there used = absurd (there refl)
-page-held (Some None) there used = absurd (used refl)
-page-held (Some (Some page)) there used = refl
-
 pub all-held : (pages : Pages) (blocks : List ℕ) → All (λ b. pages b ≢ Some None) blocks → All (λ b. pages b ≢ None) blocks → All (IsHeld pages) blocks
-all-held pages blocks used there k d l = page-held (pages (get_or blocks k d)) (there k d l) (used k d l)
+all-held pages blocks used there k d l = held-else (pages (get_or blocks k d)) (there k d l) (used k d l)
 
 -- looking for blocks, one after another: those that were absent
 pub record IsSought (pages : Pages) (blocks absent : List ℕ) (k : ℕ) : Type 0 where
@@ -64,9 +59,6 @@ sought-there pages blocks absent k b p l at e there h =
 
 pub sought-all : (pages : Pages) (blocks absent : List ℕ) (k : ℕ) → length blocks ≤ k → length absent ≡ 0 → IsSought pages blocks absent k → All (λ b. pages b ≢ None) blocks
 sought-all pages blocks absent k l none h = subst (λ (xs : List ℕ). All (λ b. pages b ≢ None) xs) (take_all k blocks l) (h.known_all none)
-
-pub sought-need : (pages : Pages) (blocks absent : List ℕ) (k : ℕ) → 1 ≤ length absent → IsSought pages blocks absent k → IsNeed pages (Contains blocks) absent
-sought-need pages blocks absent k some h = record { some = some; absent = h.absent_all; looked = h.among }
 
 pub sought-none : (pages : Pages) (blocks absent : List ℕ) → absent ≡ [] → IsSought pages blocks absent 0
 sought-none pages blocks absent e = subst (λ (xs : List ℕ). IsSought pages blocks xs 0) (sym e) (record { absent_all = All-nil (λ b. pages b ≡ None); among = All-nil (Contains blocks); known_all = λ zero. All-nil (λ b. pages b ≢ None) })

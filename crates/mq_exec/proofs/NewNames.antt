@@ -1,6 +1,6 @@
 -- Names that stand for nothing yet, in directories that are there.
 use Rattle.std.proofs.Common.{◌≡◌, ℕ, true, List, [], ◌∷◌, refl, sym, ap, subst, ◌∙◌, inl, inr}
-use Rattle.std.specs.Prelude.{Option, Some, None, Result, Ok, Err}
+use Rattle.std.specs.Prelude.{Option, None, Result, Ok, Err}
 use Rattle.std.specs.List.{list_all}
 use Rattle.mq_blocks.specs.declared.geometry.Geometry.{Geometry}
 use Rattle.mq_layout.specs.Names.{IsName, is_name}
@@ -11,7 +11,7 @@ use Rattle.mq_exec.proofs.Walking.{leads-here, walk-at, walk-dir}
 use Rattle.mq_tree.specs.Looks.{Leads}
 use Rattle.mq_tree.specs.Requests.{In as AtName, target, target_in, walk}
 use Rattle.mq_tree.specs.Sound.{IsSound}
-use Rattle.mq_tree.specs.Volume.{Path, Volume, Way, body, find, slots_of, way}
+use Rattle.mq_tree.specs.Volume.{Path, Volume, Way, way}
 use Rattle.mq_tree.specs.declared.request.Fault.{Fault}
 use Rattle.mq_tree.proofs.KeepTargets.{last-good}
 

@@ -5,30 +5,18 @@ use Rattle.std.proofs.lemmas.Bool.{cases_lt, lt-ltb}
 use Rattle.std.proofs.lemmas.List.{get_or_append_left, get_or-append_right, get_or-take, get_or_default, length-append, length-take, same_lists, take_all}
 use Rattle.mq_layout.specs.Bits.{pointer_of}
 use Rattle.mq_layout.specs.declared.inode.Inode.{Inode}
+use Rattle.mq_tree.proofs.LaidClean.{count-is}
 use Rattle.mq_tree.specs.Decoded.{table_of}
-use Rattle.mq_tree.specs.Laid.{ShowsPointers, inode_of, or_zero, padded, size_of}
-use Rattle.mq_tree.specs.Sound.{IsBody, IsNode, blocks_for}
-use Rattle.mq_tree.specs.Volume.{Body, Free, File, Dir, Node}
+use Rattle.mq_tree.specs.Laid.{ShowsPointers, inode_of, or_zero, padded}
+use Rattle.mq_tree.specs.Sound.{IsNode, blocks_for}
+use Rattle.mq_tree.specs.Volume.{Node}
 use Rattle.mq_tree.proofs.Decoding.{table-at, length-table}
 use Rattle.mq_tree.proofs.Mounting.{table-more}
 use Rattle.mq_tree.proofs.Unique.{body-few, padded-at, some-when}
 
-body-count : (x : Body) (c : ℕ) → IsBody x c → blocks_for (size_of x c) ≡ c
-body-count Free c g = omega arith
-body-count (File xs) c g = sym g.1
-body-count (Dir r) c g = omega arith
-
-body-size : (x : Body) (c : ℕ) → IsBody x c → size_of x c ≤ 4243456
-body-size Free c g = omega arith
-body-size (File xs) c g = g.0
-body-size (Dir r) c g = let few = g.0 in omega arith
-
 -- its size says how many there are
 pub node-count : (n : Node) → IsNode n → blocks_for (inode_of n).size ≡ length n.blocks
-node-count n good = body-count n.body (length n.blocks) good.body
-
-pub node-size : (n : Node) → IsNode n → (inode_of n).size ≤ 4243456
-node-size n good = body-size n.body (length n.blocks) good.body
+node-count n good = count-is n.body (length n.blocks) good.body
 
 pub node-few : (n : Node) → IsNode n → length n.blocks ≤ 1036
 node-few n good = body-few n.body (length n.blocks) good.body

@@ -9,9 +9,9 @@ use Rattle.mq_blocks.specs.Journal.{is_among}
 use Rattle.mq_blocks.specs.declared.geometry.Geometry.{Geometry}
 use Rattle.mq_exec.specs.Changes.{AreOthers}
 use Rattle.mq_exec.specs.Picks.{ArePicked, free_of}
-use Rattle.mq_exec.proofs.LocalChanges.{among-push}
+use Rattle.mq_exec.proofs.Listed.{among-here, among-push}
 use Rattle.mq_exec.proofs.LocalFrame.{taken-same}
-use Rattle.mq_exec.proofs.LocalTaken.{IsFree, among-first, get-last, longer, with_indirect}
+use Rattle.mq_exec.proofs.LocalTaken.{IsFree, get-last, longer, with_indirect}
 use Rattle.mq_exec.proofs.LocalVolumes.{first-free_block}
 use Rattle.mq_tree.specs.Free.{count_free, first_of, free_blocks, order, with_block, with_pointers}
 use Rattle.mq_tree.specs.Volume.{Free, Node, Part, Pointers, Volume, block_in, has_block, is_block, is_taken, node}
@@ -166,7 +166,7 @@ fuller v b = record { body = Free; blocks = b ∷ []; indirect = None } ∷ v
 
 fuller-more : (v : Volume) (b : ℕ) → IsTakenMore v (fuller v b) b
 fuller-more v b = record {
-  here = ap (λ (t : Bool). (t || false) || is_taken v b) (among-first b []);
+  here = ap (λ (t : Bool). (t || false) || is_taken v b) (among-here b []);
   others = λ x other. ap (λ (t : Bool). (cond t true false || false) || is_taken v x) (ne_eqb b x (λ e. other (sym e)));
 }
 

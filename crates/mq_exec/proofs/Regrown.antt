@@ -1,12 +1,12 @@
 -- A file that has got the blocks for its new size.
-use Rattle.std.proofs.Common.{get_or, ◌≡◌, ◌≢◌, ℕ, ◌+◌, ◌-◌, ◌*◌, ◌/◌, ◌<◌, ◌≤◌, List, length, refl, sym, ap, subst, ◌∙◌, arith}
-use Rattle.std.specs.Prelude.{Option, Some, None, nat_lt}
+use Rattle.std.proofs.Common.{get_or, ◌≡◌, ℕ, ◌+◌, ◌-◌, ◌<◌, ◌≤◌, List, length, sym, ap, subst, ◌∙◌, arith}
+use Rattle.std.specs.Prelude.{Some, nat_lt}
 use Rattle.std.proofs.lemmas.Option.{slice_get-get_or}
 use Rattle.mq_blocks.specs.declared.geometry.Geometry.{Geometry}
 use Rattle.mq_exec.specs.Edits.{Becomes, Carries}
 use Rattle.mq_exec.specs.Opened.{HasGrown}
 use Rattle.mq_exec.specs.Overwrites.{AreApart}
-use Rattle.mq_exec.specs.Pages.{IsHeld, Pages, content, pages_of}
+use Rattle.mq_exec.specs.Pages.{Pages, pages_of}
 use Rattle.mq_exec.specs.Plans.{PlansRewrite}
 use Rattle.mq_exec.specs.declared.opened.Opened.{Opened}
 use Rattle.mq_exec.specs.declared.rewrite.Rewriting.{Rewriting}
@@ -20,10 +20,8 @@ use Rattle.mq_tree.specs.Free.{free_blocks, grown, needs}
 use Rattle.mq_tree.specs.Laid.{inode_of, kind_of, links_of, or_zero, padded}
 use Rattle.mq_tree.specs.Requests.{Verdict, resized, with_body}
 use Rattle.mq_tree.specs.Sound.{blocks_for}
-use Rattle.mq_tree.specs.Volume.{Body, File, Node, Use, Part, Pointers, Volume, block_in, body, node}
+use Rattle.mq_tree.specs.Volume.{Body, File, Node, Use, Part, Pointers, Volume, body, node}
 use Rattle.mq_tree.proofs.KeepUses.{IsFresh, IsGrown, grown-is}
-use Rattle.mq_tree.proofs.Uses.{use-taken}
-use Rattle.std.proofs.lemmas.Bool.{true≢false}
 
 -- The volume with the blocks, and what is known of the file in it.
 pub record IsRegrown (g : Geometry) (q : ℕ) (v : Volume) (m : Rewriting) (bytes : List ℕ) (old mid : Working) (after : Opened) : Type 0 where
@@ -86,15 +84,6 @@ sized-inode n o bytes now size e is s =
     ap (λ (x : Inode). record { kind = x.kind; links = x.links; size = size; direct = x.direct; indirect = x.indirect }) e
     ∙ ap (λ (b : Body). record { kind = kind_of b; links = links_of b; size = size; direct = padded 12 n.blocks; indirect = or_zero n.indirect }) is
     ∙ ap (λ (k : ℕ). record { kind = 1; links = 1; size = k; direct = padded 12 n.blocks; indirect = or_zero n.indirect }) s
-
--- a block that is used and known is held
-pub used-held : (g : Geometry) (pages : Pages) (u : Volume) (purpose : Use) (b : ℕ) → Carries g pages u → block_in u purpose ≡ Some b → pages b ≢ None → IsHeld pages b
-used-held g pages u purpose b c e known = at (pages b) refl
-  where
-    at : (o : Option (Option (List ℕ))) → pages b ≡ o → IsHeld pages b
-    at None is = absurd (known is)
-    at (Some None) is = absurd (true≢false (sym (use-taken u purpose b e) ∙ (c.fits.free b is).1))
-    at (Some (Some page)) is = is ∙ ap (λ o. Some (Some (content o))) (sym is)
 
 part-place : (i j k : ℕ) → Part i j ≡ Part i k → j ≡ k
 part-place i j k e = ap place_in e

@@ -1,6 +1,6 @@
 -- Blocks that are freed, one after another.
 use Rattle.std.proofs.Common.{get_or, ◌≡◌, ◌≢◌, ℕ, suc, zero, ◌+◌, ◌-◌, ◌*◌, ◌%◌, ◌<◌, ◌≤◌, inl, inr, List, [], ◌∷◌, ◌++◌, length, take, drop, Bool, true, false, refl, sym, ap, subst, ◌∙◌, arith}
-use Rattle.std.specs.Prelude.{Option, Some, None, nat_lt, if◌then◌else◌}
+use Rattle.std.specs.Prelude.{Some, None, nat_lt, if◌then◌else◌}
 use Rattle.std.specs.Int.{to_le_bytes, w32}
 use Rattle.std.specs.List.{All}
 use Rattle.std.proofs.lemmas.Bool.{cases_Bool, cases_eq, cases_lt, false_from_ne_true, le-ltb, lt-ltb, true≢false}
@@ -20,9 +20,9 @@ use Rattle.mq_exec.specs.Released.{ClearsBits, CutsPointers, IsReleased, Release
 use Rattle.mq_exec.specs.declared.opened.Opened.{Opened}
 use Rattle.mq_exec.specs.declared.working.Working.{Working}
 use Rattle.mq_exec.proofs.Becoming.{over-self, over-then, view-then}
+use Rattle.mq_exec.proofs.Held.{held-is}
+use Rattle.mq_exec.proofs.Listed.{among-apart, among-either, among-here, among-left, among-one, among-parts, among-right}
 use Rattle.mq_exec.proofs.LocalChanges.{zone-of-block}
-use Rattle.mq_exec.proofs.LocalLists.{among-cons, among-either, among-here, among-left, among-right}
-use Rattle.mq_exec.proofs.LocalSteps.{among-parts}
 use Rattle.mq_layout.specs.Bits.{bit_of, pointer_of}
 use Rattle.mq_layout.specs.Places.{zone_bitmap}
 use Rattle.mq_layout.proofs.Laws.{pointer-kept, pointer-written}
@@ -32,15 +32,6 @@ use Rattle.mq_tree.proofs.Maps.{zone-low, zone-place, zone-rest}
 
 -- ---- lists
 
-pub among-one : (x b : ℕ) → is_among b (x ∷ []) ≡ true → b ≡ x
-among-one x b e = elim (among-cons x b [] e) [
-  | inl same ↦ same
-  | inr none ↦ absurd (true≢false (sym none))
-]
-
-pub among-apart : (blocks : List ℕ) (b c : ℕ) → is_among b blocks ≡ true → is_among c blocks ≡ false → c ≢ b
-among-apart blocks b c listed out e = true≢false (sym listed ∙ ap (λ (x : ℕ). is_among x blocks) (sym e) ∙ out)
-
 among-first : (xs ys : List ℕ) (b : ℕ) → is_among b (xs ++ ys) ≡ true → is_among b ys ≡ false → is_among b xs ≡ true
 among-first xs ys b e out = elim (among-either xs ys b e) [
   | inl l ↦ l
@@ -48,17 +39,6 @@ among-first xs ys b e out = elim (among-either xs ys b e) [
 ]
 
 -- ---- pages
-
-pub is-held : (pages : Pages) (b : ℕ) (page : List ℕ) → pages b ≡ Some (Some page) → IsHeld pages b
-is-held pages b page e = e ∙ ap (λ (o : Option (Option (List ℕ))). Some (Some (content o))) (sym e)
-
-pub released-none : (g : Geometry) (pages : Pages) → IsReleased g pages pages []
-released-none g pages = record {
-  inside = λ b e. absurd (true≢false (sym e));
-  free = λ b e. absurd (true≢false (sym e));
-  marks = λ zone before low was. record { after = before; now = was; form = λ f. f; clear = λ k l e. absurd (true≢false (sym e)); rest = λ k out. refl };
-  rest = λ b out away. refl;
-}
 
 -- a block of the zones is no bitmap
 pub high-marks : (g : Geometry) (b zone : ℕ) → meta_of g ≤ b → zone < queues_of g → zone_bitmap zone ≢ b
@@ -141,19 +121,16 @@ pub released-meta : (g : Geometry) (old new : Pages) (blocks : List ℕ) (b : �
 released-meta g old new blocks b r low away = r.rest b (released-low g old new blocks b r low) (λ c y. let i = r.inside c y in away (zone_in g c) (zone-low g c i.0 i.1))
 
 pub held-along : (g : Geometry) (old new : Pages) (blocks : List ℕ) (b : ℕ) → IsReleased g old new blocks → b < meta_of g → IsHeld old b → IsHeld new b
-held-along g old new blocks zero r low held = is-held new 0 (content (old 0)) (released-meta g old new blocks 0 r low (λ zone l e. absurd (omega arith)) ∙ held)
+held-along g old new blocks zero r low held = held-is new 0 (content (old 0)) (released-meta g old new blocks 0 r low (λ zone l e. absurd (omega arith)) ∙ held)
 held-along g old new blocks (suc zone) r low held = elim (cases_lt zone (queues_of g)) [
   | inl inside ↦
       let at : zone_bitmap zone ≡ suc zone = omega arith in
       let c = r.marks zone (content (old (suc zone))) inside (ap old at ∙ held) in
-      is-held new (suc zone) c.after (ap new (sym at) ∙ c.now)
-  | inr past ↦ is-held new (suc zone) (content (old (suc zone))) (released-meta g old new blocks (suc zone) r low (λ z l e. absurd (omega arith)) ∙ held)
+      held-is new (suc zone) c.after (ap new (sym at) ∙ c.now)
+  | inr past ↦ held-is new (suc zone) (content (old (suc zone))) (released-meta g old new blocks (suc zone) r low (λ z l e. absurd (omega arith)) ∙ held)
 ]
 
 -- ---- working pages
-
-pub releases-none : (w : Working) → Releases w w []
-releases-none w = record { over = over-self w; pages = released-none w.geometry (pages_of w); none = λ b e. absurd (true≢false (sym e)); kinds = λ b high out. refl }
 
 put-over : (old new : Working) (b : ℕ) → IsSameView old new → IsPut (pages_of old) (pages_of new) b None → pages_of old b ≢ None → IsOver old new
 put-over old new b view put was = record {

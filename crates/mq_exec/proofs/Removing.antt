@@ -1,7 +1,7 @@
 -- What removing a file or a directory comes to.
-use Rattle.std.proofs.Common.{get_or, ◌≡◌, ◌≢◌, ℕ, ◌*◌, ◌<◌, Bool, true, false, cond, List, [], ◌∷◌, length, refl, sym, ap, subst, ◌∙◌, arith}
+use Rattle.std.proofs.Common.{get_or, ◌≡◌, ◌≢◌, ℕ, ◌*◌, ◌<◌, Bool, true, cond, List, [], ◌∷◌, length, refl, sym, ap, subst, ◌∙◌, arith}
 use Rattle.std.specs.Prelude.{Option, Some, None, nat_eq}
-use Rattle.std.proofs.lemmas.Bool.{eq-eqb, ne_eqb}
+use Rattle.std.proofs.lemmas.Bool.{eq-eqb}
 use Rattle.mq_blocks.specs.declared.geometry.Geometry.{Geometry}
 use Rattle.mq_layout.specs.Places.{inodes_of}
 use Rattle.mq_layout.specs.Slots.{Entry}
@@ -62,9 +62,6 @@ rmdir-file g v path d i bytes u is = ap (λ (t : Target). carried_out g v (rmdir
 rmdir-dir : (v : Volume) (path : Path) (d i : ℕ) (slots : List (Option Entry)) (t : Bool) → IsUnder v (way path) d i → body v i ≡ Dir slots → nat_eq (count_names slots) 0 ≡ t → rmdir v (target v (way path)) ≡ cond t (Makes 0 (freed (unlinked v d (last_of (way path))) i)) (refused NotEmpty)
 rmdir-dir v path d i slots t u is e =
     ap (λ (x : Target). rmdir v x) u.target_is ∙ ap (λ (x : Body). rmdir_in v d (last_of (way path)) i x) is ∙ ap (λ (b : Bool). cond b (Makes 0 (freed (unlinked v d (last_of (way path))) i)) (refused NotEmpty)) e
-
-pub rmdir-full : (g : Geometry) (v : Volume) (path : Path) (d i : ℕ) (slots : List (Option Entry)) → IsUnder v (way path) d i → body v i ≡ Dir slots → count_names slots ≢ 0 → IsRefused g v (rmdir v (target v (way path))) NotEmpty
-rmdir-full g v path d i slots u is some = ap (λ (x : Verdict). carried_out g v x) (rmdir-dir v path d i slots false u is (ne_eqb (count_names slots) 0 some))
 
 pub rmdir-makes : (v : Volume) (path : Path) (d i : ℕ) (slots : List (Option Entry)) → IsUnder v (way path) d i → body v i ≡ Dir slots → count_names slots ≡ 0 → rmdir v (target v (way path)) ≡ Makes 0 (freed (unlinked v d (last_of (way path))) i)
 rmdir-makes v path d i slots u is none = rmdir-dir v path d i slots true u is (eq-eqb (count_names slots) 0 none)

@@ -1,6 +1,6 @@
 -- What moving a file or a directory comes to, and at what it looks.
-use Rattle.std.proofs.Common.{◌≡◌, ◌≢◌, ℕ, suc, ◌*◌, ◌<◌, ◌≤◌, inl, inr, List, [], ◌∷◌, length, Bool, true, false, cond, refl, sym, ap, subst, ◌∙◌, arith, length-set}
-use Rattle.std.specs.Prelude.{Option, Some, None, ◌&&◌, is_some, nat_le, nat_lt}
+use Rattle.std.proofs.Common.{◌≡◌, ◌≢◌, ℕ, ◌*◌, ◌<◌, ◌≤◌, inl, inr, List, length, Bool, true, false, cond, sym, ap, subst, ◌∙◌, arith, length-set}
+use Rattle.std.specs.Prelude.{Option, Some, None, is_some, nat_le, nat_lt}
 use Rattle.std.specs.List.{All, Contains, list_all}
 use Rattle.std.proofs.lemmas.Bool.{and_from, cases_eq, eq-eqb, le-leb, leb-false, leb-true, lt-leb, ne_eqb, true≢false}
 use Rattle.std.proofs.lemmas.List.Elements.{All-contains}
@@ -11,8 +11,8 @@ use Rattle.mq_exec.specs.Fits.{Agrees}
 use Rattle.mq_exec.specs.Opened.{HoldsPointers, IsOpened, MayLink}
 use Rattle.mq_exec.specs.Pages.{IsHeld, Pages}
 use Rattle.mq_exec.specs.Picks.{ArePicked, IsMarkable, IsSearched}
-use Rattle.mq_exec.specs.Plans.{HoldsRename, IsCarried, IsRefused, IsSource, PlansRename, is_full, move_needs, moved_entry}
-use Rattle.mq_exec.specs.Walks.{IsDirectory, LeadsPast, LooksIn, directory, inode, last_of}
+use Rattle.mq_exec.specs.Plans.{HoldsRename, IsCarried, IsRefused, IsSource, PlansRename, is_full, move_needs}
+use Rattle.mq_exec.specs.Walks.{LeadsPast, directory, inode, last_of}
 use Rattle.mq_exec.specs.declared.opened.Opened.{Opened}
 use Rattle.mq_exec.specs.declared.rename.Renaming.{Renaming}
 use Rattle.mq_exec.proofs.Coming.{carried-enough, carried-few}
@@ -32,12 +32,11 @@ use Rattle.mq_layout.specs.Places.{inode_block, inodes_of, names_limit}
 use Rattle.mq_layout.specs.Slots.{Entry}
 use Rattle.mq_tree.specs.Free.{free_blocks}
 use Rattle.mq_tree.specs.Laid.{inode_of}
-use Rattle.mq_tree.specs.Looks.{LeadsIn, LooksAt, directory as looks_directory, inode as looks_inode, needed, searched, taken}
+use Rattle.mq_tree.specs.Looks.{LooksAt, directory as looks_directory, inode as looks_inode, needed, searched, taken}
 use Rattle.mq_tree.specs.Requests.{Makes, Outcome, Verdict, carried_out, cleared, count_names, entry_needs, link_needs, linked, is_below, move, refused, rename, step, target, unlinked, unused, verdict}
 use Rattle.mq_tree.specs.Sound.{IsBody, IsSound}
 use Rattle.mq_tree.specs.Volume.{Body, Dir, Node, Path, Volume, body, find, is_taken, node, slots_of, way}
 use Rattle.mq_tree.specs.declared.request.Fault.TheVariants.{BadName, NoSpace, Subtree, TooBig}
-use Rattle.mq_tree.specs.declared.request.Reply.TheVariants.{Ok as Done}
 use Rattle.mq_tree.specs.declared.request.Request.TheVariants.{Rename}
 use Rattle.mq_tree.proofs.KeepNodes.{cleared-count, cleared-length, count-most, unused-none}
 use Rattle.mq_tree.proofs.KeepUses.{AreUses, node-here, node-other}

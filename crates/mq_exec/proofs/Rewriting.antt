@@ -1,5 +1,5 @@
 -- A file that gets other bytes over its blocks: those that change, and its size.
-use Rattle.std.proofs.Common.{get_or, ◌≡◌, ◌≢◌, ℕ, zero, suc, ◌+◌, ◌-◌, ◌*◌, ◌/◌, ◌<◌, ◌≤◌, ◌⊎◌, inl, inr, List, [], ◌∷◌, length, drop, take, Bool, true, false, cond, refl, sym, ap, subst, ◌∙◌, arith}
+use Rattle.std.proofs.Common.{get_or, ◌≡◌, ◌≢◌, ℕ, ◌+◌, ◌-◌, ◌*◌, ◌/◌, ◌<◌, ◌≤◌, ◌⊎◌, inl, inr, List, ◌∷◌, length, drop, Bool, true, false, cond, sym, ap, subst, ◌∙◌, arith}
 use Rattle.std.specs.Prelude.{Option, Some, None, ◌↔◌, max, min, slice_get}
 use Rattle.std.proofs.lemmas.Bool.{cases_eq, cases_lt, eq-eqb, ne_eqb, true≢false}
 use Rattle.std.proofs.lemmas.List.{get_or-drop, get_or-take, length-drop, length-take}
@@ -9,26 +9,26 @@ use Rattle.mq_blocks.specs.Journal.{is_among}
 use Rattle.mq_blocks.specs.Windows.{written}
 use Rattle.mq_blocks.specs.declared.geometry.Geometry.{Geometry}
 use Rattle.mq_exec.specs.Changes.{IsInodePut, IsInodeTurned, Stepped}
-use Rattle.mq_exec.specs.Edits.{Becomes, Carries, IsOver, KeepsKinds}
+use Rattle.mq_exec.specs.Edits.{Becomes, Carries, KeepsKinds}
 use Rattle.mq_exec.specs.Moves.{IsOfFile}
 use Rattle.mq_exec.specs.Overwrites.{IsOverwritten, IsPartWritten, IsSplicedAt, blocks_at, past_place, text_from, text_in}
-use Rattle.mq_exec.specs.Pages.{Pages, kinds_of, pages_of}
+use Rattle.mq_exec.specs.Pages.{kinds_of, pages_of}
 use Rattle.mq_exec.specs.declared.working.Working.{Working}
 use Rattle.mq_exec.proofs.Becoming.{becomes-stepped}
+use Rattle.mq_exec.proofs.Held.{table-low}
+use Rattle.mq_exec.proofs.Listed.{among-at, among-behind, among-cons, among-here, at-among}
 use Rattle.mq_exec.proofs.LocalBodies.{rebodied}
 use Rattle.mq_exec.proofs.LocalBytes.{IsPartPut, body-step}
 use Rattle.mq_exec.proofs.LocalKinds.{part-of-file}
-use Rattle.mq_exec.proofs.LocalLists.{among-behind, among-cons, among-here}
 use Rattle.mq_exec.proofs.LocalParts.{file-along, file-written}
 use Rattle.mq_exec.proofs.LocalVolumes.{with_body-uses}
 use Rattle.mq_exec.proofs.Showing.{use-carried}
 use Rattle.mq_layout.specs.Places.{file_limit, inode_block, inodes_of}
-use Rattle.mq_layout.specs.declared.inode.Inode.{Inode}
 use Rattle.mq_pages.specs.declared.page.Kind.{Kind}
 use Rattle.mq_pages.specs.declared.page.Kind.TheVariants.{Data}
-use Rattle.mq_tree.specs.Laid.{IsPage, ShowsPart, inode_of, kind_of, size_of}
+use Rattle.mq_tree.specs.Laid.{ShowsPart, inode_of, kind_of, size_of}
 use Rattle.mq_tree.specs.Requests.{with_body}
-use Rattle.mq_tree.specs.Volume.{Body, File, Node, Part, Volume, body, is_used, node}
+use Rattle.mq_tree.specs.Volume.{File, Node, Part, Volume, body, is_used, node}
 use Rattle.mq_tree.proofs.KeepUses.{node-here}
 use Rattle.std.proofs.lemmas.List.{length-set}
 
@@ -41,18 +41,6 @@ pub record StandsAt (blocks : List ℕ) (first past b : ℕ) : Type 0 where
   pub high : place < past
   pub inside : place < length blocks
   pub is : get_or blocks place 0 ≡ b
-
-pub among-at : (xs : List ℕ) (b : ℕ) → is_among b xs ≡ true → (k : ℕ) × (k < length xs) × (get_or xs k 0 ≡ b)
-among-at [] b e = absurd (true≢false (sym e))
-among-at (x ∷ xs) b e = elim (among-cons x b xs e) [
-  | inl same ↦ (zero, omega arith, sym same)
-  | inr later ↦ let r = among-at xs b later in let l = r.1 in (suc r.0, omega arith, r.2)
-]
-
-pub at-among : (xs : List ℕ) (k : ℕ) → k < length xs → is_among (get_or xs k 0) xs ≡ true
-at-among [] k l = absurd (omega arith)
-at-among (x ∷ xs) zero l = among-here x xs
-at-among (x ∷ xs) (suc k) l = among-behind x (get_or xs k 0) xs (at-among xs k (omega arith))
 
 pub listed-at : (blocks : List ℕ) (first past b : ℕ) → is_among b (blocks_at blocks first past) ≡ true → StandsAt blocks first past b
 listed-at blocks first past b e =
@@ -144,9 +132,6 @@ pub record IsRewritten (g : Geometry) (u : Volume) (i at : ℕ) (text bytes now 
   pub kinds : KeepsKinds wrote new
   pub geometry : wrote.geometry ≡ g
 
-pub table-below : (g : Geometry) (j : ℕ) → j < inodes_of g → inode_block g j < meta_of g
-table-below g j l = omega arith
-
 pub rewrite-becomes : (g : Geometry) (u : Volume) (i at : ℕ) (text bytes now : List ℕ) (mid wrote new : Working) → IsRewritten g u i at text bytes now mid wrote new → Becomes g u (with_body u i (File now)) mid new
 rewrite-becomes g u i at text bytes now mid wrote new h =
     becomes-stepped g u (with_body u i (File now)) mid new blocks h.carries (with_body-uses g u i (File now) h.carries.uses low) (length-set u i (rebodied (node u i) (File now))) step known rest put
@@ -176,7 +161,7 @@ rewrite-becomes g u i at text bytes now mid wrote new h =
     table-out place l m e =
         let inside = h.past place l m in
         let z = (h.carries.uses.zones (Part i place) (get_or (node u i).blocks place 0) (slice_get-get_or (node u i).blocks place 0 inside)).0 in
-        let t = table-below g i h.low in
+        let t = table-low g i h.low in
         omega arith
 
     part : (b : ℕ) → is_among b parts ≡ true → IsPartPut u i (File now) (pages_of new) b
@@ -265,7 +250,7 @@ rewrite-becomes g u i at text bytes now mid wrote new h =
 
     put : (b : ℕ) (kind : Kind) → meta_of g ≤ b → is_among b blocks ≡ true → kinds_of new b ≡ Some kind → (kind ≡ Data) ↔ IsOfFile (with_body u i (File now)) b
     put b kind m y e = elim (among-cons (inode_block g i) b parts y) [
-      | inl same ↦ absurd (let t = table-below g i h.low in omega arith)
+      | inl same ↦ absurd (let t = table-low g i h.low in omega arith)
       | inr later ↦
           let s = (high b later).0 in
           let is : kind ≡ Data = same_Some kind Data (sym e ∙ h.kinds b (subst (λ (x : Geometry). meta_of x ≤ b) (sym h.geometry) m) ∙ ap (kinds_of wrote) (sym s.is) ∙ h.parts.kinds s.place s.low s.high) in

@@ -1,7 +1,7 @@
 -- A group of requests, one after another: each volume becomes the next, and the pages with it.
 use Rattle.std.proofs.Common.{get_or, ◌≡◌, ℕ, suc, ◌+◌, ◌<◌, ◌≤◌, List, [], ◌∷◌, ◌++◌, length, drop, refl, sym, ap, subst, ◌∙◌, arith, append_assoc, drop-cons, inl, inr}
 use Rattle.std.specs.Prelude.{None}
-use Rattle.std.proofs.lemmas.List.{drop_all}
+use Rattle.std.proofs.lemmas.List.{append-nil, drop_all}
 use Rattle.mq_blocks.specs.Geometry.{queues_of}
 use Rattle.mq_blocks.specs.declared.geometry.Geometry.{Geometry}
 use Rattle.mq_exec.specs.Edits.{Becomes, IsOver}
@@ -128,10 +128,6 @@ run-lacks g q held pages requests (NeedOf blocks) outcome P absent f h is =
 run-lacks g q held pages requests Wanting outcome P absent f h is = absurd is
 
 -- ---- at the end
-
-append-nil : (xs : List Reply) → xs ++ [] ≡ xs
-append-nil [] = refl
-append-nil (x ∷ xs) = ap (λ (ys : List Reply). x ∷ ys) (append-nil xs)
 
 replies-none : (g : Geometry) (q : ℕ) (v : Volume) → replies g q v [] ≡ []
 unfolding replies

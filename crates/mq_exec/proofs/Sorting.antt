@@ -10,6 +10,7 @@ use Rattle.std.specs.Ordering.{is_lt, nat_cmp, ordering_reverse}
 use Rattle.std.specs.Str.{bytes_eq}
 use Rattle.std.proofs.lemmas.Bool.{cases_Bool, true≢false}
 use Rattle.std.proofs.lemmas.Cmp.{nat_list_cmp_total}
+use Rattle.std.proofs.lemmas.List.{append-nil}
 use Rattle.std.proofs.lemmas.List.Elements.{All-head, All-tail, All-from_get_or}
 use Rattle.std.proofs.lemmas.List.Sums.{sum_by-cons}
 use Rattle.std.proofs.lemmas.Slice.Eq.{bytes_eq-Decides}
@@ -135,10 +136,6 @@ sorted-names slots names sorted e p s =
     sym (count-sum x sorted) ∙ sum_by-IsPermutation (once x) names sorted p ∙ count-sum x names ∙ ap (count x) e ∙ sym (count-names_in x slots))
 
 -- ---- names as they are gathered
-
-append-nil : (xs : List (List ℕ)) → xs ++ [] ≡ xs
-append-nil [] = refl
-append-nil (x ∷ xs) = ap (λ (ys : List (List ℕ)). x ∷ ys) (append-nil xs)
 
 pub name-pushed : (old new rest before_it all : List (List ℕ)) (name : List ℕ) → new ≡ old ++ name ∷ [] → before_it ≡ name ∷ rest → old ++ before_it ≡ all → new ++ rest ≡ all
 name-pushed old new rest before_it all name e is h =

@@ -1,6 +1,6 @@
 -- What stands under the last name of a path.
 use Rattle.std.proofs.Common.{◌≡◌, ◌≢◌, ℕ, ◌<◌, true, List, [], ◌∷◌, refl, sym, ap, subst, ◌∙◌, inl, inr}
-use Rattle.std.specs.Prelude.{MatchResult, Option, Some, None, Result, Ok, Err, option_and_then}
+use Rattle.std.specs.Prelude.{MatchResult, Option, Some, Result, Ok, Err, option_and_then}
 use Rattle.std.proofs.lemmas.Bool.{true≢false}
 use Rattle.mq_blocks.specs.declared.geometry.Geometry.{Geometry}
 use Rattle.mq_layout.specs.Places.{inode_block, inodes_of}

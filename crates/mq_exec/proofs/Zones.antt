@@ -1,8 +1,8 @@
 -- Free blocks that are picked zone by zone: the queue's own zone, and then the others by rising zone.
-use Rattle.std.proofs.Common.{◌≡◌, ◌≢◌, ℕ, suc, ◌+◌, ◌-◌, ◌*◌, ◌<◌, ◌≤◌, inl, inr, List, [], ◌++◌, length, take, Bool, refl, sym, ap, subst, ◌∙◌, arith, append_assoc}
+use Rattle.std.proofs.Common.{◌≡◌, ◌≢◌, ℕ, suc, ◌+◌, ◌-◌, ◌*◌, ◌<◌, ◌≤◌, inl, inr, List, [], ◌++◌, length, take, Bool, sym, ap, subst, ◌∙◌, arith, append_assoc}
 use Rattle.std.specs.Prelude.{min, if◌then◌else◌, nat_lt}
 use Rattle.std.specs.List.{range_with_len}
-use Rattle.std.proofs.lemmas.Bool.{cases_lt, eq-eqb, le-ltb, lt-ltb, ne_eqb}
+use Rattle.std.proofs.lemmas.Bool.{cases_lt, le-ltb, lt-ltb, ne_eqb}
 use Rattle.std.proofs.lemmas.List.{append-nil}
 use Rattle.mq_blocks.specs.Geometry.{meta_of, queues_of, zone_size}
 use Rattle.mq_blocks.specs.declared.geometry.Geometry.{Geometry}
@@ -32,11 +32,6 @@ parts-none g q a =
     let own = zone_blocks g q ++ range_with_len (meta_of g) (a * zone_size g) in
     ap (λ (n : ℕ). own ++ range_with_len (zone_block g (suc q) 0) n) none ∙ append-nil own
 
-parts-own : (g : Geometry) (q : ℕ) → parts g q 0 0 ≡ zone_blocks g q
-parts-own g q =
-    let none : 0 * zone_size g ≡ 0 = omega arith in
-    parts-none g q 0 ∙ ap (λ (n : ℕ). zone_blocks g q ++ range_with_len (meta_of g) n) none ∙ append-nil (zone_blocks g q)
-
 range-zone : (a k size : ℕ) → range_with_len a ((k + 1) * size) ≡ range_with_len a (k * size) ++ range_with_len (a + k * size) size
 range-zone a k size =
     let e : (k + 1) * size ≡ k * size + size = omega arith in
@@ -64,9 +59,6 @@ parts-higher g q k z e =
 reached-is : (g : Geometry) (q z a b : ℕ) → min z q ≡ a → z - suc q ≡ b → reached g q z ≡ parts g q a b
 reached-is g q z a b e f = ap (λ (x : ℕ). parts g q x (z - suc q)) e ∙ ap (λ (x : ℕ). parts g q a x) f
 
-reached-start : (g : Geometry) (q : ℕ) → reached g q 0 ≡ zone_blocks g q
-reached-start g q = reached-is g q 0 0 0 (omega arith) (omega arith) ∙ parts-own g q
-
 -- the queue's own zone isn't looked at again
 reached-own : (g : Geometry) (q : ℕ) → reached g q (q + 1) ≡ reached g q q
 reached-own g q = reached-is g q (q + 1) q 0 (omega arith) (omega arith) ∙ sym (reached-is g q q q 0 (omega arith) (omega arith))
@@ -78,14 +70,6 @@ reached-next g q z other = elim (cases_lt z q) [
       let past : q < z = omega arith in
       reached-is g q (z + 1) q (z - suc q + 1) (omega arith) (omega arith) ∙ parts-higher g q (z - suc q) z (omega arith) ∙ ap (λ (xs : List ℕ). xs ++ zone_blocks g z) (sym (reached-is g q z q (z - suc q) (omega arith) (omega arith)))
 ]
-
-reached-end : (g : Geometry) (q z : ℕ) → q < queues_of g → z ≡ queues_of g → reached g q z ≡ order g q
-reached-end g q z low e = reached-is g q z q (queues_of g - suc q) (omega arith) (omega arith)
-
-before-own : (g : Geometry) (q : ℕ) → before g q q ≡ []
-before-own g q =
-    let rest = if nat_lt q q then zone_blocks g q ++ range_with_len (meta_of g) (q * zone_size g) else zone_blocks g q ++ range_with_len (meta_of g) (q * zone_size g) ++ range_with_len (zone_block g (suc q) 0) ((q - suc q) * zone_size g) in
-    ap (λ (t : Bool). if t then [] else rest) (eq-eqb q q refl)
 
 reached-before : (g : Geometry) (q z : ℕ) → z ≢ q → before g q z ≡ reached g q z
 reached-before g q z other =
@@ -101,10 +85,6 @@ reached-before g q z other =
 abbrev pub picks_before : Geometry → (q : ℕ) → Volume → (count zone : ℕ) → List ℕ
 picks_before g q v n z = take n (free_of v (reached g q z))
 
-pub picks-start : (g : Geometry) (q n : ℕ) (v : Volume) (old picks : List ℕ) → old ≡ [] → picks ≡ take n (old ++ free_of v (zone_blocks g q)) → picks ≡ picks_before g q v n 0
-picks-start g q n v old picks none e =
-    e ∙ ap (λ (xs : List ℕ). take n (xs ++ free_of v (zone_blocks g q))) none ∙ ap (λ (xs : List ℕ). take n (free_of v xs)) (sym (reached-start g q))
-
 pub picks-own : (g : Geometry) (q n z : ℕ) (v : Volume) (picks : List ℕ) → z ≡ q → picks ≡ picks_before g q v n z → picks ≡ picks_before g q v n (z + 1)
 picks-own g q n z v picks e h =
     h ∙ ap (λ (xs : List ℕ). take n (free_of v xs)) (ap (reached g q) e ∙ sym (reached-own g q) ∙ ap (λ (x : ℕ). reached g q (x + 1)) (sym e))
@@ -114,9 +94,6 @@ picks-next g q n z v old picks other e h =
     e ∙ ap (λ (xs : List ℕ). take n (xs ++ free_of v (zone_blocks g z))) h ∙ take-again n (free_of v (reached g q z)) (free_of v (zone_blocks g z))
     ∙ ap (take n) (sym (free-append v (reached g q z) (zone_blocks g z))) ∙ ap (λ (xs : List ℕ). take n (free_of v xs)) (sym (reached-next g q z other))
 
-pub picks-end : (g : Geometry) (q n z : ℕ) (v : Volume) (picks : List ℕ) → q < queues_of g → z ≡ queues_of g → picks ≡ picks_before g q v n z → picks ≡ take n (free_of v (order g q))
-picks-end g q n z v picks low e h = h ∙ ap (λ (xs : List ℕ). take n (free_of v xs)) (reached-end g q z low e)
-
 -- ---- where they do not suffice
 
 few-free : (v : Volume) (n : ℕ) (xs picks : List ℕ) → picks ≡ take n (free_of v xs) → length picks < n → count_free v xs < n
@@ -124,11 +101,6 @@ few-free v n xs picks e few =
     let all : picks ≡ free_of v xs = e ∙ take-few n (free_of v xs) (subst (λ (ys : List ℕ). length ys < n) e few) in
     let m : length picks ≡ count_free v xs = ap (λ (ys : List ℕ). length ys) all ∙ length-free v xs in
     omega arith
-
-pub searched-own : (g : Geometry) (q n b : ℕ) (v : Volume) (old : List ℕ) → q < queues_of g → b ≡ zone_bitmap q → length old < n → IsSearched g q v n b
-searched-own g q n b v old low e few =
-    let none : count_free v (before g q q) ≡ 0 = ap (count_free v) (before-own g q) in
-    record { zone = q; inside = low; few = omega arith; is = e }
 
 pub searched-other : (g : Geometry) (q n z b : ℕ) (v : Volume) (old : List ℕ) → z ≢ q → z < queues_of g → old ≡ picks_before g q v n z → b ≡ zone_bitmap z → length old < n → IsSearched g q v n b
 searched-other g q n z b v old other low h e few = record {

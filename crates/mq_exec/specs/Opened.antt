@@ -2,8 +2,8 @@
 use Rattle.std.specs.Prelude.{◌≡◌, ◌≢◌, ◌≤◌, ◌<◌, ◌+◌, ◌*◌, ℕ, List, length, take, slice_index, slice_index_or, slice_set, Option, Some, None, is_some, nat_lt, if◌then◌else◌}
 use Rattle.mq_blocks.specs.Geometry.{queues_of}
 use Rattle.mq_blocks.specs.declared.geometry.Geometry.{Geometry}
-use Rattle.mq_exec.specs.Edits.{Becomes, Carries}
-use Rattle.mq_exec.specs.Pages.{IsHeld, Pages, pages_of}
+use Rattle.mq_exec.specs.Edits.{Becomes}
+use Rattle.mq_exec.specs.Pages.{IsHeld, Pages}
 use Rattle.mq_exec.specs.Picks.{ArePicked, IsMarkable}
 use Rattle.mq_exec.specs.declared.opened.Opened.{Opened}
 use Rattle.mq_exec.specs.declared.working.Working.{Working}

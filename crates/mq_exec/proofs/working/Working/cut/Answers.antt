@@ -2,7 +2,7 @@ use Rattle.std.proofs.Common.{length, sym, ap, subst, ◌∙◌}
 use Rattle.mq_exec.specs.Pages.{pages_of}
 use Rattle.mq_exec.specs.Released.{IsCutInode}
 use Rattle.mq_exec.proofs.Cutting.{becomes-cut, cut-form, pointers-held, pointers-high, table-cut}
-use Rattle.mq_exec.proofs.FreedInodes.{held-known}
+use Rattle.mq_exec.proofs.Held.{held-known}
 use Rattle.mq_exec.proofs.Linking.{on_ok-both}
 use Rattle.mq_exec.proofs.LocalGone.{gone-releasable}
 use Rattle.mq_exec.proofs.Nodes.{length-padded}

@@ -5,8 +5,9 @@ use Rattle.mq_exec.specs.Cuts.{LooksCut}
 use Rattle.mq_exec.specs.Lacks.{LacksOf, OfEach}
 use Rattle.mq_exec.specs.Pages.{pages_of}
 use Rattle.mq_exec.specs.Released.{gone_from}
-use Rattle.mq_exec.proofs.GoneBlocks.{IsCutSought, gone-release, gone-zones, last-held, rest-of, sought-looks}
+use Rattle.mq_exec.proofs.GoneBlocks.{IsCutSought, gone-release, gone-zones, last-held, sought-looks}
 use Rattle.mq_exec.proofs.Needs.{lacks-weaker}
+use Rattle.mq_exec.proofs.Releasing.{rest-all}
 use Rattle.mq_tree.specs.Sound.{blocks_for}
 use Rattle.mq_exec.proofs.working.Working.look_to_cut.Goals as goal
 
@@ -26,7 +27,7 @@ returns-clause-last c =
       gone_is = c.deref.ensures.value ∙ c.in_ok-gone.ensures ∙ ap (λ (n : ℕ). gone_from o n) c.count_for.ensures.is;
       marked = c.in_ok-wanted.ensures.all;
       only = c.in_ok-wanted.ensures.only;
-      all_is = c.deref-3.ensures.value ∙ c.in_ok-extend_from_slice.ensures.items ∙ ap (λ (xs : List ℕ). bitmaps ++ xs) (rest-of o.blocks.items c.deref-2.result.now (c.args.size / 4096) c.deref-2.ensures.value);
+      all_is = c.deref-3.ensures.value ∙ c.in_ok-extend_from_slice.ensures.items ∙ ap (λ (xs : List ℕ). bitmaps ++ xs) (rest-all o.blocks.items c.deref-2.result.now (c.args.size / 4096) c.deref-2.ensures.value);
     } in
     on_ok_weaker c.look_for_all.result (last-held g p.0 o (pages_of c.args.self.now) c.args.size c.deref.result.now bitmaps c.deref-3.result.now p.1 (c.requires.opened p.0 p.1) s) c.look_for_all.ensures.ok
 
@@ -41,7 +42,7 @@ returns-clause-release c =
       gone_is = c.deref.ensures.value ∙ c.in_ok-gone.ensures ∙ ap (λ (n : ℕ). gone_from o n) c.count_for.ensures.is;
       marked = c.in_ok-wanted.ensures.all;
       only = c.in_ok-wanted.ensures.only;
-      all_is = c.deref-3.ensures.value ∙ c.in_ok-extend_from_slice.ensures.items ∙ ap (λ (xs : List ℕ). bitmaps ++ xs) (rest-of o.blocks.items c.deref-2.result.now (c.args.size / 4096) c.deref-2.ensures.value);
+      all_is = c.deref-3.ensures.value ∙ c.in_ok-extend_from_slice.ensures.items ∙ ap (λ (xs : List ℕ). bitmaps ++ xs) (rest-all o.blocks.items c.deref-2.result.now (c.args.size / 4096) c.deref-2.ensures.value);
     } in
     on_ok_weaker c.look_for_all.result (gone-release g p.0 o (pages_of c.args.self.now) c.args.size c.deref.result.now bitmaps c.deref-3.result.now p.1 (c.requires.opened p.0 p.1) c.requires.pointers s) c.look_for_all.ensures.ok
 
@@ -55,7 +56,7 @@ returns-clause-lack c =
       gone_is = c.deref.ensures.value ∙ c.in_ok-gone.ensures ∙ ap (λ (n : ℕ). gone_from o n) c.count_for.ensures.is;
       marked = c.in_ok-wanted.ensures.all;
       only = c.in_ok-wanted.ensures.only;
-      all_is = c.deref-3.ensures.value ∙ c.in_ok-extend_from_slice.ensures.items ∙ ap (λ (xs : List ℕ). bitmaps ++ xs) (rest-of o.blocks.items c.deref-2.result.now (c.args.size / 4096) c.deref-2.ensures.value);
+      all_is = c.deref-3.ensures.value ∙ c.in_ok-extend_from_slice.ensures.items ∙ ap (λ (xs : List ℕ). bitmaps ++ xs) (rest-all o.blocks.items c.deref-2.result.now (c.args.size / 4096) c.deref-2.ensures.value);
     } in
     IfErr-weaker c.look_for_all.result _ (LacksOf c.args.self.now (λ v b. LooksCut g v o.number c.args.size b))
     (λ lack n. lacks-weaker (pages_of c.args.self.now) (Contains c.deref-3.result.now) (λ b. OfEach c.args.self.now (λ v. LooksCut g v o.number c.args.size b)) lack

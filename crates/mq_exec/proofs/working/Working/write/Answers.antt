@@ -1,7 +1,6 @@
 use Rattle.std.proofs.Common.{◌<◌, ◌≤◌, ◌+◌, length, refl, arith}
 use Rattle.std.proofs.lemmas.Result.{err_from_is_err_and}
 use Rattle.mq_exec.specs.Longer.{LooksLonger}
-use Rattle.mq_exec.specs.Pages.{pages_of}
 use Rattle.mq_exec.specs.Walks.{LeadsPast}
 use Rattle.mq_exec.proofs.Answering.{past-looks}
 use Rattle.mq_exec.proofs.Coming.{comes-carried, comes-refused}
