@@ -1,4 +1,9 @@
 // Requests on small file systems, and what they answer.
+mod alike;
+mod choices;
+mod drawn;
+mod pages;
+
 use crate::Volume;
 use mq_blocks::{Geometry, QueueNo};
 use mq_tree::{Bytes, Fault, Name, Path, Reply, Request};
