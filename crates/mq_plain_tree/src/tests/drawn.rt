@@ -1,4 +1,6 @@
 // The home blocks of a file system, drawn from what it holds, byte by byte.
+ghost use Rattle.std.specs.Prelude.{◌<◌, ◌≤◌};
+
 use crate::{Body, NamedInode, Node, Volume};
 use mq_blocks::bytes::put;
 use mq_blocks::{Block, BlockNo, Geometry, OutOfMemory};

@@ -1,4 +1,11 @@
 // Home blocks on which groups are run, each on the pages that it asks for.
+ghost use Rattle.std.specs.Prelude.{◌≡◌, ◌<◌, ◌≤◌, ℕ, List, Option, Some, IfOk};
+ghost use Rattle.mq_blocks.specs.Blocks.{block_at};
+ghost use Rattle.mq_blocks.specs.Geometry.{homes_of, meta_of, queues_of};
+ghost use Rattle.mq_exec.specs.Pages.{held_pages};
+ghost use Rattle.mq_tree.specs.Laid.{IsTreeOf, is_marked as is_marked_in, map_of};
+ghost use Rattle.mq_tree.specs.Volume.{tree as tree_of};
+
 use super::drawn::{drawn, is_of_file};
 use crate::Volume;
 use mq_blocks::{Block, BlockNo, Geometry, OutOfMemory, QueueNo, TxNo};
@@ -49,7 +56,9 @@ pub struct Twins {
 }
 
 // A copy of a block, where an absent one is zeros.
-fn stored(alloc: Global, blocks: &[Option<Block>], b: u32) -> Result<Block, OutOfMemory> {
+fn stored(alloc: Global, blocks: &[Option<Block>], b: u32) -> Result<Block, OutOfMemory>
+    ensures { IfOk result (λ block. block ≡ block_at blocks.now b) }
+{
     match blocks.get(b as usize) {
         Some(Some(block)) => block.copy(alloc),
         _ => Block::zeroed(alloc),
@@ -62,7 +71,11 @@ fn is_marked(
     geometry: Geometry,
     blocks: &[Option<Block>],
     b: u32,
-) -> Result<bool, OutOfMemory> {
+) -> Result<bool, OutOfMemory>
+    requires low { meta_of geometry ≤ b }
+    requires high { b < homes_of geometry }
+    ensures { IfOk result (λ is. is ≡ is_marked_in geometry blocks.now b) }
+{
     let place = b - geometry.meta();
     let bitmap = stored(alloc, blocks, 1 + place / geometry.zone())?;
     Ok(bit(&bitmap, place % geometry.zone()))
@@ -74,7 +87,10 @@ fn page(
     geometry: Geometry,
     blocks: &[Option<Block>],
     b: u32,
-) -> Result<Option<Block>, OutOfMemory> {
+) -> Result<Option<Block>, OutOfMemory>
+    requires { b < homes_of geometry }
+    ensures { IfOk result (λ page. page ≡ map_of geometry blocks.now b) }
+{
     if b < geometry.meta() || is_marked(alloc, geometry, blocks, b)? {
         Ok(Some(stored(alloc, blocks, b)?))
     } else {
@@ -88,7 +104,9 @@ fn lift(
     geometry: Geometry,
     blocks: &[Option<Block>],
     known: &[bool],
-) -> Result<Held, OutOfMemory> {
+) -> Result<Held, OutOfMemory>
+    ensures { IfOk result (λ held. (b : ℕ) (page : Option (List ℕ)) → held_pages held.cells b ≡ Some page → map_of geometry blocks.now b ≡ page) }
+{
     let mut held = Held::new(alloc, geometry.homes())?;
     for b in 0..geometry.homes() {
         if known.get(b as usize).copied().unwrap_or(false) {
@@ -127,7 +145,10 @@ fn carried(
     blocks: &[Option<Block>],
     tree: &Tree,
     requests: &[Request],
-) -> Result<Done, Wrong> {
+) -> Result<Done, Wrong>
+    requires laid { IsTreeOf geometry (map_of geometry blocks.now) (tree_of tree.now) }
+    requires queue { queue < queues_of geometry }
+{
     pages_of_a_map();
     let mut known = vec![in alloc; false; geometry.homes() as usize]?;
     for _ in 0..60 {
@@ -268,6 +289,9 @@ impl Twins {
         queue: QueueNo,
         requests: &[Request],
     ) -> Result<Vec<Reply>, Wrong> {
+        if queue.0 >= self.geometry.queues() {
+            return Err(Wrong::Geometry);
+        }
         let Ok(tree) = mount(alloc, self.geometry, &self.homes) else {
             return Err(Wrong::Tree);
         };

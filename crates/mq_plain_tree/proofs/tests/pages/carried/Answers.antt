@@ -1,0 +1,12 @@
+use Rattle.std.proofs.Common.{subst, sym}
+use Rattle.mq_exec.specs.Fits.{Agrees}
+use Rattle.mq_exec.specs.Pages.{held_pages}
+use Rattle.mq_tree.specs.Laid.{map_of}
+use Rattle.mq_plain_tree.proofs.tests.pages.carried.Goals as goal
+
+pub run-requires-clause-possible : goal.run-requires-clause-possible
+run-requires-clause-possible c =
+    let g = c.args.geometry in
+    let laid = c.requires.laid.laid in
+    let agrees : Agrees g (held_pages c.in_ok-held.held.cells) laid.volume = c.pages_of_a_map.ensures g (map_of g c.args.blocks.now) (held_pages c.in_ok-held.held.cells) laid.volume laid.laid c.in_ok-held.ensures in
+    (laid.volume, subst (λ h. Agrees g (held_pages h.cells) laid.volume) (sym c.new.ensures) agrees)
