@@ -6,6 +6,8 @@ ghost use Rattle.mq_exec.specs.Pages.{held_pages};
 ghost use Rattle.mq_tree.specs.Laid.{IsTreeOf, is_marked as is_marked_in, map_of};
 ghost use Rattle.mq_tree.specs.Volume.{tree as tree_of};
 
+mod empty;
+
 use crate::group::run;
 use crate::laws::pages_of_a_map;
 use crate::outcome::{Done, Outcome};

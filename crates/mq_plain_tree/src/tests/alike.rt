@@ -3,7 +3,7 @@ use super::choices::{Bent, Choices};
 use super::pages::{Twins, Wrong};
 use crate::{Body, Volume};
 use mq_blocks::{Geometry, OutOfMemory, QueueNo};
-use mq_tree::{Fault, Reply, Request};
+use mq_tree::{Fault, Name, Path, Reply, Request};
 use std::alloc::Global;
 
 // What happened in a run.
@@ -145,5 +145,59 @@ fn groups_on_three_queues_are_alike(rt: HostRuntime) -> Result<(), Wrong> {
     assert!(rt; seen.wide);
     assert!(rt; seen.long);
     assert!(rt; seen.cut);
+    Ok(())
+}
+
+// The path of a file in a directory in the root.
+fn path_in(alloc: Global, name: &[u8]) -> Result<Path, OutOfMemory> {
+    let mut names = Vec::new(alloc);
+    names.push(Name(Vec::from_slice(alloc, b"d")?))?;
+    names.push(Name(Vec::from_slice(alloc, name)?))?;
+    Ok(Path(names))
+}
+
+// Makes or removes 200 files in a directory.
+fn change_all(alloc: Global, twins: &mut Twins, is_made: bool) -> Result<(), Wrong> {
+    for k in 0..10u8 {
+        let mut requests = Vec::new(alloc);
+        for j in 0..20u8 {
+            let path = path_in(alloc, &[65 + k, 65 + j])?;
+            requests.push(match is_made {
+                true => Request::Create(path),
+                false => Request::Unlink(path),
+            })?;
+        }
+        let _replies = twins.ask(alloc, QueueNo(0), &requests)?;
+    }
+    Ok(())
+}
+
+// A directory gets and loses many names, with a zone of so many blocks. Then how many blocks it had, and
+// whether it had one of pointers.
+fn blocks_of_many(alloc: Global, zone: u32) -> Result<(usize, bool), Wrong> {
+    let Ok(geometry) = Geometry::new(1, 1024, 10, zone) else {
+        return Err(Wrong::Geometry);
+    };
+    let mut twins = Twins::new(alloc, geometry)?;
+    let (mut first, mut last) = (Vec::new(alloc), Vec::new(alloc));
+    let d = Name(Vec::from_slice(alloc, b"d")?);
+    first.push(Request::Mkdir(Path(Vec::from_array(alloc, [d])?)))?;
+    let _replies = twins.ask(alloc, QueueNo(0), &first)?;
+    change_all(alloc, &mut twins, true)?;
+    let had = match twins.volume.nodes().get(1) {
+        Some(node) => (node.blocks().len(), node.indirect().is_some()),
+        None => (0, false),
+    };
+    change_all(alloc, &mut twins, false)?;
+    let d = Name(Vec::from_slice(alloc, b"d")?);
+    last.push(Request::Rmdir(Path(Vec::from_array(alloc, [d])?)))?;
+    let _replies = twins.ask(alloc, QueueNo(0), &last)?;
+    Ok(had)
+}
+
+#[test]
+fn large_directories_are_alike(rt: HostRuntime) -> Result<(), Wrong> {
+    assert_eq!(rt; blocks_of_many(rt.alloc(), 14)?, (12, false));
+    assert_eq!(rt; blocks_of_many(rt.alloc(), 16)?, (14, true));
     Ok(())
 }
