@@ -3,37 +3,31 @@ use Rattle.std.proofs.Common.{◌≡◌, ℕ, ◌*◌, ◌<◌, ◌≤◌, inl, 
 use Rattle.std.specs.Prelude.{Some, None, max}
 use Rattle.std.specs.List.{list_all}
 use Rattle.std.proofs.lemmas.Bool.{le-ltb}
-use Rattle.std.proofs.lemmas.List.Elements.{All-contains}
 use Rattle.std.proofs.lemmas.Option.{slice_get_within}
 use Rattle.mq_blocks.specs.Geometry.{queues_of}
 use Rattle.mq_blocks.specs.declared.geometry.Geometry.{Geometry}
 use Rattle.mq_exec.specs.Changes.{zone_in}
-use Rattle.mq_exec.specs.Cuts.{LooksCut, marks, pointer_marks, pointers, part as cut_part}
-use Rattle.mq_exec.specs.Longer.{LooksLonger, indirect, longer_needs, part, picked, short}
+use Rattle.mq_exec.specs.Cuts.{LooksCut, marks, pointer_marks, pointers, part}
+use Rattle.mq_exec.specs.Longer.{LooksLonger, longer_needs}
 use Rattle.mq_exec.specs.Opened.{cut_file, cut_node}
 use Rattle.mq_exec.specs.Plans.{IsFound, on_body, on_file}
 use Rattle.mq_exec.specs.declared.file.Found.{Found}
-use Rattle.mq_exec.proofs.Coming.{carried-enough}
 use Rattle.mq_exec.proofs.Filling.{truncate-makes}
-use Rattle.mq_exec.proofs.LinkedGrown.{picked-enough}
 use Rattle.mq_exec.proofs.LocalLists.{part-gone, pointers-gone}
 use Rattle.mq_exec.proofs.LocalSteps.{gone-free}
-use Rattle.mq_exec.proofs.LocalTaken.{IsFree}
 use Rattle.mq_exec.proofs.LocalVolumes.{resized-cut}
-use Rattle.mq_exec.proofs.Picking.{picks-all_free}
-use Rattle.mq_exec.proofs.Resized.{resized-takes, sized-count, sized-low, sized-uses}
+use Rattle.mq_exec.proofs.Resized.{IsResizing, resizing-does, resizing-done, resizing-looks, resizing-pointers, sized-count, sized-low, sized-uses}
 use Rattle.mq_exec.proofs.Shortening.{needs-none}
 use Rattle.mq_exec.proofs.Targets.{found-under}
 use Rattle.mq_layout.specs.Names.{is_name}
 use Rattle.mq_layout.specs.Places.{file_limit, zone_bitmap}
 use Rattle.mq_tree.specs.Free.{free_blocks}
-use Rattle.mq_tree.specs.Looks.{LooksAt, WorksOn, is_refused, needed, bytes as at_bytes, freed as at_freed, pointers as at_pointers, searched as at_searched, taken as at_taken}
-use Rattle.mq_tree.specs.Requests.{In, Lost, Makes, Outcome, Root, Target, Verdict, carried_out, cut_to, refused, resized, set_bytes, step, target, truncate, truncate_in, verdict}
+use Rattle.mq_tree.specs.Looks.{LooksAt, bytes as at_bytes, freed as at_freed}
+use Rattle.mq_tree.specs.Requests.{In, Lost, Outcome, Root, Target, Verdict, cut_to, refused, resized, set_bytes, target, truncate, truncate_in}
 use Rattle.mq_tree.specs.Sound.{IsSound, blocks_for}
-use Rattle.mq_tree.specs.Volume.{Body, Free, File, Dir, Part, Path, Pointers, Volume, body, has_block, inode_at, is_taken, node, way}
+use Rattle.mq_tree.specs.Volume.{Body, Free, File, Dir, Part, Path, Pointers, Volume, body, has_block, is_taken, node, way}
 use Rattle.mq_tree.specs.declared.request.Fault.{Fault}
 use Rattle.mq_tree.specs.declared.request.Fault.TheVariants.{BadName}
-use Rattle.mq_tree.specs.declared.request.Reply.TheVariants.{Ok as Ready}
 use Rattle.mq_tree.specs.declared.request.Request.TheVariants.{Truncate}
 use Rattle.mq_tree.proofs.KeepNodes.{cut-length}
 use Rattle.mq_tree.proofs.KeepUses.{node-other}
@@ -64,57 +58,29 @@ truncate-found g q v path size f h = ap (λ (t : Target). truncate g q v size t)
 
 -- ---- a file that gets another size
 
-pub record IsSized (g : Geometry) (q : ℕ) (v : Volume) (path : Path) (i size : ℕ) (bytes : List ℕ) : Type 0 where
-  pub sound : IsSound g v
-  pub queue : q < queues_of g
-  pub named : list_all is_name path ≡ true
-  pub leads : inode_at v (way path) ≡ Some i
-  pub is : body v i ≡ File bytes
-  pub limit : size ≤ file_limit
-  pub comes : truncate g q v size (target v (way path)) ≡ truncate_in g q v i size (body v i)
+abbrev pub IsSized : Geometry → (queue : ℕ) → Volume → Path → (i size : ℕ) → List ℕ → Type 0
+IsSized g q v path i size bytes = IsResizing g q v (Truncate path size) i size bytes (cut_to size bytes)
 
 pub sized-found : (g : Geometry) (q : ℕ) (v : Volume) (path : Path) (size : ℕ) (f : Found) → IsSound g v → q < queues_of g → list_all is_name path ≡ true → size ≤ file_limit → (h : IsFound v path f) → IsSized g q v path f.number size h.file.bytes
-sized-found g q v path size f sound queue named limit h = record {
-  sound = sound;
-  queue = queue;
-  named = named;
-  leads = (found-under g v path f sound h).leads;
-  is = h.file.is;
-  limit = limit;
-  comes = truncate-found g q v path size f h;
-}
-
-sized-verdict : (g : Geometry) (q : ℕ) (v : Volume) (path : Path) (i size : ℕ) (bytes : List ℕ) → IsSized g q v path i size bytes → verdict g q v (Truncate path size) ≡ Makes (longer_needs v i size) (resized g q v i (cut_to size bytes))
-sized-verdict g q v path i size bytes h = ap (λ (t : Bool). cond t (truncate g q v size (target v (way path))) (refused BadName)) h.named ∙ h.comes ∙ (truncate-makes g q v i size bytes h.is h.limit).makes
-
-sized-does : (g : Geometry) (q : ℕ) (v : Volume) (path : Path) (i size : ℕ) (bytes : List ℕ) → IsSized g q v path i size bytes → longer_needs v i size ≤ free_blocks g v → step g q v (Truncate path size) ≡ record { reply = Ready; next = resized g q v i (cut_to size bytes) }
-unfolding step
-sized-does g q v path i size bytes h enough = ap (λ (x : Verdict). carried_out g v x) (sized-verdict g q v path i size bytes h) ∙ carried-enough g v (longer_needs v i size) (resized g q v i (cut_to size bytes)) enough
-
-sized-works : (g : Geometry) (q : ℕ) (v : Volume) (path : Path) (i size : ℕ) (bytes : List ℕ) → IsSized g q v path i size bytes → WorksOn v (Truncate path size) i bytes
-sized-works g q v path i size bytes h = record { path = path; names = refl; leads = h.leads; is = h.is }
-
-sized-pointers : (g : Geometry) (q : ℕ) (v : Volume) (path : Path) (i size : ℕ) (bytes : List ℕ) (b : ℕ) → IsSized g q v path i size bytes → longer_needs v i size ≤ free_blocks g v → (node v i).indirect ≡ Some b → LooksAt g q v (Truncate path size) b
-sized-pointers g q v path i size bytes b h enough e = at_pointers i bytes (sized-works g q v path i size bytes h) (ap (λ (o : Outcome). is_refused o.reply) (sized-does g q v path i size bytes h enough)) e
+sized-found g q v path size f sound queue named limit h =
+    let m = truncate-makes g q v f.number size h.file.bytes h.file.is limit in
+    record {
+      sound = sound;
+      queue = queue;
+      works = record { path = path; names = refl; leads = (found-under g v path f sound h).leads; is = h.file.is };
+      makes = ap (λ (t : Bool). cond t (truncate g q v size (target v (way path))) (refused BadName)) named ∙ truncate-found g q v path size f h ∙ m.makes;
+      length_is = m.length_is;
+    }
 
 -- ---- where it is filled
 
 pub filled-looks : (g : Geometry) (q : ℕ) (v : Volume) (path : Path) (i size : ℕ) (bytes : List ℕ) (b : ℕ) → IsSized g q v path i size bytes → length bytes ≤ size → LooksLonger g q v i size 0 0 b → LooksAt g q v (Truncate path size) b
-filled-looks g q v path i size bytes b h longer (short s) =
-    let same : needed (verdict g q v (Truncate path size)) ≡ longer_needs v i size = ap needed (sized-verdict g q v path i size bytes h) in
-    at_searched s.zone s.inside (let few = s.few in omega arith) s.is
-filled-looks g q v path i size bytes b h longer (indirect picks p e) = sized-pointers g q v path i size bytes b h (picked-enough g q v (longer_needs v i size) picks h.queue p) e
-filled-looks g q v path i size bytes b h longer (picked picks p c) =
-    let enough = picked-enough g q v (longer_needs v i size) picks h.queue p in
-    let free = All-contains (IsFree g v) picks b (picks-all_free g q v (longer_needs v i size) picks h.queue p) c in
-    at_taken free.free (ap (λ (o : Outcome). is_taken o.next b) (sized-does g q v path i size bytes h enough)
-    ∙ resized-takes g q v i size bytes (cut_to size bytes) picks b h.sound h.queue h.is longer (cut-length size bytes) p c)
-filled-looks g q v path i size bytes b h longer (part picks p place low high e) = absurd (omega arith)
+filled-looks g q v path i size bytes b h longer looks = resizing-looks g q v (Truncate path size) i size 0 0 bytes (cut_to size bytes) b h longer (λ place enough low high e. absurd (omega arith)) looks
 
 -- ---- where it is cut
 
 cut-few : (g : Geometry) (q : ℕ) (v : Volume) (path : Path) (i size : ℕ) (bytes : List ℕ) → IsSized g q v path i size bytes → size < length bytes → blocks_for size ≤ length (node v i).blocks
-cut-few g q v path i size bytes h shorter = let c = sized-count g v i bytes h.sound h.is in omega arith
+cut-few g q v path i size bytes h shorter = let c = sized-count g v i bytes h.sound h.works.is in omega arith
 
 -- it takes no block
 cut-enough : (g : Geometry) (q : ℕ) (v : Volume) (path : Path) (i size : ℕ) (bytes : List ℕ) → IsSized g q v path i size bytes → size < length bytes → longer_needs v i size ≤ free_blocks g v
@@ -133,15 +99,15 @@ cut-frees g q v path i size bytes x b h shorter had has used at =
     let now = cut_to size bytes in
     let w = cut_file v i (blocks_for size) now in
     let free = gone-free g v w i x (sized-uses g v h.sound) (λ y away. node-other v i y (cut_node (node v i) (blocks_for size) now) away) had has in
-    at_freed x used (ap (λ (o : Outcome). is_taken o.next x) (sized-does g q v path i size bytes h (cut-enough g q v path i size bytes h shorter)) ∙ ap (λ (y : Volume). is_taken y x) (cut-makes g q v path i size bytes h shorter) ∙ free) at
+    at_freed x used (ap (λ (o : Outcome). is_taken o.next x) (resizing-does g q v (Truncate path size) i size bytes (cut_to size bytes) h (cut-enough g q v path i size bytes h shorter)) ∙ ap (λ (y : Volume). is_taken y x) (cut-makes g q v path i size bytes h shorter) ∙ free) at
 
 pub cut-looks : (g : Geometry) (q : ℕ) (v : Volume) (path : Path) (i size : ℕ) (bytes : List ℕ) (b : ℕ) → IsSized g q v path i size bytes → size < length bytes → LooksCut g v i size b → LooksAt g q v (Truncate path size) b
-cut-looks g q v path i size bytes b h shorter (cut_part place low e) =
-    let c = sized-count g v i bytes h.sound h.is in
+cut-looks g q v path i size bytes b h shorter (part place low e) =
+    let c = sized-count g v i bytes h.sound h.works.is in
     let l = slice_get_within (node v i).blocks place b e in
-    at_bytes i place (max size (4096 * place)) bytes (sized-works g q v path i size bytes h) (ap (λ (o : Outcome). is_refused o.reply) (sized-does g q v path i size bytes h (cut-enough g q v path i size bytes h shorter))) e (omega arith) (omega arith) (omega arith)
-cut-looks g q v path i size bytes b h shorter (pointers e) = sized-pointers g q v path i size bytes b h (cut-enough g q v path i size bytes h shorter) e
+    at_bytes i place (max size (4096 * place)) bytes h.works (resizing-done g q v (Truncate path size) i size bytes (cut_to size bytes) h (cut-enough g q v path i size bytes h shorter)) e (omega arith) (omega arith) (omega arith)
+cut-looks g q v path i size bytes b h shorter (pointers e) = resizing-pointers g q v (Truncate path size) i size bytes (cut_to size bytes) b h (cut-enough g q v path i size bytes h shorter) e
 cut-looks g q v path i size bytes b h shorter (marks place x low e at) =
-    cut-frees g q v path i size bytes x b h shorter (use-has (node v i) x (inl (place, e))) (part-gone g v i (blocks_for size) (cut_to size bytes) place x (sized-uses g v h.sound) (sized-low g v i bytes h.sound h.is) low e) (use-taken v (Part i place) x e) at
+    cut-frees g q v path i size bytes x b h shorter (use-has (node v i) x (inl (place, e))) (part-gone g v i (blocks_for size) (cut_to size bytes) place x (sized-uses g v h.sound) (sized-low g v i bytes h.sound h.works.is) low e) (use-taken v (Part i place) x e) at
 cut-looks g q v path i size bytes b h shorter (pointer_marks x few e at) =
-    cut-frees g q v path i size bytes x b h shorter (use-has (node v i) x (inr e)) (pointers-gone g v i (blocks_for size) (cut_to size bytes) x (sized-uses g v h.sound) (sized-low g v i bytes h.sound h.is) (le-ltb 12 (blocks_for size) few) e) (use-taken v (Pointers i) x e) at
+    cut-frees g q v path i size bytes x b h shorter (use-has (node v i) x (inr e)) (pointers-gone g v i (blocks_for size) (cut_to size bytes) x (sized-uses g v h.sound) (sized-low g v i bytes h.sound h.works.is) (le-ltb 12 (blocks_for size) few) e) (use-taken v (Pointers i) x e) at

@@ -1,35 +1,29 @@
 -- Writing bytes into a file: what it comes to, and at what it looks.
-use Rattle.std.proofs.Common.{◌≡◌, ◌≢◌, ℕ, ◌+◌, ◌*◌, ◌<◌, ◌≤◌, inl, inr, drop, List, [], ◌∷◌, ◌++◌, length, Bool, true, cond, refl, sym, ap, ◌∙◌, arith, length-append}
-use Rattle.std.specs.Prelude.{Some, None, max, nat_eq}
+use Rattle.std.proofs.Common.{◌≡◌, ◌≢◌, ℕ, ◌+◌, ◌*◌, ◌<◌, ◌≤◌, inl, inr, drop, List, [], ◌∷◌, ◌++◌, length, Bool, true, cond, refl, sym, ap, ◌∙◌, arith, length-append, ◌/◌}
+use Rattle.std.specs.Prelude.{Some, None, max, nat_eq, slice_get}
 use Rattle.std.specs.List.{list_all}
 use Rattle.std.proofs.lemmas.Bool.{le-ltb, lt-ltb, ne_eqb}
 use Rattle.std.proofs.lemmas.List.{length-drop}
-use Rattle.std.proofs.lemmas.List.Elements.{All-contains}
 use Rattle.mq_blocks.specs.Geometry.{queues_of}
 use Rattle.mq_blocks.specs.declared.geometry.Geometry.{Geometry}
-use Rattle.mq_exec.specs.Longer.{IsRewriting, LooksLonger, indirect, longer_needs, part, picked, short}
-use Rattle.mq_exec.specs.Overwrites.{IsSplicedAt}
+use Rattle.mq_exec.specs.Longer.{IsRewriting, LooksLonger, longer_needs}
+use Rattle.mq_exec.specs.Overwrites.{IsSplicedAt, past_place}
 use Rattle.mq_exec.specs.Plans.{IsFound, IsRefused, on_body, on_file}
 use Rattle.mq_exec.specs.declared.file.Found.{Found}
-use Rattle.mq_exec.proofs.Coming.{carried-enough}
 use Rattle.mq_exec.proofs.Contents.{file-size}
-use Rattle.mq_exec.proofs.LinkedGrown.{picked-enough}
 use Rattle.mq_exec.proofs.LocalBytes.{spliced-after, spliced-before, spliced-in}
-use Rattle.mq_exec.proofs.LocalTaken.{IsFree}
-use Rattle.mq_exec.proofs.Picking.{picks-all_free}
-use Rattle.mq_exec.proofs.Resized.{resized-takes}
+use Rattle.mq_exec.proofs.Resized.{IsResizing, resizing-done, resizing-looks}
 use Rattle.mq_exec.proofs.Rewriting.{past-of}
 use Rattle.mq_exec.proofs.Targets.{found-under}
 use Rattle.mq_layout.specs.Names.{is_name}
 use Rattle.mq_layout.specs.Places.{file_limit}
 use Rattle.mq_tree.specs.Free.{free_blocks, needs}
-use Rattle.mq_tree.specs.Looks.{LooksAt, WorksOn, is_refused, needed, touched, bytes as at_bytes, pointers as at_pointers, searched as at_searched, taken as at_taken}
-use Rattle.mq_tree.specs.Requests.{In, Lost, Makes, Outcome, Root, Target, Verdict, carried_out, cut_to, refused, resized, set_bytes, spliced, step, target, verdict, write, write_in}
+use Rattle.mq_tree.specs.Looks.{LooksAt, touched, bytes as at_bytes}
+use Rattle.mq_tree.specs.Requests.{In, Lost, Makes, Root, Target, Verdict, carried_out, cut_to, refused, resized, set_bytes, spliced, target, write, write_in}
 use Rattle.mq_tree.specs.Sound.{IsSound, blocks_for}
-use Rattle.mq_tree.specs.Volume.{Body, Free, File, Dir, Path, Volume, body, inode_at, is_taken, node, way}
+use Rattle.mq_tree.specs.Volume.{Body, Free, File, Dir, Path, Volume, body, node, way}
 use Rattle.mq_tree.specs.declared.request.Fault.{Fault}
 use Rattle.mq_tree.specs.declared.request.Fault.TheVariants.{BadName, TooBig}
-use Rattle.mq_tree.specs.declared.request.Reply.TheVariants.{Ok as Ready}
 use Rattle.mq_tree.specs.declared.request.Request.TheVariants.{Write}
 use Rattle.mq_tree.proofs.KeepNodes.{cut-length}
 
@@ -96,64 +90,46 @@ written-spliced at new bytes = record {
 -- ---- a file into which bytes are written
 
 pub record IsWriting (g : Geometry) (q : ℕ) (v : Volume) (path : Path) (at : ℕ) (new : List ℕ) (i size : ℕ) (bytes : List ℕ) : Type 0 where
-  pub sound : IsSound g v
-  pub queue : q < queues_of g
-  pub named : list_all is_name path ≡ true
-  pub leads : inode_at v (way path) ≡ Some i
   pub rewriting : IsRewriting g q v i size (write g q v at new (target v (way path))) (spliced at new) bytes
+  pub resizing : IsResizing g q v (Write path at new) i size bytes (spliced at new bytes)
   pub longer : length bytes ≤ size
 
 pub writing : (g : Geometry) (q : ℕ) (v : Volume) (path : Path) (at size : ℕ) (new : List ℕ) (f : Found) → IsSound g v → q < queues_of g → list_all is_name path ≡ true → (h : IsFound v path f) → at + length new ≤ file_limit → size ≡ length (spliced at new h.file.bytes)
     → IsWriting g q v path at new f.number size h.file.bytes
-writing g q v path at size new f sound queue named h limit e =
-    let now = spliced at new h.file.bytes in
-    record {
-      sound = sound;
-      queue = queue;
-      named = named;
-      leads = (found-under g v path f sound h).leads;
-      rewriting = record {
-        is = h.file.is;
-        makes = write-found g q v path at new f h
-            ∙ ap (λ (t : Bool). cond t (refused TooBig) (Makes (needs (length (node v f.number).blocks) (blocks_for (length now))) (resized g q v f.number now))) (le-ltb file_limit (at + length new) limit)
-            ∙ ap (λ (k : ℕ). Makes (needs (length (node v f.number).blocks) (blocks_for k)) (resized g q v f.number now)) (sym e);
-        length_is = sym e;
-      };
-      longer = let l = spliced-longer at new h.file.bytes in omega arith;
+writing g q v path at size new f sound queue named h limit e = record {
+  rewriting = rewriting;
+  resizing = record {
+    sound = sound;
+    queue = queue;
+    works = record { path = path; names = refl; leads = (found-under g v path f sound h).leads; is = h.file.is };
+    makes = ap (λ (t : Bool). cond t (write g q v at new (target v (way path))) (refused BadName)) named ∙ rewriting.makes;
+    length_is = sym e;
+  };
+  longer = let l = spliced-longer at new h.file.bytes in omega arith;
+}
+  where
+    now : List ℕ
+    now = spliced at new h.file.bytes
+
+    rewriting : IsRewriting g q v f.number size (write g q v at new (target v (way path))) (spliced at new) h.file.bytes
+    rewriting = record {
+      is = h.file.is;
+      makes = write-found g q v path at new f h
+          ∙ ap (λ (t : Bool). cond t (refused TooBig) (Makes (needs (length (node v f.number).blocks) (blocks_for (length now))) (resized g q v f.number now))) (le-ltb file_limit (at + length new) limit)
+          ∙ ap (λ (k : ℕ). Makes (needs (length (node v f.number).blocks) (blocks_for k)) (resized g q v f.number now)) (sym e);
+      length_is = sym e;
     }
-
-writing-verdict : (g : Geometry) (q : ℕ) (v : Volume) (path : Path) (at : ℕ) (new : List ℕ) (i size : ℕ) (bytes : List ℕ) → IsWriting g q v path at new i size bytes → verdict g q v (Write path at new) ≡ Makes (longer_needs v i size) (resized g q v i (spliced at new bytes))
-writing-verdict g q v path at new i size bytes h = ap (λ (t : Bool). cond t (write g q v at new (target v (way path))) (refused BadName)) h.named ∙ h.rewriting.makes
-
-writing-does : (g : Geometry) (q : ℕ) (v : Volume) (path : Path) (at : ℕ) (new : List ℕ) (i size : ℕ) (bytes : List ℕ) → IsWriting g q v path at new i size bytes → longer_needs v i size ≤ free_blocks g v
-    → step g q v (Write path at new) ≡ record { reply = Ready; next = resized g q v i (spliced at new bytes) }
-unfolding step
-writing-does g q v path at new i size bytes h enough = ap (λ (x : Verdict). carried_out g v x) (writing-verdict g q v path at new i size bytes h) ∙ carried-enough g v (longer_needs v i size) (resized g q v i (spliced at new bytes)) enough
-
-writing-works : (g : Geometry) (q : ℕ) (v : Volume) (path : Path) (at : ℕ) (new : List ℕ) (i size : ℕ) (bytes : List ℕ) → IsWriting g q v path at new i size bytes → WorksOn v (Write path at new) i bytes
-writing-works g q v path at new i size bytes h = record { path = path; names = refl; leads = h.leads; is = h.rewriting.is }
 
 -- ---- at what it looks
 
-pub write-looks : (g : Geometry) (q : ℕ) (v : Volume) (path : Path) (at : ℕ) (new : List ℕ) (i size : ℕ) (bytes : List ℕ) (b : ℕ) → IsWriting g q v path at new i size bytes → LooksLonger g q v i size at (length new) b → LooksAt g q v (Write path at new) b
-write-looks g q v path at new i size bytes b h (short s) =
-    let same : needed (verdict g q v (Write path at new)) ≡ longer_needs v i size = ap needed (writing-verdict g q v path at new i size bytes h) in
-    at_searched s.zone s.inside (let few = s.few in omega arith) s.is
-write-looks g q v path at new i size bytes b h (indirect picks p e) =
-    let enough = picked-enough g q v (longer_needs v i size) picks h.queue p in
-    at_pointers i bytes (writing-works g q v path at new i size bytes h) (ap (λ (o : Outcome). is_refused o.reply) (writing-does g q v path at new i size bytes h enough)) e
-write-looks g q v path at new i size bytes b h (picked picks p c) =
-    let enough = picked-enough g q v (longer_needs v i size) picks h.queue p in
-    let free = All-contains (IsFree g v) picks b (picks-all_free g q v (longer_needs v i size) picks h.queue p) c in
-    at_taken free.free (ap (λ (o : Outcome). is_taken o.next b) (writing-does g q v path at new i size bytes h enough)
-    ∙ resized-takes g q v i size bytes (spliced at new bytes) picks b h.sound h.queue h.rewriting.is h.longer h.rewriting.length_is p c)
-write-looks g q v path at new i size bytes b h (part picks p place low high e) =
-    let enough = picked-enough g q v (longer_needs v i size) picks h.queue p in
+-- a block of the file with a byte that is written
+write-part : (g : Geometry) (q : ℕ) (v : Volume) (path : Path) (at : ℕ) (new : List ℕ) (i size : ℕ) (bytes : List ℕ) (b place : ℕ) → IsWriting g q v path at new i size bytes → longer_needs v i size ≤ free_blocks g v → at / 4096 ≤ place → place < past_place at (length new)
+    → slice_get (node v i).blocks place ≡ Some b → LooksAt g q v (Write path at new) b
+write-part g q v path at new i size bytes b place h enough low high e =
     let past = past-of at (length new) place low high in
     let some = past.0 in
     let end = past.1 in
-    at_bytes i place (max at (4096 * place)) bytes (writing-works g q v path at new i size bytes h) (ap (λ (o : Outcome). is_refused o.reply) (writing-does g q v path at new i size bytes h enough)) e (omega arith)
-    (first-touched new some) (past-touched new some end)
+    at_bytes i place (max at (4096 * place)) bytes h.resizing.works (resizing-done g q v (Write path at new) i size bytes (spliced at new bytes) h.resizing enough) e (omega arith) (first-touched new some) (past-touched new some end)
   where
     first-touched : (xs : List ℕ) → 1 ≤ length xs → (touched (Write path at xs) (length bytes)).0 ≤ max at (4096 * place)
     first-touched [] some = absurd (omega arith)
@@ -162,3 +138,7 @@ write-looks g q v path at new i size bytes b h (part picks p place low high e) =
     past-touched : (xs : List ℕ) → 1 ≤ length xs → 4096 * place < at + length xs → max at (4096 * place) < (touched (Write path at xs) (length bytes)).1
     past-touched [] some end = absurd (omega arith)
     past-touched (x ∷ xs) some end = omega arith
+
+pub write-looks : (g : Geometry) (q : ℕ) (v : Volume) (path : Path) (at : ℕ) (new : List ℕ) (i size : ℕ) (bytes : List ℕ) (b : ℕ) → IsWriting g q v path at new i size bytes → LooksLonger g q v i size at (length new) b → LooksAt g q v (Write path at new) b
+write-looks g q v path at new i size bytes b h looks =
+    resizing-looks g q v (Write path at new) i size at (length new) bytes (spliced at new bytes) b h.resizing h.longer (λ place enough low high e. write-part g q v path at new i size bytes b place h enough low high e) looks
