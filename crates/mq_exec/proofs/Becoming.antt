@@ -12,6 +12,7 @@ use Rattle.mq_exec.specs.Moves.{IsOfFile}
 use Rattle.mq_exec.specs.Pages.{Pages, kinds_of, pages_of}
 use Rattle.mq_exec.specs.declared.working.Working.{Working}
 use Rattle.mq_exec.proofs.LocalRegions.{same-self, same-then}
+use Rattle.mq_exec.proofs.Sound.{sound-uses}
 use Rattle.mq_pages.specs.declared.page.Kind.{Kind}
 use Rattle.mq_pages.specs.declared.page.Kind.TheVariants.{Data}
 use Rattle.mq_tree.specs.Volume.{Volume}
@@ -39,7 +40,7 @@ over-then a b c s t = record {
 
 -- a sound volume of which the pages may be a part
 pub carries-sound : (g : Geometry) (pages : Pages) (v : Volume) → Agrees g pages v → Carries g pages v
-carries-sound g pages v a = record { uses = record { zones = a.sound.zones; apart = a.sound.apart }; count = a.sound.count; fits = a.fits }
+carries-sound g pages v a = record { uses = sound-uses g v a.sound; count = a.sound.count; fits = a.fits }
 
 pub becomes-self : (g : Geometry) (v : Volume) (w : Working) → Carries g (pages_of w) v → Becomes g v v w w
 becomes-self g v w c = record { carries = c; same = λ b e. same-self g v b; kinds = λ fit. fit }

@@ -13,8 +13,8 @@ use Rattle.mq_exec.specs.Fits.{Agrees}
 use Rattle.mq_exec.specs.Pages.{IsHeld, Pages, content}
 use Rattle.mq_exec.specs.Reads.{LooksInFile, bytes_at}
 use Rattle.mq_exec.proofs.Showing.{IsUse, use-shown, use-there}
+use Rattle.mq_exec.proofs.Sound.{sound-count}
 use Rattle.mq_tree.specs.Laid.{ShowsPart, inode_of, size_of}
-use Rattle.mq_tree.specs.Sound.{IsBody, blocks_for}
 use Rattle.mq_tree.specs.Volume.{Body, File, Node, Volume, Part, body, node}
 
 -- ---- one block more
@@ -144,13 +144,10 @@ touched-run g pages v i all blocks touched at end agrees is same some low t = re
       ∙ ap (λ (x : ℕ). Some x) (sym (ap (λ (xs : List ℕ). get_or xs k 0) t ∙ get_or-take ((end - 1) / 4096 + 1 - at / 4096) (drop (at / 4096) blocks) k 0 (omega arith) ∙ get_or-drop (at / 4096) blocks k 0));
 }
 
-pub file-count : (g : Geometry) (pages : Pages) (v : Volume) (i : ℕ) (all : List ℕ) → Agrees g pages v → body v i ≡ File all → length (node v i).blocks ≡ blocks_for (length all)
-file-count g pages v i all agrees is = let fine : IsBody (File all) (length (node v i).blocks) = subst (λ x. IsBody x (length (node v i).blocks)) is (agrees.sound.nodes i).body in fine.1
-
 pub touched-length : (g : Geometry) (pages : Pages) (v : Volume) (i : ℕ) (all blocks touched : List ℕ) (at end : ℕ) → Agrees g pages v → body v i ≡ File all → blocks ≡ (node v i).blocks → at < end → end ≤ length all
     → touched ≡ take ((end - 1) / 4096 + 1 - at / 4096) (drop (at / 4096) blocks) → length touched ≡ (end - 1) / 4096 + 1 - at / 4096
 touched-length g pages v i all blocks touched at end agrees is same some low t =
-    let c = file-count g pages v i all agrees is in
+    let c = sound-count g v i all agrees.sound is in
     let s = ap length same in
     let m = length-drop (at / 4096) blocks in
     ap length t ∙ length-take ((end - 1) / 4096 + 1 - at / 4096) (drop (at / 4096) blocks) ∙ (omega arith)
@@ -193,6 +190,3 @@ pub bytes-drop : (pages : Pages) (blocks : List ℕ) (k b : ℕ) (page : List �
 bytes-drop pages blocks k b page l is e =
     let s : k + 1 ≡ suc k = omega arith in
     ap (λ (bs : List ℕ). bytes_at pages bs) (drop-cons blocks k b l) ∙ ap (λ (x : ℕ). content (pages x) ++ bytes_at pages (drop (suc k) blocks)) (sym is) ∙ ap (λ (j : ℕ). content (pages b) ++ bytes_at pages (drop j blocks)) (sym s) ∙ ap (λ (p : List ℕ). p ++ bytes_at pages (drop (k + 1) blocks)) (sym e)
-
-pub file-low : (g : Geometry) (pages : Pages) (v : Volume) (i : ℕ) (all : List ℕ) → Agrees g pages v → body v i ≡ File all → length all ≤ 4243456
-file-low g pages v i all agrees is = let fine : IsBody (File all) (length (node v i).blocks) = subst (λ x. IsBody x (length (node v i).blocks)) is (agrees.sound.nodes i).body in fine.0

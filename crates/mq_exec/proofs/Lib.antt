@@ -71,6 +71,7 @@ pub mod Shortening
 pub mod Showing
 pub mod SlotNumbers
 pub mod Sorting
+pub mod Sound
 pub mod Stepping
 pub mod Taking
 pub mod Targets

@@ -1,8 +1,7 @@
 -- Names that are added to directories, and that go.
-use Rattle.std.proofs.Common.{get_or, set, ◌≡◌, ◌≢◌, ℕ, ◌*◌, ◌/◌, ◌%◌, ◌<◌, List, [], ◌∷◌, length, Bool, true, false, cond, sym, ap, subst, ◌∙◌, arith, length-set}
+use Rattle.std.proofs.Common.{get_or, set, ◌≡◌, ◌≢◌, ℕ, ◌*◌, ◌/◌, ◌%◌, ◌<◌, List, [], ◌∷◌, length, sym, ap, subst, ◌∙◌, arith, length-set}
 use Rattle.std.specs.Prelude.{Option, Some, None, Result, Ok, Err, OnOk, slice_get}
 use Rattle.std.specs.List.{All}
-use Rattle.std.proofs.lemmas.Bool.{eq-eqb, true≢false}
 use Rattle.std.proofs.lemmas.Option.{none-some, same_Some, slice_get-get_or}
 use Rattle.mq_blocks.specs.declared.geometry.Geometry.{Geometry}
 use Rattle.mq_exec.specs.Changes.{IsTextPut, Stepped}
@@ -16,7 +15,7 @@ use Rattle.mq_exec.specs.declared.working.Working.{Working}
 use Rattle.mq_exec.proofs.Becoming.{becomes-stepped}
 use Rattle.mq_exec.proofs.Directories.{carried-form, carried-slots}
 use Rattle.mq_exec.proofs.Keeping.{keeps-put}
-use Rattle.mq_exec.proofs.Listed.{among-one}
+use Rattle.mq_exec.proofs.Listed.{among-apart, among-here, among-one}
 use Rattle.mq_exec.proofs.LocalBodies.{rebodied}
 use Rattle.mq_exec.proofs.LocalKinds.{dir-not-file, meta-not-data}
 use Rattle.mq_exec.proofs.LocalLinked.{entry-step, linked-here, unlinked-step}
@@ -46,7 +45,7 @@ becomes-slot g v d place b now old new c low there known kind s =
     let at : slice_get (node w d).blocks place ≡ Some b = ap (λ (n : Node). slice_get n.blocks place) here ∙ there in
     becomes-stepped g v w old new (b ∷ []) c fine (length-set v d (rebodied (node v d) (Dir now))) s
     (λ x y none. known (ap (λ (z : ℕ). pages_of old z) (sym (among-one b x y)) ∙ none))
-    (λ x high out. kind.others x (λ e. true≢false (sym (ap (λ (t : Bool). cond t true false) (eq-eqb b x (sym e))) ∙ out)))
+    (λ x high out. kind.others x (among-apart (b ∷ []) b x (among-here b []) out))
     (λ x k high y e.
     let same = among-one b x y in
     let m : Meta ≡ k = same_Some _ _ (sym kind.here ∙ ap (λ (z : ℕ). kinds_of new z) (sym same) ∙ e) in

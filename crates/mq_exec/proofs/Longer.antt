@@ -20,11 +20,12 @@ use Rattle.mq_exec.specs.declared.opened.Opened.{Opened}
 use Rattle.mq_exec.specs.declared.rewrite.Rewriting.{Rewriting}
 use Rattle.mq_exec.proofs.Becoming.{carries-sound}
 use Rattle.mq_exec.proofs.Coming.{carried-enough, carried-few}
-use Rattle.mq_exec.proofs.Contents.{file-count, file-size}
+use Rattle.mq_exec.proofs.Contents.{file-size}
 use Rattle.mq_exec.proofs.Held.{used-held}
 use Rattle.mq_exec.proofs.LinkedGrown.{picked-enough}
 use Rattle.mq_exec.proofs.Listed.{among-contains, contains-among}
 use Rattle.mq_exec.proofs.Rewriting.{at-listed, listed-at}
+use Rattle.mq_exec.proofs.Sound.{sound-count}
 use Rattle.mq_layout.specs.Places.{file_limit}
 use Rattle.mq_layout.specs.declared.inode.Inode.{Inode}
 use Rattle.mq_tree.specs.Free.{free_blocks, needs}
@@ -37,7 +38,7 @@ use Rattle.mq_tree.specs.declared.request.Fault.TheVariants.{NoSpace}
 
 pub longer-need : (g : Geometry) (pages : Pages) (v : Volume) (i size need old new : ℕ) (inode : Inode) → Agrees g pages v → IsFileOf v i inode → need ≡ needs old new → old ≡ blocks_for inode.size → new ≡ blocks_for size → need ≡ longer_needs v i size
 longer-need g pages v i size need old new inode agrees f e a b =
-    let n = file-count g pages v i f.bytes agrees f.is in
+    let n = sound-count g v i f.bytes agrees.sound f.is in
     let s = file-size (node v i) inode f.bytes f.says f.is in
     e ∙ ap (λ (k : ℕ). needs k new) (a ∙ ap (λ (k : ℕ). blocks_for k) s ∙ sym n) ∙ ap (λ (k : ℕ). needs (length (node v i).blocks) k) b
 
@@ -73,7 +74,7 @@ longer-here g q pages v m verdict rewritten bytes agrees queue opened r longer l
     need = longer_needs v i m.size
 
     count : length m.file.blocks.items ≡ blocks_for (length bytes)
-    count = ap (λ (xs : List ℕ). length xs) opened.blocks ∙ file-count g pages v i bytes agrees r.is
+    count = ap (λ (xs : List ℕ). length xs) opened.blocks ∙ sound-count g v i bytes agrees.sound r.is
 
     total : length m.file.blocks.items + (blocks_for m.size - blocks_for (length bytes)) ≡ blocks_for m.size
     total = let c = count in let l = longer in omega arith

@@ -24,6 +24,7 @@ use Rattle.mq_exec.proofs.LocalVolumes.{bare-uses}
 use Rattle.mq_exec.proofs.Making.{made-link}
 use Rattle.mq_exec.proofs.NewNames.{IsNew, new-form}
 use Rattle.mq_exec.proofs.Picking.{picks-all_free}
+use Rattle.mq_exec.proofs.Sound.{sound-uses}
 use Rattle.mq_exec.proofs.Taking.{linked-other, linked-takes}
 use Rattle.mq_layout.specs.Names.{IsName, is_name}
 use Rattle.mq_layout.specs.Places.{inode_bitmap, inode_block, inodes_of, names_limit}
@@ -163,7 +164,7 @@ make-wanted g q v t path o i picks b sound r e m c =
     elim (Contains-push_cases picks (inode_block g i) b c) [
       | inl among ↦
           let w = with_inode v i y in
-          let uses : AreUses g w = bare-uses g v i (bare y) (record { zones = sound.zones; apart = sound.apart }) low refl refl in
+          let uses : AreUses g w = bare-uses g v i (bare y) (sound-uses g v sound) low refl refl in
           let inside : d < length w = (let n = length-set v i (bare y) in let c = sound.count in let l = m.opened.low in omega arith) in
           let made : step g q v (making t path) ≡ record { reply = Done; next = made_volume g q v y path d i } = making-step g q v t path r.good ∙ make-enough g q v y path d i r e enough in
           let free = All-contains (IsFree g v) picks b (picks-all_free g q v _ picks m.queue m.picked) among in

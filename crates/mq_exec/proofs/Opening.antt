@@ -4,7 +4,7 @@ use Rattle.mq_blocks.specs.declared.geometry.Geometry.{Geometry}
 use Rattle.mq_exec.specs.Opened.{IsOpened}
 use Rattle.mq_exec.specs.Walks.{IsDirectory}
 use Rattle.mq_exec.specs.declared.opened.Opened.{Opened}
-use Rattle.mq_exec.proofs.Walking.{used-low}
+use Rattle.mq_exec.proofs.Sound.{used-low}
 use Rattle.mq_tree.specs.Laid.{inode_of}
 use Rattle.mq_tree.specs.Sound.{IsSound}
 use Rattle.mq_tree.specs.Volume.{Body, Volume, body, is_used, node}

@@ -16,11 +16,13 @@ use Rattle.mq_exec.proofs.LocalSteps.{gone-free}
 use Rattle.mq_exec.proofs.LocalUses.{use-cases}
 use Rattle.mq_exec.proofs.LocalVolumes.{with_body-uses}
 use Rattle.mq_exec.proofs.Removing.{file-other, step-made, unlink-makes}
+use Rattle.mq_exec.proofs.Sound.{sound-count, sound-uses, used-low}
 use Rattle.mq_exec.proofs.Targets.{IsUnder, found-under}
-use Rattle.mq_exec.proofs.Walking.{leads-here, used-low}
+use Rattle.mq_exec.proofs.Walking.{leads-here}
+use Rattle.mq_tree.proofs.KeepVolumes.{used-low as used-inside}
 use Rattle.mq_tree.specs.Looks.{LooksAt, WorksOn, is_refused, bytes as at_bytes, directory as at_directory, freed as at_freed, marks as at_marks, pointers as at_pointers}
 use Rattle.mq_tree.specs.Requests.{Makes, Outcome, cleared, freed, rmdir, step, target, unlink, unlinked}
-use Rattle.mq_tree.specs.Sound.{IsBody, IsSound}
+use Rattle.mq_tree.specs.Sound.{IsSound}
 use Rattle.mq_tree.specs.Volume.{Body, File, Dir, Node, Path, Use, Volume, block_in, body, free_node, has_block, is_taken, is_used, node, slots_of, way}
 use Rattle.mq_tree.specs.declared.request.Reply.TheVariants.{Ok as Ready}
 use Rattle.mq_tree.specs.declared.request.Request.{Request}
@@ -37,9 +39,6 @@ record IsGone (g : Geometry) (v : Volume) (d i : ℕ) : Type 0 where
   used : is_used (body v i) ≡ true
   other : i ≢ d
 
-dir-low : (g : Geometry) (v : Volume) (d : ℕ) → IsSound g v → IsDirectory v d → d < length v
-dir-low g v d sound dir = let l = used-low g v d sound (ap (λ (x : Body). is_used x) dir.1) in let c = sound.count in omega arith
-
 gone-here : (g : Geometry) (v : Volume) (d i : ℕ) (name : List ℕ) → IsGone g v d i → node (freed (unlinked v d name) i) i ≡ free_node
 gone-here g v d i name h =
     let u = unlinked v d name in
@@ -51,8 +50,8 @@ gone-here g v d i name h =
 gone-not_taken : (g : Geometry) (v : Volume) (d i : ℕ) (name : List ℕ) (c : ℕ) → IsGone g v d i → has_block (node v i) c ≡ true → is_taken (freed (unlinked v d name) i) c ≡ false
 gone-not_taken g v d i name c h has =
     let now = Dir (cleared name (slots_of (body v d))) in
-    let uses : AreUses g v = record { zones = h.sound.zones; apart = h.sound.apart } in
-    let fine : AreUses g (unlinked v d name) = with_body-uses g v d now uses (dir-low g v d h.sound h.dir) in
+    let uses = sound-uses g v h.sound in
+    let fine : AreUses g (unlinked v d name) = with_body-uses g v d now uses (used-inside v d (ap (λ (x : Body). is_used x) h.dir.1)) in
     gone-free g (unlinked v d name) (freed (unlinked v d name) i) i c fine (λ x away. node-other (unlinked v d name) i x free_node away)
     (ap (λ (n : Node). has_block n c) (node-other v d i (rebodied (node v d) now) h.other) ∙ has)
     (ap (λ (n : Node). has_block n c) (gone-here g v d i name h))
@@ -95,8 +94,7 @@ file-pointers g q v path d i bytes b h e = at_pointers i bytes (file-works g v p
 -- each block of a file has a byte
 block-byte : (g : Geometry) (v : Volume) (i : ℕ) (bytes : List ℕ) (k b : ℕ) → IsSound g v → body v i ≡ File bytes → slice_get (node v i).blocks k ≡ Some b → 4096 * k < length bytes
 block-byte g v i bytes k b sound is at =
-    let fine : IsBody (File bytes) (length (node v i).blocks) = subst (λ x. IsBody x (length (node v i).blocks)) is (sound.nodes i).body in
-    let count = fine.1 in
+    let count = sound-count g v i bytes sound is in
     let l = slice_get_within (node v i).blocks k b at in
     omega arith
 

@@ -25,6 +25,7 @@ use Rattle.mq_exec.proofs.MakingPlans.{may-link, need-is}
 use Rattle.mq_exec.proofs.NewNames.{IsNew, new-form}
 use Rattle.mq_exec.proofs.Picking.{picks-all_free}
 use Rattle.mq_exec.proofs.Removing.{may-unlink}
+use Rattle.mq_exec.proofs.Sound.{sound-uses}
 use Rattle.mq_exec.proofs.Taking.{body-taken, linked-takes}
 use Rattle.mq_exec.proofs.Targets.{IsUnder, under-low, under-named}
 use Rattle.mq_layout.specs.Names.{IsName, is_name}
@@ -290,7 +291,7 @@ pub rename-taken : (g : Geometry) (q : ℕ) (pages : Pages) (v : Volume) (from t
 rename-taken g q pages v from to i need b s o picks low m e n picked among =
     let u = gone v from s.number in
     let inside = source-low g pages v from to i s o m in
-    let uses : AreUses g u = with_body-uses g v s.number _ (record { zones = m.sound.zones; apart = m.sound.apart }) inside in
+    let uses : AreUses g u = with_body-uses g v s.number _ (sound-uses g v m.sound) inside in
     let within : o.number < length u = (let k = length-set v s.number (rebodied (node v s.number) (Dir (cleared (last_of (way from)) (slots_of (body v s.number))))) in let c = m.sound.count in let l = m.opened.low in omega arith) in
     let made = rename-step g q v from to s.number i o.number m.move ∙ rename-enough g q pages v from to i need s o m e n (picked-enough g q v need picks low picked) in
     let free = All-contains (IsFree g v) picks b (picks-all_free g q v need picks low picked) among in

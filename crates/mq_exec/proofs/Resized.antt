@@ -13,34 +13,26 @@ use Rattle.mq_exec.proofs.LinkedGrown.{picked-enough}
 use Rattle.mq_exec.proofs.LocalTaken.{IsFree}
 use Rattle.mq_exec.proofs.LocalVolumes.{resized-grown}
 use Rattle.mq_exec.proofs.Picking.{picks-all_free}
+use Rattle.mq_exec.proofs.Sound.{sound-count, sound-uses}
 use Rattle.mq_exec.proofs.Taking.{body-taken, grown-takes}
-use Rattle.mq_exec.proofs.Walking.{used-low}
+use Rattle.mq_tree.proofs.KeepVolumes.{used-low as used-inside}
 use Rattle.mq_tree.specs.Free.{free_blocks, grown, needs}
 use Rattle.mq_tree.specs.Looks.{LooksAt, WorksOn, is_refused, needed, pointers as at_pointers, searched as at_searched, taken as at_taken}
 use Rattle.mq_tree.specs.Requests.{Makes, Outcome, Verdict, carried_out, resized, step, verdict, with_body}
-use Rattle.mq_tree.specs.Sound.{IsBody, IsSound, blocks_for}
+use Rattle.mq_tree.specs.Sound.{IsSound, blocks_for}
 use Rattle.mq_tree.specs.Volume.{Body, File, Volume, body, is_taken, is_used, node}
-use Rattle.mq_tree.proofs.KeepUses.{AreUses, grown-is}
+use Rattle.mq_tree.proofs.KeepUses.{grown-is}
 use Rattle.mq_tree.specs.declared.request.Reply.TheVariants.{Ok as Ready}
 use Rattle.mq_tree.specs.declared.request.Request.{Request}
-
-pub sized-uses : (g : Geometry) (v : Volume) → IsSound g v → AreUses g v
-sized-uses g v sound = record { zones = sound.zones; apart = sound.apart }
-
-pub sized-low : (g : Geometry) (v : Volume) (i : ℕ) (bytes : List ℕ) → IsSound g v → body v i ≡ File bytes → i < length v
-sized-low g v i bytes sound is = let l = used-low g v i sound (ap (λ (x : Body). is_used x) is) in let c = sound.count in omega arith
-
-pub sized-count : (g : Geometry) (v : Volume) (i : ℕ) (bytes : List ℕ) → IsSound g v → body v i ≡ File bytes → length (node v i).blocks ≡ blocks_for (length bytes)
-sized-count g v i bytes sound is = let fine : IsBody (File bytes) (length (node v i).blocks) = subst (λ x. IsBody x (length (node v i).blocks)) is (sound.nodes i).body in fine.1
 
 -- a block that is picked is taken in a file that is not shorter
 resized-takes : (g : Geometry) (q : ℕ) (v : Volume) (i size : ℕ) (bytes now picks : List ℕ) (b : ℕ) → IsSound g v → q < queues_of g → body v i ≡ File bytes → length bytes ≤ size → length now ≡ size → ArePicked g q v (longer_needs v i size) picks → Contains picks b
     → is_taken (resized g q v i now) b ≡ true
 resized-takes g q v i size bytes now picks b sound queue file longer n p c =
     let have = length (node v i).blocks in
-    let uses = sized-uses g v sound in
-    let low = sized-low g v i bytes sound file in
-    let count = sized-count g v i bytes sound file in
+    let uses = sound-uses g v sound in
+    let low = used-inside v i (ap (λ (x : Body). is_used x) file) in
+    let count = sound-count g v i bytes sound file in
     let more = blocks_for (length now) - have in
     let total : have + more ≡ blocks_for size = omega arith in
     let has = (sound.nodes i).indirect in

@@ -16,10 +16,11 @@ use Rattle.mq_exec.specs.declared.working.Working.{Working}
 use Rattle.mq_exec.proofs.Becoming.{becomes-then, carries-sound}
 use Rattle.mq_exec.proofs.Blanking.{IsBlankFile, blank-file, blank-may}
 use Rattle.mq_exec.proofs.Coming.{carried-enough, comes-carried}
-use Rattle.mq_exec.proofs.Contents.{file-count, file-low, file-size}
+use Rattle.mq_exec.proofs.Contents.{file-size}
 use Rattle.mq_exec.proofs.Filling.{truncate-makes}
 use Rattle.mq_exec.proofs.Keeping.{keeps-pointers, keeps-put, keeps-releasable}
 use Rattle.mq_exec.proofs.LocalVolumes.{resized-cut}
+use Rattle.mq_exec.proofs.Sound.{sound-count, sound-low}
 use Rattle.mq_layout.specs.declared.inode.Inode.{Inode}
 use Rattle.mq_tree.specs.Free.{needs}
 use Rattle.mq_tree.specs.Requests.{Verdict, carried_out, cut_to, resized, truncate_in}
@@ -46,7 +47,7 @@ holds-along old mid m over keeps h = subst (λ (g : Geometry). HoldsCut g (pages
 -- ---- the volumes
 
 pub cut-limit : (g : Geometry) (v : Volume) (m : Cutting) (old : Working) → Agrees g (pages_of old) v → PlansCut g v m → m.size ≤ 4243456
-cut-limit g v m old agrees plan = let l = file-low g (pages_of old) v m.file.number plan.bytes agrees plan.is in let s = plan.shorter in omega arith
+cut-limit g v m old agrees plan = let l = sound-low g v m.file.number plan.bytes agrees.sound plan.is in let s = plan.shorter in omega arith
 
 -- what cutting does to each file that may be cut so
 abbrev pub CutsAt : Geometry → (mid new : Working) → Opened → (count size : ℕ) → Type 0
@@ -66,7 +67,7 @@ mid-cut g v m blocks old mid count here agrees plan over same b e =
     record {
       file = h;
       carries = subst (λ (x : Geometry). Carries x (pages_of mid) h.u) at h.becomes.carries;
-      may = subst (λ (x : Geometry). MayCut x h.u m.file count h.now (cut_to m.size plan.bytes)) at (subst (λ (k : ℕ). MayCut g h.u m.file k h.now (cut_to m.size plan.bytes)) (sym e) (blank-may g v m old mid plan (file-low g (pages_of old) v m.file.number plan.bytes agrees plan.is) h));
+      may = subst (λ (x : Geometry). MayCut x h.u m.file count h.now (cut_to m.size plan.bytes)) at (subst (λ (k : ℕ). MayCut g h.u m.file k h.now (cut_to m.size plan.bytes)) (sym e) (blank-may g v m old mid plan (sound-low g v m.file.number plan.bytes agrees.sound plan.is) h));
       size = cut-length m.size plan.bytes;
     }
 
@@ -90,7 +91,7 @@ plans-cut g pages v m i inode agrees opened same f short =
       bytes = f.bytes;
       is = is;
       shorter = omega arith;
-      count = ap (λ (xs : List ℕ). length xs) opened.blocks ∙ file-count g pages v m.file.number f.bytes agrees is;
+      count = ap (λ (xs : List ℕ). length xs) opened.blocks ∙ sound-count g v m.file.number f.bytes agrees.sound is;
     }
 
 -- no block is taken where there are enough
@@ -111,7 +112,7 @@ cut-here g q v m old new agrees plan becomes =
     let n = cut-length m.size plan.bytes in
     let limit = cut-limit g v m old agrees plan in
     let s = plan.shorter in
-    let few : blocks_for m.size ≤ length (node v i).blocks = (let c = file-count g (pages_of old) v i plan.bytes agrees plan.is in omega arith) in
+    let few : blocks_for m.size ≤ length (node v i).blocks = (let c = sound-count g v i plan.bytes agrees.sound plan.is in omega arith) in
     let none = needs-none (length (node v i).blocks) (blocks_for m.size) few in
     let carried : IsCarried g v (truncate_in g q v i m.size (body v i)) (resized g q v i now) =
     ap (λ (x : Verdict). carried_out g v x) (truncate-makes g q v i m.size plan.bytes plan.is limit).makes ∙ carried-enough g v (longer_needs v i m.size) (resized g q v i now) (omega arith) in

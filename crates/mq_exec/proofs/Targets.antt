@@ -11,7 +11,8 @@ use Rattle.mq_exec.specs.Walks.{IsDirectory, LeadsPast, LooksIn, directory, inod
 use Rattle.mq_exec.specs.declared.file.Found.{Found}
 use Rattle.mq_exec.specs.declared.walk.Target.{Target}
 use Rattle.mq_exec.specs.declared.walk.Target.TheVariants.{In}
-use Rattle.mq_exec.proofs.Walking.{found-used, leads-here, used-low, walk-at, walk-dir}
+use Rattle.mq_exec.proofs.Sound.{used-low}
+use Rattle.mq_exec.proofs.Walking.{found-used, leads-here, walk-at, walk-dir}
 use Rattle.mq_tree.specs.Laid.{inode_of, kind_of}
 use Rattle.mq_tree.specs.Looks.{Leads}
 use Rattle.mq_tree.specs.Requests.{In as AtName, Verdict, refused, target, target_in, walk}

@@ -16,16 +16,18 @@ use Rattle.mq_exec.proofs.Filling.{truncate-makes}
 use Rattle.mq_exec.proofs.LocalLists.{part-gone, pointers-gone}
 use Rattle.mq_exec.proofs.LocalSteps.{gone-free}
 use Rattle.mq_exec.proofs.LocalVolumes.{resized-cut}
-use Rattle.mq_exec.proofs.Resized.{IsResizing, resizing-does, resizing-done, resizing-looks, resizing-pointers, sized-count, sized-low, sized-uses}
+use Rattle.mq_exec.proofs.Resized.{IsResizing, resizing-does, resizing-done, resizing-looks, resizing-pointers}
 use Rattle.mq_exec.proofs.Shortening.{needs-none}
+use Rattle.mq_exec.proofs.Sound.{sound-count, sound-uses}
 use Rattle.mq_exec.proofs.Targets.{found-under}
 use Rattle.mq_layout.specs.Names.{is_name}
 use Rattle.mq_layout.specs.Places.{file_limit, zone_bitmap}
+use Rattle.mq_tree.proofs.KeepVolumes.{used-low as used-inside}
 use Rattle.mq_tree.specs.Free.{free_blocks}
 use Rattle.mq_tree.specs.Looks.{LooksAt, bytes as at_bytes, freed as at_freed}
 use Rattle.mq_tree.specs.Requests.{In, Lost, Outcome, Root, Target, Verdict, cut_to, refused, resized, set_bytes, target, truncate, truncate_in}
 use Rattle.mq_tree.specs.Sound.{IsSound, blocks_for}
-use Rattle.mq_tree.specs.Volume.{Body, Free, File, Dir, Part, Path, Pointers, Volume, body, has_block, is_taken, node, way}
+use Rattle.mq_tree.specs.Volume.{Body, Free, File, Dir, Part, Path, Pointers, Volume, body, has_block, is_taken, node, way, is_used}
 use Rattle.mq_tree.specs.declared.request.Fault.{Fault}
 use Rattle.mq_tree.specs.declared.request.Fault.TheVariants.{BadName}
 use Rattle.mq_tree.specs.declared.request.Request.TheVariants.{Truncate}
@@ -80,7 +82,7 @@ filled-looks g q v path i size bytes b h longer looks = resizing-looks g q v (Tr
 -- ---- where it is cut
 
 cut-few : (g : Geometry) (q : ℕ) (v : Volume) (path : Path) (i size : ℕ) (bytes : List ℕ) → IsSized g q v path i size bytes → size < length bytes → blocks_for size ≤ length (node v i).blocks
-cut-few g q v path i size bytes h shorter = let c = sized-count g v i bytes h.sound h.works.is in omega arith
+cut-few g q v path i size bytes h shorter = let c = sound-count g v i bytes h.sound h.works.is in omega arith
 
 -- it takes no block
 cut-enough : (g : Geometry) (q : ℕ) (v : Volume) (path : Path) (i size : ℕ) (bytes : List ℕ) → IsSized g q v path i size bytes → size < length bytes → longer_needs v i size ≤ free_blocks g v
@@ -98,16 +100,16 @@ cut-frees : (g : Geometry) (q : ℕ) (v : Volume) (path : Path) (i size : ℕ) (
 cut-frees g q v path i size bytes x b h shorter had has used at =
     let now = cut_to size bytes in
     let w = cut_file v i (blocks_for size) now in
-    let free = gone-free g v w i x (sized-uses g v h.sound) (λ y away. node-other v i y (cut_node (node v i) (blocks_for size) now) away) had has in
+    let free = gone-free g v w i x (sound-uses g v h.sound) (λ y away. node-other v i y (cut_node (node v i) (blocks_for size) now) away) had has in
     at_freed x used (ap (λ (o : Outcome). is_taken o.next x) (resizing-does g q v (Truncate path size) i size bytes (cut_to size bytes) h (cut-enough g q v path i size bytes h shorter)) ∙ ap (λ (y : Volume). is_taken y x) (cut-makes g q v path i size bytes h shorter) ∙ free) at
 
 pub cut-looks : (g : Geometry) (q : ℕ) (v : Volume) (path : Path) (i size : ℕ) (bytes : List ℕ) (b : ℕ) → IsSized g q v path i size bytes → size < length bytes → LooksCut g v i size b → LooksAt g q v (Truncate path size) b
 cut-looks g q v path i size bytes b h shorter (part place low e) =
-    let c = sized-count g v i bytes h.sound h.works.is in
+    let c = sound-count g v i bytes h.sound h.works.is in
     let l = slice_get_within (node v i).blocks place b e in
     at_bytes i place (max size (4096 * place)) bytes h.works (resizing-done g q v (Truncate path size) i size bytes (cut_to size bytes) h (cut-enough g q v path i size bytes h shorter)) e (omega arith) (omega arith) (omega arith)
 cut-looks g q v path i size bytes b h shorter (pointers e) = resizing-pointers g q v (Truncate path size) i size bytes (cut_to size bytes) b h (cut-enough g q v path i size bytes h shorter) e
 cut-looks g q v path i size bytes b h shorter (marks place x low e at) =
-    cut-frees g q v path i size bytes x b h shorter (use-has (node v i) x (inl (place, e))) (part-gone g v i (blocks_for size) (cut_to size bytes) place x (sized-uses g v h.sound) (sized-low g v i bytes h.sound h.works.is) low e) (use-taken v (Part i place) x e) at
+    cut-frees g q v path i size bytes x b h shorter (use-has (node v i) x (inl (place, e))) (part-gone g v i (blocks_for size) (cut_to size bytes) place x (sound-uses g v h.sound) (used-inside v i (ap (λ (x : Body). is_used x) h.works.is)) low e) (use-taken v (Part i place) x e) at
 cut-looks g q v path i size bytes b h shorter (pointer_marks x few e at) =
-    cut-frees g q v path i size bytes x b h shorter (use-has (node v i) x (inr e)) (pointers-gone g v i (blocks_for size) (cut_to size bytes) x (sized-uses g v h.sound) (sized-low g v i bytes h.sound h.works.is) (le-ltb 12 (blocks_for size) few) e) (use-taken v (Pointers i) x e) at
+    cut-frees g q v path i size bytes x b h shorter (use-has (node v i) x (inr e)) (pointers-gone g v i (blocks_for size) (cut_to size bytes) x (sound-uses g v h.sound) (used-inside v i (ap (λ (x : Body). is_used x) h.works.is)) (le-ltb 12 (blocks_for size) few) e) (use-taken v (Pointers i) x e) at

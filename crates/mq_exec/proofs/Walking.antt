@@ -1,10 +1,11 @@
 -- Walking along a path, name by name.
-use Rattle.std.proofs.Common.{get_or, ◌≡◌, ◌≢◌, ℕ, zero, suc, ◌+◌, ◌<◌, Bool, true, cond, List, [], ◌∷◌, ◌++◌, length, take, drop, refl, sym, ap, subst, ◌∙◌, arith, inl, inr}
+use Rattle.std.proofs.Common.{get_or, ◌≡◌, ◌≢◌, ℕ, zero, suc, ◌+◌, ◌<◌, Bool, true, cond, List, [], ◌∷◌, ◌++◌, length, take, drop, refl, sym, ap, subst, ◌∙◌, inl, inr}
 use Rattle.std.specs.Prelude.{Option, Some, None, Result, Ok, Err, option_and_then, reverse}
 use Rattle.std.specs.Str.{bytes_eq}
-use Rattle.std.proofs.lemmas.Bool.{cases_Bool, cases_lt, true≢false}
-use Rattle.std.proofs.lemmas.List.{get_or_past, reverse-append, take-append-drop, take_more}
+use Rattle.std.proofs.lemmas.Bool.{cases_Bool, true≢false}
+use Rattle.std.proofs.lemmas.List.{reverse-append, take-append-drop, take_more}
 use Rattle.mq_blocks.specs.declared.geometry.Geometry.{Geometry}
+use Rattle.mq_exec.proofs.Sound.{used-low}
 use Rattle.mq_layout.specs.Places.{inodes_of}
 use Rattle.mq_layout.specs.Slots.{Entry}
 use Rattle.mq_layout.specs.declared.inode.Inode.{Inode}
@@ -13,17 +14,11 @@ use Rattle.mq_tree.specs.Laid.{inode_of, kind_of}
 use Rattle.mq_tree.specs.Looks.{Leads}
 use Rattle.mq_tree.specs.Requests.{enter, go_on, into_dir, walk}
 use Rattle.mq_tree.specs.Sound.{IsSound}
-use Rattle.mq_tree.specs.Volume.{Body, Free, File, Dir, Node, Volume, Way, body, find, free_node, inode_at, is_used, node, slots_of, way}
+use Rattle.mq_tree.specs.Volume.{Body, Free, File, Dir, Volume, Way, body, find, inode_at, is_used, node, slots_of, way}
 use Rattle.mq_tree.specs.declared.request.Fault.{Fault}
 use Rattle.mq_tree.specs.declared.request.Fault.TheVariants.{NotDir}
 
 -- ---- what a name leads to is used
-
-pub used-low : (g : Geometry) (v : Volume) (i : ℕ) → IsSound g v → is_used (body v i) ≡ true → i < inodes_of g
-used-low g v i sound used = elim (cases_lt i (inodes_of g)) [
-  | inl low ↦ low
-  | inr past ↦ absurd (true≢false (sym used ∙ ap (λ (n : Node). is_used n.body) (get_or_past v i free_node (let c = sound.count in omega arith))))
-]
 
 found-slot : (name : List ℕ) (slots : List (Option Entry)) (i : ℕ) → find name slots ≡ Some i → (k : ℕ) × (e : Entry) × (get_or slots k None ≡ Some e) × (e.inode ≡ i)
 found-slot name [] i h = absurd (cc)
