@@ -7,7 +7,7 @@ use Rattle.mq_blocks.specs.declared.geometry.Geometry.{Geometry}
 use Rattle.mq_exec.specs.Changes.{IsInodePut}
 use Rattle.mq_exec.specs.Edits.{Becomes, Carries, IsOver, KeepsKinds}
 use Rattle.mq_exec.specs.Fits.{Agrees}
-use Rattle.mq_exec.specs.Opened.{HasGrown, MayGrow}
+use Rattle.mq_exec.specs.Opened.{MayGrow}
 use Rattle.mq_exec.specs.Overwrites.{AreApart, IsOverwritten, IsSplicedAt, past_place}
 use Rattle.mq_exec.specs.Pages.{IsHeld, content, pages_of}
 use Rattle.mq_exec.specs.Plans.{HoldsPlaces, PlansRewrite}
@@ -16,6 +16,7 @@ use Rattle.mq_exec.specs.declared.rewrite.Rewriting.{Rewriting}
 use Rattle.mq_exec.specs.declared.working.Working.{Working}
 use Rattle.mq_exec.proofs.Becoming.{becomes-then, carries-sound}
 use Rattle.mq_exec.proofs.Held.{meta-held, table-low, used-held}
+use Rattle.mq_exec.proofs.LinkedGrown.{Grows}
 use Rattle.mq_exec.proofs.LocalBodies.{inode-form, rebodied}
 use Rattle.mq_exec.proofs.LocalVolumes.{with_body-uses}
 use Rattle.mq_exec.proofs.Regrown.{IsRegrown, blocks-apart, regrown, sized-inode}
@@ -30,12 +31,8 @@ use Rattle.mq_tree.specs.Volume.{File, Node, Part, Volume, is_used, node}
 use Rattle.mq_tree.proofs.KeepUses.{node-here}
 use Rattle.mq_tree.proofs.Uses.{use-taken}
 
--- what `grow` says of each volume
-abbrev pub Grows : Geometry → (old mid : Working) → Rewriting → (picks : List ℕ) → Opened → Type 0
-Grows g old mid m picks after = (q : ℕ) (v : Volume) (count : ℕ) → Carries g (pages_of old) v → MayGrow g q v m.file picks count → HasGrown g q v old mid m.file after count
-
 pub regrown-of : (g : Geometry) (q : ℕ) (v : Volume) (verdict : Verdict) (rewritten : List ℕ → List ℕ) (m : Rewriting) (old mid : Working) (after : Opened) (picks : List ℕ) → picks ≡ m.picks.items → Agrees g (pages_of old) v → (plan : PlansRewrite g q v verdict rewritten m)
-    → Grows g old mid m picks after → IsRegrown g q v m plan.bytes old mid after
+    → Grows g picks old mid m.file after → IsRegrown g q v m plan.bytes old mid after
 regrown-of g q v verdict rewritten m old mid after picks e agrees plan grows =
     let c = carries-sound g (pages_of old) v agrees in
     let count = blocks_for m.size - blocks_for (length plan.bytes) in

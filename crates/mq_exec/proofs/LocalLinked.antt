@@ -12,6 +12,7 @@ use Rattle.mq_exec.specs.Pages.{Pages}
 use Rattle.mq_exec.proofs.LocalBodies.{slot_cleared-step, slot_written-step}
 use Rattle.mq_layout.specs.Fields.{zero_bytes}
 use Rattle.mq_layout.specs.Slots.{Entry, IsEntry, slot_bytes}
+use Rattle.mq_tree.proofs.KeepPaths.{AreNamesOnce}
 use Rattle.mq_tree.specs.Laid.{IsPage}
 use Rattle.mq_tree.specs.Free.{grown}
 use Rattle.mq_tree.specs.Requests.{cleared, linked, linked_at, unlinked, unused, with_body}
@@ -70,11 +71,7 @@ linked-grown g q v u d slots entry is none e =
 
 -- ---- an entry less
 
--- no name stands twice
-abbrev pub AreApart : List (Option Entry) → Type 0
-AreApart slots = (k l : ℕ) (e f : Entry) → get_or slots k None ≡ Some e → get_or slots l None ≡ Some f → e.name ≡ f.name → k ≡ l
-
-pub unlinked-step : (g : Geometry) (v : Volume) (d k b i : ℕ) (name : List ℕ) (slots : List (Option Entry)) (entry : Entry) (old new : Pages) (before page : List ℕ) → AreUses g v → d < length v → body v d ≡ Dir slots → AreApart slots
+pub unlinked-step : (g : Geometry) (v : Volume) (d k b i : ℕ) (name : List ℕ) (slots : List (Option Entry)) (entry : Entry) (old new : Pages) (before page : List ℕ) → AreUses g v → d < length v → body v d ≡ Dir slots → AreNamesOnce slots
     → find name slots ≡ Some i → get_or slots k None ≡ Some entry → entry.name ≡ name → slice_get (node v d).blocks (k / 15) ≡ Some b → Fits g old v → old b ≡ Some (Some before) → IsPut old new b (Some page) → IsPage page
     → page ≡ written before (272 * (k % 15)) (zero_bytes 272) → Stepped g v (unlinked v d name) new (b ∷ [])
 unlinked-step g v d k b i name slots entry old new before page uses low is apart found here named there fits held put form e =
