@@ -3,10 +3,11 @@ use Rattle.std.proofs.Common.{◌≡◌, ℕ, ◌/◌, false, List, [], ◌∷�
 use Rattle.std.specs.Prelude.{Result, Ok, Err}
 use Rattle.std.proofs.lemmas.Bool.{true≢false}
 use Rattle.mq_blocks.specs.declared.geometry.Geometry.{Geometry}
-use Rattle.mq_exec.specs.Reads.{IsFound, IsNamed, LooksAlways, LooksInDir, LooksInFile, NamesLeadPast, Reads, asked, path_of, reading}
-use Rattle.mq_exec.specs.Walks.{LeadsPast, inode, directory}
+use Rattle.mq_exec.specs.Reads.{IsFound, IsNamed, LooksAlways, LooksInDir, NamesLeadPast, Reads, asked, path_of, reading}
 use Rattle.mq_exec.specs.declared.subject.Subject.{Subject}
-use Rattle.mq_exec.proofs.Walking.{leads-here}
+use Rattle.mq_inodes.specs.Files.{LooksInFile}
+use Rattle.mq_inodes.specs.Walks.{LeadsPast, inode, directory}
+use Rattle.mq_inodes.proofs.Walking.{leads-here}
 use Rattle.mq_tree.specs.Looks.{LeadsIn, LooksAt, WorksOn, paths_of, inode as looks_inode, directory as looks_directory, pointers, bytes, is_refused}
 use Rattle.mq_tree.specs.Requests.{Outcome, Says, Verdict, carried_out, is_change, read_in, step, verdict}
 use Rattle.mq_tree.specs.Volume.{Body, Path, Volume, body, way}
@@ -30,7 +31,7 @@ read-verdict g q v (Read p at count) e = refl
 read-verdict g q v (ListOf p) e = refl
 read-verdict g q v (Stat p) e = refl
 
-pub read-step : (g : Geometry) (v : Volume) (r : Request) (reply : Reply) → is_change r ≡ false → asked v (reading r) (path_of r) ≡ Says reply → Reads g v r reply
+read-step : (g : Geometry) (v : Volume) (r : Request) (reply : Reply) → is_change r ≡ false → asked v (reading r) (path_of r) ≡ Says reply → Reads g v r reply
 unfolding step
 read-step g v r reply reads e q = ap (λ (x : Verdict). carried_out g v x) (read-verdict g q v r reads ∙ e)
 

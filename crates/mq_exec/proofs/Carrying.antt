@@ -4,23 +4,23 @@ use Rattle.std.specs.Prelude.{Option, Some, None, slice_get}
 use Rattle.std.proofs.lemmas.Bool.{true≢false}
 use Rattle.std.proofs.lemmas.Option.{same_Some, slice_get-get_or, slice_get_within}
 use Rattle.mq_blocks.specs.declared.geometry.Geometry.{Geometry}
-use Rattle.mq_exec.specs.Changes.{IsInodePut}
-use Rattle.mq_exec.specs.Edits.{Becomes, Carries, IsOver, KeepsKinds}
-use Rattle.mq_exec.specs.Fits.{Agrees}
-use Rattle.mq_exec.specs.Opened.{MayGrow}
 use Rattle.mq_exec.specs.Overwrites.{AreApart, IsOverwritten, IsSplicedAt, past_place}
-use Rattle.mq_exec.specs.Pages.{IsHeld, content, pages_of}
 use Rattle.mq_exec.specs.Plans.{HoldsPlaces, PlansRewrite}
-use Rattle.mq_exec.specs.declared.opened.Opened.{Opened}
 use Rattle.mq_exec.specs.declared.rewrite.Rewriting.{Rewriting}
-use Rattle.mq_exec.specs.declared.working.Working.{Working}
-use Rattle.mq_exec.proofs.Becoming.{becomes-then, carries-sound}
-use Rattle.mq_exec.proofs.Held.{meta-held, table-low, used-held}
-use Rattle.mq_exec.proofs.LinkedGrown.{Grows}
-use Rattle.mq_exec.proofs.LocalBodies.{inode-form, rebodied}
-use Rattle.mq_exec.proofs.LocalVolumes.{with_body-uses}
 use Rattle.mq_exec.proofs.Regrown.{IsRegrown, blocks-apart, regrown, sized-inode}
 use Rattle.mq_exec.proofs.Rewriting.{past-of, rewrite-becomes}
+use Rattle.mq_inodes.specs.Changes.{IsInodePut}
+use Rattle.mq_inodes.specs.Edits.{Becomes, Carries, IsOver, KeepsKinds}
+use Rattle.mq_inodes.specs.Fits.{Agrees}
+use Rattle.mq_inodes.specs.Opened.{MayGrow}
+use Rattle.mq_inodes.specs.Pages.{IsHeld, content, pages_of}
+use Rattle.mq_inodes.specs.declared.opened.Opened.{Opened}
+use Rattle.mq_inodes.specs.declared.working.Working.{Working}
+use Rattle.mq_inodes.proofs.Becoming.{becomes-then, carries-sound}
+use Rattle.mq_inodes.proofs.Held.{meta-held, table-low, used-held}
+use Rattle.mq_inodes.proofs.LinkedGrown.{Grows}
+use Rattle.mq_inodes.proofs.LocalBodies.{inode-form, rebodied}
+use Rattle.mq_inodes.proofs.LocalVolumes.{with_body-uses}
 use Rattle.mq_layout.specs.Inodes.{IsInode}
 use Rattle.mq_layout.specs.Places.{file_limit, inode_block}
 use Rattle.mq_layout.specs.declared.inode.Inode.{Inode}
@@ -98,7 +98,7 @@ mid-table g q v m bytes at text old mid wrote after r over same held past parts 
     none-held : {x : Option (List ℕ)} → None ≡ Some x → ⊥
     none-held e = absurd (cc)
 
-pub mid-inode : (g : Geometry) (q : ℕ) (v : Volume) (m : Rewriting) (bytes now : List ℕ) (old mid : Working) (after : Opened) → (r : IsRegrown g q v m bytes old mid after) → length now ≡ m.size
+mid-inode : (g : Geometry) (q : ℕ) (v : Volume) (m : Rewriting) (bytes now : List ℕ) (old mid : Working) (after : Opened) → (r : IsRegrown g q v m bytes old mid after) → length now ≡ m.size
     → record { kind = after.inode.kind; links = after.inode.links; size = m.size; direct = after.inode.direct; indirect = after.inode.indirect } ≡ inode_of (rebodied (node r.u m.file.number) (File now))
 mid-inode g q v m bytes now old mid after r e = sized-inode (node r.u m.file.number) after.inode bytes now m.size r.inode r.is (sym e)
 

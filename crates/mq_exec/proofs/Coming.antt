@@ -2,12 +2,12 @@
 use Rattle.std.proofs.Common.{ℕ, ◌<◌, ◌≤◌, Bool, cond, sym, ap, subst}
 use Rattle.std.proofs.lemmas.Bool.{le-ltb, lt-ltb}
 use Rattle.mq_blocks.specs.declared.geometry.Geometry.{Geometry}
-use Rattle.mq_exec.specs.Edits.{Becomes}
-use Rattle.mq_exec.specs.Fits.{Agrees}
-use Rattle.mq_exec.specs.Pages.{pages_of}
 use Rattle.mq_exec.specs.Plans.{ComesTo, IsCarried, IsRefused}
-use Rattle.mq_exec.specs.declared.working.Working.{Working}
-use Rattle.mq_exec.proofs.Becoming.{becomes-self, carries-sound}
+use Rattle.mq_inodes.specs.Edits.{Becomes}
+use Rattle.mq_inodes.specs.Fits.{Agrees}
+use Rattle.mq_inodes.specs.Pages.{pages_of}
+use Rattle.mq_inodes.specs.declared.working.Working.{Working}
+use Rattle.mq_inodes.proofs.Becoming.{becomes-self, carries-sound}
 use Rattle.mq_tree.specs.Free.{free_blocks}
 use Rattle.mq_tree.specs.Requests.{Makes, Outcome, Verdict}
 use Rattle.mq_tree.specs.Volume.{Volume}

@@ -35,7 +35,7 @@ truncate-makes g q v i size bytes is low =
 -- ---- the bytes
 
 -- zeros past the end change no byte
-pub filled-spliced : (size : ℕ) (bytes : List ℕ) → length bytes ≤ size → IsSplicedAt 0 [] bytes (cut_to size bytes)
+filled-spliced : (size : ℕ) (bytes : List ℕ) → length bytes ≤ size → IsSplicedAt 0 [] bytes (cut_to size bytes)
 filled-spliced size bytes longer = record {
   inside = λ k l. absurd (omega arith);
   outside = λ k beside. elim (cases_lt k size) [

@@ -6,17 +6,17 @@ use Rattle.std.proofs.lemmas.Bool.{lt-ltb, ltb-true}
 use Rattle.std.proofs.lemmas.List.{take_all}
 use Rattle.std.proofs.lemmas.List.Elements.{All-contains, All-more, All-nil, All-weaker, Contains-append_cases, Contains-append_left, Contains-append_right, Contains-get_or, Contains-push, Contains-push_cases}
 use Rattle.mq_blocks.specs.declared.geometry.Geometry.{Geometry}
-use Rattle.mq_exec.specs.Changes.{zone_in}
-use Rattle.mq_exec.specs.Fits.{Agrees}
-use Rattle.mq_exec.specs.Opened.{IsOpened, IsReleasable}
-use Rattle.mq_exec.specs.Pages.{IsHeld, Pages}
 use Rattle.mq_exec.specs.Plans.{MayRelease}
 use Rattle.mq_exec.specs.Removes.{IsInZones, LooksFreed, owned}
-use Rattle.mq_exec.specs.declared.opened.Opened.{Opened}
-use Rattle.mq_exec.proofs.Directories.{blocks-has, pointers-has}
-use Rattle.mq_exec.proofs.Held.{meta-held}
-use Rattle.mq_exec.proofs.LocalFrame.{has-use}
-use Rattle.mq_exec.proofs.Linkable.{opened-pointers}
+use Rattle.mq_inodes.specs.Changes.{zone_in}
+use Rattle.mq_inodes.specs.Fits.{Agrees}
+use Rattle.mq_inodes.specs.Opened.{IsOpened, IsReleasable}
+use Rattle.mq_inodes.specs.Pages.{IsHeld, Pages}
+use Rattle.mq_inodes.specs.declared.opened.Opened.{Opened}
+use Rattle.mq_inodes.proofs.Directories.{blocks-has, pointers-has}
+use Rattle.mq_inodes.proofs.Held.{meta-held}
+use Rattle.mq_inodes.proofs.LocalFrame.{has-use}
+use Rattle.mq_inodes.proofs.Opening.{opened-pointers}
 use Rattle.mq_layout.specs.Places.{inode_bitmap, zone_bitmap}
 use Rattle.mq_tree.specs.Sound.{IsSound}
 use Rattle.mq_tree.specs.Volume.{Volume, has_block, node}
@@ -68,7 +68,7 @@ owned-few o x c = go (nat_lt 12 (length o.blocks.items))
 owned-pointers : (o : Opened) → 12 < length o.blocks.items → Contains (owned o) o.inode.indirect
 owned-pointers o many = subst (λ (t : Bool). Contains (owned_when o t) o.inode.indirect) (sym (lt-ltb 12 (length o.blocks.items) many)) (Contains-push o.blocks.items o.inode.indirect)
 
-pub owned-has : (g : Geometry) (v : Volume) (o : Opened) (x : ℕ) → IsSound g v → IsOpened g v o → Contains (owned o) x → has_block (node v o.number) x ≡ true
+owned-has : (g : Geometry) (v : Volume) (o : Opened) (x : ℕ) → IsSound g v → IsOpened g v o → Contains (owned o) x → has_block (node v o.number) x ≡ true
 owned-has g v o x sound is c = go (nat_lt 12 (length o.blocks.items)) refl c
   where
     go : (many : Bool) → nat_lt 12 (length o.blocks.items) ≡ many → Contains (owned_when o many) x → has_block (node v o.number) x ≡ true
@@ -78,7 +78,7 @@ owned-has g v o x sound is c = go (nat_lt 12 (length o.blocks.items)) refl c
     ]
     go false e h = blocks-has (node v o.number) o.blocks.items x is.blocks h
 
-pub has-zones : (g : Geometry) (v : Volume) (i b : ℕ) → IsSound g v → has_block (node v i) b ≡ true → IsInZones g b
+has-zones : (g : Geometry) (v : Volume) (i b : ℕ) → IsSound g v → has_block (node v i) b ≡ true → IsInZones g b
 has-zones g v i b sound has =
     let u = has-use v i b has in
     let z = sound.zones u.0 b u.2 in

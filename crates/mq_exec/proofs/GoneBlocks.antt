@@ -8,19 +8,19 @@ use Rattle.std.proofs.lemmas.List.{get_or-drop, length-drop}
 use Rattle.std.proofs.lemmas.List.Elements.{All-contains, Contains-append_cases, Contains-append_left, Contains-append_right, Contains-get_or}
 use Rattle.std.proofs.lemmas.Option.{slice_get-get_or}
 use Rattle.mq_blocks.specs.declared.geometry.Geometry.{Geometry}
-use Rattle.mq_exec.specs.Changes.{zone_in}
 use Rattle.mq_exec.specs.Cuts.{LooksCut, marks, part, pointer_marks}
-use Rattle.mq_exec.specs.Fits.{Agrees}
-use Rattle.mq_exec.specs.Opened.{HoldsPointers, IsOpened, IsReleasable}
-use Rattle.mq_exec.specs.Pages.{Pages}
 use Rattle.mq_exec.specs.Plans.{HoldsPlaces}
-use Rattle.mq_exec.specs.Released.{gone_from}
 use Rattle.mq_exec.specs.Removes.{IsInZones}
-use Rattle.mq_exec.specs.declared.opened.Opened.{Opened}
-use Rattle.mq_exec.proofs.Becoming.{carries-sound}
 use Rattle.mq_exec.proofs.Freeing.{IsBitmapOf}
-use Rattle.mq_exec.proofs.Held.{held-known, meta-held, used-held}
-use Rattle.mq_exec.proofs.Linkable.{opened-pointers}
+use Rattle.mq_inodes.specs.Changes.{zone_in}
+use Rattle.mq_inodes.specs.Fits.{Agrees}
+use Rattle.mq_inodes.specs.Opened.{HoldsPointers, IsOpened, IsReleasable}
+use Rattle.mq_inodes.specs.Pages.{Pages}
+use Rattle.mq_inodes.specs.Released.{gone_from}
+use Rattle.mq_inodes.specs.declared.opened.Opened.{Opened}
+use Rattle.mq_inodes.proofs.Becoming.{carries-sound}
+use Rattle.mq_inodes.proofs.Held.{held-known, meta-held, used-held}
+use Rattle.mq_inodes.proofs.Opening.{opened-pointers}
 use Rattle.mq_layout.specs.Places.{zone_bitmap}
 use Rattle.mq_tree.specs.Sound.{IsSound, blocks_for}
 use Rattle.mq_tree.specs.Volume.{Part, Pointers, Volume, node}

@@ -6,19 +6,19 @@ use Rattle.std.proofs.lemmas.Bool.{cases_lt}
 use Rattle.std.proofs.lemmas.Option.{none-some}
 use Rattle.mq_blocks.specs.Geometry.{meta_of}
 use Rattle.mq_blocks.specs.declared.geometry.Geometry.{Geometry}
-use Rattle.mq_exec.specs.Changes.{FitsAt}
-use Rattle.mq_exec.specs.Differences.{HasKind}
-use Rattle.mq_exec.specs.Edits.{Becomes, IsOver, KindsFit}
-use Rattle.mq_exec.specs.Fits.{Agrees, Fits}
-use Rattle.mq_exec.specs.Moves.{Differs, IsOfFile, LeadsTo, Moves, SameAt}
-use Rattle.mq_exec.specs.Pages.{Pages, changed_of, kinds_of, over, pages_of, view_of}
-use Rattle.mq_exec.specs.declared.working.Working.{Working}
-use Rattle.mq_exec.proofs.LocalFits.{fits-all}
-use Rattle.mq_exec.proofs.LocalKinds.{meta-not-data, meta-not-file}
+use Rattle.mq_exec.specs.Moves.{LeadsTo, Moves}
 use Rattle.mq_exec.proofs.LocalMoves.{differs-moves}
-use Rattle.mq_exec.proofs.LocalOnce.{page-once, shown-vacant}
-use Rattle.mq_exec.proofs.Needs.{agrees-alike}
 use Rattle.mq_exec.proofs.Running.{IsRun, run-after, run-geometry}
+use Rattle.mq_inodes.specs.Changes.{FitsAt, IsOfFile, SameAt}
+use Rattle.mq_inodes.specs.Differences.{Differs, HasKind}
+use Rattle.mq_inodes.specs.Edits.{Becomes, IsOver, KindsFit}
+use Rattle.mq_inodes.specs.Fits.{Agrees, Fits}
+use Rattle.mq_inodes.specs.Pages.{Pages, changed_of, kinds_of, over, pages_of, view_of}
+use Rattle.mq_inodes.specs.declared.working.Working.{Working}
+use Rattle.mq_inodes.proofs.LocalFits.{fits-all}
+use Rattle.mq_inodes.proofs.LocalKinds.{meta-not-data, meta-not-file}
+use Rattle.mq_inodes.proofs.LocalOnce.{page-once, shown-vacant}
+use Rattle.mq_inodes.proofs.Lacking.{agrees-alike}
 use Rattle.mq_pages.specs.declared.page.Kind.TheVariants.{Data}
 use Rattle.mq_pages.specs.declared.page.Write.{Write}
 use Rattle.mq_tree.specs.Laid.{Shows}

@@ -10,7 +10,7 @@ use Rattle.mq_blocks.specs.Blocks.{block_at}
 use Rattle.mq_blocks.specs.Geometry.{homes_of, meta_of}
 use Rattle.mq_blocks.specs.Machine.{Map}
 use Rattle.mq_blocks.specs.declared.geometry.Geometry.{Geometry}
-use Rattle.mq_exec.specs.Pages.{held_pages, page_in}
+use Rattle.mq_inodes.specs.Pages.{held_pages, page_in}
 use Rattle.mq_pages.specs.Held.{Cells, HeldCells, IsAboveLast, cell_of}
 use Rattle.mq_pages.specs.declared.page.PageCell.{PageCell}
 use Rattle.mq_tree.specs.Laid.{is_marked, map_of}

@@ -7,21 +7,22 @@ use Rattle.std.proofs.lemmas.List.{drop_all, take-append-drop}
 use Rattle.std.proofs.lemmas.Option.{none-some, same_Some, slice_get-get_or}
 use Rattle.mq_blocks.specs.Geometry.{meta_of, queues_of}
 use Rattle.mq_blocks.specs.declared.geometry.Geometry.{Geometry}
-use Rattle.mq_exec.specs.Dirs.{AreDirsAt}
-use Rattle.mq_exec.specs.Edits.{Becomes, Carries, IsOver}
-use Rattle.mq_exec.specs.Fits.{Fits}
-use Rattle.mq_exec.specs.Opened.{HoldsPointers, IsOpened, IsTakeable, MayLink}
-use Rattle.mq_exec.specs.Pages.{IsHeld, Pages, pages_of}
-use Rattle.mq_exec.specs.Picks.{ArePicked, IsMarkable, free_of}
-use Rattle.mq_exec.specs.Walks.{last_of}
-use Rattle.mq_exec.specs.declared.opened.Opened.{Opened}
-use Rattle.mq_exec.specs.declared.working.Working.{Working}
-use Rattle.mq_exec.proofs.Directories.{carried-form}
-use Rattle.mq_exec.proofs.Held.{meta-held, used-held}
-use Rattle.mq_exec.proofs.LocalOnce.{shown-vacant}
-use Rattle.mq_exec.proofs.LocalTaken.{IsFree}
-use Rattle.mq_exec.proofs.Picking.{picks-all_free}
-use Rattle.mq_exec.proofs.Walking.{way-last}
+use Rattle.mq_inodes.specs.Dirs.{AreDirsAt}
+use Rattle.mq_inodes.specs.Edits.{Becomes, Carries, IsOver}
+use Rattle.mq_inodes.specs.Fits.{Fits}
+use Rattle.mq_inodes.specs.Opened.{HoldsPointers, IsOpened, IsTakeable, MayLink}
+use Rattle.mq_inodes.specs.Pages.{IsHeld, Pages, pages_of}
+use Rattle.mq_inodes.specs.Picks.{ArePicked, IsMarkable, free_of}
+use Rattle.mq_inodes.specs.Walks.{last_of}
+use Rattle.mq_inodes.specs.declared.opened.Opened.{Opened}
+use Rattle.mq_inodes.specs.declared.working.Working.{Working}
+use Rattle.mq_inodes.proofs.Directories.{carried-form}
+use Rattle.mq_inodes.proofs.Held.{meta-held, used-held}
+use Rattle.mq_inodes.proofs.LocalOnce.{shown-vacant}
+use Rattle.mq_inodes.proofs.LocalTaken.{IsFree}
+use Rattle.mq_inodes.proofs.Opening.{opened-pointers}
+use Rattle.mq_inodes.proofs.Picking.{picks-all_free}
+use Rattle.mq_inodes.proofs.Walking.{way-last}
 use Rattle.mq_layout.specs.Places.{inode_block}
 use Rattle.mq_layout.specs.Slots.{Entry}
 use Rattle.mq_layout.specs.declared.inode.Inode.{Inode}
@@ -34,14 +35,14 @@ use Rattle.mq_tree.proofs.Unique.{some-when}
 
 -- ---- volumes in which the directory is the same, and the same blocks are taken
 
-pub free-same : (v w : Volume) (xs : List ℕ) → ((x : ℕ) → is_taken w x ≡ is_taken v x) → free_of w xs ≡ free_of v xs
+free-same : (v w : Volume) (xs : List ℕ) → ((x : ℕ) → is_taken w x ≡ is_taken v x) → free_of w xs ≡ free_of v xs
 free-same v w [] same = refl
 free-same v w (x ∷ xs) same = ap (λ (ys : List ℕ). cond (is_taken w x) ys (x ∷ ys)) (free-same v w xs same) ∙ ap (λ (t : Bool). cond t (free_of v xs) (x ∷ free_of v xs)) (same x)
 
 pub picked-same : (g : Geometry) (q : ℕ) (v w : Volume) (count : ℕ) (picks : List ℕ) → ((x : ℕ) → is_taken w x ≡ is_taken v x) → ArePicked g q v count picks → ArePicked g q w count picks
 picked-same g q v w count picks same p = record { enough = p.enough; first = p.first ∙ ap (λ (xs : List ℕ). take count xs) (sym (free-same v w (order g q) same)) }
 
-pub opened-same : (g : Geometry) (v w : Volume) (o : Opened) → node w o.number ≡ node v o.number → IsOpened g v o → IsOpened g w o
+opened-same : (g : Geometry) (v w : Volume) (o : Opened) → node w o.number ≡ node v o.number → IsOpened g v o → IsOpened g w o
 opened-same g v w o e h = record {
   low = h.low;
   inode = h.inode ∙ ap inode_of (sym e);
@@ -78,13 +79,7 @@ free-known g pages v b fits f known = go (pages b) refl
 pub takeables : (g : Geometry) (q : ℕ) (pages : Pages) (v : Volume) (count : ℕ) (picks : List ℕ) → Fits g pages v → q < queues_of g → ArePicked g q v count picks → All (IsMarkable g pages) picks → All (λ b. pages b ≢ None) picks → All (IsTakeable g pages) picks
 takeables g q pages v count picks fits low p marks known k d l = record { marks = marks k d l; free = free-known g pages v _ fits (picks-all_free g q v count picks low p k d l) (known k d l) }
 
-pub opened-pointers : (g : Geometry) (v : Volume) (o : Opened) → IsOpened g v o → 12 < length o.blocks.items → (node v o.number).indirect ≡ Some o.inode.indirect
-opened-pointers g v o h many =
-    let n = node v o.number in
-    let s = some-when n.indirect (h.indirect ∙ lt-ltb 12 (length n.blocks) (let e = ap (λ (xs : List ℕ). length xs) h.blocks in omega arith)) in
-    s.1 ∙ ap (λ (b : ℕ). Some b) (sym (ap (λ (x : Inode). x.indirect) h.inode ∙ ap or_zero s.1))
-
-pub meta-kept : (g : Geometry) (v : Volume) (b : ℕ) (old new : Working) → Carries g (pages_of new) v → IsOver old new → b < meta_of g → IsHeld (pages_of old) b → IsHeld (pages_of new) b
+meta-kept : (g : Geometry) (v : Volume) (b : ℕ) (old new : Working) → Carries g (pages_of new) v → IsOver old new → b < meta_of g → IsHeld (pages_of old) b → IsHeld (pages_of new) b
 meta-kept g v b old new c over low held = meta-held g (pages_of new) v b c.fits low (held-known old new b over held)
 
 -- ---- what adding a name requires of pages

@@ -5,14 +5,14 @@ use Rattle.std.proofs.lemmas.Bool.{cases_lt}
 use Rattle.std.proofs.lemmas.List.{get_or_append_left, get_or-append_right, get_or-drop, get_or-take, get_or_past}
 use Rattle.mq_blocks.specs.Journal.{is_among}
 use Rattle.mq_blocks.specs.declared.geometry.Geometry.{Geometry}
-use Rattle.mq_exec.specs.Changes.{AreOthers, FitsAt, IsInodeTurned, Stepped}
-use Rattle.mq_exec.specs.Fits.{Fits}
-use Rattle.mq_exec.specs.Pages.{Pages}
-use Rattle.mq_exec.proofs.LocalBodies.{inode-form, rebodied}
-use Rattle.mq_exec.proofs.LocalChanges.{kept-rewrites, kept-uses, used-kind}
-use Rattle.mq_exec.proofs.LocalInodes.{fits-inode}
-use Rattle.mq_exec.proofs.LocalSteps.{step-over, zone-put}
-use Rattle.mq_exec.proofs.LocalUses.{Rewrites}
+use Rattle.mq_inodes.specs.Changes.{AreOthers, FitsAt, IsInodeTurned, Stepped}
+use Rattle.mq_inodes.specs.Fits.{Fits}
+use Rattle.mq_inodes.specs.Pages.{Pages}
+use Rattle.mq_inodes.proofs.LocalBodies.{inode-form, rebodied}
+use Rattle.mq_inodes.proofs.LocalChanges.{kept-rewrites, kept-uses, used-kind}
+use Rattle.mq_inodes.proofs.LocalInodes.{fits-inode}
+use Rattle.mq_inodes.proofs.LocalSteps.{step-over, zone-put}
+use Rattle.mq_inodes.proofs.LocalUses.{Rewrites}
 use Rattle.mq_layout.specs.Inodes.{IsInode}
 use Rattle.mq_layout.specs.Places.{file_limit, inode_block, inodes_of}
 use Rattle.mq_tree.specs.Laid.{IsPage, ShowsPart, inode_of, kind_of, size_of}

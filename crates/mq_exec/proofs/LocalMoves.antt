@@ -6,10 +6,13 @@ use Rattle.std.proofs.lemmas.Bool.{true≢false}
 use Rattle.std.proofs.lemmas.Option.{none-some}
 use Rattle.mq_blocks.specs.Geometry.{meta_of}
 use Rattle.mq_blocks.specs.declared.geometry.Geometry.{Geometry}
-use Rattle.mq_exec.specs.Moves.{Differs, IsFreed, IsOfFile, IsWritten, LeadsTo, Moves}
-use Rattle.mq_exec.specs.Pages.{Pages, content, over}
-use Rattle.mq_exec.proofs.Held.{held-is}
-use Rattle.mq_exec.proofs.LocalOnce.{page-once, shown-taken, shown-vacant}
+use Rattle.mq_exec.specs.Moves.{IsFreed, IsWritten, LeadsTo, Moves}
+use Rattle.mq_inodes.specs.Differences.{Differs}
+use Rattle.mq_inodes.specs.Changes.{IsOfFile}
+use Rattle.mq_inodes.specs.Pages.{Pages, content, over}
+use Rattle.mq_inodes.proofs.Held.{held-is}
+use Rattle.mq_inodes.proofs.Listed.{contains-first, contains-later}
+use Rattle.mq_inodes.proofs.LocalOnce.{page-once, shown-taken, shown-vacant}
 use Rattle.mq_pages.specs.declared.page.Kind.{Kind}
 use Rattle.mq_pages.specs.declared.page.Kind.TheVariants.{Data, Meta}
 use Rattle.mq_pages.specs.declared.page.Write.{Write}
@@ -30,12 +33,6 @@ later {X} n y ys x r (suc k, l, e) =
 tail-rises : {X : Type 0} (n : X → ℕ) (y : X) (ys : List X) → AllPairs (λ a b. n a < n b) (y ∷ ys) → AllPairs (λ a b. n a < n b) ys
 tail-rises {X} n y ys r = λ i j d l h. r (suc i) (suc j) d (omega arith) (omega arith)
 
-pub contains-later : {X : Type 0} (y : X) (ys : List X) (x : X) → Contains ys x → Contains (y ∷ ys) x
-contains-later {X} y ys x (k, l, e) = (suc k, (omega arith), e)
-
-pub contains-first : {X : Type 0} (y : X) (ys : List X) → Contains (y ∷ ys) y
-contains-first {X} y ys = (zero, (omega arith), refl)
-
 same-first : {X : Type 0} (n : X → ℕ) (x y : X) (xs ys : List X) → (x ≡ y) ⊎ (Contains ys x × (n y < n x)) → (y ≡ x) ⊎ (Contains xs y × (n x < n y)) → x ≡ y
 same-first {X} n x y xs ys (inl e) b = e
 same-first {X} n x y xs ys (inr a) (inl e) = sym e
@@ -55,7 +52,7 @@ tails {X} n x y xs ys same r t h z c = elim (later n y ys z t (h z (contains-lat
         let g : n z ≡ n x = ap n f ∙ ap n (sym same) in
         omega arith
 
-pub rising-same : {X : Type 0} (n : X → ℕ) (xs ys : List X) → AllPairs (λ a b. n a < n b) xs → AllPairs (λ a b. n a < n b) ys → ((x : X) → Contains xs x ↔ Contains ys x) → xs ≡ ys
+rising-same : {X : Type 0} (n : X → ℕ) (xs ys : List X) → AllPairs (λ a b. n a < n b) xs → AllPairs (λ a b. n a < n b) ys → ((x : X) → Contains xs x ↔ Contains ys x) → xs ≡ ys
 rising-same {X} n [] [] r t h = refl
 rising-same {X} n [] (y ∷ ys) r t h = let c = (h y).1 (contains-first y ys) in let l = c.1 in absurd (omega arith)
 rising-same {X} n (x ∷ xs) [] r t h = let c = (h x).0 (contains-first x xs) in let l = c.1 in absurd (omega arith)

@@ -5,22 +5,23 @@ use Rattle.std.specs.List.{All, Contains}
 use Rattle.std.proofs.lemmas.List.Elements.{All-contains, Contains-append_left, Contains-get_or, Contains-push}
 use Rattle.mq_blocks.specs.Geometry.{queues_of}
 use Rattle.mq_blocks.specs.declared.geometry.Geometry.{Geometry}
-use Rattle.mq_exec.specs.Changes.{AreOthers}
-use Rattle.mq_exec.specs.Dirs.{AreDirsAt}
-use Rattle.mq_exec.specs.Edits.{Becomes, IsOver}
-use Rattle.mq_exec.specs.Fits.{Agrees}
-use Rattle.mq_exec.specs.Opened.{HoldsPointers, MayLink}
-use Rattle.mq_exec.specs.Pages.{IsHeld, Pages, pages_of}
-use Rattle.mq_exec.specs.Picks.{ArePicked, IsMarkable}
-use Rattle.mq_exec.specs.Plans.{HoldsMake, PlansMake, made_entry, with_inode}
+use Rattle.mq_exec.specs.Plans.{HoldsMake, PlansMake, made_entry}
 use Rattle.mq_exec.specs.declared.make.Making.{Making}
-use Rattle.mq_exec.specs.declared.opened.Opened.{Opened}
-use Rattle.mq_exec.specs.declared.working.Working.{Working}
-use Rattle.mq_exec.proofs.Held.{meta-held}
 use Rattle.mq_exec.proofs.Linkable.{IsLinkable, link-kept, link-same, takeables}
-use Rattle.mq_exec.proofs.LocalFrame.{taken-same}
-use Rattle.mq_exec.proofs.LocalInodes.{bare}
-use Rattle.mq_exec.proofs.LocalVolumes.{free-bare}
+use Rattle.mq_inodes.specs.Changes.{AreOthers}
+use Rattle.mq_inodes.specs.Dirs.{AreDirsAt}
+use Rattle.mq_inodes.specs.Edits.{Becomes, IsOver}
+use Rattle.mq_inodes.specs.Fits.{Agrees}
+use Rattle.mq_inodes.specs.Opened.{HoldsPointers, MayLink}
+use Rattle.mq_inodes.specs.Pages.{IsHeld, Pages, pages_of}
+use Rattle.mq_inodes.specs.Picks.{ArePicked, IsMarkable}
+use Rattle.mq_inodes.specs.Bare.{with_inode}
+use Rattle.mq_inodes.specs.declared.opened.Opened.{Opened}
+use Rattle.mq_inodes.specs.declared.working.Working.{Working}
+use Rattle.mq_inodes.proofs.Held.{meta-held}
+use Rattle.mq_inodes.proofs.LocalFrame.{taken-same}
+use Rattle.mq_inodes.proofs.LocalInodes.{bare}
+use Rattle.mq_inodes.proofs.LocalVolumes.{free-bare}
 use Rattle.mq_layout.specs.Places.{inode_bitmap, inode_block, inodes_of}
 use Rattle.mq_layout.specs.Slots.{Entry}
 use Rattle.mq_tree.specs.Sound.{IsSound}

@@ -6,26 +6,27 @@ use Rattle.std.proofs.lemmas.Bool.{cases_lt, lt-leb, true≢false}
 use Rattle.std.proofs.lemmas.List.Elements.{All-contains, Contains-push_cases}
 use Rattle.mq_blocks.specs.Geometry.{queues_of}
 use Rattle.mq_blocks.specs.declared.geometry.Geometry.{Geometry}
-use Rattle.mq_exec.specs.Dirs.{slots_at}
-use Rattle.mq_exec.specs.Opened.{IsOpened, MayLink}
-use Rattle.mq_exec.specs.Pages.{Pages}
-use Rattle.mq_exec.specs.Picks.{ArePicked, IsSearched}
-use Rattle.mq_exec.specs.Plans.{IsCarried, IsRefused, PlansMake, empty_body, making, with_inode}
-use Rattle.mq_exec.specs.Walks.{LeadsPast, last_of}
+use Rattle.mq_exec.specs.Plans.{IsCarried, IsRefused, PlansMake, making}
 use Rattle.mq_exec.specs.declared.make.Making.{Making}
-use Rattle.mq_exec.specs.declared.opened.Opened.{Opened}
 use Rattle.mq_exec.proofs.Answering.{past-looks}
 use Rattle.mq_exec.proofs.Coming.{carried-enough, carried-few}
-use Rattle.mq_exec.proofs.EmptyInodes.{empty-used}
-use Rattle.mq_exec.proofs.LinkedGrown.{picked-enough}
-use Rattle.mq_exec.proofs.LocalInodes.{bare}
-use Rattle.mq_exec.proofs.LocalTaken.{IsFree}
-use Rattle.mq_exec.proofs.LocalVolumes.{bare-uses}
 use Rattle.mq_exec.proofs.Making.{made-link}
 use Rattle.mq_exec.proofs.NewNames.{IsNew, new-form}
-use Rattle.mq_exec.proofs.Picking.{picks-all_free}
-use Rattle.mq_exec.proofs.Sound.{sound-uses}
 use Rattle.mq_exec.proofs.Taking.{linked-other, linked-takes}
+use Rattle.mq_inodes.specs.Dirs.{slots_at}
+use Rattle.mq_inodes.specs.Opened.{IsOpened, MayLink}
+use Rattle.mq_inodes.specs.Pages.{Pages}
+use Rattle.mq_inodes.specs.Picks.{ArePicked, IsSearched}
+use Rattle.mq_inodes.specs.Bare.{empty_body, with_inode}
+use Rattle.mq_inodes.specs.Walks.{LeadsPast, last_of}
+use Rattle.mq_inodes.specs.declared.opened.Opened.{Opened}
+use Rattle.mq_inodes.proofs.EmptyInodes.{empty-used}
+use Rattle.mq_inodes.proofs.LinkedGrown.{picked-enough}
+use Rattle.mq_inodes.proofs.LocalInodes.{bare}
+use Rattle.mq_inodes.proofs.LocalTaken.{IsFree}
+use Rattle.mq_inodes.proofs.LocalVolumes.{bare-uses}
+use Rattle.mq_inodes.proofs.Picking.{picks-all_free}
+use Rattle.mq_inodes.proofs.Sound.{sound-uses}
 use Rattle.mq_layout.specs.Names.{IsName, is_name}
 use Rattle.mq_layout.specs.Places.{inode_bitmap, inode_block, inodes_of, names_limit}
 use Rattle.mq_layout.specs.Slots.{Entry}
@@ -86,16 +87,16 @@ make-ready : (g : Geometry) (q : ℕ) (v : Volume) (y : Body) (path : Path) (d :
 make-ready g q v y path d found r e =
     ap (make g q v y) r.new.target_is ∙ ap (λ (t : Bool). cond t (refused TooBig) (make_free g q v y d (last_of (way path)) (first_free 0 v))) (lt-leb names_limit (count_names (slots_of (body v d))) r.few) ∙ ap (make_free g q v y d (last_of (way path))) e
 
-pub make-none : (g : Geometry) (q : ℕ) (v : Volume) (y : Body) (path : Path) (d : ℕ) → IsReady v path d → first_free 0 v ≡ None → IsRefused g v (make g q v y (target v (way path))) NoInodes
+make-none : (g : Geometry) (q : ℕ) (v : Volume) (y : Body) (path : Path) (d : ℕ) → IsReady v path d → first_free 0 v ≡ None → IsRefused g v (make g q v y (target v (way path))) NoInodes
 make-none g q v y path d r e = ap (λ (x : Verdict). carried_out g v x) (make-ready g q v y path d None r e)
 
-pub make-some : (g : Geometry) (q : ℕ) (v : Volume) (y : Body) (path : Path) (d i : ℕ) → IsReady v path d → first_free 0 v ≡ Some i → make g q v y (target v (way path)) ≡ Makes (link_needs (node v d)) (made_volume g q v y path d i)
+make-some : (g : Geometry) (q : ℕ) (v : Volume) (y : Body) (path : Path) (d i : ℕ) → IsReady v path d → first_free 0 v ≡ Some i → make g q v y (target v (way path)) ≡ Makes (link_needs (node v d)) (made_volume g q v y path d i)
 make-some g q v y path d i r e = make-ready g q v y path d (Some i) r e
 
 pub make-few : (g : Geometry) (q : ℕ) (v : Volume) (y : Body) (path : Path) (d i : ℕ) → IsReady v path d → first_free 0 v ≡ Some i → free_blocks g v < link_needs (node v d) → IsRefused g v (make g q v y (target v (way path))) NoSpace
 make-few g q v y path d i r e few = ap (λ (x : Verdict). carried_out g v x) (make-some g q v y path d i r e) ∙ carried-few g v (link_needs (node v d)) (made_volume g q v y path d i) few
 
-pub make-enough : (g : Geometry) (q : ℕ) (v : Volume) (y : Body) (path : Path) (d i : ℕ) → IsReady v path d → first_free 0 v ≡ Some i → link_needs (node v d) ≤ free_blocks g v → IsCarried g v (make g q v y (target v (way path))) (made_volume g q v y path d i)
+make-enough : (g : Geometry) (q : ℕ) (v : Volume) (y : Body) (path : Path) (d i : ℕ) → IsReady v path d → first_free 0 v ≡ Some i → link_needs (node v d) ≤ free_blocks g v → IsCarried g v (make g q v y (target v (way path))) (made_volume g q v y path d i)
 make-enough g q v y path d i r e enough = ap (λ (x : Verdict). carried_out g v x) (make-some g q v y path d i r e) ∙ carried-enough g v (link_needs (node v d)) (made_volume g q v y path d i) enough
 
 pub free-is : (g : Geometry) (v : Volume) (i : ℕ) → IsSound g v → first_free 0 v ≡ Some i → (i < inodes_of g) × (body v i ≡ Free)

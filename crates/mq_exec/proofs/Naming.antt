@@ -7,11 +7,11 @@ use Rattle.mq_layout.specs.Names.{is_name}
 use Rattle.mq_layout.specs.Places.{inode_block, inodes_of}
 use Rattle.mq_layout.specs.declared.inode.Inode.{Inode}
 use Rattle.mq_exec.specs.Reads.{IsNamed, NamesLeadPast, number_of}
-use Rattle.mq_exec.specs.Walks.{inode, named}
-use Rattle.mq_exec.specs.declared.walk.Target.{Target}
-use Rattle.mq_exec.specs.declared.walk.Target.TheVariants.{Root, Lost, In}
-use Rattle.mq_exec.proofs.Sound.{used-low}
-use Rattle.mq_exec.proofs.Walking.{found-used, leads-here, walk-at}
+use Rattle.mq_inodes.specs.Walks.{inode, named}
+use Rattle.mq_inodes.specs.declared.walk.Target.{Target}
+use Rattle.mq_inodes.specs.declared.walk.Target.TheVariants.{Root, Lost, In}
+use Rattle.mq_inodes.proofs.Sound.{used-low}
+use Rattle.mq_inodes.proofs.Walking.{found-used, leads-here, walk-at}
 use Rattle.mq_tree.specs.Laid.{inode_of}
 use Rattle.mq_tree.specs.Requests.{Root as AtRoot, Lost as AtFault, In as AtName, Says, asks, refused, target, target_in, walk}
 use Rattle.mq_tree.specs.Sound.{IsSound}

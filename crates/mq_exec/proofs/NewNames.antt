@@ -4,10 +4,10 @@ use Rattle.std.specs.Prelude.{Option, None, Result, Ok, Err}
 use Rattle.std.specs.List.{list_all}
 use Rattle.mq_blocks.specs.declared.geometry.Geometry.{Geometry}
 use Rattle.mq_layout.specs.Names.{IsName, is_name}
-use Rattle.mq_exec.specs.Walks.{IsDirectory, LeadsPast, LooksIn, directory, inode, last_of, named}
-use Rattle.mq_exec.specs.declared.walk.Target.{Target}
-use Rattle.mq_exec.specs.declared.walk.Target.TheVariants.{In}
-use Rattle.mq_exec.proofs.Walking.{leads-here, walk-at, walk-dir}
+use Rattle.mq_inodes.specs.Walks.{IsDirectory, LeadsPast, LooksIn, directory, inode, last_of, named}
+use Rattle.mq_inodes.specs.declared.walk.Target.{Target}
+use Rattle.mq_inodes.specs.declared.walk.Target.TheVariants.{In}
+use Rattle.mq_inodes.proofs.Walking.{leads-here, walk-at, walk-dir}
 use Rattle.mq_tree.specs.Looks.{Leads}
 use Rattle.mq_tree.specs.Requests.{In as AtName, target, target_in, walk}
 use Rattle.mq_tree.specs.Sound.{IsSound}

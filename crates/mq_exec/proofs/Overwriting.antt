@@ -3,11 +3,11 @@ use Rattle.std.proofs.Common.{get_or, drop, take, Bool, cond, ◌-◌, ◌≡◌
 use Rattle.std.specs.Prelude.{Some, max, min}
 use Rattle.std.proofs.lemmas.Bool.{cases_eq, cases_lt, eq-eqb, ne_eqb}
 use Rattle.mq_blocks.specs.Windows.{written}
-use Rattle.mq_exec.specs.Changes.{IsTextPut}
-use Rattle.mq_exec.specs.Edits.{IsKindPut}
 use Rattle.mq_exec.specs.Overwrites.{AreApart, IsOverwritten, IsPartWritten, past_place, text_from, text_in}
-use Rattle.mq_exec.specs.Pages.{IsHeld, Pages, content, kinds_of, pages_of}
-use Rattle.mq_exec.specs.declared.working.Working.{Working}
+use Rattle.mq_inodes.specs.Changes.{IsTextPut}
+use Rattle.mq_inodes.specs.Edits.{IsKindPut}
+use Rattle.mq_inodes.specs.Pages.{IsHeld, Pages, content, kinds_of, pages_of}
+use Rattle.mq_inodes.specs.declared.working.Working.{Working}
 use Rattle.mq_pages.specs.declared.page.Kind.TheVariants.{Data}
 
 pub over-none : (w : Working) (blocks : List ℕ) (at : ℕ) (bytes : List ℕ) → IsOverwritten w w blocks at bytes (at / 4096)

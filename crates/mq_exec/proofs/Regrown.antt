@@ -3,17 +3,17 @@ use Rattle.std.proofs.Common.{get_or, ◌≡◌, ℕ, ◌+◌, ◌-◌, ◌<◌,
 use Rattle.std.specs.Prelude.{Some, nat_lt}
 use Rattle.std.proofs.lemmas.Option.{slice_get-get_or}
 use Rattle.mq_blocks.specs.declared.geometry.Geometry.{Geometry}
-use Rattle.mq_exec.specs.Edits.{Becomes, Carries}
-use Rattle.mq_exec.specs.Opened.{HasGrown}
 use Rattle.mq_exec.specs.Overwrites.{AreApart}
-use Rattle.mq_exec.specs.Pages.{Pages, pages_of}
 use Rattle.mq_exec.specs.Plans.{PlansRewrite}
-use Rattle.mq_exec.specs.declared.opened.Opened.{Opened}
 use Rattle.mq_exec.specs.declared.rewrite.Rewriting.{Rewriting}
-use Rattle.mq_exec.specs.declared.working.Working.{Working}
-use Rattle.mq_exec.proofs.LinkedGrown.{picked-enough}
-use Rattle.mq_exec.proofs.LocalBodies.{rebodied}
-use Rattle.mq_exec.proofs.LocalVolumes.{resized-grown}
+use Rattle.mq_inodes.specs.Edits.{Becomes, Carries}
+use Rattle.mq_inodes.specs.Opened.{HasGrown}
+use Rattle.mq_inodes.specs.Pages.{Pages, pages_of}
+use Rattle.mq_inodes.specs.declared.opened.Opened.{Opened}
+use Rattle.mq_inodes.specs.declared.working.Working.{Working}
+use Rattle.mq_inodes.proofs.LinkedGrown.{picked-enough}
+use Rattle.mq_inodes.proofs.LocalBodies.{rebodied}
+use Rattle.mq_inodes.proofs.LocalVolumes.{resized-grown}
 use Rattle.mq_layout.specs.Places.{inodes_of}
 use Rattle.mq_layout.specs.declared.inode.Inode.{Inode}
 use Rattle.mq_tree.specs.Free.{free_blocks, grown, needs}

@@ -5,20 +5,20 @@ use Rattle.std.specs.List.{All}
 use Rattle.mq_blocks.specs.declared.geometry.Geometry.{Geometry}
 use Rattle.mq_layout.specs.Places.{inode_bitmap, inode_block}
 use Rattle.mq_layout.specs.Slots.{Entry}
-use Rattle.mq_exec.specs.Dirs.{AreDirsAt, slots_at}
-use Rattle.mq_exec.specs.Edits.{Becomes, Carries, IsOver, KeepsHeld}
-use Rattle.mq_exec.specs.Fits.{Agrees}
-use Rattle.mq_exec.specs.Opened.{IsOpened, IsReleasable, MayUnlink}
-use Rattle.mq_exec.specs.Pages.{IsHeld, Pages, pages_of}
 use Rattle.mq_exec.specs.Plans.{HoldsRemove, PlansRemove}
-use Rattle.mq_exec.specs.Walks.{last_of}
-use Rattle.mq_exec.specs.declared.opened.Opened.{Opened}
 use Rattle.mq_exec.specs.declared.remove.Removal.{Removal}
-use Rattle.mq_exec.specs.declared.working.Working.{Working}
-use Rattle.mq_exec.proofs.Becoming.{becomes-then, carries-sound}
-use Rattle.mq_exec.proofs.Directories.{carried-slots}
-use Rattle.mq_exec.proofs.Keeping.{keeps-releasable}
-use Rattle.mq_exec.proofs.LocalBodies.{rebodied}
+use Rattle.mq_inodes.specs.Dirs.{AreDirsAt, slots_at}
+use Rattle.mq_inodes.specs.Edits.{Becomes, Carries, IsOver, KeepsHeld}
+use Rattle.mq_inodes.specs.Fits.{Agrees}
+use Rattle.mq_inodes.specs.Opened.{IsOpened, IsReleasable, MayUnlink}
+use Rattle.mq_inodes.specs.Pages.{IsHeld, Pages, pages_of}
+use Rattle.mq_inodes.specs.Walks.{last_of}
+use Rattle.mq_inodes.specs.declared.opened.Opened.{Opened}
+use Rattle.mq_inodes.specs.declared.working.Working.{Working}
+use Rattle.mq_inodes.proofs.Becoming.{becomes-then, carries-sound}
+use Rattle.mq_inodes.proofs.Directories.{carried-slots}
+use Rattle.mq_inodes.proofs.Keeping.{keeps-releasable}
+use Rattle.mq_inodes.proofs.LocalBodies.{rebodied}
 use Rattle.mq_tree.specs.Laid.{inode_of}
 use Rattle.mq_tree.specs.Requests.{Verdict, cleared, freed, unlinked}
 use Rattle.mq_tree.specs.Volume.{Body, Dir, Node, Path, Volume, body, find, node, slots_of, way}
@@ -36,7 +36,7 @@ name-there g pages v d i name last blocks items agrees u is dirs n same none =
 -- ---- the inode behind it
 
 -- another inode is known as before
-pub opened-after : (g : Geometry) (v : Volume) (d : ℕ) (name : List ℕ) (o : Opened) → o.number ≢ d → IsOpened g v o → IsOpened g (unlinked v d name) o
+opened-after : (g : Geometry) (v : Volume) (d : ℕ) (name : List ℕ) (o : Opened) → o.number ≢ d → IsOpened g v o → IsOpened g (unlinked v d name) o
 opened-after g v d name o other h =
     let same : node (unlinked v d name) o.number ≡ node v o.number = node-other v d o.number (rebodied (node v d) (Dir (cleared name (slots_of (body v d))))) other in
     record {

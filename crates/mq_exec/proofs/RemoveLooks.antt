@@ -8,17 +8,17 @@ use Rattle.mq_blocks.specs.declared.geometry.Geometry.{Geometry}
 use Rattle.mq_layout.specs.Names.{is_name}
 use Rattle.mq_exec.specs.Plans.{IsFound}
 use Rattle.mq_exec.specs.Removes.{LooksFreed}
-use Rattle.mq_exec.specs.Walks.{IsDirectory, last_of}
 use Rattle.mq_exec.specs.declared.file.Found.{Found}
-use Rattle.mq_exec.proofs.LocalBodies.{rebodied}
-use Rattle.mq_exec.proofs.LocalFrame.{has-use}
-use Rattle.mq_exec.proofs.LocalSteps.{gone-free}
-use Rattle.mq_exec.proofs.LocalUses.{use-cases}
-use Rattle.mq_exec.proofs.LocalVolumes.{with_body-uses}
 use Rattle.mq_exec.proofs.Removing.{file-other, step-made, unlink-makes}
-use Rattle.mq_exec.proofs.Sound.{sound-count, sound-uses, used-low}
 use Rattle.mq_exec.proofs.Targets.{IsUnder, found-under}
-use Rattle.mq_exec.proofs.Walking.{leads-here}
+use Rattle.mq_inodes.specs.Walks.{IsDirectory, last_of}
+use Rattle.mq_inodes.proofs.LocalBodies.{rebodied}
+use Rattle.mq_inodes.proofs.LocalFrame.{has-use}
+use Rattle.mq_inodes.proofs.LocalSteps.{gone-free}
+use Rattle.mq_inodes.proofs.LocalUses.{use-cases}
+use Rattle.mq_inodes.proofs.LocalVolumes.{with_body-uses}
+use Rattle.mq_inodes.proofs.Sound.{sound-count, sound-uses, used-low}
+use Rattle.mq_inodes.proofs.Walking.{leads-here}
 use Rattle.mq_tree.proofs.KeepVolumes.{used-low as used-inside}
 use Rattle.mq_tree.specs.Looks.{LooksAt, WorksOn, is_refused, bytes as at_bytes, directory as at_directory, freed as at_freed, marks as at_marks, pointers as at_pointers}
 use Rattle.mq_tree.specs.Requests.{Makes, Outcome, cleared, freed, rmdir, step, target, unlink, unlinked}

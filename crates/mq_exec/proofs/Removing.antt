@@ -5,13 +5,13 @@ use Rattle.std.proofs.lemmas.Bool.{eq-eqb}
 use Rattle.mq_blocks.specs.declared.geometry.Geometry.{Geometry}
 use Rattle.mq_layout.specs.Places.{inodes_of}
 use Rattle.mq_layout.specs.Slots.{Entry}
-use Rattle.mq_exec.specs.Opened.{IsOpened, MayUnlink}
 use Rattle.mq_exec.specs.Plans.{IsCarried, IsFound, IsRefused, PlansRemove, on_body, on_file}
-use Rattle.mq_exec.specs.Walks.{IsDirectory, last_of}
 use Rattle.mq_exec.specs.declared.file.Found.{Found}
 use Rattle.mq_exec.specs.declared.remove.Removal.{Removal}
 use Rattle.mq_exec.proofs.Coming.{carried-enough}
 use Rattle.mq_exec.proofs.Targets.{IsUnder}
+use Rattle.mq_inodes.specs.Opened.{IsOpened, MayUnlink}
+use Rattle.mq_inodes.specs.Walks.{IsDirectory, last_of}
 use Rattle.mq_tree.specs.Requests.{In, Lost, Makes, Root, Target, Verdict, act, carried_out, count_names, freed, is_named, refused, rmdir, rmdir_in, step, target, unlink, unlink_in, unlinked}
 use Rattle.mq_tree.specs.Sound.{IsBody, IsSound}
 use Rattle.mq_tree.specs.Volume.{Body, Free, File, Dir, Path, Volume, body, find, node, slot, slots_of, way}
@@ -22,7 +22,7 @@ use Rattle.mq_tree.specs.declared.request.Request.{Request}
 
 -- ---- a verdict that takes no block is carried out
 
-pub carried-makes : (g : Geometry) (v : Volume) (verdict : Verdict) (w : Volume) → verdict ≡ Makes 0 w → IsCarried g v verdict w
+carried-makes : (g : Geometry) (v : Volume) (verdict : Verdict) (w : Volume) → verdict ≡ Makes 0 w → IsCarried g v verdict w
 carried-makes g v verdict w e = ap (λ (x : Verdict). carried_out g v x) e ∙ carried-enough g v 0 w (omega arith)
 
 pub step-made : (g : Geometry) (q : ℕ) (v : Volume) (r : Request) (w : Volume) → is_named r ≡ true → act g q v r ≡ Makes 0 w → step g q v r ≡ record { reply = Ready; next = w }

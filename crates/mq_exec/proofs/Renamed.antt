@@ -1,17 +1,17 @@
 -- Moving what was planned: the old name goes, and then the new one is added.
 use Rattle.std.proofs.Common.{◌≡◌, ℕ, List, sym, subst}
 use Rattle.mq_blocks.specs.declared.geometry.Geometry.{Geometry}
-use Rattle.mq_exec.specs.Edits.{Becomes, Carries, IsOver}
-use Rattle.mq_exec.specs.Fits.{Agrees}
-use Rattle.mq_exec.specs.Opened.{MayLink, MayUnlink}
-use Rattle.mq_exec.specs.Pages.{pages_of}
 use Rattle.mq_exec.specs.Plans.{HoldsRename, PlansRename, moved_entry}
-use Rattle.mq_exec.specs.Walks.{last_of}
 use Rattle.mq_exec.specs.declared.rename.Renaming.{Renaming}
-use Rattle.mq_exec.specs.declared.working.Working.{Working}
-use Rattle.mq_exec.proofs.Becoming.{becomes-then, carries-sound}
 use Rattle.mq_exec.proofs.Linkable.{IsLinkable, link-at, link-kept, name-added}
 use Rattle.mq_exec.proofs.RemoveCarried.{Unlinks}
+use Rattle.mq_inodes.specs.Edits.{Becomes, Carries, IsOver}
+use Rattle.mq_inodes.specs.Fits.{Agrees}
+use Rattle.mq_inodes.specs.Opened.{MayLink, MayUnlink}
+use Rattle.mq_inodes.specs.Pages.{pages_of}
+use Rattle.mq_inodes.specs.Walks.{last_of}
+use Rattle.mq_inodes.specs.declared.working.Working.{Working}
+use Rattle.mq_inodes.proofs.Becoming.{becomes-then, carries-sound}
 use Rattle.mq_tree.specs.Requests.{linked, unlinked}
 use Rattle.mq_tree.specs.Volume.{Path, Volume, way}
 

@@ -6,28 +6,28 @@ use Rattle.std.proofs.lemmas.Bool.{and_from, cases_eq, eq-eqb, le-leb, leb-false
 use Rattle.std.proofs.lemmas.List.Elements.{All-contains}
 use Rattle.mq_blocks.specs.Geometry.{queues_of}
 use Rattle.mq_blocks.specs.declared.geometry.Geometry.{Geometry}
-use Rattle.mq_exec.specs.Dirs.{AreDirsAt, slots_at}
-use Rattle.mq_exec.specs.Fits.{Agrees}
-use Rattle.mq_exec.specs.Opened.{HoldsPointers, IsOpened, MayLink}
-use Rattle.mq_exec.specs.Pages.{IsHeld, Pages}
-use Rattle.mq_exec.specs.Picks.{ArePicked, IsMarkable, IsSearched}
 use Rattle.mq_exec.specs.Plans.{HoldsRename, IsCarried, IsRefused, IsSource, PlansRename, is_full, move_needs}
-use Rattle.mq_exec.specs.Walks.{LeadsPast, directory, inode, last_of}
-use Rattle.mq_exec.specs.declared.opened.Opened.{Opened}
 use Rattle.mq_exec.specs.declared.rename.Renaming.{Renaming}
 use Rattle.mq_exec.proofs.Coming.{carried-enough, carried-few}
-use Rattle.mq_exec.proofs.LinkedGrown.{picked-enough}
-use Rattle.mq_exec.proofs.LocalBodies.{rebodied}
-use Rattle.mq_exec.proofs.LocalTaken.{IsFree}
-use Rattle.mq_exec.proofs.LocalVolumes.{with_body-uses}
 use Rattle.mq_exec.proofs.Linkable.{link-same, picked-same, takeables}
 use Rattle.mq_exec.proofs.MakingPlans.{may-link, need-is}
 use Rattle.mq_exec.proofs.NewNames.{IsNew, new-form}
-use Rattle.mq_exec.proofs.Picking.{picks-all_free}
 use Rattle.mq_exec.proofs.Removing.{may-unlink}
-use Rattle.mq_exec.proofs.Sound.{sound-uses}
 use Rattle.mq_exec.proofs.Taking.{body-taken, linked-takes}
 use Rattle.mq_exec.proofs.Targets.{IsUnder, under-low, under-named}
+use Rattle.mq_inodes.specs.Dirs.{AreDirsAt, slots_at}
+use Rattle.mq_inodes.specs.Fits.{Agrees}
+use Rattle.mq_inodes.specs.Opened.{HoldsPointers, IsOpened, MayLink}
+use Rattle.mq_inodes.specs.Pages.{IsHeld, Pages}
+use Rattle.mq_inodes.specs.Picks.{ArePicked, IsMarkable, IsSearched}
+use Rattle.mq_inodes.specs.Walks.{LeadsPast, directory, inode, last_of}
+use Rattle.mq_inodes.specs.declared.opened.Opened.{Opened}
+use Rattle.mq_inodes.proofs.LinkedGrown.{picked-enough}
+use Rattle.mq_inodes.proofs.LocalBodies.{rebodied}
+use Rattle.mq_inodes.proofs.LocalTaken.{IsFree}
+use Rattle.mq_inodes.proofs.LocalVolumes.{with_body-uses}
+use Rattle.mq_inodes.proofs.Picking.{picks-all_free}
+use Rattle.mq_inodes.proofs.Sound.{sound-uses}
 use Rattle.mq_layout.specs.Names.{IsName, is_name}
 use Rattle.mq_layout.specs.Places.{inode_block, inodes_of, names_limit}
 use Rattle.mq_layout.specs.Slots.{Entry}
@@ -137,7 +137,7 @@ move-gone g pages v from to i s o m = gone-is v s.number o.number (last_of (way 
 found-there : (v : Volume) (from to : Path) (d i into : ℕ) (slots : List (Option Entry)) → IsMove v from to d i into → d ≡ into → body v into ≡ Dir slots → find (last_of (way from)) slots ≡ Some i
 found-there v from to d i into slots m e is = sym (ap (λ (x : Body). find (last_of (way from)) (slots_of x)) (ap (λ (x : ℕ). body v x) e ∙ is)) ∙ m.under.found
 
-pub move-need : (g : Geometry) (pages : Pages) (v : Volume) (from to : Path) (i need : ℕ) (s o : Opened) → IsMoving g pages v from to i s o → need ≡ need_at pages s o → need ≡ link_needs (node (gone v from s.number) o.number)
+move-need : (g : Geometry) (pages : Pages) (v : Volume) (from to : Path) (i need : ℕ) (s o : Opened) → IsMoving g pages v from to i s o → need ≡ need_at pages s o → need ≡ link_needs (node (gone v from s.number) o.number)
 move-need g pages v from to i need s o m e = go (move-gone g pages v from to i s o m)
   where
     slots : List (Option Entry)
@@ -156,7 +156,7 @@ move-size g pages v from to i s o m =
     let count = ap (λ (bs : List ℕ). length bs) m.opened.blocks in
     (shape.1 ∙ ap (λ (n : ℕ). 15 * n) (sym count), let few = shape.0 in omega arith)
 
-pub move-room : (g : Geometry) (pages : Pages) (v : Volume) (from to : Path) (i : ℕ) (s o : Opened) → IsMoving g pages v from to i s o → full_at pages s o ≡ false → count_names (slots_of (body (gone v from s.number) o.number)) < names_limit
+move-room : (g : Geometry) (pages : Pages) (v : Volume) (from to : Path) (i : ℕ) (s o : Opened) → IsMoving g pages v from to i s o → full_at pages s o ≡ false → count_names (slots_of (body (gone v from s.number) o.number)) < names_limit
 move-room g pages v from to i s o m e = go (move-gone g pages v from to i s o m)
   where
     slots : List (Option Entry)
@@ -221,7 +221,7 @@ rename-enough g q pages v from to i need s o m e n enough =
 gone-taken : (g : Geometry) (pages : Pages) (v : Volume) (from to : Path) (i : ℕ) (s o : Opened) → IsMoving g pages v from to i s o → (x : ℕ) → is_taken (gone v from s.number) x ≡ is_taken v x
 gone-taken g pages v from to i s o m x = body-taken v s.number _ x (source-low g pages v from to i s o m)
 
-pub rename-link : (g : Geometry) (q : ℕ) (pages : Pages) (v : Volume) (from to : Path) (i need : ℕ) (s o : Opened) (picks : List ℕ) → q < queues_of g → IsMoving g pages v from to i s o → full_at pages s o ≡ false → need ≡ need_at pages s o → ArePicked g q v need picks
+rename-link : (g : Geometry) (q : ℕ) (pages : Pages) (v : Volume) (from to : Path) (i need : ℕ) (s o : Opened) (picks : List ℕ) → q < queues_of g → IsMoving g pages v from to i s o → full_at pages s o ≡ false → need ≡ need_at pages s o → ArePicked g q v need picks
     → MayLink g q (gone v from s.number) o (record { inode = i; name = last_of (way to) }) picks
 rename-link g q pages v from to i need s o picks low m e n picked = go (move-gone g pages v from to i s o m)
   where

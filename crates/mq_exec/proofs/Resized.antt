@@ -7,14 +7,14 @@ use Rattle.mq_blocks.specs.Geometry.{queues_of}
 use Rattle.mq_blocks.specs.declared.geometry.Geometry.{Geometry}
 use Rattle.mq_exec.specs.Longer.{LooksLonger, indirect, longer_needs, part, picked, short}
 use Rattle.mq_exec.specs.Overwrites.{past_place}
-use Rattle.mq_exec.specs.Picks.{ArePicked}
 use Rattle.mq_exec.proofs.Coming.{carried-enough}
-use Rattle.mq_exec.proofs.LinkedGrown.{picked-enough}
-use Rattle.mq_exec.proofs.LocalTaken.{IsFree}
-use Rattle.mq_exec.proofs.LocalVolumes.{resized-grown}
-use Rattle.mq_exec.proofs.Picking.{picks-all_free}
-use Rattle.mq_exec.proofs.Sound.{sound-count, sound-uses}
 use Rattle.mq_exec.proofs.Taking.{body-taken, grown-takes}
+use Rattle.mq_inodes.specs.Picks.{ArePicked}
+use Rattle.mq_inodes.proofs.LinkedGrown.{picked-enough}
+use Rattle.mq_inodes.proofs.LocalTaken.{IsFree}
+use Rattle.mq_inodes.proofs.LocalVolumes.{resized-grown}
+use Rattle.mq_inodes.proofs.Picking.{picks-all_free}
+use Rattle.mq_inodes.proofs.Sound.{sound-count, sound-uses}
 use Rattle.mq_tree.proofs.KeepVolumes.{used-low as used-inside}
 use Rattle.mq_tree.specs.Free.{free_blocks, grown, needs}
 use Rattle.mq_tree.specs.Looks.{LooksAt, WorksOn, is_refused, needed, pointers as at_pointers, searched as at_searched, taken as at_taken}

@@ -8,21 +8,20 @@ use Rattle.mq_blocks.specs.Geometry.{meta_of}
 use Rattle.mq_blocks.specs.Journal.{is_among}
 use Rattle.mq_blocks.specs.Windows.{written}
 use Rattle.mq_blocks.specs.declared.geometry.Geometry.{Geometry}
-use Rattle.mq_exec.specs.Changes.{IsInodePut, IsInodeTurned, Stepped}
-use Rattle.mq_exec.specs.Edits.{Becomes, Carries, KeepsKinds}
-use Rattle.mq_exec.specs.Moves.{IsOfFile}
 use Rattle.mq_exec.specs.Overwrites.{IsOverwritten, IsPartWritten, IsSplicedAt, blocks_at, past_place, text_from, text_in}
-use Rattle.mq_exec.specs.Pages.{kinds_of, pages_of}
-use Rattle.mq_exec.specs.declared.working.Working.{Working}
-use Rattle.mq_exec.proofs.Becoming.{becomes-stepped}
-use Rattle.mq_exec.proofs.Held.{table-low}
-use Rattle.mq_exec.proofs.Listed.{among-at, among-behind, among-cons, among-here, at-among}
-use Rattle.mq_exec.proofs.LocalBodies.{rebodied}
 use Rattle.mq_exec.proofs.LocalBytes.{IsPartPut, body-step}
-use Rattle.mq_exec.proofs.LocalKinds.{part-of-file}
-use Rattle.mq_exec.proofs.LocalParts.{file-along, file-written}
-use Rattle.mq_exec.proofs.LocalVolumes.{with_body-uses}
-use Rattle.mq_exec.proofs.Showing.{use-carried}
+use Rattle.mq_inodes.specs.Changes.{IsInodePut, IsInodeTurned, IsOfFile, Stepped}
+use Rattle.mq_inodes.specs.Edits.{Becomes, Carries, KeepsKinds}
+use Rattle.mq_inodes.specs.Pages.{kinds_of, pages_of}
+use Rattle.mq_inodes.specs.declared.working.Working.{Working}
+use Rattle.mq_inodes.proofs.Becoming.{becomes-stepped}
+use Rattle.mq_inodes.proofs.Held.{table-low}
+use Rattle.mq_inodes.proofs.Listed.{among-at, among-behind, among-cons, among-here, at-among}
+use Rattle.mq_inodes.proofs.LocalBodies.{rebodied}
+use Rattle.mq_inodes.proofs.LocalKinds.{part-of-file}
+use Rattle.mq_inodes.proofs.LocalParts.{file-along, file-written}
+use Rattle.mq_inodes.proofs.LocalVolumes.{with_body-uses}
+use Rattle.mq_inodes.proofs.Showing.{use-carried}
 use Rattle.mq_layout.specs.Places.{file_limit, inode_block, inodes_of}
 use Rattle.mq_pages.specs.declared.page.Kind.{Kind}
 use Rattle.mq_pages.specs.declared.page.Kind.TheVariants.{Data}
@@ -91,7 +90,7 @@ length-text at text place low high some =
     omega arith
 
 -- a part that was written shows the part of the file now
-pub part-shows : (at place : ℕ) (text bytes now before after : List ℕ) → IsSplicedAt at text bytes now → at / 4096 ≤ place → place < past_place at (length text) → length before ≡ 4096 → after ≡ written before (text_from at place) (text_in at text place)
+part-shows : (at place : ℕ) (text bytes now before after : List ℕ) → IsSplicedAt at text bytes now → at / 4096 ≤ place → place < past_place at (length text) → length before ≡ 4096 → after ≡ written before (text_from at place) (text_in at text place)
     → ShowsPart (File bytes) place before → ShowsPart (File now) place after
 part-shows at place text bytes now before after s low high whole is shows =
     let p = past-of at (length text) place low high in
@@ -106,7 +105,7 @@ part-shows at place text bytes now before after s low high whole is shows =
     (λ k small beside. s.outside (4096 * place + k) (elim beside [ inl l ↦ inl (omega arith) | inr l ↦ inr (omega arith) ])) shows
 
 -- a part that was not written is the same
-pub part-same : (at place : ℕ) (text bytes now page : List ℕ) → IsSplicedAt at text bytes now → (place < at / 4096) ⊎ (past_place at (length text) ≤ place) → ShowsPart (File bytes) place page ↔ ShowsPart (File now) place page
+part-same : (at place : ℕ) (text bytes now page : List ℕ) → IsSplicedAt at text bytes now → (place < at / 4096) ⊎ (past_place at (length text) ≤ place) → ShowsPart (File bytes) place page ↔ ShowsPart (File now) place page
 part-same at place text bytes now page s beside =
     let same : (k : ℕ) → k < 4096 → get_or bytes (4096 * place + k) 0 ≡ get_or now (4096 * place + k) 0 = λ k l. sym (s.outside (4096 * place + k) (elim beside [
       | inl low ↦ inl (omega arith)

@@ -4,18 +4,18 @@ use Rattle.std.specs.Prelude.{None}
 use Rattle.std.proofs.lemmas.List.{append-nil, drop_all}
 use Rattle.mq_blocks.specs.Geometry.{queues_of}
 use Rattle.mq_blocks.specs.declared.geometry.Geometry.{Geometry}
-use Rattle.mq_exec.specs.Edits.{Becomes, IsOver}
-use Rattle.mq_exec.specs.Fits.{Agrees, IsPossible}
-use Rattle.mq_exec.specs.Lacks.{HasVolume, Lacks, OfEach}
 use Rattle.mq_exec.specs.Outcomes.{Answers, NeedsOf}
-use Rattle.mq_exec.specs.Pages.{Pages, pages_of}
 use Rattle.mq_exec.specs.Plans.{ComesTo}
-use Rattle.mq_exec.specs.declared.lack.Lack.{Lack}
-use Rattle.mq_exec.specs.declared.lack.Lack.TheVariants.{Need as NeedOf, OutOfMemory as Wanting}
 use Rattle.mq_exec.specs.declared.outcome.Outcome.{Outcome as Stops}
-use Rattle.mq_exec.specs.declared.working.Working.{Working}
-use Rattle.mq_exec.proofs.Becoming.{becomes-self, becomes-then, carries-sound, over-self, over-then}
-use Rattle.mq_exec.proofs.Needs.{agrees-alike, need-weaker}
+use Rattle.mq_inodes.specs.Edits.{Becomes, IsOver}
+use Rattle.mq_inodes.specs.Fits.{Agrees, IsPossible}
+use Rattle.mq_inodes.specs.Lacks.{HasVolume, Lacks, OfEach}
+use Rattle.mq_inodes.specs.Pages.{Pages, pages_of}
+use Rattle.mq_inodes.specs.declared.lack.Lack.{Lack}
+use Rattle.mq_inodes.specs.declared.lack.Lack.TheVariants.{Need as NeedOf, OutOfMemory as Wanting}
+use Rattle.mq_inodes.specs.declared.working.Working.{Working}
+use Rattle.mq_inodes.proofs.Becoming.{becomes-self, becomes-then, carries-sound, over-self, over-then}
+use Rattle.mq_inodes.proofs.Lacking.{agrees-alike, need-weaker}
 use Rattle.mq_tree.specs.Kept.{HasBytes}
 use Rattle.mq_tree.specs.Looks.{GroupLooks, Looks}
 use Rattle.mq_tree.specs.Requests.{after_group, replies, step, verdict}

@@ -3,24 +3,24 @@ use Rattle.std.proofs.Common.{◌≡◌, ℕ, ◌<◌, ◌≤◌, inl, inr, List
 use Rattle.std.proofs.lemmas.Bool.{cases_lt, le-leb, le-ltb, lt-leb}
 use Rattle.mq_blocks.specs.declared.geometry.Geometry.{Geometry}
 use Rattle.mq_exec.specs.Cuts.{HoldsCut, IsBlanked, PlansCut}
-use Rattle.mq_exec.specs.Edits.{Becomes, Carries, IsOver, KeepsHeld}
-use Rattle.mq_exec.specs.Fits.{Agrees}
 use Rattle.mq_exec.specs.Longer.{longer_needs}
-use Rattle.mq_exec.specs.Opened.{IsOpened, MayCut, cut_file}
-use Rattle.mq_exec.specs.Pages.{Pages, pages_of}
 use Rattle.mq_exec.specs.Plans.{ComesTo, IsCarried}
-use Rattle.mq_exec.specs.Reads.{IsFileOf}
-use Rattle.mq_exec.specs.declared.opened.Opened.{Opened}
 use Rattle.mq_exec.specs.declared.truncate.Cutting.{Cutting}
-use Rattle.mq_exec.specs.declared.working.Working.{Working}
-use Rattle.mq_exec.proofs.Becoming.{becomes-then, carries-sound}
 use Rattle.mq_exec.proofs.Blanking.{IsBlankFile, blank-file, blank-may}
 use Rattle.mq_exec.proofs.Coming.{carried-enough, comes-carried}
-use Rattle.mq_exec.proofs.Contents.{file-size}
 use Rattle.mq_exec.proofs.Filling.{truncate-makes}
-use Rattle.mq_exec.proofs.Keeping.{keeps-pointers, keeps-put, keeps-releasable}
-use Rattle.mq_exec.proofs.LocalVolumes.{resized-cut}
-use Rattle.mq_exec.proofs.Sound.{sound-count, sound-low}
+use Rattle.mq_inodes.specs.Edits.{Becomes, Carries, IsOver, KeepsHeld}
+use Rattle.mq_inodes.specs.Fits.{Agrees}
+use Rattle.mq_inodes.specs.Opened.{IsOpened, MayCut, cut_file}
+use Rattle.mq_inodes.specs.Pages.{Pages, pages_of}
+use Rattle.mq_inodes.specs.Files.{IsFileOf}
+use Rattle.mq_inodes.specs.declared.opened.Opened.{Opened}
+use Rattle.mq_inodes.specs.declared.working.Working.{Working}
+use Rattle.mq_inodes.proofs.Becoming.{becomes-then, carries-sound}
+use Rattle.mq_inodes.proofs.Contents.{file-size}
+use Rattle.mq_inodes.proofs.Keeping.{keeps-pointers, keeps-put, keeps-releasable}
+use Rattle.mq_inodes.proofs.LocalVolumes.{resized-cut}
+use Rattle.mq_inodes.proofs.Sound.{sound-count, sound-low}
 use Rattle.mq_layout.specs.declared.inode.Inode.{Inode}
 use Rattle.mq_tree.specs.Free.{needs}
 use Rattle.mq_tree.specs.Requests.{Verdict, carried_out, cut_to, resized, truncate_in}

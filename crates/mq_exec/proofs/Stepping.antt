@@ -3,16 +3,16 @@ use Rattle.std.proofs.Common.{◌≡◌, ℕ, true, sym, ap, subst}
 use Rattle.std.specs.Prelude.{Result, IfErr}
 use Rattle.std.proofs.lemmas.Result.{IfErr-weaker}
 use Rattle.mq_blocks.specs.declared.geometry.Geometry.{Geometry}
-use Rattle.mq_exec.specs.Edits.{Becomes}
-use Rattle.mq_exec.specs.Fits.{Agrees}
-use Rattle.mq_exec.specs.Lacks.{LacksOf}
-use Rattle.mq_exec.specs.Pages.{pages_of}
 use Rattle.mq_exec.specs.Plans.{ComesTo}
 use Rattle.mq_exec.specs.Reads.{LooksAlways, Reads}
-use Rattle.mq_exec.specs.declared.lack.Lack.{Lack}
-use Rattle.mq_exec.specs.declared.working.Working.{Working}
-use Rattle.mq_exec.proofs.Becoming.{becomes-self, carries-sound}
-use Rattle.mq_exec.proofs.Needs.{lacks-each}
+use Rattle.mq_inodes.specs.Edits.{Becomes}
+use Rattle.mq_inodes.specs.Fits.{Agrees}
+use Rattle.mq_inodes.specs.Lacks.{LacksOf}
+use Rattle.mq_inodes.specs.Pages.{pages_of}
+use Rattle.mq_inodes.specs.declared.lack.Lack.{Lack}
+use Rattle.mq_inodes.specs.declared.working.Working.{Working}
+use Rattle.mq_inodes.proofs.Becoming.{becomes-self, carries-sound}
+use Rattle.mq_inodes.proofs.Lacking.{lacks-each}
 use Rattle.mq_tree.specs.Looks.{Looks, LooksAt}
 use Rattle.mq_tree.specs.Requests.{Outcome, is_named, step, verdict}
 use Rattle.mq_tree.specs.Volume.{Volume}

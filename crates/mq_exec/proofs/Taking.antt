@@ -6,16 +6,16 @@ use Rattle.std.proofs.lemmas.Bool.{cases_eq, cases_lt, le-leb, le-ltb, lt-leb, l
 use Rattle.std.proofs.lemmas.List.{length-append}
 use Rattle.mq_blocks.specs.Geometry.{queues_of}
 use Rattle.mq_blocks.specs.declared.geometry.Geometry.{Geometry}
-use Rattle.mq_exec.specs.Opened.{MayLink}
-use Rattle.mq_exec.specs.Picks.{ArePicked}
-use Rattle.mq_exec.specs.declared.opened.Opened.{Opened}
-use Rattle.mq_exec.proofs.LinkedGrown.{may-grow, picked-enough}
-use Rattle.mq_exec.proofs.LocalBodies.{rebodied}
-use Rattle.mq_exec.proofs.LocalFrame.{taken-same}
-use Rattle.mq_exec.proofs.LocalLinked.{linked-grown, with_entry}
-use Rattle.mq_exec.proofs.LocalTaken.{longer, with_indirect}
-use Rattle.mq_exec.proofs.LocalVolumes.{one_more-is, pointed-is, pointed-not, with_block-uses, with_pointers-uses}
-use Rattle.mq_exec.proofs.Picking.{IsTakenMore, block-more, picks-first, picks-free, picks-rest, pointers-more}
+use Rattle.mq_inodes.specs.Opened.{MayLink}
+use Rattle.mq_inodes.specs.Picks.{ArePicked}
+use Rattle.mq_inodes.specs.declared.opened.Opened.{Opened}
+use Rattle.mq_inodes.proofs.LinkedGrown.{may-grow, picked-enough}
+use Rattle.mq_inodes.proofs.LocalBodies.{rebodied}
+use Rattle.mq_inodes.proofs.LocalFrame.{taken-same}
+use Rattle.mq_inodes.proofs.LocalLinked.{linked-grown, with_entry}
+use Rattle.mq_inodes.proofs.LocalTaken.{longer, with_indirect}
+use Rattle.mq_inodes.proofs.LocalVolumes.{one_more-is, pointed-is, pointed-not, with_block-uses, with_pointers-uses}
+use Rattle.mq_inodes.proofs.Picking.{IsTakenMore, block-more, picks-first, picks-free, picks-rest, pointers-more}
 use Rattle.mq_tree.specs.Free.{first_of, grown, needs, one_more, order, pointed, with_block, with_pointers}
 use Rattle.mq_layout.specs.Slots.{Entry}
 use Rattle.mq_tree.specs.Requests.{entry_needs, linked, linked_at, unused, with_body}

@@ -6,13 +6,13 @@ use Rattle.mq_blocks.specs.declared.geometry.Geometry.{Geometry}
 use Rattle.mq_layout.specs.Places.{inode_block, inodes_of}
 use Rattle.mq_layout.specs.declared.inode.Inode.{Inode}
 use Rattle.mq_exec.specs.Plans.{IsFound, on_file}
-use Rattle.mq_exec.specs.Reads.{IsFileOf}
-use Rattle.mq_exec.specs.Walks.{IsDirectory, LeadsPast, LooksIn, directory, inode, last_of, named}
 use Rattle.mq_exec.specs.declared.file.Found.{Found}
-use Rattle.mq_exec.specs.declared.walk.Target.{Target}
-use Rattle.mq_exec.specs.declared.walk.Target.TheVariants.{In}
-use Rattle.mq_exec.proofs.Sound.{used-low}
-use Rattle.mq_exec.proofs.Walking.{found-used, leads-here, walk-at, walk-dir}
+use Rattle.mq_inodes.specs.Files.{IsFileOf}
+use Rattle.mq_inodes.specs.Walks.{IsDirectory, LeadsPast, LooksIn, directory, inode, last_of, named}
+use Rattle.mq_inodes.specs.declared.walk.Target.{Target}
+use Rattle.mq_inodes.specs.declared.walk.Target.TheVariants.{In}
+use Rattle.mq_inodes.proofs.Sound.{used-low}
+use Rattle.mq_inodes.proofs.Walking.{found-used, leads-here, walk-at, walk-dir}
 use Rattle.mq_tree.specs.Laid.{inode_of, kind_of}
 use Rattle.mq_tree.specs.Looks.{Leads}
 use Rattle.mq_tree.specs.Requests.{In as AtName, Verdict, refused, target, target_in, walk}

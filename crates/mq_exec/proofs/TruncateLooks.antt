@@ -6,20 +6,20 @@ use Rattle.std.proofs.lemmas.Bool.{le-ltb}
 use Rattle.std.proofs.lemmas.Option.{slice_get_within}
 use Rattle.mq_blocks.specs.Geometry.{queues_of}
 use Rattle.mq_blocks.specs.declared.geometry.Geometry.{Geometry}
-use Rattle.mq_exec.specs.Changes.{zone_in}
 use Rattle.mq_exec.specs.Cuts.{LooksCut, marks, pointer_marks, pointers, part}
 use Rattle.mq_exec.specs.Longer.{LooksLonger, longer_needs}
-use Rattle.mq_exec.specs.Opened.{cut_file, cut_node}
 use Rattle.mq_exec.specs.Plans.{IsFound, on_body, on_file}
 use Rattle.mq_exec.specs.declared.file.Found.{Found}
 use Rattle.mq_exec.proofs.Filling.{truncate-makes}
-use Rattle.mq_exec.proofs.LocalLists.{part-gone, pointers-gone}
-use Rattle.mq_exec.proofs.LocalSteps.{gone-free}
-use Rattle.mq_exec.proofs.LocalVolumes.{resized-cut}
 use Rattle.mq_exec.proofs.Resized.{IsResizing, resizing-does, resizing-done, resizing-looks, resizing-pointers}
 use Rattle.mq_exec.proofs.Shortening.{needs-none}
-use Rattle.mq_exec.proofs.Sound.{sound-count, sound-uses}
 use Rattle.mq_exec.proofs.Targets.{found-under}
+use Rattle.mq_inodes.specs.Changes.{zone_in}
+use Rattle.mq_inodes.specs.Opened.{cut_file, cut_node}
+use Rattle.mq_inodes.proofs.LocalLists.{part-gone, pointers-gone}
+use Rattle.mq_inodes.proofs.LocalSteps.{gone-free}
+use Rattle.mq_inodes.proofs.LocalVolumes.{resized-cut}
+use Rattle.mq_inodes.proofs.Sound.{sound-count, sound-uses}
 use Rattle.mq_layout.specs.Names.{is_name}
 use Rattle.mq_layout.specs.Places.{file_limit, zone_bitmap}
 use Rattle.mq_tree.proofs.KeepVolumes.{used-low as used-inside}

@@ -10,11 +10,11 @@ use Rattle.mq_exec.specs.Longer.{IsRewriting, LooksLonger, longer_needs}
 use Rattle.mq_exec.specs.Overwrites.{IsSplicedAt, past_place}
 use Rattle.mq_exec.specs.Plans.{IsFound, IsRefused, on_body, on_file}
 use Rattle.mq_exec.specs.declared.file.Found.{Found}
-use Rattle.mq_exec.proofs.Contents.{file-size}
 use Rattle.mq_exec.proofs.LocalBytes.{spliced-after, spliced-before, spliced-in}
 use Rattle.mq_exec.proofs.Resized.{IsResizing, resizing-done, resizing-looks}
 use Rattle.mq_exec.proofs.Rewriting.{past-of}
 use Rattle.mq_exec.proofs.Targets.{found-under}
+use Rattle.mq_inodes.proofs.Contents.{file-size}
 use Rattle.mq_layout.specs.Names.{is_name}
 use Rattle.mq_layout.specs.Places.{file_limit}
 use Rattle.mq_tree.specs.Free.{free_blocks, needs}

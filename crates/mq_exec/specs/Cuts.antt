@@ -3,13 +3,13 @@ use Rattle.std.specs.Prelude.{◌≡◌, ◌≢◌, ◌≤◌, ◌<◌, ◌/◌,
 use Rattle.std.specs.List.{All}
 use Rattle.mq_blocks.specs.Blocks.{zeros}
 use Rattle.mq_blocks.specs.declared.geometry.Geometry.{Geometry}
-use Rattle.mq_exec.specs.Changes.{IsTextPut, zone_in}
-use Rattle.mq_exec.specs.Edits.{IsKindPut}
-use Rattle.mq_exec.specs.Opened.{HoldsPointers, IsOpened, IsReleasable}
-use Rattle.mq_exec.specs.Pages.{IsHeld, Pages, pages_of}
 use Rattle.mq_exec.specs.Plans.{HoldsPlaces}
 use Rattle.mq_exec.specs.declared.truncate.Cutting.{Cutting}
-use Rattle.mq_exec.specs.declared.working.Working.{Working}
+use Rattle.mq_inodes.specs.Changes.{IsTextPut, zone_in}
+use Rattle.mq_inodes.specs.Edits.{IsKindPut}
+use Rattle.mq_inodes.specs.Opened.{HoldsPointers, IsOpened, IsReleasable}
+use Rattle.mq_inodes.specs.Pages.{IsHeld, Pages, pages_of}
+use Rattle.mq_inodes.specs.declared.working.Working.{Working}
 use Rattle.mq_layout.specs.Places.{inode_block, zone_bitmap}
 use Rattle.mq_pages.specs.declared.page.Kind.TheVariants.{Data}
 use Rattle.mq_tree.specs.Sound.{blocks_for}

@@ -3,7 +3,7 @@ use Rattle.std.specs.Prelude.{◌≡◌, ◌≤◌, ◌<◌, ◌/◌, ℕ, List,
 use Rattle.std.specs.List.{Contains}
 use Rattle.mq_blocks.specs.declared.geometry.Geometry.{Geometry}
 use Rattle.mq_exec.specs.Overwrites.{past_place}
-use Rattle.mq_exec.specs.Picks.{ArePicked, IsSearched}
+use Rattle.mq_inodes.specs.Picks.{ArePicked, IsSearched}
 use Rattle.mq_tree.specs.Free.{needs}
 use Rattle.mq_tree.specs.Requests.{Makes, Verdict, resized}
 use Rattle.mq_tree.specs.Sound.{blocks_for}

@@ -2,25 +2,13 @@
 use Rattle.std.specs.Prelude.{◌≡◌, ◌≢◌, ◌<◌, ◌↔◌, ℕ, true, false, List, Some, None}
 use Rattle.std.specs.List.{AllPairs, Contains}
 use Rattle.mq_blocks.specs.declared.geometry.Geometry.{Geometry}
-use Rattle.mq_exec.specs.Fits.{Agrees}
-use Rattle.mq_exec.specs.Pages.{IsHeld, Pages, over}
+use Rattle.mq_inodes.specs.Changes.{IsOfFile, SameAt}
+use Rattle.mq_inodes.specs.Fits.{Agrees}
+use Rattle.mq_inodes.specs.Pages.{IsHeld, Pages, over}
 use Rattle.mq_pages.specs.declared.page.Kind.TheVariants.{Data}
 use Rattle.mq_pages.specs.declared.page.Write.{Write}
 use Rattle.mq_tree.specs.Laid.{IsVacant, Shows}
 use Rattle.mq_tree.specs.Volume.{File, Part, Volume, block_in, body, is_taken}
-
--- The volumes show the same pages at a block, and have none there alike.
-pub record SameAt (g : Geometry) (v w : Volume) (b : ℕ) : Type 0 where
-  pub shows : (page : List ℕ) → Shows g v b page ↔ Shows g w b page
-  pub vacant : IsVacant g v b ↔ IsVacant g w b
-
--- the block has a part of a file
-pub record IsOfFile (v : Volume) (b : ℕ) : Type 0 where
-  pub inode : ℕ
-  pub place : ℕ
-  pub bytes : List ℕ
-  pub there : block_in v (Part inode place) ≡ Some b
-  pub is : body v inode ≡ File bytes
 
 -- what is written is what the volume shows afterwards, and not before
 pub record IsWritten (g : Geometry) (v w : Volume) (x : Write) : Type 0 where
@@ -38,15 +26,6 @@ pub record Moves (g : Geometry) (v w : Volume) (writes : List Write) (frees : Li
   pub written : (x : Write) → Contains writes x ↔ IsWritten g v w x
   pub frees_rise : AllPairs (λ b c. b < c) frees
   pub freed : (b : ℕ) → Contains frees b ↔ IsFreed v w b
-
--- What changed over the pages of a view, `changed` having the pages that were put.
-pub record Differs (view changed : Pages) (writes : List Write) (frees : List ℕ) : Type 0 where
-  pub writes_rise : AllPairs (λ x y. x.block < y.block) writes
-  pub written : (x : Write) → Contains writes x → (changed x.block ≡ Some (Some x.content)) × (view x.block ≢ Some (Some x.content))
-  pub writes_all : (b : ℕ) (page : List ℕ) → changed b ≡ Some (Some page) → view b ≢ Some (Some page) → (x : Write) × Contains writes x × (x.block ≡ b) × (x.content ≡ page)
-  pub frees_rise : AllPairs (λ b c. b < c) frees
-  pub freed : (b : ℕ) → Contains frees b → (changed b ≡ Some None) × IsHeld view b
-  pub frees_all : (b : ℕ) → changed b ≡ Some None → IsHeld view b → Contains frees b
 
 -- Pages that were put over those of a view lead from the one volume to the other.
 pub record LeadsTo (g : Geometry) (view changed : Pages) (v w : Volume) : Type 0 where

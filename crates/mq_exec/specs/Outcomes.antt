@@ -1,15 +1,15 @@
 -- What a group of requests does on pages of which some are absent.
 use Rattle.std.specs.Prelude.{◌≡◌, ℕ, List}
 use Rattle.mq_blocks.specs.declared.geometry.Geometry.{Geometry}
-use Rattle.mq_exec.specs.Fits.{Agrees}
-use Rattle.mq_exec.specs.Lacks.{IsNeed}
 use Rattle.mq_exec.specs.Moves.{Moves}
-use Rattle.mq_exec.specs.Pages.{Pages}
-use Rattle.mq_exec.specs.declared.lack.Lack.{Lack}
-use Rattle.mq_exec.specs.declared.lack.Lack.TheVariants.{Need as NeedOf, OutOfMemory as Wanting}
 use Rattle.mq_exec.specs.declared.outcome.Done.{Done as Carried}
 use Rattle.mq_exec.specs.declared.outcome.Outcome.{Outcome}
 use Rattle.mq_exec.specs.declared.outcome.Outcome.TheVariants.{Done, Need}
+use Rattle.mq_inodes.specs.Fits.{Agrees}
+use Rattle.mq_inodes.specs.Lacks.{IsNeed}
+use Rattle.mq_inodes.specs.Pages.{Pages}
+use Rattle.mq_inodes.specs.declared.lack.Lack.{Lack}
+use Rattle.mq_inodes.specs.declared.lack.Lack.TheVariants.{Need as NeedOf, OutOfMemory as Wanting}
 use Rattle.mq_tree.specs.Looks.{GroupLooks}
 use Rattle.mq_tree.specs.Requests.{after_group, replies}
 use Rattle.mq_tree.specs.Volume.{Volume}

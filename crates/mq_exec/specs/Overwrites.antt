@@ -1,8 +1,8 @@
 -- Bytes that are written over those of a file, in several of its blocks.
 use Rattle.std.specs.Prelude.{◌≡◌, ◌≢◌, ◌≤◌, ◌<◌, ◌+◌, ◌-◌, ◌*◌, ◌/◌, ◌==◌, ◌⊎◌, ℕ, List, drop, length, max, min, slice_index, take, Some, if◌then◌else◌}
-use Rattle.mq_exec.specs.Changes.{Turns}
-use Rattle.mq_exec.specs.Pages.{Pages, kinds_of, pages_of}
-use Rattle.mq_exec.specs.declared.working.Working.{Working}
+use Rattle.mq_inodes.specs.Changes.{Turns}
+use Rattle.mq_inodes.specs.Pages.{Pages, kinds_of, pages_of}
+use Rattle.mq_inodes.specs.declared.working.Working.{Working}
 use Rattle.mq_blocks.specs.Windows.{written}
 use Rattle.mq_pages.specs.declared.page.Kind.TheVariants.{Data}
 

@@ -2,19 +2,20 @@
 use Rattle.std.specs.Prelude.{◌≡◌, ◌≢◌, ◌<◌, ◌≤◌, ◌-◌, ℕ, Bool, true, false, List, [], length, slice_index, slice_set, Option, Some, None, if◌then◌else◌, nat_eq, nat_le}
 use Rattle.std.specs.List.{All}
 use Rattle.mq_blocks.specs.declared.geometry.Geometry.{Geometry}
-use Rattle.mq_exec.specs.Dirs.{AreDirsAt}
-use Rattle.mq_exec.specs.Edits.{Becomes}
-use Rattle.mq_exec.specs.Opened.{HoldsPointers, IsOpened, IsReleasable, IsTakeable, MayGrow, MayLink, MayUnlink}
-use Rattle.mq_exec.specs.Pages.{IsHeld, Pages}
-use Rattle.mq_exec.specs.Reads.{IsFileOf}
-use Rattle.mq_exec.specs.Walks.{last_of}
 use Rattle.mq_exec.specs.declared.make.Making.{Making}
-use Rattle.mq_exec.specs.declared.opened.Opened.{Opened}
 use Rattle.mq_exec.specs.declared.remove.Removal.{Removal}
 use Rattle.mq_exec.specs.declared.rename.Renaming.{Renaming}
 use Rattle.mq_exec.specs.declared.rewrite.Rewriting.{Rewriting}
 use Rattle.mq_exec.specs.declared.file.Found.{Found}
-use Rattle.mq_exec.specs.declared.working.Working.{Working}
+use Rattle.mq_inodes.specs.Bare.{with_inode}
+use Rattle.mq_inodes.specs.Dirs.{AreDirsAt}
+use Rattle.mq_inodes.specs.Edits.{Becomes}
+use Rattle.mq_inodes.specs.Opened.{HoldsPointers, IsOpened, IsReleasable, IsTakeable, MayGrow, MayLink, MayUnlink}
+use Rattle.mq_inodes.specs.Pages.{IsHeld, Pages}
+use Rattle.mq_inodes.specs.Files.{IsFileOf}
+use Rattle.mq_inodes.specs.Walks.{last_of}
+use Rattle.mq_inodes.specs.declared.opened.Opened.{Opened}
+use Rattle.mq_inodes.specs.declared.working.Working.{Working}
 use Rattle.mq_layout.specs.Places.{file_limit, inode_bitmap, inode_block, inodes_of, names_limit}
 use Rattle.mq_layout.specs.Slots.{Entry}
 use Rattle.mq_tree.specs.Requests.{In, Lost, Root, Target, Verdict, carried_out, count_names, entry_needs, freed, is_below, linked, make, refused, rename, resized, target, unlinked, unused}
@@ -44,17 +45,9 @@ pub record ComesTo (g : Geometry) (v : Volume) (verdict : Verdict) (reply : Repl
 
 -- ---- making
 
-abbrev pub empty_body : (is_directory : Bool) → Body
-empty_body true = Dir []
-empty_body false = File []
-
 abbrev pub making : (is_directory : Bool) → Path → Request
 making true path = Mkdir path
 making false path = Create path
-
--- the volume with an inode more
-abbrev pub with_inode : Volume → ℕ → Body → Volume
-with_inode v i new = slice_set v i (record { body = new; blocks = []; indirect = None })
 
 abbrev pub made_entry : Path → Making → Entry
 made_entry path m = record { inode = m.inode; name = last_of (way path) }

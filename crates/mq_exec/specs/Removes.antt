@@ -2,8 +2,8 @@
 use Rattle.std.specs.Prelude.{◌≡◌, ◌≤◌, ◌<◌, ◌⊎◌, ℕ, true, List, [], ◌∷◌, ◌++◌, length, nat_lt, if◌then◌else◌}
 use Rattle.mq_blocks.specs.Geometry.{homes_of, meta_of}
 use Rattle.mq_blocks.specs.declared.geometry.Geometry.{Geometry}
-use Rattle.mq_exec.specs.Changes.{zone_in}
-use Rattle.mq_exec.specs.declared.opened.Opened.{Opened}
+use Rattle.mq_inodes.specs.Changes.{zone_in}
+use Rattle.mq_inodes.specs.declared.opened.Opened.{Opened}
 use Rattle.mq_layout.specs.Places.{inode_bitmap, zone_bitmap}
 use Rattle.mq_tree.specs.Volume.{Volume, has_block, node}
 

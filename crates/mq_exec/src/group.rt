@@ -1,16 +1,15 @@
 // A group of requests, one after another.
 ghost use Rattle.std.specs.Prelude.{◌<◌, IfOk};
 ghost use Rattle.mq_blocks.specs.Geometry.{queues_of};
-ghost use Rattle.mq_exec.specs.Fits.{IsPossible};
 ghost use Rattle.mq_exec.specs.Outcomes.{Answers, NeedsOf};
-ghost use Rattle.mq_exec.specs.Pages.{held_pages};
+ghost use Rattle.mq_inodes.specs.Fits.{IsPossible};
+ghost use Rattle.mq_inodes.specs.Pages.{held_pages};
 
-use crate::change::look_at_bytes;
-use crate::lack::Lack;
+use crate::change::{look_at_bytes, step};
 use crate::outcome::{Done, Outcome};
 use crate::view::View;
-use crate::working::Working;
 use mq_blocks::{Geometry, OutOfMemory, QueueNo};
+use mq_inodes::{Lack, Working};
 use mq_tree::Request;
 use std::alloc::Global;
 
@@ -36,11 +35,11 @@ pub fn run(
     requires queue { queue < queues_of geometry }
     ensures { IfOk result (λ outcome. Answers geometry queue (held_pages view.now.held.now.cells) requests.now outcome) }
 {
-    let mut working = Working::new(alloc, geometry, view);
+    let mut working = Working::new(alloc, geometry, view.held);
     let mut replies = Vec::with_capacity(alloc, requests.len())?;
     for request in requests {
         look_at_bytes(request);
-        match working.step(alloc, queue, request) {
+        match step(alloc, &mut working, queue, request) {
             Ok(reply) => replies.push(reply)?,
             Err(lack) => return stopped(lack),
         }

@@ -3,9 +3,11 @@ ghost use Rattle.std.specs.Prelude.{◌≡◌, ◌↔◌, ℕ, List, Option, Som
 ghost use Rattle.std.specs.List.{Contains};
 ghost use Rattle.mq_blocks.specs.Machine.{Map};
 ghost use Rattle.mq_blocks.specs.declared.geometry.Geometry.{Geometry};
-ghost use Rattle.mq_exec.specs.Fits.{Agrees};
-ghost use Rattle.mq_exec.specs.Moves.{Differs, IsOfFile, LeadsTo, Moves};
-ghost use Rattle.mq_exec.specs.Pages.{Pages};
+ghost use Rattle.mq_exec.specs.Moves.{LeadsTo, Moves};
+ghost use Rattle.mq_inodes.specs.Fits.{Agrees};
+ghost use Rattle.mq_inodes.specs.Differences.{Differs};
+ghost use Rattle.mq_inodes.specs.Changes.{IsOfFile};
+ghost use Rattle.mq_inodes.specs.Pages.{Pages};
 ghost use Rattle.mq_pages.specs.declared.page.Kind.TheVariants.{Data};
 ghost use Rattle.mq_pages.specs.declared.page.Write.{Write};
 ghost use Rattle.mq_tree.specs.Laid.{IsLaid};

@@ -3,24 +3,21 @@ ghost use Rattle.std.specs.Prelude.{◌≡◌, ◌<◌, ◌≤◌, ℕ, length, 
 ghost use Rattle.std.specs.List.{list_all};
 ghost use Rattle.mq_blocks.specs.Geometry.{queues_of};
 ghost use Rattle.mq_blocks.specs.declared.geometry.Geometry.{Geometry};
-ghost use Rattle.mq_exec.specs.Dirs.{AreDirsAt, slots_at};
-ghost use Rattle.mq_exec.specs.Edits.{Becomes, IsOver};
-ghost use Rattle.mq_exec.specs.Fits.{Agrees};
-ghost use Rattle.mq_exec.specs.Lacks.{HasVolume, LacksOf, OfEach};
-ghost use Rattle.mq_exec.specs.Pages.{pages_of};
 ghost use Rattle.mq_exec.specs.Plans.{ComesTo, HoldsRename, IsRefused, IsSource, PlansRename, is_full as is_full_of, move_needs, moved_entry};
-ghost use Rattle.mq_exec.specs.Walks.{LeadsPast, last_of};
+ghost use Rattle.mq_inodes.specs.Dirs.{AreDirsAt, slots_at};
+ghost use Rattle.mq_inodes.specs.Edits.{Becomes, IsOver};
+ghost use Rattle.mq_inodes.specs.Fits.{Agrees};
+ghost use Rattle.mq_inodes.specs.Lacks.{HasVolume, LacksOf, OfEach};
+ghost use Rattle.mq_inodes.specs.Pages.{pages_of};
+ghost use Rattle.mq_inodes.specs.Walks.{LeadsPast, last_of};
 ghost use Rattle.mq_layout.specs.Names.{is_name};
 ghost use Rattle.mq_tree.specs.Looks.{LooksAt};
 ghost use Rattle.mq_tree.specs.Requests.{is_below as is_below_of, linked, refused, rename as rename_of, target as target_of, unlinked};
 ghost use Rattle.mq_tree.specs.Volume.{Volume, way};
 ghost use Rattle.mq_tree.specs.declared.request.Request.TheVariants.{Rename};
 
-use crate::lack::Lack;
-use crate::opened::Opened;
-use crate::walk::Target;
-use crate::working::Working;
 use mq_blocks::{BlockNo, OutOfMemory, QueueNo};
+use mq_inodes::{Lack, Opened, Target, Working};
 use mq_layout::NAMES_LIMIT;
 use mq_tree::{Fault, Path, Reply};
 use std::alloc::Global;
@@ -50,146 +47,144 @@ fn is_below(path: &Path, below: &Path) -> bool
     true
 }
 
-impl<'a> Working<'a> {
-    /// What stands at a path, with its directory; or why it can't move.
-    fn plan_source(
-        &self,
-        alloc: Global,
-        from: &Path,
-        to: &Path,
-    ) -> Result<Result<(u32, u32), Fault>, Lack>
-        requires { HasVolume self.now }
-        ensures ok { IfOk result (λ found. OfEach self.now (λ v. MatchResult found (IsSource v from.now to.now) (λ fault. (g : Geometry) (q : ℕ) → rename_of g q v from.now to.now (target_of v (way from.now)) ≡ refused fault))) }
-        ensures lack { IfErr result (LacksOf self.now (λ v b. LeadsPast self.now.geometry v (way from.now) b)) }
-    {
-        let (d, i) = match self.target(alloc, from)? {
-            Target::Root => return Ok(Err(Fault::Subtree)),
-            Target::Lost(fault) => return Ok(Err(fault)),
-            Target::In { found: None, .. } => return Ok(Err(Fault::NotFound)),
-            Target::In {
-                directory,
-                found: Some(i),
-            } => (directory, i),
-        };
-        if is_below(from, to) {
-            return Ok(Err(Fault::Subtree));
-        }
-        Ok(Ok((d, i)))
-    }
-
-    /// How many blocks a name more takes, once another is gone from this directory or that.
-    fn move_need(&self, from: u32, into: u32, blocks: &[BlockNo]) -> u32
-        requires held { AreDirsAt (pages_of self.now) blocks.now }
-        requires few { length blocks.now ≤ 1036 }
-        ensures { result ≡ move_needs from into (length blocks.now) (slots_at (pages_of self.now) blocks.now) }
-    {
-        if from == into {
-            return 0;
-        }
-        self.link_need(blocks)
-    }
-
-    /// Whether there is no room for a name more then.
-    fn is_full(&self, from: u32, into: u32, blocks: &[BlockNo]) -> bool
-        requires held { AreDirsAt (pages_of self.now) blocks.now }
-        requires few { length blocks.now ≤ 1036 }
-        ensures { result ≡ is_full_of from into (slots_at (pages_of self.now) blocks.now) }
-    {
-        from != into && self.count(blocks) >= NAMES_LIMIT
-    }
-
-    /// What moving takes, or why it is refused.
-    fn plan_rename(
-        &self,
-        alloc: Global,
-        queue: QueueNo,
-        from: &Path,
-        to: &Path,
-    ) -> Result<Result<Renaming, Fault>, Lack>
-        requires possible { HasVolume self.now }
-        requires queue { queue < queues_of self.now.geometry }
-        requires names { list_all is_name from.now ≡ true }
-        requires new_names { list_all is_name to.now ≡ true }
-        ensures ok { IfOk result (λ plan. OfEach self.now (λ v. MatchResult plan (PlansRename self.now.geometry queue v from.now to.now) (IsRefused self.now.geometry v (rename_of self.now.geometry queue v from.now to.now (target_of v (way from.now)))))) }
-        ensures pages { IfOk result (λ plan. MatchResult plan (HoldsRename self.now.geometry (pages_of self.now)) (λ _. ⊤)) }
-        ensures lack { IfErr result (LacksOf self.now (λ v b. LooksAt self.now.geometry queue v (Rename from.now to.now) b)) }
-    {
-        let (d, inode) = match self.plan_source(alloc, from, to)? {
-            Ok(found) => found,
-            Err(fault) => return Ok(Err(fault)),
-        };
-        let into = match self.target(alloc, to)? {
-            Target::Root | Target::In { found: Some(_), .. } => return Ok(Err(Fault::Exists)),
-            Target::Lost(fault) => return Ok(Err(fault)),
-            Target::In {
-                directory,
-                found: None,
-            } => directory,
-        };
-        let source = self.open_directory(alloc, d)?;
-        let directory = self.open_directory(alloc, into)?;
-        if self.is_full(d, into, &directory.blocks) {
-            return Ok(Err(Fault::TooBig));
-        }
-        let need = self.move_need(d, into, &directory.blocks);
-        let Some(picks) = self.pick(alloc, queue, need)? else {
-            return Ok(Err(Fault::NoSpace));
-        };
-        self.look_for_all(alloc, &picks)?;
-        Ok(Ok(Renaming {
-            source,
+/// What stands at a path, with its directory; or why it can't move.
+fn plan_source(
+    alloc: Global,
+    working: &Working,
+    from: &Path,
+    to: &Path,
+) -> Result<Result<(u32, u32), Fault>, Lack>
+    requires { HasVolume working.now }
+    ensures ok { IfOk result (λ found. OfEach working.now (λ v. MatchResult found (IsSource v from.now to.now) (λ fault. (g : Geometry) (q : ℕ) → rename_of g q v from.now to.now (target_of v (way from.now)) ≡ refused fault))) }
+    ensures lack { IfErr result (LacksOf working.now (λ v b. LeadsPast working.now.geometry v (way from.now) b)) }
+{
+    let (d, i) = match working.target(alloc, from)? {
+        Target::Root => return Ok(Err(Fault::Subtree)),
+        Target::Lost(fault) => return Ok(Err(fault)),
+        Target::In { found: None, .. } => return Ok(Err(Fault::NotFound)),
+        Target::In {
             directory,
-            inode,
-            picks,
-        }))
+            found: Some(i),
+        } => (directory, i),
+    };
+    if is_below(from, to) {
+        return Ok(Err(Fault::Subtree));
     }
+    Ok(Ok((d, i)))
+}
 
-    /// Moves what was planned.
-    fn carry_rename(
-        &mut self,
-        alloc: Global,
-        from: &Path,
-        to: &Path,
-        renaming: Renaming,
-    ) -> Result<(), OutOfMemory>
-        requires possible { (q : ℕ) × (v : Volume) × Agrees self.old.geometry (pages_of self.old) v × PlansRename self.old.geometry q v from.now to.now renaming }
-        requires pages { HoldsRename self.old.geometry (pages_of self.old) renaming }
-        ensures over { OnOk result (IsOver self.old self.new) }
-        ensures moved { OnOk result ((q : ℕ) (v : Volume) → Agrees self.old.geometry (pages_of self.old) v → PlansRename self.old.geometry q v from.now to.now renaming → Becomes self.old.geometry v (linked self.old.geometry q (unlinked v renaming.source.number (last_of (way from.now))) renaming.directory.number (moved_entry to.now renaming)) self.old self.new) }
-    {
-        let Renaming {
-            source,
-            mut directory,
-            inode,
-            picks,
-        } = renaming;
-        let (Some(old), Some(new)) = (from.0.last(), to.0.last()) else {
-            unreachable!();
-        };
-        self.unlink_name(alloc, &source.blocks, &old.0)?;
-        self.link_name(alloc, &mut directory, inode, &new.0, &picks)
+/// How many blocks a name more takes, once another is gone from this directory or that.
+fn move_need(working: &Working, from: u32, into: u32, blocks: &[BlockNo]) -> u32
+    requires held { AreDirsAt (pages_of working.now) blocks.now }
+    requires few { length blocks.now ≤ 1036 }
+    ensures { result ≡ move_needs from into (length blocks.now) (slots_at (pages_of working.now) blocks.now) }
+{
+    if from == into {
+        return 0;
     }
+    working.link_need(blocks)
+}
 
-    /// Moves a file or a directory with all that is below it.
-    pub fn rename(
-        &mut self,
-        alloc: Global,
-        queue: QueueNo,
-        from: &Path,
-        to: &Path,
-    ) -> Result<Reply, Lack>
-        requires possible { HasVolume self.old }
-        requires queue { queue < queues_of self.old.geometry }
-        requires names { list_all is_name from.now ≡ true }
-        requires new_names { list_all is_name to.now ≡ true }
-        ensures over { OnOk result (IsOver self.old self.new) }
-        ensures ok { IfOk result (λ reply. OfEach self.old (λ v. ComesTo self.old.geometry v (rename_of self.old.geometry queue v from.now to.now (target_of v (way from.now))) reply self.old self.new)) }
-        ensures lack { IfErr result (LacksOf self.old (λ v b. LooksAt self.old.geometry queue v (Rename from.now to.now) b)) }
-    {
-        match self.plan_rename(alloc, queue, from, to)? {
-            Ok(renaming) => self.carry_rename(alloc, from, to, renaming)?,
-            Err(fault) => return Ok(Reply::Refused(fault)),
-        }
-        Ok(Reply::Ok)
+/// Whether there is no room for a name more then.
+fn is_full(working: &Working, from: u32, into: u32, blocks: &[BlockNo]) -> bool
+    requires held { AreDirsAt (pages_of working.now) blocks.now }
+    requires few { length blocks.now ≤ 1036 }
+    ensures { result ≡ is_full_of from into (slots_at (pages_of working.now) blocks.now) }
+{
+    from != into && working.count(blocks) >= NAMES_LIMIT
+}
+
+/// What moving takes, or why it is refused.
+fn plan_rename(
+    alloc: Global,
+    working: &Working,
+    queue: QueueNo,
+    from: &Path,
+    to: &Path,
+) -> Result<Result<Renaming, Fault>, Lack>
+    requires possible { HasVolume working.now }
+    requires queue { queue < queues_of working.now.geometry }
+    requires names { list_all is_name from.now ≡ true }
+    requires new_names { list_all is_name to.now ≡ true }
+    ensures ok { IfOk result (λ plan. OfEach working.now (λ v. MatchResult plan (PlansRename working.now.geometry queue v from.now to.now) (IsRefused working.now.geometry v (rename_of working.now.geometry queue v from.now to.now (target_of v (way from.now)))))) }
+    ensures pages { IfOk result (λ plan. MatchResult plan (HoldsRename working.now.geometry (pages_of working.now)) (λ _. ⊤)) }
+    ensures lack { IfErr result (LacksOf working.now (λ v b. LooksAt working.now.geometry queue v (Rename from.now to.now) b)) }
+{
+    let (d, inode) = match plan_source(alloc, working, from, to)? {
+        Ok(found) => found,
+        Err(fault) => return Ok(Err(fault)),
+    };
+    let into = match working.target(alloc, to)? {
+        Target::Root | Target::In { found: Some(_), .. } => return Ok(Err(Fault::Exists)),
+        Target::Lost(fault) => return Ok(Err(fault)),
+        Target::In {
+            directory,
+            found: None,
+        } => directory,
+    };
+    let source = working.open_directory(alloc, d)?;
+    let directory = working.open_directory(alloc, into)?;
+    if is_full(working, d, into, &directory.blocks) {
+        return Ok(Err(Fault::TooBig));
     }
+    let need = move_need(working, d, into, &directory.blocks);
+    let Some(picks) = working.pick(alloc, queue, need)? else {
+        return Ok(Err(Fault::NoSpace));
+    };
+    working.look_for_all(alloc, &picks)?;
+    Ok(Ok(Renaming {
+        source,
+        directory,
+        inode,
+        picks,
+    }))
+}
+
+/// Moves what was planned.
+fn carry_rename(
+    alloc: Global,
+    working: &mut Working,
+    from: &Path,
+    to: &Path,
+    renaming: Renaming,
+) -> Result<(), OutOfMemory>
+    requires possible { (q : ℕ) × (v : Volume) × Agrees working.old.geometry (pages_of working.old) v × PlansRename working.old.geometry q v from.now to.now renaming }
+    requires pages { HoldsRename working.old.geometry (pages_of working.old) renaming }
+    ensures over { OnOk result (IsOver working.old working.new) }
+    ensures moved { OnOk result ((q : ℕ) (v : Volume) → Agrees working.old.geometry (pages_of working.old) v → PlansRename working.old.geometry q v from.now to.now renaming → Becomes working.old.geometry v (linked working.old.geometry q (unlinked v renaming.source.number (last_of (way from.now))) renaming.directory.number (moved_entry to.now renaming)) working.old working.new) }
+{
+    let Renaming {
+        source,
+        mut directory,
+        inode,
+        picks,
+    } = renaming;
+    let (Some(old), Some(new)) = (from.0.last(), to.0.last()) else {
+        unreachable!();
+    };
+    working.unlink_name(alloc, &source.blocks, &old.0)?;
+    working.link_name(alloc, &mut directory, inode, &new.0, &picks)
+}
+
+/// Moves a file or a directory with all that is below it.
+pub fn rename(
+    alloc: Global,
+    working: &mut Working,
+    queue: QueueNo,
+    from: &Path,
+    to: &Path,
+) -> Result<Reply, Lack>
+    requires possible { HasVolume working.old }
+    requires queue { queue < queues_of working.old.geometry }
+    requires names { list_all is_name from.now ≡ true }
+    requires new_names { list_all is_name to.now ≡ true }
+    ensures over { OnOk result (IsOver working.old working.new) }
+    ensures ok { IfOk result (λ reply. OfEach working.old (λ v. ComesTo working.old.geometry v (rename_of working.old.geometry queue v from.now to.now (target_of v (way from.now))) reply working.old working.new)) }
+    ensures lack { IfErr result (LacksOf working.old (λ v b. LooksAt working.old.geometry queue v (Rename from.now to.now) b)) }
+{
+    match plan_rename(alloc, working, queue, from, to)? {
+        Ok(renaming) => carry_rename(alloc, working, from, to, renaming)?,
+        Err(fault) => return Ok(Reply::Refused(fault)),
+    }
+    Ok(Reply::Ok)
 }

@@ -2,15 +2,15 @@
 ghost use Rattle.std.specs.Prelude.{◌≡◌, ◌<◌, ◌≤◌, ◌+◌, ◌/◌, ◌^◌, ℕ, List, length, max, true, if◌then◌else◌, ◌==◌, IfErr, IfOk, MatchOption, OnOk, Some, ⊤};
 ghost use Rattle.std.specs.List.{list_all};
 ghost use Rattle.mq_blocks.specs.Geometry.{queues_of};
-ghost use Rattle.mq_exec.specs.Changes.{IsTextPut};
-ghost use Rattle.mq_exec.specs.Edits.{Becomes, IsKindPut, IsOver};
-ghost use Rattle.mq_exec.specs.Fits.{Agrees};
-ghost use Rattle.mq_exec.specs.Lacks.{HasVolume, LacksOf, OfEach};
 ghost use Rattle.mq_exec.specs.Overwrites.{AreApart, IsOverwritten, IsSplicedAt, blocks_at, past_place as past_place_of};
 ghost use Rattle.mq_exec.specs.Longer.{IsRewriting, LooksLonger};
-ghost use Rattle.mq_exec.specs.Pages.{IsHeld, pages_of};
 ghost use Rattle.mq_exec.specs.Plans.{ComesTo, HoldsPlaces, HoldsRewrite, IsRefused, PlansRewrite};
-ghost use Rattle.mq_exec.specs.Reads.{IsFileOf};
+ghost use Rattle.mq_inodes.specs.Changes.{IsTextPut};
+ghost use Rattle.mq_inodes.specs.Edits.{Becomes, IsKindPut, IsOver};
+ghost use Rattle.mq_inodes.specs.Fits.{Agrees};
+ghost use Rattle.mq_inodes.specs.Lacks.{HasVolume, LacksOf, OfEach};
+ghost use Rattle.mq_inodes.specs.Pages.{IsHeld, pages_of};
+ghost use Rattle.mq_inodes.specs.Files.{IsFileOf};
 ghost use Rattle.mq_layout.specs.Names.{is_name};
 ghost use Rattle.mq_layout.specs.Places.{inode_block as inode_block_of};
 ghost use Rattle.mq_pages.specs.declared.page.Kind.TheVariants.{Data};
@@ -20,16 +20,10 @@ ghost use Rattle.mq_tree.specs.Volume.{Volume, way};
 ghost use Rattle.mq_tree.specs.declared.request.Fault.TheVariants.{NoSpace};
 ghost use Rattle.mq_tree.specs.declared.request.Request.TheVariants.{Write};
 
-use crate::blocks::{count_for, needs};
-use crate::edits::look_at;
-use crate::file::Found;
-use crate::lack::Lack;
-use crate::opened::Opened;
-use crate::working::Working;
-use mq_blocks::bytes::put;
+use crate::file::{Found, find_file};
 use mq_blocks::{BlockNo, OutOfMemory, QueueNo};
+use mq_inodes::{Lack, Opened, Working, count_for, needs};
 use mq_layout::FILE_LIMIT;
-use mq_pages::Kind;
 use mq_tree::{Fault, Path, Reply};
 use std::alloc::Global;
 
@@ -77,149 +71,127 @@ fn touched(blocks: &[BlockNo], at: usize, count: usize) -> &[BlockNo]
     &blocks[first..past]
 }
 
-impl<'a> Working<'a> {
-    /// What it takes that a file gets this size, which is not below its own, and other bytes at an offset.
-    /// `None` where there are not enough free blocks.
-    pub fn plan_longer(
-        &self,
-        alloc: Global,
-        queue: QueueNo,
-        found: &Found,
-        size: u64,
-        at: usize,
-        count: usize,
-    ) -> Result<Option<Rewriting>, Lack>
-        requires possible { HasVolume self.now }
-        requires queue { queue < queues_of self.now.geometry }
-        requires file { OfEach self.now (λ v. IsFileOf v found.now.number found.now.inode) }
-        requires table { IsHeld (pages_of self.now) (inode_block_of self.now.geometry found.now.number) }
-        requires limit { size ≤ 4243456 }
-        requires longer { found.now.inode.size ≤ size }
-        requires end { at + count ≤ 4243456 }
-        ensures number { IfOk result (λ plan. MatchOption plan ⊤ (λ m. (m.file.number ≡ found.now.number) × (m.size ≡ size))) }
-        ensures ok { IfOk result (λ plan. OfEach self.now (λ v. (verdict : Verdict) (rewritten : List ℕ → List ℕ) (bytes : List ℕ) → IsRewriting self.now.geometry queue v found.now.number size verdict rewritten bytes → MatchOption plan (IsRefused self.now.geometry v verdict NoSpace) (PlansRewrite self.now.geometry queue v verdict rewritten))) }
-        ensures pages { IfOk result (λ plan. MatchOption plan ⊤ (HoldsRewrite self.now.geometry (pages_of self.now))) }
-        ensures places { IfOk result (λ plan. MatchOption plan ⊤ (λ m. HoldsPlaces (pages_of self.now) m.file.blocks.items (at / 4096) (past_place_of at count))) }
-        ensures lack { IfErr result (LacksOf self.now (λ v b. LooksLonger self.now.geometry queue v found.now.number size at count b)) }
-    {
-        let need = needs(count_for(found.inode.size), count_for(size));
-        let Some(picks) = self.pick(alloc, queue, need)? else {
-            return Ok(None);
-        };
-        let file = self.open_file(alloc, found.number, &found.inode)?;
-        let mut wanted = Vec::from_slice(alloc, &picks)?;
-        wanted.extend_from_slice(touched(&file.blocks, at, count))?;
-        self.look_for_all(alloc, &wanted)?;
-        Ok(Some(Rewriting { file, picks, size }))
-    }
+/// What it takes that a file gets this size, which is not below its own, and other bytes at an offset.
+/// `None` where there are not enough free blocks.
+pub fn plan_longer(
+    alloc: Global,
+    working: &Working,
+    queue: QueueNo,
+    found: &Found,
+    size: u64,
+    at: usize,
+    count: usize,
+) -> Result<Option<Rewriting>, Lack>
+    requires possible { HasVolume working.now }
+    requires queue { queue < queues_of working.now.geometry }
+    requires file { OfEach working.now (λ v. IsFileOf v found.now.number found.now.inode) }
+    requires table { IsHeld (pages_of working.now) (inode_block_of working.now.geometry found.now.number) }
+    requires limit { size ≤ 4243456 }
+    requires longer { found.now.inode.size ≤ size }
+    requires end { at + count ≤ 4243456 }
+    ensures number { IfOk result (λ plan. MatchOption plan ⊤ (λ m. (m.file.number ≡ found.now.number) × (m.size ≡ size))) }
+    ensures ok { IfOk result (λ plan. OfEach working.now (λ v. (verdict : Verdict) (rewritten : List ℕ → List ℕ) (bytes : List ℕ) → IsRewriting working.now.geometry queue v found.now.number size verdict rewritten bytes → MatchOption plan (IsRefused working.now.geometry v verdict NoSpace) (PlansRewrite working.now.geometry queue v verdict rewritten))) }
+    ensures pages { IfOk result (λ plan. MatchOption plan ⊤ (HoldsRewrite working.now.geometry (pages_of working.now))) }
+    ensures places { IfOk result (λ plan. MatchOption plan ⊤ (λ m. HoldsPlaces (pages_of working.now) m.file.blocks.items (at / 4096) (past_place_of at count))) }
+    ensures lack { IfErr result (LacksOf working.now (λ v b. LooksLonger working.now.geometry queue v found.now.number size at count b)) }
+{
+    let need = needs(count_for(found.inode.size), count_for(size));
+    let Some(picks) = working.pick(alloc, queue, need)? else {
+        return Ok(None);
+    };
+    let file = working.open_file(alloc, found.number, &found.inode)?;
+    let mut wanted = Vec::from_slice(alloc, &picks)?;
+    wanted.extend_from_slice(touched(&file.blocks, at, count))?;
+    working.look_for_all(alloc, &wanted)?;
+    Ok(Some(Rewriting { file, picks, size }))
+}
 
-    /// Writes bytes into a block of a file.
-    pub fn put_bytes(
-        &mut self,
-        alloc: Global,
-        b: BlockNo,
-        from: usize,
-        text: &[u8],
-    ) -> Result<(), OutOfMemory>
-        requires inside { from + length text.now ≤ 4096 }
-        requires held { IsHeld (pages_of self.old) b }
-        ensures over { OnOk result (IsOver self.old self.new) }
-        ensures kinds { OnOk result (IsKindPut self.old self.new b (Some Data)) }
-        ensures put { OnOk result (IsTextPut (pages_of self.old) (pages_of self.new) b from text.now) }
-    {
-        let mut page = self.lift(alloc, b)?;
-        put(page.bytes_mut(), from, text);
-        look_at(&page);
-        self.put(b, Kind::Data, page)
+/// Writes bytes at an offset over those in the blocks of a file.
+fn overwrite(
+    alloc: Global,
+    working: &mut Working,
+    blocks: &[BlockNo],
+    at: usize,
+    bytes: &[u8],
+) -> Result<(), OutOfMemory>
+    requires limit { at + length bytes.now ≤ 4243456 }
+    requires inside { (place : ℕ) → at / 4096 ≤ place → place < past_place_of at (length bytes.now) → place < length blocks.now }
+    requires held { HoldsPlaces (pages_of working.old) blocks.now (at / 4096) (past_place_of at (length bytes.now)) }
+    requires apart { AreApart blocks.now }
+    ensures over { OnOk result (IsOver working.old working.new) }
+    ensures written { OnOk result (IsOverwritten working.old working.new blocks.now at bytes.now (past_place_of at (length bytes.now))) }
+{
+    let end = at + bytes.len();
+    for place in at / BLOCK..past_place(at, bytes.len()) {
+        let start = BLOCK * place;
+        let from = at.max(start);
+        let to = end.min(start + BLOCK);
+        working.put_bytes(
+            alloc,
+            blocks[place],
+            from - start,
+            &bytes[from - at..to - at],
+        )?;
     }
+    Ok(())
+}
 
-    /// Writes bytes at an offset over those in the blocks of a file.
-    fn overwrite(
-        &mut self,
-        alloc: Global,
-        blocks: &[BlockNo],
-        at: usize,
-        bytes: &[u8],
-    ) -> Result<(), OutOfMemory>
-        requires limit { at + length bytes.now ≤ 4243456 }
-        requires inside { (place : ℕ) → at / 4096 ≤ place → place < past_place_of at (length bytes.now) → place < length blocks.now }
-        requires held { HoldsPlaces (pages_of self.old) blocks.now (at / 4096) (past_place_of at (length bytes.now)) }
-        requires apart { AreApart blocks.now }
-        ensures over { OnOk result (IsOver self.old self.new) }
-        ensures written { OnOk result (IsOverwritten self.old self.new blocks.now at bytes.now (past_place_of at (length bytes.now))) }
-    {
-        let end = at + bytes.len();
-        for place in at / BLOCK..past_place(at, bytes.len()) {
-            let start = BLOCK * place;
-            let from = at.max(start);
-            let to = end.min(start + BLOCK);
-            self.put_bytes(
-                alloc,
-                blocks[place],
-                from - start,
-                &bytes[from - at..to - at],
-            )?;
-        }
-        Ok(())
-    }
+/// Carries out what was planned: the file gets the blocks that it lacks, the bytes at the offset, and its
+/// new size.
+pub fn carry_rewrite(
+    alloc: Global,
+    working: &mut Working,
+    at: usize,
+    bytes: &[u8],
+    rewriting: Rewriting,
+) -> Result<(), OutOfMemory>
+    requires possible { (q : ℕ) × (v : Volume) × (verdict : Verdict) × (rewritten : List ℕ → List ℕ) × Agrees working.old.geometry (pages_of working.old) v × (plan : PlansRewrite working.old.geometry q v verdict rewritten rewriting) × IsSplicedAt at bytes.now plan.bytes (rewritten plan.bytes) }
+    requires pages { HoldsRewrite working.old.geometry (pages_of working.old) rewriting }
+    requires places { HoldsPlaces (pages_of working.old) rewriting.file.blocks.items (at / 4096) (past_place_of at (length bytes.now)) }
+    requires limit { at + length bytes.now ≤ 4243456 }
+    requires inside { 1 ≤ length bytes.now → at + length bytes.now ≤ rewriting.size }
+    ensures over { OnOk result (IsOver working.old working.new) }
+    ensures written { OnOk result ((q : ℕ) (v : Volume) (verdict : Verdict) (rewritten : List ℕ → List ℕ) → Agrees working.old.geometry (pages_of working.old) v → (plan : PlansRewrite working.old.geometry q v verdict rewritten rewriting) → IsSplicedAt at bytes.now plan.bytes (rewritten plan.bytes) → Becomes working.old.geometry v (resized working.old.geometry q v rewriting.file.number (rewritten plan.bytes)) working.old working.new) }
+{
+    let Rewriting {
+        mut file,
+        picks,
+        size,
+    } = rewriting;
+    working.grow(alloc, &mut file, &picks)?;
+    overwrite(alloc, working, &file.blocks, at, bytes)?;
+    file.inode.size = size;
+    working.put_inode(alloc, file.number, &file.inode)
+}
 
-    /// Carries out what was planned: the file gets the blocks that it lacks, the bytes at the offset, and its
-    /// new size.
-    pub fn carry_rewrite(
-        &mut self,
-        alloc: Global,
-        at: usize,
-        bytes: &[u8],
-        rewriting: Rewriting,
-    ) -> Result<(), OutOfMemory>
-        requires possible { (q : ℕ) × (v : Volume) × (verdict : Verdict) × (rewritten : List ℕ → List ℕ) × Agrees self.old.geometry (pages_of self.old) v × (plan : PlansRewrite self.old.geometry q v verdict rewritten rewriting) × IsSplicedAt at bytes.now plan.bytes (rewritten plan.bytes) }
-        requires pages { HoldsRewrite self.old.geometry (pages_of self.old) rewriting }
-        requires places { HoldsPlaces (pages_of self.old) rewriting.file.blocks.items (at / 4096) (past_place_of at (length bytes.now)) }
-        requires limit { at + length bytes.now ≤ 4243456 }
-        requires inside { 1 ≤ length bytes.now → at + length bytes.now ≤ rewriting.size }
-        ensures over { OnOk result (IsOver self.old self.new) }
-        ensures written { OnOk result ((q : ℕ) (v : Volume) (verdict : Verdict) (rewritten : List ℕ → List ℕ) → Agrees self.old.geometry (pages_of self.old) v → (plan : PlansRewrite self.old.geometry q v verdict rewritten rewriting) → IsSplicedAt at bytes.now plan.bytes (rewritten plan.bytes) → Becomes self.old.geometry v (resized self.old.geometry q v rewriting.file.number (rewritten plan.bytes)) self.old self.new) }
-    {
-        let Rewriting {
-            mut file,
-            picks,
-            size,
-        } = rewriting;
-        self.grow(alloc, &mut file, &picks)?;
-        self.overwrite(alloc, &file.blocks, at, bytes)?;
-        file.inode.size = size;
-        self.put_inode(alloc, file.number, &file.inode)
+/// Writes bytes at an offset of a file.
+pub fn write(
+    alloc: Global,
+    working: &mut Working,
+    queue: QueueNo,
+    path: &Path,
+    at: u64,
+    bytes: &[u8],
+) -> Result<Reply, Lack>
+    requires possible { HasVolume working.old }
+    requires queue { queue < queues_of working.old.geometry }
+    requires names { list_all is_name path.now ≡ true }
+    ensures over { OnOk result (IsOver working.old working.new) }
+    ensures ok { IfOk result (λ reply. OfEach working.old (λ v. ComesTo working.old.geometry v (write_of working.old.geometry queue v at bytes.now (target_of v (way path.now))) reply working.old working.new)) }
+    ensures lack { IfErr result (LacksOf working.old (λ v b. LooksAt working.old.geometry queue v (Write path.now at bytes.now) b)) }
+{
+    let found = match find_file(alloc, working, path)? {
+        Ok(found) => found,
+        Err(fault) => return Ok(Reply::Refused(fault)),
+    };
+    let count = bytes.len();
+    if at.saturating_add(count as u64) > FILE_LIMIT {
+        return Ok(Reply::Refused(Fault::TooBig));
     }
-
-    /// Writes bytes at an offset of a file.
-    pub fn write(
-        &mut self,
-        alloc: Global,
-        queue: QueueNo,
-        path: &Path,
-        at: u64,
-        bytes: &[u8],
-    ) -> Result<Reply, Lack>
-        requires possible { HasVolume self.old }
-        requires queue { queue < queues_of self.old.geometry }
-        requires names { list_all is_name path.now ≡ true }
-        ensures over { OnOk result (IsOver self.old self.new) }
-        ensures ok { IfOk result (λ reply. OfEach self.old (λ v. ComesTo self.old.geometry v (write_of self.old.geometry queue v at bytes.now (target_of v (way path.now))) reply self.old self.new)) }
-        ensures lack { IfErr result (LacksOf self.old (λ v b. LooksAt self.old.geometry queue v (Write path.now at bytes.now) b)) }
-    {
-        let found = match self.file(alloc, path)? {
-            Ok(found) => found,
-            Err(fault) => return Ok(Reply::Refused(fault)),
-        };
-        let count = bytes.len();
-        if at.saturating_add(count as u64) > FILE_LIMIT {
-            return Ok(Reply::Refused(Fault::TooBig));
-        }
-        let size = size_after(found.inode.size, at, count as u64);
-        match self.plan_longer(alloc, queue, &found, size, at as usize, count)? {
-            Some(rewriting) => self.carry_rewrite(alloc, at as usize, bytes, rewriting)?,
-            None => return Ok(Reply::Refused(Fault::NoSpace)),
-        }
-        Ok(Reply::Ok)
+    let size = size_after(found.inode.size, at, count as u64);
+    match plan_longer(alloc, working, queue, &found, size, at as usize, count)? {
+        Some(rewriting) => carry_rewrite(alloc, working, at as usize, bytes, rewriting)?,
+        None => return Ok(Reply::Refused(Fault::NoSpace)),
     }
+    Ok(Reply::Ok)
 }

@@ -1,13 +1,11 @@
 // What a path names.
 ghost use Rattle.std.specs.Prelude.{◌≡◌, ◌≢◌, IfErr, IfOk};
 ghost use Rattle.std.specs.List.{list_all};
-ghost use Rattle.mq_exec.specs.Lacks.{HasVolume, LacksOf, OfEach};
 ghost use Rattle.mq_exec.specs.Reads.{IsFound, NamesLeadPast, number_of};
+ghost use Rattle.mq_inodes.specs.Lacks.{HasVolume, LacksOf, OfEach};
 ghost use Rattle.mq_layout.specs.Names.{is_name};
 
-use crate::lack::Lack;
-use crate::walk::Target;
-use crate::working::Working;
+use mq_inodes::{Lack, Target, Working};
 use mq_layout::{Inode, is_good_name};
 use mq_tree::{Fault, Path};
 use std::alloc::Global;
@@ -42,22 +40,24 @@ fn number_at(target: Target) -> Result<u32, Fault>
     }
 }
 
-impl<'a> Working<'a> {
-    /// What a path names, or why a request on it is refused. Its names are tested before any page.
-    pub fn subject(&self, alloc: Global, path: &Path) -> Result<Result<Subject, Fault>, Lack>
-        requires { HasVolume self.now }
-        ensures ok { IfOk result (λ found. OfEach self.now (λ v. IsFound v path.now found)) }
-        ensures lack { IfErr result (LacksOf self.now (λ v b. NamesLeadPast self.now.geometry v path.now b)) }
-    {
-        if !is_good_path(path) {
-            return Ok(Err(Fault::BadName));
-        }
-        match number_at(self.target(alloc, path)?) {
-            Ok(number) => Ok(Ok(Subject {
-                number,
-                inode: self.inode(alloc, number)?,
-            })),
-            Err(fault) => Ok(Err(fault)),
-        }
+/// What a path names, or why a request on it is refused. Its names are tested before any page.
+pub fn find_subject(
+    alloc: Global,
+    working: &Working,
+    path: &Path,
+) -> Result<Result<Subject, Fault>, Lack>
+    requires { HasVolume working.now }
+    ensures ok { IfOk result (λ found. OfEach working.now (λ v. IsFound v path.now found)) }
+    ensures lack { IfErr result (LacksOf working.now (λ v b. NamesLeadPast working.now.geometry v path.now b)) }
+{
+    if !is_good_path(path) {
+        return Ok(Err(Fault::BadName));
+    }
+    match number_at(working.target(alloc, path)?) {
+        Ok(number) => Ok(Ok(Subject {
+            number,
+            inode: working.inode(alloc, number)?,
+        })),
+        Err(fault) => Ok(Err(fault)),
     }
 }

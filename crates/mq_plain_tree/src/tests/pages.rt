@@ -2,7 +2,7 @@
 ghost use Rattle.std.specs.Prelude.{◌≡◌, ◌<◌, ◌≤◌, ℕ, List, Option, Some, IfOk};
 ghost use Rattle.mq_blocks.specs.Blocks.{block_at};
 ghost use Rattle.mq_blocks.specs.Geometry.{homes_of, meta_of, queues_of};
-ghost use Rattle.mq_exec.specs.Pages.{held_pages};
+ghost use Rattle.mq_inodes.specs.Pages.{held_pages};
 ghost use Rattle.mq_tree.specs.Laid.{IsTreeOf, is_marked as is_marked_in, map_of};
 ghost use Rattle.mq_tree.specs.Volume.{tree as tree_of};
 

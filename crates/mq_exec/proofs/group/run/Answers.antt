@@ -1,7 +1,7 @@
 use Rattle.std.proofs.lemmas.Result.{IfOk-weaker}
-use Rattle.mq_exec.specs.Lacks.{OfEach}
 use Rattle.mq_exec.specs.Outcomes.{Answers, NeedsOf}
-use Rattle.mq_exec.specs.Pages.{held_pages, pages_of}
+use Rattle.mq_inodes.specs.Lacks.{OfEach}
+use Rattle.mq_inodes.specs.Pages.{held_pages, pages_of}
 use Rattle.std.proofs.Common.{sym, ◌∙◌}
 use Rattle.mq_exec.proofs.Leading.{run-moves}
 use Rattle.mq_exec.proofs.Running.{run-lacks, run-looks, run-more, run-none, run-possible, run-replies}
@@ -28,7 +28,7 @@ returns-in-Err c =
 
 pub loop-request-preserved : goal.loop-request-preserved
 loop-request-preserved c =
-    run-more c.args.geometry c.args.queue (held_pages c.args.view.now.held.now.cells) c.new-working.result c.loop-request.working c.step.new.self c.args.requests.now c.loop-request.request-index c.request-item.result c.in-Ok.reply c.loop-request.replies.items c.push.new.self.items
+    run-more c.args.geometry c.args.queue (held_pages c.args.view.now.held.now.cells) c.new-working.result c.loop-request.working c.step.new.working c.args.requests.now c.loop-request.request-index c.request-item.result c.in-Ok.reply c.loop-request.replies.items c.push.new.self.items
     c.new-working.ensures.geometry c.requires.queue c.look_at_bytes.ensures c.loop-request-test.true c.request-item.is c.in_ok-push-in-Ok.ensures.items c.in-Ok.ensures.over c.in-Ok.ensures.ok c.loop-request.invariant
 
 pub returns : goal.returns

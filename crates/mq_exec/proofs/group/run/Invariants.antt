@@ -1,6 +1,6 @@
 use Rattle.std.proofs.Common.{drop}
-use Rattle.mq_exec.specs.Pages.{held_pages}
 use Rattle.mq_exec.proofs.Running.{IsRun}
+use Rattle.mq_inodes.specs.Pages.{held_pages}
 use Rattle.mq_exec.proofs.group.run.Given as goal
 
 abbrev pub invariant-loop-request : goal.invariant-loop-request

@@ -1,6 +1,6 @@
 use Rattle.std.proofs.Common.{subst, sym}
-use Rattle.mq_exec.specs.Fits.{Agrees}
-use Rattle.mq_exec.specs.Pages.{held_pages}
+use Rattle.mq_inodes.specs.Fits.{Agrees}
+use Rattle.mq_inodes.specs.Pages.{held_pages}
 use Rattle.mq_tree.specs.Laid.{map_of}
 use Rattle.mq_exec.proofs.tests.outcome.Goals as goal
 

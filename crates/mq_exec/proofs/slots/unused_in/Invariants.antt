@@ -1,7 +1,0 @@
-use Rattle.std.proofs.Common.{◌≡◌, drop}
-use Rattle.mq_exec.specs.Dirs.{slots_in}
-use Rattle.mq_tree.specs.Requests.{unused}
-use Rattle.mq_exec.proofs.slots.unused_in.Given as goal
-
-abbrev pub invariant-loop-at : goal.invariant-loop-at
-invariant-loop-at l = unused l.at (drop l.at (slots_in l.block)) ≡ unused 0 (slots_in l.block)

@@ -1,7 +1,0 @@
-use Rattle.std.proofs.lemmas.Result.{on_ok_weaker}
-use Rattle.mq_exec.specs.Pages.{pages_of}
-use Rattle.mq_exec.proofs.Needs.{all-held}
-use Rattle.mq_exec.proofs.working.Working.look_for.Goals as goal
-
-pub returns-clause-ok : goal.returns-clause-ok
-returns-clause-ok c = on_ok_weaker c.look_for_all.result (all-held (pages_of c.args.self.now) c.args.blocks.now c.requires) c.look_for_all.ensures.ok

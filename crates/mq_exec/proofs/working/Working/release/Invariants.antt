@@ -1,6 +1,0 @@
-use Rattle.std.proofs.Common.{take}
-use Rattle.mq_exec.specs.Released.{Releases}
-use Rattle.mq_exec.proofs.working.Working.release.Given as goal
-
-abbrev pub invariant-loop-b : goal.invariant-loop-b
-invariant-loop-b l = Releases l.fn.self l.self (take l.b-index l.blocks)

@@ -1,8 +1,0 @@
-use Rattle.mq_exec.proofs.Shortening.{cut-comes}
-use Rattle.mq_exec.proofs.working.Working.shorten.Goals as goal
-
-pub returns-clause-ok : goal.returns-clause-ok
-returns-clause-ok c v agrees q =
-    let e = c.in_ok-cutting.ensures in
-    let plan = e.ok v agrees in
-    cut-comes c.args.self.now.geometry q v c.in_ok-cutting.cutting c.args.found.now.number c.args.size c.args.self.now c.carry_cut.new.self agrees e.number.0 e.number.1 plan (c.in_ok-carry_cut.ensures.cut v agrees plan)

@@ -1,0 +1,8 @@
+use Rattle.std.proofs.Common.{◌≡◌, drop}
+use Rattle.mq_inodes.specs.Dirs.{slots_at}
+use Rattle.mq_inodes.specs.Pages.{pages_of}
+use Rattle.mq_tree.specs.Volume.{find as find_name}
+use Rattle.mq_inodes.proofs.working.Working.find.Given as goal
+
+abbrev pub invariant-loop-b : goal.invariant-loop-b
+invariant-loop-b l = find_name l.name (slots_at (pages_of l.self) (drop l.b-index l.blocks)) ≡ find_name l.name (slots_at (pages_of l.self) l.blocks)

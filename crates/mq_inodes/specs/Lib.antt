@@ -1,0 +1,14 @@
+pub mod Bare
+pub mod Changes
+pub mod Differences
+pub mod Dirs
+pub mod Edits
+pub mod Files
+pub mod Fits
+pub mod Growing
+pub mod Lacks
+pub mod Opened
+pub mod Pages
+pub mod Picks
+pub mod Released
+pub mod Walks

@@ -1,0 +1,54 @@
+// Why requests cannot go on.
+ghost use Rattle.std.specs.Prelude.{◌≡◌, [], ◌∷◌, IfOk};
+
+use mq_blocks::{BlockNo, OutOfMemory};
+use std::alloc::{AllocError, AllocFailed, Global};
+
+/// What a request lacks: pages that are absent and at which it looks, or memory.
+#[derive(Drop)]
+pub enum Lack {
+    Need(Vec<BlockNo>),
+    OutOfMemory,
+}
+
+impl From<OutOfMemory> for Lack {
+    ghost use Rattle.mq_inodes.specs.declared.lack.Lack.TheVariants.{OutOfMemory};
+    ghost use Rattle.std.specs.Prelude.{◌≡◌};
+
+    ghost from_gives = { λ _ e. e ≡ OutOfMemory };
+
+    fn from(_: OutOfMemory) -> Self {
+        Lack::OutOfMemory
+    }
+}
+
+impl From<AllocError> for Lack {
+    ghost use Rattle.mq_inodes.specs.declared.lack.Lack.TheVariants.{OutOfMemory};
+    ghost use Rattle.std.specs.Prelude.{◌≡◌};
+
+    ghost from_gives = { λ _ e. e ≡ OutOfMemory };
+
+    fn from(_: AllocError) -> Self {
+        Lack::OutOfMemory
+    }
+}
+
+impl<T: Drop> From<AllocFailed<T>> for Lack {
+    ghost use Rattle.mq_inodes.specs.declared.lack.Lack.TheVariants.{OutOfMemory};
+    ghost use Rattle.std.specs.Prelude.{◌≡◌};
+
+    ghost from_gives = { λ _ e. e ≡ OutOfMemory };
+
+    fn from(_: AllocFailed<T>) -> Self {
+        Lack::OutOfMemory
+    }
+}
+
+/// A list of one block.
+pub fn one(alloc: Global, b: BlockNo) -> Result<Vec<BlockNo>, OutOfMemory>
+    ensures { IfOk result (λ blocks. blocks.items ≡ b ∷ []) }
+{
+    let mut blocks = Vec::new(alloc);
+    blocks.push(b)?;
+    Ok(blocks)
+}

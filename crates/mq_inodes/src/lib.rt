@@ -1,0 +1,28 @@
+//! The pages that a session holds as a file system: inodes, directories and files, free blocks, what
+//! requests change in them, and which pages they lack.
+#![tactic(auto)]
+
+mod bare;
+mod blocks;
+mod bytes;
+mod difference;
+mod directory;
+mod edits;
+mod grow;
+mod inode;
+mod lack;
+mod link;
+mod marks;
+mod opened;
+mod release;
+mod slots;
+mod space;
+mod walk;
+mod working;
+
+pub use blocks::{DIRECT, count_for, needs};
+pub use edits::are_bytes;
+pub use lack::Lack;
+pub use opened::Opened;
+pub use walk::{DIRECTORY, Target};
+pub use working::Working;

@@ -1,0 +1,106 @@
+// Free blocks that a request takes.
+ghost use Rattle.std.specs.Prelude.{◌≡◌, ◌<◌, ◌≤◌, ◌++◌, IfErr, IfOk, MatchOption, OnOk, length, take};
+ghost use Rattle.std.specs.List.{All};
+ghost use Rattle.mq_blocks.specs.Geometry.{queues_of};
+ghost use Rattle.mq_inodes.specs.Lacks.{HasVolume, LacksOf, OfEach};
+ghost use Rattle.mq_inodes.specs.Pages.{pages_of};
+ghost use Rattle.mq_inodes.specs.Picks.{ArePicked, IsMarkable, IsSearched, free_of};
+ghost use Rattle.mq_layout.specs.Places.{zone_bitmap as zone_bitmap_of};
+ghost use Rattle.mq_tree.specs.Free.{free_blocks, order, zone_blocks};
+ghost use Rattle.mq_tree.specs.Laid.{ShowsMarks, zone_marked};
+ghost use Rattle.mq_tree.specs.Volume.{Volume};
+ghost use Rattle.std.specs.Prelude.{⊤};
+
+use crate::lack::Lack;
+use crate::working::Working;
+use mq_blocks::{Block, BlockNo, Geometry, OutOfMemory, QueueNo};
+use mq_layout::{bit, zone_bitmap};
+use std::alloc::Global;
+
+/// Adds the free blocks of a zone by its bitmap, up to so many picks.
+fn push_free(
+    geometry: Geometry,
+    marks: &Block,
+    zone: QueueNo,
+    count: u32,
+    picks: &mut Vec<BlockNo>,
+) -> Result<(), OutOfMemory>
+    requires zone { zone < queues_of geometry }
+    requires few { length picks.old.items ≤ count }
+    ensures { OnOk result ((v : Volume) → ShowsMarks marks.now (zone_marked geometry v zone) → picks.new.items ≡ take count (picks.old.items ++ free_of v (zone_blocks geometry zone))) }
+{
+    let start = geometry.meta() + zone.0 * geometry.zone();
+    for k in 0..geometry.zone() {
+        if picks.len() >= count as usize {
+            return Ok(());
+        }
+        if !bit(marks, k) {
+            picks.push(BlockNo(start + k))?;
+        }
+    }
+    Ok(())
+}
+
+impl<'a> Working<'a> {
+    /// Adds the free blocks of a zone, up to so many picks. Where there are so many it isn't looked at.
+    fn search(
+        &self,
+        alloc: Global,
+        zone: QueueNo,
+        count: u32,
+        picks: &mut Vec<BlockNo>,
+    ) -> Result<(), Lack>
+        requires possible { HasVolume self.now }
+        requires zone { zone < queues_of self.now.geometry }
+        requires few { length picks.old.items ≤ count }
+        ensures ok { OnOk result (OfEach self.now (λ v. picks.new.items ≡ take count (picks.old.items ++ free_of v (zone_blocks self.now.geometry zone)))) }
+        ensures marks { OnOk result (All (IsMarkable self.now.geometry (pages_of self.now)) picks.old.items → All (IsMarkable self.now.geometry (pages_of self.now)) picks.new.items) }
+        ensures lack { IfErr result (LacksOf self.now (λ v b. (b ≡ zone_bitmap_of zone) × (length picks.old.items < count))) }
+    {
+        if picks.len() >= count as usize {
+            return Ok(());
+        }
+        let marks = self.content(alloc, zone_bitmap(self.geometry, zone))?;
+        push_free(self.geometry, marks, zone, count, picks)?;
+        Ok(())
+    }
+
+    /// The first free blocks, up to so many.
+    fn found(&self, alloc: Global, queue: QueueNo, count: u32) -> Result<Vec<BlockNo>, Lack>
+        requires possible { HasVolume self.now }
+        requires queue { queue < queues_of self.now.geometry }
+        ensures ok { IfOk result (λ picks. OfEach self.now (λ v. picks.items ≡ take count (free_of v (order self.now.geometry queue)))) }
+        ensures marks { IfOk result (λ picks. All (IsMarkable self.now.geometry (pages_of self.now)) picks.items) }
+        ensures lack { IfErr result (LacksOf self.now (λ v b. IsSearched self.now.geometry queue v count b)) }
+    {
+        let mut picks = Vec::new(alloc);
+        self.search(alloc, queue, count, &mut picks)?;
+        for zone in 0..self.geometry.queues() {
+            if zone != queue.0 {
+                self.search(alloc, QueueNo(zone), count, &mut picks)?;
+            }
+        }
+        Ok(picks)
+    }
+
+    /// The first so many free blocks: of the zone of the queue, then of the other zones by rising zone.
+    /// `None` where fewer are free. The bitmaps are looked at up to where there are enough.
+    pub fn pick(
+        &self,
+        alloc: Global,
+        queue: QueueNo,
+        count: u32,
+    ) -> Result<Option<Vec<BlockNo>>, Lack>
+        requires possible { HasVolume self.now }
+        requires queue { queue < queues_of self.now.geometry }
+        ensures ok { IfOk result (λ found. OfEach self.now (λ v. MatchOption found (free_blocks self.now.geometry v < count) (λ picks. ArePicked self.now.geometry queue v count picks.items))) }
+        ensures marks { IfOk result (λ found. MatchOption found ⊤ (λ picks. All (IsMarkable self.now.geometry (pages_of self.now)) picks.items)) }
+        ensures lack { IfErr result (LacksOf self.now (λ v b. IsSearched self.now.geometry queue v count b)) }
+    {
+        let picks = self.found(alloc, queue, count)?;
+        if picks.len() < count as usize {
+            return Ok(None);
+        }
+        Ok(Some(picks))
+    }
+}
