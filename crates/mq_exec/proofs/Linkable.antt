@@ -2,7 +2,6 @@
 use Rattle.std.proofs.Common.{get_or, ◌≡◌, ◌≢◌, ℕ, suc, ◌-◌, ◌<◌, List, [], ◌∷◌, ◌++◌, length, Bool, cond, refl, sym, ap, subst, ◌∙◌, arith, take, drop, drop-cons}
 use Rattle.std.specs.Prelude.{Option, Some, None, nat_lt, is_some, slice_get}
 use Rattle.std.specs.List.{All}
-use Rattle.std.proofs.lemmas.Bool.{lt-ltb}
 use Rattle.std.proofs.lemmas.List.{drop_all, take-append-drop}
 use Rattle.std.proofs.lemmas.Option.{none-some, same_Some, slice_get-get_or}
 use Rattle.mq_blocks.specs.Geometry.{meta_of, queues_of}
@@ -25,13 +24,11 @@ use Rattle.mq_inodes.proofs.Picking.{picks-all_free}
 use Rattle.mq_inodes.proofs.Walking.{way-last}
 use Rattle.mq_layout.specs.Places.{inode_block}
 use Rattle.mq_layout.specs.Slots.{Entry}
-use Rattle.mq_layout.specs.declared.inode.Inode.{Inode}
 use Rattle.mq_tree.specs.Free.{order}
-use Rattle.mq_tree.specs.Laid.{inode_of, or_zero}
+use Rattle.mq_tree.specs.Laid.{inode_of}
 use Rattle.mq_tree.specs.Requests.{link_needs, linked}
 use Rattle.mq_tree.specs.Volume.{Node, Part, Path, Pointers, Volume, is_taken, node, way}
 use Rattle.mq_tree.proofs.Maps.{zone-low}
-use Rattle.mq_tree.proofs.Unique.{some-when}
 
 -- ---- volumes in which the directory is the same, and the same blocks are taken
 

@@ -2,14 +2,16 @@
 use Rattle.std.proofs.Common.{get_or, ◌≡◌, ℕ, suc, ◌+◌, ◌<◌, ◌≤◌, List, [], ◌∷◌, ◌++◌, length, drop, refl, sym, ap, subst, ◌∙◌, arith, append_assoc, drop-cons, inl, inr}
 use Rattle.std.specs.Prelude.{None}
 use Rattle.std.proofs.lemmas.List.{append-nil, drop_all}
+use Rattle.std.proofs.lemmas.List.Elements.{All-contains, All-contains_itself}
 use Rattle.mq_blocks.specs.Geometry.{queues_of}
 use Rattle.mq_blocks.specs.declared.geometry.Geometry.{Geometry}
-use Rattle.mq_exec.specs.Outcomes.{Answers, NeedsOf}
+use Rattle.mq_exec.specs.Outcomes.{Answers, AreEachOnce, NeedsOf}
 use Rattle.mq_exec.specs.Plans.{ComesTo}
 use Rattle.mq_exec.specs.declared.outcome.Outcome.{Outcome as Stops}
+use Rattle.mq_exec.specs.declared.outcome.Outcome.TheVariants.{Done, Need}
 use Rattle.mq_inodes.specs.Edits.{Becomes, IsOver}
 use Rattle.mq_inodes.specs.Fits.{Agrees, IsPossible}
-use Rattle.mq_inodes.specs.Lacks.{HasVolume, Lacks, OfEach}
+use Rattle.mq_inodes.specs.Lacks.{HasVolume, IsNeed, Lacks, OfEach}
 use Rattle.mq_inodes.specs.Pages.{Pages, pages_of}
 use Rattle.mq_inodes.specs.declared.lack.Lack.{Lack}
 use Rattle.mq_inodes.specs.declared.lack.Lack.TheVariants.{Need as NeedOf, OutOfMemory as Wanting}
@@ -121,10 +123,20 @@ run-looks g q held start now whole k r so_far b e l at h looks v agrees =
     let each : (u : Volume) → Agrees g (pages_of now) u → Looks g q u r b = subst (λ (x : Geometry). (u : Volume) → Agrees x (pages_of now) u → Looks x q u r b) shape looks in
     t.looks b (inl (each t.volume (run-agrees g q v start now whole (r ∷ drop (k + 1) whole) so_far t)))
 
+named-needs : (pages : Pages) (looks : ℕ → Type 0) (lacked named : List ℕ) → AreEachOnce lacked named → IsNeed pages looks lacked → IsNeed pages looks named
+named-needs pages looks lacked named n h = record {
+  some = (let first = n.all (get_or lacked 0 0) (All-contains_itself lacked 0 0 h.some) in let low = first.1 in omega arith);
+  absent = λ k d l. All-contains (λ b. pages b ≡ None) lacked (get_or named k d) h.absent (n.only _ (All-contains_itself named k d l));
+  looked = λ k d l. All-contains looks lacked (get_or named k d) h.looked (n.only _ (All-contains_itself named k d l));
+}
+
 pub run-lacks : (g : Geometry) (q : ℕ) (held pages : Pages) (requests : List Request) (lack : Lack) (outcome : Stops) (P : ℕ → Type 0) → ((b : ℕ) → pages b ≡ None → held b ≡ None) → ((b : ℕ) → P b → (v : Volume) → Agrees g held v → GroupLooks g q v requests b) → Lacks pages P lack
     → NeedsOf lack outcome → Answers g q held requests outcome
-run-lacks g q held pages requests (NeedOf blocks) outcome P absent f h is =
-    subst (λ o. Answers g q held requests o) (sym is) (need-weaker pages held P (λ b. (v : Volume) → Agrees g held v → GroupLooks g q v requests b) blocks.items absent f h)
+run-lacks g q held pages requests (NeedOf blocks) (Done done) P absent f h is = absurd is
+run-lacks g q held pages requests (NeedOf blocks) (Need named) P absent f h is = record {
+  need = named-needs held (λ b. (v : Volume) → Agrees g held v → GroupLooks g q v requests b) blocks.items named.items is (need-weaker pages held P (λ b. (v : Volume) → Agrees g held v → GroupLooks g q v requests b) blocks.items absent f h);
+  rise = is.rise;
+}
 run-lacks g q held pages requests Wanting outcome P absent f h is = absurd is
 
 -- ---- at the end

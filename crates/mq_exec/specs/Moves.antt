@@ -1,14 +1,14 @@
 -- What a transaction writes and frees: the blocks at which two volumes differ.
-use Rattle.std.specs.Prelude.{◌≡◌, ◌≢◌, ◌<◌, ◌↔◌, ℕ, true, false, List, Some, None}
+use Rattle.std.specs.Prelude.{◌≡◌, ◌<◌, ◌↔◌, ℕ, true, false, List, None}
 use Rattle.std.specs.List.{AllPairs, Contains}
 use Rattle.mq_blocks.specs.declared.geometry.Geometry.{Geometry}
 use Rattle.mq_inodes.specs.Changes.{IsOfFile, SameAt}
 use Rattle.mq_inodes.specs.Fits.{Agrees}
-use Rattle.mq_inodes.specs.Pages.{IsHeld, Pages, over}
+use Rattle.mq_inodes.specs.Pages.{Pages, over}
 use Rattle.mq_pages.specs.declared.page.Kind.TheVariants.{Data}
 use Rattle.mq_pages.specs.declared.page.Write.{Write}
-use Rattle.mq_tree.specs.Laid.{IsVacant, Shows}
-use Rattle.mq_tree.specs.Volume.{File, Part, Volume, block_in, body, is_taken}
+use Rattle.mq_tree.specs.Laid.{Shows}
+use Rattle.mq_tree.specs.Volume.{Volume, is_taken}
 
 -- what is written is what the volume shows afterwards, and not before
 pub record IsWritten (g : Geometry) (v w : Volume) (x : Write) : Type 0 where

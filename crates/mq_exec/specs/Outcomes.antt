@@ -1,5 +1,6 @@
 -- What a group of requests does on pages of which some are absent.
-use Rattle.std.specs.Prelude.{◌≡◌, ℕ, List}
+use Rattle.std.specs.Prelude.{◌≡◌, ◌<◌, ℕ, List}
+use Rattle.std.specs.List.{AllPairs, Contains}
 use Rattle.mq_blocks.specs.declared.geometry.Geometry.{Geometry}
 use Rattle.mq_exec.specs.Moves.{Moves}
 use Rattle.mq_exec.specs.declared.outcome.Done.{Done as Carried}
@@ -20,13 +21,25 @@ pub record IsDone (g : Geometry) (q : ℕ) (v : Volume) (requests : List Request
   pub replies : done.replies.items ≡ replies g q v requests
   pub moves : Moves g v (after_group g q v requests) done.writes.items done.frees.items
 
--- Where the group is done, this holds on each volume of which the pages may be a part. Else at least one
--- page is named; each is absent, and the group looks at it on each of these volumes.
+-- Blocks that a group asks for: at least one, each once and by rising block, each absent and looked at.
+pub record IsAsked (pages : Pages) (looks : ℕ → Type 0) (blocks : List ℕ) : Type 0 where
+  pub need : IsNeed pages looks blocks
+  pub rise : AllPairs (λ b c. b < c) blocks
+
+-- Where the group is done, this holds on each volume of which the pages may be a part. Else pages are asked
+-- for at which the group looks on each of these volumes.
 abbrev pub Answers : Geometry → (queue : ℕ) → Pages → List Request → Outcome → Type 0
 Answers g q pages requests (Done done) = (v : Volume) → Agrees g pages v → IsDone g q v requests done
-Answers g q pages requests (Need blocks) = IsNeed pages (λ b. (v : Volume) → Agrees g pages v → GroupLooks g q v requests b) blocks.items
+Answers g q pages requests (Need blocks) = IsAsked pages (λ b. (v : Volume) → Agrees g pages v → GroupLooks g q v requests b) blocks.items
+
+-- just the blocks that are lacked, each once and by rising block
+pub record AreEachOnce (lacked named : List ℕ) : Type 0 where
+  pub rise : AllPairs (λ b c. b < c) named
+  pub all : (b : ℕ) → Contains lacked b → Contains named b
+  pub only : (b : ℕ) → Contains named b → Contains lacked b
 
 -- the outcome where something is lacked
 abbrev pub NeedsOf : Lack → Outcome → Type 0
-NeedsOf (NeedOf blocks) outcome = outcome ≡ Need blocks
+NeedsOf (NeedOf blocks) (Done done) = ⊥
+NeedsOf (NeedOf blocks) (Need named) = AreEachOnce blocks.items named.items
 NeedsOf Wanting outcome = ⊥

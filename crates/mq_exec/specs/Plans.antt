@@ -1,5 +1,5 @@
 -- Requests that change, once it is known what they come to.
-use Rattle.std.specs.Prelude.{◌≡◌, ◌≢◌, ◌<◌, ◌≤◌, ◌-◌, ℕ, Bool, true, false, List, [], length, slice_index, slice_set, Option, Some, None, if◌then◌else◌, nat_eq, nat_le}
+use Rattle.std.specs.Prelude.{◌≡◌, ◌≢◌, ◌<◌, ◌≤◌, ◌-◌, ℕ, Bool, true, false, List, length, slice_index, Option, Some, None, if◌then◌else◌, nat_eq, nat_le}
 use Rattle.std.specs.List.{All}
 use Rattle.mq_blocks.specs.declared.geometry.Geometry.{Geometry}
 use Rattle.mq_exec.specs.declared.make.Making.{Making}

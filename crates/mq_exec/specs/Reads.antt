@@ -1,18 +1,16 @@
 -- Requests that read: what their paths name, and the bytes of files.
-use Rattle.std.specs.Prelude.{◌≡◌, ◌≤◌, ◌<◌, ◌+◌, ◌/◌, ◌⊎◌, ℕ, min, true, List, [], ◌∷◌, ◌++◌, length, slice_get, Result, Ok, Err, Some, None, if◌then◌else◌}
+use Rattle.std.specs.Prelude.{◌≡◌, ℕ, true, Result, Ok, Err, Some, None, if◌then◌else◌}
 use Rattle.std.specs.List.{list_all}
 use Rattle.mq_blocks.specs.declared.geometry.Geometry.{Geometry}
 use Rattle.mq_exec.specs.declared.subject.Subject.{Subject}
-use Rattle.mq_inodes.specs.Pages.{Pages, content}
 use Rattle.mq_inodes.specs.Walks.{IsDirectory, LeadsPast}
 use Rattle.mq_inodes.specs.declared.walk.Target.{Target}
 use Rattle.mq_inodes.specs.declared.walk.Target.TheVariants.{Root, Lost, In}
 use Rattle.mq_layout.specs.Names.{is_name}
-use Rattle.mq_layout.specs.declared.inode.Inode.{Inode}
 use Rattle.mq_tree.specs.Laid.{inode_of}
 use Rattle.mq_tree.specs.Looks.{Looks}
 use Rattle.mq_tree.specs.Requests.{Says, Verdict, asks, list_in, read_in, refused, stat_in, step, target}
-use Rattle.mq_tree.specs.Volume.{Body, File, Path, Volume, body, has_block, inode_at, is_used, node, way}
+use Rattle.mq_tree.specs.Volume.{Body, Path, Volume, body, has_block, inode_at, is_used, node, way}
 use Rattle.mq_tree.specs.declared.request.Fault.{Fault}
 use Rattle.mq_tree.specs.declared.request.Fault.TheVariants.{BadName, NotFound}
 use Rattle.mq_tree.specs.declared.request.Reply.{Reply}

@@ -13,12 +13,16 @@ use mq_inodes::{Lack, Working};
 use mq_tree::Request;
 use std::alloc::Global;
 
-/// The outcome where something is lacked.
+/// The outcome where something is lacked. Each block is named once, by rising block.
 fn stopped(lack: Lack) -> Result<Outcome, OutOfMemory>
     ensures { IfOk result (NeedsOf lack) }
 {
     match lack {
-        Lack::Need(blocks) => Ok(Outcome::Need(blocks)),
+        Lack::Need(mut blocks) => {
+            blocks.sort_unstable();
+            blocks.dedup();
+            Ok(Outcome::Need(blocks))
+        }
         Lack::OutOfMemory => Err(OutOfMemory),
     }
 }

@@ -7,7 +7,7 @@ use mq_tree::Reply;
 #[derive(Drop)]
 pub enum Outcome {
     Done(Done),
-    /// Absent pages at which the group looks, at least one.
+    /// Absent pages at which the group looks, at least one, by rising block.
     Need(Vec<BlockNo>),
 }
 

@@ -1,5 +1,5 @@
 // What a path names.
-ghost use Rattle.std.specs.Prelude.{◌≡◌, ◌≢◌, IfErr, IfOk};
+ghost use Rattle.std.specs.Prelude.{◌≡◌, IfErr, IfOk};
 ghost use Rattle.std.specs.List.{list_all};
 ghost use Rattle.mq_exec.specs.Reads.{IsFound, NamesLeadPast, number_of};
 ghost use Rattle.mq_inodes.specs.Lacks.{HasVolume, LacksOf, OfEach};

@@ -1,5 +1,5 @@
 // The bytes of files.
-ghost use Rattle.std.specs.Prelude.{◌≡◌, ◌≤◌, ℕ, List, drop, length, take, IfErr, IfOk};
+ghost use Rattle.std.specs.Prelude.{◌≡◌, ◌≤◌, ℕ, List, drop, take, IfErr, IfOk};
 ghost use Rattle.std.specs.List.{All};
 ghost use Rattle.mq_inodes.specs.Lacks.{HasVolume, LacksOf, OfEach};
 ghost use Rattle.mq_inodes.specs.Pages.{IsHeld, pages_of};

@@ -1,5 +1,5 @@
 // Directories: the blocks with their slots, and what these say together.
-ghost use Rattle.std.specs.Prelude.{◌≡◌, ◌≢◌, ◌≤◌, ◌*◌, ◌<◌, ℕ, length, true, Bool, IfErr, IfOk, OnOk, Some, None};
+ghost use Rattle.std.specs.Prelude.{◌≡◌, ◌≢◌, ◌≤◌, ◌*◌, ◌<◌, length, true, IfErr, IfOk, OnOk, Some, None};
 ghost use Rattle.std.specs.List.{All, Contains};
 ghost use Rattle.mq_inodes.specs.Dirs.{AreDirsAt, names_of, slots_at};
 ghost use Rattle.mq_inodes.specs.Lacks.{HasVolume, Lacks, LacksOf, OfEach};

@@ -1,7 +1,5 @@
 // Edits of single pages. Each takes the content out, changes it and puts it again.
 ghost use Rattle.std.specs.Prelude.{◌≡◌, ◌<◌, ◌≤◌, ◌+◌, ◌*◌, length, OnOk, Some, None};
-ghost use Rattle.std.specs.Int.{to_le_bytes, w32};
-ghost use Rattle.mq_blocks.specs.Geometry.{meta_of};
 ghost use Rattle.mq_inodes.specs.Changes.{IsBlockMarked, IsInodeMarked, IsInodePut, IsPointerPut, IsTakenIn, IsTextPut};
 ghost use Rattle.mq_inodes.specs.Edits.{IsKindPut, IsOver, IsZoneKindPut, KeepsKinds};
 ghost use Rattle.mq_inodes.specs.Pages.{IsHeld, pages_of};

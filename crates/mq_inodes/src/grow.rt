@@ -1,5 +1,5 @@
 // Files and directories that get more blocks.
-ghost use Rattle.std.specs.Prelude.{◌≡◌, ◌≢◌, ◌<◌, ◌≤◌, ◌^◌, ◌+◌, ℕ, length, None, OnOk, Some};
+ghost use Rattle.std.specs.Prelude.{◌≡◌, ◌≢◌, ◌<◌, ◌≤◌, ◌^◌, ◌+◌, ℕ, length, OnOk, Some};
 ghost use Rattle.std.specs.List.{All};
 ghost use Rattle.mq_inodes.specs.Edits.{Carries, IsOver};
 ghost use Rattle.mq_inodes.specs.Growing.{HasGot, HoldsIndirect, KeepsOthers, MayGet, kind_in as kind_in_of, longer_inode, with_one};

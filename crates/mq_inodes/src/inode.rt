@@ -1,6 +1,6 @@
 // Inodes.
-ghost use Rattle.std.specs.Prelude.{◌≡◌, ◌<◌, ◌≤◌, IfErr, IfOk};
-ghost use Rattle.mq_inodes.specs.Lacks.{HasVolume, Lacks, LacksOf, OfEach};
+ghost use Rattle.std.specs.Prelude.{◌≡◌, ◌<◌, IfErr, IfOk};
+ghost use Rattle.mq_inodes.specs.Lacks.{HasVolume, Lacks, OfEach};
 ghost use Rattle.mq_inodes.specs.Pages.{IsHeld, pages_of};
 ghost use Rattle.mq_layout.specs.Places.{inode_block as inode_block_of, inodes_of};
 ghost use Rattle.mq_tree.specs.Laid.{inode_of};

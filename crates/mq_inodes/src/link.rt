@@ -5,7 +5,6 @@ ghost use Rattle.mq_inodes.specs.Dirs.{AreDirsAt, slots_at};
 ghost use Rattle.mq_inodes.specs.Edits.{Becomes, Carries, IsOver, KeepsHeld};
 ghost use Rattle.mq_inodes.specs.Opened.{HoldsPointers, IsTakeable, MayLink, MayUnlink};
 ghost use Rattle.mq_inodes.specs.Pages.{IsHeld, pages_of};
-ghost use Rattle.mq_layout.specs.Names.{IsName};
 ghost use Rattle.mq_layout.specs.Places.{inode_block as inode_block_of};
 ghost use Rattle.mq_tree.specs.Requests.{cleared, linked, unlinked, unused as first_unused};
 ghost use Rattle.mq_tree.specs.Volume.{Volume, find as find_name, slot_number};

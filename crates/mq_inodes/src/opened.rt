@@ -1,5 +1,5 @@
 // An inode that a request changes.
-ghost use Rattle.std.specs.Prelude.{◌≡◌, ◌≢◌, ◌≤◌, ℕ, length, IfErr, IfOk};
+ghost use Rattle.std.specs.Prelude.{◌≡◌, ◌≤◌, length, IfErr, IfOk};
 ghost use Rattle.mq_inodes.specs.Dirs.{AreDirsAt, slots_at};
 ghost use Rattle.mq_inodes.specs.Lacks.{HasVolume, LacksOf, OfEach};
 ghost use Rattle.mq_inodes.specs.Opened.{HoldsPointers, IsOpened};

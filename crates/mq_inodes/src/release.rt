@@ -1,5 +1,5 @@
 // Blocks and inodes that are freed.
-ghost use Rattle.std.specs.Prelude.{◌≡◌, ◌<◌, ◌≤◌, ℕ, List, [], ◌∷◌, drop, length, OnOk, Some};
+ghost use Rattle.std.specs.Prelude.{◌≡◌, ◌<◌, ◌≤◌, ℕ, List, [], ◌∷◌, drop, length, OnOk};
 ghost use Rattle.std.specs.List.{All};
 ghost use Rattle.mq_inodes.specs.Edits.{Becomes, Carries, IsOver};
 ghost use Rattle.mq_inodes.specs.Opened.{HoldsPointers, IsOpened, IsReleasable, MayCut, cut_file};
