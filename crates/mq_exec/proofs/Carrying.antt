@@ -21,6 +21,7 @@ use Rattle.mq_inodes.proofs.Held.{meta-held, table-low, used-held}
 use Rattle.mq_inodes.proofs.LinkedGrown.{Grows}
 use Rattle.mq_inodes.proofs.LocalBodies.{inode-form, rebodied}
 use Rattle.mq_inodes.proofs.LocalVolumes.{with_body-uses}
+use Rattle.mq_inodes.proofs.Unchanged.{inode-stays}
 use Rattle.mq_layout.specs.Inodes.{IsInode}
 use Rattle.mq_layout.specs.Places.{file_limit, inode_block}
 use Rattle.mq_layout.specs.declared.inode.Inode.{Inode}
@@ -83,20 +84,40 @@ mid-apart g q v m bytes old mid after r = subst (λ (xs : List ℕ). AreApart xs
 
 -- ---- the inode that is written
 
-pub mid-table : (g : Geometry) (q : ℕ) (v : Volume) (m : Rewriting) (bytes : List ℕ) (at : ℕ) (text : List ℕ) (old mid wrote : Working) (after : Opened) → IsRegrown g q v m bytes old mid after → IsOver old mid → wrote.geometry ≡ g → IsHeld (pages_of old) (inode_block g m.file.number)
-    → ((place : ℕ) → at / 4096 ≤ place → place < past_place at (length text) → place < length after.blocks.items) → IsOverwritten mid wrote after.blocks.items at text (past_place at (length text)) → IsHeld (pages_of wrote) (inode_block wrote.geometry after.number)
-mid-table g q v m bytes at text old mid wrote after r over same held past parts =
+-- the block of the inode is no block of the file
+mid-there : (g : Geometry) (q : ℕ) (v : Volume) (m : Rewriting) (bytes : List ℕ) (at : ℕ) (text : List ℕ) (old mid wrote : Working) (after : Opened) → IsRegrown g q v m bytes old mid after → IsOver old mid → IsHeld (pages_of old) (inode_block g m.file.number)
+    → ((place : ℕ) → at / 4096 ≤ place → place < past_place at (length text) → place < length after.blocks.items) → IsOverwritten mid wrote after.blocks.items at text (past_place at (length text))
+    → IsHeld (pages_of mid) (inode_block g m.file.number) × (pages_of wrote (inode_block g m.file.number) ≡ pages_of mid (inode_block g m.file.number))
+mid-there g q v m bytes at text old mid wrote after r over held past parts =
     let b = inode_block g m.file.number in
     let low = table-low g m.file.number r.low in
     let there_mid = meta-held g (pages_of mid) r.u b r.becomes.carries.fits low (λ none. none-held (sym (over.known b none) ∙ held)) in
     let rest : pages_of wrote b ≡ pages_of mid b = parts.rest b (λ place first high e.
     let z = (r.becomes.carries.uses.zones (Part m.file.number place) (get_or after.blocks.items place 0) (there r.u m.file.number after.blocks.items place r.blocks (past place first high))).0 in
     omega arith) in
-    let here : IsHeld (pages_of wrote) b = subst (λ o. o ≡ Some (Some (content o))) (sym rest) there_mid in
-    subst (λ (x : Geometry). IsHeld (pages_of wrote) (inode_block x after.number)) (sym same) (subst (λ k. IsHeld (pages_of wrote) (inode_block g k)) (sym r.number) here)
+    (there_mid, rest)
   where
     none-held : {x : Option (List ℕ)} → None ≡ Some x → ⊥
     none-held e = absurd (cc)
+
+pub mid-table : (g : Geometry) (q : ℕ) (v : Volume) (m : Rewriting) (bytes : List ℕ) (at : ℕ) (text : List ℕ) (old mid wrote : Working) (after : Opened) → IsRegrown g q v m bytes old mid after → IsOver old mid → wrote.geometry ≡ g → IsHeld (pages_of old) (inode_block g m.file.number)
+    → ((place : ℕ) → at / 4096 ≤ place → place < past_place at (length text) → place < length after.blocks.items) → IsOverwritten mid wrote after.blocks.items at text (past_place at (length text)) → IsHeld (pages_of wrote) (inode_block wrote.geometry after.number)
+mid-table g q v m bytes at text old mid wrote after r over same held past parts =
+    let b = inode_block g m.file.number in
+    let t = mid-there g q v m bytes at text old mid wrote after r over held past parts in
+    let here : IsHeld (pages_of wrote) b = subst (λ o. o ≡ Some (Some (content o))) (sym t.1) t.0 in
+    subst (λ (x : Geometry). IsHeld (pages_of wrote) (inode_block x after.number)) (sym same) (subst (λ k. IsHeld (pages_of wrote) (inode_block g k)) (sym r.number) here)
+
+-- The inode of a file that keeps its size says what it said, as if it were put.
+pub mid-stays : (g : Geometry) (q : ℕ) (v : Volume) (m : Rewriting) (bytes : List ℕ) (at : ℕ) (text : List ℕ) (old mid wrote : Working) (after : Opened) → IsRegrown g q v m bytes old mid after → IsOver old mid → IsHeld (pages_of old) (inode_block g m.file.number)
+    → ((place : ℕ) → at / 4096 ≤ place → place < past_place at (length text) → place < length after.blocks.items) → IsOverwritten mid wrote after.blocks.items at text (past_place at (length text)) → after.inode.size ≡ m.size
+    → IsInodePut g (pages_of wrote) (pages_of wrote) after.number (record { kind = after.inode.kind; links = after.inode.links; size = m.size; direct = after.inode.direct; indirect = after.inode.indirect })
+mid-stays g q v m bytes at text old mid wrote after r over held past parts size =
+    let i = m.file.number in
+    let t = mid-there g q v m bytes at text old mid wrote after r over held past parts in
+    let stays : IsInodePut g (pages_of wrote) (pages_of wrote) i (inode_of (node r.u i)) = inode-stays g (pages_of mid) (pages_of wrote) r.u i r.becomes.carries r.low t.0 t.1 in
+    let says : IsInodePut g (pages_of wrote) (pages_of wrote) after.number after.inode = subst (λ k. IsInodePut g (pages_of wrote) (pages_of wrote) k after.inode) (sym r.number) (subst (λ (x : Inode). IsInodePut g (pages_of wrote) (pages_of wrote) i x) (sym r.inode) stays) in
+    subst (λ s. IsInodePut g (pages_of wrote) (pages_of wrote) after.number (record { kind = after.inode.kind; links = after.inode.links; size = s; direct = after.inode.direct; indirect = after.inode.indirect })) size says
 
 mid-inode : (g : Geometry) (q : ℕ) (v : Volume) (m : Rewriting) (bytes now : List ℕ) (old mid : Working) (after : Opened) → (r : IsRegrown g q v m bytes old mid after) → length now ≡ m.size
     → record { kind = after.inode.kind; links = after.inode.links; size = m.size; direct = after.inode.direct; indirect = after.inode.indirect } ≡ inode_of (rebodied (node r.u m.file.number) (File now))

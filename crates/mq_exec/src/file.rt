@@ -22,7 +22,11 @@ pub struct Found {
 }
 
 /// The file that a path names, or why each request that changes a file is refused there.
-pub fn find_file(alloc: Global, working: &Working, path: &Path) -> Result<Result<Found, Fault>, Lack>
+pub fn find_file(
+    alloc: Global,
+    working: &Working,
+    path: &Path,
+) -> Result<Result<Found, Fault>, Lack>
     requires { HasVolume working.now }
     ensures ok { IfOk result (λ found. OfEach working.now (λ v. MatchResult found (IsFound v path.now) (λ fault. (act : ℕ → List ℕ → ℕ → List ℕ → Verdict) → on_file v act (target_of v (way path.now)) ≡ refused fault))) }
     ensures held { IfOk result (λ found. MatchResult found (λ f. IsHeld (pages_of working.now) (inode_block_of working.now.geometry f.number)) (λ _. ⊤)) }

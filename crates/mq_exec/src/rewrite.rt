@@ -158,6 +158,9 @@ pub fn carry_rewrite(
     } = rewriting;
     working.grow(alloc, &mut file, &picks)?;
     overwrite(alloc, working, &file.blocks, at, bytes)?;
+    if file.inode.size == size {
+        return Ok(());
+    }
     file.inode.size = size;
     working.put_inode(alloc, file.number, &file.inode)
 }

@@ -6,7 +6,7 @@ use Rattle.mq_blocks.specs.Geometry.{meta_of}
 use Rattle.mq_blocks.specs.Journal.{is_among}
 use Rattle.mq_blocks.specs.declared.geometry.Geometry.{Geometry}
 use Rattle.mq_inodes.specs.Changes.{IsOfFile, Stepped}
-use Rattle.mq_inodes.specs.Edits.{Becomes, Carries, IsOver, IsSameView}
+use Rattle.mq_inodes.specs.Edits.{Becomes, Carries, IsOver, IsSameView, KindsFit}
 use Rattle.mq_inodes.specs.Fits.{Agrees}
 use Rattle.mq_inodes.specs.Pages.{Pages, kinds_of, pages_of}
 use Rattle.mq_inodes.specs.declared.working.Working.{Working}
@@ -54,20 +54,27 @@ becomes-then g v u w old mid new over s t = record {
 
 -- A step of the pages, of which each listed block was known: the blocks of the zones that are listed were put
 -- with the kinds of their uses.
-pub becomes-stepped : (g : Geometry) (v w : Volume) (old new : Working) (blocks : List ℕ) → Carries g (pages_of old) v → AreUses g w → length w ≡ length v → Stepped g v w (pages_of new) blocks → ((b : ℕ) → is_among b blocks ≡ true → pages_of old b ≢ None)
-    → ((b : ℕ) → meta_of g ≤ b → is_among b blocks ≡ false → kinds_of new b ≡ kinds_of old b) → ((b : ℕ) (kind : Kind) → meta_of g ≤ b → is_among b blocks ≡ true → kinds_of new b ≡ Some kind → (kind ≡ Data) ↔ IsOfFile w b)
+pub becomes-fitted : (g : Geometry) (v w : Volume) (old new : Working) (blocks : List ℕ) → Carries g (pages_of old) v → AreUses g w → length w ≡ length v → Stepped g v w (pages_of new) blocks → ((b : ℕ) → is_among b blocks ≡ true → pages_of old b ≢ None)
+    → ((b : ℕ) → meta_of g ≤ b → is_among b blocks ≡ false → kinds_of new b ≡ kinds_of old b)
+    → (KindsFit g (kinds_of old) v → (b : ℕ) (kind : Kind) → meta_of g ≤ b → is_among b blocks ≡ true → kinds_of new b ≡ Some kind → (kind ≡ Data) ↔ IsOfFile w b)
     → Becomes g v w old new
-becomes-stepped g v w old new blocks c uses size s known rest put = record {
+becomes-fitted g v w old new blocks c uses size s known rest put = record {
   carries = record { uses = uses; count = size ∙ c.count; fits = s.fits };
   same = λ b none. elim (cases_Bool (is_among b blocks)) [
     | inl y ↦ absurd (known b y none)
     | inr n ↦ s.same b n
   ];
   kinds = λ fit b kind high e. elim (cases_Bool (is_among b blocks)) [
-    | inl y ↦ put b kind high y e
+    | inl y ↦ put fit b kind high y e
     | inr n ↦
         let was = fit b kind high (sym (rest b high n) ∙ e) in
         let files = s.files b n in
         (λ d. files.0 (was.0 d), λ f. was.1 (files.1 f))
   ];
 }
+
+-- whatever kinds there were before
+pub becomes-stepped : (g : Geometry) (v w : Volume) (old new : Working) (blocks : List ℕ) → Carries g (pages_of old) v → AreUses g w → length w ≡ length v → Stepped g v w (pages_of new) blocks → ((b : ℕ) → is_among b blocks ≡ true → pages_of old b ≢ None)
+    → ((b : ℕ) → meta_of g ≤ b → is_among b blocks ≡ false → kinds_of new b ≡ kinds_of old b) → ((b : ℕ) (kind : Kind) → meta_of g ≤ b → is_among b blocks ≡ true → kinds_of new b ≡ Some kind → (kind ≡ Data) ↔ IsOfFile w b)
+    → Becomes g v w old new
+becomes-stepped g v w old new blocks c uses size s known rest put = becomes-fitted g v w old new blocks c uses size s known rest (λ fit. put)

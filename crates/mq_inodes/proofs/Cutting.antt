@@ -1,20 +1,20 @@
 -- A file that is cut: its blocks past the new end, its pointers, and what its inode says.
-use Rattle.std.proofs.Common.{get_or, ◌≡◌, ◌≢◌, ℕ, ◌<◌, ◌≤◌, ◌⊎◌, inl, inr, List, [], ◌∷◌, length, length-set, drop, take, Bool, true, false, cond, refl, sym, ap, subst, ◌∙◌, arith}
+use Rattle.std.proofs.Common.{get_or, ◌≡◌, ◌≢◌, ℕ, ◌+◌, ◌<◌, ◌≤◌, ◌⊎◌, inl, inr, List, [], ◌∷◌, length, length-set, drop, take, Bool, true, false, cond, refl, sym, ap, subst, ◌∙◌, arith}
 use Rattle.std.specs.Prelude.{Option, Some, None, ◌↔◌, is_some, nat_lt, if◌then◌else◌}
 use Rattle.std.proofs.lemmas.Bool.{cases_Bool, cases_lt, false_from_ne_true, lt-ltb, ltb-true, true≢false}
-use Rattle.std.proofs.lemmas.List.{get_or_default, same_lists}
+use Rattle.std.proofs.lemmas.List.{get_or_default, get_or_past, same_lists}
 use Rattle.std.proofs.lemmas.Option.{none-some, same_Some}
 use Rattle.mq_blocks.specs.Geometry.{meta_of, queues_of}
 use Rattle.mq_blocks.specs.Journal.{is_among}
 use Rattle.mq_blocks.specs.declared.geometry.Geometry.{Geometry}
 use Rattle.mq_inodes.specs.Changes.{IsCleared, IsInodePut, IsInodeTurned, IsOfFile, IsPointersCut, Stepped, zone_in}
-use Rattle.mq_inodes.specs.Edits.{Becomes, Carries, KeepsKinds}
+use Rattle.mq_inodes.specs.Edits.{Becomes, Carries, KeepsKinds, KindsFit}
 use Rattle.mq_inodes.specs.Opened.{HoldsPointers, IsOpened, IsReleasable, MayCut, cut_file, cut_node}
-use Rattle.mq_inodes.specs.Pages.{IsHeld, Pages, kinds_of, pages_of}
+use Rattle.mq_inodes.specs.Pages.{IsHeld, Pages, content, kinds_of, pages_of}
 use Rattle.mq_inodes.specs.Released.{CutsPointers, IsCutInode, IsReleased, Releases, gone_from}
 use Rattle.mq_inodes.specs.declared.opened.Opened.{Opened}
 use Rattle.mq_inodes.specs.declared.working.Working.{Working}
-use Rattle.mq_inodes.proofs.Becoming.{becomes-stepped}
+use Rattle.mq_inodes.proofs.Becoming.{becomes-fitted}
 use Rattle.mq_inodes.proofs.FreedInodes.{inside-along, table-held}
 use Rattle.mq_inodes.proofs.Held.{held-known, held-same, table-low}
 use Rattle.mq_inodes.proofs.Opening.{opened-pointers}
@@ -28,6 +28,7 @@ use Rattle.mq_inodes.proofs.LocalVolumes.{cut-uses}
 use Rattle.mq_inodes.proofs.Nodes.{length-padded}
 use Rattle.mq_inodes.proofs.Padded.{padded-cut, padded-past}
 use Rattle.mq_inodes.proofs.Releasing.{high-marks, released-meta}
+use Rattle.mq_inodes.proofs.Showing.{use-carried}
 use Rattle.mq_layout.specs.Inodes.{IsInode}
 use Rattle.mq_layout.specs.Places.{file_limit, inode_block, inodes_of, zone_bitmap}
 use Rattle.mq_layout.specs.declared.inode.Inode.{Inode}
@@ -104,16 +105,16 @@ pointers-held v o count bytes now old mid carries may holds s many =
     let same = s.pages.rest p (ap (λ (xs : List ℕ). is_among p xs) (gone-opened g v o count may.opened) ∙ out) (λ c y e. let b = s.pages.inside c y in high-marks g p (zone_in g c) high (zone-low g c b.0 b.1) (sym e)) in
     held-same (pages_of old) (pages_of mid) p same (holds blocks)
 
-table-along : (mid next : Working) (i p count : ℕ) → i < inodes_of mid.geometry → CutsPointers mid next p count → (12 < count → meta_of mid.geometry ≤ p) → IsHeld (pages_of mid) (inode_block mid.geometry i) → IsHeld (pages_of next) (inode_block next.geometry i)
-table-along mid next i p count low c high held =
+table-along : (mid next : Working) (i p have count : ℕ) → i < inodes_of mid.geometry → CutsPointers mid next p have count → (12 < count → meta_of mid.geometry ≤ p) → IsHeld (pages_of mid) (inode_block mid.geometry i) → IsHeld (pages_of next) (inode_block next.geometry i)
+table-along mid next i p have count low c high held =
     let l = table-low mid.geometry i low in
     subst (λ g. IsHeld (pages_of next) (inode_block g i)) (sym c.over.view.geometry)
-    (held-same (pages_of mid) (pages_of next) (inode_block mid.geometry i) (c.others (inode_block mid.geometry i) (λ many e. let h = high many in omega arith)) held)
+    (held-same (pages_of mid) (pages_of next) (inode_block mid.geometry i) (c.others (inode_block mid.geometry i) (λ many more e. let h = high many in omega arith)) held)
 
 pub table-cut : (o : Opened) (count : ℕ) (old mid next : Working) → o.number < inodes_of old.geometry → count ≤ length o.blocks.items → (12 < length o.blocks.items → meta_of old.geometry ≤ o.inode.indirect) → IsHeld (pages_of old) (inode_block old.geometry o.number)
-    → Releases old mid (gone_from o count) → CutsPointers mid next o.inode.indirect count → IsHeld (pages_of next) (inode_block next.geometry o.number)
+    → Releases old mid (gone_from o count) → CutsPointers mid next o.inode.indirect (length o.blocks.items) count → IsHeld (pages_of next) (inode_block next.geometry o.number)
 table-cut o count old mid next low few high held s c =
-    table-along mid next o.number o.inode.indirect count (inside-along old mid o.number s.over low) c (λ many. subst (λ g. meta_of g ≤ o.inode.indirect) (sym s.over.view.geometry) (high (omega arith))) (table-held old mid o.number (gone_from o count) low s held)
+    table-along mid next o.number o.inode.indirect (length o.blocks.items) count (inside-along old mid o.number s.over low) c (λ many. subst (λ g. meta_of g ≤ o.inode.indirect) (sym s.over.view.geometry) (high (omega arith))) (table-held old mid o.number (gone_from o count) low s held)
 
 pub cut-form : (g : Geometry) (pages : Pages) (v : Volume) (o : Opened) (count : ℕ) (bytes now : List ℕ) (inode : Inode) → Carries g pages v → MayCut g v o count bytes now → IsCutInode o.inode inode count (length now) → IsInode inode
 cut-form g pages v o count bytes now inode carries may says =
@@ -133,16 +134,16 @@ pub record Cuts (v : Volume) (o : Opened) (count : ℕ) (bytes now : List ℕ) (
   pub may : MayCut old.geometry v o count bytes now
   pub releasable : (c : ℕ) → is_among c (gone_from o count) ≡ true → IsReleasable old.geometry (pages_of old) c
   pub table : IsHeld (pages_of old) (inode_block old.geometry o.number)
-  pub known : 12 < length o.blocks.items → pages_of old o.inode.indirect ≢ None
+  pub held : HoldsPointers (pages_of old) o
   pub released : Releases old mid (gone_from o count)
-  pub pointers : CutsPointers mid next o.inode.indirect count
+  pub pointers : CutsPointers mid next o.inode.indirect (length o.blocks.items) count
   pub keeps : KeepsKinds next new
   pub put : IsInodePut next.geometry (pages_of next) (pages_of new) o.number inode
   pub says : IsCutInode o.inode inode count (length now)
 
 pub becomes-cut : (v : Volume) (o : Opened) (count : ℕ) (bytes now : List ℕ) (old mid next new : Working) (inode : Inode) → Cuts v o count bytes now old mid next new inode → Becomes old.geometry v (cut_file v o.number count now) old new
 becomes-cut v o count bytes now old mid next new inode h =
-    becomes-stepped g v w old new list h.carries fine (length-set v i (cut_node n count now)) stepped known rest_kinds put_kinds
+    becomes-fitted g v w old new list h.carries fine (length-set v i (cut_node n count now)) stepped known rest_kinds put_kinds
   where
     g : Geometry
     g = old.geometry
@@ -158,6 +159,9 @@ becomes-cut v o count bytes now old mid next new inode h =
 
     p : ℕ
     p = o.inode.indirect
+
+    have : ℕ
+    have = length o.blocks.items
 
     uses : AreUses g v
     uses = h.carries.uses
@@ -253,7 +257,7 @@ becomes-cut v o count bytes now old mid next new inode h =
     m = subst (λ x. IsInodePut g (pages_of next) (pages_of new) i x) (cut-inode n count bytes now o.inode inode h.may.is opened.inode h.says) (subst (λ x. IsInodePut x (pages_of next) (pages_of new) i inode) geometry h.put)
 
     behind : (x : ℕ) → x ≢ inode_block g i → (12 < count → x ≢ p) → pages_of new x ≡ pages_of mid x
-    behind x a b = m.put.others x a ∙ h.pointers.others x b
+    behind x a b = m.put.others x a ∙ h.pointers.others x (λ many more. b many)
 
     meta : (x : ℕ) → x < meta_of g → x ≢ inode_block g i → pages_of new x ≡ pages_of mid x
     meta x l other = behind x other (λ many e. let b = high_pointers many in omega arith)
@@ -267,29 +271,53 @@ becomes-cut v o count bytes now old mid next new inode h =
       before = m.before;
       after = m.after;
       turns = record {
-        was = sym (h.pointers.others (inode_block g i) (λ many e. let b = high_pointers many in omega arith) ∙ released-meta g (pages_of old) (pages_of mid) gone (inode_block g i) r low (λ zone l e. omega arith)) ∙ m.was;
+        was = sym (h.pointers.others (inode_block g i) (λ many more e. let b = high_pointers many in omega arith) ∙ released-meta g (pages_of old) (pages_of mid) gone (inode_block g i) r low (λ zone l e. omega arith)) ∙ m.was;
         now = m.put.here;
         form = m.form;
       };
       is = m.is;
     }
 
-    pointers-turned : 12 < count → IsPointersCut (pages_of old) (pages_of new) p count
-    pointers-turned many =
-        let c = h.pointers.cut many in
+    pointers-mid : 12 < count → pages_of mid p ≡ pages_of old p
+    pointers-mid many =
         let high = high_pointers many in
-        let out = pointers-stay g v i count now p uses inside many (far many) in
-        record {
-          before = c.before;
-          after = c.after;
-          turns = record {
-            was = sym (r.rest p out (λ x y e. let b = r.inside x y in high-marks g p (zone_in g x) high (zone-low g x b.0 b.1) (sym e))) ∙ c.turns.was;
-            now = m.put.others p (λ e. omega arith) ∙ c.turns.now;
-            form = c.turns.form;
-          };
-          left = c.left;
-          cut = c.cut;
-        }
+        r.rest p (pointers-stay g v i count now p uses inside many (far many)) (λ x y e. let b = r.inside x y in high-marks g p (zone_in g x) high (zone-low g x b.0 b.1) (sym e))
+
+    pointers-turned : 12 < count → IsPointersCut (pages_of old) (pages_of new) p count
+    pointers-turned many = elim (cases_lt count have) [
+      | inl more ↦
+          let c = h.pointers.cut many more in
+          let high = high_pointers many in
+          record {
+            before = c.before;
+            after = c.after;
+            turns = record {
+              was = sym (pointers-mid many) ∙ c.turns.was;
+              now = m.put.others p (λ e. omega arith) ∙ c.turns.now;
+              form = c.turns.form;
+            };
+            left = c.left;
+            cut = c.cut;
+          }
+      | inr all ↦
+          let high = high_pointers many in
+          let few = h.may.few in
+          let page = content (pages_of old p) in
+          let there : pages_of old p ≡ Some (Some page) = h.held (omega arith) in
+          let shown = use-carried g (pages_of old) v (Pointers i) p page h.carries (far many) there in
+          let size : length n.blocks ≡ have = ap (λ (xs : List ℕ). length xs) (sym opened.blocks) in
+          record {
+            before = page;
+            after = page;
+            turns = record {
+              was = there;
+              now = m.put.others p (λ e. omega arith) ∙ h.pointers.others p (λ _ more. absurd (omega arith)) ∙ pointers-mid many ∙ there;
+              form = shown.form;
+            };
+            left = λ k l before. refl;
+            cut = λ k l past. shown.shows k l ∙ get_or_past n.blocks (12 + k) 0 (omega arith);
+          }
+    ]
 
     cut : (q : ℕ) → (node w i).indirect ≡ Some q → IsPointersCut (pages_of old) (pages_of new) q count
     cut q e = at (nat_lt 12 count) refl (sym (ap (λ (x : Node). x.indirect) here) ∙ e)
@@ -328,7 +356,7 @@ becomes-cut v o count bytes now old mid next new inode h =
       | inr other ↦ elim (cases_Bool (is_among b first)) [
         | inl f ↦ elim (in-first b f) [
           | inl e ↦ subst (λ x. pages_of old x ≢ None) (sym e) (held-known (pages_of old) (inode_block g i) h.table)
-          | inr e ↦ subst (λ x. pages_of old x ≢ None) (sym (pointer-is b e)) (h.known (many b e))
+          | inr e ↦ subst (λ x. pages_of old x ≢ None) (sym (pointer-is b e)) (held-known (pages_of old) p (h.held (many b e)))
         ]
         | inr none ↦
             let t = bitmap-in g first gone (drop count n.blocks) b y none (dropped-gone b other) in
@@ -341,13 +369,13 @@ becomes-cut v o count bytes now old mid next new inode h =
 
     -- the kinds
     kinds-behind : (b : ℕ) → meta_of g ≤ b → (12 < count → b ≢ p) → kinds_of new b ≡ kinds_of mid b
-    kinds-behind b high other = h.keeps b (subst (λ x. meta_of x ≤ b) (sym geometry) high) ∙ h.pointers.kinds b other
+    kinds-behind b high other = h.keeps b (subst (λ x. meta_of x ≤ b) (sym geometry) high) ∙ h.pointers.kinds b (λ many more. other many)
 
     rest_kinds : (b : ℕ) → meta_of g ≤ b → is_among b list ≡ false → kinds_of new b ≡ kinds_of old b
     rest_kinds b high out = kinds-behind b high (λ many. among-apart list p b (listed.pointers p (far many)) out) ∙ h.released.kinds b high (ap (λ (xs : List ℕ). is_among b xs) is ∙ not-gone b out)
 
-    put_kinds : (b : ℕ) (kind : Kind) → meta_of g ≤ b → is_among b list ≡ true → kinds_of new b ≡ Some kind → (kind ≡ Data) ↔ IsOfFile w b
-    put_kinds b kind high y e = elim (cases_Bool (is_among b gone)) [
+    put_kinds : KindsFit g (kinds_of old) v → (b : ℕ) (kind : Kind) → meta_of g ≤ b → is_among b list ≡ true → kinds_of new b ≡ Some kind → (kind ≡ Data) ↔ IsOfFile w b
+    put_kinds fit b kind high y e = elim (cases_Bool (is_among b gone)) [
       | inl mine ↦ absurd (none-some kind (sym (kinds-behind b high (pointers-apart b mine) ∙ h.released.none b (ap (λ (xs : List ℕ). is_among b xs) is ∙ mine)) ∙ e))
       | inr other ↦ elim (cases_Bool (is_among b first)) [
         | inl f ↦ elim (in-first b f) [
@@ -367,8 +395,17 @@ becomes-cut v o count bytes now old mid next new inode h =
         at : (t : Bool) → nat_lt 12 count ≡ t → n.indirect ≡ Some b → b ≡ p → is_among b gone ≡ false → (kind ≡ Data) ↔ IsOfFile w b
         at true far_on had same out =
             let many = ltb-true 12 count far_on in
-            let is_meta : Meta ≡ kind = same_Some Meta kind (sym (h.keeps b (subst (λ x. meta_of x ≤ b) (sym geometry) high) ∙ ap (kinds_of next) same ∙ h.pointers.kind many) ∙ e) in
-            (λ d. absurd (meta-not-data (is_meta ∙ d)), λ f. absurd (pointers-not-file g w i b fine (kept many ∙ ap (λ (x : ℕ). Some x) (sym same)) f))
+            let no_file : IsOfFile w b → ⊥ = pointers-not-file g w i b fine (kept many ∙ ap (λ (x : ℕ). Some x) (sym same)) in
+            let keeps : kinds_of new b ≡ kinds_of next b = h.keeps b (subst (λ x. meta_of x ≤ b) (sym geometry) high) in
+            elim (cases_lt count have) [
+              | inl more ↦
+                  let is_meta : Meta ≡ kind = same_Some Meta kind (sym (keeps ∙ ap (kinds_of next) same ∙ h.pointers.kind many more) ∙ e) in
+                  (λ d. absurd (meta-not-data (is_meta ∙ d)), λ f. absurd (no_file f))
+              | inr all ↦
+                  let still : kinds_of new b ≡ kinds_of old b = keeps ∙ h.pointers.kinds b (λ _ more. absurd (omega arith)) ∙ h.released.kinds b high (ap (λ (xs : List ℕ). is_among b xs) is ∙ out) in
+                  let was = fit b kind high (sym still ∙ e) in
+                  (λ d. absurd (pointers-not-file g v i b uses (far many ∙ ap (λ (x : ℕ). Some x) (sym same)) (was.0 d)), λ f. absurd (no_file f))
+            ]
         at false near had same out =
             let q = (among-parts (drop count n.blocks) (if nat_lt 12 count then [] else if_some n.indirect) b out).1 in
             let none = ap (λ (t : Bool). is_among b (if t then [] else if_some n.indirect)) (sym near) ∙ q in

@@ -43,5 +43,6 @@ pub mod Showing
 pub mod SlotNumbers
 pub mod Sorting
 pub mod Sound
+pub mod Unchanged
 pub mod Walking
 pub mod Zones

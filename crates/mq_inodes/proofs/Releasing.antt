@@ -228,19 +228,19 @@ pointer-cleared before page now from at past low e h = record {
   ];
 }
 
-pub pointers-stay : (w : Working) (p count : ℕ) → count ≤ 12 → CutsPointers w w p count
-pointers-stay w p count few = record {
+pub pointers-stay : (w : Working) (p have count : ℕ) → (12 < count → count < have → ⊥) → CutsPointers w w p have count
+pointers-stay w p have count none = record {
   over = over-self w;
-  cut = λ many. absurd (omega arith);
-  kind = λ many. absurd (omega arith);
+  cut = λ many few. absurd (none many few);
+  kind = λ many few. absurd (none many few);
   others = λ x other. refl;
   kinds = λ x other. refl;
 }
 
-pub pointers-cut : (old mid new : Working) (p count from : ℕ) (before after : List ℕ) → 12 < count → from ≡ count - 12 → pages_of old p ≡ Some (Some before) → IsLifted old mid p → IsPage after
+pub pointers-cut : (old mid new : Working) (p have count from : ℕ) (before after : List ℕ) → 12 < count → count < have → from ≡ count - 12 → pages_of old p ≡ Some (Some before) → IsLifted old mid p → IsPage after
     → ((k : ℕ) → k < 1024 → k < from → pointer_of after k ≡ pointer_of before k) → ((k : ℕ) → k < 1024 → from ≤ k → pointer_of after k ≡ 0)
-    → IsSameView mid new → IsPut (pages_of mid) (pages_of new) p (Some after) → IsKindPut mid new p (Some Meta) → CutsPointers old new p count
-pointers-cut old mid new p count from before after many is was lifted form left cut view put kind = record {
+    → IsSameView mid new → IsPut (pages_of mid) (pages_of new) p (Some after) → IsKindPut mid new p (Some Meta) → CutsPointers old new p have count
+pointers-cut old mid new p have count from before after many more is was lifted form left cut view put kind = record {
   over = record {
     view = view-then old mid new lifted.view view;
     absent = λ x e. elim (cases_eq x p) [
@@ -252,16 +252,16 @@ pointers-cut old mid new p count from before after many is was lifted form left 
       | inr other ↦ sym (rest x other) ∙ e
     ];
   };
-  cut = λ _. record {
+  cut = λ _ _. record {
     before = before;
     after = after;
     turns = record { was = was; now = put.here; form = form };
     left = λ k l there. left k l (omega arith);
     cut = λ k l past. cut k l (omega arith);
   };
-  kind = λ _. kind.here;
-  others = λ x other. rest x (other many);
-  kinds = λ x other. kind.others x (other many) ∙ lifted.kinds x (other many);
+  kind = λ _ _. kind.here;
+  others = λ x other. rest x (other many more);
+  kinds = λ x other. kind.others x (other many more) ∙ lifted.kinds x (other many more);
 }
   where
     rest : (x : ℕ) → x ≢ p → pages_of new x ≡ pages_of old x

@@ -15,13 +15,16 @@ use Rattle.mq_tree.proofs.Regions.{region-table, region-zone, table-holds}
 use Rattle.mq_tree.proofs.Uses.{use-taken}
 
 -- the block of an inode
-pub inode-shown : (g : Geometry) (pages : Pages) (v : Volume) (i b at : ℕ) (page : List ℕ) → Agrees g pages v → i < inodes_of g → b ≡ inode_block g i → at ≡ inode_place i → pages b ≡ Some (Some page) → ShowsInode page at (inode_of (node v i))
-inode-shown g pages v i b at page agrees low is there f =
+pub inode-carried : (g : Geometry) (pages : Pages) (v : Volume) (i b at : ℕ) (page : List ℕ) → Carries g pages v → i < inodes_of g → b ≡ inode_block g i → at ≡ inode_place i → pages b ≡ Some (Some page) → IsPage page × ShowsInode page at (inode_of (node v i))
+inode-carried g pages v i b at page c low is there f =
     let e : pages (inode_block g i) ≡ Some (Some page) = ap pages (sym is) ∙ f in
-    let shown = agrees.fits.held (inode_block g i) page e in
+    let shown = c.fits.held (inode_block g i) page e in
     let table : ShowsTable v (i / 32) page = subst (λ r. ShowsRegion g v (inode_block g i) r page) (region-table g (i / 32) (table-holds g i low)) shown.1 in
     let same : 32 * (i / 32) + i % 32 ≡ i = omega arith in
-    subst (λ k. ShowsInode page k (inode_of (node v i))) (sym there) (subst (λ j. ShowsInode page (i % 32) (inode_of (node v j))) same (table (i % 32) (omega arith)))
+    (shown.0, subst (λ k. ShowsInode page k (inode_of (node v i))) (sym there) (subst (λ j. ShowsInode page (i % 32) (inode_of (node v j))) same (table (i % 32) (omega arith))))
+
+pub inode-shown : (g : Geometry) (pages : Pages) (v : Volume) (i b at : ℕ) (page : List ℕ) → Agrees g pages v → i < inodes_of g → b ≡ inode_block g i → at ≡ inode_place i → pages b ≡ Some (Some page) → ShowsInode page at (inode_of (node v i))
+inode-shown g pages v i b at page agrees low is there f = (inode-carried g pages v i b at page (carries-sound g pages v agrees) low is there f).1
 
 -- a block that an inode uses
 pub record IsUse (v : Volume) (u : Use) (page : List ℕ) : Type 0 where

@@ -96,12 +96,19 @@ impl<'a> Working<'a> {
         Ok(())
     }
 
-    /// Clears the pointers past so many blocks, where there are more than twelve.
-    fn cut_pointers(&mut self, alloc: Global, p: BlockNo, count: u32) -> Result<(), OutOfMemory>
-        requires { 12 < count → IsHeld (pages_of self.old) p }
-        ensures { OnOk result (CutsPointers self.old self.new p count) }
+    /// Clears the pointers past so many blocks, where there are more than twelve. Where the file had no
+    /// more, the page stays as it was.
+    fn cut_pointers(
+        &mut self,
+        alloc: Global,
+        p: BlockNo,
+        have: usize,
+        count: u32,
+    ) -> Result<(), OutOfMemory>
+        requires { 12 < count → count < have → IsHeld (pages_of self.old) p }
+        ensures { OnOk result (CutsPointers self.old self.new p have count) }
     {
-        if count <= DIRECT {
+        if count <= DIRECT || have <= count as usize {
             return Ok(());
         }
         let mut pointers = self.lift(alloc, p)?;
@@ -142,7 +149,8 @@ impl<'a> Working<'a> {
         ensures cut { OnOk result ((v : Volume) (bytes now : List ℕ) → Carries self.old.geometry (pages_of self.old) v → MayCut self.old.geometry v o.now count bytes now → length now ≡ size → Becomes self.old.geometry v (cut_file v o.now.number count now) self.old self.new) }
     {
         self.release_from(alloc, o, count)?;
-        self.cut_pointers(alloc, BlockNo(o.inode.indirect), count)?;
+        let have = o.blocks.len();
+        self.cut_pointers(alloc, BlockNo(o.inode.indirect), have, count)?;
         self.put_inode(alloc, o.number, &cut_inode(&o.inode, count, size))
     }
 }

@@ -1,8 +1,8 @@
-use Rattle.std.proofs.Common.{◌≡◌, ◌<◌, ◌≤◌, ◌/◌, ℕ, List, length, sym, subst, ◌∙◌}
+use Rattle.std.proofs.Common.{◌≡◌, ◌<◌, ◌≤◌, ◌/◌, ℕ, List, length, refl, sym, subst, ◌∙◌}
 use Rattle.mq_blocks.specs.declared.geometry.Geometry.{Geometry}
 use Rattle.mq_exec.specs.Overwrites.{AreApart, IsOverwritten, past_place}
 use Rattle.mq_exec.specs.Plans.{HoldsPlaces}
-use Rattle.mq_exec.proofs.Carrying.{mid-apart, mid-becomes, mid-form, mid-held, mid-inside, mid-table, regrown-of}
+use Rattle.mq_exec.proofs.Carrying.{mid-apart, mid-becomes, mid-form, mid-held, mid-inside, mid-stays, mid-table, regrown-of}
 use Rattle.mq_inodes.specs.Changes.{IsInodePut}
 use Rattle.mq_inodes.specs.Pages.{pages_of}
 use Rattle.mq_inodes.proofs.Becoming.{carries-sound, over-then}
@@ -70,3 +70,22 @@ returns-clause-written c =
       kinds = kinds;
       geometry = same;
     }))
+
+pub returns-then-file-size-clause-written : goal.returns-then-file-size-clause-written
+returns-then-file-size-clause-written c q v verdict rewritten agrees plan spliced =
+    let g = c.args.working.now.geometry in
+    let r = regrown-of g q v verdict rewritten c.args.rewriting c.args.working.now c.grow.new.self c.grow.new.o c.deref.result.now c.deref.ensures.value agrees plan c.in_ok-grow.ensures.grown in
+    let past = mid-inside g q v c.args.rewriting plan.bytes c.args.working.now c.grow.new.self c.grow.new.o c.args.at (length c.args.bytes.now) r c.requires.inside in
+    let parts = subst (λ (xs : List ℕ). IsOverwritten c.grow.new.self c.overwrite.new.working xs c.args.at c.args.bytes.now (past_place c.args.at (length c.args.bytes.now))) c.deref-2.ensures.value c.in_ok-overwrite.ensures.written in
+    mid-becomes g q v c.args.rewriting c.args.at c.args.bytes.now plan.bytes (rewritten plan.bytes) c.args.working.now c.grow.new.self c.overwrite.new.working c.overwrite.new.working c.grow.new.o (record {
+      regrown = r;
+      over = c.in_ok-grow.ensures.over;
+      size = sym plan.size;
+      few = plan.limit;
+      past = past;
+      spliced = spliced;
+      parts = parts;
+      inode = mid-stays g q v c.args.rewriting plan.bytes c.args.at c.args.bytes.now c.args.working.now c.grow.new.self c.overwrite.new.working c.grow.new.o r c.in_ok-grow.ensures.over c.requires.pages.table past parts c.if-file-size.true;
+      kinds = λ b high. refl;
+      geometry = c.in_ok-overwrite.ensures.over.view.geometry ∙ c.in_ok-grow.ensures.over.view.geometry;
+    })

@@ -1,8 +1,8 @@
 use Rattle.std.proofs.Common.{length, sym, ap, subst, ◌∙◌}
 use Rattle.mq_inodes.specs.Pages.{pages_of}
-use Rattle.mq_inodes.specs.Released.{IsCutInode}
+use Rattle.mq_inodes.specs.Released.{CutsPointers, IsCutInode}
 use Rattle.mq_inodes.proofs.Cutting.{becomes-cut, cut-form, pointers-held, pointers-high, table-cut}
-use Rattle.mq_inodes.proofs.Held.{held-known}
+use Rattle.mq_inodes.proofs.Getting.{count-items}
 use Rattle.mq_inodes.proofs.Linking.{on_ok-both}
 use Rattle.mq_inodes.proofs.LocalGone.{gone-releasable}
 use Rattle.mq_inodes.proofs.Nodes.{length-padded}
@@ -13,7 +13,7 @@ use Rattle.mq_inodes.proofs.working.Working.cut.Goals as goal
 pub cut_pointers-requires : goal.cut_pointers-requires
 cut_pointers-requires c =
     let x = c.requires.possible in
-    pointers-held x.0 c.args.o.now c.args.count x.1 x.2 c.args.self.now c.release_from.new.self x.3 x.4 c.requires.pointers c.in_ok-release_from.ensures
+    λ many more. pointers-held x.0 c.args.o.now c.args.count x.1 x.2 c.args.self.now c.release_from.new.self x.3 x.4 c.requires.pointers c.in_ok-release_from.ensures many
 
 pub cut_inode-requires : goal.cut_inode-requires
 cut_inode-requires c =
@@ -30,7 +30,7 @@ pub put_inode-requires-clause-held : goal.put_inode-requires-clause-held
 put_inode-requires-clause-held c =
     let x = c.requires.possible in
     let m = x.4 in
-    table-cut c.args.o.now c.args.count c.args.self.now c.release_from.new.self c.cut_pointers.new.self m.opened.low m.few (pointers-high x.0 c.args.o.now c.args.self.now x.3 m.opened) c.requires.table c.in_ok-release_from.ensures c.in_ok-cut_pointers.ensures
+    table-cut c.args.o.now c.args.count c.args.self.now c.release_from.new.self c.cut_pointers.new.self m.opened.low m.few (pointers-high x.0 c.args.o.now c.args.self.now x.3 m.opened) c.requires.table c.in_ok-release_from.ensures (subst (λ have. CutsPointers c.release_from.new.self c.cut_pointers.new.self c.args.o.now.inode.indirect have c.args.count) (c.len-have.ensures ∙ count-items c.args.o.now) c.in_ok-cut_pointers.ensures)
 
 pub returns-clause-cut : goal.returns-clause-cut
 returns-clause-cut c =
@@ -41,9 +41,9 @@ returns-clause-cut c =
       may = may;
       releasable = gone-releasable old.geometry (pages_of old) o c.args.count c.requires.blocks c.requires.release;
       table = c.requires.table;
-      known = λ many. held-known (pages_of old) o.inode.indirect (c.requires.pointers many);
+      held = c.requires.pointers;
       released = c.in_ok-release_from.ensures;
-      pointers = c.in_ok-cut_pointers.ensures;
+      pointers = subst (λ have. CutsPointers c.release_from.new.self c.cut_pointers.new.self o.inode.indirect have c.args.count) (c.len-have.ensures ∙ count-items c.args.o.now) c.in_ok-cut_pointers.ensures;
       keeps = keeps;
       put = put;
       says = subst (λ size. IsCutInode o.inode c.cut_inode.result c.args.count size) (sym is) c.cut_inode.ensures;
