@@ -167,7 +167,7 @@ moved-missing v w d k e p c m f q g h x is =
     find-missing f.name (slots_of (body v c)) h.missing a.place a.entry (ap (λ (j : ℕ). slot v j a.place) (sym dirs) ∙ a.there) a.named
 
 -- where a way leads somewhere, so does each part of it
-leads-part : (v : Volume) (r q : Way) (x : ℕ) → inode_at v (r ++ q) ≡ Some x → (y : ℕ) × (inode_at v q ≡ Some y)
+pub leads-part : (v : Volume) (r q : Way) (x : ℕ) → inode_at v (r ++ q) ≡ Some x → (y : ℕ) × (inode_at v q ≡ Some y)
 leads-part v [] q x is = (x, is)
 leads-part v (n ∷ r) q x is = let t = last-step v n (r ++ q) x is in leads-part v r q t.directory t.before
 

@@ -6,7 +6,7 @@ use Rattle.std.proofs.lemmas.Bool.{cases_Bool, cases_eq, true≢false}
 use Rattle.std.proofs.lemmas.Option.{none-some, same_Some, option_and_then_some}
 use Rattle.std.proofs.lemmas.Slice.Eq.{bytes_eq-Decides}
 use Rattle.mq_layout.specs.Slots.{Entry}
-use Rattle.mq_tree.specs.Volume.{ADir, Body, Free, File, Dir, Thing, Volume, Way, body, find, inode_at, is_used, slot, slots_of, thing}
+use Rattle.mq_tree.specs.Volume.{ADir, AFile, Body, Free, File, Dir, Thing, Volume, Way, body, find, inode_at, is_used, slot, slots_of, thing}
 
 -- ---- names in slots
 
@@ -87,6 +87,11 @@ used-thing (Dir slots) = refl
 
 pub thing-used : (b : Body) (t : Thing) → thing b ≡ Some t → is_used b ≡ true
 thing-used b t e = used-thing b ∙ ap (λ (o : Option Thing). is_some o) e
+
+pub used-is : (b : Body) → is_used b ≡ true → (there : Thing) × (thing b ≡ Some there)
+used-is Free e = absurd (true≢false (sym e))
+used-is (File bytes) e = (AFile bytes, refl)
+used-is (Dir slots) e = (ADir, refl)
 
 pub nothing-free : (b : Body) → thing b ≡ None → b ≡ Free
 nothing-free Free e = refl

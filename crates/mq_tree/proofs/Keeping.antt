@@ -10,11 +10,11 @@ use Rattle.mq_layout.specs.Places.{inodes_of}
 use Rattle.mq_layout.specs.Slots.{Entry}
 use Rattle.mq_layout.specs.declared.inode.Inode.{Inode}
 use Rattle.mq_tree.specs.Decoded.{Stored, body_of, byte_of, count_of, pointer_to, table_of, the_inode, volume_in}
-use Rattle.mq_tree.specs.Directories.{FindsAlike, IsOnce}
+use Rattle.mq_tree.specs.Directories.{AreSameNames, IsOnce}
 use Rattle.mq_tree.specs.Trees.{IsAlike, IsSameBody, body_kept, kept}
 use Rattle.mq_tree.specs.Volume.{Free, File, Dir, Node, Volume, Way, Path, body, find, inode_at, slots_of, thing, tree, way}
 use Rattle.mq_tree.specs.declared.contents.Content.{Content}
-use Rattle.mq_tree.proofs.Decoding.{body-dir, body-file, body-free, body-in, node-past}
+use Rattle.mq_tree.proofs.Decoding.{body-dir, body-file, body-free, body-in, length-volume, node-past}
 
 -- ---- bytes
 
@@ -57,14 +57,17 @@ read-end s n place bytes r all =
 
 -- ---- what an inode is
 
-pub content-file : (s : Stored) (n : Inode) (bytes : List ℕ) → n.kind ≡ 1 → bytes ≡ table_of n.size (byte_of s n) → IsSameBody (File bytes) (body_of s n)
-content-file s n bytes one is = subst (λ x. IsSameBody (File bytes) x) (ap (λ (xs : List ℕ). File xs) is ∙ sym (body-file s n one)) (refl, λ q. refl)
+same-names : {xs : List (Option Entry)} → AreSameNames xs xs
+same-names = record { finds = λ q. refl; entries = refl }
 
-pub content-dir : (s : Stored) (n : Inode) (names : List (Option Entry)) → n.kind ≡ 2 → FindsAlike names (slots_of (body_of s n)) → IsSameBody (Dir names) (body_of s n)
+pub content-file : (s : Stored) (n : Inode) (bytes : List ℕ) → n.kind ≡ 1 → bytes ≡ table_of n.size (byte_of s n) → IsSameBody (File bytes) (body_of s n)
+content-file s n bytes one is = subst (λ x. IsSameBody (File bytes) x) (ap (λ (xs : List ℕ). File xs) is ∙ sym (body-file s n one)) (refl, same-names)
+
+pub content-dir : (s : Stored) (n : Inode) (names : List (Option Entry)) → n.kind ≡ 2 → AreSameNames names (slots_of (body_of s n)) → IsSameBody (Dir names) (body_of s n)
 content-dir s n names two alike = (sym (ap thing (body-dir s n two)), alike)
 
 pub content-free : (s : Stored) (n : Inode) → n.kind ≤ 2 → n.kind ≢ 1 → n.kind ≢ 2 → IsSameBody Free (body_of s n)
-content-free s n few one two = let zero : n.kind ≡ 0 = omega arith in subst (λ x. IsSameBody Free x) (sym (body-free s n zero)) (refl, λ q. refl)
+content-free s n few one two = let zero : n.kind ≡ 0 = omega arith in subst (λ x. IsSameBody Free x) (sym (body-free s n zero)) (refl, same-names)
 
 -- ---- all inodes
 
@@ -109,13 +112,16 @@ kept-more g s i cs more n c k e same once now = record {
 }
 
 pub kept-all : (g : Geometry) (s : Stored) (i : ℕ) (cs : List Content) → KeptBelow g s i cs → i ≡ inodes_of g → IsAlike (kept cs) (volume_in g s)
-kept-all g s i cs k e j = elim (cases_lt j (inodes_of g)) [
-  | inl low ↦ subst (λ b. IsSameBody (body (kept cs) j) b) (sym (body-in g s j low)) (k.same j (omega arith))
-  | inr past ↦
-      let at : body (kept cs) j ≡ Free = kept-past cs j (let z = k.size in omega arith) in
-      let none : body (volume_in g s) j ≡ Free = ap (λ (n : Node). n.body) (node-past g s j past) in
-      subst (λ b. IsSameBody b (body (volume_in g s) j)) (sym at) (subst (λ b. IsSameBody Free b) (sym none) (refl, λ q. refl))
-]
+kept-all g s i cs k e = record {
+  count = length-kept cs ∙ k.size ∙ e ∙ sym (length-volume g s);
+  each = λ j. elim (cases_lt j (inodes_of g)) [
+    | inl low ↦ subst (λ b. IsSameBody (body (kept cs) j) b) (sym (body-in g s j low)) (k.same j (omega arith))
+    | inr past ↦
+        let at : body (kept cs) j ≡ Free = kept-past cs j (let z = k.size in omega arith) in
+        let none : body (volume_in g s) j ≡ Free = ap (λ (n : Node). n.body) (node-past g s j past) in
+        subst (λ b. IsSameBody b (body (volume_in g s) j)) (sym at) (subst (λ b. IsSameBody Free b) (sym none) (refl, same-names))
+  ];
+}
 
 -- ---- the tree of volumes that are alike
 
@@ -126,11 +132,11 @@ same-way v w alike (name ∷ way) =
   where
     step : (o : Option ℕ) → option_and_then (λ d. find name (slots_of (body v d))) o ≡ option_and_then (λ d. find name (slots_of (body w d))) o
     step None = refl
-    step (Some d) = (alike d).1 name
+    step (Some d) = (alike.each d).1.finds name
 
 pub same-tree : (v w : Volume) → IsAlike v w → (path : Path) → tree v path ≡ tree w path
 same-tree v w alike path = ap (option_and_then (λ i. thing (body v i))) (same-way v w alike (way path)) ∙ step (inode_at w (way path))
   where
     step : (o : Option ℕ) → option_and_then (λ i. thing (body v i)) o ≡ option_and_then (λ i. thing (body w i)) o
     step None = refl
-    step (Some i) = (alike i).0
+    step (Some i) = (alike.each i).0

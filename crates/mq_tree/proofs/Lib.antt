@@ -29,6 +29,7 @@ pub mod LaidClean
 pub mod LinesOf
 pub mod Linking
 pub mod Maps
+pub mod Members
 pub mod Mounted
 pub mod Mounting
 pub mod Naming
@@ -36,7 +37,9 @@ pub mod Phases
 pub mod Pointed
 pub mod Refuted
 pub mod Regions
+pub mod Sorting
 pub mod Unique
 pub mod Uses
 pub mod Walking
 pub mod Walkways
+pub mod WholeListing

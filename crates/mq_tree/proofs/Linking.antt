@@ -20,7 +20,8 @@ use Rattle.mq_layout.specs.declared.inode.Inode.{Inode}
 use Rattle.mq_tree.specs.Clean.{AreOnce, IsTable}
 use Rattle.mq_tree.specs.Corrupt.{IsCorrupt, Refuses}
 use Rattle.mq_tree.specs.Decoded.{Stored, body_of, count_of, entry_of, pointer_to, table_of, the_inode, volume_in}
-use Rattle.mq_tree.specs.Directories.{Adds, FindsAlike, Has, HasTwin, IsOnce, OnceBelow, RefusesTwin, as_slots}
+use Rattle.mq_tree.specs.Directories.{Adds, AreSameNames, Has, HasTwin, IsOnce, OnceBelow, RefusesTwin, as_slots}
+use Rattle.mq_tree.specs.ListText.{entries_in, insert_entry as insert_in_order}
 use Rattle.mq_tree.specs.Volume.{find, slots_of}
 use Rattle.mq_tree.specs.declared.corrupt.CorruptCause.TheVariants.{Twin}
 use Rattle.mq_tree.specs.declared.corrupt.MountRefusal.{MountRefusal}
@@ -28,6 +29,7 @@ use Rattle.mq_tree.specs.declared.corrupt.MountRefusal.TheVariants.{Corrupt, Out
 use Rattle.mq_tree.proofs.Decoding.{body-dir, length-table, table-at}
 use Rattle.mq_tree.proofs.Mounting.{table-more}
 use Rattle.mq_tree.proofs.Naming.{slot-found, slot-is}
+use Rattle.mq_tree.proofs.Sorting.{entries-push, entries-skip, insert-swap}
 
 -- ---- names that are the same
 
@@ -77,12 +79,42 @@ find-insert {A} (e ∷ es) k v q = by (slice_cmp nat_cmp k.items e.0.items) refl
           | inr f ↦ rw f (rw rest refl)
         ]
 
+absent-rest : (e : Entry) (xs : List (Option Entry)) (name : List ℕ) → find name (Some e ∷ xs) ≡ None → (bytes_eq e.name name ≡ false) × (find name xs ≡ None)
+absent-rest e xs name h = elim (cases_Bool (bytes_eq e.name name)) [
+  | inl t ↦ let g : Some e.inode ≡ None = ap (λ (c : Bool). cond c (Some e.inode) (find name xs)) (sym t) ∙ h in absurd (cc)
+  | inr n ↦ (n, ap (λ (c : Bool). cond c (Some e.inode) (find name xs)) (sym n) ∙ h)
+]
+
+-- what the map puts in order stands in order among the entries
+entries-insert : {A : Type 0} (es : List (Vec ℕ A × ℕ)) (k : Vec ℕ A) (v : ℕ) → find k.items (as_slots es) ≡ None
+    → entries_in (as_slots (insert_entry (λ x y. slice_cmp nat_cmp x.items y.items) es k v)) ≡ insert_in_order (record { inode = v; name = k.items }) (entries_in (as_slots es))
+entries-insert [] k v absent = refl
+entries-insert {A} (e ∷ es) k v absent =
+    let first : Entry = record { inode = e.1; name = e.0.items } in
+    let r = absent-rest first (as_slots es) k.items absent in
+    by (slice_cmp nat_cmp k.items e.0.items) refl r.0 (entries-insert es k v r.1)
+  where
+    more : List (Vec ℕ A × ℕ)
+    more = insert_entry (λ x y. slice_cmp nat_cmp x.items y.items) es k v
+
+    by : (o : Ordering) → slice_cmp nat_cmp k.items e.0.items ≡ o → bytes_eq e.0.items k.items ≡ false → entries_in (as_slots more) ≡ insert_in_order (record { inode = v; name = k.items }) (entries_in (as_slots es))
+        → entries_in (as_slots (match_ordering o ((k, v) ∷ e ∷ es) ((e.0, v) ∷ es) (e ∷ more))) ≡ insert_in_order (record { inode = v; name = k.items }) (entries_in (as_slots (e ∷ es)))
+    by Less h other rest = refl
+    by Equal h other rest = absurd (true≢false (sym (name-flip e.0.items k.items ∙ sym (is_eq-slice_cmp k.items e.0.items) ∙ ap is_eq h) ∙ other))
+    by Greater h other rest =
+        ap (insert_in_order (record { inode = e.1; name = e.0.items })) rest
+        ∙ insert-swap (record { inode = e.1; name = e.0.items }) (record { inode = v; name = k.items }) (entries_in (as_slots es)) (λ same. true≢false (sym (same-name e.0.items k.items same) ∙ other))
+
 pub added : {A : Type 0} (es new : List (Vec ℕ A × ℕ)) (xs : List (Option Entry)) (k : Vec ℕ A) (name : List ℕ) (v : ℕ) (before : Option ℕ) (t : Bool) → as_slots es ≡ xs → k.items ≡ name
     → before ≡ lookup (λ x. is_eq (slice_cmp nat_cmp k.items x.items)) es → new ≡ insert_entry (λ x y. slice_cmp nat_cmp x.items y.items) es k v → is_some before ≡ not t → MatchBool t (Adds xs (as_slots new) name v) (Has xs name)
-added es new xs k name v None true e is was now there = (
-  ap (find name) (sym e) ∙ ap (λ (n : List ℕ). find n (as_slots es)) (sym is) ∙ sym (find-lookup es k.items) ∙ sym was,
-  λ q. ap (λ (ys : List _). find q (as_slots ys)) now ∙ find-insert es k v q ∙ ap (λ (n : List ℕ). if bytes_eq n q then Some v else find q (as_slots es)) is ∙ ap (λ (ys : List (Option Entry)). if bytes_eq name q then Some v else find q ys) e,
-)
+added es new xs k name v None true e is was now there = record {
+  missing = ap (find name) (sym e) ∙ ap (λ (n : List ℕ). find n (as_slots es)) (sym is) ∙ absent;
+  finds = λ q. ap (λ (ys : List _). find q (as_slots ys)) now ∙ find-insert es k v q ∙ ap (λ (n : List ℕ). if bytes_eq n q then Some v else find q (as_slots es)) is ∙ ap (λ (ys : List (Option Entry)). if bytes_eq name q then Some v else find q ys) e;
+  entries = ap (λ (ys : List _). entries_in (as_slots ys)) now ∙ entries-insert es k v absent ∙ ap (λ (n : List ℕ). insert_in_order (record { inode = v; name = n }) (entries_in (as_slots es))) is ∙ ap (λ (ys : List (Option Entry)). insert_in_order (record { inode = v; name = name }) (entries_in ys)) e;
+}
+  where
+    absent : find k.items (as_slots es) ≡ None
+    absent = sym (find-lookup es k.items) ∙ sym was
 added es new xs k name v None false e is was now there = absurd (true≢false (sym there))
 added es new xs k name v (Some i) true e is was now there = absurd (true≢false there)
 added es new xs k name v (Some i) false e is was now there = (i, ap (find name) (sym e) ∙ ap (λ (n : List ℕ). find n (as_slots es)) (sym is) ∙ sym (find-lookup es k.items) ∙ sym was)
@@ -143,22 +175,25 @@ find-some (Some f ∷ xs) name i h = elim (cases_Bool (bytes_eq f.name name)) [
 
 -- the map of the first slots, in which no name stands twice
 pub record Built (at : ℕ → Option Entry) (k : ℕ) (names : List (Option Entry)) : Type 0 where
-  pub alike : FindsAlike names (table_of k at)
+  pub alike : AreSameNames names (table_of k at)
   pub once : OnceBelow at k
 
 pub built-start : (at : ℕ → Option Entry) (names : List (Option Entry)) → names ≡ [] → Built at 0 names
-built-start at names e = record { alike = λ q. ap (find q) e; once = λ k l d f low. absurd (omega arith) }
+built-start at names e = record { alike = record { finds = λ q. ap (find q) e; entries = ap entries_in e }; once = λ k l d f low. absurd (omega arith) }
 
 table-push : (at : ℕ → Option Entry) (k : ℕ) → table_of (k + 1) at ≡ table_of k at ++ at k ∷ []
 table-push at k = sym (table-more at k (table_of k at) (table_of k at ++ at k ∷ []) (at k) refl refl refl)
 
 pub built-skip : (at : ℕ → Option Entry) (k : ℕ) (names : List (Option Entry)) → Built at k names → at k ≡ None → Built at (k + 1) names
-built-skip at k names b h = record { alike = alike; once = once }
+built-skip at k names b h = record { alike = record { finds = finds; entries = entries }; once = once }
   where
-    alike : FindsAlike names (table_of (k + 1) at)
-    alike q =
+    entries : entries_in names ≡ entries_in (table_of (k + 1) at)
+    entries = b.alike.entries ∙ sym (ap entries_in (table-push at k) ∙ ap (λ (o : Option Entry). entries_in (table_of k at ++ o ∷ [])) h ∙ entries-skip (table_of k at))
+
+    finds : (q : List ℕ) → find q names ≡ find q (table_of (k + 1) at)
+    finds q =
         let p : find q (table_of (k + 1) at) ≡ first_found (find q (table_of k at)) None = ap (find q) (table-push at k) ∙ find-append (table_of k at) (at k ∷ []) q ∙ ap (λ (o : Option Entry). first_found (find q (table_of k at)) (find q (o ∷ []))) h in
-        b.alike q ∙ sym (p ∙ none-last (find q (table_of k at)))
+        b.alike.finds q ∙ sym (p ∙ none-last (find q (table_of k at)))
       where
         none-last : (o : Option ℕ) → first_found o None ≡ o
         none-last None = refl
@@ -174,20 +209,25 @@ built-skip at k names b h = record { alike = alike; once = once }
     ]
 
 pub built-add : (at : ℕ → Option Entry) (k : ℕ) (names more : List (Option Entry)) (e : Entry) → Built at k names → at k ≡ Some e → Adds names more e.name e.inode → Built at (k + 1) more
-built-add at k names more e b h a = record { alike = alike; once = once }
+built-add at k names more e b h a = record { alike = record { finds = finds; entries = entries }; once = once }
   where
     absent : find e.name (table_of k at) ≡ None
-    absent = sym (b.alike e.name) ∙ a.0
+    absent = sym (b.alike.finds e.name) ∙ a.missing
 
-    alike : FindsAlike more (table_of (k + 1) at)
-    alike q =
+    entries : entries_in more ≡ entries_in (table_of (k + 1) at)
+    entries =
+        a.entries ∙ ap (insert_in_order e) b.alike.entries
+        ∙ sym (ap entries_in (table-push at k) ∙ ap (λ (o : Option Entry). entries_in (table_of k at ++ o ∷ [])) h ∙ entries-push (table_of k at) e (λ j f here same. find-none (table_of k at) e.name j f absent here same))
+
+    finds : (q : List ℕ) → find q more ≡ find q (table_of (k + 1) at)
+    finds q =
         let p : find q (table_of (k + 1) at) ≡ first_found (find q (table_of k at)) (find q (Some e ∷ [])) = ap (find q) (table-push at k) ∙ find-append (table_of k at) (at k ∷ []) q ∙ ap (λ (o : Option Entry). first_found (find q (table_of k at)) (find q (o ∷ []))) h in
         elim (cases_Bool (bytes_eq e.name q)) [
           | inl t ↦
               let none : find q (table_of k at) ≡ None = ap (λ (n : List ℕ). find n (table_of k at)) (sym (name-same e.name q t)) ∙ absent in
-              a.1 q ∙ ap (λ (c : Bool). cond c (Some e.inode) (find q names)) t ∙ sym (p ∙ ap (λ (o : Option ℕ). first_found o (find q (Some e ∷ []))) none ∙ ap (λ (c : Bool). cond c (Some e.inode) None) t)
+              a.finds q ∙ ap (λ (c : Bool). cond c (Some e.inode) (find q names)) t ∙ sym (p ∙ ap (λ (o : Option ℕ). first_found o (find q (Some e ∷ []))) none ∙ ap (λ (c : Bool). cond c (Some e.inode) None) t)
           | inr f ↦
-              a.1 q ∙ ap (λ (c : Bool). cond c (Some e.inode) (find q names)) f ∙ b.alike q ∙ sym (p ∙ ap (λ (c : Bool). first_found (find q (table_of k at)) (cond c (Some e.inode) None)) f ∙ none-last (find q (table_of k at)))
+              a.finds q ∙ ap (λ (c : Bool). cond c (Some e.inode) (find q names)) f ∙ b.alike.finds q ∙ sym (p ∙ ap (λ (c : Bool). first_found (find q (table_of k at)) (cond c (Some e.inode) None)) f ∙ none-last (find q (table_of k at)))
         ]
       where
         none-last : (o : Option ℕ) → first_found o None ≡ o
@@ -213,8 +253,8 @@ built-add at k names more e b h a = record { alike = alike; once = once }
 
 -- ---- what a directory's map says of it
 
-pub alike-all : (s : Stored) (n : Inode) (k : ℕ) (names : List (Option Entry)) → n.kind ≡ 2 → k ≡ 15 * count_of n → Built (entry_of s n) k names → FindsAlike names (slots_of (body_of s n))
-alike-all s n k names two e b q = b.alike q ∙ ap (find q) (ap (λ (m : ℕ). table_of m (entry_of s n)) e ∙ sym (ap slots_of (body-dir s n two)))
+pub alike-all : (s : Stored) (n : Inode) (k : ℕ) (names : List (Option Entry)) → n.kind ≡ 2 → k ≡ 15 * count_of n → Built (entry_of s n) k names → AreSameNames names (slots_of (body_of s n))
+alike-all s n k names two e b = subst (λ xs. AreSameNames names xs) (ap (λ (m : ℕ). table_of m (entry_of s n)) e ∙ sym (ap slots_of (body-dir s n two))) b.alike
 
 pub once-all : (s : Stored) (n : Inode) (k : ℕ) (names : List (Option Entry)) → k ≡ 15 * count_of n → Built (entry_of s n) k names → IsOnce s n
 once-all s n k names e b two = subst (λ m. OnceBelow (entry_of s n) m) e b.once
@@ -222,7 +262,7 @@ once-all s n k names e b two = subst (λ m. OnceBelow (entry_of s n) m) e b.once
 pub twin-at : (s : Stored) (n : Inode) (k b : ℕ) (names : List (Option Entry)) (e : Entry) (r : MountRefusal) → n.kind ≡ 2 → k < 15 * count_of n → Built (entry_of s n) k names → entry_of s n k ≡ Some e → Has names e.name → b ≡ pointer_to s n (k / 15)
     → r ≡ Corrupt Twin b → RefusesTwin s n r
 twin-at s n k b names e r two inside built there has is refusal =
-    let x = find-some (table_of k (entry_of s n)) e.name has.0 (sym (built.alike e.name) ∙ has.1) in
+    let x = find-some (table_of k (entry_of s n)) e.name has.0 (sym (built.alike.finds e.name) ∙ has.1) in
     let low : x.k < k = let l = x.inside in let m = length-table k (entry_of s n) in omega arith in
     subst (RefusesTwin s n) (sym refusal) (
       refl,

@@ -170,7 +170,7 @@ order-mark count seen order i o new low =
       ];
     }
 
-all-false : (n i : ℕ) → get_or (replicate n false) i false ≡ false
+pub all-false : (n i : ℕ) → get_or (replicate n false) i false ≡ false
 all-false zero i = refl
 all-false (suc n) zero = refl
 all-false (suc n) (suc i) = all-false n i

@@ -4,6 +4,7 @@ use Rattle.std.specs.Str.{bytes_eq}
 use Rattle.mq_layout.specs.Slots.{Entry}
 use Rattle.mq_layout.specs.declared.inode.Inode.{Inode}
 use Rattle.mq_tree.specs.Decoded.{Stored, count_of, entry_of, pointer_to}
+use Rattle.mq_tree.specs.ListText.{entries_in, insert_entry}
 use Rattle.mq_tree.specs.Volume.{find}
 use Rattle.mq_tree.specs.declared.corrupt.CorruptCause.TheVariants.{Twin}
 use Rattle.mq_tree.specs.declared.corrupt.MountRefusal.{MountRefusal}
@@ -14,13 +15,16 @@ abbrev pub as_slots : {A : Type 0} → List (Vec ℕ A × ℕ) → List (Option 
 as_slots [] = []
 as_slots (e ∷ es) = Some (record { inode = e.1; name = e.0.items }) ∷ as_slots es
 
--- a name leads to the same inode in both
-abbrev pub FindsAlike : List (Option Entry) → List (Option Entry) → Type 0
-FindsAlike xs ys = (name : List ℕ) → find name xs ≡ find name ys
+-- a name leads to the same inode in both, and both have the same entries in order
+pub record AreSameNames (xs ys : List (Option Entry)) : Type 0 where
+  pub finds : (name : List ℕ) → find name xs ≡ find name ys
+  pub entries : entries_in xs ≡ entries_in ys
 
 -- a name that was not there was added
-abbrev pub Adds : List (Option Entry) → List (Option Entry) → (name : List ℕ) → (inode : ℕ) → Type 0
-Adds xs ys name i = (find name xs ≡ None) × ((q : List ℕ) → find q ys ≡ (if bytes_eq name q then Some i else find q xs))
+pub record Adds (xs ys : List (Option Entry)) (name : List ℕ) (i : ℕ) : Type 0 where
+  pub missing : find name xs ≡ None
+  pub finds : (q : List ℕ) → find q ys ≡ (if bytes_eq name q then Some i else find q xs)
+  pub entries : entries_in ys ≡ insert_entry (record { inode = i; name = name }) (entries_in xs)
 
 -- a name is there
 abbrev pub Has : List (Option Entry) → (name : List ℕ) → Type 0

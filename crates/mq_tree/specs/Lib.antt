@@ -8,6 +8,7 @@ pub mod Free
 pub mod Kept
 pub mod Laid
 pub mod ListText
+pub mod Listings
 pub mod Looks
 pub mod Parts
 pub mod Pointers

@@ -1,7 +1,7 @@
 -- A tree as it is kept: what each inode is, without its place on the blocks.
-use Rattle.std.specs.Prelude.{◌≡◌, ℕ, List, [], ◌∷◌, take, drop, Option, Some, None, Result, Ok, Err}
+use Rattle.std.specs.Prelude.{◌≡◌, ℕ, List, [], ◌∷◌, length, take, drop, Option, Some, None, Result, Ok, Err}
 use Rattle.mq_blocks.specs.declared.geometry.Geometry.{Geometry}
-use Rattle.mq_tree.specs.Directories.{FindsAlike}
+use Rattle.mq_tree.specs.Directories.{AreSameNames}
 use Rattle.mq_tree.specs.Requests.{Says, Verdict, refused, verdict}
 use Rattle.mq_tree.specs.Volume.{Body, Free, File, Dir, Path, Volume, body, slots_of, thing}
 use Rattle.mq_tree.specs.declared.contents.Content.{Content}
@@ -21,13 +21,14 @@ abbrev pub kept : List Content → Volume
 kept [] = []
 kept (c ∷ cs) = record { body = body_kept c; blocks = []; indirect = None } ∷ kept cs
 
--- the same kind, the same bytes, and the same inode under each name
+-- the same kind, the same bytes, and the same names with the same inodes
 abbrev pub IsSameBody : Body → Body → Type 0
-IsSameBody a b = (thing a ≡ thing b) × FindsAlike (slots_of a) (slots_of b)
+IsSameBody a b = (thing a ≡ thing b) × AreSameNames (slots_of a) (slots_of b)
 
 -- the same inode by inode
-abbrev pub IsAlike : Volume → Volume → Type 0
-IsAlike v w = (i : ℕ) → IsSameBody (body v i) (body w i)
+pub record IsAlike (v w : Volume) : Type 0 where
+  pub count : length v ≡ length w
+  pub each : (i : ℕ) → IsSameBody (body v i) (body w i)
 
 -- ---- files
 

@@ -10,7 +10,10 @@ ghost use Rattle.mq_tree.specs.Corrupt.{IsCorrupt};
 ghost use Rattle.mq_tree.specs.Decoded.{Stored, volume_in};
 ghost use Rattle.mq_tree.specs.Empty.{ArePages, empty_volume};
 ghost use Rattle.mq_tree.specs.Laid.{IsLaid, Laid, map_of};
+ghost use Rattle.mq_tree.specs.ListText.{list_text};
+ghost use Rattle.mq_tree.specs.Listings.{IsListing};
 ghost use Rattle.mq_tree.specs.Requests.{verdict};
+ghost use Rattle.mq_tree.specs.Sound.{IsSound};
 ghost use Rattle.mq_tree.specs.Trees.{IsAlike};
 ghost use Rattle.mq_tree.specs.Volume.{ADir, Layout, Path, Things, Volume, tree};
 ghost use Rattle.mq_tree.specs.declared.corrupt.CorruptCause.{CorruptCause};
@@ -37,8 +40,16 @@ pub fn clean_blocks()
     ensures corrupt { (g : Geometry) (s : Stored) (cause : CorruptCause) (b : ℕ) → IsCorrupt g s cause b → IsClean g s → ⊥ }
 {}
 
-/// Trees that are alike have the same at each path, and answer requests to read alike.
+/// Trees that are alike have the same at each path, are listed alike, and answer requests to read alike.
 pub fn alike_trees()
     ensures tree { (v w : Volume) → IsAlike v w → (path : Path) → tree v path ≡ tree w path }
+    ensures text { (v w : Volume) → IsAlike v w → list_text v ≡ list_text w }
     ensures reads { (g : Geometry) (q : ℕ) (v w : Volume) → IsAlike v w → (path : Path) (at count : ℕ) → verdict g q v (Read path at count) ≡ verdict g q w (Read path at count) }
+{}
+
+/// The text that lists a sound volume has one line for each path of its tree, in rising order, and nothing
+/// else. No other text has.
+pub fn a_listing_has_each_path()
+    ensures listing { (g : Geometry) (v : Volume) → IsSound g v → IsListing (tree v) (list_text v) }
+    ensures only { (t : Things) (a b : List ℕ) → IsListing t a → IsListing t b → a ≡ b }
 {}

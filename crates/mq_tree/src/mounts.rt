@@ -6,6 +6,8 @@ ghost use Rattle.mq_tree.specs.Corrupt.{Refuses};
 ghost use Rattle.mq_tree.specs.Decoded.{volume_in};
 ghost use Rattle.mq_tree.specs.Empty.{ArePages};
 ghost use Rattle.mq_tree.specs.Laid.{IsLaid, IsTreeOf, map_of};
+ghost use Rattle.mq_tree.specs.ListText.{list_text};
+ghost use Rattle.mq_tree.specs.Listings.{IsListing};
 ghost use Rattle.mq_tree.specs.Trees.{IsAlike, kept};
 ghost use Rattle.mq_tree.specs.Volume.{Things, Volume, tree};
 
@@ -59,6 +61,7 @@ pub fn mount(
 ) -> Result<Tree, MountRefusal>
     ensures tree { IfOk result (λ t. IsTreeOf geometry (map_of geometry blocks.now) (tree t)) }
     ensures alike { IfOk result (λ t. (v : Volume) → IsLaid geometry (map_of geometry blocks.now) v → IsAlike t v) }
+    ensures listing { IfOk result (λ t. IsListing (tree t) (list_text t)) }
     ensures cause { IfErr result (Refuses geometry blocks.now) }
     ensures none { IfErr result (λ e. e ≢ MountRefusal.OutOfMemory → (t : Things) → IsTreeOf geometry (map_of geometry blocks.now) t → ⊥) }
 {

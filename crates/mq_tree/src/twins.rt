@@ -3,7 +3,7 @@ ghost use Rattle.std.specs.Prelude.{◌≡◌, IfErr, IfOk, OnOk};
 ghost use Rattle.mq_blocks.specs.Blocks.{zeros};
 ghost use Rattle.mq_layout.specs.Inodes.{IsInode};
 ghost use Rattle.mq_tree.specs.Decoded.{body_of};
-ghost use Rattle.mq_tree.specs.Directories.{FindsAlike, IsOnce, RefusesTwin};
+ghost use Rattle.mq_tree.specs.Directories.{AreSameNames, IsOnce, RefusesTwin};
 ghost use Rattle.mq_tree.specs.Parts.{AreDirBlocks};
 ghost use Rattle.mq_tree.specs.Volume.{slots_of};
 
@@ -27,7 +27,7 @@ pub fn read_directory(
     requires form { IsInode inode.now }
     requires kind { inode.now.kind ≡ 2 }
     requires dir { AreDirBlocks blocks.now inode.now }
-    ensures ok { IfOk result (λ names. FindsAlike names (slots_of (body_of blocks.now inode.now))) }
+    ensures ok { IfOk result (λ names. AreSameNames names (slots_of (body_of blocks.now inode.now))) }
     ensures once { OnOk result (IsOnce blocks.now inode.now) }
     ensures cause { IfErr result (RefusesTwin blocks.now inode.now) }
 {

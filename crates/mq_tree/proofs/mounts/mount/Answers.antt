@@ -2,7 +2,7 @@ use Rattle.std.proofs.Common.{subst, sym}
 use Rattle.std.proofs.lemmas.Result.{err_from_is_err_and}
 use Rattle.mq_tree.specs.Decoded.{volume_in}
 use Rattle.mq_tree.specs.Trees.{IsAlike}
-use Rattle.mq_tree.proofs.Mounted.{mounted-alike, mounted-tree, refused-none}
+use Rattle.mq_tree.proofs.Mounted.{mounted-alike, mounted-listing, mounted-tree, refused-none}
 use Rattle.mq_tree.proofs.mounts.mount.Goals as goal
 
 pub returns-in_err-contents-clause-none : goal.returns-in_err-contents-clause-none
@@ -16,3 +16,7 @@ returns-clause-tree c =
 
 pub returns-clause-alike : goal.returns-clause-alike
 returns-clause-alike c v laid = mounted-alike c.args.geometry c.args.blocks.now c.new.result v (subst (λ t. IsAlike t (volume_in c.args.geometry c.args.blocks.now)) (sym c.new.ensures) c.in_ok-contents.ensures.alike) laid
+
+pub returns-clause-listing : goal.returns-clause-listing
+returns-clause-listing c =
+    mounted-listing c.args.geometry c.args.blocks.now c.new.result c.in_ok-contents.ensures.pages c.in_ok-contents.ensures.clean (subst (λ t. IsAlike t (volume_in c.args.geometry c.args.blocks.now)) (sym c.new.ensures) c.in_ok-contents.ensures.alike)

@@ -1,0 +1,422 @@
+-- A listing has a line for each path of a tree, in rising order.
+use Rattle.std.proofs.Common.{get_or, set, ◌≡◌, ℕ, zero, suc, ◌+◌, ◌<◌, ◌≤◌, ◌⊎◌, inl, inr, List, [], ◌∷◌, ◌++◌, append_assoc, length, map, replicate, Bool, true, false, Ordering, Less, Equal, refl, sym, ap, subst, ◌∙◌, arith, get_or-set_other, length-set}
+use Rattle.std.specs.Prelude.{Option, Some, None, codes, ⊤}
+use Rattle.std.specs.Cmp.{IsTotalOrder}
+use Rattle.std.specs.Cmp.Lexicographic.{slice_cmp}
+use Rattle.std.specs.List.{Contains}
+use Rattle.std.specs.List.Sorted.{IsStrictlySortedBy}
+use Rattle.std.specs.Ordering.{nat_cmp, ordering_then}
+use Rattle.std.proofs.lemmas.Bool.{cases_Bool, cases_eq, true≢false}
+use Rattle.std.proofs.lemmas.Cmp.{lists_total, nat_list_cmp_total, tied_itself}
+use Rattle.std.proofs.lemmas.List.{append-nil, length-replicate, map-append}
+use Rattle.std.proofs.lemmas.List.Elements.{Contains-append_cases, Contains-append_left, Contains-append_right}
+use Rattle.std.proofs.lemmas.List.Sums.{sum_by-set, count_by-le-length}
+use Rattle.std.proofs.lemmas.Option.{same_Some}
+use Rattle.mq_blocks.specs.declared.geometry.Geometry.{Geometry}
+use Rattle.mq_layout.specs.Slots.{Entry}
+use Rattle.mq_tree.specs.ListText.{Item, entries_in, items_of, line_of, lines, list_text, path_of}
+use Rattle.mq_tree.specs.Listings.{ArePaths, IsListing, lines_at, names_text, path_cmp, path_text, thing_line}
+use Rattle.mq_tree.specs.Sound.{IsSound}
+use Rattle.mq_tree.specs.Volume.{Body, Free, File, Dir, Path, Thing, Things, Volume, Way, body, inode_at, is_used, slots_of, thing, tree, way}
+use Rattle.mq_tree.specs.Walks.{is_seen, seen_count, weight}
+use Rattle.mq_tree.proofs.KeepAsks.{thing-leads}
+use Rattle.mq_tree.proofs.KeepMove.{leads-part}
+use Rattle.mq_tree.proofs.KeepPaths.{Edge, IsTree, Step, last-step, leads-used, next-step, one-way, thing-here, used-is}
+use Rattle.mq_tree.proofs.KeepTargets.{same-way, way-append}
+use Rattle.mq_tree.proofs.KeepVolumes.{sound-tree}
+use Rattle.mq_tree.proofs.Members.{cons-cases, cons-here, cons-there, map-cases, map-has, none-contained}
+use Rattle.mq_tree.proofs.Sorting.{all-contained, contained-all, entries-found, entries-have, entries-sorted, entry_cmp, less-equal, sorted-same}
+use Rattle.mq_tree.proofs.Walking.{all-false}
+
+-- ---- paths in order
+
+path_total : IsTotalOrder path_cmp
+path_total = lists_total nat_list_cmp_total
+
+-- one path comes before the other, and so does all below it before all below that
+abbrev Before : Path → Path → Type 0
+Before [] q = ⊥
+Before (n ∷ p) [] = ⊥
+Before (n ∷ p) (m ∷ q) = ((n ≡ m) × Before p q) ⊎ (slice_cmp nat_cmp n m ≡ Less)
+
+before-below : (p q r s : Path) → Before p q → Before (p ++ r) (q ++ s)
+before-below [] q r s b = absurd b
+before-below (n ∷ p) [] r s b = absurd b
+before-below (n ∷ p) (m ∷ q) r s (inl b) = inl (b.0, before-below p q r s b.1)
+before-below (n ∷ p) (m ∷ q) r s (inr l) = inr l
+
+tied : (n m : List ℕ) → n ≡ m → slice_cmp nat_cmp n m ≡ Equal
+tied n m e = ap (λ (x : List ℕ). slice_cmp nat_cmp n x) (sym e) ∙ tied_itself nat_list_cmp_total n
+
+before-less : (p q : Path) → Before p q → path_cmp p q ≡ Less
+before-less [] q b = absurd b
+before-less (n ∷ p) [] b = absurd b
+before-less (n ∷ p) (m ∷ q) (inl b) = ap (λ (o : Ordering). ordering_then o (path_cmp p q)) (tied n m b.0) ∙ before-less p q b.1
+before-less (n ∷ p) (m ∷ q) (inr l) = ap (λ (o : Ordering). ordering_then o (path_cmp p q)) l
+
+before-names : (p : Path) (a b : List ℕ) → slice_cmp nat_cmp a b ≡ Less → Before (p ++ a ∷ []) (p ++ b ∷ [])
+before-names [] a b l = inr l
+before-names (n ∷ p) a b l = inl (refl, before-names p a b l)
+
+-- a path comes before what is below it
+less-below : (p : Path) (a : List ℕ) (r : Path) → path_cmp p (p ++ a ∷ r) ≡ Less
+less-below [] a r = refl
+less-below (n ∷ p) a r = ap (λ (o : Ordering). ordering_then o (path_cmp p (p ++ a ∷ r))) (tied n n refl) ∙ less-below p a r
+
+-- ---- items that wait, each with its path
+
+record Spot : Type 0 where
+  path : Path
+  item : Item
+
+abbrev place : Spot → ℕ
+place s = s.item.entry.inode
+
+record Waits (v : Volume) (s : Spot) : Type 0 where
+  text : path_of s.item ≡ names_text s.path
+  whole : path_text s.path ≡ names_text s.path
+  leads : inode_at v (way s.path) ≡ Some (place s)
+
+record Below (spots : List Spot) (p : Path) : Type 0 where
+  spot : Spot
+  among : Contains spots spot
+  rest : Path
+  is : p ≡ spot.path ++ rest
+
+-- each comes before those after it
+abbrev AreApart : List Spot → Type 0
+AreApart [] = ⊤
+AreApart (s ∷ spots) = ((t : Spot) → Contains spots t → Before s.path t.path) × AreApart spots
+
+apart-append : (xs ys : List Spot) → AreApart xs → AreApart ys → ((s t : Spot) → Contains xs s → Contains ys t → Before s.path t.path) → AreApart (xs ++ ys)
+apart-append [] ys a b h = b
+apart-append (x ∷ xs) ys a b h = (
+  λ t c. elim (Contains-append_cases xs ys t c) [
+    | inl left ↦ a.0 t left
+    | inr right ↦ h x t (cons-here x xs x refl) right
+  ],
+  apart-append xs ys a.1 b (λ s t c d. h s t (cons-there x xs s c) d),
+)
+
+-- the entries of a directory at this path, where its text is this
+abbrev child : (path : Path) (text : List ℕ) → Entry → Spot
+child path text e = record { path = path ++ e.name ∷ []; item = record { above = text; entry = e } }
+
+abbrev children : (path : Path) (text : List ℕ) → List Entry → List Spot
+children path text es = map (child path text) es
+
+children-items : (path : Path) (text : List ℕ) (es : List Entry) → map (λ (s : Spot). s.item) (children path text es) ≡ items_of text es
+children-items path text [] = refl
+children-items path text (e ∷ es) = ap (λ (xs : List Item). record { above = text; entry = e } ∷ xs) (children-items path text es)
+
+children-apart : (path : Path) (text : List ℕ) (es : List Entry) → IsStrictlySortedBy entry_cmp es → AreApart (children path text es)
+unfolding IsStrictlySortedBy
+children-apart path text [] s = tt
+children-apart path text (e ∷ es) s = (
+  λ t c.
+      let d = map-cases (child path text) es t c in
+      let less = all-contained (λ f. entry_cmp e f ≡ Less) es s.0 d.0 d.1 in
+      subst (λ (x : Spot). Before (path ++ e.name ∷ []) x.path) d.2 (before-names path e.name (d.0).name less),
+  children-apart path text es s.1,
+)
+
+names-more : (path : Path) (name : List ℕ) → names_text (path ++ name ∷ []) ≡ names_text path ++ codes "/" ++ name
+names-more [] name = append-nil (codes "/" ++ name)
+names-more (n ∷ path) name =
+    let first = codes "/" ++ n in
+    ap (λ (t : List ℕ). first ++ t) (names-more path name) ∙ sym (append_assoc first (names_text path ++ codes "/") name) ∙ ap (λ (t : List ℕ). t ++ name) (sym (append_assoc first (names_text path) (codes "/")))
+
+whole-more : (path : Path) (name : List ℕ) → path_text (path ++ name ∷ []) ≡ names_text (path ++ name ∷ [])
+whole-more [] name = refl
+whole-more (n ∷ path) name = refl
+
+-- what stands below a directory at a path
+abbrev spots_in : Volume → (path : Path) (text : List ℕ) → ℕ → List Spot
+spots_in v path text d = children path text (entries_in (slots_of (body v d)))
+
+record InDir (v : Volume) (path : Path) (text : List ℕ) (d : ℕ) : Type 0 where
+  leads : inode_at v (way path) ≡ Some d
+  names : text ≡ names_text path
+
+spots-wait : (v : Volume) (path : Path) (text : List ℕ) (d : ℕ) → IsTree v → InDir v path text d → (s : Spot) → Contains (spots_in v path text d) s → Waits v s
+spots-wait v path text d t h s c =
+    let m = map-cases (child path text) (entries_in (slots_of (body v d))) s c in
+    let e = m.0 in
+    let f = entries-found (slots_of (body v d)) e m.1 in
+    let edge : Edge v d e.name e.inode = record { place = f.0; entry = e; there = f.1; named = refl; leads = refl } in
+    subst (Waits v) m.2 (record {
+      text = ap (λ (x : List ℕ). x ++ codes "/" ++ e.name) h.names ∙ sym (names-more path e.name);
+      whole = whole-more path e.name;
+      leads = ap (λ (w : Way). inode_at v w) (way-append path (e.name ∷ [])) ∙ next-step v e.name (way path) d e.inode t.names h.leads edge;
+    })
+
+spots-apart : (v : Volume) (path : Path) (text : List ℕ) (d : ℕ) → IsTree v → AreApart (spots_in v path text d)
+spots-apart v path text d t = children-apart path text (entries_in (slots_of (body v d))) (entries-sorted (slots_of (body v d)) (t.names d))
+
+child-split : (path : Path) (name : List ℕ) (rest : Path) (e : Entry) → e.name ≡ name → path ++ name ∷ rest ≡ (path ++ e.name ∷ []) ++ rest
+child-split path name rest e named = sym (append_assoc path (name ∷ []) rest) ∙ ap (λ (n : List ℕ). (path ++ n ∷ []) ++ rest) (sym named)
+
+spot-step : (v : Volume) (path : Path) (text : List ℕ) (d : ℕ) → InDir v path text d → (name : List ℕ) (rest : Path) (i : ℕ) → Step v name (way path) i → Below (spots_in v path text d) (path ++ name ∷ rest)
+spot-step v path text d h name rest i step =
+    let here : step.directory ≡ d = same_Some step.directory d (sym step.before ∙ h.leads) in
+    let stands = subst (λ (x : ℕ). get_or (slots_of (body v x)) step.edge.place None ≡ Some step.edge.entry) here step.edge.there in
+    record {
+      spot = child path text step.edge.entry;
+      among = map-has (child path text) (entries_in (slots_of (body v d))) step.edge.entry (entries-have (slots_of (body v d)) step.edge.place step.edge.entry stands);
+      rest = rest;
+      is = child-split path name rest step.edge.entry step.edge.named;
+    }
+
+-- whatever stands further down is below one of them
+spots-all : (v : Volume) (path : Path) (text : List ℕ) (d : ℕ) → InDir v path text d → (name : List ℕ) (rest : Path) (there : Thing) → tree v (path ++ name ∷ rest) ≡ Some there → Below (spots_in v path text d) (path ++ name ∷ rest)
+spots-all v path text d h name rest there is =
+    let l = thing-leads v (path ++ name ∷ rest) there is in
+    let turned : way (path ++ name ∷ rest) ≡ way rest ++ name ∷ way path =
+    ap (λ (p : Path). way p) (sym (append_assoc path (name ∷ []) rest)) ∙ way-append (path ++ name ∷ []) rest ∙ ap (λ (w : Way). way rest ++ w) (way-append path (name ∷ [])) in
+    let part = leads-part v (way rest) (name ∷ way path) l.0 (ap (λ (w : Way). inode_at v w) (sym turned) ∙ l.1) in
+    spot-step v path text d h name rest part.0 (last-step v name (way path) part.0 part.1)
+
+-- ---- how far the listing has come
+
+-- The lines that are left are enough: what was listed has earlier paths, and is no more than there are inodes.
+record Ready (v : Volume) (count : ℕ) (spots : List Spot) (seen : List Bool) : Type 0 where
+  waits : (s : Spot) → Contains spots s → Waits v s
+  apart : AreApart spots
+  size : length seen ≡ length v
+  enough : length v ≤ count + seen_count seen
+  past : (i : ℕ) → is_seen seen i ≡ true → (p : Path) × (inode_at v (way p) ≡ Some i) × ((s : Spot) → Contains spots s → path_cmp p s.path ≡ Less)
+
+used-low : (v : Volume) (i : ℕ) → is_used (body v i) ≡ true → i < length v
+used-low [] i u = absurd (true≢false (sym u))
+used-low (n ∷ v) zero u = omega arith
+used-low (n ∷ v) (suc i) u = let l = used-low v i u in omega arith
+
+spot-used : (v : Volume) (s : Spot) → IsTree v → Waits v s → is_used (body v (place s)) ≡ true
+spot-used v s t w = leads-used v t (way s.path) (place s) w.leads
+
+spot-unseen : (v : Volume) (count : ℕ) (s : Spot) (spots : List Spot) (seen : List Bool) → IsTree v → Ready v count (s ∷ spots) seen → is_seen seen (place s) ≡ false
+spot-unseen v count s spots seen t r = elim (cases_Bool (is_seen seen (place s))) [
+  | inl was ↦
+      let p = r.past (place s) was in
+      let w = r.waits s (cons-here s spots s refl) in
+      let same : p.0 ≡ s.path = same-way p.0 s.path (one-way v t.named t.once (way p.0) (way s.path) (place s) p.1 w.leads) in
+      less-equal (sym (p.2 s (cons-here s spots s refl)) ∙ ap (λ (q : Path). path_cmp q s.path) same ∙ tied_itself path_total s.path)
+  | inr new ↦ new
+]
+
+seen-more : (v : Volume) (count : ℕ) (s : Spot) (spots : List Spot) (seen : List Bool) → IsTree v → Ready v count (s ∷ spots) seen → seen_count (set seen (place s) true) ≡ seen_count seen + 1
+seen-more v count s spots seen t r =
+    let low = used-low v (place s) (spot-used v s t (r.waits s (cons-here s spots s refl))) in
+    let n = r.size in
+    let inside : place s < length seen = omega arith in
+    let more = sum_by-set weight seen (place s) true false inside in
+    let none : weight (get_or seen (place s) false) ≡ 0 = ap weight (spot-unseen v count s spots seen t r) in
+    omega arith
+
+seen-few : (seen : List Bool) → seen_count seen ≤ length seen
+seen-few seen = count_by-le-length (λ (b : Bool). b) seen
+
+spot-left : {R : Type 0} (v : Volume) (s : Spot) (spots : List Spot) (seen : List Bool) → IsTree v → Ready v zero (s ∷ spots) seen → R
+spot-left v s spots seen t r =
+    let more = seen-more v zero s spots seen t r in
+    let few = seen-few (set seen (place s) true) in
+    let n = length-set seen (place s) true in
+    let m = r.size in
+    let enough = r.enough in
+    absurd (omega arith)
+
+-- the directory of an item that waits
+spot-dir : (v : Volume) (s : Spot) → Waits v s → InDir v s.path (path_of s.item) (place s)
+spot-dir v s w = record { leads = w.leads; names = w.text }
+
+abbrev spots_at : Volume → Spot → List Spot
+spots_at v s = spots_in v s.path (path_of s.item) (place s)
+
+-- a spot below another comes after it
+spot-below : (v : Volume) (s c : Spot) → Contains (spots_at v s) c → (name : List ℕ) × (c.path ≡ s.path ++ name ∷ [])
+spot-below v s c among =
+    let m = map-cases (child s.path (path_of s.item)) (entries_in (slots_of (body v (place s)))) c among in
+    ((m.0).name, ap (λ (x : Spot). x.path) (sym m.2))
+
+ready-more : (v : Volume) (count : ℕ) (s : Spot) (spots : List Spot) (seen : List Bool) → IsTree v → Ready v (suc count) (s ∷ spots) seen → Ready v count (spots_at v s ++ spots) (set seen (place s) true)
+ready-more v count s spots seen t r =
+    let w = r.waits s (cons-here s spots s refl) in
+    let dir = spot-dir v s w in
+    let here : (c : Spot) → Contains (spots_at v s) c → path_cmp s.path c.path ≡ Less = λ c among.
+    let b = spot-below v s c among in
+    ap (λ (q : Path). path_cmp s.path q) b.1 ∙ less-below s.path b.0 [] in
+    let after : (c : Spot) → Contains spots c → path_cmp s.path c.path ≡ Less = λ c among. before-less s.path c.path (r.apart.0 c among) in
+    record {
+      waits = λ c among. elim (Contains-append_cases (spots_at v s) spots c among) [
+        | inl new ↦ spots-wait v s.path (path_of s.item) (place s) t dir c new
+        | inr old ↦ r.waits c (cons-there s spots c old)
+      ];
+      apart = apart-append (spots_at v s) spots (spots-apart v s.path (path_of s.item) (place s) t) r.apart.1 (λ c d among other.
+          let b = spot-below v s c among in
+          let whole : Before (s.path ++ (b.0 ∷ [])) (d.path ++ []) = before-below s.path d.path (b.0 ∷ []) [] (r.apart.0 d other) in
+          subst (λ (q : Path). Before q d.path) (sym b.1) (subst (Before (s.path ++ b.0 ∷ [])) (append-nil d.path) whole));
+      size = length-set seen (place s) true ∙ r.size;
+      enough = (let more = seen-more v (suc count) s spots seen t r in let e = r.enough in omega arith);
+      past = λ i was. elim (cases_eq i (place s)) [
+        | inl same ↦ (s.path, w.leads ∙ ap (λ (x : ℕ). Some x) (sym same), λ c among. elim (Contains-append_cases (spots_at v s) spots c among) [ inl new ↦ here c new | inr old ↦ after c old ])
+        | inr other ↦
+            let p = r.past i (sym (get_or-set_other seen (place s) i true false other) ∙ was) in
+            let before = p.2 s (cons-here s spots s refl) in (
+              p.0,
+              p.1,
+              λ c among. elim (Contains-append_cases (spots_at v s) spots c among) [
+                | inl new ↦ path_total.trans p.0 s.path c.path before (here c new)
+                | inr old ↦ p.2 c (cons-there s spots c old)
+              ],
+            )
+      ];
+    }
+
+-- ---- what the lines tell
+
+record Told (v : Volume) (spots : List Spot) (text : List ℕ) : Type 0 where
+  paths : List Path
+  lines : text ≡ lines_at (tree v) paths
+  rising : IsStrictlySortedBy path_cmp paths
+  below : (p : Path) → Contains paths p → Below spots p
+  found : (p : Path) → Contains paths p → (there : Thing) × (tree v p ≡ Some there)
+  all : (p : Path) (there : Thing) → tree v p ≡ Some there → Below spots p → Contains paths p
+
+told-none : (v : Volume) → Told v [] []
+unfolding IsStrictlySortedBy
+told-none v = record {
+  paths = [];
+  lines = refl;
+  rising = tt;
+  below = λ p c. none-contained p c;
+  found = λ p c. none-contained p c;
+  all = λ p there is b. none-contained b.spot b.among;
+}
+
+line-is : (path : Path) (text : List ℕ) (b : Body) → is_used b ≡ true → text ≡ path_text path → line_of text b ≡ thing_line path (thing b)
+line-is path text Free u e = absurd (true≢false (sym u))
+line-is path text (File bytes) u e = ap (λ (t : List ℕ). line_of t (File bytes)) e
+line-is path text (Dir slots) u e = ap (λ (t : List ℕ). line_of t (Dir slots)) e
+
+sorted-cons : (p : Path) (paths : List Path) → ((q : Path) → Contains paths q → path_cmp p q ≡ Less) → IsStrictlySortedBy path_cmp paths → IsStrictlySortedBy path_cmp (p ∷ paths)
+unfolding IsStrictlySortedBy
+sorted-cons p paths h s = (contained-all (λ q. path_cmp p q ≡ Less) paths h, s)
+
+told-more : (v : Volume) (s : Spot) (spots : List Spot) (text : List ℕ) → IsTree v → Waits v s → ((t : Spot) → Contains spots t → Before s.path t.path) → Told v (spots_at v s ++ spots) text → Told v (s ∷ spots) (line_of (path_of s.item) (body v (place s)) ++ text)
+told-more v s spots text t w apart rest =
+    let used = spot-used v s t w in
+    let here : tree v s.path ≡ thing (body v (place s)) = thing-here v (way s.path) (place s) w.leads in
+    let line : line_of (path_of s.item) (body v (place s)) ≡ thing_line s.path (tree v s.path) =
+    line-is s.path (path_of s.item) (body v (place s)) used (w.text ∙ sym w.whole) ∙ ap (λ (o : Option Thing). thing_line s.path o) (sym here) in
+    let stands = used-is (body v (place s)) used in
+    record {
+      paths = s.path ∷ rest.paths;
+      lines = ap (λ (l : List ℕ). l ++ text) line ∙ ap (λ (l : List ℕ). thing_line s.path (tree v s.path) ++ l) rest.lines;
+      rising = sorted-cons s.path rest.paths (λ q c.
+          let b = rest.below q c in
+          elim (Contains-append_cases (spots_at v s) spots b.spot b.among) [
+            | inl new ↦
+                let n = spot-below v s b.spot new in
+                let is : q ≡ s.path ++ n.0 ∷ b.rest = b.is ∙ ap (λ (x : Path). x ++ b.rest) n.1 ∙ append_assoc s.path (n.0 ∷ []) b.rest in
+                ap (λ (x : Path). path_cmp s.path x) is ∙ less-below s.path n.0 b.rest
+            | inr old ↦
+                let whole = before-below s.path (b.spot).path [] b.rest (apart b.spot old) in
+                before-less s.path q (subst (Before s.path) (sym b.is) (subst (λ (x : Path). Before x ((b.spot).path ++ b.rest)) (append-nil s.path) whole))
+          ]) rest.rising;
+      below = λ q c. elim (cons-cases s.path rest.paths q c) [
+        | inl same ↦ record { spot = s; among = cons-here s spots s refl; rest = []; is = sym same ∙ sym (append-nil s.path) }
+        | inr there ↦
+            let b = rest.below q there in
+            elim (Contains-append_cases (spots_at v s) spots b.spot b.among) [
+              | inl new ↦
+                  let n = spot-below v s b.spot new in
+                  record { spot = s; among = cons-here s spots s refl; rest = n.0 ∷ b.rest; is = b.is ∙ ap (λ (x : Path). x ++ b.rest) n.1 ∙ append_assoc s.path (n.0 ∷ []) b.rest }
+              | inr old ↦ record { spot = b.spot; among = cons-there s spots b.spot old; rest = b.rest; is = b.is }
+            ]
+      ];
+      found = λ q c. elim (cons-cases s.path rest.paths q c) [
+        | inl same ↦ (stands.0, ap (λ (x : Path). tree v x) (sym same) ∙ here ∙ stands.1)
+        | inr there ↦ rest.found q there
+      ];
+      all = λ q there is b. elim (cons-cases s spots b.spot b.among) [
+        | inl same ↦ told-here v s spots text w rest q there is b.rest (b.is ∙ ap (λ (x : Spot). x.path ++ b.rest) (sym same))
+        | inr old ↦ cons-there s.path rest.paths q (rest.all q there is (record { spot = b.spot; among = Contains-append_right (spots_at v s) spots b.spot old; rest = b.rest; is = b.is }))
+      ];
+    }
+  where
+    told-here : (v : Volume) (s : Spot) (spots : List Spot) (text : List ℕ) → Waits v s → (rest : Told v (spots_at v s ++ spots) text) → (q : Path) (there : Thing) → tree v q ≡ Some there → (more : Path) → q ≡ s.path ++ more → Contains (s.path ∷ rest.paths) q
+    told-here v s spots text w rest q there is [] e = cons-here s.path rest.paths q (sym (append-nil s.path) ∙ sym e)
+    told-here v s spots text w rest q there is (name ∷ more) e =
+        let b = spots-all v s.path (path_of s.item) (place s) (spot-dir v s w) name more there (ap (λ (x : Path). tree v x) (sym e) ∙ is) in
+        cons-there s.path rest.paths q (rest.all q there is (record { spot = b.spot; among = Contains-append_left (spots_at v s) spots b.spot b.among; rest = b.rest; is = e ∙ b.is }))
+
+items-more : (v : Volume) (s : Spot) (spots : List Spot) → map (λ (x : Spot). x.item) (spots_at v s ++ spots) ≡ items_of (path_of s.item) (entries_in (slots_of (body v (place s)))) ++ map (λ (x : Spot). x.item) spots
+items-more v s spots = map-append (λ (x : Spot). x.item) (spots_at v s) spots ∙ ap (λ (xs : List Item). xs ++ map (λ (x : Spot). x.item) spots) (children-items s.path (path_of s.item) (entries_in (slots_of (body v (place s)))))
+
+told : (count : ℕ) (v : Volume) (spots : List Spot) (seen : List Bool) → IsTree v → Ready v count spots seen → Told v spots (lines count v (map (λ (s : Spot). s.item) spots))
+unfolding lines
+told zero v [] seen t r = told-none v
+told (suc count) v [] seen t r = told-none v
+told zero v (s ∷ spots) seen t r = spot-left v s spots seen t r
+told (suc count) v (s ∷ spots) seen t r =
+    let rest = told count v (spots_at v s ++ spots) (set seen (place s) true) t (ready-more v count s spots seen t r) in
+    told-more v s spots (lines count v (items_of (path_of s.item) (entries_in (slots_of (body v (place s)))) ++ map (λ (x : Spot). x.item) spots)) t (r.waits s (cons-here s spots s refl)) r.apart.0 (subst (λ (xs : List Item). Told v (spots_at v s ++ spots) (lines count v xs)) (items-more v s spots) rest)
+
+-- ---- the whole listing
+
+root-dir : (v : Volume) → InDir v [] [] 0
+root-dir v = record { leads = refl; names = refl }
+
+abbrev root_spots : Volume → List Spot
+root_spots v = spots_in v [] [] 0
+
+root-ready : (v : Volume) → IsTree v → Ready v (length v) (root_spots v) (replicate (length v) false)
+root-ready v t = record {
+  waits = spots-wait v [] [] 0 t (root-dir v);
+  apart = spots-apart v [] [] 0 t;
+  size = length-replicate (length v) false;
+  enough = omega arith;
+  past = λ i was. absurd (true≢false (sym was ∙ all-false (length v) i));
+}
+
+root-told : (v : Volume) → IsTree v → Told v (root_spots v) (lines (length v) v (items_of [] (entries_in (slots_of (body v 0)))))
+root-told v t = subst (λ (xs : List Item). Told v (root_spots v) (lines (length v) v xs)) (children-items [] [] (entries_in (slots_of (body v 0)))) (told (length v) v (root_spots v) (replicate (length v) false) t (root-ready v t))
+
+root-used : (v : Volume) → IsTree v → is_used (body v 0) ≡ true
+root-used v t = leads-used v t [] 0 refl
+
+tree-listing : (v : Volume) → IsTree v → IsListing (tree v) (list_text v)
+tree-listing v t =
+    let r = root-told v t in
+    let stands = used-is (body v 0) (root-used v t) in
+    record {
+      paths = [] ∷ r.paths;
+      each = record {
+        rising = sorted-cons [] r.paths (λ q c. root-first v q (r.below q c)) r.rising;
+        found = λ q c. elim (cons-cases [] r.paths q c) [
+          | inl same ↦ (stands.0, ap (λ (x : Path). tree v x) (sym same) ∙ stands.1)
+          | inr there ↦ r.found q there
+        ];
+        all = λ q there is. root-all v r q there is;
+      };
+      lines = ap (λ (l : List ℕ). l ++ lines (length v) v (items_of [] (entries_in (slots_of (body v 0))))) (line-is [] (codes "/") (body v 0) (root-used v t) refl) ∙ ap (λ (l : List ℕ). thing_line [] (tree v []) ++ l) r.lines;
+    }
+  where
+    root-first : (v : Volume) (q : Path) → Below (root_spots v) q → path_cmp [] q ≡ Less
+    root-first v q b =
+        let m = map-cases (child [] []) (entries_in (slots_of (body v 0))) b.spot b.among in
+        ap (λ (x : Path). path_cmp [] x) (b.is ∙ ap (λ (x : Spot). x.path ++ b.rest) (sym m.2))
+
+    root-all : (v : Volume) (r : Told v (root_spots v) (lines (length v) v (items_of [] (entries_in (slots_of (body v 0)))))) (q : Path) (there : Thing) → tree v q ≡ Some there → Contains ([] ∷ r.paths) q
+    root-all v r [] there is = cons-here [] r.paths [] refl
+    root-all v r (name ∷ q) there is = cons-there [] r.paths (name ∷ q) (r.all (name ∷ q) there is (spots-all v [] [] 0 (root-dir v) name q there is))
+
+pub sound-listing : (g : Geometry) (v : Volume) → IsSound g v → IsListing (tree v) (list_text v)
+sound-listing g v s = tree-listing v (sound-tree g v s)
+
+-- a tree has one listing
+pub listing-once : (t : Things) (a b : List ℕ) → IsListing t a → IsListing t b → a ≡ b
+listing-once t a b x y =
+    let kept : (u w : List Path) → ArePaths t u → ArePaths t w → (p : Path) → Contains u p → Contains w p = λ u w f g p c. (let h = f.found p c in g.all p h.0 h.1) in
+    let same = sorted-same path_cmp path_total x.paths y.paths x.each.rising y.each.rising (kept x.paths y.paths x.each y.each) (kept y.paths x.paths y.each x.each) in
+    x.lines ∙ ap (λ (ps : List Path). lines_at t ps) same ∙ sym y.lines

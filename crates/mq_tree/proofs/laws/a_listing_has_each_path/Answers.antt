@@ -1,0 +1,5 @@
+use Rattle.mq_tree.proofs.WholeListing.{listing-once, sound-listing}
+use Rattle.mq_tree.proofs.laws.a_listing_has_each_path.Goals as goal
+
+pub returns : goal.returns
+returns c = record { listing = sound-listing; only = listing-once }
