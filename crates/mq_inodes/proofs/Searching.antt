@@ -2,7 +2,7 @@
 use Rattle.std.proofs.Common.{get_or, ◌≡◌, ℕ, zero, suc, ◌+◌, ◌-◌, ◌*◌, ◌<◌, ◌≤◌, inl, inr, List, [], ◌∷◌, ◌++◌, length, take, Bool, true, false, cond, refl, sym, ap, subst, ◌∙◌, arith, append_assoc}
 use Rattle.std.specs.List.{All, range_with_len}
 use Rattle.std.proofs.Math.Nat.{mul-le-mul_right}
-use Rattle.std.proofs.lemmas.Bool.{cases_Bool}
+use Rattle.std.proofs.lemmas.Bool.{cases_Bool, cases_lt}
 use Rattle.std.proofs.lemmas.List.{append-nil}
 use Rattle.std.proofs.lemmas.List.Elements.{All-append, All-cons, All-from_get_or, All-take}
 use Rattle.std.proofs.lemmas.List.FromFn.{get_or-range_with_len, length-range_with_len}
@@ -75,10 +75,21 @@ free-next v a k = ap (free_of v) (range-push a k) ∙ free-append v (range_with_
 abbrev pub picked : Volume → (count : ℕ) → List ℕ → (a k : ℕ) → List ℕ
 picked v n old a k = take n (old ++ free_of v (range_with_len a k))
 
-pub picked-taken : (v : Volume) (n a k : ℕ) (old picks : List ℕ) → true ≡ is_taken v (a + k) → picks ≡ picked v n old a k → picks ≡ picked v n old a (k + 1)
+picked-taken : (v : Volume) (n a k : ℕ) (old picks : List ℕ) → true ≡ is_taken v (a + k) → picks ≡ picked v n old a k → picks ≡ picked v n old a (k + 1)
 picked-taken v n a k old picks t e =
     let none : free_of v (range_with_len a (k + 1)) ≡ free_of v (range_with_len a k) ++ [] = free-next v a k ∙ ap (λ (s : Bool). free_of v (range_with_len a k) ++ cond s [] ((a + k) ∷ [])) (sym t) in
     e ∙ ap (λ (xs : List ℕ). take n (old ++ xs)) (sym (none ∙ append-nil (free_of v (range_with_len a k))))
+
+-- taken blocks are passed
+pub picked-passed : (v : Volume) (n a k m : ℕ) (old picks : List ℕ) → k ≤ m → ((j : ℕ) → k ≤ j → j < m → true ≡ is_taken v (a + j)) → picks ≡ picked v n old a k → picks ≡ picked v n old a m
+picked-passed v n a k zero old picks l taken e = let z : k ≡ zero = omega arith in e ∙ ap (picked v n old a) z
+picked-passed v n a k (suc m) old picks l taken e = elim (cases_lt m k) [
+  | inl last ↦ let z : k ≡ suc m = omega arith in e ∙ ap (picked v n old a) z
+  | inr more ↦
+      let rest = picked-passed v n a k m old picks more (λ j low high. taken j low (omega arith)) e in
+      let z : m + 1 ≡ suc m = omega arith in
+      picked-taken v n a m old picks (taken m more (omega arith)) rest ∙ ap (picked v n old a) z
+]
 
 pub picked-free : (v : Volume) (n a k : ℕ) (old picks : List ℕ) → false ≡ is_taken v (a + k) → length picks < n → picks ≡ picked v n old a k → picks ++ (a + k) ∷ [] ≡ picked v n old a (k + 1)
 picked-free v n a k old picks f few e =

@@ -7,7 +7,7 @@ ghost use Rattle.mq_tree.specs.Free.{first_free};
 
 use crate::lack::Lack;
 use crate::working::Working;
-use mq_layout::{bit, inode_bitmap, inodes};
+use mq_layout::{first_clear, inode_bitmap, inodes};
 use std::alloc::Global;
 
 impl<'a> Working<'a> {
@@ -19,11 +19,6 @@ impl<'a> Working<'a> {
         ensures lack { IfErr result (LacksOf self.now (λ v b. b ≡ inode_bitmap_of self.now.geometry)) }
     {
         let marks = self.content(alloc, inode_bitmap(self.geometry))?;
-        for i in 0..inodes(self.geometry) {
-            if !bit(marks, i) {
-                return Ok(Some(i));
-            }
-        }
-        Ok(None)
+        Ok(first_clear(marks, 0, inodes(self.geometry)))
     }
 }

@@ -14,7 +14,7 @@ ghost use Rattle.std.specs.Prelude.{⊤};
 use crate::lack::Lack;
 use crate::working::Working;
 use mq_blocks::{Block, BlockNo, Geometry, OutOfMemory, QueueNo};
-use mq_layout::{bit, zone_bitmap};
+use mq_layout::{first_clear, zone_bitmap};
 use std::alloc::Global;
 
 /// Adds the free blocks of a zone by its bitmap, up to so many picks.
@@ -29,14 +29,15 @@ fn push_free(
     requires few { length picks.old.items ≤ count }
     ensures { OnOk result ((v : Volume) → ShowsMarks marks.now (zone_marked geometry v zone) → picks.new.items ≡ take count (picks.old.items ++ free_of v (zone_blocks geometry zone))) }
 {
-    let start = geometry.meta() + zone.0 * geometry.zone();
-    for k in 0..geometry.zone() {
-        if picks.len() >= count as usize {
+    let size = geometry.zone();
+    let start = geometry.meta() + zone.0 * size;
+    let mut from = 0;
+    while picks.len() < count as usize {
+        let Some(k) = first_clear(marks, from, size) else {
             return Ok(());
-        }
-        if !bit(marks, k) {
-            picks.push(BlockNo(start + k))?;
-        }
+        };
+        picks.push(BlockNo(start + k))?;
+        from = k + 1;
     }
     Ok(())
 }

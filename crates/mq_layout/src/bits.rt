@@ -1,8 +1,8 @@
 // Bitmaps, and blocks of pointers.
-ghost use Rattle.std.specs.Prelude.{◌≡◌, ◌≢◌, ◌<◌, ◌+◌, ◌*◌, ◌%◌, ℕ, length, if◌then◌else◌, slice_index};
+ghost use Rattle.std.specs.Prelude.{◌≡◌, ◌≢◌, ◌<◌, ◌≤◌, ◌+◌, ◌*◌, ◌%◌, ℕ, MatchOption, length, if◌then◌else◌, slice_index};
 ghost use Rattle.std.specs.Int.{to_le_bytes, w32};
 ghost use Rattle.mq_blocks.specs.Windows.{written};
-ghost use Rattle.mq_layout.specs.Bits.{bit_of, pointer_of};
+ghost use Rattle.mq_layout.specs.Bits.{AreSet, IsFirstClear, bit_of, pointer_of};
 
 use mq_blocks::Block;
 use mq_blocks::bytes::{put, u32_at};
@@ -14,6 +14,26 @@ pub fn bit(block: &Block, at: u32) -> bool
 {
     let byte = block.bytes()[(at / 8) as usize];
     byte >> (at % 8) & 1 == 1
+}
+
+/// The first bit of a bitmap that is clear, of those from `from` on and below `end`. A full byte is
+/// passed at once.
+pub fn first_clear(block: &Block, from: u32, end: u32) -> Option<u32>
+    requires order { from ≤ end }
+    requires inside { end ≤ 32768 }
+    ensures { MatchOption result (AreSet block.now from end) (IsFirstClear block.now from end) }
+{
+    let mut at = from;
+    while at < end {
+        if at % 8 == 0 && block.bytes()[(at / 8) as usize] == u8::MAX {
+            at += 8;
+        } else if bit(block, at) {
+            at += 1;
+        } else {
+            return Some(at);
+        }
+    }
+    None
 }
 
 /// Sets or clears a bit of a bitmap.

@@ -12,7 +12,7 @@ mod superblock;
 #[cfg(test)]
 mod tests;
 
-pub use bits::{bit, pointer, set_bit, set_pointer};
+pub use bits::{bit, first_clear, pointer, set_bit, set_pointer};
 pub use format::format_block;
 pub use inode::{Inode, read_inode, write_inode};
 pub use name::is_good_name;

@@ -2,9 +2,9 @@
 ghost use Rattle.std.specs.Prelude.{◌<◌, ◌≤◌, ◌+◌, length};
 
 use crate::{
-    Inode, LayoutCause, LayoutRefusal, Slot, bit, clear_slot, format_block, inode_block,
-    inode_place, inodes, is_good_name, pointer, read_inode, read_slot, read_super, set_bit,
-    set_pointer, write_inode, write_slot, write_super, zone_bitmap,
+    Inode, LayoutCause, LayoutRefusal, Slot, bit, clear_slot, first_clear, format_block,
+    inode_block, inode_place, inodes, is_good_name, pointer, read_inode, read_slot, read_super,
+    set_bit, set_pointer, write_inode, write_slot, write_super, zone_bitmap,
 };
 use mq_blocks::bytes::put;
 use mq_blocks::{Block, BlockNo, Geometry, OutOfMemory, QueueNo};
@@ -150,6 +150,25 @@ fn bits_and_pointers_stand_in_their_places(rt: HostRuntime) -> Result<(), OutOfM
     set_pointer(&mut block, 1023, 258);
     assert_eq!(rt; block.bytes(), with(rt.alloc(), 4092, &[2, 1])?.bytes());
     assert_eq!(rt; pointer(&block, 1023), 258);
+    Ok(())
+}
+
+#[test]
+fn first_clear_bit_is_found(rt: HostRuntime) -> Result<(), OutOfMemory> {
+    // Bits 19 and 32 are the first that are clear.
+    let mut block = with(rt.alloc(), 0, &[0xff, 0xff, 0xf7, 0xff, 0x02])?;
+    assert_eq!(rt; first_clear(&block, 0, 32768), Some(19));
+    assert_eq!(rt; first_clear(&block, 13, 20), Some(19));
+    assert_eq!(rt; first_clear(&block, 13, 19), None);
+    assert_eq!(rt; first_clear(&block, 20, 32768), Some(32));
+    assert_eq!(rt; first_clear(&block, 21, 30), None);
+    assert_eq!(rt; first_clear(&block, 33, 33), None);
+    assert_eq!(rt; first_clear(&block, 33, 35), Some(34));
+    block.fill(0xff);
+    assert_eq!(rt; first_clear(&block, 0, 32768), None);
+    set_bit(&mut block, 32767, false);
+    assert_eq!(rt; first_clear(&block, 0, 32767), None);
+    assert_eq!(rt; first_clear(&block, 7, 32768), Some(32767));
     Ok(())
 }
 
