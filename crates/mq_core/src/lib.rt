@@ -1,5 +1,5 @@
-//! The journal as a pure machine: transactions, the events on the queues of a drive, and what a power
-//! cut may leave after each of them.
+//! The journal as a pure machine: the events on the queues of a drive, where each is allowed, and what a
+//! power cut may leave after each of them.
 #![tactic(auto)]
 
 mod event;
