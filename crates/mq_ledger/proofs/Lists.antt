@@ -6,7 +6,7 @@ use Rattle.std.specs.Ordering.{nat_cmp, ordering_index}
 use Rattle.std.proofs.lemmas.Bool.{cases_Bool, cases_lt, cases_eq, false≢true, eqb-true}
 use Rattle.std.proofs.lemmas.Bool.Decides.{nat_tests}
 use Rattle.std.proofs.lemmas.Cmp.{ranked}
-use Rattle.std.proofs.lemmas.List.{length-map, get_or-map, map-append, drop_more, drop_all, get_or_read, get_or_append_left, get_or-append-add, length-append}
+use Rattle.std.proofs.lemmas.List.{length-map, get_or-map, map-append, drop_more, drop_all, get_or_append_left, get_or-append-add, length-append}
 use Rattle.std.proofs.lemmas.List.Elements.{All-cons, All-tail, All-head, All-nil}
 use Rattle.std.proofs.lemmas.List.Sorted.{IsNonDecreasingBy-from_default}
 use Rattle.mq_area.proofs.Rising.{rising-order}
@@ -16,7 +16,6 @@ use Rattle.mq_ledger.specs.Form.{IsAscending}
 use Rattle.mq_ledger.specs.Records.{Every}
 use Rattle.mq_blocks.specs.Machine.{Writes}
 use Rattle.mq_ledger.specs.History.{blocks_of}
-use Rattle.mq_ledger.specs.Items.{no_write}
 use Rattle.mq_ledger.proofs.Among.{among_first, apart_from, apart_among}
 
 pub rising-high : (low high : ℕ) (xs : List ℕ) (k : ℕ) → AreRising low high xs → k < length xs → get_or xs k 0 < high
@@ -82,10 +81,6 @@ module _ {X : Type 0} (key : X → ℕ) (d : X) (xs : List X) (x : ℕ) (sorted 
     λ t. absurd (false≢true t),
     λ among. absurd (none_found i (λ k lt l. ranked _ x _ (sym ((parted comparisons_rise).0 k d (omega arith) lt))) (λ k le l. ranked _ x _ (sym ((parted comparisons_rise).1 k d le l))) among),
   )
-
-pub map-same : (xs : List ℕ) → map (λ x. x) xs ≡ xs
-map-same [] = refl
-map-same (x ∷ xs) = ap (λ ys. x ∷ ys) (map-same xs)
 
 -- ---- what holds of every block of a list
 
@@ -165,21 +160,18 @@ among-append_right (z ∷ zs) ys x a = elim (cases_Bool (eqb z x)) [
   | inr other ↦ rw other (among-append_right zs ys x a)
 ]
 
--- the block of a write that a loop reads
+-- the block of an item that a loop reads
+pub item-read : {X : Type 0} (of : X → ℕ) (xs : List X) (i : ℕ) (x : X) → i < length xs → x ≡ get_or xs i x → (i < length (map of xs)) × (of x ≡ get_or (map of xs) i 0)
+item-read of xs i x l e = (rw length-map l, ap of e ∙ sym (get_or-map of xs i x 0 l))
+
 pub block-read : (ws : Writes) (i : ℕ) (w : ℕ × List ℕ) → i < length ws → w ≡ get_or ws i w → (i < length (blocks_of ws)) × (w.0 ≡ get_or (blocks_of ws) i 0)
-block-read ws i w l e = (rw length-map l, ap (λ (v : ℕ × List ℕ). v.0) (get_or_read ws i w l e no_write) ∙ sym (get_or-map (λ (v : ℕ × List ℕ). v.0) ws i no_write 0 l))
+block-read ws i w l e = item-read (λ (v : ℕ × List ℕ). v.0) ws i w l e
 
 -- what a search answers, as a test
-pub listed-is : (xs : List ℕ) (x : ℕ) (r : Result ℕ ℕ) (b : Bool) → IsAscending xs → IsSearchInRange r (length xs) → IsBinarySearchResult (λ y. nat_cmp y x) xs r → b ≡ is_ok r → (IsTrue b → is_among x xs ≡ true) × (is_among x xs ≡ true → IsTrue b)
-listed-is xs x r b sorted in_range found e =
-    let k = searched-by (λ y. y) 0 xs x (subst IsAscending (sym (map-same xs)) sorted) r in_range found in (
-      λ t. subst (λ (ys : List ℕ). is_among x ys ≡ true) (map-same xs) (k.0 (sym e ∙ t)),
-      λ a. e ∙ k.1 (subst (λ (ys : List ℕ). is_among x ys ≡ true) (sym (map-same xs)) a),
-    )
-
-pub written-is : (ws : Writes) (x : ℕ) (r : Result ℕ ℕ) (b : Bool) → IsAscending (blocks_of ws) → IsSearchInRange r (length ws) → IsBinarySearchResult (λ (w : ℕ × List ℕ). nat_cmp w.0 x) ws r → b ≡ is_ok r → (IsTrue b → is_among x (blocks_of ws) ≡ true) × (is_among x (blocks_of ws) ≡ true → IsTrue b)
-written-is ws x r b sorted in_range found e =
-    let k = searched-by (λ (w : ℕ × List ℕ). w.0) no_write ws x sorted r in_range found in (λ t. k.0 (sym e ∙ t), λ a. e ∙ k.1 a)
+pub found-is : {X : Type 0} (key : X → ℕ) (xs : List X) (x : ℕ) (r : Result ℕ ℕ) (b : Bool) → IsAscending (map key xs) → IsSearchInRange r (length xs) → IsBinarySearchResult (λ y. nat_cmp (key y) x) xs r → b ≡ is_ok r → (IsTrue b → is_among x (map key xs) ≡ true) × (is_among x (map key xs) ≡ true → IsTrue b)
+found-is key [] x (Ok i) b sorted in_range found e = absurd (omega arith)
+found-is key [] x (Err i) b sorted in_range found e = (λ t. absurd (false≢true (sym e ∙ t)), λ a. absurd (false≢true a))
+found-is key (y ∷ ys) x r b sorted in_range found e = let k = searched-by key y (y ∷ ys) x sorted r in_range found in (λ t. k.0 (sym e ∙ t), λ a. e ∙ k.1 a)
 
 pub true_or_not : (b : Bool) {P : Type 0} → b ≡ false → (P → IsTrue b) → P → ⊥
 true_or_not b e f p = absurd (false≢true (sym e ∙ f p))

@@ -1,5 +1,5 @@
 // The form of a transaction.
-ghost use Rattle.std.specs.Prelude.{◌≡◌, ◌≤◌, ◌<◌, ◌++◌, ◌↔◌, true, All, IsTrue, Some, length};
+ghost use Rattle.std.specs.Prelude.{◌≡◌, ◌≤◌, ◌<◌, ◌++◌, ◌↔◌, ℕ, map, true, All, IsTrue, Some, length};
 ghost use Rattle.mq_blocks.specs.Descriptor.{AreRising, AreApart};
 ghost use Rattle.mq_blocks.specs.Geometry.{homes_of, zone_of};
 ghost use Rattle.mq_blocks.specs.Journal.{is_among};
@@ -14,12 +14,37 @@ use mq_blocks::{BlockNo, Geometry, QueueNo};
 /// The most blocks that a transaction writes.
 const MOST: usize = 1000;
 
-/// Whether blocks rise, and are below a limit.
-fn is_rising(blocks: &[BlockNo], high: u32) -> bool
-    ensures { IsTrue result ↔ AreRising 0 high blocks.now }
+/// What stands for a block in a list.
+trait OfBlock {
+    ghost block_of: { Self → ℕ };
+
+    fn block(&self) -> BlockNo
+        ensures { result ≡ block_of self.now };
+}
+
+impl OfBlock for BlockNo {
+    ghost block_of = { λ b. b };
+
+    fn block(&self) -> BlockNo {
+        *self
+    }
+}
+
+impl OfBlock for (BlockNo, Content) {
+    ghost block_of = { λ w. w.0 };
+
+    fn block(&self) -> BlockNo {
+        self.0
+    }
+}
+
+/// Whether the blocks of a list rise, and are below a limit.
+fn is_rising<T: OfBlock>(list: &[T], high: u32) -> bool
+    ensures { IsTrue result ↔ AreRising 0 high (map T.block_of list.now) }
 {
     let mut low = 0;
-    for block in blocks {
+    for item in list {
+        let block = item.block();
         if block.0 < low || block.0 >= high {
             return false;
         }
@@ -28,19 +53,13 @@ fn is_rising(blocks: &[BlockNo], high: u32) -> bool
     true
 }
 
-/// The same of the blocks of writes.
-fn are_writes_rising(writes: &[(BlockNo, Content)], high: u32) -> bool
-    ensures { IsTrue result ↔ AreRising 0 high (blocks_of writes.now) }
+/// Whether a block is one of those of a list, where they rise.
+fn has_block<T: OfBlock>(list: &[T], block: BlockNo) -> bool
+    requires { IsAscending (map T.block_of list.now) }
+    ensures { IsTrue result ↔ (is_among block (map T.block_of list.now) ≡ true) }
 {
-    let mut low = 0;
-    for write in writes {
-        let block = write.0;
-        if block.0 < low || block.0 >= high {
-            return false;
-        }
-        low = block.0 + 1;
-    }
-    true
+    list.binary_search_by_key(&block.0, |item| item.block().0)
+        .is_ok()
 }
 
 /// Whether a block is among rising ones.
@@ -48,7 +67,7 @@ pub fn is_listed(blocks: &[BlockNo], block: BlockNo) -> bool
     requires { IsAscending blocks.now }
     ensures { IsTrue result ↔ (is_among block blocks.now ≡ true) }
 {
-    blocks.binary_search_by_key(&block.0, |b| b.0).is_ok()
+    has_block(blocks, block)
 }
 
 /// Whether one of these writes is of a block, where their blocks rise.
@@ -56,9 +75,7 @@ fn is_written(writes: &[(BlockNo, Content)], block: BlockNo) -> bool
     requires { IsAscending (blocks_of writes.now) }
     ensures { IsTrue result ↔ (is_among block (blocks_of writes.now) ≡ true) }
 {
-    writes
-        .binary_search_by_key(&block.0, |write| write.0.0)
-        .is_ok()
+    has_block(writes, block)
 }
 
 fn are_whole(writes: &[(BlockNo, Content)]) -> bool
@@ -152,8 +169,8 @@ fn has_lists(geometry: Geometry, tx: &Tx) -> bool
     tx.queue.0 < geometry.queues()
         && logged.len() <= MOST
         && direct.len() <= MOST - logged.len()
-        && are_writes_rising(logged, homes)
-        && are_writes_rising(direct, homes)
+        && is_rising(logged, homes)
+        && is_rising(direct, homes)
         && is_rising(revoked, homes)
         && is_rising(freed, homes)
 }
