@@ -7,7 +7,6 @@ pub mod Filling
 pub mod Freeing
 pub mod GoneBlocks
 pub mod Leading
-pub mod Lifting
 pub mod Linkable
 pub mod LocalBytes
 pub mod LocalMoves

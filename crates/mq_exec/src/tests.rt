@@ -1,9 +1,5 @@
 // Groups of requests on a small file system whose pages are lifted one after another, as they are needed.
-ghost use Rattle.std.specs.Prelude.{◌≡◌, ◌<◌, ◌≤◌, ℕ, List, Option, Some, true, false, IfOk};
-ghost use Rattle.mq_blocks.specs.Blocks.{block_at};
-ghost use Rattle.mq_blocks.specs.Geometry.{homes_of, meta_of};
-ghost use Rattle.mq_inodes.specs.Pages.{held_pages};
-ghost use Rattle.mq_tree.specs.Laid.{IsTreeOf, is_marked as is_marked_in, map_of};
+ghost use Rattle.mq_tree.specs.Laid.{IsTreeOf, map_of};
 ghost use Rattle.mq_tree.specs.Volume.{tree as tree_of};
 
 mod empty;
@@ -12,144 +8,11 @@ use crate::group::run;
 use crate::laws::pages_of_a_map;
 use crate::outcome::{Done, Outcome};
 use crate::view::View;
-use mq_blocks::bytes::put;
-use mq_blocks::{Block, BlockNo, Geometry, OutOfMemory, QueueNo, TxNo};
-use mq_layout::{bit, format_block};
-use mq_pages::{Held, PageCell, Write};
-use mq_tree::{Bytes, Fault, Name, Path, Reply, Request, Tree, mount};
+use mq_blocks::{Block, Geometry, OutOfMemory, QueueNo};
+use mq_lifted::{lift, note, path, small_blocks};
+use mq_pages::Write;
+use mq_tree::{Bytes, Fault, Reply, Request, Tree, mount};
 use std::alloc::Global;
-
-/// Writes bytes into a block, where they fit.
-fn patch(blocks: &mut [Option<Block>], b: usize, at: usize, bytes: &[u8]) {
-    if let Some(Some(block)) = blocks.get_mut(b) {
-        if at <= 4096 && bytes.len() <= 4096 - at {
-            put(block.bytes_mut(), at, bytes);
-        }
-    }
-}
-
-/// The first bytes of an inode with this first block.
-fn inode(kind: u8, size: [u8; 2], block: u8) -> [u8; 20] {
-    [
-        kind, 0, 1, 0, 0, 0, 0, 0, size[0], size[1], 0, 0, 0, 0, 0, 0, block, 0, 0, 0,
-    ]
-}
-
-/// The first bytes of a slot whose name has one byte.
-fn slot(inode: u8, name: u8) -> [u8; 17] {
-    [inode, 0, 0, 0, 1, 1, 0, 0, 0, 0, 0, 0, 0, 0, 0, 0, name]
-}
-
-/// The root in block 4 names `b` and `a`. The directory `/b` in block 5 names `f`, whose bytes are in
-/// block 20. The file `/a` has 12 blocks, each full of its place from 1 on, and 10 bytes in block 19,
-/// to which the block of pointers 18 points. Block 21 is free.
-fn small(alloc: Global, geometry: Geometry) -> Result<Vec<Option<Block>>, OutOfMemory> {
-    let mut blocks = Vec::with_capacity(alloc, geometry.homes() as usize)?;
-    for b in 0..geometry.homes() {
-        let mut block = Block::zeroed(alloc)?;
-        if b < 6 || b > 17 {
-            format_block(geometry, BlockNo(b), &mut block);
-        } else {
-            block.fill((b - 5) as u8);
-        }
-        blocks.push(Some(block))?;
-    }
-    patch(&mut blocks, 1, 0, &[255, 255, 1]);
-    patch(&mut blocks, 2, 0, &[15]);
-    patch(&mut blocks, 3, 0, &inode(2, [0, 16], 4));
-    patch(&mut blocks, 3, 128, &inode(2, [0, 16], 5));
-    patch(&mut blocks, 3, 256, &inode(1, [10, 192], 6));
-    for k in 1..12usize {
-        patch(&mut blocks, 3, 272 + 4 * k, &[6 + k as u8]);
-    }
-    patch(&mut blocks, 3, 320, &[18]);
-    patch(&mut blocks, 3, 384, &inode(1, [3, 0], 20));
-    patch(&mut blocks, 4, 3 * 272, &slot(1, b'b'));
-    patch(&mut blocks, 4, 9 * 272, &slot(2, b'a'));
-    patch(&mut blocks, 5, 7 * 272, &slot(3, b'f'));
-    patch(&mut blocks, 18, 0, &[19]);
-    patch(&mut blocks, 19, 0, &[13; 10]);
-    patch(&mut blocks, 20, 0, b"hi!");
-    Ok(blocks)
-}
-
-/// A copy of a block, where an absent one is zeros.
-fn stored(alloc: Global, blocks: &[Option<Block>], b: u32) -> Result<Block, OutOfMemory>
-    ensures { IfOk result (λ block. block ≡ block_at blocks.now b) }
-{
-    match blocks.get(b as usize) {
-        Some(Some(block)) => block.copy(alloc),
-        _ => Block::zeroed(alloc),
-    }
-}
-
-/// Whether the bit of a zone's block is set.
-fn is_marked(
-    alloc: Global,
-    geometry: Geometry,
-    blocks: &[Option<Block>],
-    b: u32,
-) -> Result<bool, OutOfMemory>
-    requires low { meta_of geometry ≤ b }
-    requires high { b < homes_of geometry }
-    ensures { IfOk result (λ is. is ≡ is_marked_in geometry blocks.now b) }
-{
-    let place = b - geometry.meta();
-    let bitmap = stored(alloc, blocks, 1 + place / geometry.zone())?;
-    Ok(bit(&bitmap, place % geometry.zone()))
-}
-
-/// The page of a block, or `None` where the block is free.
-fn page(
-    alloc: Global,
-    geometry: Geometry,
-    blocks: &[Option<Block>],
-    b: u32,
-) -> Result<Option<Block>, OutOfMemory>
-    requires { b < homes_of geometry }
-    ensures { IfOk result (λ page. page ≡ map_of geometry blocks.now b) }
-{
-    if b < geometry.meta() || is_marked(alloc, geometry, blocks, b)? {
-        Ok(Some(stored(alloc, blocks, b)?))
-    } else {
-        Ok(None)
-    }
-}
-
-/// The cells of the blocks that are known.
-fn lift(
-    alloc: Global,
-    geometry: Geometry,
-    blocks: &[Option<Block>],
-    known: &[bool],
-) -> Result<Held, OutOfMemory>
-    ensures { IfOk result (λ held. (b : ℕ) (page : Option (List ℕ)) → held_pages held.cells b ≡ Some page → map_of geometry blocks.now b ≡ page) }
-{
-    let mut held = Held::new(alloc, geometry.homes())?;
-    for b in 0..geometry.homes() {
-        if known.get(b as usize).copied().unwrap_or(false) {
-            let cell = PageCell {
-                content: page(alloc, geometry, blocks, b)?,
-                version: TxNo(0),
-                last_logged: TxNo(0),
-                home_version: TxNo(0),
-            };
-            held.push(BlockNo(b), cell);
-        }
-    }
-    Ok(held)
-}
-
-/// Makes needed blocks known, of which none may be known already.
-fn note(known: &mut [bool], need: &[BlockNo]) -> bool {
-    for b in need {
-        match known.get_mut(b.0 as usize) {
-            Some(is) if !*is => *is = true,
-            _ => return false,
-        }
-    }
-    !need.is_empty()
-}
 
 /// What a group comes to, and how often it needed pages. `None` where a needed page was known.
 fn outcome(
@@ -257,17 +120,8 @@ fn told_small(
     let Ok(geometry) = Geometry::new(1, 1024, 4, 18) else {
         return Ok(None);
     };
-    let mut blocks = small(alloc, geometry)?;
+    let mut blocks = small_blocks(alloc, geometry)?;
     told(alloc, geometry, &mut blocks, is_known, requests)
-}
-
-/// A path of names of one byte.
-fn path(alloc: Global, names: &[u8]) -> Result<Path, OutOfMemory> {
-    let mut path = Vec::new(alloc);
-    for name in names {
-        path.push(Name(Vec::from_slice(alloc, &[*name])?))?;
-    }
-    Ok(Path(path))
 }
 
 fn requests(alloc: Global) -> Result<Vec<Request>, OutOfMemory> {
@@ -398,7 +252,7 @@ fn a_group_changes_the_tree(rt: HostRuntime) -> Result<(), OutOfMemory> {
     let changed: &[u8] = b"OOewOOOOnsOwOD\0\0xyz\0OOOOeb";
     let read: &[u8] = b"N d gN nDhiD\0\0x\0\0\0\0D\0\0zF\x01\x20\0\0\0\0\0\0";
     for is_known in [false, true] {
-        let mut blocks = small(alloc, geometry)?;
+        let mut blocks = small_blocks(alloc, geometry)?;
         let found = told(alloc, geometry, &mut blocks, is_known, &changes)?;
         assert!(rt;
             found.is_some_and(|(text, rounds)| text.as_slice() == changed

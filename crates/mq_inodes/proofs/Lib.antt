@@ -11,6 +11,7 @@ pub mod Growing
 pub mod Held
 pub mod Keeping
 pub mod Lacking
+pub mod Lifting
 pub mod LinkedGrown
 pub mod Linking
 pub mod Listed

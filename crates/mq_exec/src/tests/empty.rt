@@ -1,7 +1,8 @@
 // Groups on an empty file system: what they answer, and which blocks they write and free.
-use super::{apply, bytes, outcome, path, show, told};
-use mq_blocks::{Block, BlockNo, Geometry, OutOfMemory};
-use mq_layout::{FILE_LIMIT, format_block};
+use super::{apply, bytes, outcome, show, told};
+use mq_blocks::{Block, Geometry, OutOfMemory};
+use mq_layout::FILE_LIMIT;
+use mq_lifted::{empty_blocks, path};
 use mq_pages::Kind;
 use mq_tree::{Bytes, Name, Path, Request, mount};
 use std::alloc::Global;
@@ -13,16 +14,6 @@ struct Changed {
     text: Vec<u8>,
     writes: Vec<(u32, bool)>,
     frees: Vec<u32>,
-}
-
-fn empty_blocks(alloc: Global, geometry: Geometry) -> Result<Vec<Option<Block>>, OutOfMemory> {
-    let mut blocks = Vec::new(alloc);
-    for b in 0..geometry.homes() {
-        let mut block = Block::zeroed(alloc)?;
-        format_block(geometry, BlockNo(b), &mut block);
-        blocks.push(Some(block))?;
-    }
-    Ok(blocks)
 }
 
 /// Runs a group on the first queue. The blocks then are as it leaves them. `None` where they have no tree.

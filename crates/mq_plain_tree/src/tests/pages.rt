@@ -1,17 +1,15 @@
 // Home blocks on which groups are run, each on the pages that it asks for.
-ghost use Rattle.std.specs.Prelude.{◌≡◌, ◌<◌, ◌≤◌, ℕ, List, Option, Some, IfOk};
-ghost use Rattle.mq_blocks.specs.Blocks.{block_at};
-ghost use Rattle.mq_blocks.specs.Geometry.{homes_of, meta_of, queues_of};
-ghost use Rattle.mq_inodes.specs.Pages.{held_pages};
-ghost use Rattle.mq_tree.specs.Laid.{IsTreeOf, is_marked as is_marked_in, map_of};
+ghost use Rattle.std.specs.Prelude.{◌<◌};
+ghost use Rattle.mq_blocks.specs.Geometry.{queues_of};
+ghost use Rattle.mq_tree.specs.Laid.{IsTreeOf, map_of};
 ghost use Rattle.mq_tree.specs.Volume.{tree as tree_of};
 
 use super::drawn::{drawn, is_of_file};
 use crate::Volume;
-use mq_blocks::{Block, BlockNo, Geometry, OutOfMemory, QueueNo, TxNo};
+use mq_blocks::{Block, BlockNo, Geometry, OutOfMemory, QueueNo};
 use mq_exec::{Done, Outcome, View, pages_of_a_map, run};
-use mq_layout::bit;
-use mq_pages::{Held, Kind, PageCell, Write};
+use mq_lifted::{lift, note};
+use mq_pages::{Kind, Write};
 use mq_tree::{Name, Reply, Request, Tree, mount};
 use std::alloc::Global;
 
@@ -53,88 +51,6 @@ pub struct Twins {
     pub geometry: Geometry,
     pub volume: Volume,
     pub homes: Vec<Option<Block>>,
-}
-
-// A copy of a block, where an absent one is zeros.
-fn stored(alloc: Global, blocks: &[Option<Block>], b: u32) -> Result<Block, OutOfMemory>
-    ensures { IfOk result (λ block. block ≡ block_at blocks.now b) }
-{
-    match blocks.get(b as usize) {
-        Some(Some(block)) => block.copy(alloc),
-        _ => Block::zeroed(alloc),
-    }
-}
-
-// Whether the bit of a zone's block is set.
-fn is_marked(
-    alloc: Global,
-    geometry: Geometry,
-    blocks: &[Option<Block>],
-    b: u32,
-) -> Result<bool, OutOfMemory>
-    requires low { meta_of geometry ≤ b }
-    requires high { b < homes_of geometry }
-    ensures { IfOk result (λ is. is ≡ is_marked_in geometry blocks.now b) }
-{
-    let place = b - geometry.meta();
-    let bitmap = stored(alloc, blocks, 1 + place / geometry.zone())?;
-    Ok(bit(&bitmap, place % geometry.zone()))
-}
-
-// The page of a block, or `None` where the block is free.
-fn page(
-    alloc: Global,
-    geometry: Geometry,
-    blocks: &[Option<Block>],
-    b: u32,
-) -> Result<Option<Block>, OutOfMemory>
-    requires { b < homes_of geometry }
-    ensures { IfOk result (λ page. page ≡ map_of geometry blocks.now b) }
-{
-    if b < geometry.meta() || is_marked(alloc, geometry, blocks, b)? {
-        Ok(Some(stored(alloc, blocks, b)?))
-    } else {
-        Ok(None)
-    }
-}
-
-// The cells of the blocks that are known.
-fn lift(
-    alloc: Global,
-    geometry: Geometry,
-    blocks: &[Option<Block>],
-    known: &[bool],
-) -> Result<Held, OutOfMemory>
-    ensures { IfOk result (λ held. (b : ℕ) (page : Option (List ℕ)) → held_pages held.cells b ≡ Some page → map_of geometry blocks.now b ≡ page) }
-{
-    let mut held = Held::new(alloc, geometry.homes())?;
-    for b in 0..geometry.homes() {
-        if known.get(b as usize).copied().unwrap_or(false) {
-            let cell = PageCell {
-                content: page(alloc, geometry, blocks, b)?,
-                version: TxNo(0),
-                last_logged: TxNo(0),
-                home_version: TxNo(0),
-            };
-            held.push(BlockNo(b), cell);
-        }
-    }
-    Ok(held)
-}
-
-// Makes needed blocks known. There must be some, and none may be known already.
-fn note(known: &mut [bool], need: &[BlockNo]) -> bool {
-    for b in need {
-        if known.get(b.0 as usize).copied().unwrap_or(true) {
-            return false;
-        }
-    }
-    for b in need {
-        if let Some(is) = known.get_mut(b.0 as usize) {
-            *is = true;
-        }
-    }
-    !need.is_empty()
 }
 
 // What a group comes to, which at first knows no page.

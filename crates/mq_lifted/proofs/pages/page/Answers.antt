@@ -1,10 +1,10 @@
 use Rattle.std.proofs.Common.{◌≡◌, ◌∙◌, ap, sym, arith, true, false}
 use Rattle.std.specs.Prelude.{Some}
 use Rattle.std.proofs.lemmas.Bool.{lt-ltb, true≢false}
-use Rattle.mq_exec.proofs.Lifting.{map-free, map-meta, map-taken}
+use Rattle.mq_lifted.proofs.Maps.{map-free, map-meta, map-taken}
 use Rattle.mq_tree.specs.Laid.{is_marked}
-use Rattle.mq_plain_tree.proofs.tests.pages.page.Goals as goal
-use Rattle.mq_plain_tree.proofs.tests.pages.page.Goals.{then-b-meta, else-b-meta+in_ok-is_marked}
+use Rattle.mq_lifted.proofs.pages.page.Goals as goal
+use Rattle.mq_lifted.proofs.pages.page.Goals.{then-b-meta, else-b-meta+in_ok-is_marked}
 
 pub returns-in_ok-stored : goal.returns-in_ok-stored
 returns-in_ok-stored c =

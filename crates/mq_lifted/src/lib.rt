@@ -1,0 +1,10 @@
+//! Pages of stored home blocks, lifted for tests as a session would lift them, and a small file system to
+//! lift them from. No crate of the product stands on it.
+#![tactic(auto)]
+
+mod lifting;
+mod pages;
+mod samples;
+
+pub use lifting::{lift, note};
+pub use samples::{empty_blocks, path, small_blocks};
