@@ -17,6 +17,8 @@ mod opened;
 mod release;
 mod slots;
 mod space;
+#[cfg(test)]
+mod tests;
 mod walk;
 mod working;
 
