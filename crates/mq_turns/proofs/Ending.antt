@@ -1,11 +1,12 @@
 -- The end of a desk: what one view knows that stands for all chairs.
 use Rattle.std.proofs.Common.{◌≡◌, ◌≢◌, ℕ, zero, suc, ◌+◌, ◌*◌, ◌<◌, ◌≤◌, List, [], ◌∷◌, ◌++◌, map, length, get_or, sym, refl, ap, ◌∙◌, subst, arith, Option, Some, None, length-append, append-nil, append_assoc}
 use Rattle.std.proofs.lemmas.List.{map-append}
+use Rattle.std.proofs.lemmas.Option.{slice_get_within}
 use mathlib.Core.Logic.{dite}
 use mathlib.Core.Option.{some, some-ne-none, some-injective}
 use native.Mathlib.Decide.{ℕ_discrete}
 use lib.ListN.{get_elem?}
-use Rattle.std.specs.Prelude.{slice_get, All}
+use Rattle.std.specs.Prelude.{All}
 use Rattle.atomic_table.specs.Table.{Final, Seen}
 use Rattle.mq_turns.specs.Meaning.{Meaning, Grows, newest, IsAt}
 use Rattle.mq_turns.specs.Lists.{total, Each, times}
@@ -78,11 +79,6 @@ not_none l k x o e f n = let p : Some x ≡ o = some-injective _ _ (sym e ∙ f)
 
 pub found : {A : Type 0} (l : List (Option A)) (k : ℕ) (x : A) (o : Option A) (y : A) → get_elem? l k ≡ some (Some x) → get_elem? l k ≡ some o → o ≡ Some y → y ≡ x
 found l k x o y e f n = let p : Some x ≡ o = some-injective _ _ (sym e ∙ f) in cc
-
-inside : {A : Type 0} (log : List A) (i : ℕ) (a : A) → slice_get log i ≡ Some a → i < length log
-inside [] i a e = absurd (cc)
-inside (x ∷ xs) zero a e = omega arith
-inside (x ∷ xs) (suc i) a e = let ih = inside xs i a e in omega arith
 
 module _ {M P Q R E : Type 0} (μ : Meaning P Q R E) (o : Opening P Q R) (chairs : ℕ) where
   -- where one view stands for all chairs and holds nothing, every value is at home and is what the history says
@@ -168,9 +164,9 @@ module _ {M P Q R E : Type 0} (μ : Meaning P Q R E) (o : Opening P Q R) (chairs
           ok = h.ok;
           next_is = is;
           all_pages = all_pages;
-          pages_stand = λ b x there. let lt : b < length o.pages = let z = inside pages b x there in omega arith in at_home (Page b) b (item.Page x) (omega arith) (page_at o b lt) (are_pages b x there);
+          pages_stand = λ b x there. let lt : b < length o.pages = let z = slice_get_within pages b x there in omega arith in at_home (Page b) b (item.Page x) (omega arith) (page_at o b lt) (are_pages b x there);
           all_sides = all_sides;
-          sides_stand = λ i x there. let lt : i < length o.sides = let z = inside sides i x there in omega arith in at_home (Side i) (length o.pages + i) (item.Side x) (omega arith) (side_at o i lt) (are_sides i x there);
+          sides_stand = λ i x there. let lt : i < length o.sides = let z = slice_get_within sides i x there in omega arith in at_home (Side i) (length o.pages + i) (item.Side x) (omega arith) (side_at o i lt) (are_sides i x there);
           root_stands = at_home Root (length o.pages + length o.sides) (item.Root root) (omega arith) (root_at o) is_root;
           drew = subst (Each (λ d. IsAt h.known.opening.base h.known.log d.0 d.1)) drew h.drawer.drew;
           once = λ n lo hi. ap (times n) (sym drew) ∙ h.once n (omega arith) (omega arith);

@@ -5,10 +5,7 @@ use Rattle.mq_turns.specs.Lists.{Each}
 use Rattle.mq_turns.specs.declared.rule.Known.{Known}
 use Rattle.mq_turns.specs.declared.turn.Turn.{Turn}
 use Rattle.mq_turns.specs.declared.turn.Turn.TheVariants.{Side, Root}
-
-pub each_join : {A : Type 0} (F : A → Type 0) (l m : List A) → Each F l → Each F m → Each F (l ++ m)
-each_join F [] m a b = b
-each_join F (x ∷ xs) m a b = (a.0, each_join F xs m a.1 b)
+use Rattle.mq_turns.proofs.Totals.{each_append}
 
 -- a number of the history is one that was drawn
 pub at_bounds : {E : Type 0} (base : ℕ) (log : List E) (n : ℕ) (e : E) → IsAt base log n e → (base < n) × (n ≤ base + length log)
@@ -69,8 +66,8 @@ module _ {E : Type 0} (touches : Touch E) where
     stays_on t K L N a b = record {
       grows = grows_on K L N a.grows b.grows;
       apart = apart_join b.grows.newer a.grows.newer K.log t (subst (λ l. Apart touches b.grows.newer l t) a.grows.log b.apart) a.apart;
-      claims = each_join _ b.grows.claimed a.grows.claimed b.claims a.claims;
-      ended = each_join (λ h. lies K.opening h t ≡ false) b.grows.written a.grows.written (subst (λ o. Each (λ h. lies o h t ≡ false) b.grows.written) a.grows.opening b.ended) a.ended;
+      claims = each_append _ b.grows.claimed a.grows.claimed b.claims a.claims;
+      ended = each_append (λ h. lies K.opening h t ≡ false) b.grows.written a.grows.written (subst (λ o. Each (λ h. lies o h t ≡ false) b.grows.written) a.grows.opening b.ended) a.ended;
       word = λ e. b.word e ∙ a.word e;
     }
 

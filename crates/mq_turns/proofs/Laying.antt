@@ -5,6 +5,7 @@ use mathlib.Core.Option.{some, some-ne-none, some-injective}
 use native.Mathlib.Decide.{ℕ_discrete}
 use lib.ListN.{get_elem?, length-map, length-replicate, get_or-replicate}
 use Rattle.std.specs.Prelude.{slice_get}
+use Rattle.std.proofs.lemmas.Option.{slice_get_within}
 use Rattle.atomic_table.specs.Table.{opening}
 use Rattle.mq_turns.specs.Meaning.{Meaning, opened}
 use Rattle.mq_turns.specs.Lists.{Each, times, without}
@@ -116,12 +117,7 @@ module _ {P Q R E : Type 0} (μ : Meaning P Q R E) (o : Opening P Q R) where
   root_laid k x is e s = (ap (turn_at o) is ∙ root_at o, subst (μ.root (opened o)) (sym e) s.root)
 
   pub side_laid : (k n q : ℕ) (x : Q) → n ≡ length o.pages → k ≡ n + q → slice_get o.sides q ≡ Some x → Starts μ o → (turn_at o k ≡ Side q) × μ.side q (opened o) x
-  side_laid k n q x pages is at s = (ap (turn_at o) (is ∙ ap (λ i. i + q) pages) ∙ side_at o q (get_inside o.sides q x at), s.sides q x at)
-    where
-      get_inside : {A : Type 0} (l : List A) (i : ℕ) (a : A) → slice_get l i ≡ Some a → i < length l
-      get_inside [] i a e = absurd (cc)
-      get_inside (y ∷ ys) zero a e = omega arith
-      get_inside (y ∷ ys) (suc i) a e = let ih = get_inside ys i a e in omega arith
+  side_laid k n q x pages is at s = (ap (turn_at o) (is ∙ ap (λ i. i + q) pages) ∙ side_at o q (slice_get_within o.sides q x at), s.sides q x at)
 
   pub page_laid : (b : ℕ) (x : P) → b < length o.pages → slice_get o.pages b ≡ Some x → Starts μ o → (turn_at o b ≡ Page b) × μ.page b (opened o) x
   page_laid b x lt at s = (page_at o b lt, s.pages b x at)

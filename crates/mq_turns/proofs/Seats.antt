@@ -7,8 +7,7 @@ use Rattle.mq_turns.specs.Desk.{turn_at, allotment, Now, Below, blank, others, s
 use Rattle.mq_turns.specs.declared.rule.Opening.{Opening}
 use Rattle.mq_turns.specs.declared.rule.Known.{Known}
 use Rattle.mq_turns.specs.declared.rule.View.{View}
-use Rattle.mq_turns.proofs.Totals.{times_append}
-use Rattle.mq_turns.proofs.Growth.{each_join}
+use Rattle.mq_turns.proofs.Totals.{each_append, times_append}
 use Rattle.mq_turns.proofs.Order.{order_none, order_same}
 use Rattle.mq_turns.proofs.Turns.{turns_split, turns_join}
 use Rattle.mq_turns.proofs.Numbers.{numbers_split, numbers_join, drawns_below, last_of_le, last_of_bounds}
@@ -87,8 +86,8 @@ module _ {M P Q R E : Type 0} (μ : Meaning P Q R E) (o : Opening P Q R) (chairs
                 few = let p = d.few in let q = e.few in omega arith;
                 opening = λ n. d.opening (λ z. omega arith);
                 seen = let a = d.seen in let b = e.seen in omega arith;
-                drew = each_join _ v.drawn w.drawn d.drew e.drew;
-                read = each_join _ v.read w.read d.read e.read;
+                drew = each_append _ v.drawn w.drawn d.drew e.drew;
+                read = each_append _ v.read w.read d.read e.read;
                 order = λ z. absurd (omega arith);
               },
               knows_none μ (allotment chairs) K blank refl (omega arith) refl refl,

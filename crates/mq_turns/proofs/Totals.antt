@@ -106,10 +106,6 @@ module _ {A : Type 0} where
   each_without P k [] h = tt
   each_without P k (x ∷ xs) h = elim (x.0 == k) as (λ b. Each P (cond b (without k xs) (x ∷ without k xs))) [ true ↦ each_without P k xs h.1 | false ↦ (h.0, each_without P k xs h.1) ]
 
-  pub each_times : (P R : ℕ × A → Type 0) (l : List (ℕ × A)) → ((h : ℕ × A) → 0 < times h.0 l → P h → R h) → Each P l → Each R l
-  each_times P R [] f e = tt
-  each_times P R (x ∷ xs) f e = (f x (let o = hit x.0 x.0 refl in omega arith) e.0, each_times P R xs (λ h lt. f h (omega arith)) e.1)
-
   -- a number above all that stand in the list
   pub times_none : (n m : ℕ) (l : List (ℕ × A)) → Each (λ d. d.0 ≤ m) l → m < n → times n l ≡ 0
   times_none n m [] h lt = refl

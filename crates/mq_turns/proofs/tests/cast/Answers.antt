@@ -1,4 +1,4 @@
-use Rattle.std.proofs.Common.{rules, ◌≡◌, ◌∙◌, ◌∷◌, [], ap, refl, ℕ}
+use Rattle.std.proofs.Common.{◌∙◌, ◌∷◌, ap, refl, ℕ}
 use Rattle.mq_turns.specs.AtDesk.{view, start_of}
 use Rattle.mq_turns.specs.Desk.{slot_of}
 use Rattle.mq_turns.specs.declared.turn.Turn.TheVariants.{Side}

@@ -1,4 +1,4 @@
-use Rattle.std.proofs.Common.{rules, ◌≡◌, ◌∙◌, ap, subst, length, vec_len}
+use Rattle.std.proofs.Common.{rules, ◌≡◌, ◌∙◌, ap, length, vec_len}
 use Rattle.mq_turns.specs.AtDesk.{AtDesk, view, start_of}
 use Rattle.mq_turns.specs.Desk.{fresh}
 use Rattle.mq_turns.proofs.Laying.{each_pop}
