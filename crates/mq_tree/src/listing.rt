@@ -94,7 +94,6 @@ impl Tree {
     }
 
     /// A line for each path, in the order of lists of names: `d PATH` for a directory, `f SIZE PATH` for a file.
-    // A step for each used slot.
     pub fn list_text(&self, alloc: Global) -> Result<Vec<u8>, OutOfMemory>
         ensures { IfOk result (λ text. text.items ≡ list_text self.now) }
     {
@@ -103,6 +102,7 @@ impl Tree {
         self.put_head(&mut text, 0)?;
         text.extend_from_slice(b"/\n")?;
         self.push_links(alloc, 0, 0, 0, &mut todo)?;
+        // One step for each used slot.
         for i in 0..self.count() {
             for k in 0..self.name_count(i) {
                 if let Some(step) = todo.pop() {
