@@ -26,11 +26,11 @@ use Rattle.mq_port_desk.specs.Along.{Among, later, queue_newer, side_later, root
 
 -- ---- claims and home writes that are added
 
-claimed_more : (l m : List (ℕ × ℕ)) (t : Tx) → is_claimed m t ≡ true → is_claimed (l ++ m) t ≡ true
+claimed_more : (l m : List (ℕ × ℕ × ℕ)) (t : Tx) → is_claimed m t ≡ true → is_claimed (l ++ m) t ≡ true
 claimed_more [] m t e = e
 claimed_more (c ∷ cs) m t e = or_right (eqb c.0 t.queue && nat_le t.number c.1) (is_claimed (cs ++ m) t) (claimed_more cs m t e)
 
-claimed_apart : (q : ℕ) (l m : List (ℕ × ℕ)) (t : Tx) → Each (λ c. Side c.0 ≢ Side q) l → t.queue ≡ q → is_claimed (l ++ m) t ≡ true → is_claimed m t ≡ true
+claimed_apart : (q : ℕ) (l m : List (ℕ × ℕ × ℕ)) (t : Tx) → Each (λ c. Side c.0 ≢ Side q) l → t.queue ≡ q → is_claimed (l ++ m) t ≡ true → is_claimed m t ≡ true
 claimed_apart q [] m t a own e = e
 claimed_apart q (c ∷ cs) m t a own e = elim (or_cases (eqb c.0 t.queue && nat_le t.number c.1) (is_claimed (cs ++ m) t) e) [
   | inl mine ↦ absurd (a.0 (ap Side (eqb-true _ _ (and_parts (eqb c.0 t.queue) (nat_le t.number c.1) mine).0 ∙ own)))
@@ -38,7 +38,7 @@ claimed_apart q (c ∷ cs) m t a own e = elim (or_cases (eqb c.0 t.queue && nat_
 ]
 
 -- a number above all claims is not claimed
-pub unclaimed : (n : ℕ) (cs : List (ℕ × ℕ)) (t : Tx) → Each (λ c. c.1 ≤ n) cs → n < t.number → is_claimed cs t ≡ false
+pub unclaimed : (n : ℕ) (cs : List (ℕ × ℕ × ℕ)) (t : Tx) → Each (λ c. c.1 ≤ n) cs → n < t.number → is_claimed cs t ≡ false
 unclaimed n [] t a lt = refl
 unclaimed n (c ∷ cs) t a lt = elim (cases_Bool (is_claimed (c ∷ cs) t)) [
   | inr e ↦ e

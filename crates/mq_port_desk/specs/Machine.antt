@@ -1,5 +1,6 @@
 -- The machine over ports of any kind, whose states are told.
-use Rattle.std.specs.Prelude.{[], ◌∷◌}
+use Rattle.std.specs.Prelude.{[], ◌∷◌, refl}
+use Rattle.std.proofs.lemmas.Bool.{eq-eqb}
 use Rattle.mq_blocks.specs.Drive.{PortState}
 use Rattle.mq_blocks.specs.declared.geometry.Geometry.{Geometry}
 use Rattle.mq_ledger.specs.declared.tx.Tx.{Tx}
@@ -39,6 +40,7 @@ module _ {P : Type 0} (state : P → PortState) where
     root = Ports.IsRoot side_of root_of shape_of tx_of;
     may = Ports.May side_of root_of shape_of tx_of;
     fits = Ports.Fits side_of root_of shape_of tx_of;
+    own = λ log e. eq-eqb e.queue e.queue refl;
     ok_drawn = ok_drawn side_of root_of shape_of tx_of;
     page_along = λ b K L x s k l h. page_along side_of root_of shape_of tx_of b K L x s h;
     side_along = λ q K L x s k l h. side_along side_of root_of shape_of tx_of q K L x s k l h;

@@ -29,8 +29,8 @@ impl<P: Port> QueuePort<P> {
     }
 }
 
-/// Writes a block by a transaction: takes its page and its queue's side, looks, draws, and gives both
-/// back. There is no number where the side that it took has no room.
+/// Writes a block by a transaction: takes its page and its queue's side, looks, stores a mark that says
+/// nothing, draws, and gives both back. There is no number where the side that it took has no room.
 pub fn write_block<P: Port + Drop, R: Wait>(
     rt: &R,
     desk: &Desk<PortMachine<P>>,
@@ -62,6 +62,7 @@ pub fn write_block<P: Port + Drop, R: Wait>(
         return None;
     }
     desk.look(chair, None);
+    desk.clear(chair, queue, 1);
     let number = desk.draw(chair, queue, &entry);
     side.end += 2;
     side.place += 2;

@@ -1,8 +1,10 @@
 -- Words on desks and chairs.
-use Rattle.std.specs.Prelude.{◌≡◌, ℕ, ◌<◌, ◌≤◌, List, ◌∷◌, length, slice_get, Some}
-use Rattle.mq_turns.specs.Lists.{Each, times, without}
+use Rattle.std.specs.Prelude.{◌≡◌, ℕ, ◌<◌, ◌≤◌, Bool, List, ◌∷◌, length, slice_get, Some}
+use Rattle.mq_turns.specs.Lists.{Each, tally, times, without}
+use Rattle.mq_turns.specs.Marks.{Marked, DoneTo}
 use Rattle.mq_turns.specs.Meaning.{Meaning, Grows, opened, newest, IsAt}
-use Rattle.mq_turns.specs.Desk.{drawn_of, read_of, IsInOrder}
+use Rattle.mq_turns.specs.Desk.{drawn_of, read_of, charged_of, IsInOrder}
+use Rattle.mq_turns.specs.declared.rule.Charge.{Charge}
 use Rattle.mq_turns.specs.declared.rule.Opening.{Opening}
 use Rattle.mq_turns.specs.declared.rule.Known.{Known}
 use Rattle.mq_turns.specs.declared.rule.View.{View}
@@ -39,3 +41,8 @@ module _ {P Q R E : Type 0} (μ : Meaning P Q R E) where
     pub once : (n : ℕ) → o.base < n → n ≤ next → times n (drawn_of views) ≡ 1
     pub read : Each (λ r. μ.ok r.1 × Grows r.1 known × μ.fits r.0 r.1) (read_of views)
     pub ordered : Each (IsInOrder μ) views
+    -- each number that isn't done is at or above its queue's mark, and those up to which a chair knew all to be done are
+    pub marked : Marked μ known
+    pub done : Each (λ v. DoneTo μ v.reading.done known) views
+    -- each charge was made once
+    pub charges : (f : Charge → Bool) → tally f (charged_of views) ≡ tally f known.charges

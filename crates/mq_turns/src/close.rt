@@ -2,7 +2,7 @@
 ghost use Rattle.std.specs.Prelude.{◌≡◌, ◌≢◌, ℕ, ◌+◌, ◌<◌, ◌≤◌, ◌++◌, [], true, false, IfOk, IfErr, All, map, length, vec_len, vec_capacity, slice_index_or};
 ghost use Rattle.std.specs.Slots.{slots_items, slots_filled, slots_len, IsFull};
 ghost use Rattle.mq_turns.specs.Lists.{Each, total};
-ghost use Rattle.mq_turns.specs.Desk.{drawn_of, read_of, IsInOrder};
+ghost use Rattle.mq_turns.specs.Desk.{drawn_of, read_of, charged_of, IsInOrder};
 ghost use Rattle.mq_turns.specs.Chairs.{Ended};
 ghost use Rattle.mq_turns.specs.Closing.{HasPages, HasSides, HasRoot, ArePages, AreSides, IsRoot};
 ghost use Rattle.mq_turns.specs.AtDesk.{AtDesk, view, start_of, chairs_of};
@@ -41,6 +41,8 @@ fn join_all<M: Machine>(
     ensures order { Each (IsInOrder M.meaning) (map (λ ch. view ch) chairs.items) }
     ensures parts { place.new.me.0.parts ≡ place.old.me.0.parts + total (λ v. v.parts) (map (λ ch. view ch) chairs.items) }
     ensures all { (place.new.me.0.drawn ≡ place.old.me.0.drawn ++ drawn_of (map (λ ch. view ch) chairs.items)) × (place.new.me.0.read ≡ place.old.me.0.read ++ read_of (map (λ ch. view ch) chairs.items)) }
+    ensures charged { place.new.me.0.reading.charged ≡ place.old.me.0.reading.charged ++ charged_of (map (λ ch. view ch) chairs.items) }
+    ensures done { (place.old.me.0.reading.done ≤ place.new.me.0.reading.done) × Each (λ v. v.reading.done ≤ place.new.me.0.reading.done) (map (λ ch. view ch) chairs.items) }
 {
     while let Some(Chair { place: mut other }) = chairs.pop() {
         steps::count(top, &mut other, counter);
@@ -57,6 +59,8 @@ fn gather<M: Machine>(top: &Top<M>, counter: usize, mut chairs: Vec<Chair<M>>) -
     ensures seat { (result.table_id ≡ top.now.table_id) × (result.me.1 ≡ []) × (result.me.0.held ≡ []) }
     ensures parts { result.me.0.parts ≡ length chairs.items }
     ensures all { (result.me.0.drawn ≡ drawn_of (map (λ ch. view ch) chairs.items)) × (result.me.0.read ≡ read_of (map (λ ch. view ch) chairs.items)) }
+    ensures charged { result.me.0.reading.charged ≡ charged_of (map (λ ch. view ch) chairs.items) }
+    ensures done { Each (λ v. v.reading.done ≤ result.me.0.reading.done) (map (λ ch. view ch) chairs.items) }
     ensures order { Each (IsInOrder M.meaning) (map (λ ch. view ch) chairs.items) }
 {
     let Some(Chair { place: mut one }) = chairs.pop() else {

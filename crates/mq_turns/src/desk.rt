@@ -17,7 +17,7 @@ pub struct Desk<M: Machine> {
     pub(crate) pages: u32,
     pub(crate) sides: u32,
     pub(crate) base: TxNo,
-    ghost words: { table.shared.table_id.words ≡ table.shared.table_id.slots + 1 },
+    ghost words: { table.shared.table_id.words ≡ table.shared.table_id.slots + sides + 2 },
     ghost slots: { table.shared.table_id.slots ≡ slots (opening_of table.shared.key) },
     ghost all_pages: { pages ≡ length table.shared.key.pages.value.items },
     ghost all_sides: { sides ≡ length table.shared.key.sides.value.items },

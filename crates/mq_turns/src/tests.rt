@@ -85,11 +85,44 @@ fn cast<P: Port, R: Wait>(
         unreachable!()
     };
     let before = desk.look(chair, None);
+    desk.clear(chair, queue, before.0.saturating_add(1));
     let number = desk.draw(chair, queue, entry);
     let after = desk.look(chair, None);
     side.port.bump();
     desk.give_back(chair, Turn::Side(queue), Item::Side(side));
     (before, number, after)
+}
+
+// Casts a vote, and reads the front before and after the vote is known done, and the base.
+fn cast_and_clear<P: Port, R: Wait>(
+    rt: &R,
+    desk: &Desk<Counting<P>>,
+    chair: &mut Chair<Counting<P>>,
+    entry: &Vote,
+) -> [TxNo; 6]
+    requires at { AtDesk desk.now chair.old }
+    requires queue { entry.now.queue < length (start_of desk.now).sides }
+    requires idle { (view chair.old).held ≡ [] }
+    requires follows { Follows (counting (λ (e : Vote). e.queue) (λ e. e.session) (λ e. e.group) (λ (q : QueueSide P). P.state q.port)) entry.now (view chair.old) }
+    requires room { length (view chair.old).drawn < allotment (chairs_of desk.now) }
+    ensures at { AtDesk desk.now chair.new }
+    ensures idle { (view chair.new).held ≡ [] }
+{
+    let queue = entry.queue;
+    let Item::Side(mut side) = desk.take(rt, chair, Turn::Side(queue)) else {
+        unreachable!()
+    };
+    let before = desk.look(chair, None);
+    desk.clear(chair, queue, before.0.saturating_add(1));
+    let number = desk.draw(chair, queue, entry);
+    let after = desk.look(chair, None);
+    side.port.bump();
+    let undone = desk.front(chair);
+    desk.clear(chair, queue, u64::MAX);
+    let done = desk.front(chair);
+    let base = desk.base(chair);
+    desk.give_back(chair, Turn::Side(queue), Item::Side(side));
+    [before, number, after, undone, done, base]
 }
 
 type Opened = (Desk<Counting<Word>>, Vec<Chair<Counting<Word>>>);
@@ -271,6 +304,28 @@ fn draws_eleven_after_ten(rt: HostRuntime) -> Result<(), OutOfMemory> {
     };
     assert_eq!(rt; [parts.next.0, parts.base.0], [11, 10]);
     assert_eq!(rt; parts.sides[0].port.count, 1);
+    Ok(())
+}
+
+#[test]
+fn front_passes_a_number_that_is_cleared(rt: HostRuntime) -> Result<(), OutOfMemory> {
+    let (desk, mut chairs) = opened(rt.alloc(), 1, 10, 1)?;
+    let mut all = Vec::with_capacity(rt.alloc(), 1)?;
+    let mut chair = last_chair(&desk, &mut chairs);
+    let entry = Vote {
+        queue: QueueNo(0),
+        session: 0,
+        group: 0,
+    };
+    let [before, number, after, undone, done, base] =
+        cast_and_clear(&rt, &desk, &mut chair, &entry);
+    assert_eq!(rt; [before.0, number.0, after.0], [10, 11, 11]);
+    assert_eq!(rt; [undone.0, done.0, base.0], [10, 11, 10]);
+    all.push_reserved(chair);
+    let Ok(parts) = desk.into_parts(rt.alloc(), all) else {
+        return Err(OutOfMemory);
+    };
+    assert_eq!(rt; [parts.next.0, parts.base.0], [11, 10]);
     Ok(())
 }
 

@@ -1,0 +1,87 @@
+-- A sweep over the marks, queue by queue.
+use Rattle.std.proofs.Common.{◌≡◌, ℕ, suc, ◌+◌, ◌-◌, ◌<◌, ◌≤◌, eqb, max, min, nat_le, true, false, cond, List, [], length, sym, refl, ap, ◌∙◌, subst, arith, inl, inr, Some}
+use Rattle.std.proofs.lemmas.Bool.{cases_Bool, eq-eqb, eqb-true, eqb-false, leb-false}
+use Rattle.mq_turns.specs.Meaning.{Meaning, newest}
+use Rattle.mq_turns.specs.Marks.{queues_of, passed, shown}
+use Rattle.mq_turns.specs.Words.{after_peek}
+use Rattle.mq_turns.specs.Desk.{Sees, Below}
+use Rattle.mq_turns.specs.Swept.{Sweeping, AfterFront}
+use Rattle.mq_turns.specs.declared.rule.Opening.{Opening}
+use Rattle.mq_turns.specs.declared.rule.Known.{Known}
+use Rattle.mq_turns.specs.declared.rule.Reading.{Reading}
+use Rattle.mq_turns.specs.declared.rule.View.{View}
+
+module _ {P Q R E : Type 0} where
+  pub sweep_begins : (queues n : ℕ) (v w : View P Q R E) → w ≡ record v { seen = n } → Below n v → Sweeping queues 0 n v w
+  sweep_begins queues n v w is below = record {
+    seen = n;
+    reading = v.reading;
+    is = is;
+    below = below;
+    low_is = omega arith;
+    kept = (omega arith, refl, refl);
+    passed = λ lt. absurd (omega arith);
+    ended = λ lt. absurd (omega arith);
+  }
+
+  pub record Passing (queues q low n : ℕ) (r t : Reading P Q R E) : Type 0 where
+    pub kept : (r.done ≤ t.done) × (t.base ≡ r.base) × (t.charged ≡ r.charged)
+    pub swept : t.swept ≡ suc q
+    pub low_is : min low n ≤ t.low
+    pub ended : queues ≤ suc q → min low n ≤ t.done
+
+  passing : (queues q low m n : ℕ) (r : Reading P Q R E) → min low n ≤ m → Passing queues q low n r (passed queues (suc q) m r)
+  passing queues q low m n r le = elim (cases_Bool (nat_le queues (suc q))) [
+    | inl all ↦ record { kept = rw all (omega arith, refl, refl); swept = refl; low_is = le; ended = λ lt. rw all (omega arith) }
+    | inr some_left ↦ let more = leb-false queues (suc q) some_left in record { kept = rw some_left (omega arith, refl, refl); swept = refl; low_is = le; ended = λ lt. absurd (omega arith) }
+  ]
+
+  pub shows_next : (queues q low n m : ℕ) (r : Reading P Q R E) → low ≤ m → (0 < q → (r.swept ≡ q) × (low ≤ r.low)) → Passing queues q low n r (shown queues q (min n m) r)
+  shows_next queues q low n m r le before = elim (cases_Bool (eqb q 0)) [
+    | inl first ↦ let z = eqb-true q 0 first in rw first (subst (λ i. Passing queues i low n r (passed queues 1 (min n m) r)) (sym z) (passing queues 0 low (min n m) n r (omega arith)))
+    | inr later ↦
+        let b = before (let ne = eqb-false q 0 later in omega arith) in
+        let own = b.1 in
+        rw (later, eq-eqb q r.swept (sym b.0)) (passing queues q low (min r.low (min n m)) n r (omega arith))
+  ]
+
+module _ {P Q R E : Type 0} (μ : Meaning P Q R E) where
+  -- one mark more is read
+  pub sweep_next : (o : Opening P Q R) (q low mark : ℕ) (K : Known P Q R E) (v w x : View P Q R E) → v.opening ≡ Some o → x ≡ after_peek q mark K w → Sees μ w K → Sweeping (length o.sides) q low v w → Sweeping (length o.sides) (suc q) (min low (mark - 1)) v x
+  sweep_next o q low mark K v w x start is s z =
+      let r : Reading P Q R E = z.reading in
+      let high : z.seen ≤ newest K = let a = s.seen in let b = ap (λ (u : View P Q R E). u.seen) z.is in omega arith in
+      let le = z.low_is in
+      let p = shows_next (length o.sides) q low (mark - 1) (newest K) r (omega arith) z.passed in
+      let kept = p.kept in
+      let was = z.kept in
+      let seen = z.low_is in
+      record {
+        seen = z.seen;
+        reading = shown (length o.sides) q (min (mark - 1) (newest K)) r;
+        is = is ∙ (ap (after_peek q mark K) z.is ∙ ap (λ c. record v { seen = z.seen; reading = shown (queues_of c) q (min (mark - 1) (newest K)) r }) start);
+        below = z.below;
+        low_is = omega arith;
+        kept = (omega arith, kept.1 ∙ was.1, kept.2 ∙ was.2);
+        passed = λ lt. (p.swept, p.low_is);
+        ended = λ lt all. p.ended all;
+      }
+
+  -- all marks are read
+  pub sweep_ends : (o : Opening P Q R) (low : ℕ) (v w : View P Q R E) → v.opening ≡ Some o → Sweeping (length o.sides) (length o.sides) low v w → AfterFront μ low v w
+  sweep_ends o low v w start z = record {
+    seen = z.seen;
+    reading = z.reading;
+    is = z.is;
+    below = z.below;
+    low = z.low_is;
+    kept = z.kept;
+    done = λ K s m e at le.
+        let own = s.marked.own m e at in
+        let now : Some K.opening ≡ Some o = sym s.opening ∙ (ap (λ (u : View P Q R E). u.opening) z.is ∙ start) in
+        let same : K.opening ≡ o = cc in
+        let sides : length K.opening.sides ≡ length o.sides = ap (λ p. length p.sides) same in
+        let high = z.ended (omega arith) (omega arith) in
+        let done = ap (λ (u : View P Q R E). u.reading.done) z.is in
+        s.reader.done m e at (omega arith);
+  }
