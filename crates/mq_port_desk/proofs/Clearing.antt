@@ -5,7 +5,7 @@ use Rattle.mq_blocks.specs.Drive.{PortState}
 use Rattle.mq_blocks.specs.declared.geometry.Geometry.{Geometry}
 use Rattle.mq_ledger.specs.History.{writes, of_queue, IsAt}
 use Rattle.mq_ledger.specs.Items.{end_of}
-use Rattle.mq_ledger.specs.Known.{Known, LogOk}
+use Rattle.mq_ledger.specs.KnownJournal.{KnownJournal, LogOk}
 use Rattle.mq_ledger.specs.Sides.{SideOk}
 use Rattle.mq_ledger.specs.declared.tx.Tx.{Tx}
 use Rattle.mq_ledger.proofs.Values.{at_numbered}
@@ -14,12 +14,12 @@ use Rattle.mq_core.proofs.Growth.{log_more, side_more}
 use Rattle.mq_pages.specs.declared.page.PageCell.{PageCell}
 use Rattle.mq_turns.specs.Lists.{Each}
 use Rattle.mq_turns.specs.Meaning.{newest, claimed}
-use Rattle.mq_turns.specs.declared.rule.Known.{Known as Shared}
+use Rattle.mq_turns.specs.declared.rule.KnownJournal.{KnownJournal as Shared}
 use Rattle.mq_port_desk.specs.Ports
 use Rattle.mq_port_desk.specs.Ports.{SideView, is_claimed, IsOk, IsSide}
 
 module _ {Q R E : Type 0} (side : Q → SideView) (root : R → PortState) (geometry : R → Geometry) (tx : E → Tx) (c : ℕ × ℕ × ℕ) (K : Shared PageCell Q R E) where
-  abbrev core : Known
+  abbrev core : KnownJournal
   core = Ports.core_of side root geometry tx K
 
   abbrev done : Tx → List Tx → Bool

@@ -88,13 +88,13 @@ module _ {P Q R E : Type 0} (μ : Meaning P Q R E) where
   reader_passed : (queues n low : ℕ) (K : Known P Q R E) (r : Reading P Q R E) → Marked μ K → queues ≡ length K.opening.sides → Reader μ K r → low ≤ newest K → DoneBelow μ n low K → Reader μ K (passed queues n low r)
   reader_passed queues n low K r k is d few done = elim (cases_Bool (nat_le queues n)) [
     | inl all ↦ record {
-        low = few;
-        swept = done;
-        last = rw all (let a = d.last in omega arith);
-        done = rw all (done_max r.done low K d.done (all_passed queues n low K k is (leb-true queues n all) done));
-        base = d.base;
-        gave = d.gave;
-      }
+      low = few;
+      swept = done;
+      last = rw all (let a = d.last in omega arith);
+      done = rw all (done_max r.done low K d.done (all_passed queues n low K k is (leb-true queues n all) done));
+      base = d.base;
+      gave = d.gave;
+    }
     | inr some_left ↦ record { low = few; swept = done; last = rw some_left d.last; done = rw some_left d.done; base = d.base; gave = d.gave }
   ]
 

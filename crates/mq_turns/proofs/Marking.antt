@@ -181,17 +181,17 @@ module _ {M P Q R E : Type 0} (μ : Meaning P Q R E) (o : Opening P Q R) (chairs
       → Rule record { words = set s.words word (get_or s.words word 0); homes = s.homes; views = set s.views id w }
   makes_known about K L s id v w word is t n x at live deep ok stays holds g log claims base marked charges reader parts opening session hand seen drew read held =
       subst (λ (ws : List ℕ). Rule record { words = ws; homes = s.homes; views = set s.views id w }) (sym (set-get_or s.words word 0)) (
-        changes μ o chairs about K L s id v w s.words is t n x at deep ok stays holds log refl (λ k le. refl)
-            record {
-              grows = g;
-              marked = marked;
-              marks = λ q lt. x.marks q lt ∙ ap (mark_of q) (sym claims);
-              base = x.base ∙ sym base;
-              charges = charges;
-              reader = reader;
-              idle = λ z. absurd (omega arith);
-            }
-            parts opening session hand seen drew read held
+      changes μ o chairs about K L s id v w s.words is t n x at deep ok stays holds log refl (λ k le. refl)
+      record {
+        grows = g;
+        marked = marked;
+        marks = λ q lt. x.marks q lt ∙ ap (mark_of q) (sym claims);
+        base = x.base ∙ sym base;
+        charges = charges;
+        reader = reader;
+        idle = λ z. absurd (omega arith);
+      }
+      parts opening session hand seen drew read held
       )
 
   -- a notice is given, at a load of the counter

@@ -85,7 +85,12 @@ fn seat_all<M: Machine>(top: &Top<M>, mut place: Place<M>, chairs: u32, list: &m
 }
 
 // The words of a new desk.
-fn first_words(alloc: Global, slots: usize, sides: usize, base: u64) -> Result<Vec<u64>, OutOfMemory>
+fn first_words(
+    alloc: Global,
+    slots: usize,
+    sides: usize,
+    base: u64,
+) -> Result<Vec<u64>, OutOfMemory>
     requires few { (slots ≤ 2 ^ 33) × (sides < 2 ^ 32) }
     ensures words { IfOk result (λ ws. AreOpenWords slots sides base ws.items) }
 {

@@ -317,8 +317,9 @@ fn front_passes_a_number_that_is_cleared(rt: HostRuntime) -> Result<(), OutOfMem
         session: 0,
         group: 0,
     };
-    let [before, number, after, undone, done, base] =
-        cast_and_clear(&rt, &desk, &mut chair, &entry);
+    let [before, number, after, undone, done, base] = cast_and_clear(
+        &rt, &desk, &mut chair, &entry,
+    );
     assert_eq!(rt; [before.0, number.0, after.0], [10, 11, 11]);
     assert_eq!(rt; [undone.0, done.0, base.0], [10, 11, 10]);
     all.push_reserved(chair);
