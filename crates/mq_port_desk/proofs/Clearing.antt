@@ -14,7 +14,7 @@ use Rattle.mq_core.proofs.Growth.{log_more, side_more}
 use Rattle.mq_pages.specs.declared.page.PageCell.{PageCell}
 use Rattle.mq_turns.specs.Lists.{Each}
 use Rattle.mq_turns.specs.Meaning.{newest, claimed}
-use Rattle.mq_turns.specs.declared.rule.KnownJournal.{KnownJournal as Shared}
+use Rattle.mq_turns.specs.declared.rule.Known.{Known as Shared}
 use Rattle.mq_port_desk.specs.Ports
 use Rattle.mq_port_desk.specs.Ports.{SideView, is_claimed, IsOk, IsSide}
 

@@ -13,7 +13,7 @@ use Rattle.mq_core.proofs.Runs.{start_facts}
 use Rattle.mq_pages.specs.declared.page.PageCell.{PageCell}
 use Rattle.mq_turns.specs.Chairs.{Starts}
 use Rattle.mq_turns.specs.Meaning.{opened}
-use Rattle.mq_turns.specs.declared.rule.KnownJournal.{KnownJournal as Shared}
+use Rattle.mq_turns.specs.declared.rule.Known.{Known as Shared}
 use Rattle.mq_turns.specs.declared.rule.Opening.{Opening}
 use Rattle.mq_port_desk.specs.Machine.{tx_of, side_of, root_of, shape_of, ports}
 use Rattle.mq_port_desk.specs.Opening.{state_of, IsFresh}

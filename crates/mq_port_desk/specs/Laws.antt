@@ -16,7 +16,7 @@ use Rattle.mq_core.proofs.Growth.{log_drawn}
 use Rattle.mq_pages.specs.declared.page.PageCell.{PageCell}
 use Rattle.mq_turns.specs.Lists.{Each}
 use Rattle.mq_turns.specs.Meaning.{Stays, Apart, newest, drawn}
-use Rattle.mq_turns.specs.declared.rule.KnownJournal.{KnownJournal as Shared}
+use Rattle.mq_turns.specs.declared.rule.Known.{Known as Shared}
 use Rattle.mq_turns.specs.declared.turn.Turn.{Turn}
 use Rattle.mq_turns.specs.declared.turn.Turn.TheVariants.{Page, Side, Root}
 use Rattle.mq_turns.proofs.Totals.{each_map}
