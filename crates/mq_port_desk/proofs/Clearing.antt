@@ -14,11 +14,12 @@ use Rattle.mq_core.proofs.Growth.{log_more, side_more}
 use Rattle.mq_pages.specs.declared.page.PageCell.{PageCell}
 use Rattle.mq_turns.specs.Lists.{Each}
 use Rattle.mq_turns.specs.Meaning.{newest, claimed}
+use Rattle.mq_turns.specs.declared.rule.Claim.{Claim}
 use Rattle.mq_turns.specs.declared.rule.Known.{Known as Shared}
 use Rattle.mq_port_desk.specs.Ports
 use Rattle.mq_port_desk.specs.Ports.{SideView, is_claimed, IsOk, IsSide}
 
-module _ {Q R E : Type 0} (side : Q → SideView) (root : R → PortState) (geometry : R → Geometry) (tx : E → Tx) (c : ℕ × ℕ × ℕ) (K : Shared PageCell Q R E) where
+module _ {Q R E : Type 0} (side : Q → SideView) (root : R → PortState) (geometry : R → Geometry) (tx : E → Tx) (c : Claim) (K : Shared PageCell Q R E) where
   abbrev core : KnownJournal
   core = Ports.core_of side root geometry tx K
 
@@ -26,19 +27,19 @@ module _ {Q R E : Type 0} (side : Q → SideView) (root : R → PortState) (geom
   done t ts = is_claimed (c ∷ K.claims) t
 
   more : DoneMore core.done done
-  more = record { each = λ t ts e. or_right (eqb c.0 t.queue && nat_le t.number c.1) (is_claimed K.claims t) e }
+  more = record { each = λ t ts e. or_right (eqb c.queue t.queue && nat_le t.number c.up_to) (is_claimed K.claims t) e }
 
   -- nothing is asked of a claim but that its numbers were drawn
-  pub ok_claimed : IsOk side root geometry tx K → c.1 ≤ newest K → IsOk side root geometry tx (claimed c K)
+  pub ok_claimed : IsOk side root geometry tx K → c.up_to ≤ newest K → IsOk side root geometry tx (claimed c K)
   ok_claimed k few = record { log = log_more core done k.log more; claims = (few, k.claims) }
 
   -- the side shows that the claimed numbers of its queue are done
-  pub side_claimed : (w : Q) → IsOk side root geometry tx K → IsSide side root geometry tx c.0 K w
-      → ((t : Tx) (ts : List Tx) → IsAt t ts core.history → t.queue ≡ c.0 → t.number ≤ c.1 → end_of (core.from c.0) (of_queue c.0 ts) + (writes t + 1) ≤ (side w).port.head)
-      → IsSide side root geometry tx c.0 (claimed c K) w
+  pub side_claimed : (w : Q) → IsOk side root geometry tx K → IsSide side root geometry tx c.queue K w
+      → ((t : Tx) (ts : List Tx) → IsAt t ts core.history → t.queue ≡ c.queue → t.number ≤ c.up_to → end_of (core.from c.queue) (of_queue c.queue ts) + (writes t + 1) ≤ (side w).port.head)
+      → IsSide side root geometry tx c.queue (claimed c K) w
   side_claimed w k is true_of = record {
-    port = side_more core done k.log more c.0 (Ports.own_of side root geometry tx c.0 K) (side w).port is.port (λ t ts at own e. elim (or_cases (eqb c.0 t.queue && nat_le t.number c.1) (is_claimed K.claims t) e) [
-      | inl now ↦ true_of t ts at own (leb-true t.number c.1 (and_parts (eqb c.0 t.queue) (nat_le t.number c.1) now).1)
+    port = side_more core done k.log more c.queue (Ports.own_of side root geometry tx c.queue K) (side w).port is.port (λ t ts at own e. elim (or_cases (eqb c.queue t.queue && nat_le t.number c.up_to) (is_claimed K.claims t) e) [
+      | inl now ↦ true_of t ts at own (leb-true t.number c.up_to (and_parts (eqb c.queue t.queue) (nat_le t.number c.up_to) now).1)
       | inr before ↦ is.port.done t ts at own before
     ]);
     end = is.end;
@@ -50,5 +51,5 @@ module _ {Q R E : Type 0} (side : Q → SideView) (root : R → PortState) (geom
   }
 
   -- a claim of no number
-  pub none_claimed : (w : Q) → IsOk side root geometry tx K → IsSide side root geometry tx c.0 K w → c.1 ≤ K.opening.base → IsSide side root geometry tx c.0 (claimed c K) w
+  pub none_claimed : (w : Q) → IsOk side root geometry tx K → IsSide side root geometry tx c.queue K w → c.up_to ≤ K.opening.base → IsSide side root geometry tx c.queue (claimed c K) w
   none_claimed w k is low = side_claimed w k is (λ t ts at own le. let n = (at_numbered core.base t ts core.history k.log.numbers at).0 in absurd (omega arith))

@@ -16,6 +16,7 @@ use Rattle.mq_core.proofs.Growth.{log_drawn}
 use Rattle.mq_pages.specs.declared.page.PageCell.{PageCell}
 use Rattle.mq_turns.specs.Lists.{Each}
 use Rattle.mq_turns.specs.Meaning.{Stays, Apart, newest, drawn}
+use Rattle.mq_turns.specs.declared.rule.Claim.{Claim}
 use Rattle.mq_turns.specs.declared.rule.Known.{Known as Shared}
 use Rattle.mq_turns.specs.declared.turn.Turn.{Turn}
 use Rattle.mq_turns.specs.declared.turn.Turn.TheVariants.{Page, Side, Root}
@@ -26,24 +27,24 @@ use Rattle.mq_port_desk.specs.Along.{Among, later, queue_newer, side_later, root
 
 -- ---- claims and home writes that are added
 
-claimed_more : (l m : List (ℕ × ℕ × ℕ)) (t : Tx) → is_claimed m t ≡ true → is_claimed (l ++ m) t ≡ true
+claimed_more : (l m : List Claim) (t : Tx) → is_claimed m t ≡ true → is_claimed (l ++ m) t ≡ true
 claimed_more [] m t e = e
-claimed_more (c ∷ cs) m t e = or_right (eqb c.0 t.queue && nat_le t.number c.1) (is_claimed (cs ++ m) t) (claimed_more cs m t e)
+claimed_more (c ∷ cs) m t e = or_right (eqb c.queue t.queue && nat_le t.number c.up_to) (is_claimed (cs ++ m) t) (claimed_more cs m t e)
 
-claimed_apart : (q : ℕ) (l m : List (ℕ × ℕ × ℕ)) (t : Tx) → Each (λ c. Side c.0 ≢ Side q) l → t.queue ≡ q → is_claimed (l ++ m) t ≡ true → is_claimed m t ≡ true
+claimed_apart : (q : ℕ) (l m : List Claim) (t : Tx) → Each (λ c. Side c.queue ≢ Side q) l → t.queue ≡ q → is_claimed (l ++ m) t ≡ true → is_claimed m t ≡ true
 claimed_apart q [] m t a own e = e
-claimed_apart q (c ∷ cs) m t a own e = elim (or_cases (eqb c.0 t.queue && nat_le t.number c.1) (is_claimed (cs ++ m) t) e) [
-  | inl mine ↦ absurd (a.0 (ap Side (eqb-true _ _ (and_parts (eqb c.0 t.queue) (nat_le t.number c.1) mine).0 ∙ own)))
+claimed_apart q (c ∷ cs) m t a own e = elim (or_cases (eqb c.queue t.queue && nat_le t.number c.up_to) (is_claimed (cs ++ m) t) e) [
+  | inl mine ↦ absurd (a.0 (ap Side (eqb-true _ _ (and_parts (eqb c.queue t.queue) (nat_le t.number c.up_to) mine).0 ∙ own)))
   | inr rest ↦ claimed_apart q cs m t a.1 own rest
 ]
 
 -- a number above all claims is not claimed
-pub unclaimed : (n : ℕ) (cs : List (ℕ × ℕ × ℕ)) (t : Tx) → Each (λ c. c.1 ≤ n) cs → n < t.number → is_claimed cs t ≡ false
+pub unclaimed : (n : ℕ) (cs : List Claim) (t : Tx) → Each (λ c. c.up_to ≤ n) cs → n < t.number → is_claimed cs t ≡ false
 unclaimed n [] t a lt = refl
 unclaimed n (c ∷ cs) t a lt = elim (cases_Bool (is_claimed (c ∷ cs) t)) [
   | inr e ↦ e
-  | inl e ↦ elim (or_cases (eqb c.0 t.queue && nat_le t.number c.1) (is_claimed cs t) e) [
-    | inl mine ↦ absurd (let le = leb-true _ _ (and_parts (eqb c.0 t.queue) (nat_le t.number c.1) mine).1 in let b = a.0 in omega arith)
+  | inl e ↦ elim (or_cases (eqb c.queue t.queue && nat_le t.number c.up_to) (is_claimed cs t) e) [
+    | inl mine ↦ absurd (let le = leb-true _ _ (and_parts (eqb c.queue t.queue) (nat_le t.number c.up_to) mine).1 in let b = a.0 in omega arith)
     | inr rest ↦ absurd (false≢true (sym (unclaimed n cs t a.1 lt) ∙ rest))
   ]
 ]

@@ -4,33 +4,34 @@ use Rattle.std.proofs.lemmas.Bool.{cases_Bool, false≢true, eq-eqb, eqb-true, n
 use Rattle.mq_turns.specs.Lists.{Each}
 use Rattle.mq_turns.specs.Meaning.{Meaning, Grows, newest, drawn, claimed, IsAt}
 use Rattle.mq_turns.specs.Marks.{is_claimed, mark_of, claim_of, passed, shown, unread, read_first, read_both, DoneBelow, DoneTo, Marked, Reader}
+use Rattle.mq_turns.specs.declared.rule.Claim.{Claim}
 use Rattle.mq_turns.specs.declared.rule.Known.{Known}
 use Rattle.mq_turns.specs.declared.rule.Reading.{Reading}
 use Rattle.mq_turns.specs.declared.turn.Turn.TheVariants.{Side}
 use Rattle.mq_turns.proofs.Totals.{each_map}
 use Rattle.mq_turns.proofs.Growth.{at_bounds, at_back, newest_grows, grows_on}
 
-pub claimed_more : (q n : ℕ) (newer cs : List (ℕ × ℕ × ℕ)) → is_claimed q n cs ≡ true → is_claimed q n (newer ++ cs) ≡ true
+pub claimed_more : (q n : ℕ) (newer cs : List Claim) → is_claimed q n cs ≡ true → is_claimed q n (newer ++ cs) ≡ true
 claimed_more q n [] cs e = e
-claimed_more q n (c ∷ ns) cs e = or_right (eqb c.0 q && nat_le n c.1) (is_claimed q n (ns ++ cs)) (claimed_more q n ns cs e)
+claimed_more q n (c ∷ ns) cs e = or_right (eqb c.queue q && nat_le n c.up_to) (is_claimed q n (ns ++ cs)) (claimed_more q n ns cs e)
 
 -- a mark stays where no newer claim is of the queue
-pub mark_apart : (q : ℕ) (newer cs : List (ℕ × ℕ × ℕ)) → Each (λ c. Side c.0 ≢ Side q) newer → mark_of q (newer ++ cs) ≡ mark_of q cs
+pub mark_apart : (q : ℕ) (newer cs : List Claim) → Each (λ c. Side c.queue ≢ Side q) newer → mark_of q (newer ++ cs) ≡ mark_of q cs
 mark_apart q [] cs a = refl
-mark_apart q (c ∷ ns) cs a = rw (ne_eqb c.0 q (λ e. a.0 (ap Side e))) (mark_apart q ns cs a.1)
+mark_apart q (c ∷ ns) cs a = rw (ne_eqb c.queue q (λ e. a.0 (ap Side e))) (mark_apart q ns cs a.1)
 
 not_both : (b : Bool) → b ≡ true → b ≡ false → ⊥
 not_both b t f = false≢true (sym f ∙ t)
 
 -- a number that a new claim leaves out is above it, or of another queue
-left_out : (c : ℕ × ℕ × ℕ) (q n : ℕ) (cs : List (ℕ × ℕ × ℕ)) → is_claimed q n (c ∷ cs) ≡ false → (c.0 ≡ q → c.1 < n) × (is_claimed q n cs ≡ false)
+left_out : (c : Claim) (q n : ℕ) (cs : List Claim) → is_claimed q n (c ∷ cs) ≡ false → (c.queue ≡ q → c.up_to < n) × (is_claimed q n cs ≡ false)
 left_out c q n cs none = (
-  (λ own. elim (cases_Bool (nat_le n c.1)) [
-    | inl low ↦ absurd (not_both (is_claimed q n (c ∷ cs)) (or_left (eqb c.0 q && nat_le n c.1) (is_claimed q n cs) (rw (eq-eqb c.0 q own, low) refl)) none)
-    | inr high ↦ leb-false n c.1 high
+  (λ own. elim (cases_Bool (nat_le n c.up_to)) [
+    | inl low ↦ absurd (not_both (is_claimed q n (c ∷ cs)) (or_left (eqb c.queue q && nat_le n c.up_to) (is_claimed q n cs) (rw (eq-eqb c.queue q own, low) refl)) none)
+    | inr high ↦ leb-false n c.up_to high
   ]),
   (elim (cases_Bool (is_claimed q n cs)) [
-    | inl before ↦ absurd (not_both (is_claimed q n (c ∷ cs)) (or_right (eqb c.0 q && nat_le n c.1) (is_claimed q n cs) before) none)
+    | inl before ↦ absurd (not_both (is_claimed q n (c ∷ cs)) (or_right (eqb c.queue q && nat_le n c.up_to) (is_claimed q n cs) before) none)
     | inr not_yet ↦ not_yet
   ]),
 )
@@ -53,17 +54,17 @@ module _ {P Q R E : Type 0} (μ : Meaning P Q R E) where
         last = let a = d.last in omega arith;
         done = done_to_grows r.done K L g d.last d.done;
         base = let a = d.base in let b = g.word in omega arith;
-        gave = each_map _ _ (λ x a. (a.0, grows_on x.2 K L a.1 g, a.2)) r.gave d.gave;
+        pages = each_map _ _ (λ x a. (a.0, grows_on x.2 K L a.1 g, a.2)) r.pages d.pages;
       }
 
   none_below : (n : ℕ) (K : Known P Q R E) → n ≤ K.opening.base → DoneTo μ n K
   none_below n K low m e at le = let b = at_bounds K.opening.base K.log m e at in absurd (omega arith)
 
   pub reader_none : (K : Known P Q R E) → Reader μ K unread
-  reader_none K = record { low = omega arith; swept = λ m e at le lt. absurd (omega arith); last = omega arith; done = none_below 0 K (omega arith); base = omega arith; gave = tt }
+  reader_none K = record { low = omega arith; swept = λ m e at le lt. absurd (omega arith); last = omega arith; done = none_below 0 K (omega arith); base = omega arith; pages = tt }
 
   pub reader_first : (K : Known P Q R E) (base : ℕ) → base ≡ K.opening.base → K.opening.base ≤ K.word → Reader μ K (read_first base)
-  reader_first K base is low = record { low = omega arith; swept = λ m e at le lt. absurd (omega arith); last = omega arith; done = none_below base K (omega arith); base = omega arith; gave = tt }
+  reader_first K base is low = record { low = omega arith; swept = λ m e at le lt. absurd (omega arith); last = omega arith; done = none_below base K (omega arith); base = omega arith; pages = tt }
 
   done_max : (a b : ℕ) (K : Known P Q R E) → DoneTo μ a K → DoneTo μ b K → DoneTo μ (max a b) K
   done_max a b K x y m e at le = elim (cases_Bool (nat_le m a)) [
@@ -78,7 +79,7 @@ module _ {P Q R E : Type 0} (μ : Meaning P Q R E) where
     last = let x = a.last in let y = b.last in omega arith;
     done = done_max r.done t.done K a.done b.done;
     base = let x = a.base in let y = b.base in omega arith;
-    gave = tt;
+    pages = tt;
   }
 
   -- a sweep that has passed all queues
@@ -93,9 +94,9 @@ module _ {P Q R E : Type 0} (μ : Meaning P Q R E) where
       last = rw all (let a = d.last in omega arith);
       done = rw all (done_max r.done low K d.done (all_passed queues n low K k is (leb-true queues n all) done));
       base = d.base;
-      gave = d.gave;
+      pages = d.pages;
     }
-    | inr some_left ↦ record { low = few; swept = done; last = rw some_left d.last; done = rw some_left d.done; base = d.base; gave = d.gave }
+    | inr some_left ↦ record { low = few; swept = done; last = rw some_left d.last; done = rw some_left d.done; base = d.base; pages = d.pages }
   ]
 
   -- all numbers of a queue up to n are done

@@ -2,6 +2,7 @@
 use Rattle.std.proofs.Common.{◌≡◌, ◌≢◌, ℕ, ◌+◌, ◌<◌, ◌≤◌, false, List, [], ◌∷◌, ◌++◌, length, sym, refl, ap, ◌∙◌, subst, arith, append_assoc, length-append, inl, inr}
 use Rattle.mq_turns.specs.Meaning.{Touch, Lie, Apart, Stays, Grows, newest, drawn, claimed, written, raised, charged, IsAt}
 use Rattle.mq_turns.specs.Lists.{Each}
+use Rattle.mq_turns.specs.declared.rule.Claim.{Claim}
 use Rattle.mq_turns.specs.declared.rule.Known.{Known}
 use Rattle.mq_turns.specs.declared.rule.Charge.{Charge}
 use Rattle.mq_turns.specs.declared.turn.Turn.{Turn}
@@ -55,7 +56,7 @@ module _ {P Q R E : Type 0} where
   abbrev pub grows_drawn : (e : E) (K : Known P Q R E) → Grows K (drawn e K)
   grows_drawn e K = record { opening = refl; newer = e ∷ []; log = refl; claimed = []; claims = refl; written = []; ended = refl; word = omega arith; blamed = []; charges = refl }
 
-  abbrev pub grows_claimed : (c : ℕ × ℕ × ℕ) (K : Known P Q R E) → Grows K (claimed c K)
+  abbrev pub grows_claimed : (c : Claim) (K : Known P Q R E) → Grows K (claimed c K)
   grows_claimed c K = record { opening = refl; newer = []; log = refl; claimed = c ∷ []; claims = refl; written = []; ended = refl; word = omega arith; blamed = []; charges = refl }
 
   abbrev pub grows_written : (h : ℕ × ℕ) (K : Known P Q R E) → Grows K (written h K)
@@ -91,7 +92,7 @@ module _ {E : Type 0} (touches : Touch E) where
     pub stays_drawn : (t : Turn) (e : E) (K : Known P Q R E) → touches K.log e t ≡ false → Stays touches lies t K (drawn e K)
     stays_drawn t e K apart = record { grows = grows_drawn e K; apart = (apart, tt); claims = tt; ended = tt; word = λ _. refl; charges = tt }
 
-    pub stays_claimed : (t : Turn) (c : ℕ × ℕ × ℕ) (K : Known P Q R E) → Side c.0 ≢ t → Stays touches lies t K (claimed c K)
+    pub stays_claimed : (t : Turn) (c : Claim) (K : Known P Q R E) → Side c.queue ≢ t → Stays touches lies t K (claimed c K)
     stays_claimed t c K other = record { grows = grows_claimed c K; apart = tt; claims = (other, tt); ended = tt; word = λ _. refl; charges = tt }
 
     pub stays_written : (t : Turn) (h : ℕ × ℕ) (K : Known P Q R E) → lies K.opening h t ≡ false → Stays touches lies t K (written h K)

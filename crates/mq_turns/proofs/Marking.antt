@@ -12,6 +12,7 @@ use Rattle.mq_turns.specs.Lists.{tally, times}
 use Rattle.mq_turns.specs.Marks.{mark_of, claim_of, queues_of, passed, shown, Marked, Reader}
 use Rattle.mq_turns.specs.Desk.{slots, IsTurn, slot_of, turn_at, Sat, Now, Stay, Sees, Turns, Numbers, Words, Ruled}
 use Rattle.mq_turns.specs.Words.{same_turn, after_peek, after_clear, after_base, after_raise, after_notice, known_by, is_about, MayClear, MayRaise, MayNote, peeked, cleared, based, raised_to, noticed}
+use Rattle.mq_turns.specs.declared.rule.Claim.{Claim}
 use Rattle.mq_turns.specs.declared.rule.Charge.{Charge}
 use Rattle.mq_turns.specs.declared.rule.Opening.{Opening}
 use Rattle.mq_turns.specs.declared.rule.Known.{Known}
@@ -93,7 +94,7 @@ module _ {M P Q R E : Type 0} (μ : Meaning P Q R E) (o : Opening P Q R) (chairs
         after_base m v,
         keeps,
         tt,
-        rereads K s id v (record v.reading { base = m }) word rk.1 rk.2 rk.3 rk.4 at live refl record { low = d.low; swept = d.swept; last = d.last; done = d.done; base = omega arith; gave = d.gave },
+        rereads K s id v (record v.reading { base = m }) word rk.1 rk.2 rk.3 rk.4 at live refl record { low = d.low; swept = d.swept; last = d.last; done = d.done; base = omega arith; pages = d.pages },
         (K, refl, sym now, sees μ o chairs K s id v rk.1 rk.2 rk.3 rk.4 at live),
       )
 
@@ -104,7 +105,7 @@ module _ {M P Q R E : Type 0} (μ : Meaning P Q R E) (o : Opening P Q R) (chairs
       let K : Known P Q R E = rk.0 in
       let v : View P Q R E = me.0 in
       let q : ℕ = word - suc deep in
-      let c : ℕ × ℕ × ℕ = claim_of q low (newest K) in
+      let c : Claim = claim_of q low (newest K) in
       let L : Known P Q R E = claimed c K in
       let seen = sees μ o chairs K s id v rk.1 rk.2 rk.3 rk.4 at live in
       let sides : length K.opening.sides ≡ length o.sides = ap (λ p. length p.sides) rk.1 in
@@ -166,7 +167,7 @@ module _ {M P Q R E : Type 0} (μ : Meaning P Q R E) (o : Opening P Q R) (chairs
               marks = λ p lt. get_or-set_other s.words word (suc (length s.homes + p)) base 0 (λ e. omega arith) ∙ rk.4.marks p lt;
               base = let stored = get_or-set_same s.words word base 0 (omega arith) in ap (λ i. get_or words' i 0) here ∙ stored;
               charges = λ f. refl;
-              reader = record { low = d.low; swept = d.swept; last = d.last; done = d.done; base = omega arith; gave = d.gave };
+              reader = record { low = d.low; swept = d.swept; last = d.last; done = d.done; base = omega arith; pages = d.pages };
               idle = λ z. absurd (omega arith);
             }
             refl refl refl refl refl refl refl refl,
@@ -221,7 +222,7 @@ module _ {M P Q R E : Type 0} (μ : Meaning P Q R E) (o : Opening P Q R) (chairs
         after_notice μ (notice.Page b p) K v,
         keeps,
         tt,
-        rereads K s id v (record v.reading { gave = (b, p, K) ∷ v.reading.gave }) word rk.1 rk.2 rk.3 rk.4 at live refl record { low = d.low; swept = d.swept; last = d.last; done = d.done; base = d.base; gave = ((seen.ok, grows_now K, may K seen), d.gave) },
+        rereads K s id v (record v.reading { pages = (b, p, K) ∷ v.reading.pages }) word rk.1 rk.2 rk.3 rk.4 at live refl record { low = d.low; swept = d.swept; last = d.last; done = d.done; base = d.base; pages = ((seen.ok, grows_now K, may K seen), d.pages) },
         (K, refl, seen),
       )
   notes_it deep id me word (notice.Charge c) count_is live may s rk len at fits =
@@ -238,7 +239,7 @@ module _ {M P Q R E : Type 0} (μ : Meaning P Q R E) (o : Opening P Q R) (chairs
         makes_known (same_turn c.port) K (charged c K) s id v w word rk.1 rk.2 rk.3 rk.4 at live (len ∙ count_is) (may K seen).0
             (λ t apart. stays_charged μ.touches μ.lies t c K (not_same c.port t apart)) (holds_one μ K.opening c.port v (may K seen).1) g refl refl refl
             record { own = k.own; undone = k.undone; above = k.above; word = k.word }
-            (λ f. omega arith) record { low = d.low; swept = d.swept; last = d.last; done = d.done; base = d.base; gave = d.gave } refl refl refl refl refl refl refl refl,
+            (λ f. omega arith) record { low = d.low; swept = d.swept; last = d.last; done = d.done; base = d.base; pages = d.pages } refl refl refl refl refl refl refl refl,
         (K, refl, seen),
       )
 

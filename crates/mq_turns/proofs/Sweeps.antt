@@ -1,39 +1,28 @@
 -- A sweep over the marks, queue by queue.
-use Rattle.std.proofs.Common.{◌≡◌, ℕ, suc, ◌+◌, ◌-◌, ◌<◌, ◌≤◌, eqb, max, min, nat_le, true, false, cond, List, [], length, sym, refl, ap, ◌∙◌, subst, arith, inl, inr, Some}
+use Rattle.std.proofs.Common.{◌≡◌, ℕ, suc, ◌+◌, ◌-◌, ◌<◌, ◌≤◌, eqb, max, min, nat_le, true, false, cond, List, [], ◌∷◌, length, sym, refl, ap, ◌∙◌, subst, arith, inl, inr, Some}
 use Rattle.std.proofs.lemmas.Bool.{cases_Bool, eq-eqb, eqb-true, eqb-false, leb-false}
-use Rattle.mq_turns.specs.Meaning.{Meaning, newest}
-use Rattle.mq_turns.specs.Marks.{queues_of, passed, shown}
+use Rattle.mq_turns.specs.Lists.{Each}
+use Rattle.mq_turns.specs.Meaning.{Meaning, Grows, newest}
+use Rattle.mq_turns.specs.Marks.{mark_of, queues_of, passed, shown, Reader}
 use Rattle.mq_turns.specs.Words.{after_peek}
 use Rattle.mq_turns.specs.Desk.{Sees, Below}
-use Rattle.mq_turns.specs.Swept.{Sweeping, AfterFront}
+use Rattle.mq_turns.specs.Swept.{after_count, least_below, AreMarks, Sweeping, AfterFront}
 use Rattle.mq_turns.specs.declared.rule.Opening.{Opening}
 use Rattle.mq_turns.specs.declared.rule.Known.{Known}
 use Rattle.mq_turns.specs.declared.rule.Reading.{Reading}
 use Rattle.mq_turns.specs.declared.rule.View.{View}
 
 module _ {P Q R E : Type 0} where
-  pub sweep_begins : (queues n : ℕ) (v w : View P Q R E) → w ≡ record v { seen = n } → Below n v → Sweeping queues 0 n v w
-  sweep_begins queues n v w is below = record {
-    seen = n;
-    reading = v.reading;
-    is = is;
-    below = below;
-    low_is = omega arith;
-    kept = (omega arith, refl, refl);
-    passed = λ lt. absurd (omega arith);
-    ended = λ lt. absurd (omega arith);
-  }
-
   pub record Passing (queues q low n : ℕ) (r t : Reading P Q R E) : Type 0 where
-    pub kept : (r.done ≤ t.done) × (t.base ≡ r.base) × (t.charged ≡ r.charged)
+    pub kept : (r.done ≤ t.done) × (t.base ≡ r.base) × (t.pages ≡ r.pages) × (t.charged ≡ r.charged)
     pub swept : t.swept ≡ suc q
     pub low_is : min low n ≤ t.low
     pub ended : queues ≤ suc q → min low n ≤ t.done
 
   passing : (queues q low m n : ℕ) (r : Reading P Q R E) → min low n ≤ m → Passing queues q low n r (passed queues (suc q) m r)
   passing queues q low m n r le = elim (cases_Bool (nat_le queues (suc q))) [
-    | inl all ↦ record { kept = rw all (omega arith, refl, refl); swept = refl; low_is = le; ended = λ lt. rw all (omega arith) }
-    | inr some_left ↦ let more = leb-false queues (suc q) some_left in record { kept = rw some_left (omega arith, refl, refl); swept = refl; low_is = le; ended = λ lt. absurd (omega arith) }
+    | inl all ↦ record { kept = rw all (omega arith, refl, refl, refl); swept = refl; low_is = le; ended = λ lt. rw all (omega arith) }
+    | inr some_left ↦ let more = leb-false queues (suc q) some_left in record { kept = rw some_left (omega arith, refl, refl, refl); swept = refl; low_is = le; ended = λ lt. absurd (omega arith) }
   ]
 
   pub shows_next : (queues q low n m : ℕ) (r : Reading P Q R E) → low ≤ m → (0 < q → (r.swept ≡ q) × (low ≤ r.low)) → Passing queues q low n r (shown queues q (min n m) r)
@@ -45,37 +34,82 @@ module _ {P Q R E : Type 0} where
         rw (later, eq-eqb q r.swept (sym b.0)) (passing queues q low (min r.low (min n m)) n r (omega arith))
   ]
 
+pub least_le : (n : ℕ) (ms : List ℕ) → least_below n ms ≤ n
+least_le n [] = omega arith
+least_le n (m ∷ ms) = let ih = least_le n ms in omega arith
+
 module _ {P Q R E : Type 0} (μ : Meaning P Q R E) where
+  -- the counter is read
+  pub sweep_begins : (queues n : ℕ) (K : Known P Q R E) (v w : View P Q R E) → w ≡ record v { seen = newest K } → newest K ≡ n → Sees μ v K → Below n v → Sweeping μ queues 0 n v w
+  sweep_begins queues n K v w is counter s below = record {
+    counter = n;
+    marks = [];
+    reading = v.reading;
+    is = is ∙ ap (λ m. record v { seen = m }) counter;
+    counted = (K, counter, s);
+    below = below;
+    read = (refl, tt);
+    low_is = refl;
+    kept = (omega arith, refl, refl, refl);
+    passed = λ lt. absurd (omega arith);
+    ended = λ lt. absurd (omega arith);
+  }
+
+  -- what the chair sees at a mark is to be seen by what it was before, but for its sweep
+  before_sweep : (queues q low : ℕ) (K : Known P Q R E) (v w : View P Q R E) → Sees μ w K → (z : Sweeping μ queues q low v w) → Sees μ (after_count z.counter v) K
+  before_sweep queues q low K v w sees z =
+      let s : Sees μ (record v { seen = z.counter; reading = z.reading }) K = subst (λ u. Sees μ u K) z.is sees in
+      let r : Reader μ K z.reading = s.reader in
+      let kept = z.kept in
+      let later : z.reading.done ≤ newest K = r.last in
+      let base : z.reading.base ≤ K.word = r.base in
+      record {
+        opening = s.opening;
+        ok = s.ok;
+        held = s.held;
+        seen = s.seen;
+        drew = s.drew;
+        marked = s.marked;
+        reader = record {
+          low = omega arith;
+          swept = λ m e at le lt. absurd (omega arith);
+          last = omega arith;
+          done = λ m e at le. r.done m e at (omega arith);
+          base = omega arith;
+          pages = subst (Each (λ g. μ.ok g.2 × Grows g.2 K × μ.page g.0 g.2 g.1)) kept.2 r.pages;
+        };
+      }
+
   -- one mark more is read
-  pub sweep_next : (o : Opening P Q R) (q low mark : ℕ) (K : Known P Q R E) (v w x : View P Q R E) → v.opening ≡ Some o → x ≡ after_peek q mark K w → Sees μ w K → Sweeping (length o.sides) q low v w → Sweeping (length o.sides) (suc q) (min low (mark - 1)) v x
-  sweep_next o q low mark K v w x start is s z =
+  pub sweep_next : (o : Opening P Q R) (q low mark : ℕ) (K : Known P Q R E) (v w x : View P Q R E) → v.opening ≡ Some o → x ≡ after_peek q mark K w → mark_of q K.claims ≡ mark → Sees μ w K → Sweeping μ (length o.sides) q low v w
+      → Sweeping μ (length o.sides) (suc q) (min low (mark - 1)) v x
+  sweep_next o q low mark K v w x start is read s z =
       let r : Reading P Q R E = z.reading in
-      let high : z.seen ≤ newest K = let a = s.seen in let b = ap (λ (u : View P Q R E). u.seen) z.is in omega arith in
-      let le = z.low_is in
+      let high : z.counter ≤ newest K = let a = s.seen in let b = ap (λ (u : View P Q R E). u.seen) z.is in omega arith in
+      let least = z.low_is in
+      let le = least_le z.counter z.marks in
       let p = shows_next (length o.sides) q low (mark - 1) (newest K) r (omega arith) z.passed in
       let kept = p.kept in
       let was = z.kept in
-      let seen = z.low_is in
+      let many : length z.marks ≡ q = z.read.0 in
       record {
-        seen = z.seen;
+        counter = z.counter;
+        marks = mark ∷ z.marks;
         reading = shown (length o.sides) q (min (mark - 1) (newest K)) r;
-        is = is ∙ (ap (after_peek q mark K) z.is ∙ ap (λ c. record v { seen = z.seen; reading = shown (queues_of c) q (min (mark - 1) (newest K)) r }) start);
+        is = is ∙ (ap (after_peek q mark K) z.is ∙ ap (λ c. record v { seen = z.counter; reading = shown (queues_of c) q (min (mark - 1) (newest K)) r }) start);
+        counted = z.counted;
         below = z.below;
-        low_is = omega arith;
-        kept = (omega arith, kept.1 ∙ was.1, kept.2 ∙ was.2);
+        read = (ap suc many, ((K, ap (λ i. mark_of i K.claims) many ∙ read, before_sweep (length o.sides) q low K v w s z), z.read.1));
+        low_is = ap (λ m. min m (mark - 1)) least;
+        kept = (omega arith, kept.1 ∙ was.1, kept.2 ∙ was.2, kept.3 ∙ was.3);
         passed = λ lt. (p.swept, p.low_is);
         ended = λ lt all. p.ended all;
       }
 
   -- all marks are read
-  pub sweep_ends : (o : Opening P Q R) (low : ℕ) (v w : View P Q R E) → v.opening ≡ Some o → Sweeping (length o.sides) (length o.sides) low v w → AfterFront μ low v w
+  pub sweep_ends : (o : Opening P Q R) (low : ℕ) (v w : View P Q R E) → v.opening ≡ Some o → Sweeping μ (length o.sides) (length o.sides) low v w → AfterFront μ o low v w
   sweep_ends o low v w start z = record {
-    seen = z.seen;
-    reading = z.reading;
-    is = z.is;
-    below = z.below;
-    low = z.low_is;
-    kept = z.kept;
+    sweep = z;
     done = λ K s m e at le.
         let own = s.marked.own m e at in
         let now : Some K.opening ≡ Some o = sym s.opening ∙ (ap (λ (u : View P Q R E). u.opening) z.is ∙ start) in

@@ -2,23 +2,24 @@
 use Rattle.std.specs.Prelude.{◌≡◌, ℕ, suc, ◌-◌, ◌<◌, ◌≤◌, ◌&&◌, ◌||◌, nat_eq, nat_le, max, min, Bool, true, false, cond, List, [], ◌∷◌, ◌++◌, length, Option, Some, None}
 use Rattle.mq_turns.specs.Lists.{Each}
 use Rattle.mq_turns.specs.Meaning.{Meaning, Grows, newest, IsAt}
+use Rattle.mq_turns.specs.declared.rule.Claim.{Claim}
 use Rattle.mq_turns.specs.declared.rule.Opening.{Opening}
 use Rattle.mq_turns.specs.declared.rule.Known.{Known}
 use Rattle.mq_turns.specs.declared.rule.Reading.{Reading}
 
 -- a claim of the queue goes up to the number
-abbrev pub is_claimed : ℕ → ℕ → List (ℕ × ℕ × ℕ) → Bool
+abbrev pub is_claimed : ℕ → ℕ → List Claim → Bool
 is_claimed q n [] = false
-is_claimed q n (c ∷ cs) = (nat_eq c.0 q && nat_le n c.1) || is_claimed q n cs
+is_claimed q n (c ∷ cs) = (nat_eq c.queue q && nat_le n c.up_to) || is_claimed q n cs
 
 -- the queue's mark
-abbrev pub mark_of : ℕ → List (ℕ × ℕ × ℕ) → ℕ
+abbrev pub mark_of : ℕ → List Claim → ℕ
 mark_of q [] = 18446744073709551615
-mark_of q (c ∷ cs) = cond (nat_eq c.0 q) c.2 (mark_of q cs)
+mark_of q (c ∷ cs) = cond (nat_eq c.queue q) c.mark (mark_of q cs)
 
 -- what a mark of the queue claims, where n is the newest number: all numbers of the queue below it are done
-abbrev pub claim_of : ℕ → ℕ → ℕ → ℕ × ℕ × ℕ
-claim_of q low n = (q, min (low - 1) n, low)
+abbrev pub claim_of : ℕ → ℕ → ℕ → Claim
+claim_of q low n = record { queue = q; up_to = min (low - 1) n; mark = low }
 
 module _ {P Q R : Type 0} where
   -- how many queues the desk of a chair has
@@ -29,10 +30,10 @@ module _ {P Q R : Type 0} where
 module _ {P Q R E : Type 0} where
   -- nothing was read; and what stands at the opening
   abbrev pub unread : Reading P Q R E
-  unread = record { swept = 0; low = 0; done = 0; base = 0; gave = []; charged = [] }
+  unread = record { swept = 0; low = 0; done = 0; base = 0; pages = []; charged = [] }
 
   abbrev pub read_first : ℕ → Reading P Q R E
-  read_first base = record { swept = 0; low = 0; done = base; base = base; gave = []; charged = [] }
+  read_first base = record { swept = 0; low = 0; done = base; base = base; pages = []; charged = [] }
 
   -- a sweep over so many queues has passed n of them, whose numbers up to `low` are done
   abbrev pub passed : ℕ → ℕ → ℕ → Reading P Q R E → Reading P Q R E
@@ -44,7 +45,7 @@ module _ {P Q R E : Type 0} where
 
   -- what two chairs read and noted; pages are forgotten
   abbrev pub read_both : Reading P Q R E → Reading P Q R E → Reading P Q R E
-  read_both r t = record { swept = 0; low = 0; done = max r.done t.done; base = max r.base t.base; gave = []; charged = r.charged ++ t.charged }
+  read_both r t = record { swept = 0; low = 0; done = max r.done t.done; base = max r.base t.base; pages = []; charged = r.charged ++ t.charged }
 
 module _ {P Q R E : Type 0} (μ : Meaning P Q R E) where
   -- all numbers up to n of the first queues are done
@@ -69,4 +70,4 @@ module _ {P Q R E : Type 0} (μ : Meaning P Q R E) where
     pub last : r.done ≤ newest K
     pub done : DoneTo r.done K
     pub base : r.base ≤ K.word
-    pub gave : Each (λ g. μ.ok g.2 × Grows g.2 K × μ.page g.0 g.2 g.1) r.gave
+    pub pages : Each (λ g. μ.ok g.2 × Grows g.2 K × μ.page g.0 g.2 g.1) r.pages

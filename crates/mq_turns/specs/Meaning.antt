@@ -3,6 +3,7 @@ use Rattle.std.specs.Prelude.{◌≡◌, ◌≢◌, ℕ, suc, ◌+◌, ◌≤◌
 use Rattle.mq_turns.specs.Lists.{Each}
 use Rattle.mq_turns.specs.declared.turn.Turn.{Turn}
 use Rattle.mq_turns.specs.declared.turn.Turn.TheVariants.{Page, Side, Root}
+use Rattle.mq_turns.specs.declared.rule.Claim.{Claim}
 use Rattle.mq_turns.specs.declared.rule.Known.{Known}
 use Rattle.mq_turns.specs.declared.rule.Charge.{Charge}
 use Rattle.mq_turns.specs.declared.rule.Opening.{Opening}
@@ -25,7 +26,7 @@ module _ {P Q R E : Type 0} where
   abbrev pub drawn : E → Known P Q R E → Known P Q R E
   drawn e K = record K { log = e ∷ K.log }
 
-  abbrev pub claimed : ℕ × ℕ × ℕ → Known P Q R E → Known P Q R E
+  abbrev pub claimed : Claim → Known P Q R E → Known P Q R E
   claimed c K = record K { claims = c ∷ K.claims }
 
   abbrev pub written : ℕ × ℕ → Known P Q R E → Known P Q R E
@@ -42,7 +43,7 @@ module _ {P Q R E : Type 0} where
     pub opening : L.opening ≡ K.opening
     pub newer : List E
     pub log : L.log ≡ newer ++ K.log
-    pub claimed : List (ℕ × ℕ × ℕ)
+    pub claimed : List Claim
     pub claims : L.claims ≡ claimed ++ K.claims
     pub written : List (ℕ × ℕ)
     pub ended : L.ended ≡ written ++ K.ended
@@ -69,7 +70,7 @@ module _ {P Q R E : Type 0} (touches : Touch E) (lies : Lie P Q R) where
   pub record Stays (t : Turn) (K L : Known P Q R E) : Type 0 where
     pub grows : Grows K L
     pub apart : Apart touches grows.newer K.log t
-    pub claims : Each (λ c. Side c.0 ≢ t) grows.claimed
+    pub claims : Each (λ c. Side c.queue ≢ t) grows.claimed
     pub ended : Each (λ h. lies K.opening h t ≡ false) grows.written
     pub word : t ≡ Root → L.word ≡ K.word
     pub charges : Each (λ c. c.port ≢ t) grows.blamed

@@ -61,7 +61,7 @@ module _ {P Q R E : Type 0} (μ : Meaning P Q R E) where
 
   abbrev pub after_notice : Notice P → Known P Q R E → View P Q R E → View P Q R E
   after_notice (notice.Home b n) K v = renewed (is_about (notice.Home b n) K) (written (b, n) K) v
-  after_notice (notice.Page b p) K v = record v { reading = record v.reading { gave = (b, p, K) ∷ v.reading.gave } }
+  after_notice (notice.Page b p) K v = record v { reading = record v.reading { pages = (b, p, K) ∷ v.reading.pages } }
   after_notice (notice.Charge c) K v = record (renewed (is_about (notice.Charge c) K) (charged c K) v) { reading = record v.reading { charged = c ∷ v.reading.charged } }
 
   -- what a notice asks: the chair holds what it is about, and it fits all that is known

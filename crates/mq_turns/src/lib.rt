@@ -20,5 +20,5 @@ mod words;
 pub use close::Parts;
 pub use desk::{Chair, Desk};
 pub use machine::Machine;
-pub use rule::{Blame, Charge, Known, Knows, Law, Notice, Opening, Reading, Start, View};
+pub use rule::{Blame, Charge, Claim, Known, Knows, Law, Notice, Opening, Reading, Start, View};
 pub use turn::{Item, Turn};

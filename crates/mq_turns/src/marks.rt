@@ -30,14 +30,14 @@ impl<M: Machine> Desk<M> {
         words::clear(&self.table.shared, &mut chair.place, word, low);
     }
 
-    /// Reads the counter, then each mark. All numbers up to the answer are done.
+    /// Reads the counter, then each mark: one load for each of them.
     pub fn front(&self, chair: &mut Chair<M>) -> TxNo
         requires at { AtDesk self.now chair.old }
         ensures at { AtDesk self.now chair.new }
-        ensures front { AfterFront M.meaning result (view chair.old) (view chair.new) }
+        ensures front { AfterFront M.meaning (start_of self.now) result (view chair.old) (view chair.new) }
     {
         let counter = self.table.slot_count();
-        let mut low = steps::count(&self.table.shared, &mut chair.place, counter);
+        let mut low = steps::look(&self.table.shared, &mut chair.place, counter, None);
         for queue in 0..self.sides as usize {
             let mark = words::peek(&self.table.shared, &mut chair.place, counter + 1 + queue);
             low = low.min(mark.saturating_sub(1));

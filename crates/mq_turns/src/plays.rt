@@ -20,12 +20,12 @@ impl<E> Told<E> for Brand {
 }
 
 /// The notice that a step gives. Each call picks it.
-pub(crate) trait Gives<P> {
-    ghost given: { Option (Notice P) };
+pub(crate) trait Notifies<P> {
+    ghost notice: { Option (Notice P) };
 }
 
-impl<P> Gives<P> for Brand {
-    ghost given = { None };
+impl<P> Notifies<P> for Brand {
+    ghost notice = { None };
 }
 
 /// A turn's word becomes 1: the turn is taken, with its slot, where the word was 0.
@@ -112,13 +112,13 @@ impl<M: Machine> Play<Option<Item<M>>, Knows<M>> for Raise<M> {
     ghost then = { raised_to M.meaning };
 }
 
-/// The counter is read, and a notice given.
-pub(crate) struct Give<M, N> {
+/// The counter is read, and a notice is given.
+pub(crate) struct Notify<M, N> {
     machine: PhantomData<(M, N)>,
 }
 
-impl<M: Machine, N: Gives<M::Page>> Play<Option<Item<M>>, Knows<M>> for Give<M, N> {
-    ghost then = { λ st me n after. (x : Notice M.Page) → N.given ≡ Some x → noticed M.meaning x st me n after };
+impl<M: Machine, N: Notifies<M::Page>> Play<Option<Item<M>>, Knows<M>> for Notify<M, N> {
+    ghost then = { λ st me n after. (x : Notice M.Page) → N.notice ≡ Some x → noticed M.meaning x st me n after };
 }
 
 /// A chair is set apart.

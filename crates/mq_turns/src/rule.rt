@@ -20,14 +20,23 @@ pub struct Known<P, Q, R, E> {
     pub opening: Opening<P, Q, R>,
     /// The entries drawn, the newest first. The first that was drawn has the number after the base.
     pub log: LinkedList<E>,
-    /// Queues, each with a number up to which its entries are done, and with its mark from then on.
-    pub claims: LinkedList<(QueueNo, u64, u64)>,
+    /// What each store of a mark made known, the newest first.
+    pub claims: LinkedList<Claim>,
     /// Home writes that ended: the block, and the number whose content it got.
     pub ended: LinkedList<(BlockNo, u64)>,
     /// The base word.
     pub word: u64,
     /// Faults of ports that were answered as refusals.
     pub charges: LinkedList<Charge>,
+}
+
+/// What the store of a queue's mark makes known. Proofs alone have one.
+pub struct Claim {
+    pub queue: QueueNo,
+    /// The queue's numbers up to this one are done.
+    pub up_to: u64,
+    /// The queue's mark from then on.
+    pub mark: u64,
 }
 
 /// A fault, as a refusal names it.
@@ -62,7 +71,7 @@ pub struct Reading<P, Q, R, E> {
     /// The greatest base that it knows of.
     pub base: u64,
     /// Pages that it noted, with what was known then, the newest first.
-    pub gave: LinkedList<(u64, P, Known<P, Q, R, E>)>,
+    pub pages: LinkedList<(BlockNo, P, Known<P, Q, R, E>)>,
     /// Faults that it answered as refusals.
     pub charged: LinkedList<Charge>,
 }

@@ -9,7 +9,7 @@ ghost use Rattle.mq_turns.specs.declared.rule.Notice.TheVariants as notice;
 ghost use Rattle.mq_turns.specs.declared.turn.Turn.TheVariants.{Side, Root};
 
 use crate::machine::Machine;
-use crate::plays::{Clear, Give, Gives, Peek, Raise, ReadBase};
+use crate::plays::{Clear, Notifies, Notify, Peek, Raise, ReadBase};
 use crate::rule::Charge;
 use crate::steps::{Place, Top};
 use mq_blocks::{BlockNo, TxNo};
@@ -56,8 +56,8 @@ pub(crate) fn raise<M: Machine>(top: &Top<M>, place: &mut Place<M>, word: usize,
     top.store::<Raise<M>>(place, word, new);
 }
 
-/// Notes that a home write of the block ended, with the content of the number. Each call picks what is given.
-pub(crate) fn note_home<M: Machine, N: Gives<M::Page>>(
+/// Notes that a home write of the block ended, with the content of the number. Each call picks the notice.
+pub(crate) fn note_home<M: Machine, N: Notifies<M::Page>>(
     top: &Top<M>,
     place: &mut Place<M>,
     word: usize,
@@ -66,17 +66,17 @@ pub(crate) fn note_home<M: Machine, N: Gives<M::Page>>(
 )
     requires table { (place.old.table_id ≡ top.now.table_id) × (word < top.now.table_id.words) × (0 < place.old.me.0.parts) × (top.now.table_id.slots ≡ slots (opening_of top.now.key)) }
     requires may { MayNote M.meaning (notice.Home block number) place.old.me.0 }
-    requires given { N.given ≡ Some (notice.Home block number) }
+    requires notice { N.notice ≡ Some (notice.Home block number) }
     ensures seat { (place.new.table_id ≡ place.old.table_id) × (place.new.id ≡ place.old.id) }
     ensures noted { (K : Known M.Page M.Side M.Root M.Entry) × (place.new.me ≡ (after_notice M.meaning (notice.Home block number) K place.old.me.0, place.old.me.1)) × Sees M.meaning place.old.me.0 K }
 {
     let _ = block;
     let _ = number;
-    top.load::<Give<M, N>>(place, word);
+    top.load::<Notify<M, N>>(place, word);
 }
 
-/// Notes what the page is. Each call picks what is given.
-pub(crate) fn note_page<M: Machine, N: Gives<M::Page>>(
+/// Notes what the page is. Each call picks the notice.
+pub(crate) fn note_page<M: Machine, N: Notifies<M::Page>>(
     top: &Top<M>,
     place: &mut Place<M>,
     word: usize,
@@ -85,17 +85,17 @@ pub(crate) fn note_page<M: Machine, N: Gives<M::Page>>(
 )
     requires table { (place.old.table_id ≡ top.now.table_id) × (word < top.now.table_id.words) × (0 < place.old.me.0.parts) × (top.now.table_id.slots ≡ slots (opening_of top.now.key)) }
     requires may { MayNote M.meaning (notice.Page block page.now) place.old.me.0 }
-    requires given { N.given ≡ Some (notice.Page block page.now) }
+    requires notice { N.notice ≡ Some (notice.Page block page.now) }
     ensures seat { (place.new.table_id ≡ place.old.table_id) × (place.new.id ≡ place.old.id) }
     ensures noted { (K : Known M.Page M.Side M.Root M.Entry) × (place.new.me ≡ (after_notice M.meaning (notice.Page block page.now) K place.old.me.0, place.old.me.1)) × Sees M.meaning place.old.me.0 K }
 {
     let _ = block;
     let _ = page;
-    top.load::<Give<M, N>>(place, word);
+    top.load::<Notify<M, N>>(place, word);
 }
 
-/// Charges a fault of a port. Each call picks what is given.
-pub(crate) fn charge<M: Machine, N: Gives<M::Page>>(
+/// Charges a fault of a port. Each call picks the notice.
+pub(crate) fn charge<M: Machine, N: Notifies<M::Page>>(
     top: &Top<M>,
     place: &mut Place<M>,
     word: usize,
@@ -103,10 +103,10 @@ pub(crate) fn charge<M: Machine, N: Gives<M::Page>>(
 )
     requires table { (place.old.table_id ≡ top.now.table_id) × (word < top.now.table_id.words) × (0 < place.old.me.0.parts) × (top.now.table_id.slots ≡ slots (opening_of top.now.key)) }
     requires may { MayNote M.meaning (notice.Charge charge.now) place.old.me.0 }
-    requires given { N.given ≡ Some (notice.Charge charge.now) }
+    requires notice { N.notice ≡ Some (notice.Charge charge.now) }
     ensures seat { (place.new.table_id ≡ place.old.table_id) × (place.new.id ≡ place.old.id) }
     ensures noted { (K : Known M.Page M.Side M.Root M.Entry) × (place.new.me ≡ (after_notice M.meaning (notice.Charge charge.now) K place.old.me.0, place.old.me.1)) × Sees M.meaning place.old.me.0 K }
 {
     let _ = charge;
-    top.load::<Give<M, N>>(place, word);
+    top.load::<Notify<M, N>>(place, word);
 }

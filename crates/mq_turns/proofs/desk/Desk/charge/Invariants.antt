@@ -3,4 +3,4 @@ use Rattle.mq_turns.specs.declared.rule.Notice.TheVariants as notice
 use Rattle.mq_turns.proofs.desk.Desk.charge.Given as goal
 
 abbrev pub ghosts-charge : goal.ghosts-charge
-ghosts-charge g a = record { given = Some (notice.Charge a.charge.now) }
+ghosts-charge g a = record { notice = Some (notice.Charge a.charge.now) }
