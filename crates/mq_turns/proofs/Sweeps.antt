@@ -40,13 +40,13 @@ least_le n (m ∷ ms) = let ih = least_le n ms in omega arith
 
 module _ {P Q R E : Type 0} (μ : Meaning P Q R E) where
   -- the counter is read
-  pub sweep_begins : (queues n : ℕ) (K : Known P Q R E) (v w : View P Q R E) → w ≡ record v { seen = newest K } → newest K ≡ n → Sees μ v K → Below n v → Sweeping μ queues 0 n v w
-  sweep_begins queues n K v w is counter s below = record {
+  pub sweep_begins : (queues n : ℕ) (v w : View P Q R E) → w ≡ record v { seen = n } → (K : Known P Q R E) × (newest K ≡ n) × Sees μ v K → Below n v → Sweeping μ queues 0 n v w
+  sweep_begins queues n v w is known below = record {
     counter = n;
     marks = [];
     reading = v.reading;
-    is = is ∙ ap (λ m. record v { seen = m }) counter;
-    counted = (K, counter, s);
+    is = is;
+    counted = known;
     below = below;
     read = (refl, tt);
     low_is = refl;

@@ -37,7 +37,7 @@ impl<M: Machine> Desk<M> {
         ensures front { AfterFront M.meaning (start_of self.now) result (view chair.old) (view chair.new) }
     {
         let counter = self.table.slot_count();
-        let mut low = steps::look(&self.table.shared, &mut chair.place, counter, None);
+        let mut low = steps::count(&self.table.shared, &mut chair.place, counter);
         for queue in 0..self.sides as usize {
             let mark = words::peek(&self.table.shared, &mut chair.place, counter + 1 + queue);
             low = low.min(mark.saturating_sub(1));

@@ -111,6 +111,7 @@ pub(crate) fn count<M: Machine>(top: &Top<M>, place: &mut Place<M>, counter: usi
     requires table { (place.old.table_id ≡ top.now.table_id) × (counter ≡ top.now.table_id.slots) × (counter < top.now.table_id.words) × (0 < place.old.me.0.parts) }
     ensures seat { (place.new.table_id ≡ place.old.table_id) × (place.new.id ≡ place.old.id) }
     ensures counted { place.new.me ≡ (record place.old.me.0 { seen = result }, place.old.me.1) }
+    ensures known { (K : Known M.Page M.Side M.Root M.Entry) × (newest K ≡ result) × Sees M.meaning place.old.me.0 K }
     ensures below { Below result place.old.me.0 }
     ensures order { place.old.me.0.parts ≡ 1 → IsInOrder M.meaning place.new.me.0 }
 {
