@@ -97,6 +97,7 @@ module _ {M P Q R E : Type 0} (μ : Meaning P Q R E) (o : Opening P Q R) (chairs
     pub opening : known.opening ≡ o
     pub ok : μ.ok known
     pub counter : get_or ws (length xs) 0 ≡ newest known
+    pub word : get_or ws (suc (length xs + length o.sides)) 0 ≡ known.word
     pub home : (k : ℕ) → k < length xs → (x : Item M P Q R E) × (get_elem? xs k ≡ some (Some x)) × Stands μ (turn_at o k) known x
     pub once : (n : ℕ) → known.opening.base < n → n ≤ newest known → times n v.drawn ≡ 1
     pub drawer : Drawer μ (allotment chairs) known v
@@ -110,6 +111,7 @@ module _ {M P Q R E : Type 0} (μ : Meaning P Q R E) (o : Opening P Q R) (chairs
       let r = rk.2 in
       let n = rk.3 in
       let at = seen.1 in
+      let sides : length rk.0.opening.sides ≡ length o.sides = ap (λ p. length p.sides) rk.1 in
       let none_else : (j : ℕ) (u : View P Q R E) → j ≢ id → get_elem? s.views j ≡ some u → u.parts ≡ 0 = λ j u ne t. (let two = total_two (λ x. x.parts) s.views id j v u at t ne in let w = n.whole in omega arith) in
       let all_free : (k : ℕ) → holders k s.views ≡ 0 = λ k. total_zero (λ u. times k u.held) s.views (λ j u t. dite (ℕ_discrete j id)
       (λ e. let same : v ≡ u = some-injective v u (sym at ∙ (ap (get_elem? s.views) (sym e) ∙ t)) in ap (λ (z : View P Q R E). times k z.held) (sym same) ∙ ap (times k) none_held)
@@ -118,6 +120,7 @@ module _ {M P Q R E : Type 0} (μ : Meaning P Q R E) (o : Opening P Q R) (chairs
         opening = rk.1;
         ok = r.ok;
         counter = (λ i. get_or (sym words i) (sym deep i) 0) ∙ n.counter;
+        word = (λ i. get_or (sym words i) (suc (sym deep i + sym sides i)) 0) ∙ rk.4.base;
         home = λ k lt. let h = (r.each_turn k (omega arith)).home (all_free k) in (h.0, home k (Some h.0) h.1, h.2);
         once = λ m lo hi. sym (total_only (λ u. times m u.drawn) s.views id v at (λ j u ne t. times_of_none m u.drawn (none_drawn u.parts (length u.drawn) (allotment chairs) (none_else j u ne t) (n.each_chair j u t).few))) ∙ n.once m lo hi;
         drawer = n.each_chair id v at;
@@ -169,16 +172,17 @@ module _ {M P Q R E : Type 0} (μ : Meaning P Q R E) (o : Opening P Q R) (chairs
         let one : y.0 ≡ x = cc in
         stands_at t k h.known x e (subst (Stands μ (turn_at o k) h.known) one y.2)
 
-    pub ended : (views : List (View P Q R E)) (pages : List P) (sides : List Q) (root : R) (count next : ℕ) → count ≡ length xs → get_elem? ws count ≡ some next
+    pub ended : (views : List (View P Q R E)) (pages : List P) (sides : List Q) (root : R) (count next base : ℕ) → count ≡ length xs → get_elem? ws count ≡ some next → get_elem? ws (suc (count + length o.sides)) ≡ some base
         → length pages ≡ length o.pages → ArePages xs pages → length sides ≡ length o.sides → AreSides (length o.pages) xs sides → IsRoot (length o.pages + length o.sides) xs root
-        → v.drawn ≡ drawn_of views → v.read ≡ read_of views → Each (IsInOrder μ) views → v.reading.charged ≡ charged_of views → Each (λ u. u.reading.done ≤ v.reading.done) views → Ended μ o views pages sides root next
-    ended views pages sides root count next len at all_pages are_pages all_sides are_sides is_root drew read ordered charged done =
+        → v.drawn ≡ drawn_of views → v.read ≡ read_of views → Each (IsInOrder μ) views → v.reading.charged ≡ charged_of views → Each (λ u. u.reading.done ≤ v.reading.done) views → Ended μ o views pages sides root next base
+    ended views pages sides root count next base len at base_at all_pages are_pages all_sides are_sides is_root drew read ordered charged done =
         let is : next ≡ newest h.known = sym (get_at ws count next at) ∙ (ap (λ i. get_or ws i 0) len ∙ h.counter) in
-        let base : h.known.opening.base ≡ o.base = ap (λ p. p.base) h.opening in record {
+        let first : h.known.opening.base ≡ o.base = ap (λ p. p.base) h.opening in record {
           known = h.known;
           opening = h.opening;
           ok = h.ok;
           next_is = is;
+          base_is = sym (get_at ws (suc (count + length o.sides)) base base_at) ∙ (ap (λ i. get_or ws (suc (i + length o.sides)) 0) len ∙ h.word);
           all_pages = all_pages;
           pages_stand = λ b x there. let lt : b < length o.pages = let z = slice_get_within pages b x there in omega arith in at_home (Page b) b (item.Page x) (omega arith) (page_at o b lt) (are_pages b x there);
           all_sides = all_sides;

@@ -27,11 +27,12 @@ module _ {P Q R E : Type 0} (μ : Meaning P Q R E) where
 
   -- What a desk that has ended shows: there is one history, which is legal. The values are what it says, each number is one
   -- draw of a chair, what the chairs read was the machine's at its number, and along each chair's groups the numbers are in order.
-  pub record Ended (o : Opening P Q R) (views : List (View P Q R E)) (pages : List P) (sides : List Q) (root : R) (next : ℕ) : Type 0 where
+  pub record Ended (o : Opening P Q R) (views : List (View P Q R E)) (pages : List P) (sides : List Q) (root : R) (next base : ℕ) : Type 0 where
     pub known : Known P Q R E
     pub opening : known.opening ≡ o
     pub ok : μ.ok known
     pub next_is : next ≡ newest known
+    pub base_is : base ≡ known.word
     pub all_pages : length pages ≡ length o.pages
     pub pages_stand : (b : ℕ) (x : P) → slice_get pages b ≡ Some x → μ.page b known x
     pub all_sides : length sides ≡ length o.sides

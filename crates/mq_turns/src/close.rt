@@ -22,8 +22,9 @@ pub struct Parts<M: Machine> {
     pub pages: Vec<M::Page>,
     pub sides: Vec<M::Side>,
     pub root: M::Root,
-    /// The last number drawn, or the base.
+    /// The last number drawn, or the base at the opening.
     pub next: TxNo,
+    /// The base, as the last `raise` left it.
     pub base: TxNo,
 }
 
@@ -148,8 +149,7 @@ impl<M: Machine> Desk<M> {
     pub fn into_parts(self, alloc: Global, chairs: Vec<Chair<M>>) -> Result<Parts<M>, Unended<M>>
         requires theirs { All (λ ch. AtDesk self ch × ((view ch).held ≡ [])) chairs.items }
         requires all { length chairs.items ≡ chairs_of self }
-        ensures ok { IfOk result (λ p. Ended M.meaning (start_of self) (map (λ ch. view ch) chairs.items) p.pages.items p.sides.items p.root p.next) }
-        ensures base { IfOk result (λ p. p.base ≡ (start_of self).base) }
+        ensures ok { IfOk result (λ p. Ended M.meaning (start_of self) (map (λ ch. view ch) chairs.items) p.pages.items p.sides.items p.root p.next p.base) }
         ensures err { IfErr result (λ e. (e.0 ≡ self) × (e.1 ≡ chairs)) }
     {
         let Ok(pages) = Vec::with_capacity(alloc, self.pages as usize) else {
@@ -160,13 +160,13 @@ impl<M: Machine> Desk<M> {
             return Err((self, chairs, OutOfMemory));
         };
         let one = gather(&self.table.shared, self.table.slot_count(), chairs);
-        let base = self.base;
         let page_count = self.pages as usize;
         let side_count = self.sides as usize;
         let Desk { table, .. } = self;
         let mut closed = table.close_with(one);
         let last = page_count + side_count;
-        let next = TxNo(closed.word(last + 1));
+        let next = closed.word(last + 1);
+        let base = closed.word(last + side_count + 2);
         let pages = unload_pages(&mut closed, page_count, pages);
         let sides = unload_sides(&mut closed, page_count, side_count, sides);
         let root = unload_root(closed, last);
@@ -174,8 +174,8 @@ impl<M: Machine> Desk<M> {
             pages,
             sides,
             root,
-            next,
-            base,
+            next: TxNo(next),
+            base: TxNo(base),
         })
     }
 }

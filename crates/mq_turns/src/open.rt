@@ -156,7 +156,6 @@ impl<M: Machine> Desk<M> {
             table,
             pages: page_count as u32,
             sides: side_count as u32,
-            base,
         };
         Ok((desk, list))
     }
