@@ -110,12 +110,12 @@ module _ {E Q : Type 0} (queue session group : E → ℕ) (state : Q → ℕ) (o
   index_map (y ∷ ys) zero x e = let same : y ≡ x = cc in ap state same
   index_map (y ∷ ys) (suc i) x e = index_map ys i x e
 
-  pub count_starts : Starts (counting queue session group state) o
-  count_starts = record {
+  pub count_starts : o.root ≡ o.base → Starts (counting queue session group state) o
+  count_starts root = record {
     ok = tt;
     pages = λ b x e. tt;
     sides = λ q x e. let i = index_map o.sides q x e in let z : slice_index_or (map state o.sides) q 0 + 0 ≡ state x = omega arith in ap (λ m. m % 18446744073709551616) (sym z);
-    root = tt;
+    root = root;
   }
 
   pub follows_fresh : (e : E) (i : ℕ) (v : View ℕ Q ℕ E) → v ≡ fresh o i → session e ≡ i → Follows (counting queue session group state) e v

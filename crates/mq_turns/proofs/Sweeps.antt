@@ -3,14 +3,15 @@ use Rattle.std.proofs.Common.{◌≡◌, ℕ, suc, ◌+◌, ◌-◌, ◌<◌, �
 use Rattle.std.proofs.lemmas.Bool.{cases_Bool, eq-eqb, eqb-true, eqb-false, leb-false}
 use Rattle.mq_turns.specs.Lists.{Each}
 use Rattle.mq_turns.specs.Meaning.{Meaning, Grows, newest}
-use Rattle.mq_turns.specs.Marks.{mark_of, queues_of, passed, shown, Reader}
-use Rattle.mq_turns.specs.Words.{after_peek}
+use Rattle.mq_turns.specs.Marks.{mark_of, queues_of, passed, shown, DoneTo, Reader}
+use Rattle.mq_turns.specs.Words.{after_peek, after_clear}
 use Rattle.mq_turns.specs.Desk.{Sees, Below}
-use Rattle.mq_turns.specs.Swept.{after_count, least_below, AreMarks, Sweeping, AfterFront}
+use Rattle.mq_turns.specs.Swept.{after_count, least_below, HasPassed, Sweeping, AfterFront}
 use Rattle.mq_turns.specs.declared.rule.Opening.{Opening}
 use Rattle.mq_turns.specs.declared.rule.Known.{Known}
 use Rattle.mq_turns.specs.declared.rule.Reading.{Reading}
 use Rattle.mq_turns.specs.declared.rule.View.{View}
+use Rattle.mq_turns.proofs.Seen.{opening_seen}
 
 module _ {P Q R E : Type 0} where
   pub record Passing (queues q low n : ℕ) (r t : Reading P Q R E) : Type 0 where
@@ -34,6 +35,9 @@ module _ {P Q R E : Type 0} where
         rw (later, eq-eqb q r.swept (sym b.0)) (passing queues q low (min r.low (min n m)) n r (omega arith))
   ]
 
+pub none_passed : {P Q R E : Type 0} (queues n : ℕ) (r : Reading P Q R E) → HasPassed queues 0 n r
+none_passed queues n r = record { passed = λ lt. absurd (omega arith); ended = λ lt. absurd (omega arith) }
+
 pub least_le : (n : ℕ) (ms : List ℕ) → least_below n ms ≤ n
 least_le n [] = omega arith
 least_le n (m ∷ ms) = let ih = least_le n ms in omega arith
@@ -51,9 +55,17 @@ module _ {P Q R E : Type 0} (μ : Meaning P Q R E) where
     read = (refl, tt);
     low_is = refl;
     kept = (omega arith, refl, refl, refl);
-    passed = λ lt. absurd (omega arith);
-    ended = λ lt. absurd (omega arith);
+    passes = none_passed queues n v.reading;
   }
+
+  -- all queues are passed
+  pub passed_done : (o : Opening P Q R) (n : ℕ) (v : View P Q R E) → v.opening ≡ Some o → HasPassed (length o.sides) (length o.sides) n v.reading → (K : Known P Q R E) → Sees μ v K → DoneTo μ n K
+  passed_done o n v start z K s m e at le =
+      let own = s.marked.own m e at in
+      let same : K.opening ≡ o = opening_seen μ o K v start s in
+      let sides : length K.opening.sides ≡ length o.sides = ap (λ p. length p.sides) same in
+      let high = z.ended (omega arith) (omega arith) in
+      s.reader.done m e at (omega arith)
 
   -- what the chair sees at a mark is to be seen by what it was before, but for its sweep
   before_sweep : (queues q low : ℕ) (K : Known P Q R E) (v w : View P Q R E) → Sees μ w K → (z : Sweeping μ queues q low v w) → Sees μ (after_count z.counter v) K
@@ -88,7 +100,7 @@ module _ {P Q R E : Type 0} (μ : Meaning P Q R E) where
       let high : z.counter ≤ newest K = let a = s.seen in let b = ap (λ (u : View P Q R E). u.seen) z.is in omega arith in
       let least = z.low_is in
       let le = least_le z.counter z.marks in
-      let p = shows_next (length o.sides) q low (mark - 1) (newest K) r (omega arith) z.passed in
+      let p = shows_next (length o.sides) q low (mark - 1) (newest K) r (omega arith) z.passes.passed in
       let kept = p.kept in
       let was = z.kept in
       let many : length z.marks ≡ q = z.read.0 in
@@ -102,20 +114,24 @@ module _ {P Q R E : Type 0} (μ : Meaning P Q R E) where
         read = (ap suc many, ((K, ap (λ i. mark_of i K.claims) many ∙ read, before_sweep (length o.sides) q low K v w s z), z.read.1));
         low_is = ap (λ m. min m (mark - 1)) least;
         kept = (omega arith, kept.1 ∙ was.1, kept.2 ∙ was.2, kept.3 ∙ was.3);
-        passed = λ lt. (p.swept, p.low_is);
-        ended = λ lt all. p.ended all;
+        passes = record { passed = λ lt. (p.swept, p.low_is); ended = λ lt all. p.ended all };
       }
 
   -- all marks are read
   pub sweep_ends : (o : Opening P Q R) (low : ℕ) (v w : View P Q R E) → v.opening ≡ Some o → Sweeping μ (length o.sides) (length o.sides) low v w → AfterFront μ o low v w
   sweep_ends o low v w start z = record {
     sweep = z;
-    done = λ K s m e at le.
-        let own = s.marked.own m e at in
-        let now : Some K.opening ≡ Some o = sym s.opening ∙ (ap (λ (u : View P Q R E). u.opening) z.is ∙ start) in
-        let same : K.opening ≡ o = cc in
-        let sides : length K.opening.sides ≡ length o.sides = ap (λ p. length p.sides) same in
-        let high = z.ended (omega arith) (omega arith) in
-        let done = ap (λ (u : View P Q R E). u.reading.done) z.is in
-        s.reader.done m e at (omega arith);
+    done = passed_done o low w (ap (λ (u : View P Q R E). u.opening) z.is ∙ start) (subst (λ (u : View P Q R E). HasPassed (length o.sides) (length o.sides) low u.reading) (sym z.is) z.passes);
   }
+
+  -- one queue more is cleared, with a mark above n, by a chair that has seen n
+  pub clear_passes : (o : Opening P Q R) (q low n : ℕ) (K : Known P Q R E) (v w : View P Q R E) → v.opening ≡ Some o → w ≡ after_clear q low K v → Sees μ v K → n < low → n ≤ v.seen → HasPassed (length o.sides) q n v.reading
+      → HasPassed (length o.sides) (suc q) n w.reading
+  clear_passes o q low n K v w start is s above high z =
+      let last = s.seen in
+      let p = shows_next (length o.sides) q n (low - 1) (newest K) v.reading (omega arith) z.passed in
+      let most = p.low_is in
+      subst (HasPassed (length o.sides) (suc q) n) (sym (ap (λ (u : View P Q R E). u.reading) is ∙ ap (λ c. shown (queues_of c) q (min (low - 1) (newest K)) v.reading) start)) record {
+        passed = λ lt. (p.swept, omega arith);
+        ended = λ lt all. let e = p.ended all in omega arith;
+      }

@@ -18,6 +18,12 @@ module _ {P Q R E : Type 0} where
   abbrev pub after_count : ℕ → View P Q R E → View P Q R E
   after_count n v = record v { seen = n; reading = record v.reading { swept = 0; low = 0 } }
 
+  -- a sweep over so many queues has passed the first q of them, whose numbers up to n are done; behind the last queue all numbers
+  -- up to n are
+  pub record HasPassed (queues q n : ℕ) (r : Reading P Q R E) : Type 0 where
+    pub passed : 0 < q → (r.swept ≡ q) × (n ≤ r.low)
+    pub ended : 0 < q → queues ≤ q → n ≤ r.done
+
 module _ {P Q R E : Type 0} (μ : Meaning P Q R E) where
   -- these are marks of the first queues, the last one's first, as each was at some time after the chair had read n
   abbrev pub AreMarks : ℕ → View P Q R E → List ℕ → Type 0
@@ -36,8 +42,7 @@ module _ {P Q R E : Type 0} (μ : Meaning P Q R E) where
     pub read : (length marks ≡ q) × AreMarks counter v marks
     pub low_is : low ≡ least_below counter marks
     pub kept : (v.reading.done ≤ reading.done) × (reading.base ≡ v.reading.base) × (reading.pages ≡ v.reading.pages) × (reading.charged ≡ v.reading.charged)
-    pub passed : 0 < q → (reading.swept ≡ q) × (low ≤ reading.low)
-    pub ended : 0 < q → queues ≤ q → low ≤ reading.done
+    pub passes : HasPassed queues q low reading
 
   -- The chair has read the counter and then each mark. The front is the least of the counter and the numbers just below the
   -- marks, and the chair knows that all numbers up to it are done. Nothing else has changed.

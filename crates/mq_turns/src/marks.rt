@@ -16,8 +16,9 @@ use crate::{steps, words};
 use mq_blocks::{QueueNo, TxNo};
 
 impl<M: Machine> Desk<M> {
-    /// Stores a queue's mark, and makes known that its numbers below it are done. That is to be so
-    /// when the queue's side is given back.
+    /// Stores the mark of a queue whose side the chair holds. All chairs know then that the queue's
+    /// numbers below it are done, and the side has to show it by the time that it is given back.
+    /// `u64::MAX` says that none of the queue's numbers is undone.
     pub fn clear(&self, chair: &mut Chair<M>, queue: QueueNo, low: u64)
         requires at { AtDesk self.now chair.old }
         requires side { IsTurn (start_of self.now) (Side queue) × (0 < times (slot_of (start_of self.now) (Side queue)) (view chair.old).held) }
@@ -45,7 +46,7 @@ impl<M: Machine> Desk<M> {
         TxNo(low)
     }
 
-    /// The base: it is not below any base that the chair read.
+    /// The base: one load.
     pub fn base(&self, chair: &mut Chair<M>) -> TxNo
         requires at { AtDesk self.now chair.old }
         ensures at { AtDesk self.now chair.new }
@@ -57,7 +58,7 @@ impl<M: Machine> Desk<M> {
         TxNo(words::base(&self.table.shared, &mut chair.place, word))
     }
 
-    /// Raises the base. The chair holds the root.
+    /// Stores the base. The chair holds the root, whose own base was raised before.
     pub fn raise(&self, chair: &mut Chair<M>, base: TxNo)
         requires at { AtDesk self.now chair.old }
         requires root { 0 < times (slot_of (start_of self.now) Root) (view chair.old).held }

@@ -14,7 +14,9 @@ use mq_blocks::{BlockNo, TxNo};
 use std::marker::Brand;
 
 impl<M: Machine> Desk<M> {
-    /// Notes that a home write of the block ended, with the content of the number.
+    /// Notes that a home write of the block ended, with the content of the number. The chair holds
+    /// the block's page and the port that wrote it. Nothing but a load happens: the note is for
+    /// proofs, and other chairs know of it from then on.
     pub fn note_home(&self, chair: &mut Chair<M>, block: BlockNo, number: TxNo)
         requires at { AtDesk self.now chair.old }
         requires may { MayNote M.meaning (notice.Home block number) (view chair.old) }
@@ -25,7 +27,8 @@ impl<M: Machine> Desk<M> {
         words::note_home::<M, Brand>(&self.table.shared, &mut chair.place, counter, block, number);
     }
 
-    /// Notes what the page is by all that is known now.
+    /// Notes what the page is by all that is known now, before it is given back. The chair keeps the
+    /// note. Nothing but a load happens.
     pub fn note_page(&self, chair: &mut Chair<M>, block: BlockNo, page: &M::Page)
         requires at { AtDesk self.now chair.old }
         requires may { MayNote M.meaning (notice.Page block page.now) (view chair.old) }
@@ -36,7 +39,8 @@ impl<M: Machine> Desk<M> {
         words::note_page::<M, Brand>(&self.table.shared, &mut chair.place, counter, block, page);
     }
 
-    /// Charges a refusal to a fault of a port that the chair holds.
+    /// Charges a refusal that the chair answers to a fault of a port that it holds. The port has to
+    /// show a fault for each charge by the time that it is given back. Nothing but a load happens.
     pub fn charge(&self, chair: &mut Chair<M>, charge: &Charge)
         requires at { AtDesk self.now chair.old }
         requires may { MayNote M.meaning (notice.Charge charge.now) (view chair.old) }
