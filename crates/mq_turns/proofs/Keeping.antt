@@ -19,7 +19,7 @@ use Rattle.mq_turns.specs.declared.turn.Item.{Item}
 use Rattle.mq_turns.proofs.Totals.{each_map}
 use Rattle.mq_turns.proofs.Growth.{stays_drawn, grows_now, grows_drawn}
 use Rattle.mq_turns.proofs.Turns.{Change, Homes, turns_look, turns_change, turns_take, turns_settle, turns_reach, turns_free, away_empty}
-use Rattle.mq_turns.proofs.Numbers.{numbers_stay, numbers_look, numbers_draw, room_left, below_newest}
+use Rattle.mq_turns.proofs.Numbers.{newest_few, numbers_stay, numbers_look, numbers_draw, room_left, below_newest}
 use Rattle.mq_turns.proofs.Claims.{marked_drawn}
 use Rattle.mq_turns.proofs.Readings.{words_same, words_stay}
 use Rattle.mq_turns.proofs.Order.{order_draw, order_look}
@@ -47,6 +47,7 @@ module _ {M P Q R E : Type 0} (μ : Meaning P Q R E) (o : Opening P Q R) (chairs
       record {
         opening = d.opening (λ e. omega arith);
         ok = r.ok;
+        few = newest_few μ chairs K s n;
         held = subst F (sym is) (each_map _ _ (λ h a. (a.1, a.2)) v.held c.held);
         seen = d.seen;
         drew = d.drew;

@@ -78,6 +78,7 @@ module _ {P Q R E : Type 0} (μ : Meaning P Q R E) where
       record {
         opening = s.opening;
         ok = s.ok;
+        few = s.few;
         held = s.held;
         seen = s.seen;
         drew = s.drew;

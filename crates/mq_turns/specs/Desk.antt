@@ -145,6 +145,7 @@ module _ {P Q R E : Type 0} (μ : Meaning P Q R E) where
   pub record Sees (v : View P Q R E) (K : Known P Q R E) : Type 0 where
     pub opening : v.opening ≡ Some K.opening
     pub ok : μ.ok K
+    pub few : newest K ≤ 9223372036854775808
     pub held : Each (λ h. μ.ok h.1 × Stay (turn_at K.opening h.0) h.1 K) v.held
     pub seen : v.seen ≤ newest K
     pub drew : Each (λ d. IsAt K.opening.base K.log d.0 d.1) v.drawn
