@@ -133,13 +133,13 @@ fn clear_all<P: Port, R: Wait>(
     ensures done { (K : Known ℕ (QueueSide P) ℕ Vote) → Sees (counting (λ (e : Vote). e.queue) (λ e. e.session) (λ e. e.group) (λ (q : QueueSide P). P.state q.port)) (view chair.new) K → DoneTo (counting (λ (e : Vote). e.queue) (λ e. e.session) (λ e. e.group) (λ (q : QueueSide P). P.state q.port)) result K }
 {
     let last = desk.look(chair, None);
-    for queue in 0..sides {
-        let turn = Turn::Side(QueueNo(queue));
-        let Item::Side(side) = desk.take(rt, chair, turn) else {
+    for index in 0..sides {
+        let queue = QueueNo(index);
+        let Item::Side(side) = desk.take(rt, chair, Turn::Side(queue)) else {
             unreachable!()
         };
-        desk.clear(chair, QueueNo(queue), u64::MAX);
-        desk.give_back(chair, turn, Item::Side(side));
+        desk.clear(chair, queue, u64::MAX);
+        desk.give_back(chair, Turn::Side(queue), Item::Side(side));
     }
     last
 }
