@@ -139,5 +139,5 @@ module _ {E Q : Type 0} (queue session group : E → ℕ) (state : Q → ℕ) (o
   root_raised M base L K w is sees seen =
       let now : (raised base L).opening ≡ o = opening_seen ν o L v opening sees in
       let about : same_turn Root (turn_at (raised base L).opening (slot_of o Root)) ≡ true = ap (λ p. same_turn Root (turn_at p (slot_of o Root))) now ∙ ap (same_turn Root) (turn_at_slot o Root tt) in
-      stands_renewed ν (λ k. same_turn Root (turn_at (raised base L).opening k)) (raised base L) K v w Root (slot_of o Root) (item.Root base)
+      stands_renewed {M = M} ν (λ k. same_turn Root (turn_at (raised base L).opening k)) (raised base L) K v w Root (slot_of o Root) (item.Root base)
       (ap (λ (u : View ℕ Q ℕ E). u.held) is) about root_held (turn_seen ν o K w Root (ap (λ (u : View ℕ Q ℕ E). u.opening) is ∙ opening) seen tt) seen refl
