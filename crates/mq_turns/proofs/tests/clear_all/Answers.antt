@@ -1,4 +1,5 @@
 use Rattle.std.proofs.Common.{rules, arith, ◌≡◌, ◌≤◌, ◌<◌, ◌+◌, ◌∙◌, suc, ap, sym, subst, length, ℕ}
+use Rattle.mq_turns.specs.Counting.{counting}
 use Rattle.mq_turns.specs.Swept.{HasPassed}
 use Rattle.mq_turns.specs.AtDesk.{view, start_of}
 use Rattle.mq_turns.proofs.Counting.{side_taken, side_cleared, side_stands}
@@ -37,7 +38,7 @@ loop-index-preserved g c =
     let most = i.last.1 in
     let next : suc c.loop-index.index ≡ c.loop-index.index + 1 = omega arith in
     let was = subst (HasPassed (length (start_of c.args.desk.now).sides) c.loop-index.index c.look-last.result) (sym (ap (λ v. v.reading) took)) i.passed in
-    let all = clear_passes g.M.Machine.meaning (start_of c.args.desk.now) c.loop-index.index 18446744073709551615 c.look-last.result clear.0 (view c.take.new.chair) (view c.clear.new.chair) c.take.ensures.at.1 clear.1 clear.2 (omega arith) (omega arith) was in record {
+    let all = clear_passes (counting (λ e. e.queue) (λ e. e.session) (λ e. e.group) (λ q. g.P.Port.state q.port)) (start_of c.args.desk.now) c.loop-index.index 18446744073709551615 c.look-last.result clear.0 (view c.take.new.chair) (view c.clear.new.chair) c.take.ensures.at.1 clear.1 clear.2 (omega arith) (omega arith) was in record {
       at = c.give_back.ensures.at;
       idle = search rules;
       last = (omega arith, most);
