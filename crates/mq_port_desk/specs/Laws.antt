@@ -70,7 +70,7 @@ charged_apart : (g : Geometry) (t : Turn) (f : Fault → Bool) (l m : List Charg
 charged_apart g t f [] m a = refl
 charged_apart g t f (c ∷ cs) m a = elim (cases_Bool (same_turn t c.port)) [
   | inl mine ↦ absurd (a.0 (sym (turn_is t c.port mine)))
-  | inr other ↦ rw other (charged_apart g t f cs m a.1)
+  | inr other ↦ rw other (let ih = charged_apart g t f cs m a.1 in omega arith)
 ]
 
 same_port-same : (z : Option ℕ) → same_port z z ≡ true
