@@ -48,6 +48,7 @@ module _ {Q R E : Type 0} (side : Q → SideView) (root : R → PortState) (geom
     floor = is.floor;
     sound = is.sound;
     area = is.area;
+    charged = is.charged;
   }
 
   -- a claim of no number

@@ -14,6 +14,7 @@ use Rattle.mq_ledger.proofs.Values.{upto-past, last-changed, map_written}
 use Rattle.mq_ledger.proofs.Entries.{of_queue-own}
 use Rattle.mq_core.specs.Events as events
 use Rattle.mq_core.proofs.Growth.{front_low, side_drawn, side_extends}
+use Rattle.mq_drive.specs.Steps.{Fault}
 use Rattle.mq_pages.specs.declared.page.PageCell.{PageCell}
 use Rattle.mq_turns.specs.Chairs.{holding}
 use Rattle.mq_turns.specs.Desk.{IsTurn, slot_of, turn_at, Covers, Sees, Stands, Stay, after_draw, refreshed}
@@ -56,27 +57,27 @@ changes_one e b t = elim (cases_eq e.block b) [
   | inr other ↦ absurd (false≢true (rw (ne_eqb e.block b other) at t))
 ]
 
-module _ {P : Type 0} (state : P → PortState) where
+module _ {P : Type 0} (state : P → PortState) (faults : P → List Fault) where
   abbrev Shown : Type 0
   Shown = Shared PageCell (QueuePort P) (RootPort P) Commit
 
   abbrev μ : Rattle.mq_turns.specs.Meaning.Meaning PageCell (QueuePort P) (RootPort P) Commit
-  μ = ports state
+  μ = ports state faults
 
   abbrev core : Shown → KnownJournal
-  core = Ports.core_of (side_of state) (root_of state) shape_of tx_of
+  core = Ports.core_of (side_of state faults) (root_of state faults) shape_of tx_of
 
   abbrev next_tx : Commit → Shown → Tx
-  next_tx = Ports.next_tx (side_of state) (root_of state) shape_of tx_of
+  next_tx = Ports.next_tx (side_of state faults) (root_of state faults) shape_of tx_of
 
   abbrev start : Opening PageCell (QueuePort P) (RootPort P) → Rattle.mq_blocks.specs.Machine.Map
-  start = Ports.start_of (side_of state) (root_of state) shape_of tx_of
+  start = Ports.start_of (side_of state faults) (root_of state faults) shape_of tx_of
 
   abbrev hist : ℕ → List Commit → List Tx
-  hist = Ports.history (side_of state) (root_of state) shape_of tx_of
+  hist = Ports.history (side_of state faults) (root_of state faults) shape_of tx_of
 
   -- a side that stands below what is drawn on it, and has no room, was full
-  pub was_full : (q k : ℕ) (K1 K : Shown) (v u : View PageCell (QueuePort P) (RootPort P) Commit) (w : QueuePort P) → u ≡ holding k K1 v → Sees μ u K → μ.side q K w → (w.low ≤ w.end → HasRoom (side_of state w) → ⊥) → WasFull state q v
+  pub was_full : (q k : ℕ) (K1 K : Shown) (v u : View PageCell (QueuePort P) (RootPort P) Commit) (w : QueuePort P) → u ≡ holding k K1 v → Sees μ u K → μ.side q K w → (w.low ≤ w.end → HasRoom (side_of state faults w) → ⊥) → WasFull state faults q v
   was_full q k K1 K v u w took sees stands full = record {
     known = K;
     side = w;
@@ -87,7 +88,7 @@ module _ {P : Type 0} (state : P → PortState) where
 
   may_draw : (e : Commit) (K : Shown) → e.block < homes_of K.opening.root.geometry → e.queue < K.opening.root.geometry.queues → length e.content ≡ 4096 → newest K < 9223372036854775808 → μ.may e K
   may_draw e K block queue whole few =
-      let n = length_history (side_of state) (root_of state) shape_of tx_of K.opening.base K.log in
+      let n = length_history (side_of state faults) (root_of state faults) shape_of tx_of K.opening.base K.log in
       record {
         form = record {
           queue = queue;
@@ -112,7 +113,7 @@ module _ {P : Type 0} (state : P → PortState) where
 
   -- a mark of 1 claims nothing
   pub may_clear : (q : ℕ) (v : View PageCell (QueuePort P) (RootPort P) Commit) → MayClear μ q 1 v
-  may_clear q v K sees = ok_claimed (side_of state) (root_of state) shape_of tx_of (claim_of q 1 (newest K)) K sees.ok (omega arith)
+  may_clear q v K sees = ok_claimed (side_of state faults) (root_of state faults) shape_of tx_of (claim_of q 1 (newest K)) K sees.ok (omega arith)
 
   module _ (o : Opening PageCell (QueuePort P) (RootPort P)) (q b : ℕ) (page_turn : b < length o.pages) (side_turn : q < length o.sides) (v : View PageCell (QueuePort P) (RootPort P) Commit) (K K1 K2 : Shown) (opening : v.opening ≡ Some o) (held : v.held ≡ (length o.pages + q, K2) ∷ (b, K1) ∷ []) (sees : Sees μ v K) where
     abbrev pub L : Shown
@@ -138,7 +139,7 @@ module _ {P : Type 0} (state : P → PortState) where
         μ.side_along q K2 K w (subst (λ t. Stay μ t K2 K) turn all.0.1) all.0.0 sees.ok was
 
     pub side_cleared : (w : QueuePort P) → μ.side q K2 w → μ.side q L w
-    side_cleared w was = none_claimed (side_of state) (root_of state) shape_of tx_of (claim_of q 1 (newest K)) K w sees.ok (side_now w was) (omega arith)
+    side_cleared w was = none_claimed (side_of state faults) (root_of state faults) shape_of tx_of (claim_of q 1 (newest K)) K w sees.ok (side_now w was) (omega arith)
 
   -- a page that is held alone is what it was
   pub page_now : (o : Opening PageCell (QueuePort P) (RootPort P)) (b : ℕ) (v : View PageCell (QueuePort P) (RootPort P) Commit) (K K1 : Shown) (c : PageCell) → b < length o.pages → v.opening ≡ Some o → v.held ≡ (b, K1) ∷ [] → Sees μ v K → μ.page b K1 c → μ.page b K c
@@ -221,7 +222,7 @@ module _ {P : Type 0} (state : P → PortState) where
         above : K.word < t.number
         above = let n = may.number in let high = sees.ok.log.word_high in let low = front_low (core K) in omega arith
 
-        module _ (w : QueuePort P) (was : μ.side e.queue K2 w) (room : HasRoom (side_of state w)) where
+        module _ (w : QueuePort P) (was : μ.side e.queue K2 w) (room : HasRoom (side_of state faults w)) where
           now : μ.side e.queue K w
           now = μ.side_along e.queue K2 K w known.0.1 known.0.0 sees.ok was
 
@@ -278,6 +279,7 @@ module _ {P : Type 0} (state : P → PortState) where
                 floor = omega arith;
                 sound = side.sound;
                 area = side.area;
+                charged = side.charged;
               }
 
           -- the side, given back after the draw
