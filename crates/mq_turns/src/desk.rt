@@ -9,7 +9,8 @@ use crate::turn::Item;
 use atomic_table::Table;
 use std::alloc::Global;
 
-/// Pages, sides and a root, each under a turn, and the counter of numbers. Threads share it by `&`.
+/// Pages, sides and a root, each under a turn, the counter of numbers, a mark for each side, and the
+/// base. Threads share it by `&`.
 #[derive(Drop)]
 pub struct Desk<M: Machine> {
     pub(crate) table: Table<Option<Item<M>>, Knows<M>, Start<M>, Law<M>, Global>,

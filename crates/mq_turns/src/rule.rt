@@ -63,8 +63,9 @@ pub enum Notice<P> {
 
 /// What a chair read of marks and base, and what it noted. Proofs alone have one.
 pub struct Reading<P, Q, R, E> {
-    /// How many queues its sweep has passed, and up to which number their entries are done.
+    /// How many queues its sweep over the marks has passed.
     pub swept: u64,
+    /// Up to which number the entries of these queues are done.
     pub low: u64,
     /// Up to which number all entries are done, as it found at the end of a sweep.
     pub done: u64,
