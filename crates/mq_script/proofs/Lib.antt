@@ -1,0 +1,6 @@
+pub mod Cutting
+pub mod DataWords
+pub mod DigitWords
+pub mod Groups
+pub mod LineWords
+pub mod PathWords
