@@ -51,7 +51,7 @@ pub record PortState : Type 0 where
   -- the area's blocks and then the home blocks, as last completed; None is a block of zeros
   pub blocks : List (Option (List ℕ))
   -- whether a write of the block completed after each of its failed commands and begun home writes
-  pub sure : List Bool
+  pub certain : List Bool
   -- the home writes that have begun and not ended, in order
   pub begun : List HomeWrite
   -- how many there were: rings, home writes begun, and events other than those of home writes
@@ -133,12 +133,12 @@ after_ring s = record s {
 abbrev pub after_write : PortState → ℕ → List ℕ → PortState
 after_write s lba block = record s {
   blocks = slice_set s.blocks (index_of s lba) (Some block);
-  sure = slice_set s.sure (index_of s lba) true;
+  certain = slice_set s.certain (index_of s lba) true;
 }
 
 -- a block may hold anything until a later write of it completes
 abbrev pub after_doubt : PortState → ℕ → PortState
-after_doubt s lba = record s { sure = slice_set s.sure (index_of s lba) false }
+after_doubt s lba = record s { certain = slice_set s.certain (index_of s lba) false }
 
 -- the posted command at this index, which is c, has ended with success
 abbrev pub after_done : PortState → ℕ → Command → PortState
@@ -194,7 +194,7 @@ IsApartFrom s k (c ∷ cs) = (index_of s c.lba ≢ k) × IsApartFrom s k cs
 
 -- the block at this index holds what was last completed
 pub record IsCertain (s : PortState) (k : ℕ) : Type 0 where
-  pub sure : slice_index_or s.sure k false ≡ true
+  pub certain : slice_index_or s.certain k false ≡ true
   pub apart : IsApartFrom s k s.posted
 
 -- An image keeps all that is certain and chooses the rest: the bytes of a slot that was staged since
@@ -210,14 +210,14 @@ pub record IsImage (s : PortState) (i : PortImage) : Type 0 where
 
 -- The port has one image: nothing is staged, stored or posted, and all is certain. A home write that
 -- ended with an error, and whose block was written since, stays begun and is no doubt.
-pub record IsQuiet (s : PortState) : Type 0 where
+pub record IsQuiescent (s : PortState) : Type 0 where
   pub flushed_end : s.flushed_end ≡ s.doorbell
   pub pending : s.pending ≡ []
   pub posted : s.posted ≡ []
   pub failed : s.failed ≡ []
   pub head : s.stored_head ≡ s.head
   pub base : s.stored_base ≡ s.base
-  pub sure : (k : ℕ) → k < length s.sure → slice_index_or s.sure k false ≡ true
+  pub certain : (k : ℕ) → k < length s.certain → slice_index_or s.certain k false ≡ true
 
 -- the image of a port that has one
 abbrev pub image_of : PortState → PortImage

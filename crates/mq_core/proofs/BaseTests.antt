@@ -9,7 +9,7 @@ use Rattle.mq_blocks.specs.declared.command.Command.{Command}
 use Rattle.mq_blocks.specs.declared.geometry.Geometry.{Geometry}
 use Rattle.mq_ledger.specs.History.{map_after, last, upto}
 use Rattle.mq_ledger.specs.Items.{Target, AtPlace, AtHome, lba_of, command_of, item_at}
-use Rattle.mq_ledger.specs.Known.{Known}
+use Rattle.mq_ledger.specs.KnownJournal.{KnownJournal}
 use Rattle.mq_ledger.specs.Plain.{plain}
 use Rattle.mq_ledger.specs.Sides.{AreOwn, Certainly, holds_count, home_index}
 use Rattle.mq_ledger.specs.State.{State, Facts, front_of, from_at, known_of, port_at, port_of, start_map}
@@ -68,11 +68,11 @@ none_with s b n (c ∷ cs) none held = elim (cases_Bool (is_due s b (home_of s.g
   ])
 ]
 
-none_own : (s : State) (b q from : ℕ) (us : List Tx) (cs : List Command) → AreOwn s.geometry q from us cs → ((n : ℕ) → holds_count n cs ≡ true → is_due s b (home_of s.geometry (command_of s.geometry q n (item_at from us n))) ≡ false) → writes_none s b cs ≡ true
-none_own s b q from us [] own each = refl
-none_own s b q from us (c ∷ cs) own each =
+none_own : (s : State) (b q from : ℕ) (txs : List Tx) (cs : List Command) → AreOwn s.geometry q from txs cs → ((n : ℕ) → holds_count n cs ≡ true → is_due s b (home_of s.geometry (command_of s.geometry q n (item_at from txs n))) ≡ false) → writes_none s b cs ≡ true
+none_own s b q from txs [] own each = refl
+none_own s b q from txs (c ∷ cs) own each =
     let here : is_due s b (home_of s.geometry c) ≡ false = ap (λ (d : Command). is_due s b (home_of s.geometry d)) own.0 ∙ each c.count (rw (eq-eqb c.count c.count refl) refl) in
-    rw here (none_own s b q from us cs own.1 (λ n held. each n (behind n held)))
+    rw here (none_own s b q from txs cs own.1 (λ n held. each n (behind n held)))
   where
     behind : (n : ℕ) → holds_count n cs ≡ true → holds_count n (c ∷ cs) ≡ true
     behind n held = elim (cases_Bool (eqb c.count n)) [
@@ -97,18 +97,18 @@ post_none-each s b [] each = refl
 post_none-each s b (p ∷ ps) each = rw (each zero (omega arith)) (post_none-each s b ps (λ q inside. each (suc q) (omega arith)))
 
 module _ (s : State) (f : Facts plain s) (b : ℕ) (reached : b ≤ front_of s) where
-  abbrev k : Known
+  abbrev k : KnownJournal
   k = known_of plain s
 
   -- what a late entry of a queue writes to the home block x
-  writes_home : (q n x : ℕ) → (own : q < s.geometry.queues) → IsLate k q (us_of s q) (port_at s.ports q) f.log (f.sides q own) n → zone_of s.geometry x ≡ Some q → index_of (port_at s.ports q) (lba_of s.geometry q (item_at (from_at s.froms q) (us_of s q) n).target) ≡ home_index s.geometry x
-      → (item_at (from_at s.froms q) (us_of s q) n).target ≡ AtHome x
-  writes_home q n x own late zone same = go (item_at (from_at s.froms q) (us_of s q) n).target refl
+  writes_home : (q n x : ℕ) → (own : q < s.geometry.queues) → IsLate k q (us_of s q) (port_at s.ports q) f.log (f.sides q own) n → zone_of s.geometry x ≡ Some q → index_of (port_at s.ports q) (lba_of s.geometry q (item_at (from_at s.starts q) (us_of s q) n).target) ≡ home_index s.geometry x
+      → (item_at (from_at s.starts q) (us_of s q) n).target ≡ AtHome x
+  writes_home q n x own late zone same = go (item_at (from_at s.starts q) (us_of s q) n).target refl
     where
       p : PortState
       p = port_at s.ports q
 
-      go : (target : Target) → (item_at (from_at s.froms q) (us_of s q) n).target ≡ target → (item_at (from_at s.froms q) (us_of s q) n).target ≡ AtHome x
+      go : (target : Target) → (item_at (from_at s.starts q) (us_of s q) n).target ≡ target → (item_at (from_at s.starts q) (us_of s q) n).target ≡ AtHome x
       go (AtPlace r) e =
           let i = index-place s.geometry q r (port_at s.ports q) (f.sides q own).port own in
           let j = index-zone s.geometry q x (port_at s.ports q) (f.sides q own).port zone in
@@ -131,7 +131,7 @@ module _ (s : State) (f : Facts plain s) (b : ℕ) (reached : b ≤ front_of s) 
       go None zone h =
           let at = (index-root s.geometry x s.root f.root.port zone inside).0 in
           record {
-            certain = record { sure = rw at at h.sure; apart = subst (λ cs. IsApartFrom s.root (home_index s.geometry x) cs) (sym f.root.posted) tt };
+            certain = record { certain = rw at at h.certain; apart = subst (λ cs. IsApartFrom s.root (home_index s.geometry x) cs) (sym f.root.posted) tt };
             is = rw at at h.is;
           }
       go (Some q) zone h =
@@ -142,11 +142,11 @@ module _ (s : State) (f : Facts plain s) (b : ℕ) (reached : b ≤ front_of s) 
           let clear = post_none-at s b q s.ports none (omega (arith, own, f.ports)) in
           record {
             certain = record {
-              sure = rw at at h.sure;
-              apart = apart_own p s.geometry q (from_at s.froms q) (us_of s q) (home_index s.geometry x) p.posted side.commands.posted (λ n held same.
+              certain = rw at at h.certain;
+              apart = apart_own p s.geometry q (from_at s.starts q) (us_of s q) (home_index s.geometry x) p.posted side.commands.posted (λ n held same.
                   let late = posted_late k q (us_of s q) p f.log side n held in
                   let to = writes_home q n x own late.0 zone same in
-                  let is : home_of s.geometry (command_with n p.posted) ≡ Some x = home-home s.geometry x (command_with n p.posted) (ap (λ (c : Command). c.lba) (own_with s.geometry q (from_at s.froms q) n (us_of s q) p.posted side.commands.posted held) ∙ ap (lba_of s.geometry q) to) in
+                  let is : home_of s.geometry (command_with n p.posted) ≡ Some x = home-home s.geometry x (command_with n p.posted) (ap (λ (c : Command). c.lba) (own_with s.geometry q (from_at s.starts q) n (us_of s q) p.posted side.commands.posted held) ∙ ap (lba_of s.geometry q) to) in
                   let not = none_with s b n p.posted clear held in
                   false≢true (sym not ∙ ap (is_due s b) is ∙ ap is_some due));
             };
@@ -179,28 +179,28 @@ module _ (s : State) (f : Facts plain s) (b : ℕ) (reached : b ≤ front_of s) 
       go : (z : Option ℕ) → zone_of s.geometry x ≡ z → Certainly (port_of s z) (home_index s.geometry x) content → Holds (port_of s z) (home_lba s.geometry x) content
       go None zone c =
           let at = (index-root s.geometry x s.root f.root.port zone inside).0 in
-          record { sure = rw at c.certain.sure; is = rw at c.is }
+          record { certain = rw at c.certain.certain; is = rw at c.is }
       go (Some q) zone c =
           let own = zone-queue s.geometry q x inside zone in
           let at = (index-zone s.geometry q x (port_at s.ports q) (f.sides q own).port zone).0 in
-          record { sure = rw at c.certain.sure; is = rw at c.is }
+          record { certain = rw at c.certain.certain; is = rw at c.is }
 
   pub allowed_none : MayStoreBase plain s b → post_none s b s.ports ≡ true
   allowed_none may = post_none-each s b s.ports (λ q inside.
       let own : q < s.geometry.queues = omega (arith, inside, f.ports) in
       let side = f.sides q own in
       let p = port_at s.ports q in
-      none_own s b q (from_at s.froms q) (us_of s q) p.posted side.commands.posted (λ n held. not_due q own n held))
+      none_own s b q (from_at s.starts q) (us_of s q) p.posted side.commands.posted (λ n held. not_due q own n held))
     where
-      not_due : (q : ℕ) (own : q < s.geometry.queues) (n : ℕ) → holds_count n (port_at s.ports q).posted ≡ true → is_due s b (home_of s.geometry (command_of s.geometry q n (item_at (from_at s.froms q) (us_of s q) n))) ≡ false
-      not_due q own n held = go (item_at (from_at s.froms q) (us_of s q) n).target refl
+      not_due : (q : ℕ) (own : q < s.geometry.queues) (n : ℕ) → holds_count n (port_at s.ports q).posted ≡ true → is_due s b (home_of s.geometry (command_of s.geometry q n (item_at (from_at s.starts q) (us_of s q) n))) ≡ false
+      not_due q own n held = go (item_at (from_at s.starts q) (us_of s q) n).target refl
         where
           p : PortState
           p = port_at s.ports q
 
-          go : (target : Target) → (item_at (from_at s.froms q) (us_of s q) n).target ≡ target → is_due s b (home_of s.geometry (command_of s.geometry q n (item_at (from_at s.froms q) (us_of s q) n))) ≡ false
-          go (AtPlace r) e = ap (is_due s b) (home-place s.geometry q r (command_of s.geometry q n (item_at (from_at s.froms q) (us_of s q) n)) own (ap (lba_of s.geometry q) e))
-          go (AtHome y) e = ap (is_due s b) (home-home s.geometry y (command_of s.geometry q n (item_at (from_at s.froms q) (us_of s q) n)) (ap (lba_of s.geometry q) e)) ∙ none (due_at s b y) refl
+          go : (target : Target) → (item_at (from_at s.starts q) (us_of s q) n).target ≡ target → is_due s b (home_of s.geometry (command_of s.geometry q n (item_at (from_at s.starts q) (us_of s q) n))) ≡ false
+          go (AtPlace r) e = ap (is_due s b) (home-place s.geometry q r (command_of s.geometry q n (item_at (from_at s.starts q) (us_of s q) n)) own (ap (lba_of s.geometry q) e))
+          go (AtHome y) e = ap (is_due s b) (home-home s.geometry y (command_of s.geometry q n (item_at (from_at s.starts q) (us_of s q) n)) (ap (lba_of s.geometry q) e)) ∙ none (due_at s b y) refl
             where
               none : (o : Option (List ℕ)) → due_at s b y ≡ o → is_some o ≡ false
               none None due = refl
@@ -209,5 +209,5 @@ module _ (s : State) (f : Facts plain s) (b : ℕ) (reached : b ≤ front_of s) 
                   let late = posted_late k q (us_of s q) p f.log side n held in
                   let z = (direct-zone k q (us_of s q) n y f.log (late_direct k q (us_of s q) p f.log side n y late.0 e)).0 in
                   let kept : Certainly p (home_index s.geometry y) content = subst (λ w. Certainly (port_of s w) (home_index s.geometry y) content) z (due_kept may y content due) in
-                  let lba : (command_with n p.posted).lba ≡ home_lba s.geometry y = ap (λ (c : Command). c.lba) (own_with s.geometry q (from_at s.froms q) n (us_of s q) p.posted side.commands.posted held) ∙ ap (lba_of s.geometry q) e in
+                  let lba : (command_with n p.posted).lba ≡ home_lba s.geometry y = ap (λ (c : Command). c.lba) (own_with s.geometry q (from_at s.starts q) n (us_of s q) p.posted side.commands.posted held) ∙ ap (lba_of s.geometry q) e in
                   absurd (apart_with p (home_index s.geometry y) n p.posted kept.certain.apart held (ap (index_of p) lba ∙ (index-zone s.geometry q y p side.port z).0))

@@ -4,7 +4,7 @@ use Rattle.std.proofs.lemmas.Bool.{cases_lt}
 use Rattle.mq_blocks.specs.Drive.{PortState}
 use Rattle.mq_ledger.specs.History.{writes, upto, IsAt}
 use Rattle.mq_ledger.specs.Items.{end_of, next, total}
-use Rattle.mq_ledger.specs.Known.{Known, LogOk, front}
+use Rattle.mq_ledger.specs.KnownJournal.{KnownJournal, LogOk, front}
 use Rattle.mq_ledger.specs.Sides.{AreHome, SideOk}
 use Rattle.mq_ledger.specs.declared.tx.Tx.{Tx}
 use Rattle.mq_ledger.proofs.Values.{upto-at, upto-past}
@@ -12,48 +12,48 @@ use Rattle.mq_ledger.proofs.Queues.{FromQueue-of}
 use Rattle.mq_core.proofs.Fronts.{done_below}
 use Rattle.mq_core.proofs.Growth.{side_moved, placed_front}
 
-next_upto : (n : ℕ) (us : List Tx) → next (upto n us) ≤ next us
+next_upto : (n : ℕ) (txs : List Tx) → next (upto n txs) ≤ next txs
 next_upto n [] = omega arith
-next_upto n (t ∷ us) = elim (cases_lt n t.number) [
-  | inl past ↦ rw (upto-past n t us past) (omega (arith, next_upto n us))
-  | inr at ↦ rw (upto-at n t us at) (omega arith)
+next_upto n (t ∷ txs) = elim (cases_lt n t.number) [
+  | inl past ↦ rw (upto-past n t txs past) (omega (arith, next_upto n txs))
+  | inr at ↦ rw (upto-at n t txs at) (omega arith)
 ]
 
-pub next_upto_more : (m n : ℕ) (us : List Tx) → m ≤ n → next (upto m us) ≤ next (upto n us)
+pub next_upto_more : (m n : ℕ) (txs : List Tx) → m ≤ n → next (upto m txs) ≤ next (upto n txs)
 next_upto_more m n [] l = omega arith
-next_upto_more m n (t ∷ us) l = elim (cases_lt n t.number) [
-  | inl past ↦ rw (upto-past n t us past, upto-past m t us (omega arith)) (next_upto_more m n us l)
-  | inr at ↦ rw (upto-at n t us at) (next_upto m (t ∷ us))
+next_upto_more m n (t ∷ txs) l = elim (cases_lt n t.number) [
+  | inl past ↦ rw (upto-past n t txs past, upto-past m t txs (omega arith)) (next_upto_more m n txs l)
+  | inr at ↦ rw (upto-at n t txs at) (next_upto m (t ∷ txs))
 ]
 
-total_upto : (n : ℕ) (us : List Tx) → total (upto n us) ≤ total us
+total_upto : (n : ℕ) (txs : List Tx) → total (upto n txs) ≤ total txs
 total_upto n [] = omega arith
-total_upto n (t ∷ us) = elim (cases_lt n t.number) [
-  | inl past ↦ rw (upto-past n t us past) (omega (arith, total_upto n us))
-  | inr at ↦ rw (upto-at n t us at) (omega arith)
+total_upto n (t ∷ txs) = elim (cases_lt n t.number) [
+  | inl past ↦ rw (upto-past n t txs past) (omega (arith, total_upto n txs))
+  | inr at ↦ rw (upto-at n t txs at) (omega arith)
 ]
 
-pub total_upto_more : (m n : ℕ) (us : List Tx) → m ≤ n → total (upto m us) ≤ total (upto n us)
+pub total_upto_more : (m n : ℕ) (txs : List Tx) → m ≤ n → total (upto m txs) ≤ total (upto n txs)
 total_upto_more m n [] l = omega arith
-total_upto_more m n (t ∷ us) l = elim (cases_lt n t.number) [
-  | inl past ↦ rw (upto-past n t us past, upto-past m t us (omega arith)) (total_upto_more m n us l)
-  | inr at ↦ rw (upto-at n t us at) (total_upto m (t ∷ us))
+total_upto_more m n (t ∷ txs) l = elim (cases_lt n t.number) [
+  | inl past ↦ rw (upto-past n t txs past, upto-past m t txs (omega arith)) (total_upto_more m n txs l)
+  | inr at ↦ rw (upto-at n t txs at) (total_upto m (t ∷ txs))
 ]
 
-at_append : (t : Tx) (ts newer us : List Tx) → IsAt t ts us → IsAt t ts (newer ++ us)
-at_append t ts [] us at = at
-at_append t ts (u ∷ newer) us at = inr (at_append t ts newer us at)
+at_append : (t : Tx) (ts newer txs : List Tx) → IsAt t ts txs → IsAt t ts (newer ++ txs)
+at_append t ts [] txs at = at
+at_append t ts (u ∷ newer) txs at = inr (at_append t ts newer txs at)
 
 -- what such a number covers stands below a count below which each of them ends
-pub covered : (from h n : ℕ) (us : List Tx) → from ≤ h → ((t : Tx) (ts : List Tx) → IsAt t ts us → t.number ≤ n → end_of from ts + (writes t + 1) ≤ h) → end_of from (upto n us) ≤ h
+pub covered : (from h n : ℕ) (txs : List Tx) → from ≤ h → ((t : Tx) (ts : List Tx) → IsAt t ts txs → t.number ≤ n → end_of from ts + (writes t + 1) ≤ h) → end_of from (upto n txs) ≤ h
 covered from h n [] low each = omega arith
-covered from h n (t ∷ us) low each = elim (cases_lt n t.number) [
-  | inl past ↦ rw (upto-past n t us past) (covered from h n us low (λ u vs at. each u vs (inr at)))
-  | inr at ↦ (let e = each t us (inl (refl, refl)) at in rw (upto-at n t us at) (omega arith))
+covered from h n (t ∷ txs) low each = elim (cases_lt n t.number) [
+  | inl past ↦ rw (upto-past n t txs past) (covered from h n txs low (λ u vs at. each u vs (inr at)))
+  | inr at ↦ (let e = each t txs (inl (refl, refl)) at in rw (upto-at n t txs at) (omega arith))
 ]
 
-module _ (k : Known) (due : ℕ → ℕ → Bool) (word : ℕ) (log : LogOk k) (above : k.word ≤ word) (reached : word ≤ front k) where
-  abbrev pub based_known : Known
+module _ (k : KnownJournal) (due : ℕ → ℕ → Bool) (word : ℕ) (log : LogOk k) (above : k.word ≤ word) (reached : word ≤ front k) where
+  abbrev pub based_known : KnownJournal
   based_known = record k { due = due; word = word }
 
   pub log_based : ((x v : ℕ) → due x v ≡ true → v ≤ front k) → LogOk based_known
@@ -68,19 +68,19 @@ module _ (k : Known) (due : ℕ → ℕ → Bool) (word : ℕ) (log : LogOk k) (
   }
 
   -- all of a port's transactions up to the base are done
-  based_below : (q : ℕ) (us : List Tx) (p : PortState) → SideOk k q us p → end_of (k.from q) (upto word us) ≤ p.head
-  based_below q us p s = covered (k.from q) p.head word us (let o = s.order in o.head_low) (λ t ws at low.
-      let f = FromQueue-of q t ws k.history (subst (λ vs. IsAt t ws vs) (sym s.part.1) (at_append t ws s.part.0 us at)) in
+  based_below : (q : ℕ) (txs : List Tx) (p : PortState) → SideOk k q txs p → end_of (k.from q) (upto word txs) ≤ p.head
+  based_below q txs p s = covered (k.from q) p.head word txs (let o = s.order in o.head_low) (λ t ws at low.
+      let f = FromQueue-of q t ws k.history (subst (λ vs. IsAt t ws vs) (sym s.part.1) (at_append t ws s.part.0 txs at)) in
       let done = s.done t f.ts f.at f.own (done_below k.base k.done t f.ts k.history log.numbers f.at (omega arith)) in
       subst (λ vs. end_of (k.from q) vs + (writes t + 1) ≤ p.head) f.rest done)
 
-  pub side_based : (q : ℕ) (us : List Tx) (p : PortState) → SideOk k q us p → AreHome based_known (Some q) p → SideOk based_known q us p
-  side_based q us p s homes =
-      side_moved k q us p k.history k.done due word s (record {
+  pub side_based : (q : ℕ) (txs : List Tx) (p : PortState) → SideOk k q txs p → AreHome based_known (Some q) p → SideOk based_known q txs p
+  side_based q txs p s homes =
+      side_moved k q txs p k.history k.done due word s (record {
         part = s.part;
-        fits = omega (arith, s.area.fits, next_upto_more k.word word us above);
-        low = omega (arith, total_upto_more k.word word us above);
-        based = based_below q us p s;
+        fits = omega (arith, s.area.fits, next_upto_more k.word word txs above);
+        low = omega (arith, total_upto_more k.word word txs above);
+        based = based_below q txs p s;
         done = s.done;
         change = λ x v l. l;
       }) homes

@@ -18,22 +18,22 @@ count-with n (c ∷ cs) e = elim (cases_Bool (eqb c.count n)) [
   | inr other ↦ rw other (count-with n cs (rw other at e))
 ]
 
-pub own_with : (g : Geometry) (q from n : ℕ) (us : List Tx) (cs : List Command) → AreOwn g q from us cs → holds_count n cs ≡ true → command_with n cs ≡ command_of g q n (item_at from us n)
-own_with g q from n us [] own e = absurd (false≢true e)
-own_with g q from n us (c ∷ cs) own e = elim (cases_Bool (eqb c.count n)) [
-  | inl same ↦ rw same (own.0 ∙ ap (λ m. command_of g q m (item_at from us m)) (eqb-true _ _ same))
-  | inr other ↦ rw other (own_with g q from n us cs own.1 (rw other at e))
+pub own_with : (g : Geometry) (q from n : ℕ) (txs : List Tx) (cs : List Command) → AreOwn g q from txs cs → holds_count n cs ≡ true → command_with n cs ≡ command_of g q n (item_at from txs n)
+own_with g q from n txs [] own e = absurd (false≢true e)
+own_with g q from n txs (c ∷ cs) own e = elim (cases_Bool (eqb c.count n)) [
+  | inl same ↦ rw same (own.0 ∙ ap (λ m. command_of g q m (item_at from txs m)) (eqb-true _ _ same))
+  | inr other ↦ rw other (own_with g q from n txs cs own.1 (rw other at e))
 ]
 
-pub own_remove : (g : Geometry) (q from : ℕ) (us : List Tx) (i : ℕ) (cs : List Command) → AreOwn g q from us cs → AreOwn g q from us (remove cs i)
-own_remove g q from us zero [] own = tt
-own_remove g q from us zero (c ∷ cs) own = own.1
-own_remove g q from us (suc i) [] own = tt
-own_remove g q from us (suc i) (c ∷ cs) own = (own.0, own_remove g q from us i cs own.1)
+pub own_remove : (g : Geometry) (q from : ℕ) (txs : List Tx) (i : ℕ) (cs : List Command) → AreOwn g q from txs cs → AreOwn g q from txs (remove cs i)
+own_remove g q from txs zero [] own = tt
+own_remove g q from txs zero (c ∷ cs) own = own.1
+own_remove g q from txs (suc i) [] own = tt
+own_remove g q from txs (suc i) (c ∷ cs) own = (own.0, own_remove g q from txs i cs own.1)
 
-pub own_append : (g : Geometry) (q from : ℕ) (us : List Tx) (bs cs : List Command) → AreOwn g q from us bs → AreOwn g q from us cs → AreOwn g q from us (bs ++ cs)
-own_append g q from us [] cs a b = b
-own_append g q from us (c ∷ bs) cs a b = (a.0, own_append g q from us bs cs a.1 b)
+pub own_append : (g : Geometry) (q from : ℕ) (txs : List Tx) (bs cs : List Command) → AreOwn g q from txs bs → AreOwn g q from txs cs → AreOwn g q from txs (bs ++ cs)
+own_append g q from txs [] cs a b = b
+own_append g q from txs (c ∷ bs) cs a b = (a.0, own_append g q from txs bs cs a.1 b)
 
 -- ---- counts
 
@@ -163,11 +163,11 @@ apart_with s k n (c ∷ cs) a e = elim (cases_Bool (eqb c.count n)) [
 ]
 
 -- own commands write blocks apart from one if their entries do
-pub apart_own : (s : PortState) (g : Geometry) (q from : ℕ) (us : List Tx) (k : ℕ) (cs : List Command) → AreOwn g q from us cs → ((n : ℕ) → holds_count n cs ≡ true → index_of s (command_of g q n (item_at from us n)).lba ≢ k) → IsApartFrom s k cs
-apart_own s g q from us k [] own each = tt
-apart_own s g q from us k (c ∷ cs) own each = (
+pub apart_own : (s : PortState) (g : Geometry) (q from : ℕ) (txs : List Tx) (k : ℕ) (cs : List Command) → AreOwn g q from txs cs → ((n : ℕ) → holds_count n cs ≡ true → index_of s (command_of g q n (item_at from txs n)).lba ≢ k) → IsApartFrom s k cs
+apart_own s g q from txs k [] own each = tt
+apart_own s g q from txs k (c ∷ cs) own each = (
   λ e. each c.count (rw (eq-eqb c.count c.count refl) refl) (ap (λ (b : Command). index_of s b.lba) (sym own.0) ∙ e),
-  apart_own s g q from us k cs own.1 (λ n held. each n (elim (cases_Bool (eqb c.count n)) [
+  apart_own s g q from txs k cs own.1 (λ n held. each n (elim (cases_Bool (eqb c.count n)) [
     | inl same ↦ rw same refl
     | inr other ↦ rw other held
   ])),

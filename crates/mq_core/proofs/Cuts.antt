@@ -10,7 +10,7 @@ use Rattle.mq_blocks.specs.Journal.{Shown, is_among, image_at, home_block, shown
 use Rattle.mq_blocks.specs.Machine.{Map, write_of, or_kept, after}
 use Rattle.mq_ledger.specs.History.{blocks_of, writes, changes, map_after, last, upto, of_queue, AreNumbered, IsAt}
 use Rattle.mq_ledger.specs.Items.{Entries, Item, AtPlace, AtHome, write_at, item_at, item_of, end_of, next, IsEnd, descriptor_for}
-use Rattle.mq_ledger.specs.Known.{Known}
+use Rattle.mq_ledger.specs.KnownJournal.{KnownJournal}
 use Rattle.mq_ledger.specs.Sides.{Certainly, IsDone, flushed_at, home_index, home_index_in}
 use Rattle.mq_ledger.specs.State.{State, Facts, AreImages, port_at, port_of, from_at, known_of, front_of, start_map}
 use Rattle.mq_ledger.specs.declared.tx.Tx.{Tx}
@@ -33,7 +33,7 @@ pub record IsCut (e : Entries) (s : State) (i : Shown) : Type 0 where
   pub doorbell : (q : ℕ) → q < s.geometry.queues → i.doorbell q ≡ (port_at s.ports q).doorbell
   pub from_head : (q : ℕ) → q < s.geometry.queues → (port_at s.ports q).head ≤ i.head q
   pub to_stored : (q : ℕ) → q < s.geometry.queues → i.head q ≤ (port_at s.ports q).stored_head
-  pub end : (q : ℕ) → q < s.geometry.queues → IsEnd (from_at s.froms q) (of_queue q s.history) (i.head q)
+  pub end : (q : ℕ) → q < s.geometry.queues → IsEnd (from_at s.starts q) (of_queue q s.history) (i.head q)
   pub entry : (q c : ℕ) → q < s.geometry.queues → (port_at s.ports q).head ≤ c + 1 → c < (port_at s.ports q).doorbell → i.entry q (c % depth) ≡ e.says (flushed_at (port_at s.ports q) c)
   pub area : (q n : ℕ) (v : List ℕ) → q < s.geometry.queues → n < s.geometry.area → Certainly (port_at s.ports q) n v → i.area q n ≡ v
   pub home : (x : ℕ) (v : List ℕ) → x < homes_of s.geometry → Certainly (port_of s (zone_of s.geometry x)) (home_index s.geometry x) v → i.home x ≡ v
@@ -51,8 +51,8 @@ cut_of e s queues root f it =
       from_head = λ q own. (let o = (f.sides q own).order in elim (it.each q own).head [ inl w ↦ omega (arith, w) | inr w ↦ omega (arith, w, o.stored) ]);
       to_stored = λ q own. (let o = (f.sides q own).order in elim (it.each q own).head [ inl w ↦ omega (arith, w, o.stored) | inr w ↦ omega (arith, w) ]);
       end = λ q own. (let o = (f.sides q own).ends in elim (it.each q own).head [
-        | inl w ↦ subst (λ h. IsEnd (from_at s.froms q) (of_queue q s.history) h) (sym w) o.head
-        | inr w ↦ subst (λ h. IsEnd (from_at s.froms q) (of_queue q s.history) h) (sym w) o.stored
+        | inl w ↦ subst (λ h. IsEnd (from_at s.starts q) (of_queue q s.history) h) (sym w) o.head
+        | inr w ↦ subst (λ h. IsEnd (from_at s.starts q) (of_queue q s.history) h) (sym w) o.stored
       ]);
       entry = λ q c own low high.
           let side = f.sides q own in
@@ -87,15 +87,15 @@ cut_of e s queues root f it =
 
 -- the transaction's entries stand below the image's head
 abbrev pub is_whole : State → Shown → Tx → List Tx → Bool
-is_whole s i t ts = leb t.number i.base || leb (end_of (from_at s.froms t.queue) (of_queue t.queue ts) + (writes t + 1)) (i.head t.queue)
+is_whole s i t ts = leb t.number i.base || leb (end_of (from_at s.starts t.queue) (of_queue t.queue ts) + (writes t + 1)) (i.head t.queue)
 
 pub record IsWhole (s : State) (i : Shown) (t : Tx) (ts : List Tx) : Type 0 where
   pub at : IsAt t ts s.history
   pub above : i.base < t.number
-  pub below : end_of (from_at s.froms t.queue) (of_queue t.queue ts) + (writes t + 1) ≤ i.head t.queue
+  pub below : end_of (from_at s.starts t.queue) (of_queue t.queue ts) + (writes t + 1) ≤ i.head t.queue
 
 module _ (e : Entries) (s : State) (i : Shown) (f : Facts e s) (cut : IsCut e s i) where
-  abbrev k : Known
+  abbrev k : KnownJournal
   k = known_of e s
 
   -- an entry below the stored head is done
@@ -112,7 +112,7 @@ module _ (e : Entries) (s : State) (i : Shown) (f : Facts e s) (cut : IsCut e s 
   pub held : (t : Tx) (ts : List Tx) (n place : ℕ) → IsWhole s i t ts → n < writes t + 1 → (item_of t (of_queue t.queue ts) n).target ≡ AtPlace place → i.area t.queue (place % s.geometry.area) ≡ (item_of t (of_queue t.queue ts) n).content
   held t ts n place w l target =
       let q = t.queue in
-      let from = from_at s.froms q in
+      let from = from_at s.starts q in
       let own = (f.log.each t ts w.at).0.queue in
       let side = f.sides q own in
       let c = end_of from (of_queue q ts) + n in
@@ -138,7 +138,7 @@ module _ (e : Entries) (s : State) (i : Shown) (f : Facts e s) (cut : IsCut e s 
   held_direct : (t : Tx) (ts : List Tx) (x : ℕ) (v : List ℕ) → IsWhole s i t ts → write_of t.direct x ≡ Some v → last s.base (upto (front_of s) s.history) x ≤ t.number → i.home x ≡ v
   held_direct t ts x v w written l =
       let q = t.queue in
-      let from = from_at s.froms q in
+      let from = from_at s.starts q in
       let form = (f.log.each t ts w.at).0 in
       let own = form.queue in
       let side = f.sides q own in
@@ -164,28 +164,28 @@ module _ (e : Entries) (s : State) (i : Shown) (f : Facts e s) (cut : IsCut e s 
   -- where nothing since changed the block, its last change lies below
   last_skips : (m : ℕ) (t : Tx) (ts h : List Tx) (x : ℕ) → AreNumbered s.base h → s.base ≤ m → IsAt t ts h → changes t x ≡ false → last s.base (upto m h) x ≤ t.number → last s.base (upto m h) x ≤ s.base + length ts
   last_skips m t ts [] x n b at c l = absurd at
-  last_skips m t ts (u ∷ us) x n b (inl same) c l =
-      let len : length us ≡ length ts = ap length same.1 in
+  last_skips m t ts (u ∷ txs) x n b (inl same) c l =
+      let len : length txs ≡ length ts = ap length same.1 in
       let num : u.number ≡ t.number = ap (λ (v : Tx). v.number) same.0 in
       elim (cases_lt m u.number) [
-        | inl past ↦ (let r = last_upto_bound s.base m us x n.1 b in rw (upto-past m u us past) (omega (arith, n.0)))
+        | inl past ↦ (let r = last_upto_bound s.base m txs x n.1 b in rw (upto-past m u txs past) (omega (arith, n.0)))
         | inr at ↦
             let c' : changes u x ≡ false = rw (← same.0) at c in
-            rw (upto-at m u us at, last-same s.base u us x c') (omega (arith, last_le s.base us x n.1))
+            rw (upto-at m u txs at, last-same s.base u txs x c') (omega (arith, last_le s.base txs x n.1))
       ]
-  last_skips m t ts (u ∷ us) x n b (inr deeper) c l =
-      let most = at_most s.base t ts us n.1 deeper in
+  last_skips m t ts (u ∷ txs) x n b (inr deeper) c l =
+      let most = at_most s.base t ts txs n.1 deeper in
       elim (cases_lt m u.number) [
-        | inl past ↦ (let l' = rw (upto-past m u us past) at l in rw (upto-past m u us past) (last_skips m t ts us x n.1 b deeper c l'))
+        | inl past ↦ (let l' = rw (upto-past m u txs past) at l in rw (upto-past m u txs past) (last_skips m t ts txs x n.1 b deeper c l'))
         | inr at ↦
-            let l' = rw (upto-at m u us at) at l in
-            rw (upto-at m u us at) (elim (cases_Bool (changes u x)) [
-              | inl d ↦ absurd (let r = rw (last-changed s.base u us x d) at l' in omega (arith, n.0))
+            let l' = rw (upto-at m u txs at) at l in
+            rw (upto-at m u txs at) (elim (cases_Bool (changes u x)) [
+              | inl d ↦ absurd (let r = rw (last-changed s.base u txs x d) at l' in omega (arith, n.0))
               | inr d ↦
-                  let r = rw (last-same s.base u us x d) at l' in
-                  let all = upto_all s.base m us n.1 (omega (arith, n.0)) in
-                  let go = last_skips m t ts us x n.1 b deeper c (rw all r) in
-                  rw (last-same s.base u us x d) (rw all at go)
+                  let r = rw (last-same s.base u txs x d) at l' in
+                  let all = upto_all s.base m txs n.1 (omega (arith, n.0)) in
+                  let go = last_skips m t ts txs x n.1 b deeper c (rw all r) in
+                  rw (last-same s.base u txs x d) (rw all at go)
             ])
       ]
 
@@ -213,20 +213,20 @@ module _ (e : Entries) (s : State) (i : Shown) (f : Facts e s) (cut : IsCut e s 
   untouched t x lg dr freed = ap (λ o. cond (is_some o) true (is_among x t.freed)) (write_of-append t.logged t.direct x ∙ (λ j. or_kept (lg j) (dr j))) ∙ freed
 
   -- the blocks of the map after a part of the history that an image shows whole stand
-  pub stand_of : (us : List Tx) (x : ℕ) (v : List ℕ) → x < homes_of s.geometry → AreNumbered s.base us → ((t : Tx) (ts : List Tx) → IsAt t ts us → IsAt t ts s.history × (i.base < t.number → IsWhole s i t ts)) → upto (s.base + length us) s.history ≡ us → i.base ≤ s.base + length us
-      → last s.base (upto (front_of s) s.history) x ≤ s.base + length us → map_after (start_map s.start) us x ≡ Some v → stands s.geometry i (rows i.base us) x ≡ v
+  pub stand_of : (txs : List Tx) (x : ℕ) (v : List ℕ) → x < homes_of s.geometry → AreNumbered s.base txs → ((t : Tx) (ts : List Tx) → IsAt t ts txs → IsAt t ts s.history × (i.base < t.number → IsWhole s i t ts)) → upto (s.base + length txs) s.history ≡ txs → i.base ≤ s.base + length txs
+      → last s.base (upto (front_of s) s.history) x ≤ s.base + length txs → map_after (start_map s.start) txs x ≡ Some v → stands s.geometry i (rows i.base txs) x ≡ v
   stand_of [] x v inside n sub up low l there =
       let base : s.base ≤ s.root.base = f.log.word_low in
       let b : i.base ≡ s.base = omega (arith, cut.low) in
       let none : i.base ≡ s.base + length {A = Tx} [] = omega (arith, b) in
       let here : upto i.base s.history ≡ [] = ap (λ m. upto m s.history) none ∙ up in
-      held_base x v inside (ap (λ us. map_after (start_map s.start) us x) here ∙ there) (omega (arith, b, l))
+      held_base x v inside (ap (λ txs. map_after (start_map s.start) txs x) here ∙ there) (omega (arith, b, l))
   stand_of (t ∷ ts) x v inside n sub up low l there =
       elim (cases_lt i.base t.number) [
         | inr at ↦
             let b : i.base ≡ s.base + length (t ∷ ts) = omega (arith, n.0) in
             let here : upto i.base s.history ≡ t ∷ ts = ap (λ m. upto m s.history) b ∙ up in
-            rw (rows-none i.base t ts at) (held_base x v inside (ap (λ us. map_after (start_map s.start) us x) here ∙ there) (omega (arith, b, l)))
+            rw (rows-none i.base t ts at) (held_base x v inside (ap (λ txs. map_after (start_map s.start) txs x) here ∙ there) (omega (arith, b, l)))
         | inl past ↦
             let w = (sub t ts (inl (refl, refl))).1 past in
             let long : length (blocks_of t.logged) ≡ length t.logged = length-map t.logged (λ w. w.0) in

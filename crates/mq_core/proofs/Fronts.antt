@@ -35,22 +35,22 @@ part_is base w h n = part_at base _ w h n refl
 
 pub all_of_at : (w : Tx → List Tx → Bool) (t : Tx) (ts h : List Tx) → all_of w h ≡ true → IsAt t ts h → w t ts ≡ true
 all_of_at w t ts [] all at = absurd at
-all_of_at w t ts (u ∷ us) all (inl same) = rw (← same.0, ← same.1) (and_parts _ _ all).0
-all_of_at w t ts (u ∷ us) all (inr deeper) = all_of_at w t ts us (and_parts _ _ all).1 deeper
+all_of_at w t ts (u ∷ txs) all (inl same) = rw (← same.0, ← same.1) (and_parts _ _ all).0
+all_of_at w t ts (u ∷ txs) all (inr deeper) = all_of_at w t ts txs (and_parts _ _ all).1 deeper
 
 pub done_below : (base : ℕ) (w : Tx → List Tx → Bool) (t : Tx) (ts h : List Tx) → AreNumbered base h → IsAt t ts h → t.number ≤ base + length (part_of w h) → w t ts ≡ true
 done_below base w t ts [] n at l = absurd at
-done_below base w t ts (u ∷ us) n (inl same) l =
-    elim (cases_Bool (all_of w (u ∷ us))) [
-      | inl all ↦ all_of_at w t ts (u ∷ us) all (inl same)
+done_below base w t ts (u ∷ txs) n (inl same) l =
+    elim (cases_Bool (all_of w (u ∷ txs))) [
+      | inl all ↦ all_of_at w t ts (u ∷ txs) all (inl same)
       | inr some ↦
-          let k = rw (part-less w u us some) at l in
-          absurd (let e : u.number ≡ t.number = ap (λ (k : Tx). k.number) same.0 in omega (arith, n.0, part_le w us))
+          let k = rw (part-less w u txs some) at l in
+          absurd (let e : u.number ≡ t.number = ap (λ (k : Tx). k.number) same.0 in omega (arith, n.0, part_le w txs))
     ]
-done_below base w t ts (u ∷ us) n (inr deeper) l =
-    elim (cases_Bool (all_of w (u ∷ us))) [
-      | inl all ↦ all_of_at w t ts (u ∷ us) all (inr deeper)
-      | inr some ↦ done_below base w t ts us n.1 deeper (rw (part-less w u us some) at l)
+done_below base w t ts (u ∷ txs) n (inr deeper) l =
+    elim (cases_Bool (all_of w (u ∷ txs))) [
+      | inl all ↦ all_of_at w t ts (u ∷ txs) all (inr deeper)
+      | inr some ↦ done_below base w t ts txs n.1 deeper (rw (part-less w u txs some) at l)
     ]
 
 -- ---- the front moves with what is done
@@ -96,20 +96,20 @@ part_all w (t ∷ ts) =
 -- the first that is not in the part lacks it
 pub part_stops : (base : ℕ) (w : Tx → List Tx → Bool) (t : Tx) (ts h : List Tx) → AreNumbered base h → IsAt t ts h → t.number ≡ base + length (part_of w h) + 1 → w t ts ≡ false
 part_stops base w t ts [] n at e = absurd at
-part_stops base w t ts (u ∷ us) n (inl same) e =
-    elim (cases_Bool (all_of w (u ∷ us))) [
-      | inl all ↦ absurd (let k = rw (part-all w u us all) at e in omega (arith, at_most base t ts (u ∷ us) n (inl same)))
+part_stops base w t ts (u ∷ txs) n (inl same) e =
+    elim (cases_Bool (all_of w (u ∷ txs))) [
+      | inl all ↦ absurd (let k = rw (part-all w u txs all) at e in omega (arith, at_most base t ts (u ∷ txs) n (inl same)))
       | inr some ↦
-          let k = rw (part-less w u us some) at e in
+          let k = rw (part-less w u txs some) at e in
           let m : u.number ≡ t.number = ap (λ (v : Tx). v.number) same.0 in
-          let full = part_full w us (omega (arith, n.0)) in
-          elim (and_cases (w u us) (all_of w us) some) [
+          let full = part_full w txs (omega (arith, n.0)) in
+          elim (and_cases (w u txs) (all_of w txs) some) [
             | inl bad ↦ rw (same.0, same.1) at bad
             | inr bad ↦ absurd (false≢true (sym bad ∙ full))
           ]
     ]
-part_stops base w t ts (u ∷ us) n (inr deeper) e =
-    elim (cases_Bool (all_of w (u ∷ us))) [
-      | inl all ↦ absurd (let k = rw (part-all w u us all) at e in omega (arith, at_most base t ts (u ∷ us) n (inr deeper)))
-      | inr some ↦ part_stops base w t ts us n.1 deeper (rw (part-less w u us some) at e)
+part_stops base w t ts (u ∷ txs) n (inr deeper) e =
+    elim (cases_Bool (all_of w (u ∷ txs))) [
+      | inl all ↦ absurd (let k = rw (part-all w u txs all) at e in omega (arith, at_most base t ts (u ∷ txs) n (inr deeper)))
+      | inr some ↦ part_stops base w t ts txs n.1 deeper (rw (part-less w u txs some) at e)
     ]

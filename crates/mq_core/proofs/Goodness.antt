@@ -6,37 +6,37 @@ use Rattle.mq_blocks.specs.Descriptor.{IsGood}
 use Rattle.mq_blocks.specs.Geometry.{homes_of}
 use Rattle.mq_ledger.specs.History.{blocks_of, of_queue, AreNumbered, IsAt}
 use Rattle.mq_ledger.specs.Items.{next, number_before, place_before, descriptor_for}
-use Rattle.mq_ledger.specs.Known.{Known, LogOk}
+use Rattle.mq_ledger.specs.KnownJournal.{KnownJournal, LogOk}
 use Rattle.mq_ledger.specs.declared.tx.Tx.{Tx}
 use Rattle.mq_ledger.proofs.Among.{rising_within, apart_from, apart_among}
 use Rattle.mq_ledger.proofs.Values.{at_most, at_numbered}
 use Rattle.mq_ledger.proofs.Queues.{IsFalling-of, FromQueue-of}
 
 -- numbers and places before it
-record IsBefore (t : Tx) (us : List Tx) : Type 0 where
-  pub falls : number_before us < t.number
-  pub first : number_before us ≡ 0 → place_before us ≡ 0
-  pub before : 0 < number_before us → place_before us < next us
+record IsBefore (t : Tx) (txs : List Tx) : Type 0 where
+  pub falls : number_before txs < t.number
+  pub first : number_before txs ≡ 0 → place_before txs ≡ 0
+  pub before : 0 < number_before txs → place_before txs < next txs
 
-before_of : (base : ℕ) (t : Tx) (us ws : List Tx) (q : ℕ) (h : List Tx) → AreNumbered base h → ws ≡ of_queue q h → IsAt t us ws → IsBefore t us
+before_of : (base : ℕ) (t : Tx) (txs ws : List Tx) (q : ℕ) (h : List Tx) → AreNumbered base h → ws ≡ of_queue q h → IsAt t txs ws → IsBefore t txs
 before_of base t [] ws q h n is at =
     let f = FromQueue-of q t [] h (subst (λ vs. IsAt t [] vs) is at) in
     let number = (at_numbered base t f.ts h n f.at).0 in
     record { falls = omega arith; first = λ z. refl; before = λ z. absurd (omega arith) }
-before_of base t (u ∷ us) ws q h n is at =
-    let f = FromQueue-of q t (u ∷ us) h (subst (λ vs. IsAt t (u ∷ us) vs) is at) in
+before_of base t (u ∷ txs) ws q h n is at =
+    let f = FromQueue-of q t (u ∷ txs) h (subst (λ vs. IsAt t (u ∷ txs) vs) is at) in
     let k = at_numbered base t f.ts h n f.at in
     let low = (IsFalling-of base q f.ts k.1).1 in
     let low' : u.number ≤ base + length f.ts = rw f.rest at low in
-    let g = FromQueue-of q u us f.ts (subst (λ vs. IsAt u us vs) (sym f.rest) (inl (refl, refl))) in
+    let g = FromQueue-of q u txs f.ts (subst (λ vs. IsAt u txs vs) (sym f.rest) (inl (refl, refl))) in
     let above = (at_numbered base u g.ts f.ts k.1 g.at).0 in
     record { falls = omega (arith, k.0); first = λ z. absurd (omega arith); before = λ z. omega arith }
 
-pub good_of : (k : Known) (t : Tx) (us : List Tx) (q : ℕ) → LogOk k → IsAt t us (of_queue q k.history) → next us + length t.logged < 2 ^ 62 → IsGood (homes_of k.geometry) (descriptor_for t us)
-good_of k t us q log at low =
-    let f = FromQueue-of q t us k.history at in
+pub good_of : (k : KnownJournal) (t : Tx) (txs : List Tx) (q : ℕ) → LogOk k → IsAt t txs (of_queue q k.history) → next txs + length t.logged < 2 ^ 62 → IsGood (homes_of k.geometry) (descriptor_for t txs)
+good_of k t txs q log at low =
+    let f = FromQueue-of q t txs k.history at in
     let form = (log.each t f.ts f.at).0 in
-    let b = before_of k.base t us (of_queue q k.history) q k.history log.numbers refl at in
+    let b = before_of k.base t txs (of_queue q k.history) q k.history log.numbers refl at in
     let most = at_most k.base t f.ts k.history log.numbers f.at in
     let limit = log.limit in
     let queues = k.geometry.queues_high in

@@ -9,7 +9,7 @@ use Rattle.mq_blocks.specs.declared.command.Command.{Command}
 use Rattle.mq_blocks.specs.declared.geometry.Geometry.{Geometry}
 use Rattle.mq_ledger.specs.History.{writes, map_after, last, last_logged, is_exposed, upto, of_queue, part_of, IsAt, IsPart}
 use Rattle.mq_ledger.specs.Items.{command_of, end_of, next, item_at, IsEnd}
-use Rattle.mq_ledger.specs.Known.{Known, LogOk, IsPlaced, front, draw_known, MayDraw}
+use Rattle.mq_ledger.specs.KnownJournal.{KnownJournal, LogOk, IsPlaced, front, draw_known, MayDraw}
 use Rattle.mq_ledger.specs.Sides.{AreOwn, AreHome, SideOk, RootOk, holds_count}
 use Rattle.mq_ledger.specs.declared.tx.Tx.{Tx}
 use Rattle.mq_ledger.proofs.Values.{upto-past, last_upto_more}
@@ -18,25 +18,25 @@ use Rattle.mq_core.specs.Events.{HasRoom}
 use Rattle.mq_core.proofs.Fronts.{part-less, part_le, part_more, DoneMore}
 use Rattle.mq_core.proofs.Commands.{count_range, counted_next}
 
-pub front_low : (k : Known) → front k ≤ k.base + length k.history
+pub front_low : (k : KnownJournal) → front k ≤ k.base + length k.history
 front_low k = omega (arith, part_le k.done k.history)
 
 -- ---- a port that stays, while what is known moves
 
-pub record Moved (k : Known) (q : ℕ) (us : List Tx) (p : PortState) (h : List Tx) (w : Tx → List Tx → Bool) (word : ℕ) : Type 0 where
-  pub part : IsPart us (of_queue q h)
-  pub fits : next us ≤ next (upto word us) + k.geometry.area
-  pub low : end_of (k.from q) (upto k.word us) ≤ end_of (k.from q) (upto word us)
-  pub based : end_of (k.from q) (upto word us) ≤ p.head
+pub record Moved (k : KnownJournal) (q : ℕ) (txs : List Tx) (p : PortState) (h : List Tx) (w : Tx → List Tx → Bool) (word : ℕ) : Type 0 where
+  pub part : IsPart txs (of_queue q h)
+  pub fits : next txs ≤ next (upto word txs) + k.geometry.area
+  pub low : end_of (k.from q) (upto k.word txs) ≤ end_of (k.from q) (upto word txs)
+  pub based : end_of (k.from q) (upto word txs) ≤ p.head
   pub done : (t : Tx) (ts : List Tx) → IsAt t ts h → t.queue ≡ q → w t ts ≡ true → end_of (k.from q) (of_queue q ts) + (writes t + 1) ≤ p.head
   pub change : (x v : ℕ) → last k.base (upto (k.base + length (part_of w h)) h) x ≤ v → last k.base (upto (front k) k.history) x ≤ v
 
-abbrev pub moved_to : Known → List Tx → (Tx → List Tx → Bool) → (ℕ → ℕ → Bool) → ℕ → Known
+abbrev pub moved_to : KnownJournal → List Tx → (Tx → List Tx → Bool) → (ℕ → ℕ → Bool) → ℕ → KnownJournal
 moved_to k h done due word = record k { history = h; done = done; due = due; word = word }
 
-pub side_moved : (k : Known) (q : ℕ) (us : List Tx) (p : PortState) (h : List Tx) (done : Tx → List Tx → Bool) (due : ℕ → ℕ → Bool) (word : ℕ) → SideOk k q us p → Moved k q us p h done word → AreHome (moved_to k h done due word) (Some q) p
-    → SideOk (moved_to k h done due word) q us p
-side_moved k q us p h done due word s m homes =
+pub side_moved : (k : KnownJournal) (q : ℕ) (txs : List Tx) (p : PortState) (h : List Tx) (done : Tx → List Tx → Bool) (due : ℕ → ℕ → Bool) (word : ℕ) → SideOk k q txs p → Moved k q txs p h done word → AreHome (moved_to k h done due word) (Some q) p
+    → SideOk (moved_to k h done due word) q txs p
+side_moved k q txs p h done due word s m homes =
     record {
       queue = s.queue;
       part = m.part;
@@ -56,10 +56,10 @@ side_moved k q us p h done due word s m homes =
 -- ---- a draw
 
 last-along : (base v x : ℕ) (hs ws : List Tx) → hs ≡ ws → last base hs x ≤ v → last base ws x ≤ v
-last-along base v x hs ws e l = subst (λ us. last base us x ≤ v) e l
+last-along base v x hs ws e l = subst (λ txs. last base txs x ≤ v) e l
 
 value-along : (start : Map) (x : ℕ) (c : List ℕ) (hs ws : List Tx) → hs ≡ ws → map_after start hs x ≡ Some c → map_after start ws x ≡ Some c
-value-along start x c hs ws e l = subst (λ us. map_after start us x ≡ Some c) e l
+value-along start x c hs ws e l = subst (λ txs. map_after start txs x ≡ Some c) e l
 
 -- where the last copy isn't above the number, no copy above it is in sight
 hidden_of : (base n : ℕ) (h : List Tx) (x : ℕ) → last_logged base h x ≤ n → is_exposed n h x ≡ false
@@ -76,7 +76,7 @@ hidden_of base n (t ∷ ts) x l = elim (cases_lt n t.number) [
     go true ex e = refl
     go false ex e = e
 
-module _ (k : Known) (t : Tx) (log : LogOk k) (number : t.number ≡ k.base + length k.history + 1) (new : k.done t k.history ≡ false) where
+module _ (k : KnownJournal) (t : Tx) (log : LogOk k) (number : t.number ≡ k.base + length k.history + 1) (new : k.done t k.history ≡ false) where
   pub front_drawn : front (draw_known t k) ≡ front k
   front_drawn = rw (part-less k.done t k.history (and_left _ _ new)) refl
 
@@ -93,9 +93,9 @@ module _ (k : Known) (t : Tx) (log : LogOk k) (number : t.number ≡ k.base + le
       (last-along k.base v x (upto (front (draw_known t k)) (t ∷ k.history)) (upto (front k) k.history) seen_drawn m)
 
   -- whoever draws, other ports stay as they are
-  pub side_drawn : (q : ℕ) (us : List Tx) (p : PortState) → SideOk k q us p → SideOk (draw_known t k) q us p
-  side_drawn q us p s =
-      side_moved k q us p (t ∷ k.history) k.done k.due k.word s (record {
+  pub side_drawn : (q : ℕ) (txs : List Tx) (p : PortState) → SideOk k q txs p → SideOk (draw_known t k) q txs p
+  side_drawn q txs p s =
+      side_moved k q txs p (t ∷ k.history) k.done k.due k.word s (record {
         part = elim (cases_eq t.queue q) [
           | inl e ↦ (t ∷ s.part.0, of_queue-own q t k.history e ∙ ap (λ ws. t ∷ ws) s.part.1)
           | inr e ↦ (s.part.0, of_queue-other q t k.history e ∙ s.part.1)
@@ -113,7 +113,7 @@ module _ (k : Known) (t : Tx) (log : LogOk k) (number : t.number ≡ k.base + le
   pub root_drawn : (p : PortState) → RootOk k p → RootOk (draw_known t k) p
   root_drawn p r = record { port = r.port; posted = r.posted; bases = r.bases; homes = homes_drawn None p r.homes }
 
-pub placed_front : (k l : Known) (t : Tx) (ts : List Tx) → l.start ≡ k.start → l.base ≡ k.base → front k ≤ front l → k.word ≤ l.word → IsPlaced k t ts → IsPlaced l t ts
+pub placed_front : (k l : KnownJournal) (t : Tx) (ts : List Tx) → l.start ≡ k.start → l.base ≡ k.base → front k ≤ front l → k.word ≤ l.word → IsPlaced k t ts → IsPlaced l t ts
 placed_front k l t ts start base more word p =
     record {
       free = λ x a. subst (λ m. map_after m ts x ≡ None) (sym start) (p.free x a);
@@ -136,7 +136,7 @@ placed_front k l t ts start base more word p =
     ]
 
 -- a transaction isn't done before it is drawn
-pub log_drawn : (k : Known) (t : Tx) → LogOk k → MayDraw k t → k.done t k.history ≡ false → LogOk (draw_known t k)
+pub log_drawn : (k : KnownJournal) (t : Tx) → LogOk k → MayDraw k t → k.done t k.history ≡ false → LogOk (draw_known t k)
 log_drawn k t log may new =
     let same = front_drawn k t log may.number new in
     let more : front k ≤ front (draw_known t k) = omega (arith, same) in
@@ -147,11 +147,11 @@ log_drawn k t log may new =
       word_low = log.word_low;
       word_high = omega (arith, log.word_high, more);
       due = λ x v due. omega (arith, log.due x v due, more);
-      each = λ u us at. elim at [
-        | inr deeper ↦ (let e = log.each u us deeper in (e.0, placed_front k (draw_known t k) u us refl refl more (omega arith) e.1))
+      each = λ u txs at. elim at [
+        | inr deeper ↦ (let e = log.each u txs deeper in (e.0, placed_front k (draw_known t k) u txs refl refl more (omega arith) e.1))
         | inl here ↦ (
           rw (← here.0) may.form,
-          placed_front k (draw_known t k) u us refl refl more (omega arith) (rw (← here.0, ← here.1) (record {
+          placed_front k (draw_known t k) u txs refl refl more (omega arith) (rw (← here.0, ← here.1) (record {
             free = may.free;
             settled = may.settled;
             hidden = λ x among not. hidden_of k.base k.word k.history x (elim (cases_lt k.word (last_logged k.base k.history x)) [
@@ -165,26 +165,26 @@ log_drawn k t log may new =
 
 -- ---- a port's own draw
 
-own_along : (g : Geometry) (q from : ℕ) (us ws : List Tx) (cs : List Command) → ((n : ℕ) → holds_count n cs ≡ true → item_at from ws n ≡ item_at from us n) → AreOwn g q from us cs → AreOwn g q from ws cs
-own_along g q from us ws [] same own = tt
-own_along g q from us ws (c ∷ cs) same own = (
+own_along : (g : Geometry) (q from : ℕ) (txs ws : List Tx) (cs : List Command) → ((n : ℕ) → holds_count n cs ≡ true → item_at from ws n ≡ item_at from txs n) → AreOwn g q from txs cs → AreOwn g q from ws cs
+own_along g q from txs ws [] same own = tt
+own_along g q from txs ws (c ∷ cs) same own = (
   own.0 ∙ ap (λ i. command_of g q c.count i) (sym (same c.count (rw (Rattle.std.proofs.lemmas.Bool.eq-eqb c.count c.count refl) refl))),
-  own_along g q from us ws cs (λ n held. same n (elim (cases_Bool (eqb c.count n)) [
+  own_along g q from txs ws cs (λ n held. same n (elim (cases_Bool (eqb c.count n)) [
     | inl e ↦ rw e refl
     | inr e ↦ rw e held
   ])) own.1,
 )
 
-end_drawn : (from : ℕ) (t : Tx) (us : List Tx) (h : ℕ) → h ≤ end_of from us → IsEnd from us h → IsEnd from (t ∷ us) h
-end_drawn from t us h l e = rw (below-past from h t us (omega arith)) e
+end_drawn : (from : ℕ) (t : Tx) (txs : List Tx) (h : ℕ) → h ≤ end_of from txs → IsEnd from txs h → IsEnd from (t ∷ txs) h
+end_drawn from t txs h l e = rw (below-past from h t txs (omega arith)) e
 
 -- the port's next transaction, which has been drawn
-pub side_extends : (k : Known) (q : ℕ) (t : Tx) (us : List Tx) (p : PortState) → IsPart (t ∷ us) (of_queue q k.history) → k.word < t.number → SideOk k q us p → HasRoom k.geometry (k.from q) k.word us t p → SideOk k q (t ∷ us) p
-side_extends k q t us p part new s room =
+pub side_extends : (k : KnownJournal) (q : ℕ) (t : Tx) (txs : List Tx) (p : PortState) → IsPart (t ∷ txs) (of_queue q k.history) → k.word < t.number → SideOk k q txs p → HasRoom k.geometry (k.from q) k.word txs t p → SideOk k q (t ∷ txs) p
+side_extends k q t txs p part new s room =
     let o = s.order in
     let rung = room.rung in
-    let same : (c : ℕ) → c < end_of (k.from q) us → item_at (k.from q) (t ∷ us) c ≡ item_at (k.from q) us c = λ c l. item_at-before (k.from q) t us c l in
-    let kept : upto k.word (t ∷ us) ≡ upto k.word us = upto-past k.word t us new in
+    let same : (c : ℕ) → c < end_of (k.from q) txs → item_at (k.from q) (t ∷ txs) c ≡ item_at (k.from q) txs c = λ c l. item_at-before (k.from q) t txs c l in
+    let kept : upto k.word (t ∷ txs) ≡ upto k.word txs = upto-past k.word t txs new in
     record {
       queue = s.queue;
       part = part;
@@ -200,9 +200,9 @@ side_extends k q t us p part new s room =
       };
       limit = omega (arith, room.limit);
       ends = record {
-        head = end_drawn (k.from q) t us p.head (omega (arith, o.stored, o.rung, rung)) s.ends.head;
-        stored = end_drawn (k.from q) t us p.stored_head (omega (arith, o.rung, rung)) s.ends.stored;
-        doorbell = end_drawn (k.from q) t us p.doorbell (omega (arith, rung)) s.ends.doorbell;
+        head = end_drawn (k.from q) t txs p.head (omega (arith, o.stored, o.rung, rung)) s.ends.head;
+        stored = end_drawn (k.from q) t txs p.stored_head (omega (arith, o.rung, rung)) s.ends.stored;
+        doorbell = end_drawn (k.from q) t txs p.doorbell (omega (arith, rung)) s.ends.doorbell;
       };
       ring = record {
         settled = s.ring.settled;
@@ -211,12 +211,12 @@ side_extends k q t us p part new s room =
         waits = λ c low high. rw (same c (omega (arith, o.drawn))) (s.ring.waits c low high);
       };
       commands = record {
-        pending = own_along k.geometry q (k.from q) us (t ∷ us) p.pending (λ n held.
+        pending = own_along k.geometry q (k.from q) txs (t ∷ txs) p.pending (λ n held.
             same n (omega (arith, (count_range p.doorbell (staged_end p) n p.pending (counted_next p.doorbell p.pending s.commands.pending_counts) held).1, o.drawn))) s.commands.pending;
         pending_counts = s.commands.pending_counts;
-        posted = own_along k.geometry q (k.from q) us (t ∷ us) p.posted (λ n held. same n (omega (arith, (count_range p.stored_head p.doorbell n p.posted s.commands.posted_counts held).1, rung))) s.commands.posted;
+        posted = own_along k.geometry q (k.from q) txs (t ∷ txs) p.posted (λ n held. same n (omega (arith, (count_range p.stored_head p.doorbell n p.posted s.commands.posted_counts held).1, rung))) s.commands.posted;
         posted_counts = s.commands.posted_counts;
-        failed = subst (λ cs. AreOwn k.geometry q (k.from q) (t ∷ us) cs) (sym room.failed) tt;
+        failed = subst (λ cs. AreOwn k.geometry q (k.from q) (t ∷ txs) cs) (sym room.failed) tt;
         failed_counts = s.commands.failed_counts;
       };
       area = record {
@@ -232,8 +232,8 @@ side_extends k q t us p part new s room =
 
 -- ---- more is known to be done
 
-module _ (k : Known) (done : Tx → List Tx → Bool) (log : LogOk k) (more : DoneMore k.done done) where
-  abbrev pub done_known : Known
+module _ (k : KnownJournal) (done : Tx → List Tx → Bool) (log : LogOk k) (more : DoneMore k.done done) where
+  abbrev pub done_known : KnownJournal
   done_known = record k { done = done }
 
   pub front_more : front k ≤ front done_known
@@ -256,9 +256,9 @@ module _ (k : Known) (done : Tx → List Tx → Bool) (log : LogOk k) (more : Do
     each = λ t ts at. (let e = log.each t ts at in (e.0, placed_front k done_known t ts refl refl front_more (omega arith) e.1));
   }
 
-  pub side_more : (q : ℕ) (us : List Tx) (p : PortState) → SideOk k q us p → ((t : Tx) (ts : List Tx) → IsAt t ts k.history → t.queue ≡ q → done t ts ≡ true → end_of (k.from q) (of_queue q ts) + (writes t + 1) ≤ p.head) → SideOk done_known q us p
-  side_more q us p s known =
-      side_moved k q us p k.history done k.due k.word s (record {
+  pub side_more : (q : ℕ) (txs : List Tx) (p : PortState) → SideOk k q txs p → ((t : Tx) (ts : List Tx) → IsAt t ts k.history → t.queue ≡ q → done t ts ≡ true → end_of (k.from q) (of_queue q ts) + (writes t + 1) ≤ p.head) → SideOk done_known q txs p
+  side_more q txs p s known =
+      side_moved k q txs p k.history done k.due k.word s (record {
         part = s.part;
         fits = s.area.fits;
         low = omega arith;

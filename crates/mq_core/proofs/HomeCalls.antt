@@ -50,9 +50,9 @@ module _ (s : State) (f : Facts plain s) (x : ℕ) (inside : x < homes_of s.geom
       go None zone = refl
 
 -- the state with the port changed, in two parts
-pub in_parts : (s : State) (after : PortState → PortState) (under : List ℕ) (z : Option ℕ) → record s { ports = ports_after after z s.ports; root = root_after after z s.root; under = under } ≡ record (with_port s z (after (port_of s z))) { under = under }
-in_parts s after under (Some q) = refl
-in_parts s after under None = refl
+pub in_parts : (s : State) (after : PortState → PortState) (writing : List ℕ) (z : Option ℕ) → record s { ports = ports_after after z s.ports; root = root_after after z s.root; writing = writing } ≡ record (with_port s z (after (port_of s z))) { writing = writing }
+in_parts s after writing (Some q) = refl
+in_parts s after writing None = refl
 
 -- a block whose last change, above the stored base, logged it is in the map
 pub is_there : (s : State) (x : ℕ) → Facts plain s → s.root.stored_base < last s.base s.history x → ((t : Tx) (ts : List Tx) → IsAt t ts s.history → t.number ≡ last s.base s.history x → is_among x (blocks_of t.logged) ≡ true)
@@ -62,18 +62,18 @@ is_there s x f low logged =
     let stored : s.root.base ≤ s.root.stored_base = f.root.bases.1 in
     logged_value (start_map s.start) s.base x s.history f.log.numbers (omega arith) logged
 
-pub written : (front : ℕ) (s : State) (x : ℕ) (content : List ℕ) (ports : List PortState) (root : PortState) (under : List ℕ) → IsHeld front s → MayWriteHome s x → content ≡ content_at s x → ports ≡ ports_after (begin_home s.geometry x content) (zone_of s.geometry x) s.ports
-    → root ≡ root_after (begin_home s.geometry x content) (zone_of s.geometry x) s.root → under ≡ x ∷ s.under → Told (WriteHome x) front s (record s { ports = ports; root = root; under = under }) (Ok tt)
-written front s x content ports root under held may is p r u =
-    happened (WriteHome x) front s (record s { ports = ports; root = root; under = under }) held may
-    ((λ i. record s { ports = p i; root = r i; under = u i }) ∙ ap (λ c. record s { ports = ports_after (begin_home s.geometry x c) (zone_of s.geometry x) s.ports; root = root_after (begin_home s.geometry x c) (zone_of s.geometry x) s.root; under = x ∷ s.under }) is
-    ∙ in_parts s (begin_home s.geometry x (content_at s x)) (x ∷ s.under) (zone_of s.geometry x))
+pub written : (front : ℕ) (s : State) (x : ℕ) (content : List ℕ) (ports : List PortState) (root : PortState) (writing : List ℕ) → IsHeld front s → MayWriteHome s x → content ≡ content_at s x → ports ≡ ports_after (begin_home s.geometry x content) (zone_of s.geometry x) s.ports
+    → root ≡ root_after (begin_home s.geometry x content) (zone_of s.geometry x) s.root → writing ≡ x ∷ s.writing → Told (WriteHome x) front s (record s { ports = ports; root = root; writing = writing }) (Ok tt)
+written front s x content ports root writing held may is p r u =
+    happened (WriteHome x) front s (record s { ports = ports; root = root; writing = writing }) held may
+    ((λ i. record s { ports = p i; root = r i; writing = u i }) ∙ ap (λ c. record s { ports = ports_after (begin_home s.geometry x c) (zone_of s.geometry x) s.ports; root = root_after (begin_home s.geometry x c) (zone_of s.geometry x) s.root; writing = x ∷ s.writing }) is
+    ∙ in_parts s (begin_home s.geometry x (content_at s x)) (x ∷ s.writing) (zone_of s.geometry x))
     (same_front s held.facts x may.block (begin_home s.geometry x (content_at s x)) (λ p. refl))
 
-pub ended : (front : ℕ) (s : State) (x : ℕ) (content : List ℕ) (ports : List PortState) (root : PortState) (under : List ℕ) → IsHeld front s → is_among x s.under ≡ true → content ≡ content_at s x → ports ≡ ports_after (end_home s.geometry x content) (zone_of s.geometry x) s.ports
-    → root ≡ root_after (end_home s.geometry x content) (zone_of s.geometry x) s.root → under ≡ without x s.under → Told (HomeDone x) front s (record s { ports = ports; root = root; under = under }) (Ok tt)
-ended front s x content ports root under held may is p r u =
-    happened (HomeDone x) front s (record s { ports = ports; root = root; under = under }) held may
-    ((λ i. record s { ports = p i; root = r i; under = u i }) ∙ ap (λ c. record s { ports = ports_after (end_home s.geometry x c) (zone_of s.geometry x) s.ports; root = root_after (end_home s.geometry x c) (zone_of s.geometry x) s.root; under = without x s.under }) is
-    ∙ in_parts s (end_home s.geometry x (content_at s x)) (without x s.under) (zone_of s.geometry x))
-    (same_front s held.facts x (held.facts.under x may).block (end_home s.geometry x (content_at s x)) (λ p. refl))
+pub ended : (front : ℕ) (s : State) (x : ℕ) (content : List ℕ) (ports : List PortState) (root : PortState) (writing : List ℕ) → IsHeld front s → is_among x s.writing ≡ true → content ≡ content_at s x → ports ≡ ports_after (end_home s.geometry x content) (zone_of s.geometry x) s.ports
+    → root ≡ root_after (end_home s.geometry x content) (zone_of s.geometry x) s.root → writing ≡ without x s.writing → Told (HomeDone x) front s (record s { ports = ports; root = root; writing = writing }) (Ok tt)
+ended front s x content ports root writing held may is p r u =
+    happened (HomeDone x) front s (record s { ports = ports; root = root; writing = writing }) held may
+    ((λ i. record s { ports = p i; root = r i; writing = u i }) ∙ ap (λ c. record s { ports = ports_after (end_home s.geometry x c) (zone_of s.geometry x) s.ports; root = root_after (end_home s.geometry x c) (zone_of s.geometry x) s.root; writing = without x s.writing }) is
+    ∙ in_parts s (end_home s.geometry x (content_at s x)) (without x s.writing) (zone_of s.geometry x))
+    (same_front s held.facts x (held.facts.writing x may).block (end_home s.geometry x (content_at s x)) (λ p. refl))

@@ -11,7 +11,7 @@ use Rattle.mq_blocks.specs.declared.command.HomeWrite.{HomeWrite}
 use Rattle.mq_blocks.specs.declared.geometry.Geometry.{Geometry}
 use Rattle.mq_ledger.specs.History.{blocks_of, last, upto, IsAt}
 use Rattle.mq_ledger.specs.Items.{item_at}
-use Rattle.mq_ledger.specs.Known.{Known, LogOk, front}
+use Rattle.mq_ledger.specs.KnownJournal.{KnownJournal, LogOk, front}
 use Rattle.mq_ledger.specs.Sides.{IsPort, Certainly, IsDone, SideOk, RootOk, home_index, place_index}
 use Rattle.mq_ledger.specs.declared.tx.Tx.{Tx}
 use Rattle.mq_ledger.proofs.Among.{apart_among}
@@ -22,36 +22,36 @@ use Rattle.mq_core.proofs.Ports.{index-place, index-zone, zone-apart}
 use Rattle.mq_core.proofs.Sources.{direct_in, direct-zone}
 
 -- the block's last change logged it, is done, and is above each number whose content is due
-pub record IsLoggedLast (k : Known) (x : ℕ) : Type 0 where
+pub record IsLoggedLast (k : KnownJournal) (x : ℕ) : Type 0 where
   pub due : (v : ℕ) → k.due x v ≡ true → v < last k.base k.history x
   pub high : last k.base k.history x ≤ front k
   pub logged : (t : Tx) (ts : List Tx) → IsAt t ts k.history → t.number ≡ last k.base k.history x → is_among x (blocks_of t.logged) ≡ true
 
 -- the port with other contents and home writes
 abbrev pub written_to : PortState → List (Option (List ℕ)) → List Bool → List HomeWrite → ℕ → PortState
-written_to p blocks sure begun begins = record p { blocks = blocks; sure = sure; begun = begun; begins = begins }
+written_to p blocks certain begun begins = record p { blocks = blocks; certain = certain; begun = begun; begins = begins }
 
 -- all but one block are as they were
-pub record AreElse (p : PortState) (at : ℕ) (blocks : List (Option (List ℕ))) (sure : List Bool) : Type 0 where
+pub record AreElse (p : PortState) (at : ℕ) (blocks : List (Option (List ℕ))) (certain : List Bool) : Type 0 where
   pub blocks_len : length blocks ≡ length p.blocks
-  pub sure_len : length sure ≡ length p.sure
+  pub certain_len : length certain ≡ length p.certain
   pub blocks_same : (n : ℕ) → n ≢ at → block_at blocks n ≡ block_at p.blocks n
-  pub sure_same : (n : ℕ) → n ≢ at → get_or sure n false ≡ get_or p.sure n false
+  pub certain_same : (n : ℕ) → n ≢ at → get_or certain n false ≡ get_or p.certain n false
 
-certainly_else : (p : PortState) (at n : ℕ) (v : List ℕ) (blocks : List (Option (List ℕ))) (sure : List Bool) (begun : List HomeWrite) (begins : ℕ) → AreElse p at blocks sure → n ≢ at → Certainly p n v → Certainly (written_to p blocks sure begun begins) n v
-certainly_else p at n v blocks sure begun begins els other c =
+certainly_else : (p : PortState) (at n : ℕ) (v : List ℕ) (blocks : List (Option (List ℕ))) (certain : List Bool) (begun : List HomeWrite) (begins : ℕ) → AreElse p at blocks certain → n ≢ at → Certainly p n v → Certainly (written_to p blocks certain begun begins) n v
+certainly_else p at n v blocks certain begun begins els other c =
     record {
-      certain = record { sure = els.sure_same n other ∙ c.certain.sure; apart = apart_along p (written_to p blocks sure begun begins) n p.posted (λ lba. refl) c.certain.apart };
+      certain = record { certain = els.certain_same n other ∙ c.certain.certain; apart = apart_along p (written_to p blocks certain begun begins) n p.posted (λ lba. refl) c.certain.apart };
       is = els.blocks_same n other ∙ c.is;
     }
 
-pub side_written : (k : Known) (q : ℕ) (us : List Tx) (p : PortState) (x : ℕ) (blocks : List (Option (List ℕ))) (sure : List Bool) (begun : List HomeWrite) (begins : ℕ) → LogOk k → SideOk k q us p → zone_of k.geometry x ≡ Some q → IsLoggedLast k x
-    → AreElse p (home_index k.geometry x) blocks sure → SideOk k q us (written_to p blocks sure begun begins)
-side_written k q us p x blocks sure begun begins log s zone u els =
+pub side_written : (k : KnownJournal) (q : ℕ) (txs : List Tx) (p : PortState) (x : ℕ) (blocks : List (Option (List ℕ))) (certain : List Bool) (begun : List HomeWrite) (begins : ℕ) → LogOk k → SideOk k q txs p → zone_of k.geometry x ≡ Some q → IsLoggedLast k x
+    → AreElse p (home_index k.geometry x) blocks certain → SideOk k q txs (written_to p blocks certain begun begins)
+side_written k q txs p x blocks certain begun begins log s zone u els =
     let o = s.order in
-    let kept : (n : ℕ) (v : List ℕ) → n ≢ home_index k.geometry x → Certainly p n v → Certainly (written_to p blocks sure begun begins) n v = λ n v other c.
-    certainly_else p (home_index k.geometry x) n v blocks sure begun begins els other c in
-    let before : (c : ℕ) → IsDone (written_to p blocks sure begun begins) c → IsDone p c = λ c d. record { rung = d.rung; posted = d.posted; failed = d.failed } in
+    let kept : (n : ℕ) (v : List ℕ) → n ≢ home_index k.geometry x → Certainly p n v → Certainly (written_to p blocks certain begun begins) n v = λ n v other c.
+    certainly_else p (home_index k.geometry x) n v blocks certain begun begins els other c in
+    let before : (c : ℕ) → IsDone (written_to p blocks certain begun begins) c → IsDone p c = λ c d. record { rung = d.rung; posted = d.posted; failed = d.failed } in
     let settled = last_settled k.base (front k) k.history x log.numbers u.high in
     record {
       queue = s.queue;
@@ -65,7 +65,7 @@ side_written k q us p x blocks sure begun begins log s zone u els =
         flushed = s.port.flushed;
         staged = s.port.staged;
         blocks = els.blocks_len ∙ s.port.blocks;
-        sure = els.sure_len ∙ s.port.sure;
+        certain = els.certain_len ∙ s.port.certain;
       };
       order = record { head_low = o.head_low; stored = o.stored; rung = o.rung; flushed = o.flushed; staged = o.staged; drawn = o.drawn; room = o.room };
       limit = s.limit;
@@ -91,11 +91,11 @@ side_written k q us p x blocks sure begun begins log s zone u els =
       done = s.done;
       direct = λ c y low d target m.
           let rung = d.rung in
-          let b = direct_in k q us c y s.part low (omega (arith, rung, o.flushed, o.staged, o.drawn)) target in
+          let b = direct_in k q txs c y s.part low (omega (arith, rung, o.flushed, o.staged, o.drawn)) target in
           kept _ _ (λ e.
-          let is : y ≡ x = zone-apart k.geometry q y x (direct-zone k q us c y log b).0 zone e in
+          let is : y ≡ x = zone-apart k.geometry q y x (direct-zone k q txs c y log b).0 zone e in
           let among : is_among x (blocks_of b.t.direct) ≡ true = subst (λ z. is_among z (blocks_of b.t.direct) ≡ true) is b.among in
-          let m' : last k.base (upto (front k) k.history) x ≤ (item_at (k.from q) us c).number = subst (λ z. last k.base (upto (front k) k.history) z ≤ (item_at (k.from q) us c).number) is m in
+          let m' : last k.base (upto (front k) k.history) x ≤ (item_at (k.from q) txs c).number = subst (λ z. last k.base (upto (front k) k.history) z ≤ (item_at (k.from q) txs c).number) is m in
           let number = b.number in
           let most = last_at k.base b.t b.ts k.history x log.numbers b.at (changes_direct b.t x among) in
           let lg = u.logged b.t b.ts b.at (omega (arith, settled, m', number, most)) in
@@ -109,9 +109,9 @@ side_written k q us p x blocks sure begun begins log s zone u els =
           absurd (omega (arith, settled, m', above))) (s.homes y v block inside z due there m);
     }
 
-pub root_written : (k : Known) (p : PortState) (x : ℕ) (blocks : List (Option (List ℕ))) (sure : List Bool) (begun : List HomeWrite) (begins : ℕ) → LogOk k → RootOk k p → zone_of k.geometry x ≡ None → x < homes_of k.geometry → IsLoggedLast k x
-    → AreElse p (home_index k.geometry x) blocks sure → RootOk k (written_to p blocks sure begun begins)
-root_written k p x blocks sure begun begins log r zone block u els =
+pub root_written : (k : KnownJournal) (p : PortState) (x : ℕ) (blocks : List (Option (List ℕ))) (certain : List Bool) (begun : List HomeWrite) (begins : ℕ) → LogOk k → RootOk k p → zone_of k.geometry x ≡ None → x < homes_of k.geometry → IsLoggedLast k x
+    → AreElse p (home_index k.geometry x) blocks certain → RootOk k (written_to p blocks certain begun begins)
+root_written k p x blocks certain begun begins log r zone block u els =
     let settled = last_settled k.base (front k) k.history x log.numbers u.high in
     record {
       port = record {
@@ -123,12 +123,12 @@ root_written k p x blocks sure begun begins log r zone block u els =
         flushed = r.port.flushed;
         staged = r.port.staged;
         blocks = els.blocks_len ∙ r.port.blocks;
-        sure = els.sure_len ∙ r.port.sure;
+        certain = els.certain_len ∙ r.port.certain;
       };
       posted = r.posted;
       bases = r.bases;
       homes = λ y v content inside z due there m.
-          certainly_else p (home_index k.geometry x) _ _ blocks sure begun begins els (λ e.
+          certainly_else p (home_index k.geometry x) _ _ blocks certain begun begins els (λ e.
           let is : y ≡ x = root-apart y z e in
           let m' : last k.base (upto (front k) k.history) x ≤ v = subst (λ w. last k.base (upto (front k) k.history) w ≤ v) is m in
           let above = u.due v (subst (λ w. k.due w v ≡ true) is due) in
@@ -140,20 +140,20 @@ root_written k p x blocks sure begun begins log r zone block u els =
 
 -- ---- a home write begins, or ends
 
-pub else_begin : (g : Geometry) (x : ℕ) (block : List ℕ) (p : PortState) → index_of p (home_lba g x) ≡ home_index g x → AreElse p (home_index g x) (begin_home g x block p).blocks (begin_home g x block p).sure
+pub else_begin : (g : Geometry) (x : ℕ) (block : List ℕ) (p : PortState) → index_of p (home_lba g x) ≡ home_index g x → AreElse p (home_index g x) (begin_home g x block p).blocks (begin_home g x block p).certain
 else_begin g x block p at =
     record {
       blocks_len = refl;
-      sure_len = length-set p.sure (index_of p (home_lba g x)) false;
+      certain_len = length-set p.certain (index_of p (home_lba g x)) false;
       blocks_same = λ n other. refl;
-      sure_same = λ n other. get_or-set_other p.sure (index_of p (home_lba g x)) n false false (λ e. other (e ∙ at));
+      certain_same = λ n other. get_or-set_other p.certain (index_of p (home_lba g x)) n false false (λ e. other (e ∙ at));
     }
 
-pub else_end : (g : Geometry) (x : ℕ) (block : List ℕ) (p : PortState) → index_of p (home_lba g x) ≡ home_index g x → AreElse p (home_index g x) (end_home g x block p).blocks (end_home g x block p).sure
+pub else_end : (g : Geometry) (x : ℕ) (block : List ℕ) (p : PortState) → index_of p (home_lba g x) ≡ home_index g x → AreElse p (home_index g x) (end_home g x block p).blocks (end_home g x block p).certain
 else_end g x block p at =
     record {
       blocks_len = length-set p.blocks (index_of p (home_lba g x)) (Some block);
-      sure_len = length-set p.sure (index_of p (home_lba g x)) true;
+      certain_len = length-set p.certain (index_of p (home_lba g x)) true;
       blocks_same = λ n other. ap content (get_or-set_other p.blocks (index_of p (home_lba g x)) n (Some block) None (λ e. other (e ∙ at)));
-      sure_same = λ n other. get_or-set_other p.sure (index_of p (home_lba g x)) n true false (λ e. other (e ∙ at));
+      certain_same = λ n other. get_or-set_other p.certain (index_of p (home_lba g x)) n true false (λ e. other (e ∙ at));
     }

@@ -6,7 +6,7 @@ use Rattle.mq_blocks.specs.Geometry.{homes_of, zone_of, home_lba, area_lba}
 use Rattle.mq_blocks.specs.declared.command.Command.{Command}
 use Rattle.mq_blocks.specs.declared.geometry.Geometry.{Geometry}
 use Rattle.mq_ledger.specs.Items.{Target, AtPlace, AtHome, lba_of, item_at}
-use Rattle.mq_ledger.specs.Known.{Known, LogOk}
+use Rattle.mq_ledger.specs.KnownJournal.{KnownJournal, LogOk}
 use Rattle.mq_ledger.specs.Sides.{SideOk, IsPort}
 use Rattle.mq_ledger.specs.declared.tx.Tx.{Tx}
 use Rattle.mq_core.specs.Events.{MayEnd, command_with}
@@ -30,12 +30,12 @@ place_within g q place p port own =
     let area = port.area_first in
     let sized = port.area_size in
     let blocks = port.blocks in
-    let sure = port.sure in
+    let certain = port.certain in
     record {
       area = λ l. omega arith;
       small = omega arith;
       blocks = omega (arith, at.0, at.1);
-      sure = omega (arith, at.0, at.1);
+      certain = omega (arith, at.0, at.1);
     }
 
 pub home_within : (g : Geometry) (q x : ℕ) (p : PortState) → IsPort g (Some q) p → zone_of g x ≡ Some q → x < homes_of g → IsWithin p (home_lba g x)
@@ -48,12 +48,12 @@ home_within g q x p port zone inside =
     let first = port.homes_first in
     let sized = port.area_size in
     let blocks = port.blocks in
-    let sure = port.sure in
+    let certain = port.certain in
     record {
       area = λ l. absurd (omega (arith, row.0));
       small = omega arith;
       blocks = omega (arith, at.0, at.2);
-      sure = omega (arith, at.0, at.2);
+      certain = omega (arith, at.0, at.2);
     }
 
 pub root_within : (g : Geometry) (x : ℕ) (p : PortState) → IsPort g None p → zone_of g x ≡ None → x < homes_of g → IsWithin p (home_lba g x)
@@ -64,24 +64,24 @@ root_within g x p port zone inside =
     let first = port.homes_first in
     let sized = port.area_size in
     let blocks = port.blocks in
-    let sure = port.sure in
+    let certain = port.certain in
     record {
       area = λ l. absurd (omega arith);
       small = omega arith;
       blocks = omega (arith, at.0, at.1);
-      sure = omega (arith, at.0, at.1);
+      certain = omega (arith, at.0, at.1);
     }
 
-module _ (k : Known) (q : ℕ) (us : List Tx) (p : PortState) (log : LogOk k) (s : SideOk k q us p) where
+module _ (k : KnownJournal) (q : ℕ) (txs : List Tx) (p : PortState) (log : LogOk k) (s : SideOk k q txs p) where
   -- no count of the queue comes near the end of 64 bits
   pub staged_small : staged_end p < 2 ^ 64
   staged_small = (let o = s.order in let l = s.limit in omega (arith, o.drawn))
 
   pub posted_within : (c : ℕ) → MayEnd c p → IsWithin p (command_with c p.posted).lba
   posted_within c may =
-      let late = posted_late k q us p log s c may in
-      subst (λ (w : Command). IsWithin p w.lba) (sym (own_with k.geometry q (k.from q) c us p.posted s.commands.posted may)) (go (item_at (k.from q) us c).target refl late.0)
+      let late = posted_late k q txs p log s c may in
+      subst (λ (w : Command). IsWithin p w.lba) (sym (own_with k.geometry q (k.from q) c txs p.posted s.commands.posted may)) (go (item_at (k.from q) txs c).target refl late.0)
     where
-      go : (target : Target) → (item_at (k.from q) us c).target ≡ target → IsLate k q us p log s c → IsWithin p (lba_of k.geometry q target)
+      go : (target : Target) → (item_at (k.from q) txs c).target ≡ target → IsLate k q txs p log s c → IsWithin p (lba_of k.geometry q target)
       go (AtPlace r) e late = place_within k.geometry q r p s.port s.queue
-      go (AtHome x) e late = (let z = direct-zone k q us c x log (late_direct k q us p log s c x late e) in home_within k.geometry q x p s.port z.0 z.1)
+      go (AtHome x) e late = (let z = direct-zone k q txs c x log (late_direct k q txs p log s c x late e) in home_within k.geometry q x p s.port z.0 z.1)

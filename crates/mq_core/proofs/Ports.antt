@@ -91,11 +91,11 @@ index-root g x p port e block =
 
 -- ---- what stays certain
 
-pub certainly_along : (s r : PortState) (k : ℕ) (v : List ℕ) → ((lba : ℕ) → index_of r lba ≡ index_of s lba) → r.sure ≡ s.sure → r.blocks ≡ s.blocks → r.posted ≡ s.posted → Certainly s k v → Certainly r k v
-certainly_along s r k v same sure blocks posted c =
+pub certainly_along : (s r : PortState) (k : ℕ) (v : List ℕ) → ((lba : ℕ) → index_of r lba ≡ index_of s lba) → r.certain ≡ s.certain → r.blocks ≡ s.blocks → r.posted ≡ s.posted → Certainly s k v → Certainly r k v
+certainly_along s r k v same certain blocks posted c =
     record {
       certain = record {
-        sure = ap (λ l. get_or l k false) sure ∙ c.certain.sure;
+        certain = ap (λ l. get_or l k false) certain ∙ c.certain.certain;
         apart = rw posted (apart_along s r k s.posted same c.certain.apart);
       };
       is = ap (λ l. block_at l k) blocks ∙ c.is;
@@ -104,7 +104,7 @@ certainly_along s r k v same sure blocks posted c =
 pub certainly_ring : (s : PortState) (k : ℕ) (v : List ℕ) → IsApartFrom s k s.pending → Certainly s k v → Certainly (after_ring s) k v
 certainly_ring s k v apart c =
     record {
-      certain = record { sure = c.certain.sure; apart = apart_append (after_ring s) k s.posted s.pending (along s.posted c.certain.apart) (along s.pending apart) };
+      certain = record { certain = c.certain.certain; apart = apart_append (after_ring s) k s.posted s.pending (along s.posted c.certain.apart) (along s.pending apart) };
       is = c.is;
     }
   where
@@ -116,7 +116,7 @@ certainly_complete s n k v held c =
     let other : k ≢ index_of s (command_with n s.posted).lba = λ e. apart_with s k n s.posted c.certain.apart held (sym e) in
     record {
       certain = record {
-        sure = get_or-set_other s.sure (index_of s (command_with n s.posted).lba) k true false other ∙ c.certain.sure;
+        certain = get_or-set_other s.certain (index_of s (command_with n s.posted).lba) k true false other ∙ c.certain.certain;
         apart = apart_along s (complete_side n s) k (remove s.posted (index_with n s.posted)) (λ lba. refl) (apart_remove s k (index_with n s.posted) s.posted c.certain.apart);
       };
       is = ap content (get_or-set_other s.blocks (index_of s (command_with n s.posted).lba) k (Some (command_with n s.posted).block) None other) ∙ c.is;
@@ -127,18 +127,18 @@ certainly_fail s n k v held c =
     let other : k ≢ index_of s (command_with n s.posted).lba = λ e. apart_with s k n s.posted c.certain.apart held (sym e) in
     record {
       certain = record {
-        sure = get_or-set_other s.sure (index_of s (command_with n s.posted).lba) k false false other ∙ c.certain.sure;
+        certain = get_or-set_other s.certain (index_of s (command_with n s.posted).lba) k false false other ∙ c.certain.certain;
         apart = apart_along s (fail_side n s) k (remove s.posted (index_with n s.posted)) (λ lba. refl) (apart_remove s k (index_with n s.posted) s.posted c.certain.apart);
       };
       is = c.is;
     }
 
 -- what a command wrote, where no other posted command writes the block
-pub certainly_new : (s : PortState) (n k : ℕ) → index_of s (command_with n s.posted).lba ≡ k → k < length s.sure → k < length s.blocks → IsApartFrom s k (remove s.posted (index_with n s.posted)) → Certainly (complete_side n s) k (command_with n s.posted).block
+pub certainly_new : (s : PortState) (n k : ℕ) → index_of s (command_with n s.posted).lba ≡ k → k < length s.certain → k < length s.blocks → IsApartFrom s k (remove s.posted (index_with n s.posted)) → Certainly (complete_side n s) k (command_with n s.posted).block
 certainly_new s n k at l m apart =
     record {
       certain = record {
-        sure = rw at (get_or-set_same s.sure k true false l);
+        certain = rw at (get_or-set_same s.certain k true false l);
         apart = apart_along s (complete_side n s) k (remove s.posted (index_with n s.posted)) (λ lba. refl) apart;
       };
       is = rw at (ap content (get_or-set_same s.blocks k (Some (command_with n s.posted).block) None m));

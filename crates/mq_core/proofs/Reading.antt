@@ -16,72 +16,72 @@ use Rattle.mq_ledger.proofs.Queues.{IsFalling, number_falls}
 
 abbrev pub descriptors : ℕ → List Tx → List Descriptor
 descriptors n [] = []
-descriptors n (t ∷ us) = cond (leb t.number n) [] (descriptor_for t us ∷ descriptors n us)
+descriptors n (t ∷ txs) = cond (leb t.number n) [] (descriptor_for t txs ∷ descriptors n txs)
 
-pub descriptors-above : (n : ℕ) (t : Tx) (us : List Tx) → n < t.number → descriptors n (t ∷ us) ≡ descriptor_for t us ∷ descriptors n us
-descriptors-above n t us l = rw (lt-leb _ _ l) refl
+pub descriptors-above : (n : ℕ) (t : Tx) (txs : List Tx) → n < t.number → descriptors n (t ∷ txs) ≡ descriptor_for t txs ∷ descriptors n txs
+descriptors-above n t txs l = rw (lt-leb _ _ l) refl
 
-pub descriptors-none : (n : ℕ) (t : Tx) (us : List Tx) → t.number ≤ n → descriptors n (t ∷ us) ≡ []
-descriptors-none n t us l = rw (le-leb _ _ l) refl
+pub descriptors-none : (n : ℕ) (t : Tx) (txs : List Tx) → t.number ≤ n → descriptors n (t ∷ txs) ≡ []
+descriptors-none n t txs l = rw (le-leb _ _ l) refl
 
-pub has_descriptor : (q n : ℕ) (t : Tx) (us ws : List Tx) → IsFalling q ws → IsAt t us ws → n < t.number → Has (descriptors n ws) (descriptor_for t us)
-has_descriptor q n t us [] f at l = absurd at
-has_descriptor q n t us (u ∷ ws) f (inl same) l =
+pub has_descriptor : (q n : ℕ) (t : Tx) (txs ws : List Tx) → IsFalling q ws → IsAt t txs ws → n < t.number → Has (descriptors n ws) (descriptor_for t txs)
+has_descriptor q n t txs [] f at l = absurd at
+has_descriptor q n t txs (u ∷ ws) f (inl same) l =
     let e : u.number ≡ t.number = ap (λ (v : Tx). v.number) same.0 in
     rw (descriptors-above n u ws (omega arith)) (inl (go same.0 same.1))
   where
-    go : u ≡ t → ws ≡ us → descriptor_for u ws ≡ descriptor_for t us
+    go : u ≡ t → ws ≡ txs → descriptor_for u ws ≡ descriptor_for t txs
     go p r = λ i. descriptor_for (p i) (r i)
-has_descriptor q n t us (u ∷ ws) f (inr deeper) l =
-    let k = number_falls q t us ws f.2 deeper in
-    rw (descriptors-above n u ws (omega (arith, f.1))) (inr (has_descriptor q n t us ws f.2 deeper l))
+has_descriptor q n t txs (u ∷ ws) f (inr deeper) l =
+    let k = number_falls q t txs ws f.2 deeper in
+    rw (descriptors-above n u ws (omega (arith, f.1))) (inr (has_descriptor q n t txs ws f.2 deeper l))
 
 pub record FromDescriptor (n : ℕ) (d : Descriptor) (ws : List Tx) : Type 0 where
   pub t : Tx
-  pub us : List Tx
-  pub at : IsAt t us ws
+  pub txs : List Tx
+  pub at : IsAt t txs ws
   pub above : n < t.number
-  pub is : descriptor_for t us ≡ d
+  pub is : descriptor_for t txs ≡ d
 
 pub from_descriptor : (n : ℕ) (d : Descriptor) (ws : List Tx) → Has (descriptors n ws) d → FromDescriptor n d ws
 from_descriptor n d [] h = absurd h
 from_descriptor n d (u ∷ ws) h =
     elim (cases_lt n u.number) [
       | inl past ↦ (let k = rw (descriptors-above n u ws past) at h in elim k [
-        | inl same ↦ record { t = u; us = ws; at = inl (refl, refl); above = past; is = same }
-        | inr deeper ↦ (let r = from_descriptor n d ws deeper in record { t = r.t; us = r.us; at = inr r.at; above = r.above; is = r.is })
+        | inl same ↦ record { t = u; txs = ws; at = inl (refl, refl); above = past; is = same }
+        | inr deeper ↦ (let r = from_descriptor n d ws deeper in record { t = r.t; txs = r.txs; at = inr r.at; above = r.above; is = r.is })
       ])
       | inr at ↦ absurd (rw (descriptors-none n u ws at) at h)
     ]
 
 -- the image holds the descriptors of these, which are good
 pub record HoldsAll (g : Geometry) (i : Shown) (q : ℕ) (ws : List Tx) : Type 0 where
-  pub each : (t : Tx) (us : List Tx) → IsAt t us ws → i.base < t.number → (i.area q ((next us + length t.logged) % g.area) ≡ descriptor_bytes (descriptor_for t us)) × IsGood (homes_of g) (descriptor_for t us)
+  pub each : (t : Tx) (txs : List Tx) → IsAt t txs ws → i.base < t.number → (i.area q ((next txs + length t.logged) % g.area) ≡ descriptor_bytes (descriptor_for t txs)) × IsGood (homes_of g) (descriptor_for t txs)
 
 pub chain_of : (g : Geometry) (i : Shown) (q : ℕ) (ws : List Tx) → IsFalling q ws → HoldsAll g i q ws → IsChain g i q (number_before ws) (place_before ws) (descriptors i.base ws)
 chain_of g i q [] f h = omega arith
-chain_of g i q (t ∷ us) f h =
+chain_of g i q (t ∷ txs) f h =
     elim (cases_lt i.base t.number) [
       | inl past ↦
-          let k = h.each t us (inl (refl, refl)) past in
-          rw (descriptors-above i.base t us past) (
+          let k = h.each t txs (inl (refl, refl)) past in
+          rw (descriptors-above i.base t txs past) (
             past,
             record { is = k.0; good = k.1; queue_is = f.0; number_is = refl; place_is = refl },
-            chain_of g i q us f.2 (record { each = λ v vs at l. h.each v vs (inr at) l }),
+            chain_of g i q txs f.2 (record { each = λ v vs at l. h.each v vs (inr at) l }),
           )
-      | inr at ↦ rw (descriptors-none i.base t us at) at
+      | inr at ↦ rw (descriptors-none i.base t txs at) at
     ]
 
 -- all of them are in reach of the newest
-pub reach_of : (g : Geometry) (newest n : ℕ) (ws : List Tx) → ((t : Tx) (us : List Tx) → IsAt t us ws → n < t.number → newest < next us + g.area) → AreInReach g newest (descriptors n ws)
+pub reach_of : (g : Geometry) (newest n : ℕ) (ws : List Tx) → ((t : Tx) (txs : List Tx) → IsAt t txs ws → n < t.number → newest < next txs + g.area) → AreInReach g newest (descriptors n ws)
 reach_of g newest n [] each = tt
-reach_of g newest n (t ∷ us) each =
+reach_of g newest n (t ∷ txs) each =
     elim (cases_lt n t.number) [
       | inl past ↦
-          let k = each t us (inl (refl, refl)) past in
+          let k = each t txs (inl (refl, refl)) past in
           let long = length-map t.logged (λ w. w.0) in
-          rw (descriptors-above n t us past) (omega arith, reach_of g newest n us (λ v vs at l. each v vs (inr at) l))
-      | inr at ↦ rw (descriptors-none n t us at) tt
+          rw (descriptors-above n t txs past) (omega arith, reach_of g newest n txs (λ v vs at l. each v vs (inr at) l))
+      | inr at ↦ rw (descriptors-none n t txs at) tt
     ]
 
 -- ---- the descriptors of the whole history, above a number
@@ -115,13 +115,13 @@ pub record FromRow (n : ℕ) (d : Descriptor) (h : List Tx) : Type 0 where
 
 pub from_row : (n : ℕ) (d : Descriptor) (h : List Tx) → Has (rows n h) d → FromRow n d h
 from_row n d [] k = absurd k
-from_row n d (u ∷ us) k =
+from_row n d (u ∷ txs) k =
     elim (cases_lt n u.number) [
-      | inl past ↦ (let m = rw (rows-above n u us past) at k in elim m [
-        | inl same ↦ record { t = u; ts = us; at = inl (refl, refl); above = past; is = same }
-        | inr deeper ↦ (let r = from_row n d us deeper in record { t = r.t; ts = r.ts; at = inr r.at; above = r.above; is = r.is })
+      | inl past ↦ (let m = rw (rows-above n u txs past) at k in elim m [
+        | inl same ↦ record { t = u; ts = txs; at = inl (refl, refl); above = past; is = same }
+        | inr deeper ↦ (let r = from_row n d txs deeper in record { t = r.t; ts = r.ts; at = inr r.at; above = r.above; is = r.is })
       ])
-      | inr at ↦ absurd (rw (rows-none n u us at) at k)
+      | inr at ↦ absurd (rw (rows-none n u txs at) at k)
     ]
 
 -- ---- copies
@@ -168,5 +168,5 @@ stands_home g i base n (t ∷ ts) x l held e =
           let long : length (blocks_of t.logged) ≡ length t.logged = length-map t.logged (λ w. w.0) in
           let at : next (of_queue t.queue ts) + length t.logged - length (blocks_of t.logged) ≡ next (of_queue t.queue ts) = omega arith in
           let copy = held t ts (inl (refl, refl)) past in
-          rw (rows-above i.base t ts past, at, copy) (home_after (write_of t.logged x) (is_among x t.revoked) (is_exposed n ts x) (stands g i (rows i.base ts) x) (i.home x) e' (λ hidden. stands_home g i base n ts x l (λ u us k. held u us (inr k)) hidden))
+          rw (rows-above i.base t ts past, at, copy) (home_after (write_of t.logged x) (is_among x t.revoked) (is_exposed n ts x) (stands g i (rows i.base ts) x) (i.home x) e' (λ hidden. stands_home g i base n ts x l (λ u txs k. held u txs (inr k)) hidden))
     ]

@@ -11,7 +11,7 @@ use Rattle.mq_blocks.specs.Journal.{is_among}
 use Rattle.mq_blocks.specs.Machine.{after}
 use Rattle.mq_blocks.specs.declared.geometry.Geometry.{Geometry}
 use Rattle.mq_ledger.specs.History.{map_after, last, last_logged}
-use Rattle.mq_ledger.specs.Known.{IsTx}
+use Rattle.mq_ledger.specs.KnownJournal.{IsTx}
 use Rattle.mq_ledger.specs.Plain.{plain}
 use Rattle.mq_ledger.specs.State.{State, start_map, is_done}
 use Rattle.mq_ledger.specs.declared.tx.Tx.{Tx}
@@ -157,7 +157,7 @@ first_may = (
 logs_done : (t : Tx) (ts : List Tx) → ((logs ≡ t) × ([] ≡ ts)) ⊎ ⊥ → is_done (0 ∷ 0 ∷ []) (run plain first_done at_start).ports t ts ≡ false → ⊥
 logs_done t ts at undone = elim at [
   | inl is ↦
-      let here : is_done (0 ∷ 0 ∷ []) (run plain first_done at_start).ports logs [] ≡ false = subst (λ u. is_done (0 ∷ 0 ∷ []) (run plain first_done at_start).ports u [] ≡ false) (sym is.0) (subst (λ us. is_done (0 ∷ 0 ∷ []) (run plain first_done at_start).ports t us ≡ false) (sym is.1) undone) in
+      let here : is_done (0 ∷ 0 ∷ []) (run plain first_done at_start).ports logs [] ≡ false = subst (λ u. is_done (0 ∷ 0 ∷ []) (run plain first_done at_start).ports u [] ≡ false) (sym is.0) (subst (λ txs. is_done (0 ∷ 0 ∷ []) (run plain first_done at_start).ports t txs ≡ false) (sym is.1) undone) in
       false≢true (sym here)
   | inr none ↦ absurd none
 ]

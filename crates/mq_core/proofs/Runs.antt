@@ -38,9 +38,9 @@ always_lawful e (v ∷ vs) s f may = (lawful_from e s f, always_lawful e vs (hap
 -- ---- where it starts
 
 abbrev emptied : State → State
-emptied s = record s { history = []; under = []; acknowledged = [] }
+emptied s = record s { history = []; writing = []; acknowledged = [] }
 
-side_start : (e : Entries) (s : State) (q : ℕ) → q < s.geometry.queues → s.root.base ≡ s.base → IsStartPort e (emptied s) (Some q) (from_at s.froms q) (port_at s.ports q) → SideOk (known_of e (emptied s)) q [] (port_at s.ports q)
+side_start : (e : Entries) (s : State) (q : ℕ) → q < s.geometry.queues → s.root.base ≡ s.base → IsStartPort e (emptied s) (Some q) (from_at s.starts q) (port_at s.ports q) → SideOk (known_of e (emptied s)) q [] (port_at s.ports q)
 side_start e s q own word p =
     let doorbell = p.doorbell in
     let head = p.head in
@@ -69,11 +69,11 @@ side_start e s q own word p =
         waits = λ c low high. absurd (omega arith);
       };
       commands = record {
-        pending = subst (λ cs. AreOwn s.geometry q (from_at s.froms q) [] cs) (sym p.pending) tt;
+        pending = subst (λ cs. AreOwn s.geometry q (from_at s.starts q) [] cs) (sym p.pending) tt;
         pending_counts = subst (λ cs. AreNext (port_at s.ports q).doorbell cs) (sym p.pending) tt;
-        posted = subst (λ cs. AreOwn s.geometry q (from_at s.froms q) [] cs) (sym p.posted) tt;
+        posted = subst (λ cs. AreOwn s.geometry q (from_at s.starts q) [] cs) (sym p.posted) tt;
         posted_counts = subst (λ cs. AreCounted (port_at s.ports q).stored_head (port_at s.ports q).doorbell cs) (sym p.posted) tt;
-        failed = subst (λ cs. AreOwn s.geometry q (from_at s.froms q) [] cs) (sym p.failed) tt;
+        failed = subst (λ cs. AreOwn s.geometry q (from_at s.starts q) [] cs) (sym p.failed) tt;
         failed_counts = subst (λ cs. AreFrom (port_at s.ports q).stored_head cs) (sym p.failed) tt;
       };
       area = record {
@@ -109,13 +109,13 @@ empty_facts e s st =
       sides = λ q own. side_start e s q own st.base (st.each q own);
       root = record { port = st.root.port; posted = st.root.posted; bases = (omega arith, omega arith); homes = st.root.homes };
       marks = λ t ts at. absurd at;
-      under = λ x h. absurd (false≢true h);
+      writing = λ x h. absurd (false≢true h);
       acknowledged = λ n h. absurd (false≢true h);
     }
 
 pub start_facts : (e : Entries) (s : State) → IsStart e s → Facts e s
 start_facts e s st =
-    let same : s ≡ emptied s = λ i. record s { history = st.history i; under = st.under i; acknowledged = st.acknowledged i } in
+    let same : s ≡ emptied s = λ i. record s { history = st.history i; writing = st.writing i; acknowledged = st.acknowledged i } in
     subst (λ t. Facts e t) (sym same) (empty_facts e s (subst (λ t. IsStart e t) same st))
 
 -- every run of allowed events from a start state is lawful throughout

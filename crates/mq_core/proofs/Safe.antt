@@ -7,7 +7,7 @@ use Rattle.mq_blocks.specs.Geometry.{area_lba}
 use Rattle.mq_blocks.specs.Journal.{Shown, Says, IsChain, IsQueueChain, AreWhole, IsPrefix, Has, shown, number_limit}
 use Rattle.mq_ledger.specs.History.{writes, upto, of_queue, all_of, part_of, AreNumbered, IsAt}
 use Rattle.mq_ledger.specs.Items.{Entries, item_at, commit_item, said_of, end_of, next, number_before, place_before, IsEnd, below, descriptor_for}
-use Rattle.mq_ledger.specs.Known.{Known, front}
+use Rattle.mq_ledger.specs.KnownJournal.{KnownJournal, front}
 use Rattle.mq_ledger.specs.Sides.{flushed_at}
 use Rattle.mq_ledger.specs.State.{State, Facts, IsPostedOnce, Recovers, AreImages, IsSafe, is_done, port_at, from_at, known_of, front_of}
 use Rattle.mq_ledger.specs.declared.tx.Tx.{Tx}
@@ -23,88 +23,88 @@ use Rattle.mq_core.proofs.Unique.{one_chain}
 use Rattle.mq_core.proofs.Cuts.{IsCut, IsWhole, is_whole, cut_of, held_descriptor, stand_of}
 
 -- the transaction that ends at a count
-record LastOf (from : ℕ) (us : List Tx) (h : ℕ) : Type 0 where
+record LastOf (from : ℕ) (txs : List Tx) (h : ℕ) : Type 0 where
   pub t : Tx
   pub ws : List Tx
-  pub is : below from h us ≡ t ∷ ws
-  pub item : item_at from us (h - 1) ≡ commit_item t ws
+  pub is : below from h txs ≡ t ∷ ws
+  pub item : item_at from txs (h - 1) ≡ commit_item t ws
 
-last_of : (from h : ℕ) (us : List Tx) → IsEnd from us h → from < h → LastOf from us h
-last_of from h us end past = go (below from h us) refl
+last_of : (from h : ℕ) (txs : List Tx) → IsEnd from txs h → from < h → LastOf from txs h
+last_of from h txs end past = go (below from h txs) refl
   where
-    go : (vs : List Tx) → below from h us ≡ vs → LastOf from us h
+    go : (vs : List Tx) → below from h txs ≡ vs → LastOf from txs h
     go [] e = absurd (let n = ap (end_of from) (sym e) ∙ end in omega arith)
     go (t ∷ ws) e =
         let n : end_of from (t ∷ ws) ≡ h = ap (end_of from) (sym e) ∙ end in
-        let inside : h - 1 < end_of from (below from h us) = (let m : end_of from (below from h us) ≡ h = end in omega arith) in
+        let inside : h - 1 < end_of from (below from h txs) = (let m : end_of from (below from h txs) ≡ h = end in omega arith) in
         let i = h - 1 - end_of from ws in
         record {
           t = t;
           ws = ws;
           is = e;
-          item = item_at-below from h us (h - 1) inside ∙ ap (λ vs. item_at from vs (h - 1)) e ∙ item_at-in from t ws (h - 1) (omega arith) ∙ item-commit t ws i (omega arith);
+          item = item_at-below from h txs (h - 1) inside ∙ ap (λ vs. item_at from vs (h - 1)) e ∙ item_at-in from t ws (h - 1) (omega arith) ∙ item-commit t ws i (omega arith);
         }
 
-none_below : (from h : ℕ) (us : List Tx) → IsEnd from us h → h ≡ from → below from h us ≡ []
-none_below from h us end at = go (below from h us) refl
+none_below : (from h : ℕ) (txs : List Tx) → IsEnd from txs h → h ≡ from → below from h txs ≡ []
+none_below from h txs end at = go (below from h txs) refl
   where
-    go : (vs : List Tx) → below from h us ≡ vs → below from h us ≡ []
+    go : (vs : List Tx) → below from h txs ≡ vs → below from h txs ≡ []
     go [] e = e
     go (t ∷ ws) e = absurd (let n : end_of from (t ∷ ws) ≡ h = ap (end_of from) (sym e) ∙ end in omega arith)
 
-next_at : (t : Tx) (us ws : List Tx) → IsAt t us ws → next us + (length t.logged + 1) ≤ next ws
-next_at t us [] at = absurd at
-next_at t us (u ∷ ws) (inl same) = (let e : next (u ∷ ws) ≡ next (t ∷ us) = (λ i. next (same.0 i ∷ same.1 i)) in omega arith)
-next_at t us (u ∷ ws) (inr deeper) = omega (arith, next_at t us ws deeper)
+next_at : (t : Tx) (txs ws : List Tx) → IsAt t txs ws → next txs + (length t.logged + 1) ≤ next ws
+next_at t txs [] at = absurd at
+next_at t txs (u ∷ ws) (inl same) = (let e : next (u ∷ ws) ≡ next (t ∷ txs) = (λ i. next (same.0 i ∷ same.1 i)) in omega arith)
+next_at t txs (u ∷ ws) (inr deeper) = omega (arith, next_at t txs ws deeper)
 
 module _ (e : Entries) (s : State) (i : Shown) (f : Facts e s) (cut : IsCut e s i) where
-  abbrev k : Known
+  abbrev k : KnownJournal
   k = known_of e s
 
   abbrev us_at : ℕ → List Tx
   us_at q = of_queue q s.history
 
   abbrev chain_at : ℕ → List Tx
-  chain_at q = below (from_at s.froms q) (i.head q) (us_at q)
+  chain_at q = below (from_at s.starts q) (i.head q) (us_at q)
 
   falling_all : (q : ℕ) → IsFalling q (us_at q)
   falling_all q = (IsFalling-of s.base q s.history f.log.numbers).0
 
   falling_chain : (q : ℕ) → IsFalling q (chain_at q)
-  falling_chain q = IsFalling-below q (from_at s.froms q) (i.head q) (us_at q) (falling_all q)
+  falling_chain q = IsFalling-below q (from_at s.starts q) (i.head q) (us_at q) (falling_all q)
 
   holds_chain : (q : ℕ) → q < s.geometry.queues → HoldsAll s.geometry i q (chain_at q)
   holds_chain q own = record {
-    each = λ t us at past.
-        let m = at_from_below (from_at s.froms q) (i.head q) t us (us_at q) at in
-        let r = FromQueue-of q t us s.history m.0 in
+    each = λ t txs at past.
+        let m = at_from_below (from_at s.starts q) (i.head q) t txs (us_at q) at in
+        let r = FromQueue-of q t txs s.history m.0 in
         let limit = (f.sides q own).area.limit in
-        let there = next_at t us (us_at q) m.0 in (
-          go t us past m.1 r.ts r.at r.own r.rest,
-          good_of k t us q f.log m.0 (omega arith),
+        let there = next_at t txs (us_at q) m.0 in (
+          go t txs past m.1 r.ts r.at r.own r.rest,
+          good_of k t txs q f.log m.0 (omega arith),
         );
   }
     where
-      go : (t : Tx) (us : List Tx) → i.base < t.number → end_of (from_at s.froms q) us + (writes t + 1) ≤ i.head q → (ts : List Tx) → IsAt t ts s.history → t.queue ≡ q → of_queue q ts ≡ us → i.area q ((next us + length t.logged) % s.geometry.area) ≡ descriptor_bytes (descriptor_for t us)
-      go t us past l ts at o rest = rw (← rest, ← o) (held_descriptor e s i f cut t ts (record { at = at; above = past; below = rw (o, rest) l }))
+      go : (t : Tx) (txs : List Tx) → i.base < t.number → end_of (from_at s.starts q) txs + (writes t + 1) ≤ i.head q → (ts : List Tx) → IsAt t ts s.history → t.queue ≡ q → of_queue q ts ≡ txs → i.area q ((next txs + length t.logged) % s.geometry.area) ≡ descriptor_bytes (descriptor_for t txs)
+      go t txs past l ts at o rest = rw (← rest, ← o) (held_descriptor e s i f cut t ts (record { at = at; above = past; below = rw (o, rest) l }))
 
   -- where entries are read
-  entry_is : (q c : ℕ) → q < s.geometry.queues → from_at s.froms q ≤ c → (port_at s.ports q).head ≤ c + 1 → c < (port_at s.ports q).doorbell → i.entry q (c % depth) ≡ Some (said_of s.geometry q (item_at (from_at s.froms q) (us_at q) c))
+  entry_is : (q c : ℕ) → q < s.geometry.queues → from_at s.starts q ≤ c → (port_at s.ports q).head ≤ c + 1 → c < (port_at s.ports q).doorbell → i.entry q (c % depth) ≡ Some (said_of s.geometry q (item_at (from_at s.starts q) (us_at q) c))
   entry_is q c own low near high = cut.entry q c own near high ∙ (f.sides q own).ring.rung c low near high
 
   -- while an image's head is where it was at the start, the entry before it is one of the start's
-  start_entry : (q : ℕ) → q < s.geometry.queues → i.head q ≡ from_at s.froms q → 0 < from_at s.froms q → (n : ℕ) × (lba : ℕ) × (i.entry q ((i.head q - 1) % depth) ≡ Some (n, lba, true)) × (n ≤ s.base)
+  start_entry : (q : ℕ) → q < s.geometry.queues → i.head q ≡ from_at s.starts q → 0 < from_at s.starts q → (n : ℕ) × (lba : ℕ) × (i.entry q ((i.head q - 1) % depth) ≡ Some (n, lba, true)) × (n ≤ s.base)
   start_entry q own is some =
       let side = f.sides q own in
       let o = side.order in
       let p = port_at s.ports q in
       let low = cut.from_head q own in
       let high = cut.to_stored q own in
-      let head : p.head ≡ from_at s.froms q = omega (arith, o.head_low) in
+      let head : p.head ≡ from_at s.starts q = omega (arith, o.head_low) in
       let before = side.ring.start some head in
-      let at : i.head q - 1 ≡ from_at s.froms q - 1 = omega arith in
+      let at : i.head q - 1 ≡ from_at s.starts q - 1 = omega arith in
       let read : i.entry q ((i.head q - 1) % depth) ≡ e.says (flushed_at p (i.head q - 1)) = cut.entry q (i.head q - 1) own (omega arith) (omega (arith, o.stored, o.rung)) in
-      let same : e.says (flushed_at p (i.head q - 1)) ≡ e.says (flushed_at p (from_at s.froms q - 1)) = ap (λ n. e.says (flushed_at p n)) at in
+      let same : e.says (flushed_at p (i.head q - 1)) ≡ e.says (flushed_at p (from_at s.starts q - 1)) = ap (λ n. e.says (flushed_at p n)) at in
       (before.0, before.1, read ∙ (same ∙ before.2), before.3)
 
   queue_chain : (q : ℕ) → q < s.geometry.queues → IsQueueChain s.geometry i q (descriptors i.base (chain_at q))
@@ -112,7 +112,7 @@ module _ (e : Entries) (s : State) (i : Shown) (f : Facts e s) (cut : IsCut e s 
       let side = f.sides q own in
       let o = side.order in
       let p = port_at s.ports q in
-      let from = from_at s.froms q in
+      let from = from_at s.starts q in
       let doorbell = cut.doorbell q own in
       let low = cut.from_head q own in
       let high = cut.to_stored q own in
@@ -159,9 +159,9 @@ module _ (e : Entries) (s : State) (i : Shown) (f : Facts e s) (cut : IsCut e s 
               limit = omega arith;
               own = λ above. refl;
               chain = chain';
-              reach = reach_of s.geometry place i.base (chain_at q) (λ t us at above.
-                  let n = at_from_below from (i.head q) t us (us_at q) at in
-                  let up = next_above q s.root.base t us (us_at q) (falling_all q) n.0 (omega (arith, cut.low)) in
+              reach = reach_of s.geometry place i.base (chain_at q) (λ t txs at above.
+                  let n = at_from_below from (i.head q) t txs (us_at q) at in
+                  let up = next_above q s.root.base t txs (us_at q) (falling_all q) n.0 (omega (arith, cut.low)) in
                   omega (arith, side.area.fits));
               rung = rung;
               rung_whole = rung_whole;
@@ -218,8 +218,8 @@ module _ (e : Entries) (s : State) (i : Shown) (f : Facts e s) (cut : IsCut e s 
   source : (q : ℕ) (d : Descriptor) → Has (descriptors i.base (chain_at q)) d → (t : Tx) × (ts : List Tx) × IsAt t ts s.history × (t.queue ≡ q) × (t.number ≡ d.number)
   source q d has =
       let r = from_descriptor i.base d (chain_at q) has in
-      let m = at_from_below (from_at s.froms q) (i.head q) r.t r.us (us_at q) r.at in
-      let w = FromQueue-of q r.t r.us s.history m.0 in
+      let m = at_from_below (from_at s.starts q) (i.head q) r.t r.txs (us_at q) r.at in
+      let w = FromQueue-of q r.t r.txs s.history m.0 in
       (r.t, w.ts, w.at, w.own, ap (λ (v : Descriptor). v.number) r.is)
 
   head_queue : List Tx → ℕ
@@ -251,17 +251,17 @@ module _ (e : Entries) (s : State) (i : Shown) (f : Facts e s) (cut : IsCut e s 
 
   whole_from : (t : Tx) (ts : List Tx) → IsAt t ts s.history → is_whole s i t ts ≡ true → i.base < t.number → IsWhole s i t ts
   whole_from t ts at w past =
-      elim (or_cases (leb t.number i.base) (leb (end_of (from_at s.froms t.queue) (of_queue t.queue ts) + (writes t + 1)) (i.head t.queue)) w) [
+      elim (or_cases (leb t.number i.base) (leb (end_of (from_at s.starts t.queue) (of_queue t.queue ts) + (writes t + 1)) (i.head t.queue)) w) [
         | inl a ↦ absurd (let n : t.number ≤ i.base = leb-true _ _ a in omega arith)
         | inr b ↦ record { at = at; above = past; below = leb-true _ _ b }
       ]
 
   at_in_part : (w : Tx → List Tx → Bool) (t : Tx) (ts h : List Tx) → IsAt t ts (part_of w h) → IsAt t ts h
   at_in_part w t ts [] at = absurd at
-  at_in_part w t ts (u ∷ us) at =
-      elim (cases_Bool (all_of w (u ∷ us))) [
-        | inl all ↦ rw (part-all w u us all) at at
-        | inr some ↦ inr (at_in_part w t ts us (rw (part-less w u us some) at at))
+  at_in_part w t ts (u ∷ txs) at =
+      elim (cases_Bool (all_of w (u ∷ txs))) [
+        | inl all ↦ rw (part-all w u txs all) at at
+        | inr some ↦ inr (at_in_part w t ts txs (rw (part-less w u txs some) at at))
       ]
 
   sub_of : (t : Tx) (ts : List Tx) → IsAt t ts part → IsAt t ts s.history × (i.base < t.number → IsWhole s i t ts)
@@ -270,33 +270,33 @@ module _ (e : Entries) (s : State) (i : Shown) (f : Facts e s) (cut : IsCut e s 
       (n, λ past. whole_from t ts n (all_of_at (is_whole s i) t ts part (part_all (is_whole s i) s.history) at) past)
 
   -- all that is done is whole
-  all_whole : (h : List Tx) → ((t : Tx) (ts : List Tx) → IsAt t ts h → IsAt t ts s.history) → all_of (is_done s.froms s.ports) h ≡ true → all_of (is_whole s i) h ≡ true
+  all_whole : (h : List Tx) → ((t : Tx) (ts : List Tx) → IsAt t ts h → IsAt t ts s.history) → all_of (is_done s.starts s.ports) h ≡ true → all_of (is_whole s i) h ≡ true
   all_whole [] sub all = refl
   all_whole (t ∷ ts) sub all =
-      let n = and_parts (is_done s.froms s.ports t ts) (all_of (is_done s.froms s.ports) ts) all in
+      let n = and_parts (is_done s.starts s.ports t ts) (all_of (is_done s.starts s.ports) ts) all in
       let own = (f.log.each t ts (sub t ts (inl (refl, refl)))).0.queue in
       let low = cut.from_head t.queue own in
-      let done : end_of (from_at s.froms t.queue) (of_queue t.queue ts) + (writes t + 1) ≤ (port_at s.ports t.queue).head = leb-true _ _ n.0 in
-      and_from (is_whole s i t ts) (all_of (is_whole s i) ts) (or_right (leb t.number i.base) _ (le-leb (end_of (from_at s.froms t.queue) (of_queue t.queue ts) + (writes t + 1)) (i.head t.queue) (omega arith))) (all_whole ts (λ u us at. sub u us (inr at)) n.1)
+      let done : end_of (from_at s.starts t.queue) (of_queue t.queue ts) + (writes t + 1) ≤ (port_at s.ports t.queue).head = leb-true _ _ n.0 in
+      and_from (is_whole s i t ts) (all_of (is_whole s i) ts) (or_right (leb t.number i.base) _ (le-leb (end_of (from_at s.starts t.queue) (of_queue t.queue ts) + (writes t + 1)) (i.head t.queue) (omega arith))) (all_whole ts (λ u txs at. sub u txs (inr at)) n.1)
 
-  front_whole : (h : List Tx) → ((t : Tx) (ts : List Tx) → IsAt t ts h → IsAt t ts s.history) → length (part_of (is_done s.froms s.ports) h) ≤ length (part_of (is_whole s i) h)
+  front_whole : (h : List Tx) → ((t : Tx) (ts : List Tx) → IsAt t ts h → IsAt t ts s.history) → length (part_of (is_done s.starts s.ports) h) ≤ length (part_of (is_whole s i) h)
   front_whole [] sub = omega arith
   front_whole (t ∷ ts) sub =
       elim (cases_Bool (all_of (is_whole s i) (t ∷ ts))) [
-        | inl all ↦ rw (part-all (is_whole s i) t ts all) (part_le (is_done s.froms s.ports) (t ∷ ts))
+        | inl all ↦ rw (part-all (is_whole s i) t ts all) (part_le (is_done s.starts s.ports) (t ∷ ts))
         | inr some ↦
-            let bad : all_of (is_done s.froms s.ports) (t ∷ ts) ≡ false = elim (cases_Bool (all_of (is_done s.froms s.ports) (t ∷ ts))) [
+            let bad : all_of (is_done s.starts s.ports) (t ∷ ts) ≡ false = elim (cases_Bool (all_of (is_done s.starts s.ports) (t ∷ ts))) [
               | inl d ↦ absurd (false≢true (sym some ∙ all_whole (t ∷ ts) sub d))
               | inr d ↦ d
             ] in
-            rw (part-less (is_whole s i) t ts some, part-less (is_done s.froms s.ports) t ts bad) (front_whole ts (λ u us at. sub u us (inr at)))
+            rw (part-less (is_whole s i) t ts some, part-less (is_done s.starts s.ports) t ts bad) (front_whole ts (λ u txs at. sub u txs (inr at)))
       ]
 
   in_chain : (d : Descriptor) (t : Tx) (ts : List Tx) → IsWhole s i t ts → descriptor_for t (of_queue t.queue ts) ≡ d → (d.queue < s.geometry.queues) × Has (descriptors i.base (chain_at d.queue)) d
   in_chain d t ts w is =
       let q = t.queue in
       let own = (f.log.each t ts w.at).0.queue in
-      let at = at_in_below (from_at s.froms q) (i.head q) t (of_queue q ts) (us_at q) (at_own q t ts s.history w.at refl) w.below in
+      let at = at_in_below (from_at s.starts q) (i.head q) t (of_queue q ts) (us_at q) (at_own q t ts s.history w.at refl) w.below in
       rw (← is) (own, has_descriptor q i.base t (of_queue q ts) (chain_at q) (falling_chain q) at w.above)
 
   prefix_of : i.base ≤ s.base + length part → IsPrefix s.geometry i (λ q. descriptors i.base (chain_at q)) (rows i.base part)
@@ -312,12 +312,12 @@ module _ (e : Entries) (s : State) (i : Shown) (f : Facts e s) (cut : IsCut e s 
             in_chain d r.t r.ts ((sub_of r.t r.ts r.at).1 r.above) r.is;
         greatest = λ q d own has is.
             let r = from_descriptor i.base d (chain_at q) has in
-            let m = at_from_below (from_at s.froms q) (i.head q) r.t r.us (us_at q) r.at in
-            let t = FromQueue-of q r.t r.us s.history m.0 in
+            let m = at_from_below (from_at s.starts q) (i.head q) r.t r.txs (us_at q) r.at in
+            let t = FromQueue-of q r.t r.txs s.history m.0 in
             let number : r.t.number ≡ d.number = ap (λ (v : Descriptor). v.number) r.is in
             let not = part_stops s.base (is_whole s i) r.t t.ts s.history f.log.numbers t.at (omega (arith, number, is, row.1)) in
-            let low : end_of (from_at s.froms r.t.queue) (of_queue r.t.queue t.ts) + (writes r.t + 1) ≤ i.head r.t.queue = rw (t.own, t.rest) m.1 in
-            let yes : is_whole s i r.t t.ts ≡ true = or_right (leb r.t.number i.base) _ (le-leb (end_of (from_at s.froms r.t.queue) (of_queue r.t.queue t.ts) + (writes r.t + 1)) (i.head r.t.queue) low) in
+            let low : end_of (from_at s.starts r.t.queue) (of_queue r.t.queue t.ts) + (writes r.t + 1) ≤ i.head r.t.queue = rw (t.own, t.rest) m.1 in
+            let yes : is_whole s i r.t t.ts ≡ true = or_right (leb r.t.number i.base) _ (le-leb (end_of (from_at s.starts r.t.queue) (of_queue r.t.queue t.ts) + (writes r.t + 1)) (i.head r.t.queue) low) in
             false≢true (sym not ∙ yes);
       }
 
@@ -348,19 +348,19 @@ pub posted_once : (e : Entries) (s : State) → Facts e s → IsPostedOnce s
 posted_once e s f q c d x own a b there here =
     let k = known_of e s in
     let side = f.sides q own in
-    let us = of_queue q s.history in
+    let txs = of_queue q s.history in
     let p = port_at s.ports q in
     let o = side.order in
-    let late_c = (posted_late k q us p f.log side c a).0 in
-    let late_d = (posted_late k q us p f.log side d b).0 in
-    let dc = direct_in k q us c x side.part (omega (arith, late_c.0, o.head_low, o.stored)) late_c.1 there in
-    let dd = direct_in k q us d x side.part (omega (arith, late_d.0, o.head_low, o.stored)) late_d.1 here in
-    let past = late k q us p d x f.log side late_d.0 dd in
+    let late_c = (posted_late k q txs p f.log side c a).0 in
+    let late_d = (posted_late k q txs p f.log side d b).0 in
+    let dc = direct_in k q txs c x side.part (omega (arith, late_c.0, o.head_low, o.stored)) late_c.1 there in
+    let dd = direct_in k q txs d x side.part (omega (arith, late_d.0, o.head_low, o.stored)) late_d.1 here in
+    let past = late k q txs p d x f.log side late_d.0 dd in
     let front_base : s.base ≤ front k = omega arith in
     let settled = last_upto_bound s.base (front k) s.history x f.log.numbers front_base in
     elim (cases_eq d c) [
       | inl same ↦ sym same
-      | inr other ↦ absurd (clash k q us p c d x f.log side late_c.0 dc dd (omega arith) other)
+      | inr other ↦ absurd (clash k q txs p c d x f.log side late_c.0 dc dd (omega arith) other)
     ]
 
 pub safe_from : (e : Entries) (s : State) → Facts e s → IsSafe e s

@@ -9,7 +9,7 @@ use Rattle.mq_ledger.specs.Items.{end_of}
 use Rattle.mq_ledger.specs.Plain.{plain}
 use Rattle.mq_ledger.specs.Records.{Ledger, IsNextEnd, settle_next}
 use Rattle.mq_ledger.specs.State.{State, Facts, is_done, from_at, port_at, no_port, front_of, known_of}
-use Rattle.mq_ledger.specs.declared.lanes.QueueEnd.{QueueEnd}
+use Rattle.mq_ledger.specs.declared.queue_rows.QueueEnd.{QueueEnd}
 use Rattle.mq_ledger.specs.declared.tx.Tx.{Tx}
 use Rattle.mq_ledger.proofs.Values.{at_most, at_same}
 use Rattle.mq_core.specs.Events.{flush, us_of}
@@ -57,12 +57,12 @@ none_next l ports numbers high d =
     absurd (omega arith)
 
 module _ (l : Ledger) (ports : List PortState) (n : QueueEnd) (e : IsNextEnd l n) (full : length ports ≡ l.geometry.queues) (q count : ℕ) (here : q ≡ n.queue) (end : count ≡ n.count) (p : PortState) (read : p ≡ get_or ports q p) (head : ℕ) (is : head ≡ p.head) where
-  next_test : leb count head ≡ is_done l.froms ports e.tx e.before
+  next_test : leb count head ≡ is_done l.starts ports e.tx e.before
   next_test =
       let inside : q < length ports = (let within = e.within in omega arith) in
       let port : p ≡ port_at ports e.tx.queue = get_or_read ports q p inside read no_port ∙ ap (port_at ports) (here ∙ e.queue) in
       let there : head ≡ (port_at ports e.tx.queue).head = is ∙ ap (λ (v : PortState). v.head) port in
-      ap (λ (c : ℕ). leb c head) (end ∙ e.count) ∙ ap (leb (end_of (from_at l.froms e.tx.queue) (of_queue e.tx.queue e.before) + (writes e.tx + 1))) there
+      ap (λ (c : ℕ). leb c head) (end ∙ e.count) ∙ ap (leb (end_of (from_at l.starts e.tx.queue) (of_queue e.tx.queue e.before) + (writes e.tx + 1))) there
 
   pub next_done : AreNumbered l.base l.history → (IsTrue (leb count head) → IsNextDone l ports) × (IsNextDone l ports → IsTrue (leb count head))
   next_done numbers = (
@@ -71,7 +71,7 @@ module _ (l : Ledger) (ports : List PortState) (n : QueueEnd) (e : IsNextEnd l n
         let one = at_same l.base e.tx d.tx e.before d.before l.history numbers e.stands d.stands (e.number ∙ sym d.number) in
         let tx : e.tx ≡ d.tx = cc in
         let before : e.before ≡ d.before = cc in
-        next_test ∙ ap (λ (t : Tx). is_done l.froms ports t e.before) tx ∙ ap (is_done l.froms ports d.tx) before ∙ d.done,
+        next_test ∙ ap (λ (t : Tx). is_done l.starts ports t e.before) tx ∙ ap (is_done l.starts ports d.tx) before ∙ d.done,
   )
 
 -- one more that is done
@@ -90,18 +90,18 @@ settled_next l ports s next =
       ];
     }
   where
-    heads : (t u : Tx) (ts us : List Tx) → (t ∷ ts) ≡ (u ∷ us) → t ≡ u
-    heads t u ts us e = cc
+    heads : (t u : Tx) (ts txs : List Tx) → (t ∷ ts) ≡ (u ∷ txs) → t ≡ u
+    heads t u ts txs e = cc
 
-    tails : (t u : Tx) (ts us : List Tx) → (t ∷ ts) ≡ (u ∷ us) → ts ≡ us
-    tails t u ts us e = cc
+    tails : (t u : Tx) (ts txs : List Tx) → (t ∷ ts) ≡ (u ∷ txs) → ts ≡ txs
+    tails t u ts txs e = cc
 
-    done_along : (l : Ledger) (ports : List PortState) (t u : Tx) (ts us : List Tx) → (t ∷ ts) ≡ (u ∷ us) → is_done l.froms ports t ts ≡ true → is_done l.froms ports u us ≡ true
-    done_along l ports t u ts us e d = (λ i. is_done l.froms ports (sym (heads t u ts us e) i) (sym (tails t u ts us e) i)) ∙ d
+    done_along : (l : Ledger) (ports : List PortState) (t u : Tx) (ts txs : List Tx) → (t ∷ ts) ≡ (u ∷ txs) → is_done l.starts ports t ts ≡ true → is_done l.starts ports u txs ≡ true
+    done_along l ports t u ts txs e d = (λ i. is_done l.starts ports (sym (heads t u ts txs e) i) (sym (tails t u ts txs e) i)) ∙ d
 
 pub settled_all : (l : Ledger) (ports : List PortState) → IsSettled l ports → (IsNextDone l ports → ⊥) → l ≡ settled ports l
 settled_all l ports s stop =
-    let is = front_found l.base l.front (is_done l.froms ports) l.history s.numbers s.low s.high s.done (λ t ts at number done. stop (record { tx = t; before = ts; stands = at; number = number; done = done })) in
+    let is = front_found l.base l.front (is_done l.starts ports) l.history s.numbers s.low s.high s.done (λ t ts at number done. stop (record { tx = t; before = ts; stands = at; number = number; done = done })) in
     λ i. with_front (is i) l
 
 -- the first that isn't settled is there
@@ -110,9 +110,9 @@ next_high l ports s next = (let at = next.number in omega (arith, at_most l.base
 
 -- ---- after the flush of a queue's port
 
-module _ (l : Ledger) (ports : List PortState) (root : PortState) (marks under acknowledged : List ℕ) (q : ℕ) (own : q < l.geometry.queues) (held : IsHeld l.front (state_with l ports root marks under acknowledged)) where
+module _ (l : Ledger) (ports : List PortState) (root : PortState) (marks writing acknowledged : List ℕ) (q : ℕ) (own : q < l.geometry.queues) (held : IsHeld l.front (state_with l ports root marks writing acknowledged)) where
   abbrev s : State
-  s = state_with l ports root marks under acknowledged
+  s = state_with l ports root marks writing acknowledged
 
   abbrev flushed : List PortState
   flushed = set ports q (after_flush (port_at ports q))
@@ -132,9 +132,9 @@ module _ (l : Ledger) (ports : List PortState) (root : PortState) (marks under a
       record {
         numbers = held.facts.log.numbers;
         low = omega (arith, held.front_is);
-        high = omega (arith, held.front_is, part_le (is_done l.froms ports) l.history);
-        done = λ t ts at below. done_below l.base (is_done l.froms flushed) t ts l.history held.facts.log.numbers at (omega (arith, higher));
+        high = omega (arith, held.front_is, part_le (is_done l.starts ports) l.history);
+        done = λ t ts at below. done_below l.base (is_done l.starts flushed) t ts l.history held.facts.log.numbers at (omega (arith, higher));
       }
 
-  pub flush_held : IsHeld (settled flushed l).front (state_with (settled flushed l) flushed root marks under acknowledged)
+  pub flush_held : IsHeld (settled flushed l).front (state_with (settled flushed l) flushed root marks writing acknowledged)
   flush_held = record { facts = kept; front_is = refl; idle = held.idle }

@@ -8,7 +8,7 @@ use Rattle.mq_blocks.specs.Geometry.{zone_of}
 use Rattle.mq_blocks.specs.declared.command.Command.{Command}
 use Rattle.mq_ledger.specs.History.{last, upto, map_after}
 use Rattle.mq_ledger.specs.Items.{Item, Target, AtPlace, AtHome, command_of, lba_of, end_of, item_at, IsEnd}
-use Rattle.mq_ledger.specs.Known.{Known, LogOk, front}
+use Rattle.mq_ledger.specs.KnownJournal.{KnownJournal, LogOk, front}
 use Rattle.mq_ledger.specs.Sides.{Certainly, IsDone, SideOk, home_index, place_index, holds_count}
 use Rattle.mq_ledger.specs.declared.tx.Tx.{Tx}
 use Rattle.mq_ledger.proofs.Entries.{below-at, places_apart}
@@ -19,22 +19,22 @@ use Rattle.mq_core.proofs.Sources.{DirectIn, direct_in, direct-zone, unneeded, c
 
 -- ---- blocks of commands that aren't completed
 
-module _ (k : Known) (q : ℕ) (us : List Tx) (p : PortState) (log : LogOk k) (s : SideOk k q us p) where
+module _ (k : KnownJournal) (q : ℕ) (txs : List Tx) (p : PortState) (log : LogOk k) (s : SideOk k q txs p) where
   abbrev pub at : ℕ → Item
-  at c = item_at (k.from q) us c
+  at c = item_at (k.from q) txs c
 
   abbrev pub block_of : ℕ → ℕ
   block_of n = index_of p (lba_of k.geometry q (at n).target)
 
   -- the entry stands at or past the stored head, and is drawn
   abbrev pub IsLate : ℕ → Type 0
-  IsLate n = (p.stored_head ≤ n) × (n < end_of (k.from q) us)
+  IsLate n = (p.stored_head ≤ n) × (n < end_of (k.from q) txs)
 
-  pub late_direct : (n x : ℕ) → IsLate n → (at n).target ≡ AtHome x → DirectIn k q us n x
-  late_direct n x l e = direct_in k q us n x s.part (let o = s.order in omega (arith, l.0, o.head_low, o.stored)) l.1 e
+  pub late_direct : (n x : ℕ) → IsLate n → (at n).target ≡ AtHome x → DirectIn k q txs n x
+  late_direct n x l e = direct_in k q txs n x s.part (let o = s.order in omega (arith, l.0, o.head_low, o.stored)) l.1 e
 
   -- it is apart from the place of another entry above the base
-  apart_place : (n c place : ℕ) → IsLate n → end_of (k.from q) (upto k.word us) ≤ c → c < end_of (k.from q) us → c ≢ n → (at c).target ≡ AtPlace place → block_of n ≢ place_index k.geometry place
+  apart_place : (n c place : ℕ) → IsLate n → end_of (k.from q) (upto k.word txs) ≤ c → c < end_of (k.from q) txs → c ≢ n → (at c).target ≡ AtPlace place → block_of n ≢ place_index k.geometry place
   apart_place n c place l low high other e = go (at n).target refl
     where
       go : (target : Target) → (at n).target ≡ target → index_of p (lba_of k.geometry q target) ≢ place_index k.geometry place
@@ -45,17 +45,17 @@ module _ (k : Known) (q : ℕ) (us : List Tx) (p : PortState) (log : LogOk k) (s
           let same' : r % k.geometry.area ≡ place % k.geometry.area = sym i ∙ same in
           elim (cases_order c n) [
             | inl is ↦ other is
-            | inr (inl less) ↦ places_apart k.geometry.area k.word (k.from q) us c n place r s.area.fits (omega arith) low less l.1 e f (sym same')
-            | inr (inr more) ↦ places_apart k.geometry.area k.word (k.from q) us n c r place s.area.fits (omega (arith, l.0, o.head_low, o.stored)) (omega (arith, l.0, o.stored)) more high f e same'
+            | inr (inl less) ↦ places_apart k.geometry.area k.word (k.from q) txs c n place r s.area.fits (omega arith) low less l.1 e f (sym same')
+            | inr (inr more) ↦ places_apart k.geometry.area k.word (k.from q) txs n c r place s.area.fits (omega (arith, l.0, o.head_low, o.stored)) (omega (arith, l.0, o.stored)) more high f e same'
           ]
       go (AtHome x) f same =
           let d = late_direct n x l f in
-          let i = index-zone k.geometry q x p s.port (direct-zone k q us n x log d).0 in
+          let i = index-zone k.geometry q x p s.port (direct-zone k q txs n x log d).0 in
           let j = (index-place k.geometry q place p s.port s.queue).1 in
           omega (arith, i.0, i.1)
 
   -- it is apart from a block of the zone that it doesn't write
-  pub apart_home : (n x : ℕ) → IsLate n → zone_of k.geometry x ≡ Some q → (DirectIn k q us n x → ⊥) → block_of n ≢ home_index k.geometry x
+  pub apart_home : (n x : ℕ) → IsLate n → zone_of k.geometry x ≡ Some q → (DirectIn k q txs n x → ⊥) → block_of n ≢ home_index k.geometry x
   apart_home n x l zone other = go (at n).target refl
     where
       go : (target : Target) → (at n).target ≡ target → index_of p (lba_of k.geometry q target) ≢ home_index k.geometry x
@@ -65,20 +65,20 @@ module _ (k : Known) (q : ℕ) (us : List Tx) (p : PortState) (log : LogOk k) (s
           omega (arith, i.0, i.1, j.1)
       go (AtHome y) f same =
           let d = late_direct n y l f in
-          let z = (direct-zone k q us n y log d).0 in
+          let z = (direct-zone k q txs n y log d).0 in
           let i = (index-zone k.geometry q y p s.port z).0 in
           let is : y ≡ x = zone-apart k.geometry q y x z zone (sym i ∙ same) in
           other (late_direct n x l (f ∙ ap AtHome is))
 
   -- what a kept direct write and a due block need is apart from it
-  apart_direct : (n c x : ℕ) → IsLate n → k.from q ≤ c → c < end_of (k.from q) us → c ≢ n → (at c).target ≡ AtHome x → last k.base (upto (front k) k.history) x ≤ (at c).number → block_of n ≢ home_index k.geometry x
+  apart_direct : (n c x : ℕ) → IsLate n → k.from q ≤ c → c < end_of (k.from q) txs → c ≢ n → (at c).target ≡ AtHome x → last k.base (upto (front k) k.history) x ≤ (at c).number → block_of n ≢ home_index k.geometry x
   apart_direct n c x l low high other e m =
-      let b = direct_in k q us c x s.part low high e in
+      let b = direct_in k q txs c x s.part low high e in
       let number = b.number in
-      apart_home n x l (direct-zone k q us c x log b).0 (λ a. clash k q us p n c x log s l.0 a b (omega (arith, number)) other)
+      apart_home n x l (direct-zone k q txs c x log b).0 (λ a. clash k q txs p n c x log s l.0 a b (omega (arith, number)) other)
 
   apart_due : (n x v : ℕ) (content : List ℕ) → IsLate n → zone_of k.geometry x ≡ Some q → k.due x v ≡ true → map_after k.start (upto v k.history) x ≡ Some content → last k.base (upto (front k) k.history) x ≤ v → block_of n ≢ home_index k.geometry x
-  apart_due n x v content l zone due there m = apart_home n x l zone (λ a. unneeded k q us p n x v content log s l.0 a (log.due x v due) m there)
+  apart_due n x v content l zone due there m = apart_home n x l zone (λ a. unneeded k q txs p n x v content log s l.0 a (log.due x v due) m there)
 
   -- ---- the doorbell is at the staged end
 
@@ -89,7 +89,7 @@ module _ (k : Known) (q : ℕ) (us : List Tx) (p : PortState) (log : LogOk k) (s
       ((omega (arith, r.0, o.rung), omega (arith, r.1, o.drawn)), r.0)
 
   pending_apart : (index : ℕ) → ((n : ℕ) → IsLate n → p.doorbell ≤ n → block_of n ≢ index) → IsApartFrom p index p.pending
-  pending_apart index each = apart_own p k.geometry q (k.from q) us index p.pending s.commands.pending (λ n held. let l = rung_late n held in each n l.0 l.1)
+  pending_apart index each = apart_own p k.geometry q (k.from q) txs index p.pending s.commands.pending (λ n held. let l = rung_late n held in each n l.0 l.1)
 
   -- what is done after the ring was done before it
   done_before : (c : ℕ) → IsDone (after_ring p) c → IsDone p c
@@ -105,14 +105,14 @@ module _ (k : Known) (q : ℕ) (us : List Tx) (p : PortState) (log : LogOk k) (s
         failed = d.failed;
       }
 
-  end-all : IsEnd (k.from q) us (end_of (k.from q) us)
-  end-all = go us
+  end-all : IsEnd (k.from q) txs (end_of (k.from q) txs)
+  end-all = go txs
     where
       go : (ws : List Tx) → IsEnd (k.from q) ws (end_of (k.from q) ws)
       go [] = omega arith
       go (t ∷ ws) = rw (below-at (k.from q) (end_of (k.from q) (t ∷ ws)) t ws (omega arith)) refl
 
-  pub side_ring : MayRing (k.from q) us p → SideOk k q us (after_ring p)
+  pub side_ring : MayRing (k.from q) txs p → SideOk k q txs (after_ring p)
   side_ring may =
       let o = s.order in
       let drawn = may.drawn in
@@ -132,7 +132,7 @@ module _ (k : Known) (q : ℕ) (us : List Tx) (p : PortState) (log : LogOk k) (s
           flushed = s.port.flushed;
           staged = s.port.staged;
           blocks = s.port.blocks;
-          sure = s.port.sure;
+          certain = s.port.certain;
         };
         order = record {
           head_low = o.head_low;
@@ -144,7 +144,7 @@ module _ (k : Known) (q : ℕ) (us : List Tx) (p : PortState) (log : LogOk k) (s
           room = o.room;
         };
         limit = s.limit;
-        ends = record { head = s.ends.head; stored = s.ends.stored; doorbell = subst (λ h. IsEnd (k.from q) us h) (sym whole) end-all };
+        ends = record { head = s.ends.head; stored = s.ends.stored; doorbell = subst (λ h. IsEnd (k.from q) txs h) (sym whole) end-all };
         ring = record {
           settled = λ n f. s.ring.settled n (all n);
           start = s.ring.start;
@@ -157,7 +157,7 @@ module _ (k : Known) (q : ℕ) (us : List Tx) (p : PortState) (log : LogOk k) (s
         commands = record {
           pending = tt;
           pending_counts = tt;
-          posted = own_append k.geometry q (k.from q) us p.posted p.pending s.commands.posted s.commands.pending;
+          posted = own_append k.geometry q (k.from q) txs p.posted p.pending s.commands.posted s.commands.pending;
           posted_counts = counted_append p.stored_head p.doorbell (staged_end p) p.posted p.pending o.rung (omega arith) s.commands.posted_counts (counted_next p.doorbell p.pending s.commands.pending_counts);
           failed = s.commands.failed;
           failed_counts = s.commands.failed_counts;
@@ -193,12 +193,12 @@ module _ (k : Known) (q : ℕ) (us : List Tx) (p : PortState) (log : LogOk k) (s
     left = remove p.posted (index_with n p.posted)
 
     own : command_with n p.posted ≡ command_of k.geometry q n (at n)
-    own = own_with k.geometry q (k.from q) n us p.posted s.commands.posted may
+    own = own_with k.geometry q (k.from q) n txs p.posted s.commands.posted may
 
     -- the other posted commands write elsewhere
     left_apart : (index : ℕ) → ((d : ℕ) → IsLate d → n ≢ d → block_of d ≢ index) → IsApartFrom p index left
     left_apart index each =
-        apart_own p k.geometry q (k.from q) us index left (own_remove k.geometry q (k.from q) us (index_with n p.posted) p.posted s.commands.posted) (λ d held.
+        apart_own p k.geometry q (k.from q) txs index left (own_remove k.geometry q (k.from q) txs (index_with n p.posted) p.posted s.commands.posted) (λ d held.
         each d (posted_late d (held_remove d (index_with n p.posted) p.posted held)).0 (λ e. false≢true (sym (taken_out p.stored_head p.doorbell n p.posted s.commands.posted_counts) ∙ ap (λ m. holds_count m left) e ∙ held)))
 
     ended : PortState
@@ -211,12 +211,12 @@ module _ (k : Known) (q : ℕ) (us : List Tx) (p : PortState) (log : LogOk k) (s
     -- what it wrote
     new : (index : ℕ) → block_of n ≡ index → index < k.geometry.area + k.geometry.zone → ((d : ℕ) → IsLate d → n ≢ d → block_of d ≢ index) → Certainly (complete_side n p) index (at n).content
     new index is small each =
-        let long = s.port.sure in
+        let long = s.port.certain in
         let wide = s.port.blocks in
         subst (λ (v : List ℕ). Certainly (complete_side n p) index v) (ap (λ (c : Command). c.block) own)
         (certainly_new p n index (ap (λ (c : Command). index_of p c.lba) own ∙ is) (omega arith) (omega arith) (left_apart index each))
 
-    pub side_complete : SideOk k q us (complete_side n p)
+    pub side_complete : SideOk k q txs (complete_side n p)
     side_complete =
         let o = s.order in
         let l = posted_late n may in
@@ -232,7 +232,7 @@ module _ (k : Known) (q : ℕ) (us : List Tx) (p : PortState) (log : LogOk k) (s
             flushed = s.port.flushed;
             staged = s.port.staged;
             blocks = length-set p.blocks (index_of p (command_with n p.posted).lba) (Some (command_with n p.posted).block) ∙ s.port.blocks;
-            sure = length-set p.sure (index_of p (command_with n p.posted).lba) true ∙ s.port.sure;
+            certain = length-set p.certain (index_of p (command_with n p.posted).lba) true ∙ s.port.certain;
           };
           order = record { head_low = o.head_low; stored = o.stored; rung = o.rung; flushed = o.flushed; staged = o.staged; drawn = o.drawn; room = o.room };
           limit = s.limit;
@@ -241,7 +241,7 @@ module _ (k : Known) (q : ℕ) (us : List Tx) (p : PortState) (log : LogOk k) (s
           commands = record {
             pending = s.commands.pending;
             pending_counts = s.commands.pending_counts;
-            posted = own_remove k.geometry q (k.from q) us (index_with n p.posted) p.posted s.commands.posted;
+            posted = own_remove k.geometry q (k.from q) txs (index_with n p.posted) p.posted s.commands.posted;
             posted_counts = counted_remove p.stored_head p.doorbell (index_with n p.posted) p.posted s.commands.posted_counts;
             failed = s.commands.failed;
             failed_counts = s.commands.failed_counts;
@@ -264,8 +264,8 @@ module _ (k : Known) (q : ℕ) (us : List Tx) (p : PortState) (log : LogOk k) (s
             | inl same ↦
                 let target' : (at n).target ≡ AtHome x = rw (← same) target in
                 let m' : last k.base (upto (front k) k.history) x ≤ (at n).number = rw (← same) m in
-                let b = direct_in k q us n x s.part (rw same at low) l.0.1 target' in
-                let i = index-zone k.geometry q x p s.port (direct-zone k q us n x log b).0 in
+                let b = direct_in k q txs n x s.part (rw same at low) l.0.1 target' in
+                let i = index-zone k.geometry q x p s.port (direct-zone k q txs n x log b).0 in
                 let is : block_of n ≡ home_index k.geometry x = ap (λ (t : Target). index_of p (lba_of k.geometry q t)) target' ∙ i.0 in
                 rw same (new (home_index k.geometry x) is i.2 (λ e late other. apart_direct e n x late (rw same at low) l.0.1 other target' m'))
             | inr other ↦ certainly_complete p n _ _ may (s.direct c x low (done_then c other d) target m)
@@ -280,7 +280,7 @@ module _ (k : Known) (q : ℕ) (us : List Tx) (p : PortState) (log : LogOk k) (s
         let other : c ≢ n = λ e. false≢true (sym parts.1 ∙ rw (eq-eqb _ _ (count-with n p.posted may ∙ sym e)) refl) in
         record { rung = d.rung; posted = left_out n c p.posted other d.posted; failed = parts.0 }
 
-    pub side_fail : SideOk k q us (fail_side n p)
+    pub side_fail : SideOk k q txs (fail_side n p)
     side_fail =
         let o = s.order in
         let l = posted_late n may in
@@ -298,7 +298,7 @@ module _ (k : Known) (q : ℕ) (us : List Tx) (p : PortState) (log : LogOk k) (s
             flushed = s.port.flushed;
             staged = s.port.staged;
             blocks = s.port.blocks;
-            sure = length-set p.sure (index_of p (command_with n p.posted).lba) false ∙ s.port.sure;
+            certain = length-set p.certain (index_of p (command_with n p.posted).lba) false ∙ s.port.certain;
           };
           order = record { head_low = o.head_low; stored = o.stored; rung = o.rung; flushed = o.flushed; staged = o.staged; drawn = o.drawn; room = o.room };
           limit = s.limit;
@@ -307,9 +307,9 @@ module _ (k : Known) (q : ℕ) (us : List Tx) (p : PortState) (log : LogOk k) (s
           commands = record {
             pending = s.commands.pending;
             pending_counts = s.commands.pending_counts;
-            posted = own_remove k.geometry q (k.from q) us (index_with n p.posted) p.posted s.commands.posted;
+            posted = own_remove k.geometry q (k.from q) txs (index_with n p.posted) p.posted s.commands.posted;
             posted_counts = counted_remove p.stored_head p.doorbell (index_with n p.posted) p.posted s.commands.posted_counts;
-            failed = own_append k.geometry q (k.from q) us p.failed (command_with n p.posted ∷ []) s.commands.failed (mine, tt);
+            failed = own_append k.geometry q (k.from q) txs p.failed (command_with n p.posted ∷ []) s.commands.failed (mine, tt);
             failed_counts = from_append p.stored_head p.failed (command_with n p.posted ∷ []) s.commands.failed_counts (omega (arith, count, l.0.0), tt);
           };
           area = record { fits = s.area.fits; limit = s.area.limit; holds = λ c place low d target. certainly_fail p n _ _ may (s.area.holds c place low (done_still c d) target) };

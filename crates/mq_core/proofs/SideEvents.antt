@@ -5,7 +5,7 @@ use Rattle.std.proofs.lemmas.List.{length-set, get_or-set_same, get_or-set_other
 use Rattle.mq_blocks.specs.Drive.{PortState, IsFlushed, index_of, staged_end, after_flush, after_store_head, depth}
 use Rattle.mq_blocks.specs.declared.command.Command.{Command}
 use Rattle.mq_ledger.specs.Items.{Item, said_of, command_of, item_at}
-use Rattle.mq_ledger.specs.Known.{Known, LogOk}
+use Rattle.mq_ledger.specs.KnownJournal.{KnownJournal, LogOk}
 use Rattle.mq_ledger.specs.Sides.{Certainly, IsRing, IsDone, IsArea, SideOk, flushed_at, staged_at}
 use Rattle.mq_ledger.specs.declared.tx.Tx.{Tx}
 use Rattle.mq_core.specs.Events.{stage_side, MayStage, MayStoreHead}
@@ -17,14 +17,14 @@ use Rattle.mq_core.proofs.Sources.{from_of, may-say}
 
 pub record IsSame (p r : PortState) : Type 0 where
   pub index : (lba : ℕ) → index_of r lba ≡ index_of p lba
-  pub sure : r.sure ≡ p.sure
+  pub certain : r.certain ≡ p.certain
   pub blocks : r.blocks ≡ p.blocks
   pub posted : r.posted ≡ p.posted
   pub failed : r.failed ≡ p.failed
   pub doorbell : r.doorbell ≡ p.doorbell
 
 pub certainly_same : (p r : PortState) (n : ℕ) (v : List ℕ) → IsSame p r → Certainly p n v → Certainly r n v
-certainly_same p r n v same c = certainly_along p r n v same.index same.sure same.blocks same.posted c
+certainly_same p r n v same c = certainly_along p r n v same.index same.certain same.blocks same.posted c
 
 done_same : (p r : PortState) (c : ℕ) → IsSame p r → IsDone r c → IsDone p c
 done_same p r c same d =
@@ -34,8 +34,8 @@ done_same p r c same d =
       failed = rw (← same.failed) d.failed;
     }
 
-area_same : (k : Known) (q : ℕ) (us : List Tx) (p r : PortState) → IsSame p r → IsArea k q us p → IsArea k q us r
-area_same k q us p r same a =
+area_same : (k : KnownJournal) (q : ℕ) (txs : List Tx) (p r : PortState) → IsSame p r → IsArea k q txs p → IsArea k q txs r
+area_same k q txs p r same a =
     record {
       fits = a.fits;
       limit = a.limit;
@@ -44,9 +44,9 @@ area_same k q us p r same a =
 
 -- ---- the next entry is staged
 
-module _ (k : Known) (q : ℕ) (us : List Tx) (p : PortState) (log : LogOk k) (s : SideOk k q us p) (may : MayStage (k.from q) us p) where
+module _ (k : KnownJournal) (q : ℕ) (txs : List Tx) (p : PortState) (log : LogOk k) (s : SideOk k q txs p) (may : MayStage (k.from q) txs p) where
   abbrev item : Item
-  item = item_at (k.from q) us (staged_end p)
+  item = item_at (k.from q) txs (staged_end p)
 
   abbrev entry : List ℕ
   entry = k.entries.entry (staged_end p % depth) (said_of k.geometry q item)
@@ -55,7 +55,7 @@ module _ (k : Known) (q : ℕ) (us : List Tx) (p : PortState) (log : LogOk k) (s
   command = command_of k.geometry q (staged_end p) item
 
   abbrev staged : PortState
-  staged = stage_side k.entries k.geometry q (k.from q) us p
+  staged = stage_side k.entries k.geometry q (k.from q) txs p
 
   more : staged_end staged ≡ staged_end p + 1
   more = (let e : length (p.pending ++ command ∷ []) ≡ length p.pending + 1 = length-append p.pending (command ∷ []) in omega arith)
@@ -73,10 +73,10 @@ module _ (k : Known) (q : ℕ) (us : List Tx) (p : PortState) (log : LogOk k) (s
   reads : k.entries.says entry ≡ Some (said_of k.geometry q item)
   reads =
       let o = s.order in
-      let f = from_of k q us (staged_end p) s.part (omega (arith, o.head_low, o.stored, o.rung, o.flushed, o.staged)) may in
-      log.entries (staged_end p % depth) (said_of k.geometry q item) (may-say k q us (staged_end p) (staged_end p % depth) log s.queue f (omega arith))
+      let f = from_of k q txs (staged_end p) s.part (omega (arith, o.head_low, o.stored, o.rung, o.flushed, o.staged)) may in
+      log.entries (staged_end p % depth) (said_of k.geometry q item) (may-say k q txs (staged_end p) (staged_end p % depth) log s.queue f (omega arith))
 
-  ring_staged : IsRing k q us staged
+  ring_staged : IsRing k q txs staged
   ring_staged =
       let o = s.order in
       record {
@@ -94,10 +94,10 @@ module _ (k : Known) (q : ℕ) (us : List Tx) (p : PortState) (log : LogOk k) (s
         ];
       }
 
-  pub side_stage : SideOk k q us staged
+  pub side_stage : SideOk k q txs staged
   side_stage =
       let o = s.order in
-      let same : IsSame p staged = record { index = λ lba. refl; sure = refl; blocks = refl; posted = refl; failed = refl; doorbell = refl } in
+      let same : IsSame p staged = record { index = λ lba. refl; certain = refl; blocks = refl; posted = refl; failed = refl; doorbell = refl } in
       record {
         queue = s.queue;
         part = s.part;
@@ -110,7 +110,7 @@ module _ (k : Known) (q : ℕ) (us : List Tx) (p : PortState) (log : LogOk k) (s
           flushed = s.port.flushed;
           staged = length-set p.staged (staged_end p % depth) entry ∙ s.port.staged;
           blocks = s.port.blocks;
-          sure = s.port.sure;
+          certain = s.port.certain;
         };
         order = record {
           head_low = o.head_low;
@@ -125,14 +125,14 @@ module _ (k : Known) (q : ℕ) (us : List Tx) (p : PortState) (log : LogOk k) (s
         ends = record { head = s.ends.head; stored = s.ends.stored; doorbell = s.ends.doorbell };
         ring = ring_staged;
         commands = record {
-          pending = own_append k.geometry q (k.from q) us p.pending (command ∷ []) s.commands.pending (refl, tt);
+          pending = own_append k.geometry q (k.from q) txs p.pending (command ∷ []) s.commands.pending (refl, tt);
           pending_counts = next_append p.doorbell p.pending command s.commands.pending_counts refl;
           posted = s.commands.posted;
           posted_counts = s.commands.posted_counts;
           failed = s.commands.failed;
           failed_counts = s.commands.failed_counts;
         };
-        area = area_same k q us p staged same s.area;
+        area = area_same k q txs p staged same s.area;
         based = s.based;
         done = s.done;
         direct = λ c x low d target m. certainly_same p staged _ _ same (s.direct c x low (done_same p staged c same d) target m);
@@ -142,17 +142,17 @@ module _ (k : Known) (q : ℕ) (us : List Tx) (p : PortState) (log : LogOk k) (s
 -- ---- what is staged and stored is certain from here on
 
 -- no entry that is staged since the last flush is in a slot from the one before the head to the doorbell
-pub slot_clear : (k : Known) (q : ℕ) (us : List Tx) (p : PortState) (c : ℕ) → SideOk k q us p → p.head ≤ c + 1 → c < p.doorbell → IsFlushed p (c % depth)
-slot_clear k q us p c s low high d from to =
+pub slot_clear : (k : KnownJournal) (q : ℕ) (txs : List Tx) (p : PortState) (c : ℕ) → SideOk k q txs p → p.head ≤ c + 1 → c < p.doorbell → IsFlushed p (c % depth)
+slot_clear k q txs p c s low high d from to =
     let o = s.order in
     let apart : d % 1024 ≢ c % 1024 = omega (arith, o.room, o.drawn, o.flushed) in
     apart
 
-pub side_flush : (k : Known) (q : ℕ) (us : List Tx) (p : PortState) → SideOk k q us p → SideOk k q us (after_flush p)
-side_flush k q us p s =
+pub side_flush : (k : KnownJournal) (q : ℕ) (txs : List Tx) (p : PortState) → SideOk k q txs p → SideOk k q txs (after_flush p)
+side_flush k q txs p s =
     let o = s.order in
-    let same : IsSame p (after_flush p) = record { index = λ lba. refl; sure = refl; blocks = refl; posted = refl; failed = refl; doorbell = refl } in
-    let kept : (c : ℕ) → p.head ≤ c + 1 → c < p.doorbell → flushed_at (after_flush p) c ≡ flushed_at p c = λ c low high. s.ring.settled (c % depth) (slot_clear k q us p c s low high) in
+    let same : IsSame p (after_flush p) = record { index = λ lba. refl; certain = refl; blocks = refl; posted = refl; failed = refl; doorbell = refl } in
+    let kept : (c : ℕ) → p.head ≤ c + 1 → c < p.doorbell → flushed_at (after_flush p) c ≡ flushed_at p c = λ c low high. s.ring.settled (c % depth) (slot_clear k q txs p c s low high) in
     record {
       queue = s.queue;
       part = s.part;
@@ -165,7 +165,7 @@ side_flush k q us p s =
         flushed = s.port.staged;
         staged = s.port.staged;
         blocks = s.port.blocks;
-        sure = s.port.sure;
+        certain = s.port.certain;
       };
       order = record {
         head_low = omega (arith, o.head_low, o.stored);
@@ -199,17 +199,17 @@ side_flush k q us p s =
         failed = s.commands.failed;
         failed_counts = s.commands.failed_counts;
       };
-      area = area_same k q us p (after_flush p) same s.area;
+      area = area_same k q txs p (after_flush p) same s.area;
       based = omega (arith, s.based, o.stored);
       done = λ t ts at own known. omega (arith, s.done t ts at own known, o.stored);
       direct = λ c x low d target m. certainly_same p (after_flush p) _ _ same (s.direct c x low (done_same p (after_flush p) c same d) target m);
       homes = λ x v content block zone due there m. certainly_same p (after_flush p) _ _ same (s.homes x v content block zone due there m);
     }
 
-pub side_store_head : (k : Known) (q : ℕ) (us : List Tx) (p : PortState) (h : ℕ) → SideOk k q us p → MayStoreHead (k.from q) us p h → SideOk k q us (after_store_head p h)
-side_store_head k q us p h s may =
+pub side_store_head : (k : KnownJournal) (q : ℕ) (txs : List Tx) (p : PortState) (h : ℕ) → SideOk k q txs p → MayStoreHead (k.from q) txs p h → SideOk k q txs (after_store_head p h)
+side_store_head k q txs p h s may =
     let o = s.order in
-    let same : IsSame p (after_store_head p h) = record { index = λ lba. refl; sure = refl; blocks = refl; posted = refl; failed = refl; doorbell = refl } in
+    let same : IsSame p (after_store_head p h) = record { index = λ lba. refl; certain = refl; blocks = refl; posted = refl; failed = refl; doorbell = refl } in
     record {
       queue = s.queue;
       part = s.part;
@@ -222,7 +222,7 @@ side_store_head k q us p h s may =
         flushed = s.port.flushed;
         staged = s.port.staged;
         blocks = s.port.blocks;
-        sure = s.port.sure;
+        certain = s.port.certain;
       };
       order = record {
         head_low = o.head_low;
@@ -244,7 +244,7 @@ side_store_head k q us p h s may =
         failed = s.commands.failed;
         failed_counts = may.failed;
       };
-      area = area_same k q us p (after_store_head p h) same s.area;
+      area = area_same k q txs p (after_store_head p h) same s.area;
       based = s.based;
       done = s.done;
       direct = λ c x low d target m. certainly_same p (after_store_head p h) _ _ same (s.direct c x low (done_same p (after_store_head p h) c same d) target m);

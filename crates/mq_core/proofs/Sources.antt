@@ -9,7 +9,7 @@ use Rattle.mq_blocks.specs.Journal.{is_among}
 use Rattle.mq_blocks.specs.Machine.{Map, Writes}
 use Rattle.mq_ledger.specs.History.{blocks_of, writes, map_after, last, upto, of_queue, AreNumbered, IsAt, IsPart}
 use Rattle.mq_ledger.specs.Items.{Item, Target, AtPlace, AtHome, MaySay, write_at, item_at, item_of, total, end_of, said_of, lba_of}
-use Rattle.mq_ledger.specs.Known.{Known, LogOk, front}
+use Rattle.mq_ledger.specs.KnownJournal.{KnownJournal, LogOk, front}
 use Rattle.mq_ledger.specs.Sides.{SideOk}
 use Rattle.mq_ledger.specs.declared.tx.Tx.{Tx}
 use Rattle.mq_ledger.proofs.Values.{at_same, at_numbered, at_below, at_most, last_at, upto_number, free_at, changes_direct, written_among, map_written, write_of-append}
@@ -19,34 +19,34 @@ use Rattle.mq_core.proofs.Ports.{row-below}
 
 -- ---- the entries of a part of a queue's transactions
 
-total_part : (newer us : List Tx) → total us ≤ total (newer ++ us)
-total_part [] us = omega arith
-total_part (t ∷ ts) us = omega (arith, total_part ts us)
+total_part : (newer txs : List Tx) → total txs ≤ total (newer ++ txs)
+total_part [] txs = omega arith
+total_part (t ∷ ts) txs = omega (arith, total_part ts txs)
 
-item_part : (from : ℕ) (newer us : List Tx) (c : ℕ) → c < end_of from us → item_at from (newer ++ us) c ≡ item_at from us c
-item_part from [] us c l = refl
-item_part from (t ∷ ts) us c l = item_at-before from t (ts ++ us) c (omega (arith, total_part ts us, l)) ∙ item_part from ts us c l
+item_part : (from : ℕ) (newer txs : List Tx) (c : ℕ) → c < end_of from txs → item_at from (newer ++ txs) c ≡ item_at from txs c
+item_part from [] txs c l = refl
+item_part from (t ∷ ts) txs c l = item_at-before from t (ts ++ txs) c (omega (arith, total_part ts txs, l)) ∙ item_part from ts txs c l
 
 -- the transaction of a count of a side
-pub record From (k : Known) (q : ℕ) (us : List Tx) (c : ℕ) : Type 0 where
+pub record From (k : KnownJournal) (q : ℕ) (txs : List Tx) (c : ℕ) : Type 0 where
   pub t : Tx
   pub ts : List Tx
   pub at : IsAt t ts k.history
   pub own : t.queue ≡ q
   pub low : end_of (k.from q) (of_queue q ts) ≤ c
   pub high : c < end_of (k.from q) (of_queue q ts) + (writes t + 1)
-  pub is : item_at (k.from q) us c ≡ item_of t (of_queue q ts) (c - end_of (k.from q) (of_queue q ts))
+  pub is : item_at (k.from q) txs c ≡ item_of t (of_queue q ts) (c - end_of (k.from q) (of_queue q ts))
 
-pub from_of : (k : Known) (q : ℕ) (us : List Tx) (c : ℕ) → IsPart us (of_queue q k.history) → k.from q ≤ c → c < end_of (k.from q) us → From k q us c
-from_of k q us c part l u =
+pub from_of : (k : KnownJournal) (q : ℕ) (txs : List Tx) (c : ℕ) → IsPart txs (of_queue q k.history) → k.from q ≤ c → c < end_of (k.from q) txs → From k q txs c
+from_of k q txs c part l u =
     let from = k.from q in
-    let whole : item_at from (of_queue q k.history) c ≡ item_at from us c = ap (λ ws. item_at from ws c) part.1 ∙ item_part from part.0 us c u in
-    let longer : total (of_queue q k.history) ≡ total (part.0 ++ us) = ap total part.1 in
-    let s = Source-of from q k.history c l (omega (arith, longer, total_part part.0 us)) in
+    let whole : item_at from (of_queue q k.history) c ≡ item_at from txs c = ap (λ ws. item_at from ws c) part.1 ∙ item_part from part.0 txs c u in
+    let longer : total (of_queue q k.history) ≡ total (part.0 ++ txs) = ap total part.1 in
+    let s = Source-of from q k.history c l (omega (arith, longer, total_part part.0 txs)) in
     record { t = s.t; ts = s.ts; at = s.at; own = s.own; low = s.low; high = s.high; is = sym whole ∙ s.is }
 
-pub number-from : (k : Known) (q : ℕ) (us : List Tx) (c : ℕ) → (f : From k q us c) → (item_at (k.from q) us c).number ≡ f.t.number
-number-from k q us c f = ap (λ (i : Item). i.number) f.is ∙ item-number f.t (of_queue q f.ts) (c - end_of (k.from q) (of_queue q f.ts))
+pub number-from : (k : KnownJournal) (q : ℕ) (txs : List Tx) (c : ℕ) → (f : From k q txs c) → (item_at (k.from q) txs c).number ≡ f.t.number
+number-from k q txs c f = ap (λ (i : Item). i.number) f.is ∙ item-number f.t (of_queue q f.ts) (c - end_of (k.from q) (of_queue q f.ts))
 
 -- ---- direct writes
 
@@ -77,7 +77,7 @@ among_below low high (y ∷ ys) x r e = elim (cases_Bool (eqb y x)) [
 ]
 
 -- the direct write of a count
-pub record DirectIn (k : Known) (q : ℕ) (us : List Tx) (c x : ℕ) : Type 0 where
+pub record DirectIn (k : KnownJournal) (q : ℕ) (txs : List Tx) (c x : ℕ) : Type 0 where
   pub t : Tx
   pub ts : List Tx
   pub at : IsAt t ts k.history
@@ -85,12 +85,12 @@ pub record DirectIn (k : Known) (q : ℕ) (us : List Tx) (c x : ℕ) : Type 0 wh
   pub low : end_of (k.from q) (of_queue q ts) + length t.logged ≤ c
   pub high : c < end_of (k.from q) (of_queue q ts) + writes t
   pub block : (write_at t.direct (c - (end_of (k.from q) (of_queue q ts) + length t.logged))).0 ≡ x
-  pub number : (item_at (k.from q) us c).number ≡ t.number
+  pub number : (item_at (k.from q) txs c).number ≡ t.number
   pub among : is_among x (blocks_of t.direct) ≡ true
 
-pub direct_in : (k : Known) (q : ℕ) (us : List Tx) (c x : ℕ) → IsPart us (of_queue q k.history) → k.from q ≤ c → c < end_of (k.from q) us → (item_at (k.from q) us c).target ≡ AtHome x → DirectIn k q us c x
-direct_in k q us c x part l u e =
-    let f = from_of k q us c part l u in
+pub direct_in : (k : KnownJournal) (q : ℕ) (txs : List Tx) (c x : ℕ) → IsPart txs (of_queue q k.history) → k.from q ≤ c → c < end_of (k.from q) txs → (item_at (k.from q) txs c).target ≡ AtHome x → DirectIn k q txs c x
+direct_in k q txs c x part l u e =
+    let f = from_of k q txs c part l u in
     let i = c - end_of (k.from q) (of_queue q f.ts) in
     let d = item-home f.t (of_queue q f.ts) i x (sym (ap (λ (v : Item). v.target) f.is) ∙ e) in
     let j : i - length f.t.logged ≡ c - (end_of (k.from q) (of_queue q f.ts) + length f.t.logged) = omega arith in
@@ -103,21 +103,21 @@ direct_in k q us c x part l u e =
       low = omega (arith, d.low);
       high = omega (arith, d.high);
       block = ap (λ (m : ℕ). (write_at f.t.direct m).0) (sym j) ∙ d.block;
-      number = number-from k q us c f;
+      number = number-from k q txs c f;
       among = among_at f.t.direct (i - length f.t.logged) x (omega (arith, d.low, d.high)) d.block;
     }
 
 -- it lies in the queue's zone
-pub direct-zone : (k : Known) (q : ℕ) (us : List Tx) (c x : ℕ) → LogOk k → DirectIn k q us c x → (zone_of k.geometry x ≡ Some q) × (x < homes_of k.geometry)
-direct-zone k q us c x log d =
+pub direct-zone : (k : KnownJournal) (q : ℕ) (txs : List Tx) (c x : ℕ) → LogOk k → DirectIn k q txs c x → (zone_of k.geometry x ≡ Some q) × (x < homes_of k.geometry)
+direct-zone k q txs c x log d =
     let form = (log.each d.t d.ts d.at).0 in
     (form.zoned x d.among ∙ ap Some d.own, among_below 0 (homes_of k.geometry) (blocks_of d.t.direct) x form.direct d.among)
 
 -- ---- what it writes is needed by nobody
 
 -- an entry at or past the stored head is of a number past the front
-pub late : (k : Known) (q : ℕ) (us : List Tx) (p : PortState) (c x : ℕ) → LogOk k → SideOk k q us p → p.stored_head ≤ c → (d : DirectIn k q us c x) → front k < d.t.number
-late k q us p c x log s past d =
+pub late : (k : KnownJournal) (q : ℕ) (txs : List Tx) (p : PortState) (c x : ℕ) → LogOk k → SideOk k q txs p → p.stored_head ≤ c → (d : DirectIn k q txs c x) → front k < d.t.number
+late k q txs p c x log s past d =
     elim (cases_lt (front k) d.t.number) [
       | inl above ↦ above
       | inr low ↦
@@ -127,11 +127,11 @@ late k q us p c x log s past d =
     ]
 
 -- it holds nothing that an older content still needs
-pub unneeded : (k : Known) (q : ℕ) (us : List Tx) (p : PortState) (c x v : ℕ) (old : List ℕ) → LogOk k → SideOk k q us p → p.stored_head ≤ c → DirectIn k q us c x → v ≤ front k → last k.base (upto (front k) k.history) x ≤ v
+pub unneeded : (k : KnownJournal) (q : ℕ) (txs : List Tx) (p : PortState) (c x v : ℕ) (old : List ℕ) → LogOk k → SideOk k q txs p → p.stored_head ≤ c → DirectIn k q txs c x → v ≤ front k → last k.base (upto (front k) k.history) x ≤ v
     → map_after k.start (upto v k.history) x ≡ Some old → ⊥
-unneeded k q us p c x v old log s past d low m e =
+unneeded k q txs p c x v old log s past d low m e =
     let placed = (log.each d.t d.ts d.at).1 in
-    go (free_at k.start k.base v (front k) d.t d.ts k.history x log.numbers d.at (late k q us p c x log s past d) low (placed.free x d.among) (placed.settled x d.among) m) e
+    go (free_at k.start k.base v (front k) d.t d.ts k.history x log.numbers d.at (late k q txs p c x log s past d) low (placed.free x d.among) (placed.settled x d.among) m) e
   where
     go : {o : Option (List ℕ)} → o ≡ None → o ≡ Some old → ⊥
     go a b = cc
@@ -144,8 +144,8 @@ abbrev direct_of : List Tx → Writes
 direct_of [] = []
 direct_of (t ∷ ts) = t.direct
 
-same_count : (k : Known) (q : ℕ) (us : List Tx) (c d x : ℕ) → LogOk k → (a : DirectIn k q us c x) (b : DirectIn k q us d x) → a.t.number ≡ b.t.number → c ≡ d
-same_count k q us c d x log a b e =
+same_count : (k : KnownJournal) (q : ℕ) (txs : List Tx) (c d x : ℕ) → LogOk k → (a : DirectIn k q txs c x) (b : DirectIn k q txs d x) → a.t.number ≡ b.t.number → c ≡ d
+same_count k q txs c d x log a b e =
     let from = k.from q in
     let same : (a.t ∷ a.ts) ≡ (b.t ∷ b.ts) = at_same k.base a.t b.t a.ts b.ts k.history log.numbers a.at b.at e in
     let at : end_of from (of_queue q a.ts) + length a.t.logged ≡ end_of from (of_queue q b.ts) + length b.t.logged = ap (first_direct from q) same in
@@ -176,14 +176,14 @@ value_direct start t ts x among none =
     go None a {b} c = absent (map_written start t ts x b (write_of-append t.logged t.direct x ∙ ap (λ o. Rattle.mq_blocks.specs.Machine.or_kept o (Rattle.mq_blocks.specs.Machine.write_of t.direct x)) a ∙ c)) none
 
 -- nor a block of another direct write of the queue that still counts
-pub clash : (k : Known) (q : ℕ) (us : List Tx) (p : PortState) (c d x : ℕ) → LogOk k → SideOk k q us p → p.stored_head ≤ c → DirectIn k q us c x → (b : DirectIn k q us d x)
+pub clash : (k : KnownJournal) (q : ℕ) (txs : List Tx) (p : PortState) (c d x : ℕ) → LogOk k → SideOk k q txs p → p.stored_head ≤ c → DirectIn k q txs c x → (b : DirectIn k q txs d x)
     → last k.base (upto (front k) k.history) x ≤ b.t.number → d ≢ c → ⊥
-clash k q us p c d x log s past a b m apart =
+clash k q txs p c d x log s past a b m apart =
     let pa = (log.each a.t a.ts a.at).1 in
     let pb = (log.each b.t b.ts b.at).1 in
-    let beyond = late k q us p c x log s past a in
+    let beyond = late k q txs p c x log s past a in
     elim (cases_order a.t.number b.t.number) [
-      | inl e ↦ apart (sym (same_count k q us c d x log a b e))
+      | inl e ↦ apart (sym (same_count k q txs c d x log a b e))
       | inr (inl less) ↦
           let settled = pb.settled x b.among in
           let z = last_at k.base a.t a.ts b.ts x (numbers_of b.t b.ts b.at) (at_below k.base b.t a.t b.ts a.ts k.history log.numbers b.at a.at less) (changes_direct a.t x a.among) in
@@ -205,9 +205,9 @@ clash k q us p c d x log s past a b m apart =
 
 -- ---- entries can say what they are to say
 
-pub may-say : (k : Known) (q : ℕ) (us : List Tx) (c n : ℕ) → LogOk k → q < k.geometry.queues → From k q us c → n < 1024 → MaySay n (said_of k.geometry q (item_at (k.from q) us c))
-may-say k q us c n log own f slot =
-    let number = number-from k q us c f in
+pub may-say : (k : KnownJournal) (q : ℕ) (txs : List Tx) (c n : ℕ) → LogOk k → q < k.geometry.queues → From k q txs c → n < 1024 → MaySay n (said_of k.geometry q (item_at (k.from q) txs c))
+may-say k q txs c n log own f slot =
+    let number = number-from k q txs c f in
     let limit = log.limit in
     let most = at_most k.base f.t f.ts k.history log.numbers f.at in
     let least = (at_numbered k.base f.t f.ts k.history log.numbers f.at).0 in
@@ -215,20 +215,20 @@ may-say k q us c n log own f slot =
       slot = slot;
       number_low = omega arith;
       number_high = omega arith;
-      lba = low (item_at (k.from q) us c).target refl;
+      lba = low (item_at (k.from q) txs c).target refl;
     }
   where
     all : k.geometry.queues * k.geometry.area ≤ 16 * 16384
     all = mul-le k.geometry.queues k.geometry.area 16 16384 k.geometry.queues_high k.geometry.area_high
 
-    direct : (x : ℕ) → (item_at (k.from q) us c).target ≡ AtHome x → x < homes_of k.geometry
+    direct : (x : ℕ) → (item_at (k.from q) txs c).target ≡ AtHome x → x < homes_of k.geometry
     direct x e =
         let d = item-home f.t (of_queue q f.ts) (c - end_of (k.from q) (of_queue q f.ts)) x (sym (ap (λ (v : Item). v.target) f.is) ∙ e) in
         let form = (log.each f.t f.ts f.at).0 in
         among_below 0 (homes_of k.geometry) (blocks_of f.t.direct) x form.direct
         (among_at f.t.direct (c - end_of (k.from q) (of_queue q f.ts) - length f.t.logged) x (omega (arith, d.low, d.high)) d.block)
 
-    low : (target : Target) → (item_at (k.from q) us c).target ≡ target → lba_of k.geometry q target < 2 ^ 64
+    low : (target : Target) → (item_at (k.from q) txs c).target ≡ target → lba_of k.geometry q target < 2 ^ 64
     low (AtPlace place) e =
         let size = k.geometry.area_low in
         let small : place % k.geometry.area < k.geometry.area = mod_below place k.geometry.area (omega arith) in

@@ -69,7 +69,7 @@ module _ (g : Geometry) (blocks : List (Option (List ℕ))) (whole : length bloc
         staged = length-replicate (slots_of z) blank;
         blocks = (let area : length (replicate {A = Option (List ℕ)} (area_size_of g z) None) ≡ area_size_of g z = length-replicate (area_size_of g z) None in
             omega (arith, length-append (replicate {A = Option (List ℕ)} (area_size_of g z) None) (take (homes_size_of g z) (drop (first_home g z) blocks))));
-        sure = length-replicate (area_size_of g z + homes_size_of g z) true;
+        certain = length-replicate (area_size_of g z + homes_size_of g z) true;
       }
 
   -- a home block at its port
@@ -95,7 +95,7 @@ module _ (g : Geometry) (blocks : List (Option (List ℕ))) (whole : length bloc
       let r = place x inside zone in
       let within : home_index g x < area_size_of g z + homes_size_of g z = (let a = r.0 in let c = r.1 in let d = r.2 in omega arith) in
       record {
-        certain = record { sure = get_or-replicate (area_size_of g z + homes_size_of g z) (home_index g x) true false within; apart = tt };
+        certain = record { certain = get_or-replicate (area_size_of g z + homes_size_of g z) (home_index g x) true false within; apart = tt };
         is = ap (block_at (fresh_port g blocks b z).blocks) r.2 ∙ home_at b z x fits r.0 r.1 ∙ value_is x block there;
       }
 
@@ -126,7 +126,7 @@ module _ (g : Geometry) (blocks : List (Option (List ℕ))) (whole : length bloc
         ports = length-fresh_ports g blocks 0 g.queues;
         marked = length-replicate g.queues (2 ^ 64 - 1);
         marks = λ q own. get_or-replicate g.queues q (2 ^ 64 - 1) 0 own;
-        under = refl;
+        writing = refl;
         acknowledged = refl;
         each = λ q own.
             let is : port_at (fresh_ports g blocks 0 g.queues) q ≡ fresh_port g blocks 0 (Some q) = fresh_at g blocks 0 g.queues q own ∙ (let e : 0 + q ≡ q = omega arith in ap (λ m. fresh_port g blocks 0 (Some m)) e) in

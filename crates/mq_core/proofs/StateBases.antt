@@ -7,7 +7,7 @@ use Rattle.mq_blocks.specs.Journal.{is_among}
 use Rattle.mq_blocks.specs.Machine.{Map, write_of, or_kept}
 use Rattle.mq_ledger.specs.History.{blocks_of, changes, map_after, last, upto, of_queue, AreNumbered, IsAt}
 use Rattle.mq_ledger.specs.Items.{Entries}
-use Rattle.mq_ledger.specs.Known.{Known, front}
+use Rattle.mq_ledger.specs.KnownJournal.{KnownJournal, front}
 use Rattle.mq_ledger.specs.Sides.{RootOk, AreHome, IsKept, home_index}
 use Rattle.mq_ledger.specs.State.{State, Facts, IsUnder, port_at, port_of, known_of, front_of, start_map}
 use Rattle.mq_ledger.specs.declared.tx.Tx.{Tx}
@@ -25,7 +25,7 @@ logged_value start base x (t ∷ ts) n l logged = elim (cases_Bool (changes t x)
       (w.0, map_written start t ts x w.0 (write_of-append t.logged t.direct x ∙ ap (λ o. or_kept o (write_of t.direct x)) w.1))
   | inr c ↦
       let same = last-same base t ts x c in
-      let r = logged_value start base x ts n.1 (omega (arith, same)) (λ u us at number. logged u us (inr at) (number ∙ sym same)) in
+      let r = logged_value start base x ts n.1 (omega (arith, same)) (λ u txs at number. logged u txs (inr at) (number ∙ sym same)) in
       (r.0, unchanged start t ts x c ∙ r.1)
 ]
 
@@ -34,7 +34,7 @@ module _ (e : Entries) (s : State) (f : Facts e s) (base stored : ℕ) (flushed 
   abbrev due : ℕ → ℕ → Bool
   due x v = eqb v base || eqb v stored
 
-  abbrev k : Known
+  abbrev k : KnownJournal
   k = known_of e s
 
   -- the root as it is later
@@ -52,19 +52,19 @@ module _ (e : Entries) (s : State) (f : Facts e s) (base stored : ℕ) (flushed 
   homes_root r homes x v content inside z d there m =
       let c = homes x v content inside z d there m in
       record {
-        certain = record { sure = c.certain.sure; apart = subst (λ cs. IsApartFrom later (home_index s.geometry x) cs) (sym r.posted) tt };
+        certain = record { certain = c.certain.certain; apart = subst (λ cs. IsApartFrom later (home_index s.geometry x) cs) (sym r.posted) tt };
         is = c.is;
       }
 
-  go_sure : (x : ℕ) → IsUnder s x → (z : Option ℕ) → zone_of s.geometry x ≡ z → get_or (port_of then z).sure (home_index s.geometry x) false ≡ false
-  go_sure x u None z = ap (λ (w : PortState). get_or w.sure (home_index s.geometry x) false) (sym (ap (port_of s) z)) ∙ u.loose
-  go_sure x u (Some r) z = ap (λ (w : PortState). get_or w.sure (home_index s.geometry x) false) (sym (ap (port_of s) z)) ∙ u.loose
+  go_certain : (x : ℕ) → IsUnder s x → (z : Option ℕ) → zone_of s.geometry x ≡ z → get_or (port_of then z).certain (home_index s.geometry x) false ≡ false
+  go_certain x u None z = ap (λ (w : PortState). get_or w.certain (home_index s.geometry x) false) (sym (ap (port_of s) z)) ∙ u.loose
+  go_certain x u (Some r) z = ap (λ (w : PortState). get_or w.certain (home_index s.geometry x) false) (sym (ap (port_of s) z)) ∙ u.loose
 
   go_begun : (x : ℕ) → IsUnder s x → (z : Option ℕ) → zone_of s.geometry x ≡ z → holds_write (home_lba s.geometry x) (port_of then z).begun ≡ true
   go_begun x u None z = ap (λ (w : PortState). holds_write (home_lba s.geometry x) w.begun) (sym (ap (port_of s) z)) ∙ u.begun
   go_begun x u (Some r) z = ap (λ (w : PortState). holds_write (home_lba s.geometry x) w.begun) (sym (ap (port_of s) z)) ∙ u.begun
 
-  pub bases_keep : s.root.base ≤ base → base ≤ stored → stored ≤ front_of s → length flushed ≡ 0 → ((z : Option ℕ) → AreDue z) → ((x : ℕ) → is_among x s.under ≡ true → IsUnder s x → stored < last s.base s.history x) → Facts e then
+  pub bases_keep : s.root.base ≤ base → base ≤ stored → stored ≤ front_of s → length flushed ≡ 0 → ((z : Option ℕ) → AreDue z) → ((x : ℕ) → is_among x s.writing ≡ true → IsUnder s x → stored < last s.base s.history x) → Facts e then
   bases_keep up order reached slots homes above =
       let top : base ≤ front k = (let r : stored ≤ front k = reached in omega arith) in
       let low : (x v : ℕ) → due x v ≡ true → v ≤ front k = λ x v d. elim (or_cases (eqb v base) (eqb v stored) d) [
@@ -86,21 +86,21 @@ module _ (e : Entries) (s : State) (f : Facts e s) (base stored : ℕ) (flushed 
             flushed = slots;
             staged = f.root.port.staged;
             blocks = f.root.port.blocks;
-            sure = f.root.port.sure;
+            certain = f.root.port.certain;
           };
           posted = f.root.posted;
           bases = (omega arith, order);
           homes = homes_root f.root (homes None);
         };
         marks = f.marks;
-        under = λ x h.
-            let u = f.under x h in
+        writing = λ x h.
+            let u = f.writing x h in
             record {
               block = u.block;
               low = above x h u;
               high = u.high;
               logged = u.logged;
-              loose = go_sure x u (zone_of s.geometry x) refl;
+              loose = go_certain x u (zone_of s.geometry x) refl;
               begun = go_begun x u (zone_of s.geometry x) refl;
             };
         acknowledged = f.acknowledged;
@@ -132,7 +132,7 @@ store_base_keeps e s b f may =
           let there = sym (value_settled (start_map s.start) s.base b s.history x low) ∙ w.1 in
           let settled = last_settled s.base (front_of s) s.history x f.log.numbers u.high in
           let c = may.home x w.0 u.block there (omega (arith, settled, low)) in
-          absurd (false≢true (sym u.loose ∙ c.certain.sure))
+          absurd (false≢true (sym u.loose ∙ c.certain.certain))
     ])
 
 pub flush_base_keeps : (e : Entries) (s : State) → Facts e s → Facts e (flush_base s)

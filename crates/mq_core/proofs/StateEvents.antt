@@ -10,7 +10,7 @@ use Rattle.mq_blocks.specs.declared.command.HomeWrite.{HomeWrite}
 use Rattle.mq_blocks.specs.declared.geometry.Geometry.{Geometry}
 use Rattle.mq_ledger.specs.History.{blocks_of, changes, last, of_queue, IsAt}
 use Rattle.mq_ledger.specs.Items.{Entries}
-use Rattle.mq_ledger.specs.Known.{LogOk, front, draw_known, MayDraw}
+use Rattle.mq_ledger.specs.KnownJournal.{LogOk, front, draw_known, MayDraw}
 use Rattle.mq_ledger.specs.Sides.{SideOk, RootOk, home_index, home_index_in}
 use Rattle.mq_ledger.specs.State.{State, Facts, IsUnder, port_at, port_of, from_at, known_of, front_of}
 use Rattle.mq_ledger.specs.declared.tx.Tx.{Tx}
@@ -34,7 +34,7 @@ unchanged_among t (y ∷ ys) x e = elim (cases_Bool (changes t y)) [
   ])
 ]
 
-pub draw_keeps : (e : Entries) (s : State) (t : Tx) → Facts e s → MayDraw (known_of e s) t → HasRoom s.geometry (from_at s.froms t.queue) s.root.base (us_of s t.queue) t (port_at s.ports t.queue) → get_or s.marks t.queue 0 ≤ t.number → Facts e (draw t s)
+pub draw_keeps : (e : Entries) (s : State) (t : Tx) → Facts e s → MayDraw (known_of e s) t → HasRoom s.geometry (from_at s.starts t.queue) s.root.base (us_of s t.queue) t (port_at s.ports t.queue) → get_or s.marks t.queue 0 ≤ t.number → Facts e (draw t s)
 draw_keeps e s t f may room mark =
     let k = known_of e s in
     let own = may.form.queue in
@@ -52,18 +52,18 @@ draw_keeps e s t f may room mark =
         | inl is ↦
             let grown : of_queue r (t ∷ s.history) ≡ t ∷ of_queue r s.history = of_queue-own r t s.history is in
             let there = side_drawn k t f.log may.number new r (of_queue r s.history) (port_at s.ports r) (f.sides r inside) in
-            let room' : HasRoom s.geometry (from_at s.froms r) s.root.base (of_queue r s.history) t (port_at s.ports r) = subst (λ n. HasRoom s.geometry (from_at s.froms n) s.root.base (of_queue n s.history) t (port_at s.ports n)) is room in
-            subst (λ us. SideOk (draw_known t k) r us (port_at s.ports r)) (sym grown) (side_extends (draw_known t k) r t (of_queue r s.history) (port_at s.ports r) ([], grown) past there room')
-        | inr not ↦ subst (λ us. SideOk (draw_known t k) r us (port_at s.ports r)) (sym (of_queue-other r t s.history not)) (side_drawn k t f.log may.number new r (of_queue r s.history) (port_at s.ports r) (f.sides r inside))
+            let room' : HasRoom s.geometry (from_at s.starts r) s.root.base (of_queue r s.history) t (port_at s.ports r) = subst (λ n. HasRoom s.geometry (from_at s.starts n) s.root.base (of_queue n s.history) t (port_at s.ports n)) is room in
+            subst (λ txs. SideOk (draw_known t k) r txs (port_at s.ports r)) (sym grown) (side_extends (draw_known t k) r t (of_queue r s.history) (port_at s.ports r) ([], grown) past there room')
+        | inr not ↦ subst (λ txs. SideOk (draw_known t k) r txs (port_at s.ports r)) (sym (of_queue-other r t s.history not)) (side_drawn k t f.log may.number new r (of_queue r s.history) (port_at s.ports r) (f.sides r inside))
       ];
       root = root_drawn k t f.log may.number new s.root f.root;
-      marks = λ u us at undone. elim at [
+      marks = λ u txs at undone. elim at [
         | inl here ↦ subst (λ (w : Tx). get_or s.marks w.queue 0 ≤ w.number) here.0 mark
-        | inr deeper ↦ f.marks u us deeper undone
+        | inr deeper ↦ f.marks u txs deeper undone
       ];
-      under = λ x h.
-          let r = unchanged_among t s.under x h in
-          let u = f.under x r.0 in
+      writing = λ x h.
+          let r = unchanged_among t s.writing x h in
+          let u = f.writing x r.0 in
           let kept : last s.base (t ∷ s.history) x ≡ last s.base s.history x = last-same s.base t s.history x r.1 in
           let high : last s.base s.history x ≤ front k = u.high in
           record {
@@ -101,7 +101,7 @@ clear_keeps e s q low f may =
             omega arith
         | inr other ↦ rw (get_or-set_other s.marks q t.queue low 0 other) (f.marks t ts at undone)
       ];
-      under = λ x h. (let u = f.under x h in record { block = u.block; low = u.low; high = u.high; logged = u.logged; loose = u.loose; begun = u.begun });
+      writing = λ x h. (let u = f.writing x h in record { block = u.block; low = u.low; high = u.high; logged = u.logged; loose = u.loose; begun = u.begun });
       acknowledged = f.acknowledged;
     }
 
@@ -114,7 +114,7 @@ acknowledge_keeps e s n f may =
       sides = f.sides;
       root = f.root;
       marks = f.marks;
-      under = λ x h. (let u = f.under x h in record { block = u.block; low = u.low; high = u.high; logged = u.logged; loose = u.loose; begun = u.begun });
+      writing = λ x h. (let u = f.writing x h in record { block = u.block; low = u.low; high = u.high; logged = u.logged; loose = u.loose; begun = u.begun });
       acknowledged = λ m h. elim (cases_Bool (eqb n m)) [
         | inl same ↦ (let is = eqb-true _ _ same in omega arith)
         | inr other ↦ f.acknowledged m (rw other at h)
@@ -122,7 +122,7 @@ acknowledge_keeps e s n f may =
     }
 
 -- the state with other blocks under way, each of which is
-pub under_keeps : (e : Entries) (s : State) (xs : List ℕ) → Facts e s → ((x : ℕ) → is_among x xs ≡ true → IsUnder s x) → Facts e (record s { under = xs })
+pub under_keeps : (e : Entries) (s : State) (xs : List ℕ) → Facts e s → ((x : ℕ) → is_among x xs ≡ true → IsUnder s x) → Facts e (record s { writing = xs })
 under_keeps e s xs f each =
     record {
       log = f.log;
@@ -131,7 +131,7 @@ under_keeps e s xs f each =
       sides = f.sides;
       root = f.root;
       marks = f.marks;
-      under = λ x h. (let u = each x h in record { block = u.block; low = u.low; high = u.high; logged = u.logged; loose = u.loose; begun = u.begun });
+      writing = λ x h. (let u = each x h in record { block = u.block; low = u.low; high = u.high; logged = u.logged; loose = u.loose; begun = u.begun });
       acknowledged = f.acknowledged;
     }
 
@@ -155,8 +155,8 @@ zone-queue g q x inside e = elim (cases_lt x g.meta) [
 
 -- the root with other blocks and home writes
 root_keeps : (e : Entries) (s : State) (p : PortState) → Facts e s → p.base ≡ s.root.base → p.stored_base ≡ s.root.stored_base → RootOk (known_of e s) p
-    → ((x : ℕ) → is_among x s.under ≡ true → zone_of s.geometry x ≡ None → IsUnder s x → (get_or p.sure (home_index s.geometry x) false ≡ false) × (holds_write (home_lba s.geometry x) p.begun ≡ true)) → Facts e (record s { root = p })
-root_keeps e s p f base stored root under =
+    → ((x : ℕ) → is_among x s.writing ≡ true → zone_of s.geometry x ≡ None → IsUnder s x → (get_or p.certain (home_index s.geometry x) false ≡ false) × (holds_write (home_lba s.geometry x) p.begun ≡ true)) → Facts e (record s { root = p })
+root_keeps e s p f base stored root writing =
     record {
       log = subst (λ k. LogOk k) same f.log;
       ports = f.ports;
@@ -164,14 +164,14 @@ root_keeps e s p f base stored root under =
       sides = λ q own. subst (λ k. SideOk k q (of_queue q s.history) (port_at s.ports q)) same (f.sides q own);
       root = subst (λ k. RootOk k p) same root;
       marks = f.marks;
-      under = λ x h.
-          let u = f.under x h in
+      writing = λ x h.
+          let u = f.writing x h in
           record {
             block = u.block;
             low = rw stored u.low;
             high = u.high;
             logged = u.logged;
-            loose = go_sure x h u (zone_of s.geometry x) refl;
+            loose = go_certain x h u (zone_of s.geometry x) refl;
             begun = go_begun x h u (zone_of s.geometry x) refl;
           };
       acknowledged = f.acknowledged;
@@ -180,12 +180,12 @@ root_keeps e s p f base stored root under =
     same : known_of e s ≡ known_of e (record s { root = p })
     same = λ i. record (known_of e s) { due = λ x v. eqb v (sym base i) || eqb v (sym stored i); word = sym base i }
 
-    go_sure : (x : ℕ) → is_among x s.under ≡ true → IsUnder s x → (z : Option ℕ) → zone_of s.geometry x ≡ z → get_or (port_of (record s { root = p }) z).sure (home_index s.geometry x) false ≡ false
-    go_sure x h u None z = (under x h z u).0
-    go_sure x h u (Some r) z = ap (λ (w : PortState). get_or w.sure (home_index s.geometry x) false) (sym (ap (port_of s) z)) ∙ u.loose
+    go_certain : (x : ℕ) → is_among x s.writing ≡ true → IsUnder s x → (z : Option ℕ) → zone_of s.geometry x ≡ z → get_or (port_of (record s { root = p }) z).certain (home_index s.geometry x) false ≡ false
+    go_certain x h u None z = (writing x h z u).0
+    go_certain x h u (Some r) z = ap (λ (w : PortState). get_or w.certain (home_index s.geometry x) false) (sym (ap (port_of s) z)) ∙ u.loose
 
-    go_begun : (x : ℕ) → is_among x s.under ≡ true → IsUnder s x → (z : Option ℕ) → zone_of s.geometry x ≡ z → holds_write (home_lba s.geometry x) (port_of (record s { root = p }) z).begun ≡ true
-    go_begun x h u None z = (under x h z u).1
+    go_begun : (x : ℕ) → is_among x s.writing ≡ true → IsUnder s x → (z : Option ℕ) → zone_of s.geometry x ≡ z → holds_write (home_lba s.geometry x) (port_of (record s { root = p }) z).begun ≡ true
+    go_begun x h u None z = (writing x h z u).1
     go_begun x h u (Some r) z = ap (λ (w : PortState). holds_write (home_lba s.geometry x) w.begun) (sym (ap (port_of s) z)) ∙ u.begun
 
 begun_append : (lba : ℕ) (ws : List HomeWrite) (w : HomeWrite) → holds_write lba ws ≡ true → holds_write lba (ws ++ w ∷ []) ≡ true
@@ -234,7 +234,7 @@ logged_last e s x f low high logged =
 -- a home write begins
 pub record HasBegun (e : Entries) (s : State) (x : ℕ) : Type 0 where
   pub facts : Facts e s
-  pub under : IsUnder s x
+  pub writing : IsUnder s x
 
 begun_keeps : (e : Entries) (s : State) (x : ℕ) (block : List ℕ) (z : Option ℕ) → zone_of s.geometry x ≡ z → Facts e s → MayWriteHome s x → HasBegun e (with_port s z (begin_home s.geometry x block (port_of s z))) x
 begun_keeps e s x block (Some q) zone f may =
@@ -243,15 +243,15 @@ begun_keeps e s x block (Some q) zone f may =
     let side = f.sides q own in
     let p = port_at s.ports q in
     let at = index-zone s.geometry q x p side.port zone in
-    let long = side.port.sure in
-    let fresh : get_or (begin_home s.geometry x block p).sure (home_index s.geometry x) false ≡ false =
-    ap (λ n. get_or (set p.sure n false) (home_index s.geometry x) false) at.0 ∙ get_or-set_same p.sure (home_index s.geometry x) false false (omega (arith, at.2)) in
-    let written = side_written (known_of e s) q (us_of s q) p x p.blocks (begin_home s.geometry x block p).sure (begin_home s.geometry x block p).begun (begin_home s.geometry x block p).begins f.log side zone u (else_begin s.geometry x block p at.0) in
-    let stays : (y : ℕ) → is_among y s.under ≡ true → zone_of s.geometry y ≡ Some q → IsUnder s y → (get_or p.sure (home_index s.geometry y) false ≡ false → get_or (begin_home s.geometry x block p).sure (home_index s.geometry y) false ≡ false)
+    let long = side.port.certain in
+    let fresh : get_or (begin_home s.geometry x block p).certain (home_index s.geometry x) false ≡ false =
+    ap (λ n. get_or (set p.certain n false) (home_index s.geometry x) false) at.0 ∙ get_or-set_same p.certain (home_index s.geometry x) false false (omega (arith, at.2)) in
+    let written = side_written (known_of e s) q (us_of s q) p x p.blocks (begin_home s.geometry x block p).certain (begin_home s.geometry x block p).begun (begin_home s.geometry x block p).begins f.log side zone u (else_begin s.geometry x block p at.0) in
+    let stays : (y : ℕ) → is_among y s.writing ≡ true → zone_of s.geometry y ≡ Some q → IsUnder s y → (get_or p.certain (home_index s.geometry y) false ≡ false → get_or (begin_home s.geometry x block p).certain (home_index s.geometry y) false ≡ false)
     × (holds_write (home_lba s.geometry y) p.begun ≡ true → holds_write (home_lba s.geometry y) (begin_home s.geometry x block p).begun ≡ true) = λ y among z v. (
       λ h. elim (cases_eq (home_index s.geometry y) (home_index s.geometry x)) [
-        | inl same ↦ ap (λ n. get_or (begin_home s.geometry x block p).sure n false) same ∙ fresh
-        | inr other ↦ get_or-set_other p.sure (index_of p (home_lba s.geometry x)) (home_index s.geometry y) false false (λ n. other (n ∙ at.0)) ∙ h
+        | inl same ↦ ap (λ n. get_or (begin_home s.geometry x block p).certain n false) same ∙ fresh
+        | inr other ↦ get_or-set_other p.certain (index_of p (home_lba s.geometry x)) (home_index s.geometry y) false false (λ n. other (n ∙ at.0)) ∙ h
       ],
       λ h. begun_append (home_lba s.geometry y) p.begun _ h,
     ) in
@@ -260,12 +260,12 @@ begun_keeps e s x block (Some q) zone f may =
     let front = port_front e s f q own (begin_home s.geometry x block p) written (omega arith) stays in
     record {
       facts = port_keeps e s f q own (begin_home s.geometry x block p) written (omega arith) stays;
-      under = record {
+      writing = record {
         block = may.block;
         low = may.low;
         high = omega (arith, may.high, front);
         logged = may.logged;
-        loose = ap (λ w. get_or (port_of s' w).sure (home_index s.geometry x) false) zone ∙ ap (λ (w : PortState). get_or w.sure (home_index s.geometry x) false) is ∙ fresh;
+        loose = ap (λ w. get_or (port_of s' w).certain (home_index s.geometry x) false) zone ∙ ap (λ (w : PortState). get_or w.certain (home_index s.geometry x) false) is ∙ fresh;
         begun = ap (λ w. holds_write (home_lba s.geometry x) (port_of s' w).begun) zone ∙ ap (λ (w : PortState). holds_write (home_lba s.geometry x) w.begun) is ∙ begun_new (home_lba s.geometry x) p.begun _ refl;
       };
     }
@@ -273,42 +273,42 @@ begun_keeps e s x block None zone f may =
     let u = logged_last e s x f may.low may.high may.logged in
     let p = s.root in
     let at = index-root s.geometry x p f.root.port zone may.block in
-    let long = f.root.port.sure in
-    let fresh : get_or (begin_home s.geometry x block p).sure (home_index s.geometry x) false ≡ false =
-    ap (λ n. get_or (set p.sure n false) (home_index s.geometry x) false) at.0 ∙ get_or-set_same p.sure (home_index s.geometry x) false false (omega (arith, at.1)) in
+    let long = f.root.port.certain in
+    let fresh : get_or (begin_home s.geometry x block p).certain (home_index s.geometry x) false ≡ false =
+    ap (λ n. get_or (set p.certain n false) (home_index s.geometry x) false) at.0 ∙ get_or-set_same p.certain (home_index s.geometry x) false false (omega (arith, at.1)) in
     let s' = with_port s None (begin_home s.geometry x block p) in
     record {
       facts = root_keeps e s (begin_home s.geometry x block p) f refl refl
-          (root_written (known_of e s) p x p.blocks (begin_home s.geometry x block p).sure (begin_home s.geometry x block p).begun (begin_home s.geometry x block p).begins f.log f.root zone may.block u (else_begin s.geometry x block p at.0))
+          (root_written (known_of e s) p x p.blocks (begin_home s.geometry x block p).certain (begin_home s.geometry x block p).begun (begin_home s.geometry x block p).begins f.log f.root zone may.block u (else_begin s.geometry x block p at.0))
           (λ y among z v. (
             elim (cases_eq (home_index s.geometry y) (home_index s.geometry x)) [
-              | inl same ↦ ap (λ n. get_or (begin_home s.geometry x block p).sure n false) same ∙ fresh
+              | inl same ↦ ap (λ n. get_or (begin_home s.geometry x block p).certain n false) same ∙ fresh
               | inr other ↦
-                  get_or-set_other p.sure (index_of p (home_lba s.geometry x)) (home_index s.geometry y) false false (λ n. other (n ∙ at.0))
-                  ∙ (ap (λ (w : PortState). get_or w.sure (home_index s.geometry y) false) (sym (ap (port_of s) z)) ∙ v.loose)
+                  get_or-set_other p.certain (index_of p (home_lba s.geometry x)) (home_index s.geometry y) false false (λ n. other (n ∙ at.0))
+                  ∙ (ap (λ (w : PortState). get_or w.certain (home_index s.geometry y) false) (sym (ap (port_of s) z)) ∙ v.loose)
             ],
             begun_append (home_lba s.geometry y) p.begun _ (ap (λ (w : PortState). holds_write (home_lba s.geometry y) w.begun) (sym (ap (port_of s) z)) ∙ v.begun),
           ));
-      under = record {
+      writing = record {
         block = may.block;
         low = may.low;
         high = may.high;
         logged = may.logged;
-        loose = ap (λ w. get_or (port_of s' w).sure (home_index s.geometry x) false) zone ∙ fresh;
+        loose = ap (λ w. get_or (port_of s' w).certain (home_index s.geometry x) false) zone ∙ fresh;
         begun = ap (λ w. holds_write (home_lba s.geometry x) (port_of s' w).begun) zone ∙ begun_new (home_lba s.geometry x) p.begun _ refl;
       };
     }
 
-begun_among : (e : Entries) (s s' : State) (x : ℕ) → s'.under ≡ s.under → HasBegun e s' x → Facts e (record s' { under = x ∷ s.under })
-begun_among e s s' x same b = under_keeps e s' (x ∷ s.under) b.facts (λ y h. elim (cases_Bool (eqb x y)) [
-  | inl is ↦ subst (λ n. IsUnder s' n) (eqb-true _ _ is) b.under
-  | inr other ↦ b.facts.under y (ap (is_among y) same ∙ rw other at h)
+begun_among : (e : Entries) (s s' : State) (x : ℕ) → s'.writing ≡ s.writing → HasBegun e s' x → Facts e (record s' { writing = x ∷ s.writing })
+begun_among e s s' x same b = under_keeps e s' (x ∷ s.writing) b.facts (λ y h. elim (cases_Bool (eqb x y)) [
+  | inl is ↦ subst (λ n. IsUnder s' n) (eqb-true _ _ is) b.writing
+  | inr other ↦ b.facts.writing y (ap (is_among y) same ∙ rw other at h)
 ])
 
 pub write_home_keeps : (e : Entries) (s : State) (x : ℕ) → Facts e s → MayWriteHome s x → Facts e (write_home x s)
 write_home_keeps e s x f may = go (zone_of s.geometry x) refl
   where
-    go : (z : Option ℕ) → zone_of s.geometry x ≡ z → Facts e (record (with_port s z (begin_home s.geometry x (content_at s x) (port_of s z))) { under = x ∷ s.under })
+    go : (z : Option ℕ) → zone_of s.geometry x ≡ z → Facts e (record (with_port s z (begin_home s.geometry x (content_at s x) (port_of s z))) { writing = x ∷ s.writing })
     go (Some q) zone = begun_among e s (with_port s (Some q) (begin_home s.geometry x (content_at s x) (port_at s.ports q))) x refl (begun_keeps e s x (content_at s x) (Some q) zone f may)
     go None zone = begun_among e s (with_port s None (begin_home s.geometry x (content_at s x) s.root)) x refl (begun_keeps e s x (content_at s x) None zone f may)
 
@@ -325,7 +325,7 @@ without_among x (z ∷ zs) y h = elim (cases_Bool (eqb z x)) [
 ]
 
 -- no home write of the block is under way any more
-pub ended_keeps : (e : Entries) (s : State) (x : ℕ) (block : List ℕ) (z : Option ℕ) → zone_of s.geometry x ≡ z → Facts e s → x < homes_of s.geometry → IsLoggedLast (known_of e s) x → ((y : ℕ) → is_among y s.under ≡ true → y ≢ x)
+pub ended_keeps : (e : Entries) (s : State) (x : ℕ) (block : List ℕ) (z : Option ℕ) → zone_of s.geometry x ≡ z → Facts e s → x < homes_of s.geometry → IsLoggedLast (known_of e s) x → ((y : ℕ) → is_among y s.writing ≡ true → y ≢ x)
     → Facts e (with_port s z (end_home s.geometry x block (port_of s z)))
 ended_keeps e s x block (Some q) zone f inside u apart =
     let own = zone-queue s.geometry q x inside zone in
@@ -333,31 +333,31 @@ ended_keeps e s x block (Some q) zone f inside u apart =
     let p = port_at s.ports q in
     let at = index-zone s.geometry q x p side.port zone in
     port_keeps e s f q own (end_home s.geometry x block p)
-    (side_written (known_of e s) q (us_of s q) p x (end_home s.geometry x block p).blocks (end_home s.geometry x block p).sure (end_home s.geometry x block p).begun (end_home s.geometry x block p).begins f.log side zone u (else_end s.geometry x block p at.0)) (omega arith)
+    (side_written (known_of e s) q (us_of s q) p x (end_home s.geometry x block p).blocks (end_home s.geometry x block p).certain (end_home s.geometry x block p).begun (end_home s.geometry x block p).begins f.log side zone u (else_end s.geometry x block p at.0)) (omega arith)
     (λ y among z v. (
-      λ h. get_or-set_other p.sure (index_of p (home_lba s.geometry x)) (home_index s.geometry y) true false (λ n. apart y among (zone-apart s.geometry q y x z zone (n ∙ at.0))) ∙ h,
+      λ h. get_or-set_other p.certain (index_of p (home_lba s.geometry x)) (home_index s.geometry y) true false (λ n. apart y among (zone-apart s.geometry q y x z zone (n ∙ at.0))) ∙ h,
       λ h. begun_left (home_lba s.geometry y) (home_lba s.geometry x) p.begun (λ n. apart y among (omega (arith, n))) h,
     ))
 ended_keeps e s x block None zone f inside u apart =
     let p = s.root in
     let at = index-root s.geometry x p f.root.port zone inside in
     root_keeps e s (end_home s.geometry x block p) f refl refl
-    (root_written (known_of e s) p x (end_home s.geometry x block p).blocks (end_home s.geometry x block p).sure (end_home s.geometry x block p).begun (end_home s.geometry x block p).begins f.log f.root zone inside u (else_end s.geometry x block p at.0))
+    (root_written (known_of e s) p x (end_home s.geometry x block p).blocks (end_home s.geometry x block p).certain (end_home s.geometry x block p).begun (end_home s.geometry x block p).begins f.log f.root zone inside u (else_end s.geometry x block p at.0))
     (λ y among z v. (
-      get_or-set_other p.sure (index_of p (home_lba s.geometry x)) (home_index s.geometry y) true false (λ n. apart y among (sym (ap (λ w. home_index_in s.geometry w y) z) ∙ (n ∙ at.0) ∙ ap (λ w. home_index_in s.geometry w x) zone))
-          ∙ (ap (λ (w : PortState). get_or w.sure (home_index s.geometry y) false) (sym (ap (port_of s) z)) ∙ v.loose),
+      get_or-set_other p.certain (index_of p (home_lba s.geometry x)) (home_index s.geometry y) true false (λ n. apart y among (sym (ap (λ w. home_index_in s.geometry w y) z) ∙ (n ∙ at.0) ∙ ap (λ w. home_index_in s.geometry w x) zone))
+          ∙ (ap (λ (w : PortState). get_or w.certain (home_index s.geometry y) false) (sym (ap (port_of s) z)) ∙ v.loose),
       begun_left (home_lba s.geometry y) (home_lba s.geometry x) p.begun (λ n. apart y among (omega (arith, n))) (ap (λ (w : PortState). holds_write (home_lba s.geometry y) w.begun) (sym (ap (port_of s) z)) ∙ v.begun),
     ))
 
-pub home_done_keeps : (e : Entries) (s : State) (x : ℕ) → Facts e s → is_among x s.under ≡ true → Facts e (home_done x s)
+pub home_done_keeps : (e : Entries) (s : State) (x : ℕ) → Facts e s → is_among x s.writing ≡ true → Facts e (home_done x s)
 home_done_keeps e s x f is = go (zone_of s.geometry x) refl
   where
     u : IsUnder s x
-    u = f.under x is
+    u = f.writing x is
 
-    fewer : Facts e (record s { under = without x s.under })
-    fewer = under_keeps e s (without x s.under) f (λ y h. f.under y (without_among x s.under y h).0)
+    fewer : Facts e (record s { writing = without x s.writing })
+    fewer = under_keeps e s (without x s.writing) f (λ y h. f.writing y (without_among x s.writing y h).0)
 
-    go : (z : Option ℕ) → zone_of s.geometry x ≡ z → Facts e (record (with_port s z (end_home s.geometry x (content_at s x) (port_of s z))) { under = without x s.under })
-    go (Some q) zone = ended_keeps e (record s { under = without x s.under }) x (content_at s x) (Some q) zone fewer u.block (logged_last e s x f u.low u.high u.logged) (λ y h. (without_among x s.under y h).1)
-    go None zone = ended_keeps e (record s { under = without x s.under }) x (content_at s x) None zone fewer u.block (logged_last e s x f u.low u.high u.logged) (λ y h. (without_among x s.under y h).1)
+    go : (z : Option ℕ) → zone_of s.geometry x ≡ z → Facts e (record (with_port s z (end_home s.geometry x (content_at s x) (port_of s z))) { writing = without x s.writing })
+    go (Some q) zone = ended_keeps e (record s { writing = without x s.writing }) x (content_at s x) (Some q) zone fewer u.block (logged_last e s x f u.low u.high u.logged) (λ y h. (without_among x s.writing y h).1)
+    go None zone = ended_keeps e (record s { writing = without x s.writing }) x (content_at s x) None zone fewer u.block (logged_last e s x f u.low u.high u.logged) (λ y h. (without_among x s.writing y h).1)

@@ -7,7 +7,7 @@ use Rattle.mq_blocks.specs.Geometry.{zone_of, home_lba}
 use Rattle.mq_blocks.specs.Journal.{is_among}
 use Rattle.mq_ledger.specs.History.{writes, last, of_queue}
 use Rattle.mq_ledger.specs.Items.{Entries, end_of}
-use Rattle.mq_ledger.specs.Known.{Known, front}
+use Rattle.mq_ledger.specs.KnownJournal.{KnownJournal, front}
 use Rattle.mq_ledger.specs.Sides.{SideOk, home_index}
 use Rattle.mq_ledger.specs.State.{State, Facts, IsUnder, is_done, port_at, port_of, from_at, known_of, front_of}
 use Rattle.mq_ledger.specs.declared.tx.Tx.{Tx}
@@ -27,7 +27,7 @@ pub port_other : (ports : List PortState) (q r : ℕ) (p : PortState) → r ≢ 
 port_other ports q r p other = get_or-set_other ports q r p _ other
 
 module _ (e : Entries) (s : State) (f : Facts e s) (q : ℕ) (own : q < s.geometry.queues) where
-  abbrev k : Known
+  abbrev k : KnownJournal
   k = known_of e s
 
   abbrev port : PortState
@@ -43,12 +43,12 @@ module _ (e : Entries) (s : State) (f : Facts e s) (q : ℕ) (own : q < s.geomet
   -- home writes under way see the port as before
   abbrev pub StaysUnder : PortState → Type 0
   StaysUnder p =
-      (x : ℕ) → is_among x s.under ≡ true → zone_of s.geometry x ≡ Some q → IsUnder s x → (get_or port.sure (home_index s.geometry x) false ≡ false → get_or p.sure (home_index s.geometry x) false ≡ false)
+      (x : ℕ) → is_among x s.writing ≡ true → zone_of s.geometry x ≡ Some q → IsUnder s x → (get_or port.certain (home_index s.geometry x) false ≡ false → get_or p.certain (home_index s.geometry x) false ≡ false)
       × (holds_write (home_lba s.geometry x) port.begun ≡ true → holds_write (home_lba s.geometry x) p.begun ≡ true)
 
-  module _ (p : PortState) (side : SideOk k q (us_of s q) p) (higher : port.head ≤ p.head) (under : StaysUnder p) where
+  module _ (p : PortState) (side : SideOk k q (us_of s q) p) (higher : port.head ≤ p.head) (writing : StaysUnder p) where
     abbrev now : Tx → List Tx → Bool
-    now = is_done s.froms (set s.ports q p)
+    now = is_done s.starts (set s.ports q p)
 
     more : DoneMore k.done now
     more = record {
@@ -66,17 +66,17 @@ module _ (e : Entries) (s : State) (f : Facts e s) (q : ℕ) (own : q < s.geomet
               let mine : SideOk k r (of_queue r s.history) p = subst (λ n. SideOk k n (of_queue n s.history) p) (sym same) side in
               subst (λ w. SideOk (known_of e (with p)) r (of_queue r s.history) w) (sym is)
               (side_more k now f.log more r (of_queue r s.history) p mine (λ t ts at mineq d.
-              let l : end_of (from_at s.froms t.queue) (of_queue t.queue ts) + (writes t + 1) ≤ (port_at (set s.ports q p) t.queue).head = leb-true _ _ d in
+              let l : end_of (from_at s.starts t.queue) (of_queue t.queue ts) + (writes t + 1) ≤ (port_at (set s.ports q p) t.queue).head = leb-true _ _ d in
               let l' = rw (mineq, is) at l in l'))
           | inr other ↦
               let is : port_at (set s.ports q p) r ≡ port_at s.ports r = port_other s.ports q r p other in
               subst (λ w. SideOk (known_of e (with p)) r (of_queue r s.history) w) (sym is)
               (side_more k now f.log more r (of_queue r s.history) (port_at s.ports r) (f.sides r inside) (λ t ts at mineq d.
-              let l : end_of (from_at s.froms t.queue) (of_queue t.queue ts) + (writes t + 1) ≤ (port_at (set s.ports q p) t.queue).head = leb-true _ _ d in
+              let l : end_of (from_at s.starts t.queue) (of_queue t.queue ts) + (writes t + 1) ≤ (port_at (set s.ports q p) t.queue).head = leb-true _ _ d in
               let l' = rw (mineq, is) at l in l'))
         ]
 
-    unders : (x : ℕ) → is_among x s.under ≡ true → IsUnder s x → IsUnder (with p) x
+    unders : (x : ℕ) → is_among x s.writing ≡ true → IsUnder s x → IsUnder (with p) x
     unders x h u =
         let more_front : front_of s ≤ front_of (with p) = front_more k now f.log more in
         record {
@@ -84,7 +84,7 @@ module _ (e : Entries) (s : State) (f : Facts e s) (q : ℕ) (own : q < s.geomet
           low = u.low;
           high = omega (arith, u.high, more_front);
           logged = u.logged;
-          loose = go_sure (zone_of s.geometry x) refl;
+          loose = go_certain (zone_of s.geometry x) refl;
           begun = go_begun (zone_of s.geometry x) refl;
         }
       where
@@ -94,13 +94,13 @@ module _ (e : Entries) (s : State) (f : Facts e s) (q : ℕ) (own : q < s.geomet
         here : (r : ℕ) → zone_of s.geometry x ≡ Some r → r ≡ q → port ≡ port_of s (zone_of s.geometry x)
         here r z same = sym (ap (port_of s) z ∙ ap (port_at s.ports) same)
 
-        go_sure : (z : Option ℕ) → zone_of s.geometry x ≡ z → get_or (port_of (with p) z).sure (home_index s.geometry x) false ≡ false
-        go_sure None z = ap (λ (w : PortState). get_or w.sure (home_index s.geometry x) false) (sym (ap (port_of s) z)) ∙ u.loose
-        go_sure (Some r) z = elim (cases_eq r q) [
+        go_certain : (z : Option ℕ) → zone_of s.geometry x ≡ z → get_or (port_of (with p) z).certain (home_index s.geometry x) false ≡ false
+        go_certain None z = ap (λ (w : PortState). get_or w.certain (home_index s.geometry x) false) (sym (ap (port_of s) z)) ∙ u.loose
+        go_certain (Some r) z = elim (cases_eq r q) [
           | inl same ↦
               let at : port_at (set s.ports q p) r ≡ p = ap (port_at (set s.ports q p)) same ∙ port_same s.ports q p within in
-              ap (λ (w : PortState). get_or w.sure (home_index s.geometry x) false) at ∙ (under x h (z ∙ ap Some same) u).0 (ap (λ (w : PortState). get_or w.sure (home_index s.geometry x) false) (here r z same) ∙ u.loose)
-          | inr other ↦ ap (λ (w : PortState). get_or w.sure (home_index s.geometry x) false) (there r z other) ∙ u.loose
+              ap (λ (w : PortState). get_or w.certain (home_index s.geometry x) false) at ∙ (writing x h (z ∙ ap Some same) u).0 (ap (λ (w : PortState). get_or w.certain (home_index s.geometry x) false) (here r z same) ∙ u.loose)
+          | inr other ↦ ap (λ (w : PortState). get_or w.certain (home_index s.geometry x) false) (there r z other) ∙ u.loose
         ]
 
         go_begun : (z : Option ℕ) → zone_of s.geometry x ≡ z → holds_write (home_lba s.geometry x) (port_of (with p) z).begun ≡ true
@@ -109,7 +109,7 @@ module _ (e : Entries) (s : State) (f : Facts e s) (q : ℕ) (own : q < s.geomet
           | inl same ↦
               let at : port_at (set s.ports q p) r ≡ p = ap (port_at (set s.ports q p)) same ∙ port_same s.ports q p within in
               ap (λ (w : PortState). holds_write (home_lba s.geometry x) w.begun) at
-              ∙ (under x h (z ∙ ap Some same) u).1 (ap (λ (w : PortState). holds_write (home_lba s.geometry x) w.begun) (here r z same) ∙ u.begun)
+              ∙ (writing x h (z ∙ ap Some same) u).1 (ap (λ (w : PortState). holds_write (home_lba s.geometry x) w.begun) (here r z same) ∙ u.begun)
           | inr other ↦ ap (λ (w : PortState). holds_write (home_lba s.geometry x) w.begun) (there r z other) ∙ u.begun
         ]
 
@@ -125,25 +125,25 @@ module _ (e : Entries) (s : State) (f : Facts e s) (q : ℕ) (own : q < s.geomet
           marked = f.marked;
           sides = sides;
           root = root_more k now f.log more s.root f.root;
-          marks = λ t ts at d. elim (cases_Bool (is_done s.froms s.ports t ts)) [
+          marks = λ t ts at d. elim (cases_Bool (is_done s.starts s.ports t ts)) [
             | inl was ↦ absurd (false≢true (sym d ∙ more.each t ts was))
             | inr undone ↦ f.marks t ts at undone
           ];
-          under = λ x h. unders x h (f.under x h);
+          writing = λ x h. unders x h (f.writing x h);
           acknowledged = λ n h. omega (arith, f.acknowledged n h, more_front);
         }
 
-  pub stage_keeps : MayStage (from_at s.froms q) (us_of s q) port → Facts e (stage e q s)
+  pub stage_keeps : MayStage (from_at s.starts q) (us_of s q) port → Facts e (stage e q s)
   stage_keeps may =
-      port_keeps (stage_side e s.geometry q (from_at s.froms q) (us_of s q) port) (side_stage k q (us_of s q) port f.log (f.sides q own) may) (omega arith) (λ x among z u. (λ h. h, λ h. h))
+      port_keeps (stage_side e s.geometry q (from_at s.starts q) (us_of s q) port) (side_stage k q (us_of s q) port f.log (f.sides q own) may) (omega arith) (λ x among z u. (λ h. h, λ h. h))
 
   pub flush_keeps : Facts e (flush q s)
   flush_keeps = (let o = (f.sides q own).order in port_keeps (after_flush port) (side_flush k q (us_of s q) port (f.sides q own)) (omega (arith, o.stored)) (λ x among z u. (λ h. h, λ h. h)))
 
-  pub store_head_keeps : (h : ℕ) → MayStoreHead (from_at s.froms q) (us_of s q) port h → Facts e (store_head q h s)
+  pub store_head_keeps : (h : ℕ) → MayStoreHead (from_at s.starts q) (us_of s q) port h → Facts e (store_head q h s)
   store_head_keeps h may = port_keeps (after_store_head port h) (side_store_head k q (us_of s q) port h (f.sides q own) may) (omega arith) (λ x among z u. (λ h. h, λ h. h))
 
-  pub ring_keeps : MayRing (from_at s.froms q) (us_of s q) port → Facts e (ring q s)
+  pub ring_keeps : MayRing (from_at s.starts q) (us_of s q) port → Facts e (ring q s)
   ring_keeps may = port_keeps (after_ring port) (side_ring k q (us_of s q) port f.log (f.sides q own) may) (omega arith) (λ x among z u. (λ h. h, λ h. h))
 
   -- the block of a home write under way is none of a posted command's
@@ -151,7 +151,7 @@ module _ (e : Entries) (s : State) (f : Facts e s) (q : ℕ) (own : q < s.geomet
   under_apart x c z u may same =
       let side = f.sides q own in
       let l = posted_late k q (us_of s q) port f.log side c may in
-      let mine = own_with s.geometry q (from_at s.froms q) c (us_of s q) port.posted side.commands.posted may in
+      let mine = own_with s.geometry q (from_at s.starts q) c (us_of s q) port.posted side.commands.posted may in
       apart_home k q (us_of s q) port f.log side c x l.0 z (λ d.
       let past = late k q (us_of s q) port c x f.log side l.0.0 d in
       let most = last_at s.base d.t d.ts s.history x f.log.numbers d.at (changes_direct d.t x d.among) in
@@ -161,13 +161,13 @@ module _ (e : Entries) (s : State) (f : Facts e s) (q : ℕ) (own : q < s.geomet
   pub complete_keeps : (c : ℕ) → MayEnd c port → Facts e (complete q c s)
   complete_keeps c may =
       port_keeps (complete_side c port) (side_complete k q (us_of s q) port f.log (f.sides q own) c may) (omega arith) (λ x among z u. (
-        λ h. get_or-set_other port.sure (index_of port (command_with c port.posted).lba) (home_index s.geometry x) true false (λ same. under_apart x c z u may (sym same)) ∙ h,
+        λ h. get_or-set_other port.certain (index_of port (command_with c port.posted).lba) (home_index s.geometry x) true false (λ same. under_apart x c z u may (sym same)) ∙ h,
         λ h. h,
       ))
 
   pub fail_keeps : (c : ℕ) → MayEnd c port → Facts e (fail_command q c s)
   fail_keeps c may =
       port_keeps (fail_side c port) (side_fail k q (us_of s q) port f.log (f.sides q own) c may) (omega arith) (λ x among z u. (
-        λ h. get_or-set_other port.sure (index_of port (command_with c port.posted).lba) (home_index s.geometry x) false false (λ same. under_apart x c z u may (sym same)) ∙ h,
+        λ h. get_or-set_other port.certain (index_of port (command_with c port.posted).lba) (home_index s.geometry x) false false (λ same. under_apart x c z u may (sym same)) ∙ h,
         λ h. h,
       ))

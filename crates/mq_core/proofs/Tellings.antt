@@ -5,7 +5,7 @@ use Rattle.std.proofs.lemmas.List.{reverse-append, append-nil}
 use Rattle.std.proofs.lemmas.List.Elements.{filter-append}
 use Rattle.mq_blocks.specs.Drive.{PortState}
 use Rattle.mq_blocks.specs.Journal.{is_among}
-use Rattle.mq_ledger.specs.Known.{MayDraw}
+use Rattle.mq_ledger.specs.KnownJournal.{MayDraw}
 use Rattle.mq_ledger.specs.History.{writes, changes, last, of_queue, AreNumbered}
 use Rattle.mq_ledger.specs.Items.{end_of}
 use Rattle.mq_ledger.specs.Plain.{plain}
@@ -33,31 +33,31 @@ reverse_push xs x = reverse-append xs (x ∷ [])
 
 -- ---- marks
 
-module _ (l : Ledger) (ports : List PortState) (root : PortState) (marks under acknowledged : List ℕ) (held : IsHeld l.front (state_with l ports root marks under acknowledged)) where
+module _ (l : Ledger) (ports : List PortState) (root : PortState) (marks writing acknowledged : List ℕ) (held : IsHeld l.front (state_with l ports root marks writing acknowledged)) where
   abbrev s : State
-  s = state_with l ports root marks under acknowledged
+  s = state_with l ports root marks writing acknowledged
 
   pub may_clear : (q low head : ℕ) → q < l.geometry.queues → head ≡ (port_at ports q).head → IsClear l q head low → MayClear s q low
   may_clear q low head own is clear =
       record {
         queue = own;
         each = λ t ts at mine undone. clear t ts at mine (
-            let past : (port_at ports t.queue).head < end_of (from_at l.froms t.queue) (of_queue t.queue ts) + (writes t + 1) = leb-false _ _ undone in
-            rw is (subst (λ n. (port_at ports n).head < end_of (from_at l.froms n) (of_queue n ts) + (writes t + 1)) mine past)
+            let past : (port_at ports t.queue).head < end_of (from_at l.starts t.queue) (of_queue t.queue ts) + (writes t + 1) = leb-false _ _ undone in
+            rw is (subst (λ n. (port_at ports n).head < end_of (from_at l.starts n) (of_queue n ts) + (writes t + 1)) mine past)
             );
       }
 
   pub is_clear : (q low head : ℕ) → head ≡ (port_at ports q).head → MayClear s q low → IsClear l q head low
   is_clear q low head is may t ts at mine past =
-      let past' : (port_at ports q).head < end_of (from_at l.froms q) (of_queue q ts) + (writes t + 1) = omega arith in
-      may.each t ts at mine (lt-leb _ _ (subst (λ n. (port_at ports n).head < end_of (from_at l.froms n) (of_queue n ts) + (writes t + 1)) (sym mine) past'))
+      let past' : (port_at ports q).head < end_of (from_at l.starts q) (of_queue q ts) + (writes t + 1) = omega arith in
+      may.each t ts at mine (lt-leb _ _ (subst (λ n. (port_at ports n).head < end_of (from_at l.starts n) (of_queue n ts) + (writes t + 1)) (sym mine) past'))
 
   -- ---- draws
 
   pub known_is : IsKnown l root.base (known_of plain s)
   known_is = record { geometry = refl; start = refl; base = refl; history = refl; front_is = sym held.front_is; word_is = refl }
 
-  pub has_place : (t : Tx) → MayDraw (known_of plain s) t → HasRoom l.geometry (from_at l.froms t.queue) root.base (us_of s t.queue) t (port_at ports t.queue) → HasPlace l t
+  pub has_place : (t : Tx) → MayDraw (known_of plain s) t → HasRoom l.geometry (from_at l.starts t.queue) root.base (us_of s t.queue) t (port_at ports t.queue) → HasPlace l t
   has_place t may room = record { form = may.form; number = may.number; limit = may.limit; counts = room.limit; places = room.places }
 
   -- a draw leaves the front

@@ -10,14 +10,14 @@ use Rattle.mq_blocks.specs.declared.geometry.Geometry.{Geometry}
 
 -- ---- descriptors
 
-lists_same : (low high : ℕ) (xs ys us vs : List ℕ) → high ≤ 2 ^ 32 → ((x : ℕ) → x < high → x < 2 ^ 32) → AreRising low high xs → AreRising low high ys → length xs ≡ length ys → list_bytes xs ++ us ≡ list_bytes ys ++ vs → (xs ≡ ys) × (us ≡ vs)
-lists_same low high [] [] us vs h small r k long same = (refl, same)
-lists_same low high [] (y ∷ ys) us vs h small r k long same = absurd (omega arith)
-lists_same low high (x ∷ xs) [] us vs h small r k long same = absurd (omega arith)
-lists_same low high (x ∷ xs) (y ∷ ys) us vs h small r k long same =
+lists_same : (low high : ℕ) (xs ys txs vs : List ℕ) → high ≤ 2 ^ 32 → ((x : ℕ) → x < high → x < 2 ^ 32) → AreRising low high xs → AreRising low high ys → length xs ≡ length ys → list_bytes xs ++ txs ≡ list_bytes ys ++ vs → (xs ≡ ys) × (txs ≡ vs)
+lists_same low high [] [] txs vs h small r k long same = (refl, same)
+lists_same low high [] (y ∷ ys) txs vs h small r k long same = absurd (omega arith)
+lists_same low high (x ∷ xs) [] txs vs h small r k long same = absurd (omega arith)
+lists_same low high (x ∷ xs) (y ∷ ys) txs vs h small r k long same =
     let first : x ≡ y = sym (from_le_bytes-to_le_bytes_4 x (small x r.1)) ∙ ap (λ (l : List ℕ). from_le_bytes w32 (take 4 l)) same ∙ from_le_bytes-to_le_bytes_4 y (small y k.1) in
     let k' : AreRising (x + 1) high ys = subst (λ n. AreRising (n + 1) high ys) (sym first) k.2 in
-    let rest = lists_same (x + 1) high xs ys us vs h small r.2 k' (omega arith) (ap (λ (l : List ℕ). drop 4 l) same) in
+    let rest = lists_same (x + 1) high xs ys txs vs h small r.2 k' (omega arith) (ap (λ (l : List ℕ). drop 4 l) same) in
     (λ i. first i ∷ rest.0 i, rest.1)
 
 field_4 : (at x : ℕ) (b : List ℕ) → x < 2 ^ 32 → take 4 (drop at b) ≡ to_le_bytes w32 x → from_le_bytes w32 (take 4 (drop at b)) ≡ x

@@ -33,5 +33,5 @@ post_none s b (p ∷ ps) = if writes_none s b p.posted then post_none s b ps els
 
 -- this was written last, and is in no doubt but for what posted commands write
 pub record Holds (p : PortState) (lba : ℕ) (content : List ℕ) : Type 0 where
-  pub sure : slice_index_or p.sure (index_of p lba) false ≡ true
+  pub certain : slice_index_or p.certain (index_of p lba) false ≡ true
   pub is : block_at p.blocks (index_of p lba) ≡ content

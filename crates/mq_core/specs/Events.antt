@@ -13,14 +13,14 @@ use Rattle.mq_ledger.specs.Sides.{IsKept, holds_count}
 use Rattle.mq_ledger.specs.State.{State, is_done, front_of, from_at, known_of, port_at, port_of, start_map}
 use Rattle.mq_ledger.specs.declared.tx.Tx.{Tx}
 
--- ---- of a queue's port, where its entries begin at `from` and are those of `us`
+-- ---- of a queue's port, where its entries begin at `from` and are those of `txs`
 
 abbrev pub staged_with : (ℕ → ℕ × ℕ × Bool → List ℕ) → Geometry → ℕ → Item → PortState → PortState
 staged_with entry g q i p = after_stage p (entry (staged_end p % depth) (said_of g q i)) i.number (lba_of g q i.target) i.content
 
 -- the next entry is staged
 abbrev pub stage_side : Entries → Geometry → ℕ → ℕ → List Tx → PortState → PortState
-stage_side e g q from us p = staged_with e.entry g q (item_at from us (staged_end p)) p
+stage_side e g q from txs p = staged_with e.entry g q (item_at from txs (staged_end p)) p
 
 abbrev pub no_command : Command
 no_command = record { count = 0; tx = 0; lba = 0; block = [] }
@@ -42,26 +42,26 @@ fail_side c p = after_failed p (index_with c p.posted) (command_with c p.posted)
 
 -- an entry of the drawn transaction isn't staged
 abbrev pub MayStage : ℕ → List Tx → PortState → Type 0
-MayStage from us p = staged_end p < end_of from us
+MayStage from txs p = staged_end p < end_of from txs
 
 -- the drawn transaction is wholly staged
-pub record MayFlush (from : ℕ) (us : List Tx) (p : PortState) : Type 0 where
-  pub drawn : p.doorbell < end_of from us
-  pub whole : staged_end p ≡ end_of from us
+pub record MayFlush (from : ℕ) (txs : List Tx) (p : PortState) : Type 0 where
+  pub drawn : p.doorbell < end_of from txs
+  pub whole : staged_end p ≡ end_of from txs
 
 -- it is staged and flushed
-pub record MayRing (from : ℕ) (us : List Tx) (p : PortState) : Type 0 where
-  pub drawn : p.doorbell < end_of from us
-  pub whole : staged_end p ≡ end_of from us
-  pub flushed : p.flushed_end ≡ end_of from us
+pub record MayRing (from : ℕ) (txs : List Tx) (p : PortState) : Type 0 where
+  pub drawn : p.doorbell < end_of from txs
+  pub whole : staged_end p ≡ end_of from txs
+  pub flushed : p.flushed_end ≡ end_of from txs
 
 -- the command is posted
 abbrev pub MayEnd : ℕ → PortState → Type 0
 MayEnd c p = holds_count c p.posted ≡ true
 
 -- the new head is an end of a transaction, and every command below it is completed with success
-pub record MayStoreHead (from : ℕ) (us : List Tx) (p : PortState) (h : ℕ) : Type 0 where
-  pub is_end : IsEnd from us h
+pub record MayStoreHead (from : ℕ) (txs : List Tx) (p : PortState) (h : ℕ) : Type 0 where
+  pub is_end : IsEnd from txs h
   pub above : p.stored_head ≤ h
   pub rung : h ≤ p.doorbell
   pub posted : AreFrom h p.posted
@@ -77,13 +77,13 @@ end_home g x block p = after_end p (home_lba g x) block
 
 -- The part that speaks of its queue's port: nothing that was drawn waits for the ring, no command has
 -- failed, and the entries fit into the ring and the area.
-pub record HasRoom (g : Geometry) (from word : ℕ) (us : List Tx) (t : Tx) (p : PortState) : Type 0 where
-  pub rung : p.doorbell ≡ end_of from us
+pub record HasRoom (g : Geometry) (from word : ℕ) (txs : List Tx) (t : Tx) (p : PortState) : Type 0 where
+  pub rung : p.doorbell ≡ end_of from txs
   pub failed : p.failed ≡ []
   pub ring : writes t + 1 ≤ 1023 - (staged_end p - p.head)
-  pub area : next us + (length t.logged + 1) ≤ next (upto word us) + g.area
-  pub places : next us + length t.logged < 2 ^ 62
-  pub limit : end_of from us + (writes t + 1) ≤ number_limit
+  pub area : next txs + (length t.logged + 1) ≤ next (upto word txs) + g.area
+  pub places : next txs + length t.logged < 2 ^ 62
+  pub limit : end_of from txs + (writes t + 1) ≤ number_limit
 
 -- ---- of the state
 
@@ -105,10 +105,10 @@ without x [] = []
 without x (y ∷ ys) = if nat_eq y x then without x ys else y ∷ without x ys
 
 abbrev pub draw : Tx → State → State
-draw t s = record s { history = t ∷ s.history; under = unchanged_by t s.under }
+draw t s = record s { history = t ∷ s.history; writing = unchanged_by t s.writing }
 
 abbrev pub stage : Entries → ℕ → State → State
-stage e q s = with_port s (Some q) (stage_side e s.geometry q (from_at s.froms q) (us_of s q) (port_at s.ports q))
+stage e q s = with_port s (Some q) (stage_side e s.geometry q (from_at s.starts q) (us_of s q) (port_at s.ports q))
 
 abbrev pub flush : ℕ → State → State
 flush q s = with_port s (Some q) (after_flush (port_at s.ports q))
@@ -136,10 +136,10 @@ abbrev pub content_at : State → ℕ → List ℕ
 content_at s x = content (map_after (start_map s.start) s.history x)
 
 abbrev pub write_home : ℕ → State → State
-write_home x s = record (with_port s (zone_of s.geometry x) (begin_home s.geometry x (content_at s x) (port_of s (zone_of s.geometry x)))) { under = x ∷ s.under }
+write_home x s = record (with_port s (zone_of s.geometry x) (begin_home s.geometry x (content_at s x) (port_of s (zone_of s.geometry x)))) { writing = x ∷ s.writing }
 
 abbrev pub home_done : ℕ → State → State
-home_done x s = record (with_port s (zone_of s.geometry x) (end_home s.geometry x (content_at s x) (port_of s (zone_of s.geometry x)))) { under = without x s.under }
+home_done x s = record (with_port s (zone_of s.geometry x) (end_home s.geometry x (content_at s x) (port_of s (zone_of s.geometry x)))) { writing = without x s.writing }
 
 abbrev pub store_base : ℕ → State → State
 store_base b s = record s { root = after_store_base s.root b }
@@ -150,7 +150,7 @@ flush_base s = record s { root = after_flush s.root }
 -- each number of the queue that isn't done is at or above the mark
 pub record MayClear (s : State) (q low : ℕ) : Type 0 where
   pub queue : q < s.geometry.queues
-  pub each : (t : Tx) (ts : List Tx) → IsAt t ts s.history → t.queue ≡ q → is_done s.froms s.ports t ts ≡ false → low ≤ t.number
+  pub each : (t : Tx) (ts : List Tx) → IsAt t ts s.history → t.queue ≡ q → is_done s.starts s.ports t ts ≡ false → low ≤ t.number
 
 -- the block is in the map, and its last change logged it, is done, and is above the stored base
 pub record MayWriteHome (s : State) (x : ℕ) : Type 0 where

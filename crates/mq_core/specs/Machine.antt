@@ -3,7 +3,7 @@ use Rattle.std.specs.Prelude.{◌≡◌, ◌<◌, ◌≤◌, ℕ, zero, suc, tru
 use Rattle.mq_blocks.specs.Journal.{is_among}
 use Rattle.mq_ledger.specs.Items.{Entries}
 use Rattle.mq_ledger.specs.State.{State, IsLawful, known_of, front_of, from_at, port_at}
-use Rattle.mq_ledger.specs.Known.{MayDraw}
+use Rattle.mq_ledger.specs.KnownJournal.{MayDraw}
 use Rattle.mq_core.specs.Events.{us_of, draw, stage, flush, ring, complete, fail_command, store_head, clear, acknowledge, write_home, home_done, store_base, flush_base, HasRoom, MayStage, MayFlush, MayRing, MayEnd, MayStoreHead, MayClear, MayWriteHome, MayStoreBase}
 pub use Rattle.mq_core.specs.declared.event.Event.{Event}
 use Rattle.mq_core.specs.declared.event.CoreRefusal.{CoreRefusal}
@@ -28,18 +28,18 @@ happens e FlushBase s = flush_base s
 
 abbrev pub IsAllowed : Entries → Event → State → Type 0
 IsAllowed e (Draw t) s =
-    MayDraw (known_of e s) t × HasRoom s.geometry (from_at s.froms t.queue) s.root.base (us_of s t.queue) t (port_at s.ports t.queue) × (slice_index_or s.marks t.queue 0 ≤ t.number)
-IsAllowed e (Stage q) s = (q < s.geometry.queues) × MayStage (from_at s.froms q) (us_of s q) (port_at s.ports q)
-IsAllowed e (Flush q) s = (q < s.geometry.queues) × MayFlush (from_at s.froms q) (us_of s q) (port_at s.ports q)
-IsAllowed e (Ring q) s = (q < s.geometry.queues) × MayRing (from_at s.froms q) (us_of s q) (port_at s.ports q)
+    MayDraw (known_of e s) t × HasRoom s.geometry (from_at s.starts t.queue) s.root.base (us_of s t.queue) t (port_at s.ports t.queue) × (slice_index_or s.marks t.queue 0 ≤ t.number)
+IsAllowed e (Stage q) s = (q < s.geometry.queues) × MayStage (from_at s.starts q) (us_of s q) (port_at s.ports q)
+IsAllowed e (Flush q) s = (q < s.geometry.queues) × MayFlush (from_at s.starts q) (us_of s q) (port_at s.ports q)
+IsAllowed e (Ring q) s = (q < s.geometry.queues) × MayRing (from_at s.starts q) (us_of s q) (port_at s.ports q)
 IsAllowed e (Complete q c) s = (q < s.geometry.queues) × MayEnd c (port_at s.ports q)
 IsAllowed e (FailCommand q c) s = (q < s.geometry.queues) × MayEnd c (port_at s.ports q)
-IsAllowed e (StoreHead q h) s = (q < s.geometry.queues) × MayStoreHead (from_at s.froms q) (us_of s q) (port_at s.ports q) h
+IsAllowed e (StoreHead q h) s = (q < s.geometry.queues) × MayStoreHead (from_at s.starts q) (us_of s q) (port_at s.ports q) h
 IsAllowed e (FlushHead q) s = q < s.geometry.queues
 IsAllowed e (Clear q low) s = MayClear s q low
 IsAllowed e (Acknowledge n) s = n ≤ front_of s
 IsAllowed e (WriteHome x) s = MayWriteHome s x
-IsAllowed e (HomeDone x) s = is_among x s.under ≡ true
+IsAllowed e (HomeDone x) s = is_among x s.writing ≡ true
 IsAllowed e (StoreBase b) s = MayStoreBase e s b
 IsAllowed e FlushBase s = Unit {0}
 

@@ -12,18 +12,18 @@ pub record IsNextDone (s : Ledger) (ports : List PortState) : Type 0 where
   pub before : List Tx
   pub stands : IsAt tx before s.history
   pub number : tx.number ≡ s.front + 1
-  pub done : is_done s.froms ports tx before ≡ true
+  pub done : is_done s.starts ports tx before ≡ true
 
 abbrev pub with_front : ℕ → Ledger → Ledger
-with_front n l = record { geometry = l.geometry; start = l.start; base = l.base; froms = l.froms; history = l.history; front = n }
+with_front n l = record { geometry = l.geometry; start = l.start; base = l.base; starts = l.starts; history = l.history; front = n }
 
 -- all numbers up to the front are done
 pub record IsSettled (l : Ledger) (ports : List PortState) : Type 0 where
   pub numbers : AreNumbered l.base l.history
   pub low : l.base ≤ l.front
   pub high : l.front ≤ l.base + length l.history
-  pub done : (t : Tx) (ts : List Tx) → IsAt t ts l.history → t.number ≤ l.front → is_done l.froms ports t ts ≡ true
+  pub done : (t : Tx) (ts : List Tx) → IsAt t ts l.history → t.number ≤ l.front → is_done l.starts ports t ts ≡ true
 
 -- and no greater one
 abbrev pub settled : List PortState → Ledger → Ledger
-settled ports l = with_front (l.base + length (part_of (is_done l.froms ports) l.history)) l
+settled ports l = with_front (l.base + length (part_of (is_done l.starts ports) l.history)) l

@@ -7,21 +7,21 @@ use Rattle.mq_ledger.specs.State.{State, Facts, front_of}
 use Rattle.mq_core.specs.declared.machine.Core.TheInside.{Inside}
 
 abbrev pub state_with : Ledger → List PortState → PortState → List ℕ → List ℕ → List ℕ → State
-state_with ledger ports root marks under acknowledged = record {
+state_with ledger ports root marks writing acknowledged = record {
   geometry = ledger.geometry;
   start = ledger.start;
   base = ledger.base;
-  froms = ledger.froms;
+  starts = ledger.starts;
   history = ledger.history;
   ports = ports;
   root = root;
   marks = marks;
-  under = under;
+  writing = writing;
   acknowledged = acknowledged;
 }
 
 abbrev pub state_of : Inside → State
-state_of c = state_with c.ledger c.ports.items c.root c.marks.items (reverse c.under.items) (reverse c.acknowledged.items)
+state_of c = state_with c.ledger c.ports.items c.root c.marks.items (reverse c.writing.items) (reverse c.acknowledged.items)
 
 -- The state has the facts, this is its front, and nothing is staged at the root.
 pub record IsHeld (front : ℕ) (s : State) : Type 0 where

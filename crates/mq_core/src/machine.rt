@@ -25,7 +25,7 @@ pub struct Core {
     ports: Vec<Port>,
     root: Port,
     marks: Vec<u64>,
-    under: Vec<BlockNo>,
+    writing: Vec<BlockNo>,
     acknowledged: Vec<TxNo>,
 }
 
@@ -79,7 +79,7 @@ impl Core {
             ports: fresh_queues(alloc, geometry, blocks)?,
             root: Port::fresh(alloc, geometry, None, homes, base)?,
             marks: repeated(alloc, u64::MAX, queues)?,
-            under: Vec::new(alloc),
+            writing: Vec::new(alloc),
             acknowledged: Vec::new(alloc),
         })
     }

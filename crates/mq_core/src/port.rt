@@ -70,7 +70,7 @@ pub struct Port {
     base: u64,
     stored_base: u64,
     blocks: Vec<Option<Content>>,
-    sure: Vec<bool>,
+    certain: Vec<bool>,
     begun: Vec<HomeWrite>,
     rings: u64,
     begins: u64,
@@ -83,7 +83,7 @@ impl Model for Port {
 
     ghost Value = { PortState };
 
-    ghost view = { λ p. record { queue = p.queue; area_first = p.area_first; area_size = p.area_size; homes_first = p.homes_first; homes_size = p.homes_size; flushed = p.flushed.items; staged = p.staged.items; flushed_end = p.flushed_end; pending = p.pending.items; doorbell = p.doorbell; posted = p.posted.items; failed = p.failed.items; head = p.head; stored_head = p.stored_head; base = p.base; stored_base = p.stored_base; blocks = p.blocks.items; sure = p.sure.items; begun = p.begun.items; rings = p.rings; begins = p.begins; events = p.events; fuse = no_fuse; fail = None } };
+    ghost view = { λ p. record { queue = p.queue; area_first = p.area_first; area_size = p.area_size; homes_first = p.homes_first; homes_size = p.homes_size; flushed = p.flushed.items; staged = p.staged.items; flushed_end = p.flushed_end; pending = p.pending.items; doorbell = p.doorbell; posted = p.posted.items; failed = p.failed.items; head = p.head; stored_head = p.stored_head; base = p.base; stored_base = p.stored_base; blocks = p.blocks.items; certain = p.certain.items; begun = p.begun.items; rings = p.rings; begins = p.begins; events = p.events; fuse = no_fuse; fail = None } };
 }
 
 /// Whether these are the 4,096 zeros of a block that was never written.
@@ -274,7 +274,7 @@ impl Port {
             base: base.0,
             stored_base: base.0,
             blocks: behind_empty(alloc, area_size as usize, homes)?,
-            sure: vec![in alloc; true; (area_size + homes_size) as usize]?,
+            certain: vec![in alloc; true; (area_size + homes_size) as usize]?,
             begun: Vec::new(alloc),
             rings: 0,
             begins: 0,
@@ -300,7 +300,7 @@ impl Port {
     {
         let at = self.index(lba);
         put_block(&mut self.blocks, at, block);
-        put_flag(&mut self.sure, at, true);
+        put_flag(&mut self.certain, at, true);
     }
 
     /// Ends the posted command of a count with success.
@@ -327,7 +327,7 @@ impl Port {
         };
         let at = self.index(command.lba);
         self.failed.push(command)?;
-        put_flag(&mut self.sure, at, false);
+        put_flag(&mut self.certain, at, false);
         self.events = bump(self.events);
         Ok(())
     }
@@ -340,7 +340,7 @@ impl Port {
     {
         let at = self.index(lba);
         self.begun.push(HomeWrite { lba, block })?;
-        put_flag(&mut self.sure, at, false);
+        put_flag(&mut self.certain, at, false);
         self.begins = bump(self.begins);
         Ok(())
     }
@@ -482,7 +482,7 @@ impl Port {
         ensures { IsTrue result ↔ Holds self.now lba content.now }
     {
         let at = self.index(lba);
-        if !self.sure[at] {
+        if !self.certain[at] {
             return false;
         }
         same_content(&self.blocks[at], content)

@@ -19,23 +19,23 @@ set-set (x ∷ xs) (suc k) v w = ap (λ (l : List _). x ∷ l) (set-set xs k v w
 pub same_state : (s : PortState) (fuse : FuseName) → fuse ≡ s.fuse → record s { fuse = fuse } ≡ s
 same_state s fuse is = λ i. record s { fuse = is i }
 
-pub done_at : (s : PortState) (at : ℕ) (c : Command) (posted : List Command) (blocks : List (Option (List ℕ))) (sure : List Bool) (events : ℕ) (fuse : FuseName) (fail : Option ℕ)
-    → posted ≡ remove s.posted at → blocks ≡ set s.blocks (index_of s c.lba) (Some c.block) → sure ≡ set s.sure (index_of s c.lba) true → events ≡ counted s.events 1
+pub done_at : (s : PortState) (at : ℕ) (c : Command) (posted : List Command) (blocks : List (Option (List ℕ))) (certain : List Bool) (events : ℕ) (fuse : FuseName) (fail : Option ℕ)
+    → posted ≡ remove s.posted at → blocks ≡ set s.blocks (index_of s c.lba) (Some c.block) → certain ≡ set s.certain (index_of s c.lba) true → events ≡ counted s.events 1
     → fuse ≡ s.fuse → fail ≡ s.fail
-    → record s { posted = posted; blocks = blocks; sure = sure; events = events; fuse = fuse; fail = fail } ≡ after_done s at c
-done_at s at c posted blocks sure events fuse fail is_posted is_blocks is_sure is_events is_fuse is_fail =
-    λ i. record s { posted = is_posted i; blocks = is_blocks i; sure = is_sure i; events = is_events i; fuse = is_fuse i; fail = is_fail i }
+    → record s { posted = posted; blocks = blocks; certain = certain; events = events; fuse = fuse; fail = fail } ≡ after_done s at c
+done_at s at c posted blocks certain events fuse fail is_posted is_blocks is_certain is_events is_fuse is_fail =
+    λ i. record s { posted = is_posted i; blocks = is_blocks i; certain = is_certain i; events = is_events i; fuse = is_fuse i; fail = is_fail i }
 
 -- the first command that fails
-pub failed_at : (s : PortState) (at : ℕ) (c : Command) (old : Option Failure) (rest : List HomeWrite) (posted : List Command) (blocks : List (Option (List ℕ))) (sure : List Bool) (events : ℕ) (fuse : FuseName) (fail : Option ℕ)
+pub failed_at : (s : PortState) (at : ℕ) (c : Command) (old : Option Failure) (rest : List HomeWrite) (posted : List Command) (blocks : List (Option (List ℕ))) (certain : List Bool) (events : ℕ) (fuse : FuseName) (fail : Option ℕ)
     → old ≡ None → s.failed ≡ failed_of old → s.begun ≡ unended_of old ++ rest
-    → posted ≡ remove s.posted at → blocks ≡ s.blocks → sure ≡ set s.sure (index_of s c.lba) false → events ≡ counted s.events 1
+    → posted ≡ remove s.posted at → blocks ≡ s.blocks → certain ≡ set s.certain (index_of s c.lba) false → events ≡ counted s.events 1
     → fuse ≡ s.fuse → fail ≡ s.fail
-    → record s { posted = posted; failed = c ∷ []; begun = rest; blocks = blocks; sure = sure; events = events; fuse = fuse; fail = fail } ≡ after_failed s at c
-failed_at s at c old rest posted blocks sure events fuse fail none was_failed was_begun is_posted is_blocks is_sure is_events is_fuse is_fail =
+    → record s { posted = posted; failed = c ∷ []; begun = rest; blocks = blocks; certain = certain; events = events; fuse = fuse; fail = fail } ≡ after_failed s at c
+failed_at s at c old rest posted blocks certain events fuse fail none was_failed was_begun is_posted is_blocks is_certain is_events is_fuse is_fail =
     let is_failed : c ∷ [] ≡ s.failed ++ c ∷ [] = sym (ap (λ (l : List Command). l ++ c ∷ []) (was_failed ∙ ap failed_of none)) in
     let is_begun : rest ≡ s.begun = sym (was_begun ∙ ap (λ (o : Option Failure). unended_of o ++ rest) none) in
-    λ i. record s { posted = is_posted i; failed = is_failed i; begun = is_begun i; blocks = is_blocks i; sure = is_sure i; events = is_events i; fuse = is_fuse i; fail = is_fail i }
+    λ i. record s { posted = is_posted i; failed = is_failed i; begun = is_begun i; blocks = is_blocks i; certain = is_certain i; events = is_events i; fuse = is_fuse i; fail = is_fail i }
 
 holds_last : (lba : ℕ) (block : List ℕ) (ws : List HomeWrite) → holds_write lba (ws ++ record { lba = lba; block = block } ∷ []) ≡ true
 holds_last lba block [] = ap (λ (t : Bool). cond t true false) (eq-eqb lba lba refl)
@@ -51,21 +51,21 @@ without_ended lba block (w ∷ ws) =
     ap (λ (l : List HomeWrite). w ∷ l) (without_ended lba block ws)
     ∙ ap (λ (t : Bool). cond t (w ∷ without_last lba (ws ++ record { lba = lba; block = block } ∷ [])) (cond (eqb w.lba lba) (ws ++ record { lba = lba; block = block } ∷ []) (w ∷ (ws ++ record { lba = lba; block = block } ∷ [])))) (sym (holds_last lba block ws))
 
-pub written_home : (s : PortState) (lba : ℕ) (block : List ℕ) (blocks : List (Option (List ℕ))) (sure : List Bool) (begins : ℕ) (fuse : FuseName) (fail : Option ℕ)
-    → blocks ≡ set s.blocks (index_of s lba) (Some block) → sure ≡ set (set s.sure (index_of s lba) false) (index_of s lba) true → begins ≡ counted s.begins 1
+pub written_home : (s : PortState) (lba : ℕ) (block : List ℕ) (blocks : List (Option (List ℕ))) (certain : List Bool) (begins : ℕ) (fuse : FuseName) (fail : Option ℕ)
+    → blocks ≡ set s.blocks (index_of s lba) (Some block) → certain ≡ set (set s.certain (index_of s lba) false) (index_of s lba) true → begins ≡ counted s.begins 1
     → fuse ≡ s.fuse → fail ≡ s.fail
-    → record s { blocks = blocks; sure = sure; begins = begins; fuse = fuse; fail = fail } ≡ after_end (after_begin s lba block) lba block
-written_home s lba block blocks sure begins fuse fail is_blocks is_sure is_begins is_fuse is_fail =
+    → record s { blocks = blocks; certain = certain; begins = begins; fuse = fuse; fail = fail } ≡ after_end (after_begin s lba block) lba block
+written_home s lba block blocks certain begins fuse fail is_blocks is_certain is_begins is_fuse is_fail =
     let begun : s.begun ≡ without_last lba (s.begun ++ record { lba = lba; block = block } ∷ []) = without_ended lba block s.begun in
-    λ i. record s { blocks = is_blocks i; sure = is_sure i; begins = is_begins i; begun = begun i; fuse = is_fuse i; fail = is_fail i }
+    λ i. record s { blocks = is_blocks i; certain = is_certain i; begins = is_begins i; begun = begun i; fuse = is_fuse i; fail = is_fail i }
 
 -- a home write has begun, and not ended
-pub begun_home : (s : PortState) (lba : ℕ) (block : List ℕ) (failed : List Command) (begun : List HomeWrite) (blocks : List (Option (List ℕ))) (sure : List Bool) (begins : ℕ) (fuse : FuseName) (fail : Option ℕ)
-    → failed ≡ s.failed → begun ≡ s.begun ++ record { lba = lba; block = block } ∷ [] → blocks ≡ s.blocks → sure ≡ set s.sure (index_of s lba) false → begins ≡ counted s.begins 1
+pub begun_home : (s : PortState) (lba : ℕ) (block : List ℕ) (failed : List Command) (begun : List HomeWrite) (blocks : List (Option (List ℕ))) (certain : List Bool) (begins : ℕ) (fuse : FuseName) (fail : Option ℕ)
+    → failed ≡ s.failed → begun ≡ s.begun ++ record { lba = lba; block = block } ∷ [] → blocks ≡ s.blocks → certain ≡ set s.certain (index_of s lba) false → begins ≡ counted s.begins 1
     → fuse ≡ s.fuse → fail ≡ s.fail
-    → record s { failed = failed; begun = begun; blocks = blocks; sure = sure; begins = begins; fuse = fuse; fail = fail } ≡ after_begin s lba block
-begun_home s lba block failed begun blocks sure begins fuse fail is_failed is_begun is_blocks is_sure is_begins is_fuse is_fail =
-    λ i. record s { failed = is_failed i; begun = is_begun i; blocks = is_blocks i; sure = is_sure i; begins = is_begins i; fuse = is_fuse i; fail = is_fail i }
+    → record s { failed = failed; begun = begun; blocks = blocks; certain = certain; begins = begins; fuse = fuse; fail = fail } ≡ after_begin s lba block
+begun_home s lba block failed begun blocks certain begins fuse fail is_failed is_begun is_blocks is_certain is_begins is_fuse is_fail =
+    λ i. record s { failed = is_failed i; begun = is_begun i; blocks = is_blocks i; certain = is_certain i; begins = is_begins i; fuse = is_fuse i; fail = is_fail i }
 
 -- the home writes that have begun, after one more that fails or is cut off
 pub begun_failed : (old : Option Failure) (under : Option HomeWrite) (w : HomeWrite) → old ≡ None → under ≡ None

@@ -1,7 +1,7 @@
 -- A port that starts from an image.
 use Rattle.std.proofs.Common.{true, false, length, refl, arith, ℕ, Option}
 use Rattle.std.proofs.lemmas.List.{get_or-replicate, length-replicate}
-use Rattle.mq_blocks.specs.Drive.{FuseName, PortImage, IsQuiet}
+use Rattle.mq_blocks.specs.Drive.{FuseName, PortImage, IsQuiescent}
 use Rattle.mq_blocks.specs.declared.geometry.Geometry.{Geometry}
 use Rattle.mq_drive.specs.Start.{IsImageOf, IsPortOf, start_of}
 use Rattle.mq_drive.specs.declared.role.Role.{Role}
@@ -16,11 +16,11 @@ port_of-start g role i fuse fail image = record {
   flushed = image.slots;
   staged = image.slots;
   blocks = image.blocks;
-  sure = length-replicate (length i.blocks) true;
+  certain = length-replicate (length i.blocks) true;
   settled = λ k within flushed. refl;
 }
 
-pub quiet-start : (g : Geometry) (role : Role) (i : PortImage) (fuse : FuseName) (fail : Option ℕ) → IsQuiet (start_of g role i fuse fail)
+pub quiet-start : (g : Geometry) (role : Role) (i : PortImage) (fuse : FuseName) (fail : Option ℕ) → IsQuiescent (start_of g role i fuse fail)
 quiet-start g role i fuse fail = record {
   flushed_end = refl;
   pending = refl;
@@ -28,5 +28,5 @@ quiet-start g role i fuse fail = record {
   failed = refl;
   head = refl;
   base = refl;
-  sure = λ k within. get_or-replicate (length i.blocks) k true false (let long = length-replicate (length i.blocks) true in omega arith);
+  certain = λ k within. get_or-replicate (length i.blocks) k true false (let long = length-replicate (length i.blocks) true in omega arith);
 }

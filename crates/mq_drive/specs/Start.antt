@@ -57,7 +57,7 @@ start_of g role i fuse fail = record {
   base = i.base;
   stored_base = i.base;
   blocks = i.blocks;
-  sure = replicate (length i.blocks) true;
+  certain = replicate (length i.blocks) true;
   begun = [];
   rings = 0;
   begins = 0;
@@ -76,5 +76,5 @@ pub record IsPortOf (g : Geometry) (role : Role) (s : PortState) : Type 0 where
   pub flushed : length s.flushed ≡ slots_of role
   pub staged : length s.staged ≡ slots_of role
   pub blocks : length s.blocks ≡ area_size_of g role + homes_size_of g role
-  pub sure : length s.sure ≡ length s.blocks
+  pub certain : length s.certain ≡ length s.blocks
   pub settled : (k : ℕ) → k < length s.flushed → IsFlushed s k → slice_index_or s.flushed k [] ≡ slice_index_or s.staged k []

@@ -1,7 +1,7 @@
 -- A drive of one queue whose two ports have one image each, as recovery sees it.
 use Rattle.std.specs.Prelude.{◌≡◌, [], ◌∷◌}
 use Rattle.mq_nvme.specs.Says.{says}
-use Rattle.mq_blocks.specs.Drive.{PortState, IsQuiet, image_of}
+use Rattle.mq_blocks.specs.Drive.{PortState, IsQuiescent, image_of}
 use Rattle.mq_blocks.specs.Journal.{Shown, shown}
 use Rattle.mq_blocks.specs.declared.geometry.Geometry.{Geometry}
 use Rattle.mq_drive.specs.Start.{IsPortOf}
@@ -11,9 +11,9 @@ use Rattle.mq_drive.specs.declared.role.Role.TheVariants.{Queue, Root}
 abbrev pub view_of : Geometry → PortState → PortState → Shown
 view_of g queue root = shown says g (image_of queue ∷ []) (image_of root)
 
-pub record IsStill (g : Geometry) (queue root : PortState) : Type 0 where
+pub record IsQuiescentPair (g : Geometry) (queue root : PortState) : Type 0 where
   pub one : g.queues ≡ 1
   pub queue_port : IsPortOf g (Queue 0) queue
   pub root_port : IsPortOf g Root root
-  pub queue_quiet : IsQuiet queue
-  pub root_quiet : IsQuiet root
+  pub queue_quiet : IsQuiescent queue
+  pub root_quiet : IsQuiescent root

@@ -13,23 +13,23 @@ use rand_pcg::Lcg128Xsl64;
 #[derive(Drop)]
 pub struct Blocks {
     stored: Vec<Option<Block>>,
-    sure: Vec<bool>,
+    certain: Vec<bool>,
     doubt: Option<usize>,
-    ghost sized: { length sure.items ≡ length stored.items },
-    ghost doubtful: { ForSome doubt (λ k. (k < length sure.items) × (slice_index_or sure.items k false ≡ false)) },
+    ghost sized: { length certain.items ≡ length stored.items },
+    ghost doubtful: { ForSome doubt (λ k. (k < length certain.items) × (slice_index_or certain.items k false ≡ false)) },
 }
 
 impl Blocks {
-    /// Blocks of which all are certain, as `sure` says.
-    pub fn new(blocks: Vec<Option<Block>>, sure: Vec<bool>) -> Blocks
-        requires { length sure.items ≡ length blocks.items }
+    /// Blocks of which all are certain, as `certain` says.
+    pub fn new(blocks: Vec<Option<Block>>, certain: Vec<bool>) -> Blocks
+        requires { length certain.items ≡ length blocks.items }
         ensures blocks { result.stored ≡ blocks }
-        ensures sure { result.sure ≡ sure }
+        ensures certain { result.certain ≡ certain }
         ensures doubt { result.doubt ≡ None }
     {
         Blocks {
             stored: blocks,
-            sure,
+            certain,
             doubt: None,
         }
     }
@@ -45,10 +45,10 @@ impl Blocks {
     pub fn complete(&mut self, k: usize, block: Block)
         requires { k < length self.old.stored.items }
         ensures blocks { self.new.stored.items ≡ slice_set self.old.stored.items k (Some block) }
-        ensures sure { self.new.sure.items ≡ slice_set self.old.sure.items k true }
+        ensures certain { self.new.certain.items ≡ slice_set self.old.certain.items k true }
     {
         put_block(&mut self.stored, k, block);
-        put_flag(&mut self.sure, k, true);
+        put_flag(&mut self.certain, k, true);
         if self.doubt == Some(k) {
             self.doubt = None;
         }
@@ -58,19 +58,19 @@ impl Blocks {
     pub fn begin(&mut self, k: usize)
         requires { k < length self.old.stored.items }
         ensures blocks { self.new.stored.items ≡ self.old.stored.items }
-        ensures sure { self.new.sure.items ≡ slice_set self.old.sure.items k false }
+        ensures certain { self.new.certain.items ≡ slice_set self.old.certain.items k false }
     {
-        put_flag(&mut self.sure, k, false);
+        put_flag(&mut self.certain, k, false);
     }
 
     /// A write of the block has ended with an error.
     pub fn fail(&mut self, k: usize)
         requires { k < length self.old.stored.items }
         ensures blocks { self.new.stored.items ≡ self.old.stored.items }
-        ensures sure { self.new.sure.items ≡ slice_set self.old.sure.items k false }
+        ensures certain { self.new.certain.items ≡ slice_set self.old.certain.items k false }
         ensures doubt { self.new.doubt ≡ Some k }
     {
-        put_flag(&mut self.sure, k, false);
+        put_flag(&mut self.certain, k, false);
         self.doubt = Some(k);
     }
 
@@ -79,7 +79,7 @@ impl Blocks {
     pub fn tear(&mut self, k: usize, block: Block, rng: &mut Lcg128Xsl64)
         requires { k < length self.old.stored.items }
         ensures len { length self.new.stored.items ≡ length self.old.stored.items }
-        ensures sure { self.new.sure.items ≡ self.old.sure.items }
+        ensures certain { self.new.certain.items ≡ self.old.certain.items }
         ensures doubt { self.new.doubt ≡ self.old.doubt }
         ensures others { (j : ℕ) → j ≢ k → slice_index_or self.new.stored.items j None ≡ slice_index_or self.old.stored.items j None }
     {
@@ -95,8 +95,8 @@ impl Blocks {
     /// The same of the block that the write that ended with an error leaves in doubt, if it does.
     pub fn tear_doubt(&mut self, block: Block, rng: &mut Lcg128Xsl64)
         ensures len { length self.new.stored.items ≡ length self.old.stored.items }
-        ensures sure { self.new.sure.items ≡ self.old.sure.items }
-        ensures kept { (j : ℕ) → slice_index_or self.old.sure.items j false ≡ true → slice_index_or self.new.stored.items j None ≡ slice_index_or self.old.stored.items j None }
+        ensures certain { self.new.certain.items ≡ self.old.certain.items }
+        ensures kept { (j : ℕ) → slice_index_or self.old.certain.items j false ≡ true → slice_index_or self.new.stored.items j None ≡ slice_index_or self.old.stored.items j None }
     {
         if let Some(k) = self.doubt {
             self.tear(k, block, rng);

@@ -52,8 +52,8 @@ pub fn tear_commands(
 )
     requires own { All (λ c. (area.first ≤ c.lba) × (index_in area.first area.size homes.first c.lba < length blocks.old.stored.items)) posted.items }
     ensures len { length blocks.new.stored.items ≡ length blocks.old.stored.items }
-    ensures sure { blocks.new.sure.items ≡ blocks.old.sure.items }
-    ensures kept { (k : ℕ) → All (λ c. index_in area.first area.size homes.first c.lba ≢ k) posted.items → slice_index_or blocks.old.sure.items k false ≡ true
+    ensures certain { blocks.new.certain.items ≡ blocks.old.certain.items }
+    ensures kept { (k : ℕ) → All (λ c. index_in area.first area.size homes.first c.lba ≢ k) posted.items → slice_index_or blocks.old.certain.items k false ≡ true
         → slice_index_or blocks.new.stored.items k None ≡ slice_index_or blocks.old.stored.items k None }
 {
     let mut posted = posted;
@@ -76,8 +76,8 @@ fn tear_earlier(
     rng: &mut Lcg128Xsl64,
 )
     ensures len { length blocks.new.stored.items ≡ length blocks.old.stored.items }
-    ensures sure { blocks.new.sure.items ≡ blocks.old.sure.items }
-    ensures kept { (k : ℕ) → slice_index_or blocks.old.sure.items k false ≡ true → slice_index_or blocks.new.stored.items k None ≡ slice_index_or blocks.old.stored.items k None }
+    ensures certain { blocks.new.certain.items ≡ blocks.old.certain.items }
+    ensures kept { (k : ℕ) → slice_index_or blocks.old.certain.items k false ≡ true → slice_index_or blocks.new.stored.items k None ≡ slice_index_or blocks.old.stored.items k None }
 {
     if let Some(command) = failed.take_if(|command| command.count < count) {
         blocks.tear_doubt(command.block, rng);
@@ -95,9 +95,9 @@ pub fn tear_homes(
     rng: &mut Lcg128Xsl64,
 )
     requires own { ForSome under_way (λ w. (area.first ≤ w.lba) × (index_in area.first area.size homes.first w.lba < length blocks.old.stored.items)) }
-    requires doubt { ForSome under_way (λ w. slice_index_or blocks.old.sure.items (index_in area.first area.size homes.first w.lba) false ≡ false) }
+    requires doubt { ForSome under_way (λ w. slice_index_or blocks.old.certain.items (index_in area.first area.size homes.first w.lba) false ≡ false) }
     ensures len { length blocks.new.stored.items ≡ length blocks.old.stored.items }
-    ensures kept { (k : ℕ) → slice_index_or blocks.old.sure.items k false ≡ true → slice_index_or blocks.new.stored.items k None ≡ slice_index_or blocks.old.stored.items k None }
+    ensures kept { (k : ℕ) → slice_index_or blocks.old.certain.items k false ≡ true → slice_index_or blocks.new.stored.items k None ≡ slice_index_or blocks.old.stored.items k None }
 {
     if let Some(write) = failed {
         blocks.tear_doubt(write.block, rng);

@@ -86,7 +86,7 @@ pub struct Device<'f> {
     ghost failure_counted: { is_some failure ≡ failing.failed },
     ghost under_way_last: { ForSome under_way (λ w. 0 < power.offs) },
     ghost under_way_own: { ForSome under_way (λ w. (area.first ≤ w.lba) × (index_in area.first area.size homes.first w.lba < length blocks.stored.items)) },
-    ghost under_way_doubt: { ForSome under_way (λ w. slice_index_or blocks.sure.items (index_in area.first area.size homes.first w.lba) false ≡ false) },
+    ghost under_way_doubt: { ForSome under_way (λ w. slice_index_or blocks.certain.items (index_in area.first area.size homes.first w.lba) false ≡ false) },
 }
 
 impl<'f> Device<'f> {
@@ -126,7 +126,7 @@ impl<'f> Device<'f> {
             blocks,
         } = image;
         let flushed = slots.to_vec(alloc)?;
-        let sure = vec![in alloc; true; blocks.len()]?;
+        let certain = vec![in alloc; true; blocks.len()]?;
         Ok(Device {
             role,
             number,
@@ -144,7 +144,7 @@ impl<'f> Device<'f> {
             stored_head: head,
             base,
             stored_base: base,
-            blocks: Blocks::new(blocks, sure),
+            blocks: Blocks::new(blocks, certain),
             under_way: None,
             rings: 0,
             begins: 0,
@@ -192,7 +192,7 @@ impl<'f> Device<'f> {
     ghost use Rattle.mq_drive.specs.Emu.{device_state, device_faults};
     ghost use Rattle.mq_drive.specs.Seats.{fuse_of, tickets_of};
     ghost use Rattle.mq_drive.specs.Steps.{PowerOff};
-    ghost use Rattle.mq_blocks.specs.Drive.{IsImage, IsQuiet, image_of};
+    ghost use Rattle.mq_blocks.specs.Drive.{IsImage, IsQuiescent, image_of};
     ghost use Rattle.mq_blocks.specs.declared.geometry.Geometry as geometry;
     ghost use Rattle.mq_drive.specs.Roles.{role_of};
     ghost use Rattle.mq_drive.specs.Start.{IsPortOf, IsImageOf};
@@ -200,7 +200,7 @@ impl<'f> Device<'f> {
     /// As `EmuPort::cut`.
     pub fn cut(self, pick: u64) -> (PortImage, FuseSeat)
         ensures image { IsImage (device_state self.entry) result.0 }
-        ensures quiet { IsQuiet (device_state self.entry) → result.0 ≡ image_of (device_state self.entry) }
+        ensures quiet { IsQuiescent (device_state self.entry) → result.0 ≡ image_of (device_state self.entry) }
         ensures role { (g : geometry.Geometry) → IsPortOf g (role_of (device_state self.entry).queue) (device_state self.entry) → IsImageOf g (role_of (device_state self.entry).queue) result.0 }
         ensures seat { result.1 ≡ self.entry.power.seat }
     {

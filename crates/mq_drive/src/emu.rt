@@ -82,7 +82,7 @@ impl<'f> EmuPort<'f> {
 impl<'f> EmuPort<'f> {
     ghost use Rattle.mq_drive.specs.Emu.{emu_state, emu_faults, happened_of, drawn_by};
     ghost use Rattle.mq_drive.specs.Steps.{PowerOff};
-    ghost use Rattle.mq_blocks.specs.Drive.{IsImage, IsQuiet, image_of};
+    ghost use Rattle.mq_blocks.specs.Drive.{IsImage, IsQuiescent, image_of};
     ghost use Rattle.mq_blocks.specs.declared.geometry.Geometry as geometry;
     ghost use Rattle.mq_drive.specs.Roles.{role_of};
     ghost use Rattle.mq_drive.specs.Seats.{fuse_of, tickets_of};
@@ -92,7 +92,7 @@ impl<'f> EmuPort<'f> {
     /// port's number choose. It gives the port's seat back.
     pub fn cut(self, pick: u64) -> (PortImage, FuseSeat)
         ensures image { IsImage (emu_state self.entry) result.0 }
-        ensures quiet { IsQuiet (emu_state self.entry) → result.0 ≡ image_of (emu_state self.entry) }
+        ensures quiet { IsQuiescent (emu_state self.entry) → result.0 ≡ image_of (emu_state self.entry) }
         ensures role { (g : geometry.Geometry) → IsPortOf g (role_of (emu_state self.entry).queue) (emu_state self.entry) → IsImageOf g (role_of (emu_state self.entry).queue) result.0 }
         ensures fuse { fuse_of result.1 ≡ (emu_state self.entry).fuse }
         ensures tickets { tickets_of result.1 ≡ drawn_by self.entry }

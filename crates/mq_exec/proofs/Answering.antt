@@ -4,7 +4,7 @@ use Rattle.std.specs.Prelude.{Result, Ok, Err}
 use Rattle.std.proofs.lemmas.Bool.{true≢false}
 use Rattle.mq_blocks.specs.declared.geometry.Geometry.{Geometry}
 use Rattle.mq_exec.specs.Reads.{IsFound, IsNamed, LooksAlways, LooksInDir, NamesLeadPast, Reads, asked, path_of, reading}
-use Rattle.mq_exec.specs.declared.subject.Subject.{Subject}
+use Rattle.mq_exec.specs.declared.named_inode.Subject.{Subject}
 use Rattle.mq_inodes.specs.Files.{LooksInFile}
 use Rattle.mq_inodes.specs.Walks.{LeadsPast, inode, directory}
 use Rattle.mq_inodes.proofs.Walking.{leads-here}

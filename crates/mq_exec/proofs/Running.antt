@@ -11,10 +11,10 @@ use Rattle.mq_exec.specs.declared.outcome.Outcome.{Outcome as Stops}
 use Rattle.mq_exec.specs.declared.outcome.Outcome.TheVariants.{Done, Need}
 use Rattle.mq_inodes.specs.Edits.{Becomes, IsOver}
 use Rattle.mq_inodes.specs.Fits.{Agrees, IsPossible}
-use Rattle.mq_inodes.specs.Lacks.{HasVolume, IsNeed, Lacks, OfEach}
+use Rattle.mq_inodes.specs.MissingPages.{HasVolume, IsNeed, MissingPages, OfEach}
 use Rattle.mq_inodes.specs.Pages.{Pages, pages_of}
-use Rattle.mq_inodes.specs.declared.lack.Lack.{Lack}
-use Rattle.mq_inodes.specs.declared.lack.Lack.TheVariants.{Need as NeedOf, OutOfMemory as Wanting}
+use Rattle.mq_inodes.specs.declared.lack.Missing.{Missing}
+use Rattle.mq_inodes.specs.declared.lack.Missing.TheVariants.{Need as NeedOf, OutOfMemory as Wanting}
 use Rattle.mq_inodes.specs.declared.working.Working.{Working}
 use Rattle.mq_inodes.proofs.Becoming.{becomes-self, becomes-then, carries-sound, over-self, over-then}
 use Rattle.mq_inodes.proofs.Lacking.{agrees-alike, need-weaker}
@@ -130,7 +130,7 @@ named-needs pages looks lacked named n h = record {
   looked = λ k d l. All-contains looks lacked (get_or named k d) h.looked (n.only _ (All-contains_itself named k d l));
 }
 
-pub run-lacks : (g : Geometry) (q : ℕ) (held pages : Pages) (requests : List Request) (lack : Lack) (outcome : Stops) (P : ℕ → Type 0) → ((b : ℕ) → pages b ≡ None → held b ≡ None) → ((b : ℕ) → P b → (v : Volume) → Agrees g held v → GroupLooks g q v requests b) → Lacks pages P lack
+pub run-lacks : (g : Geometry) (q : ℕ) (held pages : Pages) (requests : List Request) (lack : Missing) (outcome : Stops) (P : ℕ → Type 0) → ((b : ℕ) → pages b ≡ None → held b ≡ None) → ((b : ℕ) → P b → (v : Volume) → Agrees g held v → GroupLooks g q v requests b) → MissingPages pages P lack
     → NeedsOf lack outcome → Answers g q held requests outcome
 run-lacks g q held pages requests (NeedOf blocks) (Done done) P absent f h is = absurd is
 run-lacks g q held pages requests (NeedOf blocks) (Need named) P absent f h is = record {

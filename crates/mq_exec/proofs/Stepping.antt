@@ -7,9 +7,9 @@ use Rattle.mq_exec.specs.Plans.{ComesTo}
 use Rattle.mq_exec.specs.Reads.{LooksAlways, Reads}
 use Rattle.mq_inodes.specs.Edits.{Becomes}
 use Rattle.mq_inodes.specs.Fits.{Agrees}
-use Rattle.mq_inodes.specs.Lacks.{LacksOf}
+use Rattle.mq_inodes.specs.MissingPages.{MissingOf}
 use Rattle.mq_inodes.specs.Pages.{pages_of}
-use Rattle.mq_inodes.specs.declared.lack.Lack.{Lack}
+use Rattle.mq_inodes.specs.declared.lack.Missing.{Missing}
 use Rattle.mq_inodes.specs.declared.working.Working.{Working}
 use Rattle.mq_inodes.proofs.Becoming.{becomes-self, carries-sound}
 use Rattle.mq_inodes.proofs.Lacking.{lacks-each}
@@ -30,17 +30,17 @@ comes-read g q v r reply w agrees reads = record {
 -- ---- at what it looks
 
 -- what is lacked, where the request is told by its kind
-pub lack-of : (w : Working) (q : ℕ) (r s : Request) (result : Result Reply Lack) → r ≡ s → IfErr result (LacksOf w (λ v b. LooksAt w.geometry q v s b)) → IfErr result (LacksOf w (λ v b. LooksAt w.geometry q v r b))
-lack-of w q r s result e h = subst (λ (x : Request). IfErr result (LacksOf w (λ v b. LooksAt w.geometry q v x b))) (sym e) h
+pub lack-of : (w : Working) (q : ℕ) (r s : Request) (result : Result Reply Missing) → r ≡ s → IfErr result (MissingOf w (λ v b. LooksAt w.geometry q v s b)) → IfErr result (MissingOf w (λ v b. LooksAt w.geometry q v r b))
+lack-of w q r s result e h = subst (λ (x : Request). IfErr result (MissingOf w (λ v b. LooksAt w.geometry q v x b))) (sym e) h
 
 -- and on each queue
-pub lack-on : (w : Working) (q : ℕ) (r s : Request) (result : Result Reply Lack) → r ≡ s → IfErr result (LacksOf w (λ v b. (x : ℕ) → LooksAt w.geometry x v s b)) → IfErr result (LacksOf w (λ v b. LooksAt w.geometry q v r b))
+pub lack-on : (w : Working) (q : ℕ) (r s : Request) (result : Result Reply Missing) → r ≡ s → IfErr result (MissingOf w (λ v b. (x : ℕ) → LooksAt w.geometry x v s b)) → IfErr result (MissingOf w (λ v b. LooksAt w.geometry q v r b))
 lack-on w q r s result e h = lack-of w q r s result e
-    (IfErr-weaker result (LacksOf w (λ v b. (x : ℕ) → LooksAt w.geometry x v s b)) (LacksOf w (λ v b. LooksAt w.geometry q v s b)) (λ lack n. lacks-each w (λ v b. (x : ℕ) → LooksAt w.geometry x v s b) (λ v b. LooksAt w.geometry q v s b) lack (λ v b agrees looks. looks q) n) h)
+    (IfErr-weaker result (MissingOf w (λ v b. (x : ℕ) → LooksAt w.geometry x v s b)) (MissingOf w (λ v b. LooksAt w.geometry q v s b)) (λ lack n. lacks-each w (λ v b. (x : ℕ) → LooksAt w.geometry x v s b) (λ v b. LooksAt w.geometry q v s b) lack (λ v b agrees looks. looks q) n) h)
 
-pub lack-read : (w : Working) (q : ℕ) (r : Request) (result : Result Reply Lack) → IfErr result (LacksOf w (λ v b. LooksAlways w.geometry v r b)) → IfErr result (LacksOf w (λ v b. Looks w.geometry q v r b))
-lack-read w q r result h = IfErr-weaker result (LacksOf w (λ v b. LooksAlways w.geometry v r b)) (LacksOf w (λ v b. Looks w.geometry q v r b)) (λ lack n. lacks-each w (λ v b. LooksAlways w.geometry v r b) (λ v b. Looks w.geometry q v r b) lack (λ v b agrees looks. looks q) n) h
+pub lack-read : (w : Working) (q : ℕ) (r : Request) (result : Result Reply Missing) → IfErr result (MissingOf w (λ v b. LooksAlways w.geometry v r b)) → IfErr result (MissingOf w (λ v b. Looks w.geometry q v r b))
+lack-read w q r result h = IfErr-weaker result (MissingOf w (λ v b. LooksAlways w.geometry v r b)) (MissingOf w (λ v b. Looks w.geometry q v r b)) (λ lack n. lacks-each w (λ v b. LooksAlways w.geometry v r b) (λ v b. Looks w.geometry q v r b) lack (λ v b agrees looks. looks q) n) h
 
-pub lack-named : (w : Working) (q : ℕ) (r : Request) (result : Result Reply Lack) → is_named r ≡ true → IfErr result (LacksOf w (λ v b. LooksAt w.geometry q v r b)) → IfErr result (LacksOf w (λ v b. Looks w.geometry q v r b))
-lack-named w q r result good h = IfErr-weaker result (LacksOf w (λ v b. LooksAt w.geometry q v r b)) (LacksOf w (λ v b. Looks w.geometry q v r b))
+pub lack-named : (w : Working) (q : ℕ) (r : Request) (result : Result Reply Missing) → is_named r ≡ true → IfErr result (MissingOf w (λ v b. LooksAt w.geometry q v r b)) → IfErr result (MissingOf w (λ v b. Looks w.geometry q v r b))
+lack-named w q r result good h = IfErr-weaker result (MissingOf w (λ v b. LooksAt w.geometry q v r b)) (MissingOf w (λ v b. Looks w.geometry q v r b))
     (λ lack n. lacks-each w (λ v b. LooksAt w.geometry q v r b) (λ v b. Looks w.geometry q v r b) lack (λ v b agrees looks. record { named = good; looks = looks }) n) h

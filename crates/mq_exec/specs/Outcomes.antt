@@ -7,10 +7,10 @@ use Rattle.mq_exec.specs.declared.outcome.Done.{Done as Carried}
 use Rattle.mq_exec.specs.declared.outcome.Outcome.{Outcome}
 use Rattle.mq_exec.specs.declared.outcome.Outcome.TheVariants.{Done, Need}
 use Rattle.mq_inodes.specs.Fits.{Agrees}
-use Rattle.mq_inodes.specs.Lacks.{IsNeed}
+use Rattle.mq_inodes.specs.MissingPages.{IsNeed}
 use Rattle.mq_inodes.specs.Pages.{Pages}
-use Rattle.mq_inodes.specs.declared.lack.Lack.{Lack}
-use Rattle.mq_inodes.specs.declared.lack.Lack.TheVariants.{Need as NeedOf, OutOfMemory as Wanting}
+use Rattle.mq_inodes.specs.declared.lack.Missing.{Missing}
+use Rattle.mq_inodes.specs.declared.lack.Missing.TheVariants.{Need as NeedOf, OutOfMemory as Wanting}
 use Rattle.mq_tree.specs.Looks.{GroupLooks}
 use Rattle.mq_tree.specs.Requests.{after_group, replies}
 use Rattle.mq_tree.specs.Volume.{Volume}
@@ -22,7 +22,7 @@ pub record IsDone (g : Geometry) (q : ℕ) (v : Volume) (requests : List Request
   pub moves : Moves g v (after_group g q v requests) done.writes.items done.frees.items
 
 -- Blocks that a group asks for: at least one, each once and by rising block, each absent and looked at.
-pub record IsAsked (pages : Pages) (looks : ℕ → Type 0) (blocks : List ℕ) : Type 0 where
+pub record IsRequested (pages : Pages) (looks : ℕ → Type 0) (blocks : List ℕ) : Type 0 where
   pub need : IsNeed pages looks blocks
   pub rise : AllPairs (λ b c. b < c) blocks
 
@@ -30,7 +30,7 @@ pub record IsAsked (pages : Pages) (looks : ℕ → Type 0) (blocks : List ℕ) 
 -- for at which the group looks on each of these volumes.
 abbrev pub Answers : Geometry → (queue : ℕ) → Pages → List Request → Outcome → Type 0
 Answers g q pages requests (Done done) = (v : Volume) → Agrees g pages v → IsDone g q v requests done
-Answers g q pages requests (Need blocks) = IsAsked pages (λ b. (v : Volume) → Agrees g pages v → GroupLooks g q v requests b) blocks.items
+Answers g q pages requests (Need blocks) = IsRequested pages (λ b. (v : Volume) → Agrees g pages v → GroupLooks g q v requests b) blocks.items
 
 -- just the blocks that are lacked, each once and by rising block
 pub record AreEachOnce (lacked named : List ℕ) : Type 0 where
@@ -39,7 +39,7 @@ pub record AreEachOnce (lacked named : List ℕ) : Type 0 where
   pub only : (b : ℕ) → Contains named b → Contains lacked b
 
 -- the outcome where something is lacked
-abbrev pub NeedsOf : Lack → Outcome → Type 0
+abbrev pub NeedsOf : Missing → Outcome → Type 0
 NeedsOf (NeedOf blocks) (Done done) = ⊥
 NeedsOf (NeedOf blocks) (Need named) = AreEachOnce blocks.items named.items
 NeedsOf Wanting outcome = ⊥

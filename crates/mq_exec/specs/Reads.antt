@@ -2,7 +2,7 @@
 use Rattle.std.specs.Prelude.{◌≡◌, ℕ, true, Result, Ok, Err, Some, None, if◌then◌else◌}
 use Rattle.std.specs.List.{list_all}
 use Rattle.mq_blocks.specs.declared.geometry.Geometry.{Geometry}
-use Rattle.mq_exec.specs.declared.subject.Subject.{Subject}
+use Rattle.mq_exec.specs.declared.named_inode.Subject.{Subject}
 use Rattle.mq_inodes.specs.Walks.{IsDirectory, LeadsPast}
 use Rattle.mq_inodes.specs.declared.walk.Target.{Target}
 use Rattle.mq_inodes.specs.declared.walk.Target.TheVariants.{Root, Lost, In}

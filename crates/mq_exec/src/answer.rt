@@ -1,13 +1,13 @@
 // Requests that read.
 ghost use Rattle.std.specs.Prelude.{◌≡◌, false, IfErr, IfOk};
 ghost use Rattle.mq_exec.specs.Reads.{IsInodeOf, LooksAlways, LooksInDir, Reads, path_of};
-ghost use Rattle.mq_inodes.specs.Lacks.{HasVolume, LacksOf, OfEach};
+ghost use Rattle.mq_inodes.specs.MissingPages.{HasVolume, MissingOf, OfEach};
 ghost use Rattle.mq_inodes.specs.Files.{LooksInFile};
 ghost use Rattle.mq_tree.specs.Requests.{is_change, list_in, read_in, stat_in};
 ghost use Rattle.mq_tree.specs.Volume.{body};
 
-use crate::subject::{Subject, find_subject};
-use mq_inodes::{DIRECTORY, Lack, Working};
+use crate::named_inode::{Subject, find_subject};
+use mq_inodes::{DIRECTORY, Missing, Working};
 use mq_tree::{Bytes, Fault, Names, Path, Reply, Request};
 use std::alloc::Global;
 
@@ -30,11 +30,17 @@ fn path_in(request: &Request) -> &Path
 }
 
 /// The bytes of a file in a range.
-fn read(alloc: Global, working: &Working, s: &Subject, at: u64, count: u64) -> Result<Reply, Lack>
+fn read(
+    alloc: Global,
+    working: &Working,
+    s: &Subject,
+    at: u64,
+    count: u64,
+) -> Result<Reply, Missing>
     requires possible { HasVolume working.now }
     requires subject { OfEach working.now (λ v. IsInodeOf v s.now) }
     ensures ok { IfOk result (λ reply. OfEach working.now (λ v. reply ≡ read_in at count (body v s.now.number))) }
-    ensures lack { IfErr result (LacksOf working.now (λ v b. LooksInFile v s.now.number at count b)) }
+    ensures lack { IfErr result (MissingOf working.now (λ v b. LooksInFile v s.now.number at count b)) }
 {
     if s.inode.kind == DIRECTORY {
         return Ok(Reply::Refused(Fault::IsDir));
@@ -44,11 +50,11 @@ fn read(alloc: Global, working: &Working, s: &Subject, at: u64, count: u64) -> R
 }
 
 /// The size of a file, or how many names a directory has.
-fn stat(alloc: Global, working: &Working, s: &Subject) -> Result<Reply, Lack>
+fn stat(alloc: Global, working: &Working, s: &Subject) -> Result<Reply, Missing>
     requires possible { HasVolume working.now }
     requires subject { OfEach working.now (λ v. IsInodeOf v s.now) }
     ensures ok { IfOk result (λ reply. OfEach working.now (λ v. reply ≡ stat_in (body v s.now.number))) }
-    ensures lack { IfErr result (LacksOf working.now (λ v b. LooksInDir v s.now.number b)) }
+    ensures lack { IfErr result (MissingOf working.now (λ v b. LooksInDir v s.now.number b)) }
 {
     if s.inode.kind != DIRECTORY {
         return Ok(Reply::File(s.inode.size));
@@ -58,11 +64,11 @@ fn stat(alloc: Global, working: &Working, s: &Subject) -> Result<Reply, Lack>
 }
 
 /// The names in a directory.
-fn list(alloc: Global, working: &Working, s: &Subject) -> Result<Reply, Lack>
+fn list(alloc: Global, working: &Working, s: &Subject) -> Result<Reply, Missing>
     requires possible { HasVolume working.now }
     requires subject { OfEach working.now (λ v. IsInodeOf v s.now) }
     ensures ok { IfOk result (λ reply. OfEach working.now (λ v. reply ≡ list_in (body v s.now.number))) }
-    ensures lack { IfErr result (LacksOf working.now (λ v b. LooksInDir v s.now.number b)) }
+    ensures lack { IfErr result (MissingOf working.now (λ v b. LooksInDir v s.now.number b)) }
 {
     if s.inode.kind != DIRECTORY {
         return Ok(Reply::Refused(Fault::NotDir));
@@ -72,11 +78,11 @@ fn list(alloc: Global, working: &Working, s: &Subject) -> Result<Reply, Lack>
 }
 
 /// The answer to a request that reads.
-pub fn answer(alloc: Global, working: &Working, request: &Request) -> Result<Reply, Lack>
+pub fn answer(alloc: Global, working: &Working, request: &Request) -> Result<Reply, Missing>
     requires possible { HasVolume working.now }
     requires reads { is_change request.now ≡ false }
     ensures ok { IfOk result (λ reply. OfEach working.now (λ v. Reads working.now.geometry v request.now reply)) }
-    ensures lack { IfErr result (LacksOf working.now (λ v b. LooksAlways working.now.geometry v request.now b)) }
+    ensures lack { IfErr result (MissingOf working.now (λ v b. LooksAlways working.now.geometry v request.now b)) }
 {
     let subject = match find_subject(alloc, working, path_in(request))? {
         Ok(subject) => subject,

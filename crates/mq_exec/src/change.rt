@@ -3,20 +3,20 @@ ghost use Rattle.std.specs.Prelude.{◌≡◌, ◌<◌, true, IfErr, IfOk, OnOk}
 ghost use Rattle.mq_blocks.specs.Geometry.{queues_of};
 ghost use Rattle.mq_exec.specs.Plans.{ComesTo};
 ghost use Rattle.mq_inodes.specs.Edits.{IsOver};
-ghost use Rattle.mq_inodes.specs.Lacks.{HasVolume, LacksOf, OfEach};
+ghost use Rattle.mq_inodes.specs.MissingPages.{HasVolume, MissingOf, OfEach};
 ghost use Rattle.mq_tree.specs.Kept.{HasBytes};
 ghost use Rattle.mq_tree.specs.Looks.{Looks, LooksAt};
 ghost use Rattle.mq_tree.specs.Requests.{act, is_change, is_named as is_named_of, verdict};
 
 use crate::answer::answer;
 use crate::make::make;
+use crate::named_inode::is_good_path;
 use crate::remove::{rmdir, unlink};
 use crate::rename::rename;
 use crate::rewrite::write;
-use crate::subject::is_good_path;
 use crate::truncate::truncate;
 use mq_blocks::QueueNo;
-use mq_inodes::{Lack, Working, are_bytes};
+use mq_inodes::{Missing, Working, are_bytes};
 use mq_tree::{Fault, Reply, Request, changes};
 use std::alloc::Global;
 
@@ -53,14 +53,14 @@ fn change(
     working: &mut Working,
     queue: QueueNo,
     request: &Request,
-) -> Result<Reply, Lack>
+) -> Result<Reply, Missing>
     requires possible { HasVolume working.old }
     requires queue { queue < queues_of working.old.geometry }
     requires names { is_named_of request.now ≡ true }
     requires changes { is_change request.now ≡ true }
     ensures over { OnOk result (IsOver working.old working.new) }
     ensures ok { IfOk result (λ reply. OfEach working.old (λ v. ComesTo working.old.geometry v (act working.old.geometry queue v request.now) reply working.old working.new)) }
-    ensures lack { IfErr result (LacksOf working.old (λ v b. LooksAt working.old.geometry queue v request.now b)) }
+    ensures lack { IfErr result (MissingOf working.old (λ v b. LooksAt working.old.geometry queue v request.now b)) }
 {
     match request {
         Request::Mkdir(path) => make(alloc, working, queue, path, true),
@@ -80,12 +80,12 @@ pub fn step(
     working: &mut Working,
     queue: QueueNo,
     request: &Request,
-) -> Result<Reply, Lack>
+) -> Result<Reply, Missing>
     requires possible { HasVolume working.old }
     requires queue { queue < queues_of working.old.geometry }
     ensures over { OnOk result (IsOver working.old working.new) }
     ensures ok { IfOk result (λ reply. OfEach working.old (λ v. ComesTo working.old.geometry v (verdict working.old.geometry queue v request.now) reply working.old working.new)) }
-    ensures lack { IfErr result (LacksOf working.old (λ v b. Looks working.old.geometry queue v request.now b)) }
+    ensures lack { IfErr result (MissingOf working.old (λ v b. Looks working.old.geometry queue v request.now b)) }
 {
     if !changes(request) {
         return answer(alloc, working, request);

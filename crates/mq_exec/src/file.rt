@@ -1,14 +1,14 @@
 // Files that requests change.
 ghost use Rattle.std.specs.Prelude.{◌≡◌, ℕ, List, IfErr, IfOk, MatchResult, ⊤};
 ghost use Rattle.mq_exec.specs.Plans.{IsFound, on_file};
-ghost use Rattle.mq_inodes.specs.Lacks.{HasVolume, LacksOf, OfEach};
+ghost use Rattle.mq_inodes.specs.MissingPages.{HasVolume, MissingOf, OfEach};
 ghost use Rattle.mq_inodes.specs.Pages.{IsHeld, pages_of};
 ghost use Rattle.mq_inodes.specs.Walks.{LeadsPast};
 ghost use Rattle.mq_layout.specs.Places.{inode_block as inode_block_of};
 ghost use Rattle.mq_tree.specs.Requests.{Verdict, refused, target as target_of};
 ghost use Rattle.mq_tree.specs.Volume.{way};
 
-use mq_inodes::{DIRECTORY, Lack, Target, Working};
+use mq_inodes::{DIRECTORY, Missing, Target, Working};
 use mq_layout::Inode;
 use mq_tree::{Fault, Path};
 use std::alloc::Global;
@@ -26,11 +26,11 @@ pub fn find_file(
     alloc: Global,
     working: &Working,
     path: &Path,
-) -> Result<Result<Found, Fault>, Lack>
+) -> Result<Result<Found, Fault>, Missing>
     requires { HasVolume working.now }
     ensures ok { IfOk result (λ found. OfEach working.now (λ v. MatchResult found (IsFound v path.now) (λ fault. (act : ℕ → List ℕ → ℕ → List ℕ → Verdict) → on_file v act (target_of v (way path.now)) ≡ refused fault))) }
     ensures held { IfOk result (λ found. MatchResult found (λ f. IsHeld (pages_of working.now) (inode_block_of working.now.geometry f.number)) (λ _. ⊤)) }
-    ensures lack { IfErr result (LacksOf working.now (λ v b. LeadsPast working.now.geometry v (way path.now) b)) }
+    ensures lack { IfErr result (MissingOf working.now (λ v b. LeadsPast working.now.geometry v (way path.now) b)) }
 {
     let (directory, number) = match working.target(alloc, path)? {
         Target::Root => return Ok(Err(Fault::IsDir)),

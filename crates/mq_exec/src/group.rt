@@ -9,21 +9,21 @@ use crate::change::{look_at_bytes, step};
 use crate::outcome::{Done, Outcome};
 use crate::view::View;
 use mq_blocks::{Geometry, OutOfMemory, QueueNo};
-use mq_inodes::{Lack, Working};
+use mq_inodes::{Missing, Working};
 use mq_tree::Request;
 use std::alloc::Global;
 
 /// The outcome where something is lacked. Each block is named once, by rising block.
-fn stopped(lack: Lack) -> Result<Outcome, OutOfMemory>
+fn stopped(lack: Missing) -> Result<Outcome, OutOfMemory>
     ensures { IfOk result (NeedsOf lack) }
 {
     match lack {
-        Lack::Need(mut blocks) => {
+        Missing::Need(mut blocks) => {
             blocks.sort_unstable();
             blocks.dedup();
             Ok(Outcome::Need(blocks))
         }
-        Lack::OutOfMemory => Err(OutOfMemory),
+        Missing::OutOfMemory => Err(OutOfMemory),
     }
 }
 

@@ -8,11 +8,11 @@ mod file;
 mod group;
 mod laws;
 mod make;
+mod named_inode;
 mod outcome;
 mod remove;
 mod rename;
 mod rewrite;
-mod subject;
 #[cfg(test)]
 mod tests;
 mod truncate;

@@ -4,7 +4,7 @@ ghost use Rattle.mq_blocks.specs.Geometry.{queues_of};
 ghost use Rattle.mq_exec.specs.Plans.{ComesTo, HoldsMake, IsRefused, PlansMake, made_entry, making};
 ghost use Rattle.mq_inodes.specs.Edits.{Becomes, IsOver};
 ghost use Rattle.mq_inodes.specs.Fits.{Agrees};
-ghost use Rattle.mq_inodes.specs.Lacks.{HasVolume, LacksOf, OfEach};
+ghost use Rattle.mq_inodes.specs.MissingPages.{HasVolume, MissingOf, OfEach};
 ghost use Rattle.mq_inodes.specs.Pages.{pages_of};
 ghost use Rattle.mq_inodes.specs.Bare.{empty_body, with_inode};
 ghost use Rattle.mq_tree.specs.Looks.{LooksAt};
@@ -15,7 +15,7 @@ ghost use Rattle.std.specs.List.{list_all};
 ghost use Rattle.std.specs.Prelude.{ℕ, true};
 
 use mq_blocks::{BlockNo, OutOfMemory, QueueNo};
-use mq_inodes::{Lack, Opened, Target, Working};
+use mq_inodes::{Missing, Opened, Target, Working};
 use mq_layout::{NAMES_LIMIT, inode_block};
 use mq_tree::{Fault, Path, Reply};
 use std::alloc::Global;
@@ -34,13 +34,13 @@ fn plan_make(
     working: &Working,
     queue: QueueNo,
     path: &Path,
-) -> Result<Result<Making, Fault>, Lack>
+) -> Result<Result<Making, Fault>, Missing>
     requires possible { HasVolume working.now }
     requires queue { queue < queues_of working.now.geometry }
     requires names { list_all is_name path.now ≡ true }
     ensures ok { IfOk result (λ plan. OfEach working.now (λ v. (directory : Bool) → MatchResult plan (PlansMake working.now.geometry queue v (empty_body directory) path.now) (IsRefused working.now.geometry v (make_of working.now.geometry queue v (empty_body directory) (target_of v (way path.now)))))) }
     ensures pages { IfOk result (λ plan. MatchResult plan (HoldsMake working.now.geometry (pages_of working.now)) (λ _. ⊤)) }
-    ensures lack { IfErr result (LacksOf working.now (λ v b. (directory : Bool) → LooksAt working.now.geometry queue v (making directory path.now) b)) }
+    ensures lack { IfErr result (MissingOf working.now (λ v b. (directory : Bool) → LooksAt working.now.geometry queue v (making directory path.now) b)) }
 {
     let d = match working.target(alloc, path)? {
         Target::Root | Target::In { found: Some(_), .. } => return Ok(Err(Fault::Exists)),
@@ -102,13 +102,13 @@ pub fn make(
     queue: QueueNo,
     path: &Path,
     is_directory: bool,
-) -> Result<Reply, Lack>
+) -> Result<Reply, Missing>
     requires possible { HasVolume working.old }
     requires queue { queue < queues_of working.old.geometry }
     requires names { list_all is_name path.now ≡ true }
     ensures over { OnOk result (IsOver working.old working.new) }
     ensures ok { IfOk result (λ reply. OfEach working.old (λ v. ComesTo working.old.geometry v (make_of working.old.geometry queue v (empty_body is_directory) (target_of v (way path.now))) reply working.old working.new)) }
-    ensures lack { IfErr result (LacksOf working.old (λ v b. LooksAt working.old.geometry queue v (making is_directory path.now) b)) }
+    ensures lack { IfErr result (MissingOf working.old (λ v b. LooksAt working.old.geometry queue v (making is_directory path.now) b)) }
 {
     let planned = match plan_make(alloc, working, queue, path)? {
         Ok(planned) => planned,

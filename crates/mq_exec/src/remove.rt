@@ -6,7 +6,7 @@ ghost use Rattle.mq_exec.specs.Removes.{IsInZones, LooksFreed, owned as owned_by
 ghost use Rattle.mq_inodes.specs.Changes.{zone_in};
 ghost use Rattle.mq_inodes.specs.Edits.{Becomes, IsOver};
 ghost use Rattle.mq_inodes.specs.Fits.{Agrees};
-ghost use Rattle.mq_inodes.specs.Lacks.{HasVolume, LacksOf, OfEach};
+ghost use Rattle.mq_inodes.specs.MissingPages.{HasVolume, MissingOf, OfEach};
 ghost use Rattle.mq_inodes.specs.Opened.{IsOpened};
 ghost use Rattle.mq_inodes.specs.Pages.{IsHeld, pages_of};
 ghost use Rattle.mq_inodes.specs.Walks.{last_of};
@@ -19,7 +19,7 @@ ghost use Rattle.mq_tree.specs.declared.request.Request.TheVariants.{Rmdir, Unli
 
 use crate::file::find_file;
 use mq_blocks::{BlockNo, Geometry, OutOfMemory, QueueNo};
-use mq_inodes::{DIRECT, DIRECTORY, Lack, Opened, Target, Working};
+use mq_inodes::{DIRECT, DIRECTORY, Missing, Opened, Target, Working};
 use mq_layout::{Inode, inode_bitmap, zone_bitmap};
 use mq_tree::{Fault, Path, Reply};
 use std::alloc::Global;
@@ -92,12 +92,12 @@ pub fn bitmaps(
 
 /// That all is known that changes where an inode is freed: its blocks, the bitmaps of their zones, and
 /// the bitmap of inodes.
-fn look_to_free(alloc: Global, working: &Working, o: &Opened) -> Result<(), Lack>
+fn look_to_free(alloc: Global, working: &Working, o: &Opened) -> Result<(), Missing>
     requires possible { HasVolume working.now }
     requires opened { OfEach working.now (λ v. IsOpened working.now.geometry v o.now) }
     ensures release { OnOk result (MayRelease working.now.geometry (pages_of working.now) o.now) }
     ensures marks { OnOk result (IsHeld (pages_of working.now) (inode_bitmap_of working.now.geometry)) }
-    ensures lack { IfErr result (LacksOf working.now (λ v b. LooksFreed working.now.geometry v o.now.number b)) }
+    ensures lack { IfErr result (MissingOf working.now (λ v b. LooksFreed working.now.geometry v o.now.number b)) }
 {
     let mut wanted = owned(alloc, o)?;
     let mut bitmaps = bitmaps(alloc, working, &wanted)?;
@@ -111,12 +111,12 @@ fn plan_unlink(
     alloc: Global,
     working: &Working,
     path: &Path,
-) -> Result<Result<Removal, Fault>, Lack>
+) -> Result<Result<Removal, Fault>, Missing>
     requires possible { HasVolume working.now }
     requires names { list_all is_name path.now ≡ true }
     ensures ok { IfOk result (λ plan. OfEach working.now (λ v. MatchResult plan (PlansRemove working.now.geometry v (unlink_of v (target_of v (way path.now))) path.now) (IsRefused working.now.geometry v (unlink_of v (target_of v (way path.now)))))) }
     ensures pages { IfOk result (λ plan. MatchResult plan (HoldsRemove working.now.geometry (pages_of working.now)) (λ _. ⊤)) }
-    ensures lack { IfErr result (LacksOf working.now (λ v b. (q : ℕ) → LooksAt working.now.geometry q v (Unlink path.now) b)) }
+    ensures lack { IfErr result (MissingOf working.now (λ v b. (q : ℕ) → LooksAt working.now.geometry q v (Unlink path.now) b)) }
 {
     let found = match find_file(alloc, working, path)? {
         Ok(found) => found,
@@ -129,12 +129,16 @@ fn plan_unlink(
 }
 
 /// What removing a directory takes, or why it is refused.
-fn plan_rmdir(alloc: Global, working: &Working, path: &Path) -> Result<Result<Removal, Fault>, Lack>
+fn plan_rmdir(
+    alloc: Global,
+    working: &Working,
+    path: &Path,
+) -> Result<Result<Removal, Fault>, Missing>
     requires possible { HasVolume working.now }
     requires names { list_all is_name path.now ≡ true }
     ensures ok { IfOk result (λ plan. OfEach working.now (λ v. MatchResult plan (PlansRemove working.now.geometry v (rmdir_of v (target_of v (way path.now))) path.now) (IsRefused working.now.geometry v (rmdir_of v (target_of v (way path.now)))))) }
     ensures pages { IfOk result (λ plan. MatchResult plan (HoldsRemove working.now.geometry (pages_of working.now)) (λ _. ⊤)) }
-    ensures lack { IfErr result (LacksOf working.now (λ v b. (q : ℕ) → LooksAt working.now.geometry q v (Rmdir path.now) b)) }
+    ensures lack { IfErr result (MissingOf working.now (λ v b. (q : ℕ) → LooksAt working.now.geometry q v (Rmdir path.now) b)) }
 {
     let (d, i) = match working.target(alloc, path)? {
         Target::Root => return Ok(Err(Fault::BadName)),
@@ -177,12 +181,12 @@ fn carry_remove(
 }
 
 /// Removes a file.
-pub fn unlink(alloc: Global, working: &mut Working, path: &Path) -> Result<Reply, Lack>
+pub fn unlink(alloc: Global, working: &mut Working, path: &Path) -> Result<Reply, Missing>
     requires possible { HasVolume working.old }
     requires names { list_all is_name path.now ≡ true }
     ensures over { OnOk result (IsOver working.old working.new) }
     ensures ok { IfOk result (λ reply. OfEach working.old (λ v. ComesTo working.old.geometry v (unlink_of v (target_of v (way path.now))) reply working.old working.new)) }
-    ensures lack { IfErr result (LacksOf working.old (λ v b. (q : ℕ) → LooksAt working.old.geometry q v (Unlink path.now) b)) }
+    ensures lack { IfErr result (MissingOf working.old (λ v b. (q : ℕ) → LooksAt working.old.geometry q v (Unlink path.now) b)) }
 {
     match plan_unlink(alloc, working, path)? {
         Ok(removal) => carry_remove(alloc, working, path, &removal)?,
@@ -192,12 +196,12 @@ pub fn unlink(alloc: Global, working: &mut Working, path: &Path) -> Result<Reply
 }
 
 /// Removes a directory without names.
-pub fn rmdir(alloc: Global, working: &mut Working, path: &Path) -> Result<Reply, Lack>
+pub fn rmdir(alloc: Global, working: &mut Working, path: &Path) -> Result<Reply, Missing>
     requires possible { HasVolume working.old }
     requires names { list_all is_name path.now ≡ true }
     ensures over { OnOk result (IsOver working.old working.new) }
     ensures ok { IfOk result (λ reply. OfEach working.old (λ v. ComesTo working.old.geometry v (rmdir_of v (target_of v (way path.now))) reply working.old working.new)) }
-    ensures lack { IfErr result (LacksOf working.old (λ v b. (q : ℕ) → LooksAt working.old.geometry q v (Rmdir path.now) b)) }
+    ensures lack { IfErr result (MissingOf working.old (λ v b. (q : ℕ) → LooksAt working.old.geometry q v (Rmdir path.now) b)) }
 {
     match plan_rmdir(alloc, working, path)? {
         Ok(removal) => carry_remove(alloc, working, path, &removal)?,

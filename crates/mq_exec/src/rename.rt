@@ -7,7 +7,7 @@ ghost use Rattle.mq_exec.specs.Plans.{ComesTo, HoldsRename, IsRefused, IsSource,
 ghost use Rattle.mq_inodes.specs.Dirs.{AreDirsAt, slots_at};
 ghost use Rattle.mq_inodes.specs.Edits.{Becomes, IsOver};
 ghost use Rattle.mq_inodes.specs.Fits.{Agrees};
-ghost use Rattle.mq_inodes.specs.Lacks.{HasVolume, LacksOf, OfEach};
+ghost use Rattle.mq_inodes.specs.MissingPages.{HasVolume, MissingOf, OfEach};
 ghost use Rattle.mq_inodes.specs.Pages.{pages_of};
 ghost use Rattle.mq_inodes.specs.Walks.{LeadsPast, last_of};
 ghost use Rattle.mq_layout.specs.Names.{is_name};
@@ -17,7 +17,7 @@ ghost use Rattle.mq_tree.specs.Volume.{Volume, way};
 ghost use Rattle.mq_tree.specs.declared.request.Request.TheVariants.{Rename};
 
 use mq_blocks::{BlockNo, OutOfMemory, QueueNo};
-use mq_inodes::{Lack, Opened, Target, Working};
+use mq_inodes::{Missing, Opened, Target, Working};
 use mq_layout::NAMES_LIMIT;
 use mq_tree::{Fault, Path, Reply};
 use std::alloc::Global;
@@ -53,10 +53,10 @@ fn plan_source(
     working: &Working,
     from: &Path,
     to: &Path,
-) -> Result<Result<(u32, u32), Fault>, Lack>
+) -> Result<Result<(u32, u32), Fault>, Missing>
     requires { HasVolume working.now }
     ensures ok { IfOk result (λ found. OfEach working.now (λ v. MatchResult found (IsSource v from.now to.now) (λ fault. (g : Geometry) (q : ℕ) → rename_of g q v from.now to.now (target_of v (way from.now)) ≡ refused fault))) }
-    ensures lack { IfErr result (LacksOf working.now (λ v b. LeadsPast working.now.geometry v (way from.now) b)) }
+    ensures lack { IfErr result (MissingOf working.now (λ v b. LeadsPast working.now.geometry v (way from.now) b)) }
 {
     let (d, i) = match working.target(alloc, from)? {
         Target::Root => return Ok(Err(Fault::Subtree)),
@@ -101,14 +101,14 @@ fn plan_rename(
     queue: QueueNo,
     from: &Path,
     to: &Path,
-) -> Result<Result<Renaming, Fault>, Lack>
+) -> Result<Result<Renaming, Fault>, Missing>
     requires possible { HasVolume working.now }
     requires queue { queue < queues_of working.now.geometry }
     requires names { list_all is_name from.now ≡ true }
     requires new_names { list_all is_name to.now ≡ true }
     ensures ok { IfOk result (λ plan. OfEach working.now (λ v. MatchResult plan (PlansRename working.now.geometry queue v from.now to.now) (IsRefused working.now.geometry v (rename_of working.now.geometry queue v from.now to.now (target_of v (way from.now)))))) }
     ensures pages { IfOk result (λ plan. MatchResult plan (HoldsRename working.now.geometry (pages_of working.now)) (λ _. ⊤)) }
-    ensures lack { IfErr result (LacksOf working.now (λ v b. LooksAt working.now.geometry queue v (Rename from.now to.now) b)) }
+    ensures lack { IfErr result (MissingOf working.now (λ v b. LooksAt working.now.geometry queue v (Rename from.now to.now) b)) }
 {
     let (d, inode) = match plan_source(alloc, working, from, to)? {
         Ok(found) => found,
@@ -173,14 +173,14 @@ pub fn rename(
     queue: QueueNo,
     from: &Path,
     to: &Path,
-) -> Result<Reply, Lack>
+) -> Result<Reply, Missing>
     requires possible { HasVolume working.old }
     requires queue { queue < queues_of working.old.geometry }
     requires names { list_all is_name from.now ≡ true }
     requires new_names { list_all is_name to.now ≡ true }
     ensures over { OnOk result (IsOver working.old working.new) }
     ensures ok { IfOk result (λ reply. OfEach working.old (λ v. ComesTo working.old.geometry v (rename_of working.old.geometry queue v from.now to.now (target_of v (way from.now))) reply working.old working.new)) }
-    ensures lack { IfErr result (LacksOf working.old (λ v b. LooksAt working.old.geometry queue v (Rename from.now to.now) b)) }
+    ensures lack { IfErr result (MissingOf working.old (λ v b. LooksAt working.old.geometry queue v (Rename from.now to.now) b)) }
 {
     match plan_rename(alloc, working, queue, from, to)? {
         Ok(renaming) => carry_rename(alloc, working, from, to, renaming)?,

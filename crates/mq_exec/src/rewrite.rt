@@ -7,7 +7,7 @@ ghost use Rattle.mq_exec.specs.Longer.{IsRewriting, LooksLonger};
 ghost use Rattle.mq_exec.specs.Plans.{ComesTo, HoldsPlaces, HoldsRewrite, IsRefused, PlansRewrite};
 ghost use Rattle.mq_inodes.specs.Edits.{Becomes, IsOver};
 ghost use Rattle.mq_inodes.specs.Fits.{Agrees};
-ghost use Rattle.mq_inodes.specs.Lacks.{HasVolume, LacksOf, OfEach};
+ghost use Rattle.mq_inodes.specs.MissingPages.{HasVolume, MissingOf, OfEach};
 ghost use Rattle.mq_inodes.specs.Pages.{IsHeld, pages_of};
 ghost use Rattle.mq_inodes.specs.Files.{IsFileOf};
 ghost use Rattle.mq_layout.specs.Names.{is_name};
@@ -20,7 +20,7 @@ ghost use Rattle.mq_tree.specs.declared.request.Request.TheVariants.{Write};
 
 use crate::file::{Found, find_file};
 use mq_blocks::{BlockNo, OutOfMemory, QueueNo};
-use mq_inodes::{Lack, Opened, Working, count_for, needs};
+use mq_inodes::{Missing, Opened, Working, count_for, needs};
 use mq_layout::FILE_LIMIT;
 use mq_tree::{Fault, Path, Reply};
 use std::alloc::Global;
@@ -79,7 +79,7 @@ pub fn plan_longer(
     size: u64,
     at: usize,
     count: usize,
-) -> Result<Option<Rewriting>, Lack>
+) -> Result<Option<Rewriting>, Missing>
     requires possible { HasVolume working.now }
     requires queue { queue < queues_of working.now.geometry }
     requires file { OfEach working.now (λ v. IsFileOf v found.now.number found.now.inode) }
@@ -91,7 +91,7 @@ pub fn plan_longer(
     ensures ok { IfOk result (λ plan. OfEach working.now (λ v. (verdict : Verdict) (rewritten : List ℕ → List ℕ) (bytes : List ℕ) → IsRewriting working.now.geometry queue v found.now.number size verdict rewritten bytes → MatchOption plan (IsRefused working.now.geometry v verdict NoSpace) (PlansRewrite working.now.geometry queue v verdict rewritten))) }
     ensures pages { IfOk result (λ plan. MatchOption plan ⊤ (HoldsRewrite working.now.geometry (pages_of working.now))) }
     ensures places { IfOk result (λ plan. MatchOption plan ⊤ (λ m. HoldsPlaces (pages_of working.now) m.file.blocks.items (at / 4096) (past_place_of at count))) }
-    ensures lack { IfErr result (LacksOf working.now (λ v b. LooksLonger working.now.geometry queue v found.now.number size at count b)) }
+    ensures lack { IfErr result (MissingOf working.now (λ v b. LooksLonger working.now.geometry queue v found.now.number size at count b)) }
 {
     let need = needs(count_for(found.inode.size), count_for(size));
     let Some(picks) = working.pick(alloc, queue, need)? else {
@@ -173,13 +173,13 @@ pub fn write(
     path: &Path,
     at: u64,
     bytes: &[u8],
-) -> Result<Reply, Lack>
+) -> Result<Reply, Missing>
     requires possible { HasVolume working.old }
     requires queue { queue < queues_of working.old.geometry }
     requires names { list_all is_name path.now ≡ true }
     ensures over { OnOk result (IsOver working.old working.new) }
     ensures ok { IfOk result (λ reply. OfEach working.old (λ v. ComesTo working.old.geometry v (write_of working.old.geometry queue v at bytes.now (target_of v (way path.now))) reply working.old working.new)) }
-    ensures lack { IfErr result (LacksOf working.old (λ v b. LooksAt working.old.geometry queue v (Write path.now at bytes.now) b)) }
+    ensures lack { IfErr result (MissingOf working.old (λ v b. LooksAt working.old.geometry queue v (Write path.now at bytes.now) b)) }
 {
     let found = match find_file(alloc, working, path)? {
         Ok(found) => found,

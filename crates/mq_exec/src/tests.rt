@@ -9,8 +9,8 @@ use crate::laws::pages_of_a_map;
 use crate::outcome::{Done, Outcome};
 use crate::view::View;
 use mq_blocks::{Block, Geometry, OutOfMemory, QueueNo};
-use mq_lifted::{lift, note, path, small_blocks};
 use mq_pages::Write;
+use mq_test_pages::{lift, note, path, small_blocks};
 use mq_tree::{Bytes, Fault, Reply, Request, Tree, mount};
 use std::alloc::Global;
 

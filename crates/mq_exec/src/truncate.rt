@@ -7,7 +7,7 @@ ghost use Rattle.mq_exec.specs.Longer.{LooksLonger};
 ghost use Rattle.mq_exec.specs.Plans.{ComesTo, HoldsPlaces};
 ghost use Rattle.mq_inodes.specs.Edits.{Becomes, IsOver};
 ghost use Rattle.mq_inodes.specs.Fits.{Agrees};
-ghost use Rattle.mq_inodes.specs.Lacks.{HasVolume, LacksOf, OfEach};
+ghost use Rattle.mq_inodes.specs.MissingPages.{HasVolume, MissingOf, OfEach};
 ghost use Rattle.mq_inodes.specs.Opened.{HoldsPointers, IsOpened, IsReleasable, cut_file};
 ghost use Rattle.mq_inodes.specs.Pages.{IsHeld, pages_of};
 ghost use Rattle.mq_inodes.specs.Files.{IsFileOf};
@@ -24,7 +24,7 @@ use crate::file::{Found, find_file};
 use crate::remove::{bitmaps, indirect};
 use crate::rewrite::{carry_rewrite, plan_longer};
 use mq_blocks::{Block, BlockNo, OutOfMemory, QueueNo};
-use mq_inodes::{DIRECT, Lack, Opened, Working, count_for};
+use mq_inodes::{DIRECT, Missing, Opened, Working, count_for};
 use mq_layout::FILE_LIMIT;
 use mq_tree::{Fault, Path, Reply};
 use std::alloc::Global;
@@ -57,7 +57,7 @@ fn fill(
     queue: QueueNo,
     found: &Found,
     size: u64,
-) -> Result<Reply, Lack>
+) -> Result<Reply, Missing>
     requires possible { HasVolume working.old }
     requires queue { queue < queues_of working.old.geometry }
     requires file { OfEach working.old (λ v. IsFileOf v found.now.number found.now.inode) }
@@ -66,7 +66,7 @@ fn fill(
     requires longer { found.now.inode.size ≤ size }
     ensures over { OnOk result (IsOver working.old working.new) }
     ensures ok { IfOk result (λ reply. OfEach working.old (λ v. ComesTo working.old.geometry v (truncate_in working.old.geometry queue v found.now.number size (body v found.now.number)) reply working.old working.new)) }
-    ensures lack { IfErr result (LacksOf working.old (λ v b. LooksLonger working.old.geometry queue v found.now.number size 0 0 b)) }
+    ensures lack { IfErr result (MissingOf working.old (λ v b. LooksLonger working.old.geometry queue v found.now.number size 0 0 b)) }
 {
     match plan_longer(alloc, working, queue, found, size, 0, 0)? {
         Some(rewriting) => carry_rewrite(alloc, working, 0, &[], rewriting)?,
@@ -77,7 +77,7 @@ fn fill(
 
 /// That all is known that changes where a file is cut: its blocks from that of the first byte that goes
 /// on, and the bitmaps of the zones of those that are freed.
-fn look_to_cut(alloc: Global, working: &Working, file: &Opened, size: u64) -> Result<(), Lack>
+fn look_to_cut(alloc: Global, working: &Working, file: &Opened, size: u64) -> Result<(), Missing>
     requires possible { HasVolume working.now }
     requires opened { OfEach working.now (λ v. IsOpened working.now.geometry v file.now) }
     requires limit { size ≤ 4243456 }
@@ -85,7 +85,7 @@ fn look_to_cut(alloc: Global, working: &Working, file: &Opened, size: u64) -> Re
     requires pointers { HoldsPointers (pages_of working.now) file.now }
     ensures last { OnOk result (HoldsPlaces (pages_of working.now) file.now.blocks.items (size / 4096) (blocks_for size)) }
     ensures release { OnOk result (All (IsReleasable working.now.geometry (pages_of working.now)) (gone_from file.now (blocks_for size))) }
-    ensures lack { IfErr result (LacksOf working.now (λ v b. LooksCut working.now.geometry v file.now.number size b)) }
+    ensures lack { IfErr result (MissingOf working.now (λ v b. LooksCut working.now.geometry v file.now.number size b)) }
 {
     let gone = gone(alloc, file, count_for(size))?;
     let mut wanted = bitmaps(alloc, working, &gone)?;
@@ -94,7 +94,7 @@ fn look_to_cut(alloc: Global, working: &Working, file: &Opened, size: u64) -> Re
 }
 
 /// What cutting a file takes.
-fn plan_cut(alloc: Global, working: &Working, found: &Found, size: u64) -> Result<Cutting, Lack>
+fn plan_cut(alloc: Global, working: &Working, found: &Found, size: u64) -> Result<Cutting, Missing>
     requires possible { HasVolume working.now }
     requires file { OfEach working.now (λ v. IsFileOf v found.now.number found.now.inode) }
     requires table { IsHeld (pages_of working.now) (inode_block_of working.now.geometry found.now.number) }
@@ -102,7 +102,7 @@ fn plan_cut(alloc: Global, working: &Working, found: &Found, size: u64) -> Resul
     ensures number { IfOk result (λ plan. (plan.file.number ≡ found.now.number) × (plan.size ≡ size)) }
     ensures ok { IfOk result (λ plan. OfEach working.now (λ v. PlansCut working.now.geometry v plan)) }
     ensures pages { IfOk result (HoldsCut working.now.geometry (pages_of working.now)) }
-    ensures lack { IfErr result (LacksOf working.now (λ v b. LooksCut working.now.geometry v found.now.number size b)) }
+    ensures lack { IfErr result (MissingOf working.now (λ v b. LooksCut working.now.geometry v found.now.number size b)) }
 {
     let file = working.open_file(alloc, found.number, &found.inode)?;
     look_to_cut(alloc, working, &file, size)?;
@@ -143,14 +143,14 @@ fn carry_cut(alloc: Global, working: &mut Working, cutting: &Cutting) -> Result<
 }
 
 /// Cuts a file to a size that is smaller than its own.
-fn shorten(alloc: Global, working: &mut Working, found: &Found, size: u64) -> Result<Reply, Lack>
+fn shorten(alloc: Global, working: &mut Working, found: &Found, size: u64) -> Result<Reply, Missing>
     requires possible { HasVolume working.old }
     requires file { OfEach working.old (λ v. IsFileOf v found.now.number found.now.inode) }
     requires table { IsHeld (pages_of working.old) (inode_block_of working.old.geometry found.now.number) }
     requires shorter { size < found.now.inode.size }
     ensures over { OnOk result (IsOver working.old working.new) }
     ensures ok { IfOk result (λ reply. OfEach working.old (λ v. (q : ℕ) → ComesTo working.old.geometry v (truncate_in working.old.geometry q v found.now.number size (body v found.now.number)) reply working.old working.new)) }
-    ensures lack { IfErr result (LacksOf working.old (λ v b. LooksCut working.old.geometry v found.now.number size b)) }
+    ensures lack { IfErr result (MissingOf working.old (λ v b. LooksCut working.old.geometry v found.now.number size b)) }
 {
     let cutting = plan_cut(alloc, working, found, size)?;
     carry_cut(alloc, working, &cutting)?;
@@ -164,13 +164,13 @@ pub fn truncate(
     queue: QueueNo,
     path: &Path,
     size: u64,
-) -> Result<Reply, Lack>
+) -> Result<Reply, Missing>
     requires possible { HasVolume working.old }
     requires queue { queue < queues_of working.old.geometry }
     requires names { list_all is_name path.now ≡ true }
     ensures over { OnOk result (IsOver working.old working.new) }
     ensures ok { IfOk result (λ reply. OfEach working.old (λ v. ComesTo working.old.geometry v (truncate_of working.old.geometry queue v size (target_of v (way path.now))) reply working.old working.new)) }
-    ensures lack { IfErr result (LacksOf working.old (λ v b. LooksAt working.old.geometry queue v (Truncate path.now size) b)) }
+    ensures lack { IfErr result (MissingOf working.old (λ v b. LooksAt working.old.geometry queue v (Truncate path.now size) b)) }
 {
     let found = match find_file(alloc, working, path)? {
         Ok(found) => found,

@@ -6,22 +6,22 @@ use Rattle.std.proofs.lemmas.List.{length-append, take_all}
 use Rattle.std.proofs.lemmas.List.Elements.{All-more, All-nil, All-push, All-weaker}
 use Rattle.mq_blocks.specs.declared.geometry.Geometry.{Geometry}
 use Rattle.mq_inodes.specs.Fits.{Agrees}
-use Rattle.mq_inodes.specs.Lacks.{IsNeed, Lacks, LacksOf, OfEach}
+use Rattle.mq_inodes.specs.MissingPages.{IsNeed, MissingPages, MissingOf, OfEach}
 use Rattle.mq_inodes.specs.Pages.{IsHeld, Pages, known, pages_of}
 use Rattle.mq_inodes.specs.declared.working.Working.{Working}
 use Rattle.mq_inodes.specs.declared.working.Page.{Page}
 use Rattle.mq_inodes.specs.declared.working.Page.TheVariants.{Absent, Free, Held}
-use Rattle.mq_inodes.specs.declared.lack.Lack.{Lack}
-use Rattle.mq_inodes.specs.declared.lack.Lack.TheVariants.{Need, OutOfMemory}
+use Rattle.mq_inodes.specs.declared.lack.Missing.{Missing}
+use Rattle.mq_inodes.specs.declared.lack.Missing.TheVariants.{Need, OutOfMemory}
 use Rattle.mq_inodes.proofs.Held.{held-else}
 use Rattle.mq_tree.specs.Volume.{Volume}
 
-pub lacks-weaker : (pages : Pages) (P Q : ℕ → Type 0) (lack : Lack) → ((b : ℕ) → P b → Q b) → Lacks pages P lack → Lacks pages Q lack
+pub lacks-weaker : (pages : Pages) (P Q : ℕ → Type 0) (lack : Missing) → ((b : ℕ) → P b → Q b) → MissingPages pages P lack → MissingPages pages Q lack
 lacks-weaker pages P Q (Need blocks) f n = record { some = n.some; absent = n.absent; looked = All-weaker P Q f blocks.items n.looked }
 lacks-weaker pages P Q OutOfMemory f n = n
 
 -- on each volume of which the pages may be a part
-pub lacks-each : (w : Working) (P Q : Volume → ℕ → Type 0) (lack : Lack) → ((v : Volume) (b : ℕ) → Agrees w.geometry (pages_of w) v → P v b → Q v b) → LacksOf w P lack → LacksOf w Q lack
+pub lacks-each : (w : Working) (P Q : Volume → ℕ → Type 0) (lack : Missing) → ((v : Volume) (b : ℕ) → Agrees w.geometry (pages_of w) v → P v b → Q v b) → MissingOf w P lack → MissingOf w Q lack
 lacks-each w P Q lack f n = lacks-weaker (pages_of w) (λ b. OfEach w (λ v. P v b)) (λ b. OfEach w (λ v. Q v b)) lack (λ b h v agrees. f v b agrees (h v agrees)) n
 
 -- a page that is looked up, and isn't absent

@@ -6,7 +6,7 @@ pub mod Edits
 pub mod Files
 pub mod Fits
 pub mod Growing
-pub mod Lacks
+pub mod MissingPages
 pub mod Opened
 pub mod Pages
 pub mod Picks

@@ -1,6 +1,6 @@
 // The blocks of an inode.
 ghost use Rattle.std.specs.Prelude.{◌≡◌, ◌++◌, ◌<◌, ◌≤◌, ◌^◌, IfErr, IfOk, Some, length, take};
-ghost use Rattle.mq_inodes.specs.Lacks.{HasVolume, LacksOf, OfEach};
+ghost use Rattle.mq_inodes.specs.MissingPages.{HasVolume, MissingOf, OfEach};
 ghost use Rattle.mq_inodes.specs.Pages.{IsHeld, pages_of};
 ghost use Rattle.mq_layout.specs.Bits.{pointer_of};
 ghost use Rattle.mq_tree.specs.Free.{needs as needs_of};
@@ -9,7 +9,7 @@ ghost use Rattle.mq_tree.specs.Laid.{inode_of};
 ghost use Rattle.mq_tree.specs.Sound.{blocks_for};
 ghost use Rattle.mq_tree.specs.Volume.{node};
 
-use crate::lack::Lack;
+use crate::lack::Missing;
 use crate::working::Working;
 use mq_blocks::{Block, BlockNo, OutOfMemory};
 use mq_layout::{FILE_LIMIT, Inode, pointer};
@@ -48,7 +48,7 @@ fn push_pointers(blocks: &mut Vec<BlockNo>, page: &Block, count: u32) -> Result<
 }
 
 /// Up to the first twelve.
-fn near_blocks(alloc: Global, inode: &Inode, count: u32) -> Result<Vec<BlockNo>, OutOfMemory>
+fn direct_blocks(alloc: Global, inode: &Inode, count: u32) -> Result<Vec<BlockNo>, OutOfMemory>
     requires { length inode.now.direct ≡ 12 }
     ensures { IfOk result (λ blocks. blocks.items ≡ take count inode.now.direct) }
 {
@@ -61,15 +61,20 @@ fn near_blocks(alloc: Global, inode: &Inode, count: u32) -> Result<Vec<BlockNo>,
 
 impl<'a> Working<'a> {
     /// The blocks of an inode, in order. The block of pointers is looked at where there is one.
-    pub(crate) fn blocks(&self, alloc: Global, i: u32, inode: &Inode) -> Result<Vec<BlockNo>, Lack>
+    pub(crate) fn blocks(
+        &self,
+        alloc: Global,
+        i: u32,
+        inode: &Inode,
+    ) -> Result<Vec<BlockNo>, Missing>
         requires possible { HasVolume self.now }
         requires inode { OfEach self.now (λ v. inode.now ≡ inode_of (node v i)) }
         ensures ok { IfOk result (λ blocks. OfEach self.now (λ v. blocks.items ≡ (node v i).blocks)) }
         ensures pointers { IfOk result (λ blocks. 12 < length blocks.items → IsHeld (pages_of self.now) inode.now.indirect) }
-        ensures lack { IfErr result (LacksOf self.now (λ v b. (node v i).indirect ≡ Some b)) }
+        ensures lack { IfErr result (MissingOf self.now (λ v b. (node v i).indirect ≡ Some b)) }
     {
         let count = count_for(inode.size);
-        let mut blocks = near_blocks(alloc, inode, count)?;
+        let mut blocks = direct_blocks(alloc, inode, count)?;
         if count > DIRECT {
             let page = self.content(alloc, BlockNo(inode.indirect))?;
             push_pointers(&mut blocks, page, count - DIRECT)?;

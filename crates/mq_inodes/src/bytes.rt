@@ -1,12 +1,12 @@
 // The bytes of files.
 ghost use Rattle.std.specs.Prelude.{◌≡◌, ◌≤◌, ℕ, List, drop, take, IfErr, IfOk};
 ghost use Rattle.std.specs.List.{All};
-ghost use Rattle.mq_inodes.specs.Lacks.{HasVolume, LacksOf, OfEach};
+ghost use Rattle.mq_inodes.specs.MissingPages.{HasVolume, MissingOf, OfEach};
 ghost use Rattle.mq_inodes.specs.Pages.{IsHeld, pages_of};
 ghost use Rattle.mq_inodes.specs.Files.{IsFileOf, LooksInFile, bytes_at};
 ghost use Rattle.mq_tree.specs.Volume.{File, body};
 
-use crate::lack::Lack;
+use crate::lack::Missing;
 use crate::working::Working;
 use mq_blocks::{BlockNo, OutOfMemory};
 use mq_layout::Inode;
@@ -49,11 +49,11 @@ impl<'a> Working<'a> {
         inode: &Inode,
         at: u64,
         count: u64,
-    ) -> Result<Vec<u8>, Lack>
+    ) -> Result<Vec<u8>, Missing>
         requires possible { HasVolume self.now }
         requires file { OfEach self.now (λ v. IsFileOf v i inode.now) }
         ensures ok { IfOk result (λ found. OfEach self.now (λ v. (bytes : List ℕ) → body v i ≡ File bytes → found.items ≡ take count (drop at bytes))) }
-        ensures lack { IfErr result (LacksOf self.now (λ v b. LooksInFile v i at count b)) }
+        ensures lack { IfErr result (MissingOf self.now (λ v b. LooksInFile v i at count b)) }
     {
         let end = at.saturating_add(count).min(inode.size);
         if at >= end {

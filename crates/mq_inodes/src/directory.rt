@@ -2,13 +2,13 @@
 ghost use Rattle.std.specs.Prelude.{◌≡◌, ◌≢◌, ◌≤◌, ◌*◌, ◌<◌, length, true, IfErr, IfOk, OnOk, Some, None};
 ghost use Rattle.std.specs.List.{All, Contains};
 ghost use Rattle.mq_inodes.specs.Dirs.{AreDirsAt, names_of, slots_at};
-ghost use Rattle.mq_inodes.specs.Lacks.{HasVolume, Lacks, LacksOf, OfEach};
+ghost use Rattle.mq_inodes.specs.MissingPages.{HasVolume, MissingPages, MissingOf, OfEach};
 ghost use Rattle.mq_inodes.specs.Pages.{IsHeld, content as content_at, pages_of};
 ghost use Rattle.mq_tree.specs.Laid.{inode_of};
 ghost use Rattle.mq_tree.specs.Requests.{count_names, names_in};
 ghost use Rattle.mq_tree.specs.Volume.{Dir, body, find as find_name, has_block, node};
 
-use crate::lack::Lack;
+use crate::lack::Missing;
 use crate::slots::{count_in, find_in, push_names};
 use crate::working::{Page, Working};
 use mq_blocks::{Block, BlockNo, OutOfMemory};
@@ -29,9 +29,9 @@ impl<'a> Working<'a> {
     }
 
     /// That these blocks are known, or those of them that are absent.
-    pub fn look_for_all(&self, alloc: Global, blocks: &[BlockNo]) -> Result<(), Lack>
+    pub fn look_for_all(&self, alloc: Global, blocks: &[BlockNo]) -> Result<(), Missing>
         ensures ok { OnOk result (All (λ b. pages_of self.now b ≢ None) blocks.now) }
-        ensures lack { IfErr result (Lacks (pages_of self.now) (Contains blocks.now)) }
+        ensures lack { IfErr result (MissingPages (pages_of self.now) (Contains blocks.now)) }
     {
         let mut absent = Vec::new(alloc);
         for b in blocks {
@@ -42,20 +42,20 @@ impl<'a> Working<'a> {
         if absent.is_empty() {
             return Ok(());
         }
-        Err(Lack::Need(absent))
+        Err(Missing::Need(absent))
     }
 
     /// That these blocks are held, or those of them that are absent.
-    pub(crate) fn look_for(&self, alloc: Global, blocks: &[BlockNo]) -> Result<(), Lack>
+    pub(crate) fn look_for(&self, alloc: Global, blocks: &[BlockNo]) -> Result<(), Missing>
         requires { All (λ b. pages_of self.now b ≢ Some None) blocks.now }
         ensures ok { OnOk result (All (IsHeld (pages_of self.now)) blocks.now) }
-        ensures lack { IfErr result (Lacks (pages_of self.now) (Contains blocks.now)) }
+        ensures lack { IfErr result (MissingPages (pages_of self.now) (Contains blocks.now)) }
     {
         self.look_for_all(alloc, blocks)
     }
 
     /// The blocks of a directory, which are held.
-    pub fn directory(&self, alloc: Global, d: u32, inode: &Inode) -> Result<Vec<BlockNo>, Lack>
+    pub fn directory(&self, alloc: Global, d: u32, inode: &Inode) -> Result<Vec<BlockNo>, Missing>
         requires possible { HasVolume self.now }
         requires inode { OfEach self.now (λ v. inode.now ≡ inode_of (node v d)) }
         requires kind { inode.now.kind ≡ 2 }
@@ -64,7 +64,7 @@ impl<'a> Working<'a> {
         ensures slots { IfOk result (λ blocks. OfEach self.now (λ v. body v d ≡ Dir (slots_at (pages_of self.now) blocks.items))) }
         ensures few { IfOk result (λ blocks. length blocks.items ≤ 1036) }
         ensures pointers { IfOk result (λ blocks. 12 < length blocks.items → IsHeld (pages_of self.now) inode.now.indirect) }
-        ensures lack { IfErr result (LacksOf self.now (λ v b. has_block (node v d) b ≡ true)) }
+        ensures lack { IfErr result (MissingOf self.now (λ v b. has_block (node v d) b ≡ true)) }
     {
         let blocks = self.blocks(alloc, d, inode)?;
         self.look_for(alloc, &blocks)?;

@@ -6,41 +6,41 @@ use std::alloc::{AllocError, AllocFailed, Global};
 
 /// What a request lacks: pages that are absent and at which it looks, or memory.
 #[derive(Drop)]
-pub enum Lack {
+pub enum Missing {
     Need(Vec<BlockNo>),
     OutOfMemory,
 }
 
-impl From<OutOfMemory> for Lack {
-    ghost use Rattle.mq_inodes.specs.declared.lack.Lack.TheVariants.{OutOfMemory};
+impl From<OutOfMemory> for Missing {
+    ghost use Rattle.mq_inodes.specs.declared.lack.Missing.TheVariants.{OutOfMemory};
     ghost use Rattle.std.specs.Prelude.{◌≡◌};
 
     ghost from_gives = { λ _ e. e ≡ OutOfMemory };
 
     fn from(_: OutOfMemory) -> Self {
-        Lack::OutOfMemory
+        Missing::OutOfMemory
     }
 }
 
-impl From<AllocError> for Lack {
-    ghost use Rattle.mq_inodes.specs.declared.lack.Lack.TheVariants.{OutOfMemory};
+impl From<AllocError> for Missing {
+    ghost use Rattle.mq_inodes.specs.declared.lack.Missing.TheVariants.{OutOfMemory};
     ghost use Rattle.std.specs.Prelude.{◌≡◌};
 
     ghost from_gives = { λ _ e. e ≡ OutOfMemory };
 
     fn from(_: AllocError) -> Self {
-        Lack::OutOfMemory
+        Missing::OutOfMemory
     }
 }
 
-impl<T: Drop> From<AllocFailed<T>> for Lack {
-    ghost use Rattle.mq_inodes.specs.declared.lack.Lack.TheVariants.{OutOfMemory};
+impl<T: Drop> From<AllocFailed<T>> for Missing {
+    ghost use Rattle.mq_inodes.specs.declared.lack.Missing.TheVariants.{OutOfMemory};
     ghost use Rattle.std.specs.Prelude.{◌≡◌};
 
     ghost from_gives = { λ _ e. e ≡ OutOfMemory };
 
     fn from(_: AllocFailed<T>) -> Self {
-        Lack::OutOfMemory
+        Missing::OutOfMemory
     }
 }
 

@@ -3,6 +3,7 @@
 #![tactic(auto)]
 
 mod bare;
+mod bitmaps;
 mod blocks;
 mod bytes;
 mod difference;
@@ -12,7 +13,6 @@ mod grow;
 mod inode;
 mod lack;
 mod link;
-mod marks;
 mod opened;
 mod release;
 mod slots;
@@ -24,7 +24,7 @@ mod working;
 
 pub use blocks::{DIRECT, count_for, needs};
 pub use edits::are_bytes;
-pub use lack::Lack;
+pub use lack::Missing;
 pub use opened::Opened;
 pub use walk::{DIRECTORY, Target};
 pub use working::Working;

@@ -1,7 +1,7 @@
 // An inode that a request changes.
 ghost use Rattle.std.specs.Prelude.{◌≡◌, ◌≤◌, length, IfErr, IfOk};
 ghost use Rattle.mq_inodes.specs.Dirs.{AreDirsAt, slots_at};
-ghost use Rattle.mq_inodes.specs.Lacks.{HasVolume, LacksOf, OfEach};
+ghost use Rattle.mq_inodes.specs.MissingPages.{HasVolume, MissingOf, OfEach};
 ghost use Rattle.mq_inodes.specs.Opened.{HoldsPointers, IsOpened};
 ghost use Rattle.mq_inodes.specs.Pages.{IsHeld, pages_of};
 ghost use Rattle.mq_inodes.specs.Files.{IsFileOf};
@@ -11,7 +11,7 @@ ghost use Rattle.mq_tree.specs.Requests.{entry_needs, unused as unused_in};
 ghost use Rattle.mq_tree.specs.Volume.{Dir, body, node};
 
 use crate::blocks::needs;
-use crate::lack::Lack;
+use crate::lack::Missing;
 use crate::working::Working;
 use mq_blocks::BlockNo;
 use mq_layout::Inode;
@@ -27,7 +27,7 @@ pub struct Opened {
 
 impl<'a> Working<'a> {
     /// A directory, with its blocks held.
-    pub fn open_directory(&self, alloc: Global, d: u32) -> Result<Opened, Lack>
+    pub fn open_directory(&self, alloc: Global, d: u32) -> Result<Opened, Missing>
         requires possible { HasVolume self.now }
         requires dir { OfEach self.now (λ v. IsDirectory v d) }
         ensures number { IfOk result (λ o. o.number ≡ d) }
@@ -37,7 +37,7 @@ impl<'a> Working<'a> {
         ensures few { IfOk result (λ o. length o.blocks.items ≤ 1036) }
         ensures table { IfOk result (λ o. IsHeld (pages_of self.now) (inode_block_of self.now.geometry d)) }
         ensures pointers { IfOk result (λ o. HoldsPointers (pages_of self.now) o) }
-        ensures lack { IfErr result (LacksOf self.now (λ v b. LooksIn self.now.geometry v d b)) }
+        ensures lack { IfErr result (MissingOf self.now (λ v b. LooksIn self.now.geometry v d b)) }
     {
         let inode = self.inode(alloc, d)?;
         let blocks = self.directory(alloc, d, &inode)?;
@@ -49,13 +49,13 @@ impl<'a> Working<'a> {
     }
 
     /// A file, with its block of pointers held where it has one.
-    pub fn open_file(&self, alloc: Global, number: u32, inode: &Inode) -> Result<Opened, Lack>
+    pub fn open_file(&self, alloc: Global, number: u32, inode: &Inode) -> Result<Opened, Missing>
         requires possible { HasVolume self.now }
         requires file { OfEach self.now (λ v. IsFileOf v number inode.now) }
         ensures number { IfOk result (λ o. (o.number ≡ number) × (o.inode ≡ inode.now)) }
         ensures opened { IfOk result (λ o. OfEach self.now (λ v. IsOpened self.now.geometry v o)) }
         ensures pointers { IfOk result (λ o. HoldsPointers (pages_of self.now) o) }
-        ensures lack { IfErr result (LacksOf self.now (λ v b. (node v number).indirect ≡ Some b)) }
+        ensures lack { IfErr result (MissingOf self.now (λ v b. (node v number).indirect ≡ Some b)) }
     {
         let blocks = self.blocks(alloc, number, inode)?;
         Ok(Opened {

@@ -2,7 +2,7 @@
 ghost use Rattle.std.specs.Prelude.{◌≡◌, ◌<◌, ◌≤◌, ◌++◌, IfErr, IfOk, MatchOption, OnOk, length, take};
 ghost use Rattle.std.specs.List.{All};
 ghost use Rattle.mq_blocks.specs.Geometry.{queues_of};
-ghost use Rattle.mq_inodes.specs.Lacks.{HasVolume, LacksOf, OfEach};
+ghost use Rattle.mq_inodes.specs.MissingPages.{HasVolume, MissingOf, OfEach};
 ghost use Rattle.mq_inodes.specs.Pages.{pages_of};
 ghost use Rattle.mq_inodes.specs.Picks.{ArePicked, IsMarkable, IsSearched, free_of};
 ghost use Rattle.mq_layout.specs.Places.{zone_bitmap as zone_bitmap_of};
@@ -11,7 +11,7 @@ ghost use Rattle.mq_tree.specs.Laid.{ShowsMarks, zone_marked};
 ghost use Rattle.mq_tree.specs.Volume.{Volume};
 ghost use Rattle.std.specs.Prelude.{⊤};
 
-use crate::lack::Lack;
+use crate::lack::Missing;
 use crate::working::Working;
 use mq_blocks::{Block, BlockNo, Geometry, OutOfMemory, QueueNo};
 use mq_layout::{first_clear, zone_bitmap};
@@ -50,13 +50,13 @@ impl<'a> Working<'a> {
         zone: QueueNo,
         count: u32,
         picks: &mut Vec<BlockNo>,
-    ) -> Result<(), Lack>
+    ) -> Result<(), Missing>
         requires possible { HasVolume self.now }
         requires zone { zone < queues_of self.now.geometry }
         requires few { length picks.old.items ≤ count }
         ensures ok { OnOk result (OfEach self.now (λ v. picks.new.items ≡ take count (picks.old.items ++ free_of v (zone_blocks self.now.geometry zone)))) }
         ensures marks { OnOk result (All (IsMarkable self.now.geometry (pages_of self.now)) picks.old.items → All (IsMarkable self.now.geometry (pages_of self.now)) picks.new.items) }
-        ensures lack { IfErr result (LacksOf self.now (λ v b. (b ≡ zone_bitmap_of zone) × (length picks.old.items < count))) }
+        ensures lack { IfErr result (MissingOf self.now (λ v b. (b ≡ zone_bitmap_of zone) × (length picks.old.items < count))) }
     {
         if picks.len() >= count as usize {
             return Ok(());
@@ -67,12 +67,12 @@ impl<'a> Working<'a> {
     }
 
     /// The first free blocks, up to so many.
-    fn found(&self, alloc: Global, queue: QueueNo, count: u32) -> Result<Vec<BlockNo>, Lack>
+    fn found(&self, alloc: Global, queue: QueueNo, count: u32) -> Result<Vec<BlockNo>, Missing>
         requires possible { HasVolume self.now }
         requires queue { queue < queues_of self.now.geometry }
         ensures ok { IfOk result (λ picks. OfEach self.now (λ v. picks.items ≡ take count (free_of v (order self.now.geometry queue)))) }
         ensures marks { IfOk result (λ picks. All (IsMarkable self.now.geometry (pages_of self.now)) picks.items) }
-        ensures lack { IfErr result (LacksOf self.now (λ v b. IsSearched self.now.geometry queue v count b)) }
+        ensures lack { IfErr result (MissingOf self.now (λ v b. IsSearched self.now.geometry queue v count b)) }
     {
         let mut picks = Vec::new(alloc);
         self.search(alloc, queue, count, &mut picks)?;
@@ -91,12 +91,12 @@ impl<'a> Working<'a> {
         alloc: Global,
         queue: QueueNo,
         count: u32,
-    ) -> Result<Option<Vec<BlockNo>>, Lack>
+    ) -> Result<Option<Vec<BlockNo>>, Missing>
         requires possible { HasVolume self.now }
         requires queue { queue < queues_of self.now.geometry }
         ensures ok { IfOk result (λ found. OfEach self.now (λ v. MatchOption found (free_blocks self.now.geometry v < count) (λ picks. ArePicked self.now.geometry queue v count picks.items))) }
         ensures marks { IfOk result (λ found. MatchOption found ⊤ (λ picks. All (IsMarkable self.now.geometry (pages_of self.now)) picks.items)) }
-        ensures lack { IfErr result (LacksOf self.now (λ v b. IsSearched self.now.geometry queue v count b)) }
+        ensures lack { IfErr result (MissingOf self.now (λ v b. IsSearched self.now.geometry queue v count b)) }
     {
         let picks = self.found(alloc, queue, count)?;
         if picks.len() < count as usize {

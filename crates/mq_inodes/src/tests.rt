@@ -2,23 +2,23 @@
 // calls that change.
 ghost use Rattle.std.specs.Prelude.{◌<◌, ◌≤◌, IfOk, IsTrue};
 ghost use Rattle.mq_inodes.specs.Fits.{IsPossible};
-ghost use Rattle.mq_inodes.specs.Lacks.{HasVolume};
+ghost use Rattle.mq_inodes.specs.MissingPages.{HasVolume};
 ghost use Rattle.mq_inodes.specs.Pages.{IsHeld, held_pages, pages_of};
 ghost use Rattle.mq_layout.specs.Places.{file_limit, inodes_of};
 
 use crate::working::Page;
-use crate::{DIRECTORY, Lack, Target, Working};
+use crate::{DIRECTORY, Missing, Target, Working};
 use mq_blocks::{Block, BlockNo, Geometry, OutOfMemory, QueueNo};
 use mq_layout::Inode;
-use mq_lifted::{lift, path, small_blocks};
 use mq_pages::{Held, Kind, Write};
+use mq_test_pages::{lift, path, small_blocks};
 use mq_tree::{Fault, Name, mount};
 use std::alloc::Global;
 
 /// No home block: no page is absent.
 const NONE: usize = 22;
 
-/// The small file system of `mq_lifted`, and the pages of it that are held.
+/// The small file system of `mq_test_pages`, and the pages of it that are held.
 #[derive(Drop)]
 struct Small {
     geometry: Geometry,
@@ -66,7 +66,7 @@ impl Small {
 }
 
 /// What a call answered.
-fn answered<T: Drop>(answer: Result<T, Lack>) -> Result<T, OutOfMemory> {
+fn answered<T: Drop>(answer: Result<T, Missing>) -> Result<T, OutOfMemory> {
     match answer {
         Ok(found) => Ok(found),
         Err(_) => Err(OutOfMemory),
@@ -74,9 +74,9 @@ fn answered<T: Drop>(answer: Result<T, Lack>) -> Result<T, OutOfMemory> {
 }
 
 /// Whether just this page is lacked.
-fn lacks<T: Drop>(answer: Result<T, Lack>, b: u32) -> bool {
+fn lacks<T: Drop>(answer: Result<T, Missing>, b: u32) -> bool {
     match answer {
-        Err(Lack::Need(blocks)) => blocks.as_slice() == [BlockNo(b)].as_slice(),
+        Err(Missing::Need(blocks)) => blocks.as_slice() == [BlockNo(b)].as_slice(),
         _ => false,
     }
 }
@@ -105,7 +105,7 @@ struct Listed {
 }
 
 /// `None` where the inode is no directory.
-fn list(alloc: Global, working: &Working, d: u32) -> Result<Option<Listed>, Lack>
+fn list(alloc: Global, working: &Working, d: u32) -> Result<Option<Listed>, Missing>
     requires possible { HasVolume working.now }
     requires low { d < inodes_of working.now.geometry }
 {
@@ -147,7 +147,7 @@ fn read(
     i: u32,
     at: u64,
     count: u64,
-) -> Result<Option<Vec<u8>>, Lack>
+) -> Result<Option<Vec<u8>>, Missing>
     requires possible { HasVolume working.now }
     requires low { i < inodes_of working.now.geometry }
 {
@@ -244,7 +244,7 @@ fn is_held(working: &Working, b: BlockNo) -> bool
 }
 
 /// Gives a file's inode another size, and leaves its blocks.
-fn resize(alloc: Global, working: &mut Working, i: u32, size: u64) -> Result<(), Lack>
+fn resize(alloc: Global, working: &mut Working, i: u32, size: u64) -> Result<(), Missing>
     requires possible { HasVolume working.old }
     requires low { i < inodes_of working.old.geometry }
     requires size { size ≤ file_limit }

@@ -2,10 +2,10 @@
 ghost use Rattle.std.specs.Prelude.{◌≡◌, ◌≢◌, ℕ, IfErr, IfOk, OnOk, Some, None};
 ghost use Rattle.mq_inodes.specs.Changes.{IsPut};
 ghost use Rattle.mq_inodes.specs.Edits.{IsKindPut, IsLifted, IsSameView};
-ghost use Rattle.mq_inodes.specs.Lacks.{Lacks};
+ghost use Rattle.mq_inodes.specs.MissingPages.{MissingPages};
 ghost use Rattle.mq_inodes.specs.Pages.{IsHeld, held_pages, kinds_of, known, pages_of, view_of};
 
-use crate::lack::{Lack, one};
+use crate::lack::{Missing, one};
 use mq_blocks::{Block, BlockNo, Geometry, OutOfMemory};
 use mq_pages::{Held, Kind};
 use std::alloc::Global;
@@ -72,14 +72,14 @@ impl<'a> Working<'a> {
     }
 
     /// The content of a block that is not free.
-    pub(crate) fn content(&self, alloc: Global, b: BlockNo) -> Result<&Block, Lack>
+    pub(crate) fn content(&self, alloc: Global, b: BlockNo) -> Result<&Block, Missing>
         requires { pages_of self.now b ≢ Some None }
         ensures ok { IfOk result (λ block. pages_of self.now b ≡ Some (Some block.now)) }
-        ensures lack { IfErr result (Lacks (pages_of self.now) (λ x. x ≡ b)) }
+        ensures lack { IfErr result (MissingPages (pages_of self.now) (λ x. x ≡ b)) }
     {
         match self.page(b) {
             Page::Held(block) => Ok(block),
-            Page::Absent => Err(Lack::Need(one(alloc, b)?)),
+            Page::Absent => Err(Missing::Need(one(alloc, b)?)),
             Page::Free => unreachable!(),
         }
     }

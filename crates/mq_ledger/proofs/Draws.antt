@@ -4,7 +4,7 @@ use Rattle.std.proofs.lemmas.Bool.{cases_Bool, false≢true}
 use Rattle.mq_blocks.specs.Journal.{is_among, number_limit}
 use Rattle.mq_blocks.specs.Machine.{Map}
 use Rattle.mq_blocks.specs.declared.geometry.Geometry.{Geometry}
-use Rattle.mq_ledger.specs.Known.{MayDraw, Known, IsTx, front}
+use Rattle.mq_ledger.specs.KnownJournal.{MayDraw, KnownJournal, IsTx, front}
 use Rattle.mq_ledger.specs.History.{blocks_of, map_after, last, last_logged, upto, IsAt}
 use Rattle.mq_ledger.specs.Records.{Ledger, IsKnown, Every, IsTaken, IsOpen}
 use Rattle.mq_ledger.specs.State.{start_map}
@@ -26,9 +26,9 @@ held_none (Some v) bytes m h e b = absurd (false≢true (sym e))
 
 at_upto : (f : ℕ) (t : Tx) (ts h : List Tx) → IsAt t ts (upto f h) → IsAt t ts h
 at_upto f t ts [] at = at
-at_upto f t ts (u ∷ us) at = elim (cases_Bool (leb u.number f)) [
+at_upto f t ts (u ∷ txs) at = elim (cases_Bool (leb u.number f)) [
   | inl is ↦ rw is at at
-  | inr not ↦ inr (at_upto f t ts us (rw not at at))
+  | inr not ↦ inr (at_upto f t ts txs (rw not at at))
 ]
 
 pub stands_upto : (start : List (Option (List ℕ))) (f : ℕ) (h : List Tx) (x : ℕ) (p : Place) (c : Option (List ℕ)) → Stands start (upto f h) x p c → Stands start h x p c
@@ -45,7 +45,7 @@ pub record MayFollow (s : Ledger) (word : ℕ) (t : Tx) : Type 0 where
   pub freed : Every (IsTaken s) t.freed
   pub direct : Every (IsOpen s word t.revoked) (blocks_of t.direct)
 
-pub follow_draws : (s : Ledger) (word : ℕ) (k : Known) (t : Tx) → IsKnown s word k → MayFollow s word t → MayDraw k t
+pub follow_draws : (s : Ledger) (word : ℕ) (k : KnownJournal) (t : Tx) → IsKnown s word k → MayFollow s word t → MayDraw k t
 follow_draws s word k t is may =
     let G : Geometry → Type 0 = λ g. IsTx g t in
     let B : ℕ → List Tx → Type 0 = λ base h. t.number ≡ base + length h + 1 in
@@ -63,7 +63,7 @@ follow_draws s word k t is may =
       revoked = subst (λ b. R b k.history k.word) (sym is.base) (subst (λ h. R s.base h k.word) (sym is.history) (subst (R s.base s.history) (sym is.word_is) (λ x e. (may.direct x e).revoked_is)));
     }
 
-pub draw_follows : (s : Ledger) (word : ℕ) (k : Known) (t : Tx) → IsKnown s word k → MayDraw k t → MayFollow s word t
+pub draw_follows : (s : Ledger) (word : ℕ) (k : KnownJournal) (t : Tx) → IsKnown s word k → MayDraw k t → MayFollow s word t
 draw_follows s word k t is may =
     let G : Geometry → Type 0 = λ g. IsTx g t in
     let B : ℕ → List Tx → Type 0 = λ base h. t.number ≡ base + length h + 1 in

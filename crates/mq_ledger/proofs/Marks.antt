@@ -9,7 +9,7 @@ use Rattle.mq_blocks.specs.Machine.{Writes, write_of, or_kept, after}
 use Rattle.mq_blocks.specs.declared.geometry.Geometry.{Geometry}
 use Rattle.mq_ledger.specs.History.{blocks_of, changes, map_after, last_logged, upto, IsAt, AreNumbered}
 use Rattle.mq_ledger.specs.Items.{write_at, no_write}
-use Rattle.mq_ledger.specs.Known.{IsTx}
+use Rattle.mq_ledger.specs.KnownJournal.{IsTx}
 use Rattle.mq_ledger.specs.State.{start_map}
 use Rattle.mq_ledger.specs.Tables.{Stands, IsLatest, AreLatest, latest_at, put_mark, after_freed, after_writes, after_tx}
 use Rattle.mq_ledger.specs.declared.latest.Latest.{Latest}
@@ -234,4 +234,4 @@ pub upto_next : (base f : ℕ) (t : Tx) (ts h : List Tx) → AreNumbered base h 
 upto_next base f t ts h n at is =
     let low = (at_numbered base t ts h n at).0 in
     let rest : upto f h ≡ ts = upto_newer base f t ts h n at (omega arith) ∙ upto_all base f ts (at_numbered base t ts h n at).1 (omega arith) in
-    ap (λ (m : ℕ). upto m h) (sym is) ∙ upto_number base t ts h n at ∙ ap (λ us. t ∷ us) (sym rest)
+    ap (λ (m : ℕ). upto m h) (sym is) ∙ upto_number base t ts h n at ∙ ap (λ txs. t ∷ txs) (sym rest)

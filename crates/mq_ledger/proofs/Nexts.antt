@@ -6,7 +6,7 @@ use Rattle.mq_ledger.specs.Items.{end_of}
 use Rattle.mq_ledger.specs.Records.{Ledger, IsNextEnd}
 use Rattle.mq_ledger.specs.State.{from_at}
 use Rattle.mq_ledger.specs.Tables.{AreTables, ends_of}
-use Rattle.mq_ledger.specs.declared.lanes.Row.{Row}
+use Rattle.mq_ledger.specs.declared.queue_rows.Row.{Row}
 use Rattle.mq_ledger.specs.declared.latest.Latest.{Latest}
 use Rattle.mq_ledger.specs.declared.records.Ledger.TheInside.{Inside}
 use Rattle.mq_ledger.specs.declared.tx.Tx.{Tx}
@@ -14,10 +14,10 @@ use Rattle.mq_ledger.proofs.Ledgers.{IsNext, next_of, next_read}
 use Rattle.mq_ledger.proofs.Lookups.{end_at}
 use Rattle.mq_ledger.proofs.Rows.{length-along}
 
-pub ends_length : (s : Ledger) (newest settled : List Latest) (lanes : List (List Row)) (ends : List ℕ) → AreTables s newest settled lanes ends → length ends ≡ length s.history
-ends_length s newest settled lanes ends old = ap length old.ends_are ∙ length-reverse (ends_of s.froms s.history) ∙ length-along (λ t ts. end_of (from_at s.froms t.queue) (of_queue t.queue ts) + (writes t + 1)) s.history
+pub ends_length : (s : Ledger) (newest settled : List Latest) (queue_rows : List (List Row)) (ends : List ℕ) → AreTables s newest settled queue_rows ends → length ends ≡ length s.history
+ends_length s newest settled queue_rows ends old = ap length old.ends_are ∙ length-reverse (ends_of s.starts s.history) ∙ length-along (λ t ts. end_of (from_at s.starts t.queue) (of_queue t.queue ts) + (writes t + 1)) s.history
 
-module _ (s : Ledger) (newest settled : List Latest) (lanes : List (List Row)) (ends : List ℕ) (old : AreTables s newest settled lanes ends) (more : s.front < s.base + length s.history) (history : List Tx) (u : Tx) (same : s.history ≡ reverse history) (read : u ≡ get_or history (s.front - s.base) u) where
+module _ (s : Ledger) (newest settled : List Latest) (queue_rows : List (List Row)) (ends : List ℕ) (old : AreTables s newest settled queue_rows ends) (more : s.front < s.base + length s.history) (history : List Tx) (u : Tx) (same : s.history ≡ reverse history) (read : u ≡ get_or history (s.front - s.base) u) where
   the_next : IsNext s
   the_next = next_of s old.numbers old.front_low more
 

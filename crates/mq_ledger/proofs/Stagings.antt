@@ -4,7 +4,7 @@ use Rattle.mq_blocks.specs.Geometry.{homes_of, home_lba}
 use Rattle.mq_blocks.specs.declared.geometry.Geometry.{Geometry}
 use Rattle.mq_ledger.specs.History.{writes, blocks_of}
 use Rattle.mq_ledger.specs.Items.{write_at, no_write, direct_item, item_of}
-use Rattle.mq_ledger.specs.Known.{IsTx}
+use Rattle.mq_ledger.specs.KnownJournal.{IsTx}
 use Rattle.mq_ledger.specs.Plain.{plain_entry}
 use Rattle.mq_ledger.specs.Staged.{IsStaged}
 use Rattle.mq_blocks.specs.Machine.{Writes}
@@ -22,10 +22,10 @@ few_named g t form =
     let few = form.few in
     omega arith
 
-staged-direct : (g : Geometry) (t : Tx) (us : List Tx) (i : ℕ) (s : Staged) → length t.logged ≤ i → i < writes t → s.entry ≡ plain_entry (t.number, home_lba g (write_at t.direct (i - length t.logged)).0, false) → s.tx ≡ t.number → s.lba ≡ home_lba g (write_at t.direct (i - length t.logged)).0 → s.block ≡ (write_at t.direct (i - length t.logged)).1 → IsStaged g t.queue (item_of t us i) s
-staged-direct g t us i s low high entry tx lba block =
+staged-direct : (g : Geometry) (t : Tx) (txs : List Tx) (i : ℕ) (s : Staged) → length t.logged ≤ i → i < writes t → s.entry ≡ plain_entry (t.number, home_lba g (write_at t.direct (i - length t.logged)).0, false) → s.tx ≡ t.number → s.lba ≡ home_lba g (write_at t.direct (i - length t.logged)).0 → s.block ≡ (write_at t.direct (i - length t.logged)).1 → IsStaged g t.queue (item_of t txs i) s
+staged-direct g t txs i s low high entry tx lba block =
     let item : IsStaged g t.queue (direct_item t (i - length t.logged)) s = record { entry = entry; tx = tx; lba = lba; block = block } in
-    subst (λ k. IsStaged g t.queue k s) (sym (item-direct t us i low high)) item
+    subst (λ k. IsStaged g t.queue k s) (sym (item-direct t txs i low high)) item
 
 -- the direct write that a slice of them shows
 pub record IsDirectWrite (g : Geometry) (t : Tx) (i : ℕ) (w : ℕ × List ℕ) : Type 0 where
@@ -46,7 +46,7 @@ direct_write g t vs ws i w v u form low high e =
     let at = block.1 in
     record { low = omega arith; high = omega arith; is = is; home = omega arith }
 
-pub staged-write : (g : Geometry) (t : Tx) (us : List Tx) (i lba : ℕ) (w : ℕ × List ℕ) (s : Staged) → IsDirectWrite g t i w → lba ≡ home_lba g w.0 → s.entry ≡ plain_entry (t.number, lba, false) → s.tx ≡ t.number → s.lba ≡ lba → s.block ≡ w.1 → IsStaged g t.queue (item_of t us i) s
-staged-write g t us i lba w s d l entry tx to block =
+pub staged-write : (g : Geometry) (t : Tx) (txs : List Tx) (i lba : ℕ) (w : ℕ × List ℕ) (s : Staged) → IsDirectWrite g t i w → lba ≡ home_lba g w.0 → s.entry ≡ plain_entry (t.number, lba, false) → s.tx ≡ t.number → s.lba ≡ lba → s.block ≡ w.1 → IsStaged g t.queue (item_of t txs i) s
+staged-write g t txs i lba w s d l entry tx to block =
     let there : lba ≡ home_lba g (write_at t.direct (i - length t.logged)).0 = l ∙ ap (λ (v : ℕ × List ℕ). home_lba g v.0) d.is in
-    staged-direct g t us i s d.low d.high (entry ∙ ap (λ (n : ℕ). plain_entry (t.number, n, false)) there) tx (to ∙ there) (block ∙ ap (λ (v : ℕ × List ℕ). v.1) d.is)
+    staged-direct g t txs i s d.low d.high (entry ∙ ap (λ (n : ℕ). plain_entry (t.number, n, false)) there) tx (to ∙ there) (block ∙ ap (λ (v : ℕ × List ℕ). v.1) d.is)

@@ -14,29 +14,29 @@ upto-past n t ts l = rw (lt-leb _ _ l) refl
 
 pub at_numbered : (base : ℕ) (t : Tx) (ts h : List Tx) → AreNumbered base h → IsAt t ts h → AreNumbered base (t ∷ ts)
 at_numbered base t ts [] n at = absurd at
-at_numbered base t ts (u ∷ us) n (inl same) = rw (same.0, same.1) at n
-at_numbered base t ts (u ∷ us) n (inr deeper) = at_numbered base t ts us n.1 deeper
+at_numbered base t ts (u ∷ txs) n (inl same) = rw (same.0, same.1) at n
+at_numbered base t ts (u ∷ txs) n (inr deeper) = at_numbered base t ts txs n.1 deeper
 
 pub at_most : (base : ℕ) (t : Tx) (ts h : List Tx) → AreNumbered base h → IsAt t ts h → t.number ≤ base + length h
 at_most base t ts [] n at = absurd at
-at_most base t ts (u ∷ us) n (inl same) = (let k : u.number ≤ base + length (u ∷ us) = omega (arith, n.0) in rw same.0 at k)
-at_most base t ts (u ∷ us) n (inr deeper) = omega (arith, at_most base t ts us n.1 deeper)
+at_most base t ts (u ∷ txs) n (inl same) = (let k : u.number ≤ base + length (u ∷ txs) = omega (arith, n.0) in rw same.0 at k)
+at_most base t ts (u ∷ txs) n (inr deeper) = omega (arith, at_most base t ts txs n.1 deeper)
 
 pub upto_newer : (base m : ℕ) (t : Tx) (ts h : List Tx) → AreNumbered base h → IsAt t ts h → m < t.number → upto m h ≡ upto m ts
 upto_newer base m t ts [] n at l = absurd at
-upto_newer base m t ts (u ∷ us) n (inl same) l =
+upto_newer base m t ts (u ∷ txs) n (inl same) l =
     let l' : m < u.number = rw (← same.0) at l in
-    upto-past m u us l' ∙ ap (upto m) same.1
-upto_newer base m t ts (u ∷ us) n (inr deeper) l =
-    let k = at_most base t ts us n.1 deeper in
-    upto-past m u us (omega (arith, n.0)) ∙ upto_newer base m t ts us n.1 deeper l
+    upto-past m u txs l' ∙ ap (upto m) same.1
+upto_newer base m t ts (u ∷ txs) n (inr deeper) l =
+    let k = at_most base t ts txs n.1 deeper in
+    upto-past m u txs (omega (arith, n.0)) ∙ upto_newer base m t ts txs n.1 deeper l
 
 pub upto_number : (base : ℕ) (t : Tx) (ts h : List Tx) → AreNumbered base h → IsAt t ts h → upto t.number h ≡ t ∷ ts
 upto_number base t ts [] n at = absurd at
-upto_number base t ts (u ∷ us) n (inl same) = rw (same.0, same.1) (upto-at t.number t ts (omega arith))
-upto_number base t ts (u ∷ us) n (inr deeper) =
-    let k = at_most base t ts us n.1 deeper in
-    upto-past t.number u us (omega (arith, n.0)) ∙ upto_number base t ts us n.1 deeper
+upto_number base t ts (u ∷ txs) n (inl same) = rw (same.0, same.1) (upto-at t.number t ts (omega arith))
+upto_number base t ts (u ∷ txs) n (inr deeper) =
+    let k = at_most base t ts txs n.1 deeper in
+    upto-past t.number u txs (omega (arith, n.0)) ∙ upto_number base t ts txs n.1 deeper
 
 pub upto_all : (base m : ℕ) (h : List Tx) → AreNumbered base h → base + length h ≤ m → upto m h ≡ h
 upto_all base m [] n l = refl
@@ -74,13 +74,13 @@ last_le base (t ∷ ts) x n =
 
 pub last_at : (base : ℕ) (t : Tx) (ts h : List Tx) (x : ℕ) → AreNumbered base h → IsAt t ts h → changes t x ≡ true → t.number ≤ last base h x
 last_at base t ts [] x n at c = absurd at
-last_at base t ts (u ∷ us) x n (inl same) c =
+last_at base t ts (u ∷ txs) x n (inl same) c =
     let c' : changes u x ≡ true = rw (← same.0) at c in
-    rw (last-changed base u us x c', same.0) (omega arith)
-last_at base t ts (u ∷ us) x n (inr deeper) c =
+    rw (last-changed base u txs x c', same.0) (omega arith)
+last_at base t ts (u ∷ txs) x n (inr deeper) c =
     elim (cases_Bool (changes u x)) [
-      | inl d ↦ rw (last-changed base u us x d) (omega (arith, n.0, at_most base t ts us n.1 deeper))
-      | inr d ↦ rw (last-same base u us x d) (last_at base t ts us x n.1 deeper c)
+      | inl d ↦ rw (last-changed base u txs x d) (omega (arith, n.0, at_most base t ts txs n.1 deeper))
+      | inr d ↦ rw (last-same base u txs x d) (last_at base t ts txs x n.1 deeper c)
     ]
 
 pub last_upto_le : (base f : ℕ) (h : List Tx) (x : ℕ) → AreNumbered base h → last base (upto f h) x ≤ last base h x
@@ -146,17 +146,17 @@ value_settled start base f (t ∷ ts) x l =
     ]
 
 -- two that have one number are one
-pub at_same : (base : ℕ) (t u : Tx) (ts us h : List Tx) → AreNumbered base h → IsAt t ts h → IsAt u us h → t.number ≡ u.number → (t ∷ ts) ≡ (u ∷ us)
-at_same base t u ts us h n a b e = sym (upto_number base t ts h n a) ∙ ap (λ m. upto m h) e ∙ upto_number base u us h n b
+pub at_same : (base : ℕ) (t u : Tx) (ts txs h : List Tx) → AreNumbered base h → IsAt t ts h → IsAt u txs h → t.number ≡ u.number → (t ∷ ts) ≡ (u ∷ txs)
+at_same base t u ts txs h n a b e = sym (upto_number base t ts h n a) ∙ ap (λ m. upto m h) e ∙ upto_number base u txs h n b
 
 -- the one with the lesser number stands below the other
-pub at_below : (base : ℕ) (t u : Tx) (ts us h : List Tx) → AreNumbered base h → IsAt t ts h → IsAt u us h → u.number < t.number → IsAt u us ts
-at_below base t u ts us [] n a b l = absurd a
-at_below base t u ts us (w ∷ ws) n (inl same) (inl other) l = absurd (let e : t.number ≡ u.number = ap (λ (k : Tx). k.number) (sym same.0 ∙ other.0) in omega arith)
-at_below base t u ts us (w ∷ ws) n (inl same) (inr deeper) l = rw (← same.1) deeper
-at_below base t u ts us (w ∷ ws) n (inr above) (inl other) l =
+pub at_below : (base : ℕ) (t u : Tx) (ts txs h : List Tx) → AreNumbered base h → IsAt t ts h → IsAt u txs h → u.number < t.number → IsAt u txs ts
+at_below base t u ts txs [] n a b l = absurd a
+at_below base t u ts txs (w ∷ ws) n (inl same) (inl other) l = absurd (let e : t.number ≡ u.number = ap (λ (k : Tx). k.number) (sym same.0 ∙ other.0) in omega arith)
+at_below base t u ts txs (w ∷ ws) n (inl same) (inr deeper) l = rw (← same.1) deeper
+at_below base t u ts txs (w ∷ ws) n (inr above) (inl other) l =
     absurd (let k = at_most base t ts ws n.1 above in let e : w.number ≡ u.number = ap (λ (k : Tx). k.number) other.0 in omega (arith, n.0))
-at_below base t u ts us (w ∷ ws) n (inr above) (inr deeper) l = at_below base t u ts us ws n.1 above deeper l
+at_below base t u ts txs (w ∷ ws) n (inr above) (inr deeper) l = at_below base t u ts txs ws n.1 above deeper l
 
 -- A block that a transaction past the front found free, and that nothing since the base changed, is free at the base.
 pub free_at : (start : Map) (base m f : ℕ) (t : Tx) (ts h : List Tx) (x : ℕ) → AreNumbered base h → IsAt t ts h → f < t.number → m ≤ f → map_after start ts x ≡ None → last base ts x ≤ f → last base (upto f h) x ≤ m → map_after start (upto m h) x ≡ None

@@ -46,7 +46,7 @@ AreNumbered base (t ∷ ts) = (t.number ≡ base + length ts + 1) × AreNumbered
 -- the transaction stands in the history, and these are the ones before it
 abbrev pub IsAt : Tx → List Tx → List Tx → Type 0
 IsAt t ts [] = ⊥
-IsAt t ts (u ∷ us) = ((u ≡ t) × (us ≡ ts)) ⊎ IsAt t ts us
+IsAt t ts (u ∷ txs) = ((u ≡ t) × (txs ≡ ts)) ⊎ IsAt t ts txs
 
 -- those with a number up to n
 abbrev pub upto : ℕ → List Tx → List Tx
@@ -69,4 +69,4 @@ part_of has (t ∷ ts) = if all_of has (t ∷ ts) then t ∷ ts else part_of has
 
 -- the first list is what stood before some newer ones
 abbrev pub IsPart : List Tx → List Tx → Type 0
-IsPart us ws = (newer : List Tx) × (ws ≡ newer ++ us)
+IsPart txs ws = (newer : List Tx) × (ws ≡ newer ++ txs)

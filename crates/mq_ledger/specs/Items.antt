@@ -81,12 +81,12 @@ place_before (t ∷ ts) = next ts + length t.logged
 
 -- of a transaction, where these stand before it on its queue
 abbrev pub descriptor_for : Tx → List Tx → Descriptor
-descriptor_for t us = record {
+descriptor_for t txs = record {
   queue = t.queue;
   number = t.number;
-  place = next us + length t.logged;
-  prev_place = place_before us;
-  prev_number = number_before us;
+  place = next txs + length t.logged;
+  prev_place = place_before txs;
+  prev_number = number_before txs;
   logged = blocks_of t.logged;
   revoked = t.revoked;
 }
@@ -98,31 +98,31 @@ abbrev pub write_at : Writes → ℕ → ℕ × List ℕ
 write_at ws i = slice_index_or ws i no_write
 
 abbrev pub copy_item : Tx → List Tx → ℕ → Item
-copy_item t us i = record { number = t.number; commit = false; target = AtPlace (next us + i); content = (write_at t.logged i).1 }
+copy_item t txs i = record { number = t.number; commit = false; target = AtPlace (next txs + i); content = (write_at t.logged i).1 }
 
 abbrev pub direct_item : Tx → ℕ → Item
 direct_item t i = record { number = t.number; commit = false; target = AtHome (write_at t.direct i).0; content = (write_at t.direct i).1 }
 
 abbrev pub commit_item : Tx → List Tx → Item
-commit_item t us = record { number = t.number; commit = true; target = AtPlace (next us + length t.logged); content = descriptor_bytes (descriptor_for t us) }
+commit_item t txs = record { number = t.number; commit = true; target = AtPlace (next txs + length t.logged); content = descriptor_bytes (descriptor_for t txs) }
 
 -- its i-th entry
 abbrev pub item_of : Tx → List Tx → ℕ → Item
-item_of t us i =
+item_of t txs i =
     if nat_lt i (length t.logged)
-    then copy_item t us i
-    else (if nat_lt i (writes t) then direct_item t (i - length t.logged) else commit_item t us)
+    then copy_item t txs i
+    else (if nat_lt i (writes t) then direct_item t (i - length t.logged) else commit_item t txs)
 
 -- the entry of a count
 abbrev pub item_at : ℕ → List Tx → ℕ → Item
 item_at from [] c = no_item
-item_at from (t ∷ us) c = if nat_lt c (end_of from us) then item_at from us c else item_of t us (c - end_of from us)
+item_at from (t ∷ txs) c = if nat_lt c (end_of from txs) then item_at from txs c else item_of t txs (c - end_of from txs)
 
 -- the transactions of a queue whose entries stand below the count
 abbrev pub below : ℕ → ℕ → List Tx → List Tx
 below from h [] = []
-below from h (t ∷ us) = if nat_le (end_of from (t ∷ us)) h then t ∷ us else below from h us
+below from h (t ∷ txs) = if nat_le (end_of from (t ∷ txs)) h then t ∷ txs else below from h txs
 
 -- no transaction's entries stand on both sides of the count
 abbrev pub IsEnd : ℕ → List Tx → ℕ → Type 0
-IsEnd from us h = end_of from (below from h us) ≡ h
+IsEnd from txs h = end_of from (below from h txs) ≡ h

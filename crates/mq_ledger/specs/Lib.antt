@@ -1,6 +1,6 @@
 pub mod History
 pub mod Items
-pub mod Known
+pub mod KnownJournal
 pub mod Sides
 pub mod State
 pub mod Plain

@@ -4,9 +4,9 @@ use Rattle.mq_blocks.specs.Journal.{is_among, number_limit}
 use Rattle.mq_blocks.specs.declared.geometry.Geometry.{Geometry}
 use Rattle.mq_ledger.specs.History.{blocks_of, writes, map_after, last, last_logged, of_queue, IsAt}
 use Rattle.mq_ledger.specs.Items.{end_of, next}
-use Rattle.mq_ledger.specs.Known.{Known, IsTx, front}
+use Rattle.mq_ledger.specs.KnownJournal.{KnownJournal, IsTx, front}
 use Rattle.mq_ledger.specs.State.{from_at, start_map}
-use Rattle.mq_ledger.specs.declared.lanes.QueueEnd.{QueueEnd}
+use Rattle.mq_ledger.specs.declared.queue_rows.QueueEnd.{QueueEnd}
 use Rattle.mq_ledger.specs.declared.tx.Tx.{Tx}
 
 pub record Ledger : Type 0 where
@@ -14,7 +14,7 @@ pub record Ledger : Type 0 where
   -- the map and the base at the start, and the doorbell of each queue there
   pub start : List (Option (List ℕ))
   pub base : ℕ
-  pub froms : List ℕ
+  pub starts : List ℕ
   -- the newest transaction first
   pub history : List Tx
   -- all numbers up to it are done
@@ -25,7 +25,7 @@ abbrev pub own : Ledger → ℕ → List Tx
 own s q = of_queue q s.history
 
 abbrev pub from_of : Ledger → ℕ → ℕ
-from_of s q = from_at s.froms q
+from_of s q = from_at s.starts q
 
 -- What a transaction needs before it can follow the history: the next number, and counts and places
 -- that stay small.
@@ -55,7 +55,7 @@ pub record IsNextEnd (s : Ledger) (e : QueueEnd) : Type 0 where
   pub count : e.count ≡ end_of (from_of s tx.queue) (of_queue tx.queue before) + (writes tx + 1)
 
 -- what is known of the journal is this history, done up to this front
-pub record IsKnown (s : Ledger) (word : ℕ) (k : Known) : Type 0 where
+pub record IsKnown (s : Ledger) (word : ℕ) (k : KnownJournal) : Type 0 where
   pub geometry : k.geometry ≡ s.geometry
   pub start : k.start ≡ start_map s.start
   pub base : k.base ≡ s.base
@@ -65,13 +65,13 @@ pub record IsKnown (s : Ledger) (word : ℕ) (k : Known) : Type 0 where
 
 -- what the code keeps of a history's start: nothing is in it, and no queue has an entry
 abbrev pub start_ledger : Geometry → List (Option (List ℕ)) → ℕ → Ledger
-start_ledger g blocks base = record { geometry = g; start = blocks; base = base; froms = replicate g.queues 0; history = []; front = base }
+start_ledger g blocks base = record { geometry = g; start = blocks; base = base; starts = replicate g.queues 0; history = []; front = base }
 
 abbrev pub push_tx : Tx → Ledger → Ledger
-push_tx t s = record { geometry = s.geometry; start = s.start; base = s.base; froms = s.froms; history = t ∷ s.history; front = s.front }
+push_tx t s = record { geometry = s.geometry; start = s.start; base = s.base; starts = s.starts; history = t ∷ s.history; front = s.front }
 
 abbrev pub settle_next : Ledger → Ledger
-settle_next s = record { geometry = s.geometry; start = s.start; base = s.base; froms = s.froms; history = s.history; front = s.front + 1 }
+settle_next s = record { geometry = s.geometry; start = s.start; base = s.base; starts = s.starts; history = s.history; front = s.front + 1 }
 
 -- ---- the guard of a draw, by the ledger
 

@@ -8,7 +8,7 @@ use Rattle.mq_blocks.specs.declared.command.Command.{Command}
 use Rattle.mq_blocks.specs.declared.geometry.Geometry.{Geometry}
 use Rattle.mq_ledger.specs.History.{writes, map_after, last, upto, of_queue, IsAt, IsPart}
 use Rattle.mq_ledger.specs.Items.{AtPlace, AtHome, said_of, command_of, end_of, next, item_at, IsEnd}
-use Rattle.mq_ledger.specs.Known.{Known, front}
+use Rattle.mq_ledger.specs.KnownJournal.{KnownJournal, front}
 use Rattle.mq_ledger.specs.declared.tx.Tx.{Tx}
 
 -- ---- the part of the drive that a port has: a queue's, or the root's
@@ -42,7 +42,7 @@ pub record IsPort (g : Geometry) (z : Option ℕ) (p : PortState) : Type 0 where
   pub flushed : length p.flushed ≡ slots_of z
   pub staged : length p.staged ≡ slots_of z
   pub blocks : length p.blocks ≡ area_size_of g z + homes_size_of g z
-  pub sure : length p.sure ≡ area_size_of g z + homes_size_of g z
+  pub certain : length p.certain ≡ area_size_of g z + homes_size_of g z
 
 -- where a place of a queue, and a home block, stands among the blocks of its port
 abbrev pub place_index : Geometry → ℕ → ℕ
@@ -78,26 +78,26 @@ pub record AreOrdered (from end : ℕ) (p : PortState) : Type 0 where
   pub room : end ≤ p.head + 1023
 
 -- heads and doorbell stand at ends of transactions
-pub record AreEnds (from : ℕ) (us : List Tx) (p : PortState) : Type 0 where
-  pub head : IsEnd from us p.head
-  pub stored : IsEnd from us p.stored_head
-  pub doorbell : IsEnd from us p.doorbell
+pub record AreEnds (from : ℕ) (txs : List Tx) (p : PortState) : Type 0 where
+  pub head : IsEnd from txs p.head
+  pub stored : IsEnd from txs p.stored_head
+  pub doorbell : IsEnd from txs p.doorbell
 
 -- What was rung stands in the ring as it was flushed, from the slot before the head on, and what was
 -- staged since as it was staged. While the head is where it was at the start, the slot before it has
 -- a commit request of a number up to the base.
-pub record IsRing (k : Known) (q : ℕ) (us : List Tx) (p : PortState) : Type 0 where
+pub record IsRing (k : KnownJournal) (q : ℕ) (txs : List Tx) (p : PortState) : Type 0 where
   pub settled : (n : ℕ) → IsFlushed p n → slice_index_or p.staged n [] ≡ slice_index_or p.flushed n []
   pub start : 0 < k.from q → p.head ≡ k.from q → (n : ℕ) × (lba : ℕ) × (k.entries.says (flushed_at p (k.from q - 1)) ≡ Some (n, lba, true)) × (n ≤ k.base)
-  pub rung : (c : ℕ) → k.from q ≤ c → p.head ≤ c + 1 → c < p.doorbell → k.entries.says (flushed_at p c) ≡ Some (said_of k.geometry q (item_at (k.from q) us c))
-  pub waits : (c : ℕ) → p.doorbell ≤ c → c < staged_end p → k.entries.says (staged_at p c) ≡ Some (said_of k.geometry q (item_at (k.from q) us c))
+  pub rung : (c : ℕ) → k.from q ≤ c → p.head ≤ c + 1 → c < p.doorbell → k.entries.says (flushed_at p c) ≡ Some (said_of k.geometry q (item_at (k.from q) txs c))
+  pub waits : (c : ℕ) → p.doorbell ≤ c → c < staged_end p → k.entries.says (staged_at p c) ≡ Some (said_of k.geometry q (item_at (k.from q) txs c))
 
 -- ---- its commands
 
 -- each is the write of its count's entry
 abbrev pub AreOwn : Geometry → ℕ → ℕ → List Tx → List Command → Type 0
-AreOwn g q from us [] = Unit {0}
-AreOwn g q from us (c ∷ cs) = (c ≡ command_of g q c.count (item_at from us c.count)) × AreOwn g q from us cs
+AreOwn g q from txs [] = Unit {0}
+AreOwn g q from txs (c ∷ cs) = (c ≡ command_of g q c.count (item_at from txs c.count)) × AreOwn g q from txs cs
 
 -- their counts follow one another from this one on
 abbrev pub AreNext : ℕ → List Command → Type 0
@@ -110,12 +110,12 @@ holds_count n (c ∷ cs) = if nat_eq c.count n then true else holds_count n cs
 
 -- Staged commands wait for the ring; no command below the stored head is posted or failed, so all of
 -- them are completed with success.
-pub record AreCommands (g : Geometry) (q from : ℕ) (us : List Tx) (p : PortState) : Type 0 where
-  pub pending : AreOwn g q from us p.pending
+pub record AreCommands (g : Geometry) (q from : ℕ) (txs : List Tx) (p : PortState) : Type 0 where
+  pub pending : AreOwn g q from txs p.pending
   pub pending_counts : AreNext p.doorbell p.pending
-  pub posted : AreOwn g q from us p.posted
+  pub posted : AreOwn g q from txs p.posted
   pub posted_counts : AreCounted p.stored_head p.doorbell p.posted
-  pub failed : AreOwn g q from us p.failed
+  pub failed : AreOwn g q from txs p.failed
   pub failed_counts : AreFrom p.stored_head p.failed
 
 -- a rung command has completed with success
@@ -128,42 +128,42 @@ pub record IsDone (p : PortState) (c : ℕ) : Type 0 where
 
 -- the places of the transactions above the base are apart in the area, and each that was written holds
 -- what was written
-pub record IsArea (k : Known) (q : ℕ) (us : List Tx) (p : PortState) : Type 0 where
-  pub fits : next us ≤ next (upto k.word us) + k.geometry.area
-  pub limit : next us ≤ 2 ^ 62
-  pub holds : (c place : ℕ) → end_of (k.from q) (upto k.word us) ≤ c → IsDone p c → (item_at (k.from q) us c).target ≡ AtPlace place → Certainly p (place_index k.geometry place) (item_at (k.from q) us c).content
+pub record IsArea (k : KnownJournal) (q : ℕ) (txs : List Tx) (p : PortState) : Type 0 where
+  pub fits : next txs ≤ next (upto k.word txs) + k.geometry.area
+  pub limit : next txs ≤ 2 ^ 62
+  pub holds : (c place : ℕ) → end_of (k.from q) (upto k.word txs) ≤ c → IsDone p c → (item_at (k.from q) txs c).target ≡ AtPlace place → Certainly p (place_index k.geometry place) (item_at (k.from q) txs c).content
 
 -- the content is at home, unless a number above v and up to the front changed the block
-abbrev pub IsKept : Known → PortState → ℕ → ℕ → List ℕ → Type 0
+abbrev pub IsKept : KnownJournal → PortState → ℕ → ℕ → List ℕ → Type 0
 IsKept k p x v content = last k.base (upto (front k) k.history) x ≤ v → Certainly p (home_index k.geometry x) content
 
 -- the home blocks of a port whose contents are due
-abbrev pub AreHome : Known → Option ℕ → PortState → Type 0
+abbrev pub AreHome : KnownJournal → Option ℕ → PortState → Type 0
 AreHome k z p =
     (x v : ℕ) (content : List ℕ) → x < homes_of k.geometry → zone_of k.geometry x ≡ z → k.due x v ≡ true → map_after k.start (upto v k.history) x ≡ Some content → IsKept k p x v content
 
--- The port of the queue q, where its entries are those of `us`: of all its transactions, or of those
+-- The port of the queue q, where its entries are those of `txs`: of all its transactions, or of those
 -- before some newer ones.
-pub record SideOk (k : Known) (q : ℕ) (us : List Tx) (p : PortState) : Type 0 where
+pub record SideOk (k : KnownJournal) (q : ℕ) (txs : List Tx) (p : PortState) : Type 0 where
   pub queue : q < k.geometry.queues
-  pub part : IsPart us (of_queue q k.history)
+  pub part : IsPart txs (of_queue q k.history)
   pub port : IsPort k.geometry (Some q) p
-  pub order : AreOrdered (k.from q) (end_of (k.from q) us) p
-  pub limit : end_of (k.from q) us ≤ number_limit
-  pub ends : AreEnds (k.from q) us p
-  pub ring : IsRing k q us p
-  pub commands : AreCommands k.geometry q (k.from q) us p
-  pub area : IsArea k q us p
+  pub order : AreOrdered (k.from q) (end_of (k.from q) txs) p
+  pub limit : end_of (k.from q) txs ≤ number_limit
+  pub ends : AreEnds (k.from q) txs p
+  pub ring : IsRing k q txs p
+  pub commands : AreCommands k.geometry q (k.from q) txs p
+  pub area : IsArea k q txs p
   -- what the base covers stands below the head
-  pub based : end_of (k.from q) (upto k.word us) ≤ p.head
+  pub based : end_of (k.from q) (upto k.word txs) ≤ p.head
   -- what is known to be done stands below the head
   pub done : (t : Tx) (ts : List Tx) → IsAt t ts k.history → t.queue ≡ q → k.done t ts ≡ true → end_of (k.from q) (of_queue q ts) + (writes t + 1) ≤ p.head
   -- each completed direct write is at home
-  pub direct : (c x : ℕ) → k.from q ≤ c → IsDone p c → (item_at (k.from q) us c).target ≡ AtHome x → IsKept k p x (item_at (k.from q) us c).number (item_at (k.from q) us c).content
+  pub direct : (c x : ℕ) → k.from q ≤ c → IsDone p c → (item_at (k.from q) txs c).target ≡ AtHome x → IsKept k p x (item_at (k.from q) txs c).number (item_at (k.from q) txs c).content
   pub homes : AreHome k (Some q) p
 
 -- the root's port: the base word as flushed and as stored, and the metadata region
-pub record RootOk (k : Known) (p : PortState) : Type 0 where
+pub record RootOk (k : KnownJournal) (p : PortState) : Type 0 where
   pub port : IsPort k.geometry None p
   pub posted : p.posted ≡ []
   pub bases : (k.word ≤ p.base) × (p.base ≤ p.stored_base)

@@ -4,7 +4,7 @@ use Rattle.mq_blocks.specs.declared.geometry.Geometry.{Geometry}
 use Rattle.mq_ledger.specs.Items.{Item, said_of, lba_of, next, number_before}
 use Rattle.mq_ledger.specs.Plain.{plain_entry}
 use Rattle.mq_ledger.specs.declared.staging.Staged.{Staged}
-use Rattle.mq_ledger.specs.declared.lanes.Row.{Row}
+use Rattle.mq_ledger.specs.declared.queue_rows.Row.{Row}
 use Rattle.mq_ledger.specs.declared.tx.Tx.{Tx}
 
 -- this is staged for the item of a queue
@@ -15,6 +15,6 @@ pub record IsStaged (g : Geometry) (q : ℕ) (i : Item) (s : Staged) : Type 0 wh
   pub block : s.block ≡ i.content
 
 -- these end in this row
-pub record IsBehind (r : Row) (us : List Tx) : Type 0 where
-  pub number : r.number ≡ number_before us
-  pub next_is : r.next ≡ next us
+pub record IsBehind (r : Row) (txs : List Tx) : Type 0 where
+  pub number : r.number ≡ number_before txs
+  pub next_is : r.next ≡ next txs

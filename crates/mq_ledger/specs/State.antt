@@ -10,7 +10,7 @@ use Rattle.mq_blocks.specs.Machine.{Map}
 use Rattle.mq_blocks.specs.declared.geometry.Geometry.{Geometry}
 use Rattle.mq_ledger.specs.History.{writes, blocks_of, map_after, last, upto, of_queue, IsAt}
 use Rattle.mq_ledger.specs.Items.{Entries, AreRead, AtHome, end_of, item_at}
-use Rattle.mq_ledger.specs.Known.{Known, LogOk}
+use Rattle.mq_ledger.specs.KnownJournal.{KnownJournal, LogOk}
 use Rattle.mq_ledger.specs.Sides.{SideOk, holds_count, RootOk, IsPort, AreHome, flushed_at, home_index}
 use Rattle.mq_ledger.specs.declared.tx.Tx.{Tx}
 
@@ -19,7 +19,7 @@ pub record State : Type 0 where
   -- the map and the base at the start, and the doorbell of each queue there
   pub start : List (Option (List ℕ))
   pub base : ℕ
-  pub froms : List ℕ
+  pub starts : List ℕ
   pub history : List Tx
   pub ports : List PortState
   pub root : PortState
@@ -27,7 +27,7 @@ pub record State : Type 0 where
   pub marks : List ℕ
   -- the home blocks with a home write under way. Of the home writes that have begun and not ended in
   -- their port's state, those of other blocks count as ended with an error.
-  pub under : List ℕ
+  pub writing : List ℕ
   pub acknowledged : List ℕ
 
 abbrev pub no_port : PortState
@@ -49,7 +49,7 @@ no_port = record {
   base = 0;
   stored_base = 0;
   blocks = [];
-  sure = [];
+  certain = [];
   begun = [];
   rings = 0;
   begins = 0;
@@ -70,29 +70,29 @@ abbrev pub start_map : List (Option (List ℕ)) → Map
 start_map start x = slice_index_or start x None
 
 abbrev pub from_at : List ℕ → ℕ → ℕ
-from_at froms q = slice_index_or froms q 0
+from_at starts q = slice_index_or starts q 0
 
 -- the flushed head is past the transaction, where these stand before it
 abbrev pub is_done : List ℕ → List PortState → Tx → List Tx → Bool
-is_done froms ports t ts = nat_le (end_of (from_at froms t.queue) (of_queue t.queue ts) + (writes t + 1)) (port_at ports t.queue).head
+is_done starts ports t ts = nat_le (end_of (from_at starts t.queue) (of_queue t.queue ts) + (writes t + 1)) (port_at ports t.queue).head
 
 -- What is done is what the flushed heads say, and the whole map is due at the flushed and at the
 -- stored base.
-abbrev pub known_of : Entries → State → Known
+abbrev pub known_of : Entries → State → KnownJournal
 known_of e s = record {
   geometry = s.geometry;
   entries = e;
   start = start_map s.start;
   base = s.base;
-  from = from_at s.froms;
+  from = from_at s.starts;
   history = s.history;
-  done = is_done s.froms s.ports;
+  done = is_done s.starts s.ports;
   due = λ x v. nat_eq v s.root.base || nat_eq v s.root.stored_base;
   word = s.root.base;
 }
 
 abbrev pub front_of : State → ℕ
-front_of s = s.base + length (Rattle.mq_ledger.specs.History.part_of (is_done s.froms s.ports) s.history)
+front_of s = s.base + length (Rattle.mq_ledger.specs.History.part_of (is_done s.starts s.ports) s.history)
 
 -- A home write of the block is under way: its last change logged it, is done and is above the stored
 -- base, and the block is uncertain.
@@ -101,7 +101,7 @@ pub record IsUnder (s : State) (x : ℕ) : Type 0 where
   pub low : s.root.stored_base < last s.base s.history x
   pub high : last s.base s.history x ≤ front_of s
   pub logged : (t : Tx) (ts : List Tx) → IsAt t ts s.history → t.number ≡ last s.base s.history x → is_among x (blocks_of t.logged) ≡ true
-  pub loose : slice_index_or (port_of s (zone_of s.geometry x)).sure (home_index s.geometry x) false ≡ false
+  pub loose : slice_index_or (port_of s (zone_of s.geometry x)).certain (home_index s.geometry x) false ≡ false
   pub begun : holds_write (home_lba s.geometry x) (port_of s (zone_of s.geometry x)).begun ≡ true
 
 pub record Facts (e : Entries) (s : State) : Type 0 where
@@ -111,8 +111,8 @@ pub record Facts (e : Entries) (s : State) : Type 0 where
   pub sides : (q : ℕ) → q < s.geometry.queues → SideOk (known_of e s) q (of_queue q s.history) (port_at s.ports q)
   pub root : RootOk (known_of e s) s.root
   -- each number that isn't done is at or above its queue's mark
-  pub marks : (t : Tx) (ts : List Tx) → IsAt t ts s.history → is_done s.froms s.ports t ts ≡ false → slice_index_or s.marks t.queue 0 ≤ t.number
-  pub under : (x : ℕ) → is_among x s.under ≡ true → IsUnder s x
+  pub marks : (t : Tx) (ts : List Tx) → IsAt t ts s.history → is_done s.starts s.ports t ts ≡ false → slice_index_or s.marks t.queue 0 ≤ t.number
+  pub writing : (x : ℕ) → is_among x s.writing ≡ true → IsUnder s x
   pub acknowledged : (n : ℕ) → is_among n s.acknowledged ≡ true → n ≤ front_of s
 
 -- ---- safe
@@ -141,8 +141,8 @@ pub record IsSafe (e : Entries) (s : State) : Type 0 where
 -- at most one direct write of a block is posted
 abbrev pub IsPostedOnce : State → Type 0
 IsPostedOnce s =
-    (q c d x : ℕ) → q < s.geometry.queues → holds_count c (port_at s.ports q).posted ≡ true → holds_count d (port_at s.ports q).posted ≡ true → (item_at (from_at s.froms q) (of_queue q s.history) c).target ≡ AtHome x
-    → (item_at (from_at s.froms q) (of_queue q s.history) d).target ≡ AtHome x → c ≡ d
+    (q c d x : ℕ) → q < s.geometry.queues → holds_count c (port_at s.ports q).posted ≡ true → holds_count d (port_at s.ports q).posted ≡ true → (item_at (from_at s.starts q) (of_queue q s.history) c).target ≡ AtHome x
+    → (item_at (from_at s.starts q) (of_queue q s.history) d).target ≡ AtHome x → c ≡ d
 
 pub record IsLawful (e : Entries) (s : State) : Type 0 where
   pub safe : IsSafe e s
@@ -178,7 +178,7 @@ pub record IsStart (e : Entries) (s : State) : Type 0 where
   pub ports : length s.ports ≡ s.geometry.queues
   pub marked : length s.marks ≡ s.geometry.queues
   pub marks : (q : ℕ) → q < s.geometry.queues → slice_index_or s.marks q 0 ≡ 2 ^ 64 - 1
-  pub under : s.under ≡ []
+  pub writing : s.writing ≡ []
   pub acknowledged : s.acknowledged ≡ []
-  pub each : (q : ℕ) → q < s.geometry.queues → IsStartPort e s (Some q) (from_at s.froms q) (port_at s.ports q)
+  pub each : (q : ℕ) → q < s.geometry.queues → IsStartPort e s (Some q) (from_at s.starts q) (port_at s.ports q)
   pub root : IsStartPort e s None 0 s.root

@@ -5,10 +5,10 @@ use Rattle.mq_blocks.specs.Journal.{number_limit}
 use Rattle.mq_blocks.specs.Machine.{Writes}
 use Rattle.mq_ledger.specs.History.{writes, map_after, last, last_logged, upto, of_queue, IsAt, AreNumbered}
 use Rattle.mq_ledger.specs.Items.{write_at, end_of, next, number_before}
-use Rattle.mq_ledger.specs.Known.{IsTx}
+use Rattle.mq_ledger.specs.KnownJournal.{IsTx}
 use Rattle.mq_ledger.specs.Records.{Ledger, own, from_of}
 use Rattle.mq_ledger.specs.State.{from_at, start_map}
-use Rattle.mq_ledger.specs.declared.lanes.Row.{Row}
+use Rattle.mq_ledger.specs.declared.queue_rows.Row.{Row}
 use Rattle.mq_ledger.specs.declared.latest.Latest.{Latest}
 use Rattle.mq_ledger.specs.declared.latest.Place.{Place}
 use Rattle.mq_ledger.specs.declared.latest.Place.TheVariants.{Free, Start, Written}
@@ -64,11 +64,11 @@ along f (t ∷ ts) = f t ts ∷ along f ts
 
 -- the newest number of these, and the count and the place behind them
 abbrev pub row_of : ℕ → List Tx → Row
-row_of from us = record { number = number_before us; end = end_of from us; next = next us }
+row_of from txs = record { number = number_before txs; end = end_of from txs; next = next txs }
 
 -- newest first
 abbrev pub rows_of : ℕ → List Tx → List Row
-rows_of from us = along (λ t vs. row_of from (t ∷ vs)) us
+rows_of from txs = along (λ t vs. row_of from (t ∷ vs)) txs
 
 abbrev pub no_row : ℕ → Row
 no_row from = record { number = 0; end = from; next = 0 }
@@ -93,27 +93,27 @@ is_up_to number r = nat_le r.number number
 
 -- the count behind each transaction, newest first
 abbrev pub ends_of : List ℕ → List Tx → List ℕ
-ends_of froms h = along (λ t ts. end_of (from_at froms t.queue) (of_queue t.queue ts) + (writes t + 1)) h
+ends_of starts h = along (λ t ts. end_of (from_at starts t.queue) (of_queue t.queue ts) + (writes t + 1)) h
 
 -- The derived data are right.
-pub record AreTables (s : Ledger) (newest settled : List Latest) (lanes : List (List Row)) (ends : List ℕ) : Type 0 where
+pub record AreTables (s : Ledger) (newest settled : List Latest) (queue_rows : List (List Row)) (ends : List ℕ) : Type 0 where
   pub numbers : AreNumbered s.base s.history
   pub limit : s.base + length s.history ≤ number_limit
   pub front_low : s.base ≤ s.front
   pub front_high : s.front ≤ s.base + length s.history
   pub each : (t : Tx) (ts : List Tx) → IsAt t ts s.history → IsTx s.geometry t
   pub start_size : length s.start ≡ homes_of s.geometry
-  pub froms_size : length s.froms ≡ s.geometry.queues
+  pub froms_size : length s.starts ≡ s.geometry.queues
   pub newest_is : AreLatest s.start s.base s.history (homes_of s.geometry) newest
   pub settled_is : AreLatest s.start s.base (upto s.front s.history) (homes_of s.geometry) settled
-  pub lanes_size : length lanes ≡ s.geometry.queues
-  pub lanes_are : (q : ℕ) → q < s.geometry.queues → slice_index_or lanes q [] ≡ reverse (rows_of (from_of s q) (own s q))
-  pub ends_are : ends ≡ reverse (ends_of s.froms s.history)
+  pub lanes_size : length queue_rows ≡ s.geometry.queues
+  pub lanes_are : (q : ℕ) → q < s.geometry.queues → slice_index_or queue_rows q [] ≡ reverse (rows_of (from_of s q) (own s q))
+  pub ends_are : ends ≡ reverse (ends_of s.starts s.history)
   pub counts : (q : ℕ) → q < s.geometry.queues → end_of (from_of s q) (own s q) ≤ number_limit
   pub places : (q : ℕ) → q < s.geometry.queues → next (own s q) ≤ 2 ^ 62
 
 abbrev pub ledger_of : Inside → Ledger
-ledger_of l = record { geometry = l.geometry; start = l.start.items; base = l.base; froms = l.froms.items; history = reverse l.history.items; front = l.front }
+ledger_of l = record { geometry = l.geometry; start = l.start.items; base = l.base; starts = l.starts.items; history = reverse l.history.items; front = l.front }
 
 abbrev pub HasTables : Inside → Type 0
-HasTables l = AreTables (ledger_of l) l.newest.items l.settled.items l.lanes.items l.ends.items
+HasTables l = AreTables (ledger_of l) l.newest.items l.settled.items l.queue_rows.items l.ends.items

@@ -5,7 +5,7 @@ ghost use Rattle.mq_blocks.specs.Geometry.{homes_of, zone_of};
 ghost use Rattle.mq_blocks.specs.Journal.{is_among};
 ghost use Rattle.mq_ledger.specs.Form.{IsAscending, HasLists, FitsTogether};
 ghost use Rattle.mq_ledger.specs.History.{blocks_of};
-ghost use Rattle.mq_ledger.specs.Known.{IsTx};
+ghost use Rattle.mq_ledger.specs.KnownJournal.{IsTx};
 ghost use Rattle.mq_ledger.specs.Records.{Every};
 
 use crate::{Content, Tx};

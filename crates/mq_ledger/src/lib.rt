@@ -5,8 +5,8 @@
 mod content;
 mod entry;
 mod form;
-mod lanes;
 mod latest;
+mod queue_rows;
 mod records;
 mod staging;
 #[cfg(test)]
@@ -15,7 +15,7 @@ mod tx;
 
 pub use content::{Blocks, Content, Writes, copy_blocks, copy_content};
 pub use entry::Entry;
-pub use lanes::QueueEnd;
+pub use queue_rows::QueueEnd;
 pub use records::{Ledger, repeated};
 pub use staging::Staged;
 pub use tx::Tx;

@@ -3,7 +3,7 @@ ghost use Rattle.std.specs.Prelude.{◌≡◌, ◌≤◌, ◌<◌, ◌+◌, ◌^
 ghost use Rattle.mq_blocks.specs.Descriptor.{AreRising};
 ghost use Rattle.mq_blocks.specs.Geometry.{homes_of};
 ghost use Rattle.mq_blocks.specs.Journal.{number_limit};
-ghost use Rattle.mq_ledger.specs.Known.{Known, MayDraw};
+ghost use Rattle.mq_ledger.specs.KnownJournal.{KnownJournal, MayDraw};
 ghost use Rattle.mq_ledger.specs.Form.{IsAscending};
 ghost use Rattle.mq_ledger.specs.History.{blocks_of, writes, last, last_logged, map_after, upto, AreNumbered, IsAt, IsPart};
 ghost use Rattle.mq_ledger.specs.Items.{end_of, next, below, IsEnd, item_at};
@@ -15,8 +15,8 @@ ghost use Rattle.mq_ledger.specs.declared.tx.Tx.{Tx as Record};
 
 use crate::content::copy_blocks;
 use crate::form::{is_listed, is_transaction};
-use crate::lanes::{Lane, QueueEnd, Row, add_row};
 use crate::latest::{Latest, Place, find, mark, numbered};
+use crate::queue_rows::{QueueEnd, QueueRows, Row, add_row};
 use crate::staging::{Staged, stage_entry};
 use crate::{Content, Tx};
 use mq_blocks::{BlockNo, Geometry, OutOfMemory, QueueNo, TxNo};
@@ -34,14 +34,14 @@ pub struct Ledger {
     geometry: Geometry,
     start: Vec<Option<Content>>,
     base: u64,
-    froms: Vec<u64>,
+    starts: Vec<u64>,
     history: Vec<Tx>,
     /// The count behind each transaction's entries.
     ends: Vec<u64>,
     front: u64,
     newest: Vec<Latest>,
     settled: Vec<Latest>,
-    lanes: Vec<Lane>,
+    queue_rows: Vec<QueueRows>,
 }
 
 impl Model for Ledger {
@@ -62,14 +62,14 @@ pub fn repeated(alloc: Global, number: u64, times: usize) -> Result<Vec<u64>, Ou
     Ok(vec![in alloc; number; times]?)
 }
 
-fn empty_lanes(alloc: Global, queues: usize) -> Result<Vec<Lane>, OutOfMemory>
+fn empty_queue_rows(alloc: Global, queues: usize) -> Result<Vec<QueueRows>, OutOfMemory>
     ensures { IfOk result (λ v. v.items ≡ replicate queues []) }
 {
-    let mut lanes = Vec::new(alloc);
+    let mut queue_rows = Vec::new(alloc);
     for _ in 0..queues {
-        lanes.push(Lane::new(alloc))?;
+        queue_rows.push(QueueRows::new(alloc))?;
     }
-    Ok(lanes)
+    Ok(queue_rows)
 }
 
 /// The row of a transaction behind another's.
@@ -113,13 +113,13 @@ impl Ledger {
             geometry,
             start: copy_blocks(alloc, blocks)?,
             base: base.0,
-            froms: repeated(alloc, 0, queues)?,
+            starts: repeated(alloc, 0, queues)?,
             history: Vec::new(alloc),
             ends: Vec::new(alloc),
             front: base.0,
             newest: vec![in alloc; latest; homes]?,
             settled: vec![in alloc; latest; homes]?,
-            lanes: empty_lanes(alloc, queues)?,
+            queue_rows: empty_queue_rows(alloc, queues)?,
         })
     }
 
@@ -281,7 +281,7 @@ impl Ledger {
     }
 
     /// Takes one more transaction as done.
-    pub fn settle(&mut self)
+    pub fn advance_front(&mut self)
         requires { self.old.front < self.old.base + length self.old.history }
         ensures { self.new ≡ settle_next self.old }
     {
@@ -299,7 +299,7 @@ impl Ledger {
         let row = row_after(self.row(tx.queue), &tx);
         self.history.reserve(1)?;
         self.ends.reserve(1)?;
-        add_row(&mut self.lanes, tx.queue, row)?;
+        add_row(&mut self.queue_rows, tx.queue, row)?;
         mark(&mut self.newest, &tx);
         self.ends.push(row.end)?;
         self.history.push(tx)?;
@@ -308,7 +308,7 @@ impl Ledger {
 
     /// Whether the history allows that a transaction follows it, where this number is the flushed base.
     pub fn may_draw(&self, tx: &Tx, word: TxNo) -> bool
-        ensures { (k : Known) → IsKnown self.now word k → (IsTrue result ↔ MayDraw k tx.now) }
+        ensures { (k : KnownJournal) → IsKnown self.now word k → (IsTrue result ↔ MayDraw k tx.now) }
     {
         is_transaction(self.geometry, tx)
             && self.is_next(tx.number)
@@ -339,26 +339,26 @@ impl Ledger {
         ensures counts { end_of (from_of self.now queue) (own self.now queue) ≤ number_limit }
         ensures places { next (own self.now queue) ≤ 2 ^ 62 }
     {
-        self.lanes[queue.0 as usize].len()
+        self.queue_rows[queue.0 as usize].len()
     }
 
     /// The row before a place of a queue.
     fn row_at(&self, queue: QueueNo, at: usize) -> Row
         requires queue { queue < self.now.geometry.queues }
         requires at { at ≤ length (own self.now queue) }
-        ensures { (us : List Record) → IsPart us (own self.now queue) → length us ≡ at → result ≡ row_of (from_of self.now queue) us }
+        ensures { (txs : List Record) → IsPart txs (own self.now queue) → length txs ≡ at → result ≡ row_of (from_of self.now queue) txs }
     {
-        let from = self.froms[queue.0 as usize];
-        self.lanes[queue.0 as usize].before(from, at)
+        let from = self.starts[queue.0 as usize];
+        self.queue_rows[queue.0 as usize].before(from, at)
     }
 
     /// The number of the transaction at a place of a queue.
     fn number_at(&self, queue: QueueNo, at: usize) -> u64
         requires queue { queue < self.now.geometry.queues }
         requires at { at < length (own self.now queue) }
-        ensures { (t : Record) (us : List Record) → IsAt t us (own self.now queue) → length us ≡ at → result ≡ t.number }
+        ensures { (t : Record) (txs : List Record) → IsAt t txs (own self.now queue) → length txs ≡ at → result ≡ t.number }
     {
-        self.lanes[queue.0 as usize].number(at)
+        self.queue_rows[queue.0 as usize].number(at)
     }
 
     /// How many of a queue's transactions end at or before a count.
@@ -368,7 +368,7 @@ impl Ledger {
         ensures numbers { AreNumbered self.now.base self.now.history }
         ensures bound { result ≤ length (own self.now queue) }
     {
-        self.lanes[queue.0 as usize].ended(count)
+        self.queue_rows[queue.0 as usize].ended(count)
     }
 
     /// How many of a queue's transactions have a number up to this one.
@@ -377,7 +377,7 @@ impl Ledger {
         ensures is { result ≡ length (upto number (own self.now queue)) }
         ensures bound { result ≤ length (own self.now queue) }
     {
-        self.lanes[queue.0 as usize].up_to(number)
+        self.queue_rows[queue.0 as usize].up_to(number)
     }
 
     /// The row behind all transactions of a queue.

@@ -3,13 +3,13 @@ ghost use Rattle.std.specs.Prelude.{◌≡◌, ◌<◌, ◌≤◌, ◌+◌, ◌^
 ghost use Rattle.mq_blocks.specs.Descriptor.{descriptor_bytes};
 ghost use Rattle.mq_ledger.specs.History.{blocks_of, writes};
 ghost use Rattle.mq_ledger.specs.Items.{item_of, descriptor_for};
-ghost use Rattle.mq_ledger.specs.Known.{IsTx};
+ghost use Rattle.mq_ledger.specs.KnownJournal.{IsTx};
 ghost use Rattle.mq_ledger.specs.Plain.{plain_entry};
 ghost use Rattle.mq_ledger.specs.Staged.{IsStaged, IsBehind};
 ghost use Rattle.mq_ledger.specs.declared.tx.Tx.{Tx as Record};
 
 use crate::content::copy_content;
-use crate::lanes::Row;
+use crate::queue_rows::Row;
 use crate::{Content, Entry, Tx};
 use mq_area::{Descriptor, write_descriptor};
 use mq_blocks::{Block, BlockNo, Geometry, Lba, OutOfMemory, TxNo};
@@ -59,7 +59,7 @@ fn logged_blocks(alloc: Global, writes: &[(BlockNo, Content)]) -> Result<Vec<Blo
 fn describe(alloc: Global, geometry: Geometry, tx: &Tx, before: Row) -> Result<Content, OutOfMemory>
     requires form { IsTx geometry tx.now }
     requires places { before.next + length tx.now.logged < 2 ^ 62 }
-    ensures { IfOk result (λ c. (us : List Record) → IsBehind before us → c ≡ descriptor_bytes (descriptor_for tx.now us)) }
+    ensures { IfOk result (λ c. (txs : List Record) → IsBehind before txs → c ≡ descriptor_bytes (descriptor_for tx.now txs)) }
 {
     let logged = logged_blocks(alloc, tx.logged.as_slice())?;
     let descriptor = Descriptor {
@@ -88,7 +88,7 @@ pub fn stage_entry(
     requires form { IsTx geometry tx.now }
     requires places { before.next + length tx.now.logged < 2 ^ 62 }
     requires index { index ≤ writes tx.now }
-    ensures { IfOk result (λ s. (us : List Record) → IsBehind before us → IsStaged geometry tx.now.queue (item_of tx.now us index) s) }
+    ensures { IfOk result (λ s. (txs : List Record) → IsBehind before txs → IsStaged geometry tx.now.queue (item_of tx.now txs index) s) }
 {
     let logged = tx.logged.as_slice();
     let direct = tx.direct.as_slice();

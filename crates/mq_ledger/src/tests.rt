@@ -74,11 +74,11 @@ fn draw(ledger: &mut Ledger, tx: Tx, word: u64) -> Result<bool, OutOfMemory> {
     Ok(true)
 }
 
-fn settle(ledger: &mut Ledger) -> bool {
+fn advance_front(ledger: &mut Ledger) -> bool {
     if ledger.front().0 == ledger.last().0 {
         return false;
     }
-    ledger.settle();
+    ledger.advance_front();
     true
 }
 
@@ -162,15 +162,15 @@ fn tables_follow_the_history(rt: HostRuntime) -> Result<(), OutOfMemory> {
     assert_eq!(rt; seen(&ledger, 4), [3, 3, 7, 1, 3, 7]);
     assert_eq!(rt; seen(&ledger, 5), [6, 4, 0, 0, 3, 0]);
     assert_eq!(rt; seen(&ledger, 6), [5, 3, 26, 0, 3, 0]);
-    assert!(rt; settle(&mut ledger));
+    assert!(rt; advance_front(&mut ledger));
     assert_eq!(rt; seen(&ledger, 1), [5, 5, 21, 1, 4, 11]);
     assert_eq!(rt; seen(&ledger, 5), [6, 4, 0, 0, 4, 15]);
-    assert!(rt; settle(&mut ledger));
+    assert!(rt; advance_front(&mut ledger));
     assert_eq!(rt; seen(&ledger, 1), [5, 5, 21, 1, 5, 21]);
     assert_eq!(rt; seen(&ledger, 6), [5, 3, 26, 0, 5, 26]);
-    assert!(rt; settle(&mut ledger));
+    assert!(rt; advance_front(&mut ledger));
     assert_eq!(rt; seen(&ledger, 5), [6, 4, 0, 0, 6, 0]);
-    assert!(rt; !settle(&mut ledger));
+    assert!(rt; !advance_front(&mut ledger));
     Ok(())
 }
 
@@ -212,10 +212,10 @@ fn a_freed_block_is_written_directly(rt: HostRuntime) -> Result<(), OutOfMemory>
     revoking.revoked = blocks(alloc, &[5])?;
     // the last change of block 5 has number 6, and its last copy number 4
     assert!(rt; !ledger.may_draw(&revoking, TxNo(3)));
-    assert!(rt; settle(&mut ledger));
-    assert!(rt; settle(&mut ledger));
+    assert!(rt; advance_front(&mut ledger));
+    assert!(rt; advance_front(&mut ledger));
     assert!(rt; !ledger.may_draw(&revoking, TxNo(3)));
-    assert!(rt; settle(&mut ledger));
+    assert!(rt; advance_front(&mut ledger));
     assert!(rt; !ledger.may_draw(&bare, TxNo(3)));
     assert!(rt; ledger.may_draw(&bare, TxNo(4)));
     assert!(rt; ledger.may_draw(&revoking, TxNo(3)));

@@ -16,7 +16,7 @@ use Rattle.std.proofs.lemmas.Option.{slice_get_past}
 use Rattle.std.proofs.lemmas.List.Folds.{find_at, find-set, find-append}
 use Rattle.std.proofs.lemmas.List.Quantifiers.{position-Some}
 use Rattle.std.proofs.lemmas.List.{take-take, take-append-drop, drop-take}
-use Rattle.mq_outside.specs.Outside.{Held, appended, held_in, is_named, put_held, sure_in}
+use Rattle.mq_outside.specs.Outside.{Held, appended, held_in, is_named, put_held, certain_in}
 
 -- a prefix and the first bytes of the rest are a longer prefix
 pub take-drop-take : (a n : ℕ) (bytes : List ℕ) → take a bytes ++ take n (drop a bytes) ≡ take (a + n) bytes
@@ -139,16 +139,16 @@ held_in-push {Y} entries name bytes entry absent has copied =
     ]
 
 -- bytes that are put are put too where an absent name holds no bytes
-pub sure_in-put : {Y : Type 0} (old new : List (String Y × Vec ℕ Y)) (name bytes : List ℕ)
-    → held_in new ≡ put_held (held_in old) name bytes → sure_in new ≡ put_held (sure_in old) name bytes
-sure_in-put {Y} old new name bytes puts =
+pub certain_in-put : {Y : Type 0} (old new : List (String Y × Vec ℕ Y)) (name bytes : List ℕ)
+    → held_in new ≡ put_held (held_in old) name bytes → certain_in new ≡ put_held (certain_in old) name bytes
+certain_in-put {Y} old new name bytes puts =
     fun_ext λ other.
     ap (λ (held : Held). Some (unwrap_or (held other) [])) puts
     ∙ elim (cases_Bool (bytes_eq other name)) [
       | inl same ↦
           ap (λ held. Some (unwrap_or held [])) (put_held-same (held_in old) name bytes other same)
-          ∙ sym (put_held-same (sure_in old) name bytes other same)
+          ∙ sym (put_held-same (certain_in old) name bytes other same)
       | inr apart ↦
           ap (λ held. Some (unwrap_or held [])) (put_held-other (held_in old) name bytes other apart)
-          ∙ sym (put_held-other (sure_in old) name bytes other apart)
+          ∙ sym (put_held-other (certain_in old) name bytes other apart)
     ]

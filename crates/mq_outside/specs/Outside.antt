@@ -125,5 +125,5 @@ CopyRefused load.TooLong bytes = load_limit < length bytes
 CopyRefused load.OutOfMemory bytes = length bytes ≤ load_limit
 
 -- what a list of names and bytes holds where an absent name holds no bytes
-abbrev pub sure_in : {Y : Type 0} → List (String Y × Vec ℕ Y) → Held
-sure_in entries name = Some (unwrap_or (held_in entries name) [])
+abbrev pub certain_in : {Y : Type 0} → List (String Y × Vec ℕ Y) → Held
+certain_in entries name = Some (unwrap_or (held_in entries name) [])

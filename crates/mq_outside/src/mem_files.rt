@@ -2,7 +2,7 @@
 ghost use Rattle.std.specs.Prelude.{◌≡◌, ◌≢◌, ◌+◌, ◌≤◌, ◌↔◌, ◌⊎◌, ◌==◌, true, [], length, min, None, Some, IfOk, IsErrOf, MatchResult};
 ghost use Rattle.std.specs.List.{list_any};
 ghost use Rattle.std.specs.Option.{option_map};
-ghost use Rattle.mq_outside.specs.Outside.{CopyRefused, Holds, LoadCause, LoadRefused, LoadTakes, SaveCause, Saves, count_end, Tells, held_in, load_limit, sure_in};
+ghost use Rattle.mq_outside.specs.Outside.{CopyRefused, Holds, LoadCause, LoadRefused, LoadTakes, SaveCause, Saves, count_end, Tells, held_in, load_limit, certain_in};
 
 use super::counts::Schedule;
 use super::names;
@@ -143,7 +143,7 @@ impl Files for SureFiles {
 
     ghost taken = { λ f. f.taken };
 
-    ghost told = { λ f. Some (sure_in f.entries.items) };
+    ghost told = { λ f. Some (certain_in f.entries.items) };
 
     fn load(&mut self, alloc: Global, name: &str) -> Result<Vec<u8>, LoadRefusal> {
         let bytes = names::held(self.entries.as_slice(), name).unwrap_or(&[]);

@@ -52,9 +52,9 @@ fn sinks_take_pieces_of_64(rt: HostRuntime) -> Result<(), AllocError> {
     assert!(rt; sink.put(&[8; 64]) == Ok(64));
     assert!(rt; sink.put(&[9; 3]) == Ok(3));
     assert_eq!(rt; sink.written().len(), 131);
-    let mut sure = SureSink::new(alloc);
-    assert!(rt; put_all(&mut sure, &[5; 200]).is_ok());
-    assert!(rt; sure.written() == [5; 200].as_slice());
+    let mut certain = SureSink::new(alloc);
+    assert!(rt; put_all(&mut certain, &[5; 200]).is_ok());
+    assert!(rt; certain.written() == [5; 200].as_slice());
     Ok(())
 }
 

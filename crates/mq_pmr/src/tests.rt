@@ -1,6 +1,6 @@
 // A queue over a port in memory, and over one that refuses a call.
 ghost use Rattle.std.specs.Prelude.{◌≡◌, ◌<◌, ◌≤◌, ◌+◌, ◌-◌, ◌^◌, ℕ, [], length, IfOk, IsSome, Some, true};
-ghost use Rattle.mq_blocks.specs.Drive.{PortState, IsQuiet, staged_end};
+ghost use Rattle.mq_blocks.specs.Drive.{PortState, IsQuiescent, staged_end};
 ghost use Rattle.mq_blocks.specs.Geometry.{queues_of, area_of, meta_of, zone_size};
 ghost use Rattle.mq_drive.specs.Emu.{emu_state};
 ghost use Rattle.mq_drive.specs.Seats.{name_of, fuse_of, tickets_of};
@@ -63,7 +63,7 @@ fn emulated<'f>(
     requires area { area_of geometry ≡ 1024 }
     requires zone { zone_size geometry ≡ 240 }
     ensures port { IfOk result (λ p. IsPortOf geometry (Queue 0) (emu_state p)) }
-    ensures quiet { IfOk result (λ p. IsQuiet (emu_state p)) }
+    ensures quiet { IfOk result (λ p. IsQuiescent (emu_state p)) }
     ensures doorbell { IfOk result (λ p. (emu_state p).doorbell ≡ 0) }
     ensures head { IfOk result (λ p. (emu_state p).head ≡ 0) }
 {
@@ -111,7 +111,7 @@ impl<P: Port> Tried<P> {
     fn open(alloc: Global, port: P, geometry: Geometry) -> Result<Tried<P>, P>
         requires area { area_of geometry ≡ 1024 }
         requires port { IsPortOf geometry (Queue 0) (P.state port) }
-        requires quiet { IsQuiet (P.state port) }
+        requires quiet { IsQuiescent (P.state port) }
         requires doorbell { (P.state port).doorbell ≡ 0 }
         requires head { (P.state port).head ≡ 0 }
     {
@@ -196,7 +196,7 @@ impl<P: Port> Tried<P> {
 fn commits_three<P: Port>(alloc: Global, geometry: Geometry, port: P) -> (P, bool)
     requires area { area_of geometry ≡ 1024 }
     requires port { IsPortOf geometry (Queue 0) (P.state port) }
-    requires quiet { IsQuiet (P.state port) }
+    requires quiet { IsQuiescent (P.state port) }
     requires doorbell { (P.state port).doorbell ≡ 0 }
     requires head { (P.state port).head ≡ 0 }
 {
@@ -216,7 +216,7 @@ fn commits_three<P: Port>(alloc: Global, geometry: Geometry, port: P) -> (P, boo
 fn fails_third<P: Port>(alloc: Global, geometry: Geometry, port: P) -> (P, bool)
     requires area { area_of geometry ≡ 1024 }
     requires port { IsPortOf geometry (Queue 0) (P.state port) }
-    requires quiet { IsQuiet (P.state port) }
+    requires quiet { IsQuiescent (P.state port) }
     requires doorbell { (P.state port).doorbell ≡ 0 }
     requires head { (P.state port).head ≡ 0 }
 {
@@ -244,7 +244,7 @@ fn fails_third<P: Port>(alloc: Global, geometry: Geometry, port: P) -> (P, bool)
 fn fills_up<P: Port>(alloc: Global, geometry: Geometry, port: P, again: bool) -> (P, bool)
     requires area { area_of geometry ≡ 1024 }
     requires port { IsPortOf geometry (Queue 0) (P.state port) }
-    requires quiet { IsQuiet (P.state port) }
+    requires quiet { IsQuiescent (P.state port) }
     requires doorbell { (P.state port).doorbell ≡ 0 }
     requires head { (P.state port).head ≡ 0 }
 {

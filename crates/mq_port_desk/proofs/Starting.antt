@@ -4,7 +4,7 @@ use Rattle.std.proofs.lemmas.Bool.{or_cases, or_left, eqb-true, false≢true}
 use Rattle.std.specs.Prelude.{slice_get}
 use lib.ListN.{length-map}
 use Rattle.mq_blocks.specs.Drive.{PortState}
-use Rattle.mq_ledger.specs.Known.{Known, LogOk}
+use Rattle.mq_ledger.specs.KnownJournal.{KnownJournal, LogOk}
 use Rattle.mq_ledger.specs.Plain.{plain}
 use Rattle.mq_ledger.specs.Sides.{SideOk, AreHome}
 use Rattle.mq_ledger.specs.State.{State, Facts, known_of, no_port}
@@ -13,7 +13,7 @@ use Rattle.mq_core.proofs.Runs.{start_facts}
 use Rattle.mq_pages.specs.declared.page.PageCell.{PageCell}
 use Rattle.mq_turns.specs.Chairs.{Starts}
 use Rattle.mq_turns.specs.Meaning.{opened}
-use Rattle.mq_turns.specs.declared.rule.Known.{Known as Shared}
+use Rattle.mq_turns.specs.declared.rule.KnownJournal.{KnownJournal as Shared}
 use Rattle.mq_turns.specs.declared.rule.Opening.{Opening}
 use Rattle.mq_port_desk.specs.Machine.{tx_of, side_of, root_of, shape_of, ports}
 use Rattle.mq_port_desk.specs.Opening.{state_of, IsFresh}
@@ -31,14 +31,14 @@ module _ {P : Type 0} (state : P → PortState) (o : Opening PageCell (QueuePort
   abbrev s : State
   s = state_of state o
 
-  abbrev k : Known
+  abbrev k : KnownJournal
   k = known_of plain s
 
   -- what is known on the desk
   abbrev shown : Shared PageCell (QueuePort P) (RootPort P) Commit
   shown = opened o
 
-  abbrev core : Known
+  abbrev core : KnownJournal
   core = Ports.core_of (side_of state) (root_of state) shape_of tx_of shown
 
   facts : Facts plain s

@@ -5,7 +5,7 @@ use Rattle.std.proofs.lemmas.List.Elements.{All-cons, All-nil}
 use Rattle.mq_blocks.specs.Drive.{PortState}
 use Rattle.mq_blocks.specs.Geometry.{homes_of}
 use Rattle.mq_blocks.specs.Machine.{write_of}
-use Rattle.mq_ledger.specs.Known.{draw_known, Known}
+use Rattle.mq_ledger.specs.KnownJournal.{draw_known, KnownJournal}
 use Rattle.mq_ledger.specs.History.{writes, changes, of_queue, upto, last_logged}
 use Rattle.mq_ledger.specs.Items.{end_of, next}
 use Rattle.mq_ledger.specs.Sides.{SideOk}
@@ -19,7 +19,7 @@ use Rattle.mq_turns.specs.Chairs.{holding}
 use Rattle.mq_turns.specs.Desk.{IsTurn, slot_of, turn_at, Covers, Sees, Stands, Stay, after_draw, refreshed}
 use Rattle.mq_turns.specs.Lists.{Each, times, tick}
 use Rattle.mq_turns.specs.Meaning.{newest, drawn}
-use Rattle.mq_turns.specs.declared.rule.Known.{Known as Shared}
+use Rattle.mq_turns.specs.declared.rule.KnownJournal.{KnownJournal as Shared}
 use Rattle.mq_turns.specs.declared.rule.Opening.{Opening}
 use Rattle.mq_turns.specs.declared.rule.View.{View}
 use Rattle.mq_turns.specs.declared.turn.Turn.{Turn}
@@ -52,7 +52,7 @@ module _ {P : Type 0} (state : P → PortState) where
   abbrev μ : Rattle.mq_turns.specs.Meaning.Meaning PageCell (QueuePort P) (RootPort P) Commit
   μ = ports state
 
-  abbrev core : Shown → Known
+  abbrev core : Shown → KnownJournal
   core = Ports.core_of (side_of state) (root_of state) shape_of tx_of
 
   abbrev next_tx : Commit → Shown → Tx
@@ -150,10 +150,10 @@ module _ {P : Type 0} (state : P → PortState) where
       abbrev t : Tx
       t = next_tx e K
 
-      abbrev us : List Tx
-      us = of_queue e.queue (core K).history
+      abbrev txs : List Tx
+      txs = of_queue e.queue (core K).history
 
-      own : of_queue e.queue (t ∷ (core K).history) ≡ t ∷ us
+      own : of_queue e.queue (t ∷ (core K).history) ≡ t ∷ txs
       own = of_queue-own e.queue t (core K).history refl
 
       module _ (may : μ.may e K) where
@@ -165,7 +165,7 @@ module _ {P : Type 0} (state : P → PortState) where
           now = μ.side_along e.queue K2 K w known.0.1 known.0.0 sees.ok was
 
           -- the entries of the transaction are its own copy and its descriptor
-          fits : events.HasRoom (core K).geometry ((core K).from e.queue) K.word us t (state w.port)
+          fits : events.HasRoom (core K).geometry ((core K).from e.queue) K.word txs t (state w.port)
           fits =
               let side = now in
               let order = side.port.order in
@@ -178,7 +178,7 @@ module _ {P : Type 0} (state : P → PortState) where
               let limit = room.limit in
               let area = room.area in
               let places = room.places in
-              let rung : (state w.port).doorbell ≡ end_of ((core K).from e.queue) us = room.rung ∙ side.end in
+              let rung : (state w.port).doorbell ≡ end_of ((core K).from e.queue) txs = room.rung ∙ side.end in
               let two : writes t + 1 ≡ 2 = refl in
               let one : length t.logged ≡ 1 = refl in
               let staged = order.drawn in
@@ -197,8 +197,8 @@ module _ {P : Type 0} (state : P → PortState) where
           port_now =
               let side = now in
               let new : (core K).done t (core K).history ≡ false = unclaimed (newest K) K.claims t sees.ok.claims (omega arith) in
-              let as_drawn = side_drawn (core K) t sees.ok.log may.number new e.queue us (state w.port) side.port in
-              subst (λ vs. SideOk (core (drawn e K)) e.queue vs (state w.port)) (sym own) (side_extends (draw_known t (core K)) e.queue t us (state w.port) ([], own) above as_drawn fits)
+              let as_drawn = side_drawn (core K) t sees.ok.log may.number new e.queue txs (state w.port) side.port in
+              subst (λ vs. SideOk (core (drawn e K)) e.queue vs (state w.port)) (sym own) (side_extends (draw_known t (core K)) e.queue t txs (state w.port) ([], own) above as_drawn fits)
 
           own_side : μ.side e.queue (drawn e K) (record w { end = w.end + 2; place = w.place + 2 })
           own_side =
@@ -207,7 +207,7 @@ module _ {P : Type 0} (state : P → PortState) where
               let b = side.place in
               let end = ap (end_of ((core K).from e.queue)) own in
               let place = ap next own in
-              let floor : next (upto K.word (of_queue e.queue (t ∷ (core K).history))) ≡ next (upto K.word us) = ap (λ vs. next (upto K.word vs)) own ∙ ap next (upto-past K.word t us above) in
+              let floor : next (upto K.word (of_queue e.queue (t ∷ (core K).history))) ≡ next (upto K.word txs) = ap (λ vs. next (upto K.word vs)) own ∙ ap next (upto-past K.word t txs above) in
               let c = side.floor in
               record {
                 port = port_now;

@@ -7,7 +7,7 @@ use Rattle.mq_blocks.specs.Journal.{is_among}
 use Rattle.mq_blocks.specs.Machine.{Map, Writes, write_of}
 use Rattle.mq_ledger.specs.History.{blocks_of, writes, changes, map_after, last, last_logged, upto, of_queue, part_of, all_of, AreNumbered, IsAt}
 use Rattle.mq_ledger.specs.Items.{end_of}
-use Rattle.mq_ledger.specs.Known.{Known, LogOk, front}
+use Rattle.mq_ledger.specs.KnownJournal.{KnownJournal, LogOk, front}
 use Rattle.mq_ledger.specs.Sides.{AreHome, SideOk, RootOk}
 use Rattle.mq_ledger.specs.declared.tx.Tx.{Tx}
 use Rattle.mq_ledger.proofs.Values.{upto-past, last_upto_more, last-same, unchanged, unwritten, changes_logged, changes_direct}
@@ -20,7 +20,7 @@ use Rattle.mq_port_desk.specs.Ports.{last_direct}
 
 abbrev pub Among : List Tx → Tx → Type 0
 Among [] t = ⊥
-Among (u ∷ us) t = (u ≡ t) ⊎ Among us t
+Among (u ∷ txs) t = (u ≡ t) ⊎ Among txs t
 
 part_longer : (w : Tx → List Tx → Bool) (newer h : List Tx) → length (part_of w h) ≤ length (part_of w (newer ++ h))
 part_longer w [] h = omega arith
@@ -35,22 +35,22 @@ upto_newer_all base f (t ∷ ns) h n l = upto-past f t (ns ++ h) (omega (arith, 
 
 at_newer : (t : Tx) (ts newer h : List Tx) → IsAt t ts (newer ++ h) → Among newer t ⊎ IsAt t ts h
 at_newer t ts [] h at = inr at
-at_newer t ts (u ∷ us) h (inl same) = inl (inl same.0)
-at_newer t ts (u ∷ us) h (inr deeper) = elim (at_newer t ts us h deeper) [
+at_newer t ts (u ∷ txs) h (inl same) = inl (inl same.0)
+at_newer t ts (u ∷ txs) h (inr deeper) = elim (at_newer t ts txs h deeper) [
   | inl a ↦ inl (inr a)
   | inr a ↦ inr a
 ]
 
 at_later : (t : Tx) (ts newer h : List Tx) → IsAt t ts h → IsAt t ts (newer ++ h)
 at_later t ts [] h at = at
-at_later t ts (u ∷ us) h at = inr (at_later t ts us h at)
+at_later t ts (u ∷ txs) h at = inr (at_later t ts txs h at)
 
 pub queue_newer : (q : ℕ) (newer h : List Tx) → ((t : Tx) → Among newer t → t.queue ≢ q) → of_queue q (newer ++ h) ≡ of_queue q h
 queue_newer q [] h apart = refl
 queue_newer q (t ∷ ns) h apart = of_queue-other q t (ns ++ h) (apart t (inl refl)) ∙ queue_newer q ns h (λ u a. apart u (inr a))
 
-module _ (k : Known) (newer : List Tx) (done : Tx → List Tx → Bool) (due : ℕ → ℕ → Bool) (word : ℕ) where
-  abbrev pub later : Known
+module _ (k : KnownJournal) (newer : List Tx) (done : Tx → List Tx → Bool) (due : ℕ → ℕ → Bool) (word : ℕ) where
+  abbrev pub later : KnownJournal
   later = moved_to k (newer ++ k.history) done due word
 
   module _ (log : LogOk k) (then : LogOk later) (more : DoneMore k.done done) (above : k.word ≤ word) where
@@ -71,17 +71,17 @@ module _ (k : Known) (newer : List Tx) (done : Tx → List Tx → Bool) (due : �
     pub side_later : (q : ℕ) (p : PortState) → ((t : Tx) → Among newer t → t.queue ≢ q) → ((t : Tx) (ts : List Tx) → t.queue ≡ q → done t ts ≡ true → k.done t ts ≡ true) → ((x v : ℕ) → zone_of k.geometry x ≡ Some q → due x v ≡ true → k.due x v ≡ true)
         → SideOk k q (of_queue q k.history) p → SideOk later q (of_queue q k.history) p
     side_later q p apart known same s =
-        let us : List Tx = of_queue q k.history in
+        let txs : List Tx = of_queue q k.history in
         let ended : (t : Tx) (ts : List Tx) → IsAt t ts (newer ++ k.history) → t.queue ≡ q → done t ts ≡ true → end_of (k.from q) (of_queue q ts) + (writes t + 1) ≤ p.head = λ t ts at own d. elim (at_newer t ts newer k.history at) [
           | inl new ↦ absurd (apart t new own)
           | inr old ↦ s.done t ts old own (known t ts own d)
         ] in
         let order = s.order in
-        side_moved k q us p (newer ++ k.history) done due word s (record {
+        side_moved k q txs p (newer ++ k.history) done due word s (record {
           part = ([], queue_newer q newer k.history apart);
-          fits = omega (arith, s.area.fits, next_upto_more k.word word us above);
-          low = omega (arith, total_upto_more k.word word us above);
-          based = covered (k.from q) p.head word us order.head_low (λ t ws at low.
+          fits = omega (arith, s.area.fits, next_upto_more k.word word txs above);
+          low = omega (arith, total_upto_more k.word word txs above);
+          based = covered (k.from q) p.head word txs order.head_low (λ t ws at low.
               let f = FromQueue-of q t ws k.history at in
               let there = at_later t f.ts newer k.history f.at in
               let reached = then.word_high in

@@ -6,7 +6,7 @@ use Rattle.mq_blocks.specs.Geometry.{zone_of}
 use Rattle.mq_blocks.specs.declared.geometry.Geometry.{Geometry}
 use Rattle.mq_ledger.specs.History.{changes, of_queue, upto}
 use Rattle.mq_ledger.specs.Items.{end_of, next}
-use Rattle.mq_ledger.specs.Known.{Known, LogOk}
+use Rattle.mq_ledger.specs.KnownJournal.{KnownJournal, LogOk}
 use Rattle.mq_ledger.specs.Plain.{plain}
 use Rattle.mq_ledger.specs.Sides.{SideOk, RootOk}
 use Rattle.mq_ledger.specs.declared.tx.Tx.{Tx}
@@ -16,7 +16,7 @@ use Rattle.mq_core.proofs.Growth.{log_drawn}
 use Rattle.mq_pages.specs.declared.page.PageCell.{PageCell}
 use Rattle.mq_turns.specs.Lists.{Each}
 use Rattle.mq_turns.specs.Meaning.{Stays, Apart, newest, drawn}
-use Rattle.mq_turns.specs.declared.rule.Known.{Known as Shared}
+use Rattle.mq_turns.specs.declared.rule.KnownJournal.{KnownJournal as Shared}
 use Rattle.mq_turns.specs.declared.turn.Turn.{Turn}
 use Rattle.mq_turns.specs.declared.turn.Turn.TheVariants.{Page, Side, Root}
 use Rattle.mq_turns.proofs.Totals.{each_map}
@@ -67,7 +67,7 @@ module _ {Q R E : Type 0} (side : Q → SideView) (root : R → PortState) (geom
   abbrev Desk : Type 0
   Desk = Shared PageCell Q R E
 
-  abbrev core : Desk → Known
+  abbrev core : Desk → KnownJournal
   core = Ports.core_of side root geometry tx
 
   abbrev hist : ℕ → List E → List Tx
@@ -95,12 +95,12 @@ module _ {Q R E : Type 0} (side : Q → SideView) (root : R → PortState) (geom
     newer = newer_txs K.opening.base s.grows.newer K.log
 
     abbrev done : Tx → List Tx → Bool
-    done u us = is_claimed L.claims u
+    done u txs = is_claimed L.claims u
 
     abbrev due : ℕ → ℕ → Bool
     due x v = eqb v K.opening.base || is_ended L.ended x v
 
-    abbrev then : Known
+    abbrev then : KnownJournal
     then = later (core K) newer done due L.word
 
     history_grows : hist L.opening.base L.log ≡ newer ++ hist K.opening.base K.log
@@ -120,7 +120,7 @@ module _ {Q R E : Type 0} (side : Q → SideView) (root : R → PortState) (geom
     }
 
     more : DoneMore (core K).done done
-    more = record { each = λ u us e. ap (λ cs. is_claimed cs u) s.grows.claims ∙ claimed_more s.grows.claimed K.claims u e }
+    more = record { each = λ u txs e. ap (λ cs. is_claimed cs u) s.grows.claims ∙ claimed_more s.grows.claimed K.claims u e }
 
     due_apart : (x v : ℕ) → Each (λ h. h.0 ≢ x) s.grows.written → due x v ≡ true → (core K).due x v ≡ true
     due_apart x v apart e = elim (or_cases (eqb v K.opening.base) (is_ended L.ended x v) e) [
@@ -168,20 +168,20 @@ module _ {Q R E : Type 0} (side : Q → SideView) (root : R → PortState) (geom
       let o = s.grows.opening in
       let h = history_grows (Side q) K L s in
       let core_is = core_grows (Side q) K L s in
-      let us : List Tx = of_queue q (hist K.opening.base K.log) in
+      let txs : List Tx = of_queue q (hist K.opening.base K.log) in
       let apart = apart_side q K.opening.base s.grows.newer K.log s.apart in
-      let same : of_queue q (hist L.opening.base L.log) ≡ us = ap (of_queue q) h ∙ queue_newer q (newer (Side q) K L s) (hist K.opening.base K.log) apart in
+      let same : of_queue q (hist L.opening.base L.log) ≡ txs = ap (of_queue q) h ∙ queue_newer q (newer (Side q) K L s) (hist K.opening.base K.log) apart in
       let log : LogOk (then (Side q) K L s) = subst LogOk core_is l.log in
       let port = side_later (core K) (newer (Side q) K L s) (done (Side q) K L s) (due (Side q) K L s) L.word k.log log (more (Side q) K L s) s.grows.word q (side w).port apart
-      (λ u us own e. claimed_apart q s.grows.claimed K.claims u s.claims own (ap (λ cs. is_claimed cs u) (sym s.grows.claims) ∙ e))
+      (λ u txs own e. claimed_apart q s.grows.claimed K.claims u s.claims own (ap (λ cs. is_claimed cs u) (sym s.grows.claims) ∙ e))
       (λ x v zone e. due_apart (Side q) K L s x v (each_map _ _ (λ h n. not_home (geometry K.opening.root) (Some q) x zone h n) s.grows.written s.ended) e) is.port in
-      let F : Known × List Tx → Type 0 = λ z. SideOk z.0 q z.1 (side w).port in
+      let F : KnownJournal × List Tx → Type 0 = λ z. SideOk z.0 q z.1 (side w).port in
       record {
         port = subst F (λ i. (sym core_is i, sym same i)) port;
         end = is.end ∙ (λ i. end_of (from_of side root geometry tx (sym o i) q) (sym same i));
         place = is.place ∙ ap next (sym same);
         low = is.low;
-        floor = let wider = next_upto_more K.word L.word us s.grows.word in let was = is.floor in let now : next (upto L.word (of_queue q (hist L.opening.base L.log))) ≡ next (upto L.word us) = ap (λ vs. next (upto L.word vs)) same in omega arith;
+        floor = let wider = next_upto_more K.word L.word txs s.grows.word in let was = is.floor in let now : next (upto L.word (of_queue q (hist L.opening.base L.log))) ≡ next (upto L.word txs) = ap (λ vs. next (upto L.word vs)) same in omega arith;
         sound = is.sound;
         area = is.area ∙ ap (λ p. (geometry p.root).area) (sym o);
       }

@@ -15,12 +15,12 @@ module _ {P : Type 0} (state : P → PortState) where
     geometry = o.root.geometry;
     start = map (λ c. c.content) o.pages;
     base = o.base;
-    froms = map (λ w. (state w.port).doorbell) o.sides;
+    starts = map (λ w. (state w.port).doorbell) o.sides;
     history = [];
     ports = map (λ w. state w.port) o.sides;
     root = state o.root.port;
     marks = map (λ w. 2 ^ 64 - 1) o.sides;
-    under = [];
+    writing = [];
     acknowledged = [];
   }
 

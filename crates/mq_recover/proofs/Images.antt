@@ -18,7 +18,7 @@ use Rattle.mq_recover.specs.Recover.{IsSeenAt, AreFalling}
 use Rattle.mq_recover.specs.Recovery.{IsRead}
 use Rattle.mq_recover.specs.Refusals.{IsReadable, AreReadable, HasNumber, IsTwice, RefusesQueue, RefusesSome, RefusesTwice, RefusesImage}
 use Rattle.mq_recover.specs.declared.copies.Copies.{Copies}
-use Rattle.mq_recover.specs.declared.copies.Spot.{Spot}
+use Rattle.mq_recover.specs.declared.copies.CopyPlace.{CopyPlace}
 use Rattle.mq_recover.specs.declared.plan.Found.{Found}
 use Rattle.mq_recover.specs.declared.plan.QueuesRead.{QueuesRead}
 use Rattle.mq_recover.specs.declared.refusal.ChainRefusal.{ChainRefusal}
@@ -94,7 +94,7 @@ found-in g d base read c found base_is limit are p items prefix_is top_is = reco
   ds = p.ds;
   read = subst (IsRead g (view_over g d) p.ds) (sym top_is) (image-read g d read base c base_is limit are p);
   whole = ap length items ∙ p.whole;
-  places_are = λ x. ap (λ (l : List (Option Spot)). get_or l x None) items ∙ p.places_are x;
+  places_are = λ x. ap (λ (l : List (Option CopyPlace)). get_or l x None) items ∙ p.places_are x;
   prefix_is = prefix_is ∙ p.prefix_is;
 }
 

@@ -11,7 +11,7 @@ use Rattle.mq_recover.specs.Recover.{content_of, IsSpotOf}
 use Rattle.mq_recover.specs.Recovery.{IsRead}
 use Rattle.mq_recover.specs.RecoverHomes.{writes_from, written}
 use Rattle.mq_recover.specs.Steps.{AreHomeWrites}
-use Rattle.mq_recover.specs.declared.copies.Spot.{Spot}
+use Rattle.mq_recover.specs.declared.copies.CopyPlace.{CopyPlace}
 use Rattle.mq_recover.specs.declared.plan.Found.{Found}
 use Rattle.mq_recover.specs.declared.plan.Plan.{Plan}
 use Rattle.mq_recover.specs.declared.plan.Recovered.{Recovered}
@@ -19,26 +19,26 @@ use Rattle.mq_recover.proofs.RecoverCopies.{copy-within}
 
 -- ---- the writes of copies
 
-pub writes-some : (area : ℕ → ℕ → List ℕ) (size b : ℕ) (spot : Spot) (copies : List (Option Spot)) (d : Option Spot) (writes more : Writes) (block : List ℕ) → b < length copies → get_or copies b d ≡ Some spot
+pub writes-some : (area : ℕ → ℕ → List ℕ) (size b : ℕ) (spot : CopyPlace) (copies : List (Option CopyPlace)) (d : Option CopyPlace) (writes more : Writes) (block : List ℕ) → b < length copies → get_or copies b d ≡ Some spot
     → block ≡ area spot.queue (spot.place % size) → more ≡ writes ++ (b, block) ∷ [] → more ++ writes_from area size (b + 1) (drop (b + 1) copies) ≡ writes ++ writes_from area size b (drop b copies)
 writes-some area size b spot copies d writes more block within is content_is more_is =
     ap (λ (n : ℕ). more ++ writes_from area size (b + 1) (drop n copies)) (add-one b)
     ∙ ap (λ (l : Writes). l ++ writes_from area size (b + 1) (drop (suc b) copies)) more_is
     ∙ append_assoc writes ((b, block) ∷ []) (writes_from area size (b + 1) (drop (suc b) copies))
     ∙ ap (λ (l : List ℕ). writes ++ (b, l) ∷ writes_from area size (b + 1) (drop (suc b) copies)) content_is
-    ∙ ap (λ (o : Option Spot). writes ++ writes_from area size b (o ∷ drop (suc b) copies)) (sym is)
-    ∙ ap (λ (l : List (Option Spot)). writes ++ writes_from area size b l) (sym (drop-cons copies b d within))
+    ∙ ap (λ (o : Option CopyPlace). writes ++ writes_from area size b (o ∷ drop (suc b) copies)) (sym is)
+    ∙ ap (λ (l : List (Option CopyPlace)). writes ++ writes_from area size b l) (sym (drop-cons copies b d within))
 
-pub writes-none : (area : ℕ → ℕ → List ℕ) (size b : ℕ) (copies : List (Option Spot)) (d : Option Spot) (writes more : Writes) → b < length copies → get_or copies b d ≡ None → more ≡ writes
+pub writes-none : (area : ℕ → ℕ → List ℕ) (size b : ℕ) (copies : List (Option CopyPlace)) (d : Option CopyPlace) (writes more : Writes) → b < length copies → get_or copies b d ≡ None → more ≡ writes
     → more ++ writes_from area size (b + 1) (drop (b + 1) copies) ≡ writes ++ writes_from area size b (drop b copies)
 writes-none area size b copies d writes more within is more_is =
     ap (λ (n : ℕ). more ++ writes_from area size (b + 1) (drop n copies)) (add-one b)
     ∙ ap (λ (l : Writes). l ++ writes_from area size (b + 1) (drop (suc b) copies)) more_is
-    ∙ ap (λ (o : Option Spot). writes ++ writes_from area size b (o ∷ drop (suc b) copies)) (sym is)
-    ∙ ap (λ (l : List (Option Spot)). writes ++ writes_from area size b l) (sym (drop-cons copies b d within))
+    ∙ ap (λ (o : Option CopyPlace). writes ++ writes_from area size b (o ∷ drop (suc b) copies)) (sym is)
+    ∙ ap (λ (l : List (Option CopyPlace)). writes ++ writes_from area size b l) (sym (drop-cons copies b d within))
 
 -- a block below the first of the copies is not written
-writes-low : (area : ℕ → ℕ → List ℕ) (size b : ℕ) (copies : List (Option Spot)) (x : ℕ) → x < b → written (writes_from area size b copies) x ≡ None
+writes-low : (area : ℕ → ℕ → List ℕ) (size b : ℕ) (copies : List (Option CopyPlace)) (x : ℕ) → x < b → written (writes_from area size b copies) x ≡ None
 writes-low area size b [] x low = refl
 writes-low area size b (None ∷ copies) x low = writes-low area size (b + 1) copies x (omega arith)
 writes-low area size b (Some spot ∷ copies) x low =
@@ -48,7 +48,7 @@ kept-none : (o : Option (List ℕ)) → or_kept o None ≡ o
 kept-none None = refl
 kept-none (Some v) = refl
 
-writes-from : (area : ℕ → ℕ → List ℕ) (size b : ℕ) (copies : List (Option Spot)) (k x : ℕ) → x ≡ b + k → written (writes_from area size b copies) x ≡ content_of area size (get_or copies k None)
+writes-from : (area : ℕ → ℕ → List ℕ) (size b : ℕ) (copies : List (Option CopyPlace)) (k x : ℕ) → x ≡ b + k → written (writes_from area size b copies) x ≡ content_of area size (get_or copies k None)
 writes-from area size b [] k x is = refl
 writes-from area size b (None ∷ copies) zero x is = writes-low area size (b + 1) copies x (omega arith)
 writes-from area size b (None ∷ copies) (suc k) x is = writes-from area size (b + 1) copies k x (omega arith)
@@ -58,14 +58,14 @@ writes-from area size b (Some spot ∷ copies) (suc k) x is =
     rw (ne_eqb b x (omega arith)) (kept-none (written (writes_from area size (b + 1) copies) x) ∙ writes-from area size (b + 1) copies k x (omega arith))
 
 -- what is written to a block is the content of its copy
-pub writes-at : (area : ℕ → ℕ → List ℕ) (size : ℕ) (copies : List (Option Spot)) (x : ℕ) → written (writes_from area size 0 copies) x ≡ content_of area size (get_or copies x None)
+pub writes-at : (area : ℕ → ℕ → List ℕ) (size : ℕ) (copies : List (Option CopyPlace)) (x : ℕ) → written (writes_from area size 0 copies) x ≡ content_of area size (get_or copies x None)
 writes-at area size copies x = writes-from area size 0 copies x x (omega arith)
 
 rising-low : (low more high : ℕ) (xs : List ℕ) → low ≤ more → AreRising more high xs → AreRising low high xs
 rising-low low more high [] fits rising = tt
 rising-low low more high (x ∷ xs) fits rising = let h = rising.0 in (omega (arith, h, fits), rising.1, rising.2)
 
-writes-rise : (area : ℕ → ℕ → List ℕ) (size b : ℕ) (copies : List (Option Spot)) (homes : ℕ) → b + length copies ≤ homes → AreRising b homes (map (λ w. w.0) (writes_from area size b copies))
+writes-rise : (area : ℕ → ℕ → List ℕ) (size b : ℕ) (copies : List (Option CopyPlace)) (homes : ℕ) → b + length copies ≤ homes → AreRising b homes (map (λ w. w.0) (writes_from area size b copies))
 writes-rise area size b [] homes fits = tt
 writes-rise area size b (None ∷ copies) homes fits =
     rising-low b (b + 1) homes (map (λ w. w.0) (writes_from area size (b + 1) copies)) (omega arith) (writes-rise area size (b + 1) copies homes (omega arith))
@@ -86,6 +86,6 @@ plan-of g d found plan is writes_are recovered_is =
     }
 
 -- each copy that was found stands in the area of a queue
-pub found-within : (g : Geometry) (d : DriveState) (found : Found) (places : List (Option Spot)) → IsFoundIn g d found → places ≡ found.places.items → (x : ℕ) → IsSpotOf g.queues (get_or places x None)
+pub found-within : (g : Geometry) (d : DriveState) (found : Found) (places : List (Option CopyPlace)) → IsFoundIn g d found → places ≡ found.places.items → (x : ℕ) → IsSpotOf g.queues (get_or places x None)
 found-within g d found places is same x =
-    subst (IsSpotOf g.queues) (sym (ap (λ (l : List (Option Spot)). get_or l x None) same ∙ is.places_are x)) (copy-within g.queues is.ds x (λ e has. (is.read.prefix.whole e has).0))
+    subst (IsSpotOf g.queues) (sym (ap (λ (l : List (Option CopyPlace)). get_or l x None) same ∙ is.places_are x)) (copy-within g.queues is.ds x (λ e has. (is.read.prefix.whole e has).0))

@@ -11,7 +11,7 @@ use Rattle.mq_recover.specs.Plans.{AreChains, ArePlaced}
 use Rattle.mq_recover.specs.Recover.{with_transaction, with_all, AreGood, AreFalling, AreOf}
 use Rattle.mq_recover.specs.Refusals.{HasNumber, IsTwice, RefusesTwice}
 use Rattle.mq_recover.specs.declared.copies.Copies.{Copies}
-use Rattle.mq_recover.specs.declared.copies.Spot.{Spot}
+use Rattle.mq_recover.specs.declared.copies.CopyPlace.{CopyPlace}
 use Rattle.mq_recover.specs.declared.refusal.ImageFault.{ImageFault}
 use Rattle.mq_recover.specs.declared.refusal.ImageFault.TheVariants.{Bad, Limit, Twice, OutOfMemory}
 use Rattle.mq_recover.proofs.ChainEnds.{end-once, read-chain}
@@ -123,7 +123,7 @@ row-low base (e ∷ ds) d row has = elim has [
 
 -- Of these chains the transactions that are not left were taken by rising number. Those right above
 -- the base stand in a row, and these are their copies.
-pub record AreTaken (homes base : ℕ) (all left : List (List Descriptor)) (places : List (Option Spot)) (prefix : ℕ) : Type 0 where
+pub record AreTaken (homes base : ℕ) (all left : List (List Descriptor)) (places : List (Option CopyPlace)) (prefix : ℕ) : Type 0 where
   pub count : length left ≡ length all
   pub gone : ℕ → List Descriptor
   pub parts : (q : ℕ) → q < length all → chain_at all q ≡ chain_at left q ++ gone q
@@ -138,7 +138,7 @@ pub record AreTaken (homes base : ℕ) (all left : List (List Descriptor)) (plac
   pub places_are : places ≡ with_all homes ds
   pub prefix_is : prefix ≡ length ds
 
-pub none-taken : (homes base : ℕ) (all : List (List Descriptor)) (places : List (Option Spot)) → AreChains homes base all → places ≡ replicate homes None → AreTaken homes base all all places 0
+pub none-taken : (homes base : ℕ) (all : List (List Descriptor)) (places : List (Option CopyPlace)) → AreChains homes base all → places ≡ replicate homes None → AreTaken homes base all all places 0
 none-taken homes base all places chains is = record {
   count = refl;
   gone = λ q. [];
@@ -156,15 +156,15 @@ none-taken homes base all places chains is = record {
 }
 
 -- a transaction that is left is one of the chain
-left-has : (homes base : ℕ) (all left : List (List Descriptor)) (places : List (Option Spot)) (prefix q : ℕ) (d : Descriptor) → AreTaken homes base all left places prefix → q < length all → Has (chain_at left q) d → Has (chain_at all q) d
+left-has : (homes base : ℕ) (all left : List (List Descriptor)) (places : List (Option CopyPlace)) (prefix q : ℕ) (d : Descriptor) → AreTaken homes base all left places prefix → q < length all → Has (chain_at left q) d → Has (chain_at all q) d
 left-has homes base all left places prefix q d t low has = subst (λ (l : List Descriptor). Has l d) (sym (t.parts q low)) (has-left (chain_at left q) (t.gone q) d has)
 
-left-falls : (homes base : ℕ) (all left : List (List Descriptor)) (places : List (Option Spot)) (prefix q : ℕ) → AreChains homes base all → AreTaken homes base all left places prefix → q < length all → AreFalling base (2 ^ 64) (chain_at left q)
+left-falls : (homes base : ℕ) (all left : List (List Descriptor)) (places : List (Option CopyPlace)) (prefix q : ℕ) → AreChains homes base all → AreTaken homes base all left places prefix → q < length all → AreFalling base (2 ^ 64) (chain_at left q)
 left-falls homes base all left places prefix q chains t low =
     falling-left base (2 ^ 64) (chain_at left q) (t.gone q) (subst (AreFalling base (2 ^ 64)) (t.parts q low) (chains.falling q low))
 
 -- the number stands in a chain whose transactions of this number are gone, or left
-has-parts : (homes base : ℕ) (all left : List (List Descriptor)) (places : List (Option Spot)) (prefix q : ℕ) (d : Descriptor) (t : AreTaken homes base all left places prefix) → q < length all → Has (chain_at all q) d
+has-parts : (homes base : ℕ) (all left : List (List Descriptor)) (places : List (Option CopyPlace)) (prefix q : ℕ) (d : Descriptor) (t : AreTaken homes base all left places prefix) → q < length all → Has (chain_at all q) d
     → Has (chain_at left q) d ⊎ Has (t.gone q) d
 has-parts homes base all left places prefix q d t low has = has-split (chain_at left q) (t.gone q) d (subst (λ (l : List Descriptor). Has l d) (t.parts q low) has)
 
@@ -230,7 +230,7 @@ popped base left next k rest d falls oldest here next_is =
     }
 
 -- what the next transaction meets, and what is taken after it
-pub record CanTake (homes base : ℕ) (all next : List (List Descriptor)) (places : List (Option Spot)) (prefix : ℕ) (d : Descriptor) : Type 0 where
+pub record CanTake (homes base : ℕ) (all next : List (List Descriptor)) (places : List (Option CopyPlace)) (prefix : ℕ) (d : Descriptor) : Type 0 where
   pub logged : AreRising 0 (length places) d.logged
   pub revoked : AreRising 0 (length places) d.revoked
   pub fits : length d.logged ≤ d.place
@@ -240,11 +240,11 @@ pub record CanTake (homes base : ℕ) (all next : List (List Descriptor)) (place
   pub number : d.number < 2 ^ 64
   pub queue : d.queue < 2 ^ 32
   -- it is in the row
-  pub taken : (more : List (Option Spot)) → more ≡ with_transaction places d → d.number - base ≡ prefix + 1 → AreTaken homes base all next more (prefix + 1)
+  pub taken : (more : List (Option CopyPlace)) → more ≡ with_transaction places d → d.number - base ≡ prefix + 1 → AreTaken homes base all next more (prefix + 1)
   -- there is a gap before it
   pub passed : d.number - base ≢ prefix + 1 → AreTaken homes base all next places prefix
 
-parts-more : (homes base : ℕ) (all left next : List (List Descriptor)) (places : List (Option Spot)) (prefix k q : ℕ) (d : Descriptor) (t : AreTaken homes base all left places prefix) → IsPopped left next k d → q < length all
+parts-more : (homes base : ℕ) (all left next : List (List Descriptor)) (places : List (Option CopyPlace)) (prefix k q : ℕ) (d : Descriptor) (t : AreTaken homes base all left places prefix) → IsPopped left next k d → q < length all
     → chain_at all q ≡ chain_at next q ++ gone_more t.gone k d q
 parts-more homes base all left next places prefix k q d t p low = elim (cases_eq q k) [
   | inl same ↦
@@ -268,7 +268,7 @@ record IsOrdered (all next : List (List Descriptor)) (gone : ℕ → List Descri
 here-has : (left next : List (List Descriptor)) (k : ℕ) (d : Descriptor) → IsPopped left next k d → Has (chain_at left k) d
 here-has left next k d p = subst (λ (l : List Descriptor). Has l d) (sym p.here) (has-right (chain_at next k) (d ∷ []) d (inl refl))
 
-ordered-more : (homes base : ℕ) (all left next : List (List Descriptor)) (places : List (Option Spot)) (prefix k : ℕ) (d : Descriptor) (t : AreTaken homes base all left places prefix) → IsPopped left next k d
+ordered-more : (homes base : ℕ) (all left next : List (List Descriptor)) (places : List (Option CopyPlace)) (prefix k : ℕ) (d : Descriptor) (t : AreTaken homes base all left places prefix) → IsPopped left next k d
     → IsOrdered all next (gone_more t.gone k d)
 ordered-more homes base all left next places prefix k d t p =
     let count = t.count in
@@ -300,7 +300,7 @@ ordered-more homes base all left next places prefix k d t p =
           ];
     }
 
-pub can-take : (homes base : ℕ) (all left next : List (List Descriptor)) (places : List (Option Spot)) (prefix k : ℕ) (rest : List Descriptor) (d : Descriptor) → AreChains homes base all → AreTaken homes base all left places prefix
+pub can-take : (homes base : ℕ) (all left next : List (List Descriptor)) (places : List (Option CopyPlace)) (prefix k : ℕ) (rest : List Descriptor) (d : Descriptor) → AreChains homes base all → AreTaken homes base all left places prefix
     → IsOldest left k → chain_at left k ≡ rest ++ d ∷ [] → next ≡ set left k rest → CanTake homes base all next places prefix d
 can-take homes base all left next places prefix k rest d chains t oldest here next_is =
     let count = t.count in
@@ -345,7 +345,7 @@ can-take homes base all left next places prefix k rest d chains t oldest here ne
               | inl h ↦ let same : d.number ≡ e.number = ap (λ (z : Descriptor). z.number) h.1 in omega (arith, same, number_is)
               | inr h ↦ let b = t.order q k e d low within h has in omega (arith, b, number_is)
             ];
-            places_are = more_is ∙ ap (λ (l : List (Option Spot)). with_transaction l d) t.places_are;
+            places_are = more_is ∙ ap (λ (l : List (Option CopyPlace)). with_transaction l d) t.places_are;
             prefix_is = omega (arith, prefix_is);
           };
       passed = λ far. record {
@@ -371,14 +371,14 @@ can-take homes base all left next places prefix k rest d chains t oldest here ne
 -- ---- the end
 
 -- where none is left, all are gone
-all-gone : (homes base : ℕ) (all left : List (List Descriptor)) (places : List (Option Spot)) (prefix q : ℕ) (d : Descriptor) (t : AreTaken homes base all left places prefix) → AreEmpty (length left) left → q < length all
+all-gone : (homes base : ℕ) (all left : List (List Descriptor)) (places : List (Option CopyPlace)) (prefix q : ℕ) (d : Descriptor) (t : AreTaken homes base all left places prefix) → AreEmpty (length left) left → q < length all
     → Has (chain_at all q) d → Has (t.gone q) d
 all-gone homes base all left places prefix q d t empty low has =
     let count = t.count in
     let is : chain_at all q ≡ t.gone q = t.parts q low ∙ ap (λ (l : List Descriptor). l ++ t.gone q) (empty q (omega (arith, count, low))) in
     subst (λ (l : List Descriptor). Has l d) is has
 
-pub all-placed : (homes base : ℕ) (all left : List (List Descriptor)) (places : List (Option Spot)) (prefix : ℕ) (c : Copies) → AreTaken homes base all left places prefix → AreEmpty (length left) left
+pub all-placed : (homes base : ℕ) (all left : List (List Descriptor)) (places : List (Option CopyPlace)) (prefix : ℕ) (c : Copies) → AreTaken homes base all left places prefix → AreEmpty (length left) left
     → c.places.items ≡ places → c.prefix ≡ prefix → ArePlaced homes base all c
 all-placed homes base all left places prefix c t empty items prefix_is = record {
   once = λ q r low lower other d e d_has e_has.
@@ -388,12 +388,12 @@ all-placed homes base all left places prefix c t empty items prefix_is = record 
   from_chains = t.from_chains;
   greatest = λ q d low has. t.seen q d low (all-gone homes base all left places prefix q d t empty low has);
   whole = ap length (items ∙ t.places_are) ∙ length-with_all homes t.ds;
-  places_are = λ x. ap (λ (l : List (Option Spot)). get_or l x None) (items ∙ t.places_are) ∙ with_all-at homes t.ds x t.good;
+  places_are = λ x. ap (λ (l : List (Option CopyPlace)). get_or l x None) (items ∙ t.places_are) ∙ with_all-at homes t.ds x t.good;
   prefix_is = prefix_is ∙ t.prefix_is;
 }
 
 -- two ends with the least number are the first two of the least number in two chains
-pub two-twice : (homes base : ℕ) (all left : List (List Descriptor)) (places : List (Option Spot)) (prefix number first second : ℕ) → AreChains homes base all → AreTaken homes base all left places prefix
+pub two-twice : (homes base : ℕ) (all left : List (List Descriptor)) (places : List (Option CopyPlace)) (prefix number first second : ℕ) → AreChains homes base all → AreTaken homes base all left places prefix
     → AreTwoOldest left number first second → IsTwice (length all) (chain_at all) number first second
 two-twice homes base all left places prefix number first second chains t two =
     let count = t.count in
@@ -439,7 +439,7 @@ two-twice homes base all left places prefix number first second chains t two =
 
 -- ---- as the loop has it
 
-pub can-pop : (homes base : ℕ) (all left seen : List (List Descriptor)) (places : List (Option Spot)) (prefix k i : ℕ) (o : Option ℕ) (chain items rest : List Descriptor) (d : Descriptor) → AreChains homes base all
+pub can-pop : (homes base : ℕ) (all left seen : List (List Descriptor)) (places : List (Option CopyPlace)) (prefix k i : ℕ) (o : Option ℕ) (chain items rest : List Descriptor) (d : Descriptor) → AreChains homes base all
     → AreTaken homes base all left places prefix → MatchOption o (AreEmpty (length seen) seen) (IsOldest seen) → seen ≡ left → o ≡ Some k → i ≡ k → chain ≡ get_or left i chain → items ≡ chain → items ≡ rest ++ d ∷ []
     → CanTake homes base all (set left i rest) places prefix d
 can-pop homes base all left seen places prefix k i o chain items rest d chains t found seen_is some at chain_is items_is parts =
@@ -448,13 +448,13 @@ can-pop homes base all left seen places prefix k i o chain items rest d chains t
     let read : items ≡ chain_at left i = read-chain left i chain items here.within chain_is items_is in
     can-take homes base all left (set left i rest) places prefix i rest d chains t here (sym read ∙ parts) refl
 
-pub end-placed : (homes base : ℕ) (all left seen : List (List Descriptor)) (places : List (Option Spot)) (prefix : ℕ) (o : Option ℕ) (c : Copies) → AreTaken homes base all left places prefix
+pub end-placed : (homes base : ℕ) (all left seen : List (List Descriptor)) (places : List (Option CopyPlace)) (prefix : ℕ) (o : Option ℕ) (c : Copies) → AreTaken homes base all left places prefix
     → MatchOption o (AreEmpty (length seen) seen) (IsOldest seen) → seen ≡ left → o ≡ None → c.places.items ≡ places → c.prefix ≡ prefix → ArePlaced homes base all c
 end-placed homes base all left seen places prefix o c t found seen_is none items prefix_is =
     let empty : AreEmpty (length seen) seen = subst (λ (x : Option ℕ). MatchOption x (AreEmpty (length seen) seen) (IsOldest seen)) none found in
     all-placed homes base all left places prefix c t (subst (λ (l : List (List Descriptor)). AreEmpty (length l) l) seen_is empty) items prefix_is
 
-pub ends-refused : (homes base : ℕ) (all left seen : List (List Descriptor)) (places : List (Option Spot)) (prefix : ℕ) (e : ImageFault) → AreChains homes base all → AreTaken homes base all left places prefix
+pub ends-refused : (homes base : ℕ) (all left seen : List (List Descriptor)) (places : List (Option CopyPlace)) (prefix : ℕ) (e : ImageFault) → AreChains homes base all → AreTaken homes base all left places prefix
     → RefusesEnds seen e → seen ≡ left → RefusesTwice all e
 ends-refused homes base all left seen places prefix (Twice n first second) chains t refuses is =
     two-twice homes base all left places prefix n first second chains t (subst (λ (l : List (List Descriptor)). AreTwoOldest l n first second) is refuses)

@@ -8,7 +8,7 @@ use Rattle.mq_blocks.specs.Drive.{PortState, depth}
 use Rattle.mq_blocks.specs.Journal.{Shown, Says, Has}
 use Rattle.mq_blocks.specs.declared.geometry.Geometry.{Geometry}
 use Rattle.mq_ledger.specs.State.{port_at}
-use Rattle.mq_recover.specs.Drives.{DriveState, IsStill, states, view_over}
+use Rattle.mq_recover.specs.Drives.{DriveState, IsQuiescentDrive, states, view_over}
 use Rattle.mq_recover.specs.Ends.{chain_at}
 use Rattle.mq_recover.specs.Plans.{AreRead, newest_number}
 use Rattle.mq_recover.specs.Recover.{AreFalling}
@@ -30,7 +30,7 @@ pub port-count : {A : Type 0} (state : A → PortState) (ports items : List A) (
 port-count state ports items queues same count = ap length same ∙ sym (length-map ports state) ∙ count
 
 -- the port of a queue, as it was read by its number
-pub port-own : {A : Type 0} (g : Geometry) (state : A → PortState) (ports : List A) (root : A) (q index : ℕ) (p : A) → IsStill g (states state ports root) → q < g.queues → index ≡ q → p ≡ get_or ports index p → port_at (map state ports) q ≡ state p
+pub port-own : {A : Type 0} (g : Geometry) (state : A → PortState) (ports : List A) (root : A) (q index : ℕ) (p : A) → IsQuiescentDrive g (states state ports root) → q < g.queues → index ≡ q → p ≡ get_or ports index p → port_at (map state ports) q ≡ state p
 port-own g state ports root q index p still low at is =
     let count : length ports ≡ g.queues = port-count state ports ports g.queues refl still.count in
     ap (port_at (map state ports)) (sym at) ∙ port-is state ports ports index p refl (omega (arith, count, at, low)) is

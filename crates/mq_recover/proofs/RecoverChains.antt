@@ -5,7 +5,7 @@ use Rattle.std.proofs.Math.Nat.{le-max_left, le-max_right, max-eq_left, max-eq_r
 use Rattle.std.proofs.lemmas.Bool.{cases_lt}
 use Rattle.std.specs.Option.{unwrap_or}
 use Rattle.mq_blocks.specs.Descriptor.{Descriptor}
-use Rattle.mq_blocks.specs.Drive.{PortState, IsQuiet, IsFlushed}
+use Rattle.mq_blocks.specs.Drive.{PortState, IsQuiescent, IsFlushed}
 use Rattle.mq_blocks.specs.Journal.{Says, number_limit}
 use Rattle.mq_blocks.specs.declared.geometry.Geometry.{Geometry}
 use Rattle.mq_nvme.specs.Entry.{IsWrite, refusal_of}
@@ -19,7 +19,7 @@ use Rattle.mq_recover.specs.declared.refusal.ChainRefusal.{ChainRefusal}
 use Rattle.mq_recover.proofs.Refusing.{said-once}
 
 -- each slot of a quiet port is flushed
-pub quiet-flushed : (s : PortState) (k : ℕ) → IsQuiet s → IsFlushed s k
+pub quiet-flushed : (s : PortState) (k : ℕ) → IsQuiescent s → IsFlushed s k
 quiet-flushed s k quiet c low high at =
     let none : length s.pending ≡ 0 = ap length quiet.pending in
     let end = quiet.flushed_end in
@@ -29,10 +29,10 @@ pub says-of : (e : List ℕ) (r : WriteReq) → IsWrite e r → says e ≡ Some 
 says-of e r w = ap says w.is ∙ says-entry r w.request
 
 -- a quiet port's words are one each
-pub head-of : (n : ℕ) (s : PortState) → IsQuiet s → (n ≡ s.head) ⊎ (n ≡ s.stored_head) → n ≡ s.head
+pub head-of : (n : ℕ) (s : PortState) → IsQuiescent s → (n ≡ s.head) ⊎ (n ≡ s.stored_head) → n ≡ s.head
 head-of n s quiet is = ⊎_elim (λ h. h) (λ h. h ∙ quiet.head) is
 
-pub base-of : (n : ℕ) (s : PortState) → IsQuiet s → (n ≡ s.base) ⊎ (n ≡ s.stored_base) → n ≡ s.base
+pub base-of : (n : ℕ) (s : PortState) → IsQuiescent s → (n ≡ s.base) ⊎ (n ≡ s.stored_base) → n ≡ s.base
 base-of n s quiet is = ⊎_elim (λ h. h) (λ h. h ∙ quiet.base) is
 
 -- ---- entries

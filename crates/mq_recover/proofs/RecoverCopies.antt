@@ -10,20 +10,20 @@ use Rattle.mq_blocks.specs.Geometry.{homes_of}
 use Rattle.mq_blocks.specs.Journal.{Shown, IsChain, Has, is_among, logged_copy, or_else, stands}
 use Rattle.mq_blocks.specs.declared.geometry.Geometry.{Geometry}
 use Rattle.mq_recover.specs.Recover.{spot_at, IsSpotOf, or_place, logged_place, copy_of, forgotten, noted, with_all, AreGood, AreOf, content_of}
-use Rattle.mq_recover.specs.declared.copies.Spot.{Spot}
+use Rattle.mq_recover.specs.declared.copies.CopyPlace.{CopyPlace}
 
 pub rising-at : (low high : ℕ) (xs : List ℕ) (k d : ℕ) → AreRising low high xs → k < length xs → get_or xs k d < high
 rising-at low high [] k d rising within = absurd (omega arith)
 rising-at low high (x ∷ xs) zero d rising within = rising.1
 rising-at low high (x ∷ xs) (suc k) d rising within = rising-at (x + 1) high xs k d rising.2 (omega arith)
 
-pub forgotten-next : (copies : List (Option Spot)) (bs : List ℕ) (k b d : ℕ) → k < length bs → b ≡ get_or bs k d → forgotten (set copies b None) (drop (k + 1) bs) ≡ forgotten copies (drop k bs)
+pub forgotten-next : (copies : List (Option CopyPlace)) (bs : List ℕ) (k b d : ℕ) → k < length bs → b ≡ get_or bs k d → forgotten (set copies b None) (drop (k + 1) bs) ≡ forgotten copies (drop k bs)
 forgotten-next copies bs k b d within is =
     ap (λ (n : ℕ). forgotten (set copies b None) (drop n bs)) (add-one k)
     ∙ ap (λ (n : ℕ). forgotten (set copies n None) (drop (suc k) bs)) is
     ∙ sym (ap (λ (l : List ℕ). forgotten copies l) (drop-cons bs k d within))
 
-pub noted-next : (copies : List (Option Spot)) (q place : ℕ) (bs : List ℕ) (k b d : ℕ) → k < length bs → b ≡ get_or bs k d
+pub noted-next : (copies : List (Option CopyPlace)) (q place : ℕ) (bs : List ℕ) (k b d : ℕ) → k < length bs → b ≡ get_or bs k d
     → noted (set copies b (Some (spot_at q place))) q (place + 1) (drop (k + 1) bs) ≡ noted copies q place (drop k bs)
 noted-next copies q place bs k b d within is =
     ap (λ (n : ℕ). noted (set copies b (Some (spot_at q place))) q (place + 1) (drop n bs)) (add-one k)
@@ -32,11 +32,11 @@ noted-next copies q place bs k b d within is =
 
 -- ---- what is taken over
 
-pub length-forgotten : (copies : List (Option Spot)) (bs : List ℕ) → length (forgotten copies bs) ≡ length copies
+pub length-forgotten : (copies : List (Option CopyPlace)) (bs : List ℕ) → length (forgotten copies bs) ≡ length copies
 length-forgotten copies [] = refl
 length-forgotten copies (b ∷ bs) = length-forgotten (set copies b None) bs ∙ length-set copies b None
 
-pub length-noted : (copies : List (Option Spot)) (q place : ℕ) (bs : List ℕ) → length (noted copies q place bs) ≡ length copies
+pub length-noted : (copies : List (Option CopyPlace)) (q place : ℕ) (bs : List ℕ) → length (noted copies q place bs) ≡ length copies
 length-noted copies q place [] = refl
 length-noted copies q place (b ∷ bs) = length-noted (set copies b (Some (spot_at q place))) q (place + 1) bs ∙ length-set copies b (Some (spot_at q place))
 
@@ -52,17 +52,17 @@ other-eq : (b x : ℕ) → b ≢ x → nat_eq b x ≡ false
 other-eq b x other = ne_eqb b x other
 
 -- a test on whether a block is among others
-forgotten-here : (old now : Option Spot) (b x : ℕ) (among : Bool) → b ≡ x → now ≡ None → (if among then None else now) ≡ (if (if nat_eq b x then true else among) then None else old)
+forgotten-here : (old now : Option CopyPlace) (b x : ℕ) (among : Bool) → b ≡ x → now ≡ None → (if among then None else now) ≡ (if (if nat_eq b x then true else among) then None else old)
 forgotten-here old now b x among same is = rw (same-eq b x same) (none among)
   where
     none : (t : Bool) → (if t then None else now) ≡ None
     none true = refl
     none false = is
 
-forgotten-other : (old now : Option Spot) (b x : ℕ) (among : Bool) → b ≢ x → now ≡ old → (if among then None else now) ≡ (if (if nat_eq b x then true else among) then None else old)
-forgotten-other old now b x among other is = rw (other-eq b x other) (ap (λ (o : Option Spot). if among then None else o) is)
+forgotten-other : (old now : Option CopyPlace) (b x : ℕ) (among : Bool) → b ≢ x → now ≡ old → (if among then None else now) ≡ (if (if nat_eq b x then true else among) then None else old)
+forgotten-other old now b x among other is = rw (other-eq b x other) (ap (λ (o : Option CopyPlace). if among then None else o) is)
 
-pub forgotten-at : (low high : ℕ) (copies : List (Option Spot)) (bs : List ℕ) (x : ℕ) → AreRising low high bs → high ≤ length copies
+pub forgotten-at : (low high : ℕ) (copies : List (Option CopyPlace)) (bs : List ℕ) (x : ℕ) → AreRising low high bs → high ≤ length copies
     → get_or (forgotten copies bs) x None ≡ (if is_among x bs then None else get_or copies x None)
 forgotten-at low high copies [] x rising within = refl
 forgotten-at low high copies (b ∷ bs) x rising within =
@@ -80,13 +80,13 @@ logged_place-low q place low high (b ∷ bs) x rising below =
     let h = rising.0 in
     rw (other-eq b x (omega arith)) (logged_place-low q (place + 1) (b + 1) high bs x rising.2 (omega arith))
 
-noted-here : (old now rest : Option Spot) (spot : Spot) (b x : ℕ) → b ≡ x → rest ≡ None → now ≡ Some spot → or_place rest now ≡ or_place (if nat_eq b x then Some spot else rest) old
+noted-here : (old now rest : Option CopyPlace) (spot : CopyPlace) (b x : ℕ) → b ≡ x → rest ≡ None → now ≡ Some spot → or_place rest now ≡ or_place (if nat_eq b x then Some spot else rest) old
 noted-here old now rest spot b x same none is = rw (same-eq b x same, none) is
 
-noted-other : (old now rest : Option Spot) (spot : Spot) (b x : ℕ) → b ≢ x → now ≡ old → or_place rest now ≡ or_place (if nat_eq b x then Some spot else rest) old
+noted-other : (old now rest : Option CopyPlace) (spot : CopyPlace) (b x : ℕ) → b ≢ x → now ≡ old → or_place rest now ≡ or_place (if nat_eq b x then Some spot else rest) old
 noted-other old now rest spot b x other is = rw (other-eq b x other) (ap (or_place rest) is)
 
-pub noted-at : (low high : ℕ) (copies : List (Option Spot)) (q place : ℕ) (bs : List ℕ) (x : ℕ) → AreRising low high bs → high ≤ length copies
+pub noted-at : (low high : ℕ) (copies : List (Option CopyPlace)) (q place : ℕ) (bs : List ℕ) (x : ℕ) → AreRising low high bs → high ≤ length copies
     → get_or (noted copies q place bs) x None ≡ or_place (logged_place q place bs x) (get_or copies x None)
 noted-at low high copies q place [] x rising within = refl
 noted-at low high copies q place (b ∷ bs) x rising within =
@@ -101,7 +101,7 @@ noted-at low high copies q place (b ∷ bs) x rising within =
     (get_or-set_other copies b x (Some spot) None (λ e. other (sym e))))
     (cases_eq b x)
 
-none-replicate : (n x : ℕ) → get_or (replicate {A = Option Spot} n None) x None ≡ None
+none-replicate : (n x : ℕ) → get_or (replicate {A = Option CopyPlace} n None) x None ≡ None
 none-replicate zero x = refl
 none-replicate (suc n) zero = refl
 none-replicate (suc n) (suc x) = none-replicate n x
@@ -116,11 +116,11 @@ with_all-at homes (d ∷ ds) x good =
     let place = d.place - length d.logged in
     noted-at 0 homes (forgotten (with_all homes ds) d.revoked) d.queue place d.logged x good.0.logged still
     ∙ ap (or_place (logged_place d.queue place d.logged x))
-    (forgotten-at 0 homes (with_all homes ds) d.revoked x good.0.revoked fits ∙ ap (λ (o : Option Spot). if is_among x d.revoked then None else o) (with_all-at homes ds x good.1))
+    (forgotten-at 0 homes (with_all homes ds) d.revoked x good.0.revoked fits ∙ ap (λ (o : Option CopyPlace). if is_among x d.revoked then None else o) (with_all-at homes ds x good.1))
 
 -- ---- standing
 
-content-if : (area : ℕ → ℕ → List ℕ) (size : ℕ) (b : Bool) (x y : Option Spot) → content_of area size (if b then x else y) ≡ (if b then content_of area size x else content_of area size y)
+content-if : (area : ℕ → ℕ → List ℕ) (size : ℕ) (b : Bool) (x y : Option CopyPlace) → content_of area size (if b then x else y) ≡ (if b then content_of area size x else content_of area size y)
 content-if area size true x y = refl
 content-if area size false x y = refl
 
@@ -130,11 +130,11 @@ content-logged area size q place (b ∷ bs) x =
     ap (λ (o : Option (List ℕ)). if nat_eq b x then Some (area q (place % size)) else o) (content-logged area size q (place + 1) bs x)
     ∙ sym (content-if area size (nat_eq b x) (Some (spot_at q place)) (logged_place q (place + 1) bs x))
 
-else-or : (area : ℕ → ℕ → List ℕ) (size : ℕ) (a b : Option Spot) (home : List ℕ) → or_else (content_of area size (or_place a b)) home ≡ or_else (content_of area size a) (or_else (content_of area size b) home)
+else-or : (area : ℕ → ℕ → List ℕ) (size : ℕ) (a b : Option CopyPlace) (home : List ℕ) → or_else (content_of area size (or_place a b)) home ≡ or_else (content_of area size a) (or_else (content_of area size b) home)
 else-or area size (Some spot) b home = refl
 else-or area size None b home = refl
 
-else-if : (area : ℕ → ℕ → List ℕ) (size : ℕ) (among : Bool) (a : Option Spot) (home : List ℕ)
+else-if : (area : ℕ → ℕ → List ℕ) (size : ℕ) (among : Bool) (a : Option CopyPlace) (home : List ℕ)
     → or_else (content_of area size (if among then None else a)) home ≡ (if among then home else or_else (content_of area size a) home)
 else-if area size true a home = refl
 else-if area size false a home = refl
@@ -149,11 +149,11 @@ stands-copy g i (d ∷ ds) x =
     ∙ ap (or_else (content_of i.area g.area copy)) (sym (else-if i.area g.area (is_among x d.revoked) (copy_of ds x) (i.home x)))
     ∙ sym (else-or i.area g.area copy (if is_among x d.revoked then None else copy_of ds x) (i.home x))
 
-spot-or : (n : ℕ) (a b : Option Spot) → IsSpotOf n a → IsSpotOf n b → IsSpotOf n (or_place a b)
+spot-or : (n : ℕ) (a b : Option CopyPlace) → IsSpotOf n a → IsSpotOf n b → IsSpotOf n (or_place a b)
 spot-or n (Some spot) b here there = here
 spot-or n None b here there = there
 
-spot-if : (n : ℕ) (t : Bool) (a b : Option Spot) → IsSpotOf n a → IsSpotOf n b → IsSpotOf n (if t then a else b)
+spot-if : (n : ℕ) (t : Bool) (a b : Option CopyPlace) → IsSpotOf n a → IsSpotOf n b → IsSpotOf n (if t then a else b)
 spot-if n true a b here there = here
 spot-if n false a b here there = there
 

@@ -4,7 +4,7 @@ use Rattle.std.proofs.lemmas.Bool.{cases_eq, eq-eqb, ne_eqb}
 use Rattle.std.proofs.lemmas.List.{ext_get_or, get_or-set_other, drop_more, length-drop}
 use Rattle.std.specs.Prelude.{if◌then◌else◌}
 use Rattle.mq_blocks.specs.Blocks.{block_at}
-use Rattle.mq_blocks.specs.Drive.{PortState, IsQuiet, index_of, after_begin, after_flush, after_store_base, after_store_head}
+use Rattle.mq_blocks.specs.Drive.{PortState, IsQuiescent, index_of, after_begin, after_flush, after_store_base, after_store_head}
 use Rattle.mq_blocks.specs.Geometry.{homes_of, home_lba, zone_of}
 use Rattle.mq_blocks.specs.Journal.{or_else}
 use Rattle.mq_blocks.specs.Machine.{Writes}
@@ -13,7 +13,7 @@ use Rattle.mq_ledger.specs.Sides.{home_index}
 use Rattle.mq_ledger.specs.State.{no_port, port_at}
 use Rattle.mq_drive.specs.Start.{IsPortOf, area_size_of}
 use Rattle.mq_drive.specs.declared.role.Role.{Role}
-use Rattle.mq_recover.specs.Drives.{DriveState, IsStill}
+use Rattle.mq_recover.specs.Drives.{DriveState, IsQuiescentDrive}
 use Rattle.mq_recover.specs.RecoverHomes.{written, AreBelow}
 use Rattle.mq_recover.specs.Steps.{Event, BeginHome, EndHome, StoreBase, FlushBase, StoreHead, FlushHead, at_home, after_event, after_events, home_events, base_events, heads_events, recovery_events}
 use Rattle.mq_recover.proofs.RecoverHomes.{IsBetween, between-start, between-step, between-ports, next-written}
@@ -22,7 +22,7 @@ use Rattle.mq_recover.proofs.Zones.{IsZone, port_in, role_in, home_in, zone-is, 
 
 -- ---- between two home writes
 
-pub staged-same : (g : Geometry) (role : Role) (s : PortState) → IsPortOf g role s → IsQuiet s → s.staged ≡ s.flushed
+pub staged-same : (g : Geometry) (role : Role) (s : PortState) → IsPortOf g role s → IsQuiescent s → s.staged ≡ s.flushed
 staged-same g role s port quiet =
     let none : length s.pending ≡ 0 = ap length quiet.pending in
     let end = quiet.flushed_end in
@@ -32,7 +32,7 @@ area-between : (g : Geometry) (s e : DriveState) (all left : Writes) (z : Option
 area-between g s e all left None k between zone inside = absurd (omega arith)
 area-between g s e all left (Some q) k between zone inside = between.area q k zone inside
 
-between-kept : (g : Geometry) (s e : DriveState) (all left : Writes) → IsStill g s → IsBetween g s e all left → AreKept g s e
+between-kept : (g : Geometry) (s e : DriveState) (all left : Writes) → IsQuiescentDrive g s → IsBetween g s e all left → AreKept g s e
 between-kept g s e all left still between = record {
   count = between.count;
   each = λ z zone.
@@ -41,7 +41,7 @@ between-kept g s e all left still between = record {
       let port = (still-in g s still z zone).port in
       let quiet = (still-in g s still z zone).quiet in
       let blocks_size = port.blocks in
-      let sure_size = port.sure in
+      let certain_size = port.certain in
       record {
         doorbell = ap (λ (t : PortState). t.doorbell) same;
         flushed = ap (λ (t : PortState). t.flushed) same;
@@ -50,11 +50,11 @@ between-kept g s e all left still between = record {
         pending = ap (λ (t : PortState). t.pending) same ∙ quiet.pending;
         posted = ap (λ (t : PortState). t.posted) same ∙ quiet.posted;
         blocks_len = w.blocks_len;
-        area = λ k inside. record { sure = w.certain k (quiet.sure k (omega arith)); is = area-between g s e all left z k between zone inside };
+        area = λ k inside. record { certain = w.certain k (quiet.certain k (omega arith)); is = area-between g s e all left z k between zone inside };
       };
 }
 
-between-words : (g : Geometry) (s e : DriveState) (all left : Writes) → IsStill g s → IsBetween g s e all left → (z : Option ℕ) → IsZone g z → AreWordsKept (port_in s z) (port_in e z)
+between-words : (g : Geometry) (s e : DriveState) (all left : Writes) → IsQuiescentDrive g s → IsBetween g s e all left → (z : Option ℕ) → IsZone g z → AreWordsKept (port_in s z) (port_in e z)
 between-words g s e all left still between z zone =
     let same = (between.each z zone).same in
     let quiet = (still-in g s still z zone).quiet in
@@ -65,35 +65,35 @@ between-words g s e all left still between z zone =
       stored_base = ap (λ (t : PortState). t.stored_base) same ∙ quiet.base;
     }
 
-home-sure : (g : Geometry) (s e : DriveState) (all left : Writes) (x : ℕ) → IsStill g s → IsBetween g s e all left → x < homes_of g → get_or (port_in e (zone_of g x)).sure (home_index g x) false ≡ true
-home-sure g s e all left x still between inside =
+home-certain : (g : Geometry) (s e : DriveState) (all left : Writes) (x : ℕ) → IsQuiescentDrive g s → IsBetween g s e all left → x < homes_of g → get_or (port_in e (zone_of g x)).certain (home_index g x) false ≡ true
+home-certain g s e all left x still between inside =
     let zone = zone-is g x inside in
     let here = still-in g s still (zone_of g x) zone in
     let placed = placed-at g x (port_in s (zone_of g x)) here.port in
     let high = placed.high in
-    let sure_size = here.port.sure in
-    (between.each (zone_of g x) zone).certain (home_index g x) (here.quiet.sure (home_index g x) (omega arith))
+    let certain_size = here.port.certain in
+    (between.each (zone_of g x) zone).certain (home_index g x) (here.quiet.certain (home_index g x) (omega arith))
 
 unwritten : (o p : Option (List ℕ)) (new old : List ℕ) → o ≡ None → p ≡ None → or_else o new ≡ or_else p old → new ≡ old
 unwritten o p new old first second same = ap (λ (x : Option (List ℕ)). or_else x new) (sym first) ∙ same ∙ ap (λ (x : Option (List ℕ)). or_else x old) second
 
-between-going : (g : Geometry) (s e : DriveState) (all left : Writes) → IsStill g s → IsBetween g s e all left → IsGoing g s e all
+between-going : (g : Geometry) (s e : DriveState) (all left : Writes) → IsQuiescentDrive g s → IsBetween g s e all left → IsGoing g s e all
 between-going g s e all left still between = record {
   words = between-words g s e all left still between;
   homes = λ x inside none. record {
-    sure = home-sure g s e all left x still between inside;
+    certain = home-certain g s e all left x still between inside;
     is = unwritten (written left x) (written all x) (home_in g e x) (home_in g s x) (between.fewer x none) none (between.homes x inside);
   };
 }
 
 -- when none is left, all is home
-between-home : (g : Geometry) (s e : DriveState) (all : Writes) → IsStill g s → IsBetween g s e all [] → AreHome g s e all
-between-home g s e all still between x inside = record { sure = home-sure g s e all [] x still between inside; is = between.homes x inside }
+between-home : (g : Geometry) (s e : DriveState) (all : Writes) → IsQuiescentDrive g s → IsBetween g s e all [] → AreHome g s e all
+between-home g s e all still between x inside = record { certain = home-certain g s e all [] x still between inside; is = between.homes x inside }
 
 -- ---- a home write has begun
 
-still-sure : (sure : List Bool) (i k : ℕ) → i ≢ k → get_or sure k false ≡ true → get_or (set sure i false) k false ≡ true
-still-sure sure i k apart h = get_or-set_other sure i k false false (λ e. apart (sym e)) ∙ h
+still-certain : (certain : List Bool) (i k : ℕ) → i ≢ k → get_or certain k false ≡ true → get_or (set certain i false) k false ≡ true
+still-certain certain i k apart h = get_or-set_other certain i k false false (λ e. apart (sym e)) ∙ h
 
 -- a port in which another block than these is written home keeps its log
 begun-kept : (g : Geometry) (z : Option ℕ) (s t : PortState) (lba : ℕ) (block : List ℕ) → area_size_of g (role_in z) ≤ index_of t lba → IsKept g z s t → IsKept g z s (after_begin t lba block)
@@ -105,10 +105,10 @@ begun-kept g z s t lba block past kept = record {
   pending = kept.pending;
   posted = kept.posted;
   blocks_len = kept.blocks_len;
-  area = λ k inside. let h = kept.area k inside in record { sure = still-sure t.sure (index_of t lba) k (λ same. omega arith) h.sure; is = h.is };
+  area = λ k inside. let h = kept.area k inside in record { certain = still-certain t.certain (index_of t lba) k (λ same. omega arith) h.certain; is = h.is };
 }
 
-begun : (g : Geometry) (s e : DriveState) (all ws : Writes) (w : ℕ × List ℕ) (top : ℕ) → IsStill g s → IsBetween g s e all (w ∷ ws) → IsStage g s (after_event g e (BeginHome w.0 w.1)) all top
+begun : (g : Geometry) (s e : DriveState) (all ws : Writes) (w : ℕ × List ℕ) (top : ℕ) → IsQuiescentDrive g s → IsBetween g s e all (w ∷ ws) → IsStage g s (after_event g e (BeginHome w.0 w.1)) all top
 begun g s e all ws w top still between =
     let z : Option ℕ = zone_of g w.0 in
     let begin : PortState → PortState = λ t. after_begin t (home_lba g w.0) w.1 in
@@ -135,7 +135,7 @@ begun g s e all ws w top still between =
                 let h = subst (λ (y : Option ℕ). IsSure (port_in e y) k v) same (going.homes x inside none) in
                 let apart = next-written g s e all ws w x between none in
                 record {
-                  sure = still-sure (port_in e z).sure (index_of (port_in e z) (home_lba g w.0)) k (λ at. apart (place-apart g w.0 x (sym same) (sym placed.index_is ∙ at))) h.sure;
+                  certain = still-certain (port_in e z).certain (index_of (port_in e z) (home_lba g w.0)) k (λ at. apart (place-apart g w.0 x (sym same) (sym placed.index_is ∙ at))) h.certain;
                   is = h.is;
                 })
                 (λ other. going.homes x inside none);
@@ -149,16 +149,16 @@ pub record IsAtMoving (g : Geometry) (s e : DriveState) (all : Writes) (top : �
   pub moving : IsMoving g s e all top
 
 -- a change of the words leaves the home blocks
-same-homes : (g : Geometry) (s e : DriveState) (z : Option ℕ) (f : PortState → PortState) (all : Writes) → length e.queues ≡ g.queues → ((t : PortState) → (f t).blocks ≡ t.blocks) → ((t : PortState) → (f t).sure ≡ t.sure)
+same-homes : (g : Geometry) (s e : DriveState) (z : Option ℕ) (f : PortState → PortState) (all : Writes) → length e.queues ≡ g.queues → ((t : PortState) → (f t).blocks ≡ t.blocks) → ((t : PortState) → (f t).certain ≡ t.certain)
     → AreHome g s e all → AreHome g s (at_home z f e) all
-same-homes g s e z f all count blocks sure homes x inside =
+same-homes g s e z f all count blocks certain homes x inside =
     let k : ℕ = home_index g x in
     let v : List ℕ = or_else (written all x) (home_in g s x) in
     at-one g (λ t. IsSure t k v) e (zone_of g x) z f count (zone-is g x inside)
     (λ same.
     let h = subst (λ (y : Option ℕ). IsSure (port_in e y) k v) same (homes x inside) in
     record {
-      sure = ap (λ (l : List Bool). get_or l k false) (sure (port_in e z)) ∙ h.sure;
+      certain = ap (λ (l : List Bool). get_or l k false) (certain (port_in e z)) ∙ h.certain;
       is = ap (λ (l : List (Option (List ℕ))). block_at l k) (blocks (port_in e z)) ∙ h.is;
     })
     (λ other. homes x inside)
@@ -175,7 +175,7 @@ flush-kept g z s t kept =
       pending = kept.pending;
       posted = kept.posted;
       blocks_len = kept.blocks_len;
-      area = λ k inside. let h = kept.area k inside in record { sure = h.sure; is = h.is };
+      area = λ k inside. let h = kept.area k inside in record { certain = h.certain; is = h.is };
     }
 
 -- so does a store of a word
@@ -188,7 +188,7 @@ store-kept g z s t stored_head stored_base events kept = record {
   pending = kept.pending;
   posted = kept.posted;
   blocks_len = kept.blocks_len;
-  area = λ k inside. let h = kept.area k inside in record { sure = h.sure; is = h.is };
+  area = λ k inside. let h = kept.area k inside in record { certain = h.certain; is = h.is };
 }
 
 at-kept : (g : Geometry) (s e : DriveState) (z : Option ℕ) (f : PortState → PortState) → length s.queues ≡ g.queues → ((t : PortState) → IsKept g z (port_in s z) t → IsKept g z (port_in s z) (f t)) → AreKept g s e → AreKept g s (at_home z f e)
@@ -279,7 +279,7 @@ record IsAtRaising (g : Geometry) (s e : DriveState) (all : Writes) (top : ℕ) 
   kept : AreKept g s e
   raising : IsRaising g s e all top
 
-between-raising : (g : Geometry) (s e : DriveState) (all : Writes) (top : ℕ) → IsStill g s → IsBetween g s e all [] → IsAtRaising g s e all top
+between-raising : (g : Geometry) (s e : DriveState) (all : Writes) (top : ℕ) → IsQuiescentDrive g s → IsBetween g s e all [] → IsAtRaising g s e all top
 between-raising g s e all top still between =
     let going = between-going g s e all [] still between in
     let words = going.words None tt in
@@ -322,7 +322,7 @@ base-flushed g s e all top count stored at =
     }
 
 -- a base that does not change is the new one
-base-same : (g : Geometry) (s e : DriveState) (all : Writes) (top : ℕ) → s.root.base ≡ top → IsStill g s → IsBetween g s e all [] → IsAtMoving g s e all top
+base-same : (g : Geometry) (s e : DriveState) (all : Writes) (top : ℕ) → s.root.base ≡ top → IsQuiescentDrive g s → IsBetween g s e all [] → IsAtMoving g s e all top
 base-same g s e all top same still between =
     let going = between-going g s e all [] still between in
     let words = going.words None tt in
@@ -344,7 +344,7 @@ some-bases g s e all top (suc (suc k)) rest count stages at =
     let stored : DriveState = after_event g e (StoreBase top) in
     stages (after_event g stored FlushBase) k (base-flushed g s stored all top count refl (base-stored g s e all top count at))
 
-words : (g : Geometry) (s e : DriveState) (all : Writes) (top k : ℕ) → IsStill g s → IsBetween g s e all []
+words : (g : Geometry) (s e : DriveState) (all : Writes) (top k : ℕ) → IsQuiescentDrive g s → IsBetween g s e all []
     → IsStage g s (after_events g e (take k (base_events s.root.base top ++ heads_events 0 s.queues))) all top
 words g s e all top k still between =
     let rest : List Event = heads_events 0 s.queues in
@@ -357,7 +357,7 @@ words g s e all top k still between =
 
 -- ---- all events
 
-homes-then : (g : Geometry) (s e : DriveState) (all left : Writes) (top k : ℕ) → IsStill g s → IsBetween g s e all left
+homes-then : (g : Geometry) (s e : DriveState) (all left : Writes) (top k : ℕ) → IsQuiescentDrive g s → IsBetween g s e all left
     → IsStage g s (after_events g e (take k (home_events left ++ (base_events s.root.base top ++ heads_events 0 s.queues)))) all top
 homes-then g s e all [] top k still between = words g s e all top k still between
 homes-then g s e all (w ∷ ws) top zero still between = (between-kept g s e all (w ∷ ws) still between, inl (between-going g s e all (w ∷ ws) still between))
@@ -367,5 +367,5 @@ homes-then g s e all (w ∷ ws) top (suc (suc k)) still between =
     (between-step g s e all ws w (still-ports g s still) between)
 
 -- at each event a recovery is at some stage
-pub each-stage : (g : Geometry) (s : DriveState) (writes : Writes) (top k : ℕ) → IsStill g s → AreBelow (homes_of g) writes → IsStage g s (after_events g s (take k (recovery_events s writes top))) writes top
+pub each-stage : (g : Geometry) (s : DriveState) (writes : Writes) (top k : ℕ) → IsQuiescentDrive g s → AreBelow (homes_of g) writes → IsStage g s (after_events g s (take k (recovery_events s writes top))) writes top
 each-stage g s writes top k still below = homes-then g s s writes writes top k still (between-start g s writes below)

@@ -75,7 +75,7 @@ begin-port g role s lba block p = record {
   flushed = p.flushed;
   staged = p.staged;
   blocks = p.blocks;
-  sure = length-set s.sure (index_of s lba) false ∙ p.sure;
+  certain = length-set s.certain (index_of s lba) false ∙ p.certain;
   settled = p.settled;
 }
 
@@ -89,7 +89,7 @@ end-port g role s lba block p = record {
   flushed = p.flushed;
   staged = p.staged;
   blocks = length-set s.blocks (index_of s lba) (Some block) ∙ p.blocks;
-  sure = length-set s.sure (index_of s lba) true ∙ p.sure ∙ sym (length-set s.blocks (index_of s lba) (Some block));
+  certain = length-set s.certain (index_of s lba) true ∙ p.certain ∙ sym (length-set s.blocks (index_of s lba) (Some block));
   settled = p.settled;
 }
 
@@ -104,7 +104,7 @@ word-port g role s stored_head stored_base events p = record {
   flushed = p.flushed;
   staged = p.staged;
   blocks = p.blocks;
-  sure = p.sure;
+  certain = p.certain;
   settled = p.settled;
 }
 
@@ -118,7 +118,7 @@ flush-port g role s p = record {
   flushed = p.staged;
   staged = p.staged;
   blocks = p.blocks;
-  sure = p.sure;
+  certain = p.certain;
   settled = λ k within flushed. refl;
 }
 

@@ -6,7 +6,7 @@ use Rattle.std.proofs.lemmas.List.{get_or-set_other}
 use Rattle.std.proofs.Math.ListN.{length-set}
 use Rattle.std.specs.Prelude.{nat_eq, if◌then◌else◌}
 use Rattle.mq_blocks.specs.Blocks.{block_at, content}
-use Rattle.mq_blocks.specs.Drive.{PortState, IsQuiet, index_of, holds_write, without_last, after_begin, after_end}
+use Rattle.mq_blocks.specs.Drive.{PortState, IsQuiescent, index_of, holds_write, without_last, after_begin, after_end}
 use Rattle.mq_blocks.specs.Geometry.{homes_of, home_lba, zone_of}
 use Rattle.mq_blocks.specs.Journal.{or_else}
 use Rattle.mq_blocks.specs.Machine.{Writes, or_kept}
@@ -25,22 +25,22 @@ use Rattle.mq_recover.proofs.Zones.{IsZone, port_in, role_in, home_in, zone-case
 
 -- Home writes changed the blocks alone, and left none uncertain. None that began since is under way.
 pub record IsWrittenHome (s t : PortState) : Type 0 where
-  pub same : t ≡ record s { blocks = t.blocks; sure = t.sure; begun = t.begun; begins = t.begins }
+  pub same : t ≡ record s { blocks = t.blocks; certain = t.certain; begun = t.begun; begins = t.begins }
   pub blocks_len : length t.blocks ≡ length s.blocks
-  pub sure_len : length t.sure ≡ length s.sure
-  pub certain : (k : ℕ) → get_or s.sure k false ≡ true → get_or t.sure k false ≡ true
+  pub certain_len : length t.certain ≡ length s.certain
+  pub certain : (k : ℕ) → get_or s.certain k false ≡ true → get_or t.certain k false ≡ true
   pub begun : t.begun ≡ s.begun
 
 pub later-refl : (s : PortState) → IsWrittenHome s s
-later-refl s = record { same = refl; blocks_len = refl; sure_len = refl; certain = λ k h. h; begun = refl }
+later-refl s = record { same = refl; blocks_len = refl; certain_len = refl; certain = λ k h. h; begun = refl }
 
 pub later-then : (s t u : PortState) → IsWrittenHome s t → IsWrittenHome t u → IsWrittenHome s u
 later-then s t u first next =
     let p = first.same in
     record {
-      same = next.same ∙ (λ i. record (p i) { blocks = u.blocks; sure = u.sure; begun = u.begun; begins = u.begins });
+      same = next.same ∙ (λ i. record (p i) { blocks = u.blocks; certain = u.certain; begun = u.begun; begins = u.begins });
       blocks_len = next.blocks_len ∙ first.blocks_len;
-      sure_len = next.sure_len ∙ first.sure_len;
+      certain_len = next.certain_len ∙ first.certain_len;
       certain = λ k h. next.certain k (first.certain k h);
       begun = next.begun ∙ first.begun;
     }
@@ -55,27 +55,27 @@ later-port g role s t w p = subst (IsPortOf g role) (sym w.same) (record {
   flushed = p.flushed;
   staged = p.staged;
   blocks = w.blocks_len ∙ p.blocks;
-  sure = w.sure_len ∙ p.sure ∙ sym w.blocks_len;
+  certain = w.certain_len ∙ p.certain ∙ sym w.blocks_len;
   settled = p.settled;
 })
 
-pub later-quiet : (s t : PortState) → IsWrittenHome s t → IsQuiet s → IsQuiet t
-later-quiet s t w q = subst IsQuiet (sym w.same) (record {
+pub later-quiet : (s t : PortState) → IsWrittenHome s t → IsQuiescent s → IsQuiescent t
+later-quiet s t w q = subst IsQuiescent (sym w.same) (record {
   flushed_end = q.flushed_end;
   pending = q.pending;
   posted = q.posted;
   failed = q.failed;
   head = q.head;
   base = q.base;
-  sure = λ k within. w.certain k (q.sure k (subst (λ (n : ℕ). k < n) w.sure_len within));
+  certain = λ k within. w.certain k (q.certain k (subst (λ (n : ℕ). k < n) w.certain_len within));
 })
 
-sure-set : (sure : List Bool) (i k : ℕ) → get_or sure k false ≡ true → get_or (set (set sure i false) i true) k false ≡ true
-sure-set [] i k h = h
-sure-set (s ∷ ss) zero zero h = refl
-sure-set (s ∷ ss) zero (suc k) h = h
-sure-set (s ∷ ss) (suc i) zero h = h
-sure-set (s ∷ ss) (suc i) (suc k) h = sure-set ss i k h
+certain-set : (certain : List Bool) (i k : ℕ) → get_or certain k false ≡ true → get_or (set (set certain i false) i true) k false ≡ true
+certain-set [] i k h = h
+certain-set (s ∷ ss) zero zero h = refl
+certain-set (s ∷ ss) zero (suc k) h = h
+certain-set (s ∷ ss) (suc i) zero h = h
+certain-set (s ∷ ss) (suc i) (suc k) h = certain-set ss i k h
 
 holds-last : (lba : ℕ) (bs : List HomeWrite) (w : HomeWrite) → w.lba ≡ lba → holds_write lba (bs ++ w ∷ []) ≡ true
 holds-last lba [] w is = rw (eq-eqb w.lba lba is) refl
@@ -96,8 +96,8 @@ later-home : (s : PortState) (lba : ℕ) (block : List ℕ) → IsWrittenHome s 
 later-home s lba block = record {
   same = refl;
   blocks_len = length-set s.blocks (index_of s lba) (Some block);
-  sure_len = length-set (set s.sure (index_of s lba) false) (index_of s lba) true ∙ length-set s.sure (index_of s lba) false;
-  certain = λ k h. sure-set s.sure (index_of s lba) k h;
+  certain_len = length-set (set s.certain (index_of s lba) false) (index_of s lba) true ∙ length-set s.certain (index_of s lba) false;
+  certain = λ k h. certain-set s.certain (index_of s lba) k h;
   begun = ends-last lba s.begun (record { lba = lba; block = block }) refl;
 }
 

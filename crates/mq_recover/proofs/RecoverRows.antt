@@ -6,7 +6,7 @@ use Rattle.mq_blocks.specs.Drive.{PortState}
 use Rattle.mq_blocks.specs.declared.geometry.Geometry.{Geometry}
 use Rattle.mq_ledger.specs.State.{port_at}
 use Rattle.mq_drive.specs.Steps.{Fault, PowerOff, Gains}
-use Rattle.mq_recover.specs.Drives.{DriveState, DriveFaults, IsStill, states, faults_of}
+use Rattle.mq_recover.specs.Drives.{DriveState, DriveFaults, IsQuiescentDrive, states, faults_of}
 use Rattle.mq_recover.specs.Plans.{IsPlan}
 use Rattle.mq_recover.specs.RecoverCauses.{HasDriveCause, OneGains}
 use Rattle.mq_recover.specs.RecoverHomes.{CanMove, AreCutMoves, after_raise, after_move}
@@ -19,7 +19,7 @@ use Rattle.mq_recover.proofs.Recoveries.{all-home, can-move, cut-heads, done}
 
 -- The home writes ended with these ports, and the base was raised with this root.
 pub record IsRaisedRow {A : Type 0} (state : A → PortState) (g : Geometry) (s : DriveState) (plan : Plan) (xs : List A) (old root : A) : Type 0 where
-  pub still : IsStill g s
+  pub still : IsQuiescentDrive g s
   pub planned : IsPlan g s plan
   pub home : states state xs old ≡ after_events g s (home_events plan.writes.items)
   pub raised : state root ≡ after_raise (state old) plan.recovered.base

@@ -14,7 +14,7 @@ use Rattle.mq_blocks.specs.declared.command.Command.{Command}
 use Rattle.mq_ledger.specs.Sides.{home_index}
 use Rattle.mq_ledger.specs.State.{port_at}
 use Rattle.mq_drive.specs.Start.{area_size_of}
-use Rattle.mq_recover.specs.Drives.{DriveState, IsStill, AreImages, view_over}
+use Rattle.mq_recover.specs.Drives.{DriveState, IsQuiescentDrive, AreImages, view_over}
 use Rattle.mq_recover.specs.Recovery.{IsRead, StandsAs}
 use Rattle.mq_recover.specs.Recover.{content_of}
 use Rattle.mq_recover.specs.RecoverHomes.{written}
@@ -25,7 +25,7 @@ use Rattle.mq_recover.proofs.Zones.{IsZone, port_in, role_in, image_in, home_in,
 
 -- the block at this index is certain, and holds this
 pub record IsSure (t : PortState) (k : ℕ) (v : List ℕ) : Type 0 where
-  pub sure : get_or t.sure k false ≡ true
+  pub certain : get_or t.certain k false ≡ true
   pub is : block_at t.blocks k ≡ v
 
 -- The log of a port is as at the start, and certain, and it posts nothing.
@@ -102,8 +102,8 @@ pub apart-none : (t : PortState) (k : ℕ) (cs : List Command) → cs ≡ [] →
 apart-none t k [] none = tt
 apart-none t k (c ∷ cs) none = cc
 
-sure-image : (t : PortState) (i : PortImage) (k : ℕ) (v : List ℕ) → IsImage t i → t.posted ≡ [] → k < length t.blocks → IsSure t k v → block_at i.blocks k ≡ v
-sure-image t i k v image none within held = image.blocks k within (record { sure = held.sure; apart = apart-none t k t.posted none }) ∙ held.is
+certain-image : (t : PortState) (i : PortImage) (k : ℕ) (v : List ℕ) → IsImage t i → t.posted ≡ [] → k < length t.blocks → IsSure t k v → block_at i.blocks k ≡ v
+certain-image t i k v image none within held = image.blocks k within (record { certain = held.certain; apart = apart-none t k t.posted none }) ∙ held.is
 
 slots-image : (g : Geometry) (z : Option ℕ) (s t : PortState) (i : PortImage) (k : ℕ) → IsImage t i → IsKept g z s t → get_or i.slots k [] ≡ get_or s.flushed k []
 slots-image g z s t i k image log =
@@ -122,7 +122,7 @@ record IsSameQueue (g : Geometry) (s : PortState) (i : PortImage) : Type 0 where
   entry : (k : ℕ) → says (get_or i.slots k []) ≡ says (get_or s.flushed k [])
   area : (k : ℕ) → k < g.area → block_at i.blocks k ≡ block_at s.blocks k
 
-same-queue : (g : Geometry) (s : DriveState) (e : DriveState) (q : ℕ) (i : PortImage) → q < g.queues → IsStill g s → AreKept g s e → IsImage (port_at e.queues q) i → IsSameQueue g (port_at s.queues q) i
+same-queue : (g : Geometry) (s : DriveState) (e : DriveState) (q : ℕ) (i : PortImage) → q < g.queues → IsQuiescentDrive g s → AreKept g s e → IsImage (port_at e.queues q) i → IsSameQueue g (port_at s.queues q) i
 same-queue g s e q i own still kept image =
     let p : PortState = port_at s.queues q in
     let t : PortState = port_at e.queues q in
@@ -132,10 +132,10 @@ same-queue g s e q i own still kept image =
     record {
       doorbell = image.doorbell ∙ same.doorbell;
       entry = λ k. ap says (slots-image g (Some q) p t i k image same);
-      area = λ k inside. sure-image t i k (block_at p.blocks k) image same.posted (omega arith) (same.area k inside);
+      area = λ k inside. certain-image t i k (block_at p.blocks k) image same.posted (omega arith) (same.area k inside);
     }
 
-pub same-log : (g : Geometry) (s e : DriveState) (queues : List PortImage) (root : PortImage) → IsStill g s → AreKept g s e → AreImages g e queues root → IsSameLog g (view_over g s) (shown says g queues root)
+pub same-log : (g : Geometry) (s e : DriveState) (queues : List PortImage) (root : PortImage) → IsQuiescentDrive g s → AreKept g s e → AreImages g e queues root → IsSameLog g (view_over g s) (shown says g queues root)
 same-log g s e queues root still kept images =
     let same = λ (q : ℕ) (own : q < g.queues). same-queue g s e q (image_at queues q) own still kept (images.each q own) in
     record {
@@ -151,9 +151,9 @@ view-doorbell : (g : Geometry) (s : DriveState) (q : ℕ) → (view_over g s).do
 view-doorbell g s q = ap (λ (i : PortImage). i.doorbell) (image-at s.queues q)
 
 -- where a block is certain, each image holds it
-home-image : (g : Geometry) (s e : DriveState) (queues : List PortImage) (root : PortImage) (x : ℕ) (v : List ℕ) → IsStill g s → AreKept g s e → AreImages g e queues root → x < homes_of g
+home-image : (g : Geometry) (s e : DriveState) (queues : List PortImage) (root : PortImage) (x : ℕ) (v : List ℕ) → IsQuiescentDrive g s → AreKept g s e → AreImages g e queues root → x < homes_of g
     → IsSure (port_in e (zone_of g x)) (home_index g x) v → (shown says g queues root).home x ≡ v
-home-image g s e queues root x v still kept images inside sure =
+home-image g s e queues root x v still kept images inside certain =
     let z : Option ℕ = zone_of g x in
     let zone : IsZone g z = zone-is g x inside in
     let same = kept.each z zone in
@@ -161,17 +161,17 @@ home-image g s e queues root x v still kept images inside sure =
     let placed = placed-at g x (port_in s z) (still-in g s still z zone).port in
     let high = placed.high in
     home-in g queues root x z
-    ∙ sure-image (port_in e z) (image_in queues root z) (home_index g x) v (images-in g e queues root images z zone) same.posted (omega arith) sure
+    ∙ certain-image (port_in e z) (image_in queues root z) (home_index g x) v (images-in g e queues root images z zone) same.posted (omega arith) certain
 
 -- a block that is not written is as at the start
-going-home : (g : Geometry) (s e : DriveState) (writes : Writes) (queues : List PortImage) (root : PortImage) (x : ℕ) → IsStill g s → AreKept g s e → IsGoing g s e writes → AreImages g e queues root → x < homes_of g → written writes x ≡ None
+going-home : (g : Geometry) (s e : DriveState) (writes : Writes) (queues : List PortImage) (root : PortImage) (x : ℕ) → IsQuiescentDrive g s → AreKept g s e → IsGoing g s e writes → AreImages g e queues root → x < homes_of g → written writes x ≡ None
     → (shown says g queues root).home x ≡ (view_over g s).home x
 going-home g s e writes queues root x still kept going images inside none =
     home-image g s e queues root x (home_in g s x) still kept images inside (going.homes x inside none)
     ∙ sym (view-home g s x)
 
 -- each block is what was written, else as at the start
-homes-home : (g : Geometry) (s e : DriveState) (writes : Writes) (queues : List PortImage) (root : PortImage) (x : ℕ) → IsStill g s → AreKept g s e → AreHome g s e writes → AreImages g e queues root → x < homes_of g
+homes-home : (g : Geometry) (s e : DriveState) (writes : Writes) (queues : List PortImage) (root : PortImage) (x : ℕ) → IsQuiescentDrive g s → AreKept g s e → AreHome g s e writes → AreImages g e queues root → x < homes_of g
     → (shown says g queues root).home x ≡ or_else (written writes x) ((view_over g s).home x)
 homes-home g s e writes queues root x still kept homes images inside =
     home-image g s e queues root x (or_else (written writes x) (home_in g s x)) still kept images inside (homes x inside)
@@ -234,7 +234,7 @@ moved-heads g s e queues root heads images q own =
     (λ b. inr (b ∙ sym (view-doorbell g s q)))
     (either (image_at queues q).head p.head p.doorbell t.head t.stored_head (images.each q own).head moving.head moving.stored_head)
 
-going-stands : (g : Geometry) (s e : DriveState) (ds : List Descriptor) (top : ℕ) (writes : Writes) (queues : List PortImage) (root : PortImage) → IsStill g s → IsRead g (view_over g s) ds top → AreHomeWrites g s ds writes
+going-stands : (g : Geometry) (s e : DriveState) (ds : List Descriptor) (top : ℕ) (writes : Writes) (queues : List PortImage) (root : PortImage) → IsQuiescentDrive g s → IsRead g (view_over g s) ds top → AreHomeWrites g s ds writes
     → AreKept g s e → IsGoing g s e writes → AreImages g e queues root → StandsIn g s ds top queues root
 going-stands g s e ds top writes queues root still read are kept going images =
     let words = going.words None tt in
@@ -242,7 +242,7 @@ going-stands g s e ds top writes queues root still read are kept going images =
     over-old g s ds top writes queues root read are (same-log g s e queues root still kept images) base (same-heads g s e queues root (words-heads g s e going.words) images)
     (λ x inside none. going-home g s e writes queues root x still kept going images inside none)
 
-raising-stands : (g : Geometry) (s e : DriveState) (ds : List Descriptor) (top : ℕ) (writes : Writes) (queues : List PortImage) (root : PortImage) → IsStill g s → IsRead g (view_over g s) ds top → AreHomeWrites g s ds writes
+raising-stands : (g : Geometry) (s e : DriveState) (ds : List Descriptor) (top : ℕ) (writes : Writes) (queues : List PortImage) (root : PortImage) → IsQuiescentDrive g s → IsRead g (view_over g s) ds top → AreHomeWrites g s ds writes
     → AreKept g s e → IsRaising g s e writes top → AreImages g e queues root → StandsIn g s ds top queues root
 raising-stands g s e ds top writes queues root still read are kept raising images =
     let same = same-log g s e queues root still kept images in
@@ -253,7 +253,7 @@ raising-stands g s e ds top writes queues root still read are kept raising image
     (λ new. over-top g s ds top writes queues root read are same new (λ q own. inl (heads q own)) (λ x inside. homes-home g s e writes queues root x still kept raising.homes images inside))
     (either root.base s.root.base top e.root.base e.root.stored_base images.root_is.base raising.base raising.stored_base)
 
-moving-stands : (g : Geometry) (s e : DriveState) (ds : List Descriptor) (top : ℕ) (writes : Writes) (queues : List PortImage) (root : PortImage) → IsStill g s → IsRead g (view_over g s) ds top → AreHomeWrites g s ds writes
+moving-stands : (g : Geometry) (s e : DriveState) (ds : List Descriptor) (top : ℕ) (writes : Writes) (queues : List PortImage) (root : PortImage) → IsQuiescentDrive g s → IsRead g (view_over g s) ds top → AreHomeWrites g s ds writes
     → AreKept g s e → IsMoving g s e writes top → AreImages g e queues root → StandsIn g s ds top queues root
 moving-stands g s e ds top writes queues root still read are kept moving images =
     let base : root.base ≡ top = ⊎_elim (λ a. a ∙ moving.base) (λ b. b ∙ moving.stored_base) images.root_is.base in
@@ -261,7 +261,7 @@ moving-stands g s e ds top writes queues root still read are kept moving images 
     (λ x inside. homes-home g s e writes queues root x still kept moving.homes images inside)
 
 -- at each stage every image stands for what stood at the start
-pub stage-stands : (g : Geometry) (s e : DriveState) (ds : List Descriptor) (top : ℕ) (writes : Writes) → IsStill g s → IsRead g (view_over g s) ds top → AreHomeWrites g s ds writes
+pub stage-stands : (g : Geometry) (s e : DriveState) (ds : List Descriptor) (top : ℕ) (writes : Writes) → IsQuiescentDrive g s → IsRead g (view_over g s) ds top → AreHomeWrites g s ds writes
     → IsStage g s e writes top → StandsAs g s ds top e
 stage-stands g s e ds top writes still read are stage queues root images = ⊎_elim
     (λ going. going-stands g s e ds top writes queues root still read are stage.0 going images)

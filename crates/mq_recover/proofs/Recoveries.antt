@@ -5,7 +5,7 @@ use Rattle.std.proofs.lemmas.List.{take_all, length-map, get_or-map}
 use Rattle.std.specs.Prelude.{nat_eq, if◌then◌else◌, Result, Ok, Err}
 use Rattle.mq_blocks.specs.Blocks.{block_at}
 use Rattle.mq_blocks.specs.Descriptor.{Descriptor, AreRising}
-use Rattle.mq_blocks.specs.Drive.{FuseName, PortState, PortImage, IsImage, IsQuiet, image_of, after_begin, after_end, after_flush, after_store_base, after_store_head}
+use Rattle.mq_blocks.specs.Drive.{FuseName, PortState, PortImage, IsImage, IsQuiescent, image_of, after_begin, after_end, after_flush, after_store_base, after_store_head}
 use Rattle.mq_blocks.specs.Geometry.{homes_of, home_lba, zone_of}
 use Rattle.mq_blocks.specs.Journal.{or_else, stands}
 use Rattle.mq_blocks.specs.Machine.{Writes}
@@ -14,7 +14,7 @@ use Rattle.mq_ledger.specs.Sides.{home_index}
 use Rattle.mq_ledger.specs.State.{no_port, port_at}
 use Rattle.mq_drive.specs.Start.{IsPortOf}
 use Rattle.mq_drive.specs.declared.role.Role.TheVariants.{Queue, Root}
-use Rattle.mq_recover.specs.Drives.{DriveState, ArePorts, IsStill, AreImages, AreBoundsKept, drive, view_over}
+use Rattle.mq_recover.specs.Drives.{DriveState, ArePorts, IsQuiescentDrive, AreImages, AreBoundsKept, drive, view_over}
 use Rattle.mq_recover.specs.Plans.{IsPlan}
 use Rattle.mq_recover.specs.RecoverCauses.{OnDrive}
 use Rattle.mq_recover.specs.RecoverHomes.{AreBelow, CanMove, AreCutMoves, after_raise, after_move, IsCutRaise}
@@ -47,13 +47,13 @@ pub record AreAllHome (g : Geometry) (s : DriveState) (plan : Plan) (n : DriveSt
   pub between : IsBetween g s n plan.writes.items []
   pub events : n ≡ after_events g s (home_events plan.writes.items)
   pub ports : ArePorts g n
-  pub quiet : (z : Option ℕ) → IsZone g z → IsQuiet (port_in n z)
+  pub quiet : (z : Option ℕ) → IsZone g z → IsQuiescent (port_in n z)
   pub base_is : n.root.base ≡ s.root.base
   pub heads : heads_events 0 n.queues ≡ heads_events 0 s.queues
   pub bells : (q : ℕ) → q < g.queues → (port_at n.queues q).doorbell ≡ (port_at s.queues q).doorbell
   pub order : (q : ℕ) → q < g.queues → (port_at n.queues q).head ≤ (port_at n.queues q).doorbell
 
-heads-home : (g : Geometry) (s n : DriveState) (all : Writes) → IsStill g s → IsBetween g s n all [] → heads_events 0 n.queues ≡ heads_events 0 s.queues
+heads-home : (g : Geometry) (s n : DriveState) (all : Writes) → IsQuiescentDrive g s → IsBetween g s n all [] → heads_events 0 n.queues ≡ heads_events 0 s.queues
 heads-home g s n all still between =
     let count = between.count in
     let full = still.count in
@@ -61,7 +61,7 @@ heads-home g s n all still between =
     (λ q low. ap (λ (t : PortState). t.head) (between.each (Some q) (omega arith)).same)
     (λ q low. ap (λ (t : PortState). t.doorbell) (between.each (Some q) (omega arith)).same)
 
-pub all-home : (g : Geometry) (s n : DriveState) (plan : Plan) → IsStill g s → IsPlan g s plan → n ≡ after_events g s (home_events plan.writes.items) → AreAllHome g s plan n
+pub all-home : (g : Geometry) (s n : DriveState) (plan : Plan) → IsQuiescentDrive g s → IsPlan g s plan → n ≡ after_events g s (home_events plan.writes.items) → AreAllHome g s plan n
 all-home g s n plan still planned is =
     let all : Writes = plan.writes.items in
     let ports = still-ports g s still in
@@ -142,7 +142,7 @@ stops-some g (Image fault) s n xs stops = absurd stops
 stops-some g Off s n xs stops = (stops.0, stops.2)
 stops-some g (Failed block status) s n xs stops = (stops.0 + 1, stops.3)
 
-cut-short : (g : Geometry) (e : RecoverRefusal) (s n : DriveState) (plan : Plan) → IsStill g s → IsPlan g s plan → StopsAt g e s (recovery_events s plan.writes.items plan.recovered.base) n → IsCutShort g e s n
+cut-short : (g : Geometry) (e : RecoverRefusal) (s n : DriveState) (plan : Plan) → IsQuiescentDrive g s → IsPlan g s plan → StopsAt g e s (recovery_events s plan.writes.items plan.recovered.base) n → IsCutShort g e s n
 cut-short g e s n plan still planned stops =
     let top : ℕ = plan.recovered.base in
     let all : Writes = plan.writes.items in
@@ -161,13 +161,13 @@ cut-short g e s n plan still planned stops =
     }
 
 -- among the home writes
-pub cut-homes : (g : Geometry) (e : RecoverRefusal) (s n : DriveState) (plan : Plan) → IsStill g s → IsPlan g s plan → StopsAt g e s (home_events plan.writes.items) n → IsCutShort g e s n
+pub cut-homes : (g : Geometry) (e : RecoverRefusal) (s n : DriveState) (plan : Plan) → IsQuiescentDrive g s → IsPlan g s plan → StopsAt g e s (home_events plan.writes.items) n → IsCutShort g e s n
 cut-homes g e s n plan still planned stops =
     cut-short g e s n plan still planned
     (stops-more g e s n (home_events plan.writes.items) (base_events s.root.base plan.recovered.base ++ heads_events 0 s.queues) stops)
 
 -- before the base is certain
-pub cut-raise : (g : Geometry) (s n : DriveState) (root : PortState) (plan : Plan) → IsStill g s → IsPlan g s plan → AreAllHome g s plan n → IsCutRaise n.root plan.recovered.base root
+pub cut-raise : (g : Geometry) (s n : DriveState) (root : PortState) (plan : Plan) → IsQuiescentDrive g s → IsPlan g s plan → AreAllHome g s plan n → IsCutRaise n.root plan.recovered.base root
     → IsCutShort g Off s (drive n.queues root)
 cut-raise g s n root plan still planned home cut =
     let top : ℕ = plan.recovered.base in
@@ -183,7 +183,7 @@ cut-raise g s n root plan still planned home cut =
     cut.1))
 
 -- before all heads are certain
-pub cut-heads : (g : Geometry) (s n : DriveState) (news : List PortState) (root : PortState) (plan : Plan) → IsStill g s → IsPlan g s plan → AreAllHome g s plan n → root ≡ after_raise n.root plan.recovered.base → AreCutMoves n.queues news
+pub cut-heads : (g : Geometry) (s n : DriveState) (news : List PortState) (root : PortState) (plan : Plan) → IsQuiescentDrive g s → IsPlan g s plan → AreAllHome g s plan n → root ≡ after_raise n.root plan.recovered.base → AreCutMoves n.queues news
     → IsCutShort g Off s (drive news root)
 cut-heads g s n news root plan still planned home raised_is cut =
     let top : ℕ = plan.recovered.base in
@@ -215,7 +215,7 @@ own-images g d = record {
 }
 
 -- the stage at the end
-last-stage : (g : Geometry) (s m : DriveState) (plan : Plan) → IsStill g s → IsPlan g s plan → m ≡ after_events g s (recovery_events s plan.writes.items plan.recovered.base) → IsStage g s m plan.writes.items plan.recovered.base
+last-stage : (g : Geometry) (s m : DriveState) (plan : Plan) → IsQuiescentDrive g s → IsPlan g s plan → m ≡ after_events g s (recovery_events s plan.writes.items plan.recovered.base) → IsStage g s m plan.writes.items plan.recovered.base
 last-stage g s m plan still planned is =
     let top : ℕ = plan.recovered.base in
     let all : Writes = plan.writes.items in
@@ -226,14 +226,14 @@ last-stage g s m plan still planned is =
 
 -- the ports at the end
 record AreEnded (g : Geometry) (s n m : DriveState) (top : ℕ) : Type 0 where
-  still : IsStill g m
+  still : IsQuiescentDrive g m
   base : m.root.base ≡ top
   heads : (q : ℕ) → q < g.queues → (port_at m.queues q).head ≡ (port_at n.queues q).doorbell
   bells : (q : ℕ) → q < g.queues → (port_at m.queues q).doorbell ≡ (port_at n.queues q).doorbell
   blocks : (z : Option ℕ) → IsZone g z → (port_in m z).blocks ≡ (port_in n z).blocks
   begun : (z : Option ℕ) → IsZone g z → (port_in m z).begun ≡ (port_in n z).begun
 
-ended : (g : Geometry) (s n : DriveState) (news : List PortState) (root : PortState) (plan : Plan) → IsStill g s → AreAllHome g s plan n → root ≡ after_raise n.root plan.recovered.base → news ≡ map after_move n.queues
+ended : (g : Geometry) (s n : DriveState) (news : List PortState) (root : PortState) (plan : Plan) → IsQuiescentDrive g s → AreAllHome g s plan n → root ≡ after_raise n.root plan.recovered.base → news ≡ map after_move n.queues
     → AreEnded g s n (drive news root) plan.recovered.base
 ended g s n news root plan still home raised_is moved_is =
     let up = raised g n.root plan.recovered.base root home.ports.root (home.quiet None tt) raised_is in
@@ -264,7 +264,7 @@ ended g s n news root plan still home raised_is moved_is =
     by_zone P queues root None zone = root
     by_zone P queues root (Some q) zone = queues q zone
 
-pub done : (g : Geometry) (s n : DriveState) (news : List PortState) (root : PortState) (plan : Plan) → IsStill g s → IsPlan g s plan → AreAllHome g s plan n → root ≡ after_raise n.root plan.recovered.base → news ≡ map after_move n.queues
+pub done : (g : Geometry) (s n : DriveState) (news : List PortState) (root : PortState) (plan : Plan) → IsQuiescentDrive g s → IsPlan g s plan → AreAllHome g s plan n → root ≡ after_raise n.root plan.recovered.base → news ≡ map after_move n.queues
     → IsDone g s plan.recovered.prefix plan.recovered.base (drive news root)
 done g s n news root plan still planned home raised_is moved_is =
     let top : ℕ = plan.recovered.base in

@@ -11,7 +11,7 @@ use Rattle.mq_blocks.specs.declared.geometry.Geometry.{Geometry}
 use Rattle.mq_ledger.specs.Items.{AreRead}
 use Rattle.mq_ledger.specs.Sides.{AreHome, home_index, home_index_in, flushed_at}
 use Rattle.mq_ledger.specs.State.{IsStartPort, known_of, port_at, from_at}
-use Rattle.mq_recover.specs.Drives.{DriveState, IsStillPort, IsStill, view_over}
+use Rattle.mq_recover.specs.Drives.{DriveState, IsQuiescentPort, IsQuiescentDrive, view_over}
 use Rattle.mq_recover.specs.Recovery.{IsRead, IsStartDrive, started}
 use Rattle.mq_recover.specs.Written.{journal_entries}
 use Rattle.mq_recover.proofs.CutImages.{newest-low}
@@ -31,21 +31,21 @@ from-at (p ∷ ps) (suc q) = from-at ps q
 abbrev pub HoldsHomes : Geometry → DriveState → List (Option (List ℕ)) → Type 0
 HoldsHomes g d start = (x : ℕ) (content : List ℕ) → x < homes_of g → get_or start x None ≡ Some content → (view_over g d).home x ≡ content
 
-start-homes : (g : Geometry) (d : DriveState) (start : List (Option (List ℕ))) (z : Option ℕ) → IsZone g z → IsStillPort g (role_in z) (port_in d z) → HoldsHomes g d start → AreHome (known_of journal_entries (started g d start)) z (port_in d z)
+start-homes : (g : Geometry) (d : DriveState) (start : List (Option (List ℕ))) (z : Option ℕ) → IsZone g z → IsQuiescentPort g (role_in z) (port_in d z) → HoldsHomes g d start → AreHome (known_of journal_entries (started g d start)) z (port_in d z)
 start-homes g d start z zone still holds x v content inside in_zone due mapped last_low =
     let p : PortState = port_in d z in
     let placed = placed-in g z p x in_zone still.port in
-    let sure_size = still.port.sure in
+    let certain_size = still.port.certain in
     let high = placed.high in
     let at : home_index g x ≡ home_index_in g z x = ap (λ (y : Option ℕ). home_index_in g y x) in_zone in
     let here : block_at (port_in d (zone_of g x)).blocks (home_index g x) ≡ content = sym (view-home g d x) ∙ holds x content inside mapped in
     record {
-      certain = record { sure = still.quiet.sure (home_index g x) (omega arith); apart = apart-none p (home_index g x) p.posted still.quiet.posted };
+      certain = record { certain = still.quiet.certain (home_index g x) (omega arith); apart = apart-none p (home_index g x) p.posted still.quiet.posted };
       is = ap (λ (y : Option ℕ). block_at (port_in d y).blocks (home_index g x)) (sym in_zone) ∙ here;
     }
 
 -- a port that has one image, whose head is at its doorbell
-start-port : (g : Geometry) (d : DriveState) (start : List (Option (List ℕ))) (z : Option ℕ) (from : ℕ) → IsZone g z → IsStillPort g (role_in z) (port_in d z) → HoldsHomes g d start
+start-port : (g : Geometry) (d : DriveState) (start : List (Option (List ℕ))) (z : Option ℕ) (from : ℕ) → IsZone g z → IsQuiescentPort g (role_in z) (port_in d z) → HoldsHomes g d start
     → (port_in d z).doorbell ≡ from → (port_in d z).head ≡ from → from ≤ number_limit
     → (0 < from → (n : ℕ) × (lba : ℕ) × (says (flushed_at (port_in d z) (from - 1)) ≡ Some (n, lba, true)) × (n ≤ d.root.base))
     → IsStartPort journal_entries (started g d start) z from (port_in d z)
@@ -66,7 +66,7 @@ start-port g d start z from zone still holds bell head low newest =
       homes = start-homes g d start z zone still holds;
     }
 
-queue-start : (g : Geometry) (d : DriveState) (start : List (Option (List ℕ))) (base q : ℕ) → IsStill g d → (port_at d.queues q).head ≡ (port_at d.queues q).doorbell → IsRead g (view_over g d) [] base → d.root.base ≡ base → HoldsHomes g d start → q < g.queues
+queue-start : (g : Geometry) (d : DriveState) (start : List (Option (List ℕ))) (base q : ℕ) → IsQuiescentDrive g d → (port_at d.queues q).head ≡ (port_at d.queues q).doorbell → IsRead g (view_over g d) [] base → d.root.base ≡ base → HoldsHomes g d start → q < g.queues
     → IsStartPort journal_entries (started g d start) (Some q) (port_at d.queues q).doorbell (port_at d.queues q)
 queue-start g d start base q still at read base_is holds own =
     let p : PortState = port_at d.queues q in
@@ -87,7 +87,7 @@ queue-start g d start base q still at read base_is holds own =
     ))
 
 -- over the base that is its greatest number, with all heads at their doorbells
-pub starts : (g : Geometry) (d : DriveState) (base : ℕ) → IsStill g d → ((q : ℕ) → q < g.queues → (port_at d.queues q).head ≡ (port_at d.queues q).doorbell) → IsRead g (view_over g d) [] base → d.root.base ≡ base → IsStartDrive g d
+pub starts : (g : Geometry) (d : DriveState) (base : ℕ) → IsQuiescentDrive g d → ((q : ℕ) → q < g.queues → (port_at d.queues q).head ≡ (port_at d.queues q).doorbell) → IsRead g (view_over g d) [] base → d.root.base ≡ base → IsStartDrive g d
 starts g d base still heads read base_is start long holds =
     let limit = read.whole.limit in
     record {
@@ -100,7 +100,7 @@ starts g d base still heads read base_is start long holds =
       ports = still.count;
       marked = length-replicate g.queues (2 ^ 64 - 1);
       marks = λ q own. get_or-replicate g.queues q (2 ^ 64 - 1) 0 own;
-      under = refl;
+      writing = refl;
       acknowledged = refl;
       each = λ q own.
           subst (λ (n : ℕ). IsStartPort journal_entries (started g d start) (Some q) n (port_at d.queues q)) (sym (from-at d.queues q))

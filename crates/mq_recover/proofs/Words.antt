@@ -3,7 +3,7 @@ use Rattle.std.proofs.Common.{◌≡◌, ◌<◌, ⊎_elim, ℕ, suc, ◌+◌, B
 use Rattle.std.proofs.lemmas.Bool.{cases_eq, eq-eqb, ne_eqb}
 use Rattle.std.proofs.lemmas.List.{append-nil, get_or_at, length-append, length-map, length-take-le, set_at, take-append-drop, drop_more}
 use Rattle.std.specs.Prelude.{nat_eq, if◌then◌else◌}
-use Rattle.mq_blocks.specs.Drive.{PortState, IsQuiet, after_flush, after_store_base, after_store_head}
+use Rattle.mq_blocks.specs.Drive.{PortState, IsQuiescent, after_flush, after_store_base, after_store_head}
 use Rattle.mq_blocks.specs.declared.geometry.Geometry.{Geometry}
 use Rattle.mq_ledger.specs.State.{no_port, port_at}
 use Rattle.mq_drive.specs.Start.{IsPortOf}
@@ -30,7 +30,7 @@ raised-base s base = ⊎_elim
     (cases_eq s.base base)
 
 -- a port without staged entries is quiet once its words are flushed
-word-flushed : (s : PortState) (stored_head stored_base events : ℕ) → IsQuiet s → IsQuiet (after_flush (record s { stored_head = stored_head; stored_base = stored_base; events = events }))
+word-flushed : (s : PortState) (stored_head stored_base events : ℕ) → IsQuiescent s → IsQuiescent (after_flush (record s { stored_head = stored_head; stored_base = stored_base; events = events }))
 word-flushed s stored_head stored_base events q =
     let none : length s.pending ≡ 0 = ap length q.pending in
     record {
@@ -40,24 +40,24 @@ word-flushed s stored_head stored_base events q =
       failed = q.failed;
       head = refl;
       base = refl;
-      sure = q.sure;
+      certain = q.certain;
     }
 
 pub record IsRaised (g : Geometry) (s : PortState) (base : ℕ) (t : PortState) : Type 0 where
   pub port : IsPortOf g Root t
-  pub quiet : IsQuiet t
+  pub quiet : IsQuiescent t
   pub base_is : t.base ≡ base
   pub doorbell_is : t.doorbell ≡ s.doorbell
   pub head_is : t.head ≡ s.head
   pub blocks_are : t.blocks ≡ s.blocks
   pub begun_is : t.begun ≡ s.begun
 
-pub raised : (g : Geometry) (s : PortState) (base : ℕ) (t : PortState) → IsPortOf g Root s → IsQuiet s → t ≡ after_raise s base → IsRaised g s base t
+pub raised : (g : Geometry) (s : PortState) (base : ℕ) (t : PortState) → IsPortOf g Root s → IsQuiescent s → t ≡ after_raise s base → IsRaised g s base t
 raised g s base t p q is =
     let stored : PortState = after_store_base s base in
     subst (IsRaised g s base) (sym is) (record {
       port = raised-as (IsPortOf g Root) s base p (flush-port g Root stored (word-port g Root s s.stored_head base stored.events p));
-      quiet = raised-as IsQuiet s base q (word-flushed s s.stored_head base stored.events q);
+      quiet = raised-as IsQuiescent s base q (word-flushed s s.stored_head base stored.events q);
       base_is = raised-base s base;
       doorbell_is = raised-as (λ (u : PortState). u.doorbell ≡ s.doorbell) s base refl refl;
       head_is = raised-as (λ (u : PortState). u.head ≡ s.head) s base refl q.head;
@@ -81,18 +81,18 @@ moved-head s = ⊎_elim
 
 pub record IsMoved (g : Geometry) (role : Role) (s t : PortState) : Type 0 where
   pub port : IsPortOf g role t
-  pub quiet : IsQuiet t
+  pub quiet : IsQuiescent t
   pub head_is : t.head ≡ s.doorbell
   pub doorbell_is : t.doorbell ≡ s.doorbell
   pub blocks_are : t.blocks ≡ s.blocks
   pub begun_is : t.begun ≡ s.begun
 
-pub moved : (g : Geometry) (role : Role) (s : PortState) → IsPortOf g role s → IsQuiet s → IsMoved g role s (after_move s)
+pub moved : (g : Geometry) (role : Role) (s : PortState) → IsPortOf g role s → IsQuiescent s → IsMoved g role s (after_move s)
 moved g role s p q =
     let stored : PortState = after_store_head s s.doorbell in
     record {
       port = moved-as (IsPortOf g role) s p (flush-port g role stored (word-port g role s s.doorbell s.stored_base stored.events p));
-      quiet = moved-as IsQuiet s q (word-flushed s s.doorbell s.stored_base stored.events q);
+      quiet = moved-as IsQuiescent s q (word-flushed s s.doorbell s.stored_base stored.events q);
       head_is = moved-head s;
       doorbell_is = moved-as (λ (u : PortState). u.doorbell ≡ s.doorbell) s refl refl;
       blocks_are = moved-as (λ (u : PortState). u.blocks ≡ s.blocks) s refl refl;

@@ -13,7 +13,7 @@ use Rattle.mq_ledger.specs.State.{port_at}
 use Rattle.mq_drive.specs.Start.{IsPortOf, area_size_of}
 use Rattle.mq_drive.specs.declared.role.Role.{Role}
 use Rattle.mq_drive.specs.declared.role.Role.TheVariants.{Queue, Root}
-use Rattle.mq_recover.specs.Drives.{DriveState, IsStillPort, ArePorts, IsStill, AreImages, at_queue, view_over}
+use Rattle.mq_recover.specs.Drives.{DriveState, IsQuiescentPort, ArePorts, IsQuiescentDrive, AreImages, at_queue, view_over}
 use Rattle.mq_recover.specs.Steps.{at_home}
 
 -- ---- a port by its zone
@@ -63,11 +63,11 @@ ports-in g d ports (Some q) zone = ports.each q zone
 pub ports-of : (g : Geometry) (d : DriveState) → length d.queues ≡ g.queues → ((z : Option ℕ) → IsZone g z → IsPortOf g (role_in z) (port_in d z)) → ArePorts g d
 ports-of g d count each = record { count = count; each = λ q low. each (Some q) low; root = each None tt }
 
-pub still-in : (g : Geometry) (d : DriveState) → IsStill g d → (z : Option ℕ) → IsZone g z → IsStillPort g (role_in z) (port_in d z)
+pub still-in : (g : Geometry) (d : DriveState) → IsQuiescentDrive g d → (z : Option ℕ) → IsZone g z → IsQuiescentPort g (role_in z) (port_in d z)
 still-in g d still None zone = still.root
 still-in g d still (Some q) zone = still.each q zone
 
-pub still-ports : (g : Geometry) (d : DriveState) → IsStill g d → ArePorts g d
+pub still-ports : (g : Geometry) (d : DriveState) → IsQuiescentDrive g d → ArePorts g d
 still-ports g d still = record { count = still.count; each = λ q low. (still.each q low).port; root = still.root.port }
 
 pub images-in : (g : Geometry) (d : DriveState) (queues : List PortImage) (root : PortImage) → AreImages g d queues root → (z : Option ℕ) → IsZone g z → IsImage (port_in d z) (image_in queues root z)
@@ -221,7 +221,7 @@ port-of g None p port = record {
   flushed = port.flushed;
   staged = port.staged;
   blocks = port.blocks;
-  sure = port.sure ∙ port.blocks;
+  certain = port.certain ∙ port.blocks;
 }
 port-of g (Some q) p port = record {
   queue = port.queue;
@@ -232,7 +232,7 @@ port-of g (Some q) p port = record {
   flushed = port.flushed;
   staged = port.staged;
   blocks = port.blocks;
-  sure = port.sure ∙ port.blocks;
+  certain = port.certain ∙ port.blocks;
 }
 
 -- a home block is one of its port's

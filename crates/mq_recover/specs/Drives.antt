@@ -1,7 +1,7 @@
 -- The ports of a drive as recovery sees them, and what their images show.
 use Rattle.std.specs.Prelude.{◌≡◌, ◌<◌, ℕ, List, length, map, slice_set}
 use Rattle.mq_nvme.specs.Says.{says}
-use Rattle.mq_blocks.specs.Drive.{PortState, PortImage, IsImage, IsQuiet, image_of}
+use Rattle.mq_blocks.specs.Drive.{PortState, PortImage, IsImage, IsQuiescent, image_of}
 use Rattle.mq_blocks.specs.Journal.{Shown, shown, image_at}
 use Rattle.mq_blocks.specs.declared.geometry.Geometry.{Geometry}
 use Rattle.mq_ledger.specs.State.{port_at}
@@ -33,9 +33,9 @@ at_root f d = drive d.queues (f d.root)
 abbrev pub view_over : Geometry → DriveState → Shown
 view_over g d = shown says g (map image_of d.queues) (image_of d.root)
 
-pub record IsStillPort (g : Geometry) (role : Role) (p : PortState) : Type 0 where
+pub record IsQuiescentPort (g : Geometry) (role : Role) (p : PortState) : Type 0 where
   pub port : IsPortOf g role p
-  pub quiet : IsQuiet p
+  pub quiet : IsQuiescent p
 
 -- these are the ports of a drive of this geometry
 pub record ArePorts (g : Geometry) (d : DriveState) : Type 0 where
@@ -44,10 +44,10 @@ pub record ArePorts (g : Geometry) (d : DriveState) : Type 0 where
   pub root : IsPortOf g Root d.root
 
 -- and each of them has one image
-pub record IsStill (g : Geometry) (d : DriveState) : Type 0 where
+pub record IsQuiescentDrive (g : Geometry) (d : DriveState) : Type 0 where
   pub count : length d.queues ≡ g.queues
-  pub each : (q : ℕ) → q < g.queues → IsStillPort g (Queue q) (port_at d.queues q)
-  pub root : IsStillPort g Root d.root
+  pub each : (q : ℕ) → q < g.queues → IsQuiescentPort g (Queue q) (port_at d.queues q)
+  pub root : IsQuiescentPort g Root d.root
   -- the root has no ring
   pub ringless : HasWords Root (image_of d.root)
 

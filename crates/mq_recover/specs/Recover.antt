@@ -12,7 +12,7 @@ use Rattle.mq_drive.specs.Start.{IsPortOf}
 use Rattle.mq_drive.specs.declared.role.Role.TheVariants.{Queue}
 use Rattle.mq_area.specs.declared.descriptor.PlaceIs.{PlaceIs}
 use Rattle.mq_area.specs.declared.descriptor.PlaceIs.TheVariants.{Index, Exact}
-use Rattle.mq_recover.specs.declared.copies.Spot.{Spot}
+use Rattle.mq_recover.specs.declared.copies.CopyPlace.{CopyPlace}
 
 -- the image shows this port as queue q, over this base
 pub record IsSeenAt (q base : ℕ) (s : PortState) (i : Shown) : Type 0 where
@@ -37,45 +37,45 @@ IsWithinReach g newest d = unwrap_or newest d.place < (d.place - length d.logged
 
 -- ---- copies
 
-abbrev pub spot_at : (queue place : ℕ) → Spot
+abbrev pub spot_at : (queue place : ℕ) → CopyPlace
 spot_at queue place = record { queue = queue; place = place }
 
 -- the queue is one of so many
-abbrev pub IsSpotOf : ℕ → Option Spot → Type 0
+abbrev pub IsSpotOf : ℕ → Option CopyPlace → Type 0
 IsSpotOf queues None = Unit {0}
 IsSpotOf queues (Some spot) = spot.queue < queues
 
-abbrev pub or_place : Option Spot → Option Spot → Option Spot
+abbrev pub or_place : Option CopyPlace → Option CopyPlace → Option CopyPlace
 or_place (Some spot) old = Some spot
 or_place None old = old
 
 -- where the copy of a block stands among the logged ones, which stand from a place of a queue on
-abbrev pub logged_place : (queue place : ℕ) → List ℕ → ℕ → Option Spot
+abbrev pub logged_place : (queue place : ℕ) → List ℕ → ℕ → Option CopyPlace
 logged_place queue place [] x = None
 logged_place queue place (b ∷ bs) x = if nat_eq b x then Some (spot_at queue place) else logged_place queue (place + 1) bs x
 
 -- where the newest logged copy of a block stands that no later transaction revokes, the newest
 -- descriptor first
-abbrev pub copy_of : List Descriptor → ℕ → Option Spot
+abbrev pub copy_of : List Descriptor → ℕ → Option CopyPlace
 copy_of [] x = None
 copy_of (d ∷ ds) x = or_place (logged_place d.queue (d.place - length d.logged) d.logged x) (if is_among x d.revoked then None else copy_of ds x)
 
 -- where the copies of all blocks stand, where these blocks have none
-abbrev pub forgotten : List (Option Spot) → List ℕ → List (Option Spot)
+abbrev pub forgotten : List (Option CopyPlace) → List ℕ → List (Option CopyPlace)
 forgotten copies [] = copies
 forgotten copies (b ∷ bs) = forgotten (slice_set copies b None) bs
 
 -- the same where these blocks have copies from a place of a queue on
-abbrev pub noted : List (Option Spot) → (queue place : ℕ) → List ℕ → List (Option Spot)
+abbrev pub noted : List (Option CopyPlace) → (queue place : ℕ) → List ℕ → List (Option CopyPlace)
 noted copies queue place [] = copies
 noted copies queue place (b ∷ bs) = noted (slice_set copies b (Some (spot_at queue place))) queue (place + 1) bs
 
 -- the same after one more transaction
-abbrev pub with_transaction : List (Option Spot) → Descriptor → List (Option Spot)
+abbrev pub with_transaction : List (Option CopyPlace) → Descriptor → List (Option CopyPlace)
 with_transaction copies d = noted (forgotten copies d.revoked) d.queue (d.place - length d.logged) d.logged
 
 -- the same after all of them, on a drive with so many home blocks
-abbrev pub with_all : ℕ → List Descriptor → List (Option Spot)
+abbrev pub with_all : ℕ → List Descriptor → List (Option CopyPlace)
 with_all homes [] = replicate homes None
 with_all homes (d ∷ ds) = with_transaction (with_all homes ds) d
 
@@ -94,6 +94,6 @@ AreFalling low high [] = Unit {0}
 AreFalling low high (d ∷ ds) = (low < d.number) × (d.number < high) × AreFalling low d.number ds
 
 -- the content of the copy that stands there, in journal areas of so many blocks
-abbrev pub content_of : (ℕ → ℕ → List ℕ) → ℕ → Option Spot → Option (List ℕ)
+abbrev pub content_of : (ℕ → ℕ → List ℕ) → ℕ → Option CopyPlace → Option (List ℕ)
 content_of area size None = None
 content_of area size (Some spot) = Some (area spot.queue (spot.place % size))

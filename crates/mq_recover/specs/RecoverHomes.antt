@@ -1,17 +1,17 @@
 -- Copies that are written home.
 use Rattle.std.specs.Prelude.{◌≡◌, ◌≢◌, ◌⊎◌, ◌<◌, ◌≤◌, ℕ, ◌+◌, ◌%◌, List, [], ◌∷◌, ◌++◌, length, map, take, drop, Option, Some, None, Result, Ok, Err, nat_eq, if◌then◌else◌}
-use Rattle.mq_blocks.specs.Drive.{PortState, IsQuiet, after_begin, after_end, after_flush, after_store_base, after_store_head}
+use Rattle.mq_blocks.specs.Drive.{PortState, IsQuiescent, after_begin, after_end, after_flush, after_store_base, after_store_head}
 use Rattle.mq_blocks.specs.Geometry.{home_lba}
 use Rattle.mq_blocks.specs.Machine.{Writes, or_kept}
 use Rattle.mq_blocks.specs.declared.geometry.Geometry.{Geometry}
 use Rattle.mq_ledger.specs.State.{port_at}
 use Rattle.mq_recover.specs.Drives.{DriveState, at_queue, at_root}
-use Rattle.mq_recover.specs.declared.copies.Spot.{Spot}
+use Rattle.mq_recover.specs.declared.copies.CopyPlace.{CopyPlace}
 use Rattle.mq_recover.specs.declared.refusal.RecoverRefusal.{RecoverRefusal}
 use Rattle.mq_recover.specs.declared.refusal.RecoverRefusal.TheVariants.{Image, Off, Failed}
 
 -- the writes of the copies that stand there, which are those of the blocks from b on
-abbrev pub writes_from : (ℕ → ℕ → List ℕ) → ℕ → ℕ → List (Option Spot) → Writes
+abbrev pub writes_from : (ℕ → ℕ → List ℕ) → ℕ → ℕ → List (Option CopyPlace) → Writes
 writes_from area size b [] = []
 writes_from area size b (None ∷ copies) = writes_from area size (b + 1) copies
 writes_from area size b (Some spot ∷ copies) = (b, area spot.queue (spot.place % size)) ∷ writes_from area size (b + 1) copies
@@ -59,7 +59,7 @@ IsCutMove s t = (s.head ≢ s.doorbell) × ((t ≡ s) ⊎ (t ≡ after_store_hea
 
 -- the head may go to the doorbell
 pub record CanMove (s : PortState) : Type 0 where
-  pub quiet : IsQuiet s
+  pub quiet : IsQuiescent s
   pub order : s.head ≤ s.doorbell
 
 -- the heads before one went to their doorbells, this one was refused, and those after it are as before

@@ -7,7 +7,7 @@ use Rattle.mq_blocks.specs.Geometry.{homes_of}
 use Rattle.mq_blocks.specs.Journal.{Shown, shown, AreWhole, IsPrefix, IsTop, stands}
 use Rattle.mq_blocks.specs.declared.geometry.Geometry.{Geometry}
 use Rattle.mq_ledger.specs.State.{State, IsStart, port_at}
-use Rattle.mq_recover.specs.Drives.{DriveState, IsStill, AreImages, view_over}
+use Rattle.mq_recover.specs.Drives.{DriveState, IsQuiescentDrive, AreImages, view_over}
 use Rattle.mq_recover.specs.Written.{journal_entries}
 
 -- An image is readable: the descriptors of its prefix, newest first, and the greatest number that it
@@ -26,7 +26,7 @@ pub record IsAtDoorbell (old new : PortState) : Type 0 where
 -- The home blocks hold what stood before by these descriptors, the base is the greatest number that
 -- the image showed, and the heads are at the doorbells.
 pub record IsRecovered (g : Geometry) (old : DriveState) (ds : List Descriptor) (top : ℕ) (new : DriveState) : Type 0 where
-  pub still : IsStill g new
+  pub still : IsQuiescentDrive g new
   pub homes : (b : ℕ) → b < homes_of g → (view_over g new).home b ≡ stands g (view_over g old) ds b
   pub base : new.root.base ≡ top
   pub heads : (q : ℕ) → q < g.queues → IsAtDoorbell (port_at old.queues q) (port_at new.queues q)
@@ -49,12 +49,12 @@ started g d start = record {
   geometry = g;
   start = start;
   base = d.root.base;
-  froms = map (λ p. p.doorbell) d.queues;
+  starts = map (λ p. p.doorbell) d.queues;
   history = [];
   ports = d.queues;
   root = d.root;
   marks = replicate g.queues (2 ^ 64 - 1);
-  under = [];
+  writing = [];
   acknowledged = [];
 }
 

@@ -8,11 +8,11 @@ use Rattle.mq_blocks.specs.declared.geometry.Geometry.{Geometry}
 use Rattle.mq_recover.specs.Drives.{DriveState, view_over}
 use Rattle.mq_recover.specs.Recovery.{IsRead}
 use Rattle.mq_recover.specs.Recover.{content_of}
-use Rattle.mq_recover.specs.declared.copies.Spot.{Spot}
+use Rattle.mq_recover.specs.declared.copies.CopyPlace.{CopyPlace}
 use Rattle.mq_recover.specs.declared.standing.Standing.{Standing}
 
 -- the content of a block's copy, if it has one somewhere, else what is at home
-abbrev pub newest_of : Geometry → DriveState → Option Spot → ℕ → List ℕ
+abbrev pub newest_of : Geometry → DriveState → Option CopyPlace → ℕ → List ℕ
 newest_of g d copy b = or_else (content_of (view_over g d).area g.area copy) ((view_over g d).home b)
 
 -- each home block is what stands by these descriptors, whose count is the prefix, and the base and

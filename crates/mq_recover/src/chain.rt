@@ -2,7 +2,7 @@
 ghost use Rattle.std.specs.Prelude.{◌≡◌, ◌≢◌, ◌⊎◌, ◌<◌, ◌≤◌, ◌-◌, ◌%◌, ℕ, List, [], length, IfOk, IfErr, IsErrOf, IsOk, Some, true, slice_index_or, MatchOption, MatchResult};
 ghost use Rattle.mq_blocks.specs.Blocks.{block_at};
 ghost use Rattle.mq_blocks.specs.Descriptor.{Descriptor as Text};
-ghost use Rattle.mq_blocks.specs.Drive.{IsQuiet, depth};
+ghost use Rattle.mq_blocks.specs.Drive.{IsQuiescent, depth};
 ghost use Rattle.mq_blocks.specs.Geometry.{queues_of, area_of, area_lba};
 ghost use Rattle.mq_blocks.specs.Journal.{Shown, IsQueueChain};
 ghost use Rattle.mq_nvme.specs.Says.{says};
@@ -60,7 +60,7 @@ pub fn read_chain<P: Port>(
     base: TxNo,
 ) -> Result<Chain, ChainRefusal>
     requires port { IsQueuePort geometry (P.state port.now) }
-    requires quiet { IsQuiet (P.state port.now) }
+    requires quiet { IsQuiescent (P.state port.now) }
     ensures ok { IfOk result (λ c. (q : ℕ) (i : Shown) → (P.state port.now).queue ≡ Some q → IsSeenAt q base (P.state port.now) i → IsQueueChain geometry i q c) }
     ensures refused { IfErr result (λ e. (e ≡ ChainRefusal.OutOfMemory) ⊎ ((q : ℕ) → (P.state port.now).queue ≡ Some q → RefusesQueue geometry (P.state port.now) q base e)) }
     ensures complete { (q : ℕ) (i : Shown) (ds : List Text) → (P.state port.now).queue ≡ Some q → IsSeenAt q base (P.state port.now) i → IsQueueChain geometry i q ds → MatchResult result (λ c. c ≡ ds) (λ e. e ≡ ChainRefusal.OutOfMemory) }
@@ -82,7 +82,7 @@ fn read_own<P: Port>(
 ) -> Result<Chain, ChainRefusal>
     requires queue { queue < queues_of geometry }
     requires port { IsPortOf geometry (Role.Queue queue) (P.state port.now) }
-    requires quiet { IsQuiet (P.state port.now) }
+    requires quiet { IsQuiescent (P.state port.now) }
     ensures ok { IfOk result (IsReadable geometry (P.state port.now) queue base) }
     ensures refused { IfErr result (λ e. (e ≡ ChainRefusal.OutOfMemory) ⊎ RefusesQueue geometry (P.state port.now) queue base e) }
 {
@@ -100,7 +100,7 @@ pub fn read_queue<P: Port>(
 ) -> Result<QueueRead, ChainRefusal>
     requires queue { queue < queues_of geometry }
     requires port { IsPortOf geometry (Role.Queue queue) (P.state port.now) }
-    requires quiet { IsQuiet (P.state port.now) }
+    requires quiet { IsQuiescent (P.state port.now) }
     ensures ok { IfOk result (λ r. IsReadable geometry (P.state port.now) queue base r.chain) }
     ensures greatest { IfOk result (λ r. IsGreatest (P.state port.now) (P.state port.now).head (P.state port.now).doorbell r.greatest) }
     ensures refused { IfErr result (λ e. (e ≡ ChainRefusal.OutOfMemory) ⊎ RefusesQueue geometry (P.state port.now) queue base e) }
@@ -114,7 +114,7 @@ pub fn read_queue<P: Port>(
 
 // Checks the words of a queue.
 fn check_words<P: Port>(port: &P) -> Result<(), ChainRefusal>
-    requires quiet { IsQuiet (P.state port.now) }
+    requires quiet { IsQuiescent (P.state port.now) }
     ensures ok { IfOk result (λ _. AreWords (P.state port.now)) }
     ensures refused { IfErr result (λ e. (e ≡ ChainRefusal.Words) × (AreWords (P.state port.now) → ⊥)) }
 {
@@ -129,7 +129,7 @@ fn check_words<P: Port>(port: &P) -> Result<(), ChainRefusal>
 // The entry before the head; before any entry its number is 0.
 fn read_newest<P: Port>(port: &P) -> Result<Newest, ChainRefusal>
     requires slots { length (P.state port.now).flushed ≡ depth }
-    requires quiet { IsQuiet (P.state port.now) }
+    requires quiet { IsQuiescent (P.state port.now) }
     ensures ok { IfOk result (λ n. IsNewest (P.state port.now) n.number n.lba) }
     ensures refused { IfErr result (RefusesNewest (P.state port.now)) }
 {
@@ -154,7 +154,7 @@ fn read_newest<P: Port>(port: &P) -> Result<Newest, ChainRefusal>
 // request.
 fn read_rung<P: Port>(port: &P) -> Result<u64, ChainRefusal>
     requires slots { length (P.state port.now).flushed ≡ depth }
-    requires quiet { IsQuiet (P.state port.now) }
+    requires quiet { IsQuiescent (P.state port.now) }
     requires order { (P.state port.now).head ≤ (P.state port.now).doorbell }
     ensures rung { IfOk result (λ _. AreRung (P.state port.now) (P.state port.now).head (P.state port.now).doorbell) }
     ensures whole { IfOk result (λ _. IsRungWhole (P.state port.now)) }
@@ -180,7 +180,7 @@ fn read_rung<P: Port>(port: &P) -> Result<u64, ChainRefusal>
 // The request in the slot of a count.
 fn read_request<P: Port>(port: &P, at: u64) -> Result<WriteReq, ChainRefusal>
     requires slots { length (P.state port.now).flushed ≡ depth }
-    requires quiet { IsQuiet (P.state port.now) }
+    requires quiet { IsQuiescent (P.state port.now) }
     ensures ok { IfOk result (λ r. says (entry_at (P.state port.now) at) ≡ Some (r.tx, r.lba, r.commit)) }
     ensures refused { IfErr result (RefusesEntry (P.state port.now) at) }
 {
@@ -202,7 +202,7 @@ fn follow<P: Port>(
 ) -> Result<Chain, ChainRefusal>
     requires queue { queue < queues_of geometry }
     requires port { IsPortOf geometry (Role.Queue queue) (P.state port.now) }
-    requires quiet { IsQuiet (P.state port.now) }
+    requires quiet { IsQuiescent (P.state port.now) }
     ensures ok { IfOk result (IsWholeChain geometry (P.state port.now) queue base newest.number newest.lba) }
     ensures refused { IfErr result (λ e. (e ≡ ChainRefusal.OutOfMemory) ⊎ RefusesChain geometry (P.state port.now) queue base newest.number newest.lba e) }
 {
@@ -245,7 +245,7 @@ fn follow_from<P: Port>(
 ) -> Result<Chain, ChainRefusal>
     requires queue { queue < queues_of geometry }
     requires port { IsPortOf geometry (Role.Queue queue) (P.state port.now) }
-    requires quiet { IsQuiet (P.state port.now) }
+    requires quiet { IsQuiescent (P.state port.now) }
     requires above { base < start.number }
     requires index { IsIndex geometry queue start.lba index }
     ensures ok { IfOk result (IsWholeChain geometry (P.state port.now) queue base start.number start.lba) }
@@ -282,7 +282,7 @@ fn read_next<P: Port>(
 ) -> Result<Descriptor, ChainRefusal>
     requires queue { at.now.queue < queues_of geometry }
     requires port { IsPortOf geometry (Role.Queue at.now.queue) (P.state port.now) }
-    requires quiet { IsQuiet (P.state port.now) }
+    requires quiet { IsQuiescent (P.state port.now) }
     ensures ok { IfOk result (IsFoundNext geometry (P.state port.now) at.now.queue at.now.number at.now.place newest) }
     ensures refused { IfErr result (λ e. (e ≡ ChainRefusal.OutOfMemory) ⊎ RefusesNext geometry (P.state port.now) at.now.queue at.now.number at.now.place newest e) }
 {
@@ -329,7 +329,7 @@ pub fn read_area<P: Port>(
 )
     requires queue { queue < queues_of geometry }
     requires port { IsPortOf geometry (Role.Queue queue) (P.state port.now) }
-    requires quiet { IsQuiet (P.state port.now) }
+    requires quiet { IsQuiescent (P.state port.now) }
     ensures { block.new ≡ block_at (P.state port.now).blocks (place % area_of geometry) }
 {
     port.read_block(geometry.area_lba(queue, place), block);

@@ -15,7 +15,7 @@ use std::alloc::Global;
 
 // Where a copy stands: a place of a queue's journal area.
 #[derive(Clone, Copy, Debug, PartialEq, Eq)]
-pub struct Spot {
+pub struct CopyPlace {
     pub queue: QueueNo,
     pub place: u64,
 }
@@ -24,7 +24,7 @@ pub struct Spot {
 #[derive(Drop)]
 pub struct Copies {
     // For each home block where its newest logged copy stands that no later transaction revokes.
-    pub places: Vec<Option<Spot>>,
+    pub places: Vec<Option<CopyPlace>>,
     // The number of these transactions.
     pub prefix: u64,
 }
@@ -56,7 +56,7 @@ pub fn place_copies(
 }
 
 // The copies after one more transaction.
-fn take_over(copies: &mut [Option<Spot>], next: &Descriptor)
+fn take_over(copies: &mut [Option<CopyPlace>], next: &Descriptor)
     requires logged { AreRising 0 (length copies.old) next.now.logged }
     requires revoked { AreRising 0 (length copies.old) next.now.revoked }
     requires fits { length next.now.logged ≤ next.now.place }
@@ -70,7 +70,7 @@ fn take_over(copies: &mut [Option<Spot>], next: &Descriptor)
 }
 
 // No block of these has a copy any more.
-fn forget(copies: &mut [Option<Spot>], revoked: &[BlockNo])
+fn forget(copies: &mut [Option<CopyPlace>], revoked: &[BlockNo])
     requires { AreRising 0 (length copies.old) revoked.now }
     ensures { copies.new ≡ forgotten copies.old revoked.now }
 {
@@ -80,14 +80,14 @@ fn forget(copies: &mut [Option<Spot>], revoked: &[BlockNo])
 }
 
 // These blocks have copies from a place of a queue on.
-fn note(copies: &mut [Option<Spot>], queue: QueueNo, first: u64, logged: &[BlockNo])
+fn note(copies: &mut [Option<CopyPlace>], queue: QueueNo, first: u64, logged: &[BlockNo])
     requires rising { AreRising 0 (length copies.old) logged.now }
     requires end { first + length logged.now ≤ 2 ^ 62 }
     ensures { copies.new ≡ noted copies.old queue first logged.now }
 {
     let mut place = first;
     for b in logged {
-        copies[b.0 as usize] = Some(Spot { queue, place });
+        copies[b.0 as usize] = Some(CopyPlace { queue, place });
         place += 1;
     }
 }

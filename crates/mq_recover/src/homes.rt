@@ -1,6 +1,6 @@
 // Writing copies home, the base past them, and the heads to the doorbells.
 ghost use Rattle.std.specs.Prelude.{◌≡◌, ◌<◌, ◌≤◌, ℕ, OnOk, OnErr, IfErr, IsNone, length, map};
-ghost use Rattle.mq_blocks.specs.Drive.{IsHome, IsQuiet};
+ghost use Rattle.mq_blocks.specs.Drive.{IsHome, IsQuiescent};
 ghost use Rattle.mq_blocks.specs.Geometry.{homes_of, home_lba, zone_of};
 ghost use Rattle.mq_ledger.specs.State.{port_at};
 ghost use Rattle.mq_drive.specs.Steps.{OffCause};
@@ -72,7 +72,7 @@ fn write_through<P: Port>(
 // Stores and flushes the base where it changes.
 pub fn raise_base<P: Port>(root: &mut P, base: TxNo) -> Result<(), Off>
     requires root { IsNone (P.state root.old).queue }
-    requires quiet { IsQuiet (P.state root.old) }
+    requires quiet { IsQuiescent (P.state root.old) }
     requires low { (P.state root.old).base ≤ base }
     ensures ok { OnOk result (P.state root.new ≡ after_raise (P.state root.old) base) }
     ensures cut { OnErr result (IsCutRaise (P.state root.old) base (P.state root.new)) }

@@ -1,14 +1,14 @@
 // What an image shows, and what goes home.
 ghost use Rattle.std.specs.Prelude.{◌≡◌, ◌≢◌, ◌⊎◌, ◌<◌, ◌≤◌, ℕ, IfOk, IfErr, IsErrOf, None, length, max, slice_index_or, ◌%◌};
 ghost use Rattle.mq_blocks.specs.Geometry.{area_of, homes_of};
-ghost use Rattle.mq_recover.specs.Drives.{IsStill, states, view_over};
+ghost use Rattle.mq_recover.specs.Drives.{IsQuiescentDrive, states, view_over};
 ghost use Rattle.mq_recover.specs.Plans.{AreRead, IsFoundIn, IsPlan, newest_number};
 ghost use Rattle.mq_recover.specs.Recover.{IsSpotOf};
 ghost use Rattle.mq_recover.specs.RecoverHomes.{writes_from};
 ghost use Rattle.mq_recover.specs.Refusals.{RefusesImage, RefusesSome};
 
 use crate::chain::{Chain, LIMIT, read_area, read_queue};
-use crate::copies::{Spot, place_copies};
+use crate::copies::{CopyPlace, place_copies};
 use crate::refusal::{ChainRefusal, ImageFault};
 use mq_blocks::{Block, BlockNo, Geometry, OutOfMemory, QueueNo, TxNo};
 use mq_drive::{Port, Ports};
@@ -36,7 +36,7 @@ pub struct QueuesRead {
 // Where the copies of the home blocks stand, and what a recovery of them recovers.
 #[derive(Drop)]
 pub struct Found {
-    pub places: Vec<Option<Spot>>,
+    pub places: Vec<Option<CopyPlace>>,
     pub recovered: Recovered,
 }
 
@@ -53,7 +53,7 @@ pub fn make_plan<P: Port>(
     geometry: Geometry,
     ports: &Ports<P>,
 ) -> Result<Plan, ImageFault>
-    requires { IsStill geometry (states P.state ports.now.queues.items ports.now.root) }
+    requires { IsQuiescentDrive geometry (states P.state ports.now.queues.items ports.now.root) }
     ensures ok { IfOk result (IsPlan geometry (states P.state ports.now.queues.items ports.now.root)) }
     ensures refused { IfErr result (λ e. (e ≡ ImageFault.OutOfMemory) ⊎ RefusesImage geometry (states P.state ports.now.queues.items ports.now.root) e) }
     ensures exact { (e : ImageFault) → RefusesImage geometry (states P.state ports.now.queues.items ports.now.root) e → IsErrOf result e ⊎ IsErrOf result ImageFault.OutOfMemory }
@@ -70,7 +70,7 @@ pub fn find_copies<P: Port>(
     geometry: Geometry,
     ports: &Ports<P>,
 ) -> Result<Found, ImageFault>
-    requires { IsStill geometry (states P.state ports.now.queues.items ports.now.root) }
+    requires { IsQuiescentDrive geometry (states P.state ports.now.queues.items ports.now.root) }
     ensures ok { IfOk result (IsFoundIn geometry (states P.state ports.now.queues.items ports.now.root)) }
     ensures refused { IfErr result (λ e. (e ≡ ImageFault.OutOfMemory) ⊎ RefusesImage geometry (states P.state ports.now.queues.items ports.now.root) e) }
 {
@@ -96,7 +96,7 @@ fn read_queues<P: Port>(
     ports: &Ports<P>,
     base: TxNo,
 ) -> Result<QueuesRead, ImageFault>
-    requires still { IsStill geometry (states P.state ports.now.queues.items ports.now.root) }
+    requires still { IsQuiescentDrive geometry (states P.state ports.now.queues.items ports.now.root) }
     requires base { base ≡ (P.state ports.now.root).base }
     ensures ok { IfOk result (AreRead geometry (states P.state ports.now.queues.items ports.now.root)) }
     ensures refused { IfErr result (λ e. (e ≡ ImageFault.OutOfMemory) ⊎ RefusesSome geometry (states P.state ports.now.queues.items ports.now.root) e) }
@@ -145,9 +145,9 @@ fn read_copies<P: Port>(
     alloc: Global,
     geometry: Geometry,
     ports: &Ports<P>,
-    copies: &[Option<Spot>],
+    copies: &[Option<CopyPlace>],
 ) -> Result<VecDeque<(BlockNo, Block)>, OutOfMemory>
-    requires still { IsStill geometry (states P.state ports.now.queues.items ports.now.root) }
+    requires still { IsQuiescentDrive geometry (states P.state ports.now.queues.items ports.now.root) }
     requires homes { length copies.now ≡ homes_of geometry }
     requires own { (x : ℕ) → IsSpotOf geometry.queues (slice_index_or copies.now x None) }
     ensures { IfOk result (λ w. w.items ≡ writes_from (view_over geometry (states P.state ports.now.queues.items ports.now.root)).area (area_of geometry) 0 copies.now) }
@@ -156,7 +156,7 @@ fn read_copies<P: Port>(
     for (b, copy) in copies.iter().enumerate() {
         if let Some(spot) = copy {
             let mut block = Block::zeroed(alloc)?;
-            read_spot(geometry, ports, *spot, &mut block);
+            read_copy_place(geometry, ports, *spot, &mut block);
             writes.push_back((BlockNo(b as u32), block))?;
         }
     }
@@ -164,8 +164,13 @@ fn read_copies<P: Port>(
 }
 
 // Reads the copy that stands there.
-pub fn read_spot<P: Port>(geometry: Geometry, ports: &Ports<P>, spot: Spot, into: &mut Block)
-    requires still { IsStill geometry (states P.state ports.now.queues.items ports.now.root) }
+pub fn read_copy_place<P: Port>(
+    geometry: Geometry,
+    ports: &Ports<P>,
+    spot: CopyPlace,
+    into: &mut Block,
+)
+    requires still { IsQuiescentDrive geometry (states P.state ports.now.queues.items ports.now.root) }
     requires own { spot.queue < geometry.queues }
     ensures { into.new ≡ (view_over geometry (states P.state ports.now.queues.items ports.now.root)).area spot.queue (spot.place % area_of geometry) }
 {

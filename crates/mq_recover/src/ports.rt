@@ -1,7 +1,7 @@
 // Recovery: what stands is written home, the base is raised past it, and the heads go to the
 // doorbells.
 ghost use Rattle.std.specs.Prelude.{◌≡◌, ◌⊎◌, length, IfOk, IsErrOf};
-ghost use Rattle.mq_recover.specs.Drives.{IsStill, AreBoundsKept, states, faults_of};
+ghost use Rattle.mq_recover.specs.Drives.{IsQuiescentDrive, AreBoundsKept, states, faults_of};
 ghost use Rattle.mq_recover.specs.RecoverCauses.{HasDriveCause, OnImage, OnDrive};
 ghost use Rattle.mq_recover.specs.Refusals.{RefusesImage};
 ghost use Rattle.mq_recover.specs.Steps.{IsDone, IsCutShort};
@@ -22,7 +22,7 @@ pub fn recover<P: Port>(
     geometry: Geometry,
     ports: &mut Ports<P>,
 ) -> Result<Recovered, RecoverRefusal>
-    requires { IsStill geometry (states P.state ports.old.queues.items ports.old.root) }
+    requires { IsQuiescentDrive geometry (states P.state ports.old.queues.items ports.old.root) }
     ensures ok { IfOk result (λ r. IsDone geometry (states P.state ports.old.queues.items ports.old.root) r.prefix r.base (states P.state ports.new.queues.items ports.new.root)) }
     ensures image { OnImage result (λ fault. (states P.state ports.new.queues.items ports.new.root ≡ states P.state ports.old.queues.items ports.old.root) × ((fault ≡ ImageFault.OutOfMemory) ⊎ RefusesImage geometry (states P.state ports.old.queues.items ports.old.root) fault)) }
     ensures exact { (e : ImageFault) → RefusesImage geometry (states P.state ports.old.queues.items ports.old.root) e → IsErrOf result (RecoverRefusal.Image e) ⊎ IsErrOf result (RecoverRefusal.Image ImageFault.OutOfMemory) }

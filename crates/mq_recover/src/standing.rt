@@ -2,13 +2,13 @@
 ghost use Rattle.std.specs.Prelude.{◌≡◌, ◌⊎◌, ◌<◌, ℕ, length, IfOk, IfErr, IsErrOf, None, slice_index_or};
 ghost use Rattle.mq_blocks.specs.Blocks.{block_at};
 ghost use Rattle.mq_blocks.specs.Geometry.{homes_of};
-ghost use Rattle.mq_recover.specs.Drives.{IsStill, states, view_over};
+ghost use Rattle.mq_recover.specs.Drives.{IsQuiescentDrive, states, view_over};
 ghost use Rattle.mq_recover.specs.Recover.{IsSpotOf};
 ghost use Rattle.mq_recover.specs.Refusals.{RefusesImage};
 ghost use Rattle.mq_recover.specs.Standing.{newest_of, StandsIn};
 
-use crate::copies::Spot;
-use crate::plan::{find_copies, read_spot};
+use crate::copies::CopyPlace;
+use crate::plan::{find_copies, read_copy_place};
 use crate::refusal::ImageFault;
 use mq_blocks::{Block, BlockNo, Geometry, OutOfMemory, TxNo};
 use mq_drive::{Port, Ports};
@@ -33,7 +33,7 @@ pub fn stands<P: Port>(
     geometry: Geometry,
     ports: &Ports<P>,
 ) -> Result<Standing, ImageFault>
-    requires { IsStill geometry (states P.state ports.now.queues.items ports.now.root) }
+    requires { IsQuiescentDrive geometry (states P.state ports.now.queues.items ports.now.root) }
     ensures ok { IfOk result (StandsIn geometry (states P.state ports.now.queues.items ports.now.root)) }
     ensures refused { IfErr result (λ e. (e ≡ ImageFault.OutOfMemory) ⊎ RefusesImage geometry (states P.state ports.now.queues.items ports.now.root) e) }
     ensures exact { (e : ImageFault) → RefusesImage geometry (states P.state ports.now.queues.items ports.now.root) e → IsErrOf result e ⊎ IsErrOf result ImageFault.OutOfMemory }
@@ -53,9 +53,9 @@ fn read_blocks<P: Port>(
     alloc: Global,
     geometry: Geometry,
     ports: &Ports<P>,
-    copies: &[Option<Spot>],
+    copies: &[Option<CopyPlace>],
 ) -> Result<Vec<Option<Block>>, OutOfMemory>
-    requires still { IsStill geometry (states P.state ports.now.queues.items ports.now.root) }
+    requires still { IsQuiescentDrive geometry (states P.state ports.now.queues.items ports.now.root) }
     requires homes { length copies.now ≡ homes_of geometry }
     requires own { (x : ℕ) → IsSpotOf geometry.queues (slice_index_or copies.now x None) }
     ensures { IfOk result (λ v. (length v.items ≡ homes_of geometry) × ((b : ℕ) → b < homes_of geometry → block_at v.items b ≡ newest_of geometry (states P.state ports.now.queues.items ports.now.root) (slice_index_or copies.now b None) b)) }
@@ -64,7 +64,7 @@ fn read_blocks<P: Port>(
     for (b, copy) in copies.iter().enumerate() {
         let mut block = Block::zeroed(alloc)?;
         match copy {
-            Some(spot) => read_spot(geometry, ports, *spot, &mut block),
+            Some(spot) => read_copy_place(geometry, ports, *spot, &mut block),
             None => read_home(geometry, ports, BlockNo(b as u32), &mut block),
         }
         blocks.push(Some(block))?;
@@ -74,7 +74,7 @@ fn read_blocks<P: Port>(
 
 /// A home block, through the port that has it.
 pub fn read_home<P: Port>(geometry: Geometry, ports: &Ports<P>, b: BlockNo, into: &mut Block)
-    requires still { IsStill geometry (states P.state ports.now.queues.items ports.now.root) }
+    requires still { IsQuiescentDrive geometry (states P.state ports.now.queues.items ports.now.root) }
     requires within { b < homes_of geometry }
     ensures { into.new ≡ (view_over geometry (states P.state ports.now.queues.items ports.now.root)).home b }
 {

@@ -7,7 +7,7 @@ use Rattle.std.proofs.lemmas.List.Elements.{All-contains}
 use Rattle.mq_blocks.specs.Descriptor.{AreApart}
 use Rattle.mq_blocks.specs.Geometry.{homes_of, zone_of}
 use Rattle.mq_blocks.specs.Journal.{is_among}
-use Rattle.mq_ledger.specs.Known.{MayDraw, Known, IsTx, front}
+use Rattle.mq_ledger.specs.KnownJournal.{MayDraw, KnownJournal, IsTx, front}
 use Rattle.mq_ledger.specs.History.{blocks_of, writes, map_after, last, last_logged}
 use Rattle.mq_ledger.specs.declared.tx.Tx.{Tx}
 use Rattle.mq_ledger.proofs.Among.{rising_within, apart_from}
@@ -16,7 +16,7 @@ use Rattle.mq_revoke.specs.Placing.{IsDirect, AreInOrder, IsPlacement}
 use Rattle.mq_revoke.specs.declared.placement.Planned.{Planned}
 use Rattle.mq_revoke.proofs.Placing.{IsSoFar, blocks_where, goes_home, stays, is_revoked, same_write, so_far-placement, so_far-length}
 
-module _ (k : Known) (t : Tx) (ws : List Planned) (f b : ℕ) (order : AreInOrder k.geometry ws) (planned : IsPlacement k.geometry t.queue f b ws (placed_of t)) where
+module _ (k : KnownJournal) (t : Tx) (ws : List Planned) (f b : ℕ) (order : AreInOrder k.geometry ws) (planned : IsPlacement k.geometry t.queue f b ws (placed_of t)) where
   -- no block is logged and direct
   apart : AreApart (blocks_of t.logged) (blocks_of t.direct)
   apart = apart_from (blocks_of t.logged) (blocks_of t.direct) (λ x in_logged. false_from_ne_true _ (λ in_direct.

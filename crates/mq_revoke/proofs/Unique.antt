@@ -42,8 +42,8 @@ rising-same low high (x ∷ xs) (y ∷ ys) r s to from =
 those-unique : (homes : ℕ) (has : Planned → Type 0) (ws : List Planned) (xs ys : List ℕ) → AreThose homes has ws xs → AreThose homes has ws ys → xs ≡ ys
 those-unique homes has ws xs ys a b = rising-same 0 homes xs ys a.rising b.rising (within xs ys a b) (within ys xs b a)
   where
-    within : (us vs : List ℕ) → AreThose homes has ws us → AreThose homes has ws vs → IsWithin us vs
-    within us vs u v x among = (let found = u.only x among in subst (λ n. is_among n vs ≡ true) found.2 (v.all found.0 found.1 found.3))
+    within : (txs vs : List ℕ) → AreThose homes has ws txs → AreThose homes has ws vs → IsWithin txs vs
+    within txs vs u v x among = (let found = u.only x among in subst (λ n. is_among n vs ≡ true) found.2 (v.all found.0 found.1 found.3))
 
 abbrev lists_of : (logged direct revoked : List ℕ) → Placed
 lists_of logged direct revoked = record { logged = logged; direct = direct; revoked = revoked }

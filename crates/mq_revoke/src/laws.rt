@@ -2,7 +2,7 @@
 ghost use Rattle.std.specs.Prelude.{◌≡◌, ℕ, ◌≤◌, List, length};
 ghost use Rattle.std.specs.List.{All};
 ghost use Rattle.mq_blocks.specs.declared.geometry.Geometry.{Geometry};
-ghost use Rattle.mq_ledger.specs.Known.{MayDraw, Known, front};
+ghost use Rattle.mq_ledger.specs.KnownJournal.{MayDraw, KnownJournal, front};
 ghost use Rattle.mq_ledger.specs.declared.tx.Tx.{Tx};
 ghost use Rattle.mq_revoke.specs.Guard.{IsOfHistory, MeetsRest, placed_of};
 ghost use Rattle.mq_revoke.specs.Placed.{Placed};
@@ -12,7 +12,7 @@ ghost use Rattle.mq_revoke.specs.declared.placement.Planned.{Planned};
 /// A transaction that is placed by a plan may be drawn where the rest of the guard holds. Front and base
 /// may have been read earlier: a lesser front writes less directly, and a lesser base revokes more.
 pub fn a_plan_meets_the_guard()
-    ensures { (k : Known) (t : Tx) (writes : List Planned) (read_front read_base : ℕ) → AreInOrder k.geometry writes → length writes ≤ 1000 → All (IsOfHistory k) writes → read_front ≤ front k → read_base ≤ k.word → IsPlacement k.geometry t.queue read_front read_base writes (placed_of t) → MeetsRest k t → MayDraw k t }
+    ensures { (k : KnownJournal) (t : Tx) (writes : List Planned) (read_front read_base : ℕ) → AreInOrder k.geometry writes → length writes ≤ 1000 → All (IsOfHistory k) writes → read_front ≤ front k → read_base ≤ k.word → IsPlacement k.geometry t.queue read_front read_base writes (placed_of t) → MeetsRest k t → MayDraw k t }
 {}
 
 /// The same writes have one placement alone.

@@ -65,30 +65,30 @@ less-below (n ∷ p) a r = ap (λ (o : Ordering). ordering_then o (path_cmp p (p
 
 -- ---- items that wait, each with its path
 
-record Spot : Type 0 where
+record CopyPlace : Type 0 where
   path : Path
   item : Item
 
-abbrev place : Spot → ℕ
+abbrev place : CopyPlace → ℕ
 place s = s.item.entry.inode
 
-record Waits (v : Volume) (s : Spot) : Type 0 where
+record Waits (v : Volume) (s : CopyPlace) : Type 0 where
   text : path_of s.item ≡ names_text s.path
   whole : path_text s.path ≡ names_text s.path
   leads : inode_at v (way s.path) ≡ Some (place s)
 
-record Below (spots : List Spot) (p : Path) : Type 0 where
-  spot : Spot
+record Below (spots : List CopyPlace) (p : Path) : Type 0 where
+  spot : CopyPlace
   among : Contains spots spot
   rest : Path
   is : p ≡ spot.path ++ rest
 
 -- each comes before those after it
-abbrev AreApart : List Spot → Type 0
+abbrev AreApart : List CopyPlace → Type 0
 AreApart [] = ⊤
-AreApart (s ∷ spots) = ((t : Spot) → Contains spots t → Before s.path t.path) × AreApart spots
+AreApart (s ∷ spots) = ((t : CopyPlace) → Contains spots t → Before s.path t.path) × AreApart spots
 
-apart-append : (xs ys : List Spot) → AreApart xs → AreApart ys → ((s t : Spot) → Contains xs s → Contains ys t → Before s.path t.path) → AreApart (xs ++ ys)
+apart-append : (xs ys : List CopyPlace) → AreApart xs → AreApart ys → ((s t : CopyPlace) → Contains xs s → Contains ys t → Before s.path t.path) → AreApart (xs ++ ys)
 apart-append [] ys a b h = b
 apart-append (x ∷ xs) ys a b h = (
   λ t c. elim (Contains-append_cases xs ys t c) [
@@ -99,13 +99,13 @@ apart-append (x ∷ xs) ys a b h = (
 )
 
 -- the entries of a directory at this path, where its text is this
-abbrev child : (path : Path) (text : List ℕ) → Entry → Spot
+abbrev child : (path : Path) (text : List ℕ) → Entry → CopyPlace
 child path text e = record { path = path ++ e.name ∷ []; item = record { above = text; entry = e } }
 
-abbrev children : (path : Path) (text : List ℕ) → List Entry → List Spot
+abbrev children : (path : Path) (text : List ℕ) → List Entry → List CopyPlace
 children path text es = map (child path text) es
 
-children-items : (path : Path) (text : List ℕ) (es : List Entry) → map (λ (s : Spot). s.item) (children path text es) ≡ items_of text es
+children-items : (path : Path) (text : List ℕ) (es : List Entry) → map (λ (s : CopyPlace). s.item) (children path text es) ≡ items_of text es
 children-items path text [] = refl
 children-items path text (e ∷ es) = ap (λ (xs : List Item). record { above = text; entry = e } ∷ xs) (children-items path text es)
 
@@ -116,7 +116,7 @@ children-apart path text (e ∷ es) s = (
   λ t c.
       let d = map-cases (child path text) es t c in
       let less = all-contained (λ f. entry_cmp e f ≡ Less) es s.0 d.0 d.1 in
-      subst (λ (x : Spot). Before (path ++ e.name ∷ []) x.path) d.2 (before-names path e.name (d.0).name less),
+      subst (λ (x : CopyPlace). Before (path ++ e.name ∷ []) x.path) d.2 (before-names path e.name (d.0).name less),
   children-apart path text es s.1,
 )
 
@@ -131,14 +131,14 @@ whole-more [] name = refl
 whole-more (n ∷ path) name = refl
 
 -- what stands below a directory at a path
-abbrev spots_in : Volume → (path : Path) (text : List ℕ) → ℕ → List Spot
+abbrev spots_in : Volume → (path : Path) (text : List ℕ) → ℕ → List CopyPlace
 spots_in v path text d = children path text (entries_in (slots_of (body v d)))
 
 record InDir (v : Volume) (path : Path) (text : List ℕ) (d : ℕ) : Type 0 where
   leads : inode_at v (way path) ≡ Some d
   names : text ≡ names_text path
 
-spots-wait : (v : Volume) (path : Path) (text : List ℕ) (d : ℕ) → IsTree v → InDir v path text d → (s : Spot) → Contains (spots_in v path text d) s → Waits v s
+spots-wait : (v : Volume) (path : Path) (text : List ℕ) (d : ℕ) → IsTree v → InDir v path text d → (s : CopyPlace) → Contains (spots_in v path text d) s → Waits v s
 spots-wait v path text d t h s c =
     let m = map-cases (child path text) (entries_in (slots_of (body v d))) s c in
     let e = m.0 in
@@ -179,22 +179,22 @@ spots-all v path text d h name rest there is =
 -- ---- how far the listing has come
 
 -- The lines that are left are enough: what was listed has earlier paths, and is no more than there are inodes.
-record Ready (v : Volume) (count : ℕ) (spots : List Spot) (seen : List Bool) : Type 0 where
-  waits : (s : Spot) → Contains spots s → Waits v s
+record Ready (v : Volume) (count : ℕ) (spots : List CopyPlace) (seen : List Bool) : Type 0 where
+  waits : (s : CopyPlace) → Contains spots s → Waits v s
   apart : AreApart spots
   size : length seen ≡ length v
   enough : length v ≤ count + seen_count seen
-  past : (i : ℕ) → is_seen seen i ≡ true → (p : Path) × (inode_at v (way p) ≡ Some i) × ((s : Spot) → Contains spots s → path_cmp p s.path ≡ Less)
+  past : (i : ℕ) → is_seen seen i ≡ true → (p : Path) × (inode_at v (way p) ≡ Some i) × ((s : CopyPlace) → Contains spots s → path_cmp p s.path ≡ Less)
 
 used-low : (v : Volume) (i : ℕ) → is_used (body v i) ≡ true → i < length v
 used-low [] i u = absurd (true≢false (sym u))
 used-low (n ∷ v) zero u = omega arith
 used-low (n ∷ v) (suc i) u = let l = used-low v i u in omega arith
 
-spot-used : (v : Volume) (s : Spot) → IsTree v → Waits v s → is_used (body v (place s)) ≡ true
+spot-used : (v : Volume) (s : CopyPlace) → IsTree v → Waits v s → is_used (body v (place s)) ≡ true
 spot-used v s t w = leads-used v t (way s.path) (place s) w.leads
 
-spot-unseen : (v : Volume) (count : ℕ) (s : Spot) (spots : List Spot) (seen : List Bool) → IsTree v → Ready v count (s ∷ spots) seen → is_seen seen (place s) ≡ false
+spot-unseen : (v : Volume) (count : ℕ) (s : CopyPlace) (spots : List CopyPlace) (seen : List Bool) → IsTree v → Ready v count (s ∷ spots) seen → is_seen seen (place s) ≡ false
 spot-unseen v count s spots seen t r = elim (cases_Bool (is_seen seen (place s))) [
   | inl was ↦
       let p = r.past (place s) was in
@@ -204,7 +204,7 @@ spot-unseen v count s spots seen t r = elim (cases_Bool (is_seen seen (place s))
   | inr new ↦ new
 ]
 
-seen-more : (v : Volume) (count : ℕ) (s : Spot) (spots : List Spot) (seen : List Bool) → IsTree v → Ready v count (s ∷ spots) seen → seen_count (set seen (place s) true) ≡ seen_count seen + 1
+seen-more : (v : Volume) (count : ℕ) (s : CopyPlace) (spots : List CopyPlace) (seen : List Bool) → IsTree v → Ready v count (s ∷ spots) seen → seen_count (set seen (place s) true) ≡ seen_count seen + 1
 seen-more v count s spots seen t r =
     let low = used-low v (place s) (spot-used v s t (r.waits s (cons-here s spots s refl))) in
     let n = r.size in
@@ -216,7 +216,7 @@ seen-more v count s spots seen t r =
 seen-few : (seen : List Bool) → seen_count seen ≤ length seen
 seen-few seen = count_by-le-length (λ (b : Bool). b) seen
 
-spot-left : {R : Type 0} (v : Volume) (s : Spot) (spots : List Spot) (seen : List Bool) → IsTree v → Ready v zero (s ∷ spots) seen → R
+spot-left : {R : Type 0} (v : Volume) (s : CopyPlace) (spots : List CopyPlace) (seen : List Bool) → IsTree v → Ready v zero (s ∷ spots) seen → R
 spot-left v s spots seen t r =
     let more = seen-more v zero s spots seen t r in
     let few = seen-few (set seen (place s) true) in
@@ -226,26 +226,26 @@ spot-left v s spots seen t r =
     absurd (omega arith)
 
 -- the directory of an item that waits
-spot-dir : (v : Volume) (s : Spot) → Waits v s → InDir v s.path (path_of s.item) (place s)
+spot-dir : (v : Volume) (s : CopyPlace) → Waits v s → InDir v s.path (path_of s.item) (place s)
 spot-dir v s w = record { leads = w.leads; names = w.text }
 
-abbrev spots_at : Volume → Spot → List Spot
+abbrev spots_at : Volume → CopyPlace → List CopyPlace
 spots_at v s = spots_in v s.path (path_of s.item) (place s)
 
 -- a spot below another comes after it
-spot-below : (v : Volume) (s c : Spot) → Contains (spots_at v s) c → (name : List ℕ) × (c.path ≡ s.path ++ name ∷ [])
+spot-below : (v : Volume) (s c : CopyPlace) → Contains (spots_at v s) c → (name : List ℕ) × (c.path ≡ s.path ++ name ∷ [])
 spot-below v s c among =
     let m = map-cases (child s.path (path_of s.item)) (entries_in (slots_of (body v (place s)))) c among in
-    ((m.0).name, ap (λ (x : Spot). x.path) (sym m.2))
+    ((m.0).name, ap (λ (x : CopyPlace). x.path) (sym m.2))
 
-ready-more : (v : Volume) (count : ℕ) (s : Spot) (spots : List Spot) (seen : List Bool) → IsTree v → Ready v (suc count) (s ∷ spots) seen → Ready v count (spots_at v s ++ spots) (set seen (place s) true)
+ready-more : (v : Volume) (count : ℕ) (s : CopyPlace) (spots : List CopyPlace) (seen : List Bool) → IsTree v → Ready v (suc count) (s ∷ spots) seen → Ready v count (spots_at v s ++ spots) (set seen (place s) true)
 ready-more v count s spots seen t r =
     let w = r.waits s (cons-here s spots s refl) in
     let dir = spot-dir v s w in
-    let here : (c : Spot) → Contains (spots_at v s) c → path_cmp s.path c.path ≡ Less = λ c among.
+    let here : (c : CopyPlace) → Contains (spots_at v s) c → path_cmp s.path c.path ≡ Less = λ c among.
     let b = spot-below v s c among in
     ap (λ (q : Path). path_cmp s.path q) b.1 ∙ less-below s.path b.0 [] in
-    let after : (c : Spot) → Contains spots c → path_cmp s.path c.path ≡ Less = λ c among. before-less s.path c.path (r.apart.0 c among) in
+    let after : (c : CopyPlace) → Contains spots c → path_cmp s.path c.path ≡ Less = λ c among. before-less s.path c.path (r.apart.0 c among) in
     record {
       waits = λ c among. elim (Contains-append_cases (spots_at v s) spots c among) [
         | inl new ↦ spots-wait v s.path (path_of s.item) (place s) t dir c new
@@ -274,7 +274,7 @@ ready-more v count s spots seen t r =
 
 -- ---- what the lines tell
 
-record Told (v : Volume) (spots : List Spot) (text : List ℕ) : Type 0 where
+record Told (v : Volume) (spots : List CopyPlace) (text : List ℕ) : Type 0 where
   paths : List Path
   lines : text ≡ lines_at (tree v) paths
   rising : IsStrictlySortedBy path_cmp paths
@@ -302,7 +302,7 @@ sorted-cons : (p : Path) (paths : List Path) → ((q : Path) → Contains paths 
 unfolding IsStrictlySortedBy
 sorted-cons p paths h s = (contained-all (λ q. path_cmp p q ≡ Less) paths h, s)
 
-told-more : (v : Volume) (s : Spot) (spots : List Spot) (text : List ℕ) → IsTree v → Waits v s → ((t : Spot) → Contains spots t → Before s.path t.path) → Told v (spots_at v s ++ spots) text → Told v (s ∷ spots) (line_of (path_of s.item) (body v (place s)) ++ text)
+told-more : (v : Volume) (s : CopyPlace) (spots : List CopyPlace) (text : List ℕ) → IsTree v → Waits v s → ((t : CopyPlace) → Contains spots t → Before s.path t.path) → Told v (spots_at v s ++ spots) text → Told v (s ∷ spots) (line_of (path_of s.item) (body v (place s)) ++ text)
 told-more v s spots text t w apart rest =
     let used = spot-used v s t w in
     let here : tree v s.path ≡ thing (body v (place s)) = thing-here v (way s.path) (place s) w.leads in
@@ -339,35 +339,35 @@ told-more v s spots text t w apart rest =
         | inr there ↦ rest.found q there
       ];
       all = λ q there is b. elim (cons-cases s spots b.spot b.among) [
-        | inl same ↦ told-here v s spots text w rest q there is b.rest (b.is ∙ ap (λ (x : Spot). x.path ++ b.rest) (sym same))
+        | inl same ↦ told-here v s spots text w rest q there is b.rest (b.is ∙ ap (λ (x : CopyPlace). x.path ++ b.rest) (sym same))
         | inr old ↦ cons-there s.path rest.paths q (rest.all q there is (record { spot = b.spot; among = Contains-append_right (spots_at v s) spots b.spot old; rest = b.rest; is = b.is }))
       ];
     }
   where
-    told-here : (v : Volume) (s : Spot) (spots : List Spot) (text : List ℕ) → Waits v s → (rest : Told v (spots_at v s ++ spots) text) → (q : Path) (there : Thing) → tree v q ≡ Some there → (more : Path) → q ≡ s.path ++ more → Contains (s.path ∷ rest.paths) q
+    told-here : (v : Volume) (s : CopyPlace) (spots : List CopyPlace) (text : List ℕ) → Waits v s → (rest : Told v (spots_at v s ++ spots) text) → (q : Path) (there : Thing) → tree v q ≡ Some there → (more : Path) → q ≡ s.path ++ more → Contains (s.path ∷ rest.paths) q
     told-here v s spots text w rest q there is [] e = cons-here s.path rest.paths q (sym (append-nil s.path) ∙ sym e)
     told-here v s spots text w rest q there is (name ∷ more) e =
         let b = spots-all v s.path (path_of s.item) (place s) (spot-dir v s w) name more there (ap (λ (x : Path). tree v x) (sym e) ∙ is) in
         cons-there s.path rest.paths q (rest.all q there is (record { spot = b.spot; among = Contains-append_left (spots_at v s) spots b.spot b.among; rest = b.rest; is = e ∙ b.is }))
 
-items-more : (v : Volume) (s : Spot) (spots : List Spot) → map (λ (x : Spot). x.item) (spots_at v s ++ spots) ≡ items_of (path_of s.item) (entries_in (slots_of (body v (place s)))) ++ map (λ (x : Spot). x.item) spots
-items-more v s spots = map-append (λ (x : Spot). x.item) (spots_at v s) spots ∙ ap (λ (xs : List Item). xs ++ map (λ (x : Spot). x.item) spots) (children-items s.path (path_of s.item) (entries_in (slots_of (body v (place s)))))
+items-more : (v : Volume) (s : CopyPlace) (spots : List CopyPlace) → map (λ (x : CopyPlace). x.item) (spots_at v s ++ spots) ≡ items_of (path_of s.item) (entries_in (slots_of (body v (place s)))) ++ map (λ (x : CopyPlace). x.item) spots
+items-more v s spots = map-append (λ (x : CopyPlace). x.item) (spots_at v s) spots ∙ ap (λ (xs : List Item). xs ++ map (λ (x : CopyPlace). x.item) spots) (children-items s.path (path_of s.item) (entries_in (slots_of (body v (place s)))))
 
-told : (count : ℕ) (v : Volume) (spots : List Spot) (seen : List Bool) → IsTree v → Ready v count spots seen → Told v spots (lines count v (map (λ (s : Spot). s.item) spots))
+told : (count : ℕ) (v : Volume) (spots : List CopyPlace) (seen : List Bool) → IsTree v → Ready v count spots seen → Told v spots (lines count v (map (λ (s : CopyPlace). s.item) spots))
 unfolding lines
 told zero v [] seen t r = told-none v
 told (suc count) v [] seen t r = told-none v
 told zero v (s ∷ spots) seen t r = spot-left v s spots seen t r
 told (suc count) v (s ∷ spots) seen t r =
     let rest = told count v (spots_at v s ++ spots) (set seen (place s) true) t (ready-more v count s spots seen t r) in
-    told-more v s spots (lines count v (items_of (path_of s.item) (entries_in (slots_of (body v (place s)))) ++ map (λ (x : Spot). x.item) spots)) t (r.waits s (cons-here s spots s refl)) r.apart.0 (subst (λ (xs : List Item). Told v (spots_at v s ++ spots) (lines count v xs)) (items-more v s spots) rest)
+    told-more v s spots (lines count v (items_of (path_of s.item) (entries_in (slots_of (body v (place s)))) ++ map (λ (x : CopyPlace). x.item) spots)) t (r.waits s (cons-here s spots s refl)) r.apart.0 (subst (λ (xs : List Item). Told v (spots_at v s ++ spots) (lines count v xs)) (items-more v s spots) rest)
 
 -- ---- the whole listing
 
 root-dir : (v : Volume) → InDir v [] [] 0
 root-dir v = record { leads = refl; names = refl }
 
-abbrev root_spots : Volume → List Spot
+abbrev root_spots : Volume → List CopyPlace
 root_spots v = spots_in v [] [] 0
 
 root-ready : (v : Volume) → IsTree v → Ready v (length v) (root_spots v) (replicate (length v) false)
@@ -405,7 +405,7 @@ tree-listing v t =
     root-first : (v : Volume) (q : Path) → Below (root_spots v) q → path_cmp [] q ≡ Less
     root-first v q b =
         let m = map-cases (child [] []) (entries_in (slots_of (body v 0))) b.spot b.among in
-        ap (λ (x : Path). path_cmp [] x) (b.is ∙ ap (λ (x : Spot). x.path ++ b.rest) (sym m.2))
+        ap (λ (x : Path). path_cmp [] x) (b.is ∙ ap (λ (x : CopyPlace). x.path ++ b.rest) (sym m.2))
 
     root-all : (v : Volume) (r : Told v (root_spots v) (lines (length v) v (items_of [] (entries_in (slots_of (body v 0)))))) (q : Path) (there : Thing) → tree v q ≡ Some there → Contains ([] ∷ r.paths) q
     root-all v r [] there is = cons-here [] r.paths [] refl

@@ -11,12 +11,12 @@ ghost use Rattle.mq_tree.specs.Trees.{IsAlike, IsSameBody, body_kept, kept};
 
 use crate::corrupt::MountRefusal;
 use crate::directory::Directory;
-use crate::ends::FILE;
+use crate::duplicate_names::read_directory;
+use crate::file_tails::FILE;
 use crate::path::Bytes;
 use crate::pointers::{block_count, pointer_at};
 use crate::stored::stored_block;
 use crate::table::DIRECTORY;
-use crate::twins::read_directory;
 use mq_blocks::{Block, Geometry, OutOfMemory};
 use mq_layout::Inode;
 use std::alloc::Global;

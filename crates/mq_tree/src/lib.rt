@@ -2,16 +2,17 @@
 //! home blocks of a drive.
 #![tactic(auto)]
 
+mod bitmap_check;
 mod claims;
 mod contents;
 mod corrupt;
 mod directory;
 mod dirs;
-mod ends;
+mod duplicate_names;
+mod file_tails;
 mod keeps;
 mod laws;
 mod listing;
-mod marks;
 mod mounts;
 mod names;
 mod path;
@@ -23,7 +24,6 @@ mod table;
 #[cfg(test)]
 mod tests;
 mod tree;
-mod twins;
 mod walk;
 
 pub use corrupt::{CorruptCause, MountRefusal};

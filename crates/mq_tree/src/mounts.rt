@@ -11,12 +11,12 @@ ghost use Rattle.mq_tree.specs.Listings.{IsListing};
 ghost use Rattle.mq_tree.specs.Trees.{IsAlike, kept};
 ghost use Rattle.mq_tree.specs.Volume.{Things, Volume, tree};
 
+use crate::bitmap_check::check_marks;
 use crate::claims::claim_blocks;
 use crate::contents::{Content, read_contents};
 use crate::corrupt::MountRefusal;
 use crate::dirs::check_dirs;
-use crate::ends::check_ends;
-use crate::marks::check_marks;
+use crate::file_tails::check_ends;
 use crate::names::check_names;
 use crate::pointers::check_pointers;
 use crate::stored::look_at_all;

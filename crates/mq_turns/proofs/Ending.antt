@@ -27,11 +27,11 @@ use Rattle.mq_turns.proofs.Slots.{page_at, side_at, root_at}
 
 pub drawn_last : {P Q R E : Type 0} (vs : List (View P Q R E)) (v : View P Q R E) → drawn_of (vs ++ v ∷ []) ≡ v.drawn ++ drawn_of vs
 drawn_last [] v = sym (append-nil v.drawn)
-drawn_last (u ∷ us) v = ap (λ l. l ++ u.drawn) (drawn_last us v) ∙ append_assoc v.drawn (drawn_of us) u.drawn
+drawn_last (u ∷ txs) v = ap (λ l. l ++ u.drawn) (drawn_last txs v) ∙ append_assoc v.drawn (drawn_of txs) u.drawn
 
 pub read_last : {P Q R E : Type 0} (vs : List (View P Q R E)) (v : View P Q R E) → read_of (vs ++ v ∷ []) ≡ v.read ++ read_of vs
 read_last [] v = sym (append-nil v.read)
-read_last (u ∷ us) v = ap (λ l. l ++ u.read) (read_last us v) ∙ append_assoc v.read (read_of us) u.read
+read_last (u ∷ txs) v = ap (λ l. l ++ u.read) (read_last txs v) ∙ append_assoc v.read (read_of txs) u.read
 
 idx_front : {X : Type 0} (xs ys : List X) (k : ℕ) (d : X) → k < length xs → get_or (xs ++ ys) k d ≡ get_or xs k d
 idx_front [] ys k d lt = absurd (omega arith)

@@ -2,7 +2,7 @@
 use Rattle.std.proofs.Common.{◌≡◌, ◌≢◌, ◌<◌, ◌≤◌, inl, inr, ℕ, zero, suc, ◌+◌, ◌-◌, ◌%◌, List, [], ◌∷◌, ◌++◌, length, set, get_or, refl, sym, ◌∙◌, ap, subst, arith, add-zero, length-append}
 use Rattle.std.proofs.lemmas.List.{get_or-set_other}
 use Rattle.std.proofs.lemmas.Nat.{mod_below}
-use Rattle.mq_blocks.specs.Drive.{PortState, IsQuiet, IsFlushed, IsApartFrom, depth, index_of, staged_end, after_flush, after_ring, after_store_head}
+use Rattle.mq_blocks.specs.Drive.{PortState, IsQuiescent, IsFlushed, IsApartFrom, depth, index_of, staged_end, after_flush, after_ring, after_store_head}
 use Rattle.mq_blocks.specs.declared.command.Command.{Command}
 use Rattle.mq_blocks.specs.declared.geometry.Geometry.{Geometry}
 use Rattle.mq_drive.specs.Start.{IsPortOf}
@@ -53,7 +53,7 @@ port_flushed g role s port = record {
   flushed = port.staged;
   staged = port.staged;
   blocks = port.blocks;
-  sure = port.sure;
+  certain = port.certain;
   settled = λ k within flushed. refl;
 }
 
@@ -67,7 +67,7 @@ port_rung g role s port = record {
   flushed = port.flushed;
   staged = port.staged;
   blocks = port.blocks;
-  sure = port.sure;
+  certain = port.certain;
   settled = λ k within flushed. port.settled k within (λ c low high. flushed c low (omega arith));
 }
 
@@ -81,7 +81,7 @@ port_stored g role s head port = record {
   flushed = port.flushed;
   staged = port.staged;
   blocks = port.blocks;
-  sure = port.sure;
+  certain = port.certain;
   settled = port.settled;
 }
 
@@ -95,18 +95,18 @@ port_ended g role s t n ended port = subst (IsPortOf g role) (sym ended.is) (rec
   flushed = port.flushed;
   staged = port.staged;
   blocks = ended.blocks_len ∙ port.blocks;
-  sure = ended.sure_len ∙ port.sure ∙ sym ended.blocks_len;
+  certain = ended.certain_len ∙ port.certain ∙ sym ended.blocks_len;
   settled = port.settled;
 })
 
 -- what a quiet queue's port has staged is flushed
-pub settled_port : (g : Geometry) (s : PortState) → IsPortOf g (Queue 0) s → IsQuiet s → (k : ℕ) → k < depth → get_or s.flushed k [] ≡ get_or s.staged k []
+pub settled_port : (g : Geometry) (s : PortState) → IsPortOf g (Queue 0) s → IsQuiescent s → (k : ℕ) → k < depth → get_or s.flushed k [] ≡ get_or s.staged k []
 settled_port g s port quiet k within =
     let at : staged_end s ≡ s.doorbell = ap (λ (l : List Command). s.doorbell + length l) quiet.pending ∙ add-zero s.doorbell in
     port.settled k (let ring = port.flushed in omega arith) (λ c low high. absurd (let old = quiet.flushed_end in omega arith))
 
 -- nothing is under way
-pub early_none : (s : PortState) → IsQuiet s → IsEarly s s 0 []
+pub early_none : (s : PortState) → IsQuiescent s → IsEarly s s 0 []
 early_none s quiet =
     let start : staged_end s ≡ s.doorbell = ap (λ (l : List Command). s.doorbell + length l) quiet.pending ∙ add-zero s.doorbell in
     record {
@@ -115,11 +115,11 @@ early_none s quiet =
       slot = λ some. refl;
       slot_flushed = λ some c low high. absurd (let end = quiet.flushed_end in omega arith);
       blocks = λ k new. refl;
-      certain = λ k within new. record { sure = quiet.sure k within; apart = subst (IsApartFrom s k) (sym quiet.posted) tt };
+      certain = λ k within new. record { certain = quiet.certain k within; apart = subst (IsApartFrom s k) (sym quiet.posted) tt };
       rung = inl refl;
     }
 
-module _ (s : PortState) (tx : ℕ) (items : Items) (quiet : IsQuiet s) where
+module _ (s : PortState) (tx : ℕ) (items : Items) (quiet : IsQuiescent s) where
   pub start : staged_end s ≡ s.doorbell
   start = ap (λ (l : List Command). s.doorbell + length l) quiet.pending ∙ add-zero s.doorbell
 
@@ -139,7 +139,7 @@ module _ (s : PortState) (tx : ℕ) (items : Items) (quiet : IsQuiet s) where
         flushed = port.flushed;
         staged = size ∙ port.staged;
         blocks = port.blocks;
-        sure = port.sure;
+        certain = port.certain;
         settled = λ q within flushed.
             port.settled q within (λ c low high. absurd (let at = start in omega arith))
             ∙ sym (slots_other s.staged tx (staged_end s) k q items (λ c low high. flushed c (let at = start in omega arith) (let end = end_some k in omega arith)));
@@ -163,7 +163,7 @@ module _ (s : PortState) (tx : ℕ) (items : Items) (quiet : IsQuiet s) where
       slot_flushed = λ some c low high. other_slot s.head c some (let old = quiet.flushed_end in omega arith)
           (let at = start in let end = end_some k in let few = few_commands tx (staged_end s) k items in omega arith);
       blocks = λ j new. refl;
-      certain = λ j within new. record { sure = quiet.sure j within; apart = no_posted j (after_some s tx k items) refl };
+      certain = λ j within new. record { certain = quiet.certain j within; apart = no_posted j (after_some s tx k items) refl };
       rung = inl refl;
     }
 
@@ -174,7 +174,7 @@ module _ (s : PortState) (tx : ℕ) (items : Items) (quiet : IsQuiet s) where
       slot = same_slot;
       slot_flushed = λ some c low high. absurd (omega arith);
       blocks = λ j new. refl;
-      certain = λ j within new. record { sure = quiet.sure j within; apart = no_posted j (after_flush (after_some s tx (length items) items)) refl };
+      certain = λ j within new. record { certain = quiet.certain j within; apart = no_posted j (after_flush (after_some s tx (length items) items)) refl };
       rung = inl refl;
     }
 
@@ -195,7 +195,7 @@ module _ (s : PortState) (tx : ℕ) (items : Items) (quiet : IsQuiet s) where
           slot_flushed = λ some. flushed ((s.head - 1) % depth);
           blocks = λ j apart. ended.blocks j (rung_apart j apart);
           certain = λ j within apart. record {
-            sure = ended.sure j (rung_apart j apart) ∙ quiet.sure j within;
+            certain = ended.certain j (rung_apart j apart) ∙ quiet.certain j within;
             apart = apart_from new j new.posted (subst (λ (f : ℕ → ℕ). IsApart f j new.posted) (sym at) (ended.posted j (rung_apart j apart)));
           };
           rung = inr record {

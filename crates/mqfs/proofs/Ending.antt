@@ -6,7 +6,7 @@ use Rattle.std.proofs.lemmas.List.Edits.{length-remove}
 use Rattle.std.proofs.lemmas.Option.{slice_get_within}
 use Rattle.mq_blocks.specs.Drive.{PortState, counted, index_of, after_done}
 use Rattle.mq_blocks.specs.declared.command.Command.{Command}
-use Rattle.mqfs.specs.Runs.{blocks_with, sure_with, IsApart, AreApart, after_all}
+use Rattle.mqfs.specs.Runs.{blocks_with, certain_with, IsApart, AreApart, after_all}
 use Rattle.mqfs.proofs.Lists.{set-swap}
 
 -- a command of the list is apart from what the whole list is apart from
@@ -23,13 +23,13 @@ blocks_with-remove at blocks (d ∷ cs) (suc i) c is apart =
     ap (λ (l : List (Option (List ℕ))). blocks_with at l (remove cs i)) (set-swap blocks (at c.lba) (at d.lba) (Some c.block) (Some d.block) (λ same. apart_at at (at d.lba) cs i c is apart.0 (sym same)))
     ∙ blocks_with-remove at (set blocks (at d.lba) (Some d.block)) cs i c is apart.1
 
-pub sure_with-remove : (at : ℕ → ℕ) (sure : List Bool) (cs : List Command) (i : ℕ) (c : Command) → slice_get cs i ≡ Some c → AreApart at cs
-    → sure_with at (set sure (at c.lba) true) (remove cs i) ≡ sure_with at sure cs
-sure_with-remove at sure [] i c is apart = cc
-sure_with-remove at sure (d ∷ cs) zero c is apart = let same : c ≡ d = cc in ap (λ (x : Command). sure_with at (set sure (at x.lba) true) cs) same
-sure_with-remove at sure (d ∷ cs) (suc i) c is apart =
-    ap (λ (l : List Bool). sure_with at l (remove cs i)) (set-swap sure (at c.lba) (at d.lba) true true (λ same. apart_at at (at d.lba) cs i c is apart.0 (sym same)))
-    ∙ sure_with-remove at (set sure (at d.lba) true) cs i c is apart.1
+pub certain_with-remove : (at : ℕ → ℕ) (certain : List Bool) (cs : List Command) (i : ℕ) (c : Command) → slice_get cs i ≡ Some c → AreApart at cs
+    → certain_with at (set certain (at c.lba) true) (remove cs i) ≡ certain_with at certain cs
+certain_with-remove at certain [] i c is apart = cc
+certain_with-remove at certain (d ∷ cs) zero c is apart = let same : c ≡ d = cc in ap (λ (x : Command). certain_with at (set certain (at x.lba) true) cs) same
+certain_with-remove at certain (d ∷ cs) (suc i) c is apart =
+    ap (λ (l : List Bool). certain_with at l (remove cs i)) (set-swap certain (at c.lba) (at d.lba) true true (λ same. apart_at at (at d.lba) cs i c is apart.0 (sym same)))
+    ∙ certain_with-remove at (set certain (at d.lba) true) cs i c is apart.1
 
 pub apart_from-remove : (at : ℕ → ℕ) (k : ℕ) (cs : List Command) (i : ℕ) → IsApart at k cs → IsApart at k (remove cs i)
 apart_from-remove at k [] zero apart = tt
@@ -50,15 +50,15 @@ one_less s i c is = length-remove s.posted i (slice_get_within s.posted i c is)
 pub after_all-done : (s : PortState) (i : ℕ) (c : Command) → slice_get s.posted i ≡ Some c → AreApart (index_of s) s.posted → after_all (after_done s i c) ≡ after_all s
 after_all-done s i c is apart =
     let blocks = blocks_with-remove (index_of s) s.blocks s.posted i c is apart in
-    let sure = sure_with-remove (index_of s) s.sure s.posted i c is apart in
+    let certain = certain_with-remove (index_of s) s.certain s.posted i c is apart in
     let fewer : suc (length (remove s.posted i)) ≡ length s.posted = omega (arith, one_less s i c is) in
     let events = ap (counted s.events) fewer in
-    λ k. record s { posted = []; blocks = blocks k; sure = sure k; events = events k }
+    λ k. record s { posted = []; blocks = blocks k; certain = certain k; events = events k }
 
 pub after_all-idle : (s : PortState) → s.posted ≡ [] → after_all s ≡ s
 after_all-idle s none =
     let back = sym none in
-    λ k. record s { posted = back k; blocks = blocks_with (index_of s) s.blocks (none k); sure = sure_with (index_of s) s.sure (none k); events = counted s.events (length (none k)) }
+    λ k. record s { posted = back k; blocks = blocks_with (index_of s) s.blocks (none k); certain = certain_with (index_of s) s.certain (none k); events = counted s.events (length (none k)) }
 
 -- a state from which what is posted leads where it leads from the start
 pub record Goes (start now : PortState) : Type 0 where

@@ -1,6 +1,6 @@
 -- The refusals of a transaction: how many events came before each, and what it leaves.
 use Rattle.std.proofs.Common.{◌≡◌, ◌<◌, ◌≤◌, ◌⊎◌, ⊎_elim, inl, inr, ℕ, ◌+◌, ◌*◌, [], ◌++◌, length, get_or, refl, sym, ◌∙◌, ap, subst, arith}
-use Rattle.mq_blocks.specs.Drive.{PortState, PortImage, IsImage, IsQuiet, counted, depth, staged_end, after_flush, after_ring, after_store_head}
+use Rattle.mq_blocks.specs.Drive.{PortState, PortImage, IsImage, IsQuiescent, counted, depth, staged_end, after_flush, after_ring, after_store_head}
 use Rattle.mq_blocks.specs.declared.geometry.Geometry.{Geometry}
 use Rattle.mq_drive.specs.Start.{IsPortOf}
 use Rattle.mq_drive.specs.declared.role.Role.{Role}
@@ -35,7 +35,7 @@ nearly_image s tx items i is = ⊎_elim
       slots_len = is.slots_len;
       slots = is.slots;
       blocks_len = is.blocks_len;
-      blocks = λ k within certain. is.blocks k within (record { sure = certain.sure; apart = tt });
+      blocks = λ k within certain. is.blocks k within (record { certain = certain.certain; apart = tt });
     })
     (λ stored. inr record {
       doorbell = is.doorbell;
@@ -44,7 +44,7 @@ nearly_image s tx items i is = ⊎_elim
       slots_len = is.slots_len;
       slots = λ k within flushed. is.slots k within (λ c low high. absurd (omega arith));
       blocks_len = is.blocks_len;
-      blocks = λ k within certain. is.blocks k within (record { sure = certain.sure; apart = tt });
+      blocks = λ k within certain. is.blocks k within (record { certain = certain.certain; apart = tt });
     })
     is.head
 
@@ -53,7 +53,7 @@ pub stored_past : (s : PortState) (tx : ℕ) (items : Items) (t : PortState) (he
 unfolding nearly_done
 stored_past s tx items t head is at = λ i. after_store_head (is i) (at i)
 
-module _ (s : PortState) (tx : ℕ) (items : Items) (quiet : IsQuiet s) where
+module _ (s : PortState) (tx : ℕ) (items : Items) (quiet : IsQuiescent s) where
   rung_count : length (after_ring (after_flush (after_some s tx (length items) items))).posted ≡ length items
   rung_count = (λ i. length (quiet.posted i ++ (quiet.pending i ++ commands_of tx (staged_end s) (length items) items))) ∙ length-commands tx (staged_end s) items
 

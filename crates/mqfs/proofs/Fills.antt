@@ -145,14 +145,14 @@ not_set (Set d v ∷ is) c unnamed = let ne : c ≢ d = unnamed.0 in let rest : 
 not_set (Free d ∷ is) c unnamed = not_set is c unnamed.1
 
 -- a write more, and one write more before it
-one_there : (b v : ℕ) (o p : Option ℕ) (ws us : Writes) → o ≡ Some v → p ≡ None → ws ≡ us → length (with_write b o ws) ≡ length (with_write b p us) + 1
-one_there b v None p ws us some none same = cc
-one_there b v (Some w) None ws us some none same = let e : length ws ≡ length us = ap length same in omega arith
-one_there b v (Some w) (Some x) ws us some none same = cc
+one_there : (b v : ℕ) (o p : Option ℕ) (ws txs : Writes) → o ≡ Some v → p ≡ None → ws ≡ txs → length (with_write b o ws) ≡ length (with_write b p txs) + 1
+one_there b v None p ws txs some none same = cc
+one_there b v (Some w) None ws txs some none same = let e : length ws ≡ length txs = ap length same in omega arith
+one_there b v (Some w) (Some x) ws txs some none same = cc
 
-one_later : (b : ℕ) (o : Option ℕ) (ws us : Writes) → length ws ≡ length us + 1 → length (with_write b o ws) ≡ length (with_write b o us) + 1
-one_later b None ws us more = more
-one_later b (Some v) ws us more = omega arith
+one_later : (b : ℕ) (o : Option ℕ) (ws txs : Writes) → length ws ≡ length txs + 1 → length (with_write b o ws) ≡ length (with_write b o txs) + 1
+one_later b None ws txs more = more
+one_later b (Some v) ws txs more = omega arith
 
 set_more : (is : List BlockItem) (c v b n : ℕ) → IsUnnamed c is → b ≤ c → c < b + n → length (writes_from (set_in (Set c v ∷ is)) b n) ≡ length (writes_from (set_in is) b n) + 1
 set_more is c v b zero unnamed low high = absurd (omega arith)

@@ -15,7 +15,7 @@ use Rattle.mq_blocks.specs.declared.command.Command.{Command}
 use Rattle.mq_drive.specs.Start.{IsPortOf}
 use Rattle.mq_drive.specs.declared.role.Role.TheVariants.{Queue}
 use Rattle.mq_pmr.specs.Runs.{Items, commands_of, slots_with, entry_at, AreOwn}
-use Rattle.mqfs.specs.Runs.{blocks_with, sure_with, IsNewIn, AreDistinct}
+use Rattle.mqfs.specs.Runs.{blocks_with, certain_with, IsNewIn, AreDistinct}
 use Rattle.mqfs.specs.Commits.{items_from}
 
 pub mod_small : (a n : ℕ) → a < n → a % n ≡ a
@@ -82,24 +82,24 @@ pub length-blocks_with : (at : ℕ → ℕ) (blocks : List (Option (List ℕ))) 
 length-blocks_with at blocks [] = refl
 length-blocks_with at blocks (c ∷ cs) = length-blocks_with at (set blocks (at c.lba) (Some c.block)) cs ∙ length-set blocks (at c.lba) (Some c.block)
 
-pub length-sure_with : (at : ℕ → ℕ) (sure : List Bool) (cs : List Command) → length (sure_with at sure cs) ≡ length sure
-length-sure_with at sure [] = refl
-length-sure_with at sure (c ∷ cs) = length-sure_with at (set sure (at c.lba) true) cs ∙ length-set sure (at c.lba) true
+pub length-certain_with : (at : ℕ → ℕ) (certain : List Bool) (cs : List Command) → length (certain_with at certain cs) ≡ length certain
+length-certain_with at certain [] = refl
+length-certain_with at certain (c ∷ cs) = length-certain_with at (set certain (at c.lba) true) cs ∙ length-set certain (at c.lba) true
 
 abbrev pub AreSure : List Bool → Type 0
-AreSure sure = (k : ℕ) → k < length sure → get_or sure k false ≡ true
+AreSure certain = (k : ℕ) → k < length certain → get_or certain k false ≡ true
 
-sure_set : (sure : List Bool) (k : ℕ) → AreSure sure → AreSure (set sure k true)
-sure_set sure k all j within =
-    let inside : j < length sure = omega (arith, within, length-set sure k true) in
+certain_set : (certain : List Bool) (k : ℕ) → AreSure certain → AreSure (set certain k true)
+certain_set certain k all j within =
+    let inside : j < length certain = omega (arith, within, length-set certain k true) in
     ⊎_elim
-    (λ here. get_or-set_at sure k j true false here (omega arith))
-    (λ other. get_or-set_other sure k j true false other ∙ all j inside)
+    (λ here. get_or-set_at certain k j true false here (omega arith))
+    (λ other. get_or-set_other certain k j true false other ∙ all j inside)
     (cases_eq j k)
 
-pub sure_all : (at : ℕ → ℕ) (sure : List Bool) (cs : List Command) → AreSure sure → AreSure (sure_with at sure cs)
-sure_all at sure [] all = all
-sure_all at sure (c ∷ cs) all = sure_all at (set sure (at c.lba) true) cs (sure_set sure (at c.lba) all)
+pub certain_all : (at : ℕ → ℕ) (certain : List Bool) (cs : List Command) → AreSure certain → AreSure (certain_with at certain cs)
+certain_all at certain [] all = all
+certain_all at certain (c ∷ cs) all = certain_all at (set certain (at c.lba) true) cs (certain_set certain (at c.lba) all)
 
 -- ---- slots
 

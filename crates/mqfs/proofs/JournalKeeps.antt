@@ -5,7 +5,7 @@ use Rattle.mq_nvme.specs.Says.{says}
 use Rattle.mq_nvme.proofs.Saying.{says-entry}
 use Rattle.mq_blocks.specs.Blocks.{block_at}
 use Rattle.mq_blocks.specs.Descriptor.{Descriptor, IsGood, AreRising, descriptor_bytes}
-use Rattle.mq_blocks.specs.Drive.{PortState, IsQuiet, index_of, staged_end, depth}
+use Rattle.mq_blocks.specs.Drive.{PortState, IsQuiescent, index_of, staged_end, depth}
 use Rattle.mq_blocks.specs.Geometry.{area_lba, homes_of}
 use Rattle.mq_blocks.specs.Journal.{Shown, IsChain, logged_copy}
 use Rattle.mq_blocks.specs.Machine.{Writes, Transaction, write_of}
@@ -16,7 +16,7 @@ use Rattle.mq_drive.specs.declared.role.Role.TheVariants.{Queue}
 use Rattle.mq_pmr.specs.Runs.{Items, commands_of, slots_with, entry_at, after_some}
 use Rattle.mqfs.specs.Runs.{blocks_with, after_line}
 use Rattle.mqfs.specs.Commits.{items_from, items_of, descriptor_for, blocks_in, Agrees, AllCarry, Keeps}
-use Rattle.mqfs.proofs.JournalItems.{mod_small, at_place, length-items, new_below, block_at-set_same, items_apart, length-blocks_with, length-sure_with, sure_all, length-slots_with, last_lba, last_slot}
+use Rattle.mqfs.proofs.JournalItems.{mod_small, at_place, length-items, new_below, block_at-set_same, items_apart, length-blocks_with, length-certain_with, certain_all, length-slots_with, last_lba, last_slot}
 use Rattle.mqfs.proofs.Lines.{staged_all}
 
 pub length-blocks_in : (ws : Writes) → length (blocks_in ws) ≡ length ws
@@ -168,7 +168,7 @@ module _ (g : Geometry) (s : PortState) (next place : ℕ) (ds : List Descriptor
   abbrev ended : List Command
   ended = s.posted ++ (s.pending ++ commands_of (length ds + 1) (staged_end s) (length next_items) next_items)
 
-  now_quiet : IsQuiet after_it
+  now_quiet : IsQuiescent after_it
   unfolding after_line
   now_quiet = record {
     flushed_end = add-zero _;
@@ -177,7 +177,7 @@ module _ (g : Geometry) (s : PortState) (next place : ℕ) (ds : List Descriptor
     failed = keeps.quiet.failed;
     head = refl;
     base = refl;
-    sure = sure_all (index_of s) s.sure ended keeps.quiet.sure;
+    certain = certain_all (index_of s) s.certain ended keeps.quiet.certain;
   }
 
   now_port : IsPortOf g (Queue 0) after_it
@@ -194,7 +194,7 @@ module _ (g : Geometry) (s : PortState) (next place : ℕ) (ds : List Descriptor
         flushed = slots;
         staged = slots;
         blocks = length-blocks_with (index_of s) s.blocks ended ∙ keeps.port.blocks;
-        sure = length-sure_with (index_of s) s.sure ended ∙ keeps.port.sure ∙ sym (length-blocks_with (index_of s) s.blocks ended);
+        certain = length-certain_with (index_of s) s.certain ended ∙ keeps.port.certain ∙ sym (length-blocks_with (index_of s) s.blocks ended);
         settled = λ k within flushed. refl;
       }
 

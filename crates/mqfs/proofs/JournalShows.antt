@@ -86,7 +86,7 @@ module _ (g : Geometry) (s new : PortState) (next place : ℕ) (ds : List Descri
     area = λ k less.
         let old = keeps.port.blocks in
         let long = port.blocks in
-        let sure = keeps.port.sure in
+        let certain = keeps.port.certain in
         image.blocks k (omega arith) (early.certain k (omega arith) (fresh k less)) ∙ early.blocks k (fresh k less);
   }
 

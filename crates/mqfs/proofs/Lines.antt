@@ -1,6 +1,6 @@
 -- A whole transaction.
 use Rattle.std.proofs.Common.{◌≡◌, ℕ, suc, ◌+◌, [], ◌∷◌, ◌++◌, length, refl, sym, ◌∙◌, ap, subst}
-use Rattle.mq_blocks.specs.Drive.{PortState, IsQuiet, index_of, staged_end, after_flush, after_ring}
+use Rattle.mq_blocks.specs.Drive.{PortState, IsQuiescent, index_of, staged_end, after_flush, after_ring}
 use Rattle.mq_pmr.specs.Runs.{Items, commands_of, after_some}
 use Rattle.mqfs.specs.Runs.{IsApart, AreApart, IsNewIn, AreDistinct}
 use Rattle.mq_pmr.proofs.Staging.{length-commands}
@@ -13,14 +13,14 @@ pub apart_commands : (at : ℕ → ℕ) (tx n : ℕ) (items : Items) → AreDist
 apart_commands at tx n [] distinct = tt
 apart_commands at tx n (i ∷ is) distinct = (apart_from at tx (n + 1) (at i.0) is distinct.0, apart_commands at tx (n + 1) is distinct.1)
 
-pub apart_posted : (s t : PortState) (tx : ℕ) (items : Items) → IsQuiet s → AreDistinct (index_of s) items → t ≡ after_ring (after_flush (after_some s tx (length items) items)) → AreApart (index_of t) t.posted
+pub apart_posted : (s t : PortState) (tx : ℕ) (items : Items) → IsQuiescent s → AreDistinct (index_of s) items → t ≡ after_ring (after_flush (after_some s tx (length items) items)) → AreApart (index_of t) t.posted
 apart_posted s t tx items quiet distinct is =
     let posted : s.posted ++ (s.pending ++ commands_of tx (staged_end s) (length items) items) ≡ commands_of tx (staged_end s) (length items) items =
     (λ i. quiet.posted i ++ (quiet.pending i ++ commands_of tx (staged_end s) (length items) items)) in
     subst (λ (u : PortState). AreApart (index_of u) u.posted) (sym is)
     (subst (AreApart (index_of s)) (sym posted) (apart_commands (index_of s) tx (staged_end s) items distinct))
 
-pub staged_all : (s : PortState) (tx : ℕ) (items : Items) → IsQuiet s → staged_end (after_some s tx (length items) items) ≡ s.doorbell + length items
+pub staged_all : (s : PortState) (tx : ℕ) (items : Items) → IsQuiescent s → staged_end (after_some s tx (length items) items) ≡ s.doorbell + length items
 staged_all s tx items quiet =
     (λ i. s.doorbell + length (quiet.pending i ++ commands_of tx (staged_end s) (length items) items))
     ∙ ap (λ (n : ℕ). s.doorbell + n) (length-commands tx (staged_end s) items)

@@ -3,14 +3,14 @@ use Rattle.std.proofs.Common.{◌≡◌, ◌<◌, ◌≤◌, ◌⊎◌, ⊎_elim
 use Rattle.std.specs.Prelude.{Contains, Result, Ok, Err, IfOk}
 use Rattle.std.proofs.lemmas.List.{length-map}
 use Rattle.mq_blocks.specs.Descriptor.{Descriptor}
-use Rattle.mq_blocks.specs.Drive.{FuseName, PortState, PortImage, IsImage, IsQuiet}
+use Rattle.mq_blocks.specs.Drive.{FuseName, PortState, PortImage, IsImage, IsQuiescent}
 use Rattle.mq_blocks.specs.Geometry.{homes_of, home_lba, zone_of}
 use Rattle.mq_blocks.specs.Journal.{Reaches, image_at, stands}
 use Rattle.mq_blocks.specs.declared.geometry.Geometry.{Geometry}
 use Rattle.mq_ledger.specs.State.{port_at}
 use Rattle.mq_drive.specs.Emu.{emu_state, emu_faults}
 use Rattle.mq_drive.specs.Start.{IsImageOf, IsPortOf, start_of}
-use Rattle.mq_drive.specs.Views.{IsStill as AreTwoStill}
+use Rattle.mq_drive.specs.Views.{IsQuiescentPair as AreTwoStill}
 use Rattle.mq_drive.specs.Steps.{Fault, PowerOff, HomeError, Gains}
 use Rattle.mq_drive.specs.declared.emu.EmuPort.{EmuPort}
 use Rattle.mq_drive.proofs.Faults.{off_unlimited, no_error, home_error_is_none}
@@ -19,7 +19,7 @@ use Rattle.mq_drive.specs.declared.role.Role.TheVariants.{Queue, Root}
 use Rattle.mqfs.specs.Commits.{AreBelow, AllBelow}
 use Rattle.mqfs.specs.Fresh.{IsTextGeometry}
 use Rattle.mqfs.specs.Restart.{IsLeftOf, cut_view, no_faults}
-use Rattle.mq_recover.specs.Drives.{DriveState, IsStill, IsStillPort, AreImages, ArePorts, AreBoundsKept, IsBoundKept, drive, states, faults_of, view_over}
+use Rattle.mq_recover.specs.Drives.{DriveState, IsQuiescentDrive, IsQuiescentPort, AreImages, ArePorts, AreBoundsKept, IsBoundKept, drive, states, faults_of, view_over}
 use Rattle.mq_recover.specs.RecoverCauses.{HasDriveCause, OnDrive, OnImage, OneGains}
 use Rattle.mq_recover.specs.Recovery.{IsRead, StandsAs}
 use Rattle.mq_recover.specs.Refusals.{RefusesImage}
@@ -55,18 +55,18 @@ lines_below homes ((i ∷ is) ∷ ls) size good = (items_below homes (i ∷ is) 
 abbrev pub start_drive : Geometry → FuseName → PortImage → PortImage → DriveState
 start_drive g f q r = drive (start_of g (Queue 0) q f None ∷ []) (start_of g Root r f None)
 
-start_still : (g : Geometry) (f : FuseName) (q r : PortImage) → g.queues ≡ 1 → IsImageOf g (Queue 0) q → IsImageOf g Root r → IsStill g (start_drive g f q r)
+start_still : (g : Geometry) (f : FuseName) (q r : PortImage) → g.queues ≡ 1 → IsImageOf g (Queue 0) q → IsImageOf g Root r → IsQuiescentDrive g (start_drive g f q r)
 start_still g f q r one queue root = record {
   count = sym one;
   each = λ k less.
       let none : k ≡ 0 = omega (arith, one, less) in
-      subst (λ (n : ℕ). IsStillPort g (Queue n) (port_at (start_of g (Queue 0) q f None ∷ []) n)) (sym none) (record { port = port_of-start g (Queue 0) q f None queue; quiet = quiet-start g (Queue 0) q f None });
+      subst (λ (n : ℕ). IsQuiescentPort g (Queue n) (port_at (start_of g (Queue 0) q f None ∷ []) n)) (sym none) (record { port = port_of-start g (Queue 0) q f None queue; quiet = quiet-start g (Queue 0) q f None });
   root = record { port = port_of-start g Root r f None root; quiet = quiet-start g Root r f None };
   ringless = root.words;
 }
 
-pub started_still : (g : Geometry) (f : FuseName) (q r : PortImage) (d : DriveState) → g.queues ≡ 1 → IsImageOf g (Queue 0) q → IsImageOf g Root r → d ≡ start_drive g f q r → IsStill g d
-started_still g f q r d one queue root is = subst (IsStill g) (sym is) (start_still g f q r one queue root)
+pub started_still : (g : Geometry) (f : FuseName) (q r : PortImage) (d : DriveState) → g.queues ≡ 1 → IsImageOf g (Queue 0) q → IsImageOf g Root r → d ≡ start_drive g f q r → IsQuiescentDrive g d
+started_still g f q r d one queue root is = subst (IsQuiescentDrive g) (sym is) (start_still g f q r one queue root)
 
 -- what it shows to recovery is what the images show
 pub started_view : (g : Geometry) (f : FuseName) (q r : PortImage) (d : DriveState) → d ≡ start_drive g f q r → view_over g d ≡ cut_view g q r
@@ -118,7 +118,7 @@ one_port items root g f q r is = sym (length-map items emu_state) ∙ ap (λ (d 
 pub record IsAnswered {A : Type 0} (g : Geometry) (f : FuseName) (q r : PortImage) (d : DriveState) (result : Result A RecoverRefusal) (items : List EmuPort) (root : EmuPort) : Type 0 where
   pub one : g.queues ≡ 1
   pub start : d ≡ start_drive g f q r
-  pub still : IsStill g d
+  pub still : IsQuiescentDrive g d
   pub ds : List Descriptor
   pub reaches : Reaches g (view_over g d) ds
   pub image : OnImage result (λ c. (states emu_state items root ≡ d) × ((c ≡ fault.OutOfMemory) ⊎ RefusesImage g d c))
@@ -193,7 +193,7 @@ pub record IsLeft (g : Geometry) (d e : DriveState) : Type 0 where
   pub ports : ArePorts g e
   pub stand : StandsAs g d found top e
 
-ports_of : (g : Geometry) (e : DriveState) → IsStill g e → ArePorts g e
+ports_of : (g : Geometry) (e : DriveState) → IsQuiescentDrive g e → ArePorts g e
 ports_of g e still = record { count = still.count; each = λ q less. (still.each q less).port; root = still.root.port }
 
 pub left : (g : Geometry) (d e : DriveState) (result : Result Recovered RecoverRefusal) → IfOk result (λ r. IsDone g d r.prefix r.base e) → OnDrive result (λ x. IsCutShort g x d e) → ((c : ImageFault) → result ≡ Err (Image c) → ⊥)
@@ -217,7 +217,7 @@ left_of g f old_queue old_root d e q r ds noted found top is one reaches noted_i
     (stands_left g d e q r ds noted found top one (started_reaches g f old_queue old_root d ds is reaches) noted_is queue root read stand)
 
 -- a drive of one queue by its two ports
-pub two_still : (g : Geometry) (items : List EmuPort) (root x : EmuPort) → g.queues ≡ 1 → length items ≡ 1 → x ≡ get_or items 0 x → IsStill g (states emu_state items root) → AreTwoStill g (emu_state x) (emu_state root)
+pub two_still : (g : Geometry) (items : List EmuPort) (root x : EmuPort) → g.queues ≡ 1 → length items ≡ 1 → x ≡ get_or items 0 x → IsQuiescentDrive g (states emu_state items root) → AreTwoStill g (emu_state x) (emu_state root)
 two_still g items root x one count is still =
     let queue = still.each 0 (omega (arith, one)) in
     let same = first_state items x count is in
@@ -225,6 +225,6 @@ two_still g items root x one count is still =
       one = one;
       queue_port = subst (IsPortOf g (Queue 0)) same queue.port;
       root_port = still.root.port;
-      queue_quiet = subst IsQuiet same queue.quiet;
+      queue_quiet = subst IsQuiescent same queue.quiet;
       root_quiet = still.root.quiet;
     }

@@ -6,7 +6,7 @@ use Rattle.std.proofs.lemmas.Grind.{get_or-set_at}
 use Rattle.std.proofs.lemmas.Nat.{mod_below}
 use Rattle.mq_nvme.proofs.Saying.{says-entry}
 use Rattle.mq_nvme.specs.Says.{says}
-use Rattle.mq_blocks.specs.Drive.{PortState, IsQuiet, depth, staged_end}
+use Rattle.mq_blocks.specs.Drive.{PortState, IsQuiescent, depth, staged_end}
 use Rattle.mq_blocks.specs.Geometry.{area_lba}
 use Rattle.mq_blocks.specs.Journal.{number_limit}
 use Rattle.mq_blocks.specs.Machine.{Writes}
@@ -72,7 +72,7 @@ readable_still s new done low same = record {
 }
 
 -- between a ring of the transaction and the store of the head its entries are readable
-pub readable : (g : Geometry) (s new : PortState) (tx place : ℕ) (block : List ℕ) (ws : Writes) → IsPortOf g (Queue 0) s → IsQuiet s → s.head ≡ s.doorbell → 1 ≤ tx → tx ≤ number_limit → length ws ≤ 1000
+pub readable : (g : Geometry) (s new : PortState) (tx place : ℕ) (block : List ℕ) (ws : Writes) → IsPortOf g (Queue 0) s → IsQuiescent s → s.head ≡ s.doorbell → 1 ≤ tx → tx ≤ number_limit → length ws ≤ 1000
     → s.doorbell + length ws + 1 ≤ number_limit → (new.doorbell ≡ s.doorbell) ⊎ IsRung s new tx (items_from g place block ws) → AreReadable s new
 readable g s new tx place block ws port quiet done low high few end (inl same) = readable_still s new done (omega arith) same
 readable g s new tx place block ws port quiet done low high few end (inr rung) =

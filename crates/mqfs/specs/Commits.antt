@@ -3,7 +3,7 @@ use Rattle.std.specs.Prelude.{◌≡◌, ◌<◌, ◌≤◌, ℕ, ◌+◌, ◌-�
 use Rattle.mq_nvme.specs.Says.{says}
 use Rattle.mq_blocks.specs.Blocks.{block_at}
 use Rattle.mq_blocks.specs.Descriptor.{Descriptor, descriptor_bytes}
-use Rattle.mq_blocks.specs.Drive.{PortState, PortImage, IsImage, IsQuiet, depth}
+use Rattle.mq_blocks.specs.Drive.{PortState, PortImage, IsImage, IsQuiescent, depth}
 use Rattle.mq_blocks.specs.Geometry.{area_lba, homes_of}
 use Rattle.mq_blocks.specs.Journal.{Shown, shown, IsChain, AreInRow, Reaches, logged_copy, stands}
 use Rattle.mq_blocks.specs.Machine.{Map, Writes, Transaction, write_of}
@@ -24,7 +24,7 @@ StartsBelow base s =
 pub record IsCleanQueue (g : Geometry) (queue : PortState) : Type 0 where
   pub one : g.queues ≡ 1
   pub port : IsPortOf g (Queue 0) queue
-  pub quiet : IsQuiet queue
+  pub quiet : IsQuiescent queue
   pub done : queue.head ≡ queue.doorbell
   pub low : queue.doorbell ≤ 2 ^ 62
   pub before : StartsBelow 0 queue
@@ -33,7 +33,7 @@ pub record IsCleanQueue (g : Geometry) (queue : PortState) : Type 0 where
 pub record IsClean (g : Geometry) (queue root : PortState) : Type 0 where
   pub queue_clean : IsCleanQueue g queue
   pub root_port : IsPortOf g Root root
-  pub root_quiet : IsQuiet root
+  pub root_quiet : IsQuiescent root
   pub base : root.base ≡ 0
 
 -- no item names a block from this one on
@@ -110,7 +110,7 @@ AllCarry g i (d ∷ ds) (t ∷ ts) = Carries g i d t × AllCarry g i ds ts
 
 -- A quiet port that has these transactions, the last at a place; the places from `next` on are free.
 pub record Keeps (g : Geometry) (s : PortState) (next place : ℕ) (ds : List Descriptor) (ts : List Transaction) : Type 0 where
-  pub quiet : IsQuiet s
+  pub quiet : IsQuiescent s
   pub port : IsPortOf g (Queue 0) s
   pub done : s.head ≡ s.doorbell
   pub chain : (i : Shown) → Agrees next s i → IsChain g i 0 (length ds) place ds

@@ -66,13 +66,13 @@ pub record HasBounds (s new : PortState) : Type 0 where
 -- So many of the posted commands have ended, with success or with an error. What the posted commands
 -- don't write is as before.
 pub record HasEnded (s new : PortState) (ended : ℕ) : Type 0 where
-  pub is : new ≡ record s { posted = new.posted; failed = new.failed; blocks = new.blocks; sure = new.sure; events = counted s.events ended }
+  pub is : new ≡ record s { posted = new.posted; failed = new.failed; blocks = new.blocks; certain = new.certain; events = counted s.events ended }
   pub left : length new.posted + ended ≡ length s.posted
   pub posted : (k : ℕ) → IsApart (index_of s) k s.posted → IsApart (index_of s) k new.posted
   pub blocks : (k : ℕ) → IsApart (index_of s) k s.posted → block_at new.blocks k ≡ block_at s.blocks k
-  pub sure : (k : ℕ) → IsApart (index_of s) k s.posted → slice_index_or new.sure k false ≡ slice_index_or s.sure k false
+  pub certain : (k : ℕ) → IsApart (index_of s) k s.posted → slice_index_or new.certain k false ≡ slice_index_or s.certain k false
   pub blocks_len : length new.blocks ≡ length s.blocks
-  pub sure_len : length new.sure ≡ length s.sure
+  pub certain_len : length new.certain ≡ length s.certain
 
 -- the doorbell is past the transaction, whose entries are flushed
 pub record IsRung (s new : PortState) (tx : ℕ) (items : Items) : Type 0 where
@@ -88,7 +88,7 @@ pub record IsEarly (s new : PortState) (tx : ℕ) (items : Items) : Type 0 where
   pub slot : 0 < s.head → slice_index_or new.flushed ((s.head - 1) % depth) [] ≡ slice_index_or s.flushed ((s.head - 1) % depth) []
   pub slot_flushed : 0 < s.head → IsFlushed new ((s.head - 1) % depth)
   pub blocks : (k : ℕ) → IsNewIn (index_of s) k items → block_at new.blocks k ≡ block_at s.blocks k
-  pub certain : (k : ℕ) → k < length s.sure → IsNewIn (index_of s) k items → IsCertain new k
+  pub certain : (k : ℕ) → k < length s.certain → IsNewIn (index_of s) k items → IsCertain new k
   pub rung : (new.doorbell ≡ s.doorbell) ⊎ IsRung s new tx items
 
 -- a whole transaction is executed, and the head is stored past it and not flushed

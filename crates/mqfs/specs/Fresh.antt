@@ -1,6 +1,6 @@
 -- A drive on which nothing has happened.
 use Rattle.std.specs.Prelude.{◌≡◌, ℕ, None, slice_index_or}
-use Rattle.mq_blocks.specs.Drive.{FuseName, PortState, IsQuiet}
+use Rattle.mq_blocks.specs.Drive.{FuseName, PortState, IsQuiescent}
 use Rattle.mq_blocks.specs.declared.geometry.Geometry.{Geometry}
 use Rattle.mq_drive.specs.Start.{IsPortOf}
 use Rattle.mq_drive.specs.declared.role.Role.{Role}
@@ -15,7 +15,7 @@ pub record IsTextGeometry (g : Geometry) : Type 0 where
 -- a port of zeros, on which nothing has happened, whose power is that of this fuse
 pub record IsFresh (g : Geometry) (role : Role) (fuse : FuseName) (s : PortState) : Type 0 where
   pub port : IsPortOf g role s
-  pub quiet : IsQuiet s
+  pub quiet : IsQuiescent s
   pub doorbell : s.doorbell ≡ 0
   pub head : s.head ≡ 0
   pub base : s.base ≡ 0

@@ -9,16 +9,16 @@ abbrev pub blocks_with : (ℕ → ℕ) → List (Option (List ℕ)) → List Com
 blocks_with at blocks [] = blocks
 blocks_with at blocks (c ∷ cs) = blocks_with at (slice_set blocks (at c.lba) (Some c.block)) cs
 
-abbrev pub sure_with : (ℕ → ℕ) → List Bool → List Command → List Bool
-sure_with at sure [] = sure
-sure_with at sure (c ∷ cs) = sure_with at (slice_set sure (at c.lba) true) cs
+abbrev pub certain_with : (ℕ → ℕ) → List Bool → List Command → List Bool
+certain_with at certain [] = certain
+certain_with at certain (c ∷ cs) = certain_with at (slice_set certain (at c.lba) true) cs
 
 -- all posted commands have ended with success
 abbrev pub after_all : PortState → PortState
 after_all s = record s {
   posted = [];
   blocks = blocks_with (index_of s) s.blocks s.posted;
-  sure = sure_with (index_of s) s.sure s.posted;
+  certain = certain_with (index_of s) s.certain s.posted;
   events = counted s.events (length s.posted);
 }
 

@@ -5,7 +5,7 @@ ghost use Rattle.mq_blocks.specs.Drive.{PortImage as CutImage};
 ghost use Rattle.mq_blocks.specs.Geometry.{homes_of, queues_of};
 ghost use Rattle.mq_blocks.specs.Journal.{shown};
 ghost use Rattle.mq_nvme.specs.Says.{says};
-ghost use Rattle.mq_blocks.specs.Drive.{IsQuiet};
+ghost use Rattle.mq_blocks.specs.Drive.{IsQuiescent};
 ghost use Rattle.mq_blocks.specs.Machine.{Map};
 ghost use Rattle.mq_drive.specs.Start.{IsRole, IsImageOf, IsPortOf, area_size_of, homes_size_of, start_of};
 ghost use Rattle.mq_drive.specs.Emu.{emu_state, emu_faults, drawn_by};

@@ -1,6 +1,6 @@
 // A block text is committed, each line as one transaction of the one queue.
 ghost use Rattle.std.specs.Prelude.{◌≡◌, ◌<◌, ◌≤◌, ◌+◌, ◌^◌, ℕ, List, length, OnOk, OnErr, Some, slice_get, [], ◌∷◌, vec_capacity};
-ghost use Rattle.mq_blocks.specs.Drive.{PortState, PortImage, IsImage, IsQuiet, counted};
+ghost use Rattle.mq_blocks.specs.Drive.{PortState, PortImage, IsImage, IsQuiescent, counted};
 ghost use Rattle.mq_blocks.specs.Geometry.{homes_of};
 ghost use Rattle.mq_blocks.specs.Journal.{shown};
 ghost use Rattle.mq_nvme.specs.Says.{says};
@@ -65,7 +65,7 @@ pub fn commit_lines<P: Port>(
     requires below { AllBelow (homes_of geometry) text.now }
     ensures ok { OnOk result ((q r : PortImage) → IsImage (P.state queue.new.port) q → r.base ≡ 0 → ShowsMap geometry (shown says geometry (q ∷ []) r) (length text.now) (map_after text.now (length text.now))) }
     ensures rings { OnOk result ((P.state queue.new.port).rings ≡ counted (P.state queue.old.port).rings (length text.now)) }
-    ensures quiet { OnOk result (IsQuiet (P.state queue.new.port)) }
+    ensures quiet { OnOk result (IsQuiescent (P.state queue.new.port)) }
     ensures done { OnOk result ((P.state queue.new.port).head ≡ (P.state queue.new.port).doorbell) }
     ensures events { OnOk result ((P.state queue.new.port).events ≡ counted (P.state queue.old.port).events (events_of text.now (length text.now))) }
     ensures cut { OnErr result ((e : ℕ) × ((P.state queue.new.port).events ≡ counted (P.state queue.old.port).events e) × QueueShows geometry (P.state queue.new.port) text.now e × (e < events_of text.now (length text.now))) }
@@ -99,7 +99,7 @@ fn commit_through<P: Port>(
     requires below { AllBelow (homes_of geometry) text.now }
     ensures ok { OnOk result.1 ((q r : PortImage) → IsImage (P.state result.0) q → r.base ≡ 0 → ShowsMap geometry (shown says geometry (q ∷ []) r) (length text.now) (map_after text.now (length text.now))) }
     ensures rings { OnOk result.1 ((P.state result.0).rings ≡ counted (P.state port).rings (length text.now)) }
-    ensures quiet { OnOk result.1 (IsQuiet (P.state result.0)) }
+    ensures quiet { OnOk result.1 (IsQuiescent (P.state result.0)) }
     ensures done { OnOk result.1 ((P.state result.0).head ≡ (P.state result.0).doorbell) }
     ensures events { OnOk result.1 ((P.state result.0).events ≡ counted (P.state port).events (events_of text.now (length text.now))) }
     ensures cut { OnErr result.1 ((e : ℕ) × ((P.state result.0).events ≡ counted (P.state port).events e) × QueueShows geometry (P.state result.0) text.now e × (e < events_of text.now (length text.now))) }
@@ -157,7 +157,7 @@ pub fn commit_text<P: Port>(
     requires below { AllBelow (homes_of geometry) text.now }
     ensures ok { OnOk result.1 ((p : P) → slice_get result.0.queues.items 0 ≡ Some p → ShowsLines geometry (P.state p) (P.state result.0.root) text.now (length text.now)) }
     ensures rings { OnOk result.1 ((p q : P) → slice_get ports.queues.items 0 ≡ Some p → slice_get result.0.queues.items 0 ≡ Some q → (P.state q).rings ≡ counted (P.state p).rings (length text.now)) }
-    ensures quiet { OnOk result.1 ((p : P) → slice_get result.0.queues.items 0 ≡ Some p → IsQuiet (P.state p)) }
+    ensures quiet { OnOk result.1 ((p : P) → slice_get result.0.queues.items 0 ≡ Some p → IsQuiescent (P.state p)) }
     ensures done { OnOk result.1 ((p : P) → slice_get result.0.queues.items 0 ≡ Some p → (P.state p).head ≡ (P.state p).doorbell) }
     ensures events { OnOk result.1 ((p q : P) → slice_get ports.queues.items 0 ≡ Some p → slice_get result.0.queues.items 0 ≡ Some q → (P.state q).events ≡ counted (P.state p).events (events_of text.now (length text.now))) }
     ensures cut { OnErr result.1 ((p q : P) → slice_get ports.queues.items 0 ≡ Some p → slice_get result.0.queues.items 0 ≡ Some q → (e : ℕ) × ((P.state q).events ≡ counted (P.state p).events e) × ShowsReached geometry (P.state q) (P.state result.0.root) text.now e × (e < events_of text.now (length text.now))) }

@@ -1,6 +1,6 @@
 // One line of a text, committed as a transaction through a queue.
 ghost use Rattle.std.specs.Prelude.{◌≡◌, ◌<◌, ◌≤◌, ◌+◌, ◌^◌, ℕ, [], length, OnOk, OnErr, slice_index_or};
-ghost use Rattle.mq_blocks.specs.Drive.{PortState, IsQuiet, depth, index_of, staged_end};
+ghost use Rattle.mq_blocks.specs.Drive.{PortState, IsQuiescent, depth, index_of, staged_end};
 ghost use Rattle.mq_pmr.specs.Runs.{AreOwn};
 ghost use Rattle.mqfs.specs.Causes.{HasCause};
 ghost use Rattle.mqfs.specs.Cuts.{HasEnded, IsCut};
@@ -58,7 +58,7 @@ pub fn commit_line<P: Port>(
     requires some { 0 < length items.items }
     requires end { staged_end (P.state queue.old.port) + length items.items ≤ 2 ^ 63 }
     requires room { length items.items ≤ 1023 }
-    requires quiet { IsQuiet (P.state queue.old.port) }
+    requires quiet { IsQuiescent (P.state queue.old.port) }
     requires done { (P.state queue.old.port).head ≡ (P.state queue.old.port).doorbell }
     requires settled { (k : ℕ) → k < depth → slice_index_or (P.state queue.old.port).flushed k [] ≡ slice_index_or (P.state queue.old.port).staged k [] }
     requires own { AreOwn (P.state queue.old.port) items.items }

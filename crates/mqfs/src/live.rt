@@ -5,7 +5,7 @@ ghost use Rattle.mq_blocks.specs.Machine.{Map};
 ghost use Rattle.mqfs.specs.Fresh.{IsTextGeometry};
 ghost use Rattle.mqfs.specs.Lines.{live_from, map_after, named};
 ghost use Rattle.mqfs.specs.Live.{AreMarks, HoldsMap, marked};
-ghost use Rattle.mq_recover.specs.Drives.{IsStill, states, view_over};
+ghost use Rattle.mq_recover.specs.Drives.{IsQuiescentDrive, states, view_over};
 ghost use Rattle.mq_text.specs.Text.{AreGoodItems, IsGoodText};
 
 use crate::items::NAMED;
@@ -54,7 +54,7 @@ pub fn live_blocks<P: Port>(
     marks: &[bool],
 ) -> Result<Vec<(BlockNo, u8)>, OutOfMemory>
     requires geometry { IsTextGeometry geometry }
-    requires still { IsStill geometry (states P.state ports.now.queues.items ports.now.root) }
+    requires still { IsQuiescentDrive geometry (states P.state ports.now.queues.items ports.now.root) }
     requires marks { length marks.now ≡ 256 }
     ensures { IfOk result (λ v. (m : Map) → AreMarks m marks.now → HoldsMap geometry (states P.state ports.now.queues.items ports.now.root) m → v.items ≡ live_from m 0 named) }
 {

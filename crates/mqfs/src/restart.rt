@@ -7,7 +7,7 @@ ghost use Rattle.mq_drive.specs.Emu.{emu_state, emu_faults};
 ghost use Rattle.mq_drive.specs.Seats.{name_of, fuse_of, tickets_of};
 ghost use Rattle.mq_drive.specs.Start.{IsImageOf, start_of};
 ghost use Rattle.mq_drive.specs.declared.role.Role.TheVariants.{Queue, Root};
-ghost use Rattle.mq_recover.specs.Drives.{IsStill, drive, states, faults_of, view_over};
+ghost use Rattle.mq_recover.specs.Drives.{IsQuiescentDrive, drive, states, faults_of, view_over};
 ghost use Rattle.mqfs.specs.Restart.{IsLeftOf, cut_view, no_faults};
 
 use crate::power::power_of_two;
@@ -60,7 +60,7 @@ fn read_prefix<P: Port>(
     geometry: Geometry,
     ports: &Ports<P>,
 ) -> Result<u64, OutOfMemory>
-    requires still { IsStill geometry (states P.state ports.now.queues.items ports.now.root) }
+    requires still { IsQuiescentDrive geometry (states P.state ports.now.queues.items ports.now.root) }
     requires reaches { (ds : List Descriptor) × Reaches geometry (view_over geometry (states P.state ports.now.queues.items ports.now.root)) ds }
     ensures { IfOk result (λ p. (ds : List Descriptor) → Reaches geometry (view_over geometry (states P.state ports.now.queues.items ports.now.root)) ds → p ≡ length ds) }
 {
@@ -123,7 +123,7 @@ pub fn recover_images<'f>(
     requires reaches { (ds : List Descriptor) × Reaches geometry (cut_view geometry images.0 images.1) ds }
     ensures prefix { IfOk result (λ r. (ds : List Descriptor) → Reaches geometry (cut_view geometry images.0 images.1) ds → r.0 ≡ length ds) }
     ensures homes { IfOk result (λ r. (ds : List Descriptor) (b : ℕ) → Reaches geometry (cut_view geometry images.0 images.1) ds → b < homes_of geometry → (view_over geometry (states emu_state r.1.queues.items r.1.root)).home b ≡ stands geometry (cut_view geometry images.0 images.1) ds b) }
-    ensures still { IfOk result (λ r. IsStill geometry (states emu_state r.1.queues.items r.1.root)) }
+    ensures still { IfOk result (λ r. IsQuiescentDrive geometry (states emu_state r.1.queues.items r.1.root)) }
 {
     let mut ports = restarted(alloc, fuse, seats, geometry, images, pick)?;
     match recover(alloc, geometry, &mut ports) {

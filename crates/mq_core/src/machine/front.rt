@@ -23,6 +23,6 @@ pub fn settle_all(ledger: &mut Ledger, ports: &[Port])
     ensures { ledger.new ≡ settled ports.now ledger.old }
 {
     while is_next_done(ledger, ports) {
-        ledger.settle();
+        ledger.advance_front();
     }
 }

@@ -20,7 +20,7 @@ use std::alloc::Global;
 pub fn begin_write(
     ports: &mut Vec<Port>,
     root: &mut Port,
-    under: &mut Vec<BlockNo>,
+    writing: &mut Vec<BlockNo>,
     geometry: Geometry,
     block: BlockNo,
     content: Content,
@@ -29,15 +29,15 @@ pub fn begin_write(
     requires there { IsIn geometry block ports.old.items root.old }
     ensures ports { OnOk result (ports.new.items ≡ ports_after (begin_home geometry block content) (zone_of geometry block) ports.old.items) }
     ensures root { OnOk result (root.new ≡ root_after (begin_home geometry block content) (zone_of geometry block) root.old) }
-    ensures under { OnOk result (under.new.items ≡ under.old.items ++ block ∷ []) }
-    ensures refused { OnErr result ((ports.new.items ≡ ports.old.items) × (root.new ≡ root.old) × (under.new.items ≡ under.old.items)) }
+    ensures writing { OnOk result (writing.new.items ≡ writing.old.items ++ block ∷ []) }
+    ensures refused { OnErr result ((ports.new.items ≡ ports.old.items) × (root.new ≡ root.old) × (writing.new.items ≡ writing.old.items)) }
 {
-    under.reserve(1)?;
+    writing.reserve(1)?;
     match geometry.zone_of(block) {
         Some(queue) => ports[queue.0 as usize].begin_home(geometry.home(block), content)?,
         None => root.begin_home(geometry.home(block), content)?,
     }
-    under.push(block)?;
+    writing.push(block)?;
     Ok(())
 }
 
@@ -124,7 +124,7 @@ impl Core {
         begin_write(
             &mut self.ports,
             &mut self.root,
-            &mut self.under,
+            &mut self.writing,
             geometry,
             block,
             content,
@@ -136,13 +136,13 @@ impl Core {
     pub fn home_done(&mut self, alloc: Global, block: BlockNo) -> Result<(), CoreRefusal>
         ensures { Answers (IsAllowed plain (HomeDone block) self.old) (happens plain (HomeDone block) self.old) self.old self.new result }
     {
-        if !holds_block(&self.under, block) {
+        if !holds_block(&self.writing, block) {
             return Err(CoreRefusal::NotAllowed { index: 0 });
         }
         let content = self.home_content(alloc, block)?;
         let geometry = self.ledger.geometry();
         end_write(&mut self.ports, &mut self.root, geometry, block, content);
-        drop_block(&mut self.under, block);
+        drop_block(&mut self.writing, block);
         Ok(())
     }
 }

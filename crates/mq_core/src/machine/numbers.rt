@@ -2,7 +2,7 @@
 ghost use Rattle.std.specs.Prelude.{◌≡◌, ◌<◌, ◌≤◌, ◌↔◌, ◌+◌, ◌&&◌, length, slice_index_or, IsTrue, filter, not, nat_eq, nat_lt};
 ghost use Rattle.mq_blocks.specs.Geometry.{homes_of};
 ghost use Rattle.mq_ledger.specs.History.{last};
-ghost use Rattle.mq_ledger.specs.Known.{IsTx};
+ghost use Rattle.mq_ledger.specs.KnownJournal.{IsTx};
 ghost use Rattle.mq_ledger.specs.Plain.{plain};
 ghost use Rattle.mq_ledger.specs.State.{from_at, front_of, port_at};
 ghost use Rattle.mq_core.specs.Answers.{Answers};
@@ -41,7 +41,7 @@ impl Core {
     /// Whether the entries of a transaction fit into ring and area of its queue.
     fn has_room(&self, tx: &Tx) -> bool
         requires { IsTx self.now.geometry tx.now }
-        ensures { IsTrue result ↔ HasRoom self.now.geometry (from_at self.now.froms tx.now.queue) self.now.root.base (us_of self.now tx.now.queue) tx.now (port_at self.now.ports tx.now.queue) }
+        ensures { IsTrue result ↔ HasRoom self.now.geometry (from_at self.now.starts tx.now.queue) self.now.root.base (us_of self.now tx.now.queue) tx.now (port_at self.now.ports tx.now.queue) }
     {
         let port = &self.ports[tx.queue.0 as usize];
         let end = self.ledger.end(tx.queue);
@@ -80,7 +80,7 @@ impl Core {
         }
         let number = tx.number;
         self.ledger.push(tx)?;
-        drop_changed(&self.ledger, &mut self.under, number);
+        drop_changed(&self.ledger, &mut self.writing, number);
         Ok(())
     }
 

@@ -2,8 +2,8 @@
 use super::{apply, bytes, outcome, show, told};
 use mq_blocks::{Block, Geometry, OutOfMemory};
 use mq_layout::FILE_LIMIT;
-use mq_lifted::{empty_blocks, path};
 use mq_pages::Kind;
+use mq_test_pages::{empty_blocks, path};
 use mq_tree::{Bytes, Name, Path, Request, mount};
 use std::alloc::Global;
 

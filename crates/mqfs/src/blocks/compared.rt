@@ -5,7 +5,7 @@ ghost use Rattle.mq_blocks.specs.Geometry.{queues_of};
 ghost use Rattle.mq_blocks.specs.Journal.{shown};
 ghost use Rattle.mq_blocks.specs.Machine.{Map};
 ghost use Rattle.mq_drive.specs.Start.{IsImageOf};
-ghost use Rattle.mq_recover.specs.Drives.{IsStill, states};
+ghost use Rattle.mq_recover.specs.Drives.{IsQuiescentDrive, states};
 ghost use Rattle.mq_drive.specs.declared.role.Role.TheVariants.{Queue, Root};
 ghost use Rattle.mq_nvme.specs.Says.{says};
 ghost use Rattle.mqfs.specs.Commits.{ShowsMap};
@@ -17,8 +17,8 @@ use super::*;
 use crate::restart::restarted;
 use mq_blocks::{BlockNo, TxNo};
 use mq_drive::Port;
-use mq_plain::{PlainStanding, plain_standing};
 use mq_recover::{Chain, ChainRefusal, ImageFault, Standing, read_chain, read_home, stands};
+use mq_test_recovery::{PlainStanding, plain_standing};
 use std::alloc::AllocError;
 use std::ops::Range;
 use std::process::Abort;
@@ -61,7 +61,7 @@ fn read_homes<P: Port>(
     geometry: Geometry,
     ports: &Ports<P>,
 ) -> Result<Vec<Block>, OutOfMemory>
-    requires { IsStill geometry (states P.state ports.now.queues.items ports.now.root) }
+    requires { IsQuiescentDrive geometry (states P.state ports.now.queues.items ports.now.root) }
 {
     let mut homes = Vec::new(alloc);
     for b in 0..geometry.homes() {

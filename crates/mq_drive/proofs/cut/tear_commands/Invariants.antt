@@ -9,10 +9,10 @@ invariant-loop-command l = record {
   area : l.area ≡ l.fn.area;
   homes : l.homes ≡ l.fn.homes;
   len : length l.blocks.stored.items ≡ length l.fn.blocks.stored.items;
-  sure : l.blocks.sure.items ≡ l.fn.blocks.sure.items;
+  certain : l.blocks.certain.items ≡ l.fn.blocks.certain.items;
   own : All (IsOwn l.area.first l.area.size l.homes.first (length l.blocks.stored.items)) l.posted.items;
   rest : (k : ℕ) → All (IsOther l.area.first l.area.size l.homes.first k) l.fn.posted.items → All (IsOther l.area.first l.area.size l.homes.first k) l.posted.items;
-  kept : (k : ℕ) → All (IsOther l.area.first l.area.size l.homes.first k) l.fn.posted.items → slice_index_or l.fn.blocks.sure.items k false ≡ true
+  kept : (k : ℕ) → All (IsOther l.area.first l.area.size l.homes.first k) l.fn.posted.items → slice_index_or l.fn.blocks.certain.items k false ≡ true
       → slice_index_or l.blocks.stored.items k None ≡ slice_index_or l.fn.blocks.stored.items k None;
 }
 

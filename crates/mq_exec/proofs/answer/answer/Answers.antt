@@ -3,7 +3,7 @@ use Rattle.std.proofs.lemmas.Result.{IfErr-weaker, IfOk-weaker, err_from_is_err_
 use Rattle.mq_exec.specs.Reads.{LooksAlways, LooksInDir, NamesLeadPast, Reads, path_of}
 use Rattle.mq_exec.proofs.Answering.{found-named, found-refused, list-looks, named-reads, names-look, read-looks, stat-looks}
 use Rattle.mq_inodes.specs.Fits.{Agrees}
-use Rattle.mq_inodes.specs.Lacks.{LacksOf, OfEach}
+use Rattle.mq_inodes.specs.MissingPages.{MissingOf, OfEach}
 use Rattle.mq_inodes.specs.Pages.{pages_of}
 use Rattle.mq_inodes.specs.Files.{LooksInFile}
 use Rattle.mq_inodes.proofs.Lacking.{lacks-weaker}
@@ -34,7 +34,7 @@ pub returns-in-Read-clause-lack : goal.returns-in-Read-clause-lack
 returns-in-Read-clause-lack c =
     let g = c.args.working.now.geometry in
     let pages = pages_of c.args.working.now in
-    IfErr-weaker c.read.result _ (LacksOf c.args.working.now (λ v b. LooksAlways g v c.args.request.now b))
+    IfErr-weaker c.read.result _ (MissingOf c.args.working.now (λ v b. LooksAlways g v c.args.request.now b))
     (λ lack n. lacks-weaker pages (λ b. (v : Volume) → Agrees g pages v → LooksInFile v c.in-Ok.subject.number c.in-Read.at c.in-Read.count b) (λ b. (v : Volume) → Agrees g pages v → LooksAlways g v c.args.request.now b) lack
     (λ b h v agrees. subst (λ (r : Request). LooksAlways g v r b) (sym c.in-Read.is) (read-looks g v c.in-Read.field-0 c.in-Read.at c.in-Read.count c.in-Ok.subject b
     (found-named v c.path_in.result.now c.in-Read.field-0 c.in_ok-subject.field-0 c.in-Ok.subject (c.path_in.ensures ∙ ap path_of c.in-Read.is) c.in-Ok.is (c.in_ok-subject.ensures.ok v agrees)) (h v agrees))) n) c.read.ensures.lack
@@ -50,7 +50,7 @@ pub returns-in-List-clause-lack : goal.returns-in-List-clause-lack
 returns-in-List-clause-lack c =
     let g = c.args.working.now.geometry in
     let pages = pages_of c.args.working.now in
-    IfErr-weaker c.list.result _ (LacksOf c.args.working.now (λ v b. LooksAlways g v c.args.request.now b))
+    IfErr-weaker c.list.result _ (MissingOf c.args.working.now (λ v b. LooksAlways g v c.args.request.now b))
     (λ lack n. lacks-weaker pages (λ b. (v : Volume) → Agrees g pages v → LooksInDir v c.in-Ok.subject.number b) (λ b. (v : Volume) → Agrees g pages v → LooksAlways g v c.args.request.now b) lack
     (λ b h v agrees. subst (λ (r : Request). LooksAlways g v r b) (sym c.in-List.is) (list-looks g v c.in-List.field-0 c.in-Ok.subject b
     (found-named v c.path_in.result.now c.in-List.field-0 c.in_ok-subject.field-0 c.in-Ok.subject (c.path_in.ensures ∙ ap path_of c.in-List.is) c.in-Ok.is (c.in_ok-subject.ensures.ok v agrees)) (h v agrees))) n) c.list.ensures.lack
@@ -66,7 +66,7 @@ pub returns-in-Stat-clause-lack : goal.returns-in-Stat-clause-lack
 returns-in-Stat-clause-lack c =
     let g = c.args.working.now.geometry in
     let pages = pages_of c.args.working.now in
-    IfErr-weaker c.stat.result _ (LacksOf c.args.working.now (λ v b. LooksAlways g v c.args.request.now b))
+    IfErr-weaker c.stat.result _ (MissingOf c.args.working.now (λ v b. LooksAlways g v c.args.request.now b))
     (λ lack n. lacks-weaker pages (λ b. (v : Volume) → Agrees g pages v → LooksInDir v c.in-Ok.subject.number b) (λ b. (v : Volume) → Agrees g pages v → LooksAlways g v c.args.request.now b) lack
     (λ b h v agrees. subst (λ (r : Request). LooksAlways g v r b) (sym c.in-Stat.is) (stat-looks g v c.in-Stat.field-0 c.in-Ok.subject b
     (found-named v c.path_in.result.now c.in-Stat.field-0 c.in_ok-subject.field-0 c.in-Ok.subject (c.path_in.ensures ∙ ap path_of c.in-Stat.is) c.in-Ok.is (c.in_ok-subject.ensures.ok v agrees)) (h v agrees))) n) c.stat.ensures.lack

@@ -2,7 +2,7 @@ use Rattle.std.proofs.Common.{sym}
 use Rattle.std.proofs.lemmas.Result.{IfOk-weaker}
 use Rattle.mq_exec.specs.Plans.{ComesTo}
 use Rattle.mq_exec.proofs.Stepping.{comes-read, lack-named, lack-read}
-use Rattle.mq_inodes.specs.Lacks.{OfEach}
+use Rattle.mq_inodes.specs.MissingPages.{OfEach}
 use Rattle.mq_tree.specs.Requests.{verdict}
 use Rattle.mq_exec.proofs.change.step.Goals as goal
 

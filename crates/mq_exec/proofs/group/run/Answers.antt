@@ -1,6 +1,6 @@
 use Rattle.std.proofs.lemmas.Result.{IfOk-weaker}
 use Rattle.mq_exec.specs.Outcomes.{Answers, NeedsOf}
-use Rattle.mq_inodes.specs.Lacks.{OfEach}
+use Rattle.mq_inodes.specs.MissingPages.{OfEach}
 use Rattle.mq_inodes.specs.Pages.{held_pages, pages_of}
 use Rattle.std.proofs.Common.{sym, ◌∙◌}
 use Rattle.mq_exec.proofs.Leading.{run-moves}

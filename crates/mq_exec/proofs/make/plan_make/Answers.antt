@@ -7,7 +7,7 @@ use Rattle.mq_exec.proofs.Making.{holds-make}
 use Rattle.mq_exec.proofs.MakingPlans.{free-is, make-few, make-marks, make-past, make-searched, make-wanted, need-at, planned, plans-make, ready}
 use Rattle.mq_exec.proofs.NewNames.{new-name, new-past}
 use Rattle.mq_inodes.specs.Dirs.{slots_at}
-use Rattle.mq_inodes.specs.Lacks.{OfEach}
+use Rattle.mq_inodes.specs.MissingPages.{OfEach}
 use Rattle.mq_inodes.specs.Pages.{pages_of}
 use Rattle.mq_inodes.specs.Picks.{IsSearched}
 use Rattle.mq_inodes.specs.Bare.{empty_body}

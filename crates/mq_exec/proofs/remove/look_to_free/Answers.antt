@@ -4,7 +4,7 @@ use Rattle.std.specs.List.{Contains}
 use Rattle.mq_exec.specs.Removes.{LooksFreed}
 use Rattle.mq_exec.proofs.Freeing.{all-looked, all_of, marks-held, may-release, owned-zones}
 use Rattle.mq_inodes.specs.Fits.{Agrees}
-use Rattle.mq_inodes.specs.Lacks.{LacksOf}
+use Rattle.mq_inodes.specs.MissingPages.{MissingOf}
 use Rattle.mq_inodes.specs.Pages.{pages_of}
 use Rattle.mq_inodes.proofs.Lacking.{lacks-weaker}
 use Rattle.mq_tree.specs.Volume.{Volume}
@@ -34,6 +34,6 @@ returns-clause-lack c =
     let g = c.args.working.now.geometry in
     let pages = pages_of c.args.working.now in
     let is : c.deref-2.result.now ≡ all_of g c.in_ok-bitmaps.bitmaps.items c.deref.result.now = cc (c.deref-2.ensures.value, c.in_ok-append.ensures.items, c.in_ok-push.ensures.items, c.inode_bitmap.ensures, c.deref.ensures.value) in
-    IfErr-weaker c.look_for_all.result _ (LacksOf c.args.working.now (λ v b. LooksFreed g v c.args.o.now.number b))
+    IfErr-weaker c.look_for_all.result _ (MissingOf c.args.working.now (λ v b. LooksFreed g v c.args.o.now.number b))
     (λ lack n. lacks-weaker pages (Contains c.deref-2.result.now) (λ b. (v : Volume) → Agrees g pages v → LooksFreed g v c.args.o.now.number b) lack
     (λ b among v agrees. all-looked g v c.args.o.now c.in_ok-bitmaps.bitmaps.items c.deref.result.now c.deref-2.result.now b agrees.sound (c.requires.opened v agrees) (c.deref.ensures.value ∙ c.in_ok-wanted.ensures) c.in_ok-bitmaps.ensures.only is among) n) c.look_for_all.ensures.lack

@@ -4,7 +4,7 @@ use Rattle.std.proofs.lemmas.Result.{err_from_is_err_and}
 use Rattle.mq_exec.proofs.NewNames.{new-name, new-past}
 use Rattle.mq_exec.proofs.RenamingPlans.{full-there, holds-rename, moving, need-there, plans-rename, rename-few, rename-full, rename-past_from, rename-past_to, rename-searched, rename-taken, source-under}
 use Rattle.mq_exec.proofs.Targets.{past-above}
-use Rattle.mq_inodes.specs.Lacks.{OfEach}
+use Rattle.mq_inodes.specs.MissingPages.{OfEach}
 use Rattle.mq_inodes.specs.Pages.{pages_of}
 use Rattle.mq_inodes.specs.Picks.{IsSearched}
 use Rattle.mq_inodes.specs.Walks.{LeadsPast, LooksIn}

@@ -7,7 +7,7 @@ use Rattle.mq_exec.specs.Overwrites.{blocks_at, past_place}
 use Rattle.mq_exec.specs.declared.rewrite.Rewriting.{Rewriting}
 use Rattle.mq_exec.proofs.Longer.{longer-few, longer-need, longer-plan, all-left, wanted-looks, wanted-places}
 use Rattle.mq_exec.proofs.Linkable.{takeables}
-use Rattle.mq_inodes.specs.Lacks.{OfEach}
+use Rattle.mq_inodes.specs.MissingPages.{OfEach}
 use Rattle.mq_inodes.specs.Pages.{IsHeld, pages_of}
 use Rattle.mq_inodes.specs.Picks.{ArePicked, IsSearched}
 use Rattle.mq_inodes.proofs.Lacking.{lacks-each, lacks-weaker}

@@ -3,7 +3,7 @@ use Rattle.std.specs.List.{Contains}
 use Rattle.std.proofs.lemmas.Result.{IfErr-weaker, on_ok_weaker}
 use Rattle.mq_exec.specs.Cuts.{LooksCut}
 use Rattle.mq_exec.proofs.GoneBlocks.{IsCutSought, gone-release, gone-zones, last-held, sought-looks}
-use Rattle.mq_inodes.specs.Lacks.{LacksOf, OfEach}
+use Rattle.mq_inodes.specs.MissingPages.{MissingOf, OfEach}
 use Rattle.mq_inodes.specs.Pages.{pages_of}
 use Rattle.mq_inodes.specs.Released.{gone_from}
 use Rattle.mq_inodes.proofs.Lacking.{lacks-weaker}
@@ -58,6 +58,6 @@ returns-clause-lack c =
       only = c.in_ok-wanted.ensures.only;
       all_is = c.deref-3.ensures.value ∙ c.in_ok-extend_from_slice.ensures.items ∙ ap (λ (xs : List ℕ). bitmaps ++ xs) (rest-all o.blocks.items c.deref-2.result.now (c.args.size / 4096) c.deref-2.ensures.value);
     } in
-    IfErr-weaker c.look_for_all.result _ (LacksOf c.args.working.now (λ v b. LooksCut g v o.number c.args.size b))
+    IfErr-weaker c.look_for_all.result _ (MissingOf c.args.working.now (λ v b. LooksCut g v o.number c.args.size b))
     (λ lack n. lacks-weaker (pages_of c.args.working.now) (Contains c.deref-3.result.now) (λ b. OfEach c.args.working.now (λ v. LooksCut g v o.number c.args.size b)) lack
     (λ b h v agrees. sought-looks g v o c.args.size b c.deref.result.now bitmaps c.deref-3.result.now agrees.sound (c.requires.opened v agrees) s h) n) c.look_for_all.ensures.lack

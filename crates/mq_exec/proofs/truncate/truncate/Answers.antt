@@ -8,7 +8,7 @@ use Rattle.mq_exec.proofs.Coming.{comes-refused}
 use Rattle.mq_exec.proofs.Filling.{truncate-big}
 use Rattle.mq_exec.proofs.Targets.{file-found, file-refused}
 use Rattle.mq_exec.proofs.TruncateLooks.{cut-looks, filled-looks, sized-found, truncate-found, truncate-refused}
-use Rattle.mq_inodes.specs.Lacks.{LacksOf, OfEach}
+use Rattle.mq_inodes.specs.MissingPages.{MissingOf, OfEach}
 use Rattle.mq_inodes.specs.Walks.{LeadsPast}
 use Rattle.mq_inodes.proofs.Contents.{file-size}
 use Rattle.mq_inodes.proofs.Lacking.{lacks-each}
@@ -66,7 +66,7 @@ returns-then-size-found-clause-lack c =
     let q = c.args.queue in
     let f = c.in-Ok.found in
     let r = Truncate c.args.path.now c.args.size in
-    IfErr-weaker c.shorten.result _ (LacksOf c.args.working.now (λ v b. LooksAt g q v r b))
+    IfErr-weaker c.shorten.result _ (MissingOf c.args.working.now (λ v b. LooksAt g q v r b))
     (λ lack n. lacks-each c.args.working.now (λ v b. LooksCut g v f.number c.args.size b) (λ v b. LooksAt g q v r b) lack
     (λ v b agrees h.
     let found = file-found v c.args.path.now c.in_ok-found.field-0 f c.in-Ok.is (c.in_ok-found.ensures.ok v agrees) in
@@ -96,7 +96,7 @@ returns-clause-lack c =
     let q = c.args.queue in
     let f = c.in-Ok.found in
     let r = Truncate c.args.path.now c.args.size in
-    IfErr-weaker c.fill.result _ (LacksOf c.args.working.now (λ v b. LooksAt g q v r b))
+    IfErr-weaker c.fill.result _ (MissingOf c.args.working.now (λ v b. LooksAt g q v r b))
     (λ lack n. lacks-each c.args.working.now (λ v b. LooksLonger g q v f.number c.args.size 0 0 b) (λ v b. LooksAt g q v r b) lack
     (λ v b agrees h.
     let found = file-found v c.args.path.now c.in_ok-found.field-0 f c.in-Ok.is (c.in_ok-found.ensures.ok v agrees) in

@@ -1,5 +1,5 @@
 use Rattle.std.proofs.Common.{◌≡◌, ◌+◌, ◌*◌, ℕ, length, sym, subst, ap, ◌∙◌, arith}
-use Rattle.mq_blocks.specs.Drive.{PortImage, PortState, IsQuiet}
+use Rattle.mq_blocks.specs.Drive.{PortImage, PortState, IsQuiescent}
 use Rattle.mq_blocks.specs.Geometry.{area_of, zone_size}
 use Rattle.mq_blocks.specs.declared.geometry.Geometry.{Geometry}
 use Rattle.mq_drive.specs.Emu.{emu_state}
@@ -22,6 +22,6 @@ returns-clause-port c = IfOk-weaker c.new.result _ (λ p. IsPortOf c.args.geomet
     c.new.ensures.state
 
 pub returns-clause-quiet : goal.returns-clause-quiet
-returns-clause-quiet c = IfOk-weaker c.new.result _ (λ p. IsQuiet (emu_state p))
-    (λ p is. subst IsQuiet (sym is) (quiet-start c.args.geometry (Queue 0) _ _ _))
+returns-clause-quiet c = IfOk-weaker c.new.result _ (λ p. IsQuiescent (emu_state p))
+    (λ p is. subst IsQuiescent (sym is) (quiet-start c.args.geometry (Queue 0) _ _ _))
     c.new.ensures.state

@@ -2,7 +2,7 @@ use Rattle.std.proofs.Common.{◌≡◌, List, Option, length, ◌∙◌, ap, re
 use Rattle.std.proofs.lemmas.Result.{err_from_is_err_and}
 use Rattle.mq_recover.specs.Drives.{states, view_over}
 use Rattle.mq_recover.specs.RecoverHomes.{writes_from}
-use Rattle.mq_recover.specs.declared.copies.Spot.{Spot}
+use Rattle.mq_recover.specs.declared.copies.CopyPlace.{CopyPlace}
 use Rattle.mq_recover.specs.declared.plan.Plan.{Plan}
 use Rattle.mq_recover.proofs.Images.{err-exact, read-reaches, reaches-refused}
 use Rattle.mq_recover.proofs.Plans.{plan-of, found-within}
@@ -24,7 +24,7 @@ returns-clause-ok g c =
     let d = states g.P.Port.state c.args.ports.now.queues.items c.args.ports.now.root in
     let is : c.deref.result.now ≡ c.in_ok-found.found.places.items = c.deref.ensures.value in
     plan-of c.args.geometry d c.in_ok-found.found (record { writes = c.in_ok-writes.writes; recovered = c.in_ok-found.found.recovered }) c.in_ok-found.ensures.ok
-    (c.in_ok-writes.ensures ∙ ap (λ (l : List (Option Spot)). writes_from (view_over c.args.geometry d).area c.args.geometry.area 0 l) is) refl
+    (c.in_ok-writes.ensures ∙ ap (λ (l : List (Option CopyPlace)). writes_from (view_over c.args.geometry d).area c.args.geometry.area 0 l) is) refl
 
 pub returns-clause-exact : goal.returns-clause-exact
 returns-clause-exact g c e refuses =

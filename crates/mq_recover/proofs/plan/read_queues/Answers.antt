@@ -1,5 +1,5 @@
 use Rattle.std.proofs.Common.{◌≡◌, ◌<◌, ◌⊎◌, inl, inr, ℕ, max, refl, sym, ◌∙◌, ap, subst, arith}
-use Rattle.mq_blocks.specs.Drive.{PortState, IsQuiet}
+use Rattle.mq_blocks.specs.Drive.{PortState, IsQuiescent}
 use Rattle.mq_ledger.specs.State.{port_at}
 use Rattle.mq_drive.specs.Start.{IsPortOf}
 use Rattle.mq_drive.specs.declared.role.Role.TheVariants.{Queue}
@@ -24,7 +24,7 @@ read_queue-requires-clause-quiet g c =
     let queues = c.args.ports.now.queues.items in
     let at = port-is state queues c.deref-port-items.result.now c.loop-q.q c.port-item.result c.deref-port-items.ensures.value c.loop-q-test.true c.port-item.is in
     let low : c.loop-q.q < c.args.geometry.queues = subst (λ (n : ℕ). c.loop-q.q < n) (port-count state queues c.deref-port-items.result.now c.args.geometry.queues c.deref-port-items.ensures.value c.requires.still.count) c.loop-q-test.true in
-    subst IsQuiet at (c.requires.still.each c.loop-q.q low).quiet
+    subst IsQuiescent at (c.requires.still.each c.loop-q.q low).quiet
 
 pub loop-q-init : goal.loop-q-init
 loop-q-init g c = record {

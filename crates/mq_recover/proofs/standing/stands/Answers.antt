@@ -2,7 +2,7 @@ use Rattle.std.proofs.Common.{◌≡◌, ◌∙◌, List, Option, None, get_or, 
 use Rattle.std.proofs.lemmas.Result.{err_from_is_err_and}
 use Rattle.mq_recover.specs.Drives.{states}
 use Rattle.mq_recover.specs.Standing.{newest_of}
-use Rattle.mq_recover.specs.declared.copies.Spot.{Spot}
+use Rattle.mq_recover.specs.declared.copies.CopyPlace.{CopyPlace}
 use Rattle.mq_recover.specs.declared.standing.Standing.{Standing}
 use Rattle.mq_recover.proofs.Images.{err-exact, read-reaches, reaches-refused}
 use Rattle.mq_recover.proofs.Plans.{found-within}
@@ -26,7 +26,7 @@ returns-clause-ok g c =
     let d = states g.P.Port.state c.args.ports.now.queues.items c.args.ports.now.root in
     let is : c.deref.result.now ≡ c.in_ok-found.found.places.items = c.deref.ensures.value in
     standing-of c.args.geometry d c.in_ok-found.found _ c.in_ok-found.ensures.ok c.in_ok-blocks.ensures.0
-    (λ b below. c.in_ok-blocks.ensures.1 b below ∙ ap (λ (l : List (Option Spot)). newest_of c.args.geometry d (get_or l b None) b) is)
+    (λ b below. c.in_ok-blocks.ensures.1 b below ∙ ap (λ (l : List (Option CopyPlace)). newest_of c.args.geometry d (get_or l b None) b) is)
     refl (base-of c.base.result d.root c.requires.root.quiet c.base.ensures) refl
 
 pub returns-clause-exact : goal.returns-clause-exact

@@ -6,7 +6,7 @@ use Rattle.mq_pmr.specs.Rungs.{are_from, is_clear, last_leading, left_after}
 use Rattle.mq_pmr.specs.declared.rungs.Rung.{Rung}
 use Rattle.mq_pmr.proofs.Staging.{end_all}
 use Rattle.std.proofs.lemmas.Result.{err_from_is_err_and}
-use Rattle.mq_blocks.specs.Drive.{PortState, IsQuiet, staged_end, after_flush, after_ring, after_store_head}
+use Rattle.mq_blocks.specs.Drive.{PortState, IsQuiescent, staged_end, after_flush, after_ring, after_store_head}
 use Rattle.mq_pmr.specs.Runs.{Items, after_some}
 use Rattle.mqfs.specs.Cuts.{IsCut}
 use Rattle.mqfs.specs.Runs.{after_all, after_line}
@@ -94,7 +94,7 @@ record Done (old s : PortState) (tx : ℕ) (items : Items) (last : Rung) (ts : L
   leading : (last_leading (is_clear s) last ts).end ≡ staged_end old + length items
   left : left_after (is_clear s) ts ≡ []
 
-done_before : (old s : PortState) (tx : ℕ) (items : Items) (last : Rung) (ts : List Rung) (end : ℕ) → IsQuiet old → old.head ≡ old.doorbell → 0 < length items
+done_before : (old s : PortState) (tx : ℕ) (items : Items) (last : Rung) (ts : List Rung) (end : ℕ) → IsQuiescent old → old.head ≡ old.doorbell → 0 < length items
     → s ≡ after_all (after_ring (after_flush (after_some old tx (length items) items))) → ts ≡ record { tx = tx; end = end } ∷ [] → end ≡ staged_end old + length items → Done old s tx items last ts
 done_before old s tx items last ts end quiet done some is rung at =
     let failed : s.failed ≡ [] = ap (λ (u : PortState). u.failed) is ∙ quiet.failed in

@@ -22,7 +22,7 @@ told : (c : Else-not-is_clear) → Told (Clear c.args.queue c.args.low) c.self.i
 told c =
     let i = c.self.inside in
     let s = state_of i in
-    let may = may_clear i.ledger s.ports s.root s.marks s.under s.acknowledged c.self.invariant c.args.queue c.args.low c.head-head.result (own (goal.at.Else-not-is_clear c).Else-at-len) (c.head-head.ensures ∙ head_is (goal.at.Else-not-is_clear c).After-index) (c.is_clear.ensures.0 c.if-not-is_clear.false) in
+    let may = may_clear i.ledger s.ports s.root s.marks s.writing s.acknowledged c.self.invariant c.args.queue c.args.low c.head-head.result (own (goal.at.Else-not-is_clear c).Else-at-len) (c.head-head.ensures ∙ head_is (goal.at.Else-not-is_clear c).After-index) (c.is_clear.ensures.0 c.if-not-is_clear.false) in
     happened (Clear c.args.queue c.args.low) i.ledger.front s _ c.self.invariant may (λ j. record s { marks = set s.marks (c.queue.view_is j) c.args.low }) refl
 
 pub returns-then-not-is_clear : goal.returns-then-not-is_clear
@@ -30,7 +30,7 @@ returns-then-not-is_clear c =
     let i = c.self.inside in
     let s = state_of i in (
       refl,
-      λ may. false≢true (sym c.if-not-is_clear.true ∙ c.is_clear.ensures.1 (is_clear i.ledger s.ports s.root s.marks s.under s.acknowledged c.self.invariant c.args.queue c.args.low c.head-head.result (c.head-head.ensures ∙ head_is (goal.at.returns-then-not-is_clear c).After-index) (subst (λ (t : State). MayClear t c.args.queue c.args.low) (sym c.self.view_is) may))),
+      λ may. false≢true (sym c.if-not-is_clear.true ∙ c.is_clear.ensures.1 (is_clear i.ledger s.ports s.root s.marks s.writing s.acknowledged c.self.invariant c.args.queue c.args.low c.head-head.result (c.head-head.ensures ∙ head_is (goal.at.returns-then-not-is_clear c).After-index) (subst (λ (t : State). MayClear t c.args.queue c.args.low) (sym c.self.view_is) may))),
       refl,
     )
 

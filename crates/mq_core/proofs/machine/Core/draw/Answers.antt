@@ -22,18 +22,18 @@ told c =
     let f = c.self.invariant.facts in
     let m = may (goal.at.After-drop_changed c).Else-not-may_draw in
     let pushed : c.push.new.self ≡ push_tx t i.ledger = c.in_ok-push.ensures.ok in
-    let left : reverse c.drop_changed.new.blocks.items ≡ unchanged_by t (reverse i.under.items) =
-    ap reverse c.drop_changed.ensures ∙ ap (λ (l : Ledger). reverse (filter (λ x. not (is_new (homes_of l.geometry) l.base l.history t.number x)) i.under.items)) pushed
-    ∙ left_by (homes_of i.ledger.geometry) i.ledger.base t i.ledger.history i.under.items f.log.numbers m.0.number (λ x among. (f.under x among).block) in
+    let left : reverse c.drop_changed.new.blocks.items ≡ unchanged_by t (reverse i.writing.items) =
+    ap reverse c.drop_changed.ensures ∙ ap (λ (l : Ledger). reverse (filter (λ x. not (is_new (homes_of l.geometry) l.base l.history t.number x)) i.writing.items)) pushed
+    ∙ left_by (homes_of i.ledger.geometry) i.ledger.base t i.ledger.history i.writing.items f.log.numbers m.0.number (λ x among. (f.writing x among).block) in
     happened (Draw t) i.ledger.front s (state_with c.push.new.self i.ports.items i.root i.marks.items (reverse c.drop_changed.new.blocks.items) (reverse i.acknowledged.items)) c.self.invariant m
-    (λ j. state_with (pushed j) i.ports.items i.root i.marks.items (left j) (reverse i.acknowledged.items)) (drawn_front i.ledger s.ports s.root s.marks s.under s.acknowledged c.self.invariant t m)
+    (λ j. state_with (pushed j) i.ports.items i.root i.marks.items (left j) (reverse i.acknowledged.items)) (drawn_front i.ledger s.ports s.root s.marks s.writing s.acknowledged c.self.invariant t m)
 
 pub push-requires : goal.push-requires
 push-requires c =
     let i = c.self.inside in
     let s = state_of i in
     let m = may (goal.at.push-requires c).Else-not-may_draw in
-    has_place i.ledger s.ports s.root s.marks s.under s.acknowledged c.self.invariant c.args.tx m.0 m.1
+    has_place i.ledger s.ports s.root s.marks s.writing s.acknowledged c.self.invariant c.args.tx m.0 m.1
 
 pub invariant_of-self-2 : goal.invariant_of-self-2
 invariant_of-self-2 c = subst (λ n. IsHeld n (state_with c.push.new.self c.self.inside.ports.items c.self.inside.root c.self.inside.marks.items (reverse c.drop_changed.new.blocks.items) (reverse c.self.inside.acknowledged.items))) (sym (ap (λ (l : Ledger). l.front) c.in_ok-push.ensures.ok)) (told c).held

@@ -33,11 +33,11 @@ returns-then-not-is_staged_to c =
     let s = state_of c.self.inside in
     let q = c.args.queue in
     let end = c.end-end.result in
-    let end_is : end ≡ end_of (from_at s.froms q) (us_of s q) = c.end-end.ensures.is in
+    let end_is : end ≡ end_of (from_at s.starts q) (us_of s q) = c.end-end.ensures.is in
     let is = is_port (goal.at.returns-then-not-is_staged_to c).After-index in (
       refl,
       λ a.
-          let m : MayFlush (from_at s.froms q) (us_of s q) (port_at s.ports q) = (subst (λ (t : State). IsAllowed plain (Flush q) t) (sym c.self.view_is) a).1 in
+          let m : MayFlush (from_at s.starts q) (us_of s q) (port_at s.ports q) = (subst (λ (t : State). IsAllowed plain (Flush q) t) (sym c.self.view_is) a).1 in
           let there : IsStagedTo end (port_at s.ports q) = record { drawn = omega (arith, m.drawn, end_is); whole = omega (arith, m.whole, end_is) } in
           false≢true (sym c.if-not-is_staged_to.true ∙ c.is_staged_to.ensures.1 (subst (λ (p : PortState). IsStagedTo end p) (sym is) there)),
       refl,
@@ -51,7 +51,7 @@ returns c =
     let s = state_of c.self.inside in
     let q = c.args.queue in
     let end = c.end-end.result in
-    let end_is : end ≡ end_of (from_at s.froms q) (us_of s q) = c.end-end.ensures.is in
+    let end_is : end ≡ end_of (from_at s.starts q) (us_of s q) = c.end-end.ensures.is in
     let is = is_port (goal.at.returns c).After-index in
     let there : IsStagedTo end (port_at s.ports q) = subst (λ (p : PortState). IsStagedTo end p) is (c.is_staged_to.ensures.0 c.if-not-is_staged_to.false) in
     let may : IsAllowed plain (Flush q) s = (own (goal.at.returns c).Else-at-len, record { drawn = omega (arith, there.drawn, end_is); whole = omega (arith, there.whole, end_is) }) in (

@@ -13,8 +13,8 @@ use Rattle.mq_core.proofs.Settling.{flush_settled, flush_held}
 use Rattle.mq_core.proofs.machine.Core.flush_port.Goals as goal
 use Rattle.mq_core.proofs.machine.Core.flush_port.Goals.{After-queue, After-index_mut, After-flush, After-deref}
 
-held_along : (l k : Ledger) (ps qs : List PortState) (root : PortState) (marks under acknowledged : List ℕ) → l ≡ k → ps ≡ qs → IsHeld l.front (state_with l ps root marks under acknowledged) → IsHeld k.front (state_with k qs root marks under acknowledged)
-held_along l k ps qs root marks under acknowledged a b h = subst (λ (m : Ledger). IsHeld m.front (state_with m qs root marks under acknowledged)) a (subst (λ rs. IsHeld l.front (state_with l rs root marks under acknowledged)) b h)
+held_along : (l k : Ledger) (ps qs : List PortState) (root : PortState) (marks writing acknowledged : List ℕ) → l ≡ k → ps ≡ qs → IsHeld l.front (state_with l ps root marks writing acknowledged) → IsHeld k.front (state_with k qs root marks writing acknowledged)
+held_along l k ps qs root marks writing acknowledged a b h = subst (λ (m : Ledger). IsHeld m.front (state_with m qs root marks writing acknowledged)) a (subst (λ rs. IsHeld l.front (state_with l rs root marks writing acknowledged)) b h)
 
 own : (c : After-queue) → c.args.queue < c.self.inside.ledger.geometry.queues
 own c = subst (λ (s : State). c.args.queue < s.geometry.queues) (sym c.self.view_is) c.requires
@@ -54,7 +54,7 @@ settle_all-requires-clause-done c =
     let i = c.self.inside in
     let s = state_of i in
     subst (λ ports. IsSettled i.ledger ports) (sym (seen c))
-    (flush_settled i.ledger i.ports.items i.root s.marks s.under s.acknowledged c.args.queue (own (goal.at.settle_all-requires-clause-done c).After-queue) c.self.invariant)
+    (flush_settled i.ledger i.ports.items i.root s.marks s.writing s.acknowledged c.args.queue (own (goal.at.settle_all-requires-clause-done c).After-queue) c.self.invariant)
 
 pub invariant_of-self : goal.invariant_of-self
 invariant_of-self c =
@@ -62,7 +62,7 @@ invariant_of-self c =
     let s = state_of i in
     let ports = ports_are (goal.at.invariant_of-self c).After-flush in
     let ledger = c.settle_all.ensures ∙ ap (λ ps. settled ps i.ledger) (seen (goal.at.invariant_of-self c).After-deref) in
-    held_along _ _ _ _ i.root s.marks s.under s.acknowledged (sym ledger) (sym ports) (flush_held i.ledger i.ports.items i.root s.marks s.under s.acknowledged c.args.queue (own (goal.at.invariant_of-self c).After-queue) c.self.invariant)
+    held_along _ _ _ _ i.root s.marks s.writing s.acknowledged (sym ledger) (sym ports) (flush_held i.ledger i.ports.items i.root s.marks s.writing s.acknowledged c.args.queue (own (goal.at.invariant_of-self c).After-queue) c.self.invariant)
 
 pub returns : goal.returns
 returns c =
@@ -70,4 +70,4 @@ returns c =
     let s = state_of i in
     let ports = ports_are (goal.at.returns c).After-flush in
     let ledger = c.settle_all.ensures ∙ ap (λ ps. settled ps i.ledger) (seen (goal.at.returns c).After-deref) in
-    (λ j. state_with (ledger j) (ports j) i.root s.marks s.under s.acknowledged) ∙ ap (flush c.args.queue) c.self.view_is
+    (λ j. state_with (ledger j) (ports j) i.root s.marks s.writing s.acknowledged) ∙ ap (flush c.args.queue) c.self.view_is

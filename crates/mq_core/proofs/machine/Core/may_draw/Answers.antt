@@ -1,6 +1,6 @@
 use Rattle.std.proofs.Common.{◌≡◌, length, get_or, sym, ap, subst, ◌∙◌, arith}
 use Rattle.std.proofs.lemmas.Bool.{false≢true}
-use Rattle.mq_ledger.specs.Known.{MayDraw}
+use Rattle.mq_ledger.specs.KnownJournal.{MayDraw}
 use Rattle.mq_ledger.specs.Plain.{plain}
 use Rattle.mq_ledger.specs.Records.{IsKnown}
 use Rattle.mq_ledger.specs.State.{State, known_of}
@@ -13,7 +13,7 @@ known : (c : After-may_draw) → IsKnown c.self.inside.ledger c.base.result (kno
 known c =
     let i = c.self.inside in
     let s = state_of i in
-    subst (λ n. IsKnown i.ledger n (known_of plain s)) (sym c.base.ensures) (known_is i.ledger s.ports s.root s.marks s.under s.acknowledged c.self.invariant)
+    subst (λ n. IsKnown i.ledger n (known_of plain s)) (sym c.base.ensures) (known_is i.ledger s.ports s.root s.marks s.writing s.acknowledged c.self.invariant)
 
 may : (c : Else-not-may_draw) → MayDraw (known_of plain c.args.self.now) c.args.tx.now
 may c = subst (λ (t : State). MayDraw (known_of plain t) c.args.tx.now) c.self.view_is ((c.may_draw.ensures (known_of plain (state_of c.self.inside)) (known (goal.at.Else-not-may_draw c).After-may_draw)).0 c.if-not-may_draw.false)

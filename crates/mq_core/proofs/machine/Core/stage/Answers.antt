@@ -55,18 +55,18 @@ pub stage-requires-clause-room : goal.stage-requires-clause-room
 stage-requires-clause-room c = subst (λ (p : PortState). staged_end p < 2 ^ 64) (sym (is_changed c)) (small (goal.at.stage-requires-clause-room c).Else-at-len)
 
 -- what is staged is the entry of the next count
-staged : (c : After-index_mut) → after_stage c.index_mut.result.now c.in_ok-entry.field-0.entry c.in_ok-entry.field-0.tx c.in_ok-entry.field-0.lba c.in_ok-entry.field-0.block ≡ stage_side plain c.self.inside.ledger.geometry c.args.queue (from_at c.self.inside.ledger.froms c.args.queue) (of_queue c.args.queue c.self.inside.ledger.history) c.index_mut.result.now
+staged : (c : After-index_mut) → after_stage c.index_mut.result.now c.in_ok-entry.field-0.entry c.in_ok-entry.field-0.tx c.in_ok-entry.field-0.lba c.in_ok-entry.field-0.block ≡ stage_side plain c.self.inside.ledger.geometry c.args.queue (from_at c.self.inside.ledger.starts c.args.queue) (of_queue c.args.queue c.self.inside.ledger.history) c.index_mut.result.now
 staged c =
     let l = c.self.inside.ledger in
     let q = c.args.queue in
-    let us = of_queue q l.history in
-    let from = from_at l.froms q in
-    let s : IsStaged l.geometry q (item_at from us c.staged_end-count.result) c.in_ok-entry.field-0 = c.in_ok-entry.ensures in
+    let txs = of_queue q l.history in
+    let from = from_at l.starts q in
+    let s : IsStaged l.geometry q (item_at from txs c.staged_end-count.result) c.in_ok-entry.field-0 = c.in_ok-entry.ensures in
     let count : c.staged_end-count.result ≡ staged_end c.index_mut.result.now = c.staged_end-count.ensures ∙ ap staged_end (is_port (goal.at.After-index_mut c).After-index ∙ sym (is_changed c)) in
     (λ i. after_stage c.index_mut.result.now (s.entry i) (s.tx i) (s.lba i) (s.block i))
-    ∙ ap (λ n. staged_with plain.entry l.geometry q (item_at from us n) c.index_mut.result.now) count
+    ∙ ap (λ n. staged_with plain.entry l.geometry q (item_at from txs n) c.index_mut.result.now) count
 
-may : (c : After-index_mut) → staged_end (port_at c.self.inside.ports.items c.args.queue) < end_of (from_at c.self.inside.ledger.froms c.args.queue) (of_queue c.args.queue c.self.inside.ledger.history)
+may : (c : After-index_mut) → staged_end (port_at c.self.inside.ports.items c.args.queue) < end_of (from_at c.self.inside.ledger.starts c.args.queue) (of_queue c.args.queue c.self.inside.ledger.history)
 may c = (let is = ap staged_end (is_port (goal.at.After-index_mut c).After-index) in omega (arith, c.staged_end-count.ensures, c.end.ensures.is, is, c.if-count-end.false))
 
 told : (c : After-stage) (r : Result (Unit {0}) CoreRefusal) → Answers (Unit {0}) (after_stage c.index_mut.result.now c.in_ok-entry.field-0.entry c.in_ok-entry.field-0.tx c.in_ok-entry.field-0.lba c.in_ok-entry.field-0.block) c.index_mut.result.now c.stage.new.self r
@@ -74,7 +74,7 @@ told : (c : After-stage) (r : Result (Unit {0}) CoreRefusal) → Answers (Unit {
 told c r a =
     let s = state_of c.self.inside in
     let q = c.args.queue in
-    let from = from_at s.froms q in
+    let from = from_at s.starts q in
     let at = (goal.at.After-stage c).After-index_mut in
     let within : c.queue.inside.0 < length s.ports = omega arith in
     let there = may at in

@@ -17,9 +17,9 @@ facts_at g blocks base s whole low is = subst (λ t. Facts plain t) (sym is) (st
 root_is : (g : Geometry) (blocks homes : List (Option (List ℕ))) (base meta : ℕ) → meta ≡ g.meta → homes ≡ take meta blocks → port_over g None homes base ≡ fresh_port g blocks base None
 root_is g blocks homes base meta m is = ap (λ hs. port_over g None hs base) (is ∙ ap (λ n. take n blocks) m)
 
-state_is : (g : Geometry) (blocks : List (Option (List ℕ))) (base queues : ℕ) (ledger : Ledger) (ports : List PortState) (root : PortState) (marks under acknowledged : List ℕ) → ledger ≡ start_ledger g blocks base → queues ≡ g.queues → ports ≡ fresh_ports g blocks 0 g.queues → root ≡ fresh_port g blocks base None
-    → marks ≡ replicate queues (2 ^ 64 - 1) → under ≡ [] → acknowledged ≡ [] → state_with ledger ports root marks (reverse under) (reverse acknowledged) ≡ start_state g blocks base
-state_is g blocks base queues ledger ports root marks under acknowledged l n p r m u k = λ i. state_with (l i) (p i) (r i) ((m ∙ ap (λ c. replicate c (2 ^ 64 - 1)) n) i) (reverse (u i)) (reverse (k i))
+state_is : (g : Geometry) (blocks : List (Option (List ℕ))) (base queues : ℕ) (ledger : Ledger) (ports : List PortState) (root : PortState) (marks writing acknowledged : List ℕ) → ledger ≡ start_ledger g blocks base → queues ≡ g.queues → ports ≡ fresh_ports g blocks 0 g.queues → root ≡ fresh_port g blocks base None
+    → marks ≡ replicate queues (2 ^ 64 - 1) → writing ≡ [] → acknowledged ≡ [] → state_with ledger ports root marks (reverse writing) (reverse acknowledged) ≡ start_state g blocks base
+state_is g blocks base queues ledger ports root marks writing acknowledged l n p r m u k = λ i. state_with (l i) (p i) (r i) ((m ∙ ap (λ c. replicate c (2 ^ 64 - 1)) n) i) (reverse (u i)) (reverse (k i))
 
 pub invariant_of-result : goal.invariant_of-result
 invariant_of-result c =

@@ -23,16 +23,16 @@ begin_write-requires-clause-there c =
     let s = state_of c.self.inside in
     subst (λ g. IsIn g c.args.block s.ports s.root) (sym c.geometry-geometry.ensures) (is_in s c.self.invariant.facts c.args.block (may (goal.at.begin_write-requires-clause-there c).Else-not-may_write_home).block)
 
-told : (c : In_ok-begin_write) → Told (WriteHome c.args.block) c.self.inside.ledger.front (state_of c.self.inside) (record (state_of c.self.inside) { ports = c.begin_write.new.ports.items; root = c.begin_write.new.root; under = reverse c.begin_write.new.under.items }) (Ok tt)
+told : (c : In_ok-begin_write) → Told (WriteHome c.args.block) c.self.inside.ledger.front (state_of c.self.inside) (record (state_of c.self.inside) { ports = c.begin_write.new.ports.items; root = c.begin_write.new.root; writing = reverse c.begin_write.new.writing.items }) (Ok tt)
 told c =
     let i = c.self.inside in
     let s = state_of i in
     let x = c.args.block in
     let content : c.in_ok-content.content ≡ content_at s x = c.in_ok-content.ensures ∙ ap (λ (t : State). content_at t x) (sym c.self.view_is) in
-    written i.ledger.front s x c.in_ok-content.content c.begin_write.new.ports.items c.begin_write.new.root (reverse c.begin_write.new.under.items) c.self.invariant (may (goal.at.In_ok-begin_write c).Else-not-may_write_home) content
+    written i.ledger.front s x c.in_ok-content.content c.begin_write.new.ports.items c.begin_write.new.root (reverse c.begin_write.new.writing.items) c.self.invariant (may (goal.at.In_ok-begin_write c).Else-not-may_write_home) content
     (c.in_ok-begin_write.ensures.ports ∙ ap (λ (g : Geometry). ports_after (begin_home g x c.in_ok-content.content) (zone_of g x) s.ports) c.geometry-geometry.ensures)
     (c.in_ok-begin_write.ensures.root ∙ ap (λ (g : Geometry). root_after (begin_home g x c.in_ok-content.content) (zone_of g x) s.root) c.geometry-geometry.ensures)
-    (ap reverse c.in_ok-begin_write.ensures.under ∙ reverse_push i.under.items x)
+    (ap reverse c.in_ok-begin_write.ensures.writing ∙ reverse_push i.writing.items x)
 
 pub invariant_of-self-2 : goal.invariant_of-self-2
 invariant_of-self-2 c = (told c).held

@@ -11,20 +11,20 @@ loop-ledger-init c = record { same = refl; done = c.requires.done }
 pub is_next_done-requires : goal.is_next_done-requires
 is_next_done-requires c = c.requires.ports ∙ sym (ap (λ (l : Ledger). l.geometry.queues) c.loop-ledger.invariant.same)
 
-pub settle-requires : goal.settle-requires
-settle-requires c = next_high c.loop-ledger.ledger c.args.ports.now c.loop-ledger.invariant.done (c.is_next_done.ensures.0 c.loop-ledger-test.true)
+pub advance_front-requires : goal.advance_front-requires
+advance_front-requires c = next_high c.loop-ledger.ledger c.args.ports.now c.loop-ledger.invariant.done (c.is_next_done.ensures.0 c.loop-ledger-test.true)
 
 pub loop-ledger-smaller : goal.loop-ledger-smaller
 loop-ledger-smaller c =
     let high = next_high c.loop-ledger.ledger c.args.ports.now c.loop-ledger.invariant.done (c.is_next_done.ensures.0 c.loop-ledger-test.true) in
-    rw c.settle.ensures (omega arith)
+    rw c.advance_front.ensures (omega arith)
 
 pub loop-ledger-preserved : goal.loop-ledger-preserved
 loop-ledger-preserved c =
     let next = c.is_next_done.ensures.0 c.loop-ledger-test.true in
     record {
-      same = c.settle.ensures ∙ ap settle_next c.loop-ledger.invariant.same ∙ ap (λ (l : Ledger). with_front l.front c.args.ledger.now) (sym c.settle.ensures);
-      done = subst (λ l. IsSettled l c.args.ports.now) (sym c.settle.ensures) (settled_next c.loop-ledger.ledger c.args.ports.now c.loop-ledger.invariant.done next);
+      same = c.advance_front.ensures ∙ ap settle_next c.loop-ledger.invariant.same ∙ ap (λ (l : Ledger). with_front l.front c.args.ledger.now) (sym c.advance_front.ensures);
+      done = subst (λ l. IsSettled l c.args.ports.now) (sym c.advance_front.ensures) (settled_next c.loop-ledger.ledger c.args.ports.now c.loop-ledger.invariant.done next);
     }
 
 pub returns : goal.returns

@@ -4,4 +4,4 @@ use Rattle.mq_drive.proofs.blocks.Blocks.complete.Goals as goal
 
 pub invariant_of-self-else-eq-clause-doubtful : goal.invariant_of-self-else-eq-clause-doubtful
 invariant_of-self-else-eq-clause-doubtful c =
-    doubt_complete c.args.self.now.doubt c.args.self.now.sure.items c.put_flag.new.flags.items c.args.k c.put_flag.ensures (none_eq c.args.self.now.doubt c.args.k (sym c.if-eq.false ∙ c.eq.ensures)) c.args.self.now.doubtful
+    doubt_complete c.args.self.now.doubt c.args.self.now.certain.items c.put_flag.new.flags.items c.args.k c.put_flag.ensures (none_eq c.args.self.now.doubt c.args.k (sym c.if-eq.false ∙ c.eq.ensures)) c.args.self.now.doubtful

@@ -35,7 +35,7 @@ is_cut c =
       blocks_len = ap (λ v. length v.items) c.into_inner.ensures ∙ c.tear_homes.ensures.len ∙ c.tear_commands.ensures.len;
       blocks = λ k apart certain.
           ap (λ v. get_or v.items k None) c.into_inner.ensures
-          ∙ c.tear_homes.ensures.kept k (ap (λ (l : List Bool). get_or l k false) c.tear_commands.ensures.sure ∙ certain)
+          ∙ c.tear_homes.ensures.kept k (ap (λ (l : List Bool). get_or l k false) c.tear_commands.ensures.certain ∙ certain)
           ∙ c.tear_commands.ensures.kept k apart certain;
     }
 

@@ -112,9 +112,9 @@ returns-then-next-clause-gives c =
       success = λ good. absurd (omega (arith, good, status));
       error = λ bad. (
         failed_at (device_state c.args.self.now) c.choose-at.result c.take_at-command.result c.args.self.now.failure (option_to_list c.args.self.now.under_way)
-            c.take_at-command.new.commands.items c.fail.new.self.stored.items c.fail.new.self.sure.items c.bump-self-2.result (fuse_of c.event.new.self.seat) c.next.new.self.named
+            c.take_at-command.new.commands.items c.fail.new.self.stored.items c.fail.new.self.certain.items c.bump-self-2.result (fuse_of c.event.new.self.seat) c.next.new.self.named
             none refl refl c.take_at-command.ensures.items c.fail.ensures.blocks
-            (c.fail.ensures.sure ∙ ap (λ (k : ℕ). set c.args.self.now.blocks.sure.items k false) c.block_index-index.ensures)
+            (c.fail.ensures.certain ∙ ap (λ (k : ℕ). set c.args.self.now.blocks.certain.items k false) c.block_index-index.ensures)
             c.bump-self-2.ensures c.event.ensures.fuse c.next.ensures.named,
         subst (λ (n : ℕ). Gains (CommandError c.take_at-command.result.tx n) (device_faults c.args.self.now) (replicate c.event.new.self.offs PowerOff ++ errors_of (Some (Queued c.take_at-command.result)))) (sym status)
             (error_gains c.args.self.now.power.offs c.event.new.self.offs c.args.self.now.failure (Some (Queued c.take_at-command.result)) (CommandError c.take_at-command.result.tx 640) none refl c.in_ok-event.ensures.happens.1),
@@ -131,10 +131,10 @@ returns-clause-gives c =
       identifier = ap identifier_of c.completion_of.ensures.is ∙ identifier_of-completion _ (omega arith);
       success = λ good. (
         done_at (device_state c.args.self.now) c.choose-at.result c.take_at-command.result
-            c.take_at-command.new.commands.items c.complete.new.self.stored.items c.complete.new.self.sure.items c.bump-self-2.result (fuse_of c.event.new.self.seat) c.next.new.self.named
+            c.take_at-command.new.commands.items c.complete.new.self.stored.items c.complete.new.self.certain.items c.bump-self-2.result (fuse_of c.event.new.self.seat) c.next.new.self.named
             c.take_at-command.ensures.items
             (c.complete.ensures.blocks ∙ ap (λ (k : ℕ). set c.args.self.now.blocks.stored.items k (Some c.take_at-command.result.block)) c.block_index-index.ensures)
-            (c.complete.ensures.sure ∙ ap (λ (k : ℕ). set c.args.self.now.blocks.sure.items k true) c.block_index-index.ensures)
+            (c.complete.ensures.certain ∙ ap (λ (k : ℕ). set c.args.self.now.blocks.certain.items k true) c.block_index-index.ensures)
             c.bump-self-2.ensures c.event.ensures.fuse c.next.ensures.named,
         ap (λ (n : ℕ). replicate n PowerOff ++ errors_of c.args.self.now.failure) c.in_ok-event.ensures.happens.1,
       );

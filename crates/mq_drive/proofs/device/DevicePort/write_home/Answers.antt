@@ -60,20 +60,20 @@ invariant_of-self-in-Err-clause-under_way_own c =
 pub invariant_of-self-in-Err-clause-under_way_doubt : goal.invariant_of-self-in-Err-clause-under_way_doubt
 invariant_of-self-in-Err-clause-under_way_doubt c =
     some_for (record { lba = c.args.lba; block = c.args.block })
-    (λ (w : HomeWrite). get_or c.begin.new.self.sure.items (index_in c.args.self.now.area.first c.args.self.now.area.size c.args.self.now.homes.first w.lba) false ≡ false)
-    (ap (λ (k : ℕ). get_or c.begin.new.self.sure.items k false) (sym c.block_index-index.ensures)
-    ∙ ap (λ (l : List Bool). get_or l c.block_index-index.result false) c.begin.ensures.sure
-    ∙ false_at c.args.self.now.blocks.sure.items c.block_index-index.result)
+    (λ (w : HomeWrite). get_or c.begin.new.self.certain.items (index_in c.args.self.now.area.first c.args.self.now.area.size c.args.self.now.homes.first w.lba) false ≡ false)
+    (ap (λ (k : ℕ). get_or c.begin.new.self.certain.items k false) (sym c.block_index-index.ensures)
+    ∙ ap (λ (l : List Bool). get_or l c.block_index-index.result false) c.begin.ensures.certain
+    ∙ false_at c.args.self.now.blocks.certain.items c.block_index-index.result)
 
 pub returns-in-Err-clause-gives : goal.returns-in-Err-clause-gives
 returns-in-Err-clause-gives c =
     let nothing : c.args.self.now.under_way ≡ None = nothing_open c.args.self.now c.in_ok-event.ensures.first in (
       inr (begun_home (device_state c.args.self.now) c.args.lba c.args.block (failed_of c.args.self.now.failure) (unended_of c.args.self.now.failure ++ record { lba = c.args.lba; block = c.args.block } ∷ [])
-          c.begin.new.self.stored.items c.begin.new.self.sure.items c.bump-self.result (fuse_of c.event-2.new.self.seat) c.args.self.now.failing.named
+          c.begin.new.self.stored.items c.begin.new.self.certain.items c.bump-self.result (fuse_of c.event-2.new.self.seat) c.args.self.now.failing.named
           refl
           (begun_open c.args.self.now.failure c.args.self.now.under_way (record { lba = c.args.lba; block = c.args.block }) nothing)
           c.begin.ensures.blocks
-          (c.begin.ensures.sure ∙ ap (λ (k : ℕ). set c.args.self.now.blocks.sure.items k false) c.block_index-index.ensures)
+          (c.begin.ensures.certain ∙ ap (λ (k : ℕ). set c.args.self.now.blocks.certain.items k false) c.block_index-index.ensures)
           c.bump-self.ensures (c.event-2.ensures.fuse ∙ c.event.ensures.fuse) refl),
       off_gains c.args.self.now.power.offs c.event-2.new.self.offs (errors_of c.args.self.now.failure) c.event.ensures.range
           (c.in-Err.ensures.refused.1 ∙ ap (λ (n : ℕ). counted n 1) c.in_ok-event.ensures.happens.1),
@@ -104,13 +104,13 @@ returns-then-next-clause-gives c =
     let none : c.args.self.now.failure ≡ None = none_of c.args.self.now.failure (c.args.self.now.failure_counted ∙ (c.next.ensures.fails c.if-next.true).0) in (
       λ zero. absurd (omega (arith, zero)),
       begun_home (device_state c.args.self.now) c.args.lba c.args.block [] (record { lba = c.args.lba; block = c.args.block } ∷ option_to_list c.args.self.now.under_way)
-          c.fail.new.self.stored.items c.fail.new.self.sure.items c.bump-self.result (fuse_of c.event-2.new.self.seat) c.next.new.self.named
+          c.fail.new.self.stored.items c.fail.new.self.certain.items c.bump-self.result (fuse_of c.event-2.new.self.seat) c.next.new.self.named
           (sym (ap failed_of none))
           (begun_failed c.args.self.now.failure c.args.self.now.under_way (record { lba = c.args.lba; block = c.args.block }) none nothing)
           (c.fail.ensures.blocks ∙ c.begin.ensures.blocks)
-          (c.fail.ensures.sure ∙ ap (λ (l : List Bool). set l c.block_index-index.result false) c.begin.ensures.sure
-          ∙ set-set c.args.self.now.blocks.sure.items c.block_index-index.result false false
-          ∙ ap (λ (k : ℕ). set c.args.self.now.blocks.sure.items k false) c.block_index-index.ensures)
+          (c.fail.ensures.certain ∙ ap (λ (l : List Bool). set l c.block_index-index.result false) c.begin.ensures.certain
+          ∙ set-set c.args.self.now.blocks.certain.items c.block_index-index.result false false
+          ∙ ap (λ (k : ℕ). set c.args.self.now.blocks.certain.items k false) c.block_index-index.ensures)
           c.bump-self.ensures (c.event-2.ensures.fuse ∙ c.event.ensures.fuse) c.next.ensures.named,
       error_gains c.args.self.now.power.offs c.event-2.new.self.offs c.args.self.now.failure (Some (Home (record { lba = c.args.lba; block = c.args.block }))) (HomeError c.args.lba 640)
           none refl (c.in_default.ensures.happens.1 ∙ c.in_ok-event.ensures.happens.1),

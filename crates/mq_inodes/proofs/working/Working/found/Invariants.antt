@@ -1,6 +1,6 @@
 use Rattle.std.proofs.Common.{◌≡◌, ◌≤◌, length}
 use Rattle.std.specs.List.{All}
-use Rattle.mq_inodes.specs.Lacks.{OfEach}
+use Rattle.mq_inodes.specs.MissingPages.{OfEach}
 use Rattle.mq_inodes.specs.Pages.{pages_of}
 use Rattle.mq_inodes.specs.Picks.{IsMarkable}
 use Rattle.mq_inodes.proofs.Zones.{picks_before}

@@ -4,11 +4,11 @@ use Rattle.mq_ledger.proofs.Lookups.{tables_now, lane_length, lane_ended}
 use Rattle.mq_ledger.proofs.records.Ledger.ended.Goals as goal
 
 pub returns-clause-is : goal.returns-clause-is
-returns-clause-is c = lane_ended c.args.self.now c.self.inside.newest.items c.self.inside.settled.items c.self.inside.lanes.items c.self.inside.ends.items (tables_now c.self.inside c.args.self.now c.self.view_is c.self.invariant) c.args.queue c.requires c.queue.inside.0 c.queue.view_is c.index.result.now c.index.ensures c.args.count c.ended.result c.ended.ensures.is
+returns-clause-is c = lane_ended c.args.self.now c.self.inside.newest.items c.self.inside.settled.items c.self.inside.queue_rows.items c.self.inside.ends.items (tables_now c.self.inside c.args.self.now c.self.view_is c.self.invariant) c.args.queue c.requires c.queue.inside.0 c.queue.view_is c.index.result.now c.index.ensures c.args.count c.ended.result c.ended.ensures.is
 
 pub returns-clause-bound : goal.returns-clause-bound
 returns-clause-bound c =
-    let size : length c.index.result.now ≡ length (own c.args.self.now c.args.queue) = lane_length c.args.self.now c.self.inside.newest.items c.self.inside.settled.items c.self.inside.lanes.items c.self.inside.ends.items (tables_now c.self.inside c.args.self.now c.self.view_is c.self.invariant) c.args.queue c.requires c.queue.inside.0 c.queue.view_is c.index.result.now c.index.ensures in
+    let size : length c.index.result.now ≡ length (own c.args.self.now c.args.queue) = lane_length c.args.self.now c.self.inside.newest.items c.self.inside.settled.items c.self.inside.queue_rows.items c.self.inside.ends.items (tables_now c.self.inside c.args.self.now c.self.view_is c.self.invariant) c.args.queue c.requires c.queue.inside.0 c.queue.view_is c.index.result.now c.index.ensures in
     let bound = c.ended.ensures.bound in
     omega arith
 

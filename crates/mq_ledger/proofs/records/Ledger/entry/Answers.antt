@@ -2,9 +2,9 @@ use Rattle.std.proofs.Common.{◌≡◌, length, reverse, subst, sym, ap, refl, 
 use Rattle.std.proofs.lemmas.Result.{IfOk-weaker}
 use Rattle.mq_blocks.specs.declared.geometry.Geometry.{Geometry}
 use Rattle.mq_ledger.specs.History.{writes, IsAt}
-use Rattle.mq_ledger.specs.Known.{IsTx}
+use Rattle.mq_ledger.specs.KnownJournal.{IsTx}
 use Rattle.mq_ledger.specs.Records.{Ledger}
-use Rattle.mq_ledger.specs.declared.lanes.Row.{Row}
+use Rattle.mq_ledger.specs.declared.queue_rows.Row.{Row}
 use Rattle.mq_ledger.specs.declared.tx.Tx.{Tx}
 use Rattle.mq_ledger.proofs.Lookups.{tables_now}
 use Rattle.mq_ledger.proofs.Stages.{entry_of, entry_staged}
@@ -22,12 +22,12 @@ pub numbered-tx-requires-clause-there : goal.numbered-tx-requires-clause-there
 numbered-tx-requires-clause-there c =
     let e = entry_of c.args.self.now c.args.queue c.args.count c.requires.low c.requires.high in
     let history : reverse c.deref.result.now ≡ c.args.self.now.history = ap reverse c.deref.ensures.value ∙ ap (λ (v : Ledger). v.history) c.self.view_is in
-    (e.t, e.ts, subst (IsAt e.t e.ts) (sym history) e.at, sym (c.number_at-number.ensures e.t e.us e.inside (sym (c.ended-at.ensures.is ∙ e.size))))
+    (e.t, e.ts, subst (IsAt e.t e.ts) (sym history) e.at, sym (c.number_at-number.ensures e.t e.txs e.inside (sym (c.ended-at.ensures.is ∙ e.size))))
 
 pub overflow_sub-count : goal.overflow_sub-count
 overflow_sub-count c =
     let e = entry_of c.args.self.now c.args.queue c.args.count c.requires.low c.requires.high in
-    let row = ap (λ (r : Row). r.end) (c.row_at-before.ensures e.us e.part (sym (c.ended-at.ensures.is ∙ e.size))) in
+    let row = ap (λ (r : Row). r.end) (c.row_at-before.ensures e.txs e.part (sym (c.ended-at.ensures.is ∙ e.size))) in
     let low = e.low in
     omega arith
 
@@ -36,7 +36,7 @@ stage_entry-requires-clause-form c =
     let s = c.args.self.now in
     let e = entry_of s c.args.queue c.args.count c.requires.low c.requires.high in
     let history : reverse c.deref.result.now ≡ s.history = ap reverse c.deref.ensures.value ∙ ap (λ (v : Ledger). v.history) c.self.view_is in
-    let tx = c.numbered-tx.ensures e.t e.ts (subst (IsAt e.t e.ts) (sym history) e.at) (sym (c.number_at-number.ensures e.t e.us e.inside (sym (c.ended-at.ensures.is ∙ e.size)))) in
+    let tx = c.numbered-tx.ensures e.t e.ts (subst (IsAt e.t e.ts) (sym history) e.at) (sym (c.number_at-number.ensures e.t e.txs e.inside (sym (c.ended-at.ensures.is ∙ e.size)))) in
     let form = (tables_now c.self.inside s c.self.view_is c.self.invariant).each e.t e.ts e.at in
     let G : Geometry → Type 0 = λ g. IsTx g e.t in
     let T : Tx → Type 0 = λ t. IsTx c.self.inside.geometry t in
@@ -47,9 +47,9 @@ stage_entry-requires-clause-places c =
     let s = c.args.self.now in
     let e = entry_of s c.args.queue c.args.count c.requires.low c.requires.high in
     let history : reverse c.deref.result.now ≡ s.history = ap reverse c.deref.ensures.value ∙ ap (λ (v : Ledger). v.history) c.self.view_is in
-    let tx = c.numbered-tx.ensures e.t e.ts (subst (IsAt e.t e.ts) (sym history) e.at) (sym (c.number_at-number.ensures e.t e.us e.inside (sym (c.ended-at.ensures.is ∙ e.size)))) in
+    let tx = c.numbered-tx.ensures e.t e.ts (subst (IsAt e.t e.ts) (sym history) e.at) (sym (c.number_at-number.ensures e.t e.txs e.inside (sym (c.ended-at.ensures.is ∙ e.size)))) in
     let logged = ap (λ (t : Tx). length t.logged) tx in
-    let row = ap (λ (r : Row). r.next) (c.row_at-before.ensures e.us e.part (sym (c.ended-at.ensures.is ∙ e.size))) in
+    let row = ap (λ (r : Row). r.next) (c.row_at-before.ensures e.txs e.part (sym (c.ended-at.ensures.is ∙ e.size))) in
     let most = (tables_now c.self.inside s c.self.view_is c.self.invariant).places c.args.queue c.requires.queue in
     let place = e.place in
     omega arith
@@ -59,9 +59,9 @@ stage_entry-requires-clause-index c =
     let s = c.args.self.now in
     let e = entry_of s c.args.queue c.args.count c.requires.low c.requires.high in
     let history : reverse c.deref.result.now ≡ s.history = ap reverse c.deref.ensures.value ∙ ap (λ (v : Ledger). v.history) c.self.view_is in
-    let tx = c.numbered-tx.ensures e.t e.ts (subst (IsAt e.t e.ts) (sym history) e.at) (sym (c.number_at-number.ensures e.t e.us e.inside (sym (c.ended-at.ensures.is ∙ e.size)))) in
+    let tx = c.numbered-tx.ensures e.t e.ts (subst (IsAt e.t e.ts) (sym history) e.at) (sym (c.number_at-number.ensures e.t e.txs e.inside (sym (c.ended-at.ensures.is ∙ e.size)))) in
     let many = ap writes tx in
-    let row = ap (λ (r : Row). r.end) (c.row_at-before.ensures e.us e.part (sym (c.ended-at.ensures.is ∙ e.size))) in
+    let row = ap (λ (r : Row). r.end) (c.row_at-before.ensures e.txs e.part (sym (c.ended-at.ensures.is ∙ e.size))) in
     let high = e.high in
     omega arith
 
@@ -70,6 +70,6 @@ returns c =
     let s = c.args.self.now in
     let e = entry_of s c.args.queue c.args.count c.requires.low c.requires.high in
     let history : reverse c.deref.result.now ≡ s.history = ap reverse c.deref.ensures.value ∙ ap (λ (v : Ledger). v.history) c.self.view_is in
-    let tx = c.numbered-tx.ensures e.t e.ts (subst (IsAt e.t e.ts) (sym history) e.at) (sym (c.number_at-number.ensures e.t e.us e.inside (sym (c.ended-at.ensures.is ∙ e.size)))) in
-    let row = c.row_at-before.ensures e.us e.part (sym (c.ended-at.ensures.is ∙ e.size)) in
+    let tx = c.numbered-tx.ensures e.t e.ts (subst (IsAt e.t e.ts) (sym history) e.at) (sym (c.number_at-number.ensures e.t e.txs e.inside (sym (c.ended-at.ensures.is ∙ e.size)))) in
+    let row = c.row_at-before.ensures e.txs e.part (sym (c.ended-at.ensures.is ∙ e.size)) in
     IfOk-weaker c.stage_entry.result _ _ (λ staged each. entry_staged s c.self.inside.geometry c.args.queue c.args.count _ e c.numbered-tx.result.now c.row_at-before.result staged (ap (λ (v : Ledger). v.geometry) c.self.view_is) tx row refl each) c.stage_entry.ensures

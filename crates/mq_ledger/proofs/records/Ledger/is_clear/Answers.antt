@@ -22,5 +22,5 @@ returns-else-at-len c =
     let e = c.if-at-len.false in
     let bound = c.ended-at.ensures.bound in
     let few : length (below (from_of s c.args.queue) c.args.head (own s c.args.queue)) < length (own s c.args.queue) = omega arith in
-    let k = clear_at s c.args.queue c.args.head c.args.mark c.number_at.result c.ended-at.ensures.numbers few (λ t us at size. c.number_at.ensures t us at (size ∙ sym a)) in
+    let k = clear_at s c.args.queue c.args.head c.args.mark c.number_at.result c.ended-at.ensures.numbers few (λ t txs at size. c.number_at.ensures t txs at (size ∙ sym a)) in
     (λ t. k.0 (leb-true _ _ t), λ clear. le-leb _ _ (k.1 clear))

@@ -7,7 +7,7 @@ use Rattle.mq_blocks.specs.Machine.{Writes}
 use Rattle.mq_blocks.specs.declared.geometry.Geometry.{Geometry}
 use Rattle.mq_ledger.specs.Form.{IsAscending}
 use Rattle.mq_ledger.specs.History.{blocks_of}
-use Rattle.mq_ledger.specs.Known.{IsTx}
+use Rattle.mq_ledger.specs.KnownJournal.{IsTx}
 use Rattle.mq_ledger.specs.Records.{Ledger, Every, IsTaken, IsOpen}
 use Rattle.mq_ledger.proofs.Draws.{follow_draws, draw_follows}
 use Rattle.mq_ledger.proofs.Lists.{rising-ascending}

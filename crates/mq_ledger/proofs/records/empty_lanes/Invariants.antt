@@ -1,6 +1,0 @@
-use Rattle.std.proofs.Common.{◌≡◌, [], replicate}
-use Rattle.mq_ledger.proofs.records.empty_lanes.Given as goal
-
--- so many so far
-abbrev pub invariant-loop : goal.invariant-loop
-invariant-loop l = l.lanes.items ≡ replicate l.counter []

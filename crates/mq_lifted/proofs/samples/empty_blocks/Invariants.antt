@@ -1,5 +1,0 @@
-use Rattle.mq_lifted.proofs.Blocks.{AreEmpty}
-use Rattle.mq_lifted.proofs.samples.empty_blocks.Given as goal
-
-abbrev pub invariant-loop-b : goal.invariant-loop-b
-invariant-loop-b l = AreEmpty l.fn.geometry l.b l.blocks.items

@@ -1,6 +1,0 @@
-use Rattle.std.proofs.Common.{◌≡◌, ◌<◌, ◌%◌, ℕ, get_or}
-use Rattle.mq_replay.proofs.lane.find_slot.Given as goal
-
--- none of the counts so far has the slot
-abbrev pub invariant-loop-i : goal.invariant-loop-i
-invariant-loop-i l = (j : ℕ) → j < l.i → get_or l.counts j 0 % 1024 ≡ l.fn.slot → ⊥

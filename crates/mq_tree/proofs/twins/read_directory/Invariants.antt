@@ -1,6 +1,0 @@
-use Rattle.mq_tree.specs.Decoded.{entry_of}
-use Rattle.mq_tree.proofs.Linking.{Built}
-use Rattle.mq_tree.proofs.twins.read_directory.Given as goal
-
-abbrev pub invariant-loop-k : goal.invariant-loop-k
-invariant-loop-k l = Built (entry_of l.blocks l.inode) l.k l.names
