@@ -42,8 +42,8 @@ number_is text None found only =
     (only (digits_value 10 text)
     (ltb-true (digits_value 10 text) (2 ^ 64) (second (bytes_eq text (decimal (digits_value 10 text))) (nat_lt (digits_value 10 text) (2 ^ 64)) yes))
     ((bytes_eq-Decides text (decimal (digits_value 10 text))).0 (first (bytes_eq text (decimal (digits_value 10 text))) (nat_lt (digits_value 10 text) (2 ^ 64)) yes)))) where
-  none_some : (n : ℕ) → ◌≡◌ {A = Option ℕ} None (Some n) → ⊥
-  none_some n e = cc
+      none_some : (n : ℕ) → ◌≡◌ {A = Option ℕ} None (Some n) → ⊥
+      none_some n e = cc
 
 -- ---- hexadecimal digits
 

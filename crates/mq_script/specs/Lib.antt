@@ -5,3 +5,4 @@ pub mod Reading
 pub mod Scripts
 pub mod Verbs
 pub mod Words
+pub mod Workloads

@@ -5,8 +5,8 @@ ghost use Rattle.mq_script.specs.Answers.{Agrees};
 ghost use Rattle.mq_script.specs.Words.{quoted_in, pairs_in, fill_in, data_in};
 ghost use Rattle.mq_script.specs.declared.refusal.ScriptCause.TheVariants.{Data as not_data};
 
-use crate::refusal::{LineRefusal, ScriptCause};
 use crate::digits::{byte_of, number_of};
+use crate::refusal::{LineRefusal, ScriptCause};
 use mq_tree::Bytes;
 use std::alloc::Global;
 
@@ -54,7 +54,11 @@ fn read_fill(alloc: Global, text: &[u8]) -> Result<Bytes, LineRefusal>
         return Err(LineRefusal::Cause(ScriptCause::Data));
     };
     match number_of(count) {
-        Some(count) if count <= FILL_LIMIT => Ok(Bytes(Vec::from_elem(alloc, byte, count as usize)?)),
+        Some(count) if count <= FILL_LIMIT => Ok(Bytes(Vec::from_elem(
+            alloc,
+            byte,
+            count as usize,
+        )?)),
         _ => Err(LineRefusal::Cause(ScriptCause::Data)),
     }
 }

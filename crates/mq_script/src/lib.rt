@@ -3,15 +3,19 @@
 
 mod data;
 mod digits;
+mod generate;
 mod group;
 mod line;
 mod path;
 mod print;
 mod read;
 mod refusal;
+#[cfg(test)]
+mod tests;
 mod verb;
 mod words;
 
+pub use generate::workload;
 pub use group::{End, Group, Script};
 pub use print::print_script;
 pub use read::read_script;

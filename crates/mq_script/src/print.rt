@@ -44,7 +44,11 @@ fn digit(number: u8) -> u8
     requires { number < 16 }
     ensures { result ≡ hex_digit number }
 {
-    if number < 10 { b'0' + number } else { b'a' - 10 + number }
+    if number < 10 {
+        b'0' + number
+    } else {
+        b'a' - 10 + number
+    }
 }
 
 /// Writes two digits for each byte.

@@ -4,4 +4,4 @@ use Rattle.mq_script.proofs.print.put_pairs.Given as goal
 
 -- with the text of those that are left, it is the whole text
 abbrev pub invariant-loop-byte : goal.invariant-loop-byte
-invariant-loop-byte l = l.out.items ++ pairs_text (drop l.byte-index l.byte-items) ≡ l.initial.out.items ++ pairs_text l.byte-items
+invariant-loop-byte l = l.out.items ++ pairs_text (drop l.byte-index l.bytes) ≡ l.initial.out.items ++ pairs_text l.bytes

@@ -23,9 +23,9 @@ returns-in-Err c =
     let script = script_lines lines c.args.bytes.now (ap (map (λ x. x.now)) c.deref-text-items.ensures.value ∙ c.in_ok-lines.ensures) c.if-bytes-gt-SIZE_LIMIT.false in
     refused_script (script_in c.args.bytes.now) (line_in (get_or lines c.loop-text.text-index d).now) (c.loop-text.line + 1) c.in-Err.refusal c.refused_at.result
     (λ cause e.
-        script
-        ∙ ap script_of (refused_step lines (groups_in 0 [] (answers lines)) c.loop-text.text-index d c.loop-text.groups.items c.loop-text.requests.items cause c.loop-text-test.true inv.read e)
-        ∙ ap (λ (n : ℕ). Err (record { line = n + 1; cause = cause })) (sym inv.counted))
+    script
+    ∙ ap script_of (refused_step lines (groups_in 0 [] (answers lines)) c.loop-text.text-index d c.loop-text.groups.items c.loop-text.requests.items cause c.loop-text-test.true inv.read e)
+    ∙ ap (λ (n : ℕ). Err (record { line = n + 1; cause = cause })) (sym inv.counted))
     c.in-Err.ensures c.refused_at.ensures
 
 pub returns-then-not-is_empty : goal.returns-then-not-is_empty
