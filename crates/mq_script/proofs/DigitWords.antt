@@ -1,9 +1,9 @@
 -- Words of digits: the numbers and bytes that they write.
-use Rattle.std.proofs.Common.{◌≡◌, ℕ, Bool, true, false, cond, Option, Some, None, ◌+◌, ◌-◌, ◌*◌, ◌/◌, ◌%◌, ◌^◌, ◌<◌, ◌≤◌, List, [], ◌∷◌, get_or, sym, ◌∙◌, ap, refl, arith}
+use Rattle.std.proofs.Common.{◌≡◌, ℕ, Bool, true, false, cond, Option, Some, None, ◌+◌, ◌*◌, ◌/◌, ◌%◌, ◌^◌, ◌<◌, ◌≤◌, List, [], ◌∷◌, get_or, sym, ◌∙◌, ap, refl, arith}
 use Rattle.std.specs.Prelude.{◌&&◌, nat_lt, bytes_eq, IfSome}
 use Rattle.std.specs.Fmt.{decimal}
 use Rattle.std.specs.Str.Parse.{digits_value}
-use Rattle.std.proofs.lemmas.Bool.{ltb-true, lt-ltb, cases_eq}
+use Rattle.std.proofs.lemmas.Bool.{ltb-true, lt-ltb}
 use Rattle.std.proofs.lemmas.Fmt.{decimal_is_IsNumeral}
 use Rattle.std.proofs.lemmas.Slice.Eq.{bytes_eq-Decides}
 use Rattle.mq_text.specs.Text.{hex_digit, hex_text}
@@ -14,14 +14,14 @@ use Rattle.mq_script.specs.Words.{number_in, digit_in, byte_of, byte_in}
 abbrev is_written : List ℕ → ℕ → Bool
 is_written text n = bytes_eq text (decimal n) && nat_lt n (2 ^ 64)
 
-both : (a b : Bool) → a ≡ true → b ≡ true → (a && b) ≡ true
+pub both : (a b : Bool) → a ≡ true → b ≡ true → (a && b) ≡ true
 both a b p q = rw (p, q) refl
 
-first : (a b : Bool) → (a && b) ≡ true → a ≡ true
+pub first : (a b : Bool) → (a && b) ≡ true → a ≡ true
 first true b e = refl
 first false b e = e
 
-second : (a b : Bool) → (a && b) ≡ true → b ≡ true
+pub second : (a b : Bool) → (a && b) ≡ true → b ≡ true
 second true b e = e
 second false b e = absurd (no e) where
   no : false ≡ true → ⊥
@@ -30,6 +30,13 @@ second false b e = absurd (no e) where
 test_none : (b : Bool) (n : ℕ) → (b ≡ true → ⊥) → ◌≡◌ {A = Option ℕ} None (cond b (Some n) None)
 test_none true n h = absurd (h refl)
 test_none false n h = refl
+
+-- a number's own digits
+pub number_again : (n : ℕ) → n < 2 ^ 64 → number_in (decimal n) ≡ Some n
+number_again n small =
+    let value : digits_value 10 (decimal n) ≡ n = (decimal_is_IsNumeral n small).1 in
+    let written : is_written (decimal n) n ≡ true = both (bytes_eq (decimal n) (decimal n)) (nat_lt n (2 ^ 64)) ((bytes_eq-Decides (decimal n) (decimal n)).1 refl) (lt-ltb n (2 ^ 64) small) in
+    ap (λ (m : ℕ). cond (is_written (decimal n) m) (Some m) None) value ∙ ap (λ (b : Bool). cond b (Some n) None) written
 
 pub number_is : (text : List ℕ) (r : Option ℕ) → IfSome r (λ n. (n < 2 ^ 64) × (text ≡ decimal n)) → ((n : ℕ) → n < 2 ^ 64 → text ≡ decimal n → r ≡ Some n) → r ≡ number_in text
 number_is text (Some n) found only =

@@ -1,6 +1,6 @@
 -- The lines of a script, gathered into groups.
-use Rattle.std.proofs.Common.{◌≡◌, ℕ, Bool, true, false, cond, eqb, ltb, ◌+◌, ◌-◌, ◌<◌, ◌≤◌, List, [], ◌∷◌, ◌++◌, length, get_or, take, drop, map, Bor, sym, ◌∙◌, ap, subst, refl, arith, append_assoc, append-nil}
-use Rattle.std.specs.Prelude.{Result, Ok, Err, bytes_eq, codes, nat_lt}
+use Rattle.std.proofs.Common.{◌≡◌, ℕ, Bool, true, false, cond, eqb, ◌+◌, ◌-◌, ◌<◌, ◌≤◌, List, [], ◌∷◌, ◌++◌, length, get_or, take, drop, map, Bor, sym, ◌∙◌, ap, subst, refl, arith, append_assoc, append-nil}
+use Rattle.std.specs.Prelude.{Result, Ok, Err, bytes_eq, codes}
 use Rattle.std.specs.List.{slice_split}
 use Rattle.std.proofs.lemmas.Bool.{le-ltb, lt-ltb}
 use Rattle.std.proofs.lemmas.List.{drop_more, drop_all, length-map, length-take}

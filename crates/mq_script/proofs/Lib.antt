@@ -5,3 +5,6 @@ pub mod Generating
 pub mod Groups
 pub mod LineWords
 pub mod PathWords
+pub mod Relining
+pub mod Rescripting
+pub mod Spelling

@@ -1,5 +1,5 @@
 -- What is read, or why it is not read.
-use Rattle.std.specs.Prelude.{◌≡◌, ℕ, Option, Some, None, Result, Ok, Err}
+use Rattle.std.specs.Prelude.{◌≡◌, ℕ, Result, Ok, Err}
 use Rattle.mq_script.specs.declared.refusal.LineRefusal.{LineRefusal}
 use Rattle.mq_script.specs.declared.refusal.LineRefusal.TheVariants.{Cause, OutOfMemory}
 use Rattle.mq_script.specs.declared.refusal.ScriptCause.{ScriptCause}

@@ -5,6 +5,7 @@ mod data;
 mod digits;
 mod generate;
 mod group;
+mod laws;
 mod line;
 mod path;
 mod print;
@@ -17,6 +18,7 @@ mod words;
 
 pub use generate::workload;
 pub use group::{End, Group, Script};
+pub use laws::printed_scripts_are_read;
 pub use print::print_script;
 pub use read::read_script;
 pub use refusal::{ScriptCause, ScriptRefusal};

@@ -1,4 +1,4 @@
-use Rattle.std.proofs.Common.{◌≡◌, ◌%◌, length, ap, ◌∙◌, sym, arith}
+use Rattle.std.proofs.Common.{◌≡◌, ◌%◌, length, ap}
 use Rattle.std.specs.Option.{ok_or}
 use Rattle.mq_script.specs.Words.{pairs_in}
 use Rattle.mq_script.specs.declared.refusal.ScriptCause.TheVariants.{Data as not_data}

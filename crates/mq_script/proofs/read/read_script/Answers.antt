@@ -1,4 +1,4 @@
-use Rattle.std.proofs.Common.{rules, ◌≡◌, ℕ, List, [], ◌+◌, ◌≤◌, Bor, length, get_or, map, ap, refl, sym, ◌∙◌}
+use Rattle.std.proofs.Common.{rules, ◌≡◌, ℕ, List, [], ◌+◌, Bor, length, get_or, map, ap, refl, sym, ◌∙◌}
 use Rattle.std.specs.Prelude.{Err}
 use Rattle.mq_script.specs.Lines.{line_in}
 use Rattle.mq_script.specs.Reading.{groups_in, script_in}
