@@ -27,7 +27,7 @@ use Rattle.mq_tree.specs.Sound.{IsSound}
 use Rattle.mq_tree.specs.Volume.{Volume}
 use Rattle.mq_tree.specs.declared.request.Reply.{Reply}
 use Rattle.mq_tree.specs.declared.request.Request.{Request}
-use Rattle.mq_tree.proofs.KeepUses.{AreUses}
+use Rattle.mq_tree.specs.Uses.{AreUses}
 use Rattle.mq_tree.proofs.KeepVolumes.{sound-nodes}
 
 -- what is known of a block and fits both volumes is the same in both

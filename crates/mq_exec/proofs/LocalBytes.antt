@@ -19,7 +19,8 @@ use Rattle.mq_tree.specs.Laid.{IsPage, ShowsPart, inode_of, kind_of, size_of}
 use Rattle.mq_tree.specs.Requests.{cut_to, spliced, with_body}
 use Rattle.mq_tree.specs.Volume.{Body, Node, Part, Volume, body, is_used, node}
 use Rattle.mq_tree.proofs.KeepNodes.{cut-length, zeros-at}
-use Rattle.mq_tree.proofs.KeepUses.{AreUses, node-here, node-other}
+use Rattle.mq_tree.proofs.KeepUses.{node-here, node-other}
+use Rattle.mq_tree.specs.Uses.{AreUses}
 
 -- a page that shows a part of the new body
 pub record IsPartPut (v : Volume) (i : ℕ) (y : Body) (new : Pages) (x : ℕ) : Type 0 where

@@ -20,7 +20,7 @@ use Rattle.mq_tree.specs.Laid.{IsVacant, Shows}
 use Rattle.mq_tree.specs.Volume.{Volume}
 use Rattle.mq_tree.proofs.Decoding.{taken-use}
 use Rattle.mq_tree.proofs.KeepVolumes.{sound-nodes}
-use Rattle.mq_tree.proofs.KeepUses.{AreUses}
+use Rattle.mq_tree.specs.Uses.{AreUses}
 
 -- ---- rising lists with the same elements
 

@@ -40,7 +40,8 @@ use Rattle.mq_tree.specs.declared.request.Reply.TheVariants.{Ok as Done}
 use Rattle.mq_tree.proofs.KeepChanges.{first-free}
 use Rattle.mq_tree.proofs.KeepNodes.{unused-none}
 use Rattle.mq_tree.proofs.KeepPaths.{nothing-free}
-use Rattle.mq_tree.proofs.KeepUses.{AreUses, node-here}
+use Rattle.mq_tree.proofs.KeepUses.{node-here}
+use Rattle.mq_tree.specs.Uses.{AreUses}
 
 -- ---- an entry may be added
 

@@ -27,7 +27,8 @@ use Rattle.mq_tree.specs.Volume.{Body, File, Dir, Node, Path, Use, Volume, block
 use Rattle.mq_tree.specs.declared.request.Reply.TheVariants.{Ok as Ready}
 use Rattle.mq_tree.specs.declared.request.Request.{Request}
 use Rattle.mq_tree.specs.declared.request.Request.TheVariants.{Rmdir, Unlink}
-use Rattle.mq_tree.proofs.KeepUses.{AreUses, node-here, node-other}
+use Rattle.mq_tree.proofs.KeepUses.{node-here, node-other}
+use Rattle.mq_tree.specs.Uses.{AreUses}
 use Rattle.mq_tree.proofs.Uses.{use-taken}
 
 -- ---- an inode that is freed

@@ -40,7 +40,8 @@ use Rattle.mq_tree.specs.Volume.{Body, Dir, Node, Path, Volume, body, find, is_t
 use Rattle.mq_tree.specs.declared.request.Fault.TheVariants.{BadName, NoSpace, Subtree, TooBig}
 use Rattle.mq_tree.specs.declared.request.Request.TheVariants.{Rename}
 use Rattle.mq_tree.proofs.KeepNodes.{cleared-count, cleared-length, count-most, unused-none}
-use Rattle.mq_tree.proofs.KeepUses.{AreUses, node-here, node-other}
+use Rattle.mq_tree.proofs.KeepUses.{node-here, node-other}
+use Rattle.mq_tree.specs.Uses.{AreUses}
 use Rattle.mq_tree.proofs.Uses.{some-of}
 
 -- ---- slots from which a name is gone

@@ -28,7 +28,7 @@ use Rattle.mq_tree.specs.Volume.{Volume}
 use Rattle.mq_tree.specs.declared.request.Reply.{Reply}
 use Rattle.mq_tree.specs.declared.request.Request.{Request}
 use Rattle.mq_tree.proofs.Decoding.{taken-use}
-use Rattle.mq_tree.proofs.KeepUses.{AreUses}
+use Rattle.mq_tree.specs.Uses.{AreUses}
 use Rattle.mq_tree.proofs.KeepVolumes.{sound-nodes}
 
 -- ---- what is neither written nor freed

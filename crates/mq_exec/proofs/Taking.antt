@@ -21,7 +21,8 @@ use Rattle.mq_layout.specs.Slots.{Entry}
 use Rattle.mq_tree.specs.Requests.{entry_needs, linked, linked_at, unused, with_body}
 use Rattle.mq_tree.specs.Volume.{Body, Dir, Node, Volume, body, has_block, is_taken, node, slots_of}
 use Rattle.mq_tree.proofs.Decoding.{taken-use}
-use Rattle.mq_tree.proofs.KeepUses.{AreUses, grown-is, node-here, node-other}
+use Rattle.mq_tree.proofs.KeepUses.{grown-is, node-here, node-other}
+use Rattle.mq_tree.specs.Uses.{AreUses}
 use Rattle.mq_tree.proofs.Uses.{use-taken}
 
 contains-cases : (x : ℕ) (xs : List ℕ) (b : ℕ) → Contains (x ∷ xs) b → (x ≡ b) ⊎ Contains xs b

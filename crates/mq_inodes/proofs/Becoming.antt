@@ -15,7 +15,7 @@ use Rattle.mq_inodes.proofs.Sound.{sound-uses}
 use Rattle.mq_pages.specs.declared.page.Kind.{Kind}
 use Rattle.mq_pages.specs.declared.page.Kind.TheVariants.{Data}
 use Rattle.mq_tree.specs.Volume.{Volume}
-use Rattle.mq_tree.proofs.KeepUses.{AreUses}
+use Rattle.mq_tree.specs.Uses.{AreUses}
 
 -- ---- pages
 

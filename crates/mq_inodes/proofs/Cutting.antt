@@ -36,7 +36,8 @@ use Rattle.mq_pages.specs.declared.page.Kind.{Kind}
 use Rattle.mq_pages.specs.declared.page.Kind.TheVariants.{Data, Meta}
 use Rattle.mq_tree.specs.Laid.{inode_of, kind_of, links_of, or_zero, padded, size_of}
 use Rattle.mq_tree.specs.Volume.{Body, File, Node, Part, Pointers, Volume, body, has_block, is_used, node}
-use Rattle.mq_tree.proofs.KeepUses.{AreUses, node-here}
+use Rattle.mq_tree.proofs.KeepUses.{node-here}
+use Rattle.mq_tree.specs.Uses.{AreUses}
 use Rattle.mq_tree.proofs.Maps.{zone-low}
 use Rattle.mq_tree.proofs.Uses.{use-has}
 

@@ -31,7 +31,8 @@ use Rattle.mq_pages.specs.declared.page.Kind.TheVariants.{Data, Meta}
 use Rattle.mq_tree.specs.Free.{with_block, with_pointers}
 use Rattle.mq_tree.specs.Laid.{ShowsPart, inode_of, kind_of, links_of, or_zero, padded, size_of}
 use Rattle.mq_tree.specs.Volume.{Body, Free, File, Dir, Node, Part, Pointers, Volume, block_in, body, is_used, node}
-use Rattle.mq_tree.proofs.KeepUses.{AreUses, node-here}
+use Rattle.mq_tree.proofs.KeepUses.{node-here}
+use Rattle.mq_tree.specs.Uses.{AreUses}
 use Rattle.mq_tree.proofs.Maps.{zone-low}
 
 pub on_ok_three : {T E P Q R S : Type 0} (r : Result T E) → (P → Q → R → S) → OnOk r P → OnOk r Q → OnOk r R → OnOk r S

@@ -17,7 +17,7 @@ use Rattle.mq_inodes.proofs.Nodes.{length-padded}
 use Rattle.mq_layout.specs.Places.{inode_bitmap, inode_block, zone_bitmap}
 use Rattle.mq_tree.specs.Laid.{ShowsPart, ShowsPointers, inode_of, kind_of, padded, zone_block}
 use Rattle.mq_tree.specs.Volume.{Body, Free, File, Dir, Part, Pointers, Volume, block_in, body, has_block, is_block, is_taken, is_used, node}
-use Rattle.mq_tree.proofs.KeepUses.{AreUses}
+use Rattle.mq_tree.specs.Uses.{AreUses}
 use Rattle.mq_tree.proofs.Unique.{padded-at}
 use Rattle.mq_tree.proofs.Uses.{use-has}
 

@@ -22,7 +22,8 @@ use Rattle.mq_layout.specs.Places.{file_limit, inode_block, zone_bitmap}
 use Rattle.mq_layout.specs.Places.{inodes_of}
 use Rattle.mq_tree.specs.Laid.{ShowsPart, ShowsPointers, inode_of, kind_of, size_of}
 use Rattle.mq_tree.specs.Volume.{Body, File, Node, Pointers, Volume, body, has_block, is_used, node}
-use Rattle.mq_tree.proofs.KeepUses.{AreUses, node-here, node-other}
+use Rattle.mq_tree.proofs.KeepUses.{node-here, node-other}
+use Rattle.mq_tree.specs.Uses.{AreUses}
 
 pub take-get : (n : ℕ) (xs : List ℕ) (k c : ℕ) → slice_get (take n xs) k ≡ Some c → slice_get xs k ≡ Some c
 take-get zero xs k c e = absurd (none-some c e)

@@ -19,7 +19,8 @@ use Rattle.mq_layout.specs.Places.{zone_bitmap}
 use Rattle.mq_layout.specs.declared.inode.Inode.{Inode}
 use Rattle.mq_tree.specs.Laid.{or_zero}
 use Rattle.mq_tree.specs.Volume.{Node, Volume, has_block, is_block, node}
-use Rattle.mq_tree.proofs.KeepUses.{AreUses, node-here}
+use Rattle.mq_tree.proofs.KeepUses.{node-here}
+use Rattle.mq_tree.specs.Uses.{AreUses}
 use Rattle.mq_tree.proofs.Uses.{use-has}
 
 -- ---- which they are

@@ -23,7 +23,8 @@ use Rattle.mq_layout.proofs.EmptyLaws.{zeros-free}
 use Rattle.mq_tree.specs.Laid.{inode_of, padded}
 use Rattle.mq_tree.specs.Requests.{freed}
 use Rattle.mq_tree.specs.Volume.{Body, Node, Volume, body, free_node, has_block, is_used, node}
-use Rattle.mq_tree.proofs.KeepUses.{AreUses, node-here, node-other}
+use Rattle.mq_tree.proofs.KeepUses.{node-here, node-other}
+use Rattle.mq_tree.specs.Uses.{AreUses}
 use Rattle.mq_tree.proofs.Uses.{use-has}
 
 -- ---- an inode without blocks

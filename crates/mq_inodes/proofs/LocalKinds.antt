@@ -12,7 +12,7 @@ use Rattle.mq_layout.specs.Slots.{Entry}
 use Rattle.mq_pages.specs.declared.page.Kind.TheVariants.{Data, Meta}
 use Rattle.mq_tree.specs.Laid.{kind_of}
 use Rattle.mq_tree.specs.Volume.{Body, Free, File, Dir, Node, Use, Part, Pointers, Volume, block_in, body, node}
-use Rattle.mq_tree.proofs.KeepUses.{AreUses}
+use Rattle.mq_tree.specs.Uses.{AreUses}
 
 -- a part of a file
 pub part-of-file : (w : Volume) (i place b : ℕ) (bytes : List ℕ) → block_in w (Part i place) ≡ Some b → body w i ≡ File bytes → IsOfFile w b

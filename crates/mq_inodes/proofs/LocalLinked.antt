@@ -18,7 +18,7 @@ use Rattle.mq_tree.specs.Free.{grown}
 use Rattle.mq_tree.specs.Requests.{cleared, linked, linked_at, unlinked, unused, with_body}
 use Rattle.mq_tree.specs.Volume.{Dir, Volume, body, find, node, slots_of}
 use Rattle.mq_tree.proofs.KeepNodes.{cleared-is}
-use Rattle.mq_tree.proofs.KeepUses.{AreUses}
+use Rattle.mq_tree.specs.Uses.{AreUses}
 
 -- ---- in a slot that is there
 

@@ -15,7 +15,8 @@ use Rattle.mq_inodes.proofs.LocalInodes.{AreFreed}
 use Rattle.mq_inodes.proofs.LocalUses.{use-cases}
 use Rattle.mq_layout.specs.Places.{inode_bitmap, inode_block, zone_bitmap}
 use Rattle.mq_tree.specs.Volume.{Node, Use, Part, Pointers, Volume, block_in, has_block, is_block, node}
-use Rattle.mq_tree.proofs.KeepUses.{AreUses, node-here}
+use Rattle.mq_tree.proofs.KeepUses.{node-here}
+use Rattle.mq_tree.specs.Uses.{AreUses}
 use Rattle.mq_tree.proofs.Uses.{use-has}
 
 -- ---- what is listed

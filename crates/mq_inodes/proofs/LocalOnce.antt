@@ -10,7 +10,7 @@ use Rattle.mq_inodes.proofs.LocalRegions.{Lies, at_super, at_marks, at_inode_mar
 use Rattle.mq_layout.proofs.Pages.{bitmap-same, directory-same, pointers-same, table-same}
 use Rattle.mq_tree.specs.Laid.{InodeMarks, IsPage, IsVacant, Outside, Shows, ShowsMarks, ShowsPart, ShowsTable, ShowsUse, ShowsZone, Super, Table, Zone, ZoneMarks, inode_marked, inode_of, region, zone_marked}
 use Rattle.mq_tree.specs.Volume.{Body, Free, File, Dir, Use, Part, Pointers, Volume, is_taken, body, node}
-use Rattle.mq_tree.proofs.KeepUses.{AreUses}
+use Rattle.mq_tree.specs.Uses.{AreUses}
 use Rattle.mq_tree.proofs.Regions.{region-inode_marks, region-outside, region-table, region-zone}
 use Rattle.mq_tree.proofs.Uses.{use-taken}
 

@@ -19,7 +19,7 @@ use Rattle.mq_layout.specs.Places.{zone_bitmap}
 use Rattle.mq_tree.specs.Laid.{IsPage, IsVacant, Shows, ShowsUse, ShowsZone, Zone, zone_block}
 use Rattle.mq_tree.specs.Volume.{Use, Volume, block_in, has_block, is_taken, node}
 use Rattle.mq_tree.proofs.Decoding.{taken-use}
-use Rattle.mq_tree.proofs.KeepUses.{AreUses}
+use Rattle.mq_tree.specs.Uses.{AreUses}
 use Rattle.mq_tree.proofs.Maps.{zone-low, zone-place, zone-rest}
 use Rattle.mq_tree.proofs.Regions.{region-zone}
 

@@ -32,7 +32,8 @@ use Rattle.mq_tree.proofs.Mounting.{zeros-page}
 use Rattle.mq_tree.specs.Free.{with_block, with_pointers}
 use Rattle.mq_tree.specs.Laid.{IsPage, Shows, ShowsPart, ShowsPointers, inode_of, kind_of, links_of, or_zero, padded, size_of}
 use Rattle.mq_tree.specs.Volume.{Node, Use, Part, Pointers, Volume, block_in, body, has_block, is_block, is_taken, is_used, node}
-use Rattle.mq_tree.proofs.KeepUses.{AreUses, node-here, node-other}
+use Rattle.mq_tree.proofs.KeepUses.{node-here, node-other}
+use Rattle.mq_tree.specs.Uses.{AreUses}
 use Rattle.mq_tree.proofs.Maps.{zone-low}
 use Rattle.mq_tree.proofs.Uses.{use-taken}
 

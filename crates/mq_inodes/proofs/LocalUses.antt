@@ -10,7 +10,8 @@ use Rattle.mq_inodes.proofs.LocalFrame.{has-use, use-along}
 use Rattle.mq_layout.specs.Places.{inode_bitmap, inode_block, zone_bitmap}
 use Rattle.mq_tree.specs.Laid.{ShowsPart, ShowsPointers, inode_of, kind_of, zone_block}
 use Rattle.mq_tree.specs.Volume.{Use, Part, Pointers, Volume, block_in, body, has_block, is_taken, is_used, node}
-use Rattle.mq_tree.proofs.KeepUses.{AreUses, uses-within}
+use Rattle.mq_tree.proofs.KeepUses.{uses-within}
+use Rattle.mq_tree.specs.Uses.{AreUses}
 use Rattle.mq_tree.proofs.Uses.{use-has, use-taken}
 
 pub use-cases : (u : Use) (i : ℕ) → owner u ≡ i → ((k : ℕ) × (u ≡ Part i k)) ⊎ (u ≡ Pointers i)

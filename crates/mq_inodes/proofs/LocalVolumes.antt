@@ -26,7 +26,8 @@ use Rattle.mq_tree.specs.Requests.{freed, resized, with_body}
 use Rattle.mq_tree.specs.Sound.{IsBody, IsNode, blocks_for}
 use Rattle.mq_tree.specs.Volume.{Body, Free, File, Dir, Node, Volume, body, free_node, is_used, node}
 use Rattle.mq_tree.proofs.KeepFree.{first-not_taken, first-zones}
-use Rattle.mq_tree.proofs.KeepUses.{AreUses, node-here, node-other}
+use Rattle.mq_tree.proofs.KeepUses.{node-here, node-other}
+use Rattle.mq_tree.specs.Uses.{AreUses}
 
 -- ---- a free block
 

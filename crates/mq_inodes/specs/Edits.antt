@@ -10,7 +10,7 @@ use Rattle.mq_layout.specs.Places.{inodes_of}
 use Rattle.mq_pages.specs.declared.page.Kind.{Kind}
 use Rattle.mq_pages.specs.declared.page.Kind.TheVariants.{Data}
 use Rattle.mq_tree.specs.Volume.{Volume}
-use Rattle.mq_tree.proofs.KeepUses.{AreUses}
+use Rattle.mq_tree.specs.Uses.{AreUses}
 use Rattle.std.specs.Prelude.{length}
 
 -- ---- pages

@@ -6,6 +6,7 @@ use Rattle.std.proofs.lemmas.Option.{none-some, same_Some}
 use Rattle.mq_blocks.specs.Geometry.{homes_of, meta_of, queues_of}
 use Rattle.mq_blocks.specs.declared.geometry.Geometry.{Geometry}
 use Rattle.mq_tree.specs.Free.{first_of, free_blocks, grown, needs, one_more, order, pointed, with_block, with_pointers}
+use Rattle.mq_tree.specs.Uses.{AreUses}
 use Rattle.mq_tree.specs.Volume.{Node, Volume, body, free_node, node, Use, Part, Pointers, block_in, is_taken}
 use Rattle.mq_tree.proofs.Decoding.{taken-use}
 use Rattle.mq_tree.proofs.KeepFree.{count-order, first-not_taken, first-some, first-zones, free-more, free-one}
@@ -20,10 +21,6 @@ pub node-other : (v : Volume) (i x : ℕ) (n : Node) → x ≢ i → node (set v
 node-other v i x n other = get_or-set_other v i x n free_node other
 
 -- ---- uses
-
-pub record AreUses (g : Geometry) (v : Volume) : Type 0 where
-  pub zones : (u : Use) (b : ℕ) → block_in v u ≡ Some b → (meta_of g ≤ b) × (b < homes_of g)
-  pub apart : (u w : Use) (b : ℕ) → block_in v u ≡ Some b → block_in v w ≡ Some b → u ≡ w
 
 -- what `w` uses, `v` uses so
 abbrev pub IsWithin : Volume → Volume → Type 0

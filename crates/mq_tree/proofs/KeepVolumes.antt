@@ -14,7 +14,8 @@ use Rattle.mq_tree.specs.Sound.{IsBody, IsNode, IsSound}
 use Rattle.mq_tree.specs.Volume.{ADir, AFile, Body, Free, File, Dir, Node, Volume, body, free_node, is_used, node, Part, Pointers, slot, slots_of, thing}
 use Rattle.mq_tree.proofs.KeepNodes.{Linked, linked-entries, linked-more, linked-set, unused-none}
 use Rattle.mq_tree.proofs.KeepPaths.{IsTree, thing-used}
-use Rattle.mq_tree.proofs.KeepUses.{AreUses, IsWithin, grown-is, node-here, node-other, uses-within}
+use Rattle.mq_tree.proofs.KeepUses.{IsWithin, grown-is, node-here, node-other, uses-within}
+use Rattle.mq_tree.specs.Uses.{AreUses}
 
 -- ---- the parts of a sound volume
 

@@ -15,5 +15,6 @@ pub mod Pointers
 pub mod Requests
 pub mod Sound
 pub mod Trees
+pub mod Uses
 pub mod Volume
 pub mod Walks
