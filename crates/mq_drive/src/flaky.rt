@@ -55,7 +55,9 @@ impl<P: Port> FlakyPort<P> {
     // Counts a changing call, and answers whether it is the one to refuse.
     fn is_refused(&mut self) -> bool
         ensures port { self.new.port ≡ self.old.port }
-        ensures yes { IsTrue result → with_refused self.new.refused (P.faults self.old.port) ≡ PowerOff ∷ with_refused self.old.refused (P.faults self.old.port) }
+        ensures yes { IsTrue result
+            → with_refused self.new.refused
+            (P.faults self.old.port) ≡ PowerOff ∷ with_refused self.old.refused (P.faults self.old.port) }
         ensures marked { IsTrue result → self.new.refused ≡ true }
         ensures no { result ≡ false → self.new.refused ≡ self.old.refused }
         ensures which { IsTrue result ↔ (self.old.refuse ≡ 1) }
@@ -111,12 +113,17 @@ impl<P: Port> Port for FlakyPort<P> {
         requires order { (P.state self.old.port).stored_head ≤ (P.state self.old.port).doorbell }
         requires room { at - (P.state self.old.port).head < 1023 }
         requires write { IsOwnWrite (P.state self.old.port) at entry }
-        ensures ok { OnOk result (P.state self.new.port ≡ after_stage (P.state self.old.port) entry (tx_of entry) (lba_of entry) block) }
+        ensures ok { OnOk result (P.state self.new.port ≡ after_stage (P.state self.old.port) entry
+            (tx_of entry) (lba_of entry) block) }
         ensures off { OnErr result (P.state self.new.port ≡ P.state self.old.port) }
-        ensures cause { OffCause result (with_refused self.old.refused (P.faults self.old.port)) (with_refused self.new.refused (P.faults self.new.port)) }
+        ensures cause { OffCause result (with_refused self.old.refused (P.faults self.old.port))
+            (with_refused self.new.refused (P.faults self.new.port)) }
         ensures counts { self.new.refuse ≡ self.old.refuse - 1 }
-        ensures refuses { self.old.refuse ≡ 1 → IsErr result × (self.new.port ≡ self.old.port) × (self.new.refused ≡ true) }
-        ensures passes { self.old.refuse ≢ 1 → OffCause result (P.faults self.old.port) (P.faults self.new.port) × (self.new.refused ≡ self.old.refused) }
+        ensures refuses { self.old.refuse ≡ 1
+            → IsErr result × (self.new.port ≡ self.old.port) × (self.new.refused ≡ true) }
+        ensures passes { self.old.refuse ≢ 1
+            → OffCause result (P.faults self.old.port) (P.faults self.new.port)
+            × (self.new.refused ≡ self.old.refused) }
     {
         if self.is_refused() {
             return Err(Off);
@@ -129,10 +136,14 @@ impl<P: Port> Port for FlakyPort<P> {
     fn flush(&mut self) -> Result<(), Off>
         ensures ok { OnOk result (P.state self.new.port ≡ after_flush (P.state self.old.port)) }
         ensures off { OnErr result (P.state self.new.port ≡ P.state self.old.port) }
-        ensures cause { OffCause result (with_refused self.old.refused (P.faults self.old.port)) (with_refused self.new.refused (P.faults self.new.port)) }
+        ensures cause { OffCause result (with_refused self.old.refused (P.faults self.old.port))
+            (with_refused self.new.refused (P.faults self.new.port)) }
         ensures counts { self.new.refuse ≡ self.old.refuse - 1 }
-        ensures refuses { self.old.refuse ≡ 1 → IsErr result × (self.new.port ≡ self.old.port) × (self.new.refused ≡ true) }
-        ensures passes { self.old.refuse ≢ 1 → OffCause result (P.faults self.old.port) (P.faults self.new.port) × (self.new.refused ≡ self.old.refused) }
+        ensures refuses { self.old.refuse ≡ 1
+            → IsErr result × (self.new.port ≡ self.old.port) × (self.new.refused ≡ true) }
+        ensures passes { self.old.refuse ≢ 1
+            → OffCause result (P.faults self.old.port) (P.faults self.new.port)
+            × (self.new.refused ≡ self.old.refused) }
     {
         if self.is_refused() {
             return Err(Off);
@@ -145,10 +156,14 @@ impl<P: Port> Port for FlakyPort<P> {
         requires flushed { (P.state self.old.port).flushed_end ≡ tail }
         ensures ok { OnOk result (P.state self.new.port ≡ after_ring (P.state self.old.port)) }
         ensures off { OnErr result (P.state self.new.port ≡ P.state self.old.port) }
-        ensures cause { OffCause result (with_refused self.old.refused (P.faults self.old.port)) (with_refused self.new.refused (P.faults self.new.port)) }
+        ensures cause { OffCause result (with_refused self.old.refused (P.faults self.old.port))
+            (with_refused self.new.refused (P.faults self.new.port)) }
         ensures counts { self.new.refuse ≡ self.old.refuse - 1 }
-        ensures refuses { self.old.refuse ≡ 1 → IsErr result × (self.new.port ≡ self.old.port) × (self.new.refused ≡ true) }
-        ensures passes { self.old.refuse ≢ 1 → OffCause result (P.faults self.old.port) (P.faults self.new.port) × (self.new.refused ≡ self.old.refused) }
+        ensures refuses { self.old.refuse ≡ 1
+            → IsErr result × (self.new.port ≡ self.old.port) × (self.new.refused ≡ true) }
+        ensures passes { self.old.refuse ≢ 1
+            → OffCause result (P.faults self.old.port) (P.faults self.new.port)
+            × (self.new.refused ≡ self.old.refused) }
     {
         if self.is_refused() {
             return Err(Off);
@@ -160,11 +175,18 @@ impl<P: Port> Port for FlakyPort<P> {
     }
 
     fn step(&mut self) -> Result<Step, Off>
-        ensures gives { StepGives (P.state self.old.port) (with_refused self.old.refused (P.faults self.old.port)) result (P.state self.new.port) (with_refused self.new.refused (P.faults self.new.port)) }
+        ensures gives { StepGives (P.state self.old.port)
+            (with_refused self.old.refused (P.faults self.old.port)) result (P.state self.new.port)
+            (with_refused self.new.refused (P.faults self.new.port)) }
         ensures idle { (P.state self.old.port).posted ≡ [] → self.new.refuse ≡ self.old.refuse }
         ensures counts { (P.state self.old.port).posted ≢ [] → self.new.refuse ≡ self.old.refuse - 1 }
-        ensures refuses { (P.state self.old.port).posted ≢ [] → self.old.refuse ≡ 1 → IsErr result × (self.new.port ≡ self.old.port) × (self.new.refused ≡ true) }
-        ensures passes { (self.old.refuse ≡ 1 → (P.state self.old.port).posted ≡ []) → StepGives (P.state self.old.port) (P.faults self.old.port) result (P.state self.new.port) (P.faults self.new.port) × (self.new.refused ≡ self.old.refused) }
+        ensures refuses { (P.state self.old.port).posted ≢ []
+            → self.old.refuse ≡ 1
+            → IsErr result × (self.new.port ≡ self.old.port) × (self.new.refused ≡ true) }
+        ensures passes { (self.old.refuse ≡ 1 → (P.state self.old.port).posted ≡ [])
+            → StepGives (P.state self.old.port) (P.faults self.old.port) result (P.state self.new.port)
+            (P.faults self.new.port)
+            × (self.new.refused ≡ self.old.refused) }
     {
         if self.posted == 0 {
             return self.port.step();
@@ -184,10 +206,14 @@ impl<P: Port> Port for FlakyPort<P> {
         requires failed { AreFrom head (P.state self.old.port).failed }
         ensures ok { OnOk result (P.state self.new.port ≡ after_store_head (P.state self.old.port) head) }
         ensures off { OnErr result (P.state self.new.port ≡ P.state self.old.port) }
-        ensures cause { OffCause result (with_refused self.old.refused (P.faults self.old.port)) (with_refused self.new.refused (P.faults self.new.port)) }
+        ensures cause { OffCause result (with_refused self.old.refused (P.faults self.old.port))
+            (with_refused self.new.refused (P.faults self.new.port)) }
         ensures counts { self.new.refuse ≡ self.old.refuse - 1 }
-        ensures refuses { self.old.refuse ≡ 1 → IsErr result × (self.new.port ≡ self.old.port) × (self.new.refused ≡ true) }
-        ensures passes { self.old.refuse ≢ 1 → OffCause result (P.faults self.old.port) (P.faults self.new.port) × (self.new.refused ≡ self.old.refused) }
+        ensures refuses { self.old.refuse ≡ 1
+            → IsErr result × (self.new.port ≡ self.old.port) × (self.new.refused ≡ true) }
+        ensures passes { self.old.refuse ≢ 1
+            → OffCause result (P.faults self.old.port) (P.faults self.new.port)
+            × (self.new.refused ≡ self.old.refused) }
     {
         if self.is_refused() {
             return Err(Off);
@@ -200,10 +226,14 @@ impl<P: Port> Port for FlakyPort<P> {
         requires low { (P.state self.old.port).base ≤ base }
         ensures ok { OnOk result (P.state self.new.port ≡ after_store_base (P.state self.old.port) base) }
         ensures off { OnErr result (P.state self.new.port ≡ P.state self.old.port) }
-        ensures cause { OffCause result (with_refused self.old.refused (P.faults self.old.port)) (with_refused self.new.refused (P.faults self.new.port)) }
+        ensures cause { OffCause result (with_refused self.old.refused (P.faults self.old.port))
+            (with_refused self.new.refused (P.faults self.new.port)) }
         ensures counts { self.new.refuse ≡ self.old.refuse - 1 }
-        ensures refuses { self.old.refuse ≡ 1 → IsErr result × (self.new.port ≡ self.old.port) × (self.new.refused ≡ true) }
-        ensures passes { self.old.refuse ≢ 1 → OffCause result (P.faults self.old.port) (P.faults self.new.port) × (self.new.refused ≡ self.old.refused) }
+        ensures refuses { self.old.refuse ≡ 1
+            → IsErr result × (self.new.port ≡ self.old.port) × (self.new.refused ≡ true) }
+        ensures passes { self.old.refuse ≢ 1
+            → OffCause result (P.faults self.old.port) (P.faults self.new.port)
+            × (self.new.refused ≡ self.old.refused) }
     {
         if self.is_refused() {
             return Err(Off);
@@ -213,10 +243,16 @@ impl<P: Port> Port for FlakyPort<P> {
 
     fn write_home(&mut self, lba: Lba, block: Block) -> Result<HomeStep, Off>
         requires { IsHome (P.state self.old.port) lba }
-        ensures gives { HomeGives (P.state self.old.port) (with_refused self.old.refused (P.faults self.old.port)) lba block result (P.state self.new.port) (with_refused self.new.refused (P.faults self.new.port)) }
+        ensures gives { HomeGives (P.state self.old.port)
+            (with_refused self.old.refused (P.faults self.old.port)) lba block result
+            (P.state self.new.port) (with_refused self.new.refused (P.faults self.new.port)) }
         ensures counts { self.new.refuse ≡ self.old.refuse - 1 }
-        ensures refuses { self.old.refuse ≡ 1 → IsErr result × (self.new.port ≡ self.old.port) × (self.new.refused ≡ true) }
-        ensures passes { self.old.refuse ≢ 1 → HomeGives (P.state self.old.port) (P.faults self.old.port) lba block result (P.state self.new.port) (P.faults self.new.port) × (self.new.refused ≡ self.old.refused) }
+        ensures refuses { self.old.refuse ≡ 1
+            → IsErr result × (self.new.port ≡ self.old.port) × (self.new.refused ≡ true) }
+        ensures passes { self.old.refuse ≢ 1
+            → HomeGives (P.state self.old.port) (P.faults self.old.port) lba block result
+            (P.state self.new.port) (P.faults self.new.port)
+            × (self.new.refused ≡ self.old.refused) }
     {
         if self.is_refused() {
             return Err(Off);
