@@ -6,8 +6,10 @@ pub mod Executing
 pub mod Faults
 pub mod Flaking
 pub mod Fusing
+pub mod Happening
 pub mod Moves
 pub mod Owned
+pub mod RolePorts
 pub mod Settling
 pub mod Starts
 pub mod Tearing

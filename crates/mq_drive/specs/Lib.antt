@@ -3,6 +3,7 @@ pub mod Emulated
 pub mod Failures
 pub mod Flaky
 pub mod Fuse
+pub mod Happened
 pub mod Limits
 pub mod Roles
 pub mod Seats

@@ -1,10 +1,11 @@
 // What a port in memory keeps, and how it changes.
 ghost use Rattle.std.specs.Prelude.{◌≡◌, ◌<◌, ◌≤◌, ◌+◌, ◌-◌, ◌*◌, ◌/◌, ◌%◌, ◌^◌, ℕ, List, [], ◌∷◌, length, true, false, is_some, IfOk, OnOk, OnErr, All, IsSome, IsNone, IsTrue, ◌↔◌, slice_index_or, Some, None, Contains};
-ghost use Rattle.std.specs.Option.{ForSome};
+ghost use Rattle.std.specs.Option.{ForSome, option_to_list};
 ghost use Rattle.std.specs.VecDeque.{deque_capacity};
 ghost use Rattle.mq_blocks.specs.Drive.{AreCounted, AreCounted-prop};
 ghost use Rattle.mq_drive.specs.Fuse.{above, below, earlier};
 ghost use Rattle.mq_drive.specs.Emulated.{phase_after};
+ghost use Rattle.mq_drive.specs.Happened.{happened_by, happened_in};
 ghost use Rattle.mq_drive.specs.Roles.{slots_of, queue_in, id_of};
 ghost use Rattle.mq_drive.specs.Slots.{AreSettled, index_in};
 
@@ -82,7 +83,7 @@ pub struct Device<'f> {
     ghost homes_end: { homes.first + homes.size ≤ 2 ^ 32 },
     ghost id_small: { id < 2 ^ 16 },
     ghost id_is: { id ≡ id_of (queue_in role) },
-    ghost events_counted: { begins ≡ 0 → power.happened ≡ events },
+    ghost events_counted: { power.happened ≡ happened_by events begins (length (option_to_list under_way)) },
     ghost failure_counted: { is_some failure ≡ failing.failed },
     ghost under_way_last: { ForSome under_way (λ w. 0 < power.offs) },
     ghost under_way_own: { ForSome under_way (λ w. (area.first ≤ w.lba) × (index_in area.first area.size homes.first w.lba < length blocks.stored.items)) },
@@ -160,6 +161,7 @@ impl<'f> Device<'f> {
     /// As `EmuPort::events`.
     pub fn events(&self) -> u64
         ensures is { result ≡ self.now.power.happened }
+        ensures homes { result ≡ happened_in (device_state self.now) (device_faults self.now) }
         ensures state { (device_state self.now).begins ≡ 0 → result ≡ (device_state self.now).events }
         ensures tickets { (l : ℕ)
             → (device_state self.now).fuse.limit ≡ Some l

@@ -1,6 +1,7 @@
 // A port in memory, whose power may go off and on which one command may fail.
 ghost use Rattle.std.specs.Prelude.{◌≡◌, ◌<◌, ◌≤◌, ◌-◌, ◌^◌, ℕ, [], true, false, IfOk, OnOk, OnErr, IsSome, IsNone, All, Some, None, Contains};
 ghost use Rattle.mq_drive.specs.Fuse.{above, below, earlier};
+ghost use Rattle.mq_drive.specs.Happened.{happened_in};
 
 use crate::device::Device;
 use crate::power::Power;
@@ -54,9 +55,11 @@ impl<'f> EmuPort<'f> {
         })
     }
 
-    /// How many events of this port happened. It stays at 2^64 - 1 once there.
+    /// How many events of this port happened, a home write's two among them. It stays at 2^64 - 1
+    /// once there.
     pub fn events(&self) -> u64
         ensures is { result ≡ happened_of self.now }
+        ensures homes { result ≡ happened_in (emu_state self.now) (emu_faults self.now) }
         ensures state { (emu_state self.now).begins ≡ 0 → result ≡ (emu_state self.now).events }
         ensures tickets { (l : ℕ)
             → (emu_state self.now).fuse.limit ≡ Some l
@@ -114,6 +117,9 @@ impl<'f> EmuPort<'f> {
         ensures events { (l : ℕ)
             → (emu_state self.entry).fuse.limit ≡ Some l
             → below l (tickets_of result.1) ≡ happened_of self.entry }
+        ensures homes { (l : ℕ)
+            → (emu_state self.entry).fuse.limit ≡ Some l
+            → below l (tickets_of result.1) ≡ happened_in (emu_state self.entry) (emu_faults self.entry) }
         ensures off { (l : ℕ)
             → (emu_state self.entry).fuse.limit ≡ Some l
             → Contains (emu_faults self.entry) PowerOff

@@ -1,5 +1,5 @@
 // A port over a port, which refuses one call.
-ghost use Rattle.std.specs.Prelude.{◌≡◌, ◌≤◌, ◌-◌, ◌↔◌, IsTrue, length, [], ◌∷◌, true, false};
+ghost use Rattle.std.specs.Prelude.{◌≡◌, ◌≢◌, ◌<◌, ◌≤◌, ◌-◌, ◌^◌, ◌↔◌, IsTrue, IsErr, IsSome, IsNone, OnOk, OnErr, length, [], ◌∷◌, true, false};
 
 use crate::{HomeStep, Off, Port, Role, Step};
 use mq_blocks::{Block, Lba};
@@ -58,6 +58,7 @@ impl<P: Port> FlakyPort<P> {
         ensures yes { IsTrue result
             → with_refused self.new.refused
             (P.faults self.old.port) ≡ PowerOff ∷ with_refused self.old.refused (P.faults self.old.port) }
+        ensures marked { IsTrue result → self.new.refused ≡ true }
         ensures no { result ≡ false → self.new.refused ≡ self.old.refused }
         ensures which { IsTrue result ↔ (self.old.refuse ≡ 1) }
         ensures refuse { self.new.refuse ≡ self.old.refuse - 1 }
@@ -73,6 +74,9 @@ impl<P: Port> FlakyPort<P> {
 
 impl<P: Port> Port for FlakyPort<P> {
     ghost use Rattle.mq_drive.specs.Flaky.{with_refused};
+    ghost use Rattle.mq_blocks.specs.Drive.{IsHome, AreFrom, staged_end, after_stage, after_flush, after_ring, after_store_head, after_store_base};
+    ghost use Rattle.mq_nvme.specs.Entry.{tx_of, lba_of};
+    ghost use Rattle.mq_drive.specs.Steps.{StepGives, HomeGives, OffCause, IsOwnWrite};
 
     ghost state = { λ p. P.state p.port };
 
@@ -102,7 +106,25 @@ impl<P: Port> Port for FlakyPort<P> {
         self.port.read_block(lba, into);
     }
 
-    fn stage(&mut self, at: u64, entry: Entry, block: Block) -> Result<(), Off> {
+    fn stage(&mut self, at: u64, entry: Entry, block: Block) -> Result<(), Off>
+        requires queue { IsSome (P.state self.old.port).queue }
+        requires next { at ≡ staged_end (P.state self.old.port) }
+        requires below { at < 2 ^ 63 }
+        requires order { (P.state self.old.port).stored_head ≤ (P.state self.old.port).doorbell }
+        requires room { at - (P.state self.old.port).head < 1023 }
+        requires write { IsOwnWrite (P.state self.old.port) at entry }
+        ensures ok { OnOk result (P.state self.new.port ≡ after_stage (P.state self.old.port) entry
+            (tx_of entry) (lba_of entry) block) }
+        ensures off { OnErr result (P.state self.new.port ≡ P.state self.old.port) }
+        ensures cause { OffCause result (with_refused self.old.refused (P.faults self.old.port))
+            (with_refused self.new.refused (P.faults self.new.port)) }
+        ensures counts { self.new.refuse ≡ self.old.refuse - 1 }
+        ensures refuses { self.old.refuse ≡ 1
+            → IsErr result × (self.new.port ≡ self.old.port) × (self.new.refused ≡ true) }
+        ensures passes { self.old.refuse ≢ 1
+            → OffCause result (P.faults self.old.port) (P.faults self.new.port)
+            × (self.new.refused ≡ self.old.refused) }
+    {
         if self.is_refused() {
             return Err(Off);
         }
@@ -111,14 +133,38 @@ impl<P: Port> Port for FlakyPort<P> {
         Ok(())
     }
 
-    fn flush(&mut self) -> Result<(), Off> {
+    fn flush(&mut self) -> Result<(), Off>
+        ensures ok { OnOk result (P.state self.new.port ≡ after_flush (P.state self.old.port)) }
+        ensures off { OnErr result (P.state self.new.port ≡ P.state self.old.port) }
+        ensures cause { OffCause result (with_refused self.old.refused (P.faults self.old.port))
+            (with_refused self.new.refused (P.faults self.new.port)) }
+        ensures counts { self.new.refuse ≡ self.old.refuse - 1 }
+        ensures refuses { self.old.refuse ≡ 1
+            → IsErr result × (self.new.port ≡ self.old.port) × (self.new.refused ≡ true) }
+        ensures passes { self.old.refuse ≢ 1
+            → OffCause result (P.faults self.old.port) (P.faults self.new.port)
+            × (self.new.refused ≡ self.old.refused) }
+    {
         if self.is_refused() {
             return Err(Off);
         }
         self.port.flush()
     }
 
-    fn ring(&mut self, tail: u64) -> Result<(), Off> {
+    fn ring(&mut self, tail: u64) -> Result<(), Off>
+        requires tail { tail ≡ staged_end (P.state self.old.port) }
+        requires flushed { (P.state self.old.port).flushed_end ≡ tail }
+        ensures ok { OnOk result (P.state self.new.port ≡ after_ring (P.state self.old.port)) }
+        ensures off { OnErr result (P.state self.new.port ≡ P.state self.old.port) }
+        ensures cause { OffCause result (with_refused self.old.refused (P.faults self.old.port))
+            (with_refused self.new.refused (P.faults self.new.port)) }
+        ensures counts { self.new.refuse ≡ self.old.refuse - 1 }
+        ensures refuses { self.old.refuse ≡ 1
+            → IsErr result × (self.new.port ≡ self.old.port) × (self.new.refused ≡ true) }
+        ensures passes { self.old.refuse ≢ 1
+            → OffCause result (P.faults self.old.port) (P.faults self.new.port)
+            × (self.new.refused ≡ self.old.refused) }
+    {
         if self.is_refused() {
             return Err(Off);
         }
@@ -128,7 +174,20 @@ impl<P: Port> Port for FlakyPort<P> {
         Ok(())
     }
 
-    fn step(&mut self) -> Result<Step, Off> {
+    fn step(&mut self) -> Result<Step, Off>
+        ensures gives { StepGives (P.state self.old.port)
+            (with_refused self.old.refused (P.faults self.old.port)) result (P.state self.new.port)
+            (with_refused self.new.refused (P.faults self.new.port)) }
+        ensures idle { (P.state self.old.port).posted ≡ [] → self.new.refuse ≡ self.old.refuse }
+        ensures counts { (P.state self.old.port).posted ≢ [] → self.new.refuse ≡ self.old.refuse - 1 }
+        ensures refuses { (P.state self.old.port).posted ≢ []
+            → self.old.refuse ≡ 1
+            → IsErr result × (self.new.port ≡ self.old.port) × (self.new.refused ≡ true) }
+        ensures passes { (self.old.refuse ≡ 1 → (P.state self.old.port).posted ≡ [])
+            → StepGives (P.state self.old.port) (P.faults self.old.port) result (P.state self.new.port)
+            (P.faults self.new.port)
+            × (self.new.refused ≡ self.old.refused) }
+    {
         if self.posted == 0 {
             return self.port.step();
         }
@@ -140,21 +199,61 @@ impl<P: Port> Port for FlakyPort<P> {
         Ok(step)
     }
 
-    fn store_head(&mut self, head: u64) -> Result<(), Off> {
+    fn store_head(&mut self, head: u64) -> Result<(), Off>
+        requires low { (P.state self.old.port).head ≤ head }
+        requires high { head ≤ (P.state self.old.port).doorbell }
+        requires posted { AreFrom head (P.state self.old.port).posted }
+        requires failed { AreFrom head (P.state self.old.port).failed }
+        ensures ok { OnOk result (P.state self.new.port ≡ after_store_head (P.state self.old.port) head) }
+        ensures off { OnErr result (P.state self.new.port ≡ P.state self.old.port) }
+        ensures cause { OffCause result (with_refused self.old.refused (P.faults self.old.port))
+            (with_refused self.new.refused (P.faults self.new.port)) }
+        ensures counts { self.new.refuse ≡ self.old.refuse - 1 }
+        ensures refuses { self.old.refuse ≡ 1
+            → IsErr result × (self.new.port ≡ self.old.port) × (self.new.refused ≡ true) }
+        ensures passes { self.old.refuse ≢ 1
+            → OffCause result (P.faults self.old.port) (P.faults self.new.port)
+            × (self.new.refused ≡ self.old.refused) }
+    {
         if self.is_refused() {
             return Err(Off);
         }
         self.port.store_head(head)
     }
 
-    fn store_base(&mut self, base: u64) -> Result<(), Off> {
+    fn store_base(&mut self, base: u64) -> Result<(), Off>
+        requires root { IsNone (P.state self.old.port).queue }
+        requires low { (P.state self.old.port).base ≤ base }
+        ensures ok { OnOk result (P.state self.new.port ≡ after_store_base (P.state self.old.port) base) }
+        ensures off { OnErr result (P.state self.new.port ≡ P.state self.old.port) }
+        ensures cause { OffCause result (with_refused self.old.refused (P.faults self.old.port))
+            (with_refused self.new.refused (P.faults self.new.port)) }
+        ensures counts { self.new.refuse ≡ self.old.refuse - 1 }
+        ensures refuses { self.old.refuse ≡ 1
+            → IsErr result × (self.new.port ≡ self.old.port) × (self.new.refused ≡ true) }
+        ensures passes { self.old.refuse ≢ 1
+            → OffCause result (P.faults self.old.port) (P.faults self.new.port)
+            × (self.new.refused ≡ self.old.refused) }
+    {
         if self.is_refused() {
             return Err(Off);
         }
         self.port.store_base(base)
     }
 
-    fn write_home(&mut self, lba: Lba, block: Block) -> Result<HomeStep, Off> {
+    fn write_home(&mut self, lba: Lba, block: Block) -> Result<HomeStep, Off>
+        requires { IsHome (P.state self.old.port) lba }
+        ensures gives { HomeGives (P.state self.old.port)
+            (with_refused self.old.refused (P.faults self.old.port)) lba block result
+            (P.state self.new.port) (with_refused self.new.refused (P.faults self.new.port)) }
+        ensures counts { self.new.refuse ≡ self.old.refuse - 1 }
+        ensures refuses { self.old.refuse ≡ 1
+            → IsErr result × (self.new.port ≡ self.old.port) × (self.new.refused ≡ true) }
+        ensures passes { self.old.refuse ≢ 1
+            → HomeGives (P.state self.old.port) (P.faults self.old.port) lba block result
+            (P.state self.new.port) (P.faults self.new.port)
+            × (self.new.refused ≡ self.old.refused) }
+    {
         if self.is_refused() {
             return Err(Off);
         }

@@ -1,5 +1,5 @@
 // Files and a sink over the system. They tell nothing of what they hold.
-ghost use Rattle.std.specs.Prelude.{◌≡◌, ◌<◌, ◌≤◌, ◌++◌, None, length, take, OnOk, IfOk, IfErr, IfSome, IsErrOf, MatchResult};
+ghost use Rattle.std.specs.Prelude.{◌≡◌, ◌<◌, ◌≤◌, ◌++◌, None, length, take, OnOk, IfOk, IfErr, IfSome, IsErr, IsErrOf, MatchResult};
 ghost use Rattle.std.specs.Io.KnownBytes.{Appends, Keeps};
 ghost use Rattle.mq_outside.specs.Outside.{PutCause, load_limit};
 
@@ -47,13 +47,19 @@ fn read_rest<F: Read>(
     Err(LoadRefusal::Failed)
 }
 
-// Takes the bytes of the file with this name.
-fn read_file<R: rt::Files>(rt: &R, name: &str, bytes: &mut Vec<u8>) -> Result<(), LoadRefusal>
+// Takes the bytes of a reader that was to be opened.
+fn read_opened<F: Read + Drop>(
+    opened: io::Result<F>,
+    bytes: &mut Vec<u8>,
+) -> Result<(), LoadRefusal>
     requires { length bytes.old.items ≤ load_limit }
     ensures within { OnOk result (length bytes.new.items ≤ load_limit) }
     ensures over { IsErrOf result LoadRefusal.TooLong → load_limit < length bytes.new.items }
+    ensures refused { IsErr opened → IsErr result }
+    ensures all { IfOk opened (λ f. OnOk result
+        (IfSome (F.remaining f) (λ rest. bytes.new.items ≡ bytes.old.items ++ rest))) }
 {
-    match File::open(rt, name) {
+    match opened {
         Ok(mut file) => {
             let mut chunk = [0; CHUNK];
             read_rest(&mut file, &mut chunk, bytes)
@@ -61,6 +67,15 @@ fn read_file<R: rt::Files>(rt: &R, name: &str, bytes: &mut Vec<u8>) -> Result<()
         Err(e) if e.kind() == ErrorKind::OutOfMemory => Err(LoadRefusal::OutOfMemory),
         Err(_) => Err(LoadRefusal::Failed),
     }
+}
+
+// Takes the bytes of the file with this name.
+fn read_file<R: rt::Files>(rt: &R, name: &str, bytes: &mut Vec<u8>) -> Result<(), LoadRefusal>
+    requires { length bytes.old.items ≤ load_limit }
+    ensures within { OnOk result (length bytes.new.items ≤ load_limit) }
+    ensures over { IsErrOf result LoadRefusal.TooLong → load_limit < length bytes.new.items }
+{
+    read_opened(File::open(rt, name), bytes)
 }
 
 // Writes all the bytes. Whatever goes wrong is a fault, since the file's old bytes are gone.
@@ -77,14 +92,26 @@ fn write_whole<W: Write>(file: &mut W, bytes: &[u8]) -> Result<(), SaveRefusal>
     Ok(())
 }
 
+// Writes all the bytes to a writer that was to be made, and hands it back.
+fn write_made<W: Write + Drop>(made: io::Result<W>, bytes: &[u8]) -> Result<W, SaveRefusal>
+    ensures refused { IsErr made → IsErr result }
+    ensures all { IfOk made (λ old. IfOk result
+        (λ new. Appends (W.contents old) (W.contents new) bytes.now)) }
+{
+    match made {
+        Ok(mut file) => {
+            write_whole(&mut file, bytes)?;
+            Ok(file)
+        }
+        Err(e) if e.kind() == ErrorKind::OutOfMemory => Err(SaveRefusal::OutOfMemory),
+        Err(_) => Err(SaveRefusal::Failed),
+    }
+}
+
 // Makes the file with this name hold the bytes.
 fn write_file<R: rt::Files>(rt: &R, name: &str, bytes: &[u8]) -> Result<(), SaveRefusal> {
-    let mut file = match File::create(rt, name) {
-        Ok(file) => file,
-        Err(e) if e.kind() == ErrorKind::OutOfMemory => return Err(SaveRefusal::OutOfMemory),
-        Err(_) => return Err(SaveRefusal::Failed),
-    };
-    write_whole(&mut file, bytes)
+    let _file = write_made(File::create(rt, name), bytes)?;
+    Ok(())
 }
 
 /// The files of a runtime.

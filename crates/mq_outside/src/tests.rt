@@ -83,7 +83,8 @@ fn sure_files_are_empty_at_first(rt: HostRuntime) -> Result<(), AllocError> {
 #[test]
 fn the_system_loads_what_was_saved(rt: HostRuntime) -> Result<(), AllocError> {
     let alloc = rt.alloc();
-    let bytes = vec![in alloc; 7; 40_000]?;
+    // more bytes than the system takes or gives at a time
+    let bytes = vec![in alloc; 7; 300_000]?;
     let mut files = RealFiles::new(&rt);
     assert!(rt; matches!(files.load(alloc, "image"), Err(LoadRefusal::Failed)));
     assert!(rt; files.save("image", bytes.as_slice()).is_ok());
@@ -91,6 +92,9 @@ fn the_system_loads_what_was_saved(rt: HostRuntime) -> Result<(), AllocError> {
     assert!(rt; files.save("image", b"short").is_ok());
     assert!(rt; gave(files.load(alloc, "image"), b"short"));
     assert!(rt; matches!(files.save("no/such/folder", b""), Err(SaveRefusal::Failed)));
+    // a folder can be opened, and not read
+    assert!(rt; matches!(files.load(alloc, "."), Err(LoadRefusal::Failed)));
+    assert!(rt; matches!(files.save(".", b""), Err(SaveRefusal::Failed)));
     assert!(rt; fs::remove_file(&rt, "image").is_ok());
     Ok(())
 }

@@ -1,13 +1,18 @@
 -- What each event of a queue keeps of how its records stand to its port.
-use Rattle.std.proofs.Common.{◌≡◌, ◌≢◌, ◌<◌, ◌≤◌, ◌⊎◌, inl, inr, ℕ, zero, suc, ◌+◌, ◌-◌, ◌%◌, Bool, true, false, List, [], ◌∷◌, ◌++◌, length, All, Option, Some, None, set, get_or, refl, sym, ◌∙◌, ap, subst, arith, length-append}
+use Rattle.std.proofs.Common.{◌≡◌, ◌≢◌, ◌<◌, ◌≤◌, inl, inr, ⊎_elim, ℕ, ◌+◌, ◌%◌, Bool, true, false, List, [], ◌∷◌, ◌++◌, length, Option, Some, None, Result, Ok, Err, set, refl, sym, ◌∙◌, ap, subst, arith, length-append}
 use Rattle.std.specs.Prelude.{slice_get, ◌&&◌}
 use Rattle.std.specs.List.{remove}
 use Rattle.std.proofs.Math.ListN.{length-set}
 use Rattle.std.proofs.lemmas.Bool.{cases_eq, cases_lt}
-use Rattle.std.proofs.lemmas.List.{get_or-set_other, get_or-set_same, append-nil}
+use Rattle.std.proofs.lemmas.List.{get_or-set_other, get_or-set_same}
 use Rattle.std.proofs.lemmas.List.Elements.{All-cons, All-append}
-use Rattle.mq_blocks.specs.Drive.{PortState, AreFrom, depth, staged_end, after_stage, after_flush, after_ring, after_done, after_failed}
+use Rattle.mq_blocks.specs.Drive.{PortState, AreFrom, depth, staged_end, after_stage, after_ring, after_done, after_failed, after_begin, after_end}
 use Rattle.mq_blocks.specs.declared.command.Command.{Command}
+use Rattle.mq_blocks.specs.declared.command.HomeWrite.{HomeWrite}
+use Rattle.mq_drive.specs.Steps.{Fault, HomeGives}
+use Rattle.mq_drive.specs.declared.port.Off.{Off}
+use Rattle.mq_drive.specs.declared.port.HomeStep.{HomeStep}
+use Rattle.mq_drive.specs.declared.port.HomeStep.TheVariants as home
 use Rattle.mq_drive.proofs.Commands.{all_remove, all_at}
 use Rattle.mq_pmr.specs.Queue.{Fits, Kept, times, waiting, one_unless, AreNamed}
 use Rattle.mq_pmr.specs.Rungs.{AreEnds, TellsDone, is_clear, are_from}
@@ -21,7 +26,7 @@ apart_slots : (a b : ℕ) → a < b → b < a + 1024 → a % depth ≢ b % depth
 apart_slots a b less near same = omega (arith, less, near, same)
 
 -- so have any two of those from a count on
-other_slots : (low m n : ℕ) → low ≤ m → low ≤ n → m < low + 1024 → n < low + 1024 → m ≢ n → m % depth ≢ n % depth
+pub other_slots : (low m n : ℕ) → low ≤ m → low ≤ n → m < low + 1024 → n < low + 1024 → m ≢ n → m % depth ≢ n % depth
 other_slots low m n m_low n_low m_high n_high other same = elim (cases_lt m n) [
   | inl less ↦ apart_slots m n less (omega (arith, m_low, n_high)) same
   | inr more ↦ apart_slots n m (omega (arith, more, other)) (omega (arith, n_low, m_high)) (sym same)
@@ -213,6 +218,41 @@ fits_failed s k i c fits is =
       named_posted = all_remove (λ d. tx_in k.slots (d.count % depth) ≡ d.tx) i s.posted fits.named_posted;
       staged = fits.staged;
     }
+
+-- ---- home writes
+
+fits_homes : (s : PortState) (k : Kept) (blocks : List (Option (List ℕ))) (certain : List Bool) (begun : List HomeWrite) (begins : ℕ) → Fits s k
+    → Fits (record s { blocks = blocks; certain = certain; begun = begun; begins = begins }) k
+fits_homes s k blocks certain begun begins fits = record {
+  queue = fits.queue;
+  ring = fits.ring;
+  end = fits.end;
+  head = fits.head;
+  stored_head = fits.stored_head;
+  heads = fits.heads;
+  stored = fits.stored;
+  done = fits.done;
+  passed = fits.passed;
+  room = fits.room;
+  below = fits.below;
+  within = fits.within;
+  above = fits.above;
+  pending = fits.pending;
+  named_pending = fits.named_pending;
+  named_posted = fits.named_posted;
+  staged = fits.staged;
+}
+
+fits_as : (s new t : PortState) (k : Kept) → new ≡ record s { blocks = t.blocks; certain = t.certain; begun = t.begun; begins = t.begins } → Fits s k → Fits new k
+fits_as s new t k is fits = subst (λ (u : PortState). Fits u k) (sym is) (fits_homes s k t.blocks t.certain t.begun t.begins fits)
+
+pub home_fits : (s new : PortState) (faults more : List Fault) (lba : ℕ) (block : List ℕ) (r : Result HomeStep Off) (k : Kept) → HomeGives s faults lba block r new more → Fits s k → Fits new k
+home_fits s new faults more lba block (Ok home.Done) k gives fits = fits_as s new (after_end (after_begin s lba block) lba block) k gives.0 fits
+home_fits s new faults more lba block (Ok (home.Error status)) k gives fits = fits_as s new (after_begin s lba block) k gives.1 fits
+home_fits s new faults more lba block (Err x) k gives fits = ⊎_elim
+    (λ same. subst (λ (u : PortState). Fits u k) (sym same) fits)
+    (λ begun. fits_as s new (after_begin s lba block) k begun fits)
+    gives.0
 
 -- ---- the head
 

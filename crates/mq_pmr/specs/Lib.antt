@@ -3,3 +3,4 @@ pub mod Queue
 pub mod Rungs
 pub mod Runs
 pub mod Slots
+pub mod Written

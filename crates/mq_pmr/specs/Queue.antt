@@ -1,7 +1,10 @@
 -- What a queue keeps, and how it stands to its port.
-use Rattle.std.specs.Prelude.{◌≡◌, ◌<◌, ◌≤◌, ℕ, suc, zero, ◌+◌, ◌-◌, ◌%◌, Bool, true, false, List, [], ◌∷◌, All, length, IsSome, Option, Some, nat_eq, if◌then◌else◌}
+use Rattle.std.specs.Prelude.{◌≡◌, ◌<◌, ◌≤◌, ℕ, ◌+◌, ◌%◌, Bool, true, false, List, [], ◌∷◌, All, length, IsSome, Option, Some, nat_eq, if◌then◌else◌}
 use Rattle.mq_blocks.specs.Drive.{PortState, depth, staged_end, after_flush, after_store_head}
 use Rattle.mq_blocks.specs.declared.command.Command.{Command}
+use Rattle.mq_blocks.specs.declared.geometry.Geometry.{Geometry}
+use Rattle.mq_drive.specs.Start.{IsPortOf}
+use Rattle.mq_drive.specs.declared.role.Role.TheVariants.{Queue}
 use Rattle.mq_pmr.specs.Slots.{done_at, tx_in}
 use Rattle.mq_pmr.specs.declared.rungs.Rung.{Rung}
 use Rattle.mq_pmr.specs.declared.slots.Slot.{Slot}
@@ -54,6 +57,11 @@ pub record Fits (s : PortState) (k : Kept) : Type 0 where
   pub named_pending : AreNamed k.slots s.pending
   pub named_posted : AreNamed k.slots s.posted
   pub staged : (tx : ℕ) → k.staged ≡ Some tx → s.doorbell < k.end
+
+-- it is the port of this queue, and what is flushed was staged
+pub record IsRingOf (g : Geometry) (q : ℕ) (s : PortState) : Type 0 where
+  pub port : IsPortOf g (Queue q) s
+  pub flushed : s.flushed_end ≤ staged_end s
 
 -- the head is where it was, or stored anew and flushed
 abbrev pub after_head : PortState → ℕ → PortState

@@ -7,9 +7,10 @@ ghost use Rattle.mq_drive.specs.Steps.{OffCause, HomeGives};
 ghost use Rattle.mq_drive.specs.declared.role.Role.TheVariants.{Queue};
 ghost use Rattle.mq_nvme.specs.Entry.{entry_of};
 ghost use Rattle.mq_pmr.specs.Answers.{TookGives};
-ghost use Rattle.mq_pmr.specs.Queue.{Fits, after_head};
+ghost use Rattle.mq_pmr.specs.Queue.{Fits, IsRingOf, after_head};
 ghost use Rattle.mq_pmr.specs.Rungs.{AreEnds, AreEnds-prop, is_clear, last_leading, left_after};
 ghost use Rattle.mq_pmr.specs.Runs.{AreOwn, after_some};
+ghost use Rattle.mq_pmr.specs.Written.{IsWritten};
 
 use crate::Took;
 use crate::rungs::Rung;
@@ -26,6 +27,8 @@ use std::collections::VecDeque;
 #[derive(Drop)]
 pub struct PmrQueue<P: Port> {
     port: P,
+    geometry: Geometry,
+    queue: QueueNo,
     slots: Vec<Slot>,
     // the count of the next entry
     end: u64,
@@ -42,7 +45,9 @@ pub struct PmrQueue<P: Port> {
     // the number of the transaction that is staged whole and not rung
     staged: Option<u64>,
     ghost fits: { Fits (P.state port) (record { slots = slots.items; end = end; head = head; stored_head = stored_head; passed = passed; done = done; rung = rung.items; staged = staged }) },
+    ghost own: { IsRingOf geometry queue (P.state port) },
     ghost ends: { AreEnds done.end (P.state port).doorbell rung.items } by { AreEnds-prop done.end (P.state port).doorbell rung.items },
+    ghost written: { IsWritten (P.state port) slots.items done.end end },
     ghost reserved: { 1023 ≤ deque_capacity rung },
 }
 
@@ -72,7 +77,9 @@ impl<P: Port> PmrQueue<P> {
         requires pending { (P.state port).pending ≡ [] }
         requires posted { (P.state port).posted ≡ [] }
         requires failed { (P.state port).failed ≡ [] }
+        requires flushed { (P.state port).flushed_end ≤ (P.state port).doorbell }
         ensures port { IfOk result (λ q. q.port ≡ port) }
+        ensures own { IfOk result (λ q. (q.geometry ≡ geometry) × (q.queue ≡ queue)) }
         ensures done { IfOk result (λ q. q.done ≡ record { tx = 0; end = (P.state port).doorbell }) }
         ensures rung { IfOk result (λ q. q.rung.items ≡ []) }
         ensures err { IfErr result (λ e. e.0 ≡ port) }
@@ -84,6 +91,8 @@ impl<P: Port> PmrQueue<P> {
         let doorbell = port.doorbell();
         Ok(PmrQueue {
             port,
+            geometry,
+            queue,
             slots,
             end: doorbell,
             head: doorbell,
@@ -96,6 +105,20 @@ impl<P: Port> PmrQueue<P> {
             rung,
             staged: None,
         })
+    }
+
+    /// The geometry of the drive.
+    pub fn geometry(&self) -> Geometry
+        ensures { result ≡ self.now.geometry }
+    {
+        self.geometry
+    }
+
+    /// The queue of the drive that it is.
+    pub fn queue(&self) -> QueueNo
+        ensures { result ≡ self.now.queue }
+    {
+        self.queue
     }
 
     /// How many entries may be staged.
@@ -124,6 +147,7 @@ impl<P: Port> PmrQueue<P> {
         ensures done { self.new.done ≡ self.old.done }
         ensures rung { self.new.rung.items ≡ self.old.rung.items }
         ensures staged { self.new.staged ≡ self.old.staged }
+        ensures own { (self.new.geometry ≡ self.old.geometry) × (self.new.queue ≡ self.old.queue) }
     {
         let entry = write_of(&WriteReq {
             tx,
@@ -161,6 +185,7 @@ impl<P: Port> PmrQueue<P> {
         ensures done { self.new.done ≡ self.old.done }
         ensures rung { self.new.rung.items ≡ self.old.rung.items }
         ensures items { items.new.items ≡ [] }
+        ensures own { (self.new.geometry ≡ self.old.geometry) × (self.new.queue ≡ self.old.queue) }
     {
         items.reverse();
         let answer = self.stage_reversed(tx.0, items);
@@ -190,6 +215,7 @@ impl<P: Port> PmrQueue<P> {
         ensures staged { OnOk result (self.new.staged ≡ Some tx) }
         ensures done { self.new.done ≡ self.old.done }
         ensures rung { self.new.rung.items ≡ self.old.rung.items }
+        ensures own { (self.new.geometry ≡ self.old.geometry) × (self.new.queue ≡ self.old.queue) }
     {
         self.staged = None;
         'staging: while !items.is_empty() {
@@ -215,6 +241,7 @@ impl<P: Port> PmrQueue<P> {
         ensures same { OnErr result (self.new.rung.items ≡ self.old.rung.items) }
         ensures staged { OnErr result (self.new.staged ≡ self.old.staged) }
         ensures done { self.new.done ≡ self.old.done }
+        ensures own { (self.new.geometry ≡ self.old.geometry) × (self.new.queue ≡ self.old.queue) }
     {
         self.flush()?;
         self.port.ring(self.end)?;
@@ -234,6 +261,7 @@ impl<P: Port> PmrQueue<P> {
         ensures rung { self.new.rung ≡ self.old.rung }
         ensures staged { self.new.staged ≡ self.old.staged }
         ensures passed { self.new.passed ≡ self.old.passed }
+        ensures own { (self.new.geometry ≡ self.old.geometry) × (self.new.queue ≡ self.old.queue) }
     {
         self.port.flush()?;
         self.head = self.stored_head;
@@ -247,6 +275,7 @@ impl<P: Port> PmrQueue<P> {
         ensures done { self.new.done ≡ self.old.done }
         ensures rung { self.new.rung.items ≡ self.old.rung.items }
         ensures staged { self.new.staged ≡ self.old.staged }
+        ensures own { (self.new.geometry ≡ self.old.geometry) × (self.new.queue ≡ self.old.queue) }
     {
         match self.port.step()? {
             Step::Idle => Ok(Took::Idle),
@@ -278,6 +307,7 @@ impl<P: Port> PmrQueue<P> {
         ensures off { OnErr result ((P.state self.new.port ≡ P.state self.old.port)
             ⊎ (P.state self.new.port ≡ after_store_head (P.state self.old.port) self.new.done.end)) }
         ensures cause { OffCause result (P.faults self.old.port) (P.faults self.new.port) }
+        ensures own { (self.new.geometry ≡ self.old.geometry) × (self.new.queue ≡ self.old.queue) }
     {
         self.pass();
         if self.head != self.done.end {
@@ -295,6 +325,7 @@ impl<P: Port> PmrQueue<P> {
         ensures rung { self.new.rung.items ≡ left_after
             (is_clear (P.state self.old.port)) self.old.rung.items }
         ensures staged { self.new.staged ≡ self.old.staged }
+        ensures own { (self.new.geometry ≡ self.old.geometry) × (self.new.queue ≡ self.old.queue) }
     {
         pass_done(
             &self.slots,
@@ -313,6 +344,7 @@ impl<P: Port> PmrQueue<P> {
         ensures done { self.new.done ≡ self.old.done }
         ensures rung { self.new.rung.items ≡ self.old.rung.items }
         ensures staged { self.new.staged ≡ self.old.staged }
+        ensures own { (self.new.geometry ≡ self.old.geometry) × (self.new.queue ≡ self.old.queue) }
     {
         let head = self.done.end;
         self.port.store_head(head)?;
@@ -328,13 +360,15 @@ impl<P: Port> PmrQueue<P> {
         ensures done { self.new.done ≡ self.old.done }
         ensures rung { self.new.rung.items ≡ self.old.rung.items }
         ensures staged { self.new.staged ≡ self.old.staged }
+        ensures own { (self.new.geometry ≡ self.old.geometry) × (self.new.queue ≡ self.old.queue) }
     {
         self.port.write_home(lba, block)
     }
 
     /// The port.
     pub fn into_port(self) -> P
-        ensures { result ≡ self.port }
+        ensures port { result ≡ self.port }
+        ensures own { IsPortOf self.geometry (Queue self.queue) (P.state result) }
     {
         self.port
     }

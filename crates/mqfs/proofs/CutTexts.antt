@@ -7,6 +7,7 @@ use Rattle.mq_drive.specs.Emu.{emu_state, emu_faults, drawn_by}
 use Rattle.mq_drive.specs.Fuse.{above, below}
 use Rattle.mq_drive.specs.Steps.{Fault, PowerOff, CommandError, Gains}
 use Rattle.mq_drive.specs.declared.emu.EmuPort.{EmuPort}
+use Rattle.mq_drive.proofs.Happening.{happened-alone}
 use Rattle.mq_drive.proofs.Faults.{off_above, off_unlimited, no_error, command_error_is_none}
 use Rattle.mqfs.specs.Blocks.{output_of}
 use Rattle.mqfs.specs.Causes.{HasTextCause}
@@ -44,7 +45,7 @@ happened-events : (p : EmuPort) (e l : ℕ) → (emu_state p).begins ≡ 0 → (
 happened-events p e l none counts small is =
     let same = p.device.power.counted l is in
     let few = p.device.power.seat.apart l in
-    let all = counted-small 0 e (below l (drawn_by p)) (omega arith) (sym counts ∙ sym (p.device.events_counted none) ∙ same) (omega (arith, small, few)) in
+    let all = counted-small 0 e (below l (drawn_by p)) (omega arith) (sym counts ∙ sym (happened-alone p.device none) ∙ same) (omega (arith, small, few)) in
     omega (arith, all)
 
 -- all lines stand where all of them were committed

@@ -1,5 +1,4 @@
-use Rattle.std.proofs.Common.{◌≡◌, ◌≤◌, ◌<◌, ℕ, false, ◌∷◌, ◌∙◌, ap, sym, subst, arith, rules}
-use Rattle.std.specs.VecDeque.{deque_capacity}
+use Rattle.std.proofs.Common.{◌∷◌, ◌∙◌, ap, sym, arith, rules}
 use Rattle.mq_pmr.proofs.Walking.{onward_next, onward_stops, first_end}
 use Rattle.mq_pmr.proofs.walk.pass_done.Goals as goal
 

@@ -19,6 +19,7 @@ use Rattle.mq_drive.proofs.Executing.{next_is, same_counts, refused_counts, refu
 use Rattle.mq_drive.proofs.Faults.{off_gains, refused_step, error_gains}
 use Rattle.mq_drive.proofs.Moves.{same_state, done_at, failed_at}
 use Rattle.mq_drive.proofs.Tearing.{IsOwn}
+use Rattle.mq_drive.proofs.Happening.{happened-event}
 use Rattle.mq_drive.proofs.device.DevicePort.step.Goals as goal
 
 abbrev Own : Device → ℕ → Command → Type 0
@@ -167,3 +168,13 @@ returns-clause-counts c = (
 
 pub returns-clause-tickets : goal.returns-clause-tickets
 returns-clause-tickets c = c.in_ok-event.ensures.ticket
+
+pub invariant_of-self-then-next-clause-events_counted : goal.invariant_of-self-then-next-clause-events_counted
+invariant_of-self-then-next-clause-events_counted c =
+    let p = c.args.self.now in
+    happened-event p.power.happened c.event.new.self.happened p.events c.bump-self-2.result p.begins p.power.offs p.under_way p.under_way_last c.in_ok-event.ensures.first p.events_counted c.in_ok-event.ensures.happens.0 c.bump-self-2.ensures
+
+pub invariant_of-self-2-clause-events_counted : goal.invariant_of-self-2-clause-events_counted
+invariant_of-self-2-clause-events_counted c =
+    let p = c.args.self.now in
+    happened-event p.power.happened c.event.new.self.happened p.events c.bump-self-2.result p.begins p.power.offs p.under_way p.under_way_last c.in_ok-event.ensures.first p.events_counted c.in_ok-event.ensures.happens.0 c.bump-self-2.ensures

@@ -17,6 +17,7 @@ use Rattle.mq_drive.proofs.Faults.{off_gains, refused_home, error_gains}
 use Rattle.mq_drive.proofs.Moves.{set-set, same_state, begun_home, begun_failed, begun_open}
 use Rattle.mq_drive.proofs.Owned.{IsWithin, within_homes}
 use Rattle.mq_drive.proofs.Tearing.{IsOwn}
+use Rattle.mq_drive.proofs.Happening.{happened-begin, happened-home}
 use Rattle.mq_drive.proofs.device.DevicePort.write_home.Goals as goal
 
 abbrev AllOwn : Device → ℕ → List Command → Type 0
@@ -170,3 +171,18 @@ returns-clause-tickets c = (
   c.in_ok-event.ensures.ticket,
   subst (λ (f : FuseName). Happens f.limit (tickets_of c.event.new.self.seat) (tickets_of c.event-2.new.self.seat)) c.event.ensures.fuse c.in_default.ensures.ticket,
 )
+
+pub invariant_of-self-in-Err-clause-events_counted : goal.invariant_of-self-in-Err-clause-events_counted
+invariant_of-self-in-Err-clause-events_counted c =
+    let p = c.args.self.now in
+    happened-begin p.power.happened c.event-2.new.self.happened p.events p.begins c.bump-self.result p.power.offs p.under_way (record { lba = c.args.lba; block = c.args.block }) p.under_way_last c.in_ok-event.ensures.first p.events_counted (c.in-Err.ensures.refused.0 ∙ c.in_ok-event.ensures.happens.0) c.bump-self.ensures
+
+pub invariant_of-self-then-next-clause-events_counted : goal.invariant_of-self-then-next-clause-events_counted
+invariant_of-self-then-next-clause-events_counted c =
+    let p = c.args.self.now in
+    happened-home p.power.happened c.event.new.self.happened c.event-2.new.self.happened p.events p.begins c.bump-self.result p.power.offs p.under_way p.under_way_last c.in_ok-event.ensures.first p.events_counted c.in_ok-event.ensures.happens.0 c.in_default.ensures.happens.0 c.bump-self.ensures
+
+pub invariant_of-self-2-clause-events_counted : goal.invariant_of-self-2-clause-events_counted
+invariant_of-self-2-clause-events_counted c =
+    let p = c.args.self.now in
+    happened-home p.power.happened c.event.new.self.happened c.event-2.new.self.happened p.events p.begins c.bump-self.result p.power.offs p.under_way p.under_way_last c.in_ok-event.ensures.first p.events_counted c.in_ok-event.ensures.happens.0 c.in_default.ensures.happens.0 c.bump-self.ensures

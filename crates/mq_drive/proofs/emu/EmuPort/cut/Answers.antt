@@ -1,8 +1,9 @@
-use Rattle.std.proofs.Common.{◌<◌, sym, subst}
+use Rattle.std.proofs.Common.{◌<◌, sym, ◌∙◌, ap, subst}
 use Rattle.mq_drive.specs.Failures.{errors_of}
-use Rattle.mq_drive.specs.Fuse.{above}
+use Rattle.mq_drive.specs.Fuse.{above, below}
 use Rattle.mq_drive.specs.Seats.{tickets_of}
 use Rattle.mq_drive.proofs.Faults.{some_off, contains_first}
+use Rattle.mq_drive.proofs.Happening.{happened-is}
 use Rattle.mq_drive.proofs.emu.EmuPort.cut.Goals as goal
 
 pub returns-clause-off : goal.returns-clause-off
@@ -14,3 +15,7 @@ pub returns-clause-on : goal.returns-clause-on
 returns-clause-on c = λ l is over.
     contains_first c.args.self.device.power.offs (errors_of c.args.self.device.failure)
     (c.args.self.device.power.on l is (subst (λ s. 0 < above l (tickets_of s)) c.cut.ensures.seat over))
+
+pub returns-clause-homes : goal.returns-clause-homes
+returns-clause-homes c = λ l is.
+    ap (λ s. below l (tickets_of s)) c.cut.ensures.seat ∙ sym (c.args.self.device.power.counted l is) ∙ happened-is c.args.self.device

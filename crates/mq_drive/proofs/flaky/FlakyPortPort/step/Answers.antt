@@ -4,16 +4,16 @@ use Rattle.mq_blocks.specs.Drive.{PortState}
 use Rattle.mq_drive.proofs.Flaking.{step_under, step_ends, off_under, OneEnded}
 use Rattle.mq_drive.proofs.flaky.FlakyPortPort.step.Goals as goal
 
-pub returns-in_err-step : goal.returns-in_err-step
-returns-in_err-step g c =
+pub returns-in_err-step-clause-gives : goal.returns-in_err-step-clause-gives
+returns-in_err-step-clause-gives g c =
     let same = c.is_refused.ensures.no c.if-is_refused.false in
     let gives = c.in_err-step.ensures in
     let p = err_from_is_err_and c.from_residual.result c.from_residual.ensures.1 in
     let at = ap g.P.Port.state c.is_refused.ensures.port in
     rw p.1 ((λ none. gives.0 (ap (λ (s : PortState). s.posted) at ∙ none)), gives.1 ∙ at, off_under _ _ _ _ _ same (ap g.P.Port.faults c.is_refused.ensures.port) gives.2)
 
-pub returns : goal.returns
-returns g c =
+pub returns-clause-gives : goal.returns-clause-gives
+returns-clause-gives g c =
     let same = c.is_refused.ensures.no c.if-is_refused.false in
     step_under _ _ _ (Ok c.in_ok-step.step) _ _ _ _ _ same (ap g.P.Port.state c.is_refused.ensures.port) (ap g.P.Port.faults c.is_refused.ensures.port) c.in_ok-step.ensures
 

@@ -1,12 +1,16 @@
-use Rattle.std.proofs.Common.{◌≡◌, ◌≢◌, ◌≤◌, ◌<◌, ℕ, ◌%◌, List, refl, sym, ◌∙◌, ap, subst}
-use Rattle.mq_blocks.specs.Drive.{PortState, depth, after_done, after_failed}
-use Rattle.mq_drive.specs.Steps.{Fault, Gains, CommandError}
+use Rattle.std.proofs.Common.{Ok, ◌≡◌, ◌≢◌, ℕ, List, refl, sym, ◌∙◌, ap, subst, arith}
+use Rattle.mq_blocks.specs.Drive.{PortState, after_done}
+use Rattle.mq_drive.specs.declared.port.Step.TheVariants.{Done}
+use Rattle.mq_drive.specs.Steps.{Gains, CommandError}
 use Rattle.mq_nvme.specs.Completion.{status_of}
 use Rattle.mq_pmr.specs.Queue.{Fits, Kept}
 use Rattle.mq_pmr.specs.Slots.{tx_in}
 use Rattle.mq_pmr.specs.declared.slots.Slot.{Slot}
 use Rattle.mq_pmr.proofs.Completing.{slot_is, slot_low}
 use Rattle.mq_pmr.proofs.Fitting.{fits_done, fits_failed, is_posted, ends-along}
+use Rattle.mq_pmr.proofs.Owning.{step_ring}
+use Rattle.mq_pmr.specs.Written.{IsWritten}
+use Rattle.mq_pmr.proofs.Writing.{written_done, written_failed}
 use Rattle.mq_pmr.proofs.queue.PmrQueue.complete_one.Goals as goal
 
 pub invariant_of-self-then-status-ne0 : goal.invariant_of-self-then-status-ne0
@@ -21,6 +25,8 @@ invariant_of-self-then-status-ne0 g c =
     record {
       fits = subst (λ (s : PortState). Fits s kept) (sym now.0) (fits_failed old kept ends.at ends.command q.fits ends.posted);
       ends = ends-along old new q.done.end q.rung.items (ap (λ (s : PortState). s.doorbell) now.0) q.ends;
+      own = step_ring q.geometry q.queue old new (g.P.Port.faults q.port) (g.P.Port.faults c.step.new.self) (Ok (Done c.in-Done.completion)) ends q.own;
+      written = subst (λ (s : PortState). IsWritten s q.slots.items q.done.end q.end) (sym now.0) (written_failed old q.slots.items q.done.end q.end ends.at ends.command ends.posted q.written);
       reserved = q.reserved;
     }
 
@@ -66,6 +72,10 @@ invariant_of-self-in-Done g c =
           (subst (λ (l : List Slot). Fits (after_done old ends.at ends.command) (record kept { slots = l })) (sym slots)
           (fits_done old kept ends.at ends.command c.get-slot.result _ q.fits ends.posted slot refl));
       ends = ends-along old new q.done.end q.rung.items (ap (λ (s : PortState). s.doorbell) now.0) q.ends;
+      own = step_ring q.geometry q.queue old new (g.P.Port.faults q.port) (g.P.Port.faults c.step.new.self) (Ok (Done c.in-Done.completion)) ends q.own;
+      written = subst (λ (s : PortState). IsWritten s c.note_done.new.slots.items q.done.end q.end) (sym now.0)
+          (subst (λ (l : List Slot). IsWritten (after_done old ends.at ends.command) l q.done.end q.end) (sym slots)
+          (written_done old q.slots.items q.done.end q.end ends.at ends.command c.get-slot.result _ (let low = slot_low c.get-slot.result ends.command.count slot in let ring = q.fits.ring in omega (arith, low, ring)) refl q.written));
       reserved = q.reserved;
     }
 

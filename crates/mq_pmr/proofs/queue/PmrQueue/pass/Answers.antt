@@ -1,6 +1,6 @@
-use Rattle.std.proofs.Common.{◌≡◌, ◌≤◌, arith}
-use Rattle.std.specs.VecDeque.{deque_capacity}
+use Rattle.std.proofs.Common.{arith}
 use Rattle.mq_pmr.proofs.Fitting.{tells_done, fits_passed}
+use Rattle.mq_pmr.proofs.Writing.{written_passed}
 use Rattle.mq_pmr.proofs.queue.PmrQueue.pass.Goals as goal
 
 pub returns-clause-done : goal.returns-clause-done
@@ -20,5 +20,7 @@ invariant_of-self g c =
     record {
       fits = fits_passed _ _ c.pass_done.new.passed c.pass_done.new.done c.pass_done.new.rung.items old.fits walk.up walk.all walk.high walk.rises walk.low;
       ends = walk.ends;
+      own = old.own;
+      written = written_passed _ _ _ _ _ walk.rises old.written;
       reserved = let kept = c.pass_done.ensures.capacity in let was = old.reserved in omega (arith, kept, was);
     }

@@ -1,10 +1,13 @@
 use Rattle.std.proofs.Common.{◌≡◌, ◌≤◌, ◌<◌, ℕ, ◌+◌, ◌∷◌, [], ◌++◌, List, length, Option, Some, refl, sym, ◌∙◌, ap, subst, arith, rules}
-use Rattle.std.specs.VecDeque.{deque_len, deque_capacity}
-use Rattle.mq_blocks.specs.Drive.{PortState, staged_end, after_ring}
+use Rattle.std.specs.VecDeque.{deque_len}
+use Rattle.mq_blocks.specs.Drive.{PortState, after_ring}
 use Rattle.mq_pmr.specs.Queue.{Fits, Kept}
 use Rattle.mq_pmr.specs.Rungs.{AreEnds}
 use Rattle.mq_pmr.specs.declared.rungs.Rung.{Rung}
 use Rattle.mq_pmr.proofs.Fitting.{fits_rung, ends_more, length-ends}
+use Rattle.mq_pmr.proofs.Owning.{rung_ring}
+use Rattle.mq_pmr.specs.Written.{IsWritten}
+use Rattle.mq_pmr.proofs.Writing.{written_rung}
 use Rattle.mq_pmr.proofs.queue.PmrQueue.ring_once.Goals as goal
 
 pub add_rung-requires : goal.add_rung-requires
@@ -37,5 +40,7 @@ invariant_of-self-in-Some g c =
       fits = fits;
       ends = subst (λ (n : ℕ). AreEnds q.done.end n c.add_rung.new.rung.items) (sym at)
           (subst (AreEnds q.done.end q.end) (sym items) (ends_more q.done.end old.doorbell q.rung.items next staged q.ends));
+      own = rung_ring q.geometry q.queue old new rung q.own;
+      written = subst (λ (s : PortState). IsWritten s q.slots.items q.done.end q.end) (sym rung) (written_rung old q.slots.items q.done.end q.end q.written);
       reserved = let more = c.add_rung.ensures.capacity in let was = q.reserved in omega (arith, more, was);
     }

@@ -1,4 +1,4 @@
-use Rattle.std.proofs.Common.{◌≡◌, ◌≤◌, ◌<◌, ℕ, ◌+◌, ◌-◌, ◌%◌, List, false, refl, sym, ◌∙◌, ap, subst, arith}
+use Rattle.std.proofs.Common.{◌≡◌, ◌<◌, ℕ, ◌+◌, ◌%◌, List, sym, ◌∙◌, ap, subst, arith}
 use Rattle.mq_blocks.specs.Drive.{PortState, staged_end, after_stage, depth}
 use Rattle.mq_nvme.specs.Entry.{entry_of, tx_of, lba_of}
 use Rattle.mq_nvme.specs.declared.write.WriteReq.{WriteReq}
@@ -6,6 +6,9 @@ use Rattle.mq_nvme.proofs.Entries.{tx_of-entry, lba_of-entry}
 use Rattle.mq_pmr.specs.Queue.{Fits, Kept}
 use Rattle.mq_pmr.specs.declared.slots.Slot.{Slot}
 use Rattle.mq_pmr.proofs.Fitting.{fits_staged, ends-along}
+use Rattle.mq_pmr.proofs.Owning.{stage_ring}
+use Rattle.mq_pmr.specs.Written.{IsWritten}
+use Rattle.mq_pmr.proofs.Writing.{holds_new, written_staged}
 use Rattle.mq_pmr.proofs.queue.PmrQueue.stage_one.Goals as goal
 
 pub invariant_of-self-2 : goal.invariant_of-self-2
@@ -24,10 +27,18 @@ invariant_of-self-2 g c =
     let room : q.end < q.head + 1023 = let less = c.requires.room in omega (arith, less, head, end) in
     let fits = fits_staged old kept c.write_of-entry.result c.args.tx (lba_of c.write_of-entry.result) c.args.block q.fits room in
     let slots = c.note_staged.ensures in
+    let from : c.from.result ≡ lba_of c.write_of-entry.result = sym (ap lba_of c.write_of-entry.ensures.is ∙ lba_of-entry request) in
+    let entry : c.write_of-entry.result ≡ entry_of record { tx = c.args.tx; slot = staged_end old % depth; lba = lba_of c.write_of-entry.result; commit = c.args.commit } =
+    c.write_of-entry.ensures.is ∙ (λ i. entry_of record { tx = c.args.tx; slot = end i % 1024; lba = from i; commit = c.args.commit }) in
+    let held = holds_new old.staged (staged_end old) c.args.tx (lba_of c.write_of-entry.result) c.args.commit c.write_of-entry.result q.own.port.staged entry in
+    let written = written_staged old kept c.write_of-entry.result c.args.tx (lba_of c.write_of-entry.result) c.args.block q.fits room held q.written in
     record {
       fits = subst (λ (s : PortState). Fits s (record kept { slots = c.note_staged.new.slots.items; end = q.end + 1 })) (sym named)
           (subst (λ (l : List Slot). Fits (after_stage old c.write_of-entry.result c.args.tx (lba_of c.write_of-entry.result) c.args.block) (record kept { slots = l; end = q.end + 1 })) (sym slots) fits);
       ends = ends-along old new q.done.end q.rung.items (ap (λ (s : PortState). s.doorbell) moved) q.ends;
+      own = stage_ring q.geometry q.queue old new _ _ _ _ moved q.own;
+      written = subst (λ (s : PortState). IsWritten s c.note_staged.new.slots.items q.done.end (q.end + 1)) (sym named)
+          (subst (λ (l : List Slot). IsWritten (after_stage old c.write_of-entry.result c.args.tx (lba_of c.write_of-entry.result) c.args.block) l q.done.end (q.end + 1)) (sym slots) written);
       reserved = q.reserved;
     }
 

@@ -2,7 +2,7 @@ use Rattle.std.proofs.Common.{◌≡◌, ◌≢◌, ◌<◌, ◌≤◌, ℕ, suc
 use Rattle.std.proofs.lemmas.List.{length-reverse, get_or-set_other}
 use Rattle.std.proofs.lemmas.Result.{err_from_is_err_and}
 use Rattle.std.specs.Prelude.{◌==◌}
-use Rattle.mq_blocks.specs.Drive.{PortState, staged_end, after_stage, depth}
+use Rattle.mq_blocks.specs.Drive.{PortState, staged_end, depth}
 use Rattle.mq_nvme.specs.Entry.{entry_of}
 use Rattle.mq_pmr.specs.Runs.{Items, after_some, is_last, entry_at, AreOwn}
 use Rattle.mq_pmr.proofs.Staging.{Next, next, none_more, is_last_by_length, stays_staged, other_slot}
@@ -51,6 +51,7 @@ staging-preserved g c =
       no_fault = c.in_ok-stage_one.ensures.cause ∙ inv.no_fault;
       done = c.stage_one.ensures.done ∙ inv.done;
       rung = c.stage_one.ensures.rung ∙ inv.rung;
+      stays = (c.stage_one.ensures.own.0 ∙ inv.stays.0, c.stage_one.ensures.own.1 ∙ inv.stays.1);
     }
 
 pub returns-in_err-stage_one-clause-off : goal.returns-in_err-stage_one-clause-off

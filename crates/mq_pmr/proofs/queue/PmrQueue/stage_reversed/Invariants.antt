@@ -19,6 +19,7 @@ invariant-staging g l =
       no_fault : g.P.Port.faults l.self.port ≡ g.P.Port.faults l.fn.self.port;
       done : l.self.done ≡ l.fn.self.done;
       rung : l.self.rung.items ≡ l.fn.self.rung.items;
+      stays : (l.self.geometry ≡ l.fn.self.geometry) × (l.self.queue ≡ l.fn.self.queue);
     }
 
 abbrev pub decreases-staging : goal.decreases-staging
