@@ -6,10 +6,6 @@ mod event;
 mod laws;
 mod machine;
 mod port;
-#[cfg(test)]
-mod run_tests;
-#[cfg(test)]
-mod tests;
 
 pub use event::{CoreRefusal, Event};
 pub use laws::{every_run_is_lawful, starts};

@@ -10,8 +10,6 @@ mod journal;
 mod port_run;
 mod reference;
 mod scripts;
-#[cfg(test)]
-mod tests;
 
 pub use drive::{Drive, Refused};
 pub use entries::{Place, items_of};

@@ -2,8 +2,10 @@
 ghost use Rattle.std.specs.Prelude.{◌≡◌, IfOk};
 ghost use Rattle.mq_blocks.specs.Geometry.{queues_of, area_of, meta_of, zone_size};
 
-use crate::{Content, Core, Entry, Port};
+use crate::filled;
 use mq_blocks::{Geometry, GeometryRefusal, Lba, OutOfMemory, QueueNo, TxNo};
+use mq_core::{Content, Core, Entry, Port};
+use std::alloc::Global;
 use std::process::Abort;
 
 // Two queues: the home blocks are a metadata region of 5, and one block in each zone.
@@ -35,17 +37,25 @@ fn a_port_stages_and_rings(rt: HostRuntime) -> Result<(), OutOfMemory> {
     Ok(())
 }
 
-#[test]
-fn a_machine_starts(rt: HostRuntime) -> Result<(), OutOfMemory> {
-    let alloc = rt.alloc();
-    let geometry = small().expect(&rt, "a geometry");
+// The machine of that drive, where the second zone's block is taken.
+fn started(alloc: Global) -> Result<Option<Core>, OutOfMemory> {
+    let Ok(geometry) = small() else {
+        return Ok(None);
+    };
     let mut blocks = Vec::new(alloc);
     for _ in 0..6 {
         blocks.push(None)?;
     }
-    blocks.push(Some(Content(vec![in alloc; 7; 4096]?)))?;
-    assert_eq!(rt; blocks.len(), geometry.homes() as usize);
-    let core = Core::start(alloc, geometry, &blocks, TxNo(3))?;
+    blocks.push(Some(filled(alloc, 7)?))?;
+    if blocks.len() != geometry.homes() as usize {
+        return Ok(None);
+    }
+    Ok(Some(Core::start(alloc, geometry, &blocks, TxNo(3))?))
+}
+
+#[test]
+fn a_machine_starts(rt: HostRuntime) -> Result<(), OutOfMemory> {
+    let core = started(rt.alloc())?.expect(&rt, "a machine");
     core.is_lawful();
     Ok(())
 }
