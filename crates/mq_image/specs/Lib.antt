@@ -1,0 +1,4 @@
+pub mod Drives
+pub mod Faults
+pub mod File
+pub mod Places
