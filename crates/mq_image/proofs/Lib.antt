@@ -1,2 +1,6 @@
+pub mod Geometries
 pub mod Nexts
+pub mod Readings
+pub mod Refusals
 pub mod Spans
+pub mod Writings

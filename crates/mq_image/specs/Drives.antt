@@ -13,7 +13,7 @@ pub record IsDrive (x : DriveImage) : Type 0 where
   pub root : IsImageOf x.geometry Root (root_port x)
 
 -- the bytes are the file of this image
-pub record IsFile (x : DriveImage) (bytes : List ℕ) : Type 0 where
+pub record IsFile (x : DriveImage) (file : List ℕ) : Type 0 where
   pub drive : IsDrive x
   pub sized : All IsSized x.ports
-  pub bytes : bytes ≡ image_bytes x
+  pub bytes : file ≡ image_bytes x

@@ -2,3 +2,4 @@ pub mod Drives
 pub mod Faults
 pub mod File
 pub mod Places
+pub mod Reads

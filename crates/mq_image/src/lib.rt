@@ -5,9 +5,11 @@ mod fault;
 mod header;
 mod image;
 mod place;
+mod read;
 mod ring;
 mod write;
 
 pub use fault::FileFault;
 pub use image::DriveImage;
+pub use read::read_image;
 pub use write::write_image;

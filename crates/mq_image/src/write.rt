@@ -1,8 +1,9 @@
 // Writing the file of an image.
-ghost use Rattle.std.specs.Prelude.{◌≡◌, ◌≤◌, ◌<◌, ◌+◌, ◌*◌, ◌^◌, ◌++◌, ℕ, length, IfOk, is_some, take, drop};
+ghost use Rattle.std.specs.Prelude.{◌≡◌, ◌≤◌, ◌<◌, ◌+◌, ◌*◌, ◌^◌, ◌++◌, ℕ, length, IfOk, take, drop};
 ghost use Rattle.std.specs.List.{All, flat_map};
 ghost use Rattle.std.specs.Int.{to_le_bytes, w32, w64};
 ghost use Rattle.mq_blocks.specs.Geometry.{area_of};
+ghost use Rattle.mq_nvme.specs.Dwords.{dword_bytes};
 ghost use Rattle.mq_image.specs.Drives.{IsDrive};
 ghost use Rattle.mq_image.specs.File.{HasArea, all_blocks, areas, file_bytes, header_bytes, image_bytes, kept, namespace, one_of, record_bytes, record_count, records, ring_bytes, zones};
 
@@ -11,6 +12,7 @@ use crate::image::DriveImage;
 use crate::place::is_zeros;
 use mq_blocks::{Block, Geometry, OutOfMemory};
 use mq_drive::PortImage;
+use mq_nvme::Entry;
 use std::alloc::Global;
 
 /// The file of an image.
@@ -34,21 +36,19 @@ fn write_ports(
     requires size { length (namespace geometry queues.now root.now) ≤ 294912 }
     ensures { IfOk result (λ v. v.items ≡ file_bytes geometry queues.now root.now) }
 {
-    let count = count_ports(queues) + count_span(&root.blocks);
+    let count = count_ports(queues) + count_port(root);
     let length = HEADER + RING * queues.len() + 4 + RECORD * count as usize;
     let mut file = Vec::with_capacity(alloc, length)?;
     put_header(&mut file, geometry, root.base)?;
-    for port in queues {
-        put_ring(&mut file, port)?;
-    }
-    file.extend_from_slice(&count.to_le_bytes())?;
+    put_rings(&mut file, queues)?;
+    put_u32(&mut file, count)?;
     let meta = put_areas(&mut file, geometry, queues)?;
     let zones = put_span(&mut file, meta, &root.blocks)?;
     put_zones(&mut file, zones, geometry, queues)?;
     Ok(file)
 }
 
-// How many blocks of a port the file keeps.
+// How many blocks the file keeps.
 fn count_span(blocks: &[Option<Block>]) -> u32
     requires { length blocks.now < 2 ^ 32 }
     ensures is { result ≡ record_count blocks.now }
@@ -56,18 +56,33 @@ fn count_span(blocks: &[Option<Block>]) -> u32
 {
     let mut count = 0;
     for block in blocks {
-        count += u32::from(is_kept(block));
+        count += count_one(block);
     }
     count
 }
 
-fn is_kept(block: &Option<Block>) -> bool
-    ensures { result ≡ is_some (kept block.now) }
+fn count_one(block: &Option<Block>) -> u32
+    ensures is { result ≡ one_of (kept block.now) }
+    ensures most { result ≤ 1 }
 {
     match block {
-        Some(block) => !is_zeros(block.bytes()),
-        None => false,
+        Some(block) => {
+            if is_zeros(block.bytes()) {
+                0
+            } else {
+                1
+            }
+        }
+        None => 0,
     }
+}
+
+fn count_port(port: &PortImage) -> u32
+    requires { length port.now.blocks < 2 ^ 32 }
+    ensures is { result ≡ record_count port.now.blocks }
+    ensures most { result ≤ length port.now.blocks }
+{
+    count_span(&port.blocks)
 }
 
 fn count_ports(ports: &[PortImage]) -> u32
@@ -77,32 +92,67 @@ fn count_ports(ports: &[PortImage]) -> u32
 {
     let mut count = 0;
     for port in ports {
-        count += count_span(&port.blocks);
+        count += count_port(port);
     }
     count
+}
+
+fn put_bytes(file: &mut Vec<u8>, bytes: &[u8]) -> Result<(), OutOfMemory>
+    ensures { IfOk result (λ _. file.new.items ≡ file.old.items ++ bytes.now) }
+{
+    file.extend_from_slice(bytes)?;
+    Ok(())
+}
+
+fn put_u32(file: &mut Vec<u8>, number: u32) -> Result<(), OutOfMemory>
+    ensures { IfOk result (λ _. file.new.items ≡ file.old.items ++ to_le_bytes w32 number) }
+{
+    put_bytes(file, &number.to_le_bytes())
+}
+
+fn put_u64(file: &mut Vec<u8>, number: u64) -> Result<(), OutOfMemory>
+    ensures { IfOk result (λ _. file.new.items ≡ file.old.items ++ to_le_bytes w64 number) }
+{
+    put_bytes(file, &number.to_le_bytes())
 }
 
 fn put_header(file: &mut Vec<u8>, geometry: Geometry, base: u64) -> Result<(), OutOfMemory>
     ensures { IfOk result (λ _. file.new.items ≡ file.old.items ++ header_bytes geometry base) }
 {
-    file.extend_from_slice(MAGIC)?;
-    file.extend_from_slice(&1u32.to_le_bytes())?;
-    file.extend_from_slice(&geometry.queues().to_le_bytes())?;
-    file.extend_from_slice(&geometry.area().to_le_bytes())?;
-    file.extend_from_slice(&geometry.meta().to_le_bytes())?;
-    file.extend_from_slice(&geometry.zone().to_le_bytes())?;
-    file.extend_from_slice(&0u32.to_le_bytes())?;
-    file.extend_from_slice(&base.to_le_bytes())?;
+    put_bytes(file, MAGIC)?;
+    put_u32(file, 1)?;
+    put_u32(file, geometry.queues())?;
+    put_u32(file, geometry.area())?;
+    put_u32(file, geometry.meta())?;
+    put_u32(file, geometry.zone())?;
+    put_u32(file, 0)?;
+    put_u64(file, base)?;
     Ok(())
 }
 
 fn put_ring(file: &mut Vec<u8>, port: &PortImage) -> Result<(), OutOfMemory>
     ensures { IfOk result (λ _. file.new.items ≡ file.old.items ++ ring_bytes port.now) }
 {
-    file.extend_from_slice(&port.doorbell.to_le_bytes())?;
-    file.extend_from_slice(&port.head.to_le_bytes())?;
-    for entry in &port.slots {
-        file.extend_from_slice(&entry.to_bytes())?;
+    put_u64(file, port.doorbell)?;
+    put_u64(file, port.head)?;
+    put_slots(file, &port.slots)?;
+    Ok(())
+}
+
+fn put_slots(file: &mut Vec<u8>, slots: &[Entry]) -> Result<(), OutOfMemory>
+    ensures { IfOk result (λ _. file.new.items ≡ file.old.items ++ flat_map dword_bytes slots.now) }
+{
+    for entry in slots {
+        put_bytes(file, &entry.to_bytes())?;
+    }
+    Ok(())
+}
+
+fn put_rings(file: &mut Vec<u8>, queues: &[PortImage]) -> Result<(), OutOfMemory>
+    ensures { IfOk result (λ _. file.new.items ≡ file.old.items ++ flat_map ring_bytes queues.now) }
+{
+    for port in queues {
+        put_ring(file, port)?;
     }
     Ok(())
 }
@@ -117,8 +167,8 @@ fn put_record(file: &mut Vec<u8>, lba: u32, block: &Option<Block>) -> Result<(),
     if is_zeros(bytes) {
         return Ok(());
     }
-    file.extend_from_slice(&lba.to_le_bytes())?;
-    file.extend_from_slice(bytes)?;
+    put_u32(file, lba)?;
+    put_bytes(file, bytes)?;
     Ok(())
 }
 

@@ -1,7 +1,0 @@
-use Rattle.std.proofs.Common.{◌≡◌, ◌++◌, take}
-use Rattle.std.specs.List.{flat_map}
-use Rattle.mq_image.specs.File.{header_bytes, ring_bytes}
-use Rattle.mq_image.proofs.write.write_ports.Given as goal
-
-abbrev pub invariant-loop-port : goal.invariant-loop-port
-invariant-loop-port l = l.file.items ≡ l.initial.file.items ++ flat_map ring_bytes (take l.port-index l.queues)
