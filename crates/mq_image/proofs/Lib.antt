@@ -4,3 +4,4 @@ pub mod Readings
 pub mod Refusals
 pub mod Spans
 pub mod Writings
+pub mod Zones

@@ -1,9 +1,11 @@
 // Reading the file of an image.
-ghost use Rattle.std.specs.Prelude.{◌≡◌, ◌≢◌, ◌⊎◌, ◌<◌, ◌≤◌, ◌+◌, ◌++◌, ◌*◌, ℕ, None, Some, IfOk, IfErr, IsErrOf, MatchResult, length};
+ghost use Rattle.std.specs.Prelude.{◌≡◌, ◌≢◌, ◌⊎◌, ◌<◌, ◌≤◌, ◌+◌, ◌++◌, ◌*◌, ℕ, None, Some, IfOk, IfErr, IsErrOf, MatchResult, length, slice_index_or, slice_set};
 ghost use Rattle.mq_blocks.specs.Geometry.{queues_of, area_of, meta_of, zone_size, homes_of};
+ghost use Rattle.std.specs.List.{All};
 ghost use Rattle.mq_image.specs.Faults.{Finds, Refuses, fault_of};
+ghost use Rattle.mq_image.specs.File.{no_port};
 ghost use Rattle.mq_image.specs.Places.{IsInside, fault_left};
-ghost use Rattle.mq_image.specs.Reads.{AreAreasRead, IsAreaRead, IsPast};
+ghost use Rattle.mq_image.specs.Reads.{AreAreasRead, AreZonesRead, IsAreaPort, IsAreaRead, IsPast, with_zone};
 
 use crate::fault::FileFault;
 use crate::header::{HEADER, Header, RING, check_extra, namespace_size, read_count, read_header};
@@ -19,6 +21,13 @@ use std::alloc::Global;
 /// failed. Each block is copied once, and a block of zeros takes no memory.
 pub fn read_image(alloc: Global, bytes: &[u8]) -> Result<DriveImage, FileFault>
     ensures finds { MatchResult result (λ _. fault_of bytes.now ≡ None) (Refuses (fault_of bytes.now)) }
+    ensures exact { (e : FileFault) → fault_of bytes.now ≡ Some e → IsErrOf result e ⊎ IsErrOf result FileFault.OutOfMemory }
+{
+    read_file(alloc, bytes)
+}
+
+fn read_file(alloc: Global, bytes: &[u8]) -> Result<DriveImage, FileFault>
+    ensures { MatchResult result (λ _. fault_of bytes.now ≡ None) (Refuses (fault_of bytes.now)) }
 {
     let header = read_header(bytes)?;
     let count = read_count(bytes, header.geometry)?;
@@ -121,19 +130,31 @@ fn read_zones(
 ) -> Result<(), FileFault>
     requires inside { IsInside place.old file.now }
     requires few { length ports.old.items ≡ queues_of geometry }
+    requires areas { All (λ p. IsAreaPort geometry p) ports.old.items }
     requires more { place.old.lba + queues_of geometry * zone_size geometry ≤ place.old.size }
-    ensures { MatchResult result (λ _. IsPast file.now place.old place.new (queues_of geometry * zone_size geometry)) (Refuses (fault_left place.old file.now)) }
+    ensures { MatchResult result (λ _. AreZonesRead geometry file.now (queues_of geometry) place.old place.new ports.old.items ports.new.items) (Refuses (fault_left place.old file.now)) }
 {
     for queue in 0..ports.len() {
         let zone = place.span(alloc, file, geometry.zone(), 0)?;
-        add_zone(&mut ports[queue], zone)?;
+        add_zone(ports, queue, zone)?;
     }
     Ok(())
 }
 
-fn add_zone(port: &mut PortImage, zone: Vec<Option<Block>>) -> Result<(), FileFault>
-    ensures ring { (port.new.doorbell ≡ port.old.doorbell) × (port.new.head ≡ port.old.head) × (port.new.base ≡ port.old.base) × (port.new.slots ≡ port.old.slots) }
-    ensures blocks { IfOk result (λ _. port.new.blocks ≡ port.old.blocks ++ zone.items) }
+fn add_zone(
+    ports: &mut Vec<PortImage>,
+    queue: usize,
+    zone: Vec<Option<Block>>,
+) -> Result<(), FileFault>
+    requires { queue < length ports.old.items }
+    ensures ports { IfOk result (λ _. ports.new.items ≡ slice_set ports.old.items queue (with_zone (slice_index_or ports.old.items queue no_port) zone.items)) }
+    ensures refused { IfErr result (λ e. e ≡ FileFault.OutOfMemory) }
+{
+    extend_port(&mut ports[queue], zone)
+}
+
+fn extend_port(port: &mut PortImage, zone: Vec<Option<Block>>) -> Result<(), FileFault>
+    ensures port { IfOk result (λ _. port.new ≡ with_zone port.old zone.items) }
     ensures refused { IfErr result (λ e. e ≡ FileFault.OutOfMemory) }
 {
     let mut zone = zone;

@@ -1,7 +1,8 @@
-use Rattle.std.proofs.Common.{◌≡◌, ◌≤◌, ◌<◌, ◌∙◌, ◌+◌, ◌*◌, refl, sym, ap, arith}
+use Rattle.std.proofs.Common.{ℕ, subst, ◌≡◌, ◌≤◌, ◌<◌, ◌∙◌, ◌+◌, ◌*◌, refl, sym, ap, arith}
 use Rattle.std.proofs.Math.Nat.{mul-le-mul_right}
 use Rattle.std.proofs.lemmas.Result.{err_from_is_err_and}
 use Rattle.mq_blocks.specs.Geometry.{queues_of, area_of}
+use Rattle.mq_image.specs.Reads.{AreAreasRead}
 use Rattle.mq_image.proofs.Nexts.{refuses-along}
 use Rattle.mq_image.proofs.Readings.{areas-none, areas-more}
 use Rattle.mq_image.proofs.read.read_queues.Goals as goal
@@ -15,7 +16,7 @@ read_port-requires c =
     let l = v.span.lba in
     let z = v.span.size in
     let b = v.blocks in
-    let q = c.queues-2.ensures in
+    let q = c.queues-queue-end.ensures in
     let rings = c.requires.rings in
     let more = c.requires.more in
     let n : c.loop-queue.queue + 1 ≤ queues_of c.args.geometry = omega arith in
@@ -32,4 +33,4 @@ pub loop-queue-preserved : goal.loop-queue-preserved
 loop-queue-preserved c = areas-more _ _ _ _ _ _ _ _ _ c.in_ok-push.ensures.items c.loop-queue.invariant c.in_ok-read_port.ensures
 
 pub returns : goal.returns
-returns c = ?
+returns c = let q = c.queues-queue-end.ensures in let e : c.loop-queue.queue ≡ queues_of c.args.geometry = omega arith in subst (λ (n : ℕ). AreAreasRead c.args.geometry c.args.file.now n c.args.place.now c.loop-queue.place c.loop-queue.ports.items) e c.loop-queue.invariant
