@@ -1,6 +1,6 @@
 -- Which numbers are refused as a geometry.
-use Rattle.std.proofs.Common.{◌≡◌, ◌≤◌, ℕ, ◌+◌, ◌*◌, Bool, true, false, inl, inr, refl, sym, ap, subst, ◌∙◌, arith}
-use Rattle.std.specs.Prelude.{Option, Some, Result, Ok, Err, IsOk, IsErrOf, nat_le, ◌&&◌, ◌↔◌, if◌then◌else◌}
+use Rattle.std.proofs.Common.{◌≡◌, ℕ, ◌+◌, ◌*◌, inl, inr, ap}
+use Rattle.std.specs.Prelude.{Some, Result, Ok, Err, IsOk, IsErrOf, nat_le, ◌&&◌, ◌↔◌}
 use Rattle.std.proofs.lemmas.Bool.{cases_Bool, both_ways, and_from, and_parts, le-leb, leb-true}
 use Rattle.mq_blocks.specs.Geometry.{IsQueues, IsArea, AreHomes}
 use Rattle.mq_blocks.specs.declared.geometry.Geometry.{Geometry}

@@ -1,3 +1,4 @@
+pub mod Assemblies
 pub mod Geometries
 pub mod Nexts
 pub mod Readings

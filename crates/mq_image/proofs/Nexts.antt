@@ -1,6 +1,6 @@
 -- The next block of the namespace, read from the records that are left.
-use Rattle.std.proofs.Common.{get_or, inl, inr, subst, ◌≡◌, ℕ, zero, suc, ◌+◌, ◌-◌, ◌*◌, ◌^◌, ◌<◌, ◌≤◌, List, [], ◌∷◌, ◌++◌, length, take, drop, Bool, true, false, refl, sym, ap, ◌∙◌, append_assoc, arith, length-drop}
-use Rattle.std.specs.Prelude.{Option, Some, None, nat_lt, nat_le, ◌||◌, if◌then◌else◌}
+use Rattle.std.proofs.Common.{get_or, inl, inr, subst, ◌≡◌, ℕ, zero, suc, ◌+◌, ◌-◌, ◌*◌, ◌<◌, ◌≤◌, List, ◌++◌, length, take, drop, true, false, refl, sym, ap, ◌∙◌, arith, length-drop}
+use Rattle.std.specs.Prelude.{Option, Some, None, nat_lt, nat_le, ◌||◌}
 use Rattle.std.specs.Int.{to_le_bytes, w32}
 use Rattle.std.proofs.lemmas.Bool.{cases_lt, le-ltb, lt-leb, lt-ltb, le-leb, or_from, or_left, or_right}
 use Rattle.std.proofs.lemmas.List.{length-replicate, length-take-le}
@@ -8,8 +8,8 @@ use Rattle.mq_blocks.specs.Blocks.{zeros}
 use Rattle.mq_blocks.specs.Windows.{number_at, window}
 use Rattle.mq_blocks.proofs.Readings.{bytes-number_at_4, window-add}
 use Rattle.mq_image.specs.Faults.{Refuses, record_fault}
-use Rattle.mq_image.specs.File.{is_blank, kept, record_bytes}
-use Rattle.mq_image.specs.Places.{IsInside, IsNext, fault_left, rest_of}
+use Rattle.mq_image.specs.File.{is_blank}
+use Rattle.mq_image.specs.Places.{IsInside, IsNext, fault_left}
 use Rattle.mq_image.specs.declared.fault.FileFault.{FileFault}
 use Rattle.mq_image.specs.declared.fault.FileFault.TheVariants.{Order, Zero}
 use Rattle.mq_image.specs.declared.place.Place.{Place}

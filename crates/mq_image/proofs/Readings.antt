@@ -1,13 +1,12 @@
 -- Ports read from a file, one behind another.
-use Rattle.std.proofs.Common.{get_or, ◌≡◌, ℕ, add-zero, ◌+◌, ◌*◌, ◌^◌, ◌<◌, ◌≤◌, List, [], ◌∷◌, ◌++◌, length, refl, sym, ap, ◌∙◌, arith, length-append}
+use Rattle.std.proofs.Common.{get_or, ◌≡◌, ℕ, add-zero, ◌+◌, ◌*◌, ◌<◌, ◌≤◌, List, [], ◌∷◌, ◌++◌, length, refl, sym, ap, ◌∙◌, arith, length-append}
 use Rattle.std.specs.Prelude.{Option}
 use Rattle.std.specs.Int.{to_le_bytes, w64}
-use Rattle.std.specs.List.{All, flat_map}
+use Rattle.std.specs.List.{flat_map}
 use Rattle.std.proofs.lemmas.List.{append-nil, length_push}
 use Rattle.std.proofs.lemmas.List.Concat.{flat_map-append}
 use Rattle.std.proofs.lemmas.List.Elements.{All-push}
 use Rattle.mq_blocks.specs.Drive.{PortImage}
-use Rattle.mq_blocks.specs.Geometry.{area_of}
 use Rattle.mq_blocks.specs.Windows.{number_at, window}
 use Rattle.mq_blocks.specs.declared.geometry.Geometry.{Geometry}
 use Rattle.mq_blocks.proofs.Readings.{bytes-number_at_8, window-add}

@@ -3,7 +3,7 @@ use Rattle.std.proofs.Common.{◌≡◌, ◌⊎◌, ◌<◌, ◌+◌, ◌*◌, L
 use Rattle.std.specs.Prelude.{Option, Some, None, Result, Ok, Err, IsErrOf, MatchResult}
 use Rattle.mq_blocks.specs.Geometry.{queues_of, area_of, homes_of}
 use Rattle.mq_blocks.specs.declared.geometry.Geometry.{Geometry}
-use Rattle.mq_image.specs.Faults.{IsGeometryIn, Refuses, or_then, header_fault, length_fault, block_fault, extra_fault, record_fault, size_in, count_in, blocks_at, blocks_end, fault_of}
+use Rattle.mq_image.specs.Faults.{IsGeometryIn, Refuses, header_fault, length_fault, block_fault, extra_fault, record_fault, size_in, count_in, blocks_at, blocks_end, fault_of}
 use Rattle.mq_image.specs.Places.{fault_left}
 use Rattle.mq_image.specs.Reads.{IsPast}
 use Rattle.mq_image.specs.declared.place.Place.{Place}

@@ -1,11 +1,10 @@
 -- Blocks of the namespace, one behind another.
-use Rattle.std.proofs.Common.{◌≡◌, ℕ, add-zero, ◌+◌, ◌*◌, ◌<◌, List, [], ◌∷◌, ◌++◌, length, refl, sym, ap, ◌∙◌, append_assoc, arith, length-append}
-use Rattle.std.specs.Prelude.{Option, Some, None, map}
-use Rattle.std.specs.List.{All}
+use Rattle.std.proofs.Common.{◌≡◌, ℕ, add-zero, ◌+◌, List, [], ◌∷◌, ◌++◌, length, refl, sym, ap, ◌∙◌, append_assoc, arith, length-append}
+use Rattle.std.specs.Prelude.{Option, map}
 use Rattle.std.proofs.lemmas.List.{append-nil, map-append}
 use Rattle.std.proofs.lemmas.List.Elements.{All-append, All-cons, All-nil}
 use Rattle.mq_image.specs.File.{HasBytes, kept, one_of, record_bytes, record_count, records}
-use Rattle.mq_image.specs.Places.{IsInside, IsNext, IsSpan, fault_left, rest_of}
+use Rattle.mq_image.specs.Places.{IsInside, IsNext, IsSpan, rest_of}
 use Rattle.mq_image.specs.declared.place.Place.{Place}
 
 pub records-append : (lba : ℕ) (bs cs : List (Option (List ℕ))) → records lba (bs ++ cs) ≡ records lba bs ++ records (lba + length bs) cs

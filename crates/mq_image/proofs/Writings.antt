@@ -1,10 +1,10 @@
 -- The bytes of a file, part by part.
-use Rattle.std.proofs.Common.{get_or, ◌≡◌, ℕ, zero, suc, add-zero, zero-add, ◌+◌, ◌*◌, ◌<◌, ◌≤◌, List, [], ◌∷◌, ◌++◌, length, take, drop, refl, sym, ap, ◌∙◌, append_assoc, arith, length-append}
-use Rattle.std.specs.Prelude.{Option, Some, None}
+use Rattle.std.proofs.Common.{get_or, ◌≡◌, ℕ, suc, zero-add, ◌+◌, ◌*◌, ◌<◌, ◌≤◌, List, [], ◌∷◌, ◌++◌, length, take, drop, refl, sym, ap, ◌∙◌, append_assoc, arith, length-append}
+use Rattle.std.specs.Prelude.{Option}
 use Rattle.std.specs.Int.{to_le_bytes, w32, w64}
 use Rattle.std.specs.List.{All, flat_map}
 use Rattle.std.proofs.Math.Nat.{mul-le-mul_right}
-use Rattle.std.proofs.lemmas.List.{append-nil, get_or-take, get_or_default, length-take-le, take_more, take-append-drop, length-drop}
+use Rattle.std.proofs.lemmas.List.{append-nil, get_or-take, get_or_default, length-take-le, take_more, take-append-drop}
 use Rattle.std.proofs.lemmas.List.Concat.{flat_map-append}
 use Rattle.std.proofs.lemmas.List.Elements.{All-head, All-tail}
 use Rattle.std.proofs.lemmas.List.Folds.{length-flat_map-take}
@@ -182,9 +182,9 @@ drive-sized x root h e =
     let n : length (take (queues_of x.geometry) x.ports) ≡ queues_of x.geometry = length-take-le _ x.ports (omega arith) in
     let last : root ≡ root_port x = e ∙ get_or_default x.ports (queues_of x.geometry) root no_port (omega arith) in
     namespace-sized x.geometry (take (queues_of x.geometry) x.ports) root n
-    (λ k d l. 
-      let low : k < queues_of x.geometry = omega arith in
-      let inside : k < length x.ports = omega arith in
-      let is : get_or (take (queues_of x.geometry) x.ports) k d ≡ get_or x.ports k no_port = get_or-take (queues_of x.geometry) x.ports k d low ∙ get_or_default x.ports k d no_port inside in
-      ap (λ (p : PortImage). length p.blocks) is ∙ (h.queues k low).blocks)
+    (λ k d l.
+    let low : k < queues_of x.geometry = omega arith in
+    let inside : k < length x.ports = omega arith in
+    let is : get_or (take (queues_of x.geometry) x.ports) k d ≡ get_or x.ports k no_port = get_or-take (queues_of x.geometry) x.ports k d low ∙ get_or_default x.ports k d no_port inside in
+    ap (λ (p : PortImage). length p.blocks) is ∙ (h.queues k low).blocks)
     (ap (λ (p : PortImage). length p.blocks) last ∙ h.root.blocks ∙ zero-add (meta_of x.geometry))

@@ -3,11 +3,11 @@ use Rattle.std.proofs.Common.{get_or, set, ◌≡◌, ◌≢◌, ℕ, zero, suc,
 use Rattle.std.specs.Prelude.{Option}
 use Rattle.std.specs.List.{All, flat_map}
 use Rattle.std.proofs.lemmas.Bool.{cases_eq}
-use Rattle.std.proofs.lemmas.List.{append-nil, drop_all, drop_at, take_all, take_at, set-get_or, length-set, get_or_default}
+use Rattle.std.proofs.lemmas.List.{append-nil, drop_all, drop_at, take_all, take_at, set-get_or, length-set}
 use Rattle.mq_blocks.specs.Drive.{PortImage}
 use Rattle.mq_blocks.specs.Geometry.{area_of, zone_size}
 use Rattle.mq_blocks.specs.declared.geometry.Geometry.{Geometry}
-use Rattle.mq_image.specs.File.{all_blocks, areas, no_port, ring_bytes, zones}
+use Rattle.mq_image.specs.File.{no_port, ring_bytes, zones}
 use Rattle.mq_image.specs.Places.{IsInside, IsSpan}
 use Rattle.mq_image.specs.Reads.{AreZonesRead, IsAreaPort, IsQueuePort, with_zone}
 use Rattle.mq_image.specs.declared.place.Place.{Place}

@@ -1,12 +1,12 @@
 -- The image of a drive as a file. All numbers stand with the least byte first.
-use Rattle.std.specs.Prelude.{◌≡◌, ◌<◌, ◌≤◌, ◌^◌, ℕ, ◌+◌, List, [], ◌∷◌, ◌++◌, length, take, drop, map, Bool, if◌then◌else◌, nat_eq, Option, Some, None, slice_index_or}
+use Rattle.std.specs.Prelude.{◌≡◌, ◌≤◌, ℕ, ◌+◌, List, [], ◌∷◌, ◌++◌, length, take, drop, Bool, if◌then◌else◌, nat_eq, Option, Some, None, slice_index_or}
 use Rattle.std.specs.Int.{to_le_bytes, w32, w64}
-use Rattle.std.specs.List.{All, flat_map, list_all}
+use Rattle.std.specs.List.{flat_map, list_all}
 use Rattle.mq_blocks.specs.Descriptor.{list_bytes}
 use Rattle.mq_blocks.specs.Drive.{PortImage}
 use Rattle.mq_blocks.specs.Geometry.{queues_of, area_of, meta_of, zone_size}
 use Rattle.mq_blocks.specs.declared.geometry.Geometry.{Geometry}
-use Rattle.mq_nvme.specs.Dwords.{AreDwords, dword_bytes}
+use Rattle.mq_nvme.specs.Dwords.{dword_bytes}
 
 -- a drive after its power was cut: the images of the queues' ports in order, and then of the root's
 pub record DriveImage : Type 0 where
@@ -26,14 +26,6 @@ root_port x = slice_index_or x.ports (queues_of x.geometry) no_port
 abbrev pub HasBytes : Option (List ℕ) → Type 0
 HasBytes None = Unit {0}
 HasBytes (Some block) = length block ≡ 4096
-
--- the numbers, entries and blocks of a port have their widths
-pub record IsSized (p : PortImage) : Type 0 where
-  pub doorbell : p.doorbell < 2 ^ 64
-  pub head : p.head < 2 ^ 64
-  pub base : p.base < 2 ^ 64
-  pub slots : All (λ e. AreDwords 16 e) p.slots
-  pub blocks : All HasBytes p.blocks
 
 -- ---- blocks, by their Lba
 
@@ -109,10 +101,3 @@ file_bytes g queues root =
 
 abbrev pub image_bytes : DriveImage → List ℕ
 image_bytes x = file_bytes x.geometry (queue_ports x) (root_port x)
-
--- the image that is read from a file: a block of zeros is absent
-abbrev pub kept_port : PortImage → PortImage
-kept_port p = record p { blocks = map kept p.blocks }
-
-abbrev pub kept_image : DriveImage → DriveImage
-kept_image x = record x { ports = map kept_port x.ports }

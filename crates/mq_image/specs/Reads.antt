@@ -1,5 +1,5 @@
 -- What the parts of a file are read as.
-use Rattle.std.specs.Prelude.{◌≡◌, ◌<◌, ◌^◌, ◌≤◌, ℕ, ◌+◌, ◌*◌, List, ◌++◌, Option, length, take, slice_index_or}
+use Rattle.std.specs.Prelude.{◌≡◌, ◌<◌, ◌≤◌, ℕ, ◌+◌, ◌*◌, List, ◌++◌, Option, length, take, slice_index_or}
 use Rattle.std.specs.List.{All, flat_map}
 use Rattle.mq_blocks.specs.Drive.{PortImage}
 use Rattle.mq_blocks.specs.Geometry.{queues_of, area_of, meta_of, zone_size}

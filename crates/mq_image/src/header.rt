@@ -71,7 +71,10 @@ pub fn read_header(file: &[u8]) -> Result<Header, FileFault>
     ensures room { IfOk result (λ h. 40 ≤ length file.now) }
 {
     check_length(file, 40)?;
-    check(u64_at(file, 0) == u64::from_le_bytes(*MAGIC), FileFault::Magic)?;
+    check(
+        u64_at(file, 0) == u64::from_le_bytes(*MAGIC),
+        FileFault::Magic,
+    )?;
     let version = u32_at(file, 8);
     check(version == 1, FileFault::Version { found: version })?;
     let geometry = read_geometry(file)?;
@@ -93,7 +96,10 @@ pub fn read_count(file: &[u8], geometry: Geometry) -> Result<u32, FileFault>
     let count_at = HEADER + RING * geometry.queues() as usize;
     check_length(file, count_at as u64 + 4)?;
     let count = u32_at(file, count_at);
-    check(count <= namespace_size(geometry), FileFault::Count { found: count })?;
+    check(
+        count <= namespace_size(geometry),
+        FileFault::Count { found: count },
+    )?;
     check_length(file, count_at as u64 + 4 + RECORD as u64 * u64::from(count))?;
     Ok(count)
 }

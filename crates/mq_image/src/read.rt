@@ -2,10 +2,11 @@
 ghost use Rattle.std.specs.Prelude.{◌≡◌, ◌≢◌, ◌⊎◌, ◌<◌, ◌≤◌, ◌+◌, ◌++◌, ◌*◌, ℕ, None, Some, IfOk, IfErr, IsErrOf, MatchResult, length, slice_index_or, slice_set};
 ghost use Rattle.mq_blocks.specs.Geometry.{queues_of, area_of, meta_of, zone_size, homes_of};
 ghost use Rattle.std.specs.List.{All};
+ghost use Rattle.mq_image.specs.Drives.{IsRead};
 ghost use Rattle.mq_image.specs.Faults.{Finds, Refuses, fault_of};
 ghost use Rattle.mq_image.specs.File.{no_port};
 ghost use Rattle.mq_image.specs.Places.{IsInside, fault_left};
-ghost use Rattle.mq_image.specs.Reads.{AreAreasRead, AreZonesRead, IsAreaPort, IsAreaRead, IsPast, with_zone};
+ghost use Rattle.mq_image.specs.Reads.{AreAreasRead, ArePortsRead, AreZonesRead, IsAreaPort, IsAreaRead, with_zone};
 
 use crate::fault::FileFault;
 use crate::header::{HEADER, Header, RING, check_extra, namespace_size, read_count, read_header};
@@ -20,6 +21,7 @@ use std::alloc::Global;
 /// The image whose file these bytes are. Where they are none, the fault is the first test that
 /// failed. Each block is copied once, and a block of zeros takes no memory.
 pub fn read_image(alloc: Global, bytes: &[u8]) -> Result<DriveImage, FileFault>
+    ensures sound { IfOk result (λ x. IsRead x bytes.now) }
     ensures finds { MatchResult result (λ _. fault_of bytes.now ≡ None) (Refuses (fault_of bytes.now)) }
     ensures exact { (e : FileFault) → fault_of bytes.now ≡ Some e → IsErrOf result e ⊎ IsErrOf result FileFault.OutOfMemory }
 {
@@ -27,7 +29,8 @@ pub fn read_image(alloc: Global, bytes: &[u8]) -> Result<DriveImage, FileFault>
 }
 
 fn read_file(alloc: Global, bytes: &[u8]) -> Result<DriveImage, FileFault>
-    ensures { MatchResult result (λ _. fault_of bytes.now ≡ None) (Refuses (fault_of bytes.now)) }
+    ensures sound { IfOk result (λ x. IsRead x bytes.now) }
+    ensures finds { MatchResult result (λ _. fault_of bytes.now ≡ None) (Refuses (fault_of bytes.now)) }
 {
     let header = read_header(bytes)?;
     let count = read_count(bytes, header.geometry)?;
@@ -58,7 +61,7 @@ fn read_ports(
     requires rings { 40 + 65552 * queues_of header.now.geometry ≤ length file.now }
     requires start { place.old.lba ≡ 0 }
     requires size { place.old.size ≡ queues_of header.now.geometry * area_of header.now.geometry + homes_of header.now.geometry }
-    ensures { MatchResult result (λ _. IsPast file.now place.old place.new place.old.size) (Refuses (fault_left place.old file.now)) }
+    ensures { MatchResult result (λ v. ArePortsRead header.now.geometry header.now.base file.now place.old place.new v.items) (Refuses (fault_left place.old file.now)) }
 {
     let geometry = header.geometry;
     let mut ports = read_queues(alloc, file, geometry, place)?;

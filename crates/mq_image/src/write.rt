@@ -22,7 +22,12 @@ pub fn write_image(alloc: Global, image: &DriveImage) -> Result<Vec<u8>, OutOfMe
 {
     let geometry = image.geometry;
     let queues = geometry.queues() as usize;
-    write_ports(alloc, geometry, &image.ports[..queues], &image.ports[queues])
+    write_ports(
+        alloc,
+        geometry,
+        &image.ports[..queues],
+        &image.ports[queues],
+    )
 }
 
 fn write_ports(
@@ -66,13 +71,7 @@ fn count_one(block: &Option<Block>) -> u32
     ensures most { result ≤ 1 }
 {
     match block {
-        Some(block) => {
-            if is_zeros(block.bytes()) {
-                0
-            } else {
-                1
-            }
-        }
+        Some(block) => { if is_zeros(block.bytes()) { 0 } else { 1 } }
         None => 0,
     }
 }

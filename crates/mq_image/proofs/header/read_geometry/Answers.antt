@@ -1,5 +1,4 @@
-use Rattle.std.proofs.Common.{◌∙◌, ◌≡◌, ℕ, sym, ap}
-use Rattle.std.specs.Prelude.{Some}
+use Rattle.std.proofs.Common.{◌∙◌, ◌≡◌, ap}
 use Rattle.std.proofs.lemmas.Result.{err_from_is_err_and}
 use Rattle.mq_image.specs.Faults.{geometry_fault, geometry_refusal, queues_in, area_in, meta_in, zone_in}
 use Rattle.mq_image.proofs.Geometries.{geometry-refused}

@@ -1,4 +1,4 @@
-use Rattle.std.proofs.Common.{get_or, ◌≡◌, ◌<◌, ◌∙◌, refl, arith}
+use Rattle.std.proofs.Common.{get_or, ◌<◌, ◌∙◌, refl, arith}
 use Rattle.mq_image.proofs.Readings.{ring-read}
 use Rattle.mq_image.proofs.read.read_port.Goals as goal
 

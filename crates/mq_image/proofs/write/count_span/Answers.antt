@@ -1,4 +1,4 @@
-use Rattle.std.proofs.Common.{◌≡◌, ◌<◌, ◌≤◌, length, arith}
+use Rattle.std.proofs.Common.{◌<◌, length, arith}
 use Rattle.mq_image.proofs.Writings.{count-none, count-more}
 use Rattle.mq_image.proofs.write.count_span.Goals as goal
 

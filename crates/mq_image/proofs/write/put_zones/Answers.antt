@@ -1,5 +1,4 @@
-use Rattle.std.proofs.Common.{◌≡◌, ◌<◌, ◌≤◌, ◌∙◌, ◌+◌, List, ℕ, add-zero, zero-add, refl, sym, ap, length, take, drop, arith}
-use Rattle.std.specs.Prelude.{Option}
+use Rattle.std.proofs.Common.{◌≡◌, ◌<◌, ◌∙◌, ℕ, add-zero, sym, ap, length, drop, arith}
 use Rattle.mq_blocks.specs.Drive.{PortImage}
 use Rattle.mq_blocks.specs.Geometry.{area_of}
 use Rattle.mq_image.proofs.Writings.{flat-room, records-none, part-put, part-length}

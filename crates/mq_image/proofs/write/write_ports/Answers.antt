@@ -1,4 +1,4 @@
-use Rattle.std.proofs.Common.{◌≡◌, ◌≤◌, ◌∙◌, ◌+◌, ◌++◌, List, ℕ, sym, ap, length, arith}
+use Rattle.std.proofs.Common.{◌≡◌, ◌∙◌, ◌+◌, ◌++◌, List, ℕ, ap, length, arith}
 use Rattle.std.specs.Prelude.{Option}
 use Rattle.mq_blocks.specs.Drive.{PortImage}
 use Rattle.mq_image.specs.File.{header_bytes, namespace, record_count, records}

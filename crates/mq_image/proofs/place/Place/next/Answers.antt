@@ -1,5 +1,5 @@
-use Rattle.std.proofs.Common.{get_or, refl, take, drop, ◌≡◌, ◌<◌, ◌≤◌, ◌∙◌, ◌+◌, ◌-◌, ℕ, sym, ap, arith}
-use Rattle.std.specs.Prelude.{Option, Some}
+use Rattle.std.proofs.Common.{get_or, refl, ◌≡◌, ◌<◌, ◌≤◌, ◌∙◌, ◌+◌, ◌-◌, ℕ, sym, ap, arith}
+use Rattle.std.specs.Prelude.{Some}
 use Rattle.mq_blocks.specs.Windows.{number_at}
 use Rattle.mq_image.specs.File.{is_blank}
 use Rattle.mq_image.specs.declared.fault.FileFault.TheVariants.{Zero}
