@@ -7,6 +7,8 @@ mod image;
 mod place;
 mod read;
 mod ring;
+#[cfg(test)]
+mod tests;
 mod write;
 
 pub use fault::FileFault;
