@@ -1,3 +1,4 @@
+pub mod Addresses
 mod Examples
 pub mod Readings
 pub mod Windows

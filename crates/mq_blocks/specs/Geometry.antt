@@ -42,3 +42,7 @@ area_lba g q place = q * g.area + place % g.area
 -- the queue in whose zone a home block is; the blocks of the metadata region are in none
 abbrev pub zone_of : Geometry → ℕ → Option ℕ
 zone_of g b = if nat_lt b g.meta then None else Some ((b - g.meta) / g.zone)
+
+-- the blocks of namespace 1: the journal areas and the home blocks
+abbrev pub blocks_of_drive : Geometry → ℕ
+blocks_of_drive g = g.queues * g.area + homes_of g

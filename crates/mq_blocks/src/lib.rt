@@ -5,9 +5,11 @@ mod block;
 pub mod bytes;
 mod command;
 mod geometry;
+mod laws;
 mod numbers;
 
 pub use block::{Block, OutOfMemory};
 pub use command::{Command, HomeWrite};
 pub use geometry::{Geometry, GeometryRefusal};
+pub use laws::addresses_are_apart;
 pub use numbers::{BlockNo, Lba, QueueNo, TxNo};

@@ -9,7 +9,7 @@ use Rattle.mq_ledger.specs.Items.{end_of}
 use Rattle.mq_ledger.specs.Plain.{plain}
 use Rattle.mq_ledger.specs.Records.{Ledger, IsNextEnd, settle_next}
 use Rattle.mq_ledger.specs.State.{State, Facts, is_done, from_at, port_at, no_port, front_of, known_of}
-use Rattle.mq_ledger.specs.declared.lanes.QueueEnd.{QueueEnd}
+use Rattle.mq_ledger.specs.declared.queue_rows.QueueEnd.{QueueEnd}
 use Rattle.mq_ledger.specs.declared.tx.Tx.{Tx}
 use Rattle.mq_ledger.proofs.Values.{at_most, at_same}
 use Rattle.mq_core.specs.Events.{flush, us_of}

@@ -31,7 +31,7 @@ use Rattle.mq_tree.proofs.KeepUses.{AreUses}
 use Rattle.mq_tree.proofs.KeepVolumes.{sound-nodes}
 
 -- what is known of a block and fits both volumes is the same in both
-same-known : (g : Geometry) (v w : Volume) (b : ℕ) (page : Option (Option (List ℕ))) → AreUses g v → AreUses g w → FitsAt g page v b → FitsAt g page w b → (page ≡ None → SameAt g v w b) → SameAt g v w b
+pub same-known : (g : Geometry) (v w : Volume) (b : ℕ) (page : Option (Option (List ℕ))) → AreUses g v → AreUses g w → FitsAt g page v b → FitsAt g page w b → (page ≡ None → SameAt g v w b) → SameAt g v w b
 same-known g v w b None one two f h unknown = unknown refl
 same-known g v w b (Some None) one two f h unknown = record {
   shows = λ p. (λ s. absurd (shown-vacant g v b p s f), λ s. absurd (shown-vacant g w b p s h));
@@ -42,7 +42,7 @@ same-known g v w b (Some (Some page)) one two f h unknown = record {
   vacant = (λ x. absurd (shown-vacant g v b page f x), λ x. absurd (shown-vacant g w b page h x));
 }
 
-pages-over : (w : Working) (b : ℕ) → pages_of w b ≡ over (changed_of w b) (view_of w b)
+pub pages-over : (w : Working) (b : ℕ) → pages_of w b ≡ over (changed_of w b) (view_of w b)
 unfolding pages_of changed_of view_of
 pages-over w b = refl
 
@@ -50,12 +50,12 @@ fits-same : (g : Geometry) (p q : Pages) (v : Volume) → ((b : ℕ) → q b ≡
 fits-same g p q v same f = record { held = λ b page e. f.held b page (sym (same b) ∙ e); free = λ b e. f.free b (sym (same b) ∙ e) }
 
 -- nothing changed there where nothing is known
-over-none : (changed view : Option (Option (List ℕ))) → over changed view ≡ None → changed ≡ None
+pub over-none : (changed view : Option (Option (List ℕ))) → over changed view ≡ None → changed ≡ None
 over-none None view e = refl
 over-none (Some page) view e = absurd (none-some page (sym e))
 
 -- the pages that were put over a view lead from its volume to the one that they carry
-becomes-leads : (g : Geometry) (v u : Volume) (start now : Working) → Agrees g (view_of now) v → IsSound g u → IsOver start now → ((b : ℕ) → pages_of start b ≡ view_of now b) → Becomes g v u start now → LeadsTo g (view_of now) (changed_of now) v u
+pub becomes-leads : (g : Geometry) (v u : Volume) (start now : Working) → Agrees g (view_of now) v → IsSound g u → IsOver start now → ((b : ℕ) → pages_of start b ≡ view_of now b) → Becomes g v u start now → LeadsTo g (view_of now) (changed_of now) v u
 becomes-leads g v u start now agrees sound past pages becomes = record {
   before = agrees;
   after = record { sound = sound; fits = after };

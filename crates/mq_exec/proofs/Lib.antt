@@ -11,6 +11,7 @@ pub mod Linkable
 pub mod LocalBytes
 pub mod LocalMoves
 pub mod Longer
+pub mod Looking
 pub mod Making
 pub mod MakingPlans
 pub mod Naming
@@ -23,6 +24,7 @@ pub mod Removing
 pub mod Renamed
 pub mod RenamingPlans
 pub mod Resized
+pub mod Resting
 pub mod Rewriting
 pub mod Running
 pub mod Shortening

@@ -83,12 +83,12 @@ write-same x y e f h =
     ∙ ap (λ (p : List ℕ). record { block = x.block; kind = x.kind; content = p }) f
 
 -- what is known of a block
-data Known (o : Option (Option (List ℕ))) : Type 0 where
+pub data Known (o : Option (Option (List ℕ))) : Type 0 where
   unknown : o ≡ None → Known o
   vacant : o ≡ Some None → Known o
   full : (page : List ℕ) → o ≡ Some (Some page) → Known o
 
-known-cases : (o : Option (Option (List ℕ))) → Known o
+pub known-cases : (o : Option (Option (List ℕ))) → Known o
 known-cases None = unknown refl
 known-cases (Some None) = vacant refl
 known-cases (Some (Some page)) = full page refl

@@ -1,8 +1,8 @@
 -- What making a file or a directory comes to, and at what it looks.
 use Rattle.std.proofs.Common.{◌≡◌, ◌≢◌, ℕ, ◌*◌, ◌<◌, ◌≤◌, inl, inr, List, [], ◌∷◌, ◌++◌, length, Bool, true, false, cond, refl, sym, ap, subst, ◌∙◌, arith, length-set}
-use Rattle.std.specs.Prelude.{Option, Some, None}
+use Rattle.std.specs.Prelude.{Option, Some, None, nat_le}
 use Rattle.std.specs.List.{Contains, list_all}
-use Rattle.std.proofs.lemmas.Bool.{cases_lt, lt-leb, true≢false}
+use Rattle.std.proofs.lemmas.Bool.{cases_lt, leb-false, lt-leb, true≢false}
 use Rattle.std.proofs.lemmas.List.Elements.{All-contains, Contains-push_cases}
 use Rattle.mq_blocks.specs.Geometry.{queues_of}
 use Rattle.mq_blocks.specs.declared.geometry.Geometry.{Geometry}
@@ -76,9 +76,11 @@ pub record IsReady (v : Volume) (path : Path) (d : ℕ) : Type 0 where
   pub few : count_names (slots_of (body v d)) < names_limit
   pub good : list_all is_name path ≡ true
 
-pub ready : (pages : Pages) (v : Volume) (path : Path) (o : Opened) (d count : ℕ) → IsNew v (way path) d → o.number ≡ d → body v d ≡ Dir (slots_at pages o.blocks.items) → count ≡ count_names (slots_at pages o.blocks.items) → count < names_limit → list_all is_name path ≡ true → IsReady v path o.number
-ready pages v path o d count n same is e few good =
-    subst (λ (x : ℕ). IsReady v path x) (sym same) (record { new = n; few = (let f = e ∙ sym (ap (λ (x : Body). count_names (slots_of x)) is) in omega arith); good = good })
+pub ready : (pages : Pages) (v : Volume) (path : Path) (o : Opened) (d : ℕ) (blocks : List ℕ) (full : Bool) → IsNew v (way path) d → o.number ≡ d → body v d ≡ Dir (slots_at pages o.blocks.items) → blocks ≡ o.blocks.items → full ≡ nat_le names_limit (count_names (slots_at pages blocks)) → full ≡ false → list_all is_name path ≡ true → IsReady v path o.number
+ready pages v path o d blocks full n same is these e room good =
+    let there : count_names (slots_of (body v d)) ≡ count_names (slots_at pages o.blocks.items) = ap (λ (x : Body). count_names (slots_of x)) is in
+    let test : nat_le names_limit (count_names (slots_of (body v d))) ≡ false = ap (λ (n : ℕ). nat_le names_limit n) (there ∙ ap (λ (bs : List ℕ). count_names (slots_at pages bs)) (sym these)) ∙ sym e ∙ room in
+    subst (λ (x : ℕ). IsReady v path x) (sym same) (record { new = n; few = leb-false names_limit (count_names (slots_of (body v d))) test; good = good })
 
 abbrev made_volume : Geometry → (queue : ℕ) → Volume → Body → Path → (d i : ℕ) → Volume
 made_volume g q v y path d i = linked g q (with_inode v i y) d (record { inode = i; name = last_of (way path) })

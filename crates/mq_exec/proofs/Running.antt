@@ -3,7 +3,7 @@ use Rattle.std.proofs.Common.{get_or, ◌≡◌, ℕ, suc, ◌+◌, ◌<◌, ◌
 use Rattle.std.specs.Prelude.{None}
 use Rattle.std.proofs.lemmas.List.{append-nil, drop_all}
 use Rattle.std.proofs.lemmas.List.Elements.{All-contains, All-contains_itself}
-use Rattle.mq_blocks.specs.Geometry.{queues_of}
+use Rattle.mq_blocks.specs.Geometry.{homes_of, queues_of}
 use Rattle.mq_blocks.specs.declared.geometry.Geometry.{Geometry}
 use Rattle.mq_exec.specs.Outcomes.{Answers, AreEachOnce, NeedsOf}
 use Rattle.mq_exec.specs.Plans.{ComesTo}
@@ -52,7 +52,7 @@ run-none g q held start whole so_far pages e = record {
 
 -- ---- the volume now
 
-run-agrees : (g : Geometry) (q : ℕ) (v : Volume) (start now : Working) (whole rest : List Request) (so_far : List Reply) → (h : IsRunTo g q v start now whole rest so_far) → Agrees g (pages_of now) h.volume
+pub run-agrees : (g : Geometry) (q : ℕ) (v : Volume) (start now : Working) (whole rest : List Request) (so_far : List Reply) → (h : IsRunTo g q v start now whole rest so_far) → Agrees g (pages_of now) h.volume
 run-agrees g q v start now whole rest so_far h = record { sound = h.sound; fits = h.becomes.carries.fits }
 
 pub run-geometry : (g : Geometry) (q : ℕ) (held : Pages) (start now : Working) (whole rest : List Request) (so_far : List Reply) → start.geometry ≡ g → IsRun g q held start now whole rest so_far → now.geometry ≡ g
@@ -81,7 +81,7 @@ step-becomes : (g : Geometry) (q : ℕ) (v : Volume) (r : Request) (reply : Repl
 unfolding step
 step-becomes g q v r reply old new c = c.becomes
 
-cut-next : (whole : List Request) (k : ℕ) (r : Request) → k < length whole → r ≡ get_or whole k r → drop k whole ≡ r ∷ drop (k + 1) whole
+pub cut-next : (whole : List Request) (k : ℕ) (r : Request) → k < length whole → r ≡ get_or whole k r → drop k whole ≡ r ∷ drop (k + 1) whole
 cut-next whole k r l at =
     let n : k + 1 ≡ suc k = omega arith in
     drop-cons whole k r l ∙ ap (λ (x : Request). x ∷ drop (suc k) whole) (sym at) ∙ ap (λ (j : ℕ). r ∷ drop j whole) (sym n)
@@ -130,14 +130,15 @@ named-needs pages looks lacked named n h = record {
   looked = λ k d l. All-contains looks lacked (get_or named k d) h.looked (n.only _ (All-contains_itself named k d l));
 }
 
-pub run-lacks : (g : Geometry) (q : ℕ) (held pages : Pages) (requests : List Request) (lack : Missing) (outcome : Stops) (P : ℕ → Type 0) → ((b : ℕ) → pages b ≡ None → held b ≡ None) → ((b : ℕ) → P b → (v : Volume) → Agrees g held v → GroupLooks g q v requests b) → MissingPages pages P lack
+pub run-lacks : (g : Geometry) (q : ℕ) (held pages : Pages) (requests : List Request) (lack : Missing) (outcome : Stops) (P : ℕ → Type 0) → ((b : ℕ) → pages b ≡ None → held b ≡ None) → ((b : ℕ) → P b → (v : Volume) → Agrees g held v → GroupLooks g q v requests b) → ((b : ℕ) → P b → b < homes_of g) → MissingPages pages P lack
     → NeedsOf lack outcome → Answers g q held requests outcome
-run-lacks g q held pages requests (NeedOf blocks) (Done done) P absent f h is = absurd is
-run-lacks g q held pages requests (NeedOf blocks) (Need named) P absent f h is = record {
+run-lacks g q held pages requests (NeedOf blocks) (Done done) P absent f home h is = absurd is
+run-lacks g q held pages requests (NeedOf blocks) (Need named) P absent f home h is = record {
   need = named-needs held (λ b. (v : Volume) → Agrees g held v → GroupLooks g q v requests b) blocks.items named.items is (need-weaker pages held P (λ b. (v : Volume) → Agrees g held v → GroupLooks g q v requests b) blocks.items absent f h);
   rise = is.rise;
+  homes = λ k d l. home (get_or named.items k d) (All-contains P blocks.items (get_or named.items k d) h.looked (is.only _ (All-contains_itself named.items k d l)));
 }
-run-lacks g q held pages requests Wanting outcome P absent f h is = absurd is
+run-lacks g q held pages requests Wanting outcome P absent f home h is = absurd is
 
 -- ---- at the end
 

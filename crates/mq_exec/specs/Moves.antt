@@ -1,6 +1,8 @@
 -- What a transaction writes and frees: the blocks at which two volumes differ.
-use Rattle.std.specs.Prelude.{◌≡◌, ◌<◌, ◌↔◌, ℕ, true, false, List, None}
+use Rattle.std.specs.Prelude.{◌≡◌, ◌≢◌, ◌<◌, ◌↔◌, ℕ, true, false, List, Some, None}
 use Rattle.std.specs.List.{AllPairs, Contains}
+use Rattle.mq_blocks.specs.Journal.{is_among}
+use Rattle.mq_blocks.specs.Machine.{Transaction, write_of}
 use Rattle.mq_blocks.specs.declared.geometry.Geometry.{Geometry}
 use Rattle.mq_inodes.specs.Changes.{IsOfFile, SameAt}
 use Rattle.mq_inodes.specs.Fits.{Agrees}
@@ -34,3 +36,13 @@ pub record LeadsTo (g : Geometry) (view changed : Pages) (v w : Volume) : Type 0
   -- only pages that are known change
   pub known : (b : ℕ) → view b ≡ None → changed b ≡ None
   pub same : (b : ℕ) → changed b ≡ None → SameAt g v w b
+
+-- The volumes show the same at each block that is neither written nor freed.
+abbrev pub KeepsRest : Geometry → (v w : Volume) → List Write → List ℕ → Type 0
+KeepsRest g v w writes frees = (b : ℕ) → ((x : Write) → Contains writes x → x.block ≢ b) → (Contains frees b → ⊥) → SameAt g v w b
+
+-- A transaction of a map writes just these contents, in whatever order, and frees just these blocks.
+pub record IsChangeOf (t : Transaction) (writes : List Write) (frees : List ℕ) : Type 0 where
+  pub only : (b : ℕ) (page : List ℕ) → write_of t.writes b ≡ Some page → (x : Write) × Contains writes x × (x.block ≡ b) × (x.content ≡ page)
+  pub all : (x : Write) → Contains writes x → write_of t.writes x.block ≡ Some x.content
+  pub freed : (b : ℕ) → (is_among b t.freed ≡ true) ↔ Contains frees b

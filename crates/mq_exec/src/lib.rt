@@ -1,9 +1,10 @@
 //! Requests on the pages of the file system that a session holds: what they answer and change, and which
-//! pages they lack.
+//! pages they lack. Requests and replies are copied here, too.
 #![tactic(auto)]
 
 mod answer;
 mod change;
+mod copies;
 mod file;
 mod group;
 mod laws;
@@ -18,7 +19,8 @@ mod tests;
 mod truncate;
 mod view;
 
+pub use copies::{copy_reply, copy_request};
 pub use group::run;
-pub use laws::{a_change_is_determined, a_difference_is_the_change, pages_of_a_map};
+pub use laws::{a_change_is_determined, a_difference_is_the_change, a_map_follows, pages_of_a_map};
 pub use outcome::{Done, Outcome};
 pub use view::View;

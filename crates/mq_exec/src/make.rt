@@ -16,7 +16,7 @@ ghost use Rattle.std.specs.Prelude.{ℕ, true};
 
 use mq_blocks::{BlockNo, OutOfMemory, QueueNo};
 use mq_inodes::{Missing, Opened, Target, Working};
-use mq_layout::{NAMES_LIMIT, inode_block};
+use mq_layout::inode_block;
 use mq_tree::{Fault, Path, Reply};
 use std::alloc::Global;
 
@@ -51,7 +51,7 @@ fn plan_make(
         } => directory,
     };
     let directory = working.open_directory(alloc, d)?;
-    if working.count(&directory.blocks) >= NAMES_LIMIT {
+    if working.is_full(&directory.blocks) {
         return Ok(Err(Fault::TooBig));
     }
     let Some(inode) = working.free_inode(alloc)? else {

@@ -18,7 +18,6 @@ ghost use Rattle.mq_tree.specs.declared.request.Request.TheVariants.{Rename};
 
 use mq_blocks::{BlockNo, OutOfMemory, QueueNo};
 use mq_inodes::{Missing, Opened, Target, Working};
-use mq_layout::NAMES_LIMIT;
 use mq_tree::{Fault, Path, Reply};
 use std::alloc::Global;
 
@@ -91,7 +90,7 @@ fn is_full(working: &Working, from: u32, into: u32, blocks: &[BlockNo]) -> bool
     requires few { length blocks.now ≤ 1036 }
     ensures { result ≡ is_full_of from into (slots_at (pages_of working.now) blocks.now) }
 {
-    from != into && working.count(blocks) >= NAMES_LIMIT
+    from != into && working.is_full(blocks)
 }
 
 /// What moving takes, or why it is refused.

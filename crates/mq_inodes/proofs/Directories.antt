@@ -1,12 +1,13 @@
 -- The slots of a directory, block by block.
-use Rattle.std.proofs.Common.{get_or, ◌≡◌, ◌≢◌, ℕ, zero, suc, ◌+◌, ◌-◌, ◌*◌, ◌/◌, ◌%◌, ◌<◌, Bool, true, cond, List, [], ◌∷◌, ◌++◌, length, drop, refl, sym, ap, subst, ◌∙◌, arith, drop-cons, inl, inr}
-use Rattle.std.specs.Prelude.{Option, Some, None, slice_get}
+use Rattle.std.proofs.Common.{get_or, ◌≡◌, ◌≢◌, ℕ, zero, suc, ◌+◌, ◌-◌, ◌*◌, ◌/◌, ◌%◌, ◌<◌, ◌≤◌, Bool, false, true, cond, List, [], ◌∷◌, ◌++◌, length, drop, refl, sym, ap, subst, ◌∙◌, arith, drop-cons, inl, inr}
+use Rattle.std.specs.Prelude.{Option, Some, None, nat_le, slice_get}
 use Rattle.std.specs.List.{All, Contains}
 use Rattle.std.specs.Str.{bytes_eq}
-use Rattle.std.proofs.lemmas.Bool.{cases_Bool}
+use Rattle.std.proofs.lemmas.Bool.{cases_Bool, lt-leb}
 use Rattle.std.proofs.lemmas.List.{get_or_append_left, get_or-append_right, get_or_default, length-append, same_lists}
 use Rattle.std.proofs.lemmas.Option.{slice_get-get_or}
 use Rattle.mq_blocks.specs.declared.geometry.Geometry.{Geometry}
+use Rattle.mq_layout.specs.Places.{names_limit}
 use Rattle.mq_layout.specs.Slots.{Entry, ShowsSlot}
 use Rattle.mq_layout.specs.declared.inode.Inode.{Inode}
 use Rattle.mq_inodes.specs.Dirs.{IsDirAt, slots_at, slots_in}
@@ -66,6 +67,19 @@ count-append : (xs ys : List (Option Entry)) → count_names (xs ++ ys) ≡ coun
 count-append [] ys = omega arith
 count-append (None ∷ xs) ys = count-append xs ys
 count-append (Some x ∷ xs) ys = let h = count-append xs ys in omega arith
+
+count-most : (xs : List (Option Entry)) → count_names xs ≤ length xs
+count-most [] = omega arith
+count-most (None ∷ xs) = let h = count-most xs in omega arith
+count-most (Some x ∷ xs) = let h = count-most xs in omega arith
+
+-- with fewer blocks than a full directory has there is room for a name more
+pub room_below : (pages : Pages) (blocks : List ℕ) → length blocks < 1036 → false ≡ nat_le names_limit (count_names (slots_at pages blocks))
+room_below pages blocks few =
+    let most = count-most (slots_at pages blocks) in
+    let long = length-slots_at pages blocks in
+    let low : count_names (slots_at pages blocks) < names_limit = omega arith in
+    sym (lt-leb names_limit (count_names (slots_at pages blocks)) low)
 
 -- ---- a directory of each volume that the pages carry, or of which they may be a part
 

@@ -1,9 +1,10 @@
 // Directories: the blocks with their slots, and what these say together.
-ghost use Rattle.std.specs.Prelude.{◌≡◌, ◌≢◌, ◌≤◌, ◌*◌, ◌<◌, length, true, IfErr, IfOk, OnOk, Some, None};
+ghost use Rattle.std.specs.Prelude.{◌≡◌, ◌≢◌, ◌≤◌, ◌*◌, ◌<◌, length, nat_le, true, IfErr, IfOk, OnOk, Some, None};
 ghost use Rattle.std.specs.List.{All, Contains};
 ghost use Rattle.mq_inodes.specs.Dirs.{AreDirsAt, names_of, slots_at};
 ghost use Rattle.mq_inodes.specs.MissingPages.{HasVolume, MissingPages, MissingOf, OfEach};
 ghost use Rattle.mq_inodes.specs.Pages.{IsHeld, content as content_at, pages_of};
+ghost use Rattle.mq_layout.specs.Places.{names_limit};
 ghost use Rattle.mq_tree.specs.Laid.{inode_of};
 ghost use Rattle.mq_tree.specs.Requests.{count_names, names_in};
 ghost use Rattle.mq_tree.specs.Volume.{Dir, body, find as find_name, has_block, node};
@@ -12,9 +13,12 @@ use crate::lack::Missing;
 use crate::slots::{count_in, find_in, push_names};
 use crate::working::{Page, Working};
 use mq_blocks::{Block, BlockNo, OutOfMemory};
-use mq_layout::Inode;
+use mq_layout::{Inode, NAMES_LIMIT};
 use mq_tree::Name;
 use std::alloc::Global;
+
+/// The blocks of a directory without room for a name more.
+const FULL: usize = 1036;
 
 impl<'a> Working<'a> {
     /// The content of a block that is held.
@@ -95,6 +99,20 @@ impl<'a> Working<'a> {
             count += count_in(self.held(*b));
         }
         count
+    }
+
+    /// Whether there is no room for a name more. The names are counted only where there are as many blocks
+    /// as a full directory has.
+    #[tactic(auto, using(crate::proofs::Directories::room_below))]
+    pub fn is_full(&self, blocks: &[BlockNo]) -> bool
+        requires held { AreDirsAt (pages_of self.now) blocks.now }
+        requires few { length blocks.now ≤ 1036 }
+        ensures { result ≡ nat_le names_limit (count_names (slots_at (pages_of self.now) blocks.now)) }
+    {
+        if blocks.len() < FULL {
+            return false;
+        }
+        self.count(blocks) >= NAMES_LIMIT
     }
 
     /// The names, in rising order of bytes.

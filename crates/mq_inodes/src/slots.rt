@@ -8,8 +8,9 @@ ghost use Rattle.mq_tree.specs.Decoded.{slot_of};
 ghost use Rattle.mq_tree.specs.Requests.{count_names, unused};
 ghost use Rattle.mq_tree.specs.Volume.{find as find_name, slot_number};
 
+use mq_blocks::bytes::u32_at;
 use mq_blocks::{Block, OutOfMemory};
-use mq_layout::{SLOTS_PER_BLOCK, read_slot};
+use mq_layout::SLOTS_PER_BLOCK;
 use mq_tree::Name;
 use std::alloc::Global;
 
@@ -27,16 +28,18 @@ fn name_at(block: &Block, at: u32, length: u8) -> &[u8]
 }
 
 /// The inode and the name in a slot.
+#[tactic(auto, unfolding(mq_tree::specs::Decoded::slot_of))]
 pub fn entry(block: &Block, at: u32) -> Option<(u32, &[u8])>
     requires at { at < 15 }
     requires form { IsDirBlock block.now }
     ensures { MatchOption result (slot_of block.now at ≡ None) (λ e. slot_of block.now at ≡ Some (record { inode = e.0; name = e.1.now })) }
 {
-    match read_slot(block, at) {
-        Ok(Some(slot)) => Some((slot.inode, name_at(block, at, slot.length))),
-        Ok(None) => None,
-        Err(_) => unreachable!(),
+    let bytes = block.bytes();
+    let start = SLOT * at as usize;
+    if bytes[start + 4] == 0 {
+        return None;
     }
+    Some((u32_at(bytes, start), name_at(block, at, bytes[start + 5])))
 }
 
 /// The inode under a name.

@@ -10,10 +10,12 @@ use Rattle.mq_ledger.specs.Sides.{SideOk, AreHome}
 use Rattle.mq_ledger.specs.State.{State, Facts, known_of, no_port}
 use Rattle.mq_core.proofs.Growth.{side_moved}
 use Rattle.mq_core.proofs.Runs.{start_facts}
+use Rattle.mq_drive.specs.Steps.{Fault}
 use Rattle.mq_pages.specs.declared.page.PageCell.{PageCell}
 use Rattle.mq_turns.specs.Chairs.{Starts}
+use Rattle.mq_turns.specs.Lists.{tally}
 use Rattle.mq_turns.specs.Meaning.{opened}
-use Rattle.mq_turns.specs.declared.rule.KnownJournal.{KnownJournal as Shared}
+use Rattle.mq_turns.specs.declared.rule.Known.{Known as Shared}
 use Rattle.mq_turns.specs.declared.rule.Opening.{Opening}
 use Rattle.mq_port_desk.specs.Machine.{tx_of, side_of, root_of, shape_of, ports}
 use Rattle.mq_port_desk.specs.Opening.{state_of, IsFresh}
@@ -27,7 +29,7 @@ at_map f [] i x d e = absurd (cc)
 at_map f (y ∷ ys) zero x d e = let same : y ≡ x = cc in (ap f same, omega arith)
 at_map f (y ∷ ys) (suc i) x d e = let ih = at_map f ys i x d e in (ih.0, let lt = ih.1 in omega arith)
 
-module _ {P : Type 0} (state : P → PortState) (o : Opening PageCell (QueuePort P) (RootPort P)) (fresh : IsFresh state o) where
+module _ {P : Type 0} (state : P → PortState) (faults : P → List Fault) (o : Opening PageCell (QueuePort P) (RootPort P)) (fresh : IsFresh state o) where
   abbrev s : State
   s = state_of state o
 
@@ -39,7 +41,7 @@ module _ {P : Type 0} (state : P → PortState) (o : Opening PageCell (QueuePort
   shown = opened o
 
   abbrev core : KnownJournal
-  core = Ports.core_of (side_of state) (root_of state) shape_of tx_of shown
+  core = Ports.core_of (side_of state faults) (root_of state faults) shape_of tx_of shown
 
   facts : Facts plain s
   facts = start_facts plain s fresh.start
@@ -77,7 +79,7 @@ module _ {P : Type 0} (state : P → PortState) (o : Opening PageCell (QueuePort
     change = λ x v l. l;
   }) (homes (Some q) p was.homes)
 
-  pub starts : Starts (ports state) o
+  pub starts : Starts (ports state faults) o
   starts = record {
     ok = record { log = log; claims = tt };
     pages = λ b c at.
@@ -103,6 +105,7 @@ module _ {P : Type 0} (state : P → PortState) (o : Opening PageCell (QueuePort
           floor = let floor = counts.3 in omega arith;
           sound = λ _. ap (λ (p : PortState). p.failed) (sym there.0) ∙ begins.failed;
           area = counts.4;
+          charged = λ f. let same = ap (tally f) (at_map (λ (u : QueuePort P). faults u.port) o.sides q w [] at).0 in omega arith;
         };
     root =
         let base = fresh.start.base in

@@ -14,29 +14,41 @@ use Rattle.mq_ledger.proofs.Values.{upto-past, last-changed, map_written}
 use Rattle.mq_ledger.proofs.Entries.{of_queue-own}
 use Rattle.mq_core.specs.Events as events
 use Rattle.mq_core.proofs.Growth.{front_low, side_drawn, side_extends}
+use Rattle.mq_drive.specs.Steps.{Fault}
 use Rattle.mq_pages.specs.declared.page.PageCell.{PageCell}
 use Rattle.mq_turns.specs.Chairs.{holding}
 use Rattle.mq_turns.specs.Desk.{IsTurn, slot_of, turn_at, Covers, Sees, Stands, Stay, after_draw, refreshed}
-use Rattle.mq_turns.specs.Lists.{Each, times, tick}
-use Rattle.mq_turns.specs.Meaning.{newest, drawn}
-use Rattle.mq_turns.specs.declared.rule.KnownJournal.{KnownJournal as Shared}
+use Rattle.mq_turns.specs.Lists.{Each, times, tick, without}
+use Rattle.mq_turns.specs.Meaning.{newest, drawn, claimed}
+use Rattle.mq_turns.specs.declared.rule.Known.{Known as Shared}
 use Rattle.mq_turns.specs.declared.rule.Opening.{Opening}
 use Rattle.mq_turns.specs.declared.rule.View.{View}
 use Rattle.mq_turns.specs.declared.turn.Turn.{Turn}
 use Rattle.mq_turns.specs.declared.turn.Turn.TheVariants.{Page, Side, Root}
 use Rattle.mq_turns.specs.declared.turn.Item.TheVariants as item
+use Rattle.mq_turns.specs.Marks.{mark_of, claim_of}
+use Rattle.mq_turns.specs.Words.{same_turn, after_clear, MayClear}
+use Rattle.mq_turns.proofs.Seen.{sees_before, sees_look, sees_taken, turn_seen, opening_seen, mark_stays, stands_seen}
 use Rattle.mq_turns.proofs.Slots.{page_at, side_at}
-use Rattle.mq_turns.proofs.Totals.{hit}
+use Rattle.mq_turns.proofs.Totals.{hit, times_without_other}
 use Rattle.mq_port_desk.specs.Laws.{unclaimed, length_history}
 use Rattle.mq_port_desk.specs.Machine.{tx_of, side_of, root_of, shape_of, ports}
 use Rattle.mq_port_desk.specs.Ports
 use Rattle.mq_port_desk.specs.Room.{HasRoom, WasFull}
+use Rattle.mq_port_desk.proofs.Clearing.{ok_claimed, none_claimed}
 use Rattle.mq_port_desk.specs.declared.machine.Commit.{Commit}
 use Rattle.mq_port_desk.specs.declared.machine.QueuePort.{QueuePort}
 use Rattle.mq_port_desk.specs.declared.machine.RootPort.{RootPort}
 
 some_same : {A : Type 0} {a b : A} → Some a ≡ Some b → a ≡ b
 some_same e = cc
+
+-- of two turns, one or both are given back
+pub one_back : {A : Type 0} (k b : ℕ) (x y : A) (l : List (ℕ × A)) → b < k → l ≡ (k, x) ∷ (b, y) ∷ [] → without k l ≡ (b, y) ∷ []
+one_back k b x y l lt is = ap (without k) is ∙ rw (eq-eqb k k refl, ne_eqb b k (λ e. omega arith)) refl
+
+pub both_back : {A : Type 0} (k b : ℕ) (x y : A) (l : List (ℕ × A)) → b < k → l ≡ (k, x) ∷ (b, y) ∷ [] → without b (without k l) ≡ []
+both_back k b x y l lt is = ap (without b) (one_back k b x y l lt is) ∙ rw (eq-eqb b b refl) refl
 
 -- it changes its block alone
 changes_one : (e : Commit) (b : ℕ) → changes (tx_of e) b ≡ true → e.block ≡ b
@@ -45,42 +57,38 @@ changes_one e b t = elim (cases_eq e.block b) [
   | inr other ↦ absurd (false≢true (rw (ne_eqb e.block b other) at t))
 ]
 
-module _ {P : Type 0} (state : P → PortState) where
+module _ {P : Type 0} (state : P → PortState) (faults : P → List Fault) where
   abbrev Shown : Type 0
   Shown = Shared PageCell (QueuePort P) (RootPort P) Commit
 
   abbrev μ : Rattle.mq_turns.specs.Meaning.Meaning PageCell (QueuePort P) (RootPort P) Commit
-  μ = ports state
+  μ = ports state faults
 
   abbrev core : Shown → KnownJournal
-  core = Ports.core_of (side_of state) (root_of state) shape_of tx_of
+  core = Ports.core_of (side_of state faults) (root_of state faults) shape_of tx_of
 
   abbrev next_tx : Commit → Shown → Tx
-  next_tx = Ports.next_tx (side_of state) (root_of state) shape_of tx_of
+  next_tx = Ports.next_tx (side_of state faults) (root_of state faults) shape_of tx_of
 
   abbrev start : Opening PageCell (QueuePort P) (RootPort P) → Rattle.mq_blocks.specs.Machine.Map
-  start = Ports.start_of (side_of state) (root_of state) shape_of tx_of
+  start = Ports.start_of (side_of state faults) (root_of state faults) shape_of tx_of
 
   abbrev hist : ℕ → List Commit → List Tx
-  hist = Ports.history (side_of state) (root_of state) shape_of tx_of
-
-  -- what is seen with one turn more in hand was to be seen before
-  sees_before : (k : ℕ) (K1 K : Shown) (v : View PageCell (QueuePort P) (RootPort P) Commit) → Sees μ (holding k K1 v) K → Sees μ v K
-  sees_before k K1 K v s = record { opening = s.opening; ok = s.ok; held = s.held.1; seen = s.seen; drew = s.drew }
+  hist = Ports.history (side_of state faults) (root_of state faults) shape_of tx_of
 
   -- a side that stands below what is drawn on it, and has no room, was full
-  pub was_full : (q k : ℕ) (K1 K : Shown) (v u : View PageCell (QueuePort P) (RootPort P) Commit) (w : QueuePort P) → u ≡ holding k K1 v → Sees μ u K → μ.side q K w → (w.low ≤ w.end → HasRoom (side_of state w) → ⊥) → WasFull state q v
+  pub was_full : (q k : ℕ) (K1 K : Shown) (v u : View PageCell (QueuePort P) (RootPort P) Commit) (w : QueuePort P) → u ≡ holding k K1 v → Sees μ u K → μ.side q K w → (w.low ≤ w.end → HasRoom (side_of state faults w) → ⊥) → WasFull state faults q v
   was_full q k K1 K v u w took sees stands full = record {
     known = K;
     side = w;
-    sees = sees_before k K1 K v (subst (λ x. Sees μ x K) took sees);
+    sees = sees_before μ k K1 K v (subst (λ x. Sees μ x K) took sees);
     stands = stands;
     full = let low = stands.low in let end = stands.end in let a = stands.port.order.stored in let b = stands.port.order.rung in let c = stands.port.order.flushed in let d = stands.port.order.staged in let e = stands.port.order.drawn in full (omega arith);
   }
 
   may_draw : (e : Commit) (K : Shown) → e.block < homes_of K.opening.root.geometry → e.queue < K.opening.root.geometry.queues → length e.content ≡ 4096 → newest K < 9223372036854775808 → μ.may e K
   may_draw e K block queue whole few =
-      let n = length_history (side_of state) (root_of state) shape_of tx_of K.opening.base K.log in
+      let n = length_history (side_of state faults) (root_of state faults) shape_of tx_of K.opening.base K.log in
       record {
         form = record {
           queue = queue;
@@ -103,13 +111,56 @@ module _ {P : Type 0} (state : P → PortState) where
         revoked = λ x among above. absurd (false≢true among);
       }
 
+  -- a mark of 1 claims nothing
+  pub may_clear : (q : ℕ) (v : View PageCell (QueuePort P) (RootPort P) Commit) → MayClear μ q 1 v
+  may_clear q v K sees = ok_claimed (side_of state faults) (root_of state faults) shape_of tx_of (claim_of q 1 (newest K)) K sees.ok (omega arith)
+
+  module _ (o : Opening PageCell (QueuePort P) (RootPort P)) (q b : ℕ) (page_turn : b < length o.pages) (side_turn : q < length o.sides) (v : View PageCell (QueuePort P) (RootPort P) Commit) (K K1 K2 : Shown) (opening : v.opening ≡ Some o) (held : v.held ≡ (length o.pages + q, K2) ∷ (b, K1) ∷ []) (sees : Sees μ v K) where
+    abbrev pub L : Shown
+    L = claimed (claim_of q 1 (newest K)) K
+
+    -- what the chair knows after it
+    pub held_cleared : (w : View PageCell (QueuePort P) (RootPort P) Commit) → w ≡ after_clear q 1 K v → w.held ≡ (length o.pages + q, L) ∷ (b, K1) ∷ []
+    held_cleared w is =
+        let f : ℕ → Bool = λ k. same_turn (Side q) (turn_at K.opening k) in
+        let now = opening_seen μ o K v opening sees in
+        let s : f (length o.pages + q) ≡ true = ap (λ p. same_turn (Side q) (turn_at p (length o.pages + q))) now ∙ (ap (same_turn (Side q)) (side_at o q side_turn) ∙ eq-eqb q q refl) in
+        let p : f b ≡ false = ap (λ p. same_turn (Side q) (turn_at p b)) now ∙ ap (same_turn (Side q)) (page_at o b page_turn) in
+        ap (λ (u : View PageCell (QueuePort P) (RootPort P) Commit). u.held) is ∙ (ap (refreshed f L) held ∙ (λ i. (length o.pages + q, cond (s i) L K2) ∷ (b, cond (p i) L K1) ∷ []))
+
+    pub mark_cleared : mark_of q L.claims ≡ 1
+    mark_cleared = ap (λ c. cond c 1 (mark_of q K.claims)) (eq-eqb q q refl)
+
+    -- the side is what it was
+    pub side_now : (w : QueuePort P) → μ.side q K2 w → μ.side q K w
+    side_now w was =
+        let all = subst (λ l. Each (λ h. μ.ok h.1 × Stay μ (turn_at K.opening h.0) h.1 K) l) held sees.held in
+        let turn : turn_at K.opening (length o.pages + q) ≡ Side q = turn_seen μ o K v (Side q) opening sees side_turn in
+        μ.side_along q K2 K w (subst (λ t. Stay μ t K2 K) turn all.0.1) all.0.0 sees.ok was
+
+    pub side_cleared : (w : QueuePort P) → μ.side q K2 w → μ.side q L w
+    side_cleared w was = none_claimed (side_of state faults) (root_of state faults) shape_of tx_of (claim_of q 1 (newest K)) K w sees.ok (side_now w was) (omega arith)
+
+  -- a page that is held alone is what it was
+  pub page_now : (o : Opening PageCell (QueuePort P) (RootPort P)) (b : ℕ) (v : View PageCell (QueuePort P) (RootPort P) Commit) (K K1 : Shown) (c : PageCell) → b < length o.pages → v.opening ≡ Some o → v.held ≡ (b, K1) ∷ [] → Sees μ v K → μ.page b K1 c → μ.page b K c
+  page_now o b v K K1 c lt opening held sees was =
+      let all = subst (λ l. Each (λ h. μ.ok h.1 × Stay μ (turn_at K.opening h.0) h.1 K) l) held sees.held in
+      let turn : turn_at K.opening b ≡ Page b = turn_seen μ o K v (Page b) opening sees lt in
+      μ.page_along b K1 K c (subst (λ t. Stay μ t K1 K) turn all.0.1) all.0.0 sees.ok was
+
   module _ (o : Opening PageCell (QueuePort P) (RootPort P)) (e : Commit) (v : View PageCell (QueuePort P) (RootPort P) Commit) (K1 K2 : Shown) (opening : v.opening ≡ Some o) (held : v.held ≡ (length o.pages + e.queue, K2) ∷ (e.block, K1) ∷ []) where
     opening_is : (K : Shown) → Sees μ v K → K.opening ≡ o
     opening_is K sees = some_same (sym sees.opening ∙ opening)
 
-    pub covers : e.block < homes_of o.root.geometry → e.queue < o.root.geometry.queues → length e.content ≡ 4096 → Covers μ e v
-    covers block queue whole = record { held = holds; may = may }
+    pub covers : e.block < homes_of o.root.geometry → e.queue < o.root.geometry.queues → length e.content ≡ 4096 → e.queue < length o.sides → mark_of e.queue K2.claims ≡ 1 → Covers μ e v
+    covers block queue whole side_turn low = record { held = holds; may = may; mark = marks }
       where
+        marks : (K : Shown) → Sees μ v K → mark_of e.queue K.claims ≤ suc (newest K)
+        marks K sees =
+            let all = subst (λ l. Each (λ h. μ.ok h.1 × Stay μ (turn_at K.opening h.0) h.1 K) l) held sees.held in
+            let turn : turn_at K.opening (length o.pages + e.queue) ≡ Side e.queue = turn_seen μ o K v (Side e.queue) opening sees side_turn in
+            let same = mark_stays μ e.queue K2 K (subst (λ t. Stay μ t K2 K) turn all.0.1) in omega arith
+
         may : (K : Shown) → Sees μ v K → newest K < 9223372036854775808 → μ.may e K
         may K sees few = let F : Opening PageCell (QueuePort P) (RootPort P) → Type 0 = λ p. (e.block < homes_of p.root.geometry) × (e.queue < p.root.geometry.queues) in let now = subst F (sym (opening_is K sees)) (block, queue) in may_draw e K now.0 now.1 whole few
 
@@ -125,7 +176,7 @@ module _ {P : Type 0} (state : P → PortState) where
 
     module _ (K : Shown) (sees : Sees μ v K) (page_turn : e.block < length o.pages) (side_turn : e.queue < length o.sides) where
       pub may_now : e.block < homes_of o.root.geometry → e.queue < o.root.geometry.queues → length e.content ≡ 4096 → newest K < 9223372036854775808 → μ.may e K
-      may_now block queue whole few = (covers block queue whole).may K sees few
+      may_now block queue whole few = let F : Opening PageCell (QueuePort P) (RootPort P) → Type 0 = λ p. (e.block < homes_of p.root.geometry) × (e.queue < p.root.geometry.queues) in let now = subst F (sym (opening_is K sees)) (block, queue) in may_draw e K now.0 now.1 whole few
 
       -- what is known of the two by the draw
       known : (μ.ok K2 × Stay μ (Side e.queue) K2 K) × (μ.ok K1 × Stay μ (Page e.block) K1 K)
@@ -136,7 +187,7 @@ module _ {P : Type 0} (state : P → PortState) where
           let p : turn_at K.opening e.block ≡ Page e.block = ap (λ q. turn_at q e.block) is ∙ page_at o e.block page_turn in
           ((all.0.0, subst (λ t. Stay μ t K2 K) s all.0.1), (all.1.0.0, subst (λ t. Stay μ t K1 K) p all.1.0.1))
 
-      held_after : (after_draw μ e K v).held ≡ (length o.pages + e.queue, drawn e K) ∷ (e.block, drawn e K) ∷ []
+      pub held_after : (after_draw μ e K v).held ≡ (length o.pages + e.queue, drawn e K) ∷ (e.block, drawn e K) ∷ []
       held_after =
           let is = opening_is K sees in
           let f : ℕ → Bool = λ k. μ.touches K.log e (turn_at K.opening k) in
@@ -146,6 +197,17 @@ module _ {P : Type 0} (state : P → PortState) where
         where
           changed : (e : Commit) → changes (tx_of e) e.block ≡ true
           changed e = rw (eq-eqb e.block e.block refl) refl
+
+      -- both turns are still held then
+      pub side_held : 0 < times (length o.pages + e.queue) (after_draw μ e K v).held
+      side_held = let k : ℕ = length o.pages + e.queue in let one = hit k k refl in let sum : times k (after_draw μ e K v).held ≡ tick k k + (tick e.block k + 0) = ap (times k) held_after in omega arith
+
+      pub page_held : 0 < times e.block (without (length o.pages + e.queue) (after_draw μ e K v).held)
+      page_held =
+          let k : ℕ = length o.pages + e.queue in
+          let one = hit e.block e.block refl in
+          let sum : times e.block (after_draw μ e K v).held ≡ tick k e.block + (tick e.block e.block + 0) = ap (times e.block) held_after in
+          let rest = times_without_other k e.block (after_draw μ e K v).held (λ same. omega arith) in omega arith
 
       abbrev t : Tx
       t = next_tx e K
@@ -160,7 +222,7 @@ module _ {P : Type 0} (state : P → PortState) where
         above : K.word < t.number
         above = let n = may.number in let high = sees.ok.log.word_high in let low = front_low (core K) in omega arith
 
-        module _ (w : QueuePort P) (was : μ.side e.queue K2 w) (room : HasRoom (side_of state w)) where
+        module _ (w : QueuePort P) (was : μ.side e.queue K2 w) (room : HasRoom (side_of state faults w)) where
           now : μ.side e.queue K w
           now = μ.side_along e.queue K2 K w known.0.1 known.0.0 sees.ok was
 
@@ -217,6 +279,7 @@ module _ {P : Type 0} (state : P → PortState) where
                 floor = omega arith;
                 sound = side.sound;
                 area = side.area;
+                charged = side.charged;
               }
 
           -- the side, given back after the draw

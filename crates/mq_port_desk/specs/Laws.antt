@@ -13,37 +13,43 @@ use Rattle.mq_ledger.specs.declared.tx.Tx.{Tx}
 use Rattle.mq_core.proofs.Bases.{next_upto_more}
 use Rattle.mq_core.proofs.Fronts.{DoneMore}
 use Rattle.mq_core.proofs.Growth.{log_drawn}
+use Rattle.mq_drive.specs.Steps.{Fault}
 use Rattle.mq_pages.specs.declared.page.PageCell.{PageCell}
-use Rattle.mq_turns.specs.Lists.{Each}
+use Rattle.mq_turns.specs.Lists.{Each, tally}
 use Rattle.mq_turns.specs.Meaning.{Stays, Apart, newest, drawn}
-use Rattle.mq_turns.specs.declared.rule.KnownJournal.{KnownJournal as Shared}
+use Rattle.mq_turns.specs.Words.{same_turn}
+use Rattle.mq_turns.specs.declared.rule.Charge.{Charge}
+use Rattle.mq_turns.specs.declared.rule.Claim.{Claim}
+use Rattle.mq_turns.specs.declared.rule.Known.{Known as Shared}
 use Rattle.mq_turns.specs.declared.turn.Turn.{Turn}
 use Rattle.mq_turns.specs.declared.turn.Turn.TheVariants.{Page, Side, Root}
+use Rattle.mq_turns.proofs.Changes.{turn_is}
 use Rattle.mq_turns.proofs.Totals.{each_map}
+use Rattle.mq_port_desk.specs.Faults.{charged_to}
 use Rattle.mq_port_desk.specs.Ports
-use Rattle.mq_port_desk.specs.Ports.{SideView, same_port, is_claimed, is_ended, last_ended, last_direct, numbered, start_of, from_of, IsOk, IsPage, IsSide, IsRoot, May, next_tx}
+use Rattle.mq_port_desk.specs.Ports.{SideView, same_port, is_claimed, is_ended, last_ended, last_direct, numbered, start_of, from_of, IsOk, IsPage, IsSide, IsRoot, May, next_tx, faults_of}
 use Rattle.mq_port_desk.specs.Along.{Among, later, queue_newer, side_later, root_later, same_block}
 
 -- ---- claims and home writes that are added
 
-claimed_more : (l m : List (ℕ × ℕ)) (t : Tx) → is_claimed m t ≡ true → is_claimed (l ++ m) t ≡ true
+claimed_more : (l m : List Claim) (t : Tx) → is_claimed m t ≡ true → is_claimed (l ++ m) t ≡ true
 claimed_more [] m t e = e
-claimed_more (c ∷ cs) m t e = or_right (eqb c.0 t.queue && nat_le t.number c.1) (is_claimed (cs ++ m) t) (claimed_more cs m t e)
+claimed_more (c ∷ cs) m t e = or_right (eqb c.queue t.queue && nat_le t.number c.up_to) (is_claimed (cs ++ m) t) (claimed_more cs m t e)
 
-claimed_apart : (q : ℕ) (l m : List (ℕ × ℕ)) (t : Tx) → Each (λ c. Side c.0 ≢ Side q) l → t.queue ≡ q → is_claimed (l ++ m) t ≡ true → is_claimed m t ≡ true
+claimed_apart : (q : ℕ) (l m : List Claim) (t : Tx) → Each (λ c. Side c.queue ≢ Side q) l → t.queue ≡ q → is_claimed (l ++ m) t ≡ true → is_claimed m t ≡ true
 claimed_apart q [] m t a own e = e
-claimed_apart q (c ∷ cs) m t a own e = elim (or_cases (eqb c.0 t.queue && nat_le t.number c.1) (is_claimed (cs ++ m) t) e) [
-  | inl mine ↦ absurd (a.0 (ap Side (eqb-true _ _ (and_parts (eqb c.0 t.queue) (nat_le t.number c.1) mine).0 ∙ own)))
+claimed_apart q (c ∷ cs) m t a own e = elim (or_cases (eqb c.queue t.queue && nat_le t.number c.up_to) (is_claimed (cs ++ m) t) e) [
+  | inl mine ↦ absurd (a.0 (ap Side (eqb-true _ _ (and_parts (eqb c.queue t.queue) (nat_le t.number c.up_to) mine).0 ∙ own)))
   | inr rest ↦ claimed_apart q cs m t a.1 own rest
 ]
 
 -- a number above all claims is not claimed
-pub unclaimed : (n : ℕ) (cs : List (ℕ × ℕ)) (t : Tx) → Each (λ c. c.1 ≤ n) cs → n < t.number → is_claimed cs t ≡ false
+pub unclaimed : (n : ℕ) (cs : List Claim) (t : Tx) → Each (λ c. c.up_to ≤ n) cs → n < t.number → is_claimed cs t ≡ false
 unclaimed n [] t a lt = refl
 unclaimed n (c ∷ cs) t a lt = elim (cases_Bool (is_claimed (c ∷ cs) t)) [
   | inr e ↦ e
-  | inl e ↦ elim (or_cases (eqb c.0 t.queue && nat_le t.number c.1) (is_claimed cs t) e) [
-    | inl mine ↦ absurd (let le = leb-true _ _ (and_parts (eqb c.0 t.queue) (nat_le t.number c.1) mine).1 in let b = a.0 in omega arith)
+  | inl e ↦ elim (or_cases (eqb c.queue t.queue && nat_le t.number c.up_to) (is_claimed cs t) e) [
+    | inl mine ↦ absurd (let le = leb-true _ _ (and_parts (eqb c.queue t.queue) (nat_le t.number c.up_to) mine).1 in let b = a.0 in omega arith)
     | inr rest ↦ absurd (false≢true (sym (unclaimed n cs t a.1 lt) ∙ rest))
   ]
 ]
@@ -58,6 +64,14 @@ ended_apart x v (h ∷ hs) m a e = elim (or_cases (eqb h.0 x && eqb h.1 v) (is_e
 last_ended_apart : (base x : ℕ) (l m : List (ℕ × ℕ)) → Each (λ h. h.0 ≢ x) l → last_ended base (l ++ m) x ≡ last_ended base m x
 last_ended_apart base x [] m a = refl
 last_ended_apart base x (h ∷ hs) m a = rw (ne_eqb h.0 x a.0) (last_ended_apart base x hs m a.1)
+
+-- what is charged to other ports
+charged_apart : (g : Geometry) (t : Turn) (f : Fault → Bool) (l m : List Charge) → Each (λ c. c.port ≢ t) l → charged_to g t f (l ++ m) ≡ charged_to g t f m
+charged_apart g t f [] m a = refl
+charged_apart g t f (c ∷ cs) m a = elim (cases_Bool (same_turn t c.port)) [
+  | inl mine ↦ absurd (a.0 (sym (turn_is t c.port mine)))
+  | inr other ↦ rw other (let ih = charged_apart g t f cs m a.1 in omega arith)
+]
 
 same_port-same : (z : Option ℕ) → same_port z z ≡ true
 same_port-same None = refl
@@ -184,6 +198,11 @@ module _ {Q R E : Type 0} (side : Q → SideView) (root : R → PortState) (geom
         floor = let wider = next_upto_more K.word L.word txs s.grows.word in let was = is.floor in let now : next (upto L.word (of_queue q (hist L.opening.base L.log))) ≡ next (upto L.word txs) = ap (λ vs. next (upto L.word vs)) same in omega arith;
         sound = is.sound;
         area = is.area ∙ ap (λ p. (geometry p.root).area) (sym o);
+        charged = λ f.
+            let was = is.charged f in
+            let start : tally f (faults_of side root geometry tx L.opening q) ≡ tally f (faults_of side root geometry tx K.opening q) = ap (λ p. tally f (faults_of side root geometry tx p q)) o in
+            let charges : charged_to (geometry L.opening.root) (Side q) f L.charges ≡ charged_to (geometry K.opening.root) (Side q) f K.charges = (λ i. charged_to (geometry (o i).root) (Side q) f (s.grows.charges i)) ∙ charged_apart (geometry K.opening.root) (Side q) f s.grows.blamed K.charges s.charges in
+            omega arith;
       }
 
   pub root_along : (K L : Desk) (r : R) → Stay Root K L → IsOk side root geometry tx K → IsOk side root geometry tx L → IsRoot side root geometry tx K r → IsRoot side root geometry tx L r

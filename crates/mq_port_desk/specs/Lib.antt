@@ -1,3 +1,4 @@
+pub mod Faults
 pub mod Ports
 pub mod Along
 pub mod Laws

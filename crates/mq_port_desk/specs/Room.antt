@@ -1,6 +1,7 @@
 -- Room on a side.
-use Rattle.std.specs.Prelude.{◌≡◌, ◌<◌, ◌≤◌, ◌+◌, ◌^◌, ℕ, true}
+use Rattle.std.specs.Prelude.{◌≡◌, ◌<◌, ◌≤◌, ◌+◌, ◌^◌, ℕ, true, List}
 use Rattle.mq_blocks.specs.Drive.{PortState}
+use Rattle.mq_drive.specs.Steps.{Fault}
 use Rattle.mq_pages.specs.declared.page.PageCell.{PageCell}
 use Rattle.mq_turns.specs.Desk.{Sees}
 use Rattle.mq_turns.specs.declared.rule.Known.{Known}
@@ -21,9 +22,9 @@ pub record HasRoom (w : SideView) : Type 0 where
   pub limit : w.end ≤ 2 ^ 62
 
 -- Of all that this chair could know, something is so that what lay on the desk as the queue's side has no room.
-pub record WasFull {P : Type 0} (state : P → PortState) (q : ℕ) (v : View PageCell (QueuePort P) (RootPort P) Commit) : Type 0 where
+pub record WasFull {P : Type 0} (state : P → PortState) (faults : P → List Fault) (q : ℕ) (v : View PageCell (QueuePort P) (RootPort P) Commit) : Type 0 where
   pub known : Known PageCell (QueuePort P) (RootPort P) Commit
   pub side : QueuePort P
-  pub sees : Sees (ports state) v known
-  pub stands : IsSide (side_of state) (root_of state) shape_of tx_of q known side
-  pub full : HasRoom (side_of state side) → ⊥
+  pub sees : Sees (ports state faults) v known
+  pub stands : IsSide (side_of state faults) (root_of state faults) shape_of tx_of q known side
+  pub full : HasRoom (side_of state faults side) → ⊥

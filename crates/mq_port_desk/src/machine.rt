@@ -82,5 +82,5 @@ impl<P: Port + Drop> Machine for PortMachine<P> {
 
     ghost use Rattle.mq_port_desk.specs.Machine.{ports};
 
-    ghost meaning = { ports P.state };
+    ghost meaning = { ports P.state P.faults };
 }

@@ -16,8 +16,8 @@ use std::sync::Wait;
 impl<P: Port> QueuePort<P> {
     // Whether ring and journal area have room for a copy and its descriptor.
     fn has_room(&self) -> bool
-        ensures room { result ≡ true → HasRoom (side_of P.state self.now) }
-        ensures full { result ≡ false → self.now.low ≤ self.now.end → HasRoom (side_of P.state self.now) → ⊥ }
+        ensures room { result ≡ true → HasRoom (side_of P.state P.faults self.now) }
+        ensures full { result ≡ false → self.now.low ≤ self.now.end → HasRoom (side_of P.state P.faults self.now) → ⊥ }
     {
         self.sound
             && self.port.doorbell() == self.end
@@ -29,8 +29,8 @@ impl<P: Port> QueuePort<P> {
     }
 }
 
-/// Writes a block by a transaction: takes its page and its queue's side, looks, draws, and gives both
-/// back. There is no number where the side that it took has no room.
+/// Writes a block by a transaction: takes its page and its queue's side, looks, stores a mark that says
+/// nothing, draws, and gives both back. There is no number where the side that it took has no room.
 pub fn write_block<P: Port + Drop, R: Wait>(
     rt: &R,
     desk: &Desk<PortMachine<P>>,
@@ -41,13 +41,13 @@ pub fn write_block<P: Port + Drop, R: Wait>(
     requires turns { (entry.block < length (start_of desk.now).pages) × (entry.queue < length (start_of desk.now).sides) }
     requires shape { (entry.block < homes_of (start_of desk.now).root.geometry) × (entry.queue < (start_of desk.now).root.geometry.queues) × (length entry.content ≡ 4096) }
     requires idle { (view chair.old).held ≡ [] }
-    requires follows { Follows (ports P.state) entry (view chair.old) }
+    requires follows { Follows (ports P.state P.faults) entry (view chair.old) }
     requires room { length (view chair.old).drawn < allotment (chairs_of desk.now) }
     ensures at { AtDesk desk.now chair.new }
     ensures idle { (view chair.new).held ≡ [] }
     ensures drew { IfSome result (λ n. (view chair.new).drawn ≡ (n, entry) ∷ (view chair.old).drawn) }
     ensures rest { ((view chair.new).session ≡ (view chair.old).session) × ((view chair.new).read ≡ (view chair.old).read) }
-    ensures none { IfNone result (((view chair.new).drawn ≡ (view chair.old).drawn) × WasFull P.state entry.queue (view chair.old)) }
+    ensures none { IfNone result (((view chair.new).drawn ≡ (view chair.old).drawn) × WasFull P.state P.faults entry.queue (view chair.old)) }
 {
     let (block, queue) = (entry.block, entry.queue);
     let Item::Page(page) = desk.take(rt, chair, Turn::Page(block)) else {
@@ -62,6 +62,7 @@ pub fn write_block<P: Port + Drop, R: Wait>(
         return None;
     }
     desk.look(chair, None);
+    desk.clear(chair, queue, 1);
     let number = desk.draw(chair, queue, &entry);
     side.end += 2;
     side.place += 2;

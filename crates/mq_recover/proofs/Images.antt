@@ -16,7 +16,7 @@ use Rattle.mq_recover.specs.Ends.{chain_at}
 use Rattle.mq_recover.specs.Plans.{AreChains, ArePlaced, AreRead, IsFoundIn}
 use Rattle.mq_recover.specs.Recover.{IsSeenAt, AreFalling}
 use Rattle.mq_recover.specs.Recovery.{IsRead}
-use Rattle.mq_recover.specs.Refusals.{IsReadable, AreReadable, HasNumber, IsTwice, RefusesQueue, RefusesSome, RefusesTwice, RefusesImage}
+use Rattle.mq_recover.specs.Refusals.{IsReadable, AreReadable, HasNumber, IsTwice, IsReadableImage, RefusesQueue, RefusesSome, RefusesTwice, RefusesImage}
 use Rattle.mq_recover.specs.declared.copies.Copies.{Copies}
 use Rattle.mq_recover.specs.declared.copies.CopyPlace.{CopyPlace}
 use Rattle.mq_recover.specs.declared.plan.Found.{Found}
@@ -114,24 +114,47 @@ twice-refused g d read OutOfMemory limit are r = r
 
 -- ---- one cause at most
 
-reaches-readable : (g : Geometry) (d : DriveState) (ds : List Descriptor) (q : ℕ) (read : Reaches g (view_over g d) ds) → q < g.queues → IsReadable g (port_at d.queues q) q d.root.base (read.chains q)
-reaches-readable g d ds q read low = shown-readable g (view_over g d) (port_at d.queues q) q d.root.base (read.chains q) (view-seen g d q d.root.base refl) (read.whole.each q low)
+-- an image is readable exactly where its transactions are whole
+pub whole-readable : (g : Geometry) (d : DriveState) (chains : ℕ → List Descriptor) → AreWhole g (view_over g d) chains → IsReadableImage g d
+whole-readable g d chains whole = record {
+  limit = whole.limit;
+  chains = chains;
+  readable = λ q low. shown-readable g (view_over g d) (port_at d.queues q) q d.root.base (chains q) (view-seen g d q d.root.base refl) (whole.each q low);
+  once = λ q r n order low a b. whole.once q r (omega (arith, order, low)) low (omega (arith, order)) a.0 b.0 a.1 b.1 (a.2 ∙ sym b.2);
+}
+
+pub readable-whole : (g : Geometry) (d : DriveState) (image : IsReadableImage g d) → AreWhole g (view_over g d) image.chains
+readable-whole g d image = record {
+  limit = image.limit;
+  each = λ q low. queue-chain g d q (image.chains q) (image.readable q low);
+  once = λ q r low lower other a b in_q in_r same. elim (cases_lt q r) [
+    | inl x ↦ image.once q r a.number x lower (a, in_q, refl) (b, in_r, sym same)
+    | inr x ↦ image.once r q a.number (omega (arith, x, other)) low (b, in_r, sym same) (a, in_q, refl)
+  ];
+}
 
 -- a readable image has no cause to be refused
-pub reaches-refused : (g : Geometry) (d : DriveState) (ds : List Descriptor) (e : ImageFault) → Reaches g (view_over g d) ds → RefusesImage g d e → ⊥
-reaches-refused g d ds (Limit base) read r = let l = read.whole.limit in let is = r.0 in let high = r.1 in absurd (omega (arith, l, is, high))
-reaches-refused g d ds (Bad q cause) read r = readable-refused g (port_at d.queues q) q d.root.base (read.chains q) cause (reaches-readable g d ds q read r.1.0) r.1.3
-reaches-refused g d ds (Twice n a b) read r =
-    let chains = r.1 in
+pub image-refused : (g : Geometry) (d : DriveState) (e : ImageFault) → IsReadableImage g d → RefusesImage g d e → ⊥
+image-refused g d (Limit base) image r = let l = image.limit in let is = r.0 in let high = r.1 in absurd (omega (arith, l, is, high))
+image-refused g d (Bad q cause) image r = readable-refused g (port_at d.queues q) q d.root.base (image.chains q) cause (image.readable q r.1.0) r.1.3
+image-refused g d (Twice n a b) image r =
     let twice = r.3 in
     let order = twice.order in
     let low = twice.within in
-    let lower : a < g.queues = omega (arith, order, low) in
-    let same : (q : ℕ) → q < g.queues → chains q ≡ read.chains q = λ q within. readable-once g (port_at d.queues q) q d.root.base (chains q) (read.chains q) (r.2 q within) (reaches-readable g d ds q read within) in
-    let one = twice.in_first in
-    let other = twice.in_second in
-    read.whole.once a b lower low (omega (arith, order)) one.0 other.0 (subst (λ (l : List Descriptor). Has l one.0) (same a lower) one.1) (subst (λ (l : List Descriptor). Has l other.0) (same b low) other.1) (one.2 ∙ sym other.2)
-reaches-refused g d ds OutOfMemory read r = r
+    let along : (q : ℕ) → q < g.queues → HasNumber (r.1 q) n → HasNumber (image.chains q) n =
+    λ q within has. subst (λ (l : List Descriptor). HasNumber l n) (readable-once g (port_at d.queues q) q d.root.base (r.1 q) (image.chains q) (r.2 q within) (image.readable q within)) has in
+    image.once a b n order low (along a (omega (arith, order, low)) twice.in_first) (along b low twice.in_second)
+image-refused g d OutOfMemory image r = r
+
+pub reaches-refused : (g : Geometry) (d : DriveState) (ds : List Descriptor) (e : ImageFault) → Reaches g (view_over g d) ds → RefusesImage g d e → ⊥
+reaches-refused g d ds e read r = image-refused g d e (whole-readable g d read.chains read.whole) r
+
+-- it is refused for want of memory alone
+pub memory-alone : (g : Geometry) (d : DriveState) (e : ImageFault) → (e ≡ OutOfMemory) ⊎ RefusesImage g d e → IsReadableImage g d → e ≡ OutOfMemory
+memory-alone g d e given image = elim given [ inl x ↦ x | inr x ↦ absurd (image-refused g d e image x) ]
+
+pub read-readable : (g : Geometry) (d : DriveState) (ds : List Descriptor) (top : ℕ) → IsRead g (view_over g d) ds top → IsReadableImage g d
+read-readable g d ds top read = whole-readable g d read.chains read.whole
 
 pub read-reaches : (g : Geometry) (i : Shown) (ds : List Descriptor) (top : ℕ) → IsRead g i ds top → Reaches g i ds
 read-reaches g i ds top read = record { chains = read.chains; whole = read.whole; prefix = read.prefix }

@@ -16,16 +16,17 @@ use Rattle.mq_drive.specs.Start.{IsPortOf}
 use Rattle.mq_drive.specs.declared.role.Role.TheVariants.{Queue, Root}
 use Rattle.mq_recover.specs.Drives.{DriveState, ArePorts, IsQuiescentDrive, AreImages, AreBoundsKept, drive, view_over}
 use Rattle.mq_recover.specs.Plans.{IsPlan}
-use Rattle.mq_recover.specs.RecoverCauses.{OnDrive}
+use Rattle.mq_recover.specs.RecoverCauses.{OnDrive, UnlessImage}
 use Rattle.mq_recover.specs.RecoverHomes.{AreBelow, CanMove, AreCutMoves, after_raise, after_move, IsCutRaise}
 use Rattle.mq_recover.specs.Recover.{copy_of, content_of}
 use Rattle.mq_recover.specs.Recovery.{IsRead, IsRecovered}
+use Rattle.mq_recover.specs.Refusals.{IsReadableImage}
 use Rattle.mq_recover.specs.Steps.{Event, BeginHome, EndHome, StoreBase, FlushBase, StoreHead, FlushHead, at_home, after_event, after_events, home_events, base_events, heads_events, recovery_events, AreHomeWrites, StopsAt, IsDone, IsCutShort, IsAgain}
 use Rattle.mq_recover.specs.declared.plan.Plan.{Plan}
 use Rattle.mq_recover.specs.declared.refusal.RecoverRefusal.{RecoverRefusal}
 use Rattle.mq_recover.specs.declared.refusal.RecoverRefusal.TheVariants.{Image, Off, Failed}
 use Rattle.mq_recover.proofs.CutImages.{IsSameLog, read-raised}
-use Rattle.mq_recover.proofs.Images.{read-same}
+use Rattle.mq_recover.proofs.Images.{read-same, read-readable}
 use Rattle.mq_recover.proofs.RecoverCopies.{stands-copy}
 use Rattle.mq_recover.proofs.RecoverCuts.{each-stage}
 use Rattle.mq_recover.proofs.RecoverEvents.{after-then, events-ports, stops-more, off-after}
@@ -317,6 +318,13 @@ on-drive (Ok x) e P is holds = tt
 on-drive (Err (Image fault)) e P is holds = tt
 on-drive (Err Off) e P is holds = subst P (sym (ap (refusal_in Off) is)) holds
 on-drive (Err (Failed block status)) e P is holds = subst P (sym (ap (refusal_in Off) is)) holds
+
+-- a plan is made of a readable image alone, whatever the drive then refuses
+pub unless-image : {A : Type 0} (g : Geometry) (d : DriveState) (plan : Plan) (result : Result A RecoverRefusal) → IsPlan g d plan → UnlessImage result (IsReadableImage g d)
+unless-image g d plan (Ok x) is = read-readable g d is.ds plan.recovered.base is.read
+unless-image g d plan (Err (Image fault)) is = tt
+unless-image g d plan (Err Off) is = read-readable g d is.ds plan.recovered.base is.read
+unless-image g d plan (Err (Failed block status)) is = read-readable g d is.ds plan.recovered.base is.read
 
 -- ---- begun again
 

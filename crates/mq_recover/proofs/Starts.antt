@@ -100,7 +100,7 @@ starts g d base still heads read base_is start long holds =
       ports = still.count;
       marked = length-replicate g.queues (2 ^ 64 - 1);
       marks = λ q own. get_or-replicate g.queues q (2 ^ 64 - 1) 0 own;
-      under = refl;
+      writing = refl;
       acknowledged = refl;
       each = λ q own.
           subst (λ (n : ℕ). IsStartPort journal_entries (started g d start) (Some q) n (port_at d.queues q)) (sym (from-at d.queues q))

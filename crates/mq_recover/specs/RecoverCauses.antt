@@ -45,3 +45,8 @@ abbrev pub OnDrive : {A : Type 0} → Result A RecoverRefusal → (RecoverRefusa
 OnDrive (Err Off) P = P Off
 OnDrive (Err (Failed block status)) P = P (Failed block status)
 OnDrive _ P = Unit {0}
+
+-- this holds unless the image is refused
+abbrev pub UnlessImage : {A : Type 0} → Result A RecoverRefusal → Type 0 → Type 0
+UnlessImage (Err (Image _)) P = Unit {0}
+UnlessImage _ P = P

@@ -54,7 +54,7 @@ started g d start = record {
   ports = d.queues;
   root = d.root;
   marks = replicate g.queues (2 ^ 64 - 1);
-  under = [];
+  writing = [];
   acknowledged = [];
 }
 

@@ -193,3 +193,11 @@ RefusesImage g d (fault.Bad q cause) = (d.root.base ≤ number_limit) × Refuses
 RefusesImage g d (fault.Twice number first second) =
     (d.root.base ≤ number_limit) × (chains : ℕ → List Descriptor) × AreReadable g d g.queues chains × IsTwice g.queues chains number first second
 RefusesImage g d fault.OutOfMemory = ⊥
+
+-- The image of a drive is readable: its base is within the limit, each queue is readable over the
+-- base, and no number stands in the chains of two queues.
+pub record IsReadableImage (g : Geometry) (d : DriveState) : Type 0 where
+  pub limit : d.root.base ≤ number_limit
+  pub chains : ℕ → List Descriptor
+  pub readable : AreReadable g d g.queues chains
+  pub once : (q r number : ℕ) → q < r → r < g.queues → HasNumber (chains q) number → HasNumber (chains r) number → ⊥

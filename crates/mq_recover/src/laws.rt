@@ -1,12 +1,23 @@
-// What holds of recoveries one after another.
+// What holds of readable images, and of recoveries one after another.
 ghost use Rattle.std.specs.Prelude.{ℕ, List, map};
 ghost use Rattle.mq_blocks.specs.Descriptor.{Descriptor};
 ghost use Rattle.mq_blocks.specs.Drive.{image_of};
+ghost use Rattle.mq_blocks.specs.Journal.{AreWhole};
 ghost use Rattle.mq_blocks.specs.declared.geometry.Geometry.{Geometry};
 ghost use Rattle.mq_recover.specs.Drives.{DriveState, AreImages, view_over};
 ghost use Rattle.mq_recover.specs.Recovery.{IsRead, IsRecovered};
+ghost use Rattle.mq_recover.specs.Refusals.{IsReadableImage, RefusesImage};
 ghost use Rattle.mq_recover.specs.Steps.{IsCutShort, IsAgain};
+ghost use Rattle.mq_recover.specs.declared.refusal.ImageFault.{ImageFault};
 ghost use Rattle.mq_recover.specs.declared.refusal.RecoverRefusal.{RecoverRefusal};
+
+/// An image is readable exactly where its transactions are whole, and then it has no cause to be
+/// refused.
+pub fn readable_images_are_whole()
+    ensures whole { (g : Geometry) (d : DriveState) (image : IsReadableImage g d) → AreWhole g (view_over g d) image.chains }
+    ensures readable { (g : Geometry) (d : DriveState) (chains : ℕ → List Descriptor) → AreWhole g (view_over g d) chains → IsReadableImage g d }
+    ensures unrefused { (g : Geometry) (d : DriveState) (e : ImageFault) → IsReadableImage g d → RefusesImage g d e → ⊥ }
+{}
 
 /// A recovery that the drive cut short may be begun again on whatever a power cut leaves of it: what
 /// the later one recovers is what the first one was to recover, with the same base and the heads at the

@@ -13,7 +13,7 @@ mod refusal;
 mod standing;
 
 pub use chain::{Chain, read_chain};
-pub use laws::recovery_may_be_cut;
+pub use laws::{readable_images_are_whole, recovery_may_be_cut};
 pub use plan::Recovered;
 pub use ports::recover;
 pub use refusal::{ChainRefusal, ImageFault, RecoverRefusal};

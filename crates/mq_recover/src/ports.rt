@@ -2,8 +2,8 @@
 // doorbells.
 ghost use Rattle.std.specs.Prelude.{◌≡◌, ◌⊎◌, length, IfOk, IsErrOf};
 ghost use Rattle.mq_recover.specs.Drives.{IsQuiescentDrive, AreBoundsKept, states, faults_of};
-ghost use Rattle.mq_recover.specs.RecoverCauses.{HasDriveCause, OnImage, OnDrive};
-ghost use Rattle.mq_recover.specs.Refusals.{RefusesImage};
+ghost use Rattle.mq_recover.specs.RecoverCauses.{HasDriveCause, OnImage, OnDrive, UnlessImage};
+ghost use Rattle.mq_recover.specs.Refusals.{IsReadableImage, RefusesImage};
 ghost use Rattle.mq_recover.specs.Steps.{IsDone, IsCutShort};
 
 use crate::homes::{move_heads, raise_base, write_homes};
@@ -26,6 +26,8 @@ pub fn recover<P: Port>(
     ensures ok { IfOk result (λ r. IsDone geometry (states P.state ports.old.queues.items ports.old.root) r.prefix r.base (states P.state ports.new.queues.items ports.new.root)) }
     ensures image { OnImage result (λ fault. (states P.state ports.new.queues.items ports.new.root ≡ states P.state ports.old.queues.items ports.old.root) × ((fault ≡ ImageFault.OutOfMemory) ⊎ RefusesImage geometry (states P.state ports.old.queues.items ports.old.root) fault)) }
     ensures exact { (e : ImageFault) → RefusesImage geometry (states P.state ports.old.queues.items ports.old.root) e → IsErrOf result (RecoverRefusal.Image e) ⊎ IsErrOf result (RecoverRefusal.Image ImageFault.OutOfMemory) }
+    ensures readable { UnlessImage result (IsReadableImage geometry (states P.state ports.old.queues.items ports.old.root)) }
+    ensures complete { IsReadableImage geometry (states P.state ports.old.queues.items ports.old.root) → OnImage result (λ fault. fault ≡ ImageFault.OutOfMemory) }
     ensures drive { OnDrive result (λ e. IsCutShort geometry e (states P.state ports.old.queues.items ports.old.root) (states P.state ports.new.queues.items ports.new.root)) }
     ensures count { length ports.new.queues.items ≡ length ports.old.queues.items }
     ensures bounds { AreBoundsKept geometry (states P.state ports.old.queues.items ports.old.root) (states P.state ports.new.queues.items ports.new.root) }

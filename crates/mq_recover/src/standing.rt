@@ -1,10 +1,10 @@
 // What stands on the home blocks of an image.
-ghost use Rattle.std.specs.Prelude.{◌≡◌, ◌⊎◌, ◌<◌, ℕ, length, IfOk, IfErr, IsErrOf, None, slice_index_or};
+ghost use Rattle.std.specs.Prelude.{◌≡◌, ◌⊎◌, ◌<◌, ℕ, length, IfOk, IfErr, IsErrOf, IsOkUnless, None, slice_index_or};
 ghost use Rattle.mq_blocks.specs.Blocks.{block_at};
 ghost use Rattle.mq_blocks.specs.Geometry.{homes_of};
 ghost use Rattle.mq_recover.specs.Drives.{IsQuiescentDrive, states, view_over};
 ghost use Rattle.mq_recover.specs.Recover.{IsSpotOf};
-ghost use Rattle.mq_recover.specs.Refusals.{RefusesImage};
+ghost use Rattle.mq_recover.specs.Refusals.{IsReadableImage, RefusesImage};
 ghost use Rattle.mq_recover.specs.Standing.{newest_of, StandsIn};
 
 use crate::copies::CopyPlace;
@@ -37,6 +37,8 @@ pub fn stands<P: Port>(
     ensures ok { IfOk result (StandsIn geometry (states P.state ports.now.queues.items ports.now.root)) }
     ensures refused { IfErr result (λ e. (e ≡ ImageFault.OutOfMemory) ⊎ RefusesImage geometry (states P.state ports.now.queues.items ports.now.root) e) }
     ensures exact { (e : ImageFault) → RefusesImage geometry (states P.state ports.now.queues.items ports.now.root) e → IsErrOf result e ⊎ IsErrOf result ImageFault.OutOfMemory }
+    ensures readable { IfOk result (λ _. IsReadableImage geometry (states P.state ports.now.queues.items ports.now.root)) }
+    ensures complete { IsReadableImage geometry (states P.state ports.now.queues.items ports.now.root) → IsOkUnless result ImageFault.OutOfMemory }
 {
     let found = find_copies(alloc, geometry, ports)?;
     let blocks = read_blocks(alloc, geometry, ports, &found.places)?;

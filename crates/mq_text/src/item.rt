@@ -43,8 +43,8 @@ fn read_hex_digit(digit: u8) -> Option<u8>
 }
 
 /// The byte of two lower-case hexadecimal digits.
-fn read_hex(high: u8, low: u8) -> Option<u8>
-    ensures found { IfSome result (λ v. hex_text v ≡ high ∷ low ∷ []) }
+pub fn read_hex(high: u8, low: u8) -> Option<u8>
+    ensures found { IfSome result (λ v. (v ≤ 255) × (hex_text v ≡ high ∷ low ∷ [])) }
     ensures only { (v : ℕ) → v < 256 → high ∷ low ∷ [] ≡ hex_text v → result ≡ Some v }
 {
     let high = read_hex_digit(high)?;

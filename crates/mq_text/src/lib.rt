@@ -11,9 +11,10 @@ mod refusal;
 mod tests;
 mod whole;
 
-pub use item::BlockItem;
+pub use item::{BlockItem, read_hex};
 pub use line::BlockLine;
 pub use number::read_number;
+pub use parts::cut_at;
 pub use print::print_blocks;
 pub use refusal::{BlockTextCause, BlockTextRefusal};
 pub use whole::{BlockText, read_block_text};

@@ -1,17 +1,16 @@
 -- Volumes that are alike answer requests to read alike.
-use Rattle.std.proofs.Common.{◌≡◌, ℕ, zero, suc, List, [], ◌∷◌, ◌++◌, length, refl, sym, ap, ◌∙◌, take, drop}
+use Rattle.std.proofs.Common.{◌≡◌, ℕ, zero, suc, ◌+◌, List, [], ◌∷◌, ◌++◌, length, refl, sym, ap, ◌∙◌, arith}
 use Rattle.std.specs.Prelude.{Option, Some, None, Result, Ok, Err, codes, if◌then◌else◌}
 use Rattle.std.specs.List.{list_all}
 use Rattle.mq_blocks.specs.declared.geometry.Geometry.{Geometry}
 use Rattle.mq_layout.specs.Names.{is_name}
 use Rattle.mq_layout.specs.Slots.{Entry}
-use Rattle.mq_tree.specs.ListText.{Item, entries_in, head_of, items_of, line_of, lines, list_text, path_of}
+use Rattle.mq_tree.specs.ListText.{Item, entries_in, head_of, items_of, line_of, lines, list_text, name_count, path_of, slot_count}
 use Rattle.mq_tree.specs.Requests.{In, Lost, Root, Says, Target, Verdict, asks, enter, go_on, into_dir, read_in, refused, target, target_in, verdict, walk}
 use Rattle.mq_tree.specs.Trees.{IsAlike}
 use Rattle.mq_tree.specs.Volume.{ADir, AFile, Body, Free, File, Dir, Path, Thing, Volume, Way, body, find, slots_of, thing, way}
 use Rattle.mq_tree.specs.declared.request.Fault.{Fault}
 use Rattle.mq_tree.specs.declared.request.Fault.TheVariants.{BadName}
-use Rattle.mq_tree.specs.declared.request.Reply.TheVariants.{Data}
 use Rattle.mq_tree.specs.declared.request.Request.TheVariants.{Read}
 
 no-thing : {R : Type 0} (t : Thing) → None ≡ Some t → R
@@ -20,31 +19,24 @@ no-thing t e = absurd (cc)
 no-file : {R : Type 0} (bytes : List ℕ) → Some (AFile bytes) ≡ Some ADir → R
 no-file bytes e = absurd (cc)
 
-same-dir : (i : ℕ) (a b : Body) → thing a ≡ thing b → into_dir i a ≡ into_dir i b
-same-dir i Free Free e = refl
-same-dir i Free (File ys) e = no-thing (AFile ys) e
-same-dir i Free (Dir t) e = no-thing ADir e
-same-dir i (File xs) Free e = no-thing (AFile xs) (sym e)
-same-dir i (File xs) (File ys) e = refl
-same-dir i (File xs) (Dir t) e = no-file xs e
-same-dir i (Dir s) Free e = no-thing ADir (sym e)
-same-dir i (Dir s) (File ys) e = no-file ys (sym e)
-same-dir i (Dir s) (Dir t) e = refl
+-- a function of what a body is, which does not look at the slots of a directory
+same-on : {X : Type 0} (f : Body → X) → ((s t : List (Option Entry)) → f (Dir s) ≡ f (Dir t)) → (a b : Body) → thing a ≡ thing b → f a ≡ f b
+same-on f dirs Free Free e = refl
+same-on f dirs Free (File ys) e = no-thing (AFile ys) e
+same-on f dirs Free (Dir t) e = no-thing ADir e
+same-on f dirs (File xs) Free e = no-thing (AFile xs) (sym e)
+same-on f dirs (File xs) (File ys) e = let same : xs ≡ ys = cc in ap (λ (bytes : List ℕ). f (File bytes)) same
+same-on f dirs (File xs) (Dir t) e = no-file xs e
+same-on f dirs (Dir s) Free e = no-thing ADir (sym e)
+same-on f dirs (Dir s) (File ys) e = no-file ys (sym e)
+same-on f dirs (Dir s) (Dir t) e = dirs s t
 
-same-read : (at count : ℕ) (a b : Body) → thing a ≡ thing b → read_in at count a ≡ read_in at count b
-same-read at count Free Free e = refl
-same-read at count Free (File ys) e = no-thing (AFile ys) e
-same-read at count Free (Dir t) e = no-thing ADir e
-same-read at count (File xs) Free e = no-thing (AFile xs) (sym e)
-same-read at count (File xs) (File ys) e = let same : xs ≡ ys = cc in ap (λ (bytes : List ℕ). Data (take count (drop at bytes))) same
-same-read at count (File xs) (Dir t) e = no-file xs e
-same-read at count (Dir s) Free e = no-thing ADir (sym e)
-same-read at count (Dir s) (File ys) e = no-file ys (sym e)
-same-read at count (Dir s) (Dir t) e = refl
+same-read : (v w : Volume) (at count : ℕ) → IsAlike v w → (i : ℕ) → read_in at count (body v i) ≡ read_in at count (body w i)
+same-read v w at count alike i = same-on (read_in at count) (λ s t. refl) (body v i) (body w i) (alike.each i).0
 
 same-enter : (v w : Volume) → IsAlike v w → (o : Option ℕ) → enter v o ≡ enter w o
 same-enter v w alike None = refl
-same-enter v w alike (Some i) = same-dir i (body v i) (body w i) (alike.each i).0
+same-enter v w alike (Some i) = same-on (into_dir i) (λ s t. refl) (body v i) (body w i) (alike.each i).0
 
 same-step : (v w : Volume) → IsAlike v w → (name : List ℕ) (r : Result ℕ Fault) → go_on v name r ≡ go_on w name r
 same-step v w alike name (Err fault) = refl
@@ -63,10 +55,10 @@ same-target v w alike [] = refl
 same-target v w alike (name ∷ way) = ap (target_in v name) (same-walk v w alike way) ∙ same-target_in v w alike name (walk w way)
 
 same-asks : (v w : Volume) (at count : ℕ) → IsAlike v w → (t : Target) → asks v (read_in at count) t ≡ asks w (read_in at count) t
-same-asks v w at count alike Root = ap Says (same-read at count (body v 0) (body w 0) (alike.each 0).0)
+same-asks v w at count alike Root = ap Says (same-read v w at count alike 0)
 same-asks v w at count alike (Lost fault) = refl
 same-asks v w at count alike (In d name None) = refl
-same-asks v w at count alike (In d name (Some i)) = ap Says (same-read at count (body v i) (body w i) (alike.each i).0)
+same-asks v w at count alike (In d name (Some i)) = ap Says (same-read v w at count alike i)
 
 pub alike-reads : (g : Geometry) (q : ℕ) (v w : Volume) → IsAlike v w → (path : Path) (at count : ℕ) → verdict g q v (Read path at count) ≡ verdict g q w (Read path at count)
 alike-reads g q v w alike path at count =
@@ -74,19 +66,8 @@ alike-reads g q v w alike path at count =
 
 -- ---- listings
 
-same-head : (a b : Body) → thing a ≡ thing b → head_of a ≡ head_of b
-same-head Free Free e = refl
-same-head Free (File ys) e = no-thing (AFile ys) e
-same-head Free (Dir t) e = no-thing ADir e
-same-head (File xs) Free e = no-thing (AFile xs) (sym e)
-same-head (File xs) (File ys) e = let same : xs ≡ ys = cc in ap (λ (bytes : List ℕ). head_of (File bytes)) same
-same-head (File xs) (Dir t) e = no-file xs e
-same-head (Dir s) Free e = no-thing ADir (sym e)
-same-head (Dir s) (File ys) e = no-file ys (sym e)
-same-head (Dir s) (Dir t) e = refl
-
 same-line : (v w : Volume) → IsAlike v w → (path : List ℕ) (i : ℕ) → line_of path (body v i) ≡ line_of path (body w i)
-same-line v w alike path i = ap (λ (h : List ℕ). h ++ path ++ codes "\n") (same-head (body v i) (body w i) (alike.each i).0)
+same-line v w alike path i = ap (λ (h : List ℕ). h ++ path ++ codes "\n") (same-on head_of (λ s t. refl) (body v i) (body w i) (alike.each i).0)
 
 same-lines : (count : ℕ) (v w : Volume) → IsAlike v w → (todo : List Item) → lines count v todo ≡ lines count w todo
 unfolding lines
@@ -99,9 +80,15 @@ same-lines (suc count) v w alike (x ∷ todo) =
     ∙ ap (λ (es : List Entry). line_of (path_of x) (body w i) ++ lines count v (below es)) (alike.each i).1.entries
     ∙ ap (λ (l : List ℕ). line_of (path_of x) (body w i) ++ l) (same-lines count v w alike (below (entries_in (slots_of (body w i)))))
 
+same-slots : (v w : Volume) → length v ≡ length w → ((i : ℕ) → entries_in (slots_of (body v i)) ≡ entries_in (slots_of (body w i))) → slot_count v ≡ slot_count w
+same-slots [] [] e h = refl
+same-slots [] (m ∷ w) e h = absurd (omega arith)
+same-slots (n ∷ v) [] e h = absurd (omega arith)
+same-slots (n ∷ v) (m ∷ w) e h = ap (λ (es : List Entry). length es + slot_count v) (h zero) ∙ ap (λ (k : ℕ). name_count m.body + k) (same-slots v w (omega arith) (λ i. h (suc i)))
+
 pub alike-text : (v w : Volume) → IsAlike v w → list_text v ≡ list_text w
 alike-text v w alike =
-    ap (λ (l : List ℕ). l ++ lines (length v) v (items_of [] (entries_in (slots_of (body v 0))))) (same-line v w alike (codes "/") 0)
-    ∙ ap (λ (es : List Entry). line_of (codes "/") (body w 0) ++ lines (length v) v (items_of [] es)) (alike.each 0).1.entries
-    ∙ ap (λ (n : ℕ). line_of (codes "/") (body w 0) ++ lines n v (items_of [] (entries_in (slots_of (body w 0))))) alike.count
-    ∙ ap (λ (l : List ℕ). line_of (codes "/") (body w 0) ++ l) (same-lines (length w) v w alike (items_of [] (entries_in (slots_of (body w 0)))))
+    ap (λ (l : List ℕ). l ++ lines (slot_count v) v (items_of [] (entries_in (slots_of (body v 0))))) (same-line v w alike (codes "/") 0)
+    ∙ ap (λ (es : List Entry). line_of (codes "/") (body w 0) ++ lines (slot_count v) v (items_of [] es)) (alike.each 0).1.entries
+    ∙ ap (λ (n : ℕ). line_of (codes "/") (body w 0) ++ lines n v (items_of [] (entries_in (slots_of (body w 0))))) (same-slots v w alike.count (λ i. (alike.each i).1.entries))
+    ∙ ap (λ (l : List ℕ). line_of (codes "/") (body w 0) ++ l) (same-lines (slot_count w) v w alike (items_of [] (entries_in (slots_of (body w 0)))))

@@ -1,5 +1,5 @@
 -- Blocks that are claimed, use by use.
-use Rattle.std.proofs.Common.{get_or, set, ◌≡◌, ℕ, zero, suc, ◌+◌, ◌<◌, ◌≤◌, ◌⊎◌, inl, inr, List, length, replicate, Bool, true, false, refl, sym, ap, subst, ◌∙◌, arith, get_or-set_same, get_or-set_other, length-set}
+use Rattle.std.proofs.Common.{get_or, set, ◌≡◌, ℕ, ◌+◌, ◌<◌, ◌≤◌, ◌⊎◌, inl, inr, List, length, replicate, Bool, true, false, refl, sym, ap, subst, ◌∙◌, arith, get_or-set_same, get_or-set_other, length-set}
 use Rattle.std.specs.Prelude.{Option, Some}
 use Rattle.std.proofs.lemmas.Bool.{cases_Bool, cases_eq, false_from_ne_true, true≢false}
 use Rattle.std.proofs.lemmas.List.{length-replicate}
@@ -13,7 +13,9 @@ use Rattle.mq_tree.specs.Decoded.{Stored, count_of, pointer_to, the_inode, volum
 use Rattle.mq_tree.specs.Volume.{Use, Part, Pointers, block_in, is_taken}
 use Rattle.mq_tree.specs.declared.corrupt.CorruptCause.TheVariants.{Shared}
 use Rattle.mq_tree.proofs.Decoding.{indirect-found, indirect-is, part-found, part-is, taken-use}
+use Rattle.mq_tree.proofs.Phases.{used-for}
 use Rattle.mq_tree.proofs.Uses.{use-taken}
+use Rattle.mq_tree.proofs.Walking.{all-false}
 
 -- the uses of the inodes below `i`, and of the first `k` blocks of inode `i`
 abbrev pub IsDone : ℕ → ℕ → Use → Type 0
@@ -123,11 +125,6 @@ claims-start g s seen e = record {
   apart = λ u w b d f. absurd (never u d);
 }
   where
-    all-false : (n k : ℕ) → get_or (replicate n false) k false ≡ false
-    all-false zero k = refl
-    all-false (suc n) zero = refl
-    all-false (suc n) (suc k) = all-false n k
-
     none : (b : ℕ) → get_or seen b false ≡ false
     none b = ap (λ (xs : List Bool). get_or xs b false) e ∙ all-false (homes_of g) b
 
@@ -170,25 +167,25 @@ claims-few g s seen new i k n c e all few f =
       apart = λ u w b h j is at. d.apart u w b (only u b h is) (only w b j at) is at;
     })
 
-pub claims-shared_part : (g : Geometry) (s : Stored) (seen : List Bool) (i k b : ℕ) (n : Inode) (t : Bool) → Claims g s seen i k → n ≡ the_inode g s i → i < inodes_of g → k < count_of n → b ≡ pointer_to s n k → t ≡ get_or seen b false → t ≡ true
+pub claims-shared_part : (g : Geometry) (s : Stored) (seen : List Bool) (i k b : ℕ) (n : Inode) (t : Bool) → Claims g s seen i k → ArePointers g s → n ≡ the_inode g s i → i < inodes_of g → k < count_of n → b ≡ pointer_to s n k → t ≡ get_or seen b false → t ≡ true
     → IsCorrupt g s Shared b
-claims-shared_part g s seen i k b n t c e low inside is was old =
+claims-shared_part g s seen i k b n t c pointers e low inside is was old =
     let q : k < count_of (the_inode g s i) = subst (λ x. k < count_of x) e inside in
     let at : pointer_to s (the_inode g s i) k ≡ b = sym (is ∙ ap (λ (x : Inode). pointer_to s x k) e) in
     let w = c.used b (sym was ∙ old) in
-    shared_block w.0 (Part i k) w.2 (part-is g s i k b (record { low = low; inside = q; is = at })) (λ same. not-done (subst (λ u. IsDone i k u) same w.1))
+    shared_block w.0 (Part i k) (used-for g s w.0 b pointers w.2) (used-for g s (Part i k) b pointers (part-is g s i k b (record { low = low; inside = q; is = at }))) (λ same. not-done (subst (λ u. IsDone i k u) same w.1))
   where
     not-done : IsDone i k (Part i k) → ⊥
     not-done (inl l) = absurd (omega arith)
     not-done (inr h) = absurd (let l = h.1 in omega arith)
 
-pub claims-shared_pointers : (g : Geometry) (s : Stored) (seen : List Bool) (i k b : ℕ) (n : Inode) (t : Bool) → Claims g s seen i k → n ≡ the_inode g s i → i < inodes_of g → k ≡ count_of n → 12 < k → b ≡ n.indirect → t ≡ get_or seen b false → t ≡ true
+pub claims-shared_pointers : (g : Geometry) (s : Stored) (seen : List Bool) (i k b : ℕ) (n : Inode) (t : Bool) → Claims g s seen i k → ArePointers g s → n ≡ the_inode g s i → i < inodes_of g → k ≡ count_of n → 12 < k → b ≡ n.indirect → t ≡ get_or seen b false → t ≡ true
     → IsCorrupt g s Shared b
-claims-shared_pointers g s seen i k b n t c e low all many is was old =
+claims-shared_pointers g s seen i k b n t c pointers e low all many is was old =
     let q : k ≡ count_of (the_inode g s i) = all ∙ ap count_of e in
     let at : (the_inode g s i).indirect ≡ b = sym (is ∙ ap (λ (x : Inode). x.indirect) e) in
     let w = c.used b (sym was ∙ old) in
-    shared_block w.0 (Pointers i) w.2 (indirect-is g s i b (record { low = low; many = omega arith; is = at })) (λ same. let d : i < i = subst (λ u. IsDone i k u) same w.1 in absurd (omega arith))
+    shared_block w.0 (Pointers i) (used-for g s w.0 b pointers w.2) (used-for g s (Pointers i) b pointers (indirect-is g s i b (record { low = low; many = omega arith; is = at }))) (λ same. let d : i < i = subst (λ u. IsDone i k u) same w.1 in absurd (omega arith))
 
 -- a block that is claimed is a home block
 pub claims-home : (g : Geometry) (s : Stored) (i k b : ℕ) (n : Inode) → ArePointers g s → n ≡ the_inode g s i → i < inodes_of g → k < count_of n → b ≡ pointer_to s n k → b < homes_of g

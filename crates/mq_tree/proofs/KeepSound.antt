@@ -16,12 +16,12 @@ use Rattle.mq_tree.specs.Free.{free_blocks}
 use Rattle.mq_tree.specs.Kept.{IsAdded, IsBare, IsRemoved, IsRenamed, IsRewritten}
 use Rattle.mq_tree.specs.Requests.{freed, is_below, linked, resized, unlinked}
 use Rattle.mq_tree.specs.Sound.{AreBytes, IsBody, IsSound}
-use Rattle.mq_tree.specs.Volume.{ADir, AFile, Body, Free, File, Dir, Path, Thing, Volume, Way, body, find, inode_at, is_used, node, slot, slots_of, thing, tree, way}
+use Rattle.mq_tree.specs.Volume.{Body, File, Path, Thing, Volume, Way, body, find, inode_at, node, slot, slots_of, thing, tree, way}
 use Rattle.mq_tree.proofs.KeepChanges.{AreWays, CutsEntry, FillsFile, IsNew, MakesEntry, MovesEntry, cut-is, filled-is, made-is, moved-is, with_new}
 use Rattle.mq_tree.proofs.KeepCut.{cut-here, cut-others, cut-tree, filled-here, filled-others, filled-tree}
 use Rattle.mq_tree.proofs.KeepMake.{made-here, made-others, made-tree}
 use Rattle.mq_tree.proofs.KeepMove.{moved-gone, moved-here, moved-others, moved-tree}
-use Rattle.mq_tree.proofs.KeepPaths.{last-step, leads-used, nothing-at, thing-here}
+use Rattle.mq_tree.proofs.KeepPaths.{last-step, leads-used, nothing-at, thing-here, used-is}
 use Rattle.mq_tree.proofs.KeepTargets.{IsIn, in-leads, last-good, same-way, tree-way, way-append, way-below}
 use Rattle.mq_tree.proofs.KeepVerdicts.{CutsOld, FillsNew, MakesNew, MovesOld}
 use Rattle.mq_tree.proofs.KeepVolumes.{sound-nodes, sound-tree, volume-sound}
@@ -167,11 +167,6 @@ moved-renamed g v w from to d name i c new old sound s t was m =
           (λ r h. b (reverse r) (way-below other to r (h ∙ ap (λ (x : Way). r ++ x) (sym t.is))));
     }
 
-used-something : (b : Body) → is_used b ≡ true → (t : Thing) × (thing b ≡ Some t)
-used-something Free e = absurd (true≢false (sym e))
-used-something (File bytes) e = (AFile bytes, refl)
-used-something (Dir slots) e = (ADir, refl)
-
 pub moves-kept : (g : Geometry) (q : ℕ) (v : Volume) (from to : Path) (n : ℕ) (w : Volume) → q < queues_of g → IsSound g v → list_all is_name to ≡ true → n ≤ free_blocks g v → MovesOld g q v from to n w → IsSound g w × IsRenamed v w from to
 moves-kept g q v from to n w low sound good enough m =
     let s = m.source in
@@ -190,7 +185,7 @@ moves-kept g q v from to n w low sound good enough m =
     let r = moved-is g q v d m.name s.parent m.inode c m.new_name t.parent low sound.count (sound-nodes g v sound) s.directory s.found_is used t.directory ways (last-good to m.new_name t.parent good t.is) m.few (omega arith) in
     let u = linked g q (unlinked v d m.name) c (record { inode = m.inode; name = m.new_name }) in
     let f : Entry = record { inode = r.from_entry.inode; name = m.new_name } in
-    let something = used-something (body v m.inode) used in
+    let something = used-is (body v m.inode) used in
     subst (λ x. IsSound g x × IsRenamed v x from to) (sym m.next) (
       volume-sound g v u sound r.size (moved-tree v u d r.from_place r.from_entry s.parent c r.to_place f t.parent k r.moved) r.nodes,
       moved-renamed g v u from to d m.name m.inode c m.new_name something.0 sound s t something.1 r,

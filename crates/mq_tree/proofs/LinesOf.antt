@@ -1,5 +1,5 @@
 -- Lines of a tree, name by name.
-use Rattle.std.proofs.Common.{get_or, ◌≡◌, ℕ, zero, suc, ◌+◌, ◌-◌, ◌<◌, ◌≤◌, List, [], ◌∷◌, ◌++◌, length, map, take, drop, reverse, Bool, true, cond, refl, sym, ap, subst, ◌∙◌, arith, Vec, codes, drop_at, length-append, append_assoc, take_all}
+use Rattle.std.proofs.Common.{get_or, ◌≡◌, ℕ, zero, suc, ◌+◌, ◌-◌, ◌<◌, ◌≤◌, List, [], ◌∷◌, ◌++◌, length, map, take, drop, reverse, Bool, true, cond, refl, sym, ap, subst, ◌∙◌, arith, Vec, codes, drop_at, inl, inr, length-append, append_assoc, take_all}
 use Rattle.std.specs.Prelude.{Option, Some, slice_range}
 use Rattle.std.specs.Cmp.Lexicographic.{slice_cmp}
 use Rattle.std.specs.List.{AllByRecursion}
@@ -7,11 +7,12 @@ use Rattle.std.specs.List.Sorted.{IsStrictlySortedBy}
 use Rattle.std.specs.Map.{keys_of}
 use Rattle.std.specs.Ordering.{is_lt, nat_cmp}
 use Rattle.std.specs.declared.cmp.Ordering.TheVariants.{Less}
+use Rattle.std.proofs.lemmas.Bool.{cases_Bool}
 use Rattle.mq_layout.specs.Slots.{Entry}
 use Rattle.mq_tree.specs.Directories.{as_slots}
-use Rattle.mq_tree.specs.ListText.{AreIn, IsIn, Item, entries_in, entry_of_link, insert_entry, item_in, items_of, line_of, lines, list_text, path_of, todo_in}
+use Rattle.mq_tree.specs.ListText.{AreIn, IsIn, Item, entries_in, entry_of_link, insert_entry, item_in, items_of, line_of, lines, list_text, name_count, path_of, slot_count, todo_in}
 use Rattle.std.proofs.lemmas.List.{append-nil, drop-append-le, drop_all, drop_more, length-drop, length-map, map-append, reverse-append, take-append-le}
-use Rattle.mq_tree.specs.Volume.{Volume, body, slots_of}
+use Rattle.mq_tree.specs.Volume.{Volume, body, free_node, slots_of}
 use Rattle.mq_tree.specs.declared.slots.Link.{Link}
 use Rattle.mq_tree.specs.declared.listing.Step.{Step}
 
@@ -53,6 +54,17 @@ pub links-sorted : {A : Type 0} (es : List (Vec ℕ A × ℕ)) (xs : List Entry)
 links-sorted es xs v rest sorted view all none =
     let whole : as_some xs ≡ v = sym (append-nil (as_some xs)) ∙ ap (λ (r : List (Option Entry)). as_some xs ++ r) (sym none) ∙ all in
     sym (sorted-links es xs sorted (whole ∙ sym view)) ∙ ap entries_in view
+
+length-insert : (e : Entry) (es : List Entry) → length (insert_entry e es) ≡ suc (length es)
+length-insert e [] = refl
+length-insert e (f ∷ fs) = elim (cases_Bool (is_lt (slice_cmp nat_cmp e.name f.name))) [
+  | inl less ↦ ap (λ (b : Bool). length (cond b (e ∷ f ∷ fs) (f ∷ insert_entry e fs))) less
+  | inr more ↦ ap (λ (b : Bool). length (cond b (e ∷ f ∷ fs) (f ∷ insert_entry e fs))) more ∙ ap (λ (n : ℕ). suc n) (length-insert e fs)
+]
+
+pub names-counted : {A : Type 0} (es : List (Vec ℕ A × ℕ)) → length (entries_in (as_slots es)) ≡ length es
+names-counted [] = refl
+names-counted (e ∷ es) = length-insert (record { inode = e.1; name = e.0.items }) (entries_in (as_slots es)) ∙ ap (λ (n : ℕ). suc n) (names-counted es)
 
 -- ---- items in the text so far
 
@@ -123,8 +135,8 @@ pub record Listed (v : Volume) (left : ℕ) (text : List ℕ) (todo : List Step)
   pub whole : text ++ lines left v (todo_in text todo) ≡ list_text v
   pub inside : AreIn text todo
 
-pub listed-start : (v : Volume) (text : List ℕ) (todo : List Step) → text ≡ line_of (codes "/") (body v 0) → todo_in text todo ≡ items_of [] (entries_in (slots_of (body v 0))) → AreIn text todo → Listed v (length v) text todo
-listed-start v text todo e is inside = record { whole = ap (λ (xs : List Item). text ++ lines (length v) v xs) is ∙ ap (λ (t : List ℕ). t ++ lines (length v) v (items_of [] (entries_in (slots_of (body v 0))))) e; inside = inside }
+pub listed-start : (v : Volume) (text : List ℕ) (todo : List Step) → text ≡ line_of (codes "/") (body v 0) → todo_in text todo ≡ items_of [] (entries_in (slots_of (body v 0))) → AreIn text todo → Listed v (slot_count v) text todo
+listed-start v text todo e is inside = record { whole = ap (λ (xs : List Item). text ++ lines (slot_count v) v xs) is ∙ ap (λ (t : List ℕ). t ++ lines (slot_count v) v (items_of [] (entries_in (slots_of (body v 0))))) e; inside = inside }
 
 lines-next : (v : Volume) (left : ℕ) (x : Item) (todo : List Item) → lines (suc left) v (x ∷ todo) ≡ line_of (path_of x) (body v x.entry.inode) ++ lines left v (items_of (path_of x) (entries_in (slots_of (body v x.entry.inode))) ++ todo)
 unfolding lines
@@ -153,9 +165,27 @@ listed-more v left more text next todo rest new s h e one now is inside =
       inside = inside;
     }
 
-pub listed-none : (v : Volume) (left : ℕ) (text : List ℕ) (todo : List Step) → Listed v left text todo → length todo ≡ 0 → text ≡ list_text v
-listed-none v left text [] h e = sym (append-nil text) ∙ ap (λ (t : List ℕ). text ++ t) (sym (lines-none v left)) ∙ h.whole
-listed-none v left text (s ∷ todo) h e = absurd (omega arith)
+-- where nothing waits
+pub listed-none : (v : Volume) (left more : ℕ) (text : List ℕ) (todo rest : List Step) → Listed v left text todo → length todo ≡ 0 → length rest ≡ 0 → Listed v more text rest
+listed-none v left more text [] [] h e f = record { whole = ap (λ (t : List ℕ). text ++ t) (lines-none v more ∙ sym (lines-none v left)) ∙ h.whole; inside = h.inside }
+listed-none v left more text [] (r ∷ rest) h e f = absurd (omega arith)
+listed-none v left more text (s ∷ todo) rest h e f = absurd (omega arith)
+
+-- the slots of one inode, and those of the inodes after it
+slots-split : (v : Volume) (i : ℕ) → i < length v → slot_count (drop i v) ≡ name_count (body v i) + slot_count (drop (i + 1) v)
+slots-split v i low = ap slot_count (drop_more v i free_node low)
+
+pub listed-inode : (v : Volume) (i : ℕ) (text : List ℕ) (todo : List Step) → i < length v → Listed v (slot_count (drop i v)) text todo → Listed v (name_count (body v i) - 0 + slot_count (drop (i + 1) v)) text todo
+listed-inode v i text todo low h =
+    let split = slots-split v i low in
+    let e : slot_count (drop i v) ≡ name_count (body v i) - 0 + slot_count (drop (i + 1) v) = omega arith in
+    subst (λ n. Listed v n text todo) e h
+
+pub listed-next : (v : Volume) (i k : ℕ) (text : List ℕ) (todo : List Step) → name_count (body v i) ≤ k → Listed v (name_count (body v i) - k + slot_count (drop (i + 1) v)) text todo → Listed v (slot_count (drop (i + 1) v)) text todo
+listed-next v i k text todo past h = let e : name_count (body v i) - k + slot_count (drop (i + 1) v) ≡ slot_count (drop (i + 1) v) = omega arith in subst (λ n. Listed v n text todo) e h
+
+pub slots-past : (v : Volume) (i : ℕ) → length v ≤ i → slot_count (drop i v) ≡ 0
+slots-past v i past = ap slot_count (drop_all i v past)
 
 pub listed-all : (v : Volume) (left : ℕ) (text : List ℕ) (todo : List Step) → Listed v left text todo → left ≡ 0 → text ≡ list_text v
 listed-all v left text todo h e = sym (append-nil text) ∙ ap (λ (t : List ℕ). text ++ t) (sym (ap (λ (n : ℕ). lines n v (todo_in text todo)) e ∙ lines-zero v (todo_in text todo))) ∙ h.whole

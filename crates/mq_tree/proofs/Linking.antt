@@ -17,8 +17,8 @@ use Rattle.mq_blocks.specs.declared.geometry.Geometry.{Geometry}
 use Rattle.mq_layout.specs.Places.{inodes_of}
 use Rattle.mq_layout.specs.Slots.{Entry}
 use Rattle.mq_layout.specs.declared.inode.Inode.{Inode}
-use Rattle.mq_tree.specs.Clean.{AreOnce, IsTable}
-use Rattle.mq_tree.specs.Corrupt.{IsCorrupt, Refuses}
+use Rattle.mq_tree.specs.Clean.{AreOnce, ArePointers, IsTable}
+use Rattle.mq_tree.specs.Corrupt.{IsCorrupt, IsSlotIn, Refuses}
 use Rattle.mq_tree.specs.Decoded.{Stored, body_of, count_of, entry_of, pointer_to, table_of, the_inode, volume_in}
 use Rattle.mq_tree.specs.Directories.{Adds, AreSameNames, Has, HasTwin, IsOnce, OnceBelow, RefusesTwin, as_slots}
 use Rattle.mq_tree.specs.ListText.{entries_in, insert_entry as insert_in_order}
@@ -28,7 +28,7 @@ use Rattle.mq_tree.specs.declared.corrupt.MountRefusal.{MountRefusal}
 use Rattle.mq_tree.specs.declared.corrupt.MountRefusal.TheVariants.{Corrupt, OutOfMemory}
 use Rattle.mq_tree.proofs.Decoding.{body-dir, length-table, table-at}
 use Rattle.mq_tree.proofs.Mounting.{table-more}
-use Rattle.mq_tree.proofs.Naming.{slot-found, slot-is}
+use Rattle.mq_tree.proofs.Naming.{slot-found, slot-in, slot-is}
 use Rattle.mq_tree.proofs.Sorting.{entries-push, entries-skip, insert-swap}
 
 -- ---- names that are the same
@@ -284,21 +284,22 @@ twin-at s n k b names e r two inside built there has is refusal =
 
 -- ---- all directories
 
-pub twin-found : (g : Geometry) (s : Stored) (i : ℕ) (n : Inode) (r : MountRefusal) → n ≡ the_inode g s i → i < inodes_of g → RefusesTwin s n r → Refuses g s r
-twin-found g s i n OutOfMemory e low h = tt
-twin-found g s i n (Corrupt cause b) e low h =
+pub twin-found : (g : Geometry) (s : Stored) (i : ℕ) (n : Inode) (r : MountRefusal) → IsTable g s → ArePointers g s → n ≡ the_inode g s i → i < inodes_of g → RefusesTwin s n r → Refuses g s r
+twin-found g s i n OutOfMemory table pointers e low h = tt
+twin-found g s i n (Corrupt cause b) table pointers e low h =
     let t : HasTwin s (the_inode g s i) b = subst (λ m. HasTwin s m b) e h.1 in
+    let first = slot-in g s i t.k t.e table pointers (slot-is g s i t.k t.e (record { low = low; dir = t.dir; inside = t.inside; is = t.first })) in
     subst (λ c. IsCorrupt g s c b) (sym h.0) (record {
       d = i;
       k = t.k;
       l = t.l;
       e = t.e;
       f = t.f;
-      first = slot-is g s i t.k t.e (record { low = low; dir = t.dir; inside = t.inside; is = t.first });
-      second = slot-is g s i t.l t.f (record { low = low; dir = t.dir; inside = t.other; is = t.second });
+      other = pointer_to s (the_inode g s i) (t.l / 15);
+      first = subst (λ c. IsSlotIn g s i t.k t.e c) (sym t.is) first;
+      second = slot-in g s i t.l t.f table pointers (slot-is g s i t.l t.f (record { low = low; dir = t.dir; inside = t.other; is = t.second }));
       same = t.same;
       apart = t.apart;
-      is = t.is;
     })
 
 pub once-volume : (g : Geometry) (s : Stored) → IsTable g s → ((i : ℕ) → i < inodes_of g → IsOnce s (the_inode g s i)) → AreOnce (volume_in g s)

@@ -1,5 +1,5 @@
 -- Slots of the volume, and the inodes that they name.
-use Rattle.std.proofs.Common.{get_or, ◌≡◌, ◌≢◌, ℕ, ◌+◌, ◌*◌, ◌/◌, ◌%◌, ◌<◌, List, length, Bool, true, false, sym, ap, subst, ◌∙◌, arith, inl, inr, below_more}
+use Rattle.std.proofs.Common.{get_or, ◌≡◌, ◌≢◌, ℕ, ◌+◌, ◌*◌, ◌/◌, ◌%◌, ◌<◌, List, length, Bool, true, false, refl, sym, ap, subst, ◌∙◌, arith, inl, inr, below_more}
 use Rattle.std.specs.Prelude.{Some, None, not}
 use Rattle.std.specs.Bool.{MatchBool}
 use Rattle.std.proofs.lemmas.Bool.{cases_eq, cases_lt, eq-eqb, ne_eqb}
@@ -12,15 +12,15 @@ use Rattle.mq_layout.specs.Slots.{Entry, ShowsSlot, entry_of as entry_read, wron
 use Rattle.mq_layout.specs.declared.inode.Inode.{Inode}
 use Rattle.mq_layout.specs.declared.refusal.LayoutRefusal.{LayoutRefusal}
 use Rattle.mq_layout.specs.declared.slot.Slot.{Slot}
-use Rattle.mq_tree.specs.Clean.{AreDirs, AreNamed, IsDirBlock, IsTable}
-use Rattle.mq_tree.specs.Corrupt.{IsCorrupt, block_of_slot, names_free, names_root}
+use Rattle.mq_tree.specs.Clean.{AreDirs, AreNamed, ArePointers, IsDirBlock, IsTable}
+use Rattle.mq_tree.specs.Corrupt.{IsCorrupt, IsSlotIn, names_free, names_root}
 use Rattle.mq_tree.specs.Decoded.{Stored, body_of, count_of, entry_of, inodes_in, part, pointer_to, slot_of, table_of, the_inode, volume_in}
 use Rattle.mq_tree.specs.Parts.{AreDirBlocks, AreNamedIn, HasBadName, IsNamedBy, NameAll, NamesRight}
 use Rattle.mq_tree.specs.Volume.{Body, Node, body, is_used, slot, slots_of}
 use Rattle.mq_tree.specs.declared.corrupt.CorruptCause.TheVariants.{Kind}
 use Rattle.mq_tree.proofs.Decoding.{body-dir, body-file, body-free, body-in, node-past, slot-decoded, slot-not_wrong, table-at, table-past}
 use Rattle.mq_tree.proofs.Mounting.{inode-low, inode-seen, inodes-at, length-inodes}
-use Rattle.mq_tree.proofs.Phases.{used-kind}
+use Rattle.mq_tree.proofs.Phases.{is-place, used-kind}
 
 -- where a slot of the volume is used
 pub record IsEntry (g : Geometry) (s : Stored) (d k : ℕ) (e : Entry) : Type 0 where
@@ -58,6 +58,13 @@ slot-is g s d k e p =
     let n = the_inode g s d in
     ap (λ (b : Body). get_or (slots_of b) k None) (body-in g s d p.low ∙ body-dir s n p.dir) ∙ table-at (15 * count_of n) (entry_of s n) k None p.inside ∙ p.is
 
+-- a slot stands in the block at its place
+pub slot-in : (g : Geometry) (s : Stored) (d k : ℕ) (e : Entry) → IsTable g s → ArePointers g s → slot (volume_in g s) d k ≡ Some e → IsSlotIn g s d k e (pointer_to s (the_inode g s d) (k / 15))
+slot-in g s d k e table pointers there =
+    let p = slot-found g s d k e table there in
+    let l = p.inside in
+    record { there = there; place = is-place g s d (k / 15) _ pointers p.low (omega arith) refl }
+
 -- ---- inodes that are named
 
 named-used : (g : Geometry) (s : Stored) (xs : List Inode) (i : ℕ) → IsTable g s → xs ≡ inodes_in g s → IsNamedBy xs i → is_used (body (volume_in g s) i) ≡ true
@@ -94,8 +101,8 @@ names-all g s xs table e all d k entry there =
 pub named-more : (g : Geometry) (s : Stored) (xs : List Inode) (i : ℕ) (n : Inode) → ((k : ℕ) → k < i → AreNamedIn s xs (the_inode g s k)) → n ≡ the_inode g s i → AreNamedIn s xs n → (k : ℕ) → k < i + 1 → AreNamedIn s xs (the_inode g s k)
 named-more g s xs i n all e h = below_more (λ k. AreNamedIn s xs (the_inode g s k)) i all (subst (λ m. AreNamedIn s xs m) e h)
 
-pub name-found : (g : Geometry) (s : Stored) (xs : List Inode) (i b : ℕ) (n : Inode) → IsTable g s → xs ≡ inodes_in g s → n ≡ the_inode g s i → i < inodes_of g → HasBadName s xs n b → IsCorrupt g s Kind b
-name-found g s xs i b n table e same low h =
+pub name-found : (g : Geometry) (s : Stored) (xs : List Inode) (i b : ℕ) (n : Inode) → IsTable g s → ArePointers g s → xs ≡ inodes_in g s → n ≡ the_inode g s i → i < inodes_of g → HasBadName s xs n b → IsCorrupt g s Kind b
+name-found g s xs i b n table pointers e same low h =
     let t : HasBadName s xs (the_inode g s i) b = subst (λ m. HasBadName s xs m b) same h in
     let o = t.other in
     let k = 15 * t.place + o.at in
@@ -103,12 +110,12 @@ name-found g s xs i b n table e same low h =
     let inside = t.inside in
     let q : k / 15 ≡ t.place = omega arith in
     let r : k % 15 ≡ o.at = omega arith in
-    let block : b ≡ block_of_slot g s i k = t.is ∙ ap (λ (p : ℕ). pointer_to s (the_inode g s i) p) (sym q) in
+    let block : b ≡ pointer_to s (the_inode g s i) (k / 15) = t.is ∙ ap (λ (p : ℕ). pointer_to s (the_inode g s i) p) (sym q) in
     let there : entry_of s (the_inode g s i) k ≡ Some o.e = ap (λ (c : ℕ). slot_of (block_at s c) (k % 15)) (sym block) ∙ ap (λ (j : ℕ). slot_of (block_at s b) j) r ∙ o.there in
-    let slot_there = slot-is g s i k o.e (record { low = low; dir = t.dir; inside = omega arith; is = there }) in
+    let at : IsSlotIn g s i k o.e b = record { there = slot-is g s i k o.e (record { low = low; dir = t.dir; inside = omega arith; is = there }); place = is-place g s i (k / 15) b pointers low (omega arith) block } in
     elim (cases_eq o.e.inode 0) [
-      | inl zero ↦ names_root i k o.e slot_there block zero
-      | inr some ↦ names_free i k o.e slot_there block (other-free g s xs o.e.inode table e some o.wrong)
+      | inl zero ↦ names_root i k o.e at zero
+      | inr some ↦ names_free i k o.e at (other-free g s xs o.e.inode table e some o.wrong)
     ]
 
 -- ---- slots of a block as they are read

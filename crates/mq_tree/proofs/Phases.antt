@@ -1,5 +1,5 @@
 -- Steps of the phases that go inode by inode, or bit by bit.
-use Rattle.std.proofs.Common.{◌≡◌, ◌≢◌, ℕ, ◌+◌, ◌*◌, ◌/◌, ◌%◌, ◌<◌, ◌≤◌, List, length, Bool, true, false, refl, sym, ap, subst, ◌∙◌, arith, inl, inr, below_more}
+use Rattle.std.proofs.Common.{◌≡◌, ◌≢◌, ℕ, ◌+◌, ◌*◌, ◌/◌, ◌%◌, ◌<◌, ◌≤◌, List, length, Bool, true, false, Some, refl, sym, ap, subst, ◌∙◌, arith, inl, inr, below_more}
 use Rattle.std.specs.Prelude.{Option, slice_index, if◌then◌else◌, ◌&&◌, IfOk, Result, Ok, Err, is_err, not, nat_eq}
 use Rattle.std.proofs.lemmas.Bool.{and_left, cases_eq, cases_lt, eq-eqb, le-ltb, lt-ltb, ne_eqb}
 use mathlib.Core.Bool.{beq}
@@ -16,16 +16,34 @@ use Rattle.mq_layout.specs.declared.inode.Inode.{Inode}
 use Rattle.mq_layout.specs.declared.refusal.LayoutRefusal.{LayoutRefusal}
 use Rattle.mq_layout.specs.declared.slot.Slot.{Slot}
 use Rattle.mq_layout.proofs.Zeros.{length-zero_bytes, zero_bytes-at}
-use Rattle.mq_tree.specs.Clean.{AreMarked, IsTable}
-use Rattle.mq_tree.specs.Corrupt.{IsCorrupt, behind_slots, in_slot, unmarked_block, unmarked_inode, unused_block, unused_inode}
-use Rattle.mq_tree.specs.Decoded.{Stored, body_of, byte_of, pointer_to, slot_of, the_inode, volume_in}
+use Rattle.mq_tree.specs.Clean.{AreMarked, ArePointers, IsInZone, IsTable}
+use Rattle.mq_tree.specs.Corrupt.{IsCorrupt, IsPlace, IsUsedFor, behind_slots, in_slot, unmarked_block, unmarked_inode, unused_block, unused_inode}
+use Rattle.mq_tree.specs.Decoded.{Stored, body_of, byte_of, count_of, pointer_to, slot_of, the_inode, volume_in}
 use Rattle.mq_tree.specs.Laid.{zone_block}
 use Rattle.mq_tree.specs.Parts.{AreDirBlocks, HasBadBlock, HasEndAt, IsEnded}
-use Rattle.mq_tree.specs.Volume.{body, is_taken, is_used, Node}
+use Rattle.mq_tree.specs.Volume.{Use, Part, Pointers, block_in, body, is_taken, is_used, Node}
 use Rattle.mq_tree.specs.declared.corrupt.CorruptCause.{CorruptCause}
 use Rattle.mq_tree.specs.declared.corrupt.CorruptCause.TheVariants.{Layout, Tail, Unmarked, Unreached}
 use Rattle.mq_tree.specs.declared.corrupt.MountRefusal.{MountRefusal}
-use Rattle.mq_tree.proofs.Decoding.{body-dir, body-file, body-free, body-in, node-past, slot-decoded}
+use Rattle.mq_tree.proofs.Decoding.{body-dir, body-file, body-free, body-in, indirect-found, node-past, part-found, slot-decoded, taken-use}
+
+-- ---- places in zones
+
+pub is-place : (g : Geometry) (s : Stored) (i place b : ℕ) → ArePointers g s → i < inodes_of g → place < count_of (the_inode g s i) → b ≡ pointer_to s (the_inode g s i) place → IsPlace g s i place b
+is-place g s i place b pointers low inside is = record {
+  is = is;
+  inside = subst (λ p. IsInZone g p) (sym is) ((pointers i low).there place inside);
+  through = λ high. (pointers i low).many (omega arith);
+}
+
+pub used-for : (g : Geometry) (s : Stored) (u : Use) (b : ℕ) → ArePointers g s → block_in (volume_in g s) u ≡ Some b → IsUsedFor g s u b
+used-for g s (Part i place) b pointers e =
+    let p = part-found g s i place b e in
+    let l = p.inside in
+    record { block = e; inside = subst (λ c. IsInZone g c) p.is ((pointers i p.low).there place l); through = λ high. (pointers i p.low).many (omega arith) }
+used-for g s (Pointers i) b pointers e =
+    let p = indirect-found g s i b e in
+    record { block = e; inside = subst (λ c. IsInZone g c) p.is ((pointers i p.low).many p.many); through = tt }
 
 -- ---- ends of files
 
@@ -52,17 +70,19 @@ ended-more g s i n all e h = below_more (λ k. IsEnded s (the_inode g s k)) i al
 pub dirs-more : (g : Geometry) (s : Stored) (i : ℕ) (n : Inode) → ((k : ℕ) → k < i → AreDirBlocks s (the_inode g s k)) → n ≡ the_inode g s i → AreDirBlocks s n → (k : ℕ) → k < i + 1 → AreDirBlocks s (the_inode g s k)
 dirs-more g s i n all e h = below_more (λ k. AreDirBlocks s (the_inode g s k)) i all (subst (λ m. AreDirBlocks s m) e h)
 
-pub tail-found : (g : Geometry) (s : Stored) (i b : ℕ) (n : Inode) → n ≡ the_inode g s i → i < inodes_of g → HasEndAt s n b → IsCorrupt g s Tail b
-tail-found g s i b n e low h =
+pub tail-found : (g : Geometry) (s : Stored) (i b : ℕ) (n : Inode) → ArePointers g s → n ≡ the_inode g s i → i < inodes_of g → HasEndAt s n b → IsCorrupt g s Tail b
+tail-found g s i b n pointers e low h =
     let t : HasEndAt s (the_inode g s i) b = subst (λ m. HasEndAt s m b) e h in
-    record { i = i; k = t.k; low = low; file = t.file; past = t.past; inside = t.inside; is = t.is; not_zero = t.not_zero }
+    let l = t.inside in
+    record { i = i; k = t.k; low = low; file = t.file; past = t.past; inside = t.inside; place = is-place g s i (t.k / 4096) b pointers low (omega arith) t.is; not_zero = t.not_zero }
 
-pub dir-found : (g : Geometry) (s : Stored) (i b : ℕ) (n : Inode) → n ≡ the_inode g s i → i < inodes_of g → HasBadBlock s n b → IsCorrupt g s Layout b
-dir-found g s i b n e low h =
+pub dir-found : (g : Geometry) (s : Stored) (i b : ℕ) (n : Inode) → ArePointers g s → n ≡ the_inode g s i → i < inodes_of g → HasBadBlock s n b → IsCorrupt g s Layout b
+dir-found g s i b n pointers e low h =
     let t : HasBadBlock s (the_inode g s i) b = subst (λ m. HasBadBlock s m b) e h in
+    let p = is-place g s i t.place b pointers low t.inside t.is in
     elim t.bad [
-      | inl x ↦ in_slot i t.place x.0 x.1 low t.dir t.inside t.is x.2 x.3
-      | inr x ↦ behind_slots i t.place x.0 low t.dir t.inside t.is x.1 x.2 x.3
+      | inl x ↦ in_slot i t.place x.0 x.1 low t.dir t.inside p x.2 x.3
+      | inr x ↦ behind_slots i t.place x.0 low t.dir t.inside p x.1 x.2 x.3
     ]
 
 -- ---- blocks of slots
@@ -108,12 +128,14 @@ used-kind g s i n table low e = ap is_used (body-in g s i low) ∙ go ∙ ap (λ
         ]
 
 -- a bit that is not as it should be
-pub zone-mark_bad : (g : Geometry) (s : Stored) (zone k b : ℕ) (bit t : Bool) (cause : CorruptCause) → zone < queues_of g → k < zone_size g → b ≡ zone_bitmap zone → (if bit then 1 else 0) ≡ bit_of (block_at s b) k → is_taken (volume_in g s) (zone_block g zone k) ≡ t → (bit ≡ t → ⊥)
+pub zone-mark_bad : (g : Geometry) (s : Stored) (zone k b : ℕ) (bit t : Bool) (cause : CorruptCause) → ArePointers g s → zone < queues_of g → k < zone_size g → b ≡ zone_bitmap zone → (if bit then 1 else 0) ≡ bit_of (block_at s b) k → is_taken (volume_in g s) (zone_block g zone k) ≡ t → (bit ≡ t → ⊥)
     → cause ≡ (if t then Unmarked else Unreached) → IsCorrupt g s cause b
-zone-mark_bad g s zone k b true true cause low small is at taken other e = absurd (other refl)
-zone-mark_bad g s zone k b false false cause low small is at taken other e = absurd (other refl)
-zone-mark_bad g s zone k b false true cause low small is at taken other e = subst (λ c. IsCorrupt g s c b) (sym e) (unmarked_block zone k low small is taken (sym at))
-zone-mark_bad g s zone k b true false cause low small is at taken other e = subst (λ c. IsCorrupt g s c b) (sym e) (unused_block zone k low small is taken (sym at))
+zone-mark_bad g s zone k b true true cause pointers low small is at taken other e = absurd (other refl)
+zone-mark_bad g s zone k b false false cause pointers low small is at taken other e = absurd (other refl)
+zone-mark_bad g s zone k b false true cause pointers low small is at taken other e =
+    let u = taken-use (volume_in g s) (zone_block g zone k) taken in
+    subst (λ c. IsCorrupt g s c b) (sym e) (unmarked_block zone k u.0 low small is (used-for g s u.0 (zone_block g zone k) pointers u.1) (sym at))
+zone-mark_bad g s zone k b true false cause pointers low small is at taken other e = subst (λ c. IsCorrupt g s c b) (sym e) (unused_block zone k low small is taken (sym at))
 
 pub inode-mark_bad : (g : Geometry) (s : Stored) (i b : ℕ) (bit t : Bool) (cause : CorruptCause) → i < inodes_of g → b ≡ inode_bitmap g → (if bit then 1 else 0) ≡ bit_of (block_at s b) i → is_used (body (volume_in g s) i) ≡ t → (bit ≡ t → ⊥)
     → cause ≡ (if t then Unmarked else Unreached) → IsCorrupt g s cause b

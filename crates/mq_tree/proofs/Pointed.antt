@@ -51,11 +51,11 @@ middle-bad g s i b low is wrong = elim (cases_lt 12 (count_of (the_inode g s i))
   | inr few ↦ not_indirect i low is few (not-unwanted g 12 (count_of (the_inode g s i)) _ few wrong)
 ]
 
-pub far-bad : (g : Geometry) (s : Stored) (i b k : ℕ) → i < inodes_of g → b ≡ (the_inode g s i).indirect → 12 < count_of (the_inode g s i) → 12 ≤ k → k < 1036 → (IsRight g (nat_lt k (count_of (the_inode g s i))) (pointer_to s (the_inode g s i) k) → ⊥)
+pub far-bad : (g : Geometry) (s : Stored) (i b k : ℕ) → i < inodes_of g → b ≡ (the_inode g s i).indirect → IsInZone g b → 12 < count_of (the_inode g s i) → 12 ≤ k → k < 1036 → (IsRight g (nat_lt k (count_of (the_inode g s i))) (pointer_to s (the_inode g s i) k) → ⊥)
     → IsCorrupt g s Pointer b
-far-bad g s i b k low is many high small wrong = elim (cases_lt k (count_of (the_inode g s i))) [
-  | inl l ↦ far i k low is high l (not-wanted g k (count_of (the_inode g s i)) _ l wrong)
-  | inr past ↦ not_far i k low is many past small (not-unwanted g k (count_of (the_inode g s i)) _ past wrong)
+far-bad g s i b k low is zone many high small wrong = elim (cases_lt k (count_of (the_inode g s i))) [
+  | inl l ↦ far i k low is zone high small l (not-wanted g k (count_of (the_inode g s i)) _ l wrong)
+  | inr past ↦ not_far i k low is zone many past small (not-unwanted g k (count_of (the_inode g s i)) _ past wrong)
 ]
 
 -- as a test sees the inode `n` and its count `c`
@@ -71,12 +71,13 @@ middle-found g s i b n c e m low is wrong =
     let Q : ℕ → Type 0 = λ x. IsRight g (nat_lt 12 x) n.indirect → ⊥ in
     middle-bad g s i b low is (subst P e (subst Q m wrong))
 
-pub far-found : (g : Geometry) (s : Stored) (i b : ℕ) (n : Inode) (c : ℕ) → n ≡ the_inode g s i → c ≡ count_of n → i < inodes_of g → b ≡ n.indirect → 12 < c → (k : ℕ) × (12 ≤ k) × (k < 1036) × (IsRight g (nat_lt k c) (pointer_to s n k) → ⊥) → IsCorrupt g s Pointer b
-far-found g s i b n c e m low is many (k, high, small, wrong) =
+pub far-found : (g : Geometry) (s : Stored) (i b : ℕ) (n : Inode) (c : ℕ) → n ≡ the_inode g s i → c ≡ count_of n → i < inodes_of g → b ≡ n.indirect → 12 < c → IsRight g (nat_lt 12 c) n.indirect → (k : ℕ) × (12 ≤ k) × (k < 1036) × (IsRight g (nat_lt k c) (pointer_to s n k) → ⊥) → IsCorrupt g s Pointer b
+far-found g s i b n c e m low is many middle (k, high, small, wrong) =
     let P : Inode → Type 0 = λ x. IsRight g (nat_lt k (count_of x)) (pointer_to s x k) → ⊥ in
     let Q : ℕ → Type 0 = λ x. IsRight g (nat_lt k x) (pointer_to s n k) → ⊥ in
     let same = m ∙ ap count_of e in
-    far-bad g s i b k low (is ∙ ap (λ (x : Inode). x.indirect) e) (omega arith) high small (subst P e (subst Q m wrong))
+    let zone = subst (λ p. IsInZone g p) (sym is) (wanted g 12 c n.indirect many middle) in
+    far-bad g s i b k low (is ∙ ap (λ (x : Inode). x.indirect) e) zone (omega arith) high small (subst P e (subst Q m wrong))
 
 pub all-found : (g : Geometry) (s : Stored) (i : ℕ) (n : Inode) (c : ℕ) → n ≡ the_inode g s i → c ≡ count_of n → c ≤ 1036 → AreNear g n c → IsRight g (nat_lt 12 c) n.indirect → (12 < c → AreFar g s n c) → HasPointers g s (the_inode g s i)
 all-found g s i n c e m few near mid rest =

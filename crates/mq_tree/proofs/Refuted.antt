@@ -26,6 +26,7 @@ use Rattle.mq_tree.specs.Volume.{is_taken}
 use Rattle.mq_tree.specs.declared.corrupt.CorruptCause.{CorruptCause}
 use Rattle.mq_tree.specs.declared.corrupt.CorruptCause.TheVariants.{Layout, Pointer, Unmarked, Shared, Twin, Unreached, Kind, Tail}
 use Rattle.mq_tree.proofs.Decoding.{inode-not_wrong, slot-not_wrong}
+use Rattle.mq_tree.proofs.Uses.{use-taken}
 
 zero-one : {R : Type 0} (n : ℕ) → n ≡ 0 → n ≡ 1 → R
 zero-one n e f = absurd (omega arith)
@@ -45,25 +46,25 @@ layout-clean g s b clean (zone_bit zone k low is past inside one) = zero-one _ (
 layout-clean g s b clean (inode_bit k is past inside one) = zero-one _ (ap (λ (c : ℕ). bit_of (block_at s c) k) is ∙ clean.table.marks k past inside) one
 layout-clean g s b clean (table_inode i e low is wrong) = none-some _ e (ap (λ (c : ℕ). wrong_inode (block_at s c) (inode_place i)) is ∙ inode-not_wrong _ _ _ (clean.table.inodes i low)) wrong
 layout-clean g s b clean (table_rest k high low not) = not (clean.table.rest b k high low)
-layout-clean g s b clean (in_slot i place at e low kind inside is small wrong) = none-some _ e (ap (λ (c : ℕ). wrong_slot (block_at s c) at) is ∙ slot-not_wrong _ at _ ((clean.dirs i place low kind inside).slots at small)) wrong
-layout-clean g s b clean (behind_slots i place k low kind inside is high small not) = not (ap (λ (c : ℕ). slice_index (block_at s c) k) is ∙ zero-bytes_at _ k (clean.dirs i place low kind inside).rest high small)
+layout-clean g s b clean (in_slot i place at e low kind inside p small wrong) = none-some _ e (ap (λ (c : ℕ). wrong_slot (block_at s c) at) p.is ∙ slot-not_wrong _ at _ ((clean.dirs i place low kind inside).slots at small)) wrong
+layout-clean g s b clean (behind_slots i place k low kind inside p high small not) = not (ap (λ (c : ℕ). slice_index (block_at s c) k) p.is ∙ zero-bytes_at _ k (clean.dirs i place low kind inside).rest high small)
 
 pointer-clean : (g : Geometry) (s : Stored) (b : ℕ) → IsClean g s → BadPointer g s b → ⊥
 pointer-clean g s b clean (direct i k low is near inside not) = not ((clean.pointers i low).there k inside)
 pointer-clean g s b clean (not_direct i k low is past near not) = not ((clean.pointers i low).direct k past near)
 pointer-clean g s b clean (indirect i low is many not) = not ((clean.pointers i low).many many)
 pointer-clean g s b clean (not_indirect i low is few not) = not ((clean.pointers i low).few few)
-pointer-clean g s b clean (far i k low is high inside not) = not ((clean.pointers i low).there k inside)
-pointer-clean g s b clean (not_far i k low is many past small not) = not ((clean.pointers i low).rest k many past small)
+pointer-clean g s b clean (far i k low is zone high small inside not) = not ((clean.pointers i low).there k inside)
+pointer-clean g s b clean (not_far i k low is zone many past small not) = not ((clean.pointers i low).rest k many past small)
 
 kind-clean : (g : Geometry) (s : Stored) (b : ℕ) → IsClean g s → BadKind g s b → ⊥
 kind-clean g s b clean (not_root is not) = not clean.table.root
-kind-clean g s b clean (names_root d k e there is zero) = (clean.named d k e there).0 zero
-kind-clean g s b clean (names_free d k e there is free) = true≢false (sym (clean.named d k e there).1 ∙ free)
+kind-clean g s b clean (names_root d k e at zero) = (clean.named d k e at.there).0 zero
+kind-clean g s b clean (names_free d k e at free) = true≢false (sym (clean.named d k e at.there).1 ∙ free)
 
 shared-clean : (g : Geometry) (s : Stored) (b : ℕ) → IsClean g s → IsShared g s b → ⊥
-shared-clean g s b clean (shared_block u w e f not) = not (clean.apart u w b e f)
-shared-clean g s b clean (shared_inode d k c l e f there too same not is) = not (clean.reached.once d k c l e f there too same)
+shared-clean g s b clean (shared_block u w e f not) = not (clean.apart u w b e.block f.block)
+shared-clean g s b clean (shared_inode d k c l x y e f at too same not low is) = not (clean.reached.once d k c l e f at.there too.there same)
 
 marks-of : (g : Geometry) (s : Stored) (zone k : ℕ) → IsClean g s → zone < queues_of g → k < zone_size g → bit_of (block_at s (zone_bitmap zone)) k ≡ (if is_taken (volume_in g s) (zone_block g zone k) then 1 else 0)
 marks-of g s zone k clean low small =
@@ -74,7 +75,8 @@ marks-of g s zone k clean low small =
     clean.marked.zones zone low k inside ∙ ap (λ (c : Bool). if c && is_taken (volume_in g s) (zone_block g zone k) then 1 else 0) yes
 
 unmarked-clean : (g : Geometry) (s : Stored) (b : ℕ) → IsClean g s → IsUnmarked g s b → ⊥
-unmarked-clean g s b clean (unmarked_block zone k low small is taken zero) =
+unmarked-clean g s b clean (unmarked_block zone k u low small is used zero) =
+    let taken = use-taken (volume_in g s) u (zone_block g zone k) used.block in
     zero-one _ (ap (λ (c : ℕ). bit_of (block_at s c) k) (sym is) ∙ zero) (marks-of g s zone k clean low small ∙ ap (λ (c : Bool). if c then 1 else 0) taken)
 unmarked-clean g s b clean (unmarked_inode i low is used zero) =
     let few : i < 32768 = omega arith in
@@ -94,7 +96,7 @@ corrupt-not_clean g s Layout b h clean = layout-clean g s b clean h
 corrupt-not_clean g s Pointer b h clean = pointer-clean g s b clean h
 corrupt-not_clean g s Unmarked b h clean = unmarked-clean g s b clean h
 corrupt-not_clean g s Shared b h clean = shared-clean g s b clean h
-corrupt-not_clean g s Twin b h clean = h.apart (clean.names h.d h.k h.l h.e h.f h.first h.second h.same)
+corrupt-not_clean g s Twin b h clean = h.apart (clean.names h.d h.k h.l h.e h.f h.first.there h.second.there h.same)
 corrupt-not_clean g s Unreached b h clean = unreached-clean g s b clean h
 corrupt-not_clean g s Kind b h clean = kind-clean g s b clean h
 corrupt-not_clean g s Tail b h clean = h.not_zero (clean.ended h.i h.k h.low h.file h.past h.inside)

@@ -1,5 +1,5 @@
 -- Steps of a walk over the directories of a volume.
-use Rattle.std.proofs.Common.{get_or, set, ◌≡◌, ◌≢◌, ℕ, zero, suc, ◌+◌, ◌*◌, ◌/◌, ◌<◌, ◌≤◌, ◌⊎◌, inl, inr, List, [], ◌∷◌, ◌++◌, length, replicate, Bool, true, false, not, refl, sym, ap, subst, ◌∙◌, arith, get_or-set_same, get_or-set_other, length-set}
+use Rattle.std.proofs.Common.{get_or, set, ◌≡◌, ◌≢◌, ℕ, zero, suc, ◌+◌, ◌*◌, ◌<◌, ◌≤◌, ◌⊎◌, inl, inr, List, [], ◌∷◌, ◌++◌, length, replicate, Bool, true, false, not, refl, sym, ap, subst, ◌∙◌, arith, get_or-set_same, get_or-set_other, length-set}
 use Rattle.std.specs.Prelude.{Option, Some, None, option_and_then}
 use Rattle.std.proofs.lemmas.Bool.{cases_eq, cases_lt, eq-eqb, ne_eqb, true≢false}
 use Rattle.std.proofs.lemmas.List.{get_or_append_left, get_or_push, length_push, length-replicate}
@@ -9,16 +9,16 @@ use Rattle.mq_blocks.specs.declared.geometry.Geometry.{Geometry}
 use Rattle.mq_layout.specs.Places.{inode_block, inodes_of}
 use Rattle.mq_layout.specs.Slots.{Entry}
 use Rattle.mq_layout.specs.declared.inode.Inode.{Inode}
-use Rattle.mq_tree.specs.Clean.{AreNamed, AreOnce, AreReached, IsTable}
-use Rattle.mq_tree.specs.Corrupt.{IsCorrupt, block_of_slot, lost_inode, shared_inode}
-use Rattle.mq_tree.specs.Decoded.{Stored, body_of, count_of, entry_of, inodes_in, pointer_to, the_inode, volume_in}
+use Rattle.mq_tree.specs.Clean.{AreNamed, AreOnce, ArePointers, AreReached, IsTable}
+use Rattle.mq_tree.specs.Corrupt.{IsCorrupt, lost_inode, shared_inode}
+use Rattle.mq_tree.specs.Decoded.{Stored, body_of, count_of, entry_of, inodes_in, the_inode, volume_in}
 use Rattle.mq_tree.specs.Volume.{Body, Free, File, Dir, Node, Volume, Way, body, find, inode_at, is_used, slot, slots_of}
 use Rattle.mq_tree.specs.Walks.{Finds, IsLooked, IsOrder, IsWalk, IsWholeWalk, Starts, Walked, is_seen, weight}
 use Rattle.mq_tree.specs.declared.corrupt.CorruptCause.TheVariants.{Shared, Unreached}
 use Rattle.mq_tree.proofs.Linking.{find-none, find-some}
 use Rattle.mq_tree.proofs.Decoding.{body-dir, body-in, node-past, table-at}
 use Rattle.mq_tree.proofs.Mounting.{length-inodes}
-use Rattle.mq_tree.proofs.Naming.{slot-found}
+use Rattle.mq_tree.proofs.Naming.{slot-found, slot-in}
 use Rattle.mq_tree.proofs.Phases.{used-kind}
 
 -- ---- slots and names
@@ -269,12 +269,21 @@ walked-next v count seen order done part d w is all = record {
     on c k (inl h) = inl (h.0, (let l = h.1 in omega arith), h.2)
     on c k (inr h) = inl (done, (let e : done < done + 1 = omega arith in e), h.0)
 
+pub used-below : (g : Geometry) (s : Stored) (i : ℕ) → is_used (body (volume_in g s) i) ≡ true → i < inodes_of g
+used-below g s i t = elim (cases_lt i (inodes_of g)) [
+  | inl low ↦ low
+  | inr past ↦ absurd (true≢false (sym t ∙ ap (λ (n : Node). is_used n.body) (node-past g s i past)))
+]
+
 -- an inode that was seen is named twice
-pub walked-shared : (g : Geometry) (s : Stored) (seen : List Bool) (order : List ℕ) (done part d b : ℕ) (e : Entry) → AreNamed (volume_in g s) → Walked (volume_in g s) (inodes_of g) seen order done part → done < length order → d ≡ get_or order done 0
-    → slot (volume_in g s) d part ≡ Some e → is_seen seen e.inode ≡ true → b ≡ block_of_slot g s d part → IsCorrupt g s Shared b
-walked-shared g s seen order done part d b e named w inside is there old at =
-    let m = w.walk.named e.inode old (named d part e there).0 in
-    shared_inode d part m.0 m.1 e m.2 there m.4 (sym m.5) (λ q. not-yet (subst (λ l. IsLooked order done part d l) (sym q.1) (subst (λ c. IsLooked order done part c m.1) (sym q.0) m.3))) at
+pub walked-shared : (g : Geometry) (s : Stored) (seen : List Bool) (order : List ℕ) (done part d b : ℕ) (e : Entry) → IsTable g s → ArePointers g s → AreNamed (volume_in g s) → Walked (volume_in g s) (inodes_of g) seen order done part → done < length order → d ≡ get_or order done 0
+    → slot (volume_in g s) d part ≡ Some e → is_seen seen e.inode ≡ true → b ≡ inode_block g e.inode → IsCorrupt g s Shared b
+walked-shared g s seen order done part d b e table pointers named w inside is there old at =
+    let n = named d part e there in
+    let m = w.walk.named e.inode old n.0 in
+    let here = slot-in g s d part e table pointers there in
+    let other = slot-in g s m.0 m.1 m.2 table pointers m.4 in
+    shared_inode d part m.0 m.1 _ _ e m.2 here other (sym m.5) (λ q. not-yet (subst (λ l. IsLooked order done part d l) (sym q.1) (subst (λ c. IsLooked order done part c m.1) (sym q.0) m.3))) (used-below g s e.inode n.1) at
   where
     not-yet : IsLooked order done part d part → ⊥
     not-yet (inl h) = absurd (let l = h.1 in let q = w.listing.apart h.0 done (omega arith) inside (h.2 ∙ is) in omega arith)
@@ -312,12 +321,6 @@ reached-all v seen w all = record {
 pub lost-found : (g : Geometry) (s : Stored) (seen : List Bool) (i b : ℕ) (n : Inode) → IsTable g s → IsWholeWalk (volume_in g s) seen → i < inodes_of g → n ≡ the_inode g s i → n.kind ≢ 0 → is_seen seen i ≡ false → b ≡ inode_block g i → IsCorrupt g s Unreached b
 lost-found g s seen i b n table w low e some new is =
     lost_inode i low is (used-kind g s i n table low e ∙ ap not (ne_eqb n.kind 0 some)) (λ way h. true≢false (sym (w.all way i h) ∙ new))
-
-pub used-below : (g : Geometry) (s : Stored) (i : ℕ) → is_used (body (volume_in g s) i) ≡ true → i < inodes_of g
-used-below g s i t = elim (cases_lt i (inodes_of g)) [
-  | inl low ↦ low
-  | inr past ↦ absurd (true≢false (sym t ∙ ap (λ (n : Node). is_used n.body) (node-past g s i past)))
-]
 
 pub free-unused : (g : Geometry) (s : Stored) (i : ℕ) (n : Inode) → IsTable g s → i < inodes_of g → n ≡ the_inode g s i → n.kind ≡ 0 → is_used (body (volume_in g s) i) ≡ false
 free-unused g s i n table low e free = used-kind g s i n table low e ∙ ap not (eq-eqb n.kind 0 free)
@@ -358,11 +361,11 @@ visit-found g s seen after now order more next done part d n e true once named h
     let l = h.1 in
     rw (p ∙ f.1, q ∙ f.2) (w, (let r : done < length (order ++ e.inode ∷ []) = omega arith in r), h.2 ∙ sym (pushed order e.inode done done h.1 (omega arith)))
 
-pub visit-shared : (g : Geometry) (s : Stored) (seen after : List Bool) (order more : List ℕ) (done part d b : ℕ) (n : Inode) (e : Entry) (t : Bool) → AreNamed (volume_in g s) → Visits g s seen order done part d → d < inodes_of g → n ≡ the_inode g s d → n.kind ≡ 2 → part < 15 * count_of n → entry_of s n part ≡ Some e
-    → Finds t e.inode seen order after more → t ≡ false → b ≡ pointer_to s n (part / 15) → IsCorrupt g s Shared b
-visit-shared g s seen after order more done part d b n e true named h low same two inside there f is at = absurd (true≢false is)
-visit-shared g s seen after order more done part d b n e false named h low same two inside there f is at =
-    walked-shared g s seen order done part d b e named h.0 h.1 h.2 (slot-entry g s d part n low same two inside ∙ there) f.0 (at ∙ ap (λ (m : Inode). pointer_to s m (part / 15)) same)
+pub visit-shared : (g : Geometry) (s : Stored) (seen after : List Bool) (order more : List ℕ) (done part d b : ℕ) (n : Inode) (e : Entry) (t : Bool) → IsTable g s → ArePointers g s → AreNamed (volume_in g s) → Visits g s seen order done part d → d < inodes_of g → n ≡ the_inode g s d → n.kind ≡ 2 → part < 15 * count_of n → entry_of s n part ≡ Some e
+    → Finds t e.inode seen order after more → t ≡ false → b ≡ inode_block g e.inode → IsCorrupt g s Shared b
+visit-shared g s seen after order more done part d b n e true table pointers named h low same two inside there f is at = absurd (true≢false is)
+visit-shared g s seen after order more done part d b n e false table pointers named h low same two inside there f is at =
+    walked-shared g s seen order done part d b e table pointers named h.0 h.1 h.2 (slot-entry g s d part n low same two inside ∙ there) f.0 at
 
 -- a slot names an inode of the table
 pub visit-inside : (g : Geometry) (s : Stored) (seen : List Bool) (order : List ℕ) (done part d : ℕ) (n : Inode) (e : Entry) → AreNamed (volume_in g s) → Visits g s seen order done part d → d < inodes_of g → n ≡ the_inode g s d → n.kind ≡ 2 → part < 15 * count_of n → entry_of s n part ≡ Some e → e.inode < length seen

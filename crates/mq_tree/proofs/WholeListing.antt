@@ -1,6 +1,6 @@
 -- A listing has a line for each path of a tree, in rising order.
-use Rattle.std.proofs.Common.{get_or, set, ◌≡◌, ℕ, zero, suc, ◌+◌, ◌<◌, ◌≤◌, ◌⊎◌, inl, inr, List, [], ◌∷◌, ◌++◌, append_assoc, length, map, replicate, Bool, true, false, Ordering, Less, Equal, refl, sym, ap, subst, ◌∙◌, arith, get_or-set_other, length-set}
-use Rattle.std.specs.Prelude.{Option, Some, None, codes, ⊤}
+use Rattle.std.proofs.Common.{get_or, set, ◌≡◌, ℕ, zero, suc, ◌+◌, ◌<◌, ◌≤◌, ◌⊎◌, inl, inr, List, [], ◌∷◌, ◌++◌, append_assoc, length, length-append, map, replicate, Bool, true, false, Ordering, Less, Equal, refl, sym, ap, subst, ◌∙◌, arith, get_or-set_other, length-set}
+use Rattle.std.specs.Prelude.{Option, Some, None, codes, if◌then◌else◌, ⊤}
 use Rattle.std.specs.Cmp.{IsTotalOrder}
 use Rattle.std.specs.Cmp.Lexicographic.{slice_cmp}
 use Rattle.std.specs.List.{Contains}
@@ -8,17 +8,16 @@ use Rattle.std.specs.List.Sorted.{IsStrictlySortedBy}
 use Rattle.std.specs.Ordering.{nat_cmp, ordering_then}
 use Rattle.std.proofs.lemmas.Bool.{cases_Bool, cases_eq, true≢false}
 use Rattle.std.proofs.lemmas.Cmp.{lists_total, nat_list_cmp_total, tied_itself}
-use Rattle.std.proofs.lemmas.List.{append-nil, length-replicate, map-append}
+use Rattle.std.proofs.lemmas.List.{append-nil, length-map, length-replicate, map-append}
 use Rattle.std.proofs.lemmas.List.Elements.{Contains-append_cases, Contains-append_left, Contains-append_right}
-use Rattle.std.proofs.lemmas.List.Sums.{sum_by-set, count_by-le-length}
 use Rattle.std.proofs.lemmas.Option.{same_Some}
 use Rattle.mq_blocks.specs.declared.geometry.Geometry.{Geometry}
 use Rattle.mq_layout.specs.Slots.{Entry}
-use Rattle.mq_tree.specs.ListText.{Item, entries_in, items_of, line_of, lines, list_text, path_of}
+use Rattle.mq_tree.specs.ListText.{Item, entries_in, items_of, line_of, lines, list_text, name_count, path_of, slot_count}
 use Rattle.mq_tree.specs.Listings.{ArePaths, IsListing, lines_at, names_text, path_cmp, path_text, thing_line}
 use Rattle.mq_tree.specs.Sound.{IsSound}
 use Rattle.mq_tree.specs.Volume.{Body, Free, File, Dir, Path, Thing, Things, Volume, Way, body, inode_at, is_used, slots_of, thing, tree, way}
-use Rattle.mq_tree.specs.Walks.{is_seen, seen_count, weight}
+use Rattle.mq_tree.specs.Walks.{is_seen}
 use Rattle.mq_tree.proofs.KeepAsks.{thing-leads}
 use Rattle.mq_tree.proofs.KeepMove.{leads-part}
 use Rattle.mq_tree.proofs.KeepPaths.{Edge, IsTree, Step, last-step, leads-used, next-step, one-way, thing-here, used-is}
@@ -178,12 +177,37 @@ spots-all v path text d h name rest there is =
 
 -- ---- how far the listing has come
 
--- The lines that are left are enough: what was listed has earlier paths, and is no more than there are inodes.
+-- how many names stand in the directories that were not listed
+abbrev unlisted : Volume → List Bool → ℕ
+unlisted [] seen = 0
+unlisted (n ∷ v) [] = name_count n.body + unlisted v []
+unlisted (n ∷ v) (b ∷ seen) = (if b then 0 else name_count n.body) + unlisted v seen
+
+unlisted-all : (v : Volume) → unlisted v (replicate (length v) false) ≡ slot_count v
+unlisted-all [] = refl
+unlisted-all (n ∷ v) = ap (λ (k : ℕ). name_count n.body + k) (unlisted-all v)
+
+-- an inode is listed
+unlisted-less : (v : Volume) (seen : List Bool) (i : ℕ) → i < length v → length seen ≡ length v → is_seen seen i ≡ false → unlisted v seen ≡ name_count (body v i) + unlisted v (set seen i true)
+unlisted-less [] seen i low size new = absurd (omega arith)
+unlisted-less (n ∷ v) [] i low size new = absurd (omega arith)
+unlisted-less (n ∷ v) (true ∷ seen) zero low size new = absurd (true≢false new)
+unlisted-less (n ∷ v) (false ∷ seen) zero low size new = let e : unlisted v seen ≡ 0 + unlisted v seen = omega arith in ap (λ (k : ℕ). name_count n.body + k) e
+unlisted-less (n ∷ v) (b ∷ seen) (suc i) low size new =
+    let h : unlisted v seen ≡ name_count (body v i) + unlisted v (set seen i true) = unlisted-less v seen i (omega arith) (omega arith) new in
+    let w : ℕ = if b then 0 else name_count n.body in
+    ap (λ (k : ℕ). w + k) h ∙ turn w (name_count (body v i)) (unlisted v (set seen i true))
+  where
+    turn : (a b c : ℕ) → a + (b + c) ≡ b + (a + c)
+    turn a b c = omega arith
+
+-- The lines that are left are enough: for what waits, and for the names of what was not listed. What was listed has
+-- earlier paths.
 record Ready (v : Volume) (count : ℕ) (spots : List CopyPlace) (seen : List Bool) : Type 0 where
   waits : (s : CopyPlace) → Contains spots s → Waits v s
   apart : AreApart spots
   size : length seen ≡ length v
-  enough : length v ≤ count + seen_count seen
+  enough : length spots + unlisted v seen ≤ count
   past : (i : ℕ) → is_seen seen i ≡ true → (p : Path) × (inode_at v (way p) ≡ Some i) × ((s : CopyPlace) → Contains spots s → path_cmp p s.path ≡ Less)
 
 used-low : (v : Volume) (i : ℕ) → is_used (body v i) ≡ true → i < length v
@@ -204,26 +228,11 @@ spot-unseen v count s spots seen t r = elim (cases_Bool (is_seen seen (place s))
   | inr new ↦ new
 ]
 
-seen-more : (v : Volume) (count : ℕ) (s : CopyPlace) (spots : List CopyPlace) (seen : List Bool) → IsTree v → Ready v count (s ∷ spots) seen → seen_count (set seen (place s) true) ≡ seen_count seen + 1
-seen-more v count s spots seen t r =
-    let low = used-low v (place s) (spot-used v s t (r.waits s (cons-here s spots s refl))) in
-    let n = r.size in
-    let inside : place s < length seen = omega arith in
-    let more = sum_by-set weight seen (place s) true false inside in
-    let none : weight (get_or seen (place s) false) ≡ 0 = ap weight (spot-unseen v count s spots seen t r) in
-    omega arith
+spot-listed : (v : Volume) (count : ℕ) (s : CopyPlace) (spots : List CopyPlace) (seen : List Bool) → IsTree v → Ready v count (s ∷ spots) seen → unlisted v seen ≡ name_count (body v (place s)) + unlisted v (set seen (place s) true)
+spot-listed v count s spots seen t r = unlisted-less v seen (place s) (used-low v (place s) (spot-used v s t (r.waits s (cons-here s spots s refl)))) r.size (spot-unseen v count s spots seen t r)
 
-seen-few : (seen : List Bool) → seen_count seen ≤ length seen
-seen-few seen = count_by-le-length (λ (b : Bool). b) seen
-
-spot-left : {R : Type 0} (v : Volume) (s : CopyPlace) (spots : List CopyPlace) (seen : List Bool) → IsTree v → Ready v zero (s ∷ spots) seen → R
-spot-left v s spots seen t r =
-    let more = seen-more v zero s spots seen t r in
-    let few = seen-few (set seen (place s) true) in
-    let n = length-set seen (place s) true in
-    let m = r.size in
-    let enough = r.enough in
-    absurd (omega arith)
+spot-left : {R : Type 0} (v : Volume) (s : CopyPlace) (spots : List CopyPlace) (seen : List Bool) → Ready v zero (s ∷ spots) seen → R
+spot-left v s spots seen r = let e = r.enough in absurd (omega arith)
 
 -- the directory of an item that waits
 spot-dir : (v : Volume) (s : CopyPlace) → Waits v s → InDir v s.path (path_of s.item) (place s)
@@ -256,7 +265,13 @@ ready-more v count s spots seen t r =
           let whole : Before (s.path ++ (b.0 ∷ [])) (d.path ++ []) = before-below s.path d.path (b.0 ∷ []) [] (r.apart.0 d other) in
           subst (λ (q : Path). Before q d.path) (sym b.1) (subst (Before (s.path ++ b.0 ∷ [])) (append-nil d.path) whole));
       size = length-set seen (place s) true ∙ r.size;
-      enough = (let more = seen-more v (suc count) s spots seen t r in let e = r.enough in omega arith);
+      enough = (
+          let less = spot-listed v (suc count) s spots seen t r in
+          let all = length-append (spots_at v s) spots in
+          let new : length (spots_at v s) ≡ name_count (body v (place s)) = length-map (entries_in (slots_of (body v (place s)))) (child s.path (path_of s.item)) in
+          let e = r.enough in
+          omega arith
+          );
       past = λ i was. elim (cases_eq i (place s)) [
         | inl same ↦ (s.path, w.leads ∙ ap (λ (x : ℕ). Some x) (sym same), λ c among. elim (Contains-append_cases (spots_at v s) spots c among) [ inl new ↦ here c new | inr old ↦ after c old ])
         | inr other ↦
@@ -357,7 +372,7 @@ told : (count : ℕ) (v : Volume) (spots : List CopyPlace) (seen : List Bool) �
 unfolding lines
 told zero v [] seen t r = told-none v
 told (suc count) v [] seen t r = told-none v
-told zero v (s ∷ spots) seen t r = spot-left v s spots seen t r
+told zero v (s ∷ spots) seen t r = spot-left v s spots seen r
 told (suc count) v (s ∷ spots) seen t r =
     let rest = told count v (spots_at v s ++ spots) (set seen (place s) true) t (ready-more v count s spots seen t r) in
     told-more v s spots (lines count v (items_of (path_of s.item) (entries_in (slots_of (body v (place s)))) ++ map (λ (x : CopyPlace). x.item) spots)) t (r.waits s (cons-here s spots s refl)) r.apart.0 (subst (λ (xs : List Item). Told v (spots_at v s ++ spots) (lines count v xs)) (items-more v s spots) rest)
@@ -370,20 +385,38 @@ root-dir v = record { leads = refl; names = refl }
 abbrev root_spots : Volume → List CopyPlace
 root_spots v = spots_in v [] [] 0
 
-root-ready : (v : Volume) → IsTree v → Ready v (length v) (root_spots v) (replicate (length v) false)
+root-used : (v : Volume) → IsTree v → is_used (body v 0) ≡ true
+root-used v t = leads-used v t [] 0 refl
+
+-- only the root was listed
+abbrev root_seen : Volume → List Bool
+root_seen v = set (replicate (length v) false) 0 true
+
+root-ready : (v : Volume) → IsTree v → Ready v (slot_count v) (root_spots v) (root_seen v)
 root-ready v t = record {
   waits = spots-wait v [] [] 0 t (root-dir v);
   apart = spots-apart v [] [] 0 t;
-  size = length-replicate (length v) false;
-  enough = omega arith;
-  past = λ i was. absurd (true≢false (sym was ∙ all-false (length v) i));
+  size = length-set (replicate (length v) false) 0 true ∙ length-replicate (length v) false;
+  enough = (
+      let all = unlisted-all v in
+      let less = unlisted-less v (replicate (length v) false) 0 (used-low v 0 (root-used v t)) (length-replicate (length v) false) (all-false (length v) 0) in
+      let new : length (root_spots v) ≡ name_count (body v 0) = length-map (entries_in (slots_of (body v 0))) (child [] []) in
+      omega arith
+      );
+  past = λ i was. elim (cases_eq i 0) [
+    | inl root ↦ (
+      [],
+      ap (λ (x : ℕ). Some x) (sym root),
+      λ c among.
+          let m = map-cases (child [] []) (entries_in (slots_of (body v 0))) c among in
+          ap (λ (x : CopyPlace). path_cmp [] x.path) (sym m.2),
+    )
+    | inr other ↦ absurd (true≢false (sym was ∙ get_or-set_other (replicate (length v) false) 0 i true false other ∙ all-false (length v) i))
+  ];
 }
 
-root-told : (v : Volume) → IsTree v → Told v (root_spots v) (lines (length v) v (items_of [] (entries_in (slots_of (body v 0)))))
-root-told v t = subst (λ (xs : List Item). Told v (root_spots v) (lines (length v) v xs)) (children-items [] [] (entries_in (slots_of (body v 0)))) (told (length v) v (root_spots v) (replicate (length v) false) t (root-ready v t))
-
-root-used : (v : Volume) → IsTree v → is_used (body v 0) ≡ true
-root-used v t = leads-used v t [] 0 refl
+root-told : (v : Volume) → IsTree v → Told v (root_spots v) (lines (slot_count v) v (items_of [] (entries_in (slots_of (body v 0)))))
+root-told v t = subst (λ (xs : List Item). Told v (root_spots v) (lines (slot_count v) v xs)) (children-items [] [] (entries_in (slots_of (body v 0)))) (told (slot_count v) v (root_spots v) (root_seen v) t (root-ready v t))
 
 tree-listing : (v : Volume) → IsTree v → IsListing (tree v) (list_text v)
 tree-listing v t =
@@ -399,7 +432,7 @@ tree-listing v t =
         ];
         all = λ q there is. root-all v r q there is;
       };
-      lines = ap (λ (l : List ℕ). l ++ lines (length v) v (items_of [] (entries_in (slots_of (body v 0))))) (line-is [] (codes "/") (body v 0) (root-used v t) refl) ∙ ap (λ (l : List ℕ). thing_line [] (tree v []) ++ l) r.lines;
+      lines = ap (λ (l : List ℕ). l ++ lines (slot_count v) v (items_of [] (entries_in (slots_of (body v 0))))) (line-is [] (codes "/") (body v 0) (root-used v t) refl) ∙ ap (λ (l : List ℕ). thing_line [] (tree v []) ++ l) r.lines;
     }
   where
     root-first : (v : Volume) (q : Path) → Below (root_spots v) q → path_cmp [] q ≡ Less
@@ -407,7 +440,7 @@ tree-listing v t =
         let m = map-cases (child [] []) (entries_in (slots_of (body v 0))) b.spot b.among in
         ap (λ (x : Path). path_cmp [] x) (b.is ∙ ap (λ (x : CopyPlace). x.path ++ b.rest) (sym m.2))
 
-    root-all : (v : Volume) (r : Told v (root_spots v) (lines (length v) v (items_of [] (entries_in (slots_of (body v 0)))))) (q : Path) (there : Thing) → tree v q ≡ Some there → Contains ([] ∷ r.paths) q
+    root-all : (v : Volume) (r : Told v (root_spots v) (lines (slot_count v) v (items_of [] (entries_in (slots_of (body v 0)))))) (q : Path) (there : Thing) → tree v q ≡ Some there → Contains ([] ∷ r.paths) q
     root-all v r [] there is = cons-here [] r.paths [] refl
     root-all v r (name ∷ q) there is = cons-there [] r.paths (name ∷ q) (r.all (name ∷ q) there is (spots-all v [] [] 0 (root-dir v) name q there is))
 

@@ -12,11 +12,37 @@ use Rattle.mq_layout.specs.declared.refusal.LayoutRefusal.{LayoutRefusal}
 use Rattle.mq_tree.specs.Clean.{IsInZone}
 use Rattle.mq_tree.specs.Decoded.{Stored, byte_of, count_of, pointer_to, the_inode, volume_in}
 use Rattle.mq_tree.specs.Laid.{zone_block}
-use Rattle.mq_tree.specs.Volume.{Use, Way, block_in, body, inode_at, is_taken, is_used, slot}
+use Rattle.mq_tree.specs.Volume.{Use, Part, Pointers, Way, block_in, body, inode_at, is_taken, is_used, slot}
 use Rattle.mq_tree.specs.declared.corrupt.CorruptCause.{CorruptCause}
 use Rattle.mq_tree.specs.declared.corrupt.CorruptCause.TheVariants.{Layout, Pointer, Unmarked, Shared, Twin, Unreached, Kind, Tail}
 use Rattle.mq_tree.specs.declared.corrupt.MountRefusal.{MountRefusal}
 use Rattle.mq_tree.specs.declared.corrupt.MountRefusal.TheVariants.{Corrupt, OutOfMemory}
+
+-- ---- what lies in a zone
+
+-- The block at this place of an inode lies in a zone, and so does the block of pointers in which its pointer stands.
+pub record IsPlace (g : Geometry) (s : Stored) (i place b : ℕ) : Type 0 where
+  pub is : b ≡ pointer_to s (the_inode g s i) place
+  pub inside : IsInZone g b
+  pub through : 12 ≤ place → IsInZone g (the_inode g s i).indirect
+
+-- this slot of a directory, in this block
+pub record IsSlotIn (g : Geometry) (s : Stored) (d k : ℕ) (e : Entry) (b : ℕ) : Type 0 where
+  pub there : slot (volume_in g s) d k ≡ Some e
+  pub place : IsPlace g s d (k / 15) b
+
+-- the block of pointers through which a use leads, if it leads through one, lies in a zone
+abbrev pub IsThrough : Geometry → Stored → Use → Type 0
+IsThrough g s (Part i place) = 12 ≤ place → IsInZone g (the_inode g s i).indirect
+IsThrough g s (Pointers i) = Unit {0}
+
+-- the block is used so
+pub record IsUsedFor (g : Geometry) (s : Stored) (u : Use) (b : ℕ) : Type 0 where
+  pub block : block_in (volume_in g s) u ≡ Some b
+  pub inside : IsInZone g b
+  pub through : IsThrough g s u
+
+-- ---- the causes
 
 -- A codec refuses, or a byte or a bit has to be 0 and is not.
 pub data BadLayout (g : Geometry) (s : Stored) (b : ℕ) : Type 0 where
@@ -25,9 +51,9 @@ pub data BadLayout (g : Geometry) (s : Stored) (b : ℕ) : Type 0 where
   inode_bit : (k : ℕ) → b ≡ inode_bitmap g → inodes_of g ≤ k → k < 32768 → bit_of (block_at s b) k ≡ 1 → BadLayout g s b
   table_inode : (i : ℕ) (e : LayoutRefusal) → i < inodes_of g → b ≡ inode_block g i → wrong_inode (block_at s b) (inode_place i) ≡ Some e → BadLayout g s b
   table_rest : (k : ℕ) → table_first g + 1024 ≤ b → b < meta_of g → slice_index (block_at s b) k ≢ 0 → BadLayout g s b
-  in_slot : (i place at : ℕ) (e : LayoutRefusal) → i < inodes_of g → (the_inode g s i).kind ≡ 2 → place < count_of (the_inode g s i) → b ≡ pointer_to s (the_inode g s i) place → at < 15
+  in_slot : (i place at : ℕ) (e : LayoutRefusal) → i < inodes_of g → (the_inode g s i).kind ≡ 2 → place < count_of (the_inode g s i) → IsPlace g s i place b → at < 15
       → wrong_slot (block_at s b) at ≡ Some e → BadLayout g s b
-  behind_slots : (i place k : ℕ) → i < inodes_of g → (the_inode g s i).kind ≡ 2 → place < count_of (the_inode g s i) → b ≡ pointer_to s (the_inode g s i) place → 4080 ≤ k → k < 4096
+  behind_slots : (i place k : ℕ) → i < inodes_of g → (the_inode g s i).kind ≡ 2 → place < count_of (the_inode g s i) → IsPlace g s i place b → 4080 ≤ k → k < 4096
       → slice_index (block_at s b) k ≢ 0 → BadLayout g s b
 
 -- the block that has the pointer to this place
@@ -36,18 +62,14 @@ pub data BadPointer (g : Geometry) (s : Stored) (b : ℕ) : Type 0 where
   not_direct : (i k : ℕ) → i < inodes_of g → b ≡ inode_block g i → count_of (the_inode g s i) ≤ k → k < 12 → slice_index (the_inode g s i).direct k ≢ 0 → BadPointer g s b
   indirect : (i : ℕ) → i < inodes_of g → b ≡ inode_block g i → 12 < count_of (the_inode g s i) → (IsInZone g (the_inode g s i).indirect → ⊥) → BadPointer g s b
   not_indirect : (i : ℕ) → i < inodes_of g → b ≡ inode_block g i → count_of (the_inode g s i) ≤ 12 → (the_inode g s i).indirect ≢ 0 → BadPointer g s b
-  far : (i k : ℕ) → i < inodes_of g → b ≡ (the_inode g s i).indirect → 12 ≤ k → k < count_of (the_inode g s i) → (IsInZone g (pointer_to s (the_inode g s i) k) → ⊥) → BadPointer g s b
-  not_far : (i k : ℕ) → i < inodes_of g → b ≡ (the_inode g s i).indirect → 12 < count_of (the_inode g s i) → count_of (the_inode g s i) ≤ k → k < 1036 → pointer_to s (the_inode g s i) k ≢ 0 → BadPointer g s b
-
--- the block that has this slot
-abbrev pub block_of_slot : Geometry → Stored → (d k : ℕ) → ℕ
-block_of_slot g s d k = pointer_to s (the_inode g s d) (k / 15)
+  far : (i k : ℕ) → i < inodes_of g → b ≡ (the_inode g s i).indirect → IsInZone g b → 12 ≤ k → k < 1036 → k < count_of (the_inode g s i) → (IsInZone g (pointer_to s (the_inode g s i) k) → ⊥) → BadPointer g s b
+  not_far : (i k : ℕ) → i < inodes_of g → b ≡ (the_inode g s i).indirect → IsInZone g b → 12 < count_of (the_inode g s i) → count_of (the_inode g s i) ≤ k → k < 1036 → pointer_to s (the_inode g s i) k ≢ 0 → BadPointer g s b
 
 pub data BadKind (g : Geometry) (s : Stored) (b : ℕ) : Type 0 where
   not_root : b ≡ inode_block g 0 → (the_inode g s 0).kind ≢ 2 → BadKind g s b
-  names_root : (d k : ℕ) (e : Entry) → slot (volume_in g s) d k ≡ Some e → b ≡ block_of_slot g s d k → e.inode ≡ 0 → BadKind g s b
+  names_root : (d k : ℕ) (e : Entry) → IsSlotIn g s d k e b → e.inode ≡ 0 → BadKind g s b
   -- free, or not below the number of inodes
-  names_free : (d k : ℕ) (e : Entry) → slot (volume_in g s) d k ≡ Some e → b ≡ block_of_slot g s d k → is_used (body (volume_in g s) e.inode) ≡ false → BadKind g s b
+  names_free : (d k : ℕ) (e : Entry) → IsSlotIn g s d k e b → is_used (body (volume_in g s) e.inode) ≡ false → BadKind g s b
 
 pub record IsTwin (g : Geometry) (s : Stored) (b : ℕ) : Type 0 where
   pub d : ℕ
@@ -55,19 +77,19 @@ pub record IsTwin (g : Geometry) (s : Stored) (b : ℕ) : Type 0 where
   pub l : ℕ
   pub e : Entry
   pub f : Entry
-  pub first : slot (volume_in g s) d k ≡ Some e
-  pub second : slot (volume_in g s) d l ≡ Some f
+  pub other : ℕ
+  pub first : IsSlotIn g s d k e b
+  pub second : IsSlotIn g s d l f other
   pub same : e.name ≡ f.name
   pub apart : k ≢ l
-  pub is : b ≡ block_of_slot g s d k
 
 pub data IsShared (g : Geometry) (s : Stored) (b : ℕ) : Type 0 where
-  shared_block : (u w : Use) → block_in (volume_in g s) u ≡ Some b → block_in (volume_in g s) w ≡ Some b → u ≢ w → IsShared g s b
-  -- the inode that a slot of this block names, another slot names too
-  shared_inode : (d k c l : ℕ) (e f : Entry) → slot (volume_in g s) d k ≡ Some e → slot (volume_in g s) c l ≡ Some f → e.inode ≡ f.inode → ((d ≡ c) × (k ≡ l) → ⊥) → b ≡ block_of_slot g s d k → IsShared g s b
+  shared_block : (u w : Use) → IsUsedFor g s u b → IsUsedFor g s w b → u ≢ w → IsShared g s b
+  -- two slots name an inode of this block
+  shared_inode : (d k c l x y : ℕ) (e f : Entry) → IsSlotIn g s d k e x → IsSlotIn g s c l f y → e.inode ≡ f.inode → ((d ≡ c) × (k ≡ l) → ⊥) → e.inode < inodes_of g → b ≡ inode_block g e.inode → IsShared g s b
 
 pub data IsUnmarked (g : Geometry) (s : Stored) (b : ℕ) : Type 0 where
-  unmarked_block : (zone k : ℕ) → zone < queues_of g → k < zone_size g → b ≡ zone_bitmap zone → is_taken (volume_in g s) (zone_block g zone k) ≡ true → bit_of (block_at s b) k ≡ 0 → IsUnmarked g s b
+  unmarked_block : (zone k : ℕ) (u : Use) → zone < queues_of g → k < zone_size g → b ≡ zone_bitmap zone → IsUsedFor g s u (zone_block g zone k) → bit_of (block_at s b) k ≡ 0 → IsUnmarked g s b
   unmarked_inode : (i : ℕ) → i < inodes_of g → b ≡ inode_bitmap g → is_used (body (volume_in g s) i) ≡ true → bit_of (block_at s b) i ≡ 0 → IsUnmarked g s b
 
 pub data IsUnreached (g : Geometry) (s : Stored) (b : ℕ) : Type 0 where
@@ -82,7 +104,7 @@ pub record HasTail (g : Geometry) (s : Stored) (b : ℕ) : Type 0 where
   pub file : (the_inode g s i).kind ≡ 1
   pub past : (the_inode g s i).size ≤ k
   pub inside : k < 4096 * count_of (the_inode g s i)
-  pub is : b ≡ pointer_to s (the_inode g s i) (k / 4096)
+  pub place : IsPlace g s i (k / 4096) b
   pub not_zero : byte_of s (the_inode g s i) k ≢ 0
 
 -- the cause holds at the block

@@ -1,5 +1,5 @@
 -- The text that lists a tree: a line for each path, in the order of lists of names.
-use Rattle.std.specs.Prelude.{◌≤◌, ℕ, zero, suc, List, [], ◌∷◌, ◌++◌, length, map, reverse, slice_range, codes, Option, Some, None, if◌then◌else◌}
+use Rattle.std.specs.Prelude.{◌≤◌, ℕ, zero, suc, ◌+◌, List, [], ◌∷◌, ◌++◌, length, map, reverse, slice_range, codes, Option, Some, None, if◌then◌else◌}
 use Rattle.std.specs.Cmp.Lexicographic.{slice_cmp}
 use Rattle.std.specs.Fmt.{decimal}
 use Rattle.std.specs.Ordering.{is_lt, nat_cmp}
@@ -44,9 +44,17 @@ lines zero v todo = []
 lines (suc count) v [] = []
 lines (suc count) v (x ∷ todo) = line_of (path_of x) (body v x.entry.inode) ++ lines count v (items_of (path_of x) (entries_in (slots_of (body v x.entry.inode))) ++ todo)
 
--- The root, and what is below it. A tree has no more paths than inodes.
+-- the used slots of a body, and of all bodies
+abbrev pub name_count : Body → ℕ
+name_count b = length (entries_in (slots_of b))
+
+abbrev pub slot_count : Volume → ℕ
+slot_count [] = 0
+slot_count (n ∷ v) = name_count n.body + slot_count v
+
+-- The root, and what is below it. A tree has no more paths below the root than used slots.
 abbrev pub list_text : Volume → List ℕ
-list_text v = line_of (codes "/") (body v 0) ++ lines (length v) v (items_of [] (entries_in (slots_of (body v 0))))
+list_text v = line_of (codes "/") (body v 0) ++ lines (slot_count v) v (items_of [] (entries_in (slots_of (body v 0))))
 
 -- ---- items that wait in a stack, whose last one is next
 

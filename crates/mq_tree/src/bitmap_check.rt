@@ -4,7 +4,7 @@ ghost use Rattle.mq_blocks.specs.Blocks.{block_at, zeros};
 ghost use Rattle.mq_blocks.specs.Geometry.{homes_of, queues_of, zone_size};
 ghost use Rattle.mq_layout.specs.Bits.{bit_of};
 ghost use Rattle.mq_layout.specs.Places.{inode_bitmap as inode_bitmap_of, inodes_of, zone_bitmap as zone_bitmap_of};
-ghost use Rattle.mq_tree.specs.Clean.{AreMarked, IsTable};
+ghost use Rattle.mq_tree.specs.Clean.{AreMarked, ArePointers, IsTable};
 ghost use Rattle.mq_tree.specs.Corrupt.{Refuses};
 ghost use Rattle.mq_tree.specs.Decoded.{inodes_in, volume_in};
 ghost use Rattle.mq_tree.specs.Laid.{zone_block};
@@ -38,6 +38,7 @@ fn check_zone(
     requires size { length used.now ≡ homes_of geometry }
     requires used { (b : ℕ) → slice_index_or used.now b false ≡ is_taken (volume_in geometry blocks.now) b }
     requires zone { zone < queues_of geometry }
+    requires pointers { ArePointers geometry blocks.now }
     ensures ok { IfOk result (λ _. (k : ℕ) → k < zone_size geometry → bit_of (block_at blocks.now (zone_bitmap_of zone)) k ≡ (if is_taken (volume_in geometry blocks.now) (zone_block geometry zone k) then 1 else 0)) }
     ensures cause { IfErr result (Refuses geometry blocks.now) }
 {
@@ -88,6 +89,7 @@ pub fn check_marks(
     requires table { IsTable geometry blocks.now }
     requires size { length used.now ≡ homes_of geometry }
     requires used { (b : ℕ) → slice_index_or used.now b false ≡ is_taken (volume_in geometry blocks.now) b }
+    requires pointers { ArePointers geometry blocks.now }
     ensures ok { IfOk result (λ _. AreMarked geometry blocks.now) }
     ensures cause { IfErr result (Refuses geometry blocks.now) }
 {

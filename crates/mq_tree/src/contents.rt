@@ -2,7 +2,7 @@
 ghost use Rattle.std.specs.Prelude.{◌≡◌, IfErr, IfOk, OnOk};
 ghost use Rattle.mq_blocks.specs.Blocks.{zeros};
 ghost use Rattle.mq_layout.specs.Inodes.{IsInode};
-ghost use Rattle.mq_tree.specs.Clean.{AreDirs, AreOnce, IsTable};
+ghost use Rattle.mq_tree.specs.Clean.{AreDirs, AreOnce, ArePointers, IsTable};
 ghost use Rattle.mq_tree.specs.Corrupt.{Refuses};
 ghost use Rattle.mq_tree.specs.Decoded.{body_of, byte_of, inodes_in, table_of, volume_in};
 ghost use Rattle.mq_tree.specs.Directories.{IsOnce, RefusesTwin};
@@ -87,6 +87,7 @@ pub fn read_contents(
     requires inodes { inodes.now ≡ inodes_in geometry blocks.now }
     requires table { IsTable geometry blocks.now }
     requires dirs { AreDirs geometry blocks.now }
+    requires pointers { ArePointers geometry blocks.now }
     ensures ok { IfOk result (λ found. IsAlike (kept found.items) (volume_in geometry blocks.now)) }
     ensures once { OnOk result (AreOnce (volume_in geometry blocks.now)) }
     ensures cause { IfErr result (Refuses geometry blocks.now) }

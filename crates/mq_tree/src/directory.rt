@@ -1,5 +1,5 @@
 // The names of a directory, as a map.
-ghost use Rattle.std.specs.Prelude.{◌≡◌, IfOk, [], map};
+ghost use Rattle.std.specs.Prelude.{◌≡◌, IfOk, [], length, map};
 ghost use Rattle.std.specs.Bool.{MatchBool};
 ghost use Rattle.mq_tree.specs.Directories.{Adds, Has};
 ghost use Rattle.mq_tree.specs.ListText.{entries_in, entry_of_link};
@@ -50,6 +50,13 @@ impl Directory {
         ensures { result ≡ find name.now self.now }
     {
         self.links.get(name).copied()
+    }
+
+    /// How many names there are.
+    pub fn len(&self) -> usize
+        ensures { result ≡ length (entries_in self.now) }
+    {
+        self.links.len()
     }
 
     /// The names with their inodes, in rising order of names.

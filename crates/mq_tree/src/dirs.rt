@@ -3,7 +3,7 @@ ghost use Rattle.std.specs.Prelude.{◌≡◌, ◌<◌, ℕ, IfErr, IfOk, MatchO
 ghost use Rattle.std.specs.Bool.{MatchBool};
 ghost use Rattle.mq_blocks.specs.Blocks.{zeros};
 ghost use Rattle.mq_layout.specs.Inodes.{IsInode};
-ghost use Rattle.mq_tree.specs.Clean.{AreDirs, IsDirBlock, IsTable};
+ghost use Rattle.mq_tree.specs.Clean.{AreDirs, ArePointers, IsDirBlock, IsTable};
 ghost use Rattle.mq_tree.specs.Corrupt.{Refuses};
 ghost use Rattle.mq_tree.specs.Decoded.{inodes_in};
 ghost use Rattle.mq_tree.specs.Parts.{AreDirBlocks, HasBadBlock, IsBadBlock};
@@ -60,6 +60,7 @@ pub fn check_dirs(
     requires zero { zero.now ≡ zeros }
     requires inodes { inodes.now ≡ inodes_in geometry blocks.now }
     requires table { IsTable geometry blocks.now }
+    requires pointers { ArePointers geometry blocks.now }
     ensures ok { IfOk result (λ _. AreDirs geometry blocks.now) }
     ensures cause { IfErr result (Refuses geometry blocks.now) }
 {

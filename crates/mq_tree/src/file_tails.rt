@@ -2,7 +2,7 @@
 ghost use Rattle.std.specs.Prelude.{◌≡◌, ◌<◌, ℕ, IfErr, IfOk, MatchOption};
 ghost use Rattle.mq_blocks.specs.Blocks.{zeros};
 ghost use Rattle.mq_layout.specs.Inodes.{IsInode};
-ghost use Rattle.mq_tree.specs.Clean.{AreEnded, IsTable};
+ghost use Rattle.mq_tree.specs.Clean.{AreEnded, ArePointers, IsTable};
 ghost use Rattle.mq_tree.specs.Corrupt.{Refuses};
 ghost use Rattle.mq_tree.specs.Decoded.{inodes_in};
 ghost use Rattle.mq_tree.specs.Parts.{HasEndAt, IsEnded};
@@ -45,6 +45,7 @@ pub fn check_ends(
     requires zero { zero.now ≡ zeros }
     requires inodes { inodes.now ≡ inodes_in geometry blocks.now }
     requires table { IsTable geometry blocks.now }
+    requires pointers { ArePointers geometry blocks.now }
     ensures ok { IfOk result (λ _. AreEnded geometry blocks.now) }
     ensures cause { IfErr result (Refuses geometry blocks.now) }
 {

@@ -32,7 +32,7 @@ pub use keeps::{
     refusals_are_those_of_the_tree, refusals_change_nothing, replies_are_those_of_the_tree,
     things_are_removed, things_are_renamed,
 };
-pub use laws::{alike_trees, clean_blocks, empty_tree, one_tree};
+pub use laws::{a_listing_has_each_path, alike_trees, clean_blocks, empty_tree, one_tree};
 pub use mounts::mount;
 pub use path::{Bytes, Name, Names, Path};
 pub use request::{Fault, Reply, Request, changes};

@@ -102,10 +102,12 @@ impl Tree {
         self.put_head(&mut text, 0)?;
         text.extend_from_slice(b"/\n")?;
         self.push_links(alloc, 0, 0, 0, &mut todo)?;
-        for k in 0..self.count() {
-            match todo.pop() {
-                Some(step) => self.list_step(alloc, &step, &mut text, &mut todo)?,
-                None => break,
+        // One step for each used slot.
+        for i in 0..self.count() {
+            for k in 0..self.name_count(i) {
+                if let Some(step) = todo.pop() {
+                    self.list_step(alloc, &step, &mut text, &mut todo)?;
+                }
             }
         }
         Ok(text)

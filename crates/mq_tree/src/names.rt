@@ -4,7 +4,7 @@ ghost use Rattle.std.specs.Bool.{MatchBool};
 ghost use Rattle.mq_blocks.specs.Blocks.{zeros};
 ghost use Rattle.mq_layout.specs.Inodes.{IsInode};
 ghost use Rattle.mq_layout.specs.Slots.{Entry};
-ghost use Rattle.mq_tree.specs.Clean.{AreDirs, AreNamed, IsDirBlock, IsTable};
+ghost use Rattle.mq_tree.specs.Clean.{AreDirs, AreNamed, ArePointers, IsDirBlock, IsTable};
 ghost use Rattle.mq_tree.specs.Corrupt.{Refuses};
 ghost use Rattle.mq_tree.specs.Decoded.{inodes_in, slot_of, volume_in};
 ghost use Rattle.mq_tree.specs.Parts.{AreDirBlocks, AreNamedIn, HasBadName, IsNamedBy, NameAll, NamesOther, NamesRight};
@@ -81,6 +81,7 @@ pub fn check_names(
     requires inodes { inodes.now ≡ inodes_in geometry blocks.now }
     requires table { IsTable geometry blocks.now }
     requires dirs { AreDirs geometry blocks.now }
+    requires pointers { ArePointers geometry blocks.now }
     ensures ok { IfOk result (λ _. AreNamed (volume_in geometry blocks.now)) }
     ensures cause { IfErr result (Refuses geometry blocks.now) }
 {

@@ -86,39 +86,39 @@ fn corrupt(cause: CorruptCause, b: u32) -> Option<MountRefusal> {
 fn causes_of_blocks_are_found(rt: HostRuntime) {
     let alloc = rt.alloc();
     assert!(rt; found(alloc, &[]).is_none());
-    let version = found(alloc, &[(0, 8, &[2])]);
-    assert_eq!(rt; version, corrupt(CorruptCause::Layout, 0));
-    let root = found(alloc, &[(3, 0, &[1])]);
-    assert_eq!(rt; root, corrupt(CorruptCause::Kind, 3));
-    let outside = found(alloc, &[(3, 272, &[8])]);
-    assert_eq!(rt; outside, corrupt(CorruptCause::Pointer, 3));
-    let shared = found(alloc, &[(3, 272, &[5])]);
-    assert_eq!(rt; shared, corrupt(CorruptCause::Shared, 5));
-    let unmarked = found(alloc, &[(1, 0, &[3])]);
-    assert_eq!(rt; unmarked, corrupt(CorruptCause::Unmarked, 1));
-    let unused = found(alloc, &[(1, 0, &[15])]);
-    assert_eq!(rt; unused, corrupt(CorruptCause::Unreached, 1));
-    let tail = found(alloc, &[(6, 2, &[1])]);
-    assert_eq!(rt; tail, corrupt(CorruptCause::Tail, 6));
+    let causes: [((usize, usize, &[u8]), CorruptCause, u32); 9] = [
+        ((0, 8, &[2]), CorruptCause::Layout, 0),
+        ((3, 0, &[1]), CorruptCause::Kind, 3),
+        ((3, 272, &[8]), CorruptCause::Pointer, 3),
+        ((3, 272, &[5]), CorruptCause::Shared, 5),
+        ((1, 0, &[3]), CorruptCause::Unmarked, 1),
+        ((1, 0, &[15]), CorruptCause::Unreached, 1),
+        ((6, 2, &[1]), CorruptCause::Tail, 6),
+        ((4, 0, &[3]), CorruptCause::Kind, 4),
+        ((5, 0, &[0; 17]), CorruptCause::Unreached, 3),
+    ];
+    for (change, cause, b) in causes {
+        assert_eq!(rt; found(alloc, &[change]), corrupt(cause, b));
+    }
 }
 
 #[test]
 fn causes_of_names_are_found(rt: HostRuntime) {
     let alloc = rt.alloc();
-    let free = found(alloc, &[(4, 0, &[3])]);
-    assert_eq!(rt; free, corrupt(CorruptCause::Kind, 4));
-    let twin = found(alloc, &[(4, 272, &slot(2, b'a'))]);
-    assert_eq!(rt; twin, corrupt(CorruptCause::Twin, 4));
-    let twice = found(alloc, &[(4, 272, &slot(2, b'g'))]);
-    assert_eq!(rt; twice, corrupt(CorruptCause::Shared, 5));
-    let lost = found(alloc, &[(5, 0, &[0; 17])]);
-    assert_eq!(rt; lost, corrupt(CorruptCause::Unreached, 3));
+    assert_eq!(rt;
+        found(alloc, &[(4, 272, &slot(2, b'a'))]),
+        corrupt(CorruptCause::Twin, 4)
+    );
+    assert_eq!(rt;
+        found(alloc, &[(4, 272, &slot(2, b'g'))]),
+        corrupt(CorruptCause::Shared, 3)
+    );
     // /a names a directory that names /a
     let circle: [(usize, usize, &[u8]); 2] = [
         (3, 256, &inode(2, [0, 16], 6)),
         (6, 0, &slot(1, b'b')),
     ];
-    assert_eq!(rt; found(alloc, &circle), corrupt(CorruptCause::Shared, 6));
+    assert_eq!(rt; found(alloc, &circle), corrupt(CorruptCause::Shared, 3));
     // the same, and the root does not name /a
     let apart: [(usize, usize, &[u8]); 3] = [circle[0], circle[1], (4, 0, &[0; 17])];
     assert_eq!(rt; found(alloc, &apart), corrupt(CorruptCause::Unreached, 3));

@@ -2,6 +2,7 @@
 ghost use Rattle.std.specs.Prelude.{◌≡◌, MatchOption, MatchResult, Ok, Err, length};
 ghost use Rattle.std.specs.List.{list_all};
 ghost use Rattle.mq_layout.specs.Names.{is_name};
+ghost use Rattle.mq_tree.specs.ListText.{name_count};
 ghost use Rattle.mq_tree.specs.Requests.{into_dir, walk};
 ghost use Rattle.mq_tree.specs.Trees.{ReadsAs, body_kept, file_in, found_in, kept};
 ghost use Rattle.mq_tree.specs.Volume.{Free, body, find, slots_of, way};
@@ -41,11 +42,28 @@ impl Tree {
         self.contents.len()
     }
 
+    /// What the inode in this place of the list is, where there is one.
+    fn content_at(&self, place: usize) -> Option<&Content>
+        ensures { MatchOption result (body self.now place ≡ Free) (λ content. body self.now place ≡ body_kept content.now) }
+    {
+        self.contents.get(place)
+    }
+
     /// What an inode is, where there is one of this number.
     pub(crate) fn content(&self, inode: u32) -> Option<&Content>
         ensures { MatchOption result (body self.now inode ≡ Free) (λ content. body self.now inode ≡ body_kept content.now) }
     {
-        self.contents.get(inode as usize)
+        self.content_at(inode as usize)
+    }
+
+    /// How many names the inode in this place of the list has.
+    pub(crate) fn name_count(&self, place: usize) -> usize
+        ensures { result ≡ name_count (body self.now place) }
+    {
+        match self.content_at(place) {
+            Some(Content::Dir(names)) => names.len(),
+            _ => 0,
+        }
     }
 
     /// The inode under a name of a directory.

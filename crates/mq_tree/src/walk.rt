@@ -2,13 +2,13 @@
 ghost use Rattle.std.specs.Prelude.{◌≡◌, ◌+◌, ◌<◌, IfErr, IfOk, OnOk, length};
 ghost use Rattle.mq_blocks.specs.Blocks.{zeros};
 ghost use Rattle.mq_layout.specs.Places.{inodes_of};
-ghost use Rattle.mq_tree.specs.Clean.{AreDirs, AreNamed, AreOnce, AreReached, IsTable};
+ghost use Rattle.mq_tree.specs.Clean.{AreDirs, AreNamed, AreOnce, ArePointers, AreReached, IsTable};
 ghost use Rattle.mq_tree.specs.Corrupt.{Refuses};
 ghost use Rattle.mq_tree.specs.Decoded.{inodes_in, volume_in};
 ghost use Rattle.mq_tree.specs.Walks.{Finds, IsWholeWalk, Starts, Walked};
 
 use crate::corrupt::{CorruptCause, MountRefusal};
-use crate::pointers::{block_count, pointer_at};
+use crate::pointers::block_count;
 use crate::slots::slot_at;
 use crate::stored::corrupt;
 use crate::table::DIRECTORY;
@@ -67,6 +67,7 @@ fn visit(
     requires names { AreOnce (volume_in geometry blocks.now) }
     requires low { done < length walk.old.order.items }
     requires walk { Walked (volume_in geometry blocks.now) (inodes_of geometry) walk.old.seen.items walk.old.order.items done 0 }
+    requires pointers { ArePointers geometry blocks.now }
     ensures ok { OnOk result (Walked (volume_in geometry blocks.now) (inodes_of geometry) walk.new.seen.items walk.new.order.items (done + 1) 0) }
     ensures low { OnOk result (done < length walk.new.order.items) }
     ensures cause { IfErr result (Refuses geometry blocks.now) }
@@ -79,7 +80,7 @@ fn visit(
     for k in 0..SLOTS_PER_BLOCK * block_count(inode) {
         if let Some(link) = slot_at(blocks, zero, inode, k) {
             if !walk.find(link.inode)? {
-                let b = pointer_at(blocks, zero, inode, k / SLOTS_PER_BLOCK);
+                let b = inode_block(geometry, link.inode).0;
                 return Err(corrupt(CorruptCause::Shared, b));
             }
         }
@@ -101,6 +102,7 @@ pub fn walk_all(
     requires dirs { AreDirs geometry blocks.now }
     requires named { AreNamed (volume_in geometry blocks.now) }
     requires names { AreOnce (volume_in geometry blocks.now) }
+    requires pointers { ArePointers geometry blocks.now }
     ensures size { IfOk result (λ seen. length seen.items ≡ inodes_of geometry) }
     ensures ok { IfOk result (λ seen. IsWholeWalk (volume_in geometry blocks.now) seen.items) }
     ensures cause { IfErr result (Refuses geometry blocks.now) }

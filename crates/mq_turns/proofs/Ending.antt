@@ -1,5 +1,5 @@
 -- The end of a desk: what one view knows that stands for all chairs.
-use Rattle.std.proofs.Common.{◌≡◌, ◌≢◌, ℕ, zero, suc, ◌+◌, ◌*◌, ◌<◌, ◌≤◌, List, [], ◌∷◌, ◌++◌, map, length, get_or, sym, refl, ap, ◌∙◌, subst, arith, Option, Some, None, length-append, append-nil, append_assoc}
+use Rattle.std.proofs.Common.{◌≡◌, ◌≢◌, ℕ, zero, suc, ◌+◌, ◌*◌, ◌<◌, ◌≤◌, Bool, List, [], ◌∷◌, ◌++◌, map, length, get_or, sym, refl, ap, ◌∙◌, subst, arith, Option, Some, None, length-append, append-nil, append_assoc}
 use Rattle.std.proofs.lemmas.List.{map-append}
 use Rattle.std.proofs.lemmas.Option.{slice_get_within}
 use mathlib.Core.Logic.{dite}
@@ -9,8 +9,10 @@ use lib.ListN.{get_elem?}
 use Rattle.std.specs.Prelude.{All}
 use Rattle.atomic_table.specs.Table.{Final, Seen}
 use Rattle.mq_turns.specs.Meaning.{Meaning, Grows, newest, IsAt}
-use Rattle.mq_turns.specs.Lists.{total, Each, times}
-use Rattle.mq_turns.specs.Desk.{slots, turn_at, holders, allotment, Drawer, Ruled, Stands, drawn_of, read_of, IsInOrder}
+use Rattle.mq_turns.specs.Lists.{total, Each, tally, times}
+use Rattle.mq_turns.specs.Marks.{Marked, Reader}
+use Rattle.mq_turns.specs.declared.rule.Charge.{Charge}
+use Rattle.mq_turns.specs.Desk.{slots, turn_at, holders, allotment, Drawer, Ruled, Stands, drawn_of, read_of, charged_of, IsInOrder}
 use Rattle.mq_turns.specs.Chairs.{Ended}
 use Rattle.mq_turns.specs.Closing.{HasPages, HasSides, HasRoot, ArePages, AreSides, IsRoot}
 use Rattle.mq_turns.specs.declared.rule.Opening.{Opening}
@@ -20,18 +22,23 @@ use Rattle.mq_turns.specs.declared.turn.Turn.{Turn}
 use Rattle.mq_turns.specs.declared.turn.Turn.TheVariants.{Page, Side, Root}
 use Rattle.mq_turns.specs.declared.turn.Item.{Item}
 use Rattle.mq_turns.specs.declared.turn.Item.TheVariants as item
-use Rattle.mq_turns.proofs.Totals.{total_two, total_zero, total_only, total_append, each_append}
+use Rattle.mq_turns.proofs.Totals.{total_two, total_zero, total_only, total_append, each_append, each_map}
+use Rattle.mq_turns.proofs.Readings.{charges_in}
 use Rattle.mq_turns.proofs.Slots.{page_at, side_at, root_at}
 
 -- ---- lists of chairs
 
 pub drawn_last : {P Q R E : Type 0} (vs : List (View P Q R E)) (v : View P Q R E) → drawn_of (vs ++ v ∷ []) ≡ v.drawn ++ drawn_of vs
 drawn_last [] v = sym (append-nil v.drawn)
-drawn_last (u ∷ txs) v = ap (λ l. l ++ u.drawn) (drawn_last txs v) ∙ append_assoc v.drawn (drawn_of txs) u.drawn
+drawn_last (u ∷ rest) v = ap (λ l. l ++ u.drawn) (drawn_last rest v) ∙ append_assoc v.drawn (drawn_of rest) u.drawn
 
 pub read_last : {P Q R E : Type 0} (vs : List (View P Q R E)) (v : View P Q R E) → read_of (vs ++ v ∷ []) ≡ v.read ++ read_of vs
 read_last [] v = sym (append-nil v.read)
-read_last (u ∷ txs) v = ap (λ l. l ++ u.read) (read_last txs v) ∙ append_assoc v.read (read_of txs) u.read
+read_last (u ∷ rest) v = ap (λ l. l ++ u.read) (read_last rest v) ∙ append_assoc v.read (read_of rest) u.read
+
+pub charged_last : {P Q R E : Type 0} (vs : List (View P Q R E)) (v : View P Q R E) → charged_of (vs ++ v ∷ []) ≡ v.reading.charged ++ charged_of vs
+charged_last [] v = sym (append-nil v.reading.charged)
+charged_last (u ∷ rest) v = ap (λ l. l ++ u.reading.charged) (charged_last rest v) ∙ append_assoc v.reading.charged (charged_of rest) u.reading.charged
 
 idx_front : {X : Type 0} (xs ys : List X) (k : ℕ) (d : X) → k < length xs → get_or (xs ++ ys) k d ≡ get_or xs k d
 idx_front [] ys k d lt = absurd (omega arith)
@@ -58,6 +65,9 @@ module _ {X P Q R E : Type 0} (f : X → View P Q R E) where
 
   pub read_moves : (ys xs : List X) (x : X) (l : List (E × Known P Q R E)) → ys ≡ xs ++ x ∷ [] → (l ++ (f x).read) ++ read_of (map f xs) ≡ l ++ read_of (map f ys)
   read_moves ys xs x l e = append_assoc l (f x).read (read_of (map f xs)) ∙ ap (λ z. l ++ z) (sym (ap read_of (map_last ys xs x e) ∙ read_last (map f xs) (f x)))
+
+  pub charged_moves : (ys xs : List X) (x : X) (l : List Charge) → ys ≡ xs ++ x ∷ [] → (l ++ (f x).reading.charged) ++ charged_of (map f xs) ≡ l ++ charged_of (map f ys)
+  charged_moves ys xs x l e = append_assoc l (f x).reading.charged (charged_of (map f xs)) ∙ ap (λ z. l ++ z) (sym (ap charged_of (map_last ys xs x e) ∙ charged_last (map f xs) (f x)))
 
   -- what holds of each view but the last, and of the last
   pub each_last : (F : View P Q R E → Type 0) (ys xs : List X) (x : X) → ys ≡ xs ++ x ∷ [] → F (f x) → Each F (map f xs) → Each F (map f ys)
@@ -87,9 +97,13 @@ module _ {M P Q R E : Type 0} (μ : Meaning P Q R E) (o : Opening P Q R) (chairs
     pub opening : known.opening ≡ o
     pub ok : μ.ok known
     pub counter : get_or ws (length xs) 0 ≡ newest known
+    pub word : get_or ws (suc (length xs + length o.sides)) 0 ≡ known.word
     pub home : (k : ℕ) → k < length xs → (x : Item M P Q R E) × (get_elem? xs k ≡ some (Some x)) × Stands μ (turn_at o k) known x
     pub once : (n : ℕ) → known.opening.base < n → n ≤ newest known → times n v.drawn ≡ 1
     pub drawer : Drawer μ (allotment chairs) known v
+    pub marked : Marked μ known
+    pub reader : Reader μ known v.reading
+    pub charges : (f : Charge → Bool) → tally f v.reading.charged ≡ tally f known.charges
 
   pub ends : (id : ℕ) (v : View P Q R E) (ws : List ℕ) (xs : List (Option (Item M P Q R E))) → Final (Seen (Ruled μ o chairs) id v) ws xs → v.parts ≡ chairs → v.held ≡ [] → Home v ws xs
   ends id v ws xs (s, seen, words, deep, home) all none_held =
@@ -97,6 +111,7 @@ module _ {M P Q R E : Type 0} (μ : Meaning P Q R E) (o : Opening P Q R) (chairs
       let r = rk.2 in
       let n = rk.3 in
       let at = seen.1 in
+      let sides : length rk.0.opening.sides ≡ length o.sides = ap (λ p. length p.sides) rk.1 in
       let none_else : (j : ℕ) (u : View P Q R E) → j ≢ id → get_elem? s.views j ≡ some u → u.parts ≡ 0 = λ j u ne t. (let two = total_two (λ x. x.parts) s.views id j v u at t ne in let w = n.whole in omega arith) in
       let all_free : (k : ℕ) → holders k s.views ≡ 0 = λ k. total_zero (λ u. times k u.held) s.views (λ j u t. dite (ℕ_discrete j id)
       (λ e. let same : v ≡ u = some-injective v u (sym at ∙ (ap (get_elem? s.views) (sym e) ∙ t)) in ap (λ (z : View P Q R E). times k z.held) (sym same) ∙ ap (times k) none_held)
@@ -105,9 +120,13 @@ module _ {M P Q R E : Type 0} (μ : Meaning P Q R E) (o : Opening P Q R) (chairs
         opening = rk.1;
         ok = r.ok;
         counter = (λ i. get_or (sym words i) (sym deep i) 0) ∙ n.counter;
+        word = (λ i. get_or (sym words i) (suc (sym deep i + sym sides i)) 0) ∙ rk.4.base;
         home = λ k lt. let h = (r.each_turn k (omega arith)).home (all_free k) in (h.0, home k (Some h.0) h.1, h.2);
         once = λ m lo hi. sym (total_only (λ u. times m u.drawn) s.views id v at (λ j u ne t. times_of_none m u.drawn (none_drawn u.parts (length u.drawn) (allotment chairs) (none_else j u ne t) (n.each_chair j u t).few))) ∙ n.once m lo hi;
         drawer = n.each_chair id v at;
+        marked = rk.4.marked;
+        reader = rk.4.each_chair id v at;
+        charges = λ f. sym (total_only (charges_in f) s.views id v at (λ j u ne t. ap (tally f) (rk.4.idle j u t (none_else j u ne t)))) ∙ rk.4.charges f;
       }
     where
       times_of_none : (m : ℕ) (ds : List (ℕ × E)) → length ds ≡ 0 → times m ds ≡ 0
@@ -153,16 +172,17 @@ module _ {M P Q R E : Type 0} (μ : Meaning P Q R E) (o : Opening P Q R) (chairs
         let one : y.0 ≡ x = cc in
         stands_at t k h.known x e (subst (Stands μ (turn_at o k) h.known) one y.2)
 
-    pub ended : (views : List (View P Q R E)) (pages : List P) (sides : List Q) (root : R) (count next : ℕ) → count ≡ length xs → get_elem? ws count ≡ some next
+    pub ended : (views : List (View P Q R E)) (pages : List P) (sides : List Q) (root : R) (count next base : ℕ) → count ≡ length xs → get_elem? ws count ≡ some next → get_elem? ws (suc (count + length o.sides)) ≡ some base
         → length pages ≡ length o.pages → ArePages xs pages → length sides ≡ length o.sides → AreSides (length o.pages) xs sides → IsRoot (length o.pages + length o.sides) xs root
-        → v.drawn ≡ drawn_of views → v.read ≡ read_of views → Each (IsInOrder μ) views → Ended μ o views pages sides root next
-    ended views pages sides root count next len at all_pages are_pages all_sides are_sides is_root drew read ordered =
+        → v.drawn ≡ drawn_of views → v.read ≡ read_of views → Each (IsInOrder μ) views → v.reading.charged ≡ charged_of views → Each (λ u. u.reading.done ≤ v.reading.done) views → Ended μ o views pages sides root next base
+    ended views pages sides root count next base len at base_at all_pages are_pages all_sides are_sides is_root drew read ordered charged done =
         let is : next ≡ newest h.known = sym (get_at ws count next at) ∙ (ap (λ i. get_or ws i 0) len ∙ h.counter) in
-        let base : h.known.opening.base ≡ o.base = ap (λ p. p.base) h.opening in record {
+        let first : h.known.opening.base ≡ o.base = ap (λ p. p.base) h.opening in record {
           known = h.known;
           opening = h.opening;
           ok = h.ok;
           next_is = is;
+          base_is = sym (get_at ws (suc (count + length o.sides)) base base_at) ∙ (ap (λ i. get_or ws (suc (i + length o.sides)) 0) len ∙ h.word);
           all_pages = all_pages;
           pages_stand = λ b x there. let lt : b < length o.pages = let z = slice_get_within pages b x there in omega arith in at_home (Page b) b (item.Page x) (omega arith) (page_at o b lt) (are_pages b x there);
           all_sides = all_sides;
@@ -172,4 +192,7 @@ module _ {M P Q R E : Type 0} (μ : Meaning P Q R E) (o : Opening P Q R) (chairs
           once = λ n lo hi. ap (times n) (sym drew) ∙ h.once n (omega arith) (omega arith);
           read = subst (Each (λ r. μ.ok r.1 × Grows r.1 h.known × μ.fits r.0 r.1)) read h.drawer.read;
           ordered = ordered;
+          marked = h.marked;
+          done = each_map _ _ (λ u le m e there low. h.reader.done m e there (omega arith)) views done;
+          charges = λ f. ap (tally f) (sym charged) ∙ h.charges f;
         }

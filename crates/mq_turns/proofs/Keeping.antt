@@ -10,16 +10,18 @@ use Rattle.atomic_table.specs.Table.{step, keeps, takes, gives, carried_after, A
 use Rattle.atomic_table.proofs.Lists.{set_again}
 use Rattle.mq_turns.specs.Meaning.{Meaning, Stays, newest, drawn}
 use Rattle.mq_turns.specs.Lists.{Each, times, without}
-use Rattle.mq_turns.specs.Desk.{slots, IsTurn, slot_of, turn_at, holders, Sat, Now, Stay, Sees, Covers, MayRead, Follows, IsInOrder, Below, allotment, after_draw, after_look, Turns, Numbers, Ruled, Stands, taken, settled, reached, freed, drew_one, looked}
+use Rattle.mq_turns.specs.Desk.{slots, IsTurn, slot_of, turn_at, holders, Sat, Now, Stay, Sees, Covers, MayRead, Follows, IsInOrder, Below, allotment, after_draw, after_look, Turns, Numbers, Words, Ruled, Stands, taken, settled, reached, freed, drew_one, looked}
 use Rattle.mq_turns.specs.declared.rule.Opening.{Opening}
 use Rattle.mq_turns.specs.declared.rule.Known.{Known}
 use Rattle.mq_turns.specs.declared.rule.View.{View}
 use Rattle.mq_turns.specs.declared.turn.Turn.{Turn}
 use Rattle.mq_turns.specs.declared.turn.Item.{Item}
 use Rattle.mq_turns.proofs.Totals.{each_map}
-use Rattle.mq_turns.proofs.Growth.{stays_drawn, grows_now}
+use Rattle.mq_turns.proofs.Growth.{stays_drawn, grows_now, grows_drawn}
 use Rattle.mq_turns.proofs.Turns.{Change, Homes, turns_look, turns_change, turns_take, turns_settle, turns_reach, turns_free, away_empty}
-use Rattle.mq_turns.proofs.Numbers.{numbers_stay, numbers_look, numbers_draw, room_left, below_newest}
+use Rattle.mq_turns.proofs.Numbers.{newest_few, numbers_stay, numbers_look, numbers_draw, room_left, below_newest}
+use Rattle.mq_turns.proofs.Claims.{marked_drawn}
+use Rattle.mq_turns.proofs.Readings.{words_same, words_stay}
 use Rattle.mq_turns.proofs.Order.{order_draw, order_look}
 use Rattle.mq_turns.proofs.Slots.{turn_at_slot, turn_of_slot, slot_of_turn}
 
@@ -37,17 +39,20 @@ module _ {M P Q R E : Type 0} (μ : Meaning P Q R E) (o : Opening P Q R) (chairs
   at_hand T me c e t = let F : List (ℕ × Option (Item M P Q R E)) → Type 0 = λ cs. T (me.0, cs) in subst F (sym e) t
 
   -- what the rule tells a chair
-  pub sees : (K : Known P Q R E) (s : Now M P Q R E) (id : ℕ) (v : View P Q R E) → K.opening ≡ o → Turns μ (turn_at o) K s → Numbers μ chairs K s → get_elem? s.views id ≡ some v → 0 < v.parts → Sees μ v K
-  sees K s id v is r n at live =
+  pub sees : (K : Known P Q R E) (s : Now M P Q R E) (id : ℕ) (v : View P Q R E) → K.opening ≡ o → Turns μ (turn_at o) K s → Numbers μ chairs K s → Words μ K s → get_elem? s.views id ≡ some v → 0 < v.parts → Sees μ v K
+  sees K s id v is r n x at live =
       let c = r.each_chair id v at in
       let d = n.each_chair id v at in
       let F : Opening P Q R → Type 0 = λ p. Each (λ h. μ.ok h.1 × Stay μ (turn_at p h.0) h.1 K) v.held in
       record {
         opening = d.opening (λ e. omega arith);
         ok = r.ok;
+        few = newest_few μ chairs K s n;
         held = subst F (sym is) (each_map _ _ (λ h a. (a.1, a.2)) v.held c.held);
         seen = d.seen;
         drew = d.drew;
+        marked = x.marked;
+        reader = (x.each_chair id v at);
       }
 
   -- a turn that is free is taken, with its slot; else nothing changes
@@ -73,8 +78,9 @@ module _ {M P Q R E : Type 0} (μ : Meaning P Q R E) (o : Opening P Q R) (chairs
           rk.1,
           turns_take μ (turn_at o) K s id k v w r at (omega arith) none_holds live empty refl refl refl,
           numbers_stay μ chairs K s id v w (set s.words k 1) (set s.homes k none) n at (length-set s.homes k none) (get_or-set_other s.words k (length s.homes) 1 0 (λ e. omega arith)) refl refl refl refl refl refl,
+          words_same μ K s id v w (set s.words k 1) (set s.homes k none) rk.4 at (length-set s.words k 1) (length-set s.homes k none) (λ j far. get_or-set_other s.words k j 1 0 (λ e. omega arith)) refl refl,
         ),
-        ((λ _. (x.0, K, ap (λ (cs : List (ℕ × Option (Item M P Q R E))). (w, (k, Some x.0) ∷ cs)) bare, sees K s id v rk.1 r n at live, subst G (sym rk.1) x.2)), (λ ne. absurd (ne free))),
+        ((λ _. (x.0, K, ap (λ (cs : List (ℕ × Option (Item M P Q R E))). (w, (k, Some x.0) ∷ cs)) bare, sees K s id v rk.1 r n rk.4 at live, subst G (sym rk.1) x.2)), (λ ne. absurd (ne free))),
       ))
       (λ taken_already.
       let was : get_or s.words k 0 ≡ 1 = let one = r.single k in let i = t.word in omega arith in
@@ -102,6 +108,7 @@ module _ {M P Q R E : Type 0} (μ : Meaning P Q R E) (o : Opening P Q R) (chairs
           rk.1,
           turns_settle μ (turn_at o) K s id k v w rk.2 at (omega arith) hand refl refl refl,
           numbers_stay μ chairs K s id v w s.words homes' rk.3 at (length-set s.homes k (some None)) refl refl refl refl refl refl refl,
+          words_same μ K s id v w s.words homes' rk.4 at refl (length-set s.homes k (some None)) (λ j far. refl) refl refl,
         ),
         refl,
       ))
@@ -122,14 +129,15 @@ module _ {M P Q R E : Type 0} (μ : Meaning P Q R E) (o : Opening P Q R) (chairs
           rk.1,
           turns_reach μ (turn_at o) K s id k v w rk.2 at (omega arith) hand mine refl refl refl,
           numbers_stay μ chairs K s id v w s.words homes' rk.3 at (length-set s.homes k none) refl refl refl refl refl refl refl,
+          words_same μ K s id v w s.words homes' rk.4 at refl (length-set s.homes k none) (λ j far. refl) refl refl,
         ),
         refl,
       ))
 
   -- the slot in hand goes home with a value that is what the chair says, and the turn is free
-  pub frees_turn : (deep id : ℕ) (me : Sat M P Q R E) (k : ℕ) (x : Item M P Q R E) → k < deep → me.0.hand ≡ suc k → Each (λ h. h.0 ≡ k → Stands μ (turn_at o k) h.1 x) me.0.held
+  pub frees_turn : (deep id : ℕ) (me : Sat M P Q R E) (k : ℕ) (x : Item M P Q R E) → k < deep → me.0.hand ≡ suc k → 0 < me.0.parts → ((K : Known P Q R E) → Sees μ me.0 K → Stands μ (turn_at o k) K x)
       → me.1 ≡ (k, Some x) ∷ [] → Allows Rule deep id me k (λ _. 0) (λ _. freed (step deep k 0 0 none) me 0)
-  frees_turn deep id me k x lt hand stands bare = at_hand (λ z. Allows Rule deep id z k (λ _. 0) (λ _. freed (step deep k 0 0 none) z 0)) me ((k, Some x) ∷ []) bare (λ s rk len at fits.
+  frees_turn deep id me k x lt hand live stands bare = at_hand (λ z. Allows Rule deep id z k (λ _. 0) (λ _. freed (step deep k 0 0 none) z 0)) me ((k, Some x) ∷ []) bare (λ s rk len at fits.
       let K : Known P Q R E = rk.0 in
       let v : View P Q R E = me.0 in
       let w : View P Q R E = record v { hand = 0; held = without k v.held } in
@@ -140,8 +148,9 @@ module _ {M P Q R E : Type 0} (μ : Meaning P Q R E) (o : Opening P Q R) (chairs
         (
           K,
           rk.1,
-          turns_free μ (turn_at o) K s id k v w x rk.2 at (omega arith) hand stands refl refl refl,
+          turns_free μ (turn_at o) K s id k v w x rk.2 at (omega arith) hand (stands K (sees K s id v rk.1 rk.2 rk.3 rk.4 at live)) refl refl refl,
           numbers_stay μ chairs K s id v w (set s.words k 0) homes' rk.3 at (length-set s.homes k (some (Some x))) (get_or-set_other s.words k (length s.homes) 0 0 (λ e. omega arith)) refl refl refl refl refl refl,
+          words_same μ K s id v w (set s.words k 0) homes' rk.4 at (length-set s.words k 0) (length-set s.homes k (some (Some x))) (λ j far. get_or-set_other s.words k j 0 0 (λ e. omega arith)) refl refl,
         ),
         refl,
       ))
@@ -154,7 +163,7 @@ module _ {M P Q R E : Type 0} (μ : Meaning P Q R E) (o : Opening P Q R) (chairs
       let v : View P Q R E = me.0 in
       let r = rk.2 in
       let n = rk.3 in
-      let seen = sees K s id v rk.1 r n at live in
+      let seen = sees K s id v rk.1 r n rk.4 at live in
       let w : View P Q R E = after_look e K v in
       let now : get_or s.words word 0 ≡ newest K = ap (λ i. get_or s.words i 0) (is ∙ sym len) ∙ n.counter in
       let d = n.each_chair id v at in
@@ -168,6 +177,7 @@ module _ {M P Q R E : Type 0} (μ : Meaning P Q R E) (o : Opening P Q R) (chairs
           rk.1,
           turns_look μ (turn_at o) K s id v w s.words r at (same (λ u. u.parts) e K v refl (λ _. refl)) (same (λ u. u.hand) e K v refl (λ _. refl)) (same (λ u. u.held) e K v refl (λ _. refl)) refl (λ _ _. refl),
           numbers_look μ chairs K s id v w s.words n at refl (same (λ u. u.parts) e K v refl (λ _. refl)) (same (λ u. u.opening) e K v refl (λ _. refl)) (same_seen e K v) (same (λ u. u.drawn) e K v refl (λ _. refl)) (reads e K v seen (λ x y. (may x y).0) d.read) order,
+          words_same μ K s id v w s.words s.homes rk.4 at refl refl (λ j far. refl) (same (λ u. u.parts) e K v refl (λ _. refl)) (same (λ u. u.reading) e K v refl (λ _. refl)),
         ),
         ((K, refl, sym now, seen), subst (λ i. Below i v) (sym now) below, order),
       )
@@ -186,9 +196,9 @@ module _ {M P Q R E : Type 0} (μ : Meaning P Q R E) (o : Opening P Q R) (chairs
       reads (Some d) K v seen may old = ((seen.ok, grows_now K, may d refl K seen), old)
 
   -- the next number is drawn, with the entry
-  pub draws : (deep id : ℕ) (me : Sat M P Q R E) (word : ℕ) (e : E) → word ≡ deep → deep ≡ slots o → Covers μ e me.0 → Follows μ e me.0 → length me.0.drawn < me.0.parts * allotment chairs
+  pub draws : (deep id : ℕ) (me : Sat M P Q R E) (word : ℕ) (e : E) → word ≡ deep → deep ≡ slots o → μ.queue e < length o.sides → Covers μ e me.0 → Follows μ e me.0 → length me.0.drawn < me.0.parts * allotment chairs
       → Allows Rule deep id me word (λ n. (n + 1) % 2 ^ 64) (drew_one μ e (step deep word 1 0 none) me)
-  draws deep id me word e is wide may follows room s rk len at fits =
+  draws deep id me word e is wide side may follows room s rk len at fits =
       let K : Known P Q R E = rk.0 in
       let L : Known P Q R E = drawn e K in
       let r = rk.2 in
@@ -196,7 +206,7 @@ module _ {M P Q R E : Type 0} (μ : Meaning P Q R E) (o : Opening P Q R) (chairs
       let v : View P Q R E = me.0 in
       let w : View P Q R E = after_draw μ e K v in
       let live : 0 < v.parts = some_parts v.parts (length v.drawn) room in
-      let seen = sees K s id v rk.1 r n at live in
+      let seen = sees K s id v rk.1 r n rk.4 at live in
       let at_end : word ≡ length s.homes = is ∙ sym len in
       let now : get_or s.words word 0 ≡ newest K = ap (λ i. get_or s.words i 0) at_end ∙ n.counter in
       let few = room_left μ chairs K s id v n at room in
@@ -225,6 +235,7 @@ module _ {M P Q R E : Type 0} (μ : Meaning P Q R E) (o : Opening P Q R) (chairs
           rk.1,
           turns_change μ (turn_at o) touched K L s id v w words' r at change' refl refl refl (length-set s.words word (suc (newest K))) (λ k l. get_or-set_other s.words word k (suc (newest K)) 0 (λ q. omega arith)),
           numbers_draw μ chairs e K s id v w words' n at follows room (let z = get_or-set_same s.words word (suc (newest K)) 0 (omega arith) in ap (λ i. get_or words' i 0) (sym at_end) ∙ z) refl refl refl refl refl refl,
+          words_stay μ K L s id v w words' s.homes rk.4 at (length-set s.words word (suc (newest K))) refl (λ j far. get_or-set_other s.words word j (suc (newest K)) 0 (λ q. omega arith)) refl refl (grows_drawn e K) (marked_drawn μ e K rk.4.marked (subst (λ p. μ.queue e < length p.sides) (sym rk.1) side) (may.mark K seen)) refl refl refl,
         ),
         ((K, refl, sym now, seen), subst (λ i. Below i v) (sym now) (below_newest μ (allotment chairs) K v d), omega arith, λ one. order_draw μ e K v follows (below_newest μ (allotment chairs) K v d).1 d.read (d.order one)),
       )
@@ -233,9 +244,9 @@ module _ {M P Q R E : Type 0} (μ : Meaning P Q R E) (o : Opening P Q R) (chairs
       some_parts zero drew lt = absurd (omega arith)
       some_parts (suc n) drew lt = omega arith
 
-  pub draws_told : (deep id : ℕ) (me : Sat M P Q R E) (word : ℕ) (e : E) (t : Option E) → word ≡ deep → deep ≡ slots o → Covers μ e me.0 → Follows μ e me.0 → length me.0.drawn < me.0.parts * allotment chairs → t ≡ Some e
+  pub draws_told : (deep id : ℕ) (me : Sat M P Q R E) (word : ℕ) (e : E) (t : Option E) → word ≡ deep → deep ≡ slots o → μ.queue e < length o.sides → Covers μ e me.0 → Follows μ e me.0 → length me.0.drawn < me.0.parts * allotment chairs → t ≡ Some e
       → Allows Rule deep id me word (λ n. (n + 1) % 2 ^ 64) (λ n me'. (d : E) → t ≡ Some d → drew_one μ d (step deep word 1 0 none) me n me')
-  draws_told deep id me word e t is wide may follows room told s r len at fits = let x = draws deep id me word e is wide may follows room s r len at fits in
+  draws_told deep id me word e t is wide side may follows room told s r len at fits = let x = draws deep id me word e is wide side may follows room s r len at fits in
       (x.0, x.1, x.2, x.3, λ d told'. told_one t e d (λ a. drew_one μ a (step deep word 1 0 none) me (get_or s.words word 0) (x.0, carried_after me.1 x.1)) told told' x.4)
 
   pub looks_nothing : (deep id : ℕ) (me : Sat M P Q R E) (word : ℕ) → word ≡ deep → 0 < me.0.parts → Allows Rule deep id me word (λ n. n) (looked μ None (step deep word 0 0 none) me)
@@ -256,8 +267,3 @@ module _ {M P Q R E : Type 0} (μ : Meaning P Q R E) (o : Opening P Q R) (chairs
     where
       some_same : {A : Type 0} {a b : A} → Some a ≡ Some b → a ≡ b
       some_same e = cc
-
-  pub stands_slot : (t : Turn) (k : ℕ) (x : Item M P Q R E) (l : List (ℕ × Known P Q R E)) → IsTurn o t → k ≡ slot_of o t → Each (λ h. h.0 ≡ slot_of o t → Stands μ t h.1 x) l → Each (λ h. h.0 ≡ k → Stands μ (turn_at o k) h.1 x) l
-  stands_slot t k x l mine slot h =
-      let turn : turn_at o k ≡ t = ap (turn_at o) slot ∙ turn_at_slot o t mine in
-      each_map _ _ (λ a f e. subst (λ u. Stands μ u a.1 x) (sym turn) (f (e ∙ slot))) l h

@@ -8,8 +8,10 @@ use Rattle.std.specs.Prelude.{slice_get}
 use Rattle.std.proofs.lemmas.Option.{slice_get_within}
 use Rattle.atomic_table.specs.Table.{opening}
 use Rattle.mq_turns.specs.Meaning.{Meaning, opened}
+use Rattle.mq_turns.specs.Marks.{Reader}
 use Rattle.mq_turns.specs.Lists.{Each, times, without}
-use Rattle.mq_turns.specs.Desk.{slots, turn_at, fresh, slots_from, laying, first_view, others, seated, Stay, Holder, Drawer, allotment, Ruled, Stands}
+use Rattle.mq_turns.specs.Desk.{slots, turn_at, fresh, slots_from, laying, first_view, others, seated, Stay, Sees, Holder, Drawer, allotment, Ruled, Stands}
+use Rattle.mq_turns.specs.Opened.{AreOpenWords}
 use Rattle.mq_turns.specs.Chairs.{Starts}
 use Rattle.mq_turns.specs.declared.rule.Opening.{Opening}
 use Rattle.mq_turns.specs.declared.rule.Known.{Known}
@@ -21,6 +23,8 @@ use Rattle.mq_turns.proofs.Totals.{hit, miss}
 use Rattle.mq_turns.proofs.Growth.{stays_now}
 use Rattle.mq_turns.proofs.Order.{order_none}
 use Rattle.mq_turns.proofs.Turns.{Homes}
+use Rattle.mq_turns.proofs.Claims.{reader_first}
+use Rattle.mq_turns.proofs.Seen.{opening_seen, stands_seen}
 use Rattle.mq_turns.proofs.Slots.{page_at, side_at, root_at}
 
 -- the last of a list
@@ -106,11 +110,13 @@ module _ {M P Q R E : Type 0} (μ : Meaning P Q R E) (o : Opening P Q R) where
   all_stand t k j (suc n) x s = ((λ _. s), all_stand t k (suc j) n x s)
 
   -- a value of the opening stands under its slot, for the view that lays
-  pub laid_stands : (parts i n k : ℕ) (t : Turn) (v : View P Q R E) (x : Item M P Q R E) → v ≡ laying o parts i n → turn_at o k ≡ t → Stands μ t (opened o) x → Each (λ h. h.0 ≡ k → Stands μ (turn_at o k) h.1 x) v.held
-  laid_stands parts i n k t v x e is s =
+  pub laid_stands : (parts i n k : ℕ) (t : Turn) (v : View P Q R E) (x : Item M P Q R E) → v ≡ laying o parts i n → n ≡ suc k → turn_at o k ≡ t → Stands μ t (opened o) x → (K : Known P Q R E) → Sees μ v K → Stands μ (turn_at o k) K x
+  laid_stands parts i n k t v x e last is s K seen =
       let held : v.held ≡ Laid E o 0 n = ap (λ (u : View P Q R E). u.held) e in
       let F : List (ℕ × Known P Q R E) → Type 0 = λ l. Each (λ h. h.0 ≡ k → Stands μ (turn_at o k) h.1 x) l in
-      subst F (sym held) (all_stand (turn_at o k) k 0 n x (subst (λ u. Stands μ u (opened o) x) (sym is) s))
+      let now : K.opening ≡ o = opening_seen μ o K v (ap (λ (u : View P Q R E). u.opening) e) seen in
+      stands_seen μ K v (turn_at o k) k x seen (laid_holds E o parts i n k v e last) (ap (λ p. turn_at p k) now)
+      (subst F (sym held) (all_stand (turn_at o k) k 0 n x (subst (λ u. Stands μ u (opened o) x) (sym is) s)))
 
 module _ {P Q R E : Type 0} (μ : Meaning P Q R E) (o : Opening P Q R) where
   pub root_laid : (k : ℕ) (x : R) → k ≡ length o.pages + length o.sides → x ≡ o.root → Starts μ o → (turn_at o k ≡ Root) × μ.root (opened o) x
@@ -131,9 +137,10 @@ module _ {M P Q R E : Type 0} (μ : Meaning P Q R E) (o : Opening P Q R) (chairs
   vacant count = map some (replicate count None)
 
   -- the rule holds of a table without values, whose first view holds each turn
-  pub opens : (words : List ℕ) (count : ℕ) → count ≡ slots o → length words ≡ suc count → ((k : ℕ) → k < count → get_or words k 0 ≡ 1) → get_or words count 0 ≡ o.base → o.base ≤ 4611686018427387904 → 0 < chairs → Starts μ o
+  pub opens : (words : List ℕ) (count : ℕ) → count ≡ slots o → AreOpenWords count (length o.sides) o.base words → o.base ≤ 4611686018427387904 → 0 < chairs → Starts μ o
       → Ruled {M = M} μ o chairs (opening words (replicate count None) (first_view o chairs))
-  opens words count is wide ones last small some_chair starts =
+  opens words count is ws small some_chair starts =
+      let wide = ws.wide in
       let v : View P Q R E = first_view o chairs in
       let deep : length (vacant count) ≡ count = length-map (replicate count None) (λ (x : Option (Item M P Q R E)). some x) ∙ length-replicate count None in
       let in_all : (k : ℕ) → k < count → times k v.held ≡ 1 = λ k lt. inside E o 0 (slots o) k (omega arith) (omega arith) in (
@@ -144,7 +151,7 @@ module _ {M P Q R E : Type 0} (μ : Meaning P Q R E) (o : Opening P Q R) (chairs
           ok = starts.ok;
           single = λ k. let z = once E o 0 (slots o) k in omega arith;
           each_turn = λ k lt. let one = in_all k (omega arith) in record {
-            word = let z = ones k (omega arith) in omega arith;
+            word = let z = ws.turns k (omega arith) in omega arith;
             home = λ z. absurd (omega arith);
             away = λ _ _. all_vacant count k None (omega arith);
           };
@@ -155,22 +162,24 @@ module _ {M P Q R E : Type 0} (μ : Meaning P Q R E) (o : Opening P Q R) (chairs
           };
         },
         record {
-          counter = ap (λ i. get_or words i 0) deep ∙ (last ∙ omega arith);
+          counter = ap (λ i. get_or words i 0) deep ∙ (ws.counter ∙ omega arith);
           whole = omega arith;
           counted = omega arith;
           once = λ n lo hi. absurd (omega arith);
           bounds = (small, some_chair);
           each_chair = λ j u e. only v j u e (Drawer μ (allotment chairs) (opened o)) record { few = omega arith; opening = λ _. refl; seen = omega arith; drew = tt; read = tt; order = λ one. order_none μ 0 };
         },
+        record {
+          wide = omega arith;
+          marks = λ q lt. ap (λ n. get_or words (suc (n + q)) 0) deep ∙ ws.marks q lt;
+          base = ap (λ n. get_or words (suc (n + length o.sides)) 0) deep ∙ ws.base;
+          marked = record { own = λ n e at. absurd at; undone = λ n e at none. absurd at; above = λ q. omega arith; word = omega arith };
+          charges = λ f. refl;
+          each_chair = λ j u e. only v j u e (λ y. Reader μ (opened o) y.reading) (reader_first μ (opened o) o.base refl (omega arith));
+          idle = λ j u e. only v j u e (λ y. y.parts ≡ 0 → y.reading.charged ≡ []) (λ z. refl);
+        },
       )
     where
       only : (v : View P Q R E) (j : ℕ) (u : View P Q R E) → get_elem? (v ∷ []) j ≡ some u → (T : View P Q R E → Type 0) → T v → T u
       only v zero u e T t = subst T (some-injective v u e) t
       only v (suc j) u e T t = absurd (some-ne-none u (sym e))
-
-pub ones_then : (words : List ℕ) (count base : ℕ) → words ≡ set (replicate (count + 1) 1) count base → (length words ≡ suc count) × ((k : ℕ) → k < count → get_or words k 0 ≡ 1) × (get_or words count 0 ≡ base)
-ones_then words count base e = let one : ℕ = 1 in let r : List ℕ = replicate (count + 1) one in let len : length r ≡ count + 1 = length-replicate (count + 1) one in (
-  ap length e ∙ (length-set r count base ∙ (len ∙ omega arith)),
-  (λ k lt. ap (λ l. get_or l k 0) e ∙ (get_or-set_other r count k base 0 (λ q. omega arith) ∙ get_or-replicate (count + 1) k one 0 (omega arith))),
-  ap (λ l. get_or l count 0) e ∙ get_or-set_same r count base 0 (omega arith),
-)

@@ -1,11 +1,16 @@
 pub mod Totals
 pub mod Growth
+pub mod Claims
 pub mod Slots
 pub mod Turns
 pub mod Order
+pub mod Readings
 pub mod Numbers
 pub mod Changes
 pub mod Keeping
+pub mod Seen
+pub mod Marking
+pub mod Sweeps
 pub mod Seats
 pub mod Laying
 pub mod Ending

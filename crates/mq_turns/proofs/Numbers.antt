@@ -11,7 +11,7 @@ use Rattle.mq_turns.specs.Lists.{total, Each, tick, times}
 use Rattle.mq_turns.specs.Desk.{Now, Drawer, Numbers, allotment, Below, Follows, IsInOrder, last_of}
 use Rattle.mq_turns.specs.declared.rule.Known.{Known}
 use Rattle.mq_turns.specs.declared.rule.View.{View}
-use Rattle.mq_turns.proofs.Totals.{total_set, total_same, total_gap, total_scaled, total_append, total_pair, total_zero, each_map, hit, miss, times_none}
+use Rattle.mq_turns.proofs.Totals.{total_set, total_same, total_le, total_gap, total_scaled, total_append, total_pair, total_zero, each_map, hit, miss, times_none}
 use Rattle.mq_turns.proofs.Growth.{at_bounds, grows_on, grows_drawn, newest_grows, at_grows}
 use Rattle.mq_turns.proofs.Order.{order_same, order_draw}
 use Rattle.mq_turns.proofs.Turns.{Homes, chairs_stay}
@@ -107,6 +107,15 @@ module _ {M P Q R E : Type 0} (μ : Meaning P Q R E) where
   pub room_left : (chairs : ℕ) (K : Known P Q R E) (s : Now M P Q R E) (id : ℕ) (v : View P Q R E) → Numbers μ chairs K s → get_elem? s.views id ≡ some v → length v.drawn < v.parts * allotment chairs → newest K < 9223372036854775808
   room_left chairs K s id v r at room =
       let a = drawn_count (allotment chairs) s.views id v at (λ j u o. (r.each_chair j u o).few) room in
+      let b : total (λ u. u.parts) s.views * allotment chairs ≡ chairs * allotment chairs = ap (λ n. n * allotment chairs) r.whole in
+      let c : chairs * allotment chairs ≤ 4611686018427387904 = mul-div-le 4611686018427387904 chairs in
+      let d = r.counted in let e = r.bounds.0 in omega arith
+
+  -- no number is above 2^63
+  pub newest_few : (chairs : ℕ) (K : Known P Q R E) (s : Now M P Q R E) → Numbers μ chairs K s → newest K ≤ 9223372036854775808
+  newest_few chairs K s r =
+      let a = total_le (λ u. length u.drawn) (λ u. u.parts * allotment chairs) s.views (λ j u o. (r.each_chair j u o).few) in
+      let scaled = total_scaled (λ (u : View P Q R E). u.parts) (allotment chairs) s.views in
       let b : total (λ u. u.parts) s.views * allotment chairs ≡ chairs * allotment chairs = ap (λ n. n * allotment chairs) r.whole in
       let c : chairs * allotment chairs ≤ 4611686018427387904 = mul-div-le 4611686018427387904 chairs in
       let d = r.counted in let e = r.bounds.0 in omega arith

@@ -2,7 +2,7 @@
 use Rattle.std.proofs.Common.{◌≡◌, ℕ, suc, ◌<◌, ◌≤◌, [], length, sym, refl, ap, subst, arith, length-append}
 use Rattle.atomic_table.specs.Table.{Splits, Joins}
 use Rattle.mq_turns.specs.Meaning.{Meaning, Grows, newest, IsAt}
-use Rattle.mq_turns.specs.Lists.{Each, times}
+use Rattle.mq_turns.specs.Lists.{Each, times, tally}
 use Rattle.mq_turns.specs.Desk.{turn_at, allotment, Now, Below, blank, others, seated, noted, heard, joined, Drawer, Ruled}
 use Rattle.mq_turns.specs.declared.rule.Opening.{Opening}
 use Rattle.mq_turns.specs.declared.rule.Known.{Known}
@@ -10,6 +10,8 @@ use Rattle.mq_turns.specs.declared.rule.View.{View}
 use Rattle.mq_turns.proofs.Totals.{each_append, times_append}
 use Rattle.mq_turns.proofs.Order.{order_none, order_same}
 use Rattle.mq_turns.proofs.Turns.{turns_split, turns_join}
+use Rattle.mq_turns.proofs.Claims.{reader_none, reader_both}
+use Rattle.mq_turns.proofs.Readings.{words_split, words_join, tally_append}
 use Rattle.mq_turns.proofs.Numbers.{numbers_split, numbers_join, drawns_below, last_of_le, last_of_bounds}
 
 -- what a chair that heard a note had seen, and what the note was of
@@ -40,11 +42,12 @@ module _ {M P Q R E : Type 0} (μ : Meaning P Q R E) (o : Opening P Q R) (chairs
         rk.1,
         turns_split μ (turn_at o) K s id v v (noted v) rk.2 at refl refl (rk.2.each_chair id v at).idle refl refl,
         numbers_split μ chairs K s id v v (noted v) rk.3 at (omega arith) refl refl (λ d. (d, knows_none μ (allotment chairs) K (noted v) refl (last_of_le v.seen (newest K) v.drawn d.seen (drawns_below μ K v.drawn d.drew)) refl refl)),
+        words_split μ K s id v v (noted v) rk.4 at refl (rk.4.idle id v at) refl (λ d. (d, reader_none μ K)),
       )
 
   -- a chair is set apart, while nothing is held or drawn
-  pub seats : (id : ℕ) (v : View P Q R E) → 0 < v.parts → v.held ≡ [] → v.drawn ≡ [] → v.read ≡ [] → Splits Rule id v (others v) (seated v)
-  seats id v live none_held none_drawn none_read s rk at =
+  pub seats : (id : ℕ) (v : View P Q R E) → 0 < v.parts → v.held ≡ [] → v.drawn ≡ [] → v.read ≡ [] → v.reading.charged ≡ [] → Splits Rule id v (others v) (seated v)
+  seats id v live none_held none_drawn none_read none_charged s rk at =
       let K : Known P Q R E = rk.0 in
       let none_yet : length v.drawn ≡ 0 = ap length none_drawn in (
         K,
@@ -54,6 +57,7 @@ module _ {M P Q R E : Type 0} (μ : Meaning P Q R E) (o : Opening P Q R) (chairs
           record { few = omega arith; opening = λ n. d.opening (λ e. omega arith); seen = d.seen; drew = d.drew; read = d.read; order = λ one. order_same μ (record blank { session = suc v.session }) (others v) refl none_drawn none_read (order_none μ (suc v.session)) },
           record { few = omega arith; opening = λ n. d.opening (λ e. omega arith); seen = d.seen; drew = tt; read = tt; order = λ one. order_none μ v.session },
         )),
+        words_split μ K s id v (others v) (seated v) rk.4 at refl (λ z. none_charged) none_charged (λ d. (d, d)),
       )
 
   -- a chair hears a note
@@ -70,6 +74,7 @@ module _ {M P Q R E : Type 0} (μ : Meaning P Q R E) (o : Opening P Q R) (chairs
               record { few = d.few; opening = d.opening; seen = let a = d.seen in let b = e.seen in omega arith; drew = d.drew; read = d.read; order = d.order },
               knows_none μ (allotment chairs) K blank refl (omega arith) refl refl,
             )),
+        words_join μ K s id v other w (heard v w) blank rk.4 at apart there (λ t. let a : tally t w.reading.charged ≡ 0 = ap (λ u. tally t u.reading.charged) is in omega arith) (rk.4.idle id v at) refl (λ d e. (d, reader_none μ K)),
       )
 
   -- two chairs, of which the second holds nothing, are one
@@ -92,4 +97,5 @@ module _ {M P Q R E : Type 0} (μ : Meaning P Q R E) (o : Opening P Q R) (chairs
               },
               knows_none μ (allotment chairs) K blank refl (omega arith) refl refl,
             )),
+        words_join μ K s id v other w (joined v w) blank rk.4 at apart there (λ t. let a = tally_append t v.reading.charged w.reading.charged in omega arith) (λ z. absurd (omega arith)) refl (λ d e. (reader_both μ K v.reading w.reading d e, reader_none μ K)),
       )

@@ -263,16 +263,9 @@ module _ {M P Q R E : Type 0} (μ : Meaning P Q R E) (turn : ℕ → Turn) where
       (λ ne. turn_stays K K s s.words homes' id v w j at refl (set_else s.homes k j none ne) (same j)
       (miss w.hand (suc j) (λ e. ne (omega arith)) ∙ sym (miss v.hand (suc j) (λ e. omega arith))) (λ _ y h. h) (r.each_turn j l)))
 
-  -- what stands by what the chair knew stands by what is known now
-  stands_now : (slots : ℕ) (K : Known P Q R E) (k : ℕ) (x : Item M P Q R E) → μ.ok K → (l : List (ℕ × Known P Q R E)) → 0 < times k l → Each (Kept μ turn slots K) l → Each (λ h. h.0 ≡ k → Stands μ (turn k) h.1 x) l → Stands μ (turn k) K x
-  stands_now slots K k x ok [] lt a b = absurd (omega arith)
-  stands_now slots K k x ok (h ∷ hs) lt a b = dite (ℕ_discrete h.0 k)
-      (λ e. along (turn k) h.1 K x (subst (λ j. Stay μ (turn j) h.1 K) e a.0.2) a.0.1 ok (b.0 e))
-      (λ ne. let z = miss h.0 k ne in stands_now slots K k x ok hs (omega arith) a.1 b.1)
-
   -- the slot in hand goes home with a value that stands, and the turn is free
   pub turns_free : (K : Known P Q R E) (s : Now M P Q R E) (id k : ℕ) (v w : View P Q R E) (x : Item M P Q R E) → Turns μ turn K s → get_elem? s.views id ≡ some v → k < length s.homes
-      → v.hand ≡ suc k → Each (λ h. h.0 ≡ k → Stands μ (turn k) h.1 x) v.held → w.parts ≡ v.parts → w.hand ≡ 0 → w.held ≡ without k v.held
+      → v.hand ≡ suc k → Stands μ (turn k) K x → w.parts ≡ v.parts → w.hand ≡ 0 → w.held ≡ without k v.held
       → Turns μ turn K record { words = set s.words k 0; homes = set s.homes k (some (Some x)); views = set s.views id w }
   turns_free K s id k v w x r at lt was stands parts hand held =
       let c = r.each_chair id v at in
@@ -296,7 +289,7 @@ module _ {M P Q R E : Type 0} (μ : Meaning P Q R E) (turn : ℕ → Turn) where
       (λ j l. dite (ℕ_discrete j k)
       (λ e. subst (Turned μ turn K record { words = words'; homes = homes'; views = set s.views id w }) (sym e) record {
         word = get_or-set_same s.words k 0 0 (omega arith) ∙ sym free;
-        home = λ _. (x, set_here s.homes k (some (Some x)) lt, stands_now (length s.homes) K k x r.ok v.held mine c.held stands);
+        home = λ _. (x, set_here s.homes k (some (Some x)) lt, stands);
         away = λ z. absurd (omega arith);
       })
       (λ ne. turn_stays K K s words' homes' id v w j at (get_or-set_other s.words k j 0 0 ne) (set_else s.homes k j (some (Some x)) ne) (other j ne)

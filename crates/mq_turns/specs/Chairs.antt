@@ -1,8 +1,10 @@
 -- Words on desks and chairs.
-use Rattle.std.specs.Prelude.{◌≡◌, ℕ, ◌<◌, ◌≤◌, List, ◌∷◌, length, slice_get, Some}
-use Rattle.mq_turns.specs.Lists.{Each, times, without}
+use Rattle.std.specs.Prelude.{◌≡◌, ℕ, ◌<◌, ◌≤◌, Bool, List, ◌∷◌, length, slice_get, Some}
+use Rattle.mq_turns.specs.Lists.{Each, tally, times, without}
+use Rattle.mq_turns.specs.Marks.{Marked, DoneTo}
 use Rattle.mq_turns.specs.Meaning.{Meaning, Grows, opened, newest, IsAt}
-use Rattle.mq_turns.specs.Desk.{drawn_of, read_of, IsInOrder}
+use Rattle.mq_turns.specs.Desk.{drawn_of, read_of, charged_of, IsInOrder}
+use Rattle.mq_turns.specs.declared.rule.Charge.{Charge}
 use Rattle.mq_turns.specs.declared.rule.Opening.{Opening}
 use Rattle.mq_turns.specs.declared.rule.Known.{Known}
 use Rattle.mq_turns.specs.declared.rule.View.{View}
@@ -25,11 +27,12 @@ module _ {P Q R E : Type 0} (μ : Meaning P Q R E) where
 
   -- What a desk that has ended shows: there is one history, which is legal. The values are what it says, each number is one
   -- draw of a chair, what the chairs read was the machine's at its number, and along each chair's groups the numbers are in order.
-  pub record Ended (o : Opening P Q R) (views : List (View P Q R E)) (pages : List P) (sides : List Q) (root : R) (next : ℕ) : Type 0 where
+  pub record Ended (o : Opening P Q R) (views : List (View P Q R E)) (pages : List P) (sides : List Q) (root : R) (next base : ℕ) : Type 0 where
     pub known : Known P Q R E
     pub opening : known.opening ≡ o
     pub ok : μ.ok known
     pub next_is : next ≡ newest known
+    pub base_is : base ≡ known.word
     pub all_pages : length pages ≡ length o.pages
     pub pages_stand : (b : ℕ) (x : P) → slice_get pages b ≡ Some x → μ.page b known x
     pub all_sides : length sides ≡ length o.sides
@@ -39,3 +42,8 @@ module _ {P Q R E : Type 0} (μ : Meaning P Q R E) where
     pub once : (n : ℕ) → o.base < n → n ≤ next → times n (drawn_of views) ≡ 1
     pub read : Each (λ r. μ.ok r.1 × Grows r.1 known × μ.fits r.0 r.1) (read_of views)
     pub ordered : Each (IsInOrder μ) views
+    -- each number that isn't done is at or above its queue's mark, and those up to which a chair knew all to be done are
+    pub marked : Marked μ known
+    pub done : Each (λ v. DoneTo μ v.reading.done known) views
+    -- each charge was made once
+    pub charges : (f : Charge → Bool) → tally f (charged_of views) ≡ tally f known.charges

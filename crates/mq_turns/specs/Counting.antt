@@ -1,6 +1,6 @@
--- A machine for tests. An entry is a vote on a queue, and the port of the queue's side counts the votes.
+-- A machine for tests. An entry is a vote on a queue, the port of the queue's side counts the votes, and the root is the base word.
 use Rattle.std.specs.Prelude.{◌≡◌, ◌==◌, ℕ, ◌+◌, ◌%◌, false, cond, List, [], ◌∷◌, ◌++◌, slice_index_or, refl}
-use Rattle.std.proofs.Common.{ap, sym, ◌∙◌, arith, map}
+use Rattle.std.proofs.Common.{ap, sym, ◌∙◌, arith, map, eq-eqb}
 use Rattle.mq_turns.specs.Lists.{tick}
 use Rattle.mq_turns.specs.Meaning.{Meaning, Stays, Apart, Touch}
 use Rattle.mq_turns.specs.declared.rule.Known.{Known}
@@ -44,11 +44,12 @@ module _ {E Q : Type 0} (queue session group : E → ℕ) (state : Q → ℕ) wh
     ok = λ K. Unit {0};
     page = λ b K p. Unit {0};
     side = Counted queue state;
-    root = λ K r. Unit {0};
+    root = λ K r. r ≡ K.word;
     may = λ e K. Unit {0};
     fits = λ e K. Unit {0};
+    own = λ log e. eq-eqb (queue e) (queue e) refl;
     ok_drawn = λ e K ok may. tt;
     page_along = λ b K L x s a c h. tt;
     side_along = λ q K L x s a c h. counted_along queue state q K L x s h;
-    root_along = λ K L x s a c h. tt;
+    root_along = λ K L x s a c h. h ∙ sym (s.word refl);
   }

@@ -1,11 +1,14 @@
 -- The rule of the desk, and what each step tells.
--- Word k, for each slot k, is 1 while a chair holds the turn of the slot and else 0. The word after these is the greatest number drawn.
+-- Word k, for each slot k, is 1 while a chair holds the turn of the slot and else 0. The word after these is the greatest number
+-- drawn, then comes a mark for each queue, and last the base.
 use Rattle.std.specs.Prelude.{◌≡◌, ◌≢◌, ◌⊎◌, ℕ, zero, suc, ◌+◌, ◌-◌, ◌*◌, ◌/◌, ◌<◌, ◌≤◌, nat_lt, max, Bool, true, cond, List, [], ◌∷◌, ◌++◌, length, slice_index, Option, Some, None}
 use mathlib.Core.Option.{some}
 use lib.ListN.{get_elem?}
 use Rattle.atomic_table.specs.Table.{State, Me, Step}
-use Rattle.mq_turns.specs.Lists.{total, Each, Sorted, tick, times, without}
+use Rattle.mq_turns.specs.Lists.{total, Each, Sorted, tally, tick, times, without}
 use Rattle.mq_turns.specs.Meaning.{Meaning, Stays, Grows, opened, newest, drawn, IsAt}
+use Rattle.mq_turns.specs.Marks.{mark_of, unread, read_first, read_both, Marked, Reader}
+use Rattle.mq_turns.specs.declared.rule.Charge.{Charge}
 use Rattle.mq_turns.specs.declared.rule.Opening.{Opening}
 use Rattle.mq_turns.specs.declared.rule.Known.{Known}
 use Rattle.mq_turns.specs.declared.rule.View.{View}
@@ -63,11 +66,11 @@ module _ {P Q R E : Type 0} where
 
   -- a view that knows and holds nothing
   abbrev pub blank : View P Q R E
-  blank = record { parts = 0; opening = None; session = 0; seen = 0; hand = 0; held = []; drawn = []; read = [] }
+  blank = record { parts = 0; opening = None; session = 0; seen = 0; hand = 0; held = []; drawn = []; read = []; reading = unread }
 
   -- a new chair
   abbrev pub fresh : Opening P Q R → ℕ → View P Q R E
-  fresh o i = record blank { parts = 1; opening = Some o; session = i; seen = o.base }
+  fresh o i = record blank { parts = 1; opening = Some o; session = i; seen = o.base; reading = read_first o.base }
 
   -- the slots from j on, n of them, all held since the desk was opened
   abbrev pub slots_from : Opening P Q R → ℕ → ℕ → List (ℕ × Known P Q R E)
@@ -76,7 +79,7 @@ module _ {P Q R E : Type 0} where
 
   -- the view that stands for all chairs from the i-th on, and holds the first n slots
   abbrev pub laying : Opening P Q R → ℕ → ℕ → ℕ → View P Q R E
-  laying o parts i n = record blank { parts = parts; opening = Some o; session = i; seen = o.base; held = slots_from o 0 n }
+  laying o parts i n = record blank { parts = parts; opening = Some o; session = i; seen = o.base; held = slots_from o 0 n; reading = read_first o.base }
 
   -- at first one view holds all turns
   abbrev pub first_view : Opening P Q R → ℕ → View P Q R E
@@ -87,7 +90,7 @@ module _ {P Q R E : Type 0} where
   others v = record v { parts = v.parts - 1; session = suc v.session }
 
   abbrev pub seated : View P Q R E → View P Q R E
-  seated v = record blank { parts = 1; opening = v.opening; session = v.session; seen = v.seen }
+  seated v = record blank { parts = 1; opening = v.opening; session = v.session; seen = v.seen; reading = v.reading }
 
   -- a note of what the chair saw and drew, for another
   abbrev pub noted : View P Q R E → View P Q R E
@@ -98,7 +101,7 @@ module _ {P Q R E : Type 0} where
 
   -- two chairs are one
   abbrev pub joined : View P Q R E → View P Q R E → View P Q R E
-  joined v w = record v { parts = v.parts + w.parts; seen = max v.seen w.seen; drawn = v.drawn ++ w.drawn; read = v.read ++ w.read }
+  joined v w = record v { parts = v.parts + w.parts; seen = max v.seen w.seen; drawn = v.drawn ++ w.drawn; read = v.read ++ w.read; reading = read_both v.reading w.reading }
 
   -- what the chairs drew and read, the last chair's first
   abbrev pub drawn_of : List (View P Q R E) → List (ℕ × E)
@@ -108,6 +111,10 @@ module _ {P Q R E : Type 0} where
   abbrev pub read_of : List (View P Q R E) → List (E × Known P Q R E)
   read_of [] = []
   read_of (v ∷ vs) = read_of vs ++ v.read
+
+  abbrev pub charged_of : List (View P Q R E) → List Charge
+  charged_of [] = []
+  charged_of (v ∷ vs) = charged_of vs ++ v.reading.charged
 
   -- the turns that a step is about are known of anew by their holder
   abbrev pub refreshed : (ℕ → Bool) → Known P Q R E → List (ℕ × Known P Q R E) → List (ℕ × Known P Q R E)
@@ -138,14 +145,19 @@ module _ {P Q R E : Type 0} (μ : Meaning P Q R E) where
   pub record Sees (v : View P Q R E) (K : Known P Q R E) : Type 0 where
     pub opening : v.opening ≡ Some K.opening
     pub ok : μ.ok K
+    pub few : newest K ≤ 9223372036854775808
     pub held : Each (λ h. μ.ok h.1 × Stay (turn_at K.opening h.0) h.1 K) v.held
     pub seen : v.seen ≤ newest K
     pub drew : Each (λ d. IsAt K.opening.base K.log d.0 d.1) v.drawn
+    pub marked : Marked μ K
+    pub reader : Reader μ K v.reading
 
-  -- what a draw asks: whatever is known by now, the chair holds all that the entry changes, and the entry may be drawn
+  -- what a draw asks: whatever is known by now, the chair holds all that the entry changes, the entry may be drawn, and the
+  -- queue's mark is not above its number
   pub record Covers (e : E) (v : View P Q R E) : Type 0 where
     pub held : (K : Known P Q R E) → Sees v K → (t : Turn) → IsTurn K.opening t → μ.touches K.log e t ≡ true → 0 < times (slot_of K.opening t) v.held
     pub may : (K : Known P Q R E) → Sees v K → newest K < 9223372036854775808 → μ.may e K
+    pub mark : (K : Known P Q R E) → Sees v K → mark_of (μ.queue e) K.claims ≤ suc (newest K)
 
   -- what an entry asks that is read and not drawn
   abbrev pub MayRead : E → View P Q R E → Type 0
@@ -247,9 +259,19 @@ module _ {M P Q R E : Type 0} (μ : Meaning P Q R E) where
     pub bounds : (K.opening.base ≤ 4611686018427387904) × (0 < chairs)
     pub each_chair : (j : ℕ) (v : View P Q R E) → get_elem? s.views j ≡ some v → Drawer μ (allotment chairs) K v
 
+  -- the other words: the queues' marks and the base; what the chairs read of them, and each charge stands in one view
+  pub record Words (K : Known P Q R E) (s : Now M P Q R E) : Type 0 where
+    pub wide : length s.words ≡ suc (suc (length s.homes + length K.opening.sides))
+    pub marks : (q : ℕ) → q < length K.opening.sides → slice_index s.words (suc (length s.homes + q)) ≡ mark_of q K.claims
+    pub base : slice_index s.words (suc (length s.homes + length K.opening.sides)) ≡ K.word
+    pub marked : Marked μ K
+    pub charges : (f : Charge → Bool) → total (λ v. tally f v.reading.charged) s.views ≡ tally f K.charges
+    pub each_chair : (j : ℕ) (v : View P Q R E) → get_elem? s.views j ≡ some v → Reader μ K v.reading
+    pub idle : (j : ℕ) (v : View P Q R E) → get_elem? s.views j ≡ some v → v.parts ≡ 0 → v.reading.charged ≡ []
+
   -- all that is known together, with what each layer of the rule says of it
   abbrev pub Ruled : Opening P Q R → ℕ → Now M P Q R E → Type 0
-  Ruled o chairs s = (K : Known P Q R E) × (K.opening ≡ o) × Turns (turn_at o) K s × Numbers chairs K s
+  Ruled o chairs s = (K : Known P Q R E) × (K.opening ≡ o) × Turns (turn_at o) K s × Numbers chairs K s × Words K s
 
   -- ---- what each step tells
 

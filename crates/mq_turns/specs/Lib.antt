@@ -1,7 +1,11 @@
 pub mod Lists
 pub mod Meaning
+pub mod Marks
 pub mod Desk
+pub mod Words
+pub mod Swept
 pub mod Chairs
 pub mod AtDesk
+pub mod Opened
 pub mod Closing
 pub mod Counting

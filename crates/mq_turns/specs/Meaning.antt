@@ -1,9 +1,11 @@
 -- What is known together, how it grows, and what the values on a desk are by it.
-use Rattle.std.specs.Prelude.{◌≡◌, ◌≢◌, ℕ, suc, ◌+◌, ◌≤◌, ◌⊎◌, Bool, false, List, [], ◌∷◌, ◌++◌, length}
+use Rattle.std.specs.Prelude.{◌≡◌, ◌≢◌, ℕ, suc, ◌+◌, ◌≤◌, ◌⊎◌, Bool, true, false, List, [], ◌∷◌, ◌++◌, length}
 use Rattle.mq_turns.specs.Lists.{Each}
 use Rattle.mq_turns.specs.declared.turn.Turn.{Turn}
 use Rattle.mq_turns.specs.declared.turn.Turn.TheVariants.{Page, Side, Root}
+use Rattle.mq_turns.specs.declared.rule.Claim.{Claim}
 use Rattle.mq_turns.specs.declared.rule.Known.{Known}
+use Rattle.mq_turns.specs.declared.rule.Charge.{Charge}
 use Rattle.mq_turns.specs.declared.rule.Opening.{Opening}
 
 -- the entry e has the number n in the history, of which the first entry has the number after the base
@@ -12,19 +14,19 @@ IsAt base [] n e = ⊥
 IsAt base (x ∷ xs) n e = ((n ≡ suc (base + length xs)) × (x ≡ e)) ⊎ IsAt base xs n e
 
 module _ {P Q R E : Type 0} where
-  -- nothing was drawn, claimed or written home
+  -- nothing was drawn, claimed, written home or charged
   abbrev pub opened : Opening P Q R → Known P Q R E
-  opened o = record { opening = o; log = []; claims = []; ended = []; word = o.base }
+  opened o = record { opening = o; log = []; claims = []; ended = []; word = o.base; charges = [] }
 
   -- the greatest number drawn
   abbrev pub newest : Known P Q R E → ℕ
   newest K = K.opening.base + length K.log
 
-  -- one thing more is known: an entry drawn, a queue's numbers done, a home write ended, the base raised
+  -- one thing more is known: an entry drawn, a queue's numbers done, a home write ended, the base raised, a fault charged
   abbrev pub drawn : E → Known P Q R E → Known P Q R E
   drawn e K = record K { log = e ∷ K.log }
 
-  abbrev pub claimed : ℕ × ℕ → Known P Q R E → Known P Q R E
+  abbrev pub claimed : Claim → Known P Q R E → Known P Q R E
   claimed c K = record K { claims = c ∷ K.claims }
 
   abbrev pub written : ℕ × ℕ → Known P Q R E → Known P Q R E
@@ -33,16 +35,21 @@ module _ {P Q R E : Type 0} where
   abbrev pub raised : ℕ → Known P Q R E → Known P Q R E
   raised b K = record K { word = b }
 
+  abbrev pub charged : Charge → Known P Q R E → Known P Q R E
+  charged c K = record K { charges = c ∷ K.charges }
+
   -- what is known grew from K to L
   pub record Grows (K L : Known P Q R E) : Type 0 where
     pub opening : L.opening ≡ K.opening
     pub newer : List E
     pub log : L.log ≡ newer ++ K.log
-    pub claimed : List (ℕ × ℕ)
+    pub claimed : List Claim
     pub claims : L.claims ≡ claimed ++ K.claims
     pub written : List (ℕ × ℕ)
     pub ended : L.ended ≡ written ++ K.ended
     pub word : K.word ≤ L.word
+    pub blamed : List Charge
+    pub charges : L.charges ≡ blamed ++ K.charges
 
 -- Of a history and an entry drawn on it: the entry changes what lies under the turn.
 abbrev pub Touch : Type 0 → Type 0
@@ -63,9 +70,10 @@ module _ {P Q R E : Type 0} (touches : Touch E) (lies : Lie P Q R) where
   pub record Stays (t : Turn) (K L : Known P Q R E) : Type 0 where
     pub grows : Grows K L
     pub apart : Apart touches grows.newer K.log t
-    pub claims : Each (λ c. Side c.0 ≢ t) grows.claimed
+    pub claims : Each (λ c. Side c.queue ≢ t) grows.claimed
     pub ended : Each (λ h. lies K.opening h t ≡ false) grows.written
     pub word : t ≡ Root → L.word ≡ K.word
+    pub charges : Each (λ c. c.port ≢ t) grows.blamed
 
 -- What a machine says of its values and entries. Pages are named by their block, sides by their queue.
 pub record Meaning (P Q R E : Type 0) : Type 1 where
@@ -85,7 +93,8 @@ pub record Meaning (P Q R E : Type 0) : Type 1 where
   pub may : E → Known P Q R E → Type 0
   -- the entry, which is not drawn, has the machine's replies and writes on the map at the newest number
   pub fits : E → Known P Q R E → Type 0
-  -- the laws: a draw keeps the history legal, and a value that nothing touched is what it was
+  -- the laws: an entry changes its own side, a draw keeps the history legal, and a value that nothing touched is what it was
+  pub own : (log : List E) (e : E) → touches log e (Side (queue e)) ≡ true
   pub ok_drawn : (e : E) (K : Known P Q R E) → ok K → may e K → ok (drawn e K)
   pub page_along : (b : ℕ) (K L : Known P Q R E) (x : P) → Stays touches lies (Page b) K L → ok K → ok L → page b K x → page b L x
   pub side_along : (q : ℕ) (K L : Known P Q R E) (x : Q) → Stays touches lies (Side q) K L → ok K → ok L → side q K x → side q L x

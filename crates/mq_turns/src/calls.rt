@@ -46,7 +46,7 @@ impl<M: Machine> Desk<M> {
         requires at { AtDesk self.now chair.old }
         requires turn { IsTurn (start_of self.now) turn }
         requires holds { 0 < times (slot_of (start_of self.now) turn) (view chair.old).held }
-        requires stands { Each (λ h. h.0 ≡ slot_of (start_of self.now) turn → Stands M.meaning turn h.1 item) (view chair.old).held }
+        requires stands { (K : Known M.Page M.Side M.Root M.Entry) → Sees M.meaning (view chair.old) K → Stands M.meaning turn K item }
         ensures at { AtDesk self.now chair.new }
         ensures gave { view chair.new ≡ giving (slot_of (start_of self.now) turn) (view chair.old) }
     {

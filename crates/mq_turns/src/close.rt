@@ -2,7 +2,7 @@
 ghost use Rattle.std.specs.Prelude.{◌≡◌, ◌≢◌, ℕ, ◌+◌, ◌<◌, ◌≤◌, ◌++◌, [], true, false, IfOk, IfErr, All, map, length, vec_len, vec_capacity, slice_index_or};
 ghost use Rattle.std.specs.Slots.{slots_items, slots_filled, slots_len, IsFull};
 ghost use Rattle.mq_turns.specs.Lists.{Each, total};
-ghost use Rattle.mq_turns.specs.Desk.{drawn_of, read_of, IsInOrder};
+ghost use Rattle.mq_turns.specs.Desk.{drawn_of, read_of, charged_of, IsInOrder};
 ghost use Rattle.mq_turns.specs.Chairs.{Ended};
 ghost use Rattle.mq_turns.specs.Closing.{HasPages, HasSides, HasRoot, ArePages, AreSides, IsRoot};
 ghost use Rattle.mq_turns.specs.AtDesk.{AtDesk, view, start_of, chairs_of};
@@ -22,8 +22,9 @@ pub struct Parts<M: Machine> {
     pub pages: Vec<M::Page>,
     pub sides: Vec<M::Side>,
     pub root: M::Root,
-    /// The last number drawn, or the base.
+    /// The last number drawn, or the base at the opening.
     pub next: TxNo,
+    /// The base, as the last `raise` left it.
     pub base: TxNo,
 }
 
@@ -41,6 +42,8 @@ fn join_all<M: Machine>(
     ensures order { Each (IsInOrder M.meaning) (map (λ ch. view ch) chairs.items) }
     ensures parts { place.new.me.0.parts ≡ place.old.me.0.parts + total (λ v. v.parts) (map (λ ch. view ch) chairs.items) }
     ensures all { (place.new.me.0.drawn ≡ place.old.me.0.drawn ++ drawn_of (map (λ ch. view ch) chairs.items)) × (place.new.me.0.read ≡ place.old.me.0.read ++ read_of (map (λ ch. view ch) chairs.items)) }
+    ensures charged { place.new.me.0.reading.charged ≡ place.old.me.0.reading.charged ++ charged_of (map (λ ch. view ch) chairs.items) }
+    ensures done { (place.old.me.0.reading.done ≤ place.new.me.0.reading.done) × Each (λ v. v.reading.done ≤ place.new.me.0.reading.done) (map (λ ch. view ch) chairs.items) }
 {
     while let Some(Chair { place: mut other }) = chairs.pop() {
         steps::count(top, &mut other, counter);
@@ -57,6 +60,8 @@ fn gather<M: Machine>(top: &Top<M>, counter: usize, mut chairs: Vec<Chair<M>>) -
     ensures seat { (result.table_id ≡ top.now.table_id) × (result.me.1 ≡ []) × (result.me.0.held ≡ []) }
     ensures parts { result.me.0.parts ≡ length chairs.items }
     ensures all { (result.me.0.drawn ≡ drawn_of (map (λ ch. view ch) chairs.items)) × (result.me.0.read ≡ read_of (map (λ ch. view ch) chairs.items)) }
+    ensures charged { result.me.0.reading.charged ≡ charged_of (map (λ ch. view ch) chairs.items) }
+    ensures done { Each (λ v. v.reading.done ≤ result.me.0.reading.done) (map (λ ch. view ch) chairs.items) }
     ensures order { Each (IsInOrder M.meaning) (map (λ ch. view ch) chairs.items) }
 {
     let Some(Chair { place: mut one }) = chairs.pop() else {
@@ -144,8 +149,7 @@ impl<M: Machine> Desk<M> {
     pub fn into_parts(self, alloc: Global, chairs: Vec<Chair<M>>) -> Result<Parts<M>, Unended<M>>
         requires theirs { All (λ ch. AtDesk self ch × ((view ch).held ≡ [])) chairs.items }
         requires all { length chairs.items ≡ chairs_of self }
-        ensures ok { IfOk result (λ p. Ended M.meaning (start_of self) (map (λ ch. view ch) chairs.items) p.pages.items p.sides.items p.root p.next) }
-        ensures base { IfOk result (λ p. p.base ≡ (start_of self).base) }
+        ensures ok { IfOk result (λ p. Ended M.meaning (start_of self) (map (λ ch. view ch) chairs.items) p.pages.items p.sides.items p.root p.next p.base) }
         ensures err { IfErr result (λ e. (e.0 ≡ self) × (e.1 ≡ chairs)) }
     {
         let Ok(pages) = Vec::with_capacity(alloc, self.pages as usize) else {
@@ -156,13 +160,13 @@ impl<M: Machine> Desk<M> {
             return Err((self, chairs, OutOfMemory));
         };
         let one = gather(&self.table.shared, self.table.slot_count(), chairs);
-        let base = self.base;
         let page_count = self.pages as usize;
         let side_count = self.sides as usize;
         let Desk { table, .. } = self;
         let mut closed = table.close_with(one);
         let last = page_count + side_count;
-        let next = TxNo(closed.word(last + 1));
+        let next = closed.word(last + 1);
+        let base = closed.word(last + side_count + 2);
         let pages = unload_pages(&mut closed, page_count, pages);
         let sides = unload_sides(&mut closed, page_count, side_count, sides);
         let root = unload_root(closed, last);
@@ -170,8 +174,8 @@ impl<M: Machine> Desk<M> {
             pages,
             sides,
             root,
-            next,
-            base,
+            next: TxNo(next),
+            base: TxNo(base),
         })
     }
 }

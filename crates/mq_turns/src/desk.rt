@@ -7,21 +7,19 @@ use crate::rule::{Knows, Law, Start};
 use crate::steps::Place;
 use crate::turn::Item;
 use atomic_table::Table;
-use mq_blocks::TxNo;
 use std::alloc::Global;
 
-/// Pages, sides and a root, each under a turn, and the counter of numbers. Threads share it by `&`.
+/// Pages, sides and a root, each under a turn, the counter of numbers, a mark for each side, and the
+/// base. Threads share it by `&`.
 #[derive(Drop)]
 pub struct Desk<M: Machine> {
     pub(crate) table: Table<Option<Item<M>>, Knows<M>, Start<M>, Law<M>, Global>,
     pub(crate) pages: u32,
     pub(crate) sides: u32,
-    pub(crate) base: TxNo,
-    ghost words: { table.shared.table_id.words ≡ table.shared.table_id.slots + 1 },
+    ghost words: { table.shared.table_id.words ≡ table.shared.table_id.slots + sides + 2 },
     ghost slots: { table.shared.table_id.slots ≡ slots (opening_of table.shared.key) },
     ghost all_pages: { pages ≡ length table.shared.key.pages.value.items },
     ghost all_sides: { sides ≡ length table.shared.key.sides.value.items },
-    ghost base_is: { base ≡ table.shared.key.base },
     ghost some: { 0 < table.shared.key.chairs },
 }
 

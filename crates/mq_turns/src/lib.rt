@@ -1,11 +1,13 @@
 //! A desk of turns: pages, sides and the root, each held by one chair at a time, and a counter from
-//! which chairs draw numbers without waiting.
+//! which chairs draw numbers without waiting, with marks that tell which numbers are done.
 #![tactic(auto)]
 
 mod calls;
 mod close;
 mod desk;
 mod machine;
+mod marks;
+mod notes;
 mod open;
 mod plays;
 mod rule;
@@ -13,9 +15,10 @@ mod steps;
 #[cfg(test)]
 mod tests;
 mod turn;
+mod words;
 
 pub use close::Parts;
 pub use desk::{Chair, Desk};
 pub use machine::Machine;
-pub use rule::{Known, Knows, Law, Opening, Start, View};
+pub use rule::{Blame, Charge, Claim, Known, Knows, Law, Notice, Opening, Reading, Start, View};
 pub use turn::{Item, Turn};

@@ -3,6 +3,7 @@ ghost use Rattle.std.specs.Prelude.{◌≡◌, ℕ, suc, ◌+◌, ◌^◌, ◌<�
 ghost use Rattle.mq_turns.specs.Meaning.{opened};
 ghost use Rattle.mq_turns.specs.Desk.{slots, opening_of, laying, fresh, first_view};
 ghost use Rattle.mq_turns.specs.Chairs.{Starts};
+ghost use Rattle.mq_turns.specs.Opened.{AreOpenWords};
 ghost use Rattle.mq_turns.specs.AtDesk.{AtDesk, view, start_of, chairs_of};
 
 use crate::desk::{Chair, Desk};
@@ -21,6 +22,7 @@ fn lay_sides<M: Machine>(top: &Top<M>, place: &mut Place<M>, pages: usize, mut s
     requires table { (place.old.table_id ≡ top.now.table_id) × (top.now.table_id.slots ≡ slots (opening_of top.now.key)) × (top.now.table_id.slots < top.now.table_id.words) }
     requires turns { (pages ≡ length top.now.key.pages.value.items) × (sides.items ≡ top.now.key.sides.value.items) }
     requires starts { Starts M.meaning (opening_of top.now.key) }
+    requires some { 0 < top.now.key.chairs }
     requires holds { place.old.me ≡ (laying (opening_of top.now.key) top.now.key.chairs 0 (pages + vec_len sides), []) }
     ensures seat { (place.new.table_id ≡ place.old.table_id) × (place.new.me ≡ (laying (opening_of top.now.key) top.now.key.chairs 0 pages, [])) }
 {
@@ -35,6 +37,7 @@ fn lay_pages<M: Machine>(top: &Top<M>, place: &mut Place<M>, mut pages: Vec<M::P
     requires table { (place.old.table_id ≡ top.now.table_id) × (top.now.table_id.slots ≡ slots (opening_of top.now.key)) × (top.now.table_id.slots < top.now.table_id.words) }
     requires turns { pages.items ≡ top.now.key.pages.value.items }
     requires starts { Starts M.meaning (opening_of top.now.key) }
+    requires some { 0 < top.now.key.chairs }
     requires holds { place.old.me ≡ (laying (opening_of top.now.key) top.now.key.chairs 0 (vec_len pages), []) }
     ensures seat { (place.new.table_id ≡ place.old.table_id) × (place.new.me ≡ (laying (opening_of top.now.key) top.now.key.chairs 0 0, [])) }
 {
@@ -56,6 +59,7 @@ fn lay_all<M: Machine>(
     requires turns { (pages.items ≡ top.now.key.pages.value.items) × (sides.items ≡ top.now.key.sides.value.items) × (root ≡ top.now.key.root.value) }
     requires few { (vec_len pages < 2 ^ 32) × (vec_len sides < 2 ^ 32) }
     requires starts { Starts M.meaning (opening_of top.now.key) }
+    requires some { 0 < top.now.key.chairs }
     requires holds { place.old.me ≡ (first_view (opening_of top.now.key) top.now.key.chairs, []) }
     ensures seat { (place.new.table_id ≡ place.old.table_id) × (place.new.me ≡ (laying (opening_of top.now.key) top.now.key.chairs 0 0, [])) }
 {
@@ -78,6 +82,25 @@ fn seat_all<M: Machine>(top: &Top<M>, mut place: Place<M>, chairs: u32, list: &m
         });
     }
     list.push_reserved(Chair { place });
+}
+
+// The words of a new desk.
+fn first_words(
+    alloc: Global,
+    slots: usize,
+    sides: usize,
+    base: u64,
+) -> Result<Vec<u64>, OutOfMemory>
+    requires few { (slots ≤ 2 ^ 33) × (sides < 2 ^ 32) }
+    ensures words { IfOk result (λ ws. AreOpenWords slots sides base ws.items) }
+{
+    let mut words = vec![in alloc; u64::MAX; slots + sides + 2]?;
+    for slot in 0..slots {
+        words[slot] = 1;
+    }
+    words[slots] = base;
+    words[slots + sides + 1] = base;
+    Ok(words)
 }
 
 /// A desk that could not be made, for want of memory: the pages, sides and root come back.
@@ -110,10 +133,9 @@ impl<M: Machine> Desk<M> {
         let page_count = pages.len();
         let side_count = sides.len();
         let slots = page_count + side_count + 1;
-        let Ok(mut words) = vec![in alloc; 1u64; slots + 1] else {
+        let Ok(words) = first_words(alloc, slots, side_count, base.0) else {
             return Err((pages, sides, root, OutOfMemory));
         };
-        words[slots] = base.0;
         let Ok(mut list) = Vec::with_capacity(alloc, chairs as usize) else {
             return Err((pages, sides, root, OutOfMemory));
         };
@@ -134,7 +156,6 @@ impl<M: Machine> Desk<M> {
             table,
             pages: page_count as u32,
             sides: side_count as u32,
-            base,
         };
         Ok((desk, list))
     }

@@ -1,9 +1,11 @@
 // What each step on the table tells, and how views are cut and joined.
 ghost use Rattle.std.specs.Prelude.{◌≡◌, Option, Some, None};
 ghost use Rattle.mq_turns.specs.Desk.{taken, settled, reached, freed, looked, drew_one, blank, others, seated, noted, heard, joined};
+ghost use Rattle.mq_turns.specs.Words.{peeked, cleared, based, raised_to, noticed};
+ghost use Rattle.mq_turns.specs.declared.rule.Notice.{Notice};
 
 use crate::machine::Machine;
-use crate::rule::{Knows, View};
+use crate::rule::{Knows, Notice, View};
 use crate::turn::Item;
 use atomic_table::{Join, Play, Split};
 use std::marker::{Brand, PhantomData};
@@ -15,6 +17,15 @@ pub(crate) trait Told<E> {
 
 impl<E> Told<E> for Brand {
     ghost told = { None };
+}
+
+/// The notice that a step gives. Each call picks it.
+pub(crate) trait Notifies<P> {
+    ghost notice: { Option (Notice P) };
+}
+
+impl<P> Notifies<P> for Brand {
+    ghost notice = { None };
 }
 
 /// A turn's word becomes 1: the turn is taken, with its slot, where the word was 0.
@@ -63,6 +74,51 @@ pub(crate) struct Draw<M, N> {
 
 impl<M: Machine, N: Told<M::Entry>> Play<Option<Item<M>>, Knows<M>> for Draw<M, N> {
     ghost then = { λ st me n after. (e : M.Entry) → N.told ≡ Some e → drew_one M.meaning e st me n after };
+}
+
+/// A queue's mark is read.
+pub(crate) struct Peek<M> {
+    machine: PhantomData<M>,
+}
+
+impl<M: Machine> Play<Option<Item<M>>, Knows<M>> for Peek<M> {
+    ghost then = { peeked M.meaning };
+}
+
+/// A queue's mark is stored.
+pub(crate) struct Clear<M> {
+    machine: PhantomData<M>,
+}
+
+impl<M: Machine> Play<Option<Item<M>>, Knows<M>> for Clear<M> {
+    ghost then = { cleared M.meaning };
+}
+
+/// The base is read.
+pub(crate) struct ReadBase<M> {
+    machine: PhantomData<M>,
+}
+
+impl<M: Machine> Play<Option<Item<M>>, Knows<M>> for ReadBase<M> {
+    ghost then = { based M.meaning };
+}
+
+/// The base is stored.
+pub(crate) struct Raise<M> {
+    machine: PhantomData<M>,
+}
+
+impl<M: Machine> Play<Option<Item<M>>, Knows<M>> for Raise<M> {
+    ghost then = { raised_to M.meaning };
+}
+
+/// The counter is read, and a notice is given.
+pub(crate) struct Notify<M, N> {
+    machine: PhantomData<(M, N)>,
+}
+
+impl<M: Machine, N: Notifies<M::Page>> Play<Option<Item<M>>, Knows<M>> for Notify<M, N> {
+    ghost then = { λ st me n after. (x : Notice M.Page) → N.notice ≡ Some x → noticed M.meaning x st me n after };
 }
 
 /// A chair is set apart.

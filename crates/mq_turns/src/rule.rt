@@ -1,8 +1,8 @@
 // What all chairs know together, what one chair knows, and the rule of the desk.
 use crate::machine::Machine;
-use crate::turn::Item;
+use crate::turn::{Item, Turn};
 use atomic_table::TableRule;
-use mq_blocks::{BlockNo, QueueNo};
+use mq_blocks::{BlockNo, QueueNo, TxNo};
 use std::collections::LinkedList;
 use std::marker::PhantomData;
 use std::snapshot::Snapshot;
@@ -20,12 +20,61 @@ pub struct Known<P, Q, R, E> {
     pub opening: Opening<P, Q, R>,
     /// The entries drawn, the newest first. The first that was drawn has the number after the base.
     pub log: LinkedList<E>,
-    /// Queues, each with a number up to which its entries are done.
-    pub claims: LinkedList<(QueueNo, u64)>,
+    /// What each store of a mark made known, the newest first.
+    pub claims: LinkedList<Claim>,
     /// Home writes that ended: the block, and the number whose content it got.
     pub ended: LinkedList<(BlockNo, u64)>,
     /// The base word.
     pub word: u64,
+    /// Faults of ports that were answered as refusals.
+    pub charges: LinkedList<Charge>,
+}
+
+/// What the store of a queue's mark makes known. Proofs alone have one.
+pub struct Claim {
+    pub queue: QueueNo,
+    /// The queue's numbers up to this one are done.
+    pub up_to: u64,
+    /// The queue's mark from then on.
+    pub mark: u64,
+}
+
+/// A fault, as a refusal names it.
+pub enum Blame {
+    Off,
+    Failed { tx: TxNo, status: u16 },
+    FailedHome { block: BlockNo, status: u16 },
+}
+
+/// A fault of a port, which is a side's or the root's.
+pub struct Charge {
+    pub port: Turn,
+    pub blame: Blame,
+}
+
+/// What a chair notes at a step of its own. Proofs alone have one.
+pub enum Notice<P> {
+    /// A home write of the block ended, with the content of the number.
+    Home(BlockNo, TxNo),
+    /// The page is what it is by all that is known now.
+    Page(BlockNo, P),
+    Charge(Charge),
+}
+
+/// What a chair read of marks and base, and what it noted. Proofs alone have one.
+pub struct Reading<P, Q, R, E> {
+    /// How many queues its sweep over the marks has passed.
+    pub swept: u64,
+    /// Up to which number the entries of these queues are done.
+    pub low: u64,
+    /// Up to which number all entries are done, as it found at the end of a sweep.
+    pub done: u64,
+    /// The greatest base that it knows of.
+    pub base: u64,
+    /// Pages that it noted, with what was known then, the newest first.
+    pub pages: LinkedList<(BlockNo, P, Known<P, Q, R, E>)>,
+    /// Faults that it answered as refusals.
+    pub charged: LinkedList<Charge>,
 }
 
 /// What a chair knows. Proofs alone have one.
@@ -46,6 +95,8 @@ pub struct View<P, Q, R, E> {
     pub drawn: LinkedList<(u64, E)>,
     /// Entries that it read and did not draw, with what was known then, the newest first.
     pub read: LinkedList<(E, Known<P, Q, R, E>)>,
+    /// What it read of the other words, and what it noted.
+    pub reading: Reading<P, Q, R, E>,
 }
 
 /// How a desk was opened.

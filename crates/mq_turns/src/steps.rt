@@ -3,7 +3,7 @@ ghost use Rattle.std.specs.Prelude.{◌≡◌, ℕ, suc, ◌+◌, ◌*◌, ◌<�
 ghost use Rattle.std.specs.Option.{option_map};
 ghost use Rattle.atomic_table.specs.Seated.{TableId};
 ghost use Rattle.mq_turns.specs.Meaning.{newest};
-ghost use Rattle.mq_turns.specs.Lists.{Each, times, without};
+ghost use Rattle.mq_turns.specs.Lists.{times, without};
 ghost use Rattle.mq_turns.specs.declared.rule.Known.{Known};
 ghost use Rattle.mq_turns.specs.Desk.{slots, turn_at, opening_of, allotment, Covers, MayRead, Follows, Below, IsInOrder, Sees, Stands, after_draw, after_look};
 
@@ -60,8 +60,8 @@ pub(crate) fn take<M: Machine, R: Wait>(
 /// Lays a value into the slot, and frees its turn.
 pub(crate) fn give_back<M: Machine>(top: &Top<M>, place: &mut Place<M>, slot: usize, item: Item<M>)
     requires table { (place.old.table_id ≡ top.now.table_id) × (slot < top.now.table_id.slots) × (top.now.table_id.slots < top.now.table_id.words) }
-    requires holds { (place.old.me.0.hand ≡ 0) × (place.old.me.1 ≡ []) × (0 < times slot place.old.me.0.held) }
-    requires stands { Each (λ h. h.0 ≡ slot → Stands M.meaning (turn_at (opening_of top.now.key) slot) h.1 item) place.old.me.0.held }
+    requires holds { (place.old.me.0.hand ≡ 0) × (place.old.me.1 ≡ []) × (0 < place.old.me.0.parts) × (0 < times slot place.old.me.0.held) }
+    requires stands { (K : Known M.Page M.Side M.Root M.Entry) → Sees M.meaning place.old.me.0 K → Stands M.meaning (turn_at (opening_of top.now.key) slot) K item }
     ensures seat { (place.new.table_id ≡ place.old.table_id) × (place.new.id ≡ place.old.id) }
     ensures gave { place.new.me ≡ (record place.old.me.0 { hand = 0; held = without slot place.old.me.0.held }, []) }
 {
@@ -111,6 +111,7 @@ pub(crate) fn count<M: Machine>(top: &Top<M>, place: &mut Place<M>, counter: usi
     requires table { (place.old.table_id ≡ top.now.table_id) × (counter ≡ top.now.table_id.slots) × (counter < top.now.table_id.words) × (0 < place.old.me.0.parts) }
     ensures seat { (place.new.table_id ≡ place.old.table_id) × (place.new.id ≡ place.old.id) }
     ensures counted { place.new.me ≡ (record place.old.me.0 { seen = result }, place.old.me.1) }
+    ensures known { (K : Known M.Page M.Side M.Root M.Entry) × (newest K ≡ result) × Sees M.meaning place.old.me.0 K }
     ensures below { Below result place.old.me.0 }
     ensures order { place.old.me.0.parts ≡ 1 → IsInOrder M.meaning place.new.me.0 }
 {
@@ -124,6 +125,7 @@ fn draw_as<M: Machine, N: Told<M::Entry>>(
     entry: &M::Entry,
 ) -> u64
     requires table { (place.old.table_id ≡ top.now.table_id) × (counter ≡ top.now.table_id.slots) × (counter < top.now.table_id.words) × (counter ≡ slots (opening_of top.now.key)) }
+    requires side { (M.meaning).queue entry.now < length (opening_of top.now.key).sides }
     requires may { Covers M.meaning entry.now place.old.me.0 × Follows M.meaning entry.now place.old.me.0 × (length place.old.me.0.drawn < place.old.me.0.parts * allotment top.now.key.chairs) }
     requires told { N.told ≡ Some entry.now }
     ensures seat { (place.new.table_id ≡ place.old.table_id) × (place.new.id ≡ place.old.id) }
@@ -143,6 +145,7 @@ pub(crate) fn draw<M: Machine>(
     entry: &M::Entry,
 ) -> u64
     requires table { (place.old.table_id ≡ top.now.table_id) × (counter ≡ top.now.table_id.slots) × (counter < top.now.table_id.words) × (counter ≡ slots (opening_of top.now.key)) }
+    requires side { (M.meaning).queue entry.now < length (opening_of top.now.key).sides }
     requires may { Covers M.meaning entry.now place.old.me.0 × Follows M.meaning entry.now place.old.me.0 × (length place.old.me.0.drawn < place.old.me.0.parts * allotment top.now.key.chairs) }
     ensures seat { (place.new.table_id ≡ place.old.table_id) × (place.new.id ≡ place.old.id) }
     ensures drew { (K : Known M.Page M.Side M.Root M.Entry) × (place.new.me ≡ (after_draw M.meaning entry.now K place.old.me.0, place.old.me.1)) × (newest K ≡ result) × Sees M.meaning place.old.me.0 K }

@@ -1,8 +1,12 @@
 // A machine that is generic in a port, under whose sides ports lie, and threads that draw by it.
-ghost use Rattle.std.specs.Prelude.{◌≡◌, ℕ, ◌+◌, ◌%◌, ◌^◌, ◌<◌, ◌≤◌, [], ◌∷◌, Some, IfOk, OnOk, length, slice_get, vec_len, vec_capacity};
-ghost use Rattle.mq_turns.specs.Desk.{Follows, allotment, fresh};
+ghost use Rattle.std.specs.Prelude.{◌≡◌, ℕ, ◌+◌, ◌%◌, ◌^◌, ◌<◌, ◌≤◌, [], ◌∷◌, All, Some, IfOk, OnOk, length, slice_get, vec_len, vec_capacity};
+ghost use Rattle.mq_turns.specs.Marks.{DoneTo};
+ghost use Rattle.mq_turns.specs.Desk.{Follows, Sees, allotment, fresh};
 ghost use Rattle.mq_turns.specs.AtDesk.{AtDesk, view, start_of, chairs_of};
 ghost use Rattle.mq_turns.specs.Counting.{counting};
+ghost use Rattle.mq_turns.specs.declared.rule.Known.{Known};
+ghost use Rattle.mq_turns.specs.declared.tests.QueueSide.{QueueSide};
+ghost use Rattle.mq_turns.specs.declared.tests.Vote.{Vote};
 
 use crate::{Chair, Desk, Item, Machine, Turn};
 use mq_blocks::{OutOfMemory, QueueNo, TxNo};
@@ -64,13 +68,25 @@ impl<P: Port> Machine for Counting<P> {
     ghost meaning = { counting (λ (e : Vote). e.queue) (λ e. e.session) (λ e. e.group) (λ q. P.state q.port) };
 }
 
-// Takes the queue's side, looks, draws, looks again, counts the vote on the port, and gives the side back.
+/// What a round saw and drew: the counter before and after the draw, and the front before and after the vote was
+/// known done.
+#[derive(Clone, Copy)]
+struct Round {
+    before: TxNo,
+    number: TxNo,
+    after: TxNo,
+    undone: TxNo,
+    done: TxNo,
+}
+
+// Takes the queue's side, looks, lowers the mark to the next number, draws, looks again, counts the vote on the port, reads the
+// front, raises the mark past the vote, reads the front again, and gives the side back.
 fn cast<P: Port, R: Wait>(
     rt: &R,
     desk: &Desk<Counting<P>>,
     chair: &mut Chair<Counting<P>>,
     entry: &Vote,
-) -> (TxNo, TxNo, TxNo)
+) -> Round
     requires at { AtDesk desk.now chair.old }
     requires queue { entry.now.queue < length (start_of desk.now).sides }
     requires idle { (view chair.old).held ≡ [] }
@@ -78,23 +94,79 @@ fn cast<P: Port, R: Wait>(
     requires room { length (view chair.old).drawn < allotment (chairs_of desk.now) }
     ensures at { AtDesk desk.now chair.new }
     ensures idle { (view chair.new).held ≡ [] }
-    ensures drew { ((view chair.new).drawn ≡ (result.1, entry.now) ∷ (view chair.old).drawn) × ((view chair.new).read ≡ (view chair.old).read) × ((view chair.new).session ≡ (view chair.old).session) }
+    ensures drew { ((view chair.new).drawn ≡ (result.number, entry.now) ∷ (view chair.old).drawn) × ((view chair.new).read ≡ (view chair.old).read) × ((view chair.new).session ≡ (view chair.old).session) }
 {
     let queue = entry.queue;
     let Item::Side(mut side) = desk.take(rt, chair, Turn::Side(queue)) else {
         unreachable!()
     };
     let before = desk.look(chair, None);
+    desk.clear(chair, queue, before.0.saturating_add(1));
     let number = desk.draw(chair, queue, entry);
     let after = desk.look(chair, None);
     side.port.bump();
+    let undone = desk.front(chair);
+    desk.clear(chair, queue, u64::MAX);
+    let done = desk.front(chair);
     desk.give_back(chair, Turn::Side(queue), Item::Side(side));
-    (before, number, after)
+    Round {
+        before,
+        number,
+        after,
+        undone,
+        done,
+    }
+}
+
+// Looks, and then clears each queue in turn: all numbers up to the one that it saw are known done.
+fn clear_all<P: Port, R: Wait>(
+    rt: &R,
+    desk: &Desk<Counting<P>>,
+    chair: &mut Chair<Counting<P>>,
+    sides: u32,
+) -> TxNo
+    requires at { AtDesk desk.now chair.old }
+    requires sides { sides ≡ length (start_of desk.now).sides }
+    requires idle { (view chair.old).held ≡ [] }
+    ensures at { AtDesk desk.now chair.new }
+    ensures idle { (view chair.new).held ≡ [] }
+    ensures done { (K : Known ℕ (QueueSide P) ℕ Vote) → Sees (counting (λ (e : Vote). e.queue) (λ e. e.session) (λ e. e.group) (λ (q : QueueSide P). P.state q.port)) (view chair.new) K → DoneTo (counting (λ (e : Vote). e.queue) (λ e. e.session) (λ e. e.group) (λ (q : QueueSide P). P.state q.port)) result K }
+{
+    let last = desk.look(chair, None);
+    for index in 0..sides {
+        let queue = QueueNo(index);
+        let Item::Side(side) = desk.take(rt, chair, Turn::Side(queue)) else {
+            unreachable!()
+        };
+        desk.clear(chair, queue, u64::MAX);
+        desk.give_back(chair, Turn::Side(queue), Item::Side(side));
+    }
+    last
+}
+
+// Raises the base to the number, where it is below it, and the root with it.
+fn raise_to<P: Port, R: Wait>(
+    rt: &R,
+    desk: &Desk<Counting<P>>,
+    chair: &mut Chair<Counting<P>>,
+    number: TxNo,
+)
+    requires at { AtDesk desk.now chair.old }
+    requires idle { (view chair.old).held ≡ [] }
+    ensures at { AtDesk desk.now chair.new }
+    ensures idle { (view chair.new).held ≡ [] }
+{
+    let Item::Root(base) = desk.take(rt, chair, Turn::Root) else {
+        unreachable!()
+    };
+    let raised = base.max(number.0);
+    desk.raise(chair, TxNo(raised));
+    desk.give_back(chair, Turn::Root, Item::Root(raised));
 }
 
 type Opened = (Desk<Counting<Word>>, Vec<Chair<Counting<Word>>>);
 
-// A desk with so many sides, whose ports stand at 0.
+// A desk with so many sides, whose ports stand at 0. Its root is the base.
 fn opened(alloc: Global, sides: u32, base: u64, chairs: u32) -> Result<Opened, OutOfMemory>
     requires { (0 < chairs) × (chairs ≤ 16) × (base ≤ 2 ^ 62) }
     ensures many { IfOk result (λ d. 4294967296 ≤ allotment (chairs_of d.0)) }
@@ -106,7 +178,7 @@ fn opened(alloc: Global, sides: u32, base: u64, chairs: u32) -> Result<Opened, O
             port: Word { count: 0 },
         });
     }
-    match Desk::new(alloc, Vec::new(alloc), all, 0, TxNo(base), chairs) {
+    match Desk::new(alloc, Vec::new(alloc), all, base, TxNo(base), chairs) {
         Ok(made) => Ok(made),
         Err(_) => Err(OutOfMemory),
     }
@@ -159,8 +231,8 @@ fn cast_many<R: Wait>(rt: &R, desk: &Desk<Counting<Word>>, task: Task) -> Drawn
             session: u64::from(session),
             group: group as u64,
         };
-        let (_, number, _) = cast(rt, desk, &mut chair, &entry);
-        numbers.push_reserved(number.0);
+        let round = cast(rt, desk, &mut chair, &entry);
+        numbers.push_reserved(round.number.0);
     }
     (chair, numbers)
 }
@@ -189,10 +261,10 @@ fn cast_from<R: Wait>(rt: &R, desk: &Desk<Counting<Word>>, task: Task, from: u64
         session: u64::from(session),
         group: 0,
     };
-    let (before, number, after) = cast(rt, desk, &mut chair, &entry);
-    numbers.push_reserved(before.0);
-    numbers.push_reserved(number.0);
-    numbers.push_reserved(after.0);
+    let round = cast(rt, desk, &mut chair, &entry);
+    numbers.push_reserved(round.before.0);
+    numbers.push_reserved(round.number.0);
+    numbers.push_reserved(round.after.0);
     (chair, numbers)
 }
 
@@ -254,7 +326,7 @@ fn task_of_last(
 }
 
 #[test]
-fn draws_eleven_after_ten(rt: HostRuntime) -> Result<(), OutOfMemory> {
+fn front_and_base_follow_a_number(rt: HostRuntime) -> Result<(), OutOfMemory> {
     let (desk, mut chairs) = opened(rt.alloc(), 1, 10, 1)?;
     let mut all = Vec::with_capacity(rt.alloc(), 1)?;
     let mut chair = last_chair(&desk, &mut chairs);
@@ -263,13 +335,21 @@ fn draws_eleven_after_ten(rt: HostRuntime) -> Result<(), OutOfMemory> {
         session: 0,
         group: 0,
     };
-    let (before, number, after) = cast(&rt, &desk, &mut chair, &entry);
-    assert_eq!(rt; [before.0, number.0, after.0], [10, 11, 11]);
+    let round = cast(&rt, &desk, &mut chair, &entry);
+    assert_eq!(rt;
+        [round.before.0, round.number.0, round.after.0],
+        [10, 11, 11]
+    );
+    assert_eq!(rt; [round.undone.0, round.done.0], [10, 11]);
+    assert_eq!(rt; desk.base(&mut chair).0, 10);
+    raise_to(&rt, &desk, &mut chair, TxNo(11));
+    assert_eq!(rt; desk.base(&mut chair).0, 11);
+    assert_eq!(rt; clear_all(&rt, &desk, &mut chair, 1).0, 11);
     all.push_reserved(chair);
     let Ok(parts) = desk.into_parts(rt.alloc(), all) else {
         return Err(OutOfMemory);
     };
-    assert_eq!(rt; [parts.next.0, parts.base.0], [11, 10]);
+    assert_eq!(rt; [parts.next.0, parts.base.0, parts.root], [11, 11, 11]);
     assert_eq!(rt; parts.sides[0].port.count, 1);
     Ok(())
 }
@@ -311,6 +391,7 @@ fn draws_on_two_threads(rt: HostRuntime) -> Result<(), OutOfMemory> {
     Ok(())
 }
 
+// Tasks of the last two chairs, on the queues 0 and 1.
 fn two_tasks(
     alloc: Global,
     desk: &Desk<Counting<Word>>,
@@ -320,31 +401,28 @@ fn two_tasks(
     requires each { (i : ℕ) (ch : _) → slice_get chairs.old.items i ≡ Some ch → AtDesk desk.now ch × (view ch ≡ fresh (start_of desk.now) i) }
     ensures len { OnOk result (vec_len chairs.new + 2 ≡ vec_len chairs.old) }
     ensures each { OnOk result ((i : ℕ) (ch : _) → slice_get chairs.new.items i ≡ Some ch → AtDesk desk.now ch × (view ch ≡ fresh (start_of desk.now) i)) }
-    ensures a { IfOk result (λ t. AtDesk desk.now t.0.chair × (view t.0.chair ≡ fresh (start_of desk.now) t.0.session) × (t.0.queue ≡ 0) × (t.0.numbers.items ≡ []) × (vec_capacity t.0.numbers ≡ 25000)) }
-    ensures b { IfOk result (λ t. AtDesk desk.now t.1.chair × (view t.1.chair ≡ fresh (start_of desk.now) t.1.session) × (t.1.queue ≡ 1) × (t.1.numbers.items ≡ []) × (vec_capacity t.1.numbers ≡ 25000)) }
+    ensures a { IfOk result (λ t. AtDesk desk.now t.0.chair × (view t.0.chair ≡ fresh (start_of desk.now) t.0.session) × (t.0.queue ≡ 0) × (t.0.numbers.items ≡ []) × (vec_capacity t.0.numbers ≡ 100000)) }
+    ensures b { IfOk result (λ t. AtDesk desk.now t.1.chair × (view t.1.chair ≡ fresh (start_of desk.now) t.1.session) × (t.1.queue ≡ 1) × (t.1.numbers.items ≡ []) × (vec_capacity t.1.numbers ≡ 100000)) }
 {
-    let a = task_of_last(alloc, desk, chairs, 0, 25_000)?;
-    let b = task_of_last(alloc, desk, chairs, 1, 25_000)?;
+    let a = task_of_last(alloc, desk, chairs, 0, 100_000)?;
+    let b = task_of_last(alloc, desk, chairs, 1, 100_000)?;
     Ok((a, b))
 }
 
-type Rows = (Vec<u64>, Vec<u64>);
-
-fn rows_of_two<R: Threads + Wait + Sync>(
+fn cast_tasks<R: Threads + Wait + Sync>(
     rt: &R,
     desk: &Desk<Counting<Word>>,
     tasks: (Task, Task),
-) -> Rows
+) -> (Drawn, Drawn)
     requires many { 4294967296 ≤ allotment (chairs_of desk.now) }
     requires sides { length (start_of desk.now).sides ≡ 2 }
-    requires a { AtDesk desk.now tasks.0.chair × (view tasks.0.chair ≡ fresh (start_of desk.now) tasks.0.session) × (tasks.0.queue ≡ 0) × (tasks.0.numbers.items ≡ []) × (vec_capacity tasks.0.numbers ≡ 25000) }
-    requires b { AtDesk desk.now tasks.1.chair × (view tasks.1.chair ≡ fresh (start_of desk.now) tasks.1.session) × (tasks.1.queue ≡ 1) × (tasks.1.numbers.items ≡ []) × (vec_capacity tasks.1.numbers ≡ 25000) }
+    requires a { AtDesk desk.now tasks.0.chair × (view tasks.0.chair ≡ fresh (start_of desk.now) tasks.0.session) × (tasks.0.queue ≡ 0) × (tasks.0.numbers.items ≡ []) × (vec_capacity tasks.0.numbers ≡ 100000) }
+    requires b { AtDesk desk.now tasks.1.chair × (view tasks.1.chair ≡ fresh (start_of desk.now) tasks.1.session) × (tasks.1.queue ≡ 1) × (tasks.1.numbers.items ≡ []) × (vec_capacity tasks.1.numbers ≡ 100000) }
+    ensures a { AtDesk desk.now result.0.0 × ((view result.0.0).held ≡ []) }
+    ensures b { AtDesk desk.now result.1.0 × ((view result.1.0).held ≡ []) }
 {
     let (a, b) = tasks;
-    let (first, second) = cast_by_two(rt, desk, a, b);
-    let (_, x) = first;
-    let (_, y) = second;
-    (x, y)
+    cast_by_two(rt, desk, a, b)
 }
 
 // Marks each number of a row, counted from 1, and says whether none was marked before.
@@ -358,20 +436,46 @@ fn mark(seen: &mut [bool], numbers: &[u64]) -> bool {
     true
 }
 
+// Marks a thread's numbers, adds its chair to the others, and says whether none was marked before and the front is the last number.
+fn collect(
+    desk: &Desk<Counting<Word>>,
+    chairs: &mut Vec<Chair<Counting<Word>>>,
+    seen: &mut [bool],
+    drawn: Drawn,
+) -> bool
+    requires chair { AtDesk desk.now drawn.0 × ((view drawn.0).held ≡ []) }
+    requires room { vec_len chairs.old < vec_capacity chairs.old }
+    requires all { All (λ ch. AtDesk desk.now ch × ((view ch).held ≡ [])) chairs.old.items }
+    ensures room { (vec_len chairs.new ≡ vec_len chairs.old + 1) × (vec_capacity chairs.new ≡ vec_capacity chairs.old) }
+    ensures all { All (λ ch. AtDesk desk.now ch × ((view ch).held ≡ [])) chairs.new.items }
+{
+    let (mut chair, numbers) = drawn;
+    let front = desk.front(&mut chair);
+    chairs.push_reserved(chair);
+    mark(seen, numbers.as_slice()) && front.0 == 400_000
+}
+
 #[test]
-fn four_threads_draw_each_number_once(rt: HostRuntime) -> Result<(), OutOfMemory> {
+fn four_threads_end_with_the_last_number_as_front(rt: HostRuntime) -> Result<(), OutOfMemory> {
     let (desk, mut chairs) = opened(rt.alloc(), 2, 0, 4)?;
     let one = two_tasks(rt.alloc(), &desk, &mut chairs)?;
     let two = two_tasks(rt.alloc(), &desk, &mut chairs)?;
-    let mut seen = vec![in rt.alloc(); false; 100_000]?;
-    let (first, second) = join(
+    let mut seen = vec![in rt.alloc(); false; 400_000]?;
+    let mut all = Vec::with_capacity(rt.alloc(), 4)?;
+    let ((a, b), (c, d)) = join(
         &rt,
-        || rows_of_two(&rt, &desk, one),
-        || rows_of_two(&rt, &desk, two),
+        || cast_tasks(&rt, &desk, one),
+        || cast_tasks(&rt, &desk, two),
     );
-    for row in [&first.0, &first.1, &second.0, &second.1] {
-        assert!(rt; mark(seen.as_mut_slice(), row.as_slice()));
-    }
+    assert!(rt; collect(&desk, &mut all, seen.as_mut_slice(), a));
+    assert!(rt; collect(&desk, &mut all, seen.as_mut_slice(), b));
+    assert!(rt; collect(&desk, &mut all, seen.as_mut_slice(), c));
+    assert!(rt; collect(&desk, &mut all, seen.as_mut_slice(), d));
     assert!(rt; seen.iter().all(|s| *s));
+    let Ok(parts) = desk.into_parts(rt.alloc(), all) else {
+        return Err(OutOfMemory);
+    };
+    assert_eq!(rt; parts.next.0, 400_000);
+    assert_eq!(rt; parts.sides[0].port.count, 200_000);
     Ok(())
 }

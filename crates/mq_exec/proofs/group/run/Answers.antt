@@ -1,11 +1,15 @@
 use Rattle.std.proofs.lemmas.Result.{IfOk-weaker}
 use Rattle.mq_exec.specs.Outcomes.{Answers, NeedsOf}
 use Rattle.mq_inodes.specs.MissingPages.{OfEach}
-use Rattle.mq_inodes.specs.Pages.{held_pages, pages_of}
-use Rattle.std.proofs.Common.{sym, ◌∙◌}
+use Rattle.mq_inodes.specs.Pages.{changed_of, held_pages, pages_of, view_of}
+use Rattle.std.proofs.Common.{◌≡◌, ℕ, sym, ◌∙◌}
+use Rattle.std.specs.Prelude.{None}
 use Rattle.mq_exec.proofs.Leading.{run-moves}
 use Rattle.mq_exec.proofs.Running.{run-lacks, run-looks, run-more, run-none, run-possible, run-replies}
+use Rattle.mq_exec.proofs.Looking.{run-low}
+use Rattle.mq_exec.proofs.Resting.{differs-freed, differs-rest, differs-written, over-known, run-leads}
 use Rattle.mq_tree.specs.Looks.{Looks}
+use Rattle.mq_tree.specs.Requests.{after_group}
 use Rattle.mq_exec.proofs.group.run.Goals as goal
 
 pub loop-request-init : goal.loop-request-init
@@ -24,6 +28,7 @@ returns-in-Err c =
     (λ outcome is. run-lacks c.args.geometry c.args.queue held (pages_of now) c.args.requests.now c.in-Err.lack outcome (λ b. OfEach now (λ v. Looks now.geometry c.args.queue v r b))
     (λ b none. sym (c.new-working.ensures.pages b) ∙ c.loop-request.invariant.over.known b none)
     (λ b looks. run-looks c.args.geometry c.args.queue held c.new-working.result now c.args.requests.now c.loop-request.request-index r c.loop-request.replies.items b c.new-working.ensures.geometry c.loop-request-test.true c.request-item.is c.loop-request.invariant looks)
+    (λ b looks. run-low c.args.geometry c.args.queue held c.new-working.result now c.args.requests.now c.loop-request.request-index r c.loop-request.replies.items b c.new-working.ensures.geometry c.requires.queue c.look_at_bytes.ensures c.loop-request-test.true c.request-item.is c.loop-request.invariant looks c.requires.possible.0 c.requires.possible.1)
     c.in-Err.ensures.lack is) c.stopped.ensures
 
 pub loop-request-preserved : goal.loop-request-preserved
@@ -32,10 +37,22 @@ loop-request-preserved c =
     c.new-working.ensures.geometry c.requires.queue c.look_at_bytes.ensures c.loop-request-test.true c.request-item.is c.in_ok-push-in-Ok.ensures.items c.in-Ok.ensures.over c.in-Ok.ensures.ok c.loop-request.invariant
 
 pub returns : goal.returns
-returns c v agrees =
+returns c =
     let held = held_pages c.args.view.now.held.now.cells in
-    record {
-      replies = run-replies c.args.geometry c.args.queue v c.new-working.result c.loop-request.working c.args.requests.now c.loop-request.request-index c.loop-request.replies.items c.loop-request-test.false (c.loop-request.invariant.runs v agrees);
-      moves = run-moves c.args.geometry c.args.queue held c.new-working.result c.loop-request.working c.args.requests.now c.loop-request.request-index c.loop-request.replies.items c.in_ok-writes.writes.items c.in_ok-writes.frees.items c.new-working.ensures.geometry c.new-working.ensures.pages c.new-working.ensures.view c.new-working.ensures.kinds
-          c.loop-request-test.false c.loop-request.invariant c.in_ok-writes.ensures.differs c.in_ok-writes.ensures.kinds v agrees;
-    }
+    let now = c.loop-request.working in
+    let same : (b : ℕ) → view_of now b ≡ held b = λ b. c.loop-request.invariant.over.view.pages b ∙ c.new-working.ensures.view b in
+    let known : (b : ℕ) → view_of now b ≡ None → changed_of now b ≡ None = λ b none. over-known c.new-working.result now b (c.new-working.ensures.pages b ∙ sym (same b)) c.loop-request.invariant.over.absent none in (
+      record {
+        written = λ x w none. differs-written (view_of now) (changed_of now) c.in_ok-writes.writes.items c.in_ok-writes.frees.items known c.in_ok-writes.ensures.differs x w (same x.block ∙ none);
+        freed = λ b f none. differs-freed (view_of now) (changed_of now) c.in_ok-writes.writes.items c.in_ok-writes.frees.items c.in_ok-writes.ensures.differs b f (same b ∙ none);
+      },
+      λ v agrees.
+          let leads = run-leads c.args.geometry c.args.queue held c.new-working.result now c.args.requests.now c.loop-request.request-index c.loop-request.replies.items c.new-working.ensures.geometry c.new-working.ensures.pages c.new-working.ensures.view c.loop-request-test.false c.loop-request.invariant v agrees in
+          record {
+            replies = run-replies c.args.geometry c.args.queue v c.new-working.result now c.args.requests.now c.loop-request.request-index c.loop-request.replies.items c.loop-request-test.false (c.loop-request.invariant.runs v agrees);
+            moves = run-moves c.args.geometry c.args.queue held c.new-working.result now c.args.requests.now c.loop-request.request-index c.loop-request.replies.items c.in_ok-writes.writes.items c.in_ok-writes.frees.items c.new-working.ensures.geometry c.new-working.ensures.pages c.new-working.ensures.view c.new-working.ensures.kinds
+                c.loop-request-test.false c.loop-request.invariant c.in_ok-writes.ensures.differs c.in_ok-writes.ensures.kinds v agrees;
+            rest = differs-rest c.args.geometry (view_of now) (changed_of now) v (after_group c.args.geometry c.args.queue v c.args.requests.now) c.in_ok-writes.writes.items c.in_ok-writes.frees.items leads c.in_ok-writes.ensures.differs;
+            sound = leads.after.sound;
+          },
+    )

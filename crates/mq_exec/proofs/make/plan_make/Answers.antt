@@ -16,7 +16,7 @@ use Rattle.mq_inodes.proofs.Lacking.{lacks-each, lacks-weaker}
 use Rattle.mq_layout.specs.Places.{inode_bitmap, inode_block}
 use Rattle.mq_tree.specs.Free.{free_blocks}
 use Rattle.mq_tree.specs.Looks.{LooksAt}
-use Rattle.mq_tree.specs.Requests.{count_names, entry_needs, unused}
+use Rattle.mq_tree.specs.Requests.{entry_needs, unused}
 use Rattle.mq_tree.specs.Volume.{way}
 use Rattle.mq_exec.proofs.make.plan_make.Goals as goal
 
@@ -47,11 +47,10 @@ returns-in_err-inode-clause-lack c =
     let o = c.in_ok-directory.directory in
     let pages = pages_of c.args.working.now in
     let p = err_from_is_err_and c.from_residual-in_err-inode.result c.from_residual-in_err-inode.ensures.1 in
-    let count = c.count.ensures ∙ ap (λ (bs : List ℕ). count_names (slots_at pages bs)) c.deref.ensures.value in
     rw (p.1, p.2) (lacks-each c.args.working.now (λ v b. b ≡ inode_bitmap g) (λ v b. (t : Bool) → LooksAt g c.args.queue v (making t c.args.path.now) b) c.in_err-inode.field-0.0
     (λ v b agrees h t.
     let n = new-name g v w c.in_ok-target.field-0 c.in-In-default-None.directory c.in-In-default-None.found agrees.sound c.in-In-default-None.is c.in-In-default-None.found-is (c.in_ok-target.ensures.ok v agrees) in
-    make-marks g c.args.queue v t c.args.path.now o.number b agrees.sound (ready pages v c.args.path.now o c.in-In-default-None.directory c.count.result n c.in_ok-directory.ensures.number (c.in_ok-directory.ensures.slots v agrees) count c.if-count-ge-NAMES_LIMIT.false c.requires.names) h) c.in_err-inode.ensures.lack)
+    make-marks g c.args.queue v t c.args.path.now o.number b agrees.sound (ready pages v c.args.path.now o c.in-In-default-None.directory c.deref.result.now c.is_full.result n c.in_ok-directory.ensures.number (c.in_ok-directory.ensures.slots v agrees) c.deref.ensures.value c.is_full.ensures c.if-is_full.false c.requires.names) h) c.in_err-inode.ensures.lack)
 
 pub returns-in_err-picks-clause-lack : goal.returns-in_err-picks-clause-lack
 returns-in_err-picks-clause-lack c =
@@ -60,12 +59,11 @@ returns-in_err-picks-clause-lack c =
     let o = c.in_ok-directory.directory in
     let pages = pages_of c.args.working.now in
     let p = err_from_is_err_and c.from_residual-in_err-picks.result c.from_residual-in_err-picks.ensures.1 in
-    let count = c.count.ensures ∙ ap (λ (bs : List ℕ). count_names (slots_at pages bs)) c.deref.ensures.value in
     let need = c.link_need.ensures ∙ ap (λ (bs : List ℕ). entry_needs (length bs) (unused 0 (slots_at pages bs))) c.deref-2.ensures.value in
     rw (p.1, p.2) (lacks-each c.args.working.now (λ v b. IsSearched g c.args.queue v c.link_need.result b) (λ v b. (t : Bool) → LooksAt g c.args.queue v (making t c.args.path.now) b) c.in_err-picks.field-0.0
     (λ v b agrees h t.
     let n = new-name g v w c.in_ok-target.field-0 c.in-In-default-None.directory c.in-In-default-None.found agrees.sound c.in-In-default-None.is c.in-In-default-None.found-is (c.in_ok-target.ensures.ok v agrees) in
-    let r = ready pages v c.args.path.now o c.in-In-default-None.directory c.count.result n c.in_ok-directory.ensures.number (c.in_ok-directory.ensures.slots v agrees) count c.if-count-ge-NAMES_LIMIT.false c.requires.names in
+    let r = ready pages v c.args.path.now o c.in-In-default-None.directory c.deref.result.now c.is_full.result n c.in_ok-directory.ensures.number (c.in_ok-directory.ensures.slots v agrees) c.deref.ensures.value c.is_full.ensures c.if-is_full.false c.requires.names in
     make-searched g c.args.queue v t c.args.path.now o.number c.in-Some.inode c.link_need.result b r (sym (c.in_ok-inode.ensures.ok v agrees) ∙ c.in-Some.is)
     (need-at g pages v o c.in-In-default-None.directory c.link_need.result (c.in_ok-directory.ensures.opened v agrees) c.in_ok-directory.ensures.number (c.in_ok-directory.ensures.slots v agrees) need) h) c.in_err-picks.ensures.lack)
 
@@ -75,10 +73,9 @@ returns-in_default-2-clause-ok c v agrees t =
     let w = way c.args.path.now in
     let o = c.in_ok-directory.directory in
     let pages = pages_of c.args.working.now in
-    let count = c.count.ensures ∙ ap (λ (bs : List ℕ). count_names (slots_at pages bs)) c.deref.ensures.value in
     let need = c.link_need.ensures ∙ ap (λ (bs : List ℕ). entry_needs (length bs) (unused 0 (slots_at pages bs))) c.deref-2.ensures.value in
     let n = new-name g v w c.in_ok-target.field-0 c.in-In-default-None.directory c.in-In-default-None.found agrees.sound c.in-In-default-None.is c.in-In-default-None.found-is (c.in_ok-target.ensures.ok v agrees) in
-    let r = ready pages v c.args.path.now o c.in-In-default-None.directory c.count.result n c.in_ok-directory.ensures.number (c.in_ok-directory.ensures.slots v agrees) count c.if-count-ge-NAMES_LIMIT.false c.requires.names in
+    let r = ready pages v c.args.path.now o c.in-In-default-None.directory c.deref.result.now c.is_full.result n c.in_ok-directory.ensures.number (c.in_ok-directory.ensures.slots v agrees) c.deref.ensures.value c.is_full.ensures c.if-is_full.false c.requires.names in
     let same = need-at g pages v o c.in-In-default-None.directory c.link_need.result (c.in_ok-directory.ensures.opened v agrees) c.in_ok-directory.ensures.number (c.in_ok-directory.ensures.slots v agrees) need in
     make-few g c.args.queue v (empty_body t) c.args.path.now o.number c.in-Some.inode r (sym (c.in_ok-inode.ensures.ok v agrees) ∙ c.in-Some.is) (let few = rw c.in_default-2.is at c.in_ok-picks.ensures.ok v agrees in subst (λ (k : ℕ). free_blocks g v < k) same few)
 
@@ -94,13 +91,12 @@ returns-in_err-look_for_all-clause-lack c =
     let o = c.in_ok-directory.directory in
     let pages = pages_of c.args.working.now in
     let p = err_from_is_err_and c.from_residual-in_err-look_for_all.result c.from_residual-in_err-look_for_all.ensures.1 in
-    let count = c.count.ensures ∙ ap (λ (bs : List ℕ). count_names (slots_at pages bs)) c.deref.ensures.value in
     let need = c.link_need.ensures ∙ ap (λ (bs : List ℕ). entry_needs (length bs) (unused 0 (slots_at pages bs))) c.deref-2.ensures.value in
     let wanted : c.deref-4.result.now ≡ c.in-Some-2.picks.items ++ inode_block g c.in-Some.inode ∷ [] = c.deref-4.ensures.value ∙ c.in_ok-push.ensures.items ∙ ap (λ (bs : List ℕ). bs ++ c.inode_block.result ∷ []) (c.in_ok-wanted.ensures.items ∙ c.deref-3.ensures.value) ∙ ap (λ (x : ℕ). c.in-Some-2.picks.items ++ x ∷ []) c.inode_block.ensures.is in
     rw (p.1, p.2) (lacks-weaker pages (Contains c.deref-4.result.now) (λ b. OfEach c.args.working.now (λ v. (t : Bool) → LooksAt g c.args.queue v (making t c.args.path.now) b)) c.in_err-look_for_all.field-0.0
     (λ b h v agrees t.
     let n = new-name g v w c.in_ok-target.field-0 c.in-In-default-None.directory c.in-In-default-None.found agrees.sound c.in-In-default-None.is c.in-In-default-None.found-is (c.in_ok-target.ensures.ok v agrees) in
-    let r = ready pages v c.args.path.now o c.in-In-default-None.directory c.count.result n c.in_ok-directory.ensures.number (c.in_ok-directory.ensures.slots v agrees) count c.if-count-ge-NAMES_LIMIT.false c.requires.names in
+    let r = ready pages v c.args.path.now o c.in-In-default-None.directory c.deref.result.now c.is_full.result n c.in_ok-directory.ensures.number (c.in_ok-directory.ensures.slots v agrees) c.deref.ensures.value c.is_full.ensures c.if-is_full.false c.requires.names in
     let plan = planned g c.args.queue pages v c.args.path.now (record { directory = o; inode = c.in-Some.inode; picks = c.in-Some-2.picks }) c.in-In-default-None.directory c.link_need.result c.in_ok-inode.field-0 agrees.sound c.requires.queue r c.in_ok-directory.ensures.number
     (c.in_ok-directory.ensures.opened v agrees) (c.in_ok-directory.ensures.slots v agrees) (c.in_ok-inode.ensures.ok v agrees) c.in-Some.is need (rw c.in-Some-2.is at c.in_ok-picks.ensures.ok v agrees) in
     make-wanted g c.args.queue v t c.args.path.now o c.in-Some.inode c.in-Some-2.picks.items b agrees.sound r plan.first plan.link (subst (λ (bs : List ℕ). Contains bs b) wanted h)) c.in_err-look_for_all.ensures.lack)
@@ -111,10 +107,9 @@ returns-clause-ok c v agrees t =
     let w = way c.args.path.now in
     let o = c.in_ok-directory.directory in
     let pages = pages_of c.args.working.now in
-    let count = c.count.ensures ∙ ap (λ (bs : List ℕ). count_names (slots_at pages bs)) c.deref.ensures.value in
     let need = c.link_need.ensures ∙ ap (λ (bs : List ℕ). entry_needs (length bs) (unused 0 (slots_at pages bs))) c.deref-2.ensures.value in
     let n = new-name g v w c.in_ok-target.field-0 c.in-In-default-None.directory c.in-In-default-None.found agrees.sound c.in-In-default-None.is c.in-In-default-None.found-is (c.in_ok-target.ensures.ok v agrees) in
-    let r = ready pages v c.args.path.now o c.in-In-default-None.directory c.count.result n c.in_ok-directory.ensures.number (c.in_ok-directory.ensures.slots v agrees) count c.if-count-ge-NAMES_LIMIT.false c.requires.names in
+    let r = ready pages v c.args.path.now o c.in-In-default-None.directory c.deref.result.now c.is_full.result n c.in_ok-directory.ensures.number (c.in_ok-directory.ensures.slots v agrees) c.deref.ensures.value c.is_full.ensures c.if-is_full.false c.requires.names in
     let m : Making = record { directory = o; inode = c.in-Some.inode; picks = c.in-Some-2.picks } in
     plans-make g c.args.queue v t c.args.path.now m agrees.sound (planned g c.args.queue pages v c.args.path.now m c.in-In-default-None.directory c.link_need.result c.in_ok-inode.field-0 agrees.sound c.requires.queue r c.in_ok-directory.ensures.number
     (c.in_ok-directory.ensures.opened v agrees) (c.in_ok-directory.ensures.slots v agrees) (c.in_ok-inode.ensures.ok v agrees) c.in-Some.is need (rw c.in-Some-2.is at c.in_ok-picks.ensures.ok v agrees))

@@ -1,51 +1,146 @@
-use Rattle.std.proofs.Common.{rules, arith, ◌≡◌, ◌+◌, ◌∷◌, length, ap, sym, subst, refl, ◌∙◌, ℕ, true, false, Some}
+use Rattle.std.proofs.Common.{rules, arith, ◌≡◌, ◌<◌, ◌+◌, ◌∷◌, length, ap, sym, subst, refl, ◌∙◌, ℕ, true, false, Some}
 use Rattle.mq_turns.specs.AtDesk.{view, start_of}
 use Rattle.mq_turns.proofs.Totals.{each_without}
+use Rattle.mq_turns.proofs.Seen.{stands_held}
 use Rattle.mq_turns.specs.Desk.{Stands}
-use Rattle.mq_turns.specs.Lists.{Each, without}
+use Rattle.mq_turns.specs.Lists.{Each, times, without}
+use Rattle.mq_turns.specs.Marks.{claim_of}
+use Rattle.mq_turns.specs.Meaning.{claimed, newest}
 use Rattle.mq_turns.specs.declared.turn.Turn.TheVariants.{Page, Side}
 use Rattle.mq_turns.specs.declared.turn.Item.TheVariants as item
 use Rattle.mq_port_desk.specs.Machine.{ports}
-use Rattle.mq_port_desk.proofs.Writing.{covers, may_now, side_stands, page_stands, was_full}
+use Rattle.mq_port_desk.proofs.Writing.{one_back, both_back, side_now, page_now, held_after, covers, may_now, may_clear, held_cleared, mark_cleared, side_cleared, side_held, page_held, side_stands, page_stands, was_full}
 use Rattle.mq_port_desk.proofs.write.write_block.Goals as goal
 
 pub draw-number-requires-clause-may : goal.draw-number-requires-clause-may
 draw-number-requires-clause-may g c =
+    let o = start_of c.args.desk.now in
+    let q = c.args.entry.queue in
+    let b = c.args.entry.block in
+    let turns = c.requires.turns in
+    let shape = c.requires.shape in
     let one = c.in-Page.ensures.took in
     let two = c.in-Side.ensures.took in
-    let held = ap (λ v. v.held) c.look.ensures.looked.1 ∙ (ap (λ v. v.held) two.1 ∙ ap (λ l. (length (start_of c.args.desk.now).pages + c.args.entry.queue, two.0) ∷ l) (ap (λ v. v.held) one.1 ∙ ap (λ l. (c.args.entry.block, one.0) ∷ l) c.requires.idle)) in
-    covers g.P.Port.state (start_of c.args.desk.now) c.args.entry (view c.look.new.chair) one.0 two.0 c.look.ensures.at.1 held c.requires.shape.0 c.requires.shape.1 c.requires.shape.2
+    let clear = c.clear.ensures.cleared in
+    let held = ap (λ v. v.held) c.look.ensures.looked.1 ∙ (ap (λ v. v.held) two.1 ∙ ap (λ l. (length o.pages + q, two.0) ∷ l) (ap (λ v. v.held) one.1 ∙ ap (λ l. (b, one.0) ∷ l) c.requires.idle)) in
+    let now = held_cleared g.P.Port.state g.P.Port.faults o q b turns.0 turns.1 (view c.look.new.chair) clear.0 one.0 two.0 c.look.ensures.at.1 held clear.2 (view c.clear.new.chair) clear.1 in
+    let L = claimed (claim_of q 1 (newest clear.0)) clear.0 in
+    covers g.P.Port.state g.P.Port.faults o c.args.entry (view c.clear.new.chair) one.0 L c.clear.ensures.at.1 now shape.0 shape.1 shape.2 turns.1
+    (mark_cleared g.P.Port.state g.P.Port.faults o q b turns.0 turns.1 (view c.look.new.chair) clear.0 one.0 two.0 c.look.ensures.at.1 held clear.2)
 
 pub draw-number-requires-clause-room : goal.draw-number-requires-clause-room
 draw-number-requires-clause-room g c =
-    let drew = ap (λ v. length v.drawn) c.look.ensures.looked.1 ∙ (ap (λ v. length v.drawn) c.in-Side.ensures.took.1 ∙ ap (λ v. length v.drawn) c.in-Page.ensures.took.1) in
+    let drew = ap (λ v. length v.drawn) c.clear.ensures.cleared.1 ∙ (ap (λ v. length v.drawn) c.look.ensures.looked.1 ∙ (ap (λ v. length v.drawn) c.in-Side.ensures.took.1 ∙ ap (λ v. length v.drawn) c.in-Page.ensures.took.1)) in
     let room = c.requires.room in
     omega arith
 
 pub give_back-requires-2-clause-stands : goal.give_back-requires-2-clause-stands
 give_back-requires-2-clause-stands g c =
+    let o = start_of c.args.desk.now in
+    let q = c.args.entry.queue in
+    let b = c.args.entry.block in
+    let turns = c.requires.turns in
+    let shape = c.requires.shape in
     let one = c.in-Page.ensures.took in
     let two = c.in-Side.ensures.took in
+    let clear = c.clear.ensures.cleared in
+    let held = ap (λ v. v.held) c.look.ensures.looked.1 ∙ (ap (λ v. v.held) two.1 ∙ ap (λ l. (length o.pages + q, two.0) ∷ l) (ap (λ v. v.held) one.1 ∙ ap (λ l. (b, one.0) ∷ l) c.requires.idle)) in
+    let now = held_cleared g.P.Port.state g.P.Port.faults o q b turns.0 turns.1 (view c.look.new.chair) clear.0 one.0 two.0 c.look.ensures.at.1 held clear.2 (view c.clear.new.chair) clear.1 in
+    let L = claimed (claim_of q 1 (newest clear.0)) clear.0 in
     let d = c.draw-number.ensures.drew in
-    let held = ap (λ v. v.held) c.look.ensures.looked.1 ∙ (ap (λ v. v.held) two.1 ∙ ap (λ l. (length (start_of c.args.desk.now).pages + c.args.entry.queue, two.0) ∷ l) (ap (λ v. v.held) one.1 ∙ ap (λ l. (c.args.entry.block, one.0) ∷ l) c.requires.idle)) in
-    let yes : c.has_room.result ≡ true = search rules in
+    let has : c.has_room.result ≡ true = search rules in
     let limit = c.draw-number.ensures.limit in
     let number = d.2 in
-    let may = may_now g.P.Port.state (start_of c.args.desk.now) c.args.entry (view c.look.new.chair) one.0 two.0 c.look.ensures.at.1 held d.0 d.3 c.requires.turns.0 c.requires.turns.1 c.requires.shape.0 c.requires.shape.1 c.requires.shape.2 (omega arith) in
-    let stands = side_stands g.P.Port.state (start_of c.args.desk.now) c.args.entry (view c.look.new.chair) one.0 two.0 c.look.ensures.at.1 held d.0 d.3 c.requires.turns.0 c.requires.turns.1 may c.in-Side.side two.3 (c.has_room.ensures.room yes) ℕ (length (start_of c.args.desk.now).pages + c.args.entry.queue) refl in
-    let F = λ (l : _). Each (λ h. h.0 ≡ length (start_of c.args.desk.now).pages + c.args.entry.queue → Stands {M = ℕ} (ports g.P.Port.state) (Side c.args.entry.queue) h.1 (item.Side (record c.in-Side.side { end = c.in-Side.side.end + 2; place = c.in-Side.side.place + 2 }))) l in
-    subst F (ap (λ v. v.held) (sym d.1)) stands
+    let may = may_now g.P.Port.state g.P.Port.faults o c.args.entry (view c.clear.new.chair) one.0 L c.clear.ensures.at.1 now d.0 d.3 turns.0 turns.1 shape.0 shape.1 shape.2 (omega arith) in
+    let was = side_cleared g.P.Port.state g.P.Port.faults o q b turns.0 turns.1 (view c.look.new.chair) clear.0 one.0 two.0 c.look.ensures.at.1 held clear.2 c.in-Side.side two.3 in
+    let stands = side_stands g.P.Port.state g.P.Port.faults o c.args.entry (view c.clear.new.chair) one.0 L c.clear.ensures.at.1 now d.0 d.3 turns.0 turns.1 may c.in-Side.side was (c.has_room.ensures.room has) ℕ (length o.pages + q) refl in
+    let F = λ (l : _). Each (λ h. h.0 ≡ length o.pages + q → Stands {M = ℕ} (ports g.P.Port.state g.P.Port.faults) (Side q) h.1 (item.Side (record c.in-Side.side { end = c.in-Side.side.end + 2; place = c.in-Side.side.place + 2 }))) l in
+    let mine = subst (λ v. 0 < times (length o.pages + q) v.held) (sym d.1) (side_held g.P.Port.state g.P.Port.faults o c.args.entry (view c.clear.new.chair) one.0 L c.clear.ensures.at.1 now d.0 d.3 turns.0 turns.1) in
+    stands_held {M = ℕ} (ports g.P.Port.state g.P.Port.faults) o (Side q) (view c.draw-number.new.chair) (item.Side (record c.in-Side.side { end = c.in-Side.side.end + 2; place = c.in-Side.side.place + 2 })) c.draw-number.ensures.at.1 turns.1 mine (subst F (ap (λ v. v.held) (sym d.1)) stands)
 
 pub give_back-requires-3-clause-stands : goal.give_back-requires-3-clause-stands
 give_back-requires-3-clause-stands g c =
+    let o = start_of c.args.desk.now in
+    let q = c.args.entry.queue in
+    let b = c.args.entry.block in
+    let turns = c.requires.turns in
+    let shape = c.requires.shape in
     let one = c.in-Page.ensures.took in
     let two = c.in-Side.ensures.took in
+    let clear = c.clear.ensures.cleared in
+    let held = ap (λ v. v.held) c.look.ensures.looked.1 ∙ (ap (λ v. v.held) two.1 ∙ ap (λ l. (length o.pages + q, two.0) ∷ l) (ap (λ v. v.held) one.1 ∙ ap (λ l. (b, one.0) ∷ l) c.requires.idle)) in
+    let now = held_cleared g.P.Port.state g.P.Port.faults o q b turns.0 turns.1 (view c.look.new.chair) clear.0 one.0 two.0 c.look.ensures.at.1 held clear.2 (view c.clear.new.chair) clear.1 in
+    let L = claimed (claim_of q 1 (newest clear.0)) clear.0 in
     let d = c.draw-number.ensures.drew in
-    let held = ap (λ v. v.held) c.look.ensures.looked.1 ∙ (ap (λ v. v.held) two.1 ∙ ap (λ l. (length (start_of c.args.desk.now).pages + c.args.entry.queue, two.0) ∷ l) (ap (λ v. v.held) one.1 ∙ ap (λ l. (c.args.entry.block, one.0) ∷ l) c.requires.idle)) in
-    let stands = page_stands g.P.Port.state (start_of c.args.desk.now) c.args.entry (view c.look.new.chair) one.0 two.0 c.look.ensures.at.1 held d.0 d.3 c.requires.turns.0 c.requires.turns.1 c.in-Page.page c.draw-number.result d.2 one.3 ℕ c.args.entry.block refl in
-    let P = λ (h : _). h.0 ≡ c.args.entry.block → Stands {M = ℕ} (ports g.P.Port.state) (Page c.args.entry.block) h.1 (item.Page (record c.in-Page.page { content = Some c.args.entry.content; version = c.draw-number.result; last_logged = c.draw-number.result })) in
-    let k = length (start_of c.args.desk.now).pages + c.args.entry.queue in
-    subst (Each P) (sym (ap (λ v. v.held) c.give_back-2.ensures.gave ∙ ap (λ v. without k v.held) d.1)) (each_without P k _ stands)
+    let k = length o.pages + q in
+    let cell = record c.in-Page.page { content = Some c.args.entry.content; version = c.draw-number.result; last_logged = c.draw-number.result } in
+    let stands = page_stands g.P.Port.state g.P.Port.faults o c.args.entry (view c.clear.new.chair) one.0 L c.clear.ensures.at.1 now d.0 d.3 turns.0 turns.1 c.in-Page.page c.draw-number.result d.2 one.3 ℕ b refl in
+    let P = λ (h : _). h.0 ≡ b → Stands {M = ℕ} (ports g.P.Port.state g.P.Port.faults) (Page b) h.1 (item.Page cell) in
+    let left = ap (λ v. v.held) c.give_back-2.ensures.gave ∙ ap (λ v. without k v.held) d.1 in
+    let mine = subst (λ l. 0 < times b l) (sym left) (page_held g.P.Port.state g.P.Port.faults o c.args.entry (view c.clear.new.chair) one.0 L c.clear.ensures.at.1 now d.0 d.3 turns.0 turns.1) in
+    stands_held {M = ℕ} (ports g.P.Port.state g.P.Port.faults) o (Page b) (view c.give_back-2.new.chair) (item.Page cell) c.give_back-2.ensures.at.1 turns.0 mine (subst (Each P) (sym left) (each_without P k _ stands))
+
+pub clear-requires-clause-may : goal.clear-requires-clause-may
+clear-requires-clause-may g c = may_clear g.P.Port.state g.P.Port.faults c.args.entry.queue (view c.look.new.chair)
+
+pub give_back-requires-clause-stands : goal.give_back-requires-clause-stands
+give_back-requires-clause-stands g c = λ K sees.
+    let o = start_of c.args.desk.now in
+    let q = c.args.entry.queue in
+    let b = c.args.entry.block in
+    let turns = c.requires.turns in
+    let shape = c.requires.shape in
+    let one = c.in-Page.ensures.took in
+    let two = c.in-Side.ensures.took in
+    let both = ap (λ v. v.held) two.1 ∙ ap (λ l. (length o.pages + q, two.0) ∷ l) (ap (λ v. v.held) one.1 ∙ ap (λ l. (b, one.0) ∷ l) c.requires.idle) in
+    side_now g.P.Port.state g.P.Port.faults o q b turns.0 turns.1 (view c.take-2.new.chair) K one.0 two.0 c.in-Side.ensures.at.1 both sees c.in-Side.side two.3
+
+pub give_back-requires-then-not-has_room-clause-stands : goal.give_back-requires-then-not-has_room-clause-stands
+give_back-requires-then-not-has_room-clause-stands g c = λ K sees.
+    let o = start_of c.args.desk.now in
+    let q = c.args.entry.queue in
+    let b = c.args.entry.block in
+    let turns = c.requires.turns in
+    let shape = c.requires.shape in
+    let one = c.in-Page.ensures.took in
+    let two = c.in-Side.ensures.took in
+    let both = ap (λ v. v.held) two.1 ∙ ap (λ l. (length o.pages + q, two.0) ∷ l) (ap (λ v. v.held) one.1 ∙ ap (λ l. (b, one.0) ∷ l) c.requires.idle) in
+    let left = ap (λ v. v.held) c.give_back.ensures.gave ∙ one_back (length o.pages + q) b two.0 one.0 _ (omega arith) both in
+    page_now g.P.Port.state g.P.Port.faults o b (view c.give_back.new.chair) K one.0 c.in-Page.page turns.0 c.give_back.ensures.at.1 left sees one.3
+
+pub give_back-requires-3-clause-holds : goal.give_back-requires-3-clause-holds
+give_back-requires-3-clause-holds g c =
+    let o = start_of c.args.desk.now in
+    let q = c.args.entry.queue in
+    let b = c.args.entry.block in
+    let turns = c.requires.turns in
+    let shape = c.requires.shape in
+    let one = c.in-Page.ensures.took in
+    let two = c.in-Side.ensures.took in
+    let clear = c.clear.ensures.cleared in
+    let held = ap (λ v. v.held) c.look.ensures.looked.1 ∙ (ap (λ v. v.held) two.1 ∙ ap (λ l. (length o.pages + q, two.0) ∷ l) (ap (λ v. v.held) one.1 ∙ ap (λ l. (b, one.0) ∷ l) c.requires.idle)) in
+    let now = held_cleared g.P.Port.state g.P.Port.faults o q b turns.0 turns.1 (view c.look.new.chair) clear.0 one.0 two.0 c.look.ensures.at.1 held clear.2 (view c.clear.new.chair) clear.1 in
+    let L = claimed (claim_of q 1 (newest clear.0)) clear.0 in
+    let d = c.draw-number.ensures.drew in
+    let left = ap (λ v. v.held) c.give_back-2.ensures.gave ∙ ap (λ v. without (length o.pages + q) v.held) d.1 in
+    subst (λ l. 0 < times b l) (sym left) (page_held g.P.Port.state g.P.Port.faults o c.args.entry (view c.clear.new.chair) one.0 L c.clear.ensures.at.1 now d.0 d.3 turns.0 turns.1)
+
+pub returns-clause-idle : goal.returns-clause-idle
+returns-clause-idle g c =
+    let o = start_of c.args.desk.now in
+    let q = c.args.entry.queue in
+    let b = c.args.entry.block in
+    let turns = c.requires.turns in
+    let shape = c.requires.shape in
+    let one = c.in-Page.ensures.took in
+    let two = c.in-Side.ensures.took in
+    let clear = c.clear.ensures.cleared in
+    let held = ap (λ v. v.held) c.look.ensures.looked.1 ∙ (ap (λ v. v.held) two.1 ∙ ap (λ l. (length o.pages + q, two.0) ∷ l) (ap (λ v. v.held) one.1 ∙ ap (λ l. (b, one.0) ∷ l) c.requires.idle)) in
+    let now = held_cleared g.P.Port.state g.P.Port.faults o q b turns.0 turns.1 (view c.look.new.chair) clear.0 one.0 two.0 c.look.ensures.at.1 held clear.2 (view c.clear.new.chair) clear.1 in
+    let L = claimed (claim_of q 1 (newest clear.0)) clear.0 in
+    let d = c.draw-number.ensures.drew in
+    let drawn_now = ap (λ v. v.held) d.1 ∙ held_after g.P.Port.state g.P.Port.faults o c.args.entry (view c.clear.new.chair) one.0 L c.clear.ensures.at.1 now d.0 d.3 turns.0 turns.1 in
+    ap (λ v. v.held) c.give_back-3.ensures.gave ∙ (ap (λ v. without b v.held) c.give_back-2.ensures.gave ∙ both_back (length o.pages + q) b _ _ _ (omega arith) drawn_now)
 
 pub returns-then-not-has_room-clause-none : goal.returns-then-not-has_room-clause-none
 returns-then-not-has_room-clause-none g c =
@@ -53,4 +148,4 @@ returns-then-not-has_room-clause-none g c =
     let two = c.in-Side.ensures.took in
     let no : c.has_room.result ≡ false = search rules in
     let drawn = ap (λ v. v.drawn) c.give_back-then-not-has_room.ensures.gave ∙ (ap (λ v. v.drawn) c.give_back.ensures.gave ∙ (ap (λ v. v.drawn) two.1 ∙ ap (λ v. v.drawn) one.1)) in
-    (drawn, was_full g.P.Port.state c.args.entry.queue c.args.entry.block one.0 two.0 _ _ c.in-Side.side one.1 two.2 two.3 (c.has_room.ensures.full no))
+    (drawn, was_full g.P.Port.state g.P.Port.faults c.args.entry.queue c.args.entry.block one.0 two.0 _ _ c.in-Side.side one.1 two.2 two.3 (c.has_room.ensures.full no))

@@ -4,7 +4,7 @@ use Rattle.mq_recover.specs.Drives.{states, view_over}
 use Rattle.mq_recover.specs.RecoverHomes.{writes_from}
 use Rattle.mq_recover.specs.declared.copies.CopyPlace.{CopyPlace}
 use Rattle.mq_recover.specs.declared.plan.Plan.{Plan}
-use Rattle.mq_recover.proofs.Images.{err-exact, read-reaches, reaches-refused}
+use Rattle.mq_recover.proofs.Images.{err-exact, image-refused, read-readable}
 use Rattle.mq_recover.proofs.Plans.{plan-of, found-within}
 use Rattle.mq_recover.proofs.plan.make_plan.Goals as goal
 
@@ -28,5 +28,6 @@ returns-clause-ok g c =
 
 pub returns-clause-exact : goal.returns-clause-exact
 returns-clause-exact g c e refuses =
+    let d = states g.P.Port.state c.args.ports.now.queues.items c.args.ports.now.root in
     let is = c.in_ok-found.ensures.ok in
-    absurd (reaches-refused c.args.geometry (states g.P.Port.state c.args.ports.now.queues.items c.args.ports.now.root) is.ds e (read-reaches _ _ _ _ is.read) refuses)
+    absurd (image-refused c.args.geometry d e (read-readable c.args.geometry d is.ds _ is.read) refuses)

@@ -4,14 +4,24 @@ use Rattle.std.proofs.lemmas.Result.{err_from_is_err_and}
 use Rattle.mq_recover.specs.Drives.{DriveState, states}
 use Rattle.mq_recover.specs.Steps.{IsCutShort}
 use Rattle.mq_recover.specs.declared.refusal.RecoverRefusal.TheVariants.{Off}
-use Rattle.mq_recover.proofs.Recoveries.{writes-below, all-home, root-alone, base-low, cut-homes, cut-raise, cut-left, done-left, on-drive}
+use Rattle.mq_recover.proofs.Images.{memory-alone, read-readable}
+use Rattle.mq_recover.proofs.Recoveries.{writes-below, all-home, root-alone, base-low, cut-homes, cut-raise, cut-left, done-left, on-drive, unless-image}
 use Rattle.mq_recover.proofs.RecoverRows.{IsRaisedRow, IsHandedBack, row-moves, row-cut, row-done, row-off}
 use Rattle.mq_recover.proofs.ports.recover.Goals as goal
+
+pub returns-in_err-plan-clause-complete : goal.returns-in_err-plan-clause-complete
+returns-in_err-plan-clause-complete g c image =
+    let p = err_from_is_err_and c.from_residual.result c.from_residual.ensures.1 in
+    rw (p.1, p.2) (memory-alone c.args.geometry (states g.P.Port.state c.args.ports.now.queues.items c.args.ports.now.root) c.in_err-plan.field-0.0 c.in_err-plan.ensures.refused image)
 
 pub write_homes-requires-clause-below : goal.write_homes-requires-clause-below
 write_homes-requires-clause-below g c =
     let plan = c.in_ok-plan.ensures.ok in
     writes-below c.args.geometry (states g.P.Port.state c.args.ports.now.queues.items c.args.ports.now.root) plan.ds c.in_ok-plan.plan.writes.items plan.writes
+
+pub returns-in_err-write_homes-clause-readable : goal.returns-in_err-write_homes-clause-readable
+returns-in_err-write_homes-clause-readable g c =
+    unless-image c.args.geometry (states g.P.Port.state c.args.ports.now.queues.items c.args.ports.now.root) c.in_ok-plan.plan c.from_residual-in_err-write_homes.result c.in_ok-plan.ensures.ok
 
 pub returns-in_err-write_homes-clause-drive : goal.returns-in_err-write_homes-clause-drive
 returns-in_err-write_homes-clause-drive g c =
@@ -63,6 +73,10 @@ raise_base-requires-clause-low g c =
     let home = all-home c.args.geometry s n c.in_ok-plan.plan c.requires c.in_ok-plan.ensures.ok c.in_ok-write_homes.ensures.ok in
     base-low c.args.geometry s n c.in_ok-plan.plan c.in_ok-plan.ensures.ok home
 
+pub returns-in_err-raise_base-clause-readable : goal.returns-in_err-raise_base-clause-readable
+returns-in_err-raise_base-clause-readable g c =
+    unless-image c.args.geometry (states g.P.Port.state c.args.ports.now.queues.items c.args.ports.now.root) c.in_ok-plan.plan c.from_residual-in_err-raise_base.result c.in_ok-plan.ensures.ok
+
 pub returns-in_err-raise_base-clause-drive : goal.returns-in_err-raise_base-clause-drive
 returns-in_err-raise_base-clause-drive g c =
     let state = g.P.Port.state in
@@ -92,6 +106,10 @@ move_heads-requires g c =
     let root = c.raise_base.new.root in
     let row : IsRaisedRow state c.args.geometry s c.in_ok-plan.plan xs old root = record { still = c.requires; planned = c.in_ok-plan.ensures.ok; home = c.in_ok-write_homes.ensures.ok; raised = c.in_ok-raise_base.ensures.ok } in
     row-moves state c.args.geometry s c.in_ok-plan.plan xs c.deref_mut.result.now old root row c.deref_mut.ensures.value
+
+pub returns-in_err-move_heads-clause-readable : goal.returns-in_err-move_heads-clause-readable
+returns-in_err-move_heads-clause-readable g c =
+    unless-image c.args.geometry (states g.P.Port.state c.args.ports.now.queues.items c.args.ports.now.root) c.in_ok-plan.plan c.from_residual-in_err-move_heads.result c.in_ok-plan.ensures.ok
 
 pub returns-in_err-move_heads-clause-drive : goal.returns-in_err-move_heads-clause-drive
 returns-in_err-move_heads-clause-drive g c =
@@ -143,6 +161,11 @@ returns-clause-ok g c =
     let row : IsRaisedRow state c.args.geometry s c.in_ok-plan.plan xs old root = record { still = c.requires; planned = c.in_ok-plan.ensures.ok; home = c.in_ok-write_homes.ensures.ok; raised = c.in_ok-raise_base.ensures.ok } in
     let handed : IsHandedBack len xs c.deref_mut.result.now ys = record { len_is = c.write_homes.new.ports.queues.ok.0; same = c.deref_mut.ensures.value; long = c.move_heads.auto.queues } in
     row-done state c.args.geometry s c.in_ok-plan.plan xs c.deref_mut.result.now ys old root len row handed c.in_ok-move_heads.ensures.ok
+
+pub returns-clause-readable : goal.returns-clause-readable
+returns-clause-readable g c =
+    let plan = c.in_ok-plan.ensures.ok in
+    read-readable c.args.geometry (states g.P.Port.state c.args.ports.now.queues.items c.args.ports.now.root) plan.ds c.in_ok-plan.plan.recovered.base plan.read
 
 pub returns-clause-bounds : goal.returns-clause-bounds
 returns-clause-bounds g c =

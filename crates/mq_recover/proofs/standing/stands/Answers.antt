@@ -4,7 +4,7 @@ use Rattle.mq_recover.specs.Drives.{states}
 use Rattle.mq_recover.specs.Standing.{newest_of}
 use Rattle.mq_recover.specs.declared.copies.CopyPlace.{CopyPlace}
 use Rattle.mq_recover.specs.declared.standing.Standing.{Standing}
-use Rattle.mq_recover.proofs.Images.{err-exact, read-reaches, reaches-refused}
+use Rattle.mq_recover.proofs.Images.{err-exact, memory-alone, image-refused, read-readable}
 use Rattle.mq_recover.proofs.Plans.{found-within}
 use Rattle.mq_recover.proofs.RecoverChains.{base-of}
 use Rattle.mq_recover.proofs.Standings.{standing-of}
@@ -21,6 +21,11 @@ returns-in_err-found-clause-exact g c e refuses =
     let p = err_from_is_err_and c.from_residual.result c.from_residual.ensures.1 in
     rw (p.1, p.2) (err-exact Standing c.args.geometry (states g.P.Port.state c.args.ports.now.queues.items c.args.ports.now.root) c.in_err-found.field-0.0 e c.in_err-found.ensures.refused refuses)
 
+pub returns-in_err-found-clause-complete : goal.returns-in_err-found-clause-complete
+returns-in_err-found-clause-complete g c image =
+    let p = err_from_is_err_and c.from_residual.result c.from_residual.ensures.1 in
+    rw (p.1, p.2) (memory-alone c.args.geometry (states g.P.Port.state c.args.ports.now.queues.items c.args.ports.now.root) c.in_err-found.field-0.0 c.in_err-found.ensures.refused image)
+
 pub returns-clause-ok : goal.returns-clause-ok
 returns-clause-ok g c =
     let d = states g.P.Port.state c.args.ports.now.queues.items c.args.ports.now.root in
@@ -31,5 +36,11 @@ returns-clause-ok g c =
 
 pub returns-clause-exact : goal.returns-clause-exact
 returns-clause-exact g c e refuses =
+    let d = states g.P.Port.state c.args.ports.now.queues.items c.args.ports.now.root in
     let is = c.in_ok-found.ensures.ok in
-    absurd (reaches-refused c.args.geometry (states g.P.Port.state c.args.ports.now.queues.items c.args.ports.now.root) is.ds e (read-reaches _ _ _ _ is.read) refuses)
+    absurd (image-refused c.args.geometry d e (read-readable c.args.geometry d is.ds _ is.read) refuses)
+
+pub returns-clause-readable : goal.returns-clause-readable
+returns-clause-readable g c =
+    let is = c.in_ok-found.ensures.ok in
+    read-readable c.args.geometry (states g.P.Port.state c.args.ports.now.queues.items c.args.ports.now.root) is.ds _ is.read

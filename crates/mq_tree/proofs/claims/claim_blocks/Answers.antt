@@ -19,7 +19,7 @@ claim-requires c =
 
 pub returns-then-claim-clause-cause : goal.returns-then-claim-clause-cause
 returns-then-claim-clause-cause c =
-    refuses-at _ _ Shared _ _ c.corrupt.ensures (claims-shared_part c.args.geometry c.args.blocks.now c.loop-place.seen.items c.loop-i.i c.loop-place.place c.pointer_at-b.result _ c.claim.result c.loop-place.invariant (inode-seen _ _ c.args.inodes.now c.loop-i.i _ c.requires.inodes c.loop-i-test.true)
+    refuses-at _ _ Shared _ _ c.corrupt.ensures (claims-shared_part c.args.geometry c.args.blocks.now c.loop-place.seen.items c.loop-i.i c.loop-place.place c.pointer_at-b.result _ c.claim.result c.loop-place.invariant c.requires.pointers (inode-seen _ _ c.args.inodes.now c.loop-i.i _ c.requires.inodes c.loop-i-test.true)
     (inode-low c.args.geometry c.args.blocks.now c.args.inodes.now c.loop-i.i c.requires.inodes c.loop-i-test.true) (let t = c.loop-place-test.true in let e = c.block_count-count.ensures.is in omega arith) c.pointer_at-b.ensures c.claim.ensures.was c.if-claim.true)
 
 pub loop-place-preserved : goal.loop-place-preserved
@@ -33,7 +33,7 @@ claim-requires-then-count-gt-DIRECT c =
 
 pub returns-then-claim-2-clause-cause : goal.returns-then-claim-2-clause-cause
 returns-then-claim-2-clause-cause c =
-    refuses-at _ _ Shared _ _ c.corrupt-then-claim-2.ensures (claims-shared_pointers c.args.geometry c.args.blocks.now c.loop-place.seen.items c.loop-i.i c.loop-place.place _ _ c.claim-then-count-gt-DIRECT.result c.loop-place.invariant (inode-seen _ _ c.args.inodes.now c.loop-i.i _ c.requires.inodes c.loop-i-test.true)
+    refuses-at _ _ Shared _ _ c.corrupt-then-claim-2.ensures (claims-shared_pointers c.args.geometry c.args.blocks.now c.loop-place.seen.items c.loop-i.i c.loop-place.place _ _ c.claim-then-count-gt-DIRECT.result c.loop-place.invariant c.requires.pointers (inode-seen _ _ c.args.inodes.now c.loop-i.i _ c.requires.inodes c.loop-i-test.true)
     (inode-low c.args.geometry c.args.blocks.now c.args.inodes.now c.loop-i.i c.requires.inodes c.loop-i-test.true) (let t = c.loop-place-test.false in let u = c.loop-place.auto.place-end in let e = c.block_count-count.ensures.is in omega arith)
     (let t = c.loop-place-test.false in let u = c.if-count-gt-DIRECT.true in omega arith) refl c.claim-then-count-gt-DIRECT.ensures.was c.if-claim-2.true)
 

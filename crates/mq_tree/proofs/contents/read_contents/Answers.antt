@@ -15,7 +15,7 @@ read_content-requires-clause-dir c = dir-seen c.args.geometry c.args.blocks.now 
 pub returns-in_err-content-clause-cause : goal.returns-in_err-content-clause-cause
 returns-in_err-content-clause-cause c =
     let p = err_from_is_err_and c.from_residual-in_err-content.result c.from_residual-in_err-content.ensures.1 in
-    rw (p.1, p.2) (twin-found c.args.geometry c.args.blocks.now c.loop-i.i _ _ (inode-seen _ _ c.args.inodes.now c.loop-i.i _ c.requires.inodes c.loop-i-test.true) (inode-low c.args.geometry c.args.blocks.now c.args.inodes.now c.loop-i.i c.requires.inodes c.loop-i-test.true) c.in_err-content.ensures.cause)
+    rw (p.1, p.2) (twin-found c.args.geometry c.args.blocks.now c.loop-i.i _ _ c.requires.table c.requires.pointers (inode-seen _ _ c.args.inodes.now c.loop-i.i _ c.requires.inodes c.loop-i-test.true) (inode-low c.args.geometry c.args.blocks.now c.args.inodes.now c.loop-i.i c.requires.inodes c.loop-i-test.true) c.in_err-content.ensures.cause)
 
 pub loop-i-preserved : goal.loop-i-preserved
 loop-i-preserved c =

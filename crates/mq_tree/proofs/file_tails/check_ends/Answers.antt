@@ -8,7 +8,7 @@ bad_end-requires-clause-form c = inode-form c.args.geometry c.args.blocks.now c.
 
 pub returns-in-Some-clause-cause : goal.returns-in-Some-clause-cause
 returns-in-Some-clause-cause c =
-    refuses-at _ _ Tail _ _ c.corrupt.ensures (tail-found c.args.geometry c.args.blocks.now c.loop-i.i c.in-Some.b _ (inode-seen _ _ c.args.inodes.now c.loop-i.i _ c.requires.inodes c.loop-i-test.true) (inode-low c.args.geometry c.args.blocks.now c.args.inodes.now c.loop-i.i c.requires.inodes c.loop-i-test.true) c.in-Some.ensures)
+    refuses-at _ _ Tail _ _ c.corrupt.ensures (tail-found c.args.geometry c.args.blocks.now c.loop-i.i c.in-Some.b _ c.requires.pointers (inode-seen _ _ c.args.inodes.now c.loop-i.i _ c.requires.inodes c.loop-i-test.true) (inode-low c.args.geometry c.args.blocks.now c.args.inodes.now c.loop-i.i c.requires.inodes c.loop-i-test.true) c.in-Some.ensures)
 
 pub loop-i-preserved : goal.loop-i-preserved
 loop-i-preserved c = ended-more c.args.geometry c.args.blocks.now c.loop-i.i _ c.loop-i.invariant (inode-seen _ _ c.args.inodes.now c.loop-i.i _ c.requires.inodes c.loop-i-test.true) c.in_default.ensures

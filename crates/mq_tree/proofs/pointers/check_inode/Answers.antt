@@ -15,7 +15,7 @@ returns-then-not-is_right-clause-cause c =
 
 pub returns-then-not-are_far-clause-cause : goal.returns-then-not-are_far-clause-cause
 returns-then-not-are_far-clause-cause c =
-    refuses-at _ _ Pointer _ _ c.corrupt-then-not-are_far.ensures (far-found _ _ c.args.i c.args.inode.now.indirect c.args.inode.now c.block_count-count.result c.requires.is c.block_count-count.ensures.is c.requires.low refl c.if-count-gt-DIRECT.true c.if-not-are_far.ensures)
+    refuses-at _ _ Pointer _ _ c.corrupt-then-not-are_far.ensures (far-found _ _ c.args.i c.args.inode.now.indirect c.args.inode.now c.block_count-count.result c.requires.is c.block_count-count.ensures.is c.requires.low refl c.if-count-gt-DIRECT.true c.if-not-is_right.ensures c.if-not-are_far.ensures)
 
 pub returns-clause-ok : goal.returns-clause-ok
 returns-clause-ok c =

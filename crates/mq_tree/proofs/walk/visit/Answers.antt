@@ -44,19 +44,22 @@ find-requires c =
     visit-inside c.args.geometry c.args.blocks.now c.loop-k.walk.seen.items c.loop-k.walk.order.items c.args.done c.loop-k.k c.index.result.now _ _ c.requires.named c.loop-k.invariant (inode-low c.args.geometry c.args.blocks.now c.args.inodes.now c.index.result.now c.requires.inodes low)
     (inode-seen _ _ c.args.inodes.now c.index.result.now _ c.requires.inodes low) c.if-inode-ne-DIRECTORY.false (let t = c.loop-k-test.true in let e = c.block_count-k-end.ensures.is in omega arith) c.in-Some.ensures
 
-pub pointer_at-b-requires-clause-form : goal.pointer_at-b-requires-clause-form
-pointer_at-b-requires-clause-form c =
+pub inode_block-requires : goal.inode_block-requires
+inode_block-requires c =
     let i = c.loop-k.invariant in
     let low = visit-low c.args.geometry c.args.blocks.now c.args.inodes.now _ _ _ c.args.done c.loop-k.k c.index.result.now i.0 i.1 i.2 c.requires.inodes in
-    inode-form c.args.geometry c.args.blocks.now c.args.inodes.now c.index.result.now _ c.requires.inodes low c.requires.table
+    let inside = visit-inside c.args.geometry c.args.blocks.now c.loop-k.walk.seen.items c.loop-k.walk.order.items c.args.done c.loop-k.k c.index.result.now _ _ c.requires.named c.loop-k.invariant (inode-low c.args.geometry c.args.blocks.now c.args.inodes.now c.index.result.now c.requires.inodes low)
+    (inode-seen _ _ c.args.inodes.now c.index.result.now _ c.requires.inodes low) c.if-inode-ne-DIRECTORY.false (let t = c.loop-k-test.true in let e = c.block_count-k-end.ensures.is in omega arith) c.in-Some.ensures in
+    let size = i.0.listing.size in
+    omega arith
 
 pub returns-then-not-branch-clause-cause : goal.returns-then-not-branch-clause-cause
 returns-then-not-branch-clause-cause c =
     let i = c.loop-k.invariant in
     let low = visit-low c.args.geometry c.args.blocks.now c.args.inodes.now _ _ _ c.args.done c.loop-k.k c.index.result.now i.0 i.1 i.2 c.requires.inodes in
-    refuses-at _ _ Shared _ _ c.corrupt.ensures (visit-shared c.args.geometry c.args.blocks.now c.loop-k.walk.seen.items _ c.loop-k.walk.order.items _ c.args.done c.loop-k.k c.index.result.now c.pointer_at-b.result _ _ c.in_ok-find.field-0 c.requires.named c.loop-k.invariant
+    refuses-at _ _ Shared _ _ c.corrupt.ensures (visit-shared c.args.geometry c.args.blocks.now c.loop-k.walk.seen.items _ c.loop-k.walk.order.items _ c.args.done c.loop-k.k c.index.result.now c.b.inside.0 _ _ c.in_ok-find.field-0 c.requires.table c.requires.pointers c.requires.named c.loop-k.invariant
     (inode-low c.args.geometry c.args.blocks.now c.args.inodes.now c.index.result.now c.requires.inodes low) (inode-seen _ _ c.args.inodes.now c.index.result.now _ c.requires.inodes low) c.if-inode-ne-DIRECTORY.false (let t = c.loop-k-test.true in let e = c.block_count-k-end.ensures.is in omega arith)
-    c.in-Some.ensures c.in_ok-find.ensures c.if-not-branch.true c.pointer_at-b.ensures)
+    c.in-Some.ensures c.in_ok-find.ensures c.if-not-branch.true (c.b.view_is ∙ c.inode_block.ensures.is))
 
 pub loop-k-preserved : goal.loop-k-preserved
 loop-k-preserved c =

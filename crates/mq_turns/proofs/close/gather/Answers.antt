@@ -1,7 +1,7 @@
-use Rattle.std.proofs.Common.{arith, ap, ◌∙◌, ◌≡◌, ◌++◌, map, []}
-use Rattle.mq_turns.specs.Desk.{drawn_of, read_of, IsInOrder}
+use Rattle.std.proofs.Common.{arith, ap, ◌∙◌, ◌≡◌, ◌≤◌, ◌++◌, map, []}
+use Rattle.mq_turns.specs.Desk.{drawn_of, read_of, charged_of, IsInOrder}
 use Rattle.mq_turns.proofs.Order.{order_before}
-use Rattle.mq_turns.proofs.Ending.{all_last, parts_last, parts_of, drawn_moves, read_moves, each_last}
+use Rattle.mq_turns.proofs.Ending.{all_last, parts_last, parts_of, drawn_moves, read_moves, charged_moves, each_last}
 use Rattle.mq_turns.proofs.close.gather.Goals as goal
 
 pub count-requires : goal.count-requires
@@ -29,5 +29,7 @@ returns g c =
         c.join_all.ensures.all.0 ∙ (ap (λ m. m.0.drawn ++ drawn_of (map (λ ch. ch.place.me.0) c.pop.new.self.items)) now ∙ drawn_moves (λ ch. ch.place.me.0) _ _ _ [] c.in-Some.ensures.items),
         c.join_all.ensures.all.1 ∙ (ap (λ m. m.0.read ++ read_of (map (λ ch. ch.place.me.0) c.pop.new.self.items)) now ∙ read_moves (λ ch. ch.place.me.0) _ _ _ [] c.in-Some.ensures.items),
       );
+      charged = c.join_all.ensures.charged ∙ (ap (λ m. m.0.reading.charged ++ charged_of (map (λ ch. ch.place.me.0) c.pop.new.self.items)) now ∙ charged_moves (λ ch. ch.place.me.0) _ _ _ [] c.in-Some.ensures.items);
+      done = let same = ap (λ m. m.0.reading.done) now in let le = c.join_all.ensures.done.0 in each_last (λ (ch : _). ch.place.me.0) (λ v. v.reading.done ≤ c.join_all.new.place.me.0.reading.done) _ _ _ c.in-Some.ensures.items (omega arith) c.join_all.ensures.done.1;
       order = each_last (λ (ch : _). ch.place.me.0) (IsInOrder g.M.Machine.meaning) _ _ _ c.in-Some.ensures.items mine c.join_all.ensures.order;
     }

@@ -1,8 +1,8 @@
-use Rattle.std.proofs.Common.{rules, arith, ap, ◌∙◌, ◌≡◌, ◌++◌, map, []}
-use Rattle.mq_turns.specs.Desk.{drawn_of, read_of, joined, IsInOrder}
+use Rattle.std.proofs.Common.{rules, arith, ap, ◌∙◌, ◌≡◌, ◌≤◌, ◌++◌, map, []}
+use Rattle.mq_turns.specs.Desk.{drawn_of, read_of, charged_of, joined, IsInOrder}
 use Rattle.mq_turns.proofs.Seats.{glues}
 use Rattle.mq_turns.proofs.Order.{order_before}
-use Rattle.mq_turns.proofs.Ending.{all_last, parts_last, drawn_moves, read_moves, each_last}
+use Rattle.mq_turns.proofs.Ending.{all_last, parts_last, drawn_moves, read_moves, charged_moves, each_last}
 use Rattle.mq_turns.proofs.close.join_all.Goals as goal
 
 pub count-requires : goal.count-requires
@@ -38,5 +38,7 @@ loop-other-preserved g c =
       order = λ all. i.order (each_last (λ (ch : _). ch.place.me.0) (IsInOrder g.M.Machine.meaning) _ _ _ c.in-Some.ensures.items mine all);
       parts = omega (arith, p, parts_now, parts_was);
       drawn = ap (λ m. m.0.drawn ++ drawn_of (map (λ ch. ch.place.me.0) c.pop.new.self.items)) now ∙ (drawn_moves (λ ch. ch.place.me.0) _ _ _ _ c.in-Some.ensures.items ∙ i.drawn);
+      charged = ap (λ m. m.0.reading.charged ++ charged_of (map (λ ch. ch.place.me.0) c.pop.new.self.items)) now ∙ (charged_moves (λ ch. ch.place.me.0) _ _ _ _ c.in-Some.ensures.items ∙ i.charged);
+      done = λ n le all. let both = ap (λ m. m.0.reading.done) now in i.done n (omega arith) (each_last (λ (ch : _). ch.place.me.0) (λ v. v.reading.done ≤ n) _ _ _ c.in-Some.ensures.items (omega arith) all);
       read = ap (λ m. m.0.read ++ read_of (map (λ ch. ch.place.me.0) c.pop.new.self.items)) now ∙ (read_moves (λ ch. ch.place.me.0) _ _ _ _ c.in-Some.ensures.items ∙ i.read);
     }

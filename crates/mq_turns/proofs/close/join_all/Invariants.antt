@@ -1,7 +1,7 @@
-use Rattle.std.proofs.Common.{◌≡◌, ◌+◌, ◌<◌, ◌++◌, [], map, vec_len}
+use Rattle.std.proofs.Common.{◌≡◌, ℕ, ◌+◌, ◌<◌, ◌≤◌, ◌++◌, [], map, vec_len}
 use Rattle.std.specs.Prelude.{All}
 use Rattle.mq_turns.specs.Lists.{Each, total}
-use Rattle.mq_turns.specs.Desk.{drawn_of, read_of, IsInOrder}
+use Rattle.mq_turns.specs.Desk.{drawn_of, read_of, charged_of, IsInOrder}
 use Rattle.mq_turns.specs.AtDesk.{view}
 use Rattle.mq_turns.proofs.close.join_all.Given as goal
 
@@ -12,6 +12,8 @@ invariant-loop-other g l = record {
   order : Each (IsInOrder g.M.Machine.meaning) (map (λ ch. view ch) l.chairs.items) → Each (IsInOrder g.M.Machine.meaning) (map (λ ch. view ch) l.initial.chairs.items);
   parts : l.place.me.0.parts + total (λ v. v.parts) (map (λ ch. view ch) l.chairs.items) ≡ l.initial.place.me.0.parts + total (λ v. v.parts) (map (λ ch. view ch) l.initial.chairs.items);
   drawn : l.place.me.0.drawn ++ drawn_of (map (λ ch. view ch) l.chairs.items) ≡ l.initial.place.me.0.drawn ++ drawn_of (map (λ ch. view ch) l.initial.chairs.items);
+  charged : l.place.me.0.reading.charged ++ charged_of (map (λ ch. view ch) l.chairs.items) ≡ l.initial.place.me.0.reading.charged ++ charged_of (map (λ ch. view ch) l.initial.chairs.items);
+  done : (n : ℕ) → l.place.me.0.reading.done ≤ n → Each (λ v. v.reading.done ≤ n) (map (λ ch. view ch) l.chairs.items) → (l.initial.place.me.0.reading.done ≤ n) × Each (λ v. v.reading.done ≤ n) (map (λ ch. view ch) l.initial.chairs.items);
   read : l.place.me.0.read ++ read_of (map (λ ch. view ch) l.chairs.items) ≡ l.initial.place.me.0.read ++ read_of (map (λ ch. view ch) l.initial.chairs.items);
 }
 

@@ -10,7 +10,7 @@ give_back-requires-clause-holds g c =
     let i = c.requires.holds in
     let p : c.len-count.result ≡ length c.args.top.now.key.pages.value.items = search rules in
     let q : c.len.result ≡ length c.args.top.now.key.sides.value.items = search rules in
-    (ap (λ m. m.0.hand) i, ap (λ m. m.1) i, laid_holds _ (opening_of c.args.top.now.key) _ _ (slots (opening_of c.args.top.now.key)) (c.len-count.result + c.len.result) c.args.place.now.me.0 (ap (λ m. m.0) i) (omega arith))
+    (ap (λ m. m.0.hand) i, ap (λ m. m.1) i, (let parts = ap (λ m. m.0.parts) i in let live = c.requires.some in omega arith), laid_holds _ (opening_of c.args.top.now.key) _ _ (slots (opening_of c.args.top.now.key)) (c.len-count.result + c.len.result) c.args.place.now.me.0 (ap (λ m. m.0) i) (omega arith))
 
 pub give_back-requires-clause-stands : goal.give_back-requires-clause-stands
 give_back-requires-clause-stands g c =
@@ -18,7 +18,7 @@ give_back-requires-clause-stands g c =
     let p : c.len-count.result ≡ length c.args.top.now.key.pages.value.items = search rules in
     let q : c.len.result ≡ length c.args.top.now.key.sides.value.items = search rules in
     let s = root_laid g.M.Machine.meaning (opening_of c.args.top.now.key) (c.len-count.result + c.len.result) c.args.root (omega arith) c.requires.turns.2 c.requires.starts in
-    laid_stands g.M.Machine.meaning (opening_of c.args.top.now.key) _ _ (slots (opening_of c.args.top.now.key)) (c.len-count.result + c.len.result) Root c.args.place.now.me.0 (item.Root c.args.root) (ap (λ m. m.0) i) s.0 s.1
+    laid_stands g.M.Machine.meaning (opening_of c.args.top.now.key) _ _ (slots (opening_of c.args.top.now.key)) (c.len-count.result + c.len.result) Root c.args.place.now.me.0 (item.Root c.args.root) (ap (λ m. m.0) i) (omega arith) s.0 s.1
 
 pub lay_sides-requires-clause-holds : goal.lay_sides-requires-clause-holds
 lay_sides-requires-clause-holds g c =

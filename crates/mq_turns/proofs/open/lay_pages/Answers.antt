@@ -8,7 +8,7 @@ use Rattle.mq_turns.proofs.open.lay_pages.Goals as goal
 pub give_back-requires-clause-holds : goal.give_back-requires-clause-holds
 give_back-requires-clause-holds g c =
     let i = c.loop-page.invariant in
-    (ap (λ m. m.0.hand) i.holds, ap (λ m. m.1) i.holds, laid_holds _ (opening_of c.args.top.now.key) _ _ _ c.len.result c.loop-page.place.me.0 (ap (λ m. m.0) i.holds) (search rules))
+    (ap (λ m. m.0.hand) i.holds, ap (λ m. m.1) i.holds, (let parts = ap (λ m. m.0.parts) i.holds in let live = c.requires.some in omega arith), laid_holds _ (opening_of c.args.top.now.key) _ _ _ c.len.result c.loop-page.place.me.0 (ap (λ m. m.0) i.holds) (search rules))
 
 pub give_back-requires-clause-stands : goal.give_back-requires-clause-stands
 give_back-requires-clause-stands g c =
@@ -18,7 +18,7 @@ give_back-requires-clause-stands g c =
     let longer : vec_len c.loop-page.pages ≡ Rattle.std.proofs.Common.suc c.len.result = search rules in
     let short = i.short in
     let s = page_laid g.M.Machine.meaning (opening_of c.args.top.now.key) c.len.result c.in-Some.page (omega arith) at c.requires.starts in
-    laid_stands g.M.Machine.meaning (opening_of c.args.top.now.key) _ _ _ c.len.result (Page c.len.result) c.loop-page.place.me.0 (item.Page c.in-Some.page) (ap (λ m. m.0) i.holds) s.0 s.1
+    laid_stands g.M.Machine.meaning (opening_of c.args.top.now.key) _ _ _ c.len.result (Page c.len.result) c.loop-page.place.me.0 (item.Page c.in-Some.page) (ap (λ m. m.0) i.holds) longer s.0 s.1
 
 pub loop-page-preserved : goal.loop-page-preserved
 loop-page-preserved g c =

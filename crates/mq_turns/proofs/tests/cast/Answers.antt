@@ -1,14 +1,54 @@
-use Rattle.std.proofs.Common.{◌∙◌, ◌∷◌, ap, refl, ℕ}
+use Rattle.std.proofs.Common.{rules, arith, ◌≡◌, ◌≤◌, ◌+◌, ◌∙◌, ap, sym, refl, suc, ℕ, ◌∷◌}
 use Rattle.mq_turns.specs.AtDesk.{view, start_of}
-use Rattle.mq_turns.specs.Desk.{slot_of}
-use Rattle.mq_turns.specs.declared.turn.Turn.TheVariants.{Side}
-use Rattle.mq_turns.proofs.Counting.{cast_stands}
+use Rattle.mq_turns.proofs.Counting.{OnSide, side_taken, side_same, side_cleared, side_covers, side_drawn, side_stands}
 use Rattle.mq_turns.proofs.tests.cast.Goals as goal
 
+pub draw-number-requires-clause-may : goal.draw-number-requires-clause-may
+draw-number-requires-clause-may g c =
+    let took = c.in-Side.ensures.took in
+    let a = side_taken (λ e. e.queue) (λ e. e.session) (λ e. e.group) (λ q. g.P.Port.state q.port) (start_of c.args.desk.now) c.args.entry.now.queue (view c.args.chair.now) (view c.take.new.chair) c.in-Side.side took.0 c.requires.queue c.take.ensures.at.1 took.1 c.requires.idle took.3 in
+    let look = c.look-before.ensures.looked in
+    let b = side_same (λ e. e.queue) (λ e. e.session) (λ e. e.group) (λ q. g.P.Port.state q.port) (start_of c.args.desk.now) c.args.entry.now.queue (view c.take.new.chair) (view c.look-before.new.chair) c.in-Side.side (ap (λ v. v.opening) look.1) (ap (λ v. v.held) look.1) a in
+    let clear = c.clear.ensures.cleared in
+    let d = side_cleared (λ e. e.queue) (λ e. e.session) (λ e. e.group) (λ q. g.P.Port.state q.port) (start_of c.args.desk.now) c.args.entry.now.queue (view c.look-before.new.chair) (view c.clear.new.chair) c.in-Side.side b c.saturating_add.result clear.0 clear.2 clear.1 in
+    let last = ap (λ v. v.seen) clear.1 ∙ ap (λ v. v.seen) look.1 in
+    side_covers (λ e. e.queue) (λ e. e.session) (λ e. e.group) (λ q. g.P.Port.state q.port) (start_of c.args.desk.now) c.args.entry.now.queue (view c.clear.new.chair) (view c.clear.new.chair) c.in-Side.side d c.args.entry.now (view c.look-before.new.chair) c.saturating_add.result clear.0 clear.2 clear.1 refl (let n = look.2 in let sum = c.saturating_add.ensures in omega arith) refl
+
 pub give_back-requires-clause-stands : goal.give_back-requires-clause-stands
-give_back-requires-clause-stands g c =
-    let t = c.in-Side.ensures.took in
-    let d = c.draw-number.ensures.drew in
-    let held = ap (λ v. v.held) c.look-before.ensures.looked.1 ∙ (ap (λ v. v.held) t.1 ∙ ap (λ l. (slot_of (start_of c.args.desk.now) (Side c.args.entry.now.queue), t.0) ∷ l) c.requires.idle) in
-    cast_stands (λ e. e.queue) (λ e. e.session) (λ e. e.group) (λ q. g.P.Port.state q.port) (start_of c.args.desk.now) ℕ t.0 d.0 c.args.entry.now.queue _ c.args.entry.now c.in-Side.side (record { port = c.bump.new.self }) (view c.look-before.new.chair) (view c.look-after.new.chair)
-    refl c.requires.queue refl c.look-before.ensures.at.1 d.3 held t.3 c.bump.ensures (ap (λ v. v.held) c.look-after.ensures.looked.1 ∙ ap (λ v. v.held) d.1)
+give_back-requires-clause-stands g c = λ K sees.
+    let took = c.in-Side.ensures.took in
+    let a = side_taken (λ e. e.queue) (λ e. e.session) (λ e. e.group) (λ q. g.P.Port.state q.port) (start_of c.args.desk.now) c.args.entry.now.queue (view c.args.chair.now) (view c.take.new.chair) c.in-Side.side took.0 c.requires.queue c.take.ensures.at.1 took.1 c.requires.idle took.3 in
+    let look = c.look-before.ensures.looked in
+    let b = side_same (λ e. e.queue) (λ e. e.session) (λ e. e.group) (λ q. g.P.Port.state q.port) (start_of c.args.desk.now) c.args.entry.now.queue (view c.take.new.chair) (view c.look-before.new.chair) c.in-Side.side (ap (λ v. v.opening) look.1) (ap (λ v. v.held) look.1) a in
+    let clear = c.clear.ensures.cleared in
+    let d = side_cleared (λ e. e.queue) (λ e. e.session) (λ e. e.group) (λ q. g.P.Port.state q.port) (start_of c.args.desk.now) c.args.entry.now.queue (view c.look-before.new.chair) (view c.clear.new.chair) c.in-Side.side b c.saturating_add.result clear.0 clear.2 clear.1 in
+    let drew = c.draw-number.ensures.drew in
+    let e = side_drawn (λ e. e.queue) (λ e. e.session) (λ e. e.group) (λ q. g.P.Port.state q.port) (start_of c.args.desk.now) c.args.entry.now.queue (view c.clear.new.chair) (view c.draw-number.new.chair) c.in-Side.side d c.args.entry.now (record { port = c.bump.new.self }) drew.0 drew.3 drew.1 refl c.bump.ensures in
+    let after = c.look-after.ensures.looked in
+    let f = side_same (λ e. e.queue) (λ e. e.session) (λ e. e.group) (λ q. g.P.Port.state q.port) (start_of c.args.desk.now) c.args.entry.now.queue (view c.draw-number.new.chair) (view c.look-after.new.chair) (record { port = c.bump.new.self }) (ap (λ v. v.opening) after.1) (ap (λ v. v.held) after.1) e in
+    let one = c.front-undone.ensures.front.sweep.is in
+    let h = side_same (λ e. e.queue) (λ e. e.session) (λ e. e.group) (λ q. g.P.Port.state q.port) (start_of c.args.desk.now) c.args.entry.now.queue (view c.look-after.new.chair) (view c.front-undone.new.chair) (record { port = c.bump.new.self }) (ap (λ v. v.opening) one) (ap (λ v. v.held) one) f in
+    let again = c.clear-2.ensures.cleared in
+    let i = side_cleared (λ e. e.queue) (λ e. e.session) (λ e. e.group) (λ q. g.P.Port.state q.port) (start_of c.args.desk.now) c.args.entry.now.queue (view c.front-undone.new.chair) (view c.clear-2.new.chair) (record { port = c.bump.new.self }) h 18446744073709551615 again.0 again.2 again.1 in
+    let two = c.front-done.ensures.front.sweep.is in
+    let j = side_same (λ e. e.queue) (λ e. e.session) (λ e. e.group) (λ q. g.P.Port.state q.port) (start_of c.args.desk.now) c.args.entry.now.queue (view c.clear-2.new.chair) (view c.front-done.new.chair) (record { port = c.bump.new.self }) (ap (λ v. v.opening) two) (ap (λ v. v.held) two) i in
+    side_stands (λ e. e.queue) (λ e. e.session) (λ e. e.group) (λ q. g.P.Port.state q.port) (start_of c.args.desk.now) c.args.entry.now.queue (view c.front-done.new.chair) (view c.front-done.new.chair) (record { port = c.bump.new.self }) j ℕ K sees
+
+-- the fields of the view that only the draw changes
+pub returns-clause-drew : goal.returns-clause-drew
+returns-clause-drew g c =
+    let took = c.in-Side.ensures.took.1 in
+    let look = c.look-before.ensures.looked.1 in
+    let low = c.clear.ensures.cleared.1 in
+    let drew = c.draw-number.ensures.drew in
+    let after = c.look-after.ensures.looked.1 in
+    let one = c.front-undone.ensures.front.sweep.is in
+    let high = c.clear-2.ensures.cleared.1 in
+    let two = c.front-done.ensures.front.sweep.is in
+    let back = c.give_back.ensures.gave in
+    let before : (view c.clear.new.chair).drawn ≡ (view c.args.chair.now).drawn = ap (λ v. v.drawn) low ∙ (ap (λ v. v.drawn) look ∙ ap (λ v. v.drawn) took) in
+    let later : (view c.give_back.new.chair).drawn ≡ (view c.draw-number.new.chair).drawn = ap (λ v. v.drawn) back ∙ (ap (λ v. v.drawn) two ∙ (ap (λ v. v.drawn) high ∙ (ap (λ v. v.drawn) one ∙ ap (λ v. v.drawn) after))) in (
+      later ∙ (ap (λ v. v.drawn) drew.1 ∙ (λ i. (sym drew.2 i, c.args.entry.now) ∷ before i)),
+      ap (λ v. v.read) back ∙ (ap (λ v. v.read) two ∙ (ap (λ v. v.read) high ∙ (ap (λ v. v.read) one ∙ (ap (λ v. v.read) after ∙ (ap (λ v. v.read) drew.1 ∙ (ap (λ v. v.read) low ∙ (ap (λ v. v.read) look ∙ ap (λ v. v.read) took))))))),
+      ap (λ v. v.session) back ∙ (ap (λ v. v.session) two ∙ (ap (λ v. v.session) high ∙ (ap (λ v. v.session) one ∙ (ap (λ v. v.session) after ∙ (ap (λ v. v.session) drew.1 ∙ (ap (λ v. v.session) low ∙ (ap (λ v. v.session) look ∙ ap (λ v. v.session) took))))))),
+    )

@@ -1,4 +1,4 @@
-use Rattle.std.proofs.Common.{rules, arith, ◌≡◌, ap, sym, ◌∙◌, map, ◌+◌, length}
+use Rattle.std.proofs.Common.{rules, arith, ◌≡◌, suc, ap, sym, ◌∙◌, map, ◌+◌, length}
 use Rattle.std.specs.Slots.{slots_items, slots_counts}
 use lib.ListN.{get_elem?}
 use Rattle.mq_turns.specs.Desk.{slots}
@@ -55,12 +55,13 @@ returns-clause-ok g c =
     let sides_is = c.args.self.all_sides in
     let deep : length xs ≡ slots (start_of c.args.self) = omega arith in
     let last : c.args.self.pages + c.args.self.sides ≡ length c.args.self.table.shared.key.pages.value.items + length c.args.self.table.shared.key.sides.value.items = omega arith in
+    let word : suc (c.args.self.pages + c.args.self.sides + 1 + length c.args.self.table.shared.key.sides.value.items) ≡ c.args.self.pages + c.args.self.sides + c.args.self.sides + 2 = omega arith in
     let pages : length c.unload_pages-pages.result.items ≡ length c.args.self.table.shared.key.pages.value.items = search rules in
     let sides : length c.unload_sides-sides.result.items ≡ length c.args.self.table.shared.key.sides.value.items = search rules in
     let mine : AreSides c.args.self.pages xs c.unload_sides-sides.result.items = λ i x there. ap (λ l. get_elem? l (c.args.self.pages + i)) (sym c.unload_pages-pages.ensures.same.0) ∙ c.unload_sides-sides.ensures.sides.1 i x there in
     let are_sides : AreSides (length c.args.self.table.shared.key.pages.value.items) xs c.unload_sides-sides.result.items = λ i x there. ap (λ m. get_elem? xs (m + i)) (sym pages_is) ∙ mine i x there in
     let root = ap (get_elem? xs) (sym last) ∙ (ap (λ l. get_elem? l (c.args.self.pages + c.args.self.sides)) (sym (c.unload_sides-sides.ensures.same.0 ∙ c.unload_pages-pages.ensures.same.0)) ∙ c.unload_root-root.ensures.root) in
     ended g.M.Machine.meaning (start_of c.args.self) _ _ _ xs h deep
-    (map (λ ch. view ch) c.args.chairs.items) c.unload_pages-pages.result.items c.unload_sides-sides.result.items c.unload_root-root.result (c.args.self.pages + c.args.self.sides + 1) c.word.result (omega arith) c.word.ensures
+    (map (λ ch. view ch) c.args.chairs.items) c.unload_pages-pages.result.items c.unload_sides-sides.result.items c.unload_root-root.result (c.args.self.pages + c.args.self.sides + 1) c.word-next.result c.word-base.result (omega arith) c.word-next.ensures (ap (λ i. get_elem? (slots_items c.close_with-closed.result.words) i) word ∙ c.word-base.ensures)
     pages c.unload_pages-pages.ensures.pages.1 sides are_sides root
-    c.gather-one.ensures.all.0 c.gather-one.ensures.all.1 c.gather-one.ensures.order
+    c.gather-one.ensures.all.0 c.gather-one.ensures.all.1 c.gather-one.ensures.order c.gather-one.ensures.charged c.gather-one.ensures.done

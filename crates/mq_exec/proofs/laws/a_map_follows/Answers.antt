@@ -1,0 +1,5 @@
+use Rattle.mq_exec.proofs.Resting.{laid-after}
+use Rattle.mq_exec.proofs.laws.a_map_follows.Goals as goal
+
+pub returns : goal.returns
+returns c = laid-after

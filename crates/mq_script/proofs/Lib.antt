@@ -1,0 +1,10 @@
+pub mod Cutting
+pub mod DataWords
+pub mod DigitWords
+pub mod Generating
+pub mod Groups
+pub mod LineWords
+pub mod PathWords
+pub mod Relining
+pub mod Rescripting
+pub mod Spelling

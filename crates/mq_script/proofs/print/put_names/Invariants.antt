@@ -1,0 +1,7 @@
+use Rattle.std.proofs.Common.{◌≡◌, ◌++◌, drop}
+use Rattle.mq_script.specs.Printing.{names_text}
+use Rattle.mq_script.proofs.print.put_names.Given as goal
+
+-- with the text of those that are left, it is the whole text
+abbrev pub invariant-loop-name : goal.invariant-loop-name
+invariant-loop-name l = l.out.items ++ names_text (drop l.name-index l.names) ≡ l.initial.out.items ++ names_text l.names

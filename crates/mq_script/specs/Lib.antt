@@ -1,0 +1,9 @@
+pub mod Answers
+pub mod Grammar
+pub mod Lines
+pub mod Printing
+pub mod Reading
+pub mod Scripts
+pub mod Verbs
+pub mod Words
+pub mod Workloads

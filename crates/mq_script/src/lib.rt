@@ -1,0 +1,24 @@
+//! Scripts of file requests: reading them, printing them, and the scripts of a generated workload.
+#![tactic(auto)]
+
+mod data;
+mod digits;
+mod generate;
+mod group;
+mod laws;
+mod line;
+mod path;
+mod print;
+mod read;
+mod refusal;
+#[cfg(test)]
+mod tests;
+mod verb;
+mod words;
+
+pub use generate::workload;
+pub use group::{End, Group, Script};
+pub use laws::printed_scripts_are_read;
+pub use print::print_script;
+pub use read::read_script;
+pub use refusal::{ScriptCause, ScriptRefusal};
