@@ -52,7 +52,8 @@ fn is_at(list: &[BlockNo], place: usize, b: u32) -> bool
 /// two lists are gone through side by side, since both rise.
 fn first_unfit(homes: u32, logged: &[BlockNo], revoked: &[BlockNo]) -> Option<usize>
     requires { AreRising 0 homes logged.now }
-    ensures { MatchOption result (GoodRevoked homes logged.now revoked.now) (StopsAt (GoodRevoked homes logged.now) revoked.now) }
+    ensures { MatchOption result (GoodRevoked homes logged.now revoked.now)
+        (StopsAt (GoodRevoked homes logged.now) revoked.now) }
 {
     let mut low = 0;
     let mut passed = 0;
@@ -76,7 +77,8 @@ pub fn check_lists(
     revoked: &[BlockNo],
 ) -> Result<(), DescriptorRefusal>
     requires { length logged.now + length revoked.now ≤ 1000 }
-    ensures { MatchResult result (λ _. AreRising 0 homes logged.now × GoodRevoked homes logged.now revoked.now) (IsListRefusal homes logged.now revoked.now) }
+    ensures { MatchResult result (λ _. AreRising 0 homes logged.now
+        × GoodRevoked homes logged.now revoked.now) (IsListRefusal homes logged.now revoked.now) }
 {
     if let Some(k) = first_unordered(homes, logged) {
         let b = logged[k];

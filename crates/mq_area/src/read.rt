@@ -21,8 +21,13 @@ pub fn read_descriptor(
 ) -> Result<Descriptor, DescriptorRefusal>
     ensures sound { IfOk result (Accepts geometry at.now block.now) }
     ensures refused { IfErr result (Refuses geometry at.now block.now) }
-    ensures complete { (d : Text) → Accepts geometry at.now block.now d → MatchResult result (λ r. r ≡ d) (λ e. e ≡ DescriptorRefusal.OutOfMemory) }
-    ensures exact { (e : DescriptorRefusal) → e ≢ DescriptorRefusal.OutOfMemory → Refuses geometry at.now block.now e → IsErrOf result e ⊎ IsErrOf result DescriptorRefusal.OutOfMemory }
+    ensures complete { (d : Text)
+        → Accepts geometry at.now block.now d
+        → MatchResult result (λ r. r ≡ d) (λ e. e ≡ DescriptorRefusal.OutOfMemory) }
+    ensures exact { (e : DescriptorRefusal)
+        → e ≢ DescriptorRefusal.OutOfMemory
+        → Refuses geometry at.now block.now e
+        → IsErrOf result e ⊎ IsErrOf result DescriptorRefusal.OutOfMemory }
 {
     read_bytes(alloc, geometry, at, block.bytes())
 }

@@ -33,11 +33,15 @@ impl Geometry {
 
     /// The geometry of these numbers. The first number that is out of its range is refused.
     pub fn new(queues: u32, area: u32, meta: u32, zone: u32) -> Result<Geometry, GeometryRefusal>
-        ensures ok { IfOk result (λ g. (queues_of g ≡ queues) × (area_of g ≡ area) × (meta_of g ≡ meta) × (zone_size g ≡ zone)) }
+        ensures ok { IfOk result (λ g. (queues_of g ≡ queues)
+            × (area_of g ≡ area)
+            × (meta_of g ≡ meta)
+            × (zone_size g ≡ zone)) }
         ensures good { IsQueues queues → IsArea area → AreHomes queues meta zone → IsOk result }
         ensures queues { IsErrOf result (GeometryRefusal.Queues queues) ↔ (IsQueues queues → ⊥) }
         ensures area { IsErrOf result (GeometryRefusal.Area area) ↔ (IsQueues queues × (IsArea area → ⊥)) }
-        ensures homes { IsErrOf result (GeometryRefusal.Homes meta zone) ↔ (IsQueues queues × IsArea area × (AreHomes queues meta zone → ⊥)) }
+        ensures homes { IsErrOf result (GeometryRefusal.Homes meta zone)
+            ↔ (IsQueues queues × IsArea area × (AreHomes queues meta zone → ⊥)) }
     {
         if !(1..=16).contains(&queues) {
             return Err(GeometryRefusal::Queues { found: queues });

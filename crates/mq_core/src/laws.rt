@@ -12,10 +12,16 @@ ghost use Rattle.mq_core.specs.Machine.{Event, AreAllowed, IsAlwaysLawful};
 /// whatever a power cut leaves there is readable and stands for the map after a prefix of the
 /// history, with all that was acknowledged. Transactions may write blocks directly and revoke copies.
 pub fn every_run_is_lawful()
-    ensures { (e : Entries) (s : State) (events : List Event) → IsStart e s → AreAllowed e events s → IsAlwaysLawful e events s }
+    ensures { (e : Entries) (s : State) (events : List Event)
+        → IsStart e s
+        → AreAllowed e events s
+        → IsAlwaysLawful e events s }
 {}
 
 /// Home blocks and a base make a start state.
 pub fn starts()
-    ensures { (g : Geometry) (blocks : List (Option (List ℕ))) (base : ℕ) → length blocks ≡ homes_of g → base ≤ 2 ^ 62 → IsStart plain (start_state g blocks base) }
+    ensures { (g : Geometry) (blocks : List (Option (List ℕ))) (base : ℕ)
+        → length blocks ≡ homes_of g
+        → base ≤ 2 ^ 62
+        → IsStart plain (start_state g blocks base) }
 {}

@@ -148,7 +148,9 @@ pub fn put_flag(flags: &mut Vec<bool>, at: usize, flag: bool)
 
 /// Where the command of a count stands in a list.
 pub fn find_count(commands: &[Command], count: u64) -> Option<usize>
-    ensures some { IfSome result (λ at. (holds_count count commands.now ≡ true) × (index_with count commands.now ≡ at) × (at < length commands.now)) }
+    ensures some { IfSome result (λ at. (holds_count count commands.now ≡ true)
+        × (index_with count commands.now ≡ at)
+        × (at < length commands.now)) }
     ensures none { IfNone result (holds_count count commands.now ≡ false) }
 {
     let mut at = 0;
@@ -175,8 +177,11 @@ pub fn are_from(commands: &[Command], low: u64) -> bool
 
 /// Takes the command of a count out, if there is one.
 pub fn take_count(commands: &mut Vec<Command>, count: u64) -> Option<Command>
-    ensures some { IfSome result (λ c. (holds_count count commands.old.items ≡ true) × (command_with count commands.old.items ≡ c) × (commands.new.items ≡ remove commands.old.items (index_with count commands.old.items))) }
-    ensures none { IfNone result ((holds_count count commands.old.items ≡ false) × (commands.new.items ≡ commands.old.items)) }
+    ensures some { IfSome result (λ c. (holds_count count commands.old.items ≡ true)
+        × (command_with count commands.old.items ≡ c)
+        × (commands.new.items ≡ remove commands.old.items (index_with count commands.old.items))) }
+    ensures none { IfNone result ((holds_count count commands.old.items ≡ false)
+        × (commands.new.items ≡ commands.old.items)) }
 {
     let at = find_count(commands, count)?;
     Some(commands.remove(at))
@@ -191,7 +196,8 @@ pub fn writes(write: &HomeWrite, lba: Lba) -> bool
 
 /// Where the last home write of a block stands.
 pub fn last_write(begun: &[HomeWrite], lba: Lba) -> Option<usize>
-    ensures some { IfSome result (λ at. (at < length begun.now) × (remove begun.now at ≡ without_last lba begun.now)) }
+    ensures some { IfSome result (λ at. (at < length begun.now)
+        × (remove begun.now at ≡ without_last lba begun.now)) }
     ensures none { IfNone result (begun.now ≡ without_last lba begun.now) }
 {
     for at in (0..begun.len()).rev() {
@@ -511,7 +517,8 @@ impl Port {
 
     /// Stores the head, where every command below it is completed with success.
     pub fn try_store_head(&mut self, head: u64) -> Result<(), CoreRefusal>
-        ensures { Answers (IsCompletedTo head self.old) (after_store_head self.old head) self.old self.new result }
+        ensures { Answers (IsCompletedTo head self.old)
+            (after_store_head self.old head) self.old self.new result }
     {
         if !self.is_completed_to(head) {
             return Err(CoreRefusal::NotAllowed { index: 0 });

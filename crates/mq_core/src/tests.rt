@@ -8,7 +8,10 @@ use std::process::Abort;
 
 // Two queues: the home blocks are a metadata region of 5, and one block in each zone.
 fn small() -> Result<Geometry, GeometryRefusal>
-    ensures { IfOk result (λ g. (queues_of g ≡ 2) × (area_of g ≡ 1024) × (meta_of g ≡ 5) × (zone_size g ≡ 1)) }
+    ensures { IfOk result (λ g. (queues_of g ≡ 2)
+        × (area_of g ≡ 1024)
+        × (meta_of g ≡ 5)
+        × (zone_size g ≡ 1)) }
 {
     Geometry::new(2, 1024, 5, 1)
 }

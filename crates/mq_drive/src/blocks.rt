@@ -81,7 +81,9 @@ impl Blocks {
         ensures len { length self.new.stored.items ≡ length self.old.stored.items }
         ensures certain { self.new.certain.items ≡ self.old.certain.items }
         ensures doubt { self.new.doubt ≡ self.old.doubt }
-        ensures others { (j : ℕ) → j ≢ k → slice_index_or self.new.stored.items j None ≡ slice_index_or self.old.stored.items j None }
+        ensures others { (j : ℕ)
+            → j ≢ k
+            → slice_index_or self.new.stored.items j None ≡ slice_index_or self.old.stored.items j None }
     {
         let mut block = block;
         match rng.next_u64() % 3 {
@@ -96,7 +98,9 @@ impl Blocks {
     pub fn tear_doubt(&mut self, block: Block, rng: &mut Lcg128Xsl64)
         ensures len { length self.new.stored.items ≡ length self.old.stored.items }
         ensures certain { self.new.certain.items ≡ self.old.certain.items }
-        ensures kept { (j : ℕ) → slice_index_or self.old.certain.items j false ≡ true → slice_index_or self.new.stored.items j None ≡ slice_index_or self.old.stored.items j None }
+        ensures kept { (j : ℕ)
+            → slice_index_or self.old.certain.items j false ≡ true
+            → slice_index_or self.new.stored.items j None ≡ slice_index_or self.old.stored.items j None }
     {
         if let Some(k) = self.doubt {
             self.tear(k, block, rng);

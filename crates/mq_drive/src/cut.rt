@@ -24,7 +24,9 @@ pub fn tear_slots(
     requires same { length flushed.old.items ≡ length staged.now.items }
     requires ring { from < to → length staged.now.items ≡ 1024 }
     ensures len { length flushed.new.items ≡ length flushed.old.items }
-    ensures kept { (k : ℕ) → ((c : ℕ) → from ≤ c → c < to → c % 1024 ≢ k) → slice_index_or flushed.new.items k [] ≡ slice_index_or flushed.old.items k [] }
+    ensures kept { (k : ℕ)
+        → ((c : ℕ) → from ≤ c → c < to → c % 1024 ≢ k)
+        → slice_index_or flushed.new.items k [] ≡ slice_index_or flushed.old.items k [] }
 {
     for count in from..to {
         let k = (count % 1024) as usize;
@@ -50,7 +52,8 @@ pub fn tear_commands(
     failed: Option<Command>,
     rng: &mut Lcg128Xsl64,
 )
-    requires own { All (λ c. (area.first ≤ c.lba) × (index_in area.first area.size homes.first c.lba < length blocks.old.stored.items)) posted.items }
+    requires own { All (λ c. (area.first ≤ c.lba)
+        × (index_in area.first area.size homes.first c.lba < length blocks.old.stored.items)) posted.items }
     ensures len { length blocks.new.stored.items ≡ length blocks.old.stored.items }
     ensures certain { blocks.new.certain.items ≡ blocks.old.certain.items }
     ensures kept { (k : ℕ) → All (λ c. index_in area.first area.size homes.first c.lba ≢ k) posted.items → slice_index_or blocks.old.certain.items k false ≡ true
@@ -77,7 +80,9 @@ fn tear_earlier(
 )
     ensures len { length blocks.new.stored.items ≡ length blocks.old.stored.items }
     ensures certain { blocks.new.certain.items ≡ blocks.old.certain.items }
-    ensures kept { (k : ℕ) → slice_index_or blocks.old.certain.items k false ≡ true → slice_index_or blocks.new.stored.items k None ≡ slice_index_or blocks.old.stored.items k None }
+    ensures kept { (k : ℕ)
+        → slice_index_or blocks.old.certain.items k false ≡ true
+        → slice_index_or blocks.new.stored.items k None ≡ slice_index_or blocks.old.stored.items k None }
 {
     if let Some(command) = failed.take_if(|command| command.count < count) {
         blocks.tear_doubt(command.block, rng);
@@ -94,10 +99,14 @@ pub fn tear_homes(
     under_way: Option<HomeWrite>,
     rng: &mut Lcg128Xsl64,
 )
-    requires own { ForSome under_way (λ w. (area.first ≤ w.lba) × (index_in area.first area.size homes.first w.lba < length blocks.old.stored.items)) }
-    requires doubt { ForSome under_way (λ w. slice_index_or blocks.old.certain.items (index_in area.first area.size homes.first w.lba) false ≡ false) }
+    requires own { ForSome under_way (λ w. (area.first ≤ w.lba)
+        × (index_in area.first area.size homes.first w.lba < length blocks.old.stored.items)) }
+    requires doubt { ForSome under_way (λ w. slice_index_or blocks.old.certain.items
+        (index_in area.first area.size homes.first w.lba) false ≡ false) }
     ensures len { length blocks.new.stored.items ≡ length blocks.old.stored.items }
-    ensures kept { (k : ℕ) → slice_index_or blocks.old.certain.items k false ≡ true → slice_index_or blocks.new.stored.items k None ≡ slice_index_or blocks.old.stored.items k None }
+    ensures kept { (k : ℕ)
+        → slice_index_or blocks.old.certain.items k false ≡ true
+        → slice_index_or blocks.new.stored.items k None ≡ slice_index_or blocks.old.stored.items k None }
 {
     if let Some(write) = failed {
         blocks.tear_doubt(write.block, rng);

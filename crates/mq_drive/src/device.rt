@@ -110,7 +110,8 @@ impl<'f> Device<'f> {
         requires power { (power.happened ≡ 0) × (power.offs ≡ 0) }
         requires role { IsRole geometry role }
         requires image { IsImageOf geometry role image }
-        ensures state { IfOk result (λ d. device_state d ≡ start_of geometry role image (fuse_of power.entry.seat) fail) }
+        ensures state { IfOk result (λ d. device_state d ≡ start_of geometry role image
+            (fuse_of power.entry.seat) fail) }
         ensures faults { IfOk result (λ d. device_faults d ≡ []) }
         ensures power { IfOk result (λ d. d.power ≡ power.entry) }
         ensures failing { IfOk result (λ d. d.failing.executed ≡ 0) }
@@ -160,12 +161,24 @@ impl<'f> Device<'f> {
     pub fn events(&self) -> u64
         ensures is { result ≡ self.now.power.happened }
         ensures state { (device_state self.now).begins ≡ 0 → result ≡ (device_state self.now).events }
-        ensures tickets { (l : ℕ) → (device_state self.now).fuse.limit ≡ Some l → result ≡ below l (tickets_of self.now.power.seat) }
+        ensures tickets { (l : ℕ)
+            → (device_state self.now).fuse.limit ≡ Some l
+            → result ≡ below l (tickets_of self.now.power.seat) }
         ensures most { (l : ℕ) → (device_state self.now).fuse.limit ≡ Some l → result ≤ l }
-        ensures off { (l : ℕ) → (device_state self.now).fuse.limit ≡ Some l → Contains (device_faults self.now) PowerOff → 0 < above l (tickets_of self.now.power.seat) }
-        ensures on { (l : ℕ) → (device_state self.now).fuse.limit ≡ Some l → 0 < above l (tickets_of self.now.power.seat) → Contains (device_faults self.now) PowerOff }
-        ensures last { (l : ℕ) → (device_state self.now).fuse.limit ≡ Some l → above l (earlier (tickets_of self.now.power.seat)) ≡ 0 }
-        ensures unlimited { (device_state self.now).fuse.limit ≡ None → Contains (device_faults self.now) PowerOff → ⊥ }
+        ensures off { (l : ℕ)
+            → (device_state self.now).fuse.limit ≡ Some l
+            → Contains (device_faults self.now) PowerOff
+            → 0 < above l (tickets_of self.now.power.seat) }
+        ensures on { (l : ℕ)
+            → (device_state self.now).fuse.limit ≡ Some l
+            → 0 < above l (tickets_of self.now.power.seat)
+            → Contains (device_faults self.now) PowerOff }
+        ensures last { (l : ℕ)
+            → (device_state self.now).fuse.limit ≡ Some l
+            → above l (earlier (tickets_of self.now.power.seat)) ≡ 0 }
+        ensures unlimited { (device_state self.now).fuse.limit ≡ None
+            → Contains (device_faults self.now) PowerOff
+            → ⊥ }
     {
         self.power.happened()
     }
@@ -182,7 +195,8 @@ impl<'f> Device<'f> {
         ensures named { result ≡ fails_by (device_state self.now).fail self.now.failing.executed }
         ensures errors { result ≡ true → All (λ f. f ≡ PowerOff) (device_faults self.now) → ⊥ }
         ensures no_error { result ≡ false → All (λ f. f ≡ PowerOff) (device_faults self.now) }
-        ensures none { (device_state self.now).fail ≡ None → All (λ f. f ≡ PowerOff) (device_faults self.now) }
+        ensures none { (device_state self.now).fail ≡ None
+            → All (λ f. f ≡ PowerOff) (device_faults self.now) }
     {
         self.failing.failed()
     }
@@ -200,8 +214,11 @@ impl<'f> Device<'f> {
     /// As `EmuPort::cut`.
     pub fn cut(self, pick: u64) -> (PortImage, FuseSeat)
         ensures image { IsImage (device_state self.entry) result.0 }
-        ensures quiet { IsQuiescent (device_state self.entry) → result.0 ≡ image_of (device_state self.entry) }
-        ensures role { (g : geometry.Geometry) → IsPortOf g (role_of (device_state self.entry).queue) (device_state self.entry) → IsImageOf g (role_of (device_state self.entry).queue) result.0 }
+        ensures quiet { IsQuiescent (device_state self.entry)
+            → result.0 ≡ image_of (device_state self.entry) }
+        ensures role { (g : geometry.Geometry)
+            → IsPortOf g (role_of (device_state self.entry).queue) (device_state self.entry)
+            → IsImageOf g (role_of (device_state self.entry).queue) result.0 }
         ensures seat { result.1 ≡ self.entry.power.seat }
     {
         let Device {
@@ -287,12 +304,15 @@ impl<'f> Port for Device<'f> {
         requires order { (device_state self.old).stored_head ≤ (device_state self.old).doorbell }
         requires room { at - (device_state self.old).head < 1023 }
         requires write { IsOwnWrite (device_state self.old) at entry }
-        ensures ok { OnOk result (device_state self.new ≡ after_stage (device_state self.old) entry (tx_of entry) (lba_of entry) block) }
+        ensures ok { OnOk result (device_state self.new ≡ after_stage (device_state self.old) entry
+            (tx_of entry) (lba_of entry) block) }
         ensures off { OnErr result (device_state self.new ≡ device_state self.old) }
         ensures cause { OffCause result (device_faults self.old) (device_faults self.new) }
         ensures counts { device_counts self.new ≡ device_counts self.old }
-        ensures happens { OnOk result (Happens (device_state self.old).fuse.limit (device_tickets self.old) (device_tickets self.new)) }
-        ensures refused { OnErr result (IsRefused (device_state self.old).fuse.limit (device_tickets self.old) (device_tickets self.new)) }
+        ensures happens { OnOk result (Happens (device_state self.old).fuse.limit (device_tickets self.old)
+            (device_tickets self.new)) }
+        ensures refused { OnErr result (IsRefused (device_state self.old).fuse.limit
+            (device_tickets self.old) (device_tickets self.new)) }
     {
         self.power.event()?;
         let command = Command {
@@ -312,8 +332,10 @@ impl<'f> Port for Device<'f> {
         ensures off { OnErr result (device_state self.new ≡ device_state self.old) }
         ensures cause { OffCause result (device_faults self.old) (device_faults self.new) }
         ensures counts { device_counts self.new ≡ device_counts self.old }
-        ensures happens { OnOk result (Happens (device_state self.old).fuse.limit (device_tickets self.old) (device_tickets self.new)) }
-        ensures refused { OnErr result (IsRefused (device_state self.old).fuse.limit (device_tickets self.old) (device_tickets self.new)) }
+        ensures happens { OnOk result (Happens (device_state self.old).fuse.limit (device_tickets self.old)
+            (device_tickets self.new)) }
+        ensures refused { OnErr result (IsRefused (device_state self.old).fuse.limit
+            (device_tickets self.old) (device_tickets self.new)) }
     {
         let end = self.end();
         self.power.event()?;
@@ -332,8 +354,10 @@ impl<'f> Port for Device<'f> {
         ensures off { OnErr result (device_state self.new ≡ device_state self.old) }
         ensures cause { OffCause result (device_faults self.old) (device_faults self.new) }
         ensures counts { device_counts self.new ≡ device_counts self.old }
-        ensures happens { OnOk result (Happens (device_state self.old).fuse.limit (device_tickets self.old) (device_tickets self.new)) }
-        ensures refused { OnErr result (IsRefused (device_state self.old).fuse.limit (device_tickets self.old) (device_tickets self.new)) }
+        ensures happens { OnOk result (Happens (device_state self.old).fuse.limit (device_tickets self.old)
+            (device_tickets self.new)) }
+        ensures refused { OnErr result (IsRefused (device_state self.old).fuse.limit
+            (device_tickets self.old) (device_tickets self.new)) }
     {
         self.power.event()?;
         add_all(&mut self.posted, &mut self.pending);
@@ -344,9 +368,12 @@ impl<'f> Port for Device<'f> {
     }
 
     fn step(&mut self) -> Result<Step, Off>
-        ensures gives { StepGives (device_state self.old) (device_faults self.old) result (device_state self.new) (device_faults self.new) }
-        ensures counts { StepCounts (device_state self.old) (device_counts self.old) result (device_counts self.new) }
-        ensures tickets { StepTickets (device_state self.old).fuse.limit (device_tickets self.old) result (device_tickets self.new) }
+        ensures gives { StepGives (device_state self.old) (device_faults self.old) result
+            (device_state self.new) (device_faults self.new) }
+        ensures counts { StepCounts (device_state self.old) (device_counts self.old) result
+            (device_counts self.new) }
+        ensures tickets { StepTickets (device_state self.old).fuse.limit (device_tickets self.old) result
+            (device_tickets self.new) }
     {
         if self.posted.is_empty() {
             return Ok(Step::Idle);
@@ -386,8 +413,10 @@ impl<'f> Port for Device<'f> {
         ensures off { OnErr result (device_state self.new ≡ device_state self.old) }
         ensures cause { OffCause result (device_faults self.old) (device_faults self.new) }
         ensures counts { device_counts self.new ≡ device_counts self.old }
-        ensures happens { OnOk result (Happens (device_state self.old).fuse.limit (device_tickets self.old) (device_tickets self.new)) }
-        ensures refused { OnErr result (IsRefused (device_state self.old).fuse.limit (device_tickets self.old) (device_tickets self.new)) }
+        ensures happens { OnOk result (Happens (device_state self.old).fuse.limit (device_tickets self.old)
+            (device_tickets self.new)) }
+        ensures refused { OnErr result (IsRefused (device_state self.old).fuse.limit
+            (device_tickets self.old) (device_tickets self.new)) }
     {
         self.power.event()?;
         self.stored_head = head;
@@ -402,8 +431,10 @@ impl<'f> Port for Device<'f> {
         ensures off { OnErr result (device_state self.new ≡ device_state self.old) }
         ensures cause { OffCause result (device_faults self.old) (device_faults self.new) }
         ensures counts { device_counts self.new ≡ device_counts self.old }
-        ensures happens { OnOk result (Happens (device_state self.old).fuse.limit (device_tickets self.old) (device_tickets self.new)) }
-        ensures refused { OnErr result (IsRefused (device_state self.old).fuse.limit (device_tickets self.old) (device_tickets self.new)) }
+        ensures happens { OnOk result (Happens (device_state self.old).fuse.limit (device_tickets self.old)
+            (device_tickets self.new)) }
+        ensures refused { OnErr result (IsRefused (device_state self.old).fuse.limit
+            (device_tickets self.old) (device_tickets self.new)) }
     {
         self.power.event()?;
         self.stored_base = base;
@@ -413,9 +444,12 @@ impl<'f> Port for Device<'f> {
 
     fn write_home(&mut self, lba: Lba, block: Block) -> Result<HomeStep, Off>
         requires { IsHome (device_state self.old) lba }
-        ensures gives { HomeGives (device_state self.old) (device_faults self.old) lba block result (device_state self.new) (device_faults self.new) }
-        ensures counts { HomeCounts (device_state self.old) (device_counts self.old) result (device_counts self.new) }
-        ensures tickets { HomeTickets (device_state self.old).fuse.limit (device_tickets self.old) result (device_tickets self.new) }
+        ensures gives { HomeGives (device_state self.old) (device_faults self.old) lba block result
+            (device_state self.new) (device_faults self.new) }
+        ensures counts { HomeCounts (device_state self.old) (device_counts self.old) result
+            (device_counts self.new) }
+        ensures tickets { HomeTickets (device_state self.old).fuse.limit (device_tickets self.old) result
+            (device_tickets self.new) }
     {
         self.power.event()?;
         let index = block_index(self.area, self.homes, lba);

@@ -42,7 +42,8 @@ impl<'f> EmuPort<'f> {
         requires fresh { tickets_of seat ≡ [] }
         requires role { IsRole geometry role }
         requires image { IsImageOf geometry role image }
-        ensures state { IfOk result (λ p. emu_state p ≡ start_of geometry role image (name_of fuse.now) fail) }
+        ensures state { IfOk result (λ p. emu_state p ≡ start_of geometry role image
+            (name_of fuse.now) fail) }
         ensures faults { IfOk result (λ p. emu_faults p ≡ []) }
         ensures tickets { IfOk result (λ p. (drawn_by p ≡ []) × (happened_of p ≡ 0)) }
         ensures counts { IfOk result (λ p. counts_of p ≡ record { completed = 0; executed = 0 }) }
@@ -57,12 +58,24 @@ impl<'f> EmuPort<'f> {
     pub fn events(&self) -> u64
         ensures is { result ≡ happened_of self.now }
         ensures state { (emu_state self.now).begins ≡ 0 → result ≡ (emu_state self.now).events }
-        ensures tickets { (l : ℕ) → (emu_state self.now).fuse.limit ≡ Some l → result ≡ below l (drawn_by self.now) }
+        ensures tickets { (l : ℕ)
+            → (emu_state self.now).fuse.limit ≡ Some l
+            → result ≡ below l (drawn_by self.now) }
         ensures most { (l : ℕ) → (emu_state self.now).fuse.limit ≡ Some l → result ≤ l }
-        ensures off { (l : ℕ) → (emu_state self.now).fuse.limit ≡ Some l → Contains (emu_faults self.now) PowerOff → 0 < above l (drawn_by self.now) }
-        ensures on { (l : ℕ) → (emu_state self.now).fuse.limit ≡ Some l → 0 < above l (drawn_by self.now) → Contains (emu_faults self.now) PowerOff }
-        ensures last { (l : ℕ) → (emu_state self.now).fuse.limit ≡ Some l → above l (earlier (drawn_by self.now)) ≡ 0 }
-        ensures unlimited { (emu_state self.now).fuse.limit ≡ None → Contains (emu_faults self.now) PowerOff → ⊥ }
+        ensures off { (l : ℕ)
+            → (emu_state self.now).fuse.limit ≡ Some l
+            → Contains (emu_faults self.now) PowerOff
+            → 0 < above l (drawn_by self.now) }
+        ensures on { (l : ℕ)
+            → (emu_state self.now).fuse.limit ≡ Some l
+            → 0 < above l (drawn_by self.now)
+            → Contains (emu_faults self.now) PowerOff }
+        ensures last { (l : ℕ)
+            → (emu_state self.now).fuse.limit ≡ Some l
+            → above l (earlier (drawn_by self.now)) ≡ 0 }
+        ensures unlimited { (emu_state self.now).fuse.limit ≡ None
+            → Contains (emu_faults self.now) PowerOff
+            → ⊥ }
     {
         self.device.events()
     }
@@ -93,12 +106,22 @@ impl<'f> EmuPort<'f> {
     pub fn cut(self, pick: u64) -> (PortImage, FuseSeat)
         ensures image { IsImage (emu_state self.entry) result.0 }
         ensures quiet { IsQuiescent (emu_state self.entry) → result.0 ≡ image_of (emu_state self.entry) }
-        ensures role { (g : geometry.Geometry) → IsPortOf g (role_of (emu_state self.entry).queue) (emu_state self.entry) → IsImageOf g (role_of (emu_state self.entry).queue) result.0 }
+        ensures role { (g : geometry.Geometry)
+            → IsPortOf g (role_of (emu_state self.entry).queue) (emu_state self.entry)
+            → IsImageOf g (role_of (emu_state self.entry).queue) result.0 }
         ensures fuse { fuse_of result.1 ≡ (emu_state self.entry).fuse }
         ensures tickets { tickets_of result.1 ≡ drawn_by self.entry }
-        ensures events { (l : ℕ) → (emu_state self.entry).fuse.limit ≡ Some l → below l (tickets_of result.1) ≡ happened_of self.entry }
-        ensures off { (l : ℕ) → (emu_state self.entry).fuse.limit ≡ Some l → Contains (emu_faults self.entry) PowerOff → 0 < above l (tickets_of result.1) }
-        ensures on { (l : ℕ) → (emu_state self.entry).fuse.limit ≡ Some l → 0 < above l (tickets_of result.1) → Contains (emu_faults self.entry) PowerOff }
+        ensures events { (l : ℕ)
+            → (emu_state self.entry).fuse.limit ≡ Some l
+            → below l (tickets_of result.1) ≡ happened_of self.entry }
+        ensures off { (l : ℕ)
+            → (emu_state self.entry).fuse.limit ≡ Some l
+            → Contains (emu_faults self.entry) PowerOff
+            → 0 < above l (tickets_of result.1) }
+        ensures on { (l : ℕ)
+            → (emu_state self.entry).fuse.limit ≡ Some l
+            → 0 < above l (tickets_of result.1)
+            → Contains (emu_faults self.entry) PowerOff }
     {
         self.device.cut(pick)
     }
@@ -147,12 +170,15 @@ impl<'f> Port for EmuPort<'f> {
         requires order { (emu_state self.old).stored_head ≤ (emu_state self.old).doorbell }
         requires room { at - (emu_state self.old).head < 1023 }
         requires write { IsOwnWrite (emu_state self.old) at entry }
-        ensures ok { OnOk result (emu_state self.new ≡ after_stage (emu_state self.old) entry (tx_of entry) (lba_of entry) block) }
+        ensures ok { OnOk result (emu_state self.new ≡ after_stage (emu_state self.old) entry (tx_of entry)
+            (lba_of entry) block) }
         ensures off { OnErr result (emu_state self.new ≡ emu_state self.old) }
         ensures cause { OffCause result (emu_faults self.old) (emu_faults self.new) }
         ensures counts { counts_of self.new ≡ counts_of self.old }
-        ensures happens { OnOk result (Happens (emu_state self.old).fuse.limit (drawn_by self.old) (drawn_by self.new)) }
-        ensures refused { OnErr result (IsRefused (emu_state self.old).fuse.limit (drawn_by self.old) (drawn_by self.new)) }
+        ensures happens { OnOk result (Happens (emu_state self.old).fuse.limit (drawn_by self.old)
+            (drawn_by self.new)) }
+        ensures refused { OnErr result (IsRefused (emu_state self.old).fuse.limit (drawn_by self.old)
+            (drawn_by self.new)) }
     {
         self.device.stage(at, entry, block)
     }
@@ -162,8 +188,10 @@ impl<'f> Port for EmuPort<'f> {
         ensures off { OnErr result (emu_state self.new ≡ emu_state self.old) }
         ensures cause { OffCause result (emu_faults self.old) (emu_faults self.new) }
         ensures counts { counts_of self.new ≡ counts_of self.old }
-        ensures happens { OnOk result (Happens (emu_state self.old).fuse.limit (drawn_by self.old) (drawn_by self.new)) }
-        ensures refused { OnErr result (IsRefused (emu_state self.old).fuse.limit (drawn_by self.old) (drawn_by self.new)) }
+        ensures happens { OnOk result (Happens (emu_state self.old).fuse.limit (drawn_by self.old)
+            (drawn_by self.new)) }
+        ensures refused { OnErr result (IsRefused (emu_state self.old).fuse.limit (drawn_by self.old)
+            (drawn_by self.new)) }
     {
         self.device.flush()
     }
@@ -175,16 +203,20 @@ impl<'f> Port for EmuPort<'f> {
         ensures off { OnErr result (emu_state self.new ≡ emu_state self.old) }
         ensures cause { OffCause result (emu_faults self.old) (emu_faults self.new) }
         ensures counts { counts_of self.new ≡ counts_of self.old }
-        ensures happens { OnOk result (Happens (emu_state self.old).fuse.limit (drawn_by self.old) (drawn_by self.new)) }
-        ensures refused { OnErr result (IsRefused (emu_state self.old).fuse.limit (drawn_by self.old) (drawn_by self.new)) }
+        ensures happens { OnOk result (Happens (emu_state self.old).fuse.limit (drawn_by self.old)
+            (drawn_by self.new)) }
+        ensures refused { OnErr result (IsRefused (emu_state self.old).fuse.limit (drawn_by self.old)
+            (drawn_by self.new)) }
     {
         self.device.ring(tail)
     }
 
     fn step(&mut self) -> Result<Step, Off>
-        ensures gives { StepGives (emu_state self.old) (emu_faults self.old) result (emu_state self.new) (emu_faults self.new) }
+        ensures gives { StepGives (emu_state self.old) (emu_faults self.old) result (emu_state self.new)
+            (emu_faults self.new) }
         ensures counts { StepCounts (emu_state self.old) (counts_of self.old) result (counts_of self.new) }
-        ensures tickets { StepTickets (emu_state self.old).fuse.limit (drawn_by self.old) result (drawn_by self.new) }
+        ensures tickets { StepTickets (emu_state self.old).fuse.limit (drawn_by self.old) result
+            (drawn_by self.new) }
     {
         self.device.step()
     }
@@ -198,8 +230,10 @@ impl<'f> Port for EmuPort<'f> {
         ensures off { OnErr result (emu_state self.new ≡ emu_state self.old) }
         ensures cause { OffCause result (emu_faults self.old) (emu_faults self.new) }
         ensures counts { counts_of self.new ≡ counts_of self.old }
-        ensures happens { OnOk result (Happens (emu_state self.old).fuse.limit (drawn_by self.old) (drawn_by self.new)) }
-        ensures refused { OnErr result (IsRefused (emu_state self.old).fuse.limit (drawn_by self.old) (drawn_by self.new)) }
+        ensures happens { OnOk result (Happens (emu_state self.old).fuse.limit (drawn_by self.old)
+            (drawn_by self.new)) }
+        ensures refused { OnErr result (IsRefused (emu_state self.old).fuse.limit (drawn_by self.old)
+            (drawn_by self.new)) }
     {
         self.device.store_head(head)
     }
@@ -211,17 +245,21 @@ impl<'f> Port for EmuPort<'f> {
         ensures off { OnErr result (emu_state self.new ≡ emu_state self.old) }
         ensures cause { OffCause result (emu_faults self.old) (emu_faults self.new) }
         ensures counts { counts_of self.new ≡ counts_of self.old }
-        ensures happens { OnOk result (Happens (emu_state self.old).fuse.limit (drawn_by self.old) (drawn_by self.new)) }
-        ensures refused { OnErr result (IsRefused (emu_state self.old).fuse.limit (drawn_by self.old) (drawn_by self.new)) }
+        ensures happens { OnOk result (Happens (emu_state self.old).fuse.limit (drawn_by self.old)
+            (drawn_by self.new)) }
+        ensures refused { OnErr result (IsRefused (emu_state self.old).fuse.limit (drawn_by self.old)
+            (drawn_by self.new)) }
     {
         self.device.store_base(base)
     }
 
     fn write_home(&mut self, lba: Lba, block: Block) -> Result<HomeStep, Off>
         requires { IsHome (emu_state self.old) lba }
-        ensures gives { HomeGives (emu_state self.old) (emu_faults self.old) lba block result (emu_state self.new) (emu_faults self.new) }
+        ensures gives { HomeGives (emu_state self.old) (emu_faults self.old) lba block result
+            (emu_state self.new) (emu_faults self.new) }
         ensures counts { HomeCounts (emu_state self.old) (counts_of self.old) result (counts_of self.new) }
-        ensures tickets { HomeTickets (emu_state self.old).fuse.limit (drawn_by self.old) result (drawn_by self.new) }
+        ensures tickets { HomeTickets (emu_state self.old).fuse.limit (drawn_by self.old) result
+            (drawn_by self.new) }
     {
         self.device.write_home(lba, block)
     }

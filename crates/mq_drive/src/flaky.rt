@@ -55,7 +55,9 @@ impl<P: Port> FlakyPort<P> {
     // Counts a changing call, and answers whether it is the one to refuse.
     fn is_refused(&mut self) -> bool
         ensures port { self.new.port ≡ self.old.port }
-        ensures yes { IsTrue result → with_refused self.new.refused (P.faults self.old.port) ≡ PowerOff ∷ with_refused self.old.refused (P.faults self.old.port) }
+        ensures yes { IsTrue result
+            → with_refused self.new.refused
+            (P.faults self.old.port) ≡ PowerOff ∷ with_refused self.old.refused (P.faults self.old.port) }
         ensures no { result ≡ false → self.new.refused ≡ self.old.refused }
         ensures which { IsTrue result ↔ (self.old.refuse ≡ 1) }
         ensures refuse { self.new.refuse ≡ self.old.refuse - 1 }

@@ -60,7 +60,8 @@ impl Fuse {
         requires limit { ForSome limit (λ l. l ≤ 2 ^ 63) }
         ensures limit { IfOk result (λ r. (name_of r.0).limit ≡ limit) }
         ensures ports { IfOk result (λ r. (ports_of r.0 ≡ ports) × (length r.1.items ≡ ports)) }
-        ensures seats { IfOk result (λ r. All (λ s. (fuse_of s ≡ name_of r.0) × (tickets_of s ≡ [])) r.1.items) }
+        ensures seats { IfOk result (λ r. All (λ s. (fuse_of s ≡ name_of r.0)
+            × (tickets_of s ≡ [])) r.1.items) }
     {
         let mut seats = Vec::with_capacity(alloc, ports as usize)?;
         let rating = Rating {
@@ -76,9 +77,15 @@ impl Fuse {
     pub fn close(self, seats: Vec<FuseSeat>) -> u64
         requires fuse { All (λ s. fuse_of s ≡ name_of self) seats.items }
         requires all { length seats.items ≡ ports_of self }
-        ensures happened { (l : ℕ) → (name_of self).limit ≡ Some l → result ≡ total (λ s. below l (tickets_of s)) seats.items }
+        ensures happened { (l : ℕ)
+            → (name_of self).limit ≡ Some l
+            → result ≡ total (λ s. below l (tickets_of s)) seats.items }
         ensures most { (l : ℕ) → (name_of self).limit ≡ Some l → result ≤ l }
-        ensures off { (l : ℕ) (s : _) → (name_of self).limit ≡ Some l → Contains seats.items s → 0 < above l (tickets_of s) → result ≡ l }
+        ensures off { (l : ℕ) (s : _)
+            → (name_of self).limit ≡ Some l
+            → Contains seats.items s
+            → 0 < above l (tickets_of s)
+            → result ≡ l }
         ensures unlimited { (name_of self).limit ≡ None → result ≡ 0 }
     {
         let mut seats = seats;
@@ -111,7 +118,9 @@ fn seat_all(
     requires fresh { (place.me ≡ (fresh ports, [])) × (0 < ports) }
     requires limit { ForSome limit (λ l. l ≤ 2 ^ 63) }
     ensures count { length seats.new.items ≡ ports }
-    ensures seats { All (λ s. (s.place.table_id ≡ shared.now.table_id) × (s.limit ≡ limit) × (s.place.me.0.drawn ≡ [])) seats.new.items }
+    ensures seats { All (λ s. (s.place.table_id ≡ shared.now.table_id)
+        × (s.limit ≡ limit)
+        × (s.place.me.0.drawn ≡ [])) seats.new.items }
 {
     let mut place = place;
     for _ in 1..ports {
@@ -130,12 +139,20 @@ fn seat_all(
 
 // Joins all seats into one.
 fn join_all(shared: &Counter, place: &mut Place, seats: Vec<FuseSeat>)
-    requires table { (place.old.table_id ≡ shared.now.table_id) × (0 < shared.now.table_id.words) × (place.old.me.1 ≡ []) }
+    requires table { (place.old.table_id ≡ shared.now.table_id)
+        × (0 < shared.now.table_id.words)
+        × (place.old.me.1 ≡ []) }
     requires theirs { All (λ s. s.place.table_id ≡ shared.now.table_id) seats.items }
-    ensures table { (place.new.table_id ≡ place.old.table_id) × (place.new.id ≡ place.old.id) × (place.new.me.1 ≡ []) }
+    ensures table { (place.new.table_id ≡ place.old.table_id)
+        × (place.new.id ≡ place.old.id)
+        × (place.new.me.1 ≡ []) }
     ensures seats { place.new.me.0.seats ≡ place.old.me.0.seats + length seats.items }
-    ensures below { (l : ℕ) → below l place.new.me.0.drawn ≡ below l place.old.me.0.drawn + total (λ s. below l s.place.me.0.drawn) seats.items }
-    ensures above { (l : ℕ) → above l place.new.me.0.drawn ≡ above l place.old.me.0.drawn + total (λ s. above l s.place.me.0.drawn) seats.items }
+    ensures below { (l : ℕ)
+        → below l place.new.me.0.drawn ≡ below l place.old.me.0.drawn + total
+        (λ s. below l s.place.me.0.drawn) seats.items }
+    ensures above { (l : ℕ)
+        → above l place.new.me.0.drawn ≡ above l place.old.me.0.drawn + total
+        (λ s. above l s.place.me.0.drawn) seats.items }
 {
     let mut seats = seats;
     while let Some(FuseSeat { place: other, .. }) = seats.pop() {
@@ -152,8 +169,10 @@ impl FuseSeat {
     pub fn event(&mut self, fuse: &Fuse) -> Result<(), Off>
         requires { fuse_of self.old ≡ name_of fuse.now }
         ensures fuse { fuse_of self.new ≡ fuse_of self.old }
-        ensures happens { OnOk result (Happens (fuse_of self.old).limit (tickets_of self.old) (tickets_of self.new)) }
-        ensures refused { OnErr result (IsRefused (fuse_of self.old).limit (tickets_of self.old) (tickets_of self.new)) }
+        ensures happens { OnOk result (Happens (fuse_of self.old).limit (tickets_of self.old)
+            (tickets_of self.new)) }
+        ensures refused { OnErr result (IsRefused (fuse_of self.old).limit (tickets_of self.old)
+            (tickets_of self.new)) }
     {
         let Some(limit) = self.limit else {
             return Ok(());

@@ -70,7 +70,8 @@ pub trait Port {
         requires order { (state self.old).stored_head ≤ (state self.old).doorbell }
         requires room { at - (state self.old).head < 1023 }
         requires write { IsOwnWrite (state self.old) at entry }
-        ensures ok { OnOk result (state self.new ≡ after_stage (state self.old) entry (tx_of entry) (lba_of entry) block) }
+        ensures ok { OnOk result (state self.new ≡ after_stage (state self.old) entry (tx_of entry)
+            (lba_of entry) block) }
         ensures off { OnErr result (state self.new ≡ state self.old) }
         ensures cause { OffCause result (faults self.old) (faults self.new) };
 

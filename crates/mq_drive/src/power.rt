@@ -41,10 +41,14 @@ impl<'f> Power<'f> {
     /// One event, where the power is on.
     pub fn event(&mut self) -> Result<(), Off>
         ensures fuse { fuse_of self.new.seat ≡ fuse_of self.old.seat }
-        ensures happens { OnOk result ((self.new.happened ≡ counted self.old.happened 1) × (self.new.offs ≡ self.old.offs)) }
-        ensures refused { OnErr result ((self.new.happened ≡ self.old.happened) × (self.new.offs ≡ counted self.old.offs 1)) }
-        ensures ticket { OnOk result (Happens (fuse_of self.old.seat).limit (tickets_of self.old.seat) (tickets_of self.new.seat)) }
-        ensures over { OnErr result (IsRefused (fuse_of self.old.seat).limit (tickets_of self.old.seat) (tickets_of self.new.seat)) }
+        ensures happens { OnOk result ((self.new.happened ≡ counted self.old.happened 1)
+            × (self.new.offs ≡ self.old.offs)) }
+        ensures refused { OnErr result ((self.new.happened ≡ self.old.happened)
+            × (self.new.offs ≡ counted self.old.offs 1)) }
+        ensures ticket { OnOk result (Happens (fuse_of self.old.seat).limit (tickets_of self.old.seat)
+            (tickets_of self.new.seat)) }
+        ensures over { OnErr result (IsRefused (fuse_of self.old.seat).limit (tickets_of self.old.seat)
+            (tickets_of self.new.seat)) }
         ensures range { self.old.offs < 2 ^ 64 }
         ensures first { OnOk result (self.old.offs ≡ 0) }
     {

@@ -17,7 +17,10 @@ const QUEUE: Role = Role::Queue(QueueNo(0));
 
 // One queue: the Lbas 0 to 1023 are its area, 1024 to 1039 the metadata region, 1040 to 1279 its zone.
 fn small() -> Result<Geometry, GeometryRefusal>
-    ensures { IfOk result (λ g. (queues_of g ≡ 1) × (area_of g ≡ 1024) × (meta_of g ≡ 16) × (zone_size g ≡ 240)) }
+    ensures { IfOk result (λ g. (queues_of g ≡ 1)
+        × (area_of g ≡ 1024)
+        × (meta_of g ≡ 16)
+        × (zone_size g ≡ 240)) }
 {
     Geometry::new(1, 1024, 16, 240)
 }

@@ -39,7 +39,8 @@ fn read(
 ) -> Result<Reply, Missing>
     requires possible { HasVolume working.now }
     requires subject { OfEach working.now (λ v. IsInodeOf v s.now) }
-    ensures ok { IfOk result (λ reply. OfEach working.now (λ v. reply ≡ read_in at count (body v s.now.number))) }
+    ensures ok { IfOk result (λ reply. OfEach working.now
+        (λ v. reply ≡ read_in at count (body v s.now.number))) }
     ensures lack { IfErr result (MissingOf working.now (λ v b. LooksInFile v s.now.number at count b)) }
 {
     if s.inode.kind == DIRECTORY {
@@ -81,8 +82,10 @@ fn list(alloc: Global, working: &Working, s: &Subject) -> Result<Reply, Missing>
 pub fn answer(alloc: Global, working: &Working, request: &Request) -> Result<Reply, Missing>
     requires possible { HasVolume working.now }
     requires reads { is_change request.now ≡ false }
-    ensures ok { IfOk result (λ reply. OfEach working.now (λ v. Reads working.now.geometry v request.now reply)) }
-    ensures lack { IfErr result (MissingOf working.now (λ v b. LooksAlways working.now.geometry v request.now b)) }
+    ensures ok { IfOk result (λ reply. OfEach working.now
+        (λ v. Reads working.now.geometry v request.now reply)) }
+    ensures lack { IfErr result (MissingOf working.now
+        (λ v b. LooksAlways working.now.geometry v request.now b)) }
 {
     let subject = match find_subject(alloc, working, path_in(request))? {
         Ok(subject) => subject,

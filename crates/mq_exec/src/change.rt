@@ -59,8 +59,11 @@ fn change(
     requires names { is_named_of request.now ≡ true }
     requires changes { is_change request.now ≡ true }
     ensures over { OnOk result (IsOver working.old working.new) }
-    ensures ok { IfOk result (λ reply. OfEach working.old (λ v. ComesTo working.old.geometry v (act working.old.geometry queue v request.now) reply working.old working.new)) }
-    ensures lack { IfErr result (MissingOf working.old (λ v b. LooksAt working.old.geometry queue v request.now b)) }
+    ensures ok { IfOk result (λ reply. OfEach working.old
+        (λ v. ComesTo working.old.geometry v
+        (act working.old.geometry queue v request.now) reply working.old working.new)) }
+    ensures lack { IfErr result (MissingOf working.old
+        (λ v b. LooksAt working.old.geometry queue v request.now b)) }
 {
     match request {
         Request::Mkdir(path) => make(alloc, working, queue, path, true),
@@ -84,8 +87,11 @@ pub fn step(
     requires possible { HasVolume working.old }
     requires queue { queue < queues_of working.old.geometry }
     ensures over { OnOk result (IsOver working.old working.new) }
-    ensures ok { IfOk result (λ reply. OfEach working.old (λ v. ComesTo working.old.geometry v (verdict working.old.geometry queue v request.now) reply working.old working.new)) }
-    ensures lack { IfErr result (MissingOf working.old (λ v b. Looks working.old.geometry queue v request.now b)) }
+    ensures ok { IfOk result (λ reply. OfEach working.old
+        (λ v. ComesTo working.old.geometry v
+        (verdict working.old.geometry queue v request.now) reply working.old working.new)) }
+    ensures lack { IfErr result (MissingOf working.old
+        (λ v b. Looks working.old.geometry queue v request.now b)) }
 {
     if !changes(request) {
         return answer(alloc, working, request);

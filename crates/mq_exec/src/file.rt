@@ -28,9 +28,13 @@ pub fn find_file(
     path: &Path,
 ) -> Result<Result<Found, Fault>, Missing>
     requires { HasVolume working.now }
-    ensures ok { IfOk result (λ found. OfEach working.now (λ v. MatchResult found (IsFound v path.now) (λ fault. (act : ℕ → List ℕ → ℕ → List ℕ → Verdict) → on_file v act (target_of v (way path.now)) ≡ refused fault))) }
-    ensures held { IfOk result (λ found. MatchResult found (λ f. IsHeld (pages_of working.now) (inode_block_of working.now.geometry f.number)) (λ _. ⊤)) }
-    ensures lack { IfErr result (MissingOf working.now (λ v b. LeadsPast working.now.geometry v (way path.now) b)) }
+    ensures ok { IfOk result (λ found. OfEach working.now
+        (λ v. MatchResult found (IsFound v path.now) (λ fault. (act : ℕ → List ℕ → ℕ → List ℕ → Verdict)
+        → on_file v act (target_of v (way path.now)) ≡ refused fault))) }
+    ensures held { IfOk result (λ found. MatchResult found
+        (λ f. IsHeld (pages_of working.now) (inode_block_of working.now.geometry f.number)) (λ _. ⊤)) }
+    ensures lack { IfErr result (MissingOf working.now
+        (λ v b. LeadsPast working.now.geometry v (way path.now) b)) }
 {
     let (directory, number) = match working.target(alloc, path)? {
         Target::Root => return Ok(Err(Fault::IsDir)),

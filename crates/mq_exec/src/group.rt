@@ -37,7 +37,8 @@ pub fn run(
 ) -> Result<Outcome, OutOfMemory>
     requires possible { IsPossible geometry (held_pages view.now.held.now.cells) }
     requires queue { queue < queues_of geometry }
-    ensures { IfOk result (λ outcome. Answers geometry queue (held_pages view.now.held.now.cells) requests.now outcome) }
+    ensures { IfOk result (λ outcome. Answers geometry queue
+        (held_pages view.now.held.now.cells) requests.now outcome) }
 {
     let mut working = Working::new(alloc, geometry, view.held);
     let mut replies = Vec::with_capacity(alloc, requests.len())?;

@@ -38,9 +38,14 @@ fn plan_make(
     requires possible { HasVolume working.now }
     requires queue { queue < queues_of working.now.geometry }
     requires names { list_all is_name path.now ≡ true }
-    ensures ok { IfOk result (λ plan. OfEach working.now (λ v. (directory : Bool) → MatchResult plan (PlansMake working.now.geometry queue v (empty_body directory) path.now) (IsRefused working.now.geometry v (make_of working.now.geometry queue v (empty_body directory) (target_of v (way path.now)))))) }
-    ensures pages { IfOk result (λ plan. MatchResult plan (HoldsMake working.now.geometry (pages_of working.now)) (λ _. ⊤)) }
-    ensures lack { IfErr result (MissingOf working.now (λ v b. (directory : Bool) → LooksAt working.now.geometry queue v (making directory path.now) b)) }
+    ensures ok { IfOk result (λ plan. OfEach working.now (λ v. (directory : Bool)
+        → MatchResult plan (PlansMake working.now.geometry queue v (empty_body directory) path.now)
+        (IsRefused working.now.geometry v
+        (make_of working.now.geometry queue v (empty_body directory) (target_of v (way path.now)))))) }
+    ensures pages { IfOk result (λ plan. MatchResult plan
+        (HoldsMake working.now.geometry (pages_of working.now)) (λ _. ⊤)) }
+    ensures lack { IfErr result (MissingOf working.now (λ v b. (directory : Bool)
+        → LooksAt working.now.geometry queue v (making directory path.now) b)) }
 {
     let d = match working.target(alloc, path)? {
         Target::Root | Target::In { found: Some(_), .. } => return Ok(Err(Fault::Exists)),
@@ -78,10 +83,19 @@ fn carry_make(
     making: Making,
     is_directory: bool,
 ) -> Result<(), OutOfMemory>
-    requires possible { (q : ℕ) × (v : Volume) × Agrees working.old.geometry (pages_of working.old) v × PlansMake working.old.geometry q v (empty_body is_directory) path.now making }
+    requires possible { (q : ℕ)
+        × (v : Volume)
+        × Agrees working.old.geometry (pages_of working.old) v
+        × PlansMake working.old.geometry q v (empty_body is_directory) path.now making }
     requires pages { HoldsMake working.old.geometry (pages_of working.old) making }
     ensures over { OnOk result (IsOver working.old working.new) }
-    ensures made { OnOk result ((q : ℕ) (v : Volume) → Agrees working.old.geometry (pages_of working.old) v → PlansMake working.old.geometry q v (empty_body is_directory) path.now making → Becomes working.old.geometry v (linked working.old.geometry q (with_inode v making.inode (empty_body is_directory)) making.directory.number (made_entry path.now making)) working.old working.new) }
+    ensures made { OnOk result ((q : ℕ) (v : Volume)
+        → Agrees working.old.geometry (pages_of working.old) v
+        → PlansMake working.old.geometry q v (empty_body is_directory) path.now making
+        → Becomes working.old.geometry v
+        (linked working.old.geometry q
+        (with_inode v making.inode (empty_body is_directory)) making.directory.number
+        (made_entry path.now making)) working.old working.new) }
 {
     let Making {
         mut directory,
@@ -107,8 +121,12 @@ pub fn make(
     requires queue { queue < queues_of working.old.geometry }
     requires names { list_all is_name path.now ≡ true }
     ensures over { OnOk result (IsOver working.old working.new) }
-    ensures ok { IfOk result (λ reply. OfEach working.old (λ v. ComesTo working.old.geometry v (make_of working.old.geometry queue v (empty_body is_directory) (target_of v (way path.now))) reply working.old working.new)) }
-    ensures lack { IfErr result (MissingOf working.old (λ v b. LooksAt working.old.geometry queue v (making is_directory path.now) b)) }
+    ensures ok { IfOk result (λ reply. OfEach working.old
+        (λ v. ComesTo working.old.geometry v
+        (make_of working.old.geometry queue v (empty_body is_directory)
+        (target_of v (way path.now))) reply working.old working.new)) }
+    ensures lack { IfErr result (MissingOf working.old
+        (λ v b. LooksAt working.old.geometry queue v (making is_directory path.now) b)) }
 {
     let planned = match plan_make(alloc, working, queue, path)? {
         Ok(planned) => planned,

@@ -48,7 +48,8 @@ pub fn find_subject(
 ) -> Result<Result<Subject, Fault>, Missing>
     requires { HasVolume working.now }
     ensures ok { IfOk result (λ found. OfEach working.now (λ v. IsFound v path.now found)) }
-    ensures lack { IfErr result (MissingOf working.now (λ v b. NamesLeadPast working.now.geometry v path.now b)) }
+    ensures lack { IfErr result (MissingOf working.now
+        (λ v b. NamesLeadPast working.now.geometry v path.now b)) }
 {
     if !is_good_path(path) {
         return Ok(Err(Fault::BadName));

@@ -44,7 +44,9 @@ fn bitmap_of(geometry: Geometry, b: BlockNo) -> BlockNo
 fn push_new(blocks: &mut Vec<BlockNo>, b: BlockNo) -> Result<(), OutOfMemory>
     ensures there { OnOk result (Contains blocks.new.items b) }
     ensures kept { OnOk result ((x : ℕ) → Contains blocks.old.items x → Contains blocks.new.items x) }
-    ensures only { OnOk result ((x : ℕ) → Contains blocks.new.items x → Contains blocks.old.items x ⊎ (x ≡ b)) }
+    ensures only { OnOk result ((x : ℕ)
+        → Contains blocks.new.items x
+        → Contains blocks.old.items x ⊎ (x ≡ b)) }
 {
     if let Some(last) = blocks.last() {
         if last.0 == b.0 {
@@ -80,8 +82,11 @@ pub fn bitmaps(
     blocks: &[BlockNo],
 ) -> Result<Vec<BlockNo>, OutOfMemory>
     requires { All (IsInZones working.now.geometry) blocks.now }
-    ensures all { IfOk result (λ bitmaps. All (λ b. Contains bitmaps.items (zone_bitmap_of (zone_in working.now.geometry b))) blocks.now) }
-    ensures only { IfOk result (λ bitmaps. All (λ x. (b : ℕ) × Contains blocks.now b × (x ≡ zone_bitmap_of (zone_in working.now.geometry b))) bitmaps.items) }
+    ensures all { IfOk result (λ bitmaps. All
+        (λ b. Contains bitmaps.items (zone_bitmap_of (zone_in working.now.geometry b))) blocks.now) }
+    ensures only { IfOk result (λ bitmaps. All (λ x. (b : ℕ)
+        × Contains blocks.now b
+        × (x ≡ zone_bitmap_of (zone_in working.now.geometry b))) bitmaps.items) }
 {
     let mut bitmaps = Vec::new(alloc);
     for b in blocks {
@@ -97,7 +102,8 @@ fn look_to_free(alloc: Global, working: &Working, o: &Opened) -> Result<(), Miss
     requires opened { OfEach working.now (λ v. IsOpened working.now.geometry v o.now) }
     ensures release { OnOk result (MayRelease working.now.geometry (pages_of working.now) o.now) }
     ensures marks { OnOk result (IsHeld (pages_of working.now) (inode_bitmap_of working.now.geometry)) }
-    ensures lack { IfErr result (MissingOf working.now (λ v b. LooksFreed working.now.geometry v o.now.number b)) }
+    ensures lack { IfErr result (MissingOf working.now
+        (λ v b. LooksFreed working.now.geometry v o.now.number b)) }
 {
     let mut wanted = owned(alloc, o)?;
     let mut bitmaps = bitmaps(alloc, working, &wanted)?;
@@ -114,9 +120,14 @@ fn plan_unlink(
 ) -> Result<Result<Removal, Fault>, Missing>
     requires possible { HasVolume working.now }
     requires names { list_all is_name path.now ≡ true }
-    ensures ok { IfOk result (λ plan. OfEach working.now (λ v. MatchResult plan (PlansRemove working.now.geometry v (unlink_of v (target_of v (way path.now))) path.now) (IsRefused working.now.geometry v (unlink_of v (target_of v (way path.now)))))) }
-    ensures pages { IfOk result (λ plan. MatchResult plan (HoldsRemove working.now.geometry (pages_of working.now)) (λ _. ⊤)) }
-    ensures lack { IfErr result (MissingOf working.now (λ v b. (q : ℕ) → LooksAt working.now.geometry q v (Unlink path.now) b)) }
+    ensures ok { IfOk result (λ plan. OfEach working.now
+        (λ v. MatchResult plan
+        (PlansRemove working.now.geometry v (unlink_of v (target_of v (way path.now))) path.now)
+        (IsRefused working.now.geometry v (unlink_of v (target_of v (way path.now)))))) }
+    ensures pages { IfOk result (λ plan. MatchResult plan
+        (HoldsRemove working.now.geometry (pages_of working.now)) (λ _. ⊤)) }
+    ensures lack { IfErr result (MissingOf working.now (λ v b. (q : ℕ)
+        → LooksAt working.now.geometry q v (Unlink path.now) b)) }
 {
     let found = match find_file(alloc, working, path)? {
         Ok(found) => found,
@@ -136,9 +147,14 @@ fn plan_rmdir(
 ) -> Result<Result<Removal, Fault>, Missing>
     requires possible { HasVolume working.now }
     requires names { list_all is_name path.now ≡ true }
-    ensures ok { IfOk result (λ plan. OfEach working.now (λ v. MatchResult plan (PlansRemove working.now.geometry v (rmdir_of v (target_of v (way path.now))) path.now) (IsRefused working.now.geometry v (rmdir_of v (target_of v (way path.now)))))) }
-    ensures pages { IfOk result (λ plan. MatchResult plan (HoldsRemove working.now.geometry (pages_of working.now)) (λ _. ⊤)) }
-    ensures lack { IfErr result (MissingOf working.now (λ v b. (q : ℕ) → LooksAt working.now.geometry q v (Rmdir path.now) b)) }
+    ensures ok { IfOk result (λ plan. OfEach working.now
+        (λ v. MatchResult plan
+        (PlansRemove working.now.geometry v (rmdir_of v (target_of v (way path.now))) path.now)
+        (IsRefused working.now.geometry v (rmdir_of v (target_of v (way path.now)))))) }
+    ensures pages { IfOk result (λ plan. MatchResult plan
+        (HoldsRemove working.now.geometry (pages_of working.now)) (λ _. ⊤)) }
+    ensures lack { IfErr result (MissingOf working.now (λ v b. (q : ℕ)
+        → LooksAt working.now.geometry q v (Rmdir path.now) b)) }
 {
     let (d, i) = match working.target(alloc, path)? {
         Target::Root => return Ok(Err(Fault::BadName)),
@@ -168,10 +184,18 @@ fn carry_remove(
     path: &Path,
     removal: &Removal,
 ) -> Result<(), OutOfMemory>
-    requires possible { (v : Volume) × (verdict : Verdict) × Agrees working.old.geometry (pages_of working.old) v × PlansRemove working.old.geometry v verdict path.now removal.now }
+    requires possible { (v : Volume)
+        × (verdict : Verdict)
+        × Agrees working.old.geometry (pages_of working.old) v
+        × PlansRemove working.old.geometry v verdict path.now removal.now }
     requires pages { HoldsRemove working.old.geometry (pages_of working.old) removal.now }
     ensures over { OnOk result (IsOver working.old working.new) }
-    ensures removed { OnOk result ((v : Volume) (verdict : Verdict) → Agrees working.old.geometry (pages_of working.old) v → PlansRemove working.old.geometry v verdict path.now removal.now → Becomes working.old.geometry v (freed (unlinked v removal.now.directory.number (last_of (way path.now))) removal.now.gone.number) working.old working.new) }
+    ensures removed { OnOk result ((v : Volume) (verdict : Verdict)
+        → Agrees working.old.geometry (pages_of working.old) v
+        → PlansRemove working.old.geometry v verdict path.now removal.now
+        → Becomes working.old.geometry v
+        (freed (unlinked v removal.now.directory.number
+        (last_of (way path.now))) removal.now.gone.number) working.old working.new) }
 {
     let Some(name) = path.0.last() else {
         unreachable!();
@@ -185,8 +209,11 @@ pub fn unlink(alloc: Global, working: &mut Working, path: &Path) -> Result<Reply
     requires possible { HasVolume working.old }
     requires names { list_all is_name path.now ≡ true }
     ensures over { OnOk result (IsOver working.old working.new) }
-    ensures ok { IfOk result (λ reply. OfEach working.old (λ v. ComesTo working.old.geometry v (unlink_of v (target_of v (way path.now))) reply working.old working.new)) }
-    ensures lack { IfErr result (MissingOf working.old (λ v b. (q : ℕ) → LooksAt working.old.geometry q v (Unlink path.now) b)) }
+    ensures ok { IfOk result (λ reply. OfEach working.old
+        (λ v. ComesTo working.old.geometry v
+        (unlink_of v (target_of v (way path.now))) reply working.old working.new)) }
+    ensures lack { IfErr result (MissingOf working.old (λ v b. (q : ℕ)
+        → LooksAt working.old.geometry q v (Unlink path.now) b)) }
 {
     match plan_unlink(alloc, working, path)? {
         Ok(removal) => carry_remove(alloc, working, path, &removal)?,
@@ -200,8 +227,11 @@ pub fn rmdir(alloc: Global, working: &mut Working, path: &Path) -> Result<Reply,
     requires possible { HasVolume working.old }
     requires names { list_all is_name path.now ≡ true }
     ensures over { OnOk result (IsOver working.old working.new) }
-    ensures ok { IfOk result (λ reply. OfEach working.old (λ v. ComesTo working.old.geometry v (rmdir_of v (target_of v (way path.now))) reply working.old working.new)) }
-    ensures lack { IfErr result (MissingOf working.old (λ v b. (q : ℕ) → LooksAt working.old.geometry q v (Rmdir path.now) b)) }
+    ensures ok { IfOk result (λ reply. OfEach working.old
+        (λ v. ComesTo working.old.geometry v
+        (rmdir_of v (target_of v (way path.now))) reply working.old working.new)) }
+    ensures lack { IfErr result (MissingOf working.old (λ v b. (q : ℕ)
+        → LooksAt working.old.geometry q v (Rmdir path.now) b)) }
 {
     match plan_rmdir(alloc, working, path)? {
         Ok(removal) => carry_remove(alloc, working, path, &removal)?,

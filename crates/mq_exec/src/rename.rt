@@ -54,8 +54,11 @@ fn plan_source(
     to: &Path,
 ) -> Result<Result<(u32, u32), Fault>, Missing>
     requires { HasVolume working.now }
-    ensures ok { IfOk result (λ found. OfEach working.now (λ v. MatchResult found (IsSource v from.now to.now) (λ fault. (g : Geometry) (q : ℕ) → rename_of g q v from.now to.now (target_of v (way from.now)) ≡ refused fault))) }
-    ensures lack { IfErr result (MissingOf working.now (λ v b. LeadsPast working.now.geometry v (way from.now) b)) }
+    ensures ok { IfOk result (λ found. OfEach working.now
+        (λ v. MatchResult found (IsSource v from.now to.now) (λ fault. (g : Geometry) (q : ℕ)
+        → rename_of g q v from.now to.now (target_of v (way from.now)) ≡ refused fault))) }
+    ensures lack { IfErr result (MissingOf working.now
+        (λ v b. LeadsPast working.now.geometry v (way from.now) b)) }
 {
     let (d, i) = match working.target(alloc, from)? {
         Target::Root => return Ok(Err(Fault::Subtree)),
@@ -105,9 +108,14 @@ fn plan_rename(
     requires queue { queue < queues_of working.now.geometry }
     requires names { list_all is_name from.now ≡ true }
     requires new_names { list_all is_name to.now ≡ true }
-    ensures ok { IfOk result (λ plan. OfEach working.now (λ v. MatchResult plan (PlansRename working.now.geometry queue v from.now to.now) (IsRefused working.now.geometry v (rename_of working.now.geometry queue v from.now to.now (target_of v (way from.now)))))) }
-    ensures pages { IfOk result (λ plan. MatchResult plan (HoldsRename working.now.geometry (pages_of working.now)) (λ _. ⊤)) }
-    ensures lack { IfErr result (MissingOf working.now (λ v b. LooksAt working.now.geometry queue v (Rename from.now to.now) b)) }
+    ensures ok { IfOk result (λ plan. OfEach working.now
+        (λ v. MatchResult plan (PlansRename working.now.geometry queue v from.now to.now)
+        (IsRefused working.now.geometry v
+        (rename_of working.now.geometry queue v from.now to.now (target_of v (way from.now)))))) }
+    ensures pages { IfOk result (λ plan. MatchResult plan
+        (HoldsRename working.now.geometry (pages_of working.now)) (λ _. ⊤)) }
+    ensures lack { IfErr result (MissingOf working.now
+        (λ v b. LooksAt working.now.geometry queue v (Rename from.now to.now) b)) }
 {
     let (d, inode) = match plan_source(alloc, working, from, to)? {
         Ok(found) => found,
@@ -147,10 +155,19 @@ fn carry_rename(
     to: &Path,
     renaming: Renaming,
 ) -> Result<(), OutOfMemory>
-    requires possible { (q : ℕ) × (v : Volume) × Agrees working.old.geometry (pages_of working.old) v × PlansRename working.old.geometry q v from.now to.now renaming }
+    requires possible { (q : ℕ)
+        × (v : Volume)
+        × Agrees working.old.geometry (pages_of working.old) v
+        × PlansRename working.old.geometry q v from.now to.now renaming }
     requires pages { HoldsRename working.old.geometry (pages_of working.old) renaming }
     ensures over { OnOk result (IsOver working.old working.new) }
-    ensures moved { OnOk result ((q : ℕ) (v : Volume) → Agrees working.old.geometry (pages_of working.old) v → PlansRename working.old.geometry q v from.now to.now renaming → Becomes working.old.geometry v (linked working.old.geometry q (unlinked v renaming.source.number (last_of (way from.now))) renaming.directory.number (moved_entry to.now renaming)) working.old working.new) }
+    ensures moved { OnOk result ((q : ℕ) (v : Volume)
+        → Agrees working.old.geometry (pages_of working.old) v
+        → PlansRename working.old.geometry q v from.now to.now renaming
+        → Becomes working.old.geometry v
+        (linked working.old.geometry q
+        (unlinked v renaming.source.number (last_of (way from.now))) renaming.directory.number
+        (moved_entry to.now renaming)) working.old working.new) }
 {
     let Renaming {
         source,
@@ -178,8 +195,12 @@ pub fn rename(
     requires names { list_all is_name from.now ≡ true }
     requires new_names { list_all is_name to.now ≡ true }
     ensures over { OnOk result (IsOver working.old working.new) }
-    ensures ok { IfOk result (λ reply. OfEach working.old (λ v. ComesTo working.old.geometry v (rename_of working.old.geometry queue v from.now to.now (target_of v (way from.now))) reply working.old working.new)) }
-    ensures lack { IfErr result (MissingOf working.old (λ v b. LooksAt working.old.geometry queue v (Rename from.now to.now) b)) }
+    ensures ok { IfOk result (λ reply. OfEach working.old
+        (λ v. ComesTo working.old.geometry v
+        (rename_of working.old.geometry queue v from.now to.now
+        (target_of v (way from.now))) reply working.old working.new)) }
+    ensures lack { IfErr result (MissingOf working.old
+        (λ v b. LooksAt working.old.geometry queue v (Rename from.now to.now) b)) }
 {
     match plan_rename(alloc, working, queue, from, to)? {
         Ok(renaming) => carry_rename(alloc, working, from, to, renaming)?,

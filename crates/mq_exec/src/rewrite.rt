@@ -87,11 +87,20 @@ pub fn plan_longer(
     requires limit { size ≤ 4243456 }
     requires longer { found.now.inode.size ≤ size }
     requires end { at + count ≤ 4243456 }
-    ensures number { IfOk result (λ plan. MatchOption plan ⊤ (λ m. (m.file.number ≡ found.now.number) × (m.size ≡ size))) }
-    ensures ok { IfOk result (λ plan. OfEach working.now (λ v. (verdict : Verdict) (rewritten : List ℕ → List ℕ) (bytes : List ℕ) → IsRewriting working.now.geometry queue v found.now.number size verdict rewritten bytes → MatchOption plan (IsRefused working.now.geometry v verdict NoSpace) (PlansRewrite working.now.geometry queue v verdict rewritten))) }
-    ensures pages { IfOk result (λ plan. MatchOption plan ⊤ (HoldsRewrite working.now.geometry (pages_of working.now))) }
-    ensures places { IfOk result (λ plan. MatchOption plan ⊤ (λ m. HoldsPlaces (pages_of working.now) m.file.blocks.items (at / 4096) (past_place_of at count))) }
-    ensures lack { IfErr result (MissingOf working.now (λ v b. LooksLonger working.now.geometry queue v found.now.number size at count b)) }
+    ensures number { IfOk result (λ plan. MatchOption plan ⊤ (λ m. (m.file.number ≡ found.now.number)
+        × (m.size ≡ size))) }
+    ensures ok { IfOk result (λ plan. OfEach working.now
+        (λ v. (verdict : Verdict) (rewritten : List ℕ → List ℕ) (bytes : List ℕ)
+        → IsRewriting working.now.geometry queue v found.now.number size verdict rewritten bytes
+        → MatchOption plan (IsRefused working.now.geometry v verdict NoSpace)
+        (PlansRewrite working.now.geometry queue v verdict rewritten))) }
+    ensures pages { IfOk result (λ plan. MatchOption plan ⊤
+        (HoldsRewrite working.now.geometry (pages_of working.now))) }
+    ensures places { IfOk result (λ plan. MatchOption plan ⊤
+        (λ m. HoldsPlaces (pages_of working.now) m.file.blocks.items (at / 4096)
+        (past_place_of at count))) }
+    ensures lack { IfErr result (MissingOf working.now
+        (λ v b. LooksLonger working.now.geometry queue v found.now.number size at count b)) }
 {
     let need = needs(count_for(found.inode.size), count_for(size));
     let Some(picks) = working.pick(alloc, queue, need)? else {
@@ -113,11 +122,16 @@ fn overwrite(
     bytes: &[u8],
 ) -> Result<(), OutOfMemory>
     requires limit { at + length bytes.now ≤ 4243456 }
-    requires inside { (place : ℕ) → at / 4096 ≤ place → place < past_place_of at (length bytes.now) → place < length blocks.now }
-    requires held { HoldsPlaces (pages_of working.old) blocks.now (at / 4096) (past_place_of at (length bytes.now)) }
+    requires inside { (place : ℕ)
+        → at / 4096 ≤ place
+        → place < past_place_of at (length bytes.now)
+        → place < length blocks.now }
+    requires held { HoldsPlaces (pages_of working.old) blocks.now (at / 4096)
+        (past_place_of at (length bytes.now)) }
     requires apart { AreApart blocks.now }
     ensures over { OnOk result (IsOver working.old working.new) }
-    ensures written { OnOk result (IsOverwritten working.old working.new blocks.now at bytes.now (past_place_of at (length bytes.now))) }
+    ensures written { OnOk result (IsOverwritten working.old working.new blocks.now at bytes.now
+        (past_place_of at (length bytes.now))) }
 {
     let end = at + bytes.len();
     for place in at / BLOCK..past_place(at, bytes.len()) {
@@ -143,13 +157,26 @@ pub fn carry_rewrite(
     bytes: &[u8],
     rewriting: Rewriting,
 ) -> Result<(), OutOfMemory>
-    requires possible { (q : ℕ) × (v : Volume) × (verdict : Verdict) × (rewritten : List ℕ → List ℕ) × Agrees working.old.geometry (pages_of working.old) v × (plan : PlansRewrite working.old.geometry q v verdict rewritten rewriting) × IsSplicedAt at bytes.now plan.bytes (rewritten plan.bytes) }
+    requires possible { (q : ℕ)
+        × (v : Volume)
+        × (verdict : Verdict)
+        × (rewritten : List ℕ → List ℕ)
+        × Agrees working.old.geometry (pages_of working.old) v
+        × (plan : PlansRewrite working.old.geometry q v verdict rewritten rewriting)
+        × IsSplicedAt at bytes.now plan.bytes (rewritten plan.bytes) }
     requires pages { HoldsRewrite working.old.geometry (pages_of working.old) rewriting }
-    requires places { HoldsPlaces (pages_of working.old) rewriting.file.blocks.items (at / 4096) (past_place_of at (length bytes.now)) }
+    requires places { HoldsPlaces (pages_of working.old) rewriting.file.blocks.items (at / 4096)
+        (past_place_of at (length bytes.now)) }
     requires limit { at + length bytes.now ≤ 4243456 }
     requires inside { 1 ≤ length bytes.now → at + length bytes.now ≤ rewriting.size }
     ensures over { OnOk result (IsOver working.old working.new) }
-    ensures written { OnOk result ((q : ℕ) (v : Volume) (verdict : Verdict) (rewritten : List ℕ → List ℕ) → Agrees working.old.geometry (pages_of working.old) v → (plan : PlansRewrite working.old.geometry q v verdict rewritten rewriting) → IsSplicedAt at bytes.now plan.bytes (rewritten plan.bytes) → Becomes working.old.geometry v (resized working.old.geometry q v rewriting.file.number (rewritten plan.bytes)) working.old working.new) }
+    ensures written { OnOk result ((q : ℕ) (v : Volume) (verdict : Verdict) (rewritten : List ℕ → List ℕ)
+        → Agrees working.old.geometry (pages_of working.old) v
+        → (plan : PlansRewrite working.old.geometry q v verdict rewritten rewriting)
+        → IsSplicedAt at bytes.now plan.bytes (rewritten plan.bytes)
+        → Becomes working.old.geometry v
+        (resized working.old.geometry q v rewriting.file.number
+        (rewritten plan.bytes)) working.old working.new) }
 {
     let Rewriting {
         mut file,
@@ -178,8 +205,12 @@ pub fn write(
     requires queue { queue < queues_of working.old.geometry }
     requires names { list_all is_name path.now ≡ true }
     ensures over { OnOk result (IsOver working.old working.new) }
-    ensures ok { IfOk result (λ reply. OfEach working.old (λ v. ComesTo working.old.geometry v (write_of working.old.geometry queue v at bytes.now (target_of v (way path.now))) reply working.old working.new)) }
-    ensures lack { IfErr result (MissingOf working.old (λ v b. LooksAt working.old.geometry queue v (Write path.now at bytes.now) b)) }
+    ensures ok { IfOk result (λ reply. OfEach working.old
+        (λ v. ComesTo working.old.geometry v
+        (write_of working.old.geometry queue v at bytes.now
+        (target_of v (way path.now))) reply working.old working.new)) }
+    ensures lack { IfErr result (MissingOf working.old
+        (λ v b. LooksAt working.old.geometry queue v (Write path.now at bytes.now) b)) }
 {
     let found = match find_file(alloc, working, path)? {
         Ok(found) => found,

@@ -65,8 +65,12 @@ fn fill(
     requires limit { size ≤ 4243456 }
     requires longer { found.now.inode.size ≤ size }
     ensures over { OnOk result (IsOver working.old working.new) }
-    ensures ok { IfOk result (λ reply. OfEach working.old (λ v. ComesTo working.old.geometry v (truncate_in working.old.geometry queue v found.now.number size (body v found.now.number)) reply working.old working.new)) }
-    ensures lack { IfErr result (MissingOf working.old (λ v b. LooksLonger working.old.geometry queue v found.now.number size 0 0 b)) }
+    ensures ok { IfOk result (λ reply. OfEach working.old
+        (λ v. ComesTo working.old.geometry v
+        (truncate_in working.old.geometry queue v found.now.number size
+        (body v found.now.number)) reply working.old working.new)) }
+    ensures lack { IfErr result (MissingOf working.old
+        (λ v b. LooksLonger working.old.geometry queue v found.now.number size 0 0 b)) }
 {
     match plan_longer(alloc, working, queue, found, size, 0, 0)? {
         Some(rewriting) => carry_rewrite(alloc, working, 0, &[], rewriting)?,
@@ -83,9 +87,12 @@ fn look_to_cut(alloc: Global, working: &Working, file: &Opened, size: u64) -> Re
     requires limit { size ≤ 4243456 }
     requires few { blocks_for size ≤ length file.now.blocks.items }
     requires pointers { HoldsPointers (pages_of working.now) file.now }
-    ensures last { OnOk result (HoldsPlaces (pages_of working.now) file.now.blocks.items (size / 4096) (blocks_for size)) }
-    ensures release { OnOk result (All (IsReleasable working.now.geometry (pages_of working.now)) (gone_from file.now (blocks_for size))) }
-    ensures lack { IfErr result (MissingOf working.now (λ v b. LooksCut working.now.geometry v file.now.number size b)) }
+    ensures last { OnOk result (HoldsPlaces (pages_of working.now) file.now.blocks.items (size / 4096)
+        (blocks_for size)) }
+    ensures release { OnOk result (All (IsReleasable working.now.geometry (pages_of working.now))
+        (gone_from file.now (blocks_for size))) }
+    ensures lack { IfErr result (MissingOf working.now
+        (λ v b. LooksCut working.now.geometry v file.now.number size b)) }
 {
     let gone = gone(alloc, file, count_for(size))?;
     let mut wanted = bitmaps(alloc, working, &gone)?;
@@ -102,7 +109,8 @@ fn plan_cut(alloc: Global, working: &Working, found: &Found, size: u64) -> Resul
     ensures number { IfOk result (λ plan. (plan.file.number ≡ found.now.number) × (plan.size ≡ size)) }
     ensures ok { IfOk result (λ plan. OfEach working.now (λ v. PlansCut working.now.geometry v plan)) }
     ensures pages { IfOk result (HoldsCut working.now.geometry (pages_of working.now)) }
-    ensures lack { IfErr result (MissingOf working.now (λ v b. LooksCut working.now.geometry v found.now.number size b)) }
+    ensures lack { IfErr result (MissingOf working.now
+        (λ v b. LooksCut working.now.geometry v found.now.number size b)) }
 {
     let file = working.open_file(alloc, found.number, &found.inode)?;
     look_to_cut(alloc, working, &file, size)?;
@@ -133,10 +141,17 @@ fn blank(
 
 /// Cuts a file as it was planned.
 fn carry_cut(alloc: Global, working: &mut Working, cutting: &Cutting) -> Result<(), OutOfMemory>
-    requires possible { (v : Volume) × Agrees working.old.geometry (pages_of working.old) v × PlansCut working.old.geometry v cutting.now }
+    requires possible { (v : Volume)
+        × Agrees working.old.geometry (pages_of working.old) v
+        × PlansCut working.old.geometry v cutting.now }
     requires pages { HoldsCut working.old.geometry (pages_of working.old) cutting.now }
     ensures over { OnOk result (IsOver working.old working.new) }
-    ensures cut { OnOk result ((v : Volume) → Agrees working.old.geometry (pages_of working.old) v → (plan : PlansCut working.old.geometry v cutting.now) → Becomes working.old.geometry v (cut_file v cutting.now.file.number (blocks_for cutting.now.size) (cut_to cutting.now.size plan.bytes)) working.old working.new) }
+    ensures cut { OnOk result ((v : Volume)
+        → Agrees working.old.geometry (pages_of working.old) v
+        → (plan : PlansCut working.old.geometry v cutting.now)
+        → Becomes working.old.geometry v
+        (cut_file v cutting.now.file.number (blocks_for cutting.now.size)
+        (cut_to cutting.now.size plan.bytes)) working.old working.new) }
 {
     blank(alloc, working, &cutting.file.blocks, cutting.size)?;
     working.cut(alloc, &cutting.file, count_for(cutting.size), cutting.size)
@@ -149,8 +164,12 @@ fn shorten(alloc: Global, working: &mut Working, found: &Found, size: u64) -> Re
     requires table { IsHeld (pages_of working.old) (inode_block_of working.old.geometry found.now.number) }
     requires shorter { size < found.now.inode.size }
     ensures over { OnOk result (IsOver working.old working.new) }
-    ensures ok { IfOk result (λ reply. OfEach working.old (λ v. (q : ℕ) → ComesTo working.old.geometry v (truncate_in working.old.geometry q v found.now.number size (body v found.now.number)) reply working.old working.new)) }
-    ensures lack { IfErr result (MissingOf working.old (λ v b. LooksCut working.old.geometry v found.now.number size b)) }
+    ensures ok { IfOk result (λ reply. OfEach working.old (λ v. (q : ℕ)
+        → ComesTo working.old.geometry v
+        (truncate_in working.old.geometry q v found.now.number size
+        (body v found.now.number)) reply working.old working.new)) }
+    ensures lack { IfErr result (MissingOf working.old
+        (λ v b. LooksCut working.old.geometry v found.now.number size b)) }
 {
     let cutting = plan_cut(alloc, working, found, size)?;
     carry_cut(alloc, working, &cutting)?;
@@ -169,8 +188,12 @@ pub fn truncate(
     requires queue { queue < queues_of working.old.geometry }
     requires names { list_all is_name path.now ≡ true }
     ensures over { OnOk result (IsOver working.old working.new) }
-    ensures ok { IfOk result (λ reply. OfEach working.old (λ v. ComesTo working.old.geometry v (truncate_of working.old.geometry queue v size (target_of v (way path.now))) reply working.old working.new)) }
-    ensures lack { IfErr result (MissingOf working.old (λ v b. LooksAt working.old.geometry queue v (Truncate path.now size) b)) }
+    ensures ok { IfOk result (λ reply. OfEach working.old
+        (λ v. ComesTo working.old.geometry v
+        (truncate_of working.old.geometry queue v size
+        (target_of v (way path.now))) reply working.old working.new)) }
+    ensures lack { IfErr result (MissingOf working.old
+        (λ v b. LooksAt working.old.geometry queue v (Truncate path.now size) b)) }
 {
     let found = match find_file(alloc, working, path)? {
         Ok(found) => found,

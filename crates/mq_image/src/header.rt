@@ -53,7 +53,9 @@ pub fn check_extra(file: &[u8], end: usize) -> Result<(), FileFault>
 /// The geometry in the head of a file.
 fn read_geometry(file: &[u8]) -> Result<Geometry, FileFault>
     requires { HEADER ≤ length file.now }
-    ensures finds { Finds (geometry_fault (geometry_refusal (queues_in file.now) (area_in file.now) (meta_in file.now) (zone_in file.now))) result }
+    ensures finds { Finds (geometry_fault
+        (geometry_refusal (queues_in file.now) (area_in file.now) (meta_in file.now)
+        (zone_in file.now))) result }
     ensures is { IfOk result (IsGeometryIn file.now) }
 {
     let queues = u32_at(file, 12);
@@ -91,7 +93,9 @@ pub fn read_header(file: &[u8]) -> Result<Header, FileFault>
 pub fn read_count(file: &[u8], geometry: Geometry) -> Result<u32, FileFault>
     requires head { IsGeometryIn file.now geometry }
     ensures finds { Finds (length_fault file.now) result }
-    ensures is { IfOk result (λ count. (count ≡ count_in file.now) × (count ≤ size_in file.now) × (blocks_end file.now ≤ length file.now)) }
+    ensures is { IfOk result (λ count. (count ≡ count_in file.now)
+        × (count ≤ size_in file.now)
+        × (blocks_end file.now ≤ length file.now)) }
 {
     let count_at = HEADER + RING * geometry.queues() as usize;
     check_length(file, count_at as u64 + 4)?;

@@ -60,7 +60,8 @@ impl Place {
     fn next(&mut self, alloc: Global, file: &[u8]) -> Result<Option<Block>, FileFault>
         requires inside { IsInside self.old file.now }
         requires more { self.old.lba < self.old.size }
-        ensures { MatchResult result (IsNext file.now self.old self.new) (Refuses (fault_left self.old file.now)) }
+        ensures { MatchResult result (IsNext file.now self.old self.new)
+            (Refuses (fault_left self.old file.now)) }
     {
         if self.left == 0 {
             self.lba += 1;
@@ -99,7 +100,8 @@ impl Place {
     ) -> Result<Vec<Option<Block>>, FileFault>
         requires inside { IsInside self.old file.now }
         requires more { self.old.lba + count ≤ self.old.size }
-        ensures gives { MatchResult result (λ v. IsSpan file.now self.old self.new v.items) (Refuses (fault_left self.old file.now)) }
+        ensures gives { MatchResult result (λ v. IsSpan file.now self.old self.new v.items)
+            (Refuses (fault_left self.old file.now)) }
         ensures count { IfOk result (λ v. length v.items ≡ count) }
     {
         let mut blocks = Vec::with_capacity(alloc, count as usize + room as usize)?;
@@ -111,7 +113,9 @@ impl Place {
 
     /// The offset behind the last record, once the whole namespace is read.
     pub fn end(&self) -> Result<usize, FileFault>
-        ensures { MatchResult result (λ end. (self.now.left ≡ 0) × (end ≡ self.now.at)) (λ e. (0 < self.now.left) × (e ≡ FileFault.Order self.now.index)) }
+        ensures { MatchResult result (λ end. (self.now.left ≡ 0) × (end ≡ self.now.at))
+            (λ e. (0 < self.now.left)
+            × (e ≡ FileFault.Order self.now.index)) }
     {
         if self.left > 0 {
             return Err(FileFault::Order { index: self.index });

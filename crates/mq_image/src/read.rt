@@ -23,7 +23,9 @@ use std::alloc::Global;
 pub fn read_image(alloc: Global, bytes: &[u8]) -> Result<DriveImage, FileFault>
     ensures sound { IfOk result (λ x. IsRead x bytes.now) }
     ensures finds { MatchResult result (λ _. fault_of bytes.now ≡ None) (Refuses (fault_of bytes.now)) }
-    ensures exact { (e : FileFault) → fault_of bytes.now ≡ Some e → IsErrOf result e ⊎ IsErrOf result FileFault.OutOfMemory }
+    ensures exact { (e : FileFault)
+        → fault_of bytes.now ≡ Some e
+        → IsErrOf result e ⊎ IsErrOf result FileFault.OutOfMemory }
 {
     read_file(alloc, bytes)
 }
@@ -61,7 +63,8 @@ fn read_ports(
     requires rings { 40 + 65552 * queues_of header.now.geometry ≤ length file.now }
     requires start { place.old.lba ≡ 0 }
     requires size { place.old.size ≡ queues_of header.now.geometry * area_of header.now.geometry + homes_of header.now.geometry }
-    ensures { MatchResult result (λ v. ArePortsRead header.now.geometry header.now.base file.now place.old place.new v.items) (Refuses (fault_left place.old file.now)) }
+    ensures { MatchResult result (λ v. ArePortsRead header.now.geometry header.now.base file.now place.old place.new v.items) (Refuses
+        (fault_left place.old file.now)) }
 {
     let geometry = header.geometry;
     let mut ports = read_queues(alloc, file, geometry, place)?;
@@ -88,7 +91,8 @@ fn read_port(
     requires room { 40 + 65552 * (queue + 1) ≤ length file.now }
     requires inside { IsInside place.old file.now }
     requires more { place.old.lba + area_of geometry ≤ place.old.size }
-    ensures { MatchResult result (IsAreaRead geometry file.now queue place.old place.new) (Refuses (fault_left place.old file.now)) }
+    ensures { MatchResult result (IsAreaRead geometry file.now queue place.old place.new)
+        (Refuses (fault_left place.old file.now)) }
 {
     let at = HEADER + RING * queue as usize;
     let doorbell = u64_at(file, at);
@@ -114,7 +118,8 @@ fn read_queues(
     requires inside { IsInside place.old file.now }
     requires rings { 40 + 65552 * queues_of geometry ≤ length file.now }
     requires more { place.old.lba + queues_of geometry * area_of geometry ≤ place.old.size }
-    ensures { MatchResult result (λ v. AreAreasRead geometry file.now (queues_of geometry) place.old place.new v.items) (Refuses (fault_left place.old file.now)) }
+    ensures { MatchResult result (λ v. AreAreasRead geometry file.now
+        (queues_of geometry) place.old place.new v.items) (Refuses (fault_left place.old file.now)) }
 {
     let mut ports = Vec::with_capacity(alloc, geometry.queues() as usize + 1)?;
     for queue in 0..geometry.queues() {
@@ -135,7 +140,9 @@ fn read_zones(
     requires few { length ports.old.items ≡ queues_of geometry }
     requires areas { All (λ p. IsAreaPort geometry p) ports.old.items }
     requires more { place.old.lba + queues_of geometry * zone_size geometry ≤ place.old.size }
-    ensures { MatchResult result (λ _. AreZonesRead geometry file.now (queues_of geometry) place.old place.new ports.old.items ports.new.items) (Refuses (fault_left place.old file.now)) }
+    ensures { MatchResult result (λ _. AreZonesRead geometry file.now
+        (queues_of geometry) place.old place.new ports.old.items ports.new.items)
+        (Refuses (fault_left place.old file.now)) }
 {
     for queue in 0..ports.len() {
         let zone = place.span(alloc, file, geometry.zone(), 0)?;
@@ -150,7 +157,8 @@ fn add_zone(
     zone: Vec<Option<Block>>,
 ) -> Result<(), FileFault>
     requires { queue < length ports.old.items }
-    ensures ports { IfOk result (λ _. ports.new.items ≡ slice_set ports.old.items queue (with_zone (slice_index_or ports.old.items queue no_port) zone.items)) }
+    ensures ports { IfOk result (λ _. ports.new.items ≡ slice_set ports.old.items queue
+        (with_zone (slice_index_or ports.old.items queue no_port) zone.items)) }
     ensures refused { IfErr result (λ e. e ≡ FileFault.OutOfMemory) }
 {
     extend_port(&mut ports[queue], zone)

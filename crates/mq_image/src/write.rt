@@ -205,7 +205,8 @@ fn put_areas(
 ) -> Result<u32, OutOfMemory>
     requires areas { All (HasArea geometry) queues.now }
     requires size { length (areas geometry queues.now) < 2 ^ 32 }
-    ensures bytes { IfOk result (λ _. file.new.items ≡ file.old.items ++ records 0 (areas geometry queues.now)) }
+    ensures bytes { IfOk result (λ _. file.new.items ≡ file.old.items ++ records 0
+        (areas geometry queues.now)) }
     ensures end { IfOk result (λ end. end ≡ length (areas geometry queues.now)) }
 {
     let mut lba = 0;
@@ -224,7 +225,8 @@ fn put_zones(
 ) -> Result<(), OutOfMemory>
     requires areas { All (HasArea geometry) queues.now }
     requires size { first + length (zones geometry queues.now) < 2 ^ 32 }
-    ensures { IfOk result (λ _. file.new.items ≡ file.old.items ++ records first (zones geometry queues.now)) }
+    ensures { IfOk result (λ _. file.new.items ≡ file.old.items ++ records first
+        (zones geometry queues.now)) }
 {
     let mut lba = first;
     for port in queues {

@@ -41,8 +41,15 @@ impl<'a> Working<'a> {
         ensures over { OnOk result (IsOver self.old self.new) }
         ensures kinds { OnOk result (KeepsKinds self.old self.new) }
         ensures keeps { OnOk result (KeepsHeld (pages_of self.old) (pages_of self.new)) }
-        ensures rest { OnOk result ((b : ℕ) → b ≢ inode_bitmap_of self.old.geometry → b ≢ inode_block_of self.old.geometry i → pages_of self.new b ≡ pages_of self.old b) }
-        ensures made { OnOk result ((v : Volume) → Carries self.old.geometry (pages_of self.old) v → IsNode (node v i) → body v i ≡ Free → Becomes self.old.geometry v (with_inode v i (empty_body is_directory)) self.old self.new) }
+        ensures rest { OnOk result ((b : ℕ)
+            → b ≢ inode_bitmap_of self.old.geometry
+            → b ≢ inode_block_of self.old.geometry i
+            → pages_of self.new b ≡ pages_of self.old b) }
+        ensures made { OnOk result ((v : Volume)
+            → Carries self.old.geometry (pages_of self.old) v
+            → IsNode (node v i)
+            → body v i ≡ Free
+            → Becomes self.old.geometry v (with_inode v i (empty_body is_directory)) self.old self.new) }
     {
         self.mark_inode(alloc, i, true)?;
         self.put_inode(alloc, i, &empty_inode(is_directory))

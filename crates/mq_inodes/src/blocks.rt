@@ -70,7 +70,8 @@ impl<'a> Working<'a> {
         requires possible { HasVolume self.now }
         requires inode { OfEach self.now (λ v. inode.now ≡ inode_of (node v i)) }
         ensures ok { IfOk result (λ blocks. OfEach self.now (λ v. blocks.items ≡ (node v i).blocks)) }
-        ensures pointers { IfOk result (λ blocks. 12 < length blocks.items → IsHeld (pages_of self.now) inode.now.indirect) }
+        ensures pointers { IfOk result (λ blocks. 12 < length blocks.items
+            → IsHeld (pages_of self.now) inode.now.indirect) }
         ensures lack { IfErr result (MissingOf self.now (λ v b. (node v i).indirect ≡ Some b)) }
     {
         let count = count_for(inode.size);

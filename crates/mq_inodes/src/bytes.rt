@@ -26,7 +26,8 @@ impl<'a> Working<'a> {
         requires held { All (IsHeld (pages_of self.now)) blocks.now }
         requires skip { skip ≤ 4096 }
         requires count { count ≤ 4243456 }
-        ensures { IfOk result (λ bytes. bytes.items ≡ take count (drop skip (bytes_at (pages_of self.now) blocks.now))) }
+        ensures { IfOk result (λ bytes. bytes.items ≡ take count
+            (drop skip (bytes_at (pages_of self.now) blocks.now))) }
     {
         let mut bytes = Vec::with_capacity(alloc, count)?;
         let mut skip = skip;
@@ -52,7 +53,9 @@ impl<'a> Working<'a> {
     ) -> Result<Vec<u8>, Missing>
         requires possible { HasVolume self.now }
         requires file { OfEach self.now (λ v. IsFileOf v i inode.now) }
-        ensures ok { IfOk result (λ found. OfEach self.now (λ v. (bytes : List ℕ) → body v i ≡ File bytes → found.items ≡ take count (drop at bytes))) }
+        ensures ok { IfOk result (λ found. OfEach self.now (λ v. (bytes : List ℕ)
+            → body v i ≡ File bytes
+            → found.items ≡ take count (drop at bytes))) }
         ensures lack { IfErr result (MissingOf self.now (λ v b. LooksInFile v i at count b)) }
     {
         let end = at.saturating_add(count).min(inode.size);

@@ -36,7 +36,8 @@ impl<'a> Working<'a> {
     /// The blocks that are written, and those that are freed, by rising block: those that were put
     /// otherwise than the view has them. Their content is not copied.
     pub fn difference(self, alloc: Global) -> Result<(Vec<Write>, Vec<BlockNo>), OutOfMemory>
-        ensures differs { IfOk result (λ found. Differs (view_of self.entry) (changed_of self.entry) found.0.items found.1.items) }
+        ensures differs { IfOk result (λ found. Differs (view_of self.entry)
+            (changed_of self.entry) found.0.items found.1.items) }
         ensures kinds { IfOk result (λ found. All (HasKind self.entry) found.0.items) }
     {
         let mut writes = Vec::new(alloc);

@@ -65,9 +65,11 @@ impl<'a> Working<'a> {
         requires kind { inode.now.kind ≡ 2 }
         ensures blocks { IfOk result (λ blocks. OfEach self.now (λ v. blocks.items ≡ (node v d).blocks)) }
         ensures held { IfOk result (λ blocks. AreDirsAt (pages_of self.now) blocks.items) }
-        ensures slots { IfOk result (λ blocks. OfEach self.now (λ v. body v d ≡ Dir (slots_at (pages_of self.now) blocks.items))) }
+        ensures slots { IfOk result (λ blocks. OfEach self.now
+            (λ v. body v d ≡ Dir (slots_at (pages_of self.now) blocks.items))) }
         ensures few { IfOk result (λ blocks. length blocks.items ≤ 1036) }
-        ensures pointers { IfOk result (λ blocks. 12 < length blocks.items → IsHeld (pages_of self.now) inode.now.indirect) }
+        ensures pointers { IfOk result (λ blocks. 12 < length blocks.items
+            → IsHeld (pages_of self.now) inode.now.indirect) }
         ensures lack { IfErr result (MissingOf self.now (λ v b. has_block (node v d) b ≡ true)) }
     {
         let blocks = self.blocks(alloc, d, inode)?;

@@ -48,7 +48,8 @@ impl<'a> Working<'a> {
         requires { IsMarkable self.old.geometry (pages_of self.old) b }
         ensures over { OnOk result (IsOver self.old self.new) }
         ensures kinds { OnOk result (KeepsKinds self.old self.new) }
-        ensures marked { OnOk result (IsBlockMarked self.old.geometry (pages_of self.old) (pages_of self.new) b value) }
+        ensures marked { OnOk result (IsBlockMarked self.old.geometry (pages_of self.old)
+            (pages_of self.new) b value) }
     {
         let place = b.0 - self.geometry.meta();
         let zone = self.geometry.zone();
@@ -82,7 +83,8 @@ impl<'a> Working<'a> {
         requires held { IsHeld (pages_of self.old) (inode_bitmap_of self.old.geometry) }
         ensures over { OnOk result (IsOver self.old self.new) }
         ensures kinds { OnOk result (KeepsKinds self.old self.new) }
-        ensures marked { OnOk result (IsInodeMarked self.old.geometry (pages_of self.old) (pages_of self.new) i value) }
+        ensures marked { OnOk result (IsInodeMarked self.old.geometry (pages_of self.old)
+            (pages_of self.new) i value) }
     {
         let bitmap = inode_bitmap(self.geometry);
         let mut marks = self.lift(alloc, bitmap)?;
@@ -98,7 +100,8 @@ impl<'a> Working<'a> {
         requires held { IsHeld (pages_of self.old) (inode_block_of self.old.geometry i) }
         ensures over { OnOk result (IsOver self.old self.new) }
         ensures kinds { OnOk result (KeepsKinds self.old self.new) }
-        ensures put { OnOk result (IsInodePut self.old.geometry (pages_of self.old) (pages_of self.new) i inode.now) }
+        ensures put { OnOk result (IsInodePut self.old.geometry (pages_of self.old)
+            (pages_of self.new) i inode.now) }
     {
         let b = inode_block(self.geometry, i);
         let mut table = self.lift(alloc, b)?;
@@ -141,7 +144,8 @@ impl<'a> Working<'a> {
         requires held { IsHeld (pages_of self.old) b }
         ensures over { OnOk result (IsOver self.old self.new) }
         ensures kinds { OnOk result (IsKindPut self.old self.new b (Some Meta)) }
-        ensures put { OnOk result (IsTextPut (pages_of self.old) (pages_of self.new) b (272 * at) (slot_bytes (record { inode = inode; name = name.now }))) }
+        ensures put { OnOk result (IsTextPut (pages_of self.old) (pages_of self.new) b (272 * at)
+            (slot_bytes (record { inode = inode; name = name.now }))) }
     {
         let mut slots = self.lift(alloc, b)?;
         write_slot(&mut slots, at, inode, name);
@@ -160,7 +164,8 @@ impl<'a> Working<'a> {
         requires held { IsHeld (pages_of self.old) b }
         ensures over { OnOk result (IsOver self.old self.new) }
         ensures kinds { OnOk result (IsKindPut self.old self.new b (Some Meta)) }
-        ensures put { OnOk result (IsTextPut (pages_of self.old) (pages_of self.new) b (272 * at) (zero_bytes 272)) }
+        ensures put { OnOk result (IsTextPut (pages_of self.old) (pages_of self.new) b (272 * at)
+            (zero_bytes 272)) }
     {
         let mut slots = self.lift(alloc, b)?;
         clear_slot(&mut slots, at);

@@ -48,7 +48,9 @@ fn lengthen(inode: &mut Inode, count: u32, b: BlockNo)
 impl<'a> Working<'a> {
     /// Takes a block for the pointers beyond the twelfth.
     fn point(&mut self, alloc: Global, o: &mut Opened, b: BlockNo) -> Result<(), OutOfMemory>
-        requires possible { (v : Volume) × Carries self.old.geometry (pages_of self.old) v × MayGet self.old.geometry v o.old b }
+        requires possible { (v : Volume)
+            × Carries self.old.geometry (pages_of self.old) v
+            × MayGet self.old.geometry v o.old b }
         requires twelve { length o.old.blocks.items ≡ 12 }
         requires none { o.old.inode.indirect ≡ 0 }
         requires pick { IsTakeable self.old.geometry (pages_of self.old) b }
@@ -56,7 +58,11 @@ impl<'a> Working<'a> {
         ensures over { OnOk result (IsOver self.old self.new) }
         ensures others { OnOk result (KeepsOthers (pages_of self.old) (pages_of self.new) b) }
         ensures indirect { OnOk result (HoldsIndirect (pages_of self.new) o.new.inode) }
-        ensures got { OnOk result ((v : Volume) → Carries self.old.geometry (pages_of self.old) v → MayGet self.old.geometry v o.old b → HasGot self.old.geometry v (with_pointers v o.old.number (Some b)) self.old self.new o.old o.new) }
+        ensures got { OnOk result ((v : Volume)
+            → Carries self.old.geometry (pages_of self.old) v
+            → MayGet self.old.geometry v o.old b
+            → HasGot self.old.geometry v
+            (with_pointers v o.old.number (Some b)) self.old self.new o.old o.new) }
     {
         self.take(alloc, b, Kind::Meta)?;
         o.inode.indirect = b.0;
@@ -65,7 +71,9 @@ impl<'a> Working<'a> {
 
     /// Takes the next block.
     fn append(&mut self, alloc: Global, o: &mut Opened, b: BlockNo) -> Result<(), OutOfMemory>
-        requires possible { (v : Volume) × Carries self.old.geometry (pages_of self.old) v × MayGet self.old.geometry v o.old b }
+        requires possible { (v : Volume)
+            × Carries self.old.geometry (pages_of self.old) v
+            × MayGet self.old.geometry v o.old b }
         requires far { 12 ≤ length o.old.blocks.items → o.old.inode.indirect ≢ 0 }
         requires pick { IsTakeable self.old.geometry (pages_of self.old) b }
         requires table { IsHeld (pages_of self.old) (inode_block_of self.old.geometry o.old.number) }
@@ -73,7 +81,11 @@ impl<'a> Working<'a> {
         ensures over { OnOk result (IsOver self.old self.new) }
         ensures others { OnOk result (KeepsOthers (pages_of self.old) (pages_of self.new) b) }
         ensures indirect { OnOk result (HoldsIndirect (pages_of self.new) o.new.inode) }
-        ensures got { OnOk result ((v : Volume) → Carries self.old.geometry (pages_of self.old) v → MayGet self.old.geometry v o.old b → HasGot self.old.geometry v (with_block v o.old.number (Some b)) self.old self.new o.old o.new) }
+        ensures got { OnOk result ((v : Volume)
+            → Carries self.old.geometry (pages_of self.old) v
+            → MayGet self.old.geometry v o.old b
+            → HasGot self.old.geometry v
+            (with_block v o.old.number (Some b)) self.old self.new o.old o.new) }
     {
         self.take(alloc, b, kind_in(&o.inode))?;
         let count = o.blocks.len() as u32;
@@ -91,14 +103,19 @@ impl<'a> Working<'a> {
 
     /// Takes a block, for the pointers or for the next part.
     fn add(&mut self, alloc: Global, o: &mut Opened, b: BlockNo) -> Result<(), OutOfMemory>
-        requires possible { (v : Volume) × Carries self.old.geometry (pages_of self.old) v × MayGet self.old.geometry v o.old b }
+        requires possible { (v : Volume)
+            × Carries self.old.geometry (pages_of self.old) v
+            × MayGet self.old.geometry v o.old b }
         requires pick { IsTakeable self.old.geometry (pages_of self.old) b }
         requires table { IsHeld (pages_of self.old) (inode_block_of self.old.geometry o.old.number) }
         requires pointers { HoldsIndirect (pages_of self.old) o.old.inode }
         ensures over { OnOk result (IsOver self.old self.new) }
         ensures others { OnOk result (KeepsOthers (pages_of self.old) (pages_of self.new) b) }
         ensures indirect { OnOk result (HoldsIndirect (pages_of self.new) o.new.inode) }
-        ensures got { OnOk result ((v : Volume) → Carries self.old.geometry (pages_of self.old) v → MayGet self.old.geometry v o.old b → HasGot self.old.geometry v (with_one v o.old.number b) self.old self.new o.old o.new) }
+        ensures got { OnOk result ((v : Volume)
+            → Carries self.old.geometry (pages_of self.old) v
+            → MayGet self.old.geometry v o.old b
+            → HasGot self.old.geometry v (with_one v o.old.number b) self.old self.new o.old o.new) }
     {
         if o.blocks.len() == DIRECT as usize && o.inode.indirect == 0 {
             self.point(alloc, o, b)
@@ -114,12 +131,19 @@ impl<'a> Working<'a> {
         o: &mut Opened,
         picks: &[BlockNo],
     ) -> Result<(), OutOfMemory>
-        requires possible { (q : ℕ) × (v : Volume) × (count : ℕ) × Carries self.old.geometry (pages_of self.old) v × MayGrow self.old.geometry q v o.old picks.now count }
+        requires possible { (q : ℕ)
+            × (v : Volume)
+            × (count : ℕ)
+            × Carries self.old.geometry (pages_of self.old) v
+            × MayGrow self.old.geometry q v o.old picks.now count }
         requires picks { All (IsTakeable self.old.geometry (pages_of self.old)) picks.now }
         requires table { IsHeld (pages_of self.old) (inode_block_of self.old.geometry o.old.number) }
         requires pointers { HoldsPointers (pages_of self.old) o.old }
         ensures over { OnOk result (IsOver self.old self.new) }
-        ensures grown { OnOk result ((q : ℕ) (v : Volume) (count : ℕ) → Carries self.old.geometry (pages_of self.old) v → MayGrow self.old.geometry q v o.old picks.now count → HasGrown self.old.geometry q v self.old self.new o.old o.new count) }
+        ensures grown { OnOk result ((q : ℕ) (v : Volume) (count : ℕ)
+            → Carries self.old.geometry (pages_of self.old) v
+            → MayGrow self.old.geometry q v o.old picks.now count
+            → HasGrown self.old.geometry q v self.old self.new o.old o.new count) }
         ensures held { OnOk result (HoldsPointers (pages_of self.new) o.new) }
     {
         for b in picks {

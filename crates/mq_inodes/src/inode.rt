@@ -18,7 +18,8 @@ impl<'a> Working<'a> {
         requires possible { HasVolume self.now }
         ensures ok { IfOk result (λ inode. OfEach self.now (λ v. inode ≡ inode_of (node v i))) }
         ensures held { IfOk result (λ _. IsHeld (pages_of self.now) (inode_block_of self.now.geometry i)) }
-        ensures lack { IfErr result (MissingPages (pages_of self.now) (λ b. b ≡ inode_block_of self.now.geometry i)) }
+        ensures lack { IfErr result (MissingPages (pages_of self.now)
+            (λ b. b ≡ inode_block_of self.now.geometry i)) }
     {
         let block = self.content(alloc, inode_block(self.geometry, i))?;
         match read_inode(block, inode_place(i)) {

@@ -56,15 +56,22 @@ impl<'a> Working<'a> {
         blocks: &[BlockNo],
         name: &[u8],
     ) -> Result<(), OutOfMemory>
-        requires possible { (v : Volume) × (d : ℕ) × Carries self.old.geometry (pages_of self.old) v × MayUnlink self.old.geometry v d blocks.now }
+        requires possible { (v : Volume)
+            × (d : ℕ)
+            × Carries self.old.geometry (pages_of self.old) v
+            × MayUnlink self.old.geometry v d blocks.now }
         requires held { AreDirsAt (pages_of self.old) blocks.now }
         requires few { length blocks.now ≤ 1036 }
         requires found { find_name name.now (slots_at (pages_of self.old) blocks.now) ≢ None }
         ensures over { OnOk result (IsOver self.old self.new) }
-        ensures unlinked { OnOk result ((v : Volume) (d : ℕ) → Carries self.old.geometry (pages_of self.old) v → MayUnlink self.old.geometry v d blocks.now → Becomes self.old.geometry v (unlinked v d name.now) self.old self.new) }
+        ensures unlinked { OnOk result ((v : Volume) (d : ℕ)
+            → Carries self.old.geometry (pages_of self.old) v
+            → MayUnlink self.old.geometry v d blocks.now
+            → Becomes self.old.geometry v (unlinked v d name.now) self.old self.new) }
         ensures keeps { OnOk result (KeepsHeld (pages_of self.old) (pages_of self.new)) }
         ensures dirs { OnOk result (AreDirsAt (pages_of self.new) blocks.now) }
-        ensures slots { OnOk result (slots_at (pages_of self.new) blocks.now ≡ cleared name.now (slots_at (pages_of self.old) blocks.now)) }
+        ensures slots { OnOk result (slots_at (pages_of self.new) blocks.now ≡ cleared name.now
+            (slots_at (pages_of self.old) blocks.now)) }
     {
         let Some(slot) = self.slot_of(blocks, name) else {
             unreachable!();
@@ -85,14 +92,22 @@ impl<'a> Working<'a> {
         name: &[u8],
         picks: &[BlockNo],
     ) -> Result<(), OutOfMemory>
-        requires possible { (q : ℕ) × (v : Volume) × Carries self.old.geometry (pages_of self.old) v × MayLink self.old.geometry q v o.old (record { inode = inode; name = name.now }) picks.now }
+        requires possible { (q : ℕ)
+            × (v : Volume)
+            × Carries self.old.geometry (pages_of self.old) v
+            × MayLink self.old.geometry q v o.old (record { inode = inode; name = name.now }) picks.now }
         requires held { AreDirsAt (pages_of self.old) o.old.blocks.items }
         requires few { length o.old.blocks.items ≤ 1036 }
         requires picks { All (IsTakeable self.old.geometry (pages_of self.old)) picks.now }
         requires table { IsHeld (pages_of self.old) (inode_block_of self.old.geometry o.old.number) }
         requires pointers { HoldsPointers (pages_of self.old) o.old }
         ensures over { OnOk result (IsOver self.old self.new) }
-        ensures linked { OnOk result ((q : ℕ) (v : Volume) → Carries self.old.geometry (pages_of self.old) v → MayLink self.old.geometry q v o.old (record { inode = inode; name = name.now }) picks.now → Becomes self.old.geometry v (linked self.old.geometry q v o.old.number (record { inode = inode; name = name.now })) self.old self.new) }
+        ensures linked { OnOk result ((q : ℕ) (v : Volume)
+            → Carries self.old.geometry (pages_of self.old) v
+            → MayLink self.old.geometry q v o.old (record { inode = inode; name = name.now }) picks.now
+            → Becomes self.old.geometry v
+            (linked self.old.geometry q v o.old.number
+            (record { inode = inode; name = name.now })) self.old self.new) }
     {
         if let Some(slot) = self.unused(&o.blocks) {
             return self.put_slot(

@@ -32,7 +32,8 @@ impl<'a> Working<'a> {
         requires dir { OfEach self.now (λ v. IsDirectory v d) }
         ensures number { IfOk result (λ o. o.number ≡ d) }
         ensures opened { IfOk result (λ o. OfEach self.now (λ v. IsOpened self.now.geometry v o)) }
-        ensures slots { IfOk result (λ o. OfEach self.now (λ v. body v d ≡ Dir (slots_at (pages_of self.now) o.blocks.items))) }
+        ensures slots { IfOk result (λ o. OfEach self.now
+            (λ v. body v d ≡ Dir (slots_at (pages_of self.now) o.blocks.items))) }
         ensures dirs { IfOk result (λ o. AreDirsAt (pages_of self.now) o.blocks.items) }
         ensures few { IfOk result (λ o. length o.blocks.items ≤ 1036) }
         ensures table { IfOk result (λ o. IsHeld (pages_of self.now) (inode_block_of self.now.geometry d)) }
@@ -69,7 +70,8 @@ impl<'a> Working<'a> {
     pub fn link_need(&self, blocks: &[BlockNo]) -> u32
         requires held { AreDirsAt (pages_of self.now) blocks.now }
         requires few { length blocks.now ≤ 1036 }
-        ensures { result ≡ entry_needs (length blocks.now) (unused_in 0 (slots_at (pages_of self.now) blocks.now)) }
+        ensures { result ≡ entry_needs (length blocks.now)
+            (unused_in 0 (slots_at (pages_of self.now) blocks.now)) }
     {
         let count = blocks.len() as u32;
         match self.unused(blocks) {

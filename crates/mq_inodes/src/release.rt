@@ -85,8 +85,11 @@ impl<'a> Working<'a> {
     /// Frees the blocks of an inode from this one on, and that of its pointers where it needs none any more.
     fn release_from(&mut self, alloc: Global, o: &Opened, count: u32) -> Result<(), OutOfMemory>
         requires few { count ≤ length o.now.blocks.items }
-        requires blocks { All (IsReleasable self.old.geometry (pages_of self.old)) (drop count o.now.blocks.items) }
-        requires pointers { count ≤ 12 → 12 < length o.now.blocks.items → IsReleasable self.old.geometry (pages_of self.old) o.now.inode.indirect }
+        requires blocks { All (IsReleasable self.old.geometry (pages_of self.old))
+            (drop count o.now.blocks.items) }
+        requires pointers { count ≤ 12
+            → 12 < length o.now.blocks.items
+            → IsReleasable self.old.geometry (pages_of self.old) o.now.inode.indirect }
         ensures { OnOk result (Releases self.old self.new (gone_from o.now count)) }
     {
         self.release(alloc, &o.blocks[count as usize..])?;
@@ -119,13 +122,19 @@ impl<'a> Working<'a> {
 
     /// Frees an inode with all its blocks.
     pub fn free_inode_of(&mut self, alloc: Global, o: &Opened) -> Result<(), OutOfMemory>
-        requires possible { (v : Volume) × Carries self.old.geometry (pages_of self.old) v × IsOpened self.old.geometry v o.now }
+        requires possible { (v : Volume)
+            × Carries self.old.geometry (pages_of self.old) v
+            × IsOpened self.old.geometry v o.now }
         requires table { IsHeld (pages_of self.old) (inode_block_of self.old.geometry o.now.number) }
         requires marks { IsHeld (pages_of self.old) (inode_bitmap_of self.old.geometry) }
         requires blocks { All (IsReleasable self.old.geometry (pages_of self.old)) o.now.blocks.items }
-        requires pointers { 12 < length o.now.blocks.items → IsReleasable self.old.geometry (pages_of self.old) o.now.inode.indirect }
+        requires pointers { 12 < length o.now.blocks.items
+            → IsReleasable self.old.geometry (pages_of self.old) o.now.inode.indirect }
         ensures over { OnOk result (IsOver self.old self.new) }
-        ensures freed { OnOk result ((v : Volume) → Carries self.old.geometry (pages_of self.old) v → IsOpened self.old.geometry v o.now → Becomes self.old.geometry v (freed v o.now.number) self.old self.new) }
+        ensures freed { OnOk result ((v : Volume)
+            → Carries self.old.geometry (pages_of self.old) v
+            → IsOpened self.old.geometry v o.now
+            → Becomes self.old.geometry v (freed v o.now.number) self.old self.new) }
     {
         self.release_from(alloc, o, 0)?;
         self.mark_inode(alloc, o.number, false)?;
@@ -140,13 +149,24 @@ impl<'a> Working<'a> {
         count: u32,
         size: u64,
     ) -> Result<(), OutOfMemory>
-        requires possible { (v : Volume) × (bytes now : List ℕ) × Carries self.old.geometry (pages_of self.old) v × MayCut self.old.geometry v o.now count bytes now × (length now ≡ size) }
+        requires possible { (v : Volume)
+            × (bytes now : List ℕ)
+            × Carries self.old.geometry (pages_of self.old) v
+            × MayCut self.old.geometry v o.now count bytes now
+            × (length now ≡ size) }
         requires table { IsHeld (pages_of self.old) (inode_block_of self.old.geometry o.now.number) }
-        requires blocks { All (IsReleasable self.old.geometry (pages_of self.old)) (drop count o.now.blocks.items) }
+        requires blocks { All (IsReleasable self.old.geometry (pages_of self.old))
+            (drop count o.now.blocks.items) }
         requires pointers { HoldsPointers (pages_of self.old) o.now }
-        requires release { count ≤ 12 → 12 < length o.now.blocks.items → IsReleasable self.old.geometry (pages_of self.old) o.now.inode.indirect }
+        requires release { count ≤ 12
+            → 12 < length o.now.blocks.items
+            → IsReleasable self.old.geometry (pages_of self.old) o.now.inode.indirect }
         ensures over { OnOk result (IsOver self.old self.new) }
-        ensures cut { OnOk result ((v : Volume) (bytes now : List ℕ) → Carries self.old.geometry (pages_of self.old) v → MayCut self.old.geometry v o.now count bytes now → length now ≡ size → Becomes self.old.geometry v (cut_file v o.now.number count now) self.old self.new) }
+        ensures cut { OnOk result ((v : Volume) (bytes now : List ℕ)
+            → Carries self.old.geometry (pages_of self.old) v
+            → MayCut self.old.geometry v o.now count bytes now
+            → length now ≡ size
+            → Becomes self.old.geometry v (cut_file v o.now.number count now) self.old self.new) }
     {
         self.release_from(alloc, o, count)?;
         let have = o.blocks.len();

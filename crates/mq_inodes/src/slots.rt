@@ -32,7 +32,8 @@ fn name_at(block: &Block, at: u32, length: u8) -> &[u8]
 pub fn entry(block: &Block, at: u32) -> Option<(u32, &[u8])>
     requires at { at < 15 }
     requires form { IsDirBlock block.now }
-    ensures { MatchOption result (slot_of block.now at ≡ None) (λ e. slot_of block.now at ≡ Some (record { inode = e.0; name = e.1.now })) }
+    ensures { MatchOption result (slot_of block.now at ≡ None)
+        (λ e. slot_of block.now at ≡ Some (record { inode = e.0; name = e.1.now })) }
 {
     let bytes = block.bytes();
     let start = SLOT * at as usize;

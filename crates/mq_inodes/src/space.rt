@@ -27,7 +27,9 @@ fn push_free(
 ) -> Result<(), OutOfMemory>
     requires zone { zone < queues_of geometry }
     requires few { length picks.old.items ≤ count }
-    ensures { OnOk result ((v : Volume) → ShowsMarks marks.now (zone_marked geometry v zone) → picks.new.items ≡ take count (picks.old.items ++ free_of v (zone_blocks geometry zone))) }
+    ensures { OnOk result ((v : Volume)
+        → ShowsMarks marks.now (zone_marked geometry v zone)
+        → picks.new.items ≡ take count (picks.old.items ++ free_of v (zone_blocks geometry zone))) }
 {
     let size = geometry.zone();
     let start = geometry.meta() + zone.0 * size;
@@ -54,9 +56,13 @@ impl<'a> Working<'a> {
         requires possible { HasVolume self.now }
         requires zone { zone < queues_of self.now.geometry }
         requires few { length picks.old.items ≤ count }
-        ensures ok { OnOk result (OfEach self.now (λ v. picks.new.items ≡ take count (picks.old.items ++ free_of v (zone_blocks self.now.geometry zone)))) }
-        ensures marks { OnOk result (All (IsMarkable self.now.geometry (pages_of self.now)) picks.old.items → All (IsMarkable self.now.geometry (pages_of self.now)) picks.new.items) }
-        ensures lack { IfErr result (MissingOf self.now (λ v b. (b ≡ zone_bitmap_of zone) × (length picks.old.items < count))) }
+        ensures ok { OnOk result (OfEach self.now
+            (λ v. picks.new.items ≡ take count
+            (picks.old.items ++ free_of v (zone_blocks self.now.geometry zone)))) }
+        ensures marks { OnOk result (All (IsMarkable self.now.geometry (pages_of self.now)) picks.old.items
+            → All (IsMarkable self.now.geometry (pages_of self.now)) picks.new.items) }
+        ensures lack { IfErr result (MissingOf self.now (λ v b. (b ≡ zone_bitmap_of zone)
+            × (length picks.old.items < count))) }
     {
         if picks.len() >= count as usize {
             return Ok(());
@@ -70,9 +76,12 @@ impl<'a> Working<'a> {
     fn found(&self, alloc: Global, queue: QueueNo, count: u32) -> Result<Vec<BlockNo>, Missing>
         requires possible { HasVolume self.now }
         requires queue { queue < queues_of self.now.geometry }
-        ensures ok { IfOk result (λ picks. OfEach self.now (λ v. picks.items ≡ take count (free_of v (order self.now.geometry queue)))) }
-        ensures marks { IfOk result (λ picks. All (IsMarkable self.now.geometry (pages_of self.now)) picks.items) }
-        ensures lack { IfErr result (MissingOf self.now (λ v b. IsSearched self.now.geometry queue v count b)) }
+        ensures ok { IfOk result (λ picks. OfEach self.now
+            (λ v. picks.items ≡ take count (free_of v (order self.now.geometry queue)))) }
+        ensures marks { IfOk result (λ picks. All
+            (IsMarkable self.now.geometry (pages_of self.now)) picks.items) }
+        ensures lack { IfErr result (MissingOf self.now
+            (λ v b. IsSearched self.now.geometry queue v count b)) }
     {
         let mut picks = Vec::new(alloc);
         self.search(alloc, queue, count, &mut picks)?;
@@ -94,9 +103,13 @@ impl<'a> Working<'a> {
     ) -> Result<Option<Vec<BlockNo>>, Missing>
         requires possible { HasVolume self.now }
         requires queue { queue < queues_of self.now.geometry }
-        ensures ok { IfOk result (λ found. OfEach self.now (λ v. MatchOption found (free_blocks self.now.geometry v < count) (λ picks. ArePicked self.now.geometry queue v count picks.items))) }
-        ensures marks { IfOk result (λ found. MatchOption found ⊤ (λ picks. All (IsMarkable self.now.geometry (pages_of self.now)) picks.items)) }
-        ensures lack { IfErr result (MissingOf self.now (λ v b. IsSearched self.now.geometry queue v count b)) }
+        ensures ok { IfOk result (λ found. OfEach self.now
+            (λ v. MatchOption found (free_blocks self.now.geometry v < count)
+            (λ picks. ArePicked self.now.geometry queue v count picks.items))) }
+        ensures marks { IfOk result (λ found. MatchOption found ⊤
+            (λ picks. All (IsMarkable self.now.geometry (pages_of self.now)) picks.items)) }
+        ensures lack { IfErr result (MissingOf self.now
+            (λ v b. IsSearched self.now.geometry queue v count b)) }
     {
         let picks = self.found(alloc, queue, count)?;
         if picks.len() < count as usize {

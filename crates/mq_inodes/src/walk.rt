@@ -28,7 +28,8 @@ impl<'a> Working<'a> {
     pub(crate) fn lookup(&self, alloc: Global, d: u32, name: &Name) -> Result<Option<u32>, Missing>
         requires possible { HasVolume self.now }
         requires dir { OfEach self.now (λ v. IsDirectory v d) }
-        ensures ok { IfOk result (λ found. OfEach self.now (λ v. found ≡ find_name name.now (slots_of (body v d)))) }
+        ensures ok { IfOk result (λ found. OfEach self.now
+            (λ v. found ≡ find_name name.now (slots_of (body v d)))) }
         ensures lack { IfErr result (MissingOf self.now (λ v b. LooksIn self.now.geometry v d b)) }
     {
         let inode = self.inode(alloc, d)?;
@@ -40,8 +41,10 @@ impl<'a> Working<'a> {
     fn enter(&self, alloc: Global, d: u32, name: &Name) -> Result<Result<u32, Fault>, Missing>
         requires possible { HasVolume self.now }
         requires dir { OfEach self.now (λ v. IsDirectory v d) }
-        ensures ok { IfOk result (λ entered. OfEach self.now (λ v. entered ≡ enter_found v (find_name name.now (slots_of (body v d))))) }
-        ensures lack { IfErr result (MissingOf self.now (λ v b. LooksUnder self.now.geometry v d name.now b)) }
+        ensures ok { IfOk result (λ entered. OfEach self.now
+            (λ v. entered ≡ enter_found v (find_name name.now (slots_of (body v d))))) }
+        ensures lack { IfErr result (MissingOf self.now
+            (λ v b. LooksUnder self.now.geometry v d name.now b)) }
     {
         let Some(i) = self.lookup(alloc, d, name)? else {
             return Ok(Err(Fault::NotFound));
@@ -58,7 +61,8 @@ impl<'a> Working<'a> {
     fn walk(&self, alloc: Global, names: &[Name]) -> Result<Result<u32, Fault>, Missing>
         requires { HasVolume self.now }
         ensures ok { IfOk result (λ end. OfEach self.now (λ v. end ≡ walk_of v (way names.now))) }
-        ensures lack { IfErr result (MissingOf self.now (λ v b. LeadsPast self.now.geometry v (way names.now) b)) }
+        ensures lack { IfErr result (MissingOf self.now
+            (λ v b. LeadsPast self.now.geometry v (way names.now) b)) }
     {
         let mut at = 0;
         for name in names {
@@ -73,8 +77,10 @@ impl<'a> Working<'a> {
     /// What a path names.
     pub fn target(&self, alloc: Global, path: &Path) -> Result<Target, Missing>
         requires { HasVolume self.now }
-        ensures ok { IfOk result (λ target. OfEach self.now (λ v. named (way path.now) target ≡ target_of v (way path.now))) }
-        ensures lack { IfErr result (MissingOf self.now (λ v b. LeadsPast self.now.geometry v (way path.now) b)) }
+        ensures ok { IfOk result (λ target. OfEach self.now
+            (λ v. named (way path.now) target ≡ target_of v (way path.now))) }
+        ensures lack { IfErr result (MissingOf self.now
+            (λ v b. LeadsPast self.now.geometry v (way path.now) b)) }
     {
         let Some((last, names)) = path.0.split_last() else {
             return Ok(Target::Root);

@@ -24,7 +24,9 @@ pub struct Slot {
 pub fn read_slot(block: &Block, at: u32) -> Result<Option<Slot>, LayoutRefusal>
     requires { at < 15 }
     ensures sound { IfOk result (λ o. ShowsSlot block.now at (entry_of block.now at o)) }
-    ensures complete { (e : Option Entry) → ShowsSlot block.now at e → MatchResult result (λ o. entry_of block.now at o ≡ e) (λ _. ⊥) }
+    ensures complete { (e : Option Entry)
+        → ShowsSlot block.now at e
+        → MatchResult result (λ o. entry_of block.now at o ≡ e) (λ _. ⊥) }
     ensures refused { IfErr result (λ e. wrong_slot block.now at ≡ Some e) }
     ensures exact { (e : LayoutRefusal) → wrong_slot block.now at ≡ Some e → IsErrOf result e }
 {
@@ -73,7 +75,8 @@ fn check_used(block: &[u8], start: usize) -> Result<(), LayoutRefusal>
 pub fn write_slot(into: &mut Block, at: u32, inode: u32, name: &[u8])
     requires at { at < 15 }
     requires name { IsName name.now }
-    ensures { into.new ≡ written into.old (272 * at) (slot_bytes (record { inode = inode; name = name.now })) }
+    ensures { into.new ≡ written into.old (272 * at)
+        (slot_bytes (record { inode = inode; name = name.now })) }
 {
     put_slot(into.bytes_mut(), SIZE * at as usize, inode, name);
 }

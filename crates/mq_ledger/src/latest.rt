@@ -113,8 +113,14 @@ fn written(tx: &Tx, at: usize) -> &Content
 /// The transaction of a number, of those after a base.
 pub fn numbered(history: &[Tx], base: u64, number: u64) -> &Tx
     requires numbers { AreNumbered base (reverse history.now) }
-    requires there { (t : Record) × (ts : List Record) × IsAt t ts (reverse history.now) × (t.number ≡ number) }
-    ensures { (t : Record) (ts : List Record) → IsAt t ts (reverse history.now) → t.number ≡ number → result.now ≡ t }
+    requires there { (t : Record)
+        × (ts : List Record)
+        × IsAt t ts (reverse history.now)
+        × (t.number ≡ number) }
+    ensures { (t : Record) (ts : List Record)
+        → IsAt t ts (reverse history.now)
+        → t.number ≡ number
+        → result.now ≡ t }
 {
     &history[(number - base - 1) as usize]
 }
@@ -131,7 +137,9 @@ pub fn find<'a>(
     requires numbers { AreNumbered base (reverse history.now) }
     requires block { block < length start.now }
     requires place { (c : Option (List ℕ)) × Stands start.now (reverse history.now) block place c }
-    ensures { (c : Option (List ℕ)) → Stands start.now (reverse history.now) block place c → MatchOption result (c ≡ None) (λ v. c ≡ Some v.now) }
+    ensures { (c : Option (List ℕ))
+        → Stands start.now (reverse history.now) block place c
+        → MatchOption result (c ≡ None) (λ v. c ≡ Some v.now) }
 {
     match place {
         Place::Free => None,

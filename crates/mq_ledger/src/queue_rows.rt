@@ -111,7 +111,8 @@ impl QueueRows {
 /// Adds a row at a queue's end.
 pub fn add_row(queue_rows: &mut Vec<QueueRows>, queue: QueueNo, row: Row) -> Result<(), OutOfMemory>
     requires { queue < length queue_rows.old.items }
-    ensures ok { OnOk result (queue_rows.new.items ≡ slice_set queue_rows.old.items queue (slice_index_or queue_rows.old.items queue [] ++ row ∷ [])) }
+    ensures ok { OnOk result (queue_rows.new.items ≡ slice_set queue_rows.old.items queue
+        (slice_index_or queue_rows.old.items queue [] ++ row ∷ [])) }
     ensures refused { OnErr result (queue_rows.new.items ≡ queue_rows.old.items) }
 {
     let lane = &mut queue_rows[queue.0 as usize];

@@ -173,7 +173,8 @@ impl Ledger {
     /// What stands on a home block after the whole history, or `None` for a free block.
     pub fn content(&self, block: BlockNo) -> Option<&Content>
         requires { block < homes_of self.now.geometry }
-        ensures { MatchOption result (map_after (start_map self.now.start) self.now.history block ≡ None) (λ c. map_after (start_map self.now.start) self.now.history block ≡ Some c.now) }
+        ensures { MatchOption result (map_after (start_map self.now.start) self.now.history block ≡ None)
+            (λ c. map_after (start_map self.now.start) self.now.history block ≡ Some c.now) }
     {
         let place = self.newest_of(block).place;
         find(&self.start, self.base, &self.history, block, place)
@@ -190,7 +191,10 @@ impl Ledger {
     /// What stands on a home block after the transactions up to the front.
     pub fn settled_content(&self, block: BlockNo) -> Option<&Content>
         requires { block < homes_of self.now.geometry }
-        ensures { MatchOption result (map_after (start_map self.now.start) (upto self.now.front self.now.history) block ≡ None) (λ c. map_after (start_map self.now.start) (upto self.now.front self.now.history) block ≡ Some c.now) }
+        ensures { MatchOption result (map_after (start_map self.now.start)
+            (upto self.now.front self.now.history) block ≡ None)
+            (λ c. map_after (start_map self.now.start)
+            (upto self.now.front self.now.history) block ≡ Some c.now) }
     {
         let place = self.settled_of(block).place;
         find(&self.start, self.base, &self.history, block, place)
@@ -249,7 +253,8 @@ impl Ledger {
         requires queue { queue < self.now.geometry.queues }
         requires low { from_of self.now queue ≤ count }
         requires high { count < end_of (from_of self.now queue) (own self.now queue) }
-        ensures { IfOk result (IsStaged self.now.geometry queue (item_at (from_of self.now queue) (own self.now queue) count)) }
+        ensures { IfOk result (IsStaged self.now.geometry queue
+            (item_at (from_of self.now queue) (own self.now queue) count)) }
     {
         let at = self.ended(queue, count);
         let before = self.row_at(queue, at);
@@ -266,7 +271,8 @@ impl Ledger {
 
     /// Where the transaction after the front ends, or `None` where all are done.
     pub fn next_end(&self) -> Option<QueueEnd>
-        ensures is { MatchOption result (self.now.base + length self.now.history ≤ self.now.front) (λ e. IsNextEnd self.now e) }
+        ensures is { MatchOption result (self.now.base + length self.now.history ≤ self.now.front)
+            (λ e. IsNextEnd self.now e) }
         ensures numbers { AreNumbered self.now.base self.now.history }
     {
         let at = (self.front - self.base) as usize;
@@ -327,7 +333,8 @@ impl Ledger {
 
     fn settled_of(&self, block: BlockNo) -> Latest
         requires { block < homes_of self.now.geometry }
-        ensures is { IsLatest self.now.start self.now.base (upto self.now.front self.now.history) block result }
+        ensures is { IsLatest self.now.start self.now.base
+            (upto self.now.front self.now.history) block result }
         ensures limit { result.change ≤ number_limit }
     {
         self.settled[block.0 as usize]
@@ -346,7 +353,10 @@ impl Ledger {
     fn row_at(&self, queue: QueueNo, at: usize) -> Row
         requires queue { queue < self.now.geometry.queues }
         requires at { at ≤ length (own self.now queue) }
-        ensures { (txs : List Record) → IsPart txs (own self.now queue) → length txs ≡ at → result ≡ row_of (from_of self.now queue) txs }
+        ensures { (txs : List Record)
+            → IsPart txs (own self.now queue)
+            → length txs ≡ at
+            → result ≡ row_of (from_of self.now queue) txs }
     {
         let from = self.starts[queue.0 as usize];
         self.queue_rows[queue.0 as usize].before(from, at)
@@ -356,7 +366,10 @@ impl Ledger {
     fn number_at(&self, queue: QueueNo, at: usize) -> u64
         requires queue { queue < self.now.geometry.queues }
         requires at { at < length (own self.now queue) }
-        ensures { (t : Record) (txs : List Record) → IsAt t txs (own self.now queue) → length txs ≡ at → result ≡ t.number }
+        ensures { (t : Record) (txs : List Record)
+            → IsAt t txs (own self.now queue)
+            → length txs ≡ at
+            → result ≡ t.number }
     {
         self.queue_rows[queue.0 as usize].number(at)
     }
@@ -391,7 +404,8 @@ impl Ledger {
     }
 
     fn is_next(&self, number: TxNo) -> bool
-        ensures { IsTrue result ↔ ((number ≡ self.now.base + length self.now.history + 1) × (number ≤ number_limit)) }
+        ensures { IsTrue result
+            ↔ ((number ≡ self.now.base + length self.now.history + 1) × (number ≤ number_limit)) }
     {
         number.0 == self.last().0 + 1 && number.0 <= LIMIT
     }

@@ -59,7 +59,9 @@ fn logged_blocks(alloc: Global, writes: &[(BlockNo, Content)]) -> Result<Vec<Blo
 fn describe(alloc: Global, geometry: Geometry, tx: &Tx, before: Row) -> Result<Content, OutOfMemory>
     requires form { IsTx geometry tx.now }
     requires places { before.next + length tx.now.logged < 2 ^ 62 }
-    ensures { IfOk result (λ c. (txs : List Record) → IsBehind before txs → c ≡ descriptor_bytes (descriptor_for tx.now txs)) }
+    ensures { IfOk result (λ c. (txs : List Record)
+        → IsBehind before txs
+        → c ≡ descriptor_bytes (descriptor_for tx.now txs)) }
 {
     let logged = logged_blocks(alloc, tx.logged.as_slice())?;
     let descriptor = Descriptor {
@@ -88,7 +90,9 @@ pub fn stage_entry(
     requires form { IsTx geometry tx.now }
     requires places { before.next + length tx.now.logged < 2 ^ 62 }
     requires index { index ≤ writes tx.now }
-    ensures { IfOk result (λ s. (txs : List Record) → IsBehind before txs → IsStaged geometry tx.now.queue (item_of tx.now txs index) s) }
+    ensures { IfOk result (λ s. (txs : List Record)
+        → IsBehind before txs
+        → IsStaged geometry tx.now.queue (item_of tx.now txs index) s) }
 {
     let logged = tx.logged.as_slice();
     let direct = tx.direct.as_slice();

@@ -122,7 +122,8 @@ impl Entry {
         requires apart { field ≢ other }
         requires fits { value < 2 ^ (submission_place field).width }
         ensures value { get_field (submission_place field) result ≡ value }
-        ensures other { get_field (submission_place other) result ≡ get_field (submission_place other) self.now }
+        ensures other { get_field (submission_place other) result ≡ get_field
+            (submission_place other) self.now }
         ensures bits { AreSameOutside (submission_place field) result self.now }
     {
         let mut entry = *self;
@@ -142,7 +143,8 @@ impl Completion {
         requires apart { field ≢ other }
         requires fits { value < 2 ^ (completion_place field).width }
         ensures value { get_field (completion_place field) result ≡ value }
-        ensures other { get_field (completion_place other) result ≡ get_field (completion_place other) self.now }
+        ensures other { get_field (completion_place other) result ≡ get_field
+            (completion_place other) self.now }
         ensures bits { AreSameOutside (completion_place field) result self.now }
     {
         let mut completion = *self;

@@ -174,7 +174,8 @@ fn common_refusal(entry: &Entry) -> Option<EntryRefusal>
 // Whether a write has Force Unit Access and one of the two marks of a transaction's requests.
 #[tactic(auto, unfolding(crate::specs::Field::get_field, crate::specs::Field::bits_of))]
 fn is_marked(entry: &Entry) -> bool
-    ensures { result ≡ ((slice_index entry.now 12 / 65536 == 2 ^ 14 + 1) || (slice_index entry.now 12 / 65536 == 2 ^ 14 + 2)) }
+    ensures { result ≡ ((slice_index entry.now 12 / 65536 == 2 ^ 14 + 1) ||
+        (slice_index entry.now 12 / 65536 == 2 ^ 14 + 2)) }
 {
     Fua::get(entry) == 1
         && LimitedRetry::get(entry) == 0

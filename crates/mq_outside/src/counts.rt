@@ -45,7 +45,8 @@ impl Schedule {
         ensures listed { result ≡ list_any (λ n. n == self.new.calls) self.old.fail.items }
         ensures fail { self.new.fail ≡ self.old.fail }
         ensures calls { self.new.calls ≡ min (self.old.calls + 1) count_end }
-        ensures faults { MatchBool result (Rose self.old.faults self.new.faults) (self.new.faults ≡ self.old.faults) }
+        ensures faults { MatchBool result (Rose self.old.faults self.new.faults)
+            (self.new.faults ≡ self.old.faults) }
     {
         self.calls = counted(self.calls);
         let fails = self.fail.contains(&self.calls);

@@ -56,7 +56,8 @@ impl MemFiles {
 
     /// What the name holds.
     pub fn get(&self, name: &str) -> Option<&[u8]>
-        ensures { Tells (⟦<MemFiles as Files>⟧.told self.now) name.now (option_map (λ bytes. bytes.now) result) }
+        ensures { Tells (⟦<MemFiles as Files>⟧.told self.now) name.now
+            (option_map (λ bytes. bytes.now) result) }
     {
         names::held(self.entries.as_slice(), name)
     }
@@ -70,12 +71,16 @@ impl Files for MemFiles {
     ghost told = { λ f. Some (held_in f.entries.items) };
 
     fn load(&mut self, alloc: Global, name: &str) -> Result<Vec<u8>, LoadRefusal>
-        ensures gives { MatchResult result (λ v. Holds (Some (held_in self.old.entries.items)) name.now v.items) (λ e. LoadRefused e (Some (held_in self.old.entries.items)) name.now) }
+        ensures gives { MatchResult result (λ v. Holds
+            (Some (held_in self.old.entries.items)) name.now v.items)
+            (λ e. LoadRefused e (Some (held_in self.old.entries.items)) name.now) }
         ensures within { IfOk result (λ v. length v.items ≤ load_limit) }
         ensures cause { LoadCause result self.old.schedule.faults self.new.schedule.faults }
         ensures takes { LoadTakes result self.old.taken self.new.taken }
         ensures names { self.new.entries.items ≡ self.old.entries.items }
-        ensures failed { IsErrOf result LoadRefusal.Failed ↔ ((list_any (λ n. n == self.new.schedule.calls) self.old.schedule.fail.items ≡ true) ⊎ (held_in self.old.entries.items name.now ≡ None)) }
+        ensures failed { IsErrOf result LoadRefusal.Failed
+            ↔ ((list_any (λ n. n == self.new.schedule.calls) self.old.schedule.fail.items ≡ true)
+            ⊎ (held_in self.old.entries.items name.now ≡ None)) }
         ensures calls { self.new.schedule.calls ≡ min (self.old.schedule.calls + 1) count_end }
         ensures fail { self.new.schedule.fail ≡ self.old.schedule.fail }
     {
@@ -92,10 +97,12 @@ impl Files for MemFiles {
     }
 
     fn save(&mut self, name: &str, bytes: &[u8]) -> Result<(), SaveRefusal>
-        ensures names { Saves result (Some (held_in self.old.entries.items)) (Some (held_in self.new.entries.items)) name.now bytes.now }
+        ensures names { Saves result (Some (held_in self.old.entries.items))
+            (Some (held_in self.new.entries.items)) name.now bytes.now }
         ensures cause { SaveCause result self.old.schedule.faults self.new.schedule.faults }
         ensures takes { self.new.taken ≡ self.old.taken }
-        ensures failed { IsErrOf result SaveRefusal.Failed ↔ (list_any (λ n. n == self.new.schedule.calls) self.old.schedule.fail.items ≡ true) }
+        ensures failed { IsErrOf result SaveRefusal.Failed
+            ↔ (list_any (λ n. n == self.new.schedule.calls) self.old.schedule.fail.items ≡ true) }
         ensures calls { self.new.schedule.calls ≡ min (self.old.schedule.calls + 1) count_end }
         ensures fail { self.new.schedule.fail ≡ self.old.schedule.fail }
     {
@@ -132,7 +139,8 @@ impl SureFiles {
 
     /// What the name holds.
     pub fn get(&self, name: &str) -> Option<&[u8]>
-        ensures { Tells (⟦<SureFiles as Files>⟧.told self.now) name.now (option_map (λ bytes. bytes.now) result) }
+        ensures { Tells (⟦<SureFiles as Files>⟧.told self.now) name.now
+            (option_map (λ bytes. bytes.now) result) }
     {
         Some(names::held(self.entries.as_slice(), name).unwrap_or(&[]))
     }

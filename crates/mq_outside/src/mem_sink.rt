@@ -11,7 +11,8 @@ use std::alloc::Global;
 fn append_piece(written: &mut Vec<u8>, bytes: &[u8]) -> Result<usize, PutRefusal>
     requires { 0 < length bytes.now }
     ensures some { IfOk result (λ n. (1 ≤ n) × (n ≤ length bytes.now)) }
-    ensures wrote { MatchResult result (λ n. written.new.items ≡ written.old.items ++ take n bytes.now) (λ _. written.new.items ≡ written.old.items) }
+    ensures wrote { MatchResult result (λ n. written.new.items ≡ written.old.items ++ take n bytes.now)
+        (λ _. written.new.items ≡ written.old.items) }
     ensures piece { MatchResult result (λ n. n ≡ piece_of bytes.now) (λ e. e ≡ PutRefusal.OutOfMemory) }
 {
     let n = bytes.len().min(64);
@@ -61,7 +62,8 @@ impl Sink for MemSink {
         ensures wrote { MatchResult result (λ n. self.new.written.items ≡ self.old.written.items ++ take n bytes.now) (λ _. self.new.written.items ≡ self.old.written.items) }
         ensures cause { PutCause result self.old.schedule.faults self.new.schedule.faults }
         ensures piece { IfOk result (λ n. n ≡ piece_of bytes.now) }
-        ensures listed { IsErrOf result PutRefusal.Failed ↔ (list_any (λ n. n == self.new.schedule.calls) self.old.schedule.fail.items ≡ true) }
+        ensures listed { IsErrOf result PutRefusal.Failed
+            ↔ (list_any (λ n. n == self.new.schedule.calls) self.old.schedule.fail.items ≡ true) }
         ensures calls { self.new.schedule.calls ≡ min (self.old.schedule.calls + 1) count_end }
         ensures fail { self.new.schedule.fail ≡ self.old.schedule.fail }
     {

@@ -31,7 +31,8 @@ pub(crate) fn put(
     name: &str,
     bytes: &[u8],
 ) -> Result<(), AllocError>
-    ensures ok { OnOk result (held_in entries.new.items ≡ put_held (held_in entries.old.items) name.now bytes.now) }
+    ensures ok { OnOk result (held_in entries.new.items ≡ put_held
+        (held_in entries.old.items) name.now bytes.now) }
     ensures err { OnErr result (entries.new.items ≡ entries.old.items) }
 {
     let copy = Vec::from_slice(alloc, bytes)?;

@@ -23,7 +23,8 @@ fn read_rest<F: Read>(
     requires room { 0 < length chunk.old }
     ensures within { OnOk result (length bytes.new.items ≤ load_limit) }
     ensures over { IsErrOf result LoadRefusal.TooLong → load_limit < length bytes.new.items }
-    ensures all { OnOk result (IfSome (F.remaining file.old) (λ rest. bytes.new.items ≡ bytes.old.items ++ rest)) }
+    ensures all { OnOk result (IfSome (F.remaining file.old)
+        (λ rest. bytes.new.items ≡ bytes.old.items ++ rest)) }
 {
     for _ in 0..u64::MAX {
         match file.read(chunk) {
@@ -144,7 +145,8 @@ impl<R: rt::Files> Files for RealFiles<R> {
 // Writes the first bytes of the piece.
 fn write_some<W: Write>(writer: &mut W, bytes: &[u8]) -> Result<usize, PutRefusal>
     ensures some { IfOk result (λ n. (1 ≤ n) × (n ≤ length bytes.now)) }
-    ensures wrote { MatchResult result (λ n. Appends (W.contents writer.old) (W.contents writer.new) (take n bytes.now)) (λ _. Keeps (W.contents writer.old) (W.contents writer.new)) }
+    ensures wrote { MatchResult result (λ n. Appends (W.contents writer.old) (W.contents writer.new)
+        (take n bytes.now)) (λ _. Keeps (W.contents writer.old) (W.contents writer.new)) }
 {
     for _ in 0..u64::MAX {
         match writer.write(bytes) {
@@ -184,7 +186,9 @@ impl<W: Write> Sink for RealSink<W> {
     fn put(&mut self, bytes: &[u8]) -> Result<usize, PutRefusal>
         requires { 0 < length bytes.now }
         ensures some { IfOk result (λ n. (1 ≤ n) × (n ≤ length bytes.now)) }
-        ensures wrote { MatchResult result (λ n. Appends (W.contents self.old.writer) (W.contents self.new.writer) (take n bytes.now)) (λ _. Keeps (W.contents self.old.writer) (W.contents self.new.writer)) }
+        ensures wrote { MatchResult result (λ n. Appends (W.contents self.old.writer)
+            (W.contents self.new.writer) (take n bytes.now))
+            (λ _. Keeps (W.contents self.old.writer) (W.contents self.new.writer)) }
         ensures cause { PutCause result self.old.faults self.new.faults }
     {
         match write_some(&mut self.writer, bytes) {

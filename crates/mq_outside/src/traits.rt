@@ -42,7 +42,8 @@ pub trait Files {
 
     /// The bytes that the name holds.
     fn load(&mut self, alloc: Global, name: &str) -> Result<Vec<u8>, LoadRefusal>
-        ensures gives { MatchResult result (λ v. Holds (told self.old) name.now v.items) (λ e. LoadRefused e (told self.old) name.now) }
+        ensures gives { MatchResult result (λ v. Holds (told self.old) name.now v.items)
+            (λ e. LoadRefused e (told self.old) name.now) }
         ensures within { IfOk result (λ v. length v.items ≤ LOAD_LIMIT) }
         ensures cause { LoadCause result (faults self.old) (faults self.new) }
         ensures takes { LoadTakes result (taken self.old) (taken self.new) }
@@ -70,7 +71,8 @@ pub trait Sink {
     fn put(&mut self, bytes: &[u8]) -> Result<usize, PutRefusal>
         requires { 0 < length bytes.now }
         ensures some { IfOk result (λ n. (1 ≤ n) × (n ≤ length bytes.now)) }
-        ensures wrote { MatchResult result (λ n. contents self.new ≡ appended (contents self.old) (take n bytes.now)) (λ _. contents self.new ≡ contents self.old) }
+        ensures wrote { MatchResult result (λ n. contents self.new ≡ appended (contents self.old)
+            (take n bytes.now)) (λ _. contents self.new ≡ contents self.old) }
         ensures cause { PutCause result (faults self.old) (faults self.new) };
 }
 
@@ -79,7 +81,9 @@ ghost use Rattle.mq_outside.specs.Outside.{AppendsPrefix, PutCause, appended};
 
 /// Appends all the bytes. A refusal leaves a prefix of them appended.
 pub fn put_all<K: Sink>(sink: &mut K, bytes: &[u8]) -> Result<(), PutRefusal>
-    ensures wrote { MatchResult result (λ _. K.contents sink.new ≡ appended (K.contents sink.old) bytes.now) (λ _. AppendsPrefix (K.contents sink.old) (K.contents sink.new) bytes.now) }
+    ensures wrote { MatchResult result (λ _. K.contents sink.new ≡ appended
+        (K.contents sink.old) bytes.now)
+        (λ _. AppendsPrefix (K.contents sink.old) (K.contents sink.new) bytes.now) }
     ensures cause { PutCause result (K.faults sink.old) (K.faults sink.new) }
 {
     let mut at = 0;

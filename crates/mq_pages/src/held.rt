@@ -55,7 +55,8 @@ impl Held {
     /// The cell of a block, or `None` where the block isn't held.
     pub fn get(&self, b: BlockNo) -> Option<&PageCell>
         ensures value { option_copied result ≡ cell_of self.now.cells b }
-        ensures held { MatchOption result (All (λ pair. pair.0 ≢ b) self.now.cells) (λ cell. Contains self.now.cells (b, cell.now)) }
+        ensures held { MatchOption result (All (λ pair. pair.0 ≢ b) self.now.cells)
+            (λ cell. Contains self.now.cells (b, cell.now)) }
     {
         match self.cells.binary_search_by_key(&b, |(block, _)| *block) {
             Ok(at) => Some(&self.cells[at].1),

@@ -111,7 +111,14 @@ impl<P: Port> PmrQueue<P> {
         requires below { staged_end (P.state self.old.port) < 2 ^ 63 }
         requires room { staged_end (P.state self.old.port) - (P.state self.old.port).head < 1023 }
         requires own { Owns (P.state self.old.port) lba }
-        ensures ok { OnOk result (P.state self.new.port ≡ after_stage (P.state self.old.port) (entry_of (record { tx = tx; slot = staged_end (P.state self.old.port) % depth; lba = lba; commit = commit })) tx lba block) }
+        ensures ok { OnOk result (P.state self.new.port ≡ after_stage (P.state self.old.port)
+            (entry_of (record {
+              tx = tx;
+              slot = staged_end
+                  (P.state self.old.port) % depth;
+              lba = lba;
+              commit = commit;
+            })) tx lba block) }
         ensures off { OnErr result (P.state self.new.port ≡ P.state self.old.port) }
         ensures cause { OffCause result (P.faults self.old.port) (P.faults self.new.port) }
         ensures done { self.new.done ≡ self.old.done }
@@ -135,14 +142,21 @@ impl<P: Port> PmrQueue<P> {
     pub fn stage_all(&mut self, tx: TxNo, items: &mut Vec<(Lba, Block)>) -> Result<(), Off>
         requires tx { 1 ≤ tx }
         requires some { 0 < length items.old.items }
-        requires room { length items.old.items ≤ 1023 - (staged_end (P.state self.old.port) - (P.state self.old.port).head) }
+        requires room { length items.old.items ≤ 1023 -
+            (staged_end (P.state self.old.port) - (P.state self.old.port).head) }
         requires end { staged_end (P.state self.old.port) + length items.old.items ≤ 2 ^ 63 }
         requires empty { (P.state self.old.port).pending ≡ [] }
         requires own { AreOwn (P.state self.old.port) items.old.items }
-        ensures ok { OnOk result (P.state self.new.port ≡ after_some (P.state self.old.port) tx (length items.old.items) items.old.items) }
-        ensures off { OnErr result ((k : ℕ) × (k < length items.old.items) × (P.state self.new.port ≡ after_some (P.state self.old.port) tx k items.old.items)) }
+        ensures ok { OnOk result (P.state self.new.port ≡ after_some (P.state self.old.port) tx
+            (length items.old.items) items.old.items) }
+        ensures off { OnErr result ((k : ℕ)
+            × (k < length items.old.items)
+            × (P.state self.new.port ≡ after_some (P.state self.old.port) tx k items.old.items)) }
         ensures cause { OffCause result (P.faults self.old.port) (P.faults self.new.port) }
-        ensures before { 0 < (P.state self.old.port).head → slice_index_or (P.state self.new.port).staged (((P.state self.old.port).head - 1) % depth) [] ≡ slice_index_or (P.state self.old.port).staged (((P.state self.old.port).head - 1) % depth) [] }
+        ensures before { 0 < (P.state self.old.port).head
+            → slice_index_or (P.state self.new.port).staged
+            (((P.state self.old.port).head - 1) % depth) [] ≡ slice_index_or
+            (P.state self.old.port).staged (((P.state self.old.port).head - 1) % depth) [] }
         ensures staged { OnOk result (self.new.staged ≡ Some tx) }
         ensures done { self.new.done ≡ self.old.done }
         ensures rung { self.new.rung.items ≡ self.old.rung.items }
@@ -158,14 +172,21 @@ impl<P: Port> PmrQueue<P> {
     fn stage_reversed(&mut self, tx: u64, items: &mut Vec<(Lba, Block)>) -> Result<(), Off>
         requires tx { 1 ≤ tx }
         requires some { 0 < length items.old.items }
-        requires room { length items.old.items ≤ 1023 - (staged_end (P.state self.old.port) - (P.state self.old.port).head) }
+        requires room { length items.old.items ≤ 1023 -
+            (staged_end (P.state self.old.port) - (P.state self.old.port).head) }
         requires end { staged_end (P.state self.old.port) + length items.old.items ≤ 2 ^ 63 }
         requires empty { (P.state self.old.port).pending ≡ [] }
         requires own { AreOwn (P.state self.old.port) (reverse items.old.items) }
-        ensures ok { OnOk result (P.state self.new.port ≡ after_some (P.state self.old.port) tx (length items.old.items) (reverse items.old.items)) }
-        ensures off { OnErr result ((k : ℕ) × (k < length items.old.items) × (P.state self.new.port ≡ after_some (P.state self.old.port) tx k (reverse items.old.items))) }
+        ensures ok { OnOk result (P.state self.new.port ≡ after_some (P.state self.old.port) tx
+            (length items.old.items) (reverse items.old.items)) }
+        ensures off { OnErr result ((k : ℕ)
+            × (k < length items.old.items)
+            × (P.state self.new.port ≡ after_some (P.state self.old.port) tx k (reverse items.old.items))) }
         ensures cause { OffCause result (P.faults self.old.port) (P.faults self.new.port) }
-        ensures before { 0 < (P.state self.old.port).head → slice_index_or (P.state self.new.port).staged (((P.state self.old.port).head - 1) % depth) [] ≡ slice_index_or (P.state self.old.port).staged (((P.state self.old.port).head - 1) % depth) [] }
+        ensures before { 0 < (P.state self.old.port).head
+            → slice_index_or (P.state self.new.port).staged
+            (((P.state self.old.port).head - 1) % depth) [] ≡ slice_index_or
+            (P.state self.old.port).staged (((P.state self.old.port).head - 1) % depth) [] }
         ensures staged { OnOk result (self.new.staged ≡ Some tx) }
         ensures done { self.new.done ≡ self.old.done }
         ensures rung { self.new.rung.items ≡ self.old.rung.items }
@@ -184,9 +205,13 @@ impl<P: Port> PmrQueue<P> {
     pub fn ring_once(&mut self) -> Result<(), Off>
         requires { IsSome self.old.staged }
         ensures ok { OnOk result (P.state self.new.port ≡ after_ring (after_flush (P.state self.old.port))) }
-        ensures off { OnErr result ((P.state self.new.port ≡ P.state self.old.port) ⊎ (P.state self.new.port ≡ after_flush (P.state self.old.port))) }
+        ensures off { OnErr result ((P.state self.new.port ≡ P.state self.old.port)
+            ⊎ (P.state self.new.port ≡ after_flush (P.state self.old.port))) }
         ensures cause { OffCause result (P.faults self.old.port) (P.faults self.new.port) }
-        ensures rung { OnOk result ((tx : ℕ) → self.old.staged ≡ Some tx → self.new.rung.items ≡ self.old.rung.items ++ (record { tx = tx; end = staged_end (P.state self.old.port) }) ∷ []) }
+        ensures rung { OnOk result ((tx : ℕ)
+            → self.old.staged ≡ Some tx
+            → self.new.rung.items ≡ self.old.rung.items ++
+            (record { tx = tx; end = staged_end (P.state self.old.port) }) ∷ []) }
         ensures same { OnErr result (self.new.rung.items ≡ self.old.rung.items) }
         ensures staged { OnErr result (self.new.staged ≡ self.old.staged) }
         ensures done { self.new.done ≡ self.old.done }
@@ -217,7 +242,8 @@ impl<P: Port> PmrQueue<P> {
 
     /// Completes one posted command.
     pub fn complete_one(&mut self) -> Result<Took, Off>
-        ensures gives { TookGives (P.state self.old.port) (P.faults self.old.port) result (P.state self.new.port) (P.faults self.new.port) }
+        ensures gives { TookGives (P.state self.old.port) (P.faults self.old.port) result
+            (P.state self.new.port) (P.faults self.new.port) }
         ensures done { self.new.done ≡ self.old.done }
         ensures rung { self.new.rung.items ≡ self.old.rung.items }
         ensures staged { self.new.staged ≡ self.old.staged }
@@ -241,12 +267,16 @@ impl<P: Port> PmrQueue<P> {
     /// and flushes it. Answers the number of the last transaction before the head that was rung since
     /// the queue was opened, or 0. Where the flushed head stands there already there is no event.
     pub fn advance_head(&mut self) -> Result<TxNo, Off>
-        ensures done { self.new.done ≡ last_leading (is_clear (P.state self.old.port)) self.old.done self.old.rung.items }
-        ensures rung { self.new.rung.items ≡ left_after (is_clear (P.state self.old.port)) self.old.rung.items }
+        ensures done { self.new.done ≡ last_leading
+            (is_clear (P.state self.old.port)) self.old.done self.old.rung.items }
+        ensures rung { self.new.rung.items ≡ left_after
+            (is_clear (P.state self.old.port)) self.old.rung.items }
         ensures staged { self.new.staged ≡ self.old.staged }
         ensures answer { IfOk result (λ tx. tx ≡ self.new.done.tx) }
-        ensures ok { OnOk result (P.state self.new.port ≡ after_head (P.state self.old.port) self.new.done.end) }
-        ensures off { OnErr result ((P.state self.new.port ≡ P.state self.old.port) ⊎ (P.state self.new.port ≡ after_store_head (P.state self.old.port) self.new.done.end)) }
+        ensures ok { OnOk result (P.state self.new.port ≡ after_head
+            (P.state self.old.port) self.new.done.end) }
+        ensures off { OnErr result ((P.state self.new.port ≡ P.state self.old.port)
+            ⊎ (P.state self.new.port ≡ after_store_head (P.state self.old.port) self.new.done.end)) }
         ensures cause { OffCause result (P.faults self.old.port) (P.faults self.new.port) }
     {
         self.pass();
@@ -260,8 +290,10 @@ impl<P: Port> PmrQueue<P> {
     // Passes the transactions that lead and are done.
     fn pass(&mut self)
         ensures port { self.new.port ≡ self.old.port }
-        ensures done { self.new.done ≡ last_leading (is_clear (P.state self.old.port)) self.old.done self.old.rung.items }
-        ensures rung { self.new.rung.items ≡ left_after (is_clear (P.state self.old.port)) self.old.rung.items }
+        ensures done { self.new.done ≡ last_leading
+            (is_clear (P.state self.old.port)) self.old.done self.old.rung.items }
+        ensures rung { self.new.rung.items ≡ left_after
+            (is_clear (P.state self.old.port)) self.old.rung.items }
         ensures staged { self.new.staged ≡ self.old.staged }
     {
         pass_done(
@@ -274,7 +306,8 @@ impl<P: Port> PmrQueue<P> {
 
     // Stores the head past them.
     fn store_done(&mut self) -> Result<(), Off>
-        ensures ok { OnOk result (P.state self.new.port ≡ after_store_head (P.state self.old.port) self.old.done.end) }
+        ensures ok { OnOk result (P.state self.new.port ≡ after_store_head
+            (P.state self.old.port) self.old.done.end) }
         ensures off { OnErr result (P.state self.new.port ≡ P.state self.old.port) }
         ensures cause { OffCause result (P.faults self.old.port) (P.faults self.new.port) }
         ensures done { self.new.done ≡ self.old.done }
@@ -290,7 +323,8 @@ impl<P: Port> PmrQueue<P> {
     /// Writes a home block of the port.
     pub fn write_home(&mut self, lba: Lba, block: Block) -> Result<HomeStep, Off>
         requires { IsHome (P.state self.old.port) lba }
-        ensures home { HomeGives (P.state self.old.port) (P.faults self.old.port) lba block result (P.state self.new.port) (P.faults self.new.port) }
+        ensures home { HomeGives (P.state self.old.port) (P.faults self.old.port) lba block result
+            (P.state self.new.port) (P.faults self.new.port) }
         ensures done { self.new.done ≡ self.old.done }
         ensures rung { self.new.rung.items ≡ self.old.rung.items }
         ensures staged { self.new.staged ≡ self.old.staged }

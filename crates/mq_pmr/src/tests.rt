@@ -17,7 +17,10 @@ use std::process::Abort;
 
 // One queue: the Lbas 0 to 1023 are its area, 1024 to 1039 the metadata region, 1040 to 1279 its zone.
 fn small() -> Result<Geometry, GeometryRefusal>
-    ensures { IfOk result (λ g. (queues_of g ≡ 1) × (area_of g ≡ 1024) × (meta_of g ≡ 16) × (zone_size g ≡ 240)) }
+    ensures { IfOk result (λ g. (queues_of g ≡ 1)
+        × (area_of g ≡ 1024)
+        × (meta_of g ≡ 16)
+        × (zone_size g ≡ 240)) }
 {
     Geometry::new(1, 1024, 16, 240)
 }
@@ -83,7 +86,10 @@ fn emulated<'f>(
 // Items for the Lbas from 0 on.
 fn items(alloc: Global, count: u32) -> Result<Vec<(Lba, Block)>, OutOfMemory>
     requires { count ≤ 1024 }
-    ensures own { IfOk result (λ v. (s : PortState) → s.area_first ≡ 0 → s.area_size ≡ 1024 → AreOwn s v.items) }
+    ensures own { IfOk result (λ v. (s : PortState)
+        → s.area_first ≡ 0
+        → s.area_size ≡ 1024
+        → AreOwn s v.items) }
     ensures len { IfOk result (λ v. length v.items ≡ count) }
 {
     let mut items = Vec::new(alloc);

@@ -21,7 +21,8 @@ pub fn note_staged(slots: &mut Vec<Slot>, at: u64, tx: u64)
 pub fn note_done(slots: &mut Vec<Slot>, slot: usize)
     requires ring { length slots.old.items ≡ 1024 }
     requires slot { slot < 1024 }
-    ensures { slots.new.items ≡ slice_set slots.old.items slot (record { tx = tx_in slots.old.items slot; done = true }) }
+    ensures { slots.new.items ≡ slice_set slots.old.items slot
+        (record { tx = tx_in slots.old.items slot; done = true }) }
 {
     let tx = slots[slot].tx;
     slots[slot] = Slot { tx, done: true };
@@ -70,7 +71,11 @@ pub fn pass_to(slots: &Vec<Slot>, passed: &mut u64, end: u64) -> bool
 pub fn pass_done(slots: &Vec<Slot>, passed: &mut u64, done: &mut Rung, rung: &mut VecDeque<Rung>)
     requires { length slots.now.items ≡ 1024 }
     ensures capacity { deque_capacity rung.old ≤ deque_capacity rung.new }
-    ensures walk { (limit : ℕ) → AreEnds done.old.end limit rung.old.items → done.old.end ≤ passed.old → passed.old ≤ limit → Walks slots.now.items limit passed.old done.old rung.old.items passed.new done.new rung.new.items }
+    ensures walk { (limit : ℕ)
+        → AreEnds done.old.end limit rung.old.items
+        → done.old.end ≤ passed.old
+        → passed.old ≤ limit
+        → Walks slots.now.items limit passed.old done.old rung.old.items passed.new done.new rung.new.items }
 {
     'transactions: while let Some(next) = first_of(rung) {
         if !pass_to(slots, passed, next.end) {

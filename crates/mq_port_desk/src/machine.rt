@@ -26,7 +26,16 @@ pub struct QueuePort<P: Port> {
 impl<P: Port> QueuePort<P> {
     /// The port of a queue on which nothing was drawn, with so many blocks in its journal area.
     pub fn over(port: P, area: u32) -> QueuePort<P>
-        ensures { result ≡ record { port = port; end = (P.state port).doorbell; place = 0; low = (P.state port).doorbell; floor = 0; sound = true; area = area } }
+        ensures { result ≡ record {
+          port = port;
+          end = (P.state port).doorbell;
+          place = 0;
+          low =
+              (P.state port).doorbell;
+          floor = 0;
+          sound = true;
+          area = area;
+        } }
     {
         let end = port.doorbell();
         QueuePort {

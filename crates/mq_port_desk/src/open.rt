@@ -26,8 +26,12 @@ pub fn open_desk<P: Port + Drop>(
     requires base { base ≤ 2 ^ 62 }
     requires few { (vec_len cells < 2 ^ 32) × (vec_len queues < 2 ^ 32) }
     requires fresh { IsFresh P.state (record { pages = cells.items; sides = queues.items; root = root; base = base }) }
-    ensures desk { IfOk result (λ d. (start_of d.0 ≡ record { pages = cells.items; sides = queues.items; root = root; base = base }) × (chairs_of d.0 ≡ chairs)) }
-    ensures chairs { IfOk result (λ d. (vec_len d.1 ≡ chairs) × ((i : ℕ) (ch : _) → slice_get d.1.items i ≡ Some ch → AtDesk d.0 ch × (view ch ≡ fresh (start_of d.0) i))) }
+    ensures desk { IfOk result (λ d. (start_of d.0 ≡ record { pages = cells.items; sides = queues.items; root = root; base = base })
+        × (chairs_of d.0 ≡ chairs)) }
+    ensures chairs { IfOk result (λ d. (vec_len d.1 ≡ chairs)
+        × ((i : ℕ) (ch : _)
+        → slice_get d.1.items i ≡ Some ch
+        → AtDesk d.0 ch × (view ch ≡ fresh (start_of d.0) i))) }
 {
     match Desk::new(alloc, cells, queues, root, base, chairs) {
         Ok(desk) => Ok(desk),

@@ -17,7 +17,10 @@ impl<P: Port> QueuePort<P> {
     // Whether ring and journal area have room for a copy and its descriptor.
     fn has_room(&self) -> bool
         ensures room { result ≡ true → HasRoom (side_of P.state P.faults self.now) }
-        ensures full { result ≡ false → self.now.low ≤ self.now.end → HasRoom (side_of P.state P.faults self.now) → ⊥ }
+        ensures full { result ≡ false
+            → self.now.low ≤ self.now.end
+            → HasRoom (side_of P.state P.faults self.now)
+            → ⊥ }
     {
         self.sound
             && self.port.doorbell() == self.end
@@ -38,16 +41,21 @@ pub fn write_block<P: Port + Drop, R: Wait>(
     entry: Commit,
 ) -> Option<TxNo>
     requires at { AtDesk desk.now chair.old }
-    requires turns { (entry.block < length (start_of desk.now).pages) × (entry.queue < length (start_of desk.now).sides) }
-    requires shape { (entry.block < homes_of (start_of desk.now).root.geometry) × (entry.queue < (start_of desk.now).root.geometry.queues) × (length entry.content ≡ 4096) }
+    requires turns { (entry.block < length (start_of desk.now).pages)
+        × (entry.queue < length (start_of desk.now).sides) }
+    requires shape { (entry.block < homes_of (start_of desk.now).root.geometry)
+        × (entry.queue < (start_of desk.now).root.geometry.queues)
+        × (length entry.content ≡ 4096) }
     requires idle { (view chair.old).held ≡ [] }
     requires follows { Follows (ports P.state P.faults) entry (view chair.old) }
     requires room { length (view chair.old).drawn < allotment (chairs_of desk.now) }
     ensures at { AtDesk desk.now chair.new }
     ensures idle { (view chair.new).held ≡ [] }
     ensures drew { IfSome result (λ n. (view chair.new).drawn ≡ (n, entry) ∷ (view chair.old).drawn) }
-    ensures rest { ((view chair.new).session ≡ (view chair.old).session) × ((view chair.new).read ≡ (view chair.old).read) }
-    ensures none { IfNone result (((view chair.new).drawn ≡ (view chair.old).drawn) × WasFull P.state P.faults entry.queue (view chair.old)) }
+    ensures rest { ((view chair.new).session ≡ (view chair.old).session)
+        × ((view chair.new).read ≡ (view chair.old).read) }
+    ensures none { IfNone result (((view chair.new).drawn ≡ (view chair.old).drawn)
+        × WasFull P.state P.faults entry.queue (view chair.old)) }
 {
     let (block, queue) = (entry.block, entry.queue);
     let Item::Page(page) = desk.take(rt, chair, Turn::Page(block)) else {

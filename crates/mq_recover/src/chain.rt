@@ -61,10 +61,23 @@ pub fn read_chain<P: Port>(
 ) -> Result<Chain, ChainRefusal>
     requires port { IsQueuePort geometry (P.state port.now) }
     requires quiet { IsQuiescent (P.state port.now) }
-    ensures ok { IfOk result (λ c. (q : ℕ) (i : Shown) → (P.state port.now).queue ≡ Some q → IsSeenAt q base (P.state port.now) i → IsQueueChain geometry i q c) }
-    ensures refused { IfErr result (λ e. (e ≡ ChainRefusal.OutOfMemory) ⊎ ((q : ℕ) → (P.state port.now).queue ≡ Some q → RefusesQueue geometry (P.state port.now) q base e)) }
-    ensures complete { (q : ℕ) (i : Shown) (ds : List Text) → (P.state port.now).queue ≡ Some q → IsSeenAt q base (P.state port.now) i → IsQueueChain geometry i q ds → MatchResult result (λ c. c ≡ ds) (λ e. e ≡ ChainRefusal.OutOfMemory) }
-    ensures exact { (q : ℕ) (e : ChainRefusal) → (P.state port.now).queue ≡ Some q → RefusesQueue geometry (P.state port.now) q base e → IsErrOf result e ⊎ IsErrOf result ChainRefusal.OutOfMemory }
+    ensures ok { IfOk result (λ c. (q : ℕ) (i : Shown)
+        → (P.state port.now).queue ≡ Some q
+        → IsSeenAt q base (P.state port.now) i
+        → IsQueueChain geometry i q c) }
+    ensures refused { IfErr result (λ e. (e ≡ ChainRefusal.OutOfMemory)
+        ⊎ ((q : ℕ)
+        → (P.state port.now).queue ≡ Some q
+        → RefusesQueue geometry (P.state port.now) q base e)) }
+    ensures complete { (q : ℕ) (i : Shown) (ds : List Text)
+        → (P.state port.now).queue ≡ Some q
+        → IsSeenAt q base (P.state port.now) i
+        → IsQueueChain geometry i q ds
+        → MatchResult result (λ c. c ≡ ds) (λ e. e ≡ ChainRefusal.OutOfMemory) }
+    ensures exact { (q : ℕ) (e : ChainRefusal)
+        → (P.state port.now).queue ≡ Some q
+        → RefusesQueue geometry (P.state port.now) q base e
+        → IsErrOf result e ⊎ IsErrOf result ChainRefusal.OutOfMemory }
 {
     match port.role() {
         Role::Queue(queue) => read_own(alloc, geometry, queue, port, base),
@@ -84,7 +97,8 @@ fn read_own<P: Port>(
     requires port { IsPortOf geometry (Role.Queue queue) (P.state port.now) }
     requires quiet { IsQuiescent (P.state port.now) }
     ensures ok { IfOk result (IsReadable geometry (P.state port.now) queue base) }
-    ensures refused { IfErr result (λ e. (e ≡ ChainRefusal.OutOfMemory) ⊎ RefusesQueue geometry (P.state port.now) queue base e) }
+    ensures refused { IfErr result (λ e. (e ≡ ChainRefusal.OutOfMemory)
+        ⊎ RefusesQueue geometry (P.state port.now) queue base e) }
 {
     let read = read_queue(alloc, geometry, queue, port, base)?;
     Ok(read.chain)
@@ -102,8 +116,10 @@ pub fn read_queue<P: Port>(
     requires port { IsPortOf geometry (Role.Queue queue) (P.state port.now) }
     requires quiet { IsQuiescent (P.state port.now) }
     ensures ok { IfOk result (λ r. IsReadable geometry (P.state port.now) queue base r.chain) }
-    ensures greatest { IfOk result (λ r. IsGreatest (P.state port.now) (P.state port.now).head (P.state port.now).doorbell r.greatest) }
-    ensures refused { IfErr result (λ e. (e ≡ ChainRefusal.OutOfMemory) ⊎ RefusesQueue geometry (P.state port.now) queue base e) }
+    ensures greatest { IfOk result (λ r. IsGreatest (P.state port.now) (P.state port.now).head
+        (P.state port.now).doorbell r.greatest) }
+    ensures refused { IfErr result (λ e. (e ≡ ChainRefusal.OutOfMemory)
+        ⊎ RefusesQueue geometry (P.state port.now) queue base e) }
 {
     check_words(port)?;
     let newest = read_newest(port)?;
@@ -156,9 +172,11 @@ fn read_rung<P: Port>(port: &P) -> Result<u64, ChainRefusal>
     requires slots { length (P.state port.now).flushed ≡ depth }
     requires quiet { IsQuiescent (P.state port.now) }
     requires order { (P.state port.now).head ≤ (P.state port.now).doorbell }
-    ensures rung { IfOk result (λ _. AreRung (P.state port.now) (P.state port.now).head (P.state port.now).doorbell) }
+    ensures rung { IfOk result (λ _. AreRung (P.state port.now) (P.state port.now).head
+        (P.state port.now).doorbell) }
     ensures whole { IfOk result (λ _. IsRungWhole (P.state port.now)) }
-    ensures greatest { IfOk result (IsGreatest (P.state port.now) (P.state port.now).head (P.state port.now).doorbell) }
+    ensures greatest { IfOk result (IsGreatest (P.state port.now) (P.state port.now).head
+        (P.state port.now).doorbell) }
     ensures refused { IfErr result (RefusesRung (P.state port.now)) }
 {
     let mut greatest = 0;
@@ -204,7 +222,8 @@ fn follow<P: Port>(
     requires port { IsPortOf geometry (Role.Queue queue) (P.state port.now) }
     requires quiet { IsQuiescent (P.state port.now) }
     ensures ok { IfOk result (IsWholeChain geometry (P.state port.now) queue base newest.number newest.lba) }
-    ensures refused { IfErr result (λ e. (e ≡ ChainRefusal.OutOfMemory) ⊎ RefusesChain geometry (P.state port.now) queue base newest.number newest.lba e) }
+    ensures refused { IfErr result (λ e. (e ≡ ChainRefusal.OutOfMemory)
+        ⊎ RefusesChain geometry (P.state port.now) queue base newest.number newest.lba e) }
 {
     if newest.number <= base.0 {
         return Ok(Chain {
@@ -220,7 +239,9 @@ fn follow<P: Port>(
 // The index of a block in the journal area of a queue.
 fn area_index(geometry: Geometry, queue: QueueNo, lba: u64) -> Option<u32>
     requires { queue < queues_of geometry }
-    ensures { MatchOption result ((place : ℕ) → lba ≡ area_lba geometry queue place → ⊥) (IsIndex geometry queue lba) }
+    ensures { MatchOption result ((place : ℕ)
+        → lba ≡ area_lba geometry queue place
+        → ⊥) (IsIndex geometry queue lba) }
 {
     let area = u64::from(geometry.area());
     let first = u64::from(queue.0) * area;
@@ -249,7 +270,8 @@ fn follow_from<P: Port>(
     requires above { base < start.number }
     requires index { IsIndex geometry queue start.lba index }
     ensures ok { IfOk result (IsWholeChain geometry (P.state port.now) queue base start.number start.lba) }
-    ensures refused { IfErr result (λ e. (e ≡ ChainRefusal.OutOfMemory) ⊎ RefusesChain geometry (P.state port.now) queue base start.number start.lba e) }
+    ensures refused { IfErr result (λ e. (e ≡ ChainRefusal.OutOfMemory)
+        ⊎ RefusesChain geometry (P.state port.now) queue base start.number start.lba e) }
 {
     let mut block = Block::zeroed(alloc)?;
     let mut transactions = Vec::new(alloc);
@@ -283,8 +305,10 @@ fn read_next<P: Port>(
     requires queue { at.now.queue < queues_of geometry }
     requires port { IsPortOf geometry (Role.Queue at.now.queue) (P.state port.now) }
     requires quiet { IsQuiescent (P.state port.now) }
-    ensures ok { IfOk result (IsFoundNext geometry (P.state port.now) at.now.queue at.now.number at.now.place newest) }
-    ensures refused { IfErr result (λ e. (e ≡ ChainRefusal.OutOfMemory) ⊎ RefusesNext geometry (P.state port.now) at.now.queue at.now.number at.now.place newest e) }
+    ensures ok { IfOk result (IsFoundNext geometry
+        (P.state port.now) at.now.queue at.now.number at.now.place newest) }
+    ensures refused { IfErr result (λ e. (e ≡ ChainRefusal.OutOfMemory)
+        ⊎ RefusesNext geometry (P.state port.now) at.now.queue at.now.number at.now.place newest e) }
 {
     read_area(geometry, at.queue, place_of(at), port, block);
     let next = match read_descriptor(alloc, geometry, at, block) {
@@ -301,7 +325,8 @@ fn read_next<P: Port>(
 
 // The refusal of the descriptor of a number.
 fn refused_at(number: u64, cause: DescriptorRefusal) -> ChainRefusal
-    ensures { ((cause ≡ DescriptorRefusal.OutOfMemory) × (result ≡ ChainRefusal.OutOfMemory)) ⊎ ((cause ≢ DescriptorRefusal.OutOfMemory) × (result ≡ ChainRefusal.Descriptor number cause)) }
+    ensures { ((cause ≡ DescriptorRefusal.OutOfMemory) × (result ≡ ChainRefusal.OutOfMemory))
+        ⊎ ((cause ≢ DescriptorRefusal.OutOfMemory) × (result ≡ ChainRefusal.Descriptor number cause)) }
 {
     match cause {
         DescriptorRefusal::OutOfMemory => ChainRefusal::OutOfMemory,

@@ -22,9 +22,14 @@ pub fn write_homes<P: Port>(
 ) -> Result<(), RecoverRefusal>
     requires ports { ArePorts geometry (states P.state ports.old.queues.items ports.old.root) }
     requires below { AreBelow (homes_of geometry) writes.items }
-    ensures ok { OnOk result (states P.state ports.new.queues.items ports.new.root ≡ after_events geometry (states P.state ports.old.queues.items ports.old.root) (home_events writes.items)) }
-    ensures drive { IfErr result (λ e. StopsAt geometry e (states P.state ports.old.queues.items ports.old.root) (home_events writes.items) (states P.state ports.new.queues.items ports.new.root)) }
-    ensures cause { HasDriveCause geometry result (faults_of P.faults ports.old.queues.items ports.old.root) (faults_of P.faults ports.new.queues.items ports.new.root) }
+    ensures ok { OnOk result (states P.state ports.new.queues.items ports.new.root ≡ after_events geometry
+        (states P.state ports.old.queues.items ports.old.root) (home_events writes.items)) }
+    ensures drive { IfErr result (λ e. StopsAt geometry e
+        (states P.state ports.old.queues.items ports.old.root) (home_events writes.items)
+        (states P.state ports.new.queues.items ports.new.root)) }
+    ensures cause { HasDriveCause geometry result
+        (faults_of P.faults ports.old.queues.items ports.old.root)
+        (faults_of P.faults ports.new.queues.items ports.new.root) }
 {
     let mut writes = writes;
     while let Some((b, block)) = writes.pop_front() {
@@ -42,8 +47,12 @@ fn write_one<P: Port>(
 ) -> Result<(), RecoverRefusal>
     requires ports { ArePorts geometry (states P.state ports.old.queues.items ports.old.root) }
     requires below { b < homes_of geometry }
-    ensures gives { GivesOne geometry (zone_of geometry b) (states P.state ports.old.queues.items ports.old.root) b block result (states P.state ports.new.queues.items ports.new.root) }
-    ensures cause { HasDriveCause geometry result (faults_of P.faults ports.old.queues.items ports.old.root) (faults_of P.faults ports.new.queues.items ports.new.root) }
+    ensures gives { GivesOne geometry (zone_of geometry b)
+        (states P.state ports.old.queues.items ports.old.root) b block result
+        (states P.state ports.new.queues.items ports.new.root) }
+    ensures cause { HasDriveCause geometry result
+        (faults_of P.faults ports.old.queues.items ports.old.root)
+        (faults_of P.faults ports.new.queues.items ports.new.root) }
 {
     match geometry.zone_of(b) {
         None => write_through(geometry, &mut ports.root, b, block),

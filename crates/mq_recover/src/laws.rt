@@ -14,9 +14,15 @@ ghost use Rattle.mq_recover.specs.declared.refusal.RecoverRefusal.{RecoverRefusa
 /// An image is readable exactly where its transactions are whole, and then it has no cause to be
 /// refused.
 pub fn readable_images_are_whole()
-    ensures whole { (g : Geometry) (d : DriveState) (image : IsReadableImage g d) → AreWhole g (view_over g d) image.chains }
-    ensures readable { (g : Geometry) (d : DriveState) (chains : ℕ → List Descriptor) → AreWhole g (view_over g d) chains → IsReadableImage g d }
-    ensures unrefused { (g : Geometry) (d : DriveState) (e : ImageFault) → IsReadableImage g d → RefusesImage g d e → ⊥ }
+    ensures whole { (g : Geometry) (d : DriveState) (image : IsReadableImage g d)
+        → AreWhole g (view_over g d) image.chains }
+    ensures readable { (g : Geometry) (d : DriveState) (chains : ℕ → List Descriptor)
+        → AreWhole g (view_over g d) chains
+        → IsReadableImage g d }
+    ensures unrefused { (g : Geometry) (d : DriveState) (e : ImageFault)
+        → IsReadableImage g d
+        → RefusesImage g d e
+        → ⊥ }
 {}
 
 /// A recovery that the drive cut short may be begun again on whatever a power cut leaves of it: what

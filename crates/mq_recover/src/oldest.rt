@@ -18,7 +18,10 @@ pub struct Least {
 impl Least {
     // The same with the end of the next queue's chain.
     fn join(self, number: u64, queue: QueueNo) -> Least
-        ensures { (chains : List (List Text)) → IsLeast queue chains self → EndsWith (chain_at chains queue) number → IsLeast (queue + 1) chains result }
+        ensures { (chains : List (List Text))
+            → IsLeast queue chains self
+            → EndsWith (chain_at chains queue) number
+            → IsLeast (queue + 1) chains result }
     {
         if number < self.number {
             return Least {
@@ -44,7 +47,8 @@ impl Least {
 // are empty.
 pub fn find_oldest(chains: &[Chain]) -> Result<Option<QueueNo>, ImageFault>
     requires { length chains.now < 2 ^ 32 }
-    ensures oldest { IfOk result (λ o. MatchOption o (AreEmpty (length chains.now) chains.now) (IsOldest chains.now)) }
+    ensures oldest { IfOk result (λ o. MatchOption o (AreEmpty (length chains.now) chains.now)
+        (IsOldest chains.now)) }
     ensures twice { IfErr result (RefusesEnds chains.now) }
 {
     let Some(least) = least_end(chains) else {
@@ -63,7 +67,8 @@ pub fn find_oldest(chains: &[Chain]) -> Result<Option<QueueNo>, ImageFault>
 // The least end of all chains.
 fn least_end(chains: &[Chain]) -> Option<Least>
     requires { length chains.now < 2 ^ 32 }
-    ensures { MatchOption result (AreEmpty (length chains.now) chains.now) (IsLeast (length chains.now) chains.now) }
+    ensures { MatchOption result (AreEmpty (length chains.now) chains.now)
+        (IsLeast (length chains.now) chains.now) }
 {
     let mut least: Option<Least> = None;
     for (q, chain) in chains.iter().enumerate() {

@@ -55,8 +55,11 @@ pub fn make_plan<P: Port>(
 ) -> Result<Plan, ImageFault>
     requires { IsQuiescentDrive geometry (states P.state ports.now.queues.items ports.now.root) }
     ensures ok { IfOk result (IsPlan geometry (states P.state ports.now.queues.items ports.now.root)) }
-    ensures refused { IfErr result (λ e. (e ≡ ImageFault.OutOfMemory) ⊎ RefusesImage geometry (states P.state ports.now.queues.items ports.now.root) e) }
-    ensures exact { (e : ImageFault) → RefusesImage geometry (states P.state ports.now.queues.items ports.now.root) e → IsErrOf result e ⊎ IsErrOf result ImageFault.OutOfMemory }
+    ensures refused { IfErr result (λ e. (e ≡ ImageFault.OutOfMemory)
+        ⊎ RefusesImage geometry (states P.state ports.now.queues.items ports.now.root) e) }
+    ensures exact { (e : ImageFault)
+        → RefusesImage geometry (states P.state ports.now.queues.items ports.now.root) e
+        → IsErrOf result e ⊎ IsErrOf result ImageFault.OutOfMemory }
 {
     let found = find_copies(alloc, geometry, ports)?;
     let writes = read_copies(alloc, geometry, ports, &found.places)?;
@@ -72,7 +75,8 @@ pub fn find_copies<P: Port>(
 ) -> Result<Found, ImageFault>
     requires { IsQuiescentDrive geometry (states P.state ports.now.queues.items ports.now.root) }
     ensures ok { IfOk result (IsFoundIn geometry (states P.state ports.now.queues.items ports.now.root)) }
-    ensures refused { IfErr result (λ e. (e ≡ ImageFault.OutOfMemory) ⊎ RefusesImage geometry (states P.state ports.now.queues.items ports.now.root) e) }
+    ensures refused { IfErr result (λ e. (e ≡ ImageFault.OutOfMemory)
+        ⊎ RefusesImage geometry (states P.state ports.now.queues.items ports.now.root) e) }
 {
     let base = ports.root.base();
     if base > LIMIT {
@@ -99,7 +103,8 @@ fn read_queues<P: Port>(
     requires still { IsQuiescentDrive geometry (states P.state ports.now.queues.items ports.now.root) }
     requires base { base ≡ (P.state ports.now.root).base }
     ensures ok { IfOk result (AreRead geometry (states P.state ports.now.queues.items ports.now.root)) }
-    ensures refused { IfErr result (λ e. (e ≡ ImageFault.OutOfMemory) ⊎ RefusesSome geometry (states P.state ports.now.queues.items ports.now.root) e) }
+    ensures refused { IfErr result (λ e. (e ≡ ImageFault.OutOfMemory)
+        ⊎ RefusesSome geometry (states P.state ports.now.queues.items ports.now.root) e) }
 {
     let mut chains = Vec::new(alloc);
     let mut top = base.0;
@@ -120,7 +125,8 @@ fn read_queues<P: Port>(
 
 // The fault of an image for a queue.
 fn bad_queue(queue: QueueNo, cause: ChainRefusal) -> ImageFault
-    ensures { ((cause ≡ ChainRefusal.OutOfMemory) × (result ≡ ImageFault.OutOfMemory)) ⊎ ((cause ≢ ChainRefusal.OutOfMemory) × (result ≡ ImageFault.Bad queue cause)) }
+    ensures { ((cause ≡ ChainRefusal.OutOfMemory) × (result ≡ ImageFault.OutOfMemory))
+        ⊎ ((cause ≢ ChainRefusal.OutOfMemory) × (result ≡ ImageFault.Bad queue cause)) }
 {
     match cause {
         ChainRefusal::OutOfMemory => ImageFault::OutOfMemory,
@@ -150,7 +156,9 @@ fn read_copies<P: Port>(
     requires still { IsQuiescentDrive geometry (states P.state ports.now.queues.items ports.now.root) }
     requires homes { length copies.now ≡ homes_of geometry }
     requires own { (x : ℕ) → IsSpotOf geometry.queues (slice_index_or copies.now x None) }
-    ensures { IfOk result (λ w. w.items ≡ writes_from (view_over geometry (states P.state ports.now.queues.items ports.now.root)).area (area_of geometry) 0 copies.now) }
+    ensures { IfOk result (λ w. w.items ≡ writes_from
+        (view_over geometry (states P.state ports.now.queues.items ports.now.root)).area
+        (area_of geometry) 0 copies.now) }
 {
     let mut writes = VecDeque::new(alloc);
     for (b, copy) in copies.iter().enumerate() {
@@ -172,7 +180,9 @@ pub fn read_copy_place<P: Port>(
 )
     requires still { IsQuiescentDrive geometry (states P.state ports.now.queues.items ports.now.root) }
     requires own { spot.queue < geometry.queues }
-    ensures { into.new ≡ (view_over geometry (states P.state ports.now.queues.items ports.now.root)).area spot.queue (spot.place % area_of geometry) }
+    ensures { into.new ≡ (view_over geometry
+        (states P.state ports.now.queues.items ports.now.root)).area spot.queue
+        (spot.place % area_of geometry) }
 {
     let port = &ports.queues[spot.queue.0 as usize];
     read_area(geometry, spot.queue, spot.place, port, into);

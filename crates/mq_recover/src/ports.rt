@@ -23,15 +23,29 @@ pub fn recover<P: Port>(
     ports: &mut Ports<P>,
 ) -> Result<Recovered, RecoverRefusal>
     requires { IsQuiescentDrive geometry (states P.state ports.old.queues.items ports.old.root) }
-    ensures ok { IfOk result (λ r. IsDone geometry (states P.state ports.old.queues.items ports.old.root) r.prefix r.base (states P.state ports.new.queues.items ports.new.root)) }
-    ensures image { OnImage result (λ fault. (states P.state ports.new.queues.items ports.new.root ≡ states P.state ports.old.queues.items ports.old.root) × ((fault ≡ ImageFault.OutOfMemory) ⊎ RefusesImage geometry (states P.state ports.old.queues.items ports.old.root) fault)) }
-    ensures exact { (e : ImageFault) → RefusesImage geometry (states P.state ports.old.queues.items ports.old.root) e → IsErrOf result (RecoverRefusal.Image e) ⊎ IsErrOf result (RecoverRefusal.Image ImageFault.OutOfMemory) }
-    ensures readable { UnlessImage result (IsReadableImage geometry (states P.state ports.old.queues.items ports.old.root)) }
-    ensures complete { IsReadableImage geometry (states P.state ports.old.queues.items ports.old.root) → OnImage result (λ fault. fault ≡ ImageFault.OutOfMemory) }
-    ensures drive { OnDrive result (λ e. IsCutShort geometry e (states P.state ports.old.queues.items ports.old.root) (states P.state ports.new.queues.items ports.new.root)) }
+    ensures ok { IfOk result (λ r. IsDone geometry
+        (states P.state ports.old.queues.items ports.old.root) r.prefix r.base
+        (states P.state ports.new.queues.items ports.new.root)) }
+    ensures image { OnImage result (λ fault. (states P.state ports.new.queues.items ports.new.root ≡ states P.state ports.old.queues.items ports.old.root)
+        × ((fault ≡ ImageFault.OutOfMemory)
+        ⊎ RefusesImage geometry (states P.state ports.old.queues.items ports.old.root) fault)) }
+    ensures exact { (e : ImageFault)
+        → RefusesImage geometry (states P.state ports.old.queues.items ports.old.root) e
+        → IsErrOf result (RecoverRefusal.Image e)
+        ⊎ IsErrOf result (RecoverRefusal.Image ImageFault.OutOfMemory) }
+    ensures readable { UnlessImage result (IsReadableImage geometry
+        (states P.state ports.old.queues.items ports.old.root)) }
+    ensures complete { IsReadableImage geometry (states P.state ports.old.queues.items ports.old.root)
+        → OnImage result (λ fault. fault ≡ ImageFault.OutOfMemory) }
+    ensures drive { OnDrive result (λ e. IsCutShort geometry e
+        (states P.state ports.old.queues.items ports.old.root)
+        (states P.state ports.new.queues.items ports.new.root)) }
     ensures count { length ports.new.queues.items ≡ length ports.old.queues.items }
-    ensures bounds { AreBoundsKept geometry (states P.state ports.old.queues.items ports.old.root) (states P.state ports.new.queues.items ports.new.root) }
-    ensures cause { HasDriveCause geometry result (faults_of P.faults ports.old.queues.items ports.old.root) (faults_of P.faults ports.new.queues.items ports.new.root) }
+    ensures bounds { AreBoundsKept geometry (states P.state ports.old.queues.items ports.old.root)
+        (states P.state ports.new.queues.items ports.new.root) }
+    ensures cause { HasDriveCause geometry result
+        (faults_of P.faults ports.old.queues.items ports.old.root)
+        (faults_of P.faults ports.new.queues.items ports.new.root) }
 {
     let plan = make_plan(alloc, geometry, ports)?;
     let recovered = plan.recovered;

@@ -35,10 +35,15 @@ pub fn stands<P: Port>(
 ) -> Result<Standing, ImageFault>
     requires { IsQuiescentDrive geometry (states P.state ports.now.queues.items ports.now.root) }
     ensures ok { IfOk result (StandsIn geometry (states P.state ports.now.queues.items ports.now.root)) }
-    ensures refused { IfErr result (λ e. (e ≡ ImageFault.OutOfMemory) ⊎ RefusesImage geometry (states P.state ports.now.queues.items ports.now.root) e) }
-    ensures exact { (e : ImageFault) → RefusesImage geometry (states P.state ports.now.queues.items ports.now.root) e → IsErrOf result e ⊎ IsErrOf result ImageFault.OutOfMemory }
-    ensures readable { IfOk result (λ _. IsReadableImage geometry (states P.state ports.now.queues.items ports.now.root)) }
-    ensures complete { IsReadableImage geometry (states P.state ports.now.queues.items ports.now.root) → IsOkUnless result ImageFault.OutOfMemory }
+    ensures refused { IfErr result (λ e. (e ≡ ImageFault.OutOfMemory)
+        ⊎ RefusesImage geometry (states P.state ports.now.queues.items ports.now.root) e) }
+    ensures exact { (e : ImageFault)
+        → RefusesImage geometry (states P.state ports.now.queues.items ports.now.root) e
+        → IsErrOf result e ⊎ IsErrOf result ImageFault.OutOfMemory }
+    ensures readable { IfOk result (λ _. IsReadableImage geometry
+        (states P.state ports.now.queues.items ports.now.root)) }
+    ensures complete { IsReadableImage geometry (states P.state ports.now.queues.items ports.now.root)
+        → IsOkUnless result ImageFault.OutOfMemory }
 {
     let found = find_copies(alloc, geometry, ports)?;
     let blocks = read_blocks(alloc, geometry, ports, &found.places)?;
@@ -60,7 +65,11 @@ fn read_blocks<P: Port>(
     requires still { IsQuiescentDrive geometry (states P.state ports.now.queues.items ports.now.root) }
     requires homes { length copies.now ≡ homes_of geometry }
     requires own { (x : ℕ) → IsSpotOf geometry.queues (slice_index_or copies.now x None) }
-    ensures { IfOk result (λ v. (length v.items ≡ homes_of geometry) × ((b : ℕ) → b < homes_of geometry → block_at v.items b ≡ newest_of geometry (states P.state ports.now.queues.items ports.now.root) (slice_index_or copies.now b None) b)) }
+    ensures { IfOk result (λ v. (length v.items ≡ homes_of geometry)
+        × ((b : ℕ)
+        → b < homes_of geometry
+        → block_at v.items b ≡ newest_of geometry (states P.state ports.now.queues.items ports.now.root)
+        (slice_index_or copies.now b None) b)) }
 {
     let mut blocks = Vec::new(alloc);
     for (b, copy) in copies.iter().enumerate() {

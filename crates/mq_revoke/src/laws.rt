@@ -12,10 +12,21 @@ ghost use Rattle.mq_revoke.specs.declared.placement.Planned.{Planned};
 /// A transaction that is placed by a plan may be drawn where the rest of the guard holds. Front and base
 /// may have been read earlier: a lesser front writes less directly, and a lesser base revokes more.
 pub fn a_plan_meets_the_guard()
-    ensures { (k : KnownJournal) (t : Tx) (writes : List Planned) (read_front read_base : ℕ) → AreInOrder k.geometry writes → length writes ≤ 1000 → All (IsOfHistory k) writes → read_front ≤ front k → read_base ≤ k.word → IsPlacement k.geometry t.queue read_front read_base writes (placed_of t) → MeetsRest k t → MayDraw k t }
+    ensures { (k : KnownJournal) (t : Tx) (writes : List Planned) (read_front read_base : ℕ)
+        → AreInOrder k.geometry writes
+        → length writes ≤ 1000
+        → All (IsOfHistory k) writes
+        → read_front ≤ front k
+        → read_base ≤ k.word
+        → IsPlacement k.geometry t.queue read_front read_base writes (placed_of t)
+        → MeetsRest k t
+        → MayDraw k t }
 {}
 
 /// The same writes have one placement alone.
 pub fn a_placement_is_the_only_one()
-    ensures { (g : Geometry) (queue front base : ℕ) (writes : List Planned) (p r : Placed) → IsPlacement g queue front base writes p → IsPlacement g queue front base writes r → p ≡ r }
+    ensures { (g : Geometry) (queue front base : ℕ) (writes : List Planned) (p r : Placed)
+        → IsPlacement g queue front base writes p
+        → IsPlacement g queue front base writes r
+        → p ≡ r }
 {}

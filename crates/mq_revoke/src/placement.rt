@@ -123,7 +123,8 @@ pub fn plan(
     ensures ok { OnOk result (IsPlacement geometry queue front base writes.now into.new) }
     ensures whole { OnOk result (length into.new.logged + length into.new.direct ≡ length writes.now) }
     ensures few { OnOk result (length writes.now ≤ 1000) }
-    ensures many { IfErr result (λ e. (1000 < length writes.now) × (e ≡ record { count = length writes.now; limit = 1000 })) }
+    ensures many { IfErr result (λ e. (1000 < length writes.now)
+        × (e ≡ record { count = length writes.now; limit = 1000 })) }
     ensures same { OnErr result (into.new ≡ into.old) }
 {
     if writes.len() > LIMIT as usize {

@@ -7,5 +7,8 @@ ghost use Rattle.mq_script.specs.Scripts.{Script};
 
 /// A script that was printed is read again as it was, where its text is not too long.
 pub fn printed_scripts_are_read()
-    ensures { (script : Script) → IsScript script → length (script_text script) ≤ 16777216 → script_in (script_text script) ≡ Ok script }
+    ensures { (script : Script)
+        → IsScript script
+        → length (script_text script) ≤ 16777216
+        → script_in (script_text script) ≡ Ok script }
 {}

@@ -19,8 +19,10 @@ pub fn lift(
     blocks: &[Option<Block>],
     known: &[bool],
 ) -> Result<Held, OutOfMemory>
-    ensures blocks { IfOk result (λ held. (b : ℕ) → is_some (cell_of held.cells b) ≡ is_lifted geometry known.now b) }
-    ensures pages { IfOk result (λ held. All (λ pair. pair.1.content ≡ map_of geometry blocks.now pair.0) held.cells) }
+    ensures blocks { IfOk result (λ held. (b : ℕ)
+        → is_some (cell_of held.cells b) ≡ is_lifted geometry known.now b) }
+    ensures pages { IfOk result (λ held. All
+        (λ pair. pair.1.content ≡ map_of geometry blocks.now pair.0) held.cells) }
     ensures numbers { IfOk result (λ held. All (λ pair. pair.1 ≡ mounted pair.1.content) held.cells) }
     ensures room { IfOk result (λ held. held.room ≡ homes_of geometry) }
 {
@@ -43,7 +45,9 @@ pub fn lift(
 /// twice; where that is not so, the first of them may be known afterwards.
 pub fn note(known: &mut [bool], need: &[BlockNo]) -> bool
     ensures new { IsTrue result ↔ AreNew known.old need.now }
-    ensures known { IsTrue result → (b : ℕ) → slice_index_or known.new b false ≡ (slice_index_or known.old b false || is_among b need.now) }
+    ensures known { IsTrue result
+        → (b : ℕ)
+        → slice_index_or known.new b false ≡ (slice_index_or known.old b false || is_among b need.now) }
 {
     for b in need {
         let at = b.0 as usize;

@@ -13,7 +13,9 @@ use std::alloc::Global;
 /// Those of an empty one.
 pub fn empty_blocks(alloc: Global, geometry: Geometry) -> Result<Vec<Option<Block>>, OutOfMemory>
     ensures count { IfOk result (λ blocks. length blocks.items ≡ homes_of geometry) }
-    ensures empty { IfOk result (λ blocks. (b : ℕ) → b < homes_of geometry → block_at blocks.items b ≡ empty_block geometry b) }
+    ensures empty { IfOk result (λ blocks. (b : ℕ)
+        → b < homes_of geometry
+        → block_at blocks.items b ≡ empty_block geometry b) }
 {
     let mut blocks = Vec::with_capacity(alloc, geometry.homes() as usize)?;
     for b in 0..geometry.homes() {

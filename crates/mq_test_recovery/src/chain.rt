@@ -24,7 +24,8 @@ pub fn read_chain<P: Port>(
     root: &P,
 ) -> Result<Option<Vec<Descriptor>>, OutOfMemory>
     requires { IsQuiescentPair geometry (P.state queue.now) (P.state root.now) }
-    ensures { IfOk result (λ o. IfSome o (λ v. IsQueueChain geometry (view_of geometry (P.state queue.now) (P.state root.now)) 0 v.items)) }
+    ensures { IfOk result (λ o. IfSome o
+        (λ v. IsQueueChain geometry (view_of geometry (P.state queue.now) (P.state root.now)) 0 v.items)) }
 {
     let head = queue.head();
     let doorbell = queue.doorbell();
@@ -50,8 +51,18 @@ fn are_words(head: u64, doorbell: u64) -> bool
 // Whether the entries from head to doorbell are requests, and the last a commit request.
 fn is_rung<P: Port>(geometry: Geometry, queue: &P, root: &P, head: u64, doorbell: u64) -> bool
     requires { IsQuiescentPair geometry (P.state queue.now) (P.state root.now) }
-    ensures each { IsTrue result → (c : ℕ) → head ≤ c → c < doorbell → (s : Says) × ((view_of geometry (P.state queue.now) (P.state root.now)).entry 0 (c % depth) ≡ Some s) × (s.0 ≤ number_limit) }
-    ensures whole { IsTrue result → head < doorbell → (n : ℕ) × (l : ℕ) × IsCommit (view_of geometry (P.state queue.now) (P.state root.now)) 0 (doorbell - 1) n l }
+    ensures each { IsTrue result
+        → (c : ℕ)
+        → head ≤ c
+        → c < doorbell
+        → (s : Says)
+        × ((view_of geometry (P.state queue.now) (P.state root.now)).entry 0 (c % depth) ≡ Some s)
+        × (s.0 ≤ number_limit) }
+    ensures whole { IsTrue result
+        → head < doorbell
+        → (n : ℕ)
+        × (l : ℕ)
+        × IsCommit (view_of geometry (P.state queue.now) (P.state root.now)) 0 (doorbell - 1) n l }
 {
     for count in head..doorbell {
         match request_at(geometry, queue, root, count) {
@@ -70,7 +81,8 @@ fn is_rung<P: Port>(geometry: Geometry, queue: &P, root: &P, head: u64, doorbell
 fn commit_before<P: Port>(geometry: Geometry, queue: &P, root: &P, end: u64) -> Option<WriteReq>
     requires still { IsQuiescentPair geometry (P.state queue.now) (P.state root.now) }
     requires above { 0 < end }
-    ensures { IfSome result (λ r. IsCommit (view_of geometry (P.state queue.now) (P.state root.now)) 0 (end - 1) r.tx r.lba) }
+    ensures { IfSome result (λ r. IsCommit (view_of geometry (P.state queue.now) (P.state root.now)) 0
+        (end - 1) r.tx r.lba) }
 {
     match request_at(geometry, queue, root, end - 1) {
         Some(request) if request.commit => Some(request),
@@ -88,7 +100,9 @@ fn read_from<P: Port>(
     lba: u64,
 ) -> Result<Option<Vec<Descriptor>>, OutOfMemory>
     requires { IsQuiescentPair geometry (P.state queue.now) (P.state root.now) }
-    ensures { IfOk result (λ o. IfSome o (λ v. IsChainFrom geometry (view_of geometry (P.state queue.now) (P.state root.now)) 0 number lba v.items)) }
+    ensures { IfOk result (λ o. IfSome o
+        (λ v. IsChainFrom geometry
+        (view_of geometry (P.state queue.now) (P.state root.now)) 0 number lba v.items)) }
 {
     if number > LIMIT {
         return Ok(None);
@@ -114,7 +128,10 @@ fn read_from_place<P: Port>(
     requires still { IsQuiescentPair geometry (P.state queue.now) (P.state root.now) }
     requires limit { number ≤ number_limit }
     requires place { place < 2 ^ 62 }
-    ensures { IfOk result (λ o. IfSome o (λ v. IsChain geometry (view_of geometry (P.state queue.now) (P.state root.now)) 0 number place v.items × AreInReach geometry place v.items)) }
+    ensures { IfOk result (λ o. IfSome o
+        (λ v. IsChain geometry
+        (view_of geometry (P.state queue.now) (P.state root.now)) 0 number place v.items
+        × AreInReach geometry place v.items)) }
 {
     match follow(alloc, geometry, queue, root, number, place)? {
         None => Ok(None),
@@ -168,7 +185,9 @@ fn follow<P: Port>(
     newest_place: u64,
 ) -> Result<Option<Vec<Descriptor>>, OutOfMemory>
     requires { IsQuiescentPair geometry (P.state queue.now) (P.state root.now) }
-    ensures { IfOk result (λ o. IfSome o (λ v. IsChain geometry (view_of geometry (P.state queue.now) (P.state root.now)) 0 newest_number newest_place v.items)) }
+    ensures { IfOk result (λ o. IfSome o
+        (λ v. IsChain geometry
+        (view_of geometry (P.state queue.now) (P.state root.now)) 0 newest_number newest_place v.items)) }
 {
     let base = root.base();
     let mut chain = Vec::new(alloc);
@@ -197,7 +216,8 @@ fn read_at<P: Port>(
     place: u64,
 ) -> Result<Option<Descriptor>, OutOfMemory>
     requires { IsQuiescentPair geometry (P.state queue.now) (P.state root.now) }
-    ensures { IfOk result (λ o. IfSome o (Holds geometry (view_of geometry (P.state queue.now) (P.state root.now)) 0 number place)) }
+    ensures { IfOk result (λ o. IfSome o
+        (Holds geometry (view_of geometry (P.state queue.now) (P.state root.now)) 0 number place)) }
 {
     let at = Expect {
         queue: QueueNo(0),

@@ -11,7 +11,8 @@ use mq_nvme::{WriteReq, read_write};
 // The request in the slot of a count.
 pub fn request_at<P: Port>(geometry: Geometry, queue: &P, root: &P, count: u64) -> Option<WriteReq>
     requires { IsQuiescentPair geometry (P.state queue.now) (P.state root.now) }
-    ensures { IfSome result (λ r. (view_of geometry (P.state queue.now) (P.state root.now)).entry 0 (count % depth) ≡ Some (r.tx, r.lba, r.commit)) }
+    ensures { IfSome result (λ r. (view_of geometry (P.state queue.now) (P.state root.now)).entry 0
+        (count % depth) ≡ Some (r.tx, r.lba, r.commit)) }
 {
     let entry = queue.read_slot((count % 1024) as u32);
     match read_write(&entry) {
@@ -23,7 +24,8 @@ pub fn request_at<P: Port>(geometry: Geometry, queue: &P, root: &P, count: u64) 
 // Reads the block at a place of the journal area.
 pub fn read_area<P: Port>(geometry: Geometry, queue: &P, root: &P, place: u64, into: &mut Block)
     requires { IsQuiescentPair geometry (P.state queue.now) (P.state root.now) }
-    ensures { into.new ≡ (view_of geometry (P.state queue.now) (P.state root.now)).area 0 (place % area_of geometry) }
+    ensures { into.new ≡ (view_of geometry (P.state queue.now) (P.state root.now)).area 0
+        (place % area_of geometry) }
 {
     queue.read_block(geometry.area_lba(QueueNo(0), place), into);
 }

@@ -31,7 +31,8 @@ pub fn plain_standing<P: Port>(
     root: &P,
 ) -> Result<Option<PlainStanding>, OutOfMemory>
     requires { IsQuiescentPair geometry (P.state queue.now) (P.state root.now) }
-    ensures { IfOk result (λ o. IfSome o (IsStandingOf geometry (view_of geometry (P.state queue.now) (P.state root.now)))) }
+    ensures { IfOk result (λ o. IfSome o
+        (IsStandingOf geometry (view_of geometry (P.state queue.now) (P.state root.now)))) }
 {
     let base = root.base();
     if base > LIMIT {
@@ -60,7 +61,11 @@ fn blocks_after<P: Port>(
     requires own { AreOf geometry 0 chain.now }
     requires limit { (P.state root.now).base + prefix ≤ number_limit }
     ensures whole { IfOk result (λ v. length v.items ≡ homes_of geometry) }
-    ensures are { IfOk result (λ v. (b : ℕ) → b < homes_of geometry → slice_index_or v.items b [] ≡ stands geometry (view_of geometry (P.state queue.now) (P.state root.now)) (row_of chain.now (P.state root.now).base prefix) b) }
+    ensures are { IfOk result (λ v. (b : ℕ)
+        → b < homes_of geometry
+        → slice_index_or v.items b [] ≡ stands geometry
+        (view_of geometry (P.state queue.now) (P.state root.now))
+        (row_of chain.now (P.state root.now).base prefix) b) }
 {
     let mut blocks = Vec::new(alloc);
     for x in 0..geometry.homes() {
@@ -83,7 +88,9 @@ fn block_after<P: Port>(
     requires own { AreOf geometry 0 chain.now }
     requires limit { (P.state root.now).base + prefix ≤ number_limit }
     requires within { x < homes_of geometry }
-    ensures { IfOk result (λ v. v ≡ stands geometry (view_of geometry (P.state queue.now) (P.state root.now)) (row_of chain.now (P.state root.now).base prefix) x) }
+    ensures { IfOk result (λ v. v ≡ stands geometry
+        (view_of geometry (P.state queue.now) (P.state root.now))
+        (row_of chain.now (P.state root.now).base prefix) x) }
 {
     let base = root.base();
     let mut block = Block::zeroed(alloc)?;
@@ -108,7 +115,8 @@ fn revoke<P: Port>(
 )
     requires still { IsQuiescentPair geometry (P.state queue.now) (P.state root.now) }
     requires within { x < homes_of geometry }
-    ensures { block.new ≡ (if is_among x d.now.revoked then (view_of geometry (P.state queue.now) (P.state root.now)).home x else block.old) }
+    ensures { block.new ≡ (if is_among x d.now.revoked then
+        (view_of geometry (P.state queue.now) (P.state root.now)).home x else block.old) }
 {
     if is_among(x, &d.revoked) {
         read_home(geometry, queue, root, x, block);
@@ -126,7 +134,9 @@ fn take_copy<P: Port>(
 )
     requires still { IsQuiescentPair geometry (P.state queue.now) (P.state root.now) }
     requires own { IsOf geometry 0 d.now }
-    ensures { block.new ≡ or_else (logged_copy ((view_of geometry (P.state queue.now) (P.state root.now)).area 0) (area_of geometry) (d.now.place - length d.now.logged) d.now.logged x) block.old }
+    ensures { block.new ≡ or_else (logged_copy
+        ((view_of geometry (P.state queue.now) (P.state root.now)).area 0) (area_of geometry)
+        (d.now.place - length d.now.logged) d.now.logged x) block.old }
 {
     let first = d.place - d.logged.len() as u64;
     if let Some(place) = logged_place(first, &d.logged, x) {

@@ -76,7 +76,10 @@ pub struct PortRun<'f> {
 
 // Where a command whose completion names this slot stands among these counts.
 fn find_slot(counts: &[u64], slot: u64) -> Option<usize>
-    ensures { MatchOption result ((j : ℕ) → j < length counts.now → slice_index_or counts.now j 0 % 1024 ≡ slot → ⊥) (λ i. (i < length counts.now) × (slice_index_or counts.now i 0 % 1024 ≡ slot)) }
+    ensures { MatchOption result ((j : ℕ)
+        → j < length counts.now
+        → slice_index_or counts.now j 0 % 1024 ≡ slot
+        → ⊥) (λ i. (i < length counts.now) × (slice_index_or counts.now i 0 % 1024 ≡ slot)) }
 {
     for i in 0..counts.len() {
         if counts[i] % 1024 == slot {
@@ -113,7 +116,8 @@ impl<'f> PortRun<'f> {
         requires fuse { fuse_of seat ≡ name_of fuse.now }
         requires fresh { tickets_of seat ≡ [] }
         requires role { IsRole geometry role }
-        ensures state { IfOk result (λ l. emu_state l.port ≡ start_of geometry role image (name_of fuse.now) fail) }
+        ensures state { IfOk result (λ l. emu_state l.port ≡ start_of geometry role image
+            (name_of fuse.now) fail) }
     {
         if !is_image(geometry, role, &image) {
             return Err(Refused::NotReady);
@@ -194,7 +198,14 @@ impl<'f> PortRun<'f> {
 
     /// Stages a write of a transaction as the next entry.
     pub fn stage(&mut self, tx: u64, lba: Lba, block: Block, commit: bool) -> Result<(), Refused>
-        ensures ok { OnOk result (emu_state self.new.port ≡ after_stage (emu_state self.old.port) (entry_of (record { tx = tx; slot = staged_end (emu_state self.old.port) % depth; lba = lba; commit = commit })) tx lba block) }
+        ensures ok { OnOk result (emu_state self.new.port ≡ after_stage (emu_state self.old.port)
+            (entry_of (record {
+              tx = tx;
+              slot = staged_end
+                  (emu_state self.old.port) % depth;
+              lba = lba;
+              commit = commit;
+            })) tx lba block) }
         ensures err { OnErr result (emu_state self.new.port ≡ emu_state self.old.port) }
     {
         let end = self.end();
@@ -322,8 +333,10 @@ impl<'f> PortRun<'f> {
 fn extents(geometry: Geometry, role: Role) -> (bool, Extent, Extent)
     requires { IsRole geometry role }
     ensures queue { is_some (queue_in role) ≡ result.0 }
-    ensures area { (area_first_of geometry role ≡ result.1.first) × (area_size_of geometry role ≡ result.1.size) }
-    ensures homes { (homes_first_of geometry role ≡ result.2.first) × (homes_size_of geometry role ≡ result.2.size) }
+    ensures area { (area_first_of geometry role ≡ result.1.first)
+        × (area_size_of geometry role ≡ result.1.size) }
+    ensures homes { (homes_first_of geometry role ≡ result.2.first)
+        × (homes_size_of geometry role ≡ result.2.size) }
 {
     let (area, meta) = (u64::from(geometry.area()), u64::from(geometry.meta()));
     let homes = u64::from(geometry.queues()) * area;

@@ -69,7 +69,9 @@ pub fn map_after(
     history: &[Tx],
 ) -> Result<Vec<Option<Content>>, OutOfMemory>
     ensures length { IfOk result (λ v. length v.items ≡ length start.now) }
-    ensures each { IfOk result (λ v. (x : ℕ) → x < length start.now → slice_index_or v.items x None ≡ map_after (start_map start.now) (reverse history.now) x) }
+    ensures each { IfOk result (λ v. (x : ℕ)
+        → x < length start.now
+        → slice_index_or v.items x None ≡ map_after (start_map start.now) (reverse history.now) x) }
 {
     let mut map = Vec::new(alloc);
     for x in 0..start.len() {

@@ -18,7 +18,8 @@ use std::alloc::Global;
 
 // The inode that a path names, or why there is none.
 fn named_inode(target: &Target) -> Result<u32, Fault>
-    ensures { (v : Whole) (reply : What → Answer) → asks v reply (target_of target.now) ≡ says_of v reply result }
+    ensures { (v : Whole) (reply : What → Answer)
+        → asks v reply (target_of target.now) ≡ says_of v reply result }
 {
     match target {
         Target::Root => Ok(0),

@@ -29,7 +29,9 @@ impl Volume {
         bytes: Vec<u8>,
     ) -> Result<Verdict, OutOfMemory>
         requires { queue < queues_of geometry }
-        ensures { IfOk result (λ w. verdict_of w ≡ Makes (needs (length (node self.now i).blocks) (blocks_for (length bytes.items))) (resized geometry queue self.now i bytes.items)) }
+        ensures { IfOk result (λ w. verdict_of w ≡ Makes
+            (needs (length (node self.now i).blocks) (blocks_for (length bytes.items)))
+            (resized geometry queue self.now i bytes.items)) }
     {
         let blocks = needs(self.count_blocks(i), blocks_for(bytes.len()));
         let mut next = self.copy(alloc)?;
@@ -47,7 +49,8 @@ impl Volume {
         new: &[u8],
     ) -> Result<Verdict, OutOfMemory>
         requires { queue < queues_of geometry }
-        ensures { IfOk result (λ w. verdict_of w ≡ write_in geometry queue self.now i at new.now (body self.now i)) }
+        ensures { IfOk result (λ w. verdict_of w ≡ write_in geometry queue self.now i at new.now
+            (body self.now i)) }
     {
         match self.body(i) {
             Some(Body::File(bytes)) => {
@@ -72,7 +75,8 @@ impl Volume {
         target: &Target,
     ) -> Result<Verdict, OutOfMemory>
         requires { queue < queues_of geometry }
-        ensures { IfOk result (λ w. verdict_of w ≡ write geometry queue self.now at new.now (target_of target.now)) }
+        ensures { IfOk result (λ w. verdict_of w ≡ write geometry queue self.now at new.now
+            (target_of target.now)) }
     {
         match target {
             Target::Root => Ok(refused(Fault::IsDir)),
@@ -91,7 +95,8 @@ impl Volume {
         size: u64,
     ) -> Result<Verdict, OutOfMemory>
         requires { queue < queues_of geometry }
-        ensures { IfOk result (λ w. verdict_of w ≡ truncate_in geometry queue self.now i size (body self.now i)) }
+        ensures { IfOk result (λ w. verdict_of w ≡ truncate_in geometry queue self.now i size
+            (body self.now i)) }
     {
         match self.body(i) {
             Some(Body::File(bytes)) => {
@@ -116,7 +121,8 @@ impl Volume {
         target: &Target,
     ) -> Result<Verdict, OutOfMemory>
         requires { queue < queues_of geometry }
-        ensures { IfOk result (λ w. verdict_of w ≡ truncate geometry queue self.now size (target_of target.now)) }
+        ensures { IfOk result (λ w. verdict_of w ≡ truncate geometry queue self.now size
+            (target_of target.now)) }
     {
         match target {
             Target::Root => Ok(refused(Fault::IsDir)),

@@ -32,7 +32,8 @@ impl Volume {
         name: &Name,
     ) -> Result<Verdict, OutOfMemory>
         requires { queue < queues_of geometry }
-        ensures { IfOk result (λ w. verdict_of w ≡ make_free geometry queue self.now (body_of new) d name.now (first_free 0 self.now)) }
+        ensures { IfOk result (λ w. verdict_of w ≡ make_free geometry queue self.now
+            (body_of new) d name.now (first_free 0 self.now)) }
     {
         let i = match self.first_free() {
             Some(i) => i,
@@ -56,7 +57,8 @@ impl Volume {
         target: &Target,
     ) -> Result<Verdict, OutOfMemory>
         requires { queue < queues_of geometry }
-        ensures { IfOk result (λ w. verdict_of w ≡ make geometry queue self.now (body_of new) (target_of target.now)) }
+        ensures { IfOk result (λ w. verdict_of w ≡ make geometry queue self.now (body_of new)
+            (target_of target.now)) }
     {
         match target {
             Target::Root | Target::In(_, _, Some(_)) => Ok(refused(Fault::Exists)),
@@ -181,7 +183,8 @@ impl Volume {
         entry: NamedInode,
     ) -> Result<Verdict, OutOfMemory>
         requires { queue < queues_of geometry }
-        ensures { IfOk result (λ w. verdict_of w ≡ move geometry queue (unlinked self.now d entry.name) entry.inode (target self.now (way to.now))) }
+        ensures { IfOk result (λ w. verdict_of w ≡ move geometry queue
+            (unlinked self.now d entry.name) entry.inode (target self.now (way to.now))) }
     {
         let mut without = self.copy(alloc)?;
         without.unlinked(alloc, d, &entry.name)?;
@@ -198,7 +201,8 @@ impl Volume {
         to: &[Name],
     ) -> Result<Verdict, OutOfMemory>
         requires { queue < queues_of geometry }
-        ensures { IfOk result (λ w. verdict_of w ≡ rename geometry queue self.now from.now to.now (target self.now (way from.now))) }
+        ensures { IfOk result (λ w. verdict_of w ≡ rename geometry queue self.now from.now to.now
+            (target self.now (way from.now))) }
     {
         match self.target(alloc, from)? {
             Target::Root => Ok(refused(Fault::Subtree)),

@@ -18,7 +18,8 @@ fn is_before(name: &Name, other: &Name) -> bool
 // Where a name goes among others: before the first that it is before.
 fn place_of(name: &Name, names: &[Name]) -> usize
     ensures within { result ≤ length names.now }
-    ensures place { insert_name name.now names.now ≡ take result names.now ++ (name.now ∷ drop result names.now) }
+    ensures place { insert_name name.now names.now ≡ take result names.now ++
+        (name.now ∷ drop result names.now) }
 {
     for (k, other) in names.iter().enumerate() {
         if is_before(name, other) {

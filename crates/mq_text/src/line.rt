@@ -39,8 +39,10 @@ impl BlockLine {
 
 /// The items of these words, which name no block twice. The line's number is for the refusal.
 fn read_items(alloc: Global, line: u32, words: &[&[u8]]) -> Result<Vec<BlockItem>, BlockTextRefusal>
-    ensures ok { IfOk result (λ v. (map (λ x. x.now) words.now ≡ map item_text v.items) × AreGoodItems v.items) }
-    ensures refused { IfErr result (IsRefused (λ l cause. (l ≡ line) × RefusesWords (map (λ x. x.now) words.now) cause)) }
+    ensures ok { IfOk result (λ v. (map (λ x. x.now) words.now ≡ map item_text v.items)
+        × AreGoodItems v.items) }
+    ensures refused { IfErr result (IsRefused (λ l cause. (l ≡ line)
+        × RefusesWords (map (λ x. x.now) words.now) cause)) }
 {
     let mut named = [false; 256];
     let mut items = Vec::new(alloc);
@@ -63,7 +65,8 @@ fn read_items(alloc: Global, line: u32, words: &[&[u8]]) -> Result<Vec<BlockItem
 /// The items of a line. Its number is for the refusal.
 pub fn read_line(alloc: Global, line: u32, text: &[u8]) -> Result<BlockLine, BlockTextRefusal>
     ensures ok { IfOk result (λ l. (text.now ≡ line_text l) × IsGoodLine l) }
-    ensures refused { IfErr result (IsRefused (λ l cause. (l ≡ line) × ((before : List (List BlockItem)) → RefusesLine before text.now cause))) }
+    ensures refused { IfErr result (IsRefused (λ l cause. (l ≡ line)
+        × ((before : List (List BlockItem)) → RefusesLine before text.now cause))) }
 {
     if text.is_empty() {
         let cause = BlockTextCause::Empty;

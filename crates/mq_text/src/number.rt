@@ -5,7 +5,10 @@ ghost use Rattle.mq_text.specs.Text.{number_text};
 
 /// Decimal digits, with no zero in front of others.
 fn is_numeral(text: &[u8]) -> bool
-    ensures { IsTrue result ↔ ((0 < length text.now) × (slice_index text.now 0 ≡ 48 → length text.now ≡ 1) × EachIndex text.now (λ k. IsInRange 48 57 (slice_index text.now k))) }
+    ensures { IsTrue result
+        ↔ ((0 < length text.now)
+        × (slice_index text.now 0 ≡ 48 → length text.now ≡ 1)
+        × EachIndex text.now (λ k. IsInRange 48 57 (slice_index text.now k))) }
 {
     if text.is_empty() {
         return false;

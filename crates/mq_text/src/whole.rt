@@ -29,7 +29,8 @@ const PLACES: usize = 1024;
 
 /// The text without the line feed at its end, where it has one.
 fn without_last_line_feed(text: &[u8]) -> &[u8]
-    ensures { (text.now ≡ result.now ++ 10 ∷ []) ⊎ ((text.now ≡ result.now) × ((front : List ℕ) → text.now ≡ front ++ 10 ∷ [] → ⊥)) }
+    ensures { (text.now ≡ result.now ++ 10 ∷ [])
+        ⊎ ((text.now ≡ result.now) × ((front : List ℕ) → text.now ≡ front ++ 10 ∷ [] → ⊥)) }
 {
     match text {
         [front @ .., b'\n'] => front,
@@ -39,7 +40,8 @@ fn without_last_line_feed(text: &[u8]) -> &[u8]
 
 /// The lines of these texts, which fit the smallest journal area.
 fn read_lines(alloc: Global, texts: &[&[u8]]) -> Result<Vec<BlockLine>, BlockTextRefusal>
-    ensures ok { IfOk result (λ v. (map (λ x. x.now) texts.now ≡ map line_text v.items) × IsGoodText v.items) }
+    ensures ok { IfOk result (λ v. (map (λ x. x.now) texts.now ≡ map line_text v.items)
+        × IsGoodText v.items) }
     ensures refused { IfErr result (IsRefused (RefusesLines (map (λ x. x.now) texts.now))) }
 {
     let mut room = PLACES;
@@ -80,9 +82,14 @@ pub fn read_block_text(alloc: Global, bytes: &[u8]) -> Result<BlockText, BlockTe
     // What is refused at a line has this cause there.
     ensures refused { IfErr result (IsRefused (RefusesText bytes.now)) }
     // What has a cause at a line is refused so, unless memory runs out.
-    ensures exact { (line : ℕ) (cause : BlockTextCause) → RefusesText bytes.now line cause → IsRefusal result line cause }
+    ensures exact { (line : ℕ) (cause : BlockTextCause)
+        → RefusesText bytes.now line cause
+        → IsRefusal result line cause }
     // What is spelled so is read, unless memory runs out.
-    ensures only { (lines : List (List BlockItem)) → IsTextOf bytes.now lines → IsGoodText lines → MatchResult result (λ t. t ≡ lines) (λ e. e ≡ BlockTextRefusal.OutOfMemory) }
+    ensures only { (lines : List (List BlockItem))
+        → IsTextOf bytes.now lines
+        → IsGoodText lines
+        → MatchResult result (λ t. t ≡ lines) (λ e. e ≡ BlockTextRefusal.OutOfMemory) }
 {
     read_bytes(alloc, bytes)
 }

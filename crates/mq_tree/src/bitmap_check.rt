@@ -39,7 +39,10 @@ fn check_zone(
     requires used { (b : ℕ) → slice_index_or used.now b false ≡ is_taken (volume_in geometry blocks.now) b }
     requires zone { zone < queues_of geometry }
     requires pointers { ArePointers geometry blocks.now }
-    ensures ok { IfOk result (λ _. (k : ℕ) → k < zone_size geometry → bit_of (block_at blocks.now (zone_bitmap_of zone)) k ≡ (if is_taken (volume_in geometry blocks.now) (zone_block geometry zone k) then 1 else 0)) }
+    ensures ok { IfOk result (λ _. (k : ℕ)
+        → k < zone_size geometry
+        → bit_of (block_at blocks.now (zone_bitmap_of zone)) k ≡ (if is_taken
+        (volume_in geometry blocks.now) (zone_block geometry zone k) then 1 else 0)) }
     ensures cause { IfErr result (Refuses geometry blocks.now) }
 {
     let b = zone_bitmap(geometry, QueueNo(zone)).0;
@@ -63,7 +66,10 @@ fn check_inodes(
     requires zero { zero.now ≡ zeros }
     requires inodes { inodes.now ≡ inodes_in geometry blocks.now }
     requires table { IsTable geometry blocks.now }
-    ensures ok { IfOk result (λ _. (i : ℕ) → i < inodes_of geometry → bit_of (block_at blocks.now (inode_bitmap_of geometry)) i ≡ (if is_used (body (volume_in geometry blocks.now) i) then 1 else 0)) }
+    ensures ok { IfOk result (λ _. (i : ℕ)
+        → i < inodes_of geometry
+        → bit_of (block_at blocks.now (inode_bitmap_of geometry)) i ≡ (if is_used
+        (body (volume_in geometry blocks.now) i) then 1 else 0)) }
     ensures cause { IfErr result (Refuses geometry blocks.now) }
 {
     let b = inode_bitmap(geometry).0;

@@ -38,7 +38,8 @@ pub fn claim_blocks(
     requires table { IsTable geometry blocks.now }
     requires pointers { ArePointers geometry blocks.now }
     ensures size { IfOk result (λ used. length used.items ≡ homes_of geometry) }
-    ensures used { IfOk result (λ used. (b : ℕ) → slice_index_or used.items b false ≡ is_taken (volume_in geometry blocks.now) b) }
+    ensures used { IfOk result (λ used. (b : ℕ)
+        → slice_index_or used.items b false ≡ is_taken (volume_in geometry blocks.now) b) }
     ensures apart { OnOk result (AreApart (volume_in geometry blocks.now)) }
     ensures cause { IfErr result (Refuses geometry blocks.now) }
 {

@@ -38,7 +38,8 @@ impl Directory {
 
     /// Adds a name, and says whether it was not there.
     pub fn add(&mut self, alloc: Global, name: &[u8], inode: u32) -> Result<bool, OutOfMemory>
-        ensures { IfOk result (λ is_new. MatchBool is_new (Adds self.old self.new name.now inode) (Has self.old name.now)) }
+        ensures { IfOk result (λ is_new. MatchBool is_new (Adds self.old self.new name.now inode)
+            (Has self.old name.now)) }
     {
         let key = Vec::from_slice(alloc, name)?;
         let before = self.links.insert(key, inode)?;

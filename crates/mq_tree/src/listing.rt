@@ -57,8 +57,13 @@ impl Tree {
         todo: &mut Vec<Step<'a>>,
     ) -> Result<(), OutOfMemory>
         requires { from ≤ to }
-        ensures todo { OnOk result ((text : List ℕ) → todo_in text todo.new.items ≡ items_of (slice_range text from to) (entries_in (slots_of (body self.now inode))) ++ todo_in text todo.old.items) }
-        ensures inside { OnOk result ((text : List ℕ) → to ≤ length text → AreIn text todo.old.items → AreIn text todo.new.items) }
+        ensures todo { OnOk result ((text : List ℕ)
+            → todo_in text todo.new.items ≡ items_of (slice_range text from to)
+            (entries_in (slots_of (body self.now inode))) ++ todo_in text todo.old.items) }
+        ensures inside { OnOk result ((text : List ℕ)
+            → to ≤ length text
+            → AreIn text todo.old.items
+            → AreIn text todo.new.items) }
     {
         if let Some(Content::Dir(names)) = self.content(inode) {
             let links = names.links(alloc)?;
@@ -80,8 +85,12 @@ impl Tree {
     ) -> Result<(), OutOfMemory>
         requires step { IsIn text.old.items step.now }
         requires inside { AreIn text.old.items todo.old.items }
-        ensures text { OnOk result (text.new.items ≡ text.old.items ++ line_of (path_of (item_in text.old.items step.now)) (body self.now step.now.link.inode)) }
-        ensures todo { OnOk result (todo_in text.new.items todo.new.items ≡ items_of (path_of (item_in text.old.items step.now)) (entries_in (slots_of (body self.now step.now.link.inode))) ++ todo_in text.old.items todo.old.items) }
+        ensures text { OnOk result (text.new.items ≡ text.old.items ++ line_of
+            (path_of (item_in text.old.items step.now)) (body self.now step.now.link.inode)) }
+        ensures todo { OnOk result (todo_in text.new.items todo.new.items ≡ items_of
+            (path_of (item_in text.old.items step.now))
+            (entries_in (slots_of
+            (body self.now step.now.link.inode))) ++ todo_in text.old.items todo.old.items) }
         ensures inside { OnOk result (AreIn text.new.items todo.new.items) }
     {
         self.put_head(text, step.link.inode)?;

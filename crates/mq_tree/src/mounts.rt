@@ -60,10 +60,15 @@ pub fn mount(
     blocks: &[Option<Block>],
 ) -> Result<Tree, MountRefusal>
     ensures tree { IfOk result (λ t. IsTreeOf geometry (map_of geometry blocks.now) (tree t)) }
-    ensures alike { IfOk result (λ t. (v : Volume) → IsLaid geometry (map_of geometry blocks.now) v → IsAlike t v) }
+    ensures alike { IfOk result (λ t. (v : Volume)
+        → IsLaid geometry (map_of geometry blocks.now) v
+        → IsAlike t v) }
     ensures listing { IfOk result (λ t. IsListing (tree t) (list_text t)) }
     ensures cause { IfErr result (Refuses geometry blocks.now) }
-    ensures none { IfErr result (λ e. e ≢ MountRefusal.OutOfMemory → (t : Things) → IsTreeOf geometry (map_of geometry blocks.now) t → ⊥) }
+    ensures none { IfErr result (λ e. e ≢ MountRefusal.OutOfMemory
+        → (t : Things)
+        → IsTreeOf geometry (map_of geometry blocks.now) t
+        → ⊥) }
 {
     let zero = Block::zeroed(alloc)?;
     let contents = read_volume(alloc, geometry, blocks, &zero)?;

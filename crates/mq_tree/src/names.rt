@@ -30,7 +30,9 @@ fn is_named(inodes: &[Inode], inode: u32) -> bool
 fn slot_names(inodes: &[Inode], block: &Block, at: u32) -> bool
     requires at { at < 15 }
     requires block { IsDirBlock block.now }
-    ensures { MatchBool result (NamesRight inodes.now block.now at) ((e : Entry) × (slot_of block.now at ≡ Some e) × (IsNamedBy inodes.now e.inode → ⊥)) }
+    ensures { MatchBool result (NamesRight inodes.now block.now at) ((e : Entry)
+        × (slot_of block.now at ≡ Some e)
+        × (IsNamedBy inodes.now e.inode → ⊥)) }
 {
     match read_slot(block, at) {
         Ok(Some(slot)) => is_named(inodes, slot.inode),
@@ -57,7 +59,8 @@ fn bad_name(blocks: &[Option<Block>], zero: &Block, inodes: &[Inode], inode: &In
     requires zero { zero.now ≡ zeros }
     requires form { IsInode inode.now }
     requires dir { AreDirBlocks blocks.now inode.now }
-    ensures { MatchOption result (AreNamedIn blocks.now inodes.now inode.now) (HasBadName blocks.now inodes.now inode.now) }
+    ensures { MatchOption result (AreNamedIn blocks.now inodes.now inode.now)
+        (HasBadName blocks.now inodes.now inode.now) }
 {
     if inode.kind != DIRECTORY {
         return None;

@@ -53,7 +53,9 @@ fn is_right(geometry: Geometry, pointer: u32, wanted: bool) -> bool
 /// Whether the pointers in the inode are right.
 fn are_near(geometry: Geometry, inode: &Inode, count: u32) -> bool
     requires { IsInode inode.now }
-    ensures { MatchBool result (AreNear geometry inode.now count) ((k : ℕ) × (k < 12) × (IsRight geometry (nat_lt k count) (slice_index inode.now.direct k) → ⊥)) }
+    ensures { MatchBool result (AreNear geometry inode.now count) ((k : ℕ)
+        × (k < 12)
+        × (IsRight geometry (nat_lt k count) (slice_index inode.now.direct k) → ⊥)) }
 {
     for k in 0..DIRECT {
         if !is_right(geometry, inode.direct[k as usize], k < count) {
@@ -73,7 +75,10 @@ fn are_far(
 ) -> bool
     requires zero { zero.now ≡ zeros }
     requires form { IsInode inode.now }
-    ensures { MatchBool result (AreFar geometry blocks.now inode.now count) ((k : ℕ) × (12 ≤ k) × (k < 1036) × (IsRight geometry (nat_lt k count) (pointer_to blocks.now inode.now k) → ⊥)) }
+    ensures { MatchBool result (AreFar geometry blocks.now inode.now count) ((k : ℕ)
+        × (12 ≤ k)
+        × (k < 1036)
+        × (IsRight geometry (nat_lt k count) (pointer_to blocks.now inode.now k) → ⊥)) }
 {
     for k in DIRECT..DIRECT + POINTERS_PER_BLOCK {
         let found = pointer_at(blocks, zero, inode, k);

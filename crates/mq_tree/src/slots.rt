@@ -39,7 +39,9 @@ pub fn slot_at<'a>(
     requires kind { inode.now.kind ≡ 2 }
     requires dir { AreDirBlocks blocks.now inode.now }
     requires low { k < 15 * count_of inode.now }
-    ensures { MatchOption result (entry_of blocks.now inode.now k ≡ None) (λ link. entry_of blocks.now inode.now k ≡ Some (record { inode = link.inode; name = link.name.now })) }
+    ensures { MatchOption result (entry_of blocks.now inode.now k ≡ None)
+        (λ link. entry_of blocks.now inode.now k ≡ Some
+        (record { inode = link.inode; name = link.name.now })) }
 {
     let b = pointer_at(blocks, zero, inode, k / SLOTS_PER_BLOCK);
     let block = stored_block(blocks, zero, b);

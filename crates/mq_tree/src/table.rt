@@ -25,7 +25,9 @@ pub const DIRECTORY: u8 = 2;
 
 /// The first bit of a bitmap that is set, from this one on.
 fn first_set(block: &Block, from: u32) -> Option<u32>
-    ensures { MatchOption result (NoneFrom block.now from) (λ k. (from ≤ k) × (k < 32768) × (bit_of block.now k ≡ 1)) }
+    ensures { MatchOption result (NoneFrom block.now from) (λ k. (from ≤ k)
+        × (k < 32768)
+        × (bit_of block.now k ≡ 1)) }
 {
     for k in from..32768 {
         if bit(block, k) {
@@ -56,7 +58,9 @@ fn check_zone_bits(
     zero: &Block,
 ) -> Result<(), MountRefusal>
     requires { zero.now ≡ zeros }
-    ensures ok { IfOk result (λ _. (zone : ℕ) → zone < queues_of geometry → NoneFrom (block_at blocks.now (zone_bitmap_of zone)) (zone_size geometry)) }
+    ensures ok { IfOk result (λ _. (zone : ℕ)
+        → zone < queues_of geometry
+        → NoneFrom (block_at blocks.now (zone_bitmap_of zone)) (zone_size geometry)) }
     ensures cause { IfErr result (Refuses geometry blocks.now) }
 {
     for zone in 0..geometry.queues() {
@@ -74,7 +78,8 @@ fn check_inode_bits(
     zero: &Block,
 ) -> Result<(), MountRefusal>
     requires { zero.now ≡ zeros }
-    ensures ok { IfOk result (λ _. NoneFrom (block_at blocks.now (inode_bitmap_of geometry)) (inodes_of geometry)) }
+    ensures ok { IfOk result (λ _. NoneFrom (block_at blocks.now (inode_bitmap_of geometry))
+        (inodes_of geometry)) }
     ensures cause { IfErr result (Refuses geometry blocks.now) }
 {
     let b = inode_bitmap(geometry).0;
@@ -93,7 +98,10 @@ fn read_inodes(
 ) -> Result<Vec<Inode>, MountRefusal>
     requires { zero.now ≡ zeros }
     ensures ok { IfOk result (λ found. found.items ≡ inodes_in geometry blocks.now) }
-    ensures shown { OnOk result ((i : ℕ) → i < inodes_of geometry → ShowsInode (block_at blocks.now (inode_block_of geometry i)) (inode_place_of i) (the_inode geometry blocks.now i)) }
+    ensures shown { OnOk result ((i : ℕ)
+        → i < inodes_of geometry
+        → ShowsInode (block_at blocks.now (inode_block_of geometry i)) (inode_place_of i)
+        (the_inode geometry blocks.now i)) }
     ensures cause { IfErr result (Refuses geometry blocks.now) }
 {
     let count = inodes(geometry);
@@ -110,7 +118,8 @@ fn read_inodes(
 
 /// Whether all bytes of a block are 0.
 fn is_zero(block: &Block) -> bool
-    ensures { MatchBool result ((k : ℕ) → slice_index block.now k ≡ 0) ((k : ℕ) × (slice_index block.now k ≢ 0)) }
+    ensures { MatchBool result ((k : ℕ) → slice_index block.now k ≡ 0) ((k : ℕ)
+        × (slice_index block.now k ≢ 0)) }
 {
     for byte in block.bytes() {
         if *byte != 0 {
@@ -127,7 +136,10 @@ fn check_rest(
     zero: &Block,
 ) -> Result<(), MountRefusal>
     requires { zero.now ≡ zeros }
-    ensures ok { IfOk result (λ _. (b k : ℕ) → table_first_of geometry + 1024 ≤ b → b < meta_of geometry → slice_index (block_at blocks.now b) k ≡ 0) }
+    ensures ok { IfOk result (λ _. (b k : ℕ)
+        → table_first_of geometry + 1024 ≤ b
+        → b < meta_of geometry
+        → slice_index (block_at blocks.now b) k ≡ 0) }
     ensures cause { IfErr result (Refuses geometry blocks.now) }
 {
     for b in table_first(geometry).0 + 1024..geometry.meta() {

@@ -44,14 +44,16 @@ impl Tree {
 
     /// What the inode in this place of the list is, where there is one.
     fn content_at(&self, place: usize) -> Option<&Content>
-        ensures { MatchOption result (body self.now place ≡ Free) (λ content. body self.now place ≡ body_kept content.now) }
+        ensures { MatchOption result (body self.now place ≡ Free)
+            (λ content. body self.now place ≡ body_kept content.now) }
     {
         self.contents.get(place)
     }
 
     /// What an inode is, where there is one of this number.
     pub(crate) fn content(&self, inode: u32) -> Option<&Content>
-        ensures { MatchOption result (body self.now inode ≡ Free) (λ content. body self.now inode ≡ body_kept content.now) }
+        ensures { MatchOption result (body self.now inode ≡ Free)
+            (λ content. body self.now inode ≡ body_kept content.now) }
     {
         self.content_at(inode as usize)
     }
@@ -101,7 +103,8 @@ impl Tree {
 
     /// The bytes of an inode that is a file.
     fn bytes(&self, inode: u32) -> Result<&[u8], Fault>
-        ensures { MatchResult result (λ bytes. file_in (body self.now inode) ≡ Ok bytes.now) (λ fault. file_in (body self.now inode) ≡ Err fault) }
+        ensures { MatchResult result (λ bytes. file_in (body self.now inode) ≡ Ok bytes.now)
+            (λ fault. file_in (body self.now inode) ≡ Err fault) }
     {
         match self.content(inode) {
             Some(Content::File(bytes)) => Ok(&bytes.0),
@@ -112,7 +115,8 @@ impl Tree {
 
     /// The bytes of the file at a path.
     pub fn file(&self, path: &Path) -> Result<&[u8], Fault>
-        ensures { MatchResult result (λ bytes. ReadsAs self.now path.now (Ok bytes.now)) (λ fault. ReadsAs self.now path.now (Err fault)) }
+        ensures { MatchResult result (λ bytes. ReadsAs self.now path.now (Ok bytes.now))
+            (λ fault. ReadsAs self.now path.now (Err fault)) }
     {
         if !are_good(&path.0) {
             return Err(Fault::BadName);

@@ -66,9 +66,11 @@ fn visit(
     requires named { AreNamed (volume_in geometry blocks.now) }
     requires names { AreOnce (volume_in geometry blocks.now) }
     requires low { done < length walk.old.order.items }
-    requires walk { Walked (volume_in geometry blocks.now) (inodes_of geometry) walk.old.seen.items walk.old.order.items done 0 }
+    requires walk { Walked (volume_in geometry blocks.now)
+        (inodes_of geometry) walk.old.seen.items walk.old.order.items done 0 }
     requires pointers { ArePointers geometry blocks.now }
-    ensures ok { OnOk result (Walked (volume_in geometry blocks.now) (inodes_of geometry) walk.new.seen.items walk.new.order.items (done + 1) 0) }
+    ensures ok { OnOk result (Walked (volume_in geometry blocks.now)
+        (inodes_of geometry) walk.new.seen.items walk.new.order.items (done + 1) 0) }
     ensures low { OnOk result (done < length walk.new.order.items) }
     ensures cause { IfErr result (Refuses geometry blocks.now) }
 {

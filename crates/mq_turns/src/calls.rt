@@ -36,7 +36,10 @@ impl<M: Machine> Desk<M> {
         requires turn { IsTurn (start_of self.now) turn }
         requires above { Each (λ h. h.0 < slot_of (start_of self.now) turn) (view chair.old).held }
         ensures at { AtDesk self.now chair.new }
-        ensures took { (K : Known M.Page M.Side M.Root M.Entry) × (view chair.new ≡ holding (slot_of (start_of self.now) turn) K (view chair.old)) × Sees M.meaning (view chair.old) K × Stands M.meaning turn K result }
+        ensures took { (K : Known M.Page M.Side M.Root M.Entry)
+            × (view chair.new ≡ holding (slot_of (start_of self.now) turn) K (view chair.old))
+            × Sees M.meaning (view chair.old) K
+            × Stands M.meaning turn K result }
     {
         steps::take(rt, &self.table.shared, &mut chair.place, self.slot(turn))
     }
@@ -46,7 +49,9 @@ impl<M: Machine> Desk<M> {
         requires at { AtDesk self.now chair.old }
         requires turn { IsTurn (start_of self.now) turn }
         requires holds { 0 < times (slot_of (start_of self.now) turn) (view chair.old).held }
-        requires stands { (K : Known M.Page M.Side M.Root M.Entry) → Sees M.meaning (view chair.old) K → Stands M.meaning turn K item }
+        requires stands { (K : Known M.Page M.Side M.Root M.Entry)
+            → Sees M.meaning (view chair.old) K
+            → Stands M.meaning turn K item }
         ensures at { AtDesk self.now chair.new }
         ensures gave { view chair.new ≡ giving (slot_of (start_of self.now) turn) (view chair.old) }
     {
@@ -58,9 +63,13 @@ impl<M: Machine> Desk<M> {
     /// are the machine's on the map at the answered number, and the chair keeps it.
     pub fn look(&self, chair: &mut Chair<M>, read: Option<&M::Entry>) -> TxNo
         requires at { AtDesk self.now chair.old }
-        requires read { IfSome read (λ e. MayRead M.meaning e.now (view chair.old) × Follows M.meaning e.now (view chair.old)) }
+        requires read { IfSome read (λ e. MayRead M.meaning e.now (view chair.old)
+            × Follows M.meaning e.now (view chair.old)) }
         ensures at { AtDesk self.now chair.new }
-        ensures looked { (K : Known M.Page M.Side M.Root M.Entry) × (view chair.new ≡ after_look (option_map (λ e. e.now) read.entry) K (view chair.old)) × (newest K ≡ result) × Sees M.meaning (view chair.old) K }
+        ensures looked { (K : Known M.Page M.Side M.Root M.Entry)
+            × (view chair.new ≡ after_look (option_map (λ e. e.now) read.entry) K (view chair.old))
+            × (newest K ≡ result)
+            × Sees M.meaning (view chair.old) K }
         ensures below { Below result (view chair.old) }
         ensures order { IsInOrder M.meaning (view chair.new) }
     {
@@ -77,12 +86,16 @@ impl<M: Machine> Desk<M> {
     pub fn draw(&self, chair: &mut Chair<M>, queue: QueueNo, entry: &M::Entry) -> TxNo
         requires at { AtDesk self.now chair.old }
         requires queue { (M.meaning).queue entry.now ≡ queue }
-        requires side { IsTurn (start_of self.now) (Side queue) × (0 < times (slot_of (start_of self.now) (Side queue)) (view chair.old).held) }
+        requires side { IsTurn (start_of self.now) (Side queue)
+            × (0 < times (slot_of (start_of self.now) (Side queue)) (view chair.old).held) }
         requires may { Covers M.meaning entry.now (view chair.old) }
         requires follows { Follows M.meaning entry.now (view chair.old) }
         requires room { length (view chair.old).drawn < allotment (chairs_of self.now) }
         ensures at { AtDesk self.now chair.new }
-        ensures drew { (K : Known M.Page M.Side M.Root M.Entry) × (view chair.new ≡ after_draw M.meaning entry.now K (view chair.old)) × (result ≡ suc (newest K)) × Sees M.meaning (view chair.old) K }
+        ensures drew { (K : Known M.Page M.Side M.Root M.Entry)
+            × (view chair.new ≡ after_draw M.meaning entry.now K (view chair.old))
+            × (result ≡ suc (newest K))
+            × Sees M.meaning (view chair.old) K }
         ensures limit { result ≤ 2 ^ 63 }
         ensures above { ((view chair.old).seen < result) × Each (λ d. d.0 < result) (view chair.old).drawn }
         ensures order { IsInOrder M.meaning (view chair.new) }
@@ -102,7 +115,10 @@ impl<M: Machine> Desk<M> {
         requires { AtDesk self.now from.old × AtDesk self.now to.old }
         ensures at { AtDesk self.now from.new × AtDesk self.now to.new }
         ensures from { view from.new ≡ view from.old }
-        ensures to { (n : ℕ) × (view to.new ≡ record (view to.old) { seen = n }) × Below n (view from.old) × Below n (view to.old) }
+        ensures to { (n : ℕ)
+            × (view to.new ≡ record (view to.old) { seen = n })
+            × Below n (view from.old)
+            × Below n (view to.old) }
     {
         let note = self.table.shared.split_seat::<Note>(&mut from.place);
         self.table.shared.join_seat::<Note>(&mut to.place, note);

@@ -36,14 +36,26 @@ fn join_all<M: Machine>(
     mut chairs: Vec<Chair<M>>,
 )
     requires counter { (counter ≡ top.now.table_id.slots) × (counter < top.now.table_id.words) }
-    requires table { (place.old.table_id ≡ top.now.table_id) × (place.old.me.1 ≡ []) × (place.old.me.0.held ≡ []) × (0 < place.old.me.0.parts) }
-    requires theirs { All (λ ch. (ch.place.table_id ≡ top.now.table_id) × ((view ch).held ≡ [])) chairs.items }
-    ensures seat { (place.new.table_id ≡ place.old.table_id) × (place.new.id ≡ place.old.id) × (place.new.me.1 ≡ []) × (place.new.me.0.held ≡ []) }
+    requires table { (place.old.table_id ≡ top.now.table_id)
+        × (place.old.me.1 ≡ [])
+        × (place.old.me.0.held ≡ [])
+        × (0 < place.old.me.0.parts) }
+    requires theirs { All (λ ch. (ch.place.table_id ≡ top.now.table_id)
+        × ((view ch).held ≡ [])) chairs.items }
+    ensures seat { (place.new.table_id ≡ place.old.table_id)
+        × (place.new.id ≡ place.old.id)
+        × (place.new.me.1 ≡ [])
+        × (place.new.me.0.held ≡ []) }
     ensures order { Each (IsInOrder M.meaning) (map (λ ch. view ch) chairs.items) }
-    ensures parts { place.new.me.0.parts ≡ place.old.me.0.parts + total (λ v. v.parts) (map (λ ch. view ch) chairs.items) }
-    ensures all { (place.new.me.0.drawn ≡ place.old.me.0.drawn ++ drawn_of (map (λ ch. view ch) chairs.items)) × (place.new.me.0.read ≡ place.old.me.0.read ++ read_of (map (λ ch. view ch) chairs.items)) }
-    ensures charged { place.new.me.0.reading.charged ≡ place.old.me.0.reading.charged ++ charged_of (map (λ ch. view ch) chairs.items) }
-    ensures done { (place.old.me.0.reading.done ≤ place.new.me.0.reading.done) × Each (λ v. v.reading.done ≤ place.new.me.0.reading.done) (map (λ ch. view ch) chairs.items) }
+    ensures parts { place.new.me.0.parts ≡ place.old.me.0.parts + total (λ v. v.parts)
+        (map (λ ch. view ch) chairs.items) }
+    ensures all { (place.new.me.0.drawn ≡ place.old.me.0.drawn ++ drawn_of
+        (map (λ ch. view ch) chairs.items))
+        × (place.new.me.0.read ≡ place.old.me.0.read ++ read_of (map (λ ch. view ch) chairs.items)) }
+    ensures charged { place.new.me.0.reading.charged ≡ place.old.me.0.reading.charged ++ charged_of
+        (map (λ ch. view ch) chairs.items) }
+    ensures done { (place.old.me.0.reading.done ≤ place.new.me.0.reading.done)
+        × Each (λ v. v.reading.done ≤ place.new.me.0.reading.done) (map (λ ch. view ch) chairs.items) }
 {
     while let Some(Chair { place: mut other }) = chairs.pop() {
         steps::count(top, &mut other, counter);
@@ -55,11 +67,13 @@ fn join_all<M: Machine>(
 // Makes one seat of all chairs.
 fn gather<M: Machine>(top: &Top<M>, counter: usize, mut chairs: Vec<Chair<M>>) -> Place<M>
     requires counter { (counter ≡ top.now.table_id.slots) × (counter < top.now.table_id.words) }
-    requires theirs { All (λ ch. (ch.place.table_id ≡ top.now.table_id) × ((view ch).held ≡ [])) chairs.items }
+    requires theirs { All (λ ch. (ch.place.table_id ≡ top.now.table_id)
+        × ((view ch).held ≡ [])) chairs.items }
     requires some { 0 < length chairs.items }
     ensures seat { (result.table_id ≡ top.now.table_id) × (result.me.1 ≡ []) × (result.me.0.held ≡ []) }
     ensures parts { result.me.0.parts ≡ length chairs.items }
-    ensures all { (result.me.0.drawn ≡ drawn_of (map (λ ch. view ch) chairs.items)) × (result.me.0.read ≡ read_of (map (λ ch. view ch) chairs.items)) }
+    ensures all { (result.me.0.drawn ≡ drawn_of (map (λ ch. view ch) chairs.items))
+        × (result.me.0.read ≡ read_of (map (λ ch. view ch) chairs.items)) }
     ensures charged { result.me.0.reading.charged ≡ charged_of (map (λ ch. view ch) chairs.items) }
     ensures done { Each (λ v. v.reading.done ≤ result.me.0.reading.done) (map (λ ch. view ch) chairs.items) }
     ensures order { Each (IsInOrder M.meaning) (map (λ ch. view ch) chairs.items) }
@@ -79,10 +93,17 @@ fn unload_pages<M: Machine>(
     mut pages: Vec<M::Page>,
 ) -> Vec<M::Page>
     requires room { (pages.items ≡ []) × (count ≤ vec_capacity pages) × (count < slots_len closed.old.slots) }
-    requires full { (j : ℕ) → j < slots_len closed.old.slots → slice_index_or (slots_filled closed.old.slots) j false ≡ true }
+    requires full { (j : ℕ)
+        → j < slots_len closed.old.slots
+        → slice_index_or (slots_filled closed.old.slots) j false ≡ true }
     requires home { HasPages count (slots_items closed.old.slots) }
-    ensures same { (slots_items closed.new.slots ≡ slots_items closed.old.slots) × (slots_len closed.new.slots ≡ slots_len closed.old.slots) × (closed.new.words ≡ closed.old.words) }
-    ensures left { (j : ℕ) → count ≤ j → j < slots_len closed.old.slots → slice_index_or (slots_filled closed.new.slots) j false ≡ true }
+    ensures same { (slots_items closed.new.slots ≡ slots_items closed.old.slots)
+        × (slots_len closed.new.slots ≡ slots_len closed.old.slots)
+        × (closed.new.words ≡ closed.old.words) }
+    ensures left { (j : ℕ)
+        → count ≤ j
+        → j < slots_len closed.old.slots
+        → slice_index_or (slots_filled closed.new.slots) j false ≡ true }
     ensures gone { (j : ℕ) → j < count → slice_index_or (slots_filled closed.new.slots) j false ≡ false }
     ensures pages { (vec_len result ≡ count) × ArePages (slots_items closed.old.slots) result.items }
 {
@@ -104,13 +125,25 @@ fn unload_sides<M: Machine>(
     count: usize,
     mut sides: Vec<M::Side>,
 ) -> Vec<M::Side>
-    requires room { (sides.items ≡ []) × (count ≤ vec_capacity sides) × (pages + count < slots_len closed.old.slots) }
-    requires full { (j : ℕ) → pages ≤ j → j < slots_len closed.old.slots → slice_index_or (slots_filled closed.old.slots) j false ≡ true }
+    requires room { (sides.items ≡ [])
+        × (count ≤ vec_capacity sides)
+        × (pages + count < slots_len closed.old.slots) }
+    requires full { (j : ℕ)
+        → pages ≤ j
+        → j < slots_len closed.old.slots
+        → slice_index_or (slots_filled closed.old.slots) j false ≡ true }
     requires empty { (j : ℕ) → j < pages → slice_index_or (slots_filled closed.old.slots) j false ≡ false }
     requires home { HasSides pages count (slots_items closed.old.slots) }
-    ensures same { (slots_items closed.new.slots ≡ slots_items closed.old.slots) × (slots_len closed.new.slots ≡ slots_len closed.old.slots) × (closed.new.words ≡ closed.old.words) }
-    ensures left { (j : ℕ) → pages + count ≤ j → j < slots_len closed.old.slots → slice_index_or (slots_filled closed.new.slots) j false ≡ true }
-    ensures gone { (j : ℕ) → j < pages + count → slice_index_or (slots_filled closed.new.slots) j false ≡ false }
+    ensures same { (slots_items closed.new.slots ≡ slots_items closed.old.slots)
+        × (slots_len closed.new.slots ≡ slots_len closed.old.slots)
+        × (closed.new.words ≡ closed.old.words) }
+    ensures left { (j : ℕ)
+        → pages + count ≤ j
+        → j < slots_len closed.old.slots
+        → slice_index_or (slots_filled closed.new.slots) j false ≡ true }
+    ensures gone { (j : ℕ)
+        → j < pages + count
+        → slice_index_or (slots_filled closed.new.slots) j false ≡ false }
     ensures sides { (vec_len result ≡ count) × AreSides pages (slots_items closed.old.slots) result.items }
 {
     for k in 0..count {
@@ -149,7 +182,8 @@ impl<M: Machine> Desk<M> {
     pub fn into_parts(self, alloc: Global, chairs: Vec<Chair<M>>) -> Result<Parts<M>, Unended<M>>
         requires theirs { All (λ ch. AtDesk self ch × ((view ch).held ≡ [])) chairs.items }
         requires all { length chairs.items ≡ chairs_of self }
-        ensures ok { IfOk result (λ p. Ended M.meaning (start_of self) (map (λ ch. view ch) chairs.items) p.pages.items p.sides.items p.root p.next p.base) }
+        ensures ok { IfOk result (λ p. Ended M.meaning (start_of self)
+            (map (λ ch. view ch) chairs.items) p.pages.items p.sides.items p.root p.next p.base) }
         ensures err { IfErr result (λ e. (e.0 ≡ self) × (e.1 ≡ chairs)) }
     {
         let Ok(pages) = Vec::with_capacity(alloc, self.pages as usize) else {

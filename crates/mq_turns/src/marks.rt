@@ -21,11 +21,14 @@ impl<M: Machine> Desk<M> {
     /// `u64::MAX` says that none of the queue's numbers is undone.
     pub fn clear(&self, chair: &mut Chair<M>, queue: QueueNo, low: u64)
         requires at { AtDesk self.now chair.old }
-        requires side { IsTurn (start_of self.now) (Side queue) × (0 < times (slot_of (start_of self.now) (Side queue)) (view chair.old).held) }
+        requires side { IsTurn (start_of self.now) (Side queue)
+            × (0 < times (slot_of (start_of self.now) (Side queue)) (view chair.old).held) }
         requires low { 1 ≤ low }
         requires may { MayClear M.meaning queue low (view chair.old) }
         ensures at { AtDesk self.now chair.new }
-        ensures cleared { (K : Known M.Page M.Side M.Root M.Entry) × (view chair.new ≡ after_clear queue low K (view chair.old)) × Sees M.meaning (view chair.old) K }
+        ensures cleared { (K : Known M.Page M.Side M.Root M.Entry)
+            × (view chair.new ≡ after_clear queue low K (view chair.old))
+            × Sees M.meaning (view chair.old) K }
     {
         let word = self.table.slot_count() + 1 + queue.0 as usize;
         words::clear(&self.table.shared, &mut chair.place, word, low);
@@ -52,7 +55,9 @@ impl<M: Machine> Desk<M> {
         ensures at { AtDesk self.now chair.new }
         ensures based { view chair.new ≡ after_base result (view chair.old) }
         ensures above { (view chair.old).reading.base ≤ result }
-        ensures was { (K : Known M.Page M.Side M.Root M.Entry) × (K.word ≡ result) × Sees M.meaning (view chair.old) K }
+        ensures was { (K : Known M.Page M.Side M.Root M.Entry)
+            × (K.word ≡ result)
+            × Sees M.meaning (view chair.old) K }
     {
         let word = self.table.slot_count() + 1 + self.sides as usize;
         TxNo(words::base(&self.table.shared, &mut chair.place, word))
@@ -64,7 +69,9 @@ impl<M: Machine> Desk<M> {
         requires root { 0 < times (slot_of (start_of self.now) Root) (view chair.old).held }
         requires may { MayRaise M.meaning base (view chair.old) }
         ensures at { AtDesk self.now chair.new }
-        ensures raised { (K : Known M.Page M.Side M.Root M.Entry) × (view chair.new ≡ after_raise base K (view chair.old)) × Sees M.meaning (view chair.old) K }
+        ensures raised { (K : Known M.Page M.Side M.Root M.Entry)
+            × (view chair.new ≡ after_raise base K (view chair.old))
+            × Sees M.meaning (view chair.old) K }
     {
         let word = self.table.slot_count() + 1 + self.sides as usize;
         words::raise(&self.table.shared, &mut chair.place, word, base.0);

@@ -21,7 +21,9 @@ impl<M: Machine> Desk<M> {
         requires at { AtDesk self.now chair.old }
         requires may { MayNote M.meaning (notice.Home block number) (view chair.old) }
         ensures at { AtDesk self.now chair.new }
-        ensures noted { (K : Known M.Page M.Side M.Root M.Entry) × (view chair.new ≡ after_notice M.meaning (notice.Home block number) K (view chair.old)) × Sees M.meaning (view chair.old) K }
+        ensures noted { (K : Known M.Page M.Side M.Root M.Entry)
+            × (view chair.new ≡ after_notice M.meaning (notice.Home block number) K (view chair.old))
+            × Sees M.meaning (view chair.old) K }
     {
         let counter = self.table.slot_count();
         words::note_home::<M, Brand>(&self.table.shared, &mut chair.place, counter, block, number);
@@ -33,7 +35,9 @@ impl<M: Machine> Desk<M> {
         requires at { AtDesk self.now chair.old }
         requires may { MayNote M.meaning (notice.Page block page.now) (view chair.old) }
         ensures at { AtDesk self.now chair.new }
-        ensures noted { (K : Known M.Page M.Side M.Root M.Entry) × (view chair.new ≡ after_notice M.meaning (notice.Page block page.now) K (view chair.old)) × Sees M.meaning (view chair.old) K }
+        ensures noted { (K : Known M.Page M.Side M.Root M.Entry)
+            × (view chair.new ≡ after_notice M.meaning (notice.Page block page.now) K (view chair.old))
+            × Sees M.meaning (view chair.old) K }
     {
         let counter = self.table.slot_count();
         words::note_page::<M, Brand>(&self.table.shared, &mut chair.place, counter, block, page);
@@ -45,7 +49,9 @@ impl<M: Machine> Desk<M> {
         requires at { AtDesk self.now chair.old }
         requires may { MayNote M.meaning (notice.Charge charge.now) (view chair.old) }
         ensures at { AtDesk self.now chair.new }
-        ensures noted { (K : Known M.Page M.Side M.Root M.Entry) × (view chair.new ≡ after_notice M.meaning (notice.Charge charge.now) K (view chair.old)) × Sees M.meaning (view chair.old) K }
+        ensures noted { (K : Known M.Page M.Side M.Root M.Entry)
+            × (view chair.new ≡ after_notice M.meaning (notice.Charge charge.now) K (view chair.old))
+            × Sees M.meaning (view chair.old) K }
     {
         let counter = self.table.slot_count();
         words::charge::<M, Brand>(&self.table.shared, &mut chair.place, counter, charge);

@@ -19,12 +19,20 @@ use std::snapshot::Snapshot;
 
 // Lays the sides, the last one first.
 fn lay_sides<M: Machine>(top: &Top<M>, place: &mut Place<M>, pages: usize, mut sides: Vec<M::Side>)
-    requires table { (place.old.table_id ≡ top.now.table_id) × (top.now.table_id.slots ≡ slots (opening_of top.now.key)) × (top.now.table_id.slots < top.now.table_id.words) }
-    requires turns { (pages ≡ length top.now.key.pages.value.items) × (sides.items ≡ top.now.key.sides.value.items) }
+    requires table { (place.old.table_id ≡ top.now.table_id)
+        × (top.now.table_id.slots ≡ slots (opening_of top.now.key))
+        × (top.now.table_id.slots < top.now.table_id.words) }
+    requires turns { (pages ≡ length top.now.key.pages.value.items)
+        × (sides.items ≡ top.now.key.sides.value.items) }
     requires starts { Starts M.meaning (opening_of top.now.key) }
     requires some { 0 < top.now.key.chairs }
-    requires holds { place.old.me ≡ (laying (opening_of top.now.key) top.now.key.chairs 0 (pages + vec_len sides), []) }
-    ensures seat { (place.new.table_id ≡ place.old.table_id) × (place.new.me ≡ (laying (opening_of top.now.key) top.now.key.chairs 0 pages, [])) }
+    requires holds { place.old.me ≡ (
+      laying (opening_of top.now.key) top.now.key.chairs 0
+          (pages + vec_len sides),
+      [],
+    ) }
+    ensures seat { (place.new.table_id ≡ place.old.table_id)
+        × (place.new.me ≡ (laying (opening_of top.now.key) top.now.key.chairs 0 pages, [])) }
 {
     while let Some(side) = sides.pop() {
         steps::give_back(top, place, pages + sides.len(), Item::Side(side));
@@ -34,12 +42,19 @@ fn lay_sides<M: Machine>(top: &Top<M>, place: &mut Place<M>, pages: usize, mut s
 
 // Lays the pages, the last one first.
 fn lay_pages<M: Machine>(top: &Top<M>, place: &mut Place<M>, mut pages: Vec<M::Page>)
-    requires table { (place.old.table_id ≡ top.now.table_id) × (top.now.table_id.slots ≡ slots (opening_of top.now.key)) × (top.now.table_id.slots < top.now.table_id.words) }
+    requires table { (place.old.table_id ≡ top.now.table_id)
+        × (top.now.table_id.slots ≡ slots (opening_of top.now.key))
+        × (top.now.table_id.slots < top.now.table_id.words) }
     requires turns { pages.items ≡ top.now.key.pages.value.items }
     requires starts { Starts M.meaning (opening_of top.now.key) }
     requires some { 0 < top.now.key.chairs }
-    requires holds { place.old.me ≡ (laying (opening_of top.now.key) top.now.key.chairs 0 (vec_len pages), []) }
-    ensures seat { (place.new.table_id ≡ place.old.table_id) × (place.new.me ≡ (laying (opening_of top.now.key) top.now.key.chairs 0 0, [])) }
+    requires holds { place.old.me ≡ (
+      laying (opening_of top.now.key) top.now.key.chairs 0
+          (vec_len pages),
+      [],
+    ) }
+    ensures seat { (place.new.table_id ≡ place.old.table_id)
+        × (place.new.me ≡ (laying (opening_of top.now.key) top.now.key.chairs 0 0, [])) }
 {
     while let Some(page) = pages.pop() {
         steps::give_back(top, place, pages.len(), Item::Page(page));
@@ -55,13 +70,18 @@ fn lay_all<M: Machine>(
     sides: Vec<M::Side>,
     root: M::Root,
 )
-    requires table { (place.old.table_id ≡ top.now.table_id) × (top.now.table_id.slots ≡ slots (opening_of top.now.key)) × (top.now.table_id.slots < top.now.table_id.words) }
-    requires turns { (pages.items ≡ top.now.key.pages.value.items) × (sides.items ≡ top.now.key.sides.value.items) × (root ≡ top.now.key.root.value) }
+    requires table { (place.old.table_id ≡ top.now.table_id)
+        × (top.now.table_id.slots ≡ slots (opening_of top.now.key))
+        × (top.now.table_id.slots < top.now.table_id.words) }
+    requires turns { (pages.items ≡ top.now.key.pages.value.items)
+        × (sides.items ≡ top.now.key.sides.value.items)
+        × (root ≡ top.now.key.root.value) }
     requires few { (vec_len pages < 2 ^ 32) × (vec_len sides < 2 ^ 32) }
     requires starts { Starts M.meaning (opening_of top.now.key) }
     requires some { 0 < top.now.key.chairs }
     requires holds { place.old.me ≡ (first_view (opening_of top.now.key) top.now.key.chairs, []) }
-    ensures seat { (place.new.table_id ≡ place.old.table_id) × (place.new.me ≡ (laying (opening_of top.now.key) top.now.key.chairs 0 0, [])) }
+    ensures seat { (place.new.table_id ≡ place.old.table_id)
+        × (place.new.me ≡ (laying (opening_of top.now.key) top.now.key.chairs 0 0, [])) }
 {
     let count = pages.len();
     steps::give_back(top, place, count + sides.len(), Item::Root(root));
@@ -71,10 +91,15 @@ fn lay_all<M: Machine>(
 
 // Sets the chairs, each with its place in the list.
 fn seat_all<M: Machine>(top: &Top<M>, mut place: Place<M>, chairs: u32, list: &mut Vec<Chair<M>>)
-    requires table { (place.table_id ≡ top.now.table_id) × (0 < top.now.table_id.words) × (list.old.items ≡ []) × (chairs ≤ vec_capacity list.old) }
+    requires table { (place.table_id ≡ top.now.table_id)
+        × (0 < top.now.table_id.words)
+        × (list.old.items ≡ [])
+        × (chairs ≤ vec_capacity list.old) }
     requires bare { (place.me ≡ (laying (opening_of top.now.key) chairs 0 0, [])) × (0 < chairs) }
     ensures all { vec_len list.new ≡ chairs }
-    ensures each { (i : ℕ) (ch : _) → slice_get list.new.items i ≡ Some ch → (ch.place.table_id ≡ top.now.table_id) × (view ch ≡ fresh (opening_of top.now.key) i) }
+    ensures each { (i : ℕ) (ch : _)
+        → slice_get list.new.items i ≡ Some ch
+        → (ch.place.table_id ≡ top.now.table_id) × (view ch ≡ fresh (opening_of top.now.key) i) }
 {
     for _ in 1..chairs {
         list.push_reserved(Chair {
@@ -126,8 +151,12 @@ impl<M: Machine> Desk<M> {
         requires base { base ≤ 2 ^ 62 }
         requires few { (vec_len pages < 2 ^ 32) × (vec_len sides < 2 ^ 32) }
         requires starts { Starts M.meaning (record { pages = pages.items; sides = sides.items; root = root; base = base }) }
-        ensures desk { IfOk result (λ d. (start_of d.0 ≡ record { pages = pages.items; sides = sides.items; root = root; base = base }) × (chairs_of d.0 ≡ chairs)) }
-        ensures chairs { IfOk result (λ d. (vec_len d.1 ≡ chairs) × ((i : ℕ) (ch : _) → slice_get d.1.items i ≡ Some ch → AtDesk d.0 ch × (view ch ≡ fresh (start_of d.0) i))) }
+        ensures desk { IfOk result (λ d. (start_of d.0 ≡ record { pages = pages.items; sides = sides.items; root = root; base = base })
+            × (chairs_of d.0 ≡ chairs)) }
+        ensures chairs { IfOk result (λ d. (vec_len d.1 ≡ chairs)
+            × ((i : ℕ) (ch : _)
+            → slice_get d.1.items i ≡ Some ch
+            → AtDesk d.0 ch × (view ch ≡ fresh (start_of d.0) i))) }
         ensures err { IfErr result (λ e. (e.0 ≡ pages) × (e.1 ≡ sides) × (e.2 ≡ root)) }
     {
         let page_count = pages.len();

@@ -21,10 +21,22 @@ pub(crate) type Top<M> = Shared<Option<Item<M>>, Knows<M>, Start<M>, Law<M>>;
 pub(crate) type Place<M> = Seat<Option<Item<M>>, Knows<M>>;
 
 fn try_take<M: Machine>(top: &Top<M>, place: &mut Place<M>, slot: usize) -> Option<Item<M>>
-    requires table { (place.old.table_id ≡ top.now.table_id) × (slot < top.now.table_id.slots) × (top.now.table_id.slots < top.now.table_id.words) }
+    requires table { (place.old.table_id ≡ top.now.table_id)
+        × (slot < top.now.table_id.slots)
+        × (top.now.table_id.slots < top.now.table_id.words) }
     requires idle { (place.old.me.0.hand ≡ 0) × (place.old.me.1 ≡ []) × (0 < place.old.me.0.parts) }
     ensures seat { (place.new.table_id ≡ place.old.table_id) × (place.new.id ≡ place.old.id) }
-    ensures some { IfSome result (λ x. (K : Known M.Page M.Side M.Root M.Entry) × (place.new.me ≡ (record place.old.me.0 { hand = 0; held = (slot, K) ∷ place.old.me.0.held }, [])) × Sees M.meaning place.old.me.0 K × Stands M.meaning (turn_at K.opening slot) K x) }
+    ensures some { IfSome result (λ x. (K : Known M.Page M.Side M.Root M.Entry)
+        × (place.new.me ≡ (
+          record place.old.me.0 {
+            hand = 0;
+            held =
+                (slot, K) ∷ place.old.me.0.held;
+          },
+          [],
+        ))
+        × Sees M.meaning place.old.me.0 K
+        × Stands M.meaning (turn_at K.opening slot) K x) }
     ensures none { IfNone result (place.new.me ≡ place.old.me) }
 {
     if top.swap::<Take<M>>(place, slot, 1) == 0 {
@@ -43,10 +55,22 @@ pub(crate) fn take<M: Machine, R: Wait>(
     place: &mut Place<M>,
     slot: usize,
 ) -> Item<M>
-    requires table { (place.old.table_id ≡ top.now.table_id) × (slot < top.now.table_id.slots) × (top.now.table_id.slots < top.now.table_id.words) }
+    requires table { (place.old.table_id ≡ top.now.table_id)
+        × (slot < top.now.table_id.slots)
+        × (top.now.table_id.slots < top.now.table_id.words) }
     requires idle { (place.old.me.0.hand ≡ 0) × (place.old.me.1 ≡ []) × (0 < place.old.me.0.parts) }
     ensures seat { (place.new.table_id ≡ place.old.table_id) × (place.new.id ≡ place.old.id) }
-    ensures took { (K : Known M.Page M.Side M.Root M.Entry) × (place.new.me ≡ (record place.old.me.0 { hand = 0; held = (slot, K) ∷ place.old.me.0.held }, [])) × Sees M.meaning place.old.me.0 K × Stands M.meaning (turn_at K.opening slot) K result }
+    ensures took { (K : Known M.Page M.Side M.Root M.Entry)
+        × (place.new.me ≡ (
+          record place.old.me.0 {
+            hand = 0;
+            held =
+                (slot, K) ∷ place.old.me.0.held;
+          },
+          [],
+        ))
+        × Sees M.meaning place.old.me.0 K
+        × Stands M.meaning (turn_at K.opening slot) K result }
 {
     for _ in rt.forever() {
         if let Some(item) = try_take(top, place, slot) {
@@ -59,9 +83,16 @@ pub(crate) fn take<M: Machine, R: Wait>(
 
 /// Lays a value into the slot, and frees its turn.
 pub(crate) fn give_back<M: Machine>(top: &Top<M>, place: &mut Place<M>, slot: usize, item: Item<M>)
-    requires table { (place.old.table_id ≡ top.now.table_id) × (slot < top.now.table_id.slots) × (top.now.table_id.slots < top.now.table_id.words) }
-    requires holds { (place.old.me.0.hand ≡ 0) × (place.old.me.1 ≡ []) × (0 < place.old.me.0.parts) × (0 < times slot place.old.me.0.held) }
-    requires stands { (K : Known M.Page M.Side M.Root M.Entry) → Sees M.meaning place.old.me.0 K → Stands M.meaning (turn_at (opening_of top.now.key) slot) K item }
+    requires table { (place.old.table_id ≡ top.now.table_id)
+        × (slot < top.now.table_id.slots)
+        × (top.now.table_id.slots < top.now.table_id.words) }
+    requires holds { (place.old.me.0.hand ≡ 0)
+        × (place.old.me.1 ≡ [])
+        × (0 < place.old.me.0.parts)
+        × (0 < times slot place.old.me.0.held) }
+    requires stands { (K : Known M.Page M.Side M.Root M.Entry)
+        → Sees M.meaning place.old.me.0 K
+        → Stands M.meaning (turn_at (opening_of top.now.key) slot) K item }
     ensures seat { (place.new.table_id ≡ place.old.table_id) × (place.new.id ≡ place.old.id) }
     ensures gave { place.new.me ≡ (record place.old.me.0 { hand = 0; held = without slot place.old.me.0.held }, []) }
 {
@@ -77,11 +108,22 @@ fn look_as<M: Machine, N: Told<M::Entry>>(
     counter: usize,
     read: Option<&M::Entry>,
 ) -> u64
-    requires table { (place.old.table_id ≡ top.now.table_id) × (counter ≡ top.now.table_id.slots) × (counter < top.now.table_id.words) × (0 < place.old.me.0.parts) }
-    requires read { IfSome read (λ e. MayRead M.meaning e.now place.old.me.0 × Follows M.meaning e.now place.old.me.0) }
+    requires table { (place.old.table_id ≡ top.now.table_id)
+        × (counter ≡ top.now.table_id.slots)
+        × (counter < top.now.table_id.words)
+        × (0 < place.old.me.0.parts) }
+    requires read { IfSome read (λ e. MayRead M.meaning e.now place.old.me.0
+        × Follows M.meaning e.now place.old.me.0) }
     requires told { N.told ≡ option_map (λ e. e.now) read }
     ensures seat { (place.new.table_id ≡ place.old.table_id) × (place.new.id ≡ place.old.id) }
-    ensures looked { (K : Known M.Page M.Side M.Root M.Entry) × (place.new.me ≡ (after_look (option_map (λ e. e.now) read.entry) K place.old.me.0, place.old.me.1)) × (newest K ≡ result) × Sees M.meaning place.old.me.0 K }
+    ensures looked { (K : Known M.Page M.Side M.Root M.Entry)
+        × (place.new.me ≡ (
+          after_look
+              (option_map (λ e. e.now) read.entry) K place.old.me.0,
+          place.old.me.1,
+        ))
+        × (newest K ≡ result)
+        × Sees M.meaning place.old.me.0 K }
     ensures below { Below result place.old.me.0 }
     ensures order { place.old.me.0.parts ≡ 1 → IsInOrder M.meaning place.new.me.0 }
 {
@@ -96,10 +138,21 @@ pub(crate) fn look<M: Machine>(
     counter: usize,
     read: Option<&M::Entry>,
 ) -> u64
-    requires table { (place.old.table_id ≡ top.now.table_id) × (counter ≡ top.now.table_id.slots) × (counter < top.now.table_id.words) × (0 < place.old.me.0.parts) }
-    requires read { IfSome read (λ e. MayRead M.meaning e.now place.old.me.0 × Follows M.meaning e.now place.old.me.0) }
+    requires table { (place.old.table_id ≡ top.now.table_id)
+        × (counter ≡ top.now.table_id.slots)
+        × (counter < top.now.table_id.words)
+        × (0 < place.old.me.0.parts) }
+    requires read { IfSome read (λ e. MayRead M.meaning e.now place.old.me.0
+        × Follows M.meaning e.now place.old.me.0) }
     ensures seat { (place.new.table_id ≡ place.old.table_id) × (place.new.id ≡ place.old.id) }
-    ensures looked { (K : Known M.Page M.Side M.Root M.Entry) × (place.new.me ≡ (after_look (option_map (λ e. e.now) read.entry) K place.old.me.0, place.old.me.1)) × (newest K ≡ result) × Sees M.meaning place.old.me.0 K }
+    ensures looked { (K : Known M.Page M.Side M.Root M.Entry)
+        × (place.new.me ≡ (
+          after_look
+              (option_map (λ e. e.now) read.entry) K place.old.me.0,
+          place.old.me.1,
+        ))
+        × (newest K ≡ result)
+        × Sees M.meaning place.old.me.0 K }
     ensures below { Below result place.old.me.0 }
     ensures order { place.old.me.0.parts ≡ 1 → IsInOrder M.meaning place.new.me.0 }
 {
@@ -108,10 +161,15 @@ pub(crate) fn look<M: Machine>(
 
 /// Reads the counter alone.
 pub(crate) fn count<M: Machine>(top: &Top<M>, place: &mut Place<M>, counter: usize) -> u64
-    requires table { (place.old.table_id ≡ top.now.table_id) × (counter ≡ top.now.table_id.slots) × (counter < top.now.table_id.words) × (0 < place.old.me.0.parts) }
+    requires table { (place.old.table_id ≡ top.now.table_id)
+        × (counter ≡ top.now.table_id.slots)
+        × (counter < top.now.table_id.words)
+        × (0 < place.old.me.0.parts) }
     ensures seat { (place.new.table_id ≡ place.old.table_id) × (place.new.id ≡ place.old.id) }
     ensures counted { place.new.me ≡ (record place.old.me.0 { seen = result }, place.old.me.1) }
-    ensures known { (K : Known M.Page M.Side M.Root M.Entry) × (newest K ≡ result) × Sees M.meaning place.old.me.0 K }
+    ensures known { (K : Known M.Page M.Side M.Root M.Entry)
+        × (newest K ≡ result)
+        × Sees M.meaning place.old.me.0 K }
     ensures below { Below result place.old.me.0 }
     ensures order { place.old.me.0.parts ≡ 1 → IsInOrder M.meaning place.new.me.0 }
 {
@@ -124,12 +182,20 @@ fn draw_as<M: Machine, N: Told<M::Entry>>(
     counter: usize,
     entry: &M::Entry,
 ) -> u64
-    requires table { (place.old.table_id ≡ top.now.table_id) × (counter ≡ top.now.table_id.slots) × (counter < top.now.table_id.words) × (counter ≡ slots (opening_of top.now.key)) }
+    requires table { (place.old.table_id ≡ top.now.table_id)
+        × (counter ≡ top.now.table_id.slots)
+        × (counter < top.now.table_id.words)
+        × (counter ≡ slots (opening_of top.now.key)) }
     requires side { (M.meaning).queue entry.now < length (opening_of top.now.key).sides }
-    requires may { Covers M.meaning entry.now place.old.me.0 × Follows M.meaning entry.now place.old.me.0 × (length place.old.me.0.drawn < place.old.me.0.parts * allotment top.now.key.chairs) }
+    requires may { Covers M.meaning entry.now place.old.me.0
+        × Follows M.meaning entry.now place.old.me.0
+        × (length place.old.me.0.drawn < place.old.me.0.parts * allotment top.now.key.chairs) }
     requires told { N.told ≡ Some entry.now }
     ensures seat { (place.new.table_id ≡ place.old.table_id) × (place.new.id ≡ place.old.id) }
-    ensures drew { (K : Known M.Page M.Side M.Root M.Entry) × (place.new.me ≡ (after_draw M.meaning entry.now K place.old.me.0, place.old.me.1)) × (newest K ≡ result) × Sees M.meaning place.old.me.0 K }
+    ensures drew { (K : Known M.Page M.Side M.Root M.Entry)
+        × (place.new.me ≡ (after_draw M.meaning entry.now K place.old.me.0, place.old.me.1))
+        × (newest K ≡ result)
+        × Sees M.meaning place.old.me.0 K }
     ensures below { Below result place.old.me.0 × (result < 9223372036854775808) }
     ensures order { place.old.me.0.parts ≡ 1 → IsInOrder M.meaning place.new.me.0 }
 {
@@ -144,11 +210,19 @@ pub(crate) fn draw<M: Machine>(
     counter: usize,
     entry: &M::Entry,
 ) -> u64
-    requires table { (place.old.table_id ≡ top.now.table_id) × (counter ≡ top.now.table_id.slots) × (counter < top.now.table_id.words) × (counter ≡ slots (opening_of top.now.key)) }
+    requires table { (place.old.table_id ≡ top.now.table_id)
+        × (counter ≡ top.now.table_id.slots)
+        × (counter < top.now.table_id.words)
+        × (counter ≡ slots (opening_of top.now.key)) }
     requires side { (M.meaning).queue entry.now < length (opening_of top.now.key).sides }
-    requires may { Covers M.meaning entry.now place.old.me.0 × Follows M.meaning entry.now place.old.me.0 × (length place.old.me.0.drawn < place.old.me.0.parts * allotment top.now.key.chairs) }
+    requires may { Covers M.meaning entry.now place.old.me.0
+        × Follows M.meaning entry.now place.old.me.0
+        × (length place.old.me.0.drawn < place.old.me.0.parts * allotment top.now.key.chairs) }
     ensures seat { (place.new.table_id ≡ place.old.table_id) × (place.new.id ≡ place.old.id) }
-    ensures drew { (K : Known M.Page M.Side M.Root M.Entry) × (place.new.me ≡ (after_draw M.meaning entry.now K place.old.me.0, place.old.me.1)) × (newest K ≡ result) × Sees M.meaning place.old.me.0 K }
+    ensures drew { (K : Known M.Page M.Side M.Root M.Entry)
+        × (place.new.me ≡ (after_draw M.meaning entry.now K place.old.me.0, place.old.me.1))
+        × (newest K ≡ result)
+        × Sees M.meaning place.old.me.0 K }
     ensures below { Below result place.old.me.0 × (result < 9223372036854775808) }
     ensures order { place.old.me.0.parts ≡ 1 → IsInOrder M.meaning place.new.me.0 }
 {

@@ -90,11 +90,15 @@ fn cast<P: Port, R: Wait>(
     requires at { AtDesk desk.now chair.old }
     requires queue { entry.now.queue < length (start_of desk.now).sides }
     requires idle { (view chair.old).held ≡ [] }
-    requires follows { Follows (counting (λ (e : Vote). e.queue) (λ e. e.session) (λ e. e.group) (λ (q : QueueSide P). P.state q.port)) entry.now (view chair.old) }
+    requires follows { Follows (counting (λ (e : Vote). e.queue) (λ e. e.session) (λ e. e.group)
+        (λ (q : QueueSide P). P.state q.port)) entry.now
+        (view chair.old) }
     requires room { length (view chair.old).drawn < allotment (chairs_of desk.now) }
     ensures at { AtDesk desk.now chair.new }
     ensures idle { (view chair.new).held ≡ [] }
-    ensures drew { ((view chair.new).drawn ≡ (result.number, entry.now) ∷ (view chair.old).drawn) × ((view chair.new).read ≡ (view chair.old).read) × ((view chair.new).session ≡ (view chair.old).session) }
+    ensures drew { ((view chair.new).drawn ≡ (result.number, entry.now) ∷ (view chair.old).drawn)
+        × ((view chair.new).read ≡ (view chair.old).read)
+        × ((view chair.new).session ≡ (view chair.old).session) }
 {
     let queue = entry.queue;
     let Item::Side(mut side) = desk.take(rt, chair, Turn::Side(queue)) else {
@@ -130,7 +134,12 @@ fn clear_all<P: Port, R: Wait>(
     requires idle { (view chair.old).held ≡ [] }
     ensures at { AtDesk desk.now chair.new }
     ensures idle { (view chair.new).held ≡ [] }
-    ensures done { (K : Known ℕ (QueueSide P) ℕ Vote) → Sees (counting (λ (e : Vote). e.queue) (λ e. e.session) (λ e. e.group) (λ (q : QueueSide P). P.state q.port)) (view chair.new) K → DoneTo (counting (λ (e : Vote). e.queue) (λ e. e.session) (λ e. e.group) (λ (q : QueueSide P). P.state q.port)) result K }
+    ensures done { (K : Known ℕ (QueueSide P) ℕ Vote)
+        → Sees (counting (λ (e : Vote). e.queue) (λ e. e.session) (λ e. e.group)
+        (λ (q : QueueSide P). P.state q.port))
+        (view chair.new) K
+        → DoneTo (counting (λ (e : Vote). e.queue) (λ e. e.session) (λ e. e.group)
+        (λ (q : QueueSide P). P.state q.port)) result K }
 {
     let last = desk.look(chair, None);
     for index in 0..sides {
@@ -170,7 +179,12 @@ type Opened = (Desk<Counting<Word>>, Vec<Chair<Counting<Word>>>);
 fn opened(alloc: Global, sides: u32, base: u64, chairs: u32) -> Result<Opened, OutOfMemory>
     requires { (0 < chairs) × (chairs ≤ 16) × (base ≤ 2 ^ 62) }
     ensures many { IfOk result (λ d. 4294967296 ≤ allotment (chairs_of d.0)) }
-    ensures all { IfOk result (λ d. (length (start_of d.0).sides ≡ sides) × (chairs_of d.0 ≡ chairs) × (vec_len d.1 ≡ chairs) × ((i : ℕ) (ch : _) → slice_get d.1.items i ≡ Some ch → AtDesk d.0 ch × (view ch ≡ fresh (start_of d.0) i))) }
+    ensures all { IfOk result (λ d. (length (start_of d.0).sides ≡ sides)
+        × (chairs_of d.0 ≡ chairs)
+        × (vec_len d.1 ≡ chairs)
+        × ((i : ℕ) (ch : _)
+        → slice_get d.1.items i ≡ Some ch
+        → AtDesk d.0 ch × (view ch ≡ fresh (start_of d.0) i))) }
 {
     let mut all = Vec::with_capacity(alloc, sides as usize)?;
     for _ in 0..sides {
@@ -190,9 +204,13 @@ fn last_chair(
     chairs: &mut Vec<Chair<Counting<Word>>>,
 ) -> Chair<Counting<Word>>
     requires some { 0 < vec_len chairs.old }
-    requires each { (i : ℕ) (ch : _) → slice_get chairs.old.items i ≡ Some ch → AtDesk desk.now ch × (view ch ≡ fresh (start_of desk.now) i) }
+    requires each { (i : ℕ) (ch : _)
+        → slice_get chairs.old.items i ≡ Some ch
+        → AtDesk desk.now ch × (view ch ≡ fresh (start_of desk.now) i) }
     ensures len { vec_len chairs.new + 1 ≡ vec_len chairs.old }
-    ensures each { (i : ℕ) (ch : _) → slice_get chairs.new.items i ≡ Some ch → AtDesk desk.now ch × (view ch ≡ fresh (start_of desk.now) i) }
+    ensures each { (i : ℕ) (ch : _)
+        → slice_get chairs.new.items i ≡ Some ch
+        → AtDesk desk.now ch × (view ch ≡ fresh (start_of desk.now) i) }
     ensures last { AtDesk desk.now result × (view result ≡ fresh (start_of desk.now) (vec_len chairs.new)) }
 {
     let _ = desk;
@@ -241,7 +259,9 @@ fn cast_many<R: Wait>(rt: &R, desk: &Desk<Counting<Word>>, task: Task) -> Drawn
 fn cast_from<R: Wait>(rt: &R, desk: &Desk<Counting<Word>>, task: Task, from: u64) -> Drawn
     requires at { AtDesk desk.now task.chair × (view task.chair ≡ fresh (start_of desk.now) task.session) }
     requires queue { task.queue < length (start_of desk.now).sides }
-    requires room { (task.numbers.items ≡ []) × (vec_capacity task.numbers ≡ 3) × (0 < allotment (chairs_of desk.now)) }
+    requires room { (task.numbers.items ≡ [])
+        × (vec_capacity task.numbers ≡ 3)
+        × (0 < allotment (chairs_of desk.now)) }
     ensures { AtDesk desk.now result.0 × ((view result.0).held ≡ []) }
 {
     let Task {
@@ -275,8 +295,18 @@ fn cast_one_after_the_other<R: Threads + Wait + Sync>(
     a: Task,
     b: Task,
 ) -> (Drawn, Drawn)
-    requires a { AtDesk desk.now a.chair × (view a.chair ≡ fresh (start_of desk.now) a.session) × (a.queue < length (start_of desk.now).sides) × (a.numbers.items ≡ []) × (vec_capacity a.numbers ≡ 3) × (0 < allotment (chairs_of desk.now)) }
-    requires b { AtDesk desk.now b.chair × (view b.chair ≡ fresh (start_of desk.now) b.session) × (b.queue < length (start_of desk.now).sides) × (b.numbers.items ≡ []) × (vec_capacity b.numbers ≡ 3) × (0 < allotment (chairs_of desk.now)) }
+    requires a { AtDesk desk.now a.chair
+        × (view a.chair ≡ fresh (start_of desk.now) a.session)
+        × (a.queue < length (start_of desk.now).sides)
+        × (a.numbers.items ≡ [])
+        × (vec_capacity a.numbers ≡ 3)
+        × (0 < allotment (chairs_of desk.now)) }
+    requires b { AtDesk desk.now b.chair
+        × (view b.chair ≡ fresh (start_of desk.now) b.session)
+        × (b.queue < length (start_of desk.now).sides)
+        × (b.numbers.items ≡ [])
+        × (vec_capacity b.numbers ≡ 3)
+        × (0 < allotment (chairs_of desk.now)) }
     ensures a { AtDesk desk.now result.0.0 × ((view result.0.0).held ≡ []) }
     ensures b { AtDesk desk.now result.1.0 × ((view result.1.0).held ≡ []) }
 {
@@ -293,8 +323,16 @@ fn cast_by_two<R: Threads + Wait + Sync>(
     a: Task,
     b: Task,
 ) -> (Drawn, Drawn)
-    requires a { AtDesk desk.now a.chair × (view a.chair ≡ fresh (start_of desk.now) a.session) × (a.queue < length (start_of desk.now).sides) × (a.numbers.items ≡ []) × (vec_capacity a.numbers < allotment (chairs_of desk.now)) }
-    requires b { AtDesk desk.now b.chair × (view b.chair ≡ fresh (start_of desk.now) b.session) × (b.queue < length (start_of desk.now).sides) × (b.numbers.items ≡ []) × (vec_capacity b.numbers < allotment (chairs_of desk.now)) }
+    requires a { AtDesk desk.now a.chair
+        × (view a.chair ≡ fresh (start_of desk.now) a.session)
+        × (a.queue < length (start_of desk.now).sides)
+        × (a.numbers.items ≡ [])
+        × (vec_capacity a.numbers < allotment (chairs_of desk.now)) }
+    requires b { AtDesk desk.now b.chair
+        × (view b.chair ≡ fresh (start_of desk.now) b.session)
+        × (b.queue < length (start_of desk.now).sides)
+        × (b.numbers.items ≡ [])
+        × (vec_capacity b.numbers < allotment (chairs_of desk.now)) }
     ensures a { AtDesk desk.now result.0.0 × ((view result.0.0).held ≡ []) }
     ensures b { AtDesk desk.now result.1.0 × ((view result.1.0).held ≡ []) }
 {
@@ -310,10 +348,18 @@ fn task_of_last(
     count: u32,
 ) -> Result<Task, OutOfMemory>
     requires some { (0 < vec_len chairs.old) × (vec_len chairs.old < 2 ^ 32) }
-    requires each { (i : ℕ) (ch : _) → slice_get chairs.old.items i ≡ Some ch → AtDesk desk.now ch × (view ch ≡ fresh (start_of desk.now) i) }
+    requires each { (i : ℕ) (ch : _)
+        → slice_get chairs.old.items i ≡ Some ch
+        → AtDesk desk.now ch × (view ch ≡ fresh (start_of desk.now) i) }
     ensures len { OnOk result (vec_len chairs.new + 1 ≡ vec_len chairs.old) }
-    ensures each { OnOk result ((i : ℕ) (ch : _) → slice_get chairs.new.items i ≡ Some ch → AtDesk desk.now ch × (view ch ≡ fresh (start_of desk.now) i)) }
-    ensures task { IfOk result (λ t. AtDesk desk.now t.chair × (view t.chair ≡ fresh (start_of desk.now) t.session) × (t.queue ≡ queue) × (t.numbers.items ≡ []) × (vec_capacity t.numbers ≡ count)) }
+    ensures each { OnOk result ((i : ℕ) (ch : _)
+        → slice_get chairs.new.items i ≡ Some ch
+        → AtDesk desk.now ch × (view ch ≡ fresh (start_of desk.now) i)) }
+    ensures task { IfOk result (λ t. AtDesk desk.now t.chair
+        × (view t.chair ≡ fresh (start_of desk.now) t.session)
+        × (t.queue ≡ queue)
+        × (t.numbers.items ≡ [])
+        × (vec_capacity t.numbers ≡ count)) }
 {
     let numbers = Vec::with_capacity(alloc, count as usize)?;
     let chair = last_chair(desk, chairs);
@@ -398,11 +444,23 @@ fn two_tasks(
     chairs: &mut Vec<Chair<Counting<Word>>>,
 ) -> Result<(Task, Task), OutOfMemory>
     requires some { (1 < vec_len chairs.old) × (vec_len chairs.old < 2 ^ 32) }
-    requires each { (i : ℕ) (ch : _) → slice_get chairs.old.items i ≡ Some ch → AtDesk desk.now ch × (view ch ≡ fresh (start_of desk.now) i) }
+    requires each { (i : ℕ) (ch : _)
+        → slice_get chairs.old.items i ≡ Some ch
+        → AtDesk desk.now ch × (view ch ≡ fresh (start_of desk.now) i) }
     ensures len { OnOk result (vec_len chairs.new + 2 ≡ vec_len chairs.old) }
-    ensures each { OnOk result ((i : ℕ) (ch : _) → slice_get chairs.new.items i ≡ Some ch → AtDesk desk.now ch × (view ch ≡ fresh (start_of desk.now) i)) }
-    ensures a { IfOk result (λ t. AtDesk desk.now t.0.chair × (view t.0.chair ≡ fresh (start_of desk.now) t.0.session) × (t.0.queue ≡ 0) × (t.0.numbers.items ≡ []) × (vec_capacity t.0.numbers ≡ 100000)) }
-    ensures b { IfOk result (λ t. AtDesk desk.now t.1.chair × (view t.1.chair ≡ fresh (start_of desk.now) t.1.session) × (t.1.queue ≡ 1) × (t.1.numbers.items ≡ []) × (vec_capacity t.1.numbers ≡ 100000)) }
+    ensures each { OnOk result ((i : ℕ) (ch : _)
+        → slice_get chairs.new.items i ≡ Some ch
+        → AtDesk desk.now ch × (view ch ≡ fresh (start_of desk.now) i)) }
+    ensures a { IfOk result (λ t. AtDesk desk.now t.0.chair
+        × (view t.0.chair ≡ fresh (start_of desk.now) t.0.session)
+        × (t.0.queue ≡ 0)
+        × (t.0.numbers.items ≡ [])
+        × (vec_capacity t.0.numbers ≡ 100000)) }
+    ensures b { IfOk result (λ t. AtDesk desk.now t.1.chair
+        × (view t.1.chair ≡ fresh (start_of desk.now) t.1.session)
+        × (t.1.queue ≡ 1)
+        × (t.1.numbers.items ≡ [])
+        × (vec_capacity t.1.numbers ≡ 100000)) }
 {
     let a = task_of_last(alloc, desk, chairs, 0, 100_000)?;
     let b = task_of_last(alloc, desk, chairs, 1, 100_000)?;
@@ -416,8 +474,16 @@ fn cast_tasks<R: Threads + Wait + Sync>(
 ) -> (Drawn, Drawn)
     requires many { 4294967296 ≤ allotment (chairs_of desk.now) }
     requires sides { length (start_of desk.now).sides ≡ 2 }
-    requires a { AtDesk desk.now tasks.0.chair × (view tasks.0.chair ≡ fresh (start_of desk.now) tasks.0.session) × (tasks.0.queue ≡ 0) × (tasks.0.numbers.items ≡ []) × (vec_capacity tasks.0.numbers ≡ 100000) }
-    requires b { AtDesk desk.now tasks.1.chair × (view tasks.1.chair ≡ fresh (start_of desk.now) tasks.1.session) × (tasks.1.queue ≡ 1) × (tasks.1.numbers.items ≡ []) × (vec_capacity tasks.1.numbers ≡ 100000) }
+    requires a { AtDesk desk.now tasks.0.chair
+        × (view tasks.0.chair ≡ fresh (start_of desk.now) tasks.0.session)
+        × (tasks.0.queue ≡ 0)
+        × (tasks.0.numbers.items ≡ [])
+        × (vec_capacity tasks.0.numbers ≡ 100000) }
+    requires b { AtDesk desk.now tasks.1.chair
+        × (view tasks.1.chair ≡ fresh (start_of desk.now) tasks.1.session)
+        × (tasks.1.queue ≡ 1)
+        × (tasks.1.numbers.items ≡ [])
+        × (vec_capacity tasks.1.numbers ≡ 100000) }
     ensures a { AtDesk desk.now result.0.0 × ((view result.0.0).held ≡ []) }
     ensures b { AtDesk desk.now result.1.0 × ((view result.1.0).held ≡ []) }
 {
@@ -446,7 +512,8 @@ fn collect(
     requires chair { AtDesk desk.now drawn.0 × ((view drawn.0).held ≡ []) }
     requires room { vec_len chairs.old < vec_capacity chairs.old }
     requires all { All (λ ch. AtDesk desk.now ch × ((view ch).held ≡ [])) chairs.old.items }
-    ensures room { (vec_len chairs.new ≡ vec_len chairs.old + 1) × (vec_capacity chairs.new ≡ vec_capacity chairs.old) }
+    ensures room { (vec_len chairs.new ≡ vec_len chairs.old + 1)
+        × (vec_capacity chairs.new ≡ vec_capacity chairs.old) }
     ensures all { All (λ ch. AtDesk desk.now ch × ((view ch).held ≡ [])) chairs.new.items }
 {
     let (mut chair, numbers) = drawn;

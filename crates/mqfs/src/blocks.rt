@@ -126,7 +126,9 @@ fn commit_until(
     requires cut { IfSome (name_of fuse.now).limit (λ k. k < 2 ^ 63) }
     requires queue_seat { (fuse_of seats.0 ≡ name_of fuse.now) × (tickets_of seats.0 ≡ []) }
     requires root_seat { (fuse_of seats.1 ≡ name_of fuse.now) × (tickets_of seats.1 ≡ []) }
-    ensures shows { IfOk result (λ r. (p : ℕ) × StandsUnder text.now (name_of fuse.now).limit (tickets_of r.0.1) p × ShowsMap geometry (shown says geometry (r.0.0 ∷ []) r.1.0) p (map_after text.now p)) }
+    ensures shows { IfOk result (λ r. (p : ℕ)
+        × StandsUnder text.now (name_of fuse.now).limit (tickets_of r.0.1) p
+        × ShowsMap geometry (shown says geometry (r.0.0 ∷ []) r.1.0) p (map_after text.now p)) }
     ensures queue { IfOk result (λ r. IsImageOf geometry (Queue 0) r.0.0) }
     ensures root { IfOk result (λ r. IsImageOf geometry Root r.1.0) }
     ensures queue_seat { IfOk result (λ r. fuse_of r.0.1 ≡ name_of fuse.now) }
@@ -161,7 +163,9 @@ fn commit_fresh(
     requires good { IsGoodText text.now }
     requires below { AllBelow (homes_of geometry) text.now }
     requires cut { IfSome cut (λ k. k < 2 ^ 63) }
-    ensures shows { IfOk result (λ r. (p : ℕ) × IsPrefixAt text.now cut p × ShowsMap geometry (shown says geometry (r.0 ∷ []) r.1) p (map_after text.now p)) }
+    ensures shows { IfOk result (λ r. (p : ℕ)
+        × IsPrefixAt text.now cut p
+        × ShowsMap geometry (shown says geometry (r.0 ∷ []) r.1) p (map_after text.now p)) }
     ensures queue { IfOk result (λ r. IsImageOf geometry (Queue 0) r.0) }
     ensures root { IfOk result (λ r. IsImageOf geometry Root r.1) }
 {
@@ -213,10 +217,18 @@ pub fn blocks_output(
 ) -> Result<Vec<u8>, BlockTextRefusal>
     requires cut { IfSome cut (λ k. k < 2 ^ 63) }
     requires again { IfSome again (λ k. k < 2 ^ 63) }
-    ensures ok { IfOk result (λ v. (lines : List (List BlockItem)) × (p : ℕ) × IsBlockText bytes.now lines × IsPrefixAt lines cut p × (v.items ≡ output_of lines p)) }
+    ensures ok { IfOk result (λ v. (lines : List (List BlockItem))
+        × (p : ℕ)
+        × IsBlockText bytes.now lines
+        × IsPrefixAt lines cut p
+        × (v.items ≡ output_of lines p)) }
     ensures refused { IfErr result (IsRefused (RefusesText bytes.now)) }
-    ensures exact { (line : ℕ) (cause : BlockTextCause) → RefusesText bytes.now line cause → IsRefusal result line cause }
-    ensures only { (lines : List (List BlockItem)) → IsBlockText bytes.now lines → MatchResult result (λ _. Unit {0}) (λ e. e ≡ BlockTextRefusal.OutOfMemory) }
+    ensures exact { (line : ℕ) (cause : BlockTextCause)
+        → RefusesText bytes.now line cause
+        → IsRefusal result line cause }
+    ensures only { (lines : List (List BlockItem))
+        → IsBlockText bytes.now lines
+        → MatchResult result (λ _. Unit {0}) (λ e. e ≡ BlockTextRefusal.OutOfMemory) }
 {
     let text = read_block_text(alloc, bytes)?;
     Ok(run_text(alloc, &text, cut, pick, again)?)

@@ -63,12 +63,21 @@ pub fn commit_lines<P: Port>(
     requires rung { queue.old.rung.items ≡ [] }
     requires good { IsGoodText text.now }
     requires below { AllBelow (homes_of geometry) text.now }
-    ensures ok { OnOk result ((q r : PortImage) → IsImage (P.state queue.new.port) q → r.base ≡ 0 → ShowsMap geometry (shown says geometry (q ∷ []) r) (length text.now) (map_after text.now (length text.now))) }
-    ensures rings { OnOk result ((P.state queue.new.port).rings ≡ counted (P.state queue.old.port).rings (length text.now)) }
+    ensures ok { OnOk result ((q r : PortImage)
+        → IsImage (P.state queue.new.port) q
+        → r.base ≡ 0
+        → ShowsMap geometry (shown says geometry (q ∷ []) r) (length text.now)
+        (map_after text.now (length text.now))) }
+    ensures rings { OnOk result ((P.state queue.new.port).rings ≡ counted (P.state queue.old.port).rings
+        (length text.now)) }
     ensures quiet { OnOk result (IsQuiescent (P.state queue.new.port)) }
     ensures done { OnOk result ((P.state queue.new.port).head ≡ (P.state queue.new.port).doorbell) }
-    ensures events { OnOk result ((P.state queue.new.port).events ≡ counted (P.state queue.old.port).events (events_of text.now (length text.now))) }
-    ensures cut { OnErr result ((e : ℕ) × ((P.state queue.new.port).events ≡ counted (P.state queue.old.port).events e) × QueueShows geometry (P.state queue.new.port) text.now e × (e < events_of text.now (length text.now))) }
+    ensures events { OnOk result ((P.state queue.new.port).events ≡ counted (P.state queue.old.port).events
+        (events_of text.now (length text.now))) }
+    ensures cut { OnErr result ((e : ℕ)
+        × ((P.state queue.new.port).events ≡ counted (P.state queue.old.port).events e)
+        × QueueShows geometry (P.state queue.new.port) text.now e
+        × (e < events_of text.now (length text.now))) }
     ensures port { IsPortOf geometry (Queue 0) (P.state queue.new.port) }
     ensures bounds { HasBounds (P.state queue.old.port) (P.state queue.new.port) }
     ensures cause { HasTextCause result (P.faults queue.old.port) (P.faults queue.new.port) }
@@ -97,12 +106,21 @@ fn commit_through<P: Port>(
     requires clean { IsCleanQueue geometry (P.state port) }
     requires good { IsGoodText text.now }
     requires below { AllBelow (homes_of geometry) text.now }
-    ensures ok { OnOk result.1 ((q r : PortImage) → IsImage (P.state result.0) q → r.base ≡ 0 → ShowsMap geometry (shown says geometry (q ∷ []) r) (length text.now) (map_after text.now (length text.now))) }
-    ensures rings { OnOk result.1 ((P.state result.0).rings ≡ counted (P.state port).rings (length text.now)) }
+    ensures ok { OnOk result.1 ((q r : PortImage)
+        → IsImage (P.state result.0) q
+        → r.base ≡ 0
+        → ShowsMap geometry (shown says geometry (q ∷ []) r) (length text.now)
+        (map_after text.now (length text.now))) }
+    ensures rings { OnOk result.1 ((P.state result.0).rings ≡ counted (P.state port).rings
+        (length text.now)) }
     ensures quiet { OnOk result.1 (IsQuiescent (P.state result.0)) }
     ensures done { OnOk result.1 ((P.state result.0).head ≡ (P.state result.0).doorbell) }
-    ensures events { OnOk result.1 ((P.state result.0).events ≡ counted (P.state port).events (events_of text.now (length text.now))) }
-    ensures cut { OnErr result.1 ((e : ℕ) × ((P.state result.0).events ≡ counted (P.state port).events e) × QueueShows geometry (P.state result.0) text.now e × (e < events_of text.now (length text.now))) }
+    ensures events { OnOk result.1 ((P.state result.0).events ≡ counted (P.state port).events
+        (events_of text.now (length text.now))) }
+    ensures cut { OnErr result.1 ((e : ℕ)
+        × ((P.state result.0).events ≡ counted (P.state port).events e)
+        × QueueShows geometry (P.state result.0) text.now e
+        × (e < events_of text.now (length text.now))) }
     ensures port { IsPortOf geometry (Queue 0) (P.state result.0) }
     ensures bounds { HasBounds (P.state port) (P.state result.0) }
     ensures cause { HasTextCause result.1 (P.faults port) (P.faults result.0) }
@@ -152,18 +170,46 @@ pub fn commit_text<P: Port>(
     text: &BlockText,
 ) -> (Ports<P>, Result<(), TextRefusal>)
     requires one { length ports.queues.items ≡ 1 }
-    requires clean { (p : P) → slice_get ports.queues.items 0 ≡ Some p → IsClean geometry (P.state p) (P.state ports.root) }
+    requires clean { (p : P)
+        → slice_get ports.queues.items 0 ≡ Some p
+        → IsClean geometry (P.state p) (P.state ports.root) }
     requires good { IsGoodText text.now }
     requires below { AllBelow (homes_of geometry) text.now }
-    ensures ok { OnOk result.1 ((p : P) → slice_get result.0.queues.items 0 ≡ Some p → ShowsLines geometry (P.state p) (P.state result.0.root) text.now (length text.now)) }
-    ensures rings { OnOk result.1 ((p q : P) → slice_get ports.queues.items 0 ≡ Some p → slice_get result.0.queues.items 0 ≡ Some q → (P.state q).rings ≡ counted (P.state p).rings (length text.now)) }
-    ensures quiet { OnOk result.1 ((p : P) → slice_get result.0.queues.items 0 ≡ Some p → IsQuiescent (P.state p)) }
-    ensures done { OnOk result.1 ((p : P) → slice_get result.0.queues.items 0 ≡ Some p → (P.state p).head ≡ (P.state p).doorbell) }
-    ensures events { OnOk result.1 ((p q : P) → slice_get ports.queues.items 0 ≡ Some p → slice_get result.0.queues.items 0 ≡ Some q → (P.state q).events ≡ counted (P.state p).events (events_of text.now (length text.now))) }
-    ensures cut { OnErr result.1 ((p q : P) → slice_get ports.queues.items 0 ≡ Some p → slice_get result.0.queues.items 0 ≡ Some q → (e : ℕ) × ((P.state q).events ≡ counted (P.state p).events e) × ShowsReached geometry (P.state q) (P.state result.0.root) text.now e × (e < events_of text.now (length text.now))) }
-    ensures port { (p : P) → slice_get result.0.queues.items 0 ≡ Some p → IsPortOf geometry (Queue 0) (P.state p) }
-    ensures bounds { (p q : P) → slice_get ports.queues.items 0 ≡ Some p → slice_get result.0.queues.items 0 ≡ Some q → HasBounds (P.state p) (P.state q) }
-    ensures cause { (p q : P) → slice_get ports.queues.items 0 ≡ Some p → slice_get result.0.queues.items 0 ≡ Some q → HasTextCause result.1 (P.faults p) (P.faults q) }
+    ensures ok { OnOk result.1 ((p : P)
+        → slice_get result.0.queues.items 0 ≡ Some p
+        → ShowsLines geometry (P.state p) (P.state result.0.root) text.now (length text.now)) }
+    ensures rings { OnOk result.1 ((p q : P)
+        → slice_get ports.queues.items 0 ≡ Some p
+        → slice_get result.0.queues.items 0 ≡ Some q
+        → (P.state q).rings ≡ counted (P.state p).rings (length text.now)) }
+    ensures quiet { OnOk result.1 ((p : P)
+        → slice_get result.0.queues.items 0 ≡ Some p
+        → IsQuiescent (P.state p)) }
+    ensures done { OnOk result.1 ((p : P)
+        → slice_get result.0.queues.items 0 ≡ Some p
+        → (P.state p).head ≡ (P.state p).doorbell) }
+    ensures events { OnOk result.1 ((p q : P)
+        → slice_get ports.queues.items 0 ≡ Some p
+        → slice_get result.0.queues.items 0 ≡ Some q
+        → (P.state q).events ≡ counted (P.state p).events (events_of text.now (length text.now))) }
+    ensures cut { OnErr result.1 ((p q : P)
+        → slice_get ports.queues.items 0 ≡ Some p
+        → slice_get result.0.queues.items 0 ≡ Some q
+        → (e : ℕ)
+        × ((P.state q).events ≡ counted (P.state p).events e)
+        × ShowsReached geometry (P.state q) (P.state result.0.root) text.now e
+        × (e < events_of text.now (length text.now))) }
+    ensures port { (p : P)
+        → slice_get result.0.queues.items 0 ≡ Some p
+        → IsPortOf geometry (Queue 0) (P.state p) }
+    ensures bounds { (p q : P)
+        → slice_get ports.queues.items 0 ≡ Some p
+        → slice_get result.0.queues.items 0 ≡ Some q
+        → HasBounds (P.state p) (P.state q) }
+    ensures cause { (p q : P)
+        → slice_get ports.queues.items 0 ≡ Some p
+        → slice_get result.0.queues.items 0 ≡ Some q
+        → HasTextCause result.1 (P.faults p) (P.faults q) }
     ensures queues { length result.0.queues.items ≡ 1 }
     ensures root { result.0.root ≡ ports.root }
 {

@@ -16,7 +16,8 @@ pub const NAMED: usize = 256;
 /// The byte with which a line fills each block that texts may name.
 pub fn fills_of(alloc: Global, line: &BlockLine) -> Result<Vec<Option<u8>>, OutOfMemory>
     requires { AreGoodItems line.now }
-    ensures { IfOk result (λ v. (length v.items ≡ 256) × ((b : ℕ) → b < 256 → slice_index_or v.items b None ≡ set_in line.now b)) }
+    ensures { IfOk result (λ v. (length v.items ≡ 256)
+        × ((b : ℕ) → b < 256 → slice_index_or v.items b None ≡ set_in line.now b)) }
 {
     let items = line.0.as_slice();
     let mut fills = vec![in alloc; None; NAMED]?;
@@ -33,7 +34,8 @@ pub fn fills_of(alloc: Global, line: &BlockLine) -> Result<Vec<Option<u8>>, OutO
 // The blocks that are filled.
 fn filled_blocks(alloc: Global, fills: &[Option<u8>]) -> Result<Vec<BlockNo>, OutOfMemory>
     requires { length fills.now ≡ 256 }
-    ensures { IfOk result (λ v. v.items ≡ blocks_in (writes_from (λ b. slice_index_or fills.now b None) 0 named)) }
+    ensures { IfOk result (λ v. v.items ≡ blocks_in
+        (writes_from (λ b. slice_index_or fills.now b None) 0 named)) }
 {
     let mut blocks = Vec::new(alloc);
     for b in 0..NAMED {
@@ -63,7 +65,8 @@ fn copies(
 ) -> Result<Vec<(Lba, Block)>, OutOfMemory>
     requires fills { length fills.now ≡ 256 }
     requires place { place < 2 ^ 61 }
-    ensures { IfOk result (λ v. v.items ≡ copies_from geometry place (writes_from (λ b. slice_index_or fills.now b None) 0 named)) }
+    ensures { IfOk result (λ v. v.items ≡ copies_from geometry place
+        (writes_from (λ b. slice_index_or fills.now b None) 0 named)) }
 {
     let mut items = Vec::new(alloc);
     let mut place = place;
@@ -93,7 +96,8 @@ pub fn items_of_line(
     requires good { AreGoodItems line.now }
     requires some { 1 ≤ number }
     requires low { next < 2 ^ 61 }
-    ensures { IfOk result (λ v. v.items ≡ items_of geometry number next last (writes_from (set_in line.now) 0 named)) }
+    ensures { IfOk result (λ v. v.items ≡ items_of geometry number next last
+        (writes_from (set_in line.now) 0 named)) }
 {
     let fills = fills_of(alloc, line)?;
     let logged = filled_blocks(alloc, &fills)?;

@@ -60,13 +60,17 @@ pub fn commit_line<P: Port>(
     requires room { length items.items ≤ 1023 }
     requires quiet { IsQuiescent (P.state queue.old.port) }
     requires done { (P.state queue.old.port).head ≡ (P.state queue.old.port).doorbell }
-    requires settled { (k : ℕ) → k < depth → slice_index_or (P.state queue.old.port).flushed k [] ≡ slice_index_or (P.state queue.old.port).staged k [] }
+    requires settled { (k : ℕ)
+        → k < depth
+        → slice_index_or (P.state queue.old.port).flushed k [] ≡ slice_index_or
+        (P.state queue.old.port).staged k [] }
     requires own { AreOwn (P.state queue.old.port) items.items }
     requires distinct { AreDistinct (index_of (P.state queue.old.port)) items.items }
     requires rung { queue.old.rung.items ≡ [] }
     ensures ok { OnOk result (P.state queue.new.port ≡ after_line (P.state queue.old.port) tx items.items) }
     ensures rung { OnOk result (queue.new.rung.items ≡ []) }
-    ensures cut { OnErr result ((events : ℕ) × IsCut (P.state queue.old.port) (P.state queue.new.port) tx items.items events) }
+    ensures cut { OnErr result ((events : ℕ)
+        × IsCut (P.state queue.old.port) (P.state queue.new.port) tx items.items events) }
     ensures cause { HasCause result (P.faults queue.old.port) (P.faults queue.new.port) }
 {
     let mut items = items;

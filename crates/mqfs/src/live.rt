@@ -20,7 +20,10 @@ fn mark_line(line: &BlockLine, marks: &mut Vec<bool>)
     requires good { AreGoodItems line.now }
     requires whole { length marks.old.items ≡ 256 }
     ensures whole { length marks.new.items ≡ 256 }
-    ensures marks { (b : ℕ) → b < 256 → slice_index_or marks.new.items b false ≡ marked line.now b (slice_index_or marks.old.items b false) }
+    ensures marks { (b : ℕ)
+        → b < 256
+        → slice_index_or marks.new.items b false ≡ marked line.now b
+        (slice_index_or marks.old.items b false) }
 {
     let items = line.0.as_slice();
     let mut k = items.len();
@@ -56,7 +59,10 @@ pub fn live_blocks<P: Port>(
     requires geometry { IsTextGeometry geometry }
     requires still { IsQuiescentDrive geometry (states P.state ports.now.queues.items ports.now.root) }
     requires marks { length marks.now ≡ 256 }
-    ensures { IfOk result (λ v. (m : Map) → AreMarks m marks.now → HoldsMap geometry (states P.state ports.now.queues.items ports.now.root) m → v.items ≡ live_from m 0 named) }
+    ensures { IfOk result (λ v. (m : Map)
+        → AreMarks m marks.now
+        → HoldsMap geometry (states P.state ports.now.queues.items ports.now.root) m
+        → v.items ≡ live_from m 0 named) }
 {
     let mut live = Vec::new(alloc);
     let mut block = Block::zeroed(alloc)?;

@@ -45,14 +45,17 @@ fn ended(status: u8, put: Result<(), PutRefusal>) -> u8
 
 // Says a text, and answers the status.
 fn say<K: Sink>(status: u8, text: &[u8], out: &mut K) -> u8
-    ensures { EndsWith status text.now result (K.contents out.old) (K.contents out.new) (K.faults out.old) (K.faults out.new) }
+    ensures { EndsWith status text.now result (K.contents out.old) (K.contents out.new) (K.faults out.old)
+        (K.faults out.new) }
 {
     ended(status, put_all(out, text))
 }
 
 // Appends a word, a name and a line feed.
 fn put_named<K: Sink>(out: &mut K, first: &[u8], name: &[u8]) -> Result<(), PutRefusal>
-    ensures wrote { MatchResult result (λ _. K.contents out.new ≡ appended (K.contents out.old) (named_line first.now name.now)) (λ _. AppendsPrefix (K.contents out.old) (K.contents out.new) (named_line first.now name.now)) }
+    ensures wrote { MatchResult result (λ _. K.contents out.new ≡ appended (K.contents out.old)
+        (named_line first.now name.now))
+        (λ _. AppendsPrefix (K.contents out.old) (K.contents out.new) (named_line first.now name.now)) }
     ensures cause { PutCause result (K.faults out.old) (K.faults out.new) }
 {
     put_all(out, first)?;
@@ -62,7 +65,8 @@ fn put_named<K: Sink>(out: &mut K, first: &[u8], name: &[u8]) -> Result<(), PutR
 
 // Says a word and a name, with the status of a fault.
 fn say_named<K: Sink>(first: &[u8], name: &[u8], out: &mut K) -> u8
-    ensures { EndsWith 4 (named_line first.now name.now) result (K.contents out.old) (K.contents out.new) (K.faults out.old) (K.faults out.new) }
+    ensures { EndsWith 4 (named_line first.now name.now) result (K.contents out.old) (K.contents out.new)
+        (K.faults out.old) (K.faults out.new) }
 {
     ended(FAULT, put_named(out, first, name))
 }
@@ -77,7 +81,10 @@ fn refusal_text(alloc: Global, line: u32, cause: BlockTextCause) -> Result<Strin
 
 // Says why a block text is refused, or that memory was not to be had for that.
 fn say_refused<K: Sink>(alloc: Global, line: u32, cause: BlockTextCause, out: &mut K) -> u8
-    ensures { EndsWith 2 (refused_line line cause) result (K.contents out.old) (K.contents out.new) (K.faults out.old) (K.faults out.new) ⊎ EndsWith 6 memory_line result (K.contents out.old) (K.contents out.new) (K.faults out.old) (K.faults out.new) }
+    ensures { EndsWith 2 (refused_line line cause) result (K.contents out.old) (K.contents out.new)
+        (K.faults out.old) (K.faults out.new)
+        ⊎ EndsWith 6 memory_line result (K.contents out.old) (K.contents out.new) (K.faults out.old)
+        (K.faults out.new) }
 {
     match refusal_text(alloc, line, cause) {
         Ok(text) => say(REFUSED, text.as_bytes(), out),
@@ -87,7 +94,10 @@ fn say_refused<K: Sink>(alloc: Global, line: u32, cause: BlockTextCause, out: &m
 
 // Says why a block text is not read, or that memory was not to be had for that.
 fn say_refusal<K: Sink>(alloc: Global, refusal: BlockTextRefusal, out: &mut K) -> u8
-    ensures { EndsWith (status_of (refusal_said refusal)) (text_of [] (refusal_said refusal)) result (K.contents out.old) (K.contents out.new) (K.faults out.old) (K.faults out.new) ⊎ EndsWith 6 memory_line result (K.contents out.old) (K.contents out.new) (K.faults out.old) (K.faults out.new) }
+    ensures { EndsWith (status_of (refusal_said refusal)) (text_of [] (refusal_said refusal)) result
+        (K.contents out.old) (K.contents out.new) (K.faults out.old) (K.faults out.new)
+        ⊎ EndsWith 6 memory_line result (K.contents out.old) (K.contents out.new) (K.faults out.old)
+        (K.faults out.new) }
 {
     match refusal {
         BlockTextRefusal::At { line, cause } => say_refused(alloc, line, cause, out),
@@ -97,7 +107,12 @@ fn say_refusal<K: Sink>(alloc: Global, refusal: BlockTextRefusal, out: &mut K) -
 
 // Says what the bytes of a block text come to, or that memory was not to be had.
 fn say_output<K: Sink>(alloc: Global, output: Result<Vec<u8>, BlockTextRefusal>, out: &mut K) -> u8
-    ensures { MatchResult output (λ v. EndsWith 0 v.items result (K.contents out.old) (K.contents out.new) (K.faults out.old) (K.faults out.new)) (λ e. EndsWith (status_of (refusal_said e)) (text_of [] (refusal_said e)) result (K.contents out.old) (K.contents out.new) (K.faults out.old) (K.faults out.new) ⊎ EndsWith 6 memory_line result (K.contents out.old) (K.contents out.new) (K.faults out.old) (K.faults out.new)) }
+    ensures { MatchResult output (λ v. EndsWith 0 v.items result (K.contents out.old) (K.contents out.new)
+        (K.faults out.old) (K.faults out.new))
+        (λ e. EndsWith (status_of (refusal_said e)) (text_of [] (refusal_said e)) result
+        (K.contents out.old) (K.contents out.new) (K.faults out.old) (K.faults out.new)
+        ⊎ EndsWith 6 memory_line result (K.contents out.old) (K.contents out.new) (K.faults out.old)
+        (K.faults out.new)) }
 {
     match output {
         Ok(text) => say(DONE, &text, out),
@@ -108,7 +123,11 @@ fn say_output<K: Sink>(alloc: Global, output: Result<Vec<u8>, BlockTextRefusal>,
 // What the bytes of a block text come to under these options.
 fn run_blocks(alloc: Global, bytes: &[u8], options: Options) -> Result<Vec<u8>, BlockTextRefusal>
     requires small { AreSmall options }
-    ensures ok { IfOk result (λ v. (lines : List (List BlockItem)) × (p : ℕ) × IsBlockText bytes.now lines × IsPrefixAt lines options.cut p × (v.items ≡ output_of lines p)) }
+    ensures ok { IfOk result (λ v. (lines : List (List BlockItem))
+        × (p : ℕ)
+        × IsBlockText bytes.now lines
+        × IsPrefixAt lines options.cut p
+        × (v.items ≡ output_of lines p)) }
     ensures refused { IfErr result (IsRefused (RefusesText bytes.now)) }
 {
     let pick = options.pick.unwrap_or(0);
@@ -124,7 +143,11 @@ fn blocks<F: Files, K: Sink>(
     out: &mut K,
 ) -> u8
     requires small { AreSmall options }
-    ensures ends { (said : Said) × IsSaidOf said (F.told files.old) name.now options.cut (F.faults files.old) (F.faults files.new) (F.taken files.old) (F.taken files.new) × EndsWith (status_of said) (text_of name.now said) result (K.contents out.old) (K.contents out.new) (K.faults out.old) (K.faults out.new) }
+    ensures ends { (said : Said)
+        × IsSaidOf said (F.told files.old) name.now options.cut (F.faults files.old) (F.faults files.new)
+        (F.taken files.old) (F.taken files.new)
+        × EndsWith (status_of said) (text_of name.now said) result (K.contents out.old)
+        (K.contents out.new) (K.faults out.old) (K.faults out.new) }
     ensures told { F.told files.new ≡ F.told files.old }
 {
     match files.load(alloc, name) {
@@ -137,7 +160,12 @@ fn blocks<F: Files, K: Sink>(
 
 // Runs the command of the words.
 fn run<F: Files, K: Sink>(alloc: Global, words: &[String], files: &mut F, out: &mut K) -> u8
-    ensures ends { (status : ℕ) × (text : List ℕ) × IsToSay (map string_bytes words.now) (F.told files.old) (F.faults files.old) (F.faults files.new) (F.taken files.old) (F.taken files.new) status text × EndsWith status text result (K.contents out.old) (K.contents out.new) (K.faults out.old) (K.faults out.new) }
+    ensures ends { (status : ℕ)
+        × (text : List ℕ)
+        × IsToSay (map string_bytes words.now) (F.told files.old) (F.faults files.old)
+        (F.faults files.new) (F.taken files.old) (F.taken files.new) status text
+        × EndsWith status text result (K.contents out.old) (K.contents out.new) (K.faults out.old)
+        (K.faults out.new) }
     ensures told { F.told files.new ≡ F.told files.old }
 {
     match read_blocks(words) {
@@ -153,20 +181,48 @@ fn run<F: Files, K: Sink>(alloc: Global, words: &[String], files: &mut F, out: &
 pub fn mqfs<F: Files, K: Sink>(alloc: Global, words: &[String], files: &mut F, out: &mut K) -> u8
     ensures status { IsStatus result }
     // The output is that of the lines that stand, of the text that the name holds.
-    ensures done { result ≡ 0 → IsDone (map string_bytes words.now) (F.told files.old) (K.contents out.old) (K.contents out.new) }
-    ensures done_where { (held : Held) (name : List ℕ) (options : Options) (bytes : List ℕ) (lines : List (List BlockItem)) → AreBlocks (map string_bytes words.now) name options → F.told files.old ≡ Some held → held name ≡ Some bytes → IsBlockText bytes lines → IsUnlessWanting 0 result }
+    ensures done { result ≡ 0
+        → IsDone (map string_bytes words.now) (F.told files.old) (K.contents out.old) (K.contents out.new) }
+    ensures done_where { (held : Held) (name : List ℕ) (options : Options) (bytes : List ℕ)
+        (lines : List (List BlockItem))
+        → AreBlocks (map string_bytes words.now) name options
+        → F.told files.old ≡ Some held
+        → held name ≡ Some bytes
+        → IsBlockText bytes lines
+        → IsUnlessWanting 0 result }
     // The words are no command.
-    ensures usage { result ≡ 1 → AreUnknown (map string_bytes words.now) × (K.contents out.new ≡ appended (K.contents out.old) usage_line) × (F.taken files.new ≡ F.taken files.old) }
+    ensures usage { result ≡ 1
+        → AreUnknown (map string_bytes words.now)
+        × (K.contents out.new ≡ appended (K.contents out.old) usage_line)
+        × (F.taken files.new ≡ F.taken files.old) }
     ensures usage_where { AreUnknown (map string_bytes words.now) → IsUnlessWanting 1 result }
     // The name holds bytes that are refused.
-    ensures refused { result ≡ 2 → IsRefusedText (map string_bytes words.now) (F.told files.old) (K.contents out.old) (K.contents out.new) }
-    ensures refused_where { (held : Held) (name : List ℕ) (options : Options) (bytes : List ℕ) (line : ℕ) (cause : BlockTextCause) → AreBlocks (map string_bytes words.now) name options → F.told files.old ≡ Some held → held name ≡ Some bytes → RefusesText bytes line cause → IsUnlessWanting 2 result }
+    ensures refused { result ≡ 2
+        → IsRefusedText (map string_bytes words.now) (F.told files.old) (K.contents out.old)
+        (K.contents out.new) }
+    ensures refused_where { (held : Held) (name : List ℕ) (options : Options) (bytes : List ℕ) (line : ℕ)
+        (cause : BlockTextCause)
+        → AreBlocks (map string_bytes words.now) name options
+        → F.told files.old ≡ Some held
+        → held name ≡ Some bytes
+        → RefusesText bytes line cause
+        → IsUnlessWanting 2 result }
     // A file or the output failed, or a file was too long.
-    ensures fault { result ≡ 4 → Rose (F.faults files.old) (F.faults files.new) ⊎ (Rose (K.faults out.old) (K.faults out.new) ⊎ IsTooLong (map string_bytes words.now) (F.told files.old) (F.taken files.old) (F.taken files.new)) }
-    ensures fault_where { result ≢ 4 → (F.faults files.new ≡ F.faults files.old) × (K.faults out.new ≡ K.faults out.old) }
+    ensures fault { result ≡ 4
+        → Rose (F.faults files.old) (F.faults files.new)
+        ⊎ (Rose (K.faults out.old) (K.faults out.new)
+        ⊎ IsTooLong (map string_bytes words.now) (F.told files.old) (F.taken files.old)
+        (F.taken files.new)) }
+    ensures fault_where { result ≢ 4
+        → (F.faults files.new ≡ F.faults files.old) × (K.faults out.new ≡ K.faults out.old) }
     ensures takes { result ≢ 4 → result ≢ 6 → TakesWithin (F.taken files.old) (F.taken files.new) }
     // At every status one text was to be said, and at most that text is; no name changes.
-    ensures ends { (status : ℕ) × (text : List ℕ) × IsToSay (map string_bytes words.now) (F.told files.old) (F.faults files.old) (F.faults files.new) (F.taken files.old) (F.taken files.new) status text × EndsWith status text result (K.contents out.old) (K.contents out.new) (K.faults out.old) (K.faults out.new) }
+    ensures ends { (status : ℕ)
+        × (text : List ℕ)
+        × IsToSay (map string_bytes words.now) (F.told files.old) (F.faults files.old)
+        (F.faults files.new) (F.taken files.old) (F.taken files.new) status text
+        × EndsWith status text result (K.contents out.old) (K.contents out.new) (K.faults out.old)
+        (K.faults out.new) }
     ensures told { F.told files.new ≡ F.told files.old }
 {
     run(alloc, words, files, out)

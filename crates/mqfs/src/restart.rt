@@ -30,7 +30,9 @@ fn only_image(refusal: RecoverRefusal) -> OutOfMemory
 // Where no command fails and the image is readable, a recovery ends, or is cut by its power, or wants
 // memory.
 fn check_power(answer: Result<Recovered, RecoverRefusal>) -> Result<(), OutOfMemory>
-    requires image { (fault : ImageFault) → answer ≡ Err (RecoverRefusal.Image fault) → fault ≡ ImageFault.OutOfMemory }
+    requires image { (fault : ImageFault)
+        → answer ≡ Err (RecoverRefusal.Image fault)
+        → fault ≡ ImageFault.OutOfMemory }
     requires sound { (block status : ℕ) → answer ≡ Err (RecoverRefusal.Failed block status) → ⊥ }
     ensures { OnOk result (((fault : ImageFault) → answer ≡ Err (RecoverRefusal.Image fault) → ⊥)) }
 {
@@ -61,8 +63,11 @@ fn read_prefix<P: Port>(
     ports: &Ports<P>,
 ) -> Result<u64, OutOfMemory>
     requires still { IsQuiescentDrive geometry (states P.state ports.now.queues.items ports.now.root) }
-    requires reaches { (ds : List Descriptor) × Reaches geometry (view_over geometry (states P.state ports.now.queues.items ports.now.root)) ds }
-    ensures { IfOk result (λ p. (ds : List Descriptor) → Reaches geometry (view_over geometry (states P.state ports.now.queues.items ports.now.root)) ds → p ≡ length ds) }
+    requires reaches { (ds : List Descriptor)
+        × Reaches geometry (view_over geometry (states P.state ports.now.queues.items ports.now.root)) ds }
+    ensures { IfOk result (λ p. (ds : List Descriptor)
+        → Reaches geometry (view_over geometry (states P.state ports.now.queues.items ports.now.root)) ds
+        → p ≡ length ds) }
 {
     match stands(alloc, geometry, ports) {
         Ok(standing) => Ok(standing.prefix),
@@ -85,7 +90,9 @@ pub fn restarted<'f>(
     requires one { 0 < queues_of geometry }
     requires queue { IsImageOf geometry (Queue 0) images.0 }
     requires root { IsImageOf geometry Root images.1 }
-    ensures states { IfOk result (λ p. states emu_state p.queues.items p.root ≡ drive (start_of geometry (Queue 0) images.0 (name_of fuse.now) None ∷ []) (start_of geometry Root images.1 (name_of fuse.now) None)) }
+    ensures states { IfOk result (λ p. states emu_state p.queues.items p.root ≡ drive
+        (start_of geometry (Queue 0) images.0 (name_of fuse.now) None ∷ [])
+        (start_of geometry Root images.1 (name_of fuse.now) None)) }
     ensures faults { IfOk result (λ p. faults_of emu_faults p.queues.items p.root ≡ no_faults) }
 {
     let mut queues = Vec::with_capacity(alloc, 1)?;
@@ -121,9 +128,16 @@ pub fn recover_images<'f>(
     requires queue { IsImageOf geometry (Queue 0) images.0 }
     requires root { IsImageOf geometry Root images.1 }
     requires reaches { (ds : List Descriptor) × Reaches geometry (cut_view geometry images.0 images.1) ds }
-    ensures prefix { IfOk result (λ r. (ds : List Descriptor) → Reaches geometry (cut_view geometry images.0 images.1) ds → r.0 ≡ length ds) }
-    ensures homes { IfOk result (λ r. (ds : List Descriptor) (b : ℕ) → Reaches geometry (cut_view geometry images.0 images.1) ds → b < homes_of geometry → (view_over geometry (states emu_state r.1.queues.items r.1.root)).home b ≡ stands geometry (cut_view geometry images.0 images.1) ds b) }
-    ensures still { IfOk result (λ r. IsQuiescentDrive geometry (states emu_state r.1.queues.items r.1.root)) }
+    ensures prefix { IfOk result (λ r. (ds : List Descriptor)
+        → Reaches geometry (cut_view geometry images.0 images.1) ds
+        → r.0 ≡ length ds) }
+    ensures homes { IfOk result (λ r. (ds : List Descriptor) (b : ℕ)
+        → Reaches geometry (cut_view geometry images.0 images.1) ds
+        → b < homes_of geometry
+        → (view_over geometry (states emu_state r.1.queues.items r.1.root)).home b ≡ stands geometry
+        (cut_view geometry images.0 images.1) ds b) }
+    ensures still { IfOk result (λ r. IsQuiescentDrive geometry
+        (states emu_state r.1.queues.items r.1.root)) }
 {
     let mut ports = restarted(alloc, fuse, seats, geometry, images, pick)?;
     match recover(alloc, geometry, &mut ports) {
@@ -148,7 +162,10 @@ fn recover_until(
     requires queue { IsImageOf geometry (Queue 0) images.0 }
     requires root { IsImageOf geometry Root images.1 }
     requires reaches { (ds : List Descriptor) × Reaches geometry (cut_view geometry images.0 images.1) ds }
-    ensures left { IfOk result (λ r. (ds : List Descriptor) → Reaches geometry (cut_view geometry images.0 images.1) ds → IsLeftOf geometry (cut_view geometry images.0 images.1) (cut_view geometry r.1.0 r.1.1) (Some r.0) ds) }
+    ensures left { IfOk result (λ r. (ds : List Descriptor)
+        → Reaches geometry (cut_view geometry images.0 images.1) ds
+        → IsLeftOf geometry (cut_view geometry images.0 images.1) (cut_view geometry r.1.0 r.1.1)
+        (Some r.0) ds) }
     ensures queue { IfOk result (λ r. IsImageOf geometry (Queue 0) r.1.0) }
     ensures root { IfOk result (λ r. IsImageOf geometry Root r.1.1) }
 {
@@ -178,7 +195,9 @@ pub fn recover_first(
     requires queue { IsImageOf geometry (Queue 0) images.0 }
     requires root { IsImageOf geometry Root images.1 }
     requires reaches { (ds : List Descriptor) × Reaches geometry (cut_view geometry images.0 images.1) ds }
-    ensures left { IfOk result (λ r. (ds : List Descriptor) → Reaches geometry (cut_view geometry images.0 images.1) ds → IsLeftOf geometry (cut_view geometry images.0 images.1) (cut_view geometry r.1.0 r.1.1) r.0 ds) }
+    ensures left { IfOk result (λ r. (ds : List Descriptor)
+        → Reaches geometry (cut_view geometry images.0 images.1) ds
+        → IsLeftOf geometry (cut_view geometry images.0 images.1) (cut_view geometry r.1.0 r.1.1) r.0 ds) }
     ensures looked { IfOk result (λ r. is_some r.0 ≡ is_some again) }
     ensures nothing { again ≡ None → IfOk result (λ r. r.1 ≡ images) }
     ensures queue { IfOk result (λ r. IsImageOf geometry (Queue 0) r.1.0) }

@@ -29,7 +29,8 @@ impl Core {
     /// What stands on a block in the map after the base, where no number above it and up to the front
     /// changed the block.
     fn due(&self, base: TxNo, block: BlockNo) -> Option<&Content>
-        ensures { MatchOption result (due_at self.now base block ≡ None) (λ c. due_at self.now base block ≡ Some c.now) }
+        ensures { MatchOption result (due_at self.now base block ≡ None)
+            (λ c. due_at self.now base block ≡ Some c.now) }
     {
         if block.0 >= self.ledger.geometry().homes() {
             return None;
@@ -89,7 +90,11 @@ impl Core {
     /// Whether a block holds at home what is due there.
     fn is_home(&self, base: TxNo, block: BlockNo) -> bool
         requires { block < homes_of self.now.geometry }
-        ensures { IsTrue result ↔ ((content : _) → due_at self.now base block ≡ Some content → Holds (port_of self.now (zone_of self.now.geometry block)) (home_lba self.now.geometry block) content) }
+        ensures { IsTrue result
+            ↔ ((content : _)
+            → due_at self.now base block ≡ Some content
+            → Holds (port_of self.now (zone_of self.now.geometry block))
+            (home_lba self.now.geometry block) content) }
     {
         let Some(content) = self.due(base, block) else {
             return true;
@@ -100,7 +105,12 @@ impl Core {
 
     /// Whether each block holds at home what is due there.
     fn are_home(&self, base: TxNo) -> bool
-        ensures { IsTrue result ↔ ((x : ℕ) (content : _) → x < homes_of self.now.geometry → due_at self.now base x ≡ Some content → Holds (port_of self.now (zone_of self.now.geometry x)) (home_lba self.now.geometry x) content) }
+        ensures { IsTrue result
+            ↔ ((x : ℕ) (content : _)
+            → x < homes_of self.now.geometry
+            → due_at self.now base x ≡ Some content
+            → Holds (port_of self.now (zone_of self.now.geometry x))
+            (home_lba self.now.geometry x) content) }
     {
         for block in 0..self.ledger.geometry().homes() {
             if !self.is_home(base, BlockNo(block)) {
@@ -128,7 +138,8 @@ impl Core {
 
     /// The base is stored: recovery needs no transaction up to it.
     pub fn store_base(&mut self, base: TxNo) -> Result<(), CoreRefusal>
-        ensures { Answers (IsAllowed plain (StoreBase base) self.old) (happens plain (StoreBase base) self.old) self.old self.new result }
+        ensures { Answers (IsAllowed plain (StoreBase base) self.old)
+            (happens plain (StoreBase base) self.old) self.old self.new result }
     {
         if !self.may_store_base(base) {
             return Err(CoreRefusal::NotAllowed { index: 0 });

@@ -27,10 +27,14 @@ pub fn begin_write(
 ) -> Result<(), OutOfMemory>
     requires block { block < homes_of geometry }
     requires there { IsIn geometry block ports.old.items root.old }
-    ensures ports { OnOk result (ports.new.items ≡ ports_after (begin_home geometry block content) (zone_of geometry block) ports.old.items) }
-    ensures root { OnOk result (root.new ≡ root_after (begin_home geometry block content) (zone_of geometry block) root.old) }
+    ensures ports { OnOk result (ports.new.items ≡ ports_after (begin_home geometry block content)
+        (zone_of geometry block) ports.old.items) }
+    ensures root { OnOk result (root.new ≡ root_after (begin_home geometry block content)
+        (zone_of geometry block) root.old) }
     ensures writing { OnOk result (writing.new.items ≡ writing.old.items ++ block ∷ []) }
-    ensures refused { OnErr result ((ports.new.items ≡ ports.old.items) × (root.new ≡ root.old) × (writing.new.items ≡ writing.old.items)) }
+    ensures refused { OnErr result ((ports.new.items ≡ ports.old.items)
+        × (root.new ≡ root.old)
+        × (writing.new.items ≡ writing.old.items)) }
 {
     writing.reserve(1)?;
     match geometry.zone_of(block) {
@@ -51,7 +55,8 @@ pub fn end_write(
 )
     requires block { block < homes_of geometry }
     requires there { IsIn geometry block ports.old.items root.old }
-    ensures ports { ports.new.items ≡ ports_after (end_home geometry block content) (zone_of geometry block) ports.old.items }
+    ensures ports { ports.new.items ≡ ports_after (end_home geometry block content)
+        (zone_of geometry block) ports.old.items }
     ensures root { root.new ≡ root_after (end_home geometry block content) (zone_of geometry block) root.old }
 {
     match geometry.zone_of(block) {
@@ -114,7 +119,8 @@ impl Core {
 
     /// A home write of the block's content begins.
     pub fn write_home(&mut self, alloc: Global, block: BlockNo) -> Result<(), CoreRefusal>
-        ensures { Answers (IsAllowed plain (WriteHome block) self.old) (happens plain (WriteHome block) self.old) self.old self.new result }
+        ensures { Answers (IsAllowed plain (WriteHome block) self.old)
+            (happens plain (WriteHome block) self.old) self.old self.new result }
     {
         if !self.may_write_home(block) {
             return Err(CoreRefusal::NotAllowed { index: 0 });
@@ -134,7 +140,8 @@ impl Core {
 
     /// The last home write of the block that is under way ends with success.
     pub fn home_done(&mut self, alloc: Global, block: BlockNo) -> Result<(), CoreRefusal>
-        ensures { Answers (IsAllowed plain (HomeDone block) self.old) (happens plain (HomeDone block) self.old) self.old self.new result }
+        ensures { Answers (IsAllowed plain (HomeDone block) self.old)
+            (happens plain (HomeDone block) self.old) self.old self.new result }
     {
         if !holds_block(&self.writing, block) {
             return Err(CoreRefusal::NotAllowed { index: 0 });

@@ -17,7 +17,8 @@ use mq_ledger::{Ledger, Tx};
 
 /// Whether this number changed a block last. Of a block that is no home block it didn't.
 pub fn is_last_change(ledger: &Ledger, block: BlockNo, number: TxNo) -> bool
-    ensures { result ≡ (nat_lt block (homes_of ledger.now.geometry) && nat_eq (last ledger.now.base ledger.now.history block) number) }
+    ensures { result ≡ (nat_lt block (homes_of ledger.now.geometry) && nat_eq
+        (last ledger.now.base ledger.now.history block) number) }
 {
     block.0 < ledger.geometry().homes() && ledger.last_change(block).0 == number.0
 }
@@ -32,7 +33,9 @@ pub fn is_marked(marks: &[u64], queue: QueueNo, number: TxNo) -> bool
 
 /// Drops the blocks that this number changed last.
 pub fn drop_changed(ledger: &Ledger, blocks: &mut Vec<BlockNo>, number: TxNo)
-    ensures { blocks.new.items ≡ filter (λ x. not (nat_lt x (homes_of ledger.now.geometry) && nat_eq (last ledger.now.base ledger.now.history x) number)) blocks.old.items }
+    ensures { blocks.new.items ≡ filter
+        (λ x. not (nat_lt x (homes_of ledger.now.geometry) && nat_eq
+        (last ledger.now.base ledger.now.history x) number)) blocks.old.items }
 {
     blocks.retain(|block| !is_last_change(ledger, *block, number));
 }
@@ -41,7 +44,9 @@ impl Core {
     /// Whether the entries of a transaction fit into ring and area of its queue.
     fn has_room(&self, tx: &Tx) -> bool
         requires { IsTx self.now.geometry tx.now }
-        ensures { IsTrue result ↔ HasRoom self.now.geometry (from_at self.now.starts tx.now.queue) self.now.root.base (us_of self.now tx.now.queue) tx.now (port_at self.now.ports tx.now.queue) }
+        ensures { IsTrue result
+            ↔ HasRoom self.now.geometry (from_at self.now.starts tx.now.queue) self.now.root.base
+            (us_of self.now tx.now.queue) tx.now (port_at self.now.ports tx.now.queue) }
     {
         let port = &self.ports[tx.queue.0 as usize];
         let end = self.ledger.end(tx.queue);
@@ -73,7 +78,8 @@ impl Core {
 
     /// A transaction takes the next number.
     pub fn draw(&mut self, tx: Tx) -> Result<(), CoreRefusal>
-        ensures { Answers (IsAllowed plain (Draw tx) self.old) (happens plain (Draw tx) self.old) self.old self.new result }
+        ensures { Answers (IsAllowed plain (Draw tx) self.old)
+            (happens plain (Draw tx) self.old) self.old self.new result }
     {
         if !self.may_draw(&tx) {
             return Err(CoreRefusal::NotAllowed { index: 0 });
@@ -86,7 +92,8 @@ impl Core {
 
     /// The queue's mark: each of its numbers that isn't done is at or above it.
     pub fn clear(&mut self, queue: QueueNo, low: u64) -> Result<(), CoreRefusal>
-        ensures { Answers (IsAllowed plain (Clear queue low) self.old) (happens plain (Clear queue low) self.old) self.old self.new result }
+        ensures { Answers (IsAllowed plain (Clear queue low) self.old)
+            (happens plain (Clear queue low) self.old) self.old self.new result }
     {
         let at = queue.0 as usize;
         if at >= self.ports.len() {
@@ -102,7 +109,8 @@ impl Core {
 
     /// All numbers up to this one are done, and whoever asked is told.
     pub fn acknowledge(&mut self, number: TxNo) -> Result<(), CoreRefusal>
-        ensures { Answers (IsAllowed plain (Acknowledge number) self.old) (happens plain (Acknowledge number) self.old) self.old self.new result }
+        ensures { Answers (IsAllowed plain (Acknowledge number) self.old)
+            (happens plain (Acknowledge number) self.old) self.old self.new result }
     {
         if number.0 > self.ledger.front().0 {
             return Err(CoreRefusal::NotAllowed { index: 0 });

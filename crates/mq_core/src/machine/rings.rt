@@ -15,7 +15,8 @@ use std::alloc::Global;
 impl Core {
     /// The next entry of the queue's drawn transaction is staged.
     pub fn stage(&mut self, alloc: Global, queue: QueueNo) -> Result<(), CoreRefusal>
-        ensures { Answers (IsAllowed plain (Stage queue) self.old) (happens plain (Stage queue) self.old) self.old self.new result }
+        ensures { Answers (IsAllowed plain (Stage queue) self.old)
+            (happens plain (Stage queue) self.old) self.old self.new result }
     {
         let at = queue.0 as usize;
         if at >= self.ports.len() {
@@ -46,7 +47,8 @@ impl Core {
 
     /// What is staged on the queue becomes certain.
     pub fn flush(&mut self, queue: QueueNo) -> Result<(), CoreRefusal>
-        ensures { Answers (IsAllowed plain (Flush queue) self.old) (happens plain (Flush queue) self.old) self.old self.new result }
+        ensures { Answers (IsAllowed plain (Flush queue) self.old)
+            (happens plain (Flush queue) self.old) self.old self.new result }
     {
         let at = queue.0 as usize;
         if at >= self.ports.len() {
@@ -62,7 +64,8 @@ impl Core {
 
     /// What is staged and flushed on the queue is posted.
     pub fn ring(&mut self, queue: QueueNo) -> Result<(), CoreRefusal>
-        ensures { Answers (IsAllowed plain (Ring queue) self.old) (happens plain (Ring queue) self.old) self.old self.new result }
+        ensures { Answers (IsAllowed plain (Ring queue) self.old)
+            (happens plain (Ring queue) self.old) self.old self.new result }
     {
         let at = queue.0 as usize;
         if at >= self.ports.len() {
@@ -74,7 +77,8 @@ impl Core {
 
     /// The posted command of this count ends with success.
     pub fn complete(&mut self, queue: QueueNo, count: u64) -> Result<(), CoreRefusal>
-        ensures { Answers (IsAllowed plain (Complete queue count) self.old) (happens plain (Complete queue count) self.old) self.old self.new result }
+        ensures { Answers (IsAllowed plain (Complete queue count) self.old)
+            (happens plain (Complete queue count) self.old) self.old self.new result }
     {
         let at = queue.0 as usize;
         if at >= self.ports.len() {
@@ -85,7 +89,8 @@ impl Core {
 
     /// The posted command of this count ends with an error.
     pub fn fail_command(&mut self, queue: QueueNo, count: u64) -> Result<(), CoreRefusal>
-        ensures { Answers (IsAllowed plain (FailCommand queue count) self.old) (happens plain (FailCommand queue count) self.old) self.old self.new result }
+        ensures { Answers (IsAllowed plain (FailCommand queue count) self.old)
+            (happens plain (FailCommand queue count) self.old) self.old self.new result }
     {
         let at = queue.0 as usize;
         if at >= self.ports.len() {
@@ -96,7 +101,8 @@ impl Core {
 
     /// The queue's head is stored.
     pub fn store_head(&mut self, queue: QueueNo, head: u64) -> Result<(), CoreRefusal>
-        ensures { Answers (IsAllowed plain (StoreHead queue head) self.old) (happens plain (StoreHead queue head) self.old) self.old self.new result }
+        ensures { Answers (IsAllowed plain (StoreHead queue head) self.old)
+            (happens plain (StoreHead queue head) self.old) self.old self.new result }
     {
         let at = queue.0 as usize;
         if at >= self.ports.len() {
@@ -110,7 +116,8 @@ impl Core {
 
     /// The queue's stored head becomes certain.
     pub fn flush_head(&mut self, queue: QueueNo) -> Result<(), CoreRefusal>
-        ensures { Answers (IsAllowed plain (FlushHead queue) self.old) (happens plain (FlushHead queue) self.old) self.old self.new result }
+        ensures { Answers (IsAllowed plain (FlushHead queue) self.old)
+            (happens plain (FlushHead queue) self.old) self.old self.new result }
     {
         if queue.0 as usize >= self.ports.len() {
             return Err(CoreRefusal::NotAllowed { index: 0 });

@@ -11,7 +11,8 @@ use std::alloc::Global;
 impl Core {
     /// Makes an event happen, where it is allowed.
     pub fn apply(&mut self, alloc: Global, event: Event) -> Result<(), CoreRefusal>
-        ensures { Answers (IsAllowed plain event self.old) (happens plain event self.old) self.old self.new result }
+        ensures { Answers (IsAllowed plain event self.old)
+            (happens plain event self.old) self.old self.new result }
     {
         match event {
             Event::Draw(tx) => self.draw(tx),

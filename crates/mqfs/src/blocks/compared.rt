@@ -82,7 +82,9 @@ fn recovered_of(
     requires geometry { IsTextGeometry geometry }
     requires queue { IsImageOf geometry (Queue 0) images.0 }
     requires root { IsImageOf geometry Root images.1 }
-    requires shows { (n : ℕ) × (m : Map) × ShowsMap geometry (shown says geometry (images.0 ∷ []) images.1) n m }
+    requires shows { (n : ℕ)
+        × (m : Map)
+        × ShowsMap geometry (shown says geometry (images.0 ∷ []) images.1) n m }
 {
     let (fuse, queue_seat, root_seat) = power_of_two(alloc, None)?;
     let seats = (queue_seat, root_seat);
@@ -118,7 +120,9 @@ fn cut_of(
     requires geometry { IsTextGeometry geometry }
     requires good { IsGoodText text.now }
     requires events { events < 2 ^ 63 }
-    ensures shows { IfOk result (λ r. (n : ℕ) × (m : Map) × ShowsMap geometry (shown says geometry (r.0 ∷ []) r.1) n m) }
+    ensures shows { IfOk result (λ r. (n : ℕ)
+        × (m : Map)
+        × ShowsMap geometry (shown says geometry (r.0 ∷ []) r.1) n m) }
     ensures queue { IfOk result (λ r. IsImageOf geometry (Queue 0) r.0) }
     ensures root { IfOk result (λ r. IsImageOf geometry Root r.1) }
 {

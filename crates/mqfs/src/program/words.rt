@@ -29,8 +29,15 @@ pub struct BlocksCommand<'a> {
 
 /// The number of two words, an option and its number.
 fn read_option(option: &str, word: &str, number: &str) -> Option<u64>
-    ensures found { IfSome result (λ n. (n < 2 ^ 63) × (word.now ≡ option.now) × (number.now ≡ number_text n)) }
-    ensures none { result ≡ None → (n : ℕ) → n < 2 ^ 63 → word.now ≡ option.now → number.now ≡ number_text n → ⊥ }
+    ensures found { IfSome result (λ n. (n < 2 ^ 63)
+        × (word.now ≡ option.now)
+        × (number.now ≡ number_text n)) }
+    ensures none { result ≡ None
+        → (n : ℕ)
+        → n < 2 ^ 63
+        → word.now ≡ option.now
+        → number.now ≡ number_text n
+        → ⊥ }
 {
     if word != option {
         return None;
@@ -46,7 +53,11 @@ fn read_option(option: &str, word: &str, number: &str) -> Option<u64>
 fn take_option<'a>(option: &str, words: &'a [String]) -> (Option<u64>, &'a [String])
     ensures words { map string_bytes words.now ≡ option_words option.now result.0 ++ map string_bytes result.1.now }
     ensures below { IfSome result.0 (λ n. n < 2 ^ 63) }
-    ensures none { result.0 ≡ None → (n : ℕ) (rest : Words) → n < 2 ^ 63 → map string_bytes words.now ≡ option.now ∷ number_text n ∷ rest → ⊥ }
+    ensures none { result.0 ≡ None
+        → (n : ℕ) (rest : Words)
+        → n < 2 ^ 63
+        → map string_bytes words.now ≡ option.now ∷ number_text n ∷ rest
+        → ⊥ }
 {
     match words {
         [word, number, rest @ ..] => match read_option(option, word, number) {
