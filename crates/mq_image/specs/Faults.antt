@@ -1,0 +1,128 @@
+-- Why bytes are not the file of an image: the first fault in the order of the tests.
+use Rattle.std.specs.Prelude.{◌≡◌, ℕ, zero, suc, ◌+◌, ◌-◌, ◌*◌, Bool, ◌&&◌, ◌||◌, List, length, Option, Some, None, Result, MatchResult, nat_eq, nat_le, nat_lt, if◌then◌else◌}
+use Rattle.byteorder.specs.Endian.{little_number}
+use Rattle.mq_blocks.specs.Windows.{number_at, window}
+use Rattle.mq_blocks.specs.Geometry.{queues_of, area_of, meta_of, zone_size}
+use Rattle.mq_blocks.specs.declared.geometry.Geometry.{Geometry}
+use Rattle.mq_blocks.specs.declared.geometry.GeometryRefusal.{GeometryRefusal}
+use Rattle.mq_blocks.specs.declared.geometry.GeometryRefusal.TheVariants.{Queues, Area, Homes}
+use Rattle.mq_image.specs.File.{is_blank, magic}
+use Rattle.mq_image.specs.declared.fault.FileFault.{FileFault}
+use Rattle.mq_image.specs.declared.fault.FileFault.TheVariants.{Short, Magic, Version, Geometry as Shape, Reserved, Count, Order, Zero, Extra, OutOfMemory}
+
+-- a test, and the fault of bytes that do not pass it
+abbrev pub unless : {X : Type 0} → Bool → X → Option X
+unless passes fault = if passes then None else Some fault
+
+abbrev pub or_then : Option FileFault → Option FileFault → Option FileFault
+or_then None next = next
+or_then (Some fault) next = Some fault
+
+-- the file is shorter than this
+abbrev pub short_fault : ℕ → List ℕ → Option FileFault
+short_fault need file = unless (nat_le need (length file)) (Short need (length file))
+
+-- ---- the header
+
+abbrev pub queues_in : List ℕ → ℕ
+queues_in file = number_at 4 12 file
+
+abbrev pub area_in : List ℕ → ℕ
+area_in file = number_at 4 16 file
+
+abbrev pub meta_in : List ℕ → ℕ
+meta_in file = number_at 4 20 file
+
+abbrev pub zone_in : List ℕ → ℕ
+zone_in file = number_at 4 24 file
+
+-- the geometry that the header tells
+pub record IsGeometryIn (file : List ℕ) (g : Geometry) : Type 0 where
+  pub queues : queues_of g ≡ queues_in file
+  pub area : area_of g ≡ area_in file
+  pub meta : meta_of g ≡ meta_in file
+  pub zone : zone_size g ≡ zone_in file
+
+-- why four numbers are no geometry
+abbrev pub geometry_refusal : (queues area meta zone : ℕ) → Option GeometryRefusal
+geometry_refusal queues area meta zone =
+    if nat_le 1 queues && nat_le queues 16
+    then (if nat_le 1024 area && nat_le area 16384
+    then unless (nat_le (queues + 3) meta && (nat_le 1 zone && nat_le (meta + queues * zone) 32768)) (Homes meta zone)
+    else Some (Area area))
+    else Some (Queues queues)
+
+abbrev pub geometry_fault : Option GeometryRefusal → Option FileFault
+geometry_fault None = None
+geometry_fault (Some refusal) = Some (Shape refusal)
+
+unfoldable pub header_fault : List ℕ → Option FileFault
+header_fault file =
+    or_then (short_fault 40 file)
+    (or_then (unless (nat_eq (number_at 8 0 file) (little_number 8 magic)) Magic)
+    (or_then (unless (nat_eq (number_at 4 8 file) 1) (Version (number_at 4 8 file)))
+    (or_then (geometry_fault (geometry_refusal (queues_in file) (area_in file) (meta_in file) (zone_in file)))
+    (unless (nat_eq (number_at 4 28 file) 0) (Reserved (number_at 4 28 file))))))
+
+-- ---- the lengths
+
+-- where the number of blocks stands, behind the rings
+abbrev pub count_at : ℕ → ℕ
+count_at queues = 40 + 65552 * queues
+
+-- the blocks of the namespace
+abbrev pub namespace_size : (queues area meta zone : ℕ) → ℕ
+namespace_size queues area meta zone = queues * area + (meta + queues * zone)
+
+abbrev pub size_in : List ℕ → ℕ
+size_in file = namespace_size (queues_in file) (area_in file) (meta_in file) (zone_in file)
+
+abbrev pub count_in : List ℕ → ℕ
+count_in file = number_at 4 (count_at (queues_in file)) file
+
+-- where the blocks stand, and where they end
+abbrev pub blocks_at : List ℕ → ℕ
+blocks_at file = count_at (queues_in file) + 4
+
+abbrev pub blocks_end : List ℕ → ℕ
+blocks_end file = blocks_at file + 4100 * count_in file
+
+unfoldable pub length_fault : List ℕ → Option FileFault
+length_fault file =
+    or_then (short_fault (blocks_at file) file)
+    (or_then (unless (nat_le (count_in file) (size_in file)) (Count (count_in file)))
+    (short_fault (blocks_end file) file))
+
+-- ---- the blocks
+
+-- So many blocks from an offset on, the first of which has this index: each Lba is at least `low`,
+-- which is above the one before, and is in the namespace, and no block is all zeros.
+unfoldable pub record_fault : (size count index low at : ℕ) → List ℕ → Option FileFault
+record_fault size zero index low at file = None
+record_fault size (suc count) index low at file =
+    if nat_lt (number_at 4 at file) low || nat_le size (number_at 4 at file)
+    then Some (Order index)
+    else (if is_blank (window file (at + 4) 4096)
+    then Some (Zero (number_at 4 at file))
+    else record_fault size count (index + 1) (number_at 4 at file + 1) (at + 4100) file)
+
+abbrev pub block_fault : List ℕ → Option FileFault
+block_fault file = record_fault (size_in file) (count_in file) 0 0 (blocks_at file) file
+
+-- ---- all
+
+abbrev pub extra_fault : ℕ → List ℕ → Option FileFault
+extra_fault end file = unless (nat_le (length file) end) (Extra (length file - end))
+
+-- the first fault of a file
+unfoldable pub fault_of : List ℕ → Option FileFault
+fault_of file = or_then (header_fault file) (or_then (length_fault file) (or_then (block_fault file) (extra_fault (blocks_end file) file)))
+
+-- a test is refused exactly where there is a fault, and names it
+abbrev pub Finds : {X : Type 0} → Option FileFault → Result X FileFault → Type 0
+Finds fault result = MatchResult result (λ _. fault ≡ None) (λ e. fault ≡ Some e)
+
+-- the same of a reading that takes memory
+abbrev pub Refuses : Option FileFault → FileFault → Type 0
+Refuses fault OutOfMemory = Unit {0}
+Refuses fault cause = fault ≡ Some cause

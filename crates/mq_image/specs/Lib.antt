@@ -1,0 +1,5 @@
+pub mod Drives
+pub mod Faults
+pub mod File
+pub mod Places
+pub mod Reads

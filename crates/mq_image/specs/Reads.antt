@@ -1,0 +1,75 @@
+-- What the parts of a file are read as.
+use Rattle.std.specs.Prelude.{◌≡◌, ◌<◌, ◌≤◌, ℕ, ◌+◌, ◌*◌, List, ◌++◌, Option, length, take, slice_index_or}
+use Rattle.std.specs.List.{All, flat_map}
+use Rattle.mq_blocks.specs.Drive.{PortImage}
+use Rattle.mq_blocks.specs.Geometry.{queues_of, area_of, meta_of, zone_size}
+use Rattle.mq_blocks.specs.Windows.{window}
+use Rattle.mq_blocks.specs.declared.geometry.Geometry.{Geometry}
+use Rattle.mq_image.specs.File.{all_blocks, areas, namespace, no_port, ring_bytes, zones}
+use Rattle.mq_image.specs.Places.{IsInside, IsSpan, fault_left}
+use Rattle.mq_image.specs.declared.place.Place.{Place}
+
+-- so many blocks of the namespace were read
+pub record IsPast (file : List ℕ) (old new : Place) (count : ℕ) : Type 0 where
+  pub size : new.size ≡ old.size
+  pub lba : new.lba ≡ old.lba + count
+  pub inside : IsInside new file
+  pub fault : fault_left new file ≡ fault_left old file
+  pub end : new.at + 4100 * new.left ≡ old.at + 4100 * old.left
+
+-- a queue's port with a journal area and no zone
+pub record IsAreaPort (g : Geometry) (p : PortImage) : Type 0 where
+  pub area : length p.blocks ≡ area_of g
+  pub slots : length p.slots ≡ 1024
+  pub base : p.base ≡ 0
+
+-- it was read as the port of this queue
+pub record IsAreaRead (g : Geometry) (file : List ℕ) (queue : ℕ) (old new : Place) (p : PortImage) : Type 0 where
+  pub port : IsAreaPort g p
+  pub span : IsSpan file old new p.blocks
+  pub ring : ring_bytes p ≡ window file (40 + 65552 * queue) 65552
+
+-- the first so many queues' ports were read
+pub record AreAreasRead (g : Geometry) (file : List ℕ) (count : ℕ) (old new : Place) (ports : List PortImage) : Type 0 where
+  pub count_is : length ports ≡ count
+  pub each : All (λ p. IsAreaPort g p) ports
+  pub blocks : length (all_blocks ports) ≡ count * area_of g
+  pub span : IsSpan file old new (all_blocks ports)
+  pub rings : flat_map ring_bytes ports ≡ window file 40 (65552 * count)
+
+-- a queue's port
+pub record IsQueuePort (g : Geometry) (p : PortImage) : Type 0 where
+  pub blocks : length p.blocks ≡ area_of g + zone_size g
+  pub slots : length p.slots ≡ 1024
+  pub base : p.base ≡ 0
+
+-- the port with the blocks of a zone behind its own
+abbrev pub with_zone : PortImage → List (Option (List ℕ)) → PortImage
+with_zone p zone = record p { blocks = p.blocks ++ zone }
+
+-- the zones of the first so many ports were read, and the others have none yet
+pub record AreZonesRead (g : Geometry) (file : List ℕ) (count : ℕ) (old new : Place) (before ports : List PortImage) : Type 0 where
+  pub count_is : length ports ≡ length before
+  pub done : (k : ℕ) → k < count → IsQueuePort g (slice_index_or ports k no_port)
+  pub rest : (k : ℕ) → count ≤ k → k < length ports → IsAreaPort g (slice_index_or ports k no_port)
+  pub size : length (zones g ports) ≡ count * zone_size g
+  pub span : IsSpan file old new (zones g ports)
+  pub areas_are : areas g ports ≡ all_blocks before
+  pub rings : flat_map ring_bytes ports ≡ flat_map ring_bytes before
+
+-- the root's port
+pub record IsRootPort (g : Geometry) (base : ℕ) (p : PortImage) : Type 0 where
+  pub blocks : length p.blocks ≡ meta_of g
+  pub slots : length p.slots ≡ 0
+  pub doorbell : p.doorbell ≡ 0
+  pub head : p.head ≡ 0
+  pub base_is : p.base ≡ base
+
+-- all ports were read
+pub record ArePortsRead (g : Geometry) (base : ℕ) (file : List ℕ) (old new : Place) (ports : List PortImage) : Type 0 where
+  pub count_is : length ports ≡ queues_of g + 1
+  pub queues : (q : ℕ) → q < queues_of g → IsQueuePort g (slice_index_or ports q no_port)
+  pub root : IsRootPort g base (slice_index_or ports (queues_of g) no_port)
+  pub past : IsPast file old new old.size
+  pub span : IsSpan file old new (namespace g (take (queues_of g) ports) (slice_index_or ports (queues_of g) no_port))
+  pub rings : flat_map ring_bytes (take (queues_of g) ports) ≡ window file 40 (65552 * queues_of g)

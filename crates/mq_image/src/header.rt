@@ -1,0 +1,117 @@
+// The head of a file, and the lengths of its parts.
+ghost use Rattle.std.specs.Prelude.{◌≡◌, ◌≤◌, ◌<◌, ◌+◌, ◌*◌, ℕ, None, Some, IfOk, MatchResult, length, slice_index};
+ghost use Rattle.mq_image.specs.Faults.{Finds, IsGeometryIn, unless, short_fault, header_fault, length_fault, extra_fault, geometry_refusal, geometry_fault, queues_in, area_in, meta_in, zone_in, size_in, count_in, blocks_at, blocks_end};
+ghost use Rattle.mq_blocks.specs.Geometry.{queues_of, area_of, meta_of, zone_size, homes_of};
+ghost use Rattle.mq_blocks.specs.Windows.{number_at};
+
+use crate::fault::FileFault;
+use mq_blocks::Geometry;
+use mq_blocks::bytes::{u32_at, u64_at};
+
+/// The bytes before the rings.
+pub const HEADER: usize = 40;
+
+/// The bytes of a queue's words and ring.
+pub const RING: usize = 65_552;
+
+/// The bytes of a block and its Lba.
+pub const RECORD: usize = 4_100;
+
+pub const MAGIC: &[u8; 8] = b"MQFSIMG1";
+
+/// What the head of a file says.
+#[derive(Clone, Copy)]
+pub struct Header {
+    pub geometry: Geometry,
+    pub base: u64,
+}
+
+/// Refuses what does not pass.
+pub fn check(passes: bool, fault: FileFault) -> Result<(), FileFault>
+    ensures { Finds (unless passes fault) result }
+{
+    if passes { Ok(()) } else { Err(fault) }
+}
+
+/// Refuses a file that is shorter than this.
+pub fn check_length(file: &[u8], need: u64) -> Result<(), FileFault>
+    ensures { Finds (short_fault need file.now) result }
+{
+    let have = file.len() as u64;
+    check(need <= have, FileFault::Short { need, have })
+}
+
+/// Refuses bytes behind the last block.
+pub fn check_extra(file: &[u8], end: usize) -> Result<(), FileFault>
+    requires { end ≤ length file.now }
+    ensures { Finds (extra_fault end file.now) result }
+{
+    let bytes = (file.len() - end) as u64;
+    check(file.len() <= end, FileFault::Extra { bytes })
+}
+
+/// The geometry in the head of a file.
+fn read_geometry(file: &[u8]) -> Result<Geometry, FileFault>
+    requires { HEADER ≤ length file.now }
+    ensures finds { Finds (geometry_fault
+        (geometry_refusal (queues_in file.now) (area_in file.now) (meta_in file.now)
+        (zone_in file.now))) result }
+    ensures is { IfOk result (IsGeometryIn file.now) }
+{
+    let queues = u32_at(file, 12);
+    let area = u32_at(file, 16);
+    let meta = u32_at(file, 20);
+    let zone = u32_at(file, 24);
+    Ok(Geometry::new(queues, area, meta, zone)?)
+}
+
+/// The head of a file.
+#[tactic(auto, unfolding(crate::specs::Faults::header_fault))]
+pub fn read_header(file: &[u8]) -> Result<Header, FileFault>
+    ensures finds { Finds (header_fault file.now) result }
+    ensures is { IfOk result (λ h. IsGeometryIn file.now h.geometry × (h.base ≡ number_at 8 32 file.now)) }
+    ensures room { IfOk result (λ h. 40 ≤ length file.now) }
+{
+    check_length(file, 40)?;
+    check(
+        u64_at(file, 0) == u64::from_le_bytes(*MAGIC),
+        FileFault::Magic,
+    )?;
+    let version = u32_at(file, 8);
+    check(version == 1, FileFault::Version { found: version })?;
+    let geometry = read_geometry(file)?;
+    let reserved = u32_at(file, 28);
+    check(reserved == 0, FileFault::Reserved { found: reserved })?;
+    Ok(Header {
+        geometry,
+        base: u64_at(file, 32),
+    })
+}
+
+/// The number of blocks in a file of this geometry, once the file is found to have them.
+#[tactic(auto, unfolding(crate::specs::Faults::length_fault))]
+pub fn read_count(file: &[u8], geometry: Geometry) -> Result<u32, FileFault>
+    requires head { IsGeometryIn file.now geometry }
+    ensures finds { Finds (length_fault file.now) result }
+    ensures is { IfOk result (λ count. (count ≡ count_in file.now)
+        × (count ≤ size_in file.now)
+        × (blocks_end file.now ≤ length file.now)) }
+{
+    let count_at = HEADER + RING * geometry.queues() as usize;
+    check_length(file, count_at as u64 + 4)?;
+    let count = u32_at(file, count_at);
+    check(
+        count <= namespace_size(geometry),
+        FileFault::Count { found: count },
+    )?;
+    check_length(file, count_at as u64 + 4 + RECORD as u64 * u64::from(count))?;
+    Ok(count)
+}
+
+/// The blocks of the namespace.
+pub fn namespace_size(geometry: Geometry) -> u32
+    ensures is { result ≡ queues_of geometry * area_of geometry + homes_of geometry }
+    ensures most { result ≤ 294912 }
+{
+    geometry.queues() * geometry.area() + geometry.homes()
+}

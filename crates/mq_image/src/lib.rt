@@ -1,0 +1,17 @@
+//! The image of a drive as a file.
+#![tactic(auto)]
+
+mod fault;
+mod header;
+mod image;
+mod place;
+mod read;
+mod ring;
+#[cfg(test)]
+mod tests;
+mod write;
+
+pub use fault::FileFault;
+pub use image::DriveImage;
+pub use read::read_image;
+pub use write::write_image;
