@@ -1,8 +1,9 @@
-// The fault of a file after one edit, by a table, and a file that is read and written again.
+// The fault of a file after one edit, by a table, and an image that is written and read again.
 ghost use Rattle.std.specs.Prelude.{◌≡◌, IfOk, length};
 
 use super::*;
-use mq_blocks::GeometryRefusal;
+use mq_blocks::{Block, GeometryRefusal};
+use mq_drive::PortImage;
 use std::alloc::{AllocError, Global};
 
 // Where the number of blocks stands in a file of one queue.
@@ -81,16 +82,47 @@ fn a_short_file_is_refused_by_its_rings(rt: HostRuntime) -> Result<(), AllocErro
     Ok(())
 }
 
+fn are_same_blocks(first: &[Option<Block>], second: &[Option<Block>]) -> bool {
+    for (x, y) in first.iter().zip(second) {
+        let same = match (x, y) {
+            (None, None) => true,
+            (Some(x), Some(y)) => x.bytes() == y.bytes(),
+            _ => false,
+        };
+        if !same {
+            return false;
+        }
+    }
+    first.len() == second.len()
+}
+
+fn are_same_ports(first: &[PortImage], second: &[PortImage]) -> bool {
+    for (x, y) in first.iter().zip(second) {
+        let words = x.doorbell == y.doorbell && x.head == y.head && x.base == y.base;
+        if !words || x.slots.as_slice() != y.slots.as_slice() {
+            return false;
+        }
+        if !are_same_blocks(&x.blocks, &y.blocks) {
+            return false;
+        }
+    }
+    first.len() == second.len()
+}
+
 #[test]
-fn what_is_read_is_written_again(rt: HostRuntime) -> Result<(), AllocError> {
+fn what_is_written_is_read_again(rt: HostRuntime) -> Result<(), AllocError> {
     let alloc = rt.alloc();
-    let file = small_file(alloc)?;
-    let Ok(image) = read_image(alloc, &file) else {
-        return Ok(());
-    };
-    let Ok(again) = write_image(alloc, &image) else {
-        return Ok(());
-    };
-    assert!(rt; again.as_slice() == file.as_slice());
+    let mut file = small_file(alloc)?;
+    file[32] = 7;
+    file[40] = 9;
+    file[48] = 8;
+    file[56 + 64] = 1;
+    let image = read_image(alloc, &file).expect(&rt, "the file is good");
+    assert!(rt; image.ports.len() == 2);
+    let written = write_image(alloc, &image).expect(&rt, "there is memory");
+    assert!(rt; written.as_slice() == file.as_slice());
+    let again = read_image(alloc, &written).expect(&rt, "what was written is good");
+    assert!(rt; again.geometry == image.geometry);
+    assert!(rt; are_same_ports(&again.ports, &image.ports));
     Ok(())
 }

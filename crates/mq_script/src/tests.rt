@@ -1,5 +1,5 @@
 use super::*;
-use std::alloc::Global;
+use std::alloc::{AllocError, Global};
 use std::process::Abort;
 use std::test::Fail;
 
@@ -57,6 +57,42 @@ fn refusals(rt: HostRuntime) {
     for (text, line, cause) in rows {
         assert!(rt; is_refused(rt.alloc(), text, line, cause));
     }
+}
+
+#[test]
+fn a_text_that_is_too_long(rt: HostRuntime) -> Result<(), AllocError> {
+    let text = vec![in rt.alloc(); b'a'; 16_777_217]?;
+    assert!(rt; is_refused(rt.alloc(), &text, 0, ScriptCause::Size));
+    assert!(rt; is_refused(rt.alloc(), &text[1..], 1, ScriptCause::Verb));
+    Ok(())
+}
+
+/// The scripts of two threads with five groups each, by a generator in another language.
+const GENERATED: [&[u8]; 2] = [
+    b"mkdir /t0\nfsync\n\
+create /t0/f15\nwrite /t0/f15 11825 fill:39:6800\nfatomic\n\
+create /t0/f13\nwrite /t0/f13 7089 fill:6b:4505\nfatomic\n\
+create /t0/f4\nwrite /t0/f4 242 fill:aa:8175\nfatomic\n\
+unlink /t0/f1\nfsync\n\
+create /t0/f2\nwrite /t0/f2 15364 fill:9c:7809\nfsync\n",
+    b"mkdir /t1\nfsync\n\
+create /t1/f9\nwrite /t1/f9 14964 fill:f1:8280\nfatomic\n\
+unlink /t1/f9\nfatomic\n\
+truncate /t1/f1 5504\nfatomic\n\
+unlink /t1/f15\nfsync\n\
+unlink /t1/f14\nfsync\n",
+];
+
+#[test]
+fn a_generated_workload(rt: HostRuntime) -> Result<(), Fail> {
+    let scripts = workload(rt.alloc(), 7, 2, 5).expect(&rt, "there is memory");
+    assert_eq!(rt; scripts.len(), 2);
+    for (script, text) in scripts.iter().zip(&GENERATED) {
+        let generated = print_script(rt.alloc(), script).expect(&rt, "there is memory");
+        let expected = printed(rt.alloc(), &rt, text);
+        assert_eq!(rt; generated.as_slice(), expected.as_slice());
+    }
+    Ok(())
 }
 
 #[test]
