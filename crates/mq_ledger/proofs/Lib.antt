@@ -2,6 +2,7 @@ pub mod Among
 pub mod Values
 pub mod Entries
 pub mod Queues
+pub mod Written
 mod Marks
 mod Rows
 mod Lists
