@@ -26,8 +26,8 @@ module _ {Q R E : Type 0} (side : Q → SideView) (root : R → PortState) (geom
   abbrev done : Tx → List Tx → Bool
   done t ts = is_claimed (c ∷ K.claims) t
 
-  more : DoneMore core.done done
-  more = record { each = λ t ts e. or_right (eqb c.queue t.queue && nat_le t.number c.up_to) (is_claimed K.claims t) e }
+  more : DoneMore core.done done core.history
+  more = record { each = λ t ts at e. or_right (eqb c.queue t.queue && nat_le t.number c.up_to) (is_claimed K.claims t) e }
 
   -- nothing is asked of a claim but that its numbers were drawn
   pub ok_claimed : IsOk side root geometry tx K → c.up_to ≤ newest K → IsOk side root geometry tx (claimed c K)

@@ -53,7 +53,7 @@ module _ (k : KnownJournal) (newer : List Tx) (done : Tx → List Tx → Bool) (
   abbrev pub later : KnownJournal
   later = moved_to k (newer ++ k.history) done due word
 
-  module _ (log : LogOk k) (then : LogOk later) (more : DoneMore k.done done) (above : k.word ≤ word) where
+  module _ (log : LogOk k) (then : LogOk later) (more : DoneMore k.done done k.history) (above : k.word ≤ word) where
     front_later : front k ≤ front later
     front_later = omega (arith, part_more k.done done k.history more, part_longer done newer k.history)
 

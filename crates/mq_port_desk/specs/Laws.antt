@@ -133,8 +133,8 @@ module _ {Q R E : Type 0} (side : Q → SideView) (root : R → PortState) (geom
       word = L.word;
     }
 
-    more : DoneMore (core K).done done
-    more = record { each = λ u txs e. ap (λ cs. is_claimed cs u) s.grows.claims ∙ claimed_more s.grows.claimed K.claims u e }
+    more : DoneMore (core K).done done (core K).history
+    more = record { each = λ u txs at e. ap (λ cs. is_claimed cs u) s.grows.claims ∙ claimed_more s.grows.claimed K.claims u e }
 
     due_apart : (x v : ℕ) → Each (λ h. h.0 ≢ x) s.grows.written → due x v ≡ true → (core K).due x v ≡ true
     due_apart x v apart e = elim (or_cases (eqb v K.opening.base) (is_ended L.ended x v) e) [
