@@ -3,7 +3,7 @@ use Rattle.std.proofs.Common.{◌≡◌, ℕ, ◌+◌, ◌≤◌, true, Bool, Li
 use Rattle.std.proofs.lemmas.Bool.{cases_lt}
 use Rattle.mq_blocks.specs.Drive.{PortState}
 use Rattle.mq_ledger.specs.History.{writes, upto, IsAt}
-use Rattle.mq_ledger.specs.Items.{end_of, next, total}
+use Rattle.mq_ledger.specs.Items.{end_of, next, total, descriptor_blocks}
 use Rattle.mq_ledger.specs.KnownJournal.{KnownJournal, LogOk, front}
 use Rattle.mq_ledger.specs.Sides.{AreHome, SideOk}
 use Rattle.mq_ledger.specs.declared.tx.Tx.{Tx}
@@ -45,7 +45,7 @@ at_append t ts [] txs at = at
 at_append t ts (u ∷ newer) txs at = inr (at_append t ts newer txs at)
 
 -- what such a number covers stands below a count below which each of them ends
-pub covered : (from h n : ℕ) (txs : List Tx) → from ≤ h → ((t : Tx) (ts : List Tx) → IsAt t ts txs → t.number ≤ n → end_of from ts + (writes t + 1) ≤ h) → end_of from (upto n txs) ≤ h
+pub covered : (from h n : ℕ) (txs : List Tx) → from ≤ h → ((t : Tx) (ts : List Tx) → IsAt t ts txs → t.number ≤ n → end_of from ts + (writes t + descriptor_blocks t) ≤ h) → end_of from (upto n txs) ≤ h
 covered from h n [] low each = omega arith
 covered from h n (t ∷ txs) low each = elim (cases_lt n t.number) [
   | inl past ↦ rw (upto-past n t txs past) (covered from h n txs low (λ u vs at. each u vs (inr at)))
@@ -72,7 +72,7 @@ module _ (k : KnownJournal) (due : ℕ → ℕ → Bool) (word : ℕ) (log : Log
   based_below q txs p s = covered (k.from q) p.head word txs (let o = s.order in o.head_low) (λ t ws at low.
       let f = FromQueue-of q t ws k.history (subst (λ vs. IsAt t ws vs) (sym s.part.1) (at_append t ws s.part.0 txs at)) in
       let done = s.done t f.ts f.at f.own (done_below k.base k.done t f.ts k.history log.numbers f.at (omega arith)) in
-      subst (λ vs. end_of (k.from q) vs + (writes t + 1) ≤ p.head) f.rest done)
+      subst (λ vs. end_of (k.from q) vs + (writes t + descriptor_blocks t) ≤ p.head) f.rest done)
 
   pub side_based : (q : ℕ) (txs : List Tx) (p : PortState) → SideOk k q txs p → AreHome based_known (Some q) p → SideOk based_known q txs p
   side_based q txs p s homes =

@@ -6,7 +6,7 @@ use Rattle.mq_blocks.specs.Drive.{PortState, holds_write, index_of, after_flush,
 use Rattle.mq_blocks.specs.Geometry.{zone_of, home_lba}
 use Rattle.mq_blocks.specs.Journal.{is_among}
 use Rattle.mq_ledger.specs.History.{writes, last, of_queue}
-use Rattle.mq_ledger.specs.Items.{Entries, end_of}
+use Rattle.mq_ledger.specs.Items.{Entries, end_of, descriptor_blocks}
 use Rattle.mq_ledger.specs.KnownJournal.{KnownJournal, front}
 use Rattle.mq_ledger.specs.Sides.{SideOk, home_index}
 use Rattle.mq_ledger.specs.State.{State, Facts, IsUnder, is_done, port_at, port_of, from_at, known_of, front_of}
@@ -66,13 +66,13 @@ module _ (e : Entries) (s : State) (f : Facts e s) (q : ℕ) (own : q < s.geomet
               let mine : SideOk k r (of_queue r s.history) p = subst (λ n. SideOk k n (of_queue n s.history) p) (sym same) side in
               subst (λ w. SideOk (known_of e (with p)) r (of_queue r s.history) w) (sym is)
               (side_more k now f.log more r (of_queue r s.history) p mine (λ t ts at mineq d.
-              let l : end_of (from_at s.starts t.queue) (of_queue t.queue ts) + (writes t + 1) ≤ (port_at (set s.ports q p) t.queue).head = leb-true _ _ d in
+              let l : end_of (from_at s.starts t.queue) (of_queue t.queue ts) + (writes t + descriptor_blocks t) ≤ (port_at (set s.ports q p) t.queue).head = leb-true _ _ d in
               let l' = rw (mineq, is) at l in l'))
           | inr other ↦
               let is : port_at (set s.ports q p) r ≡ port_at s.ports r = port_other s.ports q r p other in
               subst (λ w. SideOk (known_of e (with p)) r (of_queue r s.history) w) (sym is)
               (side_more k now f.log more r (of_queue r s.history) (port_at s.ports r) (f.sides r inside) (λ t ts at mineq d.
-              let l : end_of (from_at s.starts t.queue) (of_queue t.queue ts) + (writes t + 1) ≤ (port_at (set s.ports q p) t.queue).head = leb-true _ _ d in
+              let l : end_of (from_at s.starts t.queue) (of_queue t.queue ts) + (writes t + descriptor_blocks t) ≤ (port_at (set s.ports q p) t.queue).head = leb-true _ _ d in
               let l' = rw (mineq, is) at l in l'))
         ]
 

@@ -6,7 +6,7 @@ use Rattle.mq_blocks.specs.Geometry.{zone_of}
 use Rattle.mq_blocks.specs.Journal.{is_among}
 use Rattle.mq_blocks.specs.Machine.{Map, Writes, write_of}
 use Rattle.mq_ledger.specs.History.{blocks_of, writes, changes, map_after, last, last_logged, upto, of_queue, part_of, all_of, AreNumbered, IsAt}
-use Rattle.mq_ledger.specs.Items.{end_of}
+use Rattle.mq_ledger.specs.Items.{end_of, descriptor_blocks}
 use Rattle.mq_ledger.specs.KnownJournal.{KnownJournal, LogOk, front}
 use Rattle.mq_ledger.specs.Sides.{AreHome, SideOk, RootOk}
 use Rattle.mq_ledger.specs.declared.tx.Tx.{Tx}
@@ -72,7 +72,7 @@ module _ (k : KnownJournal) (newer : List Tx) (done : Tx → List Tx → Bool) (
         → SideOk k q (of_queue q k.history) p → SideOk later q (of_queue q k.history) p
     side_later q p apart known same s =
         let txs : List Tx = of_queue q k.history in
-        let ended : (t : Tx) (ts : List Tx) → IsAt t ts (newer ++ k.history) → t.queue ≡ q → done t ts ≡ true → end_of (k.from q) (of_queue q ts) + (writes t + 1) ≤ p.head = λ t ts at own d. elim (at_newer t ts newer k.history at) [
+        let ended : (t : Tx) (ts : List Tx) → IsAt t ts (newer ++ k.history) → t.queue ≡ q → done t ts ≡ true → end_of (k.from q) (of_queue q ts) + (writes t + descriptor_blocks t) ≤ p.head = λ t ts at own d. elim (at_newer t ts newer k.history at) [
           | inl new ↦ absurd (apart t new own)
           | inr old ↦ s.done t ts old own (known t ts own d)
         ] in
@@ -86,7 +86,7 @@ module _ (k : KnownJournal) (newer : List Tx) (done : Tx → List Tx → Bool) (
               let there = at_later t f.ts newer k.history f.at in
               let reached = then.word_high in
               let d = done_below k.base done t f.ts (newer ++ k.history) then.numbers there (omega arith) in
-              subst (λ vs. end_of (k.from q) vs + (writes t + 1) ≤ p.head) f.rest (ended t f.ts there f.own d));
+              subst (λ vs. end_of (k.from q) vs + (writes t + descriptor_blocks t) ≤ p.head) f.rest (ended t f.ts there f.own d));
           done = ended;
           change = λ x v l. let seen = seen_later x in omega arith;
         }) (homes_later (Some q) p same s.homes)

@@ -3,7 +3,7 @@ use Rattle.std.proofs.Common.{◌≡◌, ◌<◌, ◌≤◌, ℕ, zero, suc, ◌
 use Rattle.std.proofs.lemmas.List.{length-replicate, get_or-replicate}
 use Rattle.mq_nvme.specs.Says.{says}
 use Rattle.mq_blocks.specs.Blocks.{block_at}
-use Rattle.mq_blocks.specs.Drive.{PortState, PortImage}
+use Rattle.mq_blocks.specs.Drive.{PortState, PortImage, depth}
 use Rattle.mq_blocks.specs.Geometry.{homes_of, zone_of}
 use Rattle.mq_blocks.specs.Journal.{IsQueueChain, number_limit}
 use Rattle.mq_blocks.specs.declared.geometry.Geometry.{Geometry}
@@ -76,8 +76,8 @@ queue-start g d start base q still at read base_is holds own =
     (λ some. (
       chain.number,
       chain.lba,
-      sym (ap (λ (i : PortImage). says (get_or i.slots ((p.doorbell - 1) % 1024) [])) image)
-          ∙ ap (λ (n : ℕ). (view_over g d).entry q ((n - 1) % 1024)) (sym head)
+      sym (ap (λ (i : PortImage). says (get_or i.slots ((p.doorbell - 1) % depth) [])) image)
+          ∙ ap (λ (n : ℕ). (view_over g d).entry q ((n - 1) % depth)) (sym head)
           ∙ chain.newest (omega arith),
       omega arith,
     ))
