@@ -8,29 +8,16 @@ use Rattle.mq_ledger.specs.KnownJournal.{KnownJournal, LogOk, front}
 use Rattle.mq_ledger.specs.Sides.{AreHome, SideOk}
 use Rattle.mq_ledger.specs.declared.tx.Tx.{Tx}
 use Rattle.mq_ledger.proofs.Values.{upto-at, upto-past}
+use Rattle.mq_ledger.proofs.Entries.{next_upto, total_upto}
 use Rattle.mq_ledger.proofs.Queues.{FromQueue-of}
 use Rattle.mq_core.proofs.Fronts.{done_below}
 use Rattle.mq_core.proofs.Growth.{side_moved, placed_front}
-
-next_upto : (n : ℕ) (txs : List Tx) → next (upto n txs) ≤ next txs
-next_upto n [] = omega arith
-next_upto n (t ∷ txs) = elim (cases_lt n t.number) [
-  | inl past ↦ rw (upto-past n t txs past) (omega (arith, next_upto n txs))
-  | inr at ↦ rw (upto-at n t txs at) (omega arith)
-]
 
 pub next_upto_more : (m n : ℕ) (txs : List Tx) → m ≤ n → next (upto m txs) ≤ next (upto n txs)
 next_upto_more m n [] l = omega arith
 next_upto_more m n (t ∷ txs) l = elim (cases_lt n t.number) [
   | inl past ↦ rw (upto-past n t txs past, upto-past m t txs (omega arith)) (next_upto_more m n txs l)
   | inr at ↦ rw (upto-at n t txs at) (next_upto m (t ∷ txs))
-]
-
-total_upto : (n : ℕ) (txs : List Tx) → total (upto n txs) ≤ total txs
-total_upto n [] = omega arith
-total_upto n (t ∷ txs) = elim (cases_lt n t.number) [
-  | inl past ↦ rw (upto-past n t txs past) (omega (arith, total_upto n txs))
-  | inr at ↦ rw (upto-at n t txs at) (omega arith)
 ]
 
 pub total_upto_more : (m n : ℕ) (txs : List Tx) → m ≤ n → total (upto m txs) ≤ total (upto n txs)
@@ -40,7 +27,7 @@ total_upto_more m n (t ∷ txs) l = elim (cases_lt n t.number) [
   | inr at ↦ rw (upto-at n t txs at) (total_upto m (t ∷ txs))
 ]
 
-at_append : (t : Tx) (ts newer txs : List Tx) → IsAt t ts txs → IsAt t ts (newer ++ txs)
+pub at_append : (t : Tx) (ts newer txs : List Tx) → IsAt t ts txs → IsAt t ts (newer ++ txs)
 at_append t ts [] txs at = at
 at_append t ts (u ∷ newer) txs at = inr (at_append t ts newer txs at)
 

@@ -13,7 +13,6 @@ pub mod StateBases
 mod Goodness
 mod Reading
 mod Cuts
-mod Unique
 pub mod Safe
 pub mod Runs
 mod Lifts

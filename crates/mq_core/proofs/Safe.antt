@@ -13,13 +13,13 @@ use Rattle.mq_ledger.specs.State.{State, Facts, IsPostedOnce, Recovers, AreImage
 use Rattle.mq_ledger.specs.declared.tx.Tx.{Tx}
 use Rattle.mq_ledger.proofs.Values.{at_most, at_same, last_upto_bound, numbered-upto}
 use Rattle.mq_ledger.proofs.Entries.{item_at-in, item_at-below, item-commit}
-use Rattle.mq_ledger.proofs.Queues.{IsFalling, IsFalling-of, IsFalling-below, at_own, FromQueue-of, at_in_below, at_from_below, next_above}
+use Rattle.mq_ledger.proofs.Chains.{queue-chain-once}
+use Rattle.mq_ledger.proofs.Queues.{at_next, IsFalling, IsFalling-of, IsFalling-below, at_own, FromQueue-of, at_in_below, at_from_below, next_above}
 use Rattle.mq_core.proofs.Fronts.{part-all, part-less, part_le, part_is, part_all, part_stops, all_of_at}
 use Rattle.mq_core.proofs.SideCommands.{posted_late}
 use Rattle.mq_core.proofs.Sources.{from_of, number-from, direct_in, late, clash}
 use Rattle.mq_core.proofs.Goodness.{good_of}
 use Rattle.mq_core.proofs.Reading.{HoldsAll, chain_of, reach_of, descriptors, from_descriptor, has_descriptor, rows, rows_row, from_row}
-use Rattle.mq_core.proofs.Unique.{one_chain}
 use Rattle.mq_core.proofs.Cuts.{IsCut, IsWhole, is_whole, cut_of, held_descriptor, stand_of}
 
 -- the transaction that ends at a count
@@ -52,11 +52,6 @@ none_below from h txs end at = go (below from h txs) refl
     go [] e = e
     go (t ∷ ws) e = absurd (let n : end_of from (t ∷ ws) ≡ h = ap (end_of from) (sym e) ∙ end in omega arith)
 
-next_at : (t : Tx) (txs ws : List Tx) → IsAt t txs ws → next txs + (length t.logged + descriptor_blocks t) ≤ next ws
-next_at t txs [] at = absurd at
-next_at t txs (u ∷ ws) (inl same) = (let e : next (u ∷ ws) ≡ next (t ∷ txs) = (λ i. next (same.0 i ∷ same.1 i)) in omega arith)
-next_at t txs (u ∷ ws) (inr deeper) = omega (arith, next_at t txs ws deeper)
-
 module _ (e : Entries) (s : State) (i : Shown) (f : Facts e s) (cut : IsCut e s i) where
   abbrev k : KnownJournal
   k = known_of e s
@@ -79,7 +74,7 @@ module _ (e : Entries) (s : State) (i : Shown) (f : Facts e s) (cut : IsCut e s 
         let m = at_from_below (from_at s.starts q) (i.head q) t txs (us_at q) at in
         let r = FromQueue-of q t txs s.history m.0 in
         let limit = (f.sides q own).area.limit in
-        let there = next_at t txs (us_at q) m.0 in (
+        let there = at_next t txs (us_at q) m.0 in (
           go t txs past m.1 r.ts r.at r.own r.rest,
           good_of k t txs q f.log m.0 (omega arith),
         );
@@ -143,7 +138,7 @@ module _ (e : Entries) (s : State) (i : Shown) (f : Facts e s) (cut : IsCut e s 
             let r = FromQueue-of q last.t last.ws s.history m.0 in
             let most = at_most s.base last.t r.ts s.history f.log.numbers r.at in
             let top = f.log.limit in
-            let newest = next_at last.t last.ws (us_at q) m.0 in
+            let newest = at_next last.t last.ws (us_at q) m.0 in
             record {
               number = last.t.number;
               lba = area_lba s.geometry q place;
@@ -333,7 +328,7 @@ module _ (e : Entries) (s : State) (i : Shown) (f : Facts e s) (cut : IsCut e s 
       record {
         chains = λ q. descriptors i.base (chain_at q);
         whole = all_chains;
-        unique = λ others whole q own. one_chain s.geometry i q (others q) (descriptors i.base (chain_at q)) (whole.each q own) (queue_chain q own);
+        unique = λ others whole q own. queue-chain-once s.geometry i q (others q) (descriptors i.base (chain_at q)) (whole.each q own) (queue_chain q own);
         ds = rows i.base part;
         prefix = prefix_of reach;
         least = omega (arith, row.1, more);

@@ -70,6 +70,22 @@ next-below from h (t ∷ ts) =
       | inr at ↦ rw (below-at from h t ts at) (omega arith)
     ]
 
+pub next_upto : (n : ℕ) (txs : List Tx) → next (upto n txs) ≤ next txs
+next_upto n [] = omega arith
+next_upto n (t ∷ txs) =
+    elim (cases_lt n t.number) [
+      | inl past ↦ rw (upto-past n t txs past) (omega (arith, next_upto n txs))
+      | inr at ↦ rw (upto-at n t txs at) (omega arith)
+    ]
+
+pub total_upto : (n : ℕ) (txs : List Tx) → total (upto n txs) ≤ total txs
+total_upto n [] = omega arith
+total_upto n (t ∷ txs) =
+    elim (cases_lt n t.number) [
+      | inl past ↦ rw (upto-past n t txs past) (omega (arith, total_upto n txs))
+      | inr at ↦ rw (upto-at n t txs at) (omega arith)
+    ]
+
 pub of_queue-own : (q : ℕ) (t : Tx) (ts : List Tx) → t.queue ≡ q → of_queue q (t ∷ ts) ≡ t ∷ of_queue q ts
 of_queue-own q t ts e = rw (eq-eqb _ _ e) refl
 
@@ -236,14 +252,6 @@ place_above from n (t ∷ txs) c p l u e =
           ])
       | inr at ↦ absurd (let l' = rw (upto-at n t txs at) at l in omega arith)
     ]
-  where
-    next_upto : (n : ℕ) (txs : List Tx) → next (upto n txs) ≤ next txs
-    next_upto n [] = omega arith
-    next_upto n (t ∷ txs) =
-        elim (cases_lt n t.number) [
-          | inl past ↦ rw (upto-past n t txs past) (omega (arith, next_upto n txs))
-          | inr at ↦ rw (upto-at n t txs at) (omega arith)
-        ]
 
 -- two entries above the flushed base have blocks of their own in the area
 pub places_apart : (size fbase from : ℕ) (txs : List Tx) (c d p r : ℕ) → next txs ≤ next (upto fbase txs) + size → from ≤ c → end_of from (upto fbase txs) ≤ c → c < d → d < end_of from txs → (item_at from txs c).target ≡ AtPlace p → (item_at from txs d).target ≡ AtPlace r → p % size ≢ r % size

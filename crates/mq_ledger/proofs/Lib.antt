@@ -1,4 +1,5 @@
 pub mod Among
+pub mod Chains
 pub mod Values
 pub mod Entries
 pub mod Queues

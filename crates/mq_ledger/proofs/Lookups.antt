@@ -74,15 +74,3 @@ latest_read start base homes x k h table l a inside here read =
     let size = a.size in
     let is : l ≡ latest_at table x = get_or_read table k l (omega arith) read no_latest ∙ ap (λ (i : ℕ). get_or table i no_latest) here in
     subst (IsLatest start base h x) (sym is) (a.each x inside)
-
-pub next_upto : (n : ℕ) (txs : List Tx) → next (upto n txs) ≤ next txs
-next_upto n [] = omega arith
-next_upto n (t ∷ txs) = elim (cases_Bool (leb t.number n)) [
-  | inl is ↦ rw is (omega arith)
-  | inr not ↦ rw not (omega (arith, next_upto n txs))
-]
-
-pub at_next : (t : Tx) (txs ws : List Tx) → IsAt t txs ws → next txs + (length t.logged + descriptor_blocks t) ≤ next ws
-at_next t txs [] at = absurd at
-at_next t txs (w ∷ ws) (inl same) = rw (same.0, same.1) (omega arith)
-at_next t txs (w ∷ ws) (inr deeper) = omega (arith, at_next t txs ws deeper)

@@ -124,12 +124,9 @@ rows-stop has rows k d l e =
 below-full : (from h : ℕ) (txs : List Tx) → length txs ≤ length (below from h txs) → (t : Tx) (ws : List Tx) → IsAt t ws txs → end_of from ws + (writes t + descriptor_blocks t) ≤ h
 below-full from h [] l t ws at = absurd at
 below-full from h (u ∷ txs) l t ws at = elim (cases_lt h (from + total (u ∷ txs))) [
-  | inl less ↦ absurd (let k = rw (below-past from h u txs less) at l in let few = below_le from h txs in omega arith)
+  | inl less ↦ absurd (let k = rw (below-past from h u txs less) at l in let few = length-below_le from h txs in omega arith)
   | inr full ↦ (let k = at_end from t ws (u ∷ txs) at in omega arith)
 ]
-  where
-    below_le : (from h : ℕ) (txs : List Tx) → length (below from h txs) ≤ length txs
-    below_le from h txs = length-below_le from h txs
 
 pub record LeastUndone (from h : ℕ) (txs : List Tx) : Type 0 where
   pub u : Tx

@@ -11,8 +11,7 @@ use Rattle.mq_ledger.specs.declared.staging.Staged.{Staged}
 use Rattle.mq_ledger.specs.declared.tx.Tx.{Tx}
 use Rattle.mq_ledger.proofs.Entries.{Source-of}
 use Rattle.mq_ledger.proofs.Ledgers.{below-is}
-use Rattle.mq_ledger.proofs.Lookups.{at_next}
-use Rattle.mq_ledger.proofs.Queues.{at_own}
+use Rattle.mq_ledger.proofs.Queues.{at_own, at_next}
 use Rattle.mq_ledger.proofs.Rows.{below-part, at-length}
 
 -- the transaction of a count, and what stands before it

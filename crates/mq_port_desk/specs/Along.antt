@@ -14,7 +14,7 @@ use Rattle.mq_ledger.proofs.Values.{upto-past, last_upto_more, last-same, unchan
 use Rattle.mq_ledger.proofs.Entries.{of_queue-other}
 use Rattle.mq_ledger.proofs.Queues.{FromQueue-of}
 use Rattle.mq_core.proofs.Fronts.{part-all, part-less, part_le, part_more, DoneMore, done_below}
-use Rattle.mq_core.proofs.Bases.{next_upto_more, total_upto_more, covered}
+use Rattle.mq_core.proofs.Bases.{at_append, next_upto_more, total_upto_more, covered}
 use Rattle.mq_core.proofs.Growth.{front_low, moved_to, side_moved}
 use Rattle.mq_port_desk.specs.Ports.{last_direct}
 
@@ -40,10 +40,6 @@ at_newer t ts (u ∷ txs) h (inr deeper) = elim (at_newer t ts txs h deeper) [
   | inl a ↦ inl (inr a)
   | inr a ↦ inr a
 ]
-
-at_later : (t : Tx) (ts newer h : List Tx) → IsAt t ts h → IsAt t ts (newer ++ h)
-at_later t ts [] h at = at
-at_later t ts (u ∷ txs) h at = inr (at_later t ts txs h at)
 
 pub queue_newer : (q : ℕ) (newer h : List Tx) → ((t : Tx) → Among newer t → t.queue ≢ q) → of_queue q (newer ++ h) ≡ of_queue q h
 queue_newer q [] h apart = refl
@@ -83,7 +79,7 @@ module _ (k : KnownJournal) (newer : List Tx) (done : Tx → List Tx → Bool) (
           low = omega (arith, total_upto_more k.word word txs above);
           based = covered (k.from q) p.head word txs order.head_low (λ t ws at low.
               let f = FromQueue-of q t ws k.history at in
-              let there = at_later t f.ts newer k.history f.at in
+              let there = at_append t f.ts newer k.history f.at in
               let reached = then.word_high in
               let d = done_below k.base done t f.ts (newer ++ k.history) then.numbers there (omega arith) in
               subst (λ vs. end_of (k.from q) vs + (writes t + descriptor_blocks t) ≤ p.head) f.rest (ended t f.ts there f.own d));
