@@ -3,7 +3,7 @@ use Rattle.std.proofs.Common.{◌≡◌, ℕ, ◌+◌, ◌-◌, ◌*◌, ◌^◌
 use Rattle.std.proofs.lemmas.List.{ext_get_or, length-replicate, length-take-le, get_or-take, get_or-drop, get_or-replicate, take_all}
 use Rattle.std.specs.Int.{to_le_bytes, w32, w64}
 use Rattle.byteorder.specs.Endian.{little_number}
-use Rattle.mq_blocks.specs.Descriptor.{Descriptor, AreRising, list_bytes, header_bytes, descriptor_bytes, magic}
+use Rattle.mq_blocks.specs.Descriptor.{Descriptor, AreRising, list_bytes, header_bytes, descriptor_bytes, magic, list_limit}
 use Rattle.mq_blocks.specs.Geometry.{homes_of, area_of}
 use Rattle.mq_blocks.specs.declared.geometry.Geometry.{Geometry}
 use Rattle.mq_blocks.specs.Windows.{window, number_at, numbers}
@@ -51,7 +51,7 @@ zeros-back b e whole h z =
 
 -- a block is the bytes of what it reads as
 bytes-back : (b : List ℕ) → length b ≡ 4096 → ((i : ℕ) → get_or b i 0 < 256) → (header_of b).magic ≡ little_number 8 magic → (header_of b).version ≡ 1
-    → (header_of b).logged + (header_of b).revoked ≤ 1000 → IsZero (end_of (header_of b)) 4096 b → b ≡ descriptor_bytes (parsed b)
+    → (header_of b).logged + (header_of b).revoked ≤ list_limit → IsZero (end_of (header_of b)) 4096 b → b ≡ descriptor_bytes (parsed b)
 unfolding descriptor_bytes
 bytes-back b whole small m v few z =
     let l = (header_of b).logged in
@@ -100,7 +100,7 @@ accepts g at b whole small c l z =
     }
 
 -- The same for what the variables of the code hold.
-pub few-along : (area : ℕ) (at : Expect) (h : Header) (logged revoked xs ys bs cs : List ℕ) → GoodCounts area at h → bs ≡ logged → cs ≡ revoked → logged ≡ numbers h.logged xs → revoked ≡ numbers h.revoked ys → length bs + length cs ≤ 1000
+pub few-along : (area : ℕ) (at : Expect) (h : Header) (logged revoked xs ys bs cs : List ℕ) → GoodCounts area at h → bs ≡ logged → cs ≡ revoked → logged ≡ numbers h.logged xs → revoked ≡ numbers h.revoked ys → length bs + length cs ≤ list_limit
 few-along area at h logged revoked xs ys bs cs c p q l r =
     let few = c.1 in
     let m : length bs ≡ h.logged = ap (λ (zs : List ℕ). length zs) (p ∙ l) ∙ length-numbers h.logged xs in

@@ -2,7 +2,7 @@
 use Rattle.std.proofs.Common.{◌≡◌, ℕ, ◌+◌, ◌-◌, ◌*◌, ◌≤◌, List, ◌++◌, length, replicate, refl, ap, ◌∙◌, arith, length-append}
 use Rattle.std.proofs.lemmas.List.{length-replicate}
 use Rattle.std.specs.Int.{to_le_bytes, w32, w64}
-use Rattle.mq_blocks.specs.Descriptor.{Descriptor, list_bytes, header_bytes, descriptor_bytes, magic}
+use Rattle.mq_blocks.specs.Descriptor.{Descriptor, list_bytes, header_bytes, descriptor_bytes, magic, list_limit}
 use Rattle.mq_blocks.specs.Windows.{written}
 use Rattle.mq_blocks.proofs.Written.{length-list_bytes, written-all, written-more}
 
@@ -26,7 +26,7 @@ header-written b b₁ b₂ b₃ b₄ b₅ b₆ b₇ b₈ b₉ d whole e₁ e₂ 
     written-more b b₈ b₉ _ 52 _ f₈ e₉ refl (omega arith)
 
 -- the header, the two lists and the zeros behind them
-pub descriptor-written : (b b₁ b₂ b₃ b₄ : List ℕ) (d : Descriptor) (p q n : ℕ) → length b ≡ 4096 → length d.logged + length d.revoked ≤ 1000 → p ≡ 56 + 4 * length d.logged → q ≡ p + 4 * length d.revoked → n ≡ 4096 - q
+pub descriptor-written : (b b₁ b₂ b₃ b₄ : List ℕ) (d : Descriptor) (p q n : ℕ) → length b ≡ 4096 → length d.logged + length d.revoked ≤ list_limit → p ≡ 56 + 4 * length d.logged → q ≡ p + 4 * length d.revoked → n ≡ 4096 - q
     → b₁ ≡ written b 0 (header_bytes d) → b₂ ≡ written b₁ 56 (list_bytes d.logged) → b₃ ≡ written b₂ p (list_bytes d.revoked) → b₄ ≡ written b₃ q (replicate n 0)
     → b₄ ≡ descriptor_bytes d
 unfolding descriptor_bytes

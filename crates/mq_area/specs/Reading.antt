@@ -1,7 +1,7 @@
 -- What a block reads as, which blocks are descriptors, and why others are refused.
 use Rattle.std.specs.Prelude.{◌≡◌, ◌≢◌, ℕ, ◌+◌, ◌-◌, ◌*◌, ◌%◌, ◌^◌, ◌<◌, ◌≤◌, List, ◌++◌, length, take, drop, slice_index}
 use Rattle.byteorder.specs.Endian.{little_number}
-use Rattle.mq_blocks.specs.Descriptor.{Descriptor, IsGood, AreRising, AreApart, descriptor_bytes, magic}
+use Rattle.mq_blocks.specs.Descriptor.{Descriptor, IsGood, AreRising, AreApart, descriptor_bytes, magic, list_limit}
 use Rattle.mq_blocks.specs.Geometry.{homes_of, area_of}
 use Rattle.mq_blocks.specs.declared.geometry.Geometry.{Geometry}
 use Rattle.mq_blocks.specs.Windows.{number_at, numbers}
@@ -72,7 +72,7 @@ abbrev pub GoodPrevious : ℕ → Expect → Header → Type 0
 GoodPrevious area at h = GoodPlace area at h × Follows h
 
 abbrev pub GoodCounts : ℕ → Expect → Header → Type 0
-GoodCounts area at h = GoodPrevious area at h × (h.logged + h.revoked ≤ 1000) × (h.logged ≤ h.place)
+GoodCounts area at h = GoodPrevious area at h × (h.logged + h.revoked ≤ list_limit) × (h.logged ≤ h.place)
 
 -- the first test of the header that fails
 abbrev pub RefusesHeader : ℕ → Expect → Header → DescriptorRefusal → Type 0

@@ -25,7 +25,15 @@ impl Model for Descriptor {
 
     ghost Value = { Text };
 
-    ghost view = { λ d. record { queue = d.queue; number = d.number; place = d.place; prev_place = d.prev_place; prev_number = d.prev_number; logged = d.logged.items; revoked = d.revoked.items } };
+    ghost view = { λ d. record {
+      queue = d.queue;
+      number = d.number;
+      place = d.place;
+      prev_place = d.prev_place;
+      prev_number = d.prev_number;
+      logged = d.logged.items;
+      revoked = d.revoked.items;
+    } };
 }
 
 /// What is known of the place of a descriptor before it is read.

@@ -1,16 +1,15 @@
 // The fields of a descriptor before its lists.
 ghost use Rattle.std.specs.Prelude.{◌≡◌, ◌≤◌, ◌<◌, ◌+◌, ◌*◌, ℕ, length, slice_index, IsTrue, ◌↔◌, MatchResult};
 ghost use Rattle.mq_area.specs.Reading.{header_of, GoodCounts, RefusesHeader, IsPlaced, Follows};
+ghost use Rattle.mq_blocks.specs.Descriptor.{list_limit};
 
 use crate::descriptor::{Expect, PlaceIs};
 use crate::refusal::DescriptorRefusal;
+use mq_blocks::LIST_LIMIT;
 use mq_blocks::bytes::{u32_at, u64_at};
 
 /// The bytes before the two lists.
 pub const HEADER: usize = 56;
-
-/// The most blocks that a descriptor names.
-const MOST: u64 = 1000;
 
 /// "MQFSDSC1", the least byte first.
 const MAGIC: u64 = 0x3143_5344_5346_514d;
@@ -113,7 +112,8 @@ fn follows(h: &Header) -> bool
 
 /// Whether the lists are short enough, and the copies have places before the descriptor.
 fn are_few(h: &Header) -> bool
-    ensures { IsTrue result ↔ ((h.now.logged + h.now.revoked ≤ 1000) × (h.now.logged ≤ h.now.place)) }
+    ensures { IsTrue result ↔ ((h.now.logged + h.now.revoked ≤ list_limit) × (h.now.logged ≤ h.now.place)) }
 {
-    u64::from(h.logged) + u64::from(h.revoked) <= MOST && u64::from(h.logged) <= h.place
+    u64::from(h.logged) + u64::from(h.revoked) <= u64::from(LIST_LIMIT)
+        && u64::from(h.logged) <= h.place
 }

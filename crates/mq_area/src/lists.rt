@@ -1,6 +1,6 @@
 // The tests of a descriptor's lists and of the bytes after them.
 ghost use Rattle.std.specs.Prelude.{◌≡◌, ◌≤◌, ◌<◌, ◌+◌, ℕ, length, slice_index, IsTrue, ◌↔◌, MatchOption, MatchResult};
-ghost use Rattle.mq_blocks.specs.Descriptor.{AreRising};
+ghost use Rattle.mq_blocks.specs.Descriptor.{AreRising, list_limit};
 ghost use Rattle.mq_area.specs.Reading.{StopsAt, GoodRevoked, IsZero, IsListRefusal, IsRestRefusal};
 
 use crate::refusal::DescriptorRefusal;
@@ -76,7 +76,7 @@ pub fn check_lists(
     logged: &[BlockNo],
     revoked: &[BlockNo],
 ) -> Result<(), DescriptorRefusal>
-    requires { length logged.now + length revoked.now ≤ 1000 }
+    requires { length logged.now + length revoked.now ≤ list_limit }
     ensures { MatchResult result (λ _. AreRising 0 homes logged.now
         × GoodRevoked homes logged.now revoked.now) (IsListRefusal homes logged.now revoked.now) }
 {

@@ -1,6 +1,6 @@
 // Writing a descriptor.
 ghost use Rattle.std.specs.Prelude.{◌≡◌, ◌≤◌, ◌+◌, length, replicate};
-ghost use Rattle.mq_blocks.specs.Descriptor.{descriptor_bytes, header_bytes};
+ghost use Rattle.mq_blocks.specs.Descriptor.{descriptor_bytes, header_bytes, list_limit};
 ghost use Rattle.mq_blocks.specs.Windows.{written};
 
 use crate::descriptor::Descriptor;
@@ -10,14 +10,14 @@ use mq_blocks::bytes::{put, put_list};
 
 /// Writes a descriptor over the whole block.
 pub fn write_descriptor(d: &Descriptor, into: &mut Block)
-    requires { length d.now.logged + length d.now.revoked ≤ 1000 }
+    requires { length d.now.logged + length d.now.revoked ≤ list_limit }
     ensures { into.new ≡ descriptor_bytes d.now }
 {
     write_bytes(d, into.bytes_mut());
 }
 
 fn write_bytes(d: &Descriptor, block: &mut [u8])
-    requires counts { length d.now.logged + length d.now.revoked ≤ 1000 }
+    requires counts { length d.now.logged + length d.now.revoked ≤ list_limit }
     requires whole { length block.old ≡ 4096 }
     ensures { block.new ≡ descriptor_bytes d.now }
 {
@@ -30,7 +30,7 @@ fn write_bytes(d: &Descriptor, block: &mut [u8])
 }
 
 fn put_header(d: &Descriptor, block: &mut [u8])
-    requires counts { length d.now.logged + length d.now.revoked ≤ 1000 }
+    requires counts { length d.now.logged + length d.now.revoked ≤ list_limit }
     requires whole { length block.old ≡ 4096 }
     ensures { block.new ≡ written block.old 0 (header_bytes d.now) }
 {

@@ -9,7 +9,7 @@ use Rattle.mq_blocks.specs.Geometry.{homes_of, zone_of}
 use Rattle.mq_blocks.specs.Journal.{Shown, is_among, image_at, home_block, shown, logged_copy, or_else, stands}
 use Rattle.mq_blocks.specs.Machine.{Map, write_of, or_kept, after}
 use Rattle.mq_ledger.specs.History.{blocks_of, writes, changes, map_after, last, upto, of_queue, AreNumbered, IsAt}
-use Rattle.mq_ledger.specs.Items.{Entries, Item, AtPlace, AtHome, write_at, item_at, item_of, end_of, next, IsEnd, descriptor_for}
+use Rattle.mq_ledger.specs.Items.{Entries, Item, AtPlace, AtHome, write_at, item_at, item_of, end_of, next, IsEnd, descriptor_for, descriptor_blocks}
 use Rattle.mq_ledger.specs.KnownJournal.{KnownJournal}
 use Rattle.mq_ledger.specs.Sides.{Certainly, IsDone, flushed_at, home_index, home_index_in}
 use Rattle.mq_ledger.specs.State.{State, Facts, AreImages, port_at, port_of, from_at, known_of, front_of, start_map}
@@ -87,12 +87,12 @@ cut_of e s queues root f it =
 
 -- the transaction's entries stand below the image's head
 abbrev pub is_whole : State → Shown → Tx → List Tx → Bool
-is_whole s i t ts = leb t.number i.base || leb (end_of (from_at s.starts t.queue) (of_queue t.queue ts) + (writes t + 1)) (i.head t.queue)
+is_whole s i t ts = leb t.number i.base || leb (end_of (from_at s.starts t.queue) (of_queue t.queue ts) + (writes t + descriptor_blocks t)) (i.head t.queue)
 
 pub record IsWhole (s : State) (i : Shown) (t : Tx) (ts : List Tx) : Type 0 where
   pub at : IsAt t ts s.history
   pub above : i.base < t.number
-  pub below : end_of (from_at s.starts t.queue) (of_queue t.queue ts) + (writes t + 1) ≤ i.head t.queue
+  pub below : end_of (from_at s.starts t.queue) (of_queue t.queue ts) + (writes t + descriptor_blocks t) ≤ i.head t.queue
 
 module _ (e : Entries) (s : State) (i : Shown) (f : Facts e s) (cut : IsCut e s i) where
   abbrev k : KnownJournal
@@ -109,7 +109,7 @@ module _ (e : Entries) (s : State) (i : Shown) (f : Facts e s) (cut : IsCut e s 
         failed = below_from (port_at s.ports q).stored_head c (port_at s.ports q).failed side.commands.failed_counts low;
       }
 
-  pub held : (t : Tx) (ts : List Tx) (n place : ℕ) → IsWhole s i t ts → n < writes t + 1 → (item_of t (of_queue t.queue ts) n).target ≡ AtPlace place → i.area t.queue (place % s.geometry.area) ≡ (item_of t (of_queue t.queue ts) n).content
+  pub held : (t : Tx) (ts : List Tx) (n place : ℕ) → IsWhole s i t ts → n < writes t + descriptor_blocks t → (item_of t (of_queue t.queue ts) n).target ≡ AtPlace place → i.area t.queue (place % s.geometry.area) ≡ (item_of t (of_queue t.queue ts) n).content
   held t ts n place w l target =
       let q = t.queue in
       let from = from_at s.starts q in

@@ -8,7 +8,7 @@ use Rattle.mq_blocks.specs.Machine.{Map, write_of}
 use Rattle.mq_blocks.specs.declared.command.Command.{Command}
 use Rattle.mq_blocks.specs.declared.geometry.Geometry.{Geometry}
 use Rattle.mq_ledger.specs.History.{writes, map_after, last, last_logged, is_exposed, upto, of_queue, part_of, IsAt, IsPart}
-use Rattle.mq_ledger.specs.Items.{command_of, end_of, next, item_at, IsEnd}
+use Rattle.mq_ledger.specs.Items.{command_of, end_of, next, item_at, IsEnd, descriptor_blocks}
 use Rattle.mq_ledger.specs.KnownJournal.{KnownJournal, LogOk, IsPlaced, front, draw_known, MayDraw}
 use Rattle.mq_ledger.specs.Sides.{AreOwn, AreHome, SideOk, RootOk, holds_count}
 use Rattle.mq_ledger.specs.declared.tx.Tx.{Tx}
@@ -28,7 +28,7 @@ pub record Moved (k : KnownJournal) (q : ℕ) (txs : List Tx) (p : PortState) (h
   pub fits : next txs ≤ next (upto word txs) + k.geometry.area
   pub low : end_of (k.from q) (upto k.word txs) ≤ end_of (k.from q) (upto word txs)
   pub based : end_of (k.from q) (upto word txs) ≤ p.head
-  pub done : (t : Tx) (ts : List Tx) → IsAt t ts h → t.queue ≡ q → w t ts ≡ true → end_of (k.from q) (of_queue q ts) + (writes t + 1) ≤ p.head
+  pub done : (t : Tx) (ts : List Tx) → IsAt t ts h → t.queue ≡ q → w t ts ≡ true → end_of (k.from q) (of_queue q ts) + (writes t + descriptor_blocks t) ≤ p.head
   pub change : (x v : ℕ) → last k.base (upto (k.base + length (part_of w h)) h) x ≤ v → last k.base (upto (front k) k.history) x ≤ v
 
 abbrev pub moved_to : KnownJournal → List Tx → (Tx → List Tx → Bool) → (ℕ → ℕ → Bool) → ℕ → KnownJournal
@@ -232,7 +232,7 @@ side_extends k q t txs p part new s room =
 
 -- ---- more is known to be done
 
-module _ (k : KnownJournal) (done : Tx → List Tx → Bool) (log : LogOk k) (more : DoneMore k.done done) where
+module _ (k : KnownJournal) (done : Tx → List Tx → Bool) (log : LogOk k) (more : DoneMore k.done done k.history) where
   abbrev pub done_known : KnownJournal
   done_known = record k { done = done }
 
@@ -256,7 +256,7 @@ module _ (k : KnownJournal) (done : Tx → List Tx → Bool) (log : LogOk k) (mo
     each = λ t ts at. (let e = log.each t ts at in (e.0, placed_front k done_known t ts refl refl front_more (omega arith) e.1));
   }
 
-  pub side_more : (q : ℕ) (txs : List Tx) (p : PortState) → SideOk k q txs p → ((t : Tx) (ts : List Tx) → IsAt t ts k.history → t.queue ≡ q → done t ts ≡ true → end_of (k.from q) (of_queue q ts) + (writes t + 1) ≤ p.head) → SideOk done_known q txs p
+  pub side_more : (q : ℕ) (txs : List Tx) (p : PortState) → SideOk k q txs p → ((t : Tx) (ts : List Tx) → IsAt t ts k.history → t.queue ≡ q → done t ts ≡ true → end_of (k.from q) (of_queue q ts) + (writes t + descriptor_blocks t) ≤ p.head) → SideOk done_known q txs p
   side_more q txs p s known =
       side_moved k q txs p k.history done k.due k.word s (record {
         part = s.part;

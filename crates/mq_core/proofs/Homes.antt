@@ -7,12 +7,13 @@ use Rattle.mq_blocks.specs.Blocks.{block_at, content}
 use Rattle.mq_blocks.specs.Drive.{PortState, index_of}
 use Rattle.mq_blocks.specs.Geometry.{homes_of, zone_of, home_lba}
 use Rattle.mq_blocks.specs.Journal.{is_among}
+use Rattle.mq_blocks.specs.Ports.{IsPort}
 use Rattle.mq_blocks.specs.declared.command.HomeWrite.{HomeWrite}
 use Rattle.mq_blocks.specs.declared.geometry.Geometry.{Geometry}
 use Rattle.mq_ledger.specs.History.{blocks_of, last, upto, IsAt}
 use Rattle.mq_ledger.specs.Items.{item_at}
 use Rattle.mq_ledger.specs.KnownJournal.{KnownJournal, LogOk, front}
-use Rattle.mq_ledger.specs.Sides.{IsPort, Certainly, IsDone, SideOk, RootOk, home_index, place_index}
+use Rattle.mq_ledger.specs.Sides.{Certainly, IsDone, SideOk, RootOk, home_index, place_index}
 use Rattle.mq_ledger.specs.declared.tx.Tx.{Tx}
 use Rattle.mq_ledger.proofs.Among.{apart_among}
 use Rattle.mq_ledger.proofs.Values.{last_at, last_settled, changes_direct}

@@ -3,11 +3,12 @@ use Rattle.std.proofs.Common.{◌≡◌, ℕ, ◌*◌, ◌%◌, ◌<◌, ◌≤�
 use Rattle.std.proofs.lemmas.Nat.{mul-le, mod_below}
 use Rattle.mq_blocks.specs.Drive.{PortState, staged_end}
 use Rattle.mq_blocks.specs.Geometry.{homes_of, zone_of, home_lba, area_lba}
+use Rattle.mq_blocks.specs.Ports.{IsPort}
 use Rattle.mq_blocks.specs.declared.command.Command.{Command}
 use Rattle.mq_blocks.specs.declared.geometry.Geometry.{Geometry}
 use Rattle.mq_ledger.specs.Items.{Target, AtPlace, AtHome, lba_of, item_at}
 use Rattle.mq_ledger.specs.KnownJournal.{KnownJournal, LogOk}
-use Rattle.mq_ledger.specs.Sides.{SideOk, IsPort}
+use Rattle.mq_ledger.specs.Sides.{SideOk}
 use Rattle.mq_ledger.specs.declared.tx.Tx.{Tx}
 use Rattle.mq_core.specs.Events.{MayEnd, command_with}
 use Rattle.mq_core.specs.Within.{IsWithin}

@@ -5,7 +5,7 @@ use Rattle.std.proofs.lemmas.List.{set-get_or, get_or_read}
 use Rattle.mq_blocks.specs.Drive.{PortState, staged_end}
 use Rattle.mq_blocks.specs.Geometry.{zone_of}
 use Rattle.mq_ledger.specs.History.{part_of, writes, of_queue}
-use Rattle.mq_ledger.specs.Items.{end_of}
+use Rattle.mq_ledger.specs.Items.{end_of, descriptor_blocks}
 use Rattle.mq_ledger.specs.Plain.{plain}
 use Rattle.mq_ledger.specs.State.{State, Facts, port_at, port_of, from_at, front_of}
 use Rattle.mq_ledger.specs.declared.tx.Tx.{Tx}
@@ -20,7 +20,7 @@ use Rattle.mq_core.proofs.Runs.{keeps}
 
 -- heads that stay where they are leave the front
 pub front_stays : (s : State) (q : ℕ) (p : PortState) → q < length s.ports → p.head ≡ (port_at s.ports q).head → front_of (with_port s (Some q) p) ≡ front_of s
-front_stays s q p within same = ap (λ (w : Tx → List Tx → Bool). s.base + length (part_of w s.history)) (λ i t ts. nat_le (end_of (from_at s.starts t.queue) (of_queue t.queue ts) + (writes t + 1)) (heads t.queue i))
+front_stays s q p within same = ap (λ (w : Tx → List Tx → Bool). s.base + length (part_of w s.history)) (λ i t ts. nat_le (end_of (from_at s.starts t.queue) (of_queue t.queue ts) + (writes t + descriptor_blocks t)) (heads t.queue i))
   where
     heads : (r : ℕ) → (port_at (set s.ports q p) r).head ≡ (port_at s.ports r).head
     heads r = elim (cases_eq r q) [

@@ -7,9 +7,10 @@ use Rattle.std.specs.List.{remove}
 use Rattle.mq_blocks.specs.Blocks.{block_at, content}
 use Rattle.mq_blocks.specs.Drive.{PortState, IsApartFrom, index_of, after_ring}
 use Rattle.mq_blocks.specs.Geometry.{homes_of, zone_of, home_lba, area_lba}
+use Rattle.mq_blocks.specs.Ports.{IsPort}
 use Rattle.mq_blocks.specs.declared.command.Command.{Command}
 use Rattle.mq_blocks.specs.declared.geometry.Geometry.{Geometry}
-use Rattle.mq_ledger.specs.Sides.{IsPort, Certainly, holds_count, home_index, home_index_in, place_index}
+use Rattle.mq_ledger.specs.Sides.{Certainly, holds_count, home_index, home_index_in, place_index}
 use Rattle.mq_core.specs.Events.{index_with, command_with, complete_side, fail_side}
 use Rattle.mq_core.proofs.Commands.{apart_along, apart_remove, apart_append, apart_with}
 

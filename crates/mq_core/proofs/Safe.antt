@@ -2,24 +2,24 @@
 use Rattle.std.proofs.Common.{◌≡◌, ◌≢◌, ℕ, ◌+◌, ◌-◌, ◌<◌, ◌≤◌, ◌%◌, leb, Bool, true, false, List, [], ◌∷◌, length, Some, sym, refl, ap, subst, ◌∙◌, inl, inr, arith}
 use Rattle.std.proofs.lemmas.Bool.{cases_lt, cases_eq, cases_Bool, le-leb, leb-true, or_cases, or_right, and_parts, and_from, false≢true}
 use Rattle.mq_blocks.specs.Descriptor.{Descriptor, descriptor_bytes}
-use Rattle.mq_blocks.specs.Drive.{depth}
+use Rattle.mq_blocks.specs.Drive.{depth, usable_depth}
 use Rattle.mq_blocks.specs.Geometry.{area_lba}
 use Rattle.mq_blocks.specs.Journal.{Shown, Says, IsChain, IsQueueChain, AreWhole, IsPrefix, Has, shown, number_limit}
 use Rattle.mq_ledger.specs.History.{writes, upto, of_queue, all_of, part_of, AreNumbered, IsAt}
-use Rattle.mq_ledger.specs.Items.{Entries, item_at, commit_item, said_of, end_of, next, number_before, place_before, IsEnd, below, descriptor_for}
+use Rattle.mq_ledger.specs.Items.{Entries, item_at, commit_item, said_of, end_of, next, number_before, place_before, IsEnd, below, descriptor_for, descriptor_blocks}
 use Rattle.mq_ledger.specs.KnownJournal.{KnownJournal, front}
 use Rattle.mq_ledger.specs.Sides.{flushed_at}
 use Rattle.mq_ledger.specs.State.{State, Facts, IsPostedOnce, Recovers, AreImages, IsSafe, is_done, port_at, from_at, known_of, front_of}
 use Rattle.mq_ledger.specs.declared.tx.Tx.{Tx}
 use Rattle.mq_ledger.proofs.Values.{at_most, at_same, last_upto_bound, numbered-upto}
 use Rattle.mq_ledger.proofs.Entries.{item_at-in, item_at-below, item-commit}
-use Rattle.mq_ledger.proofs.Queues.{IsFalling, IsFalling-of, IsFalling-below, at_own, FromQueue-of, at_in_below, at_from_below, next_above}
+use Rattle.mq_ledger.proofs.Chains.{queue-chain-once}
+use Rattle.mq_ledger.proofs.Queues.{at_next, IsFalling, IsFalling-of, IsFalling-below, at_own, FromQueue-of, at_in_below, at_from_below, next_above}
 use Rattle.mq_core.proofs.Fronts.{part-all, part-less, part_le, part_is, part_all, part_stops, all_of_at}
 use Rattle.mq_core.proofs.SideCommands.{posted_late}
 use Rattle.mq_core.proofs.Sources.{from_of, number-from, direct_in, late, clash}
 use Rattle.mq_core.proofs.Goodness.{good_of}
 use Rattle.mq_core.proofs.Reading.{HoldsAll, chain_of, reach_of, descriptors, from_descriptor, has_descriptor, rows, rows_row, from_row}
-use Rattle.mq_core.proofs.Unique.{one_chain}
 use Rattle.mq_core.proofs.Cuts.{IsCut, IsWhole, is_whole, cut_of, held_descriptor, stand_of}
 
 -- the transaction that ends at a count
@@ -52,11 +52,6 @@ none_below from h txs end at = go (below from h txs) refl
     go [] e = e
     go (t ∷ ws) e = absurd (let n : end_of from (t ∷ ws) ≡ h = ap (end_of from) (sym e) ∙ end in omega arith)
 
-next_at : (t : Tx) (txs ws : List Tx) → IsAt t txs ws → next txs + (length t.logged + 1) ≤ next ws
-next_at t txs [] at = absurd at
-next_at t txs (u ∷ ws) (inl same) = (let e : next (u ∷ ws) ≡ next (t ∷ txs) = (λ i. next (same.0 i ∷ same.1 i)) in omega arith)
-next_at t txs (u ∷ ws) (inr deeper) = omega (arith, next_at t txs ws deeper)
-
 module _ (e : Entries) (s : State) (i : Shown) (f : Facts e s) (cut : IsCut e s i) where
   abbrev k : KnownJournal
   k = known_of e s
@@ -79,13 +74,13 @@ module _ (e : Entries) (s : State) (i : Shown) (f : Facts e s) (cut : IsCut e s 
         let m = at_from_below (from_at s.starts q) (i.head q) t txs (us_at q) at in
         let r = FromQueue-of q t txs s.history m.0 in
         let limit = (f.sides q own).area.limit in
-        let there = next_at t txs (us_at q) m.0 in (
+        let there = at_next t txs (us_at q) m.0 in (
           go t txs past m.1 r.ts r.at r.own r.rest,
           good_of k t txs q f.log m.0 (omega arith),
         );
   }
     where
-      go : (t : Tx) (txs : List Tx) → i.base < t.number → end_of (from_at s.starts q) txs + (writes t + 1) ≤ i.head q → (ts : List Tx) → IsAt t ts s.history → t.queue ≡ q → of_queue q ts ≡ txs → i.area q ((next txs + length t.logged) % s.geometry.area) ≡ descriptor_bytes (descriptor_for t txs)
+      go : (t : Tx) (txs : List Tx) → i.base < t.number → end_of (from_at s.starts q) txs + (writes t + descriptor_blocks t) ≤ i.head q → (ts : List Tx) → IsAt t ts s.history → t.queue ≡ q → of_queue q ts ≡ txs → i.area q ((next txs + length t.logged) % s.geometry.area) ≡ descriptor_bytes (descriptor_for t txs)
       go t txs past l ts at o rest = rw (← rest, ← o) (held_descriptor e s i f cut t ts (record { at = at; above = past; below = rw (o, rest) l }))
 
   -- where entries are read
@@ -118,7 +113,7 @@ module _ (e : Entries) (s : State) (i : Shown) (f : Facts e s) (cut : IsCut e s 
       let high = cut.to_stored q own in
       let chain = chain_of s.geometry i q (chain_at q) (falling_chain q) (holds_chain q own) in
       let order : i.head q ≤ i.doorbell q = omega (arith, o.rung) in
-      let few : i.doorbell q - i.head q ≤ 1023 = omega (arith, o.flushed, o.staged, o.drawn, o.room) in
+      let few : i.doorbell q - i.head q ≤ usable_depth = omega (arith, o.flushed, o.staged, o.drawn, o.room) in
       let limit : i.doorbell q ≤ number_limit = omega (arith, o.flushed, o.staged, o.drawn, side.limit) in
       let rung : (c : ℕ) → i.head q ≤ c → c < i.doorbell q → (s' : Says) × (i.entry q (c % depth) ≡ Some s') × (s'.0 ≤ number_limit) = λ c above less.
       let c_low : from ≤ c = omega (arith, o.head_low) in
@@ -143,7 +138,7 @@ module _ (e : Entries) (s : State) (i : Shown) (f : Facts e s) (cut : IsCut e s 
             let r = FromQueue-of q last.t last.ws s.history m.0 in
             let most = at_most s.base last.t r.ts s.history f.log.numbers r.at in
             let top = f.log.limit in
-            let newest = next_at last.t last.ws (us_at q) m.0 in
+            let newest = at_next last.t last.ws (us_at q) m.0 in
             record {
               number = last.t.number;
               lba = area_lba s.geometry q place;
@@ -251,7 +246,7 @@ module _ (e : Entries) (s : State) (i : Shown) (f : Facts e s) (cut : IsCut e s 
 
   whole_from : (t : Tx) (ts : List Tx) → IsAt t ts s.history → is_whole s i t ts ≡ true → i.base < t.number → IsWhole s i t ts
   whole_from t ts at w past =
-      elim (or_cases (leb t.number i.base) (leb (end_of (from_at s.starts t.queue) (of_queue t.queue ts) + (writes t + 1)) (i.head t.queue)) w) [
+      elim (or_cases (leb t.number i.base) (leb (end_of (from_at s.starts t.queue) (of_queue t.queue ts) + (writes t + descriptor_blocks t)) (i.head t.queue)) w) [
         | inl a ↦ absurd (let n : t.number ≤ i.base = leb-true _ _ a in omega arith)
         | inr b ↦ record { at = at; above = past; below = leb-true _ _ b }
       ]
@@ -276,8 +271,8 @@ module _ (e : Entries) (s : State) (i : Shown) (f : Facts e s) (cut : IsCut e s 
       let n = and_parts (is_done s.starts s.ports t ts) (all_of (is_done s.starts s.ports) ts) all in
       let own = (f.log.each t ts (sub t ts (inl (refl, refl)))).0.queue in
       let low = cut.from_head t.queue own in
-      let done : end_of (from_at s.starts t.queue) (of_queue t.queue ts) + (writes t + 1) ≤ (port_at s.ports t.queue).head = leb-true _ _ n.0 in
-      and_from (is_whole s i t ts) (all_of (is_whole s i) ts) (or_right (leb t.number i.base) _ (le-leb (end_of (from_at s.starts t.queue) (of_queue t.queue ts) + (writes t + 1)) (i.head t.queue) (omega arith))) (all_whole ts (λ u txs at. sub u txs (inr at)) n.1)
+      let done : end_of (from_at s.starts t.queue) (of_queue t.queue ts) + (writes t + descriptor_blocks t) ≤ (port_at s.ports t.queue).head = leb-true _ _ n.0 in
+      and_from (is_whole s i t ts) (all_of (is_whole s i) ts) (or_right (leb t.number i.base) _ (le-leb (end_of (from_at s.starts t.queue) (of_queue t.queue ts) + (writes t + descriptor_blocks t)) (i.head t.queue) (omega arith))) (all_whole ts (λ u txs at. sub u txs (inr at)) n.1)
 
   front_whole : (h : List Tx) → ((t : Tx) (ts : List Tx) → IsAt t ts h → IsAt t ts s.history) → length (part_of (is_done s.starts s.ports) h) ≤ length (part_of (is_whole s i) h)
   front_whole [] sub = omega arith
@@ -316,8 +311,8 @@ module _ (e : Entries) (s : State) (i : Shown) (f : Facts e s) (cut : IsCut e s 
             let t = FromQueue-of q r.t r.txs s.history m.0 in
             let number : r.t.number ≡ d.number = ap (λ (v : Descriptor). v.number) r.is in
             let not = part_stops s.base (is_whole s i) r.t t.ts s.history f.log.numbers t.at (omega (arith, number, is, row.1)) in
-            let low : end_of (from_at s.starts r.t.queue) (of_queue r.t.queue t.ts) + (writes r.t + 1) ≤ i.head r.t.queue = rw (t.own, t.rest) m.1 in
-            let yes : is_whole s i r.t t.ts ≡ true = or_right (leb r.t.number i.base) _ (le-leb (end_of (from_at s.starts r.t.queue) (of_queue r.t.queue t.ts) + (writes r.t + 1)) (i.head r.t.queue) low) in
+            let low : end_of (from_at s.starts r.t.queue) (of_queue r.t.queue t.ts) + (writes r.t + descriptor_blocks r.t) ≤ i.head r.t.queue = rw (t.own, t.rest) m.1 in
+            let yes : is_whole s i r.t t.ts ≡ true = or_right (leb r.t.number i.base) _ (le-leb (end_of (from_at s.starts r.t.queue) (of_queue r.t.queue t.ts) + (writes r.t + descriptor_blocks r.t)) (i.head r.t.queue) low) in
             false≢true (sym not ∙ yes);
       }
 
@@ -333,7 +328,7 @@ module _ (e : Entries) (s : State) (i : Shown) (f : Facts e s) (cut : IsCut e s 
       record {
         chains = λ q. descriptors i.base (chain_at q);
         whole = all_chains;
-        unique = λ others whole q own. one_chain s.geometry i q (others q) (descriptors i.base (chain_at q)) (whole.each q own) (queue_chain q own);
+        unique = λ others whole q own. queue-chain-once s.geometry i q (others q) (descriptors i.base (chain_at q)) (whole.each q own) (queue_chain q own);
         ds = rows i.base part;
         prefix = prefix_of reach;
         least = omega (arith, row.1, more);

@@ -5,7 +5,7 @@ use Rattle.std.proofs.lemmas.Bool.{cases_order, cases_lt, false≢true}
 use Rattle.std.proofs.lemmas.List.{get_or_read}
 use Rattle.mq_blocks.specs.Drive.{PortState, after_flush}
 use Rattle.mq_ledger.specs.History.{writes, of_queue, AreNumbered, IsAt, part_of}
-use Rattle.mq_ledger.specs.Items.{end_of}
+use Rattle.mq_ledger.specs.Items.{end_of, descriptor_blocks}
 use Rattle.mq_ledger.specs.Plain.{plain}
 use Rattle.mq_ledger.specs.Records.{Ledger, IsNextEnd, settle_next}
 use Rattle.mq_ledger.specs.State.{State, Facts, is_done, from_at, port_at, no_port, front_of, known_of}
@@ -62,7 +62,7 @@ module _ (l : Ledger) (ports : List PortState) (n : QueueEnd) (e : IsNextEnd l n
       let inside : q < length ports = (let within = e.within in omega arith) in
       let port : p ≡ port_at ports e.tx.queue = get_or_read ports q p inside read no_port ∙ ap (port_at ports) (here ∙ e.queue) in
       let there : head ≡ (port_at ports e.tx.queue).head = is ∙ ap (λ (v : PortState). v.head) port in
-      ap (λ (c : ℕ). leb c head) (end ∙ e.count) ∙ ap (leb (end_of (from_at l.starts e.tx.queue) (of_queue e.tx.queue e.before) + (writes e.tx + 1))) there
+      ap (λ (c : ℕ). leb c head) (end ∙ e.count) ∙ ap (leb (end_of (from_at l.starts e.tx.queue) (of_queue e.tx.queue e.before) + (writes e.tx + descriptor_blocks e.tx))) there
 
   pub next_done : AreNumbered l.base l.history → (IsTrue (leb count head) → IsNextDone l ports) × (IsNextDone l ports → IsTrue (leb count head))
   next_done numbers = (

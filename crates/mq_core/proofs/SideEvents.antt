@@ -60,7 +60,7 @@ module _ (k : KnownJournal) (q : ℕ) (txs : List Tx) (p : PortState) (log : Log
   more : staged_end staged ≡ staged_end p + 1
   more = (let e : length (p.pending ++ command ∷ []) ≡ length p.pending + 1 = length-append p.pending (command ∷ []) in omega arith)
 
-  other_slot : (c : ℕ) → c < staged_end p → staged_end p < c + 1024 → staged_at staged c ≡ staged_at p c
+  other_slot : (c : ℕ) → c < staged_end p → staged_end p < c + depth → staged_at staged c ≡ staged_at p c
   other_slot c low high =
       let apart : c % depth ≢ staged_end p % depth = omega arith in
       get_or-set_other p.staged (staged_end p % depth) (c % depth) entry [] apart
@@ -145,7 +145,7 @@ module _ (k : KnownJournal) (q : ℕ) (txs : List Tx) (p : PortState) (log : Log
 pub slot_clear : (k : KnownJournal) (q : ℕ) (txs : List Tx) (p : PortState) (c : ℕ) → SideOk k q txs p → p.head ≤ c + 1 → c < p.doorbell → IsFlushed p (c % depth)
 slot_clear k q txs p c s low high d from to =
     let o = s.order in
-    let apart : d % 1024 ≢ c % 1024 = omega (arith, o.room, o.drawn, o.flushed) in
+    let apart : d % depth ≢ c % depth = omega (arith, o.room, o.drawn, o.flushed) in
     apart
 
 pub side_flush : (k : KnownJournal) (q : ℕ) (txs : List Tx) (p : PortState) → SideOk k q txs p → SideOk k q txs (after_flush p)

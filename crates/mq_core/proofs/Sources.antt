@@ -3,12 +3,12 @@ use Rattle.std.proofs.Common.{◌≡◌, ◌≢◌, ℕ, zero, suc, ◌+◌, ◌
 use Rattle.std.proofs.lemmas.Bool.{cases_lt, cases_Bool, cases_order, eqb-true, eq-eqb, false≢true}
 use Rattle.std.proofs.lemmas.Nat.{mod_below, mul-le}
 use Rattle.mq_blocks.specs.Descriptor.{AreRising}
-use Rattle.mq_blocks.specs.Drive.{PortState}
+use Rattle.mq_blocks.specs.Drive.{PortState, depth}
 use Rattle.mq_blocks.specs.Geometry.{homes_of, zone_of}
 use Rattle.mq_blocks.specs.Journal.{is_among}
 use Rattle.mq_blocks.specs.Machine.{Map, Writes}
 use Rattle.mq_ledger.specs.History.{blocks_of, writes, map_after, last, upto, of_queue, AreNumbered, IsAt, IsPart}
-use Rattle.mq_ledger.specs.Items.{Item, Target, AtPlace, AtHome, MaySay, write_at, item_at, item_of, total, end_of, said_of, lba_of}
+use Rattle.mq_ledger.specs.Items.{Item, Target, AtPlace, AtHome, MaySay, write_at, item_at, item_of, total, end_of, said_of, lba_of, descriptor_blocks}
 use Rattle.mq_ledger.specs.KnownJournal.{KnownJournal, LogOk, front}
 use Rattle.mq_ledger.specs.Sides.{SideOk}
 use Rattle.mq_ledger.specs.declared.tx.Tx.{Tx}
@@ -34,7 +34,7 @@ pub record From (k : KnownJournal) (q : ℕ) (txs : List Tx) (c : ℕ) : Type 0 
   pub at : IsAt t ts k.history
   pub own : t.queue ≡ q
   pub low : end_of (k.from q) (of_queue q ts) ≤ c
-  pub high : c < end_of (k.from q) (of_queue q ts) + (writes t + 1)
+  pub high : c < end_of (k.from q) (of_queue q ts) + (writes t + descriptor_blocks t)
   pub is : item_at (k.from q) txs c ≡ item_of t (of_queue q ts) (c - end_of (k.from q) (of_queue q ts))
 
 pub from_of : (k : KnownJournal) (q : ℕ) (txs : List Tx) (c : ℕ) → IsPart txs (of_queue q k.history) → k.from q ≤ c → c < end_of (k.from q) txs → From k q txs c
@@ -205,7 +205,7 @@ clash k q txs p c d x log s past a b m apart =
 
 -- ---- entries can say what they are to say
 
-pub may-say : (k : KnownJournal) (q : ℕ) (txs : List Tx) (c n : ℕ) → LogOk k → q < k.geometry.queues → From k q txs c → n < 1024 → MaySay n (said_of k.geometry q (item_at (k.from q) txs c))
+pub may-say : (k : KnownJournal) (q : ℕ) (txs : List Tx) (c n : ℕ) → LogOk k → q < k.geometry.queues → From k q txs c → n < depth → MaySay n (said_of k.geometry q (item_at (k.from q) txs c))
 may-say k q txs c n log own f slot =
     let number = number-from k q txs c f in
     let limit = log.limit in

@@ -6,10 +6,11 @@ use Rattle.std.proofs.lemmas.Nat.{mul-add-lt}
 use Rattle.mq_blocks.specs.Blocks.{block_at, content}
 use Rattle.mq_blocks.specs.Geometry.{homes_of, zone_of}
 use Rattle.mq_blocks.specs.Journal.{Says}
+use Rattle.mq_blocks.specs.Ports.{IsPort, area_size_of, homes_size_of, slots_of}
 use Rattle.mq_blocks.specs.declared.geometry.Geometry.{Geometry}
 use Rattle.mq_ledger.specs.Items.{Entries, AreRead}
 use Rattle.mq_ledger.specs.Plain.{plain}
-use Rattle.mq_ledger.specs.Sides.{IsPort, AreHome, area_size_of, homes_size_of, home_index, home_index_in, slots_of}
+use Rattle.mq_ledger.specs.Sides.{AreHome, home_index, home_index_in}
 use Rattle.mq_ledger.specs.State.{IsStart, IsStartPort, port_at, from_at, known_of, start_map}
 use Rattle.mq_core.specs.Start.{blank, first_home, fresh_port, fresh_ports, start_state}
 use Rattle.mq_core.proofs.Ports.{zone-row}

@@ -6,7 +6,7 @@ use Rattle.mq_blocks.specs.Drive.{PortState, holds_write, index_of, after_flush,
 use Rattle.mq_blocks.specs.Geometry.{zone_of, home_lba}
 use Rattle.mq_blocks.specs.Journal.{is_among}
 use Rattle.mq_ledger.specs.History.{writes, last, of_queue}
-use Rattle.mq_ledger.specs.Items.{Entries, end_of}
+use Rattle.mq_ledger.specs.Items.{Entries, end_of, descriptor_blocks}
 use Rattle.mq_ledger.specs.KnownJournal.{KnownJournal, front}
 use Rattle.mq_ledger.specs.Sides.{SideOk, home_index}
 use Rattle.mq_ledger.specs.State.{State, Facts, IsUnder, is_done, port_at, port_of, from_at, known_of, front_of}
@@ -50,9 +50,9 @@ module _ (e : Entries) (s : State) (f : Facts e s) (q : ℕ) (own : q < s.geomet
     abbrev now : Tx → List Tx → Bool
     now = is_done s.starts (set s.ports q p)
 
-    more : DoneMore k.done now
+    more : DoneMore k.done now s.history
     more = record {
-      each = λ t ts d. le-leb _ _ (elim (cases_eq t.queue q) [
+      each = λ t ts at d. le-leb _ _ (elim (cases_eq t.queue q) [
         | inl same ↦ (let l = leb-true _ _ d in let h : (port_at s.ports t.queue).head ≤ (port_at (set s.ports q p) t.queue).head = rw (same, port_same s.ports q p within) higher in omega arith)
         | inr other ↦ rw (port_other s.ports q t.queue p other) (leb-true _ _ d)
       ]);
@@ -66,13 +66,13 @@ module _ (e : Entries) (s : State) (f : Facts e s) (q : ℕ) (own : q < s.geomet
               let mine : SideOk k r (of_queue r s.history) p = subst (λ n. SideOk k n (of_queue n s.history) p) (sym same) side in
               subst (λ w. SideOk (known_of e (with p)) r (of_queue r s.history) w) (sym is)
               (side_more k now f.log more r (of_queue r s.history) p mine (λ t ts at mineq d.
-              let l : end_of (from_at s.starts t.queue) (of_queue t.queue ts) + (writes t + 1) ≤ (port_at (set s.ports q p) t.queue).head = leb-true _ _ d in
+              let l : end_of (from_at s.starts t.queue) (of_queue t.queue ts) + (writes t + descriptor_blocks t) ≤ (port_at (set s.ports q p) t.queue).head = leb-true _ _ d in
               let l' = rw (mineq, is) at l in l'))
           | inr other ↦
               let is : port_at (set s.ports q p) r ≡ port_at s.ports r = port_other s.ports q r p other in
               subst (λ w. SideOk (known_of e (with p)) r (of_queue r s.history) w) (sym is)
               (side_more k now f.log more r (of_queue r s.history) (port_at s.ports r) (f.sides r inside) (λ t ts at mineq d.
-              let l : end_of (from_at s.starts t.queue) (of_queue t.queue ts) + (writes t + 1) ≤ (port_at (set s.ports q p) t.queue).head = leb-true _ _ d in
+              let l : end_of (from_at s.starts t.queue) (of_queue t.queue ts) + (writes t + descriptor_blocks t) ≤ (port_at (set s.ports q p) t.queue).head = leb-true _ _ d in
               let l' = rw (mineq, is) at l in l'))
         ]
 
@@ -126,7 +126,7 @@ module _ (e : Entries) (s : State) (f : Facts e s) (q : ℕ) (own : q < s.geomet
           sides = sides;
           root = root_more k now f.log more s.root f.root;
           marks = λ t ts at d. elim (cases_Bool (is_done s.starts s.ports t ts)) [
-            | inl was ↦ absurd (false≢true (sym d ∙ more.each t ts was))
+            | inl was ↦ absurd (false≢true (sym d ∙ more.each t ts at was))
             | inr undone ↦ f.marks t ts at undone
           ];
           writing = λ x h. unders x h (f.writing x h);

@@ -7,7 +7,7 @@ use Rattle.mq_blocks.specs.Drive.{PortState}
 use Rattle.mq_blocks.specs.Journal.{is_among}
 use Rattle.mq_ledger.specs.KnownJournal.{MayDraw}
 use Rattle.mq_ledger.specs.History.{writes, changes, last, of_queue, AreNumbered}
-use Rattle.mq_ledger.specs.Items.{end_of}
+use Rattle.mq_ledger.specs.Items.{end_of, descriptor_blocks}
 use Rattle.mq_ledger.specs.Plain.{plain}
 use Rattle.mq_ledger.specs.Records.{Ledger, IsClear, IsKnown, HasPlace, own}
 use Rattle.mq_ledger.specs.State.{State, front_of, known_of, from_at, port_at}
@@ -42,15 +42,15 @@ module _ (l : Ledger) (ports : List PortState) (root : PortState) (marks writing
       record {
         queue = own;
         each = λ t ts at mine undone. clear t ts at mine (
-            let past : (port_at ports t.queue).head < end_of (from_at l.starts t.queue) (of_queue t.queue ts) + (writes t + 1) = leb-false _ _ undone in
-            rw is (subst (λ n. (port_at ports n).head < end_of (from_at l.starts n) (of_queue n ts) + (writes t + 1)) mine past)
+            let past : (port_at ports t.queue).head < end_of (from_at l.starts t.queue) (of_queue t.queue ts) + (writes t + descriptor_blocks t) = leb-false _ _ undone in
+            rw is (subst (λ n. (port_at ports n).head < end_of (from_at l.starts n) (of_queue n ts) + (writes t + descriptor_blocks t)) mine past)
             );
       }
 
   pub is_clear : (q low head : ℕ) → head ≡ (port_at ports q).head → MayClear s q low → IsClear l q head low
   is_clear q low head is may t ts at mine past =
-      let past' : (port_at ports q).head < end_of (from_at l.starts q) (of_queue q ts) + (writes t + 1) = omega arith in
-      may.each t ts at mine (lt-leb _ _ (subst (λ n. (port_at ports n).head < end_of (from_at l.starts n) (of_queue n ts) + (writes t + 1)) (sym mine) past'))
+      let past' : (port_at ports q).head < end_of (from_at l.starts q) (of_queue q ts) + (writes t + descriptor_blocks t) = omega arith in
+      may.each t ts at mine (lt-leb _ _ (subst (λ n. (port_at ports n).head < end_of (from_at l.starts n) (of_queue n ts) + (writes t + descriptor_blocks t)) (sym mine) past'))
 
   -- ---- draws
 

@@ -2,13 +2,13 @@
 -- allowed.
 use Rattle.std.specs.Prelude.{◌≡◌, ◌<◌, ◌≤◌, ℕ, suc, ◌+◌, ◌-◌, ◌%◌, ◌^◌, Bool, true, false, List, [], ◌∷◌, length, Option, Some, None, nat_eq, slice_set, if◌then◌else◌}
 use Rattle.mq_blocks.specs.Blocks.{content}
-use Rattle.mq_blocks.specs.Drive.{PortState, AreFrom, staged_end, depth, after_stage, after_flush, after_ring, after_done, after_failed, after_store_head, after_store_base, after_begin, after_end}
+use Rattle.mq_blocks.specs.Drive.{PortState, AreFrom, staged_end, depth, after_stage, after_flush, after_ring, after_done, after_failed, after_store_head, after_store_base, after_begin, after_end, usable_depth}
 use Rattle.mq_blocks.specs.Geometry.{homes_of, zone_of, home_lba}
 use Rattle.mq_blocks.specs.Journal.{is_among, number_limit}
 use Rattle.mq_blocks.specs.declared.command.Command.{Command}
 use Rattle.mq_blocks.specs.declared.geometry.Geometry.{Geometry}
 use Rattle.mq_ledger.specs.History.{blocks_of, writes, changes, map_after, last, upto, of_queue, IsAt}
-use Rattle.mq_ledger.specs.Items.{Entries, Item, said_of, lba_of, end_of, next, item_at, IsEnd}
+use Rattle.mq_ledger.specs.Items.{Entries, Item, said_of, lba_of, end_of, next, item_at, IsEnd, descriptor_blocks}
 use Rattle.mq_ledger.specs.Sides.{IsKept, holds_count}
 use Rattle.mq_ledger.specs.State.{State, is_done, front_of, from_at, known_of, port_at, port_of, start_map}
 use Rattle.mq_ledger.specs.declared.tx.Tx.{Tx}
@@ -80,10 +80,10 @@ end_home g x block p = after_end p (home_lba g x) block
 pub record HasRoom (g : Geometry) (from word : ℕ) (txs : List Tx) (t : Tx) (p : PortState) : Type 0 where
   pub rung : p.doorbell ≡ end_of from txs
   pub failed : p.failed ≡ []
-  pub ring : writes t + 1 ≤ 1023 - (staged_end p - p.head)
-  pub area : next txs + (length t.logged + 1) ≤ next (upto word txs) + g.area
+  pub ring : writes t + descriptor_blocks t ≤ usable_depth - (staged_end p - p.head)
+  pub area : next txs + (length t.logged + descriptor_blocks t) ≤ next (upto word txs) + g.area
   pub places : next txs + length t.logged < 2 ^ 62
-  pub limit : end_of from txs + (writes t + 1) ≤ number_limit
+  pub limit : end_of from txs + (writes t + descriptor_blocks t) ≤ number_limit
 
 -- ---- of the state
 

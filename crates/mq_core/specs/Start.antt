@@ -1,8 +1,8 @@
 -- The state that the machine starts from, over given home blocks and a base.
 use Rattle.std.specs.Prelude.{ℕ, ◌+◌, ◌-◌, ◌*◌, ◌^◌, zero, suc, true, List, [], ◌∷◌, ◌++◌, Option, Some, None, replicate, take, drop}
 use Rattle.mq_blocks.specs.Drive.{no_fuse, PortState}
+use Rattle.mq_blocks.specs.Ports.{area_first_of, area_size_of, homes_first_of, homes_size_of, slots_of}
 use Rattle.mq_blocks.specs.declared.geometry.Geometry.{Geometry}
-use Rattle.mq_ledger.specs.Sides.{area_first_of, area_size_of, homes_first_of, homes_size_of, slots_of}
 use Rattle.mq_ledger.specs.State.{State}
 
 -- the first home block of a port

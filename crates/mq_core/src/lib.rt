@@ -10,5 +10,5 @@ mod port;
 pub use event::{CoreRefusal, Event};
 pub use laws::{every_run_is_lawful, starts};
 pub use machine::{Core, fresh_queues};
-pub use mq_ledger::{Blocks, Content, Entry, Tx, Writes, copy_blocks, copy_content};
-pub use port::{Command, HomeWrite, Port};
+pub use mq_ledger::{Blocks, Content, PlainEntry, Tx, Writes, copy_blocks, copy_content};
+pub use port::{PlainCommand, PlainHomeWrite, PlainPort};

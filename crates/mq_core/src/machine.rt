@@ -12,7 +12,7 @@ ghost use Rattle.mq_ledger.specs.Plain.{plain};
 ghost use Rattle.mq_ledger.specs.State.{IsLawful};
 ghost use Rattle.mq_core.specs.Start.{start_state, fresh_ports};
 
-use crate::Port;
+use crate::PlainPort;
 use mq_blocks::{BlockNo, Geometry, OutOfMemory, QueueNo, TxNo};
 use mq_ledger::{Content, Ledger, copy_blocks, repeated};
 use std::alloc::Global;
@@ -22,8 +22,8 @@ use std::marker::Model;
 #[derive(Drop)]
 pub struct Core {
     ledger: Ledger,
-    ports: Vec<Port>,
-    root: Port,
+    ports: Vec<PlainPort>,
+    root: PlainPort,
     marks: Vec<u64>,
     writing: Vec<BlockNo>,
     acknowledged: Vec<TxNo>,
@@ -45,7 +45,7 @@ pub fn fresh_queues(
     alloc: Global,
     geometry: Geometry,
     blocks: &[Option<Content>],
-) -> Result<Vec<Port>, OutOfMemory>
+) -> Result<Vec<PlainPort>, OutOfMemory>
     requires { length blocks.now ≡ homes_of geometry }
     ensures { IfOk result (λ v. v.items ≡ fresh_ports geometry blocks.now 0 geometry.queues) }
 {
@@ -54,7 +54,7 @@ pub fn fresh_queues(
         let first = (geometry.meta() + q * geometry.zone()) as usize;
         let end = first + geometry.zone() as usize;
         let homes = copy_blocks(alloc, &blocks[first..end])?;
-        ports.push(Port::fresh(alloc, geometry, Some(QueueNo(q)), homes, TxNo(0))?)?;
+        ports.push(PlainPort::fresh(alloc, geometry, Some(QueueNo(q)), homes, TxNo(0))?)?;
     }
     Ok(ports)
 }
@@ -77,7 +77,7 @@ impl Core {
         Ok(Core {
             ledger: Ledger::start(alloc, geometry, blocks, base)?,
             ports: fresh_queues(alloc, geometry, blocks)?,
-            root: Port::fresh(alloc, geometry, None, homes, base)?,
+            root: PlainPort::fresh(alloc, geometry, None, homes, base)?,
             marks: repeated(alloc, u64::MAX, queues)?,
             writing: Vec::new(alloc),
             acknowledged: Vec::new(alloc),

@@ -1,8 +1,10 @@
 // A port of the machine: ring, doorbell, heads, and blocks.
-ghost use Rattle.std.specs.Prelude.{◌≡◌, nat_eq, ◌↔◌, IsTrue, ◌<◌, ◌≤◌, ◌+◌, ◌%◌, ◌^◌, ◌++◌, ◌-◌, ◌∷◌, [], ℕ, length, slice_index_or, slice_set, replicate, Some, None, true, false, IfSome, IfNone, IfOk, OnOk, OnErr};
+ghost use Rattle.std.specs.Prelude.{◌≡◌, nat_eq, ◌↔◌, IsTrue, ◌<◌, ◌≤◌, ◌+◌, ◌%◌, ◌^◌, ◌++◌, ◌-◌, ◌∷◌, [], ℕ, length, slice_index_or, slice_set};
+ghost use Rattle.std.specs.Prelude.{replicate, Some, None, true, false, IfSome, IfNone, IfOk, OnOk, OnErr};
 ghost use Rattle.std.specs.List.{remove};
 ghost use Rattle.std.specs.Bool.{OnTrue, OnFalse};
-ghost use Rattle.mq_blocks.specs.Drive.{PortState, AreFrom, counted, staged_end, after_stage, after_flush, after_ring, after_begin, after_write, after_end, without_last, after_store_head, after_store_base, index_of};
+ghost use Rattle.mq_blocks.specs.Drive.{PortState, AreFrom, counted, staged_end, after_stage, after_flush, after_ring, after_begin, after_write};
+ghost use Rattle.mq_blocks.specs.Drive.{after_end, without_last, after_store_head, after_store_base, index_of, depth, usable_depth};
 ghost use Rattle.mq_blocks.specs.Blocks.{zeros, content};
 ghost use Rattle.mq_ledger.specs.Sides.{holds_count};
 ghost use Rattle.mq_core.specs.Bases.{Holds};
@@ -13,21 +15,21 @@ ghost use Rattle.mq_blocks.specs.Geometry.{queues_of};
 ghost use Rattle.mq_core.specs.Start.{port_over};
 
 use crate::CoreRefusal;
-use mq_blocks::{Geometry, Lba, OutOfMemory, QueueNo, TxNo};
-use mq_ledger::{Content, Entry};
+use mq_blocks::{Geometry, Lba, OutOfMemory, QueueNo, RING_DEPTH, TxNo, USABLE_DEPTH};
+use mq_ledger::{Content, PlainEntry};
 use std::alloc::Global;
 use std::marker::Model;
 
 /// A write command of a queue.
 #[derive(Drop)]
-pub struct Command {
+pub struct PlainCommand {
     pub count: u64,
     pub tx: u64,
     pub lba: Lba,
     pub block: Content,
 }
 
-impl Model for Command {
+impl Model for PlainCommand {
     ghost use Rattle.mq_blocks.specs.declared.command.Command.{Command as Text};
 
     ghost Value = { Text };
@@ -37,12 +39,12 @@ impl Model for Command {
 
 /// A home write that has begun.
 #[derive(Drop)]
-pub struct HomeWrite {
+pub struct PlainHomeWrite {
     pub lba: Lba,
     pub block: Content,
 }
 
-impl Model for HomeWrite {
+impl Model for PlainHomeWrite {
     ghost use Rattle.mq_blocks.specs.declared.command.HomeWrite.{HomeWrite as Text};
 
     ghost Value = { Text };
@@ -52,38 +54,63 @@ impl Model for HomeWrite {
 
 /// A queue's port, or the root's.
 #[derive(Drop)]
-pub struct Port {
+pub struct PlainPort {
     queue: Option<QueueNo>,
     area_first: u32,
     area_size: u32,
     homes_first: u32,
     homes_size: u32,
-    flushed: Vec<Entry>,
-    staged: Vec<Entry>,
+    flushed: Vec<PlainEntry>,
+    staged: Vec<PlainEntry>,
     flushed_end: u64,
-    pending: Vec<Command>,
+    pending: Vec<PlainCommand>,
     doorbell: u64,
-    posted: Vec<Command>,
-    failed: Vec<Command>,
+    posted: Vec<PlainCommand>,
+    failed: Vec<PlainCommand>,
     head: u64,
     stored_head: u64,
     base: u64,
     stored_base: u64,
     blocks: Vec<Option<Content>>,
     certain: Vec<bool>,
-    begun: Vec<HomeWrite>,
+    begun: Vec<PlainHomeWrite>,
     rings: u64,
     begins: u64,
     events: u64,
 }
 
-impl Model for Port {
+impl Model for PlainPort {
     ghost use Rattle.std.specs.Prelude.{None};
     ghost use Rattle.mq_blocks.specs.Drive.{PortState, no_fuse};
 
     ghost Value = { PortState };
 
-    ghost view = { λ p. record { queue = p.queue; area_first = p.area_first; area_size = p.area_size; homes_first = p.homes_first; homes_size = p.homes_size; flushed = p.flushed.items; staged = p.staged.items; flushed_end = p.flushed_end; pending = p.pending.items; doorbell = p.doorbell; posted = p.posted.items; failed = p.failed.items; head = p.head; stored_head = p.stored_head; base = p.base; stored_base = p.stored_base; blocks = p.blocks.items; certain = p.certain.items; begun = p.begun.items; rings = p.rings; begins = p.begins; events = p.events; fuse = no_fuse; fail = None } };
+    ghost view = { λ p. record {
+      queue = p.queue;
+      area_first = p.area_first;
+      area_size = p.area_size;
+      homes_first = p.homes_first;
+      homes_size = p.homes_size;
+      flushed = p.flushed.items;
+      staged = p.staged.items;
+      flushed_end = p.flushed_end;
+      pending = p.pending.items;
+      doorbell = p.doorbell;
+      posted = p.posted.items;
+      failed = p.failed.items;
+      head = p.head;
+      stored_head = p.stored_head;
+      base = p.base;
+      stored_base = p.stored_base;
+      blocks = p.blocks.items;
+      certain = p.certain.items;
+      begun = p.begun.items;
+      rings = p.rings;
+      begins = p.begins;
+      events = p.events;
+      fuse = no_fuse;
+      fail = None;
+    } };
 }
 
 /// Whether these are the 4,096 zeros of a block that was never written.
@@ -125,7 +152,7 @@ pub fn bump(n: u64) -> u64
     n.saturating_add(1)
 }
 
-pub fn put_entry(slots: &mut Vec<Entry>, at: usize, entry: Entry)
+pub fn put_entry(slots: &mut Vec<PlainEntry>, at: usize, entry: PlainEntry)
     requires { at < length slots.old.items }
     ensures { slots.new.items ≡ slice_set slots.old.items at entry }
 {
@@ -147,7 +174,7 @@ pub fn put_flag(flags: &mut Vec<bool>, at: usize, flag: bool)
 }
 
 /// Where the command of a count stands in a list.
-pub fn find_count(commands: &[Command], count: u64) -> Option<usize>
+pub fn find_count(commands: &[PlainCommand], count: u64) -> Option<usize>
     ensures some { IfSome result (λ at. (holds_count count commands.now ≡ true)
         × (index_with count commands.now ≡ at)
         × (at < length commands.now)) }
@@ -164,7 +191,7 @@ pub fn find_count(commands: &[Command], count: u64) -> Option<usize>
 }
 
 /// Whether no command stands below a count.
-pub fn are_from(commands: &[Command], low: u64) -> bool
+pub fn are_from(commands: &[PlainCommand], low: u64) -> bool
     ensures { IsTrue result ↔ AreFrom low commands.now }
 {
     for command in commands {
@@ -176,7 +203,7 @@ pub fn are_from(commands: &[Command], low: u64) -> bool
 }
 
 /// Takes the command of a count out, if there is one.
-pub fn take_count(commands: &mut Vec<Command>, count: u64) -> Option<Command>
+pub fn take_count(commands: &mut Vec<PlainCommand>, count: u64) -> Option<PlainCommand>
     ensures some { IfSome result (λ c. (holds_count count commands.old.items ≡ true)
         × (command_with count commands.old.items ≡ c)
         × (commands.new.items ≡ remove commands.old.items (index_with count commands.old.items))) }
@@ -188,14 +215,14 @@ pub fn take_count(commands: &mut Vec<Command>, count: u64) -> Option<Command>
 }
 
 /// Whether a home write writes this block.
-pub fn writes(write: &HomeWrite, lba: Lba) -> bool
+pub fn writes(write: &PlainHomeWrite, lba: Lba) -> bool
     ensures { result ≡ nat_eq write.now.lba lba }
 {
     write.lba.0 == lba.0
 }
 
 /// Where the last home write of a block stands.
-pub fn last_write(begun: &[HomeWrite], lba: Lba) -> Option<usize>
+pub fn last_write(begun: &[PlainHomeWrite], lba: Lba) -> Option<usize>
     ensures some { IfSome result (λ at. (at < length begun.now)
         × (remove begun.now at ≡ without_last lba begun.now)) }
     ensures none { IfNone result (begun.now ≡ without_last lba begun.now) }
@@ -209,7 +236,7 @@ pub fn last_write(begun: &[HomeWrite], lba: Lba) -> Option<usize>
 }
 
 /// Takes the last home write of a block out, if there is one.
-pub fn drop_last(begun: &mut Vec<HomeWrite>, lba: Lba)
+pub fn drop_last(begun: &mut Vec<PlainHomeWrite>, lba: Lba)
     ensures { begun.new.items ≡ without_last lba begun.old.items }
 {
     if let Some(at) = last_write(begun, lba) {
@@ -233,7 +260,7 @@ pub fn behind_empty(
     Ok(blocks)
 }
 
-impl Port {
+impl PlainPort {
     /// A port where nothing has happened yet: a queue's, or the root's where none is named. It has
     /// these home blocks, of which `None` is a block of zeros.
     pub fn fresh(
@@ -242,11 +269,11 @@ impl Port {
         queue: Option<QueueNo>,
         homes: Vec<Option<Content>>,
         base: TxNo,
-    ) -> Result<Port, OutOfMemory>
+    ) -> Result<PlainPort, OutOfMemory>
         requires own { IfSome queue (λ q. q < queues_of geometry) }
         ensures { IfOk result (λ p. p ≡ port_over geometry queue homes.items base) }
     {
-        let blank = Entry {
+        let blank = PlainEntry {
             number: 0,
             lba: 0,
             commit: false,
@@ -254,7 +281,7 @@ impl Port {
         let areas = geometry.queues() * geometry.area();
         let (slots, area_first, area_size, homes_first, homes_size) = match queue {
             Some(q) => (
-                1024,
+                RING_DEPTH as usize,
                 q.0 * geometry.area(),
                 geometry.area(),
                 areas + (geometry.meta() + q.0 * geometry.zone()),
@@ -262,7 +289,7 @@ impl Port {
             ),
             None => (0, 0, 0, areas, geometry.meta()),
         };
-        Ok(Port {
+        Ok(PlainPort {
             queue,
             area_first,
             area_size,
@@ -345,7 +372,7 @@ impl Port {
         ensures refused { OnErr result (self.new ≡ self.old) }
     {
         let at = self.index(lba);
-        self.begun.push(HomeWrite { lba, block })?;
+        self.begun.push(PlainHomeWrite { lba, block })?;
         put_flag(&mut self.certain, at, false);
         self.begins = bump(self.begins);
         Ok(())
@@ -379,11 +406,11 @@ impl Port {
     /// How many more entries the ring can take.
     pub fn room(&self) -> u64
         requires low { self.now.head ≤ staged_end self.now }
-        requires high { staged_end self.now ≤ self.now.head + 1023 }
+        requires high { staged_end self.now ≤ self.now.head + usable_depth }
         requires small { staged_end self.now < 2 ^ 64 }
-        ensures { result ≡ 1023 - (staged_end self.now - self.now.head) }
+        ensures { result ≡ usable_depth - (staged_end self.now - self.now.head) }
     {
-        1023 - (self.staged_end() - self.head)
+        u64::from(USABLE_DEPTH) - (self.staged_end() - self.head)
     }
 
     /// Whether something is drawn that isn't rung, and it is wholly staged, where the queue's
@@ -431,25 +458,29 @@ impl Port {
     /// Stages the next entry, which is of this transaction and writes this block.
     pub fn stage(
         &mut self,
-        entry: Entry,
+        entry: PlainEntry,
         tx: TxNo,
         lba: Lba,
         block: Content,
     ) -> Result<(), OutOfMemory>
-        requires ring { length self.old.staged ≡ 1024 }
+        requires ring { length self.old.staged ≡ depth }
         requires room { staged_end self.old < 2 ^ 64 }
         ensures ok { OnOk result (self.new ≡ after_stage self.old entry tx lba block) }
         ensures refused { OnErr result (self.new ≡ self.old) }
     {
         let count = self.doorbell + self.pending.len() as u64;
-        let command = Command {
+        let command = PlainCommand {
             count,
             tx: tx.0,
             lba,
             block,
         };
         self.pending.push(command)?;
-        put_entry(&mut self.staged, (count % 1024) as usize, entry);
+        put_entry(
+            &mut self.staged,
+            (count % u64::from(RING_DEPTH)) as usize,
+            entry,
+        );
         self.events = bump(self.events);
         Ok(())
     }
@@ -475,7 +506,7 @@ impl Port {
     }
 
     /// The commands that are posted.
-    pub fn posted(&self) -> &[Command]
+    pub fn posted(&self) -> &[PlainCommand]
         ensures { result.now ≡ self.now.posted }
     {
         &self.posted

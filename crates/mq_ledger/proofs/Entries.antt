@@ -2,12 +2,13 @@
 use Rattle.std.proofs.Common.{◌≡◌, ◌⊎◌, ◌≢◌, ℕ, ◌+◌, ◌-◌, ◌<◌, ◌≤◌, ◌%◌, List, [], ◌∷◌, length, refl, ap, ◌∙◌, inl, inr, arith}
 use Rattle.std.proofs.lemmas.Bool.{cases_lt, cases_eq, lt-ltb, le-ltb, le-leb, lt-leb, eq-eqb, ne_eqb}
 use Rattle.mq_ledger.specs.History.{writes, upto, of_queue, IsAt}
-use Rattle.mq_ledger.specs.Items.{AtPlace, AtHome, write_at, item_at, item_of, copy_item, direct_item, commit_item, total, end_of, next, below}
+use Rattle.mq_ledger.specs.Items.{AtPlace, AtHome, write_at, item_at, item_of, copy_item, direct_item, commit_item, total, end_of, next, below, descriptor_blocks}
 use Rattle.mq_ledger.specs.declared.tx.Tx.{Tx}
 use Rattle.mq_ledger.proofs.Values.{upto-at, upto-past}
+use Rattle.mq_blocks.specs.Drive.{depth}
 
 -- counts less than the size apart have slots of their own
-pub slots_apart : (a b : ℕ) → a < b → b < a + 1024 → a % 1024 ≢ b % 1024
+pub slots_apart : (a b : ℕ) → a < b → b < a + depth → a % depth ≢ b % depth
 slots_apart a b l u = omega arith
 
 pub mod_apart : (n a b : ℕ) → a < b → b < a + n → a % n ≢ b % n
@@ -67,6 +68,22 @@ next-below from h (t ∷ ts) =
     elim (cases_lt h (from + total (t ∷ ts))) [
       | inl less ↦ rw (below-past from h t ts less) (omega (arith, next-below from h ts))
       | inr at ↦ rw (below-at from h t ts at) (omega arith)
+    ]
+
+pub next_upto : (n : ℕ) (txs : List Tx) → next (upto n txs) ≤ next txs
+next_upto n [] = omega arith
+next_upto n (t ∷ txs) =
+    elim (cases_lt n t.number) [
+      | inl past ↦ rw (upto-past n t txs past) (omega (arith, next_upto n txs))
+      | inr at ↦ rw (upto-at n t txs at) (omega arith)
+    ]
+
+pub total_upto : (n : ℕ) (txs : List Tx) → total (upto n txs) ≤ total txs
+total_upto n [] = omega arith
+total_upto n (t ∷ txs) =
+    elim (cases_lt n t.number) [
+      | inl past ↦ rw (upto-past n t txs past) (omega (arith, total_upto n txs))
+      | inr at ↦ rw (upto-at n t txs at) (omega arith)
     ]
 
 pub of_queue-own : (q : ℕ) (t : Tx) (ts : List Tx) → t.queue ≡ q → of_queue q (t ∷ ts) ≡ t ∷ of_queue q ts
@@ -145,7 +162,7 @@ pub record Source (from q : ℕ) (h : List Tx) (c : ℕ) : Type 0 where
   pub at : IsAt t ts h
   pub own : t.queue ≡ q
   pub low : end_of from (of_queue q ts) ≤ c
-  pub high : c < end_of from (of_queue q ts) + (writes t + 1)
+  pub high : c < end_of from (of_queue q ts) + (writes t + descriptor_blocks t)
   pub is : item_at from (of_queue q h) c ≡ item_of t (of_queue q ts) (c - end_of from (of_queue q ts))
 
 pub Source-of : (from q : ℕ) (h : List Tx) (c : ℕ) → from ≤ c → c < end_of from (of_queue q h) → Source from q h c
@@ -168,7 +185,7 @@ Source-of from q (t ∷ ts) c l u =
     ]
 
 -- the item at the i-th count of a transaction that stands in the history
-pub item_of_at : (from q : ℕ) (t : Tx) (ts h : List Tx) (i : ℕ) → t.queue ≡ q → IsAt t ts h → i < writes t + 1 → (item_at from (of_queue q h) (end_of from (of_queue q ts) + i) ≡ item_of t (of_queue q ts) i) × (end_of from (of_queue q ts) + (writes t + 1) ≤ end_of from (of_queue q h))
+pub item_of_at : (from q : ℕ) (t : Tx) (ts h : List Tx) (i : ℕ) → t.queue ≡ q → IsAt t ts h → i < writes t + descriptor_blocks t → (item_at from (of_queue q h) (end_of from (of_queue q ts) + i) ≡ item_of t (of_queue q ts) i) × (end_of from (of_queue q ts) + (writes t + descriptor_blocks t) ≤ end_of from (of_queue q h))
 item_of_at from q t ts [] i own at l = absurd at
 item_of_at from q t ts (u ∷ txs) i own (inl same) l =
     let e : of_queue q (u ∷ txs) ≡ t ∷ of_queue q ts = ap₂' same.0 same.1 ∙ of_queue-own q t ts own in
@@ -235,14 +252,6 @@ place_above from n (t ∷ txs) c p l u e =
           ])
       | inr at ↦ absurd (let l' = rw (upto-at n t txs at) at l in omega arith)
     ]
-  where
-    next_upto : (n : ℕ) (txs : List Tx) → next (upto n txs) ≤ next txs
-    next_upto n [] = omega arith
-    next_upto n (t ∷ txs) =
-        elim (cases_lt n t.number) [
-          | inl past ↦ rw (upto-past n t txs past) (omega (arith, next_upto n txs))
-          | inr at ↦ rw (upto-at n t txs at) (omega arith)
-        ]
 
 -- two entries above the flushed base have blocks of their own in the area
 pub places_apart : (size fbase from : ℕ) (txs : List Tx) (c d p r : ℕ) → next txs ≤ next (upto fbase txs) + size → from ≤ c → end_of from (upto fbase txs) ≤ c → c < d → d < end_of from txs → (item_at from txs c).target ≡ AtPlace p → (item_at from txs d).target ≡ AtPlace r → p % size ≢ r % size

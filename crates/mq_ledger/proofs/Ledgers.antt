@@ -8,7 +8,7 @@ use Rattle.mq_blocks.specs.Journal.{is_among, number_limit}
 use Rattle.mq_blocks.specs.Machine.{write_of}
 use Rattle.mq_blocks.specs.declared.geometry.Geometry.{Geometry}
 use Rattle.mq_ledger.specs.History.{blocks_of, writes, changes, last, last_logged, upto, of_queue, IsAt, AreNumbered}
-use Rattle.mq_ledger.specs.Items.{total, end_of, next, below}
+use Rattle.mq_ledger.specs.Items.{total, end_of, next, below, descriptor_blocks}
 use Rattle.mq_ledger.specs.KnownJournal.{IsTx}
 use Rattle.mq_ledger.specs.Records.{Ledger, own, from_of, HasPlace, push_tx, settle_next}
 use Rattle.mq_ledger.specs.Tables.{AreTables, AreLatest, IsLatest, row_of, rows_of, ends_of, after_tx}
@@ -105,7 +105,7 @@ below-whole : (from h : ℕ) (txs : List Tx) → end_of from txs ≤ h → below
 below-whole from h [] l = refl
 below-whole from h (t ∷ txs) l = below-at from h t txs l
 
-pub below-is : (from h : ℕ) (t : Tx) (txs ws : List Tx) → IsAt t txs ws → end_of from txs ≤ h → h < end_of from txs + (writes t + 1) → below from h ws ≡ txs
+pub below-is : (from h : ℕ) (t : Tx) (txs ws : List Tx) → IsAt t txs ws → end_of from txs ≤ h → h < end_of from txs + (writes t + descriptor_blocks t) → below from h ws ≡ txs
 below-is from h t txs [] at low high = absurd at
 below-is from h t txs (w ∷ ws) (inl same) low high =
     let past : h < from + total (w ∷ ws) = rw (same.0, same.1) (omega arith) in
@@ -172,7 +172,7 @@ module _ (s : Ledger) (t : Tx) (newest settled : List Latest) (queue_rows : List
       let limit = fits.limit in
       let front_high = old.front_high in
       let same : upto s.front (t ∷ s.history) ≡ upto s.front s.history = upto-past s.front t s.history (omega arith) in
-      let end : row.end ≡ end_of (from_of s t.queue) (own s t.queue) + (writes t + 1) = ap (λ (r : Row). r.end) row_is ∙ omega arith in
+      let end : row.end ≡ end_of (from_of s t.queue) (own s t.queue) + (writes t + descriptor_blocks t) = ap (λ (r : Row). r.end) row_is ∙ omega arith in
       record {
         numbers = (number, old.numbers);
         limit = omega arith;
@@ -185,7 +185,7 @@ module _ (s : Ledger) (t : Tx) (newest settled : List Latest) (queue_rows : List
         settled_is = subst (λ txs. AreLatest s.start s.base txs (homes_of s.geometry) settled) (sym same) old.settled_is;
         lanes_size = length-set queue_rows t.queue _ ∙ old.lanes_size;
         lanes_are = pushed_lane;
-        ends_are = ap (λ txs. txs ++ row.end ∷ []) old.ends_are ∙ ap (λ (n : ℕ). reverse (ends_of s.starts s.history) ++ n ∷ []) end ∙ sym (reverse-cons (end_of (from_of s t.queue) (own s t.queue) + (writes t + 1)) (ends_of s.starts s.history));
+        ends_are = ap (λ txs. txs ++ row.end ∷ []) old.ends_are ∙ ap (λ (n : ℕ). reverse (ends_of s.starts s.history) ++ n ∷ []) end ∙ sym (reverse-cons (end_of (from_of s t.queue) (own s t.queue) + (writes t + descriptor_blocks t)) (ends_of s.starts s.history));
         counts = pushed_counts;
         places = pushed_places;
       }
@@ -238,12 +238,12 @@ pub record FitsTable (size : ℕ) (t : Tx) : Type 0 where
   pub freed : AreRising 0 size t.freed
   pub logged : AreRising 0 size (blocks_of t.logged)
   pub direct : AreRising 0 size (blocks_of t.direct)
-  pub few : writes t ≤ 1000
+  pub few : writes t < 2 ^ 64
 
 pub fits_table : (g : Geometry) (size : ℕ) (t : Tx) → IsTx g t → size ≡ homes_of g → FitsTable size t
 fits_table g size t form e =
     let P : ℕ → Type 0 = λ n. FitsTable n t in
-    let here : P (homes_of g) = record { freed = form.freed; logged = form.logged; direct = form.direct; few = form.few } in
+    let here : P (homes_of g) = record { freed = form.freed; logged = form.logged; direct = form.direct; few = (let few = form.few in omega arith) } in
     subst P (sym e) here
 
 module _ (s : Ledger) (newest settled : List Latest) (queue_rows : List (List Row)) (ends : List ℕ) (old : AreTables s newest settled queue_rows ends) (more : s.front < s.base + length s.history) (history : List Tx) (u : Tx) (same : s.history ≡ reverse history) (read : u ≡ get_or history (s.front - s.base) u) where
@@ -264,14 +264,14 @@ module _ (s : Ledger) (newest settled : List Latest) (queue_rows : List (List Ro
 abbrev row_with : ℕ → ℕ → ℕ → Row
 row_with n a x = record { number = n; end = a; next = x }
 
-row_behind : (from : ℕ) (t : Tx) (txs : List Tx) (before row : Row) → before ≡ row_of from txs → row.number ≡ t.number → row.end ≡ before.end + (writes t + 1) → row.next ≡ before.next + (length t.logged + 1) → row ≡ row_of from (t ∷ txs)
+row_behind : (from : ℕ) (t : Tx) (txs : List Tx) (before row : Row) → before ≡ row_of from txs → row.number ≡ t.number → row.end ≡ before.end + (writes t + descriptor_blocks t) → row.next ≡ before.next + (length t.logged + descriptor_blocks t) → row ≡ row_of from (t ∷ txs)
 row_behind from t txs before row e number end place =
-    let a : row.end ≡ end_of from (t ∷ txs) = end ∙ ap (λ (r : Row). r.end + (writes t + 1)) e ∙ omega arith in
-    let b : row.next ≡ next (t ∷ txs) = place ∙ ap (λ (r : Row). r.next + (length t.logged + 1)) e in
+    let a : row.end ≡ end_of from (t ∷ txs) = end ∙ ap (λ (r : Row). r.end + (writes t + descriptor_blocks t)) e ∙ omega arith in
+    let b : row.next ≡ next (t ∷ txs) = place ∙ ap (λ (r : Row). r.next + (length t.logged + descriptor_blocks t)) e in
     ap (λ (n : ℕ). row_with n row.end row.next) number ∙ ap (λ (n : ℕ). row_with t.number n row.next) a ∙ ap (row_with t.number (end_of from (t ∷ txs))) b
 
 -- the tables of a ledger over longer lists
-pub tables_along : (s : Ledger) (t : Tx) (before row : Row) (newest settled table : List Latest) (queue_rows rows : List (List Row)) (ends more : List ℕ) (history new : List Tx) → AreTables s newest settled queue_rows ends → HasPlace s t → before ≡ row_of (from_of s t.queue) (own s t.queue) → row.number ≡ t.number → row.end ≡ before.end + (writes t + 1) → row.next ≡ before.next + (length t.logged + 1)
+pub tables_along : (s : Ledger) (t : Tx) (before row : Row) (newest settled table : List Latest) (queue_rows rows : List (List Row)) (ends more : List ℕ) (history new : List Tx) → AreTables s newest settled queue_rows ends → HasPlace s t → before ≡ row_of (from_of s t.queue) (own s t.queue) → row.number ≡ t.number → row.end ≡ before.end + (writes t + descriptor_blocks t) → row.next ≡ before.next + (length t.logged + descriptor_blocks t)
     → s.history ≡ reverse history → new ≡ history ++ t ∷ [] → table ≡ after_tx t newest → rows ≡ set queue_rows t.queue (get_or queue_rows t.queue [] ++ row ∷ []) → more ≡ ends ++ row.end ∷ []
     → AreTables (record { geometry = s.geometry; start = s.start; base = s.base; starts = s.starts; history = reverse new; front = s.front }) table settled rows more
 tables_along s t before row newest settled table queue_rows rows ends more history new old fits e number end place same longer marked added ended =

@@ -1,7 +1,9 @@
 pub mod Among
+pub mod Chains
 pub mod Values
 pub mod Entries
 pub mod Queues
+pub mod Written
 mod Marks
 mod Rows
 mod Lists

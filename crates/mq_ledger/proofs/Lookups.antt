@@ -3,7 +3,7 @@ use Rattle.std.proofs.Common.{◌≡◌, ℕ, ◌+◌, ◌<◌, ◌≤◌, leb, 
 use Rattle.std.proofs.lemmas.Bool.{cases_Bool}
 use Rattle.std.proofs.lemmas.List.{length-reverse, reverse-reverse, get_or_read}
 use Rattle.mq_ledger.specs.History.{writes, upto, of_queue, IsAt, IsPart, AreNumbered}
-use Rattle.mq_ledger.specs.Items.{end_of, next, below}
+use Rattle.mq_ledger.specs.Items.{end_of, next, below, descriptor_blocks}
 use Rattle.mq_ledger.specs.Records.{Ledger, own, from_of, IsClear}
 use Rattle.mq_ledger.specs.State.{from_at}
 use Rattle.mq_ledger.specs.Tables.{AreTables, AreLatest, IsLatest, latest_at, no_latest, HasTables, ledger_of, row_of, rows_of, row_before, no_row, rows_from, ends_by, is_up_to, ends_of}
@@ -54,15 +54,15 @@ clear_at s q head mark n numbers few is =
     let r = least_undone q (from_of s q) head (own s q) (IsFalling-of s.base q s.history numbers).0 few in
     let e : n ≡ r.u.number = is r.u r.vs r.at r.size in
     let f = FromQueue-of q r.u r.vs s.history r.at in
-    let P : List Tx → Type 0 = λ txs. head < end_of (from_of s q) txs + (writes r.u + 1) in (
+    let P : List Tx → Type 0 = λ txs. head < end_of (from_of s q) txs + (writes r.u + descriptor_blocks r.u) in (
       λ low t ts at mine past. let k = r.least t (of_queue q ts) (at_own q t ts s.history at mine) past in omega arith,
       λ clear. let k = clear r.u f.ts f.at f.own (subst P (sym f.rest) r.above) in omega arith,
     )
 
 -- ---- the next to be done
 
-pub end_at : (s : Ledger) (ends : List ℕ) (t : Tx) (ts : List Tx) (d : ℕ) → ends ≡ reverse (ends_of s.starts s.history) → IsAt t ts s.history → get_or ends (length ts) d ≡ end_of (from_at s.starts t.queue) (of_queue t.queue ts) + (writes t + 1)
-end_at s ends t ts d e at = ap (λ (xs : List ℕ). get_or xs (length ts) d) e ∙ at-along (λ u txs. end_of (from_at s.starts u.queue) (of_queue u.queue txs) + (writes u + 1)) t ts s.history d at
+pub end_at : (s : Ledger) (ends : List ℕ) (t : Tx) (ts : List Tx) (d : ℕ) → ends ≡ reverse (ends_of s.starts s.history) → IsAt t ts s.history → get_or ends (length ts) d ≡ end_of (from_at s.starts t.queue) (of_queue t.queue ts) + (writes t + descriptor_blocks t)
+end_at s ends t ts d e at = ap (λ (xs : List ℕ). get_or xs (length ts) d) e ∙ at-along (λ u txs. end_of (from_at s.starts u.queue) (of_queue u.queue txs) + (writes u + descriptor_blocks u)) t ts s.history d at
 
 pub from_read : (starts : List ℕ) (s : Ledger) (q k n : ℕ) → starts ≡ s.starts → length s.starts ≡ s.geometry.queues → q < s.geometry.queues → k ≡ q → n ≡ get_or starts k n → n ≡ from_of s q
 from_read starts s q k n same size l here read =
@@ -74,15 +74,3 @@ latest_read start base homes x k h table l a inside here read =
     let size = a.size in
     let is : l ≡ latest_at table x = get_or_read table k l (omega arith) read no_latest ∙ ap (λ (i : ℕ). get_or table i no_latest) here in
     subst (IsLatest start base h x) (sym is) (a.each x inside)
-
-pub next_upto : (n : ℕ) (txs : List Tx) → next (upto n txs) ≤ next txs
-next_upto n [] = omega arith
-next_upto n (t ∷ txs) = elim (cases_Bool (leb t.number n)) [
-  | inl is ↦ rw is (omega arith)
-  | inr not ↦ rw not (omega (arith, next_upto n txs))
-]
-
-pub at_next : (t : Tx) (txs ws : List Tx) → IsAt t txs ws → next txs + (length t.logged + 1) ≤ next ws
-at_next t txs [] at = absurd at
-at_next t txs (w ∷ ws) (inl same) = rw (same.0, same.1) (omega arith)
-at_next t txs (w ∷ ws) (inr deeper) = omega (arith, at_next t txs ws deeper)

@@ -2,7 +2,7 @@
 use Rattle.std.proofs.Common.{◌≡◌, ℕ, ◌+◌, ◌-◌, ◌<◌, ◌≤◌, List, length, reverse, get_or, sym, refl, ap, ◌∙◌, arith}
 use Rattle.std.proofs.lemmas.List.{length-reverse}
 use Rattle.mq_ledger.specs.History.{writes, of_queue}
-use Rattle.mq_ledger.specs.Items.{end_of}
+use Rattle.mq_ledger.specs.Items.{end_of, descriptor_blocks}
 use Rattle.mq_ledger.specs.Records.{Ledger, IsNextEnd}
 use Rattle.mq_ledger.specs.State.{from_at}
 use Rattle.mq_ledger.specs.Tables.{AreTables, ends_of}
@@ -15,7 +15,7 @@ use Rattle.mq_ledger.proofs.Lookups.{end_at}
 use Rattle.mq_ledger.proofs.Rows.{length-along}
 
 pub ends_length : (s : Ledger) (newest settled : List Latest) (queue_rows : List (List Row)) (ends : List ℕ) → AreTables s newest settled queue_rows ends → length ends ≡ length s.history
-ends_length s newest settled queue_rows ends old = ap length old.ends_are ∙ length-reverse (ends_of s.starts s.history) ∙ length-along (λ t ts. end_of (from_at s.starts t.queue) (of_queue t.queue ts) + (writes t + 1)) s.history
+ends_length s newest settled queue_rows ends old = ap length old.ends_are ∙ length-reverse (ends_of s.starts s.history) ∙ length-along (λ t ts. end_of (from_at s.starts t.queue) (of_queue t.queue ts) + (writes t + descriptor_blocks t)) s.history
 
 module _ (s : Ledger) (newest settled : List Latest) (queue_rows : List (List Row)) (ends : List ℕ) (old : AreTables s newest settled queue_rows ends) (more : s.front < s.base + length s.history) (history : List Tx) (u : Tx) (same : s.history ≡ reverse history) (read : u ≡ get_or history (s.front - s.base) u) where
   the_next : IsNext s

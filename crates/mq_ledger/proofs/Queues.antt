@@ -2,10 +2,10 @@
 use Rattle.std.proofs.Common.{◌≡◌, ℕ, ◌+◌, ◌<◌, ◌≤◌, List, [], ◌∷◌, length, sym, refl, ap, ◌∙◌, inl, inr, arith}
 use Rattle.std.proofs.lemmas.Bool.{cases_lt, cases_eq}
 use Rattle.mq_ledger.specs.History.{writes, upto, of_queue, AreNumbered, IsAt}
-use Rattle.mq_ledger.specs.Items.{total, end_of, next, below, number_before}
+use Rattle.mq_ledger.specs.Items.{total, end_of, next, below, number_before, descriptor_blocks}
 use Rattle.mq_ledger.specs.declared.tx.Tx.{Tx}
 use Rattle.mq_ledger.proofs.Values.{upto-at, upto-past}
-use Rattle.mq_ledger.proofs.Entries.{below-at, below-past, of_queue-own, of_queue-other}
+use Rattle.mq_ledger.proofs.Entries.{below-at, below-past, of_queue-own, of_queue-other, next_upto, total_upto}
 
 -- of one queue, and the numbers fall
 abbrev pub IsFalling : ℕ → List Tx → Type 0
@@ -57,7 +57,7 @@ FromQueue-of q t txs (u ∷ ws) at =
       | inr o ↦ (let k = rw (of_queue-other q u ws o) at at in let r = FromQueue-of q t txs ws k in record { ts = r.ts; at = inr r.at; own = r.own; rest = r.rest })
     ]
 
-pub at_end : (from : ℕ) (t : Tx) (txs ws : List Tx) → IsAt t txs ws → end_of from txs + (writes t + 1) ≤ end_of from ws
+pub at_end : (from : ℕ) (t : Tx) (txs ws : List Tx) → IsAt t txs ws → end_of from txs + (writes t + descriptor_blocks t) ≤ end_of from ws
 at_end from t txs [] at = absurd at
 at_end from t txs (u ∷ ws) (inl same) =
     let e : total (u ∷ ws) ≡ total (t ∷ txs) = go same.0 same.1 in
@@ -67,7 +67,12 @@ at_end from t txs (u ∷ ws) (inl same) =
     go p r = cc
 at_end from t txs (u ∷ ws) (inr deeper) = omega (arith, at_end from t txs ws deeper)
 
-pub at_in_below : (from h : ℕ) (t : Tx) (txs ws : List Tx) → IsAt t txs ws → end_of from txs + (writes t + 1) ≤ h → IsAt t txs (below from h ws)
+pub at_next : (t : Tx) (txs ws : List Tx) → IsAt t txs ws → next txs + (length t.logged + descriptor_blocks t) ≤ next ws
+at_next t txs [] at = absurd at
+at_next t txs (w ∷ ws) (inl same) = rw (same.0, same.1) (omega arith)
+at_next t txs (w ∷ ws) (inr deeper) = omega (arith, at_next t txs ws deeper)
+
+pub at_in_below : (from h : ℕ) (t : Tx) (txs ws : List Tx) → IsAt t txs ws → end_of from txs + (writes t + descriptor_blocks t) ≤ h → IsAt t txs (below from h ws)
 at_in_below from h t txs [] at l = absurd at
 at_in_below from h t txs (u ∷ ws) (inl same) l =
     let k = at_end from t txs (u ∷ ws) (inl same) in
@@ -82,7 +87,7 @@ at_in_below from h t txs (u ∷ ws) (inr deeper) l =
       | inr at ↦ rw (below-at from h u ws at) (inr deeper)
     ]
 
-pub at_from_below : (from h : ℕ) (t : Tx) (txs ws : List Tx) → IsAt t txs (below from h ws) → IsAt t txs ws × (end_of from txs + (writes t + 1) ≤ h)
+pub at_from_below : (from h : ℕ) (t : Tx) (txs ws : List Tx) → IsAt t txs (below from h ws) → IsAt t txs ws × (end_of from txs + (writes t + descriptor_blocks t) ≤ h)
 at_from_below from h t txs [] at = absurd at
 at_from_below from h t txs (u ∷ ws) at =
     elim (cases_lt h (from + total (u ∷ ws))) [
@@ -101,14 +106,7 @@ end_above q from n t txs [] f at l = absurd at
 end_above q from n t txs (u ∷ ws) f (inl same) l =
     let e : u.number ≡ t.number = ap (λ (v : Tx). v.number) same.0 in
     rw (upto-past n u ws (omega arith), same.1) (omega (arith, total_upto n txs))
-  where
-    total_upto : (n : ℕ) (txs : List Tx) → total (upto n txs) ≤ total txs
-    total_upto n [] = omega arith
-    total_upto n (t ∷ txs) =
-        elim (cases_lt n t.number) [
-          | inl past ↦ rw (upto-past n t txs past) (omega (arith, total_upto n txs))
-          | inr at ↦ rw (upto-at n t txs at) (omega arith)
-        ]
+
 end_above q from n t txs (u ∷ ws) f (inr deeper) l =
     let k = number_falls q t txs ws f.2 deeper in
     rw (upto-past n u ws (omega (arith, f.1))) (end_above q from n t txs ws f.2 deeper l)
@@ -118,14 +116,7 @@ next_above q n t txs [] f at l = absurd at
 next_above q n t txs (u ∷ ws) f (inl same) l =
     let e : u.number ≡ t.number = ap (λ (v : Tx). v.number) same.0 in
     rw (upto-past n u ws (omega arith), same.1) (next_upto n txs)
-  where
-    next_upto : (n : ℕ) (txs : List Tx) → next (upto n txs) ≤ next txs
-    next_upto n [] = omega arith
-    next_upto n (t ∷ txs) =
-        elim (cases_lt n t.number) [
-          | inl past ↦ rw (upto-past n t txs past) (omega (arith, next_upto n txs))
-          | inr at ↦ rw (upto-at n t txs at) (omega arith)
-        ]
+
 next_above q n t txs (u ∷ ws) f (inr deeper) l =
     let k = number_falls q t txs ws f.2 deeper in
     rw (upto-past n u ws (omega (arith, f.1))) (next_above q n t txs ws f.2 deeper l)

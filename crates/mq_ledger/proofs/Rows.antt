@@ -4,7 +4,7 @@ use Rattle.std.proofs.lemmas.Bool.{cases_Bool, cases_lt}
 use Rattle.std.proofs.lemmas.List.{length-reverse, reverse-append, get_or_append_left, take_more, length-take-le}
 use Rattle.std.proofs.Math.Seq.{get_or-append_seam}
 use Rattle.mq_ledger.specs.History.{writes, upto, IsAt, IsPart}
-use Rattle.mq_ledger.specs.Items.{total, end_of, below}
+use Rattle.mq_ledger.specs.Items.{total, end_of, below, descriptor_blocks}
 use Rattle.mq_ledger.specs.Tables.{along, row_of, rows_of, no_row, row_before, rows_from, ends_by, is_up_to}
 use Rattle.mq_ledger.specs.declared.queue_rows.Row.{Row}
 use Rattle.mq_ledger.specs.declared.tx.Tx.{Tx}
@@ -121,25 +121,22 @@ rows-stop has rows k d l e =
 
 -- ---- the oldest transaction that ends behind a count
 
-below-full : (from h : ℕ) (txs : List Tx) → length txs ≤ length (below from h txs) → (t : Tx) (ws : List Tx) → IsAt t ws txs → end_of from ws + (writes t + 1) ≤ h
+below-full : (from h : ℕ) (txs : List Tx) → length txs ≤ length (below from h txs) → (t : Tx) (ws : List Tx) → IsAt t ws txs → end_of from ws + (writes t + descriptor_blocks t) ≤ h
 below-full from h [] l t ws at = absurd at
 below-full from h (u ∷ txs) l t ws at = elim (cases_lt h (from + total (u ∷ txs))) [
-  | inl less ↦ absurd (let k = rw (below-past from h u txs less) at l in let few = below_le from h txs in omega arith)
+  | inl less ↦ absurd (let k = rw (below-past from h u txs less) at l in let few = length-below_le from h txs in omega arith)
   | inr full ↦ (let k = at_end from t ws (u ∷ txs) at in omega arith)
 ]
-  where
-    below_le : (from h : ℕ) (txs : List Tx) → length (below from h txs) ≤ length txs
-    below_le from h txs = length-below_le from h txs
 
 pub record LeastUndone (from h : ℕ) (txs : List Tx) : Type 0 where
   pub u : Tx
   pub vs : List Tx
   pub at : IsAt u vs txs
   pub size : length vs ≡ length (below from h txs)
-  pub above : h < end_of from vs + (writes u + 1)
-  pub least : (t : Tx) (ws : List Tx) → IsAt t ws txs → h < end_of from ws + (writes t + 1) → u.number ≤ t.number
+  pub above : h < end_of from vs + (writes u + descriptor_blocks u)
+  pub least : (t : Tx) (ws : List Tx) → IsAt t ws txs → h < end_of from ws + (writes t + descriptor_blocks t) → u.number ≤ t.number
 
-pub none_undone : (from h : ℕ) (txs : List Tx) → length txs ≤ length (below from h txs) → (t : Tx) (ws : List Tx) → IsAt t ws txs → h < end_of from ws + (writes t + 1) → ⊥
+pub none_undone : (from h : ℕ) (txs : List Tx) → length txs ≤ length (below from h txs) → (t : Tx) (ws : List Tx) → IsAt t ws txs → h < end_of from ws + (writes t + descriptor_blocks t) → ⊥
 none_undone from h txs l t ws at past = (let k = below-full from h txs l t ws at in absurd (omega arith))
 
 pub least_undone : (q from h : ℕ) (txs : List Tx) → IsFalling q txs → length (below from h txs) < length txs → LeastUndone from h txs
@@ -168,6 +165,6 @@ least_undone q from h (t ∷ txs) f l = elim (cases_lt h (from + total (t ∷ tx
   ]
 ]
   where
-    at_least : (r : LeastUndone from h txs) → (v : Tx) (ws : List Tx) → IsAt v ws (t ∷ txs) → h < end_of from ws + (writes v + 1) → r.u.number ≤ v.number
+    at_least : (r : LeastUndone from h txs) → (v : Tx) (ws : List Tx) → IsAt v ws (t ∷ txs) → h < end_of from ws + (writes v + descriptor_blocks v) → r.u.number ≤ v.number
     at_least r v ws (inl same) past = (let e : t.number ≡ v.number = ap (λ (w : Tx). w.number) same.0 in let k = number_falls q r.u r.vs txs f.2 r.at in let up = f.1 in omega arith)
     at_least r v ws (inr deeper) past = r.least v ws deeper past

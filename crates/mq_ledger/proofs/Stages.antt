@@ -2,7 +2,7 @@
 use Rattle.std.proofs.Common.{◌≡◌, ℕ, ◌+◌, ◌-◌, ◌<◌, ◌≤◌, List, length, sym, ap, subst, ◌∙◌}
 use Rattle.mq_blocks.specs.declared.geometry.Geometry.{Geometry}
 use Rattle.mq_ledger.specs.History.{writes, of_queue, IsAt, IsPart}
-use Rattle.mq_ledger.specs.Items.{Item, end_of, next, below, item_at, item_of}
+use Rattle.mq_ledger.specs.Items.{Item, end_of, next, below, item_at, item_of, descriptor_blocks}
 use Rattle.mq_ledger.specs.Records.{Ledger, own, from_of}
 use Rattle.mq_ledger.specs.Staged.{IsStaged, IsBehind}
 use Rattle.mq_ledger.specs.Tables.{row_of}
@@ -11,8 +11,7 @@ use Rattle.mq_ledger.specs.declared.staging.Staged.{Staged}
 use Rattle.mq_ledger.specs.declared.tx.Tx.{Tx}
 use Rattle.mq_ledger.proofs.Entries.{Source-of}
 use Rattle.mq_ledger.proofs.Ledgers.{below-is}
-use Rattle.mq_ledger.proofs.Lookups.{at_next}
-use Rattle.mq_ledger.proofs.Queues.{at_own}
+use Rattle.mq_ledger.proofs.Queues.{at_own, at_next}
 use Rattle.mq_ledger.proofs.Rows.{below-part, at-length}
 
 -- the transaction of a count, and what stands before it
@@ -27,8 +26,8 @@ pub record IsEntry (s : Ledger) (q count : ℕ) : Type 0 where
   pub size : length (below (from_of s q) count (own s q)) ≡ length txs
   pub few : length txs < length (own s q)
   pub low : end_of (from_of s q) txs ≤ count
-  pub high : count < end_of (from_of s q) txs + (writes t + 1)
-  pub place : next txs + (length t.logged + 1) ≤ next (own s q)
+  pub high : count < end_of (from_of s q) txs + (writes t + descriptor_blocks t)
+  pub place : next txs + (length t.logged + descriptor_blocks t) ≤ next (own s q)
   pub is : item_at (from_of s q) (own s q) count ≡ item_of t txs (count - end_of (from_of s q) txs)
 
 pub entry_of : (s : Ledger) (q count : ℕ) → from_of s q ≤ count → count < end_of (from_of s q) (own s q) → IsEntry s q count

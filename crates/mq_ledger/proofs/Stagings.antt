@@ -8,6 +8,7 @@ use Rattle.mq_ledger.specs.KnownJournal.{IsTx}
 use Rattle.mq_ledger.specs.Plain.{plain_entry}
 use Rattle.mq_ledger.specs.Staged.{IsStaged}
 use Rattle.mq_blocks.specs.Machine.{Writes}
+use Rattle.mq_blocks.specs.Descriptor.{list_limit}
 use Rattle.mq_ledger.proofs.Lists.{block-read, rising-high}
 use Rattle.mq_ledger.specs.declared.staging.Staged.{Staged}
 use Rattle.mq_ledger.specs.declared.tx.Tx.{Tx}
@@ -15,7 +16,7 @@ use Rattle.mq_ledger.proofs.Entries.{item-direct}
 use Rattle.mq_ledger.proofs.Among.{rising_within}
 use Rattle.std.proofs.lemmas.List.{length-map, get_or_read}
 
-pub few_named : (g : Geometry) (t : Tx) → IsTx g t → length t.logged + length t.revoked ≤ 1000
+pub few_named : (g : Geometry) (t : Tx) → IsTx g t → length t.logged + length t.revoked ≤ list_limit
 few_named g t form =
     let within = rising_within 0 (homes_of g) t.revoked (blocks_of t.direct) form.revoked form.direct form.revokes in
     let long : length (blocks_of t.direct) ≡ length t.direct = length-map t.direct (λ (w : ℕ × List ℕ). w.0) in

@@ -1,7 +1,7 @@
 -- The form of a transaction, in two parts: its lists by themselves, and by one another.
 use Rattle.std.specs.Prelude.{◌≡◌, ◌<◌, ◌≤◌, ℕ, true, All, List, ◌++◌, length, Some, slice_index}
 use Rattle.mq_blocks.specs.Descriptor.{AreRising, AreApart}
-use Rattle.mq_blocks.specs.Geometry.{homes_of, zone_of}
+use Rattle.mq_blocks.specs.Geometry.{homes_of, zone_of, write_limit}
 use Rattle.mq_blocks.specs.Journal.{is_among}
 use Rattle.mq_blocks.specs.declared.geometry.Geometry.{Geometry}
 use Rattle.mq_ledger.specs.History.{blocks_of, writes}
@@ -18,7 +18,7 @@ pub record HasLists (g : Geometry) (t : Tx) : Type 0 where
   pub direct : AreRising 0 (homes_of g) (blocks_of t.direct)
   pub revoked : AreRising 0 (homes_of g) t.revoked
   pub freed : AreRising 0 (homes_of g) t.freed
-  pub few : writes t ≤ 1000
+  pub few : writes t ≤ write_limit g
 
 pub record FitsTogether (g : Geometry) (t : Tx) : Type 0 where
   pub whole : All (λ w. length w.1 ≡ 4096) (t.logged ++ t.direct)

@@ -56,10 +56,14 @@ said_of g q i = (i.number, lba_of g q i.target, i.commit)
 abbrev pub command_of : Geometry → ℕ → ℕ → Item → Command
 command_of g q c i = record { count = c; tx = i.number; lba = lba_of g q i.target; block = i.content }
 
+-- how many blocks of the journal area its descriptor takes, each with an entry
+abbrev pub descriptor_blocks : Tx → ℕ
+descriptor_blocks t = 1
+
 -- how many entries the transactions of a queue have
 abbrev pub total : List Tx → ℕ
 total [] = 0
-total (t ∷ ts) = total ts + (writes t + 1)
+total (t ∷ ts) = total ts + (writes t + descriptor_blocks t)
 
 -- the count behind their last entry, where the queue begins at `from`
 abbrev pub end_of : ℕ → List Tx → ℕ
@@ -68,7 +72,7 @@ end_of from ts = from + total ts
 -- the place behind theirs
 abbrev pub next : List Tx → ℕ
 next [] = 0
-next (t ∷ ts) = next ts + (length t.logged + 1)
+next (t ∷ ts) = next ts + (length t.logged + descriptor_blocks t)
 
 -- number and place of their last descriptor
 abbrev pub number_before : List Tx → ℕ

@@ -1,7 +1,7 @@
 -- What is known of the whole journal, apart from what its ports show.
 use Rattle.std.specs.Prelude.{◌≡◌, ◌<◌, ◌≤◌, ℕ, ◌+◌, Bool, true, false, All, List, ◌∷◌, ◌++◌, length, Some, None}
 use Rattle.mq_blocks.specs.Descriptor.{AreRising, AreApart}
-use Rattle.mq_blocks.specs.Geometry.{homes_of, zone_of}
+use Rattle.mq_blocks.specs.Geometry.{homes_of, zone_of, write_limit}
 use Rattle.mq_blocks.specs.Journal.{is_among, number_limit}
 use Rattle.mq_blocks.specs.Machine.{Map}
 use Rattle.mq_blocks.specs.declared.geometry.Geometry.{Geometry}
@@ -28,7 +28,7 @@ pub record KnownJournal : Type 0 where
 abbrev pub front : KnownJournal → ℕ
 front k = k.base + length (part_of k.done k.history)
 
--- What holds of a transaction by itself: at most 1,000 blocks in rising lists, none twice, of which
+-- What holds of a transaction by itself: no more blocks than it may write, in rising lists, none twice, of which
 -- it frees none; the direct ones in its queue's zone, and the revoked ones among them.
 pub record IsTx (g : Geometry) (t : Tx) : Type 0 where
   pub queue : t.queue < g.queues
@@ -37,7 +37,7 @@ pub record IsTx (g : Geometry) (t : Tx) : Type 0 where
   pub revoked : AreRising 0 (homes_of g) t.revoked
   pub freed : AreRising 0 (homes_of g) t.freed
   pub whole : All (λ w. length w.1 ≡ 4096) (t.logged ++ t.direct)
-  pub few : writes t ≤ 1000
+  pub few : writes t ≤ write_limit g
   pub apart : AreApart (blocks_of t.logged) (blocks_of t.direct)
   pub kept : AreApart t.freed (blocks_of (t.logged ++ t.direct))
   pub zoned : (x : ℕ) → is_among x (blocks_of t.direct) ≡ true → zone_of g x ≡ Some t.queue

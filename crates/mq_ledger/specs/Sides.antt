@@ -1,48 +1,18 @@
 -- What holds of a port, by the history and by what is known to be done and to be kept at home.
 use Rattle.std.specs.Prelude.{◌≡◌, ◌<◌, ◌≤◌, ℕ, ◌+◌, ◌-◌, ◌*◌, ◌%◌, ◌^◌, Bool, true, false, List, [], ◌∷◌, length, Option, Some, None, nat_eq, slice_index_or, if◌then◌else◌}
 use Rattle.mq_blocks.specs.Blocks.{block_at}
-use Rattle.mq_blocks.specs.Drive.{PortState, IsCertain, IsFlushed, AreFrom, AreCounted, staged_end, depth}
+use Rattle.mq_blocks.specs.Drive.{PortState, IsCertain, IsFlushed, AreFrom, AreCounted, staged_end, depth, usable_depth}
 use Rattle.mq_blocks.specs.Geometry.{homes_of, zone_of}
 use Rattle.mq_blocks.specs.Journal.{number_limit}
+use Rattle.mq_blocks.specs.Ports.{IsPort}
 use Rattle.mq_blocks.specs.declared.command.Command.{Command}
 use Rattle.mq_blocks.specs.declared.geometry.Geometry.{Geometry}
 use Rattle.mq_ledger.specs.History.{writes, map_after, last, upto, of_queue, IsAt, IsPart}
-use Rattle.mq_ledger.specs.Items.{AtPlace, AtHome, said_of, command_of, end_of, next, item_at, IsEnd}
+use Rattle.mq_ledger.specs.Items.{AtPlace, AtHome, said_of, command_of, end_of, next, item_at, IsEnd, descriptor_blocks}
 use Rattle.mq_ledger.specs.KnownJournal.{KnownJournal, front}
 use Rattle.mq_ledger.specs.declared.tx.Tx.{Tx}
 
--- ---- the part of the drive that a port has: a queue's, or the root's
-
-abbrev pub area_first_of : Geometry → Option ℕ → ℕ
-area_first_of g (Some q) = q * g.area
-area_first_of g None = 0
-
-abbrev pub area_size_of : Geometry → Option ℕ → ℕ
-area_size_of g (Some q) = g.area
-area_size_of g None = 0
-
-abbrev pub homes_first_of : Geometry → Option ℕ → ℕ
-homes_first_of g (Some q) = g.queues * g.area + (g.meta + q * g.zone)
-homes_first_of g None = g.queues * g.area
-
-abbrev pub homes_size_of : Geometry → Option ℕ → ℕ
-homes_size_of g (Some q) = g.zone
-homes_size_of g None = g.meta
-
-abbrev pub slots_of : Option ℕ → ℕ
-slots_of (Some q) = depth
-slots_of None = 0
-
-pub record IsPort (g : Geometry) (z : Option ℕ) (p : PortState) : Type 0 where
-  pub queue : p.queue ≡ z
-  pub area_first : p.area_first ≡ area_first_of g z
-  pub area_size : p.area_size ≡ area_size_of g z
-  pub homes_first : p.homes_first ≡ homes_first_of g z
-  pub homes_size : p.homes_size ≡ homes_size_of g z
-  pub flushed : length p.flushed ≡ slots_of z
-  pub staged : length p.staged ≡ slots_of z
-  pub blocks : length p.blocks ≡ area_size_of g z + homes_size_of g z
-  pub certain : length p.certain ≡ area_size_of g z + homes_size_of g z
+-- ---- the blocks of a port
 
 -- where a place of a queue, and a home block, stands among the blocks of its port
 abbrev pub place_index : Geometry → ℕ → ℕ
@@ -75,7 +45,7 @@ pub record AreOrdered (from end : ℕ) (p : PortState) : Type 0 where
   pub flushed : p.doorbell ≤ p.flushed_end
   pub staged : p.flushed_end ≤ staged_end p
   pub drawn : staged_end p ≤ end
-  pub room : end ≤ p.head + 1023
+  pub room : end ≤ p.head + usable_depth
 
 -- heads and doorbell stand at ends of transactions
 pub record AreEnds (from : ℕ) (txs : List Tx) (p : PortState) : Type 0 where
@@ -157,7 +127,7 @@ pub record SideOk (k : KnownJournal) (q : ℕ) (txs : List Tx) (p : PortState) :
   -- what the base covers stands below the head
   pub based : end_of (k.from q) (upto k.word txs) ≤ p.head
   -- what is known to be done stands below the head
-  pub done : (t : Tx) (ts : List Tx) → IsAt t ts k.history → t.queue ≡ q → k.done t ts ≡ true → end_of (k.from q) (of_queue q ts) + (writes t + 1) ≤ p.head
+  pub done : (t : Tx) (ts : List Tx) → IsAt t ts k.history → t.queue ≡ q → k.done t ts ≡ true → end_of (k.from q) (of_queue q ts) + (writes t + descriptor_blocks t) ≤ p.head
   -- each completed direct write is at home
   pub direct : (c x : ℕ) → k.from q ≤ c → IsDone p c → (item_at (k.from q) txs c).target ≡ AtHome x → IsKept k p x (item_at (k.from q) txs c).number (item_at (k.from q) txs c).content
   pub homes : AreHome k (Some q) p

@@ -7,11 +7,12 @@ use Rattle.mq_blocks.specs.Drive.{no_fuse, PortState, PortImage, IsImage, holds_
 use Rattle.mq_blocks.specs.Geometry.{homes_of, zone_of, home_lba}
 use Rattle.mq_blocks.specs.Journal.{Shown, AreWhole, IsPrefix, is_among, image_at, shown, stands, number_limit}
 use Rattle.mq_blocks.specs.Machine.{Map}
+use Rattle.mq_blocks.specs.Ports.{IsPort}
 use Rattle.mq_blocks.specs.declared.geometry.Geometry.{Geometry}
 use Rattle.mq_ledger.specs.History.{writes, blocks_of, map_after, last, upto, of_queue, IsAt}
-use Rattle.mq_ledger.specs.Items.{Entries, AreRead, AtHome, end_of, item_at}
+use Rattle.mq_ledger.specs.Items.{Entries, AreRead, AtHome, end_of, item_at, descriptor_blocks}
 use Rattle.mq_ledger.specs.KnownJournal.{KnownJournal, LogOk}
-use Rattle.mq_ledger.specs.Sides.{SideOk, holds_count, RootOk, IsPort, AreHome, flushed_at, home_index}
+use Rattle.mq_ledger.specs.Sides.{SideOk, holds_count, RootOk, AreHome, flushed_at, home_index}
 use Rattle.mq_ledger.specs.declared.tx.Tx.{Tx}
 
 pub record State : Type 0 where
@@ -74,7 +75,7 @@ from_at starts q = slice_index_or starts q 0
 
 -- the flushed head is past the transaction, where these stand before it
 abbrev pub is_done : List ℕ → List PortState → Tx → List Tx → Bool
-is_done starts ports t ts = nat_le (end_of (from_at starts t.queue) (of_queue t.queue ts) + (writes t + 1)) (port_at ports t.queue).head
+is_done starts ports t ts = nat_le (end_of (from_at starts t.queue) (of_queue t.queue ts) + (writes t + descriptor_blocks t)) (port_at ports t.queue).head
 
 -- What is done is what the flushed heads say, and the whole map is due at the flushed and at the
 -- stored base.

@@ -4,7 +4,7 @@ use Rattle.mq_blocks.specs.Geometry.{homes_of}
 use Rattle.mq_blocks.specs.Journal.{number_limit}
 use Rattle.mq_blocks.specs.Machine.{Writes}
 use Rattle.mq_ledger.specs.History.{writes, map_after, last, last_logged, upto, of_queue, IsAt, AreNumbered}
-use Rattle.mq_ledger.specs.Items.{write_at, end_of, next, number_before}
+use Rattle.mq_ledger.specs.Items.{write_at, end_of, next, number_before, descriptor_blocks}
 use Rattle.mq_ledger.specs.KnownJournal.{IsTx}
 use Rattle.mq_ledger.specs.Records.{Ledger, own, from_of}
 use Rattle.mq_ledger.specs.State.{from_at, start_map}
@@ -93,7 +93,7 @@ is_up_to number r = nat_le r.number number
 
 -- the count behind each transaction, newest first
 abbrev pub ends_of : List ℕ → List Tx → List ℕ
-ends_of starts h = along (λ t ts. end_of (from_at starts t.queue) (of_queue t.queue ts) + (writes t + 1)) h
+ends_of starts h = along (λ t ts. end_of (from_at starts t.queue) (of_queue t.queue ts) + (writes t + descriptor_blocks t)) h
 
 -- The derived data are right.
 pub record AreTables (s : Ledger) (newest settled : List Latest) (queue_rows : List (List Row)) (ends : List ℕ) : Type 0 where

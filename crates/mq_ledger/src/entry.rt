@@ -1,16 +1,16 @@
 // What an entry says.
 use std::marker::Model;
 
-/// What an entry says: its transaction's number, the Lba that it writes, and whether it is the
+/// An entry as the machine has it, in plain words: its transaction's number, the Lba that it writes, and whether it is the
 /// transaction's last.
 #[derive(Clone, Copy)]
-pub struct Entry {
+pub struct PlainEntry {
     pub number: u64,
     pub lba: u64,
     pub commit: bool,
 }
 
-impl Model for Entry {
+impl Model for PlainEntry {
     ghost use Rattle.std.specs.Prelude.{ℕ, ◌<◌, ◌^◌, ◌==◌, List, [], ◌∷◌, slice_index, if◌then◌else◌};
 
     ghost Value = { List ℕ };

@@ -11,9 +11,6 @@ ghost use Rattle.mq_ledger.specs.Records.{Every};
 use crate::{Content, Tx};
 use mq_blocks::{BlockNo, Geometry, QueueNo};
 
-/// The most blocks that a transaction writes.
-const MOST: usize = 1000;
-
 /// What stands for a block in a list.
 trait OfBlock {
     ghost block_of: { Self → ℕ };
@@ -162,13 +159,14 @@ fn has_lists(geometry: Geometry, tx: &Tx) -> bool
     ensures { IsTrue result ↔ HasLists geometry tx.now }
 {
     let homes = geometry.homes();
+    let most = geometry.write_limit() as usize;
     let logged = tx.logged.as_slice();
     let direct = tx.direct.as_slice();
     let revoked = tx.revoked.as_slice();
     let freed = tx.freed.as_slice();
     tx.queue.0 < geometry.queues()
-        && logged.len() <= MOST
-        && direct.len() <= MOST - logged.len()
+        && logged.len() <= most
+        && direct.len() <= most - logged.len()
         && is_rising(logged, homes)
         && is_rising(direct, homes)
         && is_rising(revoked, homes)

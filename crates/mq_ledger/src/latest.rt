@@ -1,5 +1,6 @@
 // What the newest of some transactions did to each home block.
-ghost use Rattle.std.specs.Prelude.{◌≡◌, ◌<◌, ◌≤◌, ◌+◌, ◌-◌, ◌++◌, ◌^◌, ℕ, List, Option, None, Some, length, map, reverse, slice_index_or, slice_set, MatchOption};
+ghost use Rattle.std.specs.Prelude.{◌≡◌, ◌<◌, ◌≤◌, ◌+◌, ◌-◌, ◌++◌, ◌^◌, ℕ, List, Option, None, Some, length, map, reverse, slice_index_or, slice_set};
+ghost use Rattle.std.specs.Prelude.{MatchOption};
 ghost use Rattle.mq_blocks.specs.Descriptor.{AreRising};
 ghost use Rattle.mq_ledger.specs.History.{blocks_of, writes, AreNumbered, IsAt};
 ghost use Rattle.mq_ledger.specs.Items.{write_at};
@@ -78,7 +79,7 @@ pub fn mark(table: &mut Vec<Latest>, tx: &Tx)
     requires freed { AreRising 0 (length table.old.items) tx.now.freed }
     requires logged { AreRising 0 (length table.old.items) (blocks_of tx.now.logged) }
     requires direct { AreRising 0 (length table.old.items) (blocks_of tx.now.direct) }
-    requires few { writes tx.now ≤ 1000 }
+    requires few { writes tx.now < 2 ^ 64 }
     ensures { table.new.items ≡ after_tx tx.now table.old.items }
 {
     mark_blocks(table, tx);
@@ -88,7 +89,7 @@ fn mark_blocks(table: &mut [Latest], tx: &Tx)
     requires freed { AreRising 0 (length table.old) tx.now.freed }
     requires logged { AreRising 0 (length table.old) (blocks_of tx.now.logged) }
     requires direct { AreRising 0 (length table.old) (blocks_of tx.now.direct) }
-    requires few { writes tx.now ≤ 1000 }
+    requires few { writes tx.now < 2 ^ 64 }
     ensures { table.new ≡ after_tx tx.now table.old }
 {
     let number = tx.number.0;

@@ -14,8 +14,8 @@ mod tests;
 mod tx;
 
 pub use content::{Blocks, Content, Writes, copy_blocks, copy_content};
-pub use entry::Entry;
+pub use entry::PlainEntry;
 pub use queue_rows::QueueEnd;
-pub use records::{Ledger, repeated};
+pub use records::{DESCRIPTOR_BLOCKS, Ledger, repeated};
 pub use staging::Staged;
 pub use tx::Tx;

@@ -6,8 +6,9 @@ ghost use Rattle.mq_blocks.specs.Journal.{number_limit};
 ghost use Rattle.mq_ledger.specs.KnownJournal.{KnownJournal, MayDraw};
 ghost use Rattle.mq_ledger.specs.Form.{IsAscending};
 ghost use Rattle.mq_ledger.specs.History.{blocks_of, writes, last, last_logged, map_after, upto, AreNumbered, IsAt, IsPart};
-ghost use Rattle.mq_ledger.specs.Items.{end_of, next, below, IsEnd, item_at};
-ghost use Rattle.mq_ledger.specs.Records.{own, from_of, HasPlace, LogsLast, IsClear, IsNextEnd, IsKnown, Every, IsTaken, IsOpen, start_ledger, push_tx, settle_next};
+ghost use Rattle.mq_ledger.specs.Items.{end_of, next, below, IsEnd, item_at, descriptor_blocks};
+ghost use Rattle.mq_ledger.specs.Records.{own, from_of, HasPlace, LogsLast, IsClear, IsNextEnd, IsKnown, Every, IsTaken, IsOpen, start_ledger};
+ghost use Rattle.mq_ledger.specs.Records.{push_tx, settle_next};
 ghost use Rattle.mq_ledger.specs.Staged.{IsStaged};
 ghost use Rattle.mq_ledger.specs.State.{start_map};
 ghost use Rattle.mq_ledger.specs.Tables.{IsLatest, row_of};
@@ -22,6 +23,9 @@ use crate::{Content, Tx};
 use mq_blocks::{BlockNo, Geometry, OutOfMemory, QueueNo, TxNo};
 use std::alloc::Global;
 use std::marker::Model;
+
+/// The blocks of the journal area that a descriptor takes, each with an entry.
+pub const DESCRIPTOR_BLOCKS: u64 = 1;
 
 /// The greatest number of a transaction.
 const LIMIT: u64 = 1 << 63;
@@ -74,19 +78,18 @@ fn empty_queue_rows(alloc: Global, queues: usize) -> Result<Vec<QueueRows>, OutO
 
 /// The row of a transaction behind another's.
 fn row_after(before: Row, tx: &Tx) -> Row
-    requires few { writes tx.now ≤ 1000 }
-    requires counts { before.end + (writes tx.now + 1) ≤ number_limit }
+    requires counts { before.end + (writes tx.now + descriptor_blocks tx.now) ≤ number_limit }
     requires places { before.next + length tx.now.logged < 2 ^ 62 }
     ensures number { result.number ≡ tx.now.number }
-    ensures end { result.end ≡ before.end + (writes tx.now + 1) }
-    ensures next_is { result.next ≡ before.next + (length tx.now.logged + 1) }
+    ensures end { result.end ≡ before.end + (writes tx.now + descriptor_blocks tx.now) }
+    ensures next_is { result.next ≡ before.next + (length tx.now.logged + descriptor_blocks tx.now) }
 {
     let copies = tx.logged.as_slice().len() as u64;
     let direct = tx.direct.as_slice().len() as u64;
     Row {
         number: tx.number.0,
-        end: before.end + (copies + direct + 1),
-        next: before.next + (copies + 1),
+        end: before.end + (copies + direct + DESCRIPTOR_BLOCKS),
+        next: before.next + (copies + DESCRIPTOR_BLOCKS),
     }
 }
 

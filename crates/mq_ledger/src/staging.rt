@@ -10,7 +10,7 @@ ghost use Rattle.mq_ledger.specs.declared.tx.Tx.{Tx as Record};
 
 use crate::content::copy_content;
 use crate::queue_rows::Row;
-use crate::{Content, Entry, Tx};
+use crate::{Content, PlainEntry, Tx};
 use mq_area::{Descriptor, write_descriptor};
 use mq_blocks::{Block, BlockNo, Geometry, Lba, OutOfMemory, TxNo};
 use std::alloc::Global;
@@ -18,7 +18,7 @@ use std::alloc::Global;
 /// An entry that a queue stages, with its write.
 #[derive(Drop)]
 pub struct Staged {
-    pub entry: Entry,
+    pub entry: PlainEntry,
     pub tx: TxNo,
     pub lba: Lba,
     pub block: Content,
@@ -31,7 +31,7 @@ impl Staged {
         ensures lba_is { result.lba ≡ lba }
         ensures block_is { result.block ≡ block }
     {
-        let entry = Entry {
+        let entry = PlainEntry {
             number: tx.0,
             lba: u64::from(lba.0),
             commit,

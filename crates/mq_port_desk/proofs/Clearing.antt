@@ -4,7 +4,7 @@ use Rattle.std.proofs.lemmas.Bool.{eqb-true, leb-true, or_cases, or_right, and_p
 use Rattle.mq_blocks.specs.Drive.{PortState}
 use Rattle.mq_blocks.specs.declared.geometry.Geometry.{Geometry}
 use Rattle.mq_ledger.specs.History.{writes, of_queue, IsAt}
-use Rattle.mq_ledger.specs.Items.{end_of}
+use Rattle.mq_ledger.specs.Items.{end_of, descriptor_blocks}
 use Rattle.mq_ledger.specs.KnownJournal.{KnownJournal, LogOk}
 use Rattle.mq_ledger.specs.Sides.{SideOk}
 use Rattle.mq_ledger.specs.declared.tx.Tx.{Tx}
@@ -26,8 +26,8 @@ module _ {Q R E : Type 0} (side : Q → SideView) (root : R → PortState) (geom
   abbrev done : Tx → List Tx → Bool
   done t ts = is_claimed (c ∷ K.claims) t
 
-  more : DoneMore core.done done
-  more = record { each = λ t ts e. or_right (eqb c.queue t.queue && nat_le t.number c.up_to) (is_claimed K.claims t) e }
+  more : DoneMore core.done done core.history
+  more = record { each = λ t ts at e. or_right (eqb c.queue t.queue && nat_le t.number c.up_to) (is_claimed K.claims t) e }
 
   -- nothing is asked of a claim but that its numbers were drawn
   pub ok_claimed : IsOk side root geometry tx K → c.up_to ≤ newest K → IsOk side root geometry tx (claimed c K)
@@ -35,7 +35,7 @@ module _ {Q R E : Type 0} (side : Q → SideView) (root : R → PortState) (geom
 
   -- the side shows that the claimed numbers of its queue are done
   pub side_claimed : (w : Q) → IsOk side root geometry tx K → IsSide side root geometry tx c.queue K w
-      → ((t : Tx) (ts : List Tx) → IsAt t ts core.history → t.queue ≡ c.queue → t.number ≤ c.up_to → end_of (core.from c.queue) (of_queue c.queue ts) + (writes t + 1) ≤ (side w).port.head)
+      → ((t : Tx) (ts : List Tx) → IsAt t ts core.history → t.queue ≡ c.queue → t.number ≤ c.up_to → end_of (core.from c.queue) (of_queue c.queue ts) + (writes t + descriptor_blocks t) ≤ (side w).port.head)
       → IsSide side root geometry tx c.queue (claimed c K) w
   side_claimed w k is true_of = record {
     port = side_more core done k.log more c.queue (Ports.own_of side root geometry tx c.queue K) (side w).port is.port (λ t ts at own e. elim (or_cases (eqb c.queue t.queue && nat_le t.number c.up_to) (is_claimed K.claims t) e) [

@@ -5,9 +5,9 @@ use Rattle.std.specs.Prelude.{slice_get}
 use lib.ListN.{length-map}
 use Rattle.mq_blocks.specs.Drive.{PortState}
 use Rattle.mq_ledger.specs.KnownJournal.{KnownJournal, LogOk}
-use Rattle.mq_ledger.specs.Plain.{plain}
 use Rattle.mq_ledger.specs.Sides.{SideOk, AreHome}
 use Rattle.mq_ledger.specs.State.{State, Facts, known_of, no_port}
+use Rattle.mq_ledger.specs.Written.{journal_entries}
 use Rattle.mq_core.proofs.Growth.{side_moved}
 use Rattle.mq_core.proofs.Runs.{start_facts}
 use Rattle.mq_drive.specs.Steps.{Fault}
@@ -34,7 +34,7 @@ module _ {P : Type 0} (state : P → PortState) (faults : P → List Fault) (o :
   s = state_of state o
 
   abbrev k : KnownJournal
-  k = known_of plain s
+  k = known_of journal_entries s
 
   -- what is known on the desk
   abbrev shown : Shared PageCell (QueuePort P) (RootPort P) Commit
@@ -43,8 +43,8 @@ module _ {P : Type 0} (state : P → PortState) (faults : P → List Fault) (o :
   abbrev core : KnownJournal
   core = Ports.core_of (side_of state faults) (root_of state faults) shape_of tx_of shown
 
-  facts : Facts plain s
-  facts = start_facts plain s fresh.start
+  facts : Facts journal_entries s
+  facts = start_facts journal_entries s fresh.start
 
   due_before : (x v : ℕ) → core.due x v ≡ true → k.due x v ≡ true
   due_before x v e = elim (or_cases (eqb v o.base) false e) [

@@ -7,7 +7,7 @@ use Rattle.mq_blocks.specs.Geometry.{homes_of}
 use Rattle.mq_blocks.specs.Machine.{write_of}
 use Rattle.mq_ledger.specs.KnownJournal.{draw_known, KnownJournal}
 use Rattle.mq_ledger.specs.History.{writes, changes, of_queue, upto, last_logged}
-use Rattle.mq_ledger.specs.Items.{end_of, next}
+use Rattle.mq_ledger.specs.Items.{end_of, next, descriptor_blocks}
 use Rattle.mq_ledger.specs.Sides.{SideOk}
 use Rattle.mq_ledger.specs.declared.tx.Tx.{Tx}
 use Rattle.mq_ledger.proofs.Values.{upto-past, last-changed, map_written}
@@ -34,7 +34,7 @@ use Rattle.mq_turns.proofs.Each.{hit, times_without_other}
 use Rattle.mq_port_desk.specs.Laws.{unclaimed, length_history}
 use Rattle.mq_port_desk.specs.Machine.{tx_of, side_of, root_of, shape_of, ports}
 use Rattle.mq_port_desk.specs.Ports
-use Rattle.mq_port_desk.specs.Room.{HasRoom, WasFull}
+use Rattle.mq_port_desk.specs.Room.{size_of, HasRoom, WasFull}
 use Rattle.mq_port_desk.proofs.Clearing.{ok_claimed, none_claimed}
 use Rattle.mq_port_desk.specs.declared.machine.Commit.{Commit}
 use Rattle.mq_port_desk.specs.declared.machine.QueuePort.{QueuePort}
@@ -77,8 +77,8 @@ module _ {P : Type 0} (state : P → PortState) (faults : P → List Fault) wher
   hist = Ports.history (side_of state faults) (root_of state faults) shape_of tx_of
 
   -- a side that stands below what is drawn on it, and has no room, was full
-  pub was_full : (q k : ℕ) (K1 K : Shown) (v u : View PageCell (QueuePort P) (RootPort P) Commit) (w : QueuePort P) → u ≡ holding k K1 v → Sees μ u K → μ.side q K w → (w.low ≤ w.end → HasRoom (side_of state faults w) → ⊥) → WasFull state faults q v
-  was_full q k K1 K v u w took sees stands full = record {
+  pub was_full : (e : Commit) (k : ℕ) (K1 K : Shown) (v u : View PageCell (QueuePort P) (RootPort P) Commit) (w : QueuePort P) → u ≡ holding k K1 v → Sees μ u K → μ.side e.queue K w → (w.low ≤ w.end → HasRoom e (side_of state faults w) → ⊥) → WasFull state faults e v
+  was_full e k K1 K v u w took sees stands full = record {
     known = K;
     side = w;
     sees = sees_before μ k K1 K v (subst (λ x. Sees μ x K) took sees);
@@ -222,7 +222,7 @@ module _ {P : Type 0} (state : P → PortState) (faults : P → List Fault) wher
         above : K.word < t.number
         above = let n = may.number in let high = sees.ok.log.word_high in let low = front_low (core K) in omega arith
 
-        module _ (w : QueuePort P) (was : μ.side e.queue K2 w) (room : HasRoom (side_of state faults w)) where
+        module _ (w : QueuePort P) (was : μ.side e.queue K2 w) (room : HasRoom e (side_of state faults w)) where
           now : μ.side e.queue K w
           now = μ.side_along e.queue K2 K w known.0.1 known.0.0 sees.ok was
 
@@ -241,7 +241,7 @@ module _ {P : Type 0} (state : P → PortState) (faults : P → List Fault) wher
               let area = room.area in
               let places = room.places in
               let rung : (state w.port).doorbell ≡ end_of ((core K).from e.queue) txs = room.rung ∙ side.end in
-              let two : writes t + 1 ≡ 2 = refl in
+              let two : writes t + descriptor_blocks t ≡ size_of e = refl in
               let one : length t.logged ≡ 1 = refl in
               let staged = order.drawn in
               let low = order.stored in
@@ -262,7 +262,7 @@ module _ {P : Type 0} (state : P → PortState) (faults : P → List Fault) wher
               let as_drawn = side_drawn (core K) t sees.ok.log may.number new e.queue txs (state w.port) side.port in
               subst (λ vs. SideOk (core (drawn e K)) e.queue vs (state w.port)) (sym own) (side_extends (draw_known t (core K)) e.queue t txs (state w.port) ([], own) above as_drawn fits)
 
-          own_side : μ.side e.queue (drawn e K) (record w { end = w.end + 2; place = w.place + 2 })
+          own_side : μ.side e.queue (drawn e K) (record w { end = w.end + size_of e; place = w.place + size_of e })
           own_side =
               let side = now in
               let a = side.end in
@@ -284,9 +284,9 @@ module _ {P : Type 0} (state : P → PortState) (faults : P → List Fault) wher
 
           -- the side, given back after the draw
           pub side_stands : (M : Type 0) (slot : ℕ) → slot ≡ length o.pages + e.queue
-              → Each (λ h. h.0 ≡ slot → Stands {M = M} μ (Side e.queue) h.1 (item.Side (record w { end = w.end + 2; place = w.place + 2 }))) (after_draw μ e K v).held
+              → Each (λ h. h.0 ≡ slot → Stands {M = M} μ (Side e.queue) h.1 (item.Side (record w { end = w.end + size_of e; place = w.place + size_of e }))) (after_draw μ e K v).held
           side_stands M slot at =
-              let F : List (ℕ × Shown) → Type 0 = λ l. Each (λ h. h.0 ≡ slot → Stands {M = M} μ (Side e.queue) h.1 (item.Side (record w { end = w.end + 2; place = w.place + 2 }))) l in
+              let F : List (ℕ × Shown) → Type 0 = λ l. Each (λ h. h.0 ≡ slot → Stands {M = M} μ (Side e.queue) h.1 (item.Side (record w { end = w.end + size_of e; place = w.place + size_of e }))) l in
               subst F (sym held_after) ((λ _. own_side), (λ same. absurd (omega arith), tt))
 
       module _ (c : PageCell) (n : ℕ) (number : n ≡ suc (newest K)) (was : μ.page e.block K1 c) where

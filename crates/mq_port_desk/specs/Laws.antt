@@ -7,8 +7,8 @@ use Rattle.mq_blocks.specs.declared.geometry.Geometry.{Geometry}
 use Rattle.mq_ledger.specs.History.{changes, of_queue, upto}
 use Rattle.mq_ledger.specs.Items.{end_of, next}
 use Rattle.mq_ledger.specs.KnownJournal.{KnownJournal, LogOk}
-use Rattle.mq_ledger.specs.Plain.{plain}
 use Rattle.mq_ledger.specs.Sides.{SideOk, RootOk}
+use Rattle.mq_ledger.specs.Written.{journal_entries}
 use Rattle.mq_ledger.specs.declared.tx.Tx.{Tx}
 use Rattle.mq_core.proofs.Bases.{next_upto_more}
 use Rattle.mq_core.proofs.Fronts.{DoneMore}
@@ -16,7 +16,7 @@ use Rattle.mq_core.proofs.Growth.{log_drawn}
 use Rattle.mq_drive.specs.Steps.{Fault}
 use Rattle.mq_pages.specs.declared.page.PageCell.{PageCell}
 use Rattle.mq_turns.specs.Lists.{Each, tally}
-use Rattle.mq_turns.specs.Meaning.{Stays, Apart, newest, drawn}
+use Rattle.mq_turns.specs.Meaning.{Stays, Grows, Apart, newest, drawn}
 use Rattle.mq_turns.specs.Words.{same_turn}
 use Rattle.mq_turns.specs.declared.rule.Charge.{Charge}
 use Rattle.mq_turns.specs.declared.rule.Claim.{Claim}
@@ -104,9 +104,9 @@ module _ {Q R E : Type 0} (side : Q → SideView) (root : R → PortState) (geom
   length_history base [] = refl
   length_history base (e ∷ es) = let ih = length_history base es in omega arith
 
-  module _ (t : Turn) (K L : Desk) (s : Stay t K L) where
+  module _ (K L : Desk) (g : Grows K L) where
     abbrev newer : List Tx
-    newer = newer_txs K.opening.base s.grows.newer K.log
+    newer = newer_txs K.opening.base g.newer K.log
 
     abbrev done : Tx → List Tx → Bool
     done u txs = is_claimed L.claims u
@@ -118,12 +118,12 @@ module _ {Q R E : Type 0} (side : Q → SideView) (root : R → PortState) (geom
     then = later (core K) newer done due L.word
 
     history_grows : hist L.opening.base L.log ≡ newer ++ hist K.opening.base K.log
-    history_grows = (λ i. hist (s.grows.opening i).base (s.grows.log i)) ∙ history_append K.opening.base s.grows.newer K.log
+    history_grows = (λ i. hist (g.opening i).base (g.log i)) ∙ history_append K.opening.base g.newer K.log
 
     core_grows : core L ≡ then
-    core_grows = let o = s.grows.opening in let h = history_grows in λ i. record {
+    core_grows = let o = g.opening in let h = history_grows in λ i. record {
       geometry = geometry (o i).root;
-      entries = plain;
+      entries = journal_entries;
       start = start_of side root geometry tx (o i);
       base = (o i).base;
       from = from_of side root geometry tx (o i);
@@ -133,13 +133,13 @@ module _ {Q R E : Type 0} (side : Q → SideView) (root : R → PortState) (geom
       word = L.word;
     }
 
-    more : DoneMore (core K).done done
-    more = record { each = λ u txs e. ap (λ cs. is_claimed cs u) s.grows.claims ∙ claimed_more s.grows.claimed K.claims u e }
+    more : DoneMore (core K).done done (core K).history
+    more = record { each = λ u txs at e. ap (λ cs. is_claimed cs u) g.claims ∙ claimed_more g.claimed K.claims u e }
 
-    due_apart : (x v : ℕ) → Each (λ h. h.0 ≢ x) s.grows.written → due x v ≡ true → (core K).due x v ≡ true
+    due_apart : (x v : ℕ) → Each (λ h. h.0 ≢ x) g.written → due x v ≡ true → (core K).due x v ≡ true
     due_apart x v apart e = elim (or_cases (eqb v K.opening.base) (is_ended L.ended x v) e) [
       | inl base ↦ or_left (eqb v K.opening.base) (is_ended K.ended x v) base
-      | inr home ↦ or_right (eqb v K.opening.base) (is_ended K.ended x v) (ended_apart x v s.grows.written K.ended apart (ap (λ hs. is_ended hs x v) (sym s.grows.ended) ∙ home))
+      | inr home ↦ or_right (eqb v K.opening.base) (is_ended K.ended x v) (ended_apart x v g.written K.ended apart (ap (λ hs. is_ended hs x v) (sym g.ended) ∙ home))
     ]
 
   -- none of the newer ones is of the queue, or changes the block
@@ -165,8 +165,8 @@ module _ {Q R E : Type 0} (side : Q → SideView) (root : R → PortState) (geom
   pub page_along : (b : ℕ) (K L : Desk) (c : PageCell) → Stay (Page b) K L → IsPage side root geometry tx b K c → IsPage side root geometry tx b L c
   page_along b K L c s p =
       let o = s.grows.opening in
-      let h = history_grows (Page b) K L s in
-      let r = same_block (start_of side root geometry tx K.opening) K.opening.base b (newer (Page b) K L s) (hist K.opening.base K.log) (apart_page b K.opening.base s.grows.newer K.log s.apart) in
+      let h = history_grows K L s.grows in
+      let r = same_block (start_of side root geometry tx K.opening) K.opening.base b (newer K L s.grows) (hist K.opening.base K.log) (apart_page b K.opening.base s.grows.newer K.log s.apart) in
       let home : last_ended L.opening.base L.ended b ≡ last_ended K.opening.base K.ended b = (λ i. last_ended (o i).base (s.grows.ended i) b) ∙ last_ended_apart K.opening.base b s.grows.written K.ended (each_map _ _ (λ h n. not_block b h n) s.grows.written s.ended) in
       record {
         content = p.content ∙ (sym r.content ∙ (λ i. Rattle.mq_ledger.specs.History.map_after (start_of side root geometry tx (sym o i)) (sym h i) b));
@@ -180,15 +180,15 @@ module _ {Q R E : Type 0} (side : Q → SideView) (root : R → PortState) (geom
   pub side_along : (q : ℕ) (K L : Desk) (w : Q) → Stay (Side q) K L → IsOk side root geometry tx K → IsOk side root geometry tx L → IsSide side root geometry tx q K w → IsSide side root geometry tx q L w
   side_along q K L w s k l is =
       let o = s.grows.opening in
-      let h = history_grows (Side q) K L s in
-      let core_is = core_grows (Side q) K L s in
+      let h = history_grows K L s.grows in
+      let core_is = core_grows K L s.grows in
       let txs : List Tx = of_queue q (hist K.opening.base K.log) in
       let apart = apart_side q K.opening.base s.grows.newer K.log s.apart in
-      let same : of_queue q (hist L.opening.base L.log) ≡ txs = ap (of_queue q) h ∙ queue_newer q (newer (Side q) K L s) (hist K.opening.base K.log) apart in
-      let log : LogOk (then (Side q) K L s) = subst LogOk core_is l.log in
-      let port = side_later (core K) (newer (Side q) K L s) (done (Side q) K L s) (due (Side q) K L s) L.word k.log log (more (Side q) K L s) s.grows.word q (side w).port apart
+      let same : of_queue q (hist L.opening.base L.log) ≡ txs = ap (of_queue q) h ∙ queue_newer q (newer K L s.grows) (hist K.opening.base K.log) apart in
+      let log : LogOk (then K L s.grows) = subst LogOk core_is l.log in
+      let port = side_later (core K) (newer K L s.grows) (done K L s.grows) (due K L s.grows) L.word k.log log (more K L s.grows) s.grows.word q (side w).port apart
       (λ u txs own e. claimed_apart q s.grows.claimed K.claims u s.claims own (ap (λ cs. is_claimed cs u) (sym s.grows.claims) ∙ e))
-      (λ x v zone e. due_apart (Side q) K L s x v (each_map _ _ (λ h n. not_home (geometry K.opening.root) (Some q) x zone h n) s.grows.written s.ended) e) is.port in
+      (λ x v zone e. due_apart K L s.grows x v (each_map _ _ (λ h n. not_home (geometry K.opening.root) (Some q) x zone h n) s.grows.written s.ended) e) is.port in
       let F : KnownJournal × List Tx → Type 0 = λ z. SideOk z.0 q z.1 (side w).port in
       record {
         port = subst F (λ i. (sym core_is i, sym same i)) port;
@@ -207,10 +207,10 @@ module _ {Q R E : Type 0} (side : Q → SideView) (root : R → PortState) (geom
 
   pub root_along : (K L : Desk) (r : R) → Stay Root K L → IsOk side root geometry tx K → IsOk side root geometry tx L → IsRoot side root geometry tx K r → IsRoot side root geometry tx L r
   root_along K L r s k l is =
-      let core_is = core_grows Root K L s in
-      let log : LogOk (then Root K L s) = subst LogOk core_is l.log in
-      let port = root_later (core K) (newer Root K L s) (done Root K L s) (due Root K L s) L.word k.log log (more Root K L s) s.grows.word (root r) (s.word refl)
-      (λ x v zone e. due_apart Root K L s x v (each_map _ _ (λ h n. not_home (geometry K.opening.root) None x zone h n) s.grows.written s.ended) e) is.port in
+      let core_is = core_grows K L s.grows in
+      let log : LogOk (then K L s.grows) = subst LogOk core_is l.log in
+      let port = root_later (core K) (newer K L s.grows) (done K L s.grows) (due K L s.grows) L.word k.log log (more K L s.grows) s.grows.word (root r) (s.word refl)
+      (λ x v zone e. due_apart K L s.grows x v (each_map _ _ (λ h n. not_home (geometry K.opening.root) None x zone h n) s.grows.written s.ended) e) is.port in
       record {
         geometry_is = is.geometry_is ∙ ap (λ p. geometry p.root) (sym s.grows.opening);
         port = subst (λ z. RootOk z (root r)) (sym core_is) port;

@@ -1,8 +1,8 @@
 -- A desk over the ports of a journal in which nothing was drawn.
 use Rattle.std.specs.Prelude.{◌≡◌, ◌≤◌, ◌-◌, ◌^◌, ℕ, [], map, slice_get, Some}
 use Rattle.mq_blocks.specs.Drive.{PortState}
-use Rattle.mq_ledger.specs.Plain.{plain}
 use Rattle.mq_ledger.specs.State.{State, IsStart}
+use Rattle.mq_ledger.specs.Written.{journal_entries}
 use Rattle.mq_pages.specs.declared.page.PageCell.{PageCell}
 use Rattle.mq_turns.specs.declared.rule.Opening.{Opening}
 use Rattle.mq_port_desk.specs.declared.machine.QueuePort.{QueuePort}
@@ -26,6 +26,6 @@ module _ {P : Type 0} (state : P → PortState) where
 
   -- nothing of it was drawn, and no cell and no side says otherwise
   pub record IsFresh (o : Opening PageCell (QueuePort P) (RootPort P)) : Type 0 where
-    pub start : IsStart plain (state_of o)
+    pub start : IsStart journal_entries (state_of o)
     pub cells : (b : ℕ) (c : PageCell) → slice_get o.pages b ≡ Some c → (c.version ≡ o.base) × (c.last_logged ≡ o.base) × (c.home_version ≡ o.base)
     pub counts : (q : ℕ) (w : QueuePort P) → slice_get o.sides q ≡ Some w → (w.end ≡ (state w.port).doorbell) × (w.place ≡ 0) × (w.low ≤ w.end) × (w.floor ≡ 0) × (w.area ≡ o.root.geometry.area)

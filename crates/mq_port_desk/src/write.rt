@@ -7,28 +7,33 @@ ghost use Rattle.mq_port_desk.specs.Machine.{side_of, ports};
 ghost use Rattle.mq_port_desk.specs.Room.{HasRoom, WasFull};
 
 use crate::machine::{Commit, PortMachine, QueuePort};
-use mq_blocks::TxNo;
+use mq_blocks::{TxNo, USABLE_DEPTH};
 use mq_drive::Port;
+use mq_ledger::DESCRIPTOR_BLOCKS;
 use mq_pages::PageCell;
 use mq_turns::{Chair, Desk, Item, Turn};
 use std::sync::Wait;
 
+/// The blocks that a commit takes in its queue's journal area, each with an entry: its copy and its
+/// descriptor's.
+const SIZE: u64 = 1 + DESCRIPTOR_BLOCKS;
+
 impl<P: Port> QueuePort<P> {
-    // Whether ring and journal area have room for a copy and its descriptor.
-    fn has_room(&self) -> bool
-        ensures room { result ≡ true → HasRoom (side_of P.state P.faults self.now) }
+    // Whether ring and journal area have room for a commit.
+    fn has_room(&self, entry: &Commit) -> bool
+        ensures room { result ≡ true → HasRoom entry.now (side_of P.state P.faults self.now) }
         ensures full { result ≡ false
             → self.now.low ≤ self.now.end
-            → HasRoom (side_of P.state P.faults self.now)
+            → HasRoom entry.now (side_of P.state P.faults self.now)
             → ⊥ }
     {
         self.sound
             && self.port.doorbell() == self.end
             && self.low <= self.end
-            && self.end - self.low <= 1021
+            && self.end - self.low <= u64::from(USABLE_DEPTH) - SIZE
             && self.end <= 1 << 62
-            && self.place < (1 << 62) - 2
-            && self.place + 2 <= self.floor.saturating_add(u64::from(self.area))
+            && self.place < (1 << 62) - SIZE
+            && self.place + SIZE <= self.floor.saturating_add(u64::from(self.area))
     }
 }
 
@@ -55,7 +60,7 @@ pub fn write_block<P: Port + Drop, R: Wait>(
     ensures rest { ((view chair.new).session ≡ (view chair.old).session)
         × ((view chair.new).read ≡ (view chair.old).read) }
     ensures none { IfNone result (((view chair.new).drawn ≡ (view chair.old).drawn)
-        × WasFull P.state P.faults entry.queue (view chair.old)) }
+        × WasFull P.state P.faults entry (view chair.old)) }
 {
     let (block, queue) = (entry.block, entry.queue);
     let Item::Page(page) = desk.take(rt, chair, Turn::Page(block)) else {
@@ -64,7 +69,7 @@ pub fn write_block<P: Port + Drop, R: Wait>(
     let Item::Side(mut side) = desk.take(rt, chair, Turn::Side(queue)) else {
         unreachable!()
     };
-    if !side.has_room() {
+    if !side.has_room(&entry) {
         desk.give_back(chair, Turn::Side(queue), Item::Side(side));
         desk.give_back(chair, Turn::Page(block), Item::Page(page));
         return None;
@@ -72,8 +77,8 @@ pub fn write_block<P: Port + Drop, R: Wait>(
     desk.look(chair, None);
     desk.clear(chair, queue, 1);
     let number = desk.draw(chair, queue, &entry);
-    side.end += 2;
-    side.place += 2;
+    side.end += SIZE;
+    side.place += SIZE;
     desk.give_back(chair, Turn::Side(queue), Item::Side(side));
     let written = PageCell {
         content: Some(entry.content),

@@ -5,13 +5,13 @@ use Rattle.mq_blocks.specs.Descriptor.{Descriptor}
 use Rattle.mq_blocks.specs.Drive.{depth}
 use Rattle.mq_blocks.specs.Journal.{Says, Shown, IsChain, IsQueueChain, AreWhole, AreInRow, Has, ShowsNumber, IsTop, number_limit, or_else, stands}
 use Rattle.mq_blocks.specs.declared.geometry.Geometry.{Geometry}
+use Rattle.mq_ledger.proofs.Chains.{said-once}
 use Rattle.mq_recover.specs.Recovery.{IsRead}
 use Rattle.mq_recover.specs.Recover.{IsSpotOf, copy_of, content_of}
 use Rattle.mq_recover.specs.declared.copies.CopyPlace.{CopyPlace}
 use Rattle.mq_recover.proofs.Popped.{falls-under}
 use Rattle.mq_recover.proofs.Readable.{chain-falls}
 use Rattle.mq_recover.proofs.RecoverCopies.{copy-within, stands-copy}
-use Rattle.mq_recover.proofs.Refusing.{said-once}
 
 -- the same doorbells, entries and areas of the queues
 pub record IsSameLog (g : Geometry) (v i : Shown) : Type 0 where

@@ -11,6 +11,7 @@ use Rattle.mq_blocks.specs.Journal.{Shown, IsQueueChain, Has, AreWhole, AreInRow
 use Rattle.mq_blocks.specs.declared.geometry.Geometry.{Geometry}
 use Rattle.mq_nvme.specs.Says.{says}
 use Rattle.mq_ledger.specs.State.{port_at}
+use Rattle.mq_ledger.proofs.Chains.{queue-chain-once}
 use Rattle.mq_recover.specs.Drives.{DriveState, view_over}
 use Rattle.mq_recover.specs.Ends.{chain_at}
 use Rattle.mq_recover.specs.Plans.{AreChains, ArePlaced, AreRead, IsFoundIn}
@@ -25,7 +26,7 @@ use Rattle.mq_recover.specs.declared.refusal.ChainRefusal.{ChainRefusal}
 use Rattle.mq_recover.specs.declared.refusal.ImageFault.{ImageFault}
 use Rattle.mq_recover.specs.declared.refusal.ImageFault.TheVariants.{Bad, Limit, Twice, OutOfMemory}
 use Rattle.mq_recover.proofs.Popped.{falls-under}
-use Rattle.mq_recover.proofs.Readable.{readable-shown, shown-readable, queue-chain-once, chain-falls}
+use Rattle.mq_recover.proofs.Readable.{readable-shown, shown-readable, chain-falls}
 use Rattle.mq_recover.proofs.RecoverCopies.{chain-of, chain-good}
 use Rattle.mq_recover.proofs.Refusing.{readable-refused, readable-once, refuses-queue-once}
 use Rattle.mq_recover.proofs.Zones.{image-at}

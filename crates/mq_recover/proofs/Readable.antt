@@ -3,7 +3,6 @@ use Rattle.std.proofs.Common.{◌≡◌, ◌<◌, ◌≤◌, ◌⊎◌, inl, inr
 use Rattle.std.proofs.lemmas.Bool.{cases_eq, cases_lt}
 use Rattle.std.proofs.Math.Nat.{mod-mod, mod-eq_of_lt, mod-lt}
 use Rattle.std.specs.Prelude.{IfOk, IfErr, IsErrOf, MatchResult, Result, Ok, Err}
-use Rattle.mq_area.proofs.Descriptors.{descriptor_bytes-unique, accepted-homes}
 use Rattle.mq_area.specs.Reading.{Accepts, PlaceFits}
 use Rattle.mq_area.specs.declared.descriptor.PlaceIs.{PlaceIs}
 use Rattle.mq_area.specs.declared.descriptor.PlaceIs.TheVariants.{Index, Exact}
@@ -18,11 +17,12 @@ use Rattle.mq_drive.specs.Start.{IsPortOf}
 use Rattle.mq_drive.specs.declared.role.Role.{Role}
 use Rattle.mq_drive.specs.declared.role.Role.TheVariants.{Queue}
 use Rattle.mq_nvme.specs.Says.{says}
+use Rattle.mq_ledger.proofs.Chains.{chain-none}
 use Rattle.mq_recover.specs.Recover.{IsSeenAt, IsQueuePort, AreFalling, where_of}
 use Rattle.mq_recover.specs.Refusals.{IsNewest, AreFound, IsIndex, IsWholeChain, IsReadable, RefusesQueue, entry_at, expected, block_where}
 use Rattle.mq_recover.specs.declared.refusal.ChainRefusal.{ChainRefusal}
 use Rattle.mq_recover.specs.declared.refusal.ChainRefusal.TheVariants.{OutOfMemory}
-use Rattle.mq_recover.proofs.Refusing.{said-once, readable-once, readable-refused, refuses-queue-once}
+use Rattle.mq_recover.proofs.Refusing.{readable-once, readable-refused, refuses-queue-once}
 
 pub where-fits : (area : ℕ) (p : PlaceIs) (place : ℕ) → PlaceFits area p place → where_of p % area ≡ place % area
 where-fits area (Index index) place fits = ap (λ (n : ℕ). n % area) (sym fits) ∙ mod-mod place area
@@ -148,11 +148,6 @@ chain-walked g i s q number place (d ∷ ds) seen above chain reach =
     let near : d.place < (d.place - length d.logged) + g.area = let r = reach.0 in omega (arith, place_is, r) in
     (more.0, more.1, more.2, (chain.0, (accepts-of g i s q number place (Index (place % g.area)) d seen refl chain.1, near), more.3), more.4)
 
--- a chain from a number at or below the base is empty
-chain-none : (g : Geometry) (i : Shown) (q number place : ℕ) (ds : List Descriptor) → number ≤ i.base → IsChain g i q number place ds → ds ≡ []
-chain-none g i q number place [] low chain = refl
-chain-none g i q number place (d ∷ ds) low chain = let above = chain.0 in absurd (omega (arith, above, low))
-
 whole-of : (g : Geometry) (i : Shown) (s : PortState) (q base : ℕ) (ds : List Descriptor) → IsSeenAt q base s i → (c : IsQueueChain g i q ds) → IsWholeChain g s q base c.number c.lba ds
 whole-of g i s q base ds seen c =
     let is = seen.base_is in
@@ -210,44 +205,6 @@ shown-readable g i s q base ds seen c = elim (cases_eq s.head 0) [
   | inr n ↦
       let some : 0 < s.head = omega (arith, n) in
       rest-found g i s q base ds c.number c.lba seen c (newest-of g i s q base ds seen c some) (whole-of g i s q base ds seen c)
-]
-
--- ---- one chain at most
-
-chain-same : (g : Geometry) (i : Shown) (q number place other : ℕ) (ds es : List Descriptor) → place % g.area ≡ other % g.area → IsChain g i q number place ds → IsChain g i q number other es → ds ≡ es
-chain-same g i q number place other [] [] at c e = refl
-chain-same g i q number place other [] (e ∷ es) at c f = let above = f.0 in absurd (omega (arith, above, c))
-chain-same g i q number place other (d ∷ ds) [] at c f = let above = c.0 in absurd (omega (arith, above, f))
-chain-same g i q number place other (d ∷ ds) (e ∷ es) at c f =
-    let one : e ≡ d = descriptor_bytes-unique (homes_of g) e d (accepted-homes g) f.1.good c.1.good (sym f.1.is ∙ ap (i.area q) (sym at) ∙ c.1.is) in
-    let P : Descriptor → Type 0 = λ x. IsChain g i q x.prev_number x.prev_place es in
-    let more = chain-same g i q d.prev_number d.prev_place d.prev_place ds es refl c.2 (subst P one f.2) in
-    λ k. sym one k ∷ more k
-
-number-same : (g : Geometry) (i : Shown) (q : ℕ) (ds es : List Descriptor) (c : IsQueueChain g i q ds) (e : IsQueueChain g i q es) → 0 < i.head q → (c.number ≡ e.number) × (c.lba ≡ e.lba)
-number-same g i q ds es c e some =
-    let both : (c.number, c.lba, true) ≡ (e.number, e.lba, true) = said-once _ (c.number, c.lba, true) (e.number, e.lba, true) (c.newest some) (e.newest some) in
-    (ap (λ (x : Says). x.0) both, ap (λ (x : Says). x.1) both)
-
-pub queue-chain-once : (g : Geometry) (i : Shown) (q : ℕ) (ds es : List Descriptor) → IsQueueChain g i q ds → IsQueueChain g i q es → ds ≡ es
-queue-chain-once g i q ds es c e = elim (cases_eq (i.head q) 0) [
-  | inl z ↦
-      let a : c.number ≡ 0 = c.none z in
-      let b : e.number ≡ 0 = e.none z in
-      chain-none g i q c.number c.place ds (omega (arith, a)) c.chain ∙ sym (chain-none g i q e.number e.place es (omega (arith, b)) e.chain)
-  | inr n ↦
-      let same = number-same g i q ds es c e (omega (arith, n)) in
-      elim (cases_lt i.base c.number) [
-        | inl above ↦
-            let up : i.base < e.number = let x = same.0 in omega (arith, x, above) in
-            let x = c.own above in
-            let y = e.own up in
-            let at : q * g.area + c.place % g.area ≡ q * g.area + e.place % g.area = sym x ∙ same.1 ∙ y in
-            chain-same g i q c.number c.place e.place ds es (omega (arith, at)) c.chain (subst (λ (m : ℕ). IsChain g i q m e.place es) (sym same.0) e.chain)
-        | inr low ↦
-            let s = same.0 in
-            chain-none g i q c.number c.place ds (omega (arith, low)) c.chain ∙ sym (chain-none g i q e.number e.place es (omega (arith, low, s)) e.chain)
-      ]
 ]
 
 -- ---- what holds of a chain

@@ -14,9 +14,9 @@ use Rattle.mq_nvme.specs.declared.write.WriteReq.{WriteReq}
 use Rattle.mq_nvme.proofs.Saying.{says-entry}
 use Rattle.mq_area.specs.declared.descriptor.PlaceIs.{PlaceIs}
 use Rattle.mq_area.specs.declared.descriptor.PlaceIs.TheVariants.{Exact}
+use Rattle.mq_ledger.proofs.Chains.{said-once}
 use Rattle.mq_recover.specs.Refusals.{IsFoundNext, AreFound, AreRung, IsGreatest, RefusesEntry, RefusesNewest, NewestEntry, RefusesRequest, RequestEntry, entry_at}
 use Rattle.mq_recover.specs.declared.refusal.ChainRefusal.{ChainRefusal}
-use Rattle.mq_recover.proofs.Refusing.{said-once}
 
 -- each slot of a quiet port is flushed
 pub quiet-flushed : (s : PortState) (k : ℕ) → IsQuiescent s → IsFlushed s k

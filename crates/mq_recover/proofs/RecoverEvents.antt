@@ -10,6 +10,7 @@ use Rattle.mq_blocks.specs.Machine.{Writes}
 use Rattle.mq_blocks.specs.declared.geometry.Geometry.{Geometry}
 use Rattle.mq_drive.specs.Start.{IsPortOf}
 use Rattle.mq_drive.specs.declared.role.Role.{Role}
+use Rattle.mq_drive.proofs.RolePorts.{begin-port, end-port, word-port, flush-port}
 use Rattle.mq_recover.specs.Drives.{DriveState, ArePorts}
 use Rattle.mq_recover.specs.RecoverHomes.{AreBelow, GivesHome, GivesOne}
 use Rattle.mq_recover.specs.Steps.{Event, BeginHome, EndHome, StoreBase, FlushBase, StoreHead, FlushHead, at_home, after_event, after_events, home_events, StopsAt}
@@ -64,63 +65,6 @@ off-after g s m n xs ys k first low is =
     )
 
 -- ---- the ports stay ports of their roles
-
-begin-port : (g : Geometry) (role : Role) (s : PortState) (lba : ℕ) (block : List ℕ) → IsPortOf g role s → IsPortOf g role (after_begin s lba block)
-begin-port g role s lba block p = record {
-  queue = p.queue;
-  area_first = p.area_first;
-  area_size = p.area_size;
-  homes_first = p.homes_first;
-  homes_size = p.homes_size;
-  flushed = p.flushed;
-  staged = p.staged;
-  blocks = p.blocks;
-  certain = length-set s.certain (index_of s lba) false ∙ p.certain;
-  settled = p.settled;
-}
-
-end-port : (g : Geometry) (role : Role) (s : PortState) (lba : ℕ) (block : List ℕ) → IsPortOf g role s → IsPortOf g role (after_end s lba block)
-end-port g role s lba block p = record {
-  queue = p.queue;
-  area_first = p.area_first;
-  area_size = p.area_size;
-  homes_first = p.homes_first;
-  homes_size = p.homes_size;
-  flushed = p.flushed;
-  staged = p.staged;
-  blocks = length-set s.blocks (index_of s lba) (Some block) ∙ p.blocks;
-  certain = length-set s.certain (index_of s lba) true ∙ p.certain ∙ sym (length-set s.blocks (index_of s lba) (Some block));
-  settled = p.settled;
-}
-
--- only words changed
-pub word-port : (g : Geometry) (role : Role) (s : PortState) (stored_head stored_base events : ℕ) → IsPortOf g role s → IsPortOf g role (record s { stored_head = stored_head; stored_base = stored_base; events = events })
-word-port g role s stored_head stored_base events p = record {
-  queue = p.queue;
-  area_first = p.area_first;
-  area_size = p.area_size;
-  homes_first = p.homes_first;
-  homes_size = p.homes_size;
-  flushed = p.flushed;
-  staged = p.staged;
-  blocks = p.blocks;
-  certain = p.certain;
-  settled = p.settled;
-}
-
-pub flush-port : (g : Geometry) (role : Role) (s : PortState) → IsPortOf g role s → IsPortOf g role (after_flush s)
-flush-port g role s p = record {
-  queue = p.queue;
-  area_first = p.area_first;
-  area_size = p.area_size;
-  homes_first = p.homes_first;
-  homes_size = p.homes_size;
-  flushed = p.staged;
-  staged = p.staged;
-  blocks = p.blocks;
-  certain = p.certain;
-  settled = λ k within flushed. refl;
-}
 
 at-ports : (g : Geometry) (z : Option ℕ) (f : PortState → PortState) (e : DriveState) → ((role : Role) (s : PortState) → IsPortOf g role s → IsPortOf g role (f s)) → ArePorts g e → ArePorts g (at_home z f e)
 at-ports g z f e along ports = ports-of g (at_home z f e) (at-count e z f ∙ ports.count)

@@ -16,6 +16,7 @@ use Rattle.mq_area.proofs.Sound.{accepted-once}
 use Rattle.mq_area.specs.declared.descriptor.PlaceIs.{PlaceIs}
 use Rattle.mq_area.specs.declared.descriptor.PlaceIs.TheVariants.{Index, Exact}
 use Rattle.mq_area.specs.declared.refusal.DescriptorRefusal.{DescriptorRefusal}
+use Rattle.mq_ledger.proofs.Chains.{said-once}
 use Rattle.mq_recover.specs.Refusals.{AreWords, IsNewest, RefusesNewest, IsFoundNext, AreFound, RefusesNext, IsIndex, RefusesChain, IsWholeChain, IsRung, AreRung, IsRungWhole, RefusesRequest, RefusesRung, IsReadable, RefusesQueue, entry_at, expected, block_where}
 use Rattle.mq_recover.specs.Refusals.{NewestEntry, NewestCommit, NewestLimit, NextRefused, NextApart, ChainOutside, ChainStopped, RequestEntry, RequestLimit, RungStopped, RungCommit, QueueWords, QueueNewest, QueueChain, QueueRung}
 use Rattle.mq_recover.specs.declared.refusal.ChainRefusal.{ChainRefusal}
@@ -64,9 +65,6 @@ says-none e cause h = ap (said e) h
 
 pub refused-said : (e : List ℕ) (cause : EntryRefusal) (r : Says) → refusal_of e ≡ Some cause → says e ≡ Some r → ⊥
 refused-said e cause r refused speaks = let none : says e ≡ None = says-none e cause refused in cc
-
-pub said-once : (o : Option Says) (a b : Says) → o ≡ Some a → o ≡ Some b → a ≡ b
-said-once o a b is there = let both : Some a ≡ Some b = sym is ∙ there in cc
 
 some-once : {A : Type 0} (o : Option A) (a b : A) → o ≡ Some a → o ≡ Some b → a ≡ b
 some-once o a b is there = let both : Some a ≡ Some b = sym is ∙ there in cc

@@ -9,11 +9,12 @@ use Rattle.mq_ledger.specs.State.{no_port, port_at}
 use Rattle.mq_drive.specs.Start.{IsPortOf}
 use Rattle.mq_drive.specs.declared.role.Role.{Role}
 use Rattle.mq_drive.specs.declared.role.Role.TheVariants.{Root}
+use Rattle.mq_drive.proofs.RolePorts.{word-port, flush-port}
 use Rattle.mq_recover.specs.Drives.{DriveState, at_queue, drive}
 use Rattle.mq_recover.specs.RecoverHomes.{after_raise, after_move, IsCutMove, AreCutMoves}
 use Rattle.mq_recover.specs.Steps.{Event, StoreHead, FlushHead, after_events, head_events, heads_events, StopsAt}
 use Rattle.mq_recover.specs.declared.refusal.RecoverRefusal.TheVariants.{Off}
-use Rattle.mq_recover.proofs.RecoverEvents.{after-then, off-after, word-port, flush-port}
+use Rattle.mq_recover.proofs.RecoverEvents.{after-then, off-after}
 
 -- ---- the base
 

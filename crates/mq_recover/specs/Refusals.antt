@@ -4,7 +4,7 @@ use Rattle.std.specs.Prelude.{◌≡◌, ◌≢◌, ◌⊎◌, ◌<◌, ◌≤�
 use Rattle.std.specs.Option.{unwrap_or}
 use Rattle.mq_blocks.specs.Blocks.{block_at}
 use Rattle.mq_blocks.specs.Descriptor.{Descriptor}
-use Rattle.mq_blocks.specs.Drive.{PortState, depth}
+use Rattle.mq_blocks.specs.Drive.{PortState, depth, usable_depth}
 use Rattle.mq_blocks.specs.Geometry.{area_lba, area_of}
 use Rattle.mq_blocks.specs.Journal.{Has, Says, number_limit}
 use Rattle.mq_blocks.specs.declared.geometry.Geometry.{Geometry}
@@ -38,7 +38,7 @@ RefusesEntry s count e = (cause : EntryRefusal) × (e ≡ Entry cause) × (refus
 
 pub record AreWords (s : PortState) : Type 0 where
   pub order : s.head ≤ s.doorbell
-  pub few : s.doorbell - s.head ≤ 1023
+  pub few : s.doorbell - s.head ≤ usable_depth
   pub low : s.doorbell ≤ number_limit
 
 -- ---- the entry before the head

@@ -1,5 +1,6 @@
 // The chain of a queue.
-ghost use Rattle.std.specs.Prelude.{◌≡◌, ◌≢◌, ◌⊎◌, ◌<◌, ◌≤◌, ◌-◌, ◌%◌, ℕ, List, [], length, IfOk, IfErr, IsErrOf, IsOk, Some, true, slice_index_or, MatchOption, MatchResult};
+ghost use Rattle.std.specs.Prelude.{◌≡◌, ◌≢◌, ◌⊎◌, ◌<◌, ◌≤◌, ◌-◌, ◌%◌, ℕ, List, [], length, IfOk, IfErr, IsErrOf, IsOk, Some, true, slice_index_or};
+ghost use Rattle.std.specs.Prelude.{MatchOption, MatchResult};
 ghost use Rattle.mq_blocks.specs.Blocks.{block_at};
 ghost use Rattle.mq_blocks.specs.Descriptor.{Descriptor as Text};
 ghost use Rattle.mq_blocks.specs.Drive.{IsQuiescent, depth};
@@ -8,11 +9,12 @@ ghost use Rattle.mq_blocks.specs.Journal.{Shown, IsQueueChain};
 ghost use Rattle.mq_nvme.specs.Says.{says};
 ghost use Rattle.mq_drive.specs.Start.{IsPortOf};
 ghost use Rattle.mq_recover.specs.Recover.{IsSeenAt, IsQueuePort, where_of};
-ghost use Rattle.mq_recover.specs.Refusals.{AreWords, AreRung, IsRungWhole, IsGreatest, IsNewest, IsIndex, IsWholeChain, IsFoundNext, IsReadable, RefusesEntry, RefusesNewest, RefusesNext, RefusesChain, RefusesRung, RefusesQueue, entry_at};
+ghost use Rattle.mq_recover.specs.Refusals.{AreWords, AreRung, IsRungWhole, IsGreatest, IsNewest, IsIndex, IsWholeChain, IsFoundNext, IsReadable};
+ghost use Rattle.mq_recover.specs.Refusals.{RefusesEntry, RefusesNewest, RefusesNext, RefusesChain, RefusesRung, RefusesQueue, entry_at};
 
 use crate::refusal::ChainRefusal;
 use mq_area::{Descriptor, DescriptorRefusal, Expect, PlaceIs, read_descriptor};
-use mq_blocks::{Block, Geometry, QueueNo, TxNo};
+use mq_blocks::{Block, Geometry, QueueNo, RING_DEPTH, TxNo, USABLE_DEPTH};
 use mq_drive::{Port, Role};
 use mq_nvme::{WriteReq, read_write};
 use std::alloc::Global;
@@ -136,7 +138,7 @@ fn check_words<P: Port>(port: &P) -> Result<(), ChainRefusal>
 {
     let head = port.head();
     let doorbell = port.doorbell();
-    if head > doorbell || doorbell - head > 1023 || doorbell > LIMIT {
+    if head > doorbell || doorbell - head > u64::from(USABLE_DEPTH) || doorbell > LIMIT {
         return Err(ChainRefusal::Words);
     }
     Ok(())
@@ -202,7 +204,7 @@ fn read_request<P: Port>(port: &P, at: u64) -> Result<WriteReq, ChainRefusal>
     ensures ok { IfOk result (λ r. says (entry_at (P.state port.now) at) ≡ Some (r.tx, r.lba, r.commit)) }
     ensures refused { IfErr result (RefusesEntry (P.state port.now) at) }
 {
-    let entry = port.read_slot((at % 1024) as u32);
+    let entry = port.read_slot((at % u64::from(RING_DEPTH)) as u32);
     match read_write(&entry) {
         Ok(request) => Ok(request),
         Err(cause) => Err(ChainRefusal::Entry(cause)),

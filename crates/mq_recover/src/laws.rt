@@ -30,6 +30,10 @@ pub fn readable_images_are_whole()
 /// same doorbells. Its prefix is the same over the old base, and none over the new one. The later one
 /// may have been begun again in its turn.
 pub fn recovery_may_be_cut()
-    ensures { (g : Geometry) (refusal : RecoverRefusal) (old new start later : DriveState) (ds : List Descriptor) (top : ℕ) (cut : IsCutShort g refusal old new) → AreImages g new (map image_of start.queues) (image_of start.root)
-        → IsRead g (view_over g start) ds top → IsRecovered g start ds top later → IsAgain g old cut.ds cut.top start ds top later }
+    ensures { (g : Geometry) (refusal : RecoverRefusal) (old new start later : DriveState) (ds : List Descriptor)
+        (top : ℕ) (cut : IsCutShort g refusal old new)
+        → AreImages g new (map image_of start.queues) (image_of start.root)
+        → IsRead g (view_over g start) ds top
+        → IsRecovered g start ds top later
+        → IsAgain g old cut.ds cut.top start ds top later }
 {}

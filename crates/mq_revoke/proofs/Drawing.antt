@@ -5,7 +5,7 @@ use Rattle.std.proofs.lemmas.Bool.{false_from_ne_true}
 use Rattle.std.proofs.lemmas.List.{length-map}
 use Rattle.std.proofs.lemmas.List.Elements.{All-contains}
 use Rattle.mq_blocks.specs.Descriptor.{AreApart}
-use Rattle.mq_blocks.specs.Geometry.{homes_of, zone_of}
+use Rattle.mq_blocks.specs.Geometry.{homes_of, zone_of, write_limit}
 use Rattle.mq_blocks.specs.Journal.{is_among}
 use Rattle.mq_ledger.specs.KnownJournal.{MayDraw, KnownJournal, IsTx, front}
 use Rattle.mq_ledger.specs.History.{blocks_of, writes, map_after, last, last_logged}
@@ -35,7 +35,7 @@ module _ (k : KnownJournal) (t : Tx) (ws : List Planned) (f b : ℕ) (order : Ar
       let direct = rising_within 0 (homes_of k.geometry) (blocks_of t.direct) (blocks_where (goes_home k.geometry t.queue f) ws) planned.direct.rising walked.direct.rising (λ x among. let found = planned.direct.only x among in subst (λ n. is_among n (blocks_where (goes_home k.geometry t.queue f) ws) ≡ true) found.2 (walked.direct.all found.0 found.1 found.3)) in
       omega (arith, all, logged, direct, length-map t.logged (λ (w : ℕ × List ℕ). w.0), length-map t.direct (λ (w : ℕ × List ℕ). w.0))
 
-  pub form : length ws ≤ 1000 → MeetsRest k t → IsTx k.geometry t
+  pub form : length ws ≤ write_limit k.geometry → MeetsRest k t → IsTx k.geometry t
   form limit rest = record {
     queue = rest.queue;
     logged = planned.logged.rising;
@@ -50,7 +50,7 @@ module _ (k : KnownJournal) (t : Tx) (ws : List Planned) (f b : ℕ) (order : Ar
     revokes = λ x among. let found = planned.revoked.only x among in subst (λ n. is_among n (blocks_of t.direct) ≡ true) found.2 (planned.direct.all found.0 found.1 found.3.0);
   }
 
-  pub may_draw : length ws ≤ 1000 → All (IsOfHistory k) ws → f ≤ front k → b ≤ k.word → MeetsRest k t → MayDraw k t
+  pub may_draw : length ws ≤ write_limit k.geometry → All (IsOfHistory k) ws → f ≤ front k → b ≤ k.word → MeetsRest k t → MayDraw k t
   may_draw limit told low old rest = record {
     form = form limit rest;
     number = rest.number;

@@ -1,5 +1,6 @@
 -- Blocks by where a transaction writes them.
 use Rattle.std.specs.Prelude.{ℕ, ◌≤◌, List}
+use Rattle.mq_blocks.specs.Descriptor.{list_limit}
 
 pub record Placed : Type 0 where
   -- in the journal area of its queue
@@ -11,6 +12,6 @@ pub record Placed : Type 0 where
 
 -- lists of these capacities have room for the blocks of any transaction
 pub record HasRoom (logged direct revoked : ℕ) : Type 0 where
-  pub in_logged : 1000 ≤ logged
-  pub in_direct : 1000 ≤ direct
-  pub in_revoked : 1000 ≤ revoked
+  pub in_logged : list_limit ≤ logged
+  pub in_direct : list_limit ≤ direct
+  pub in_revoked : list_limit ≤ revoked

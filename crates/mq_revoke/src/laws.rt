@@ -8,13 +8,14 @@ ghost use Rattle.mq_revoke.specs.Guard.{IsOfHistory, MeetsRest, placed_of};
 ghost use Rattle.mq_revoke.specs.Placed.{Placed};
 ghost use Rattle.mq_revoke.specs.Placing.{AreInOrder, IsPlacement};
 ghost use Rattle.mq_revoke.specs.declared.placement.Planned.{Planned};
+ghost use Rattle.mq_blocks.specs.Geometry.{write_limit};
 
 /// A transaction that is placed by a plan may be drawn where the rest of the guard holds. Front and base
 /// may have been read earlier: a lesser front writes less directly, and a lesser base revokes more.
 pub fn a_plan_meets_the_guard()
     ensures { (k : KnownJournal) (t : Tx) (writes : List Planned) (read_front read_base : ℕ)
         → AreInOrder k.geometry writes
-        → length writes ≤ 1000
+        → length writes ≤ write_limit k.geometry
         → All (IsOfHistory k) writes
         → read_front ≤ front k
         → read_base ≤ k.word

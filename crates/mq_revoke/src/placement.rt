@@ -1,14 +1,11 @@
 // The plan of a transaction's writes.
 ghost use Rattle.std.specs.Prelude.{◌≡◌, ◌<◌, ◌≤◌, ◌+◌, ◌++◌, ◌∷◌, ◌↔◌, [], length, vec_len, vec_capacity, IfOk, IfErr, OnOk, OnErr, IsTrue};
-ghost use Rattle.mq_blocks.specs.Geometry.{homes_of};
+ghost use Rattle.mq_blocks.specs.Geometry.{homes_of, write_limit};
 ghost use Rattle.mq_revoke.specs.Placing.{IsDirect, IsCopied, AreInOrder, IsPlacement};
 
-use mq_blocks::{BlockNo, Geometry, OutOfMemory, QueueNo, TxNo};
+use mq_blocks::{BlockNo, Geometry, LIST_LIMIT, OutOfMemory, QueueNo, TxNo};
 use std::alloc::Global;
 use std::marker::Model;
-
-/// The blocks that one transaction may write.
-const LIMIT: u32 = 1000;
 
 /// A block that a transaction writes.
 #[derive(Clone, Copy, Debug, PartialEq, Eq)]
@@ -80,9 +77,9 @@ impl Placement {
         ensures { IfOk result (λ p. p ≡ record { logged = []; direct = []; revoked = [] }) }
     {
         Ok(Placement {
-            logged: Vec::with_capacity(alloc, LIMIT as usize)?,
-            direct: Vec::with_capacity(alloc, LIMIT as usize)?,
-            revoked: Vec::with_capacity(alloc, LIMIT as usize)?,
+            logged: Vec::with_capacity(alloc, LIST_LIMIT as usize)?,
+            direct: Vec::with_capacity(alloc, LIST_LIMIT as usize)?,
+            revoked: Vec::with_capacity(alloc, LIST_LIMIT as usize)?,
         })
     }
 
@@ -109,8 +106,8 @@ fn add(blocks: &mut Vec<BlockNo>, block: BlockNo)
 }
 
 /// Places the blocks that a transaction of the queue writes, by a front and a base: all transactions up
-/// to the front are done, and no copy up to the base counts any more. More than 1,000 writes are too
-/// many. What the plan held before is dropped.
+/// to the front are done, and no copy up to the base counts any more. More writes than a transaction may
+/// have on this drive are too many. What the plan held before is dropped.
 pub fn plan(
     writes: &[Planned],
     geometry: Geometry,
@@ -122,15 +119,16 @@ pub fn plan(
     requires { AreInOrder geometry writes.now }
     ensures ok { OnOk result (IsPlacement geometry queue front base writes.now into.new) }
     ensures whole { OnOk result (length into.new.logged + length into.new.direct ≡ length writes.now) }
-    ensures few { OnOk result (length writes.now ≤ 1000) }
-    ensures many { IfErr result (λ e. (1000 < length writes.now)
-        × (e ≡ record { count = length writes.now; limit = 1000 })) }
+    ensures few { OnOk result (length writes.now ≤ write_limit geometry) }
+    ensures many { IfErr result (λ e. (write_limit geometry < length writes.now)
+        × (e ≡ record { count = length writes.now; limit = write_limit geometry })) }
     ensures same { OnErr result (into.new ≡ into.old) }
 {
-    if writes.len() > LIMIT as usize {
+    let limit = geometry.write_limit();
+    if writes.len() > limit as usize {
         return Err(TooLarge {
             count: writes.len() as u32,
-            limit: LIMIT,
+            limit,
         });
     }
     into.clear();

@@ -4,7 +4,7 @@ ghost use Rattle.mq_blocks.specs.Geometry.{queues_of, area_of, meta_of, zone_siz
 
 use crate::filled;
 use mq_blocks::{Geometry, GeometryRefusal, Lba, OutOfMemory, QueueNo, TxNo};
-use mq_core::{Content, Core, Entry, Port};
+use mq_core::{Content, Core, PlainEntry, PlainPort};
 use std::alloc::Global;
 use std::process::Abort;
 
@@ -24,8 +24,8 @@ fn a_port_stages_and_rings(rt: HostRuntime) -> Result<(), OutOfMemory> {
     let geometry = small().expect(&rt, "a geometry");
     let mut homes = Vec::new(alloc);
     homes.push(None)?;
-    let mut port = Port::fresh(alloc, geometry, Some(QueueNo(1)), homes, TxNo(0))?;
-    let entry = Entry {
+    let mut port = PlainPort::fresh(alloc, geometry, Some(QueueNo(1)), homes, TxNo(0))?;
+    let entry = PlainEntry {
         number: 1,
         lba: 1024,
         commit: true,

@@ -1,4 +1,4 @@
-pub mod Lanes
+pub mod Kept
 pub mod Opened
 pub mod Rising
 pub mod Values

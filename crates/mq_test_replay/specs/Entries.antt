@@ -1,7 +1,7 @@
 -- What the entries of a transaction write, and where.
 use Rattle.std.specs.Prelude.{◌≡◌, ◌<◌, ◌≤◌, ℕ, ◌+◌, ◌^◌, List, [], ◌∷◌, ◌++◌, length, All}
-use Rattle.mq_blocks.specs.Descriptor.{descriptor_bytes}
-use Rattle.mq_blocks.specs.Geometry.{homes_of, queues_of, area_lba, home_lba}
+use Rattle.mq_blocks.specs.Descriptor.{descriptor_bytes, list_limit}
+use Rattle.mq_blocks.specs.Geometry.{homes_of, queues_of, area_lba, home_lba, write_limit}
 use Rattle.mq_blocks.specs.Machine.{Writes}
 use Rattle.mq_blocks.specs.declared.geometry.Geometry.{Geometry}
 use Rattle.mq_ledger.specs.Items.{next, number_before, place_before, descriptor_for}
@@ -20,8 +20,8 @@ AreWrites g ws = All (λ w. (w.0 < homes_of g) × (length w.1 ≡ 4096)) ws
 
 pub record MayWrite (g : Geometry) (t : Tx) (p : Place) : Type 0 where
   pub queue : t.queue < queues_of g
-  pub counts : length t.logged + length t.revoked ≤ 1000
-  pub few : length t.direct ≤ 1000
+  pub counts : length t.logged + length t.revoked ≤ list_limit
+  pub few : length t.direct ≤ write_limit g
   pub place : p.next ≤ 2 ^ 61
   pub logged : AreWrites g t.logged
   pub direct : AreWrites g t.direct

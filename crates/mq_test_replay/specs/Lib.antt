@@ -1,3 +1,3 @@
 pub mod Entries
-pub mod Lanes
+pub mod Kept
 pub mod Scripts

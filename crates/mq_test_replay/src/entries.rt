@@ -8,7 +8,7 @@ ghost use Rattle.mq_ledger.specs.declared.tx.Tx.{Tx as Text};
 ghost use Rattle.mq_test_replay.specs.Entries.{IsAfter, MayWrite, AreWrites, copies_from, homes_from, items_of};
 
 use mq_area::{Descriptor, write_descriptor};
-use mq_blocks::{Block, BlockNo, Geometry, Lba, OutOfMemory, QueueNo};
+use mq_blocks::{Block, BlockNo, Geometry, LIST_LIMIT, Lba, OutOfMemory, QueueNo};
 use mq_core::{Content, Tx};
 use std::alloc::Global;
 
@@ -49,8 +49,8 @@ pub fn may_write(geometry: Geometry, tx: &Tx, at: Place) -> bool
     ensures { IsTrue result → MayWrite geometry tx.now at }
 {
     tx.queue.0 < geometry.queues()
-        && tx.logged.0.len() + tx.revoked.0.len() <= 1000
-        && tx.direct.0.len() <= 1000
+        && tx.logged.0.len() + tx.revoked.0.len() <= LIST_LIMIT as usize
+        && tx.direct.0.len() <= geometry.write_limit() as usize
         && at.next <= 1 << 61
         && are_writes(geometry, &tx.logged.0)
         && are_writes(geometry, &tx.direct.0)

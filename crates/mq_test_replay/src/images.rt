@@ -8,7 +8,7 @@ ghost use Rattle.mq_drive.specs.Start.{IsRole, IsImageOf, HasWords};
 ghost use Rattle.mq_recover.specs.Drives.{IsQuiescentDrive, IsQuiescentPort, states};
 
 use crate::drive::Refused;
-use mq_blocks::{Block, BlockNo, Geometry, OutOfMemory, QueueNo};
+use mq_blocks::{Block, BlockNo, Geometry, OutOfMemory, QueueNo, RING_DEPTH};
 use mq_core::Content;
 use mq_drive::{EmuPort, Fuse, FuseSeat, PortImage, Ports, Role};
 use mq_nvme::Entry;
@@ -30,7 +30,9 @@ pub fn is_image(geometry: Geometry, role: Role, image: &PortImage) -> bool
     match role {
         Role::Queue(_) => {
             let blocks = geometry.area() + geometry.zone();
-            image.slots.len() == 1024 && image.blocks.len() == blocks as usize && image.base == 0
+            image.slots.len() == RING_DEPTH as usize
+                && image.blocks.len() == blocks as usize
+                && image.base == 0
         }
         Role::Root => {
             image.slots.is_empty()
@@ -82,7 +84,7 @@ impl Left {
                 doorbell: 0,
                 head: 0,
                 base: 0,
-                slots: vec![in alloc; Entry::zeroed(); 1024]?,
+                slots: vec![in alloc; Entry::zeroed(); RING_DEPTH as usize]?,
                 blocks: stored(alloc, geometry.area(), &blocks[first..end])?,
             })?;
         }

@@ -1,16 +1,17 @@
 // One port, and what its calls ask of it.
-ghost use Rattle.std.specs.Prelude.{◌≡◌, ◌<◌, ◌≤◌, ◌+◌, ◌-◌, ◌%◌, ◌^◌, ◌↔◌, ℕ, List, [], length, map, IfOk, IfErr, OnOk, OnErr, IsTrue, MatchOption, IsSome, IsNone, IfSome, is_some, slice_index_or};
+ghost use Rattle.std.specs.Prelude.{◌≡◌, ◌<◌, ◌≤◌, ◌+◌, ◌-◌, ◌%◌, ◌^◌, ◌↔◌, ℕ, List, [], length, map, IfOk, IfErr, OnOk, OnErr, IsTrue, MatchOption};
+ghost use Rattle.std.specs.Prelude.{IsSome, IsNone, IfSome, is_some, slice_index_or};
 ghost use Rattle.mq_blocks.specs.Drive.{after_stage, after_flush, after_ring, after_store_head, after_store_base, staged_end, depth};
 ghost use Rattle.mq_drive.specs.Emu.{emu_state, emu_faults};
 ghost use Rattle.mq_drive.specs.Roles.{queue_in};
 ghost use Rattle.mq_drive.specs.Seats.{name_of, fuse_of, tickets_of};
 ghost use Rattle.mq_drive.specs.Start.{IsRole, start_of, area_first_of, area_size_of, homes_first_of, homes_size_of};
 ghost use Rattle.mq_nvme.specs.Entry.{entry_of};
-ghost use Rattle.mq_test_replay.specs.Lanes.{Fits, EndGives, HomeLeaves};
+ghost use Rattle.mq_test_replay.specs.Kept.{Fits, EndGives, HomeLeaves};
 
 use crate::drive::Refused;
 use crate::images::is_image;
-use mq_blocks::{Block, Geometry, Lba, OutOfMemory};
+use mq_blocks::{Block, Geometry, Lba, OutOfMemory, RING_DEPTH, USABLE_DEPTH};
 use mq_drive::{EmuPort, Fuse, FuseSeat, HomeStep, Port, PortImage, Role, Step};
 use mq_nvme::fields::Ccid;
 use mq_nvme::{WriteReq, status_of, write_of};
@@ -71,18 +72,31 @@ pub struct PortRun<'f> {
     pending: Vec<u64>,
     posted: Vec<u64>,
     failed: Vec<u64>,
-    ghost fits: { Fits (emu_state port) (record { is_queue = is_queue; area = area; homes = homes; doorbell = doorbell; flushed_end = flushed_end; head = head; stored_head = stored_head; base = base; stored_base = stored_base; pending = pending.items; posted = posted.items; failed = failed.items }) },
+    ghost fits: { Fits (emu_state port) (record {
+      is_queue = is_queue;
+      area = area;
+      homes = homes;
+      doorbell = doorbell;
+      flushed_end = flushed_end;
+      head = head;
+      stored_head = stored_head;
+      base = base;
+      stored_base = stored_base;
+      pending = pending.items;
+      posted = posted.items;
+      failed = failed.items;
+    }) },
 }
 
 // Where a command whose completion names this slot stands among these counts.
 fn find_slot(counts: &[u64], slot: u64) -> Option<usize>
     ensures { MatchOption result ((j : ℕ)
         → j < length counts.now
-        → slice_index_or counts.now j 0 % 1024 ≡ slot
-        → ⊥) (λ i. (i < length counts.now) × (slice_index_or counts.now i 0 % 1024 ≡ slot)) }
+        → slice_index_or counts.now j 0 % depth ≡ slot
+        → ⊥) (λ i. (i < length counts.now) × (slice_index_or counts.now i 0 % depth ≡ slot)) }
 {
     for i in 0..counts.len() {
-        if counts[i] % 1024 == slot {
+        if counts[i] % u64::from(RING_DEPTH) == slot {
             return Some(i);
         }
     }
@@ -129,7 +143,7 @@ impl<'f> PortRun<'f> {
             ..
         } = &image;
         let (doorbell, head, base) = (*doorbell, *head, *base);
-        if head > doorbell || doorbell - head > 1023 {
+        if head > doorbell || doorbell - head > u64::from(USABLE_DEPTH) {
             return Err(Refused::NotReady);
         }
         let (is_queue, area, homes) = extents(geometry, role);
@@ -209,7 +223,11 @@ impl<'f> PortRun<'f> {
         ensures err { OnErr result (emu_state self.new.port ≡ emu_state self.old.port) }
     {
         let end = self.end();
-        if !self.is_queue || tx == 0 || end >= 1 << 63 || end - self.head >= 1023 {
+        if !self.is_queue
+            || tx == 0
+            || end >= 1 << 63
+            || end - self.head >= u64::from(USABLE_DEPTH)
+        {
             return Err(Refused::NotReady);
         }
         if !self.area.has(lba) && !self.homes.has(lba) {
@@ -218,7 +236,7 @@ impl<'f> PortRun<'f> {
         self.pending.reserve(1)?;
         let entry = write_of(&WriteReq {
             tx,
-            slot: (end % 1024) as u16,
+            slot: (end % u64::from(RING_DEPTH)) as u16,
             lba: u64::from(lba.0),
             commit,
         });

@@ -10,12 +10,12 @@ ghost use Rattle.mq_core.specs.Machine.{IsAllowed, happens, StoreBase, FlushBase
 ghost use Rattle.mq_core.specs.Within.{IsWithin};
 
 use super::Core;
-use crate::{Command, CoreRefusal, Port};
+use crate::{CoreRefusal, PlainCommand, PlainPort};
 use mq_blocks::{BlockNo, Geometry, TxNo};
 use mq_ledger::Content;
 
 /// The home block that a command writes, if it writes one.
-pub fn home_block(geometry: Geometry, command: &Command) -> Option<BlockNo>
+pub fn home_block(geometry: Geometry, command: &PlainCommand) -> Option<BlockNo>
     ensures { result ≡ home_of geometry command.now }
 {
     let areas = geometry.queues() * geometry.area();
@@ -51,7 +51,7 @@ impl Core {
     }
 
     /// Whether none of these commands writes a block that is due.
-    fn writes_none(&self, base: TxNo, commands: &[Command]) -> bool
+    fn writes_none(&self, base: TxNo, commands: &[PlainCommand]) -> bool
         ensures { result ≡ writes_none self.now base commands.now }
     {
         let geometry = self.ledger.geometry();
@@ -76,7 +76,7 @@ impl Core {
     }
 
     /// The port of a home block.
-    fn home_port(&self, block: BlockNo) -> &Port
+    fn home_port(&self, block: BlockNo) -> &PlainPort
         requires { block < homes_of self.now.geometry }
         ensures is { result.now ≡ port_of self.now (zone_of self.now.geometry block) }
         ensures within { IsWithin result.now (home_lba self.now.geometry block) }

@@ -2,11 +2,11 @@
 ghost use Rattle.std.specs.Prelude.{◌≡◌, ◌↔◌, IsTrue, length};
 ghost use Rattle.mq_core.specs.Settled.{IsNextDone, IsSettled, settled};
 
-use crate::Port;
+use crate::PlainPort;
 use mq_ledger::Ledger;
 
 /// Whether the transaction after the front is there, and the flushed head of its queue is past it.
-fn is_next_done(ledger: &Ledger, ports: &[Port]) -> bool
+fn is_next_done(ledger: &Ledger, ports: &[PlainPort]) -> bool
     requires { length ports.now ≡ ledger.now.geometry.queues }
     ensures { IsTrue result ↔ IsNextDone ledger.now ports.now }
 {
@@ -17,7 +17,7 @@ fn is_next_done(ledger: &Ledger, ports: &[Port]) -> bool
 }
 
 /// Brings the front forward, as far as all is done.
-pub fn settle_all(ledger: &mut Ledger, ports: &[Port])
+pub fn settle_all(ledger: &mut Ledger, ports: &[PlainPort])
     requires ports { length ports.now ≡ ledger.old.geometry.queues }
     requires done { IsSettled ledger.old ports.now }
     ensures { ledger.new ≡ settled ports.now ledger.old }

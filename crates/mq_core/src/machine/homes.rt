@@ -11,15 +11,15 @@ ghost use Rattle.mq_core.specs.Homes.{ports_after, root_after, IsIn};
 ghost use Rattle.mq_core.specs.Machine.{IsAllowed, happens, WriteHome, HomeDone};
 
 use super::Core;
-use crate::{CoreRefusal, Port};
+use crate::{CoreRefusal, PlainPort};
 use mq_blocks::{BlockNo, Geometry, OutOfMemory};
 use mq_ledger::{Content, copy_content};
 use std::alloc::Global;
 
 /// Begins a home write of a block on its port, and counts it as under way.
 pub fn begin_write(
-    ports: &mut Vec<Port>,
-    root: &mut Port,
+    ports: &mut Vec<PlainPort>,
+    root: &mut PlainPort,
     writing: &mut Vec<BlockNo>,
     geometry: Geometry,
     block: BlockNo,
@@ -47,8 +47,8 @@ pub fn begin_write(
 
 /// Ends the last home write of a block on its port, with this content.
 pub fn end_write(
-    ports: &mut Vec<Port>,
-    root: &mut Port,
+    ports: &mut Vec<PlainPort>,
+    root: &mut PlainPort,
     geometry: Geometry,
     block: BlockNo,
     content: Content,

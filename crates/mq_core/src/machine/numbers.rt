@@ -13,7 +13,7 @@ ghost use Rattle.mq_core.specs.Machine.{IsAllowed, happens, Draw, Clear, Acknowl
 use super::Core;
 use crate::CoreRefusal;
 use mq_blocks::{BlockNo, QueueNo, TxNo};
-use mq_ledger::{Ledger, Tx};
+use mq_ledger::{DESCRIPTOR_BLOCKS, Ledger, Tx};
 
 /// Whether this number changed a block last. Of a block that is no home block it didn't.
 pub fn is_last_change(ledger: &Ledger, block: BlockNo, number: TxNo) -> bool
@@ -55,10 +55,11 @@ impl Core {
         let logged = &tx.logged;
         let direct = &tx.direct;
         let copies = logged.0.len() as u64;
-        let entries = copies + direct.0.len() as u64 + 1;
+        let entries = copies + direct.0.len() as u64 + DESCRIPTOR_BLOCKS;
         port.is_rung_to(end)
             && entries <= port.room()
-            && place + copies + 1 <= covered + u64::from(self.ledger.geometry().area())
+            && place + copies + DESCRIPTOR_BLOCKS
+                <= covered + u64::from(self.ledger.geometry().area())
             && place + copies < 1 << 62
             && end + entries <= 1 << 63
     }

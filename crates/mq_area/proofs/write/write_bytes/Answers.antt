@@ -1,6 +1,6 @@
 use Rattle.std.proofs.Common.{◌≡◌, ◌+◌, ◌-◌, ◌*◌, ◌≤◌, ℕ, length, drop, replicate, sym, subst, ap, ◌∙◌, arith, rules}
 use Rattle.std.proofs.lemmas.List.{length-take-le, length-drop, length-replicate}
-use Rattle.mq_blocks.specs.Descriptor.{Descriptor, descriptor_bytes, header_bytes, list_bytes}
+use Rattle.mq_blocks.specs.Descriptor.{Descriptor, descriptor_bytes, header_bytes, list_bytes, list_limit}
 use Rattle.mq_blocks.specs.Windows.{written}
 use Rattle.mq_area.proofs.Written.{descriptor-written}
 use Rattle.mq_blocks.proofs.Written.{put_mid-written}
@@ -15,8 +15,8 @@ returns c =
     let d : Descriptor = record { queue = i.queue; number = i.number; place = i.place; prev_place = i.prev_place; prev_number = i.prev_number; logged = i.logged.items; revoked = i.revoked.items } in
     let q = 56 + 4 * c.len.result + 4 * c.len-2.result in
     let n = length c.put_list-2.new.block - q in
-    let R : Descriptor → Type 0 = λ x. length x.logged + length x.revoked ≤ 1000 in
-    let few : length i.logged.items + length i.revoked.items ≤ 1000 = subst R (sym c.d.view_is) c.requires.counts in
+    let R : Descriptor → Type 0 = λ x. length x.logged + length x.revoked ≤ list_limit in
+    let few : length i.logged.items + length i.revoked.items ≤ list_limit = subst R (sym c.d.view_is) c.requires.counts in
     let whole : length c.put_list-2.new.block ≡ 4096 = omega arith in
     let count : length (drop q c.put_list-2.new.block) ≡ n = length-drop q c.put_list-2.new.block in
     let fill : c.fill.new.self ≡ replicate n 0 = c.fill.ensures.after (λ y e. e) ∙ ap (λ (k : ℕ). replicate k 0) (length-take-le n (drop q c.put_list-2.new.block) (omega arith)) in

@@ -9,6 +9,7 @@ use Rattle.mq_turns.specs.Meaning.{claimed, newest}
 use Rattle.mq_turns.specs.declared.turn.Turn.TheVariants.{Page, Side}
 use Rattle.mq_turns.specs.declared.turn.Item.TheVariants as item
 use Rattle.mq_port_desk.specs.Machine.{ports}
+use Rattle.mq_port_desk.specs.Room.{size_of}
 use Rattle.mq_port_desk.proofs.Writing.{one_back, both_back, side_now, page_now, held_after, covers, may_now, may_clear, held_cleared, mark_cleared, side_cleared, side_held, page_held, side_stands, page_stands, was_full}
 use Rattle.mq_port_desk.proofs.write.write_block.Goals as goal
 
@@ -54,9 +55,9 @@ give_back-requires-2-clause-stands g c =
     let may = may_now g.P.Port.state g.P.Port.faults o c.args.entry (view c.clear.new.chair) one.0 L c.clear.ensures.at.1 now d.0 d.3 turns.0 turns.1 shape.0 shape.1 shape.2 (omega arith) in
     let was = side_cleared g.P.Port.state g.P.Port.faults o q b turns.0 turns.1 (view c.look.new.chair) clear.0 one.0 two.0 c.look.ensures.at.1 held clear.2 c.in-Side.side two.3 in
     let stands = side_stands g.P.Port.state g.P.Port.faults o c.args.entry (view c.clear.new.chair) one.0 L c.clear.ensures.at.1 now d.0 d.3 turns.0 turns.1 may c.in-Side.side was (c.has_room.ensures.room has) ℕ (length o.pages + q) refl in
-    let F = λ (l : _). Each (λ h. h.0 ≡ length o.pages + q → Stands {M = ℕ} (ports g.P.Port.state g.P.Port.faults) (Side q) h.1 (item.Side (record c.in-Side.side { end = c.in-Side.side.end + 2; place = c.in-Side.side.place + 2 }))) l in
+    let F = λ (l : _). Each (λ h. h.0 ≡ length o.pages + q → Stands {M = ℕ} (ports g.P.Port.state g.P.Port.faults) (Side q) h.1 (item.Side (record c.in-Side.side { end = c.in-Side.side.end + size_of c.args.entry; place = c.in-Side.side.place + size_of c.args.entry }))) l in
     let mine = subst (λ v. 0 < times (length o.pages + q) v.held) (sym d.1) (side_held g.P.Port.state g.P.Port.faults o c.args.entry (view c.clear.new.chair) one.0 L c.clear.ensures.at.1 now d.0 d.3 turns.0 turns.1) in
-    stands_held {M = ℕ} (ports g.P.Port.state g.P.Port.faults) o (Side q) (view c.draw-number.new.chair) (item.Side (record c.in-Side.side { end = c.in-Side.side.end + 2; place = c.in-Side.side.place + 2 })) c.draw-number.ensures.at.1 turns.1 mine (subst F (ap (λ v. v.held) (sym d.1)) stands)
+    stands_held {M = ℕ} (ports g.P.Port.state g.P.Port.faults) o (Side q) (view c.draw-number.new.chair) (item.Side (record c.in-Side.side { end = c.in-Side.side.end + size_of c.args.entry; place = c.in-Side.side.place + size_of c.args.entry })) c.draw-number.ensures.at.1 turns.1 mine (subst F (ap (λ v. v.held) (sym d.1)) stands)
 
 pub give_back-requires-3-clause-stands : goal.give_back-requires-3-clause-stands
 give_back-requires-3-clause-stands g c =
@@ -148,4 +149,4 @@ returns-then-not-has_room-clause-none g c =
     let two = c.in-Side.ensures.took in
     let no : c.has_room.result ≡ false = search rules in
     let drawn = ap (λ v. v.drawn) c.give_back-then-not-has_room.ensures.gave ∙ (ap (λ v. v.drawn) c.give_back.ensures.gave ∙ (ap (λ v. v.drawn) two.1 ∙ ap (λ v. v.drawn) one.1)) in
-    (drawn, was_full g.P.Port.state g.P.Port.faults c.args.entry.queue c.args.entry.block one.0 two.0 _ _ c.in-Side.side one.1 two.2 two.3 (c.has_room.ensures.full no))
+    (drawn, was_full g.P.Port.state g.P.Port.faults c.args.entry c.args.entry.block one.0 two.0 _ _ c.in-Side.side one.1 two.2 two.3 (c.has_room.ensures.full no))

@@ -1,10 +1,10 @@
 use Rattle.std.proofs.Common.{◌≡◌, ◌≢◌, ◌≤◌, ◌+◌, ℕ, List, length, ◌++◌, ◌∷◌, [], sym, ◌∙◌, ap, subst, arith}
 use Rattle.std.specs.List.{remove}
-use Rattle.mq_blocks.specs.Drive.{PortState}
+use Rattle.mq_blocks.specs.Drive.{PortState, usable_depth}
 use Rattle.mq_drive.specs.Emu.{emu_state}
 use Rattle.mq_nvme.specs.Completion.{status_of}
-use Rattle.mq_test_replay.specs.Lanes.{Fits, counts_of}
-use Rattle.mq_test_replay.proofs.Lanes.{kept_of, slot_is, none_found, found_at, count_got, counts-remove, fits_done, fits_failed}
+use Rattle.mq_test_replay.specs.Kept.{Fits, counts_of}
+use Rattle.mq_test_replay.proofs.Kept.{kept_of, slot_is, none_found, found_at, count_got, counts-remove, fits_done, fits_failed}
 use Rattle.mq_test_replay.proofs.port_run.PortRun.step.Goals as goal
 
 pub unreachable-requires : goal.unreachable-requires
@@ -23,7 +23,7 @@ invariant_of-self-then-status_of-ne0 c =
     let ends = rw c.in-Done.is at c.in_ok-completion.ensures.gives in
     let same : c.deref.result.now ≡ counts_of old.posted = c.deref.ensures.value ∙ sym q.fits.posted in
     let slot = c.from-slot.ensures ∙ slot_is c.in-Done.completion c.get.result ends.command.count c.get.ensures.is ends.identifier in
-    let room : old.doorbell + length old.pending ≤ q.head + 1023 = q.fits.room in
+    let room : old.doorbell + length old.pending ≤ q.head + usable_depth = q.fits.room in
     let heads = q.fits.heads in
     let stored = q.fits.stored_head in
     let at : c.in-Some.at ≡ ends.at =
@@ -42,7 +42,7 @@ invariant_of-self-else-status_of-ne0 c =
     let ends = rw c.in-Done.is at c.in_ok-completion.ensures.gives in
     let same : c.deref.result.now ≡ counts_of old.posted = c.deref.ensures.value ∙ sym q.fits.posted in
     let slot = c.from-slot.ensures ∙ slot_is c.in-Done.completion c.get.result ends.command.count c.get.ensures.is ends.identifier in
-    let room : old.doorbell + length old.pending ≤ q.head + 1023 = q.fits.room in
+    let room : old.doorbell + length old.pending ≤ q.head + usable_depth = q.fits.room in
     let heads = q.fits.heads in
     let stored = q.fits.stored_head in
     let at : c.in-Some.at ≡ ends.at =
@@ -60,7 +60,7 @@ returns c =
     let ends = rw c.in-Done.is at c.in_ok-completion.ensures.gives in
     let same : c.deref.result.now ≡ counts_of old.posted = c.deref.ensures.value ∙ sym q.fits.posted in
     let slot = c.from-slot.ensures ∙ slot_is c.in-Done.completion c.get.result ends.command.count c.get.ensures.is ends.identifier in
-    let room : old.doorbell + length old.pending ≤ q.head + 1023 = q.fits.room in
+    let room : old.doorbell + length old.pending ≤ q.head + usable_depth = q.fits.room in
     let heads = q.fits.heads in
     let stored = q.fits.stored_head in
     let at : c.in-Some.at ≡ ends.at =

@@ -1,7 +1,7 @@
 use Rattle.std.proofs.Common.{◌≡◌, ◌≤◌, ◌<◌, ℕ, List, length, get_or, sym, ◌∙◌, subst}
 use Rattle.mq_drive.specs.Emu.{emu_state}
-use Rattle.mq_test_replay.specs.Lanes.{counts_of}
-use Rattle.mq_test_replay.proofs.Lanes.{from_counts}
+use Rattle.mq_test_replay.specs.Kept.{counts_of}
+use Rattle.mq_test_replay.proofs.Kept.{from_counts}
 use Rattle.mq_test_replay.proofs.port_run.PortRun.store_head.Goals as goal
 
 pub store_head-requires-clause-posted : goal.store_head-requires-clause-posted

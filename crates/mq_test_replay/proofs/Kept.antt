@@ -8,7 +8,7 @@ use Rattle.mq_blocks.specs.Drive.{PortState, AreCounted, AreFrom, depth, after_d
 use Rattle.mq_blocks.specs.declared.command.Command.{Command}
 use Rattle.mq_nvme.specs.Completion.{identifier_of}
 use Rattle.mq_nvme.specs.Field.{place, get_field, bits_of}
-use Rattle.mq_test_replay.specs.Lanes.{Fits, Kept, counts_of}
+use Rattle.mq_test_replay.specs.Kept.{Fits, Kept, counts_of}
 use Rattle.mq_test_replay.specs.declared.port_run.PortRun.{PortRun}
 
 -- what a port_run keeps
@@ -60,11 +60,11 @@ rising low high (c ∷ cs) zero (suc j) counted before less =
 rising low high (c ∷ cs) (suc i) (suc j) counted before less = rising (c.count + 1) high cs i j counted.1.1 (omega (arith, before)) (omega (arith, less))
 
 -- counts that are less than a ring apart have different slots
-apart_slots : (a b : ℕ) → a < b → b < a + 1024 → a % 1024 ≡ b % 1024 → ⊥
+apart_slots : (a b : ℕ) → a < b → b < a + depth → a % depth ≡ b % depth → ⊥
 apart_slots a b less near same = omega (arith, less, near, same)
 
-not_before : (low high : ℕ) (cs : List Command) (i j : ℕ) → AreCounted low high cs → high ≤ low + 1024 → i < length (counts_of cs) → j < length (counts_of cs)
-    → get_or (counts_of cs) i 0 % 1024 ≡ get_or (counts_of cs) j 0 % 1024 → i < j → ⊥
+not_before : (low high : ℕ) (cs : List Command) (i j : ℕ) → AreCounted low high cs → high ≤ low + depth → i < length (counts_of cs) → j < length (counts_of cs)
+    → get_or (counts_of cs) i 0 % depth ≡ get_or (counts_of cs) j 0 % depth → i < j → ⊥
 not_before low high cs i j counted near i_less j_less same before =
     let more = rising low high cs i j counted before j_less in
     let at_i = bounded low high cs i counted i_less in
@@ -72,8 +72,8 @@ not_before low high cs i j counted near i_less j_less same before =
     apart_slots (get_or (counts_of cs) i 0) (get_or (counts_of cs) j 0) more (omega (arith, at_i.0, at_j.1, near)) same
 
 -- so a slot names one of the commands
-pub one_slot : (low high : ℕ) (cs : List Command) (i j : ℕ) → AreCounted low high cs → high ≤ low + 1024 → i < length (counts_of cs) → j < length (counts_of cs)
-    → get_or (counts_of cs) i 0 % 1024 ≡ get_or (counts_of cs) j 0 % 1024 → i ≡ j
+pub one_slot : (low high : ℕ) (cs : List Command) (i j : ℕ) → AreCounted low high cs → high ≤ low + depth → i < length (counts_of cs) → j < length (counts_of cs)
+    → get_or (counts_of cs) i 0 % depth ≡ get_or (counts_of cs) j 0 % depth → i ≡ j
 one_slot low high cs i j counted near i_less j_less same = elim (cases_lt i j) [
   | inl less ↦ absurd (not_before low high cs i j counted near i_less j_less same less)
   | inr not_less ↦ elim (cases_lt j i) [
@@ -101,20 +101,20 @@ identifier_is : (c : List ℕ) → get_field (place 3 0 16) c ≡ identifier_of 
 unfolding get_field bits_of identifier_of
 identifier_is c = omega arith
 
-pub slot_is : (c : List ℕ) (slot count : ℕ) → slot ≡ get_field (place 3 0 16) c → identifier_of c ≡ count % depth → slot ≡ count % 1024
+pub slot_is : (c : List ℕ) (slot count : ℕ) → slot ≡ get_field (place 3 0 16) c → identifier_of c ≡ count % depth → slot ≡ count % depth
 slot_is c slot count got is = got ∙ identifier_is c ∙ is
 
-pub none_found : (cs : List Command) (l : List ℕ) (at slot : ℕ) (c : Command) → l ≡ counts_of cs → slice_get cs at ≡ Some c → slot ≡ c.count % 1024
-    → ((j : ℕ) → j < length l → get_or l j 0 % 1024 ≡ slot → ⊥) → ⊥
+pub none_found : (cs : List Command) (l : List ℕ) (at slot : ℕ) (c : Command) → l ≡ counts_of cs → slice_get cs at ≡ Some c → slot ≡ c.count % depth
+    → ((j : ℕ) → j < length l → get_or l j 0 % depth ≡ slot → ⊥) → ⊥
 none_found cs l at slot c same is named none =
     none at (subst (λ (x : List ℕ). at < length x) (sym same) (count_within cs at c is))
-    (ap (λ (x : List ℕ). get_or x at 0 % 1024) same ∙ ap (λ (n : ℕ). n % 1024) (count_at cs at 0 c is) ∙ sym named)
+    (ap (λ (x : List ℕ). get_or x at 0 % depth) same ∙ ap (λ (n : ℕ). n % depth) (count_at cs at 0 c is) ∙ sym named)
 
-pub found_at : (low high : ℕ) (cs : List Command) (l : List ℕ) (at slot i : ℕ) (c : Command) → AreCounted low high cs → high ≤ low + 1024 → l ≡ counts_of cs → slice_get cs at ≡ Some c → slot ≡ c.count % 1024
-    → i < length l → get_or l i 0 % 1024 ≡ slot → i ≡ at
+pub found_at : (low high : ℕ) (cs : List Command) (l : List ℕ) (at slot i : ℕ) (c : Command) → AreCounted low high cs → high ≤ low + depth → l ≡ counts_of cs → slice_get cs at ≡ Some c → slot ≡ c.count % depth
+    → i < length l → get_or l i 0 % depth ≡ slot → i ≡ at
 found_at low high cs l at slot i c counted near same is named less has =
     one_slot low high cs i at counted near (subst (λ (x : List ℕ). i < length x) same less) (count_within cs at c is)
-    (sym (ap (λ (x : List ℕ). get_or x i 0 % 1024) same) ∙ has ∙ named ∙ sym (ap (λ (n : ℕ). n % 1024) (count_at cs at 0 c is)))
+    (sym (ap (λ (x : List ℕ). get_or x i 0 % depth) same) ∙ has ∙ named ∙ sym (ap (λ (n : ℕ). n % depth) (count_at cs at 0 c is)))
 
 pub count_got : (cs : List Command) (l : List ℕ) (i at n : ℕ) (c : Command) → l ≡ counts_of cs → slice_get cs at ≡ Some c → i ≡ at → n ≡ get_or l i n → c.count ≡ n
 count_got cs l i at n c same is named has = sym (count_at cs at n c is) ∙ (λ j. get_or (sym same j) (sym named j) n) ∙ sym has

@@ -1,6 +1,6 @@
 -- What is kept beside a port, and what its calls leave of it.
 use Rattle.std.specs.Prelude.{◌≡◌, ◌⊎◌, ◌≤◌, ℕ, ◌+◌, Bool, true, false, List, [], map, Result, Ok, Err, Some, is_some, slice_get}
-use Rattle.mq_blocks.specs.Drive.{PortState, staged_end, after_done, after_failed, after_begin, after_end}
+use Rattle.mq_blocks.specs.Drive.{PortState, staged_end, after_done, after_failed, after_begin, after_end, usable_depth}
 use Rattle.mq_blocks.specs.declared.command.Command.{Command}
 use Rattle.mq_test_replay.specs.declared.drive.Refused.{Refused}
 use Rattle.mq_test_replay.specs.declared.port_run.Ended.{Ended}
@@ -42,7 +42,7 @@ pub record Fits (s : PortState) (k : Kept) : Type 0 where
   pub failed : counts_of s.failed ≡ k.failed
   pub heads : k.head ≤ k.stored_head
   pub rung : k.stored_head ≤ k.doorbell
-  pub room : staged_end s ≤ k.head + 1023
+  pub room : staged_end s ≤ k.head + usable_depth
 
 -- one of the posted commands, of this count, has ended
 pub record Takes (old : PortState) (count : ℕ) (after : ℕ → Command → PortState) (new : PortState) : Type 0 where
