@@ -10,7 +10,8 @@ use Rattle.mq_pmr.specs.declared.rungs.Rung.{Rung}
 
 -- the slot of a count holds a request of this transaction: its commit request, or another
 abbrev pub IsRequestAt : List (List ℕ) → ℕ → ℕ → Bool → Type 0
-IsRequestAt slots tx n commit = bytes_at slots n ≡ entry_of record { tx = tx; slot = n % depth; lba = lba_of (bytes_at slots n); commit = commit }
+IsRequestAt slots tx n commit =
+    bytes_at slots n ≡ entry_of record { tx = tx; slot = n % depth; lba = lba_of (bytes_at slots n); commit = commit }
 
 -- a transaction ends there: its commit request stands before this count
 abbrev pub HasCommit : List (List ℕ) → ℕ → Type 0
@@ -28,8 +29,10 @@ AreWhole slots low (t ∷ ts) = IsWhole slots low t × AreWhole slots t.end ts
 pub AreWhole-prop : (slots : List (List ℕ)) (low : ℕ) (ts : List Rung) → IsProp (AreWhole slots low ts)
 AreWhole-prop slots low [] = Unit-prop
 AreWhole-prop slots low (t ∷ ts) =
-    ×_prop (Π_prop (λ (n : ℕ). →_prop (→_prop (Coded-set (coded_list coded_ℕ) (bytes_at slots n) (entry_of record { tx = t.tx; slot = n % depth; lba = lba_of (bytes_at slots n); commit = nat_eq (n + 1) t.end })))))
-    (AreWhole-prop slots t.end ts)
+    ×_prop (Π_prop (λ (n : ℕ). →_prop (→_prop (one n)))) (AreWhole-prop slots t.end ts)
+  where
+    one : (n : ℕ) → IsProp (IsRequestAt slots t.tx n (nat_eq (n + 1) t.end))
+    one n = Coded-set (coded_list coded_ℕ) (bytes_at slots n) _
 
 -- what is staged and not rung are requests of this transaction
 abbrev pub AreOf : PortState → ℕ → Type 0
@@ -37,7 +40,8 @@ AreOf s tx = (n : ℕ) → s.doorbell ≤ n → n < staged_end s → tx_of (byte
 
 -- the slots from the one before the head up to the doorbell are flushed: each image has their bytes
 abbrev pub AreCertain : PortState → Type 0
-AreCertain s = (n : ℕ) → s.head ≤ n + 1 → n < s.doorbell → IsFlushed s (n % depth) × (bytes_at s.flushed n ≡ bytes_at s.staged n)
+AreCertain s =
+    (n : ℕ) → s.head ≤ n + 1 → n < s.doorbell → IsFlushed s (n % depth) × (bytes_at s.flushed n ≡ bytes_at s.staged n)
 
 -- the slot before the flushed head keeps its bytes
 abbrev pub KeepsBefore : PortState → PortState → Type 0

@@ -249,7 +249,13 @@ fn follows_all<P: Port>(tried: &mut Tried<P>, alloc: Global, moves: &[Move]) -> 
 
 // Makes moves over a port that refuses one changing call, and answers whether all went as they say.
 // The call is counted from 1; 0 is none.
-fn tries<P: Port>(alloc: Global, geometry: Geometry, port: P, refuse: u64, moves: &[Move]) -> (P, bool)
+fn tries<P: Port>(
+    alloc: Global,
+    geometry: Geometry,
+    port: P,
+    refuse: u64,
+    moves: &[Move],
+) -> (P, bool)
     requires area { area_of geometry ≡ 1024 }
     requires port { IsPortOf geometry (Queue 0) (P.state port) }
     requires quiet { IsQuiescent (P.state port) }
