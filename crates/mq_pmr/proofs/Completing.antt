@@ -11,5 +11,5 @@ identifier_is c = omega arith
 pub slot_is : (c : List ℕ) (slot count : ℕ) → slot ≡ get_field (place 3 0 16) c → identifier_of c ≡ count % depth → slot ≡ count % depth
 slot_is c slot count got is = got ∙ identifier_is c ∙ is
 
-pub slot_low : (slot count : ℕ) → slot ≡ count % depth → slot < 1024
+pub slot_low : (slot count : ℕ) → slot ≡ count % depth → slot < depth
 slot_low slot count is = omega (arith, is)

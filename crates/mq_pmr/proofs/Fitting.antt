@@ -6,7 +6,7 @@ use Rattle.std.proofs.Math.ListN.{length-set}
 use Rattle.std.proofs.lemmas.Bool.{cases_eq, cases_lt}
 use Rattle.std.proofs.lemmas.List.{get_or-set_other, get_or-set_same}
 use Rattle.std.proofs.lemmas.List.Elements.{All-cons, All-append}
-use Rattle.mq_blocks.specs.Drive.{PortState, AreFrom, depth, staged_end, after_stage, after_ring, after_done, after_failed, after_begin, after_end}
+use Rattle.mq_blocks.specs.Drive.{PortState, AreFrom, depth, usable_depth, staged_end, after_stage, after_ring, after_done, after_failed, after_begin, after_end}
 use Rattle.mq_blocks.specs.declared.command.Command.{Command}
 use Rattle.mq_blocks.specs.declared.command.HomeWrite.{HomeWrite}
 use Rattle.mq_drive.specs.Steps.{Fault, HomeGives}
@@ -22,11 +22,11 @@ use Rattle.mq_pmr.specs.declared.slots.Slot.{Slot}
 use Rattle.mq_pmr.proofs.Counting.{at_count, at_count-here, at_count-other, times-append, times-one, times-remove, times-at, from_none, are_from-yes, are_from-no, named_set, named_same}
 
 -- counts that are less than a ring apart have different slots
-apart_slots : (a b : ℕ) → a < b → b < a + 1024 → a % depth ≢ b % depth
+pub apart_slots : (a b : ℕ) → a < b → b < a + depth → a % depth ≢ b % depth
 apart_slots a b less near same = omega (arith, less, near, same)
 
 -- so have any two of those from a count on
-pub other_slots : (low m n : ℕ) → low ≤ m → low ≤ n → m < low + 1024 → n < low + 1024 → m ≢ n → m % depth ≢ n % depth
+pub other_slots : (low m n : ℕ) → low ≤ m → low ≤ n → m < low + depth → n < low + depth → m ≢ n → m % depth ≢ n % depth
 other_slots low m n m_low n_low m_high n_high other same = elim (cases_lt m n) [
   | inl less ↦ apart_slots m n less (omega (arith, m_low, n_high)) same
   | inr more ↦ apart_slots n m (omega (arith, more, other)) (omega (arith, n_low, m_high)) (sym same)
@@ -47,16 +47,16 @@ where_waiting s k n fits some = (
 
 -- ---- staging
 
-pub fits_staged : (s : PortState) (k : Kept) (entry : List ℕ) (tx lba : ℕ) (block : List ℕ) → Fits s k → k.end < k.head + 1023
-    → Fits (after_stage s entry tx lba block) (record k { slots = set k.slots (k.end % depth) (record { tx = tx; done = false }); end = k.end + 1 })
-fits_staged s k entry tx lba block fits room =
+pub fits_staged : (s : PortState) (k : Kept) (entry : List ℕ) (tx lba : ℕ) (block : List ℕ) (whole : Option ℕ) → Fits s k → k.end < k.head + usable_depth
+    → Fits (after_stage s entry tx lba block) (record k { slots = set k.slots (k.end % depth) (record { tx = tx; done = false }); end = k.end + 1; staged = whole })
+fits_staged s k entry tx lba block whole fits room =
     let c : Command = record { count = staged_end s; tx = tx; lba = lba; block = block } in
     let v : Slot = record { tx = tx; done = false } in
     let t : PortState = after_stage s entry tx lba block in
     let at : k.end ≡ staged_end s = fits.end in
     let count : c.count ≡ k.end = sym at in
     let low : k.passed ≤ k.end = omega (arith, at, fits.passed) in
-    let near : k.end ≤ k.passed + 1023 = omega (arith, fits.room, fits.heads, fits.stored, fits.done) in
+    let near : k.end ≤ k.passed + usable_depth = omega (arith, fits.room, fits.heads, fits.stored, fits.done) in
     let moved : (n : ℕ) → waiting t n ≡ waiting s n + at_count n c = λ n. omega (arith, times-one n s.pending c) in
     let apart : (n : ℕ) → k.passed ≤ n → n < k.end → n % depth ≢ k.end % depth = λ n least less.
     other_slots k.passed n k.end least low (omega (arith, less, near)) (omega (arith, near)) (λ same. omega (arith, same, less)) in
@@ -94,7 +94,7 @@ fits_staged s k entry tx lba block fits room =
           (kept s.pending (λ n. omega arith) fits.named_pending)
           (All-cons (λ d. tx_in (set k.slots (k.end % depth) v) (d.count % depth) ≡ d.tx) c [] named (λ i d less. absurd (omega (arith, less))));
       named_posted = kept s.posted (λ n. omega arith) fits.named_posted;
-      staged = λ m is. omega (arith, fits.staged m is);
+      staged = λ m is. omega (arith, at);
     }
 
 -- ---- ringing
@@ -160,7 +160,7 @@ pub fits_done : (s : PortState) (k : Kept) (i : ℕ) (c : Command) (slot : ℕ) 
 fits_done s k i c slot v fits is slot_is v_is =
     let posted = is_posted s k i c fits is in
     let t : PortState = after_done s i c in
-    let near : k.end ≤ k.passed + 1023 = omega (arith, fits.room, fits.heads, fits.stored, fits.done) in
+    let near : k.end ≤ k.passed + usable_depth = omega (arith, fits.room, fits.heads, fits.stored, fits.done) in
     let moved : (n : ℕ) → waiting s n ≡ waiting t n + at_count n c = λ n. omega (arith, times-remove n i s.posted c is) in
     let in_ring : slot < length k.slots = omega (arith, fits.ring, slot_is) in
     let tx : v.tx ≡ tx_in k.slots slot = ap (λ (x : Slot). x.tx) v_is in

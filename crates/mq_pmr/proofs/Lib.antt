@@ -1,6 +1,7 @@
 pub mod Completing
 pub mod Counting
 pub mod Fitting
+pub mod Holding
 pub mod Owning
 pub mod Staging
 pub mod Walking

@@ -1,9 +1,9 @@
 -- Staging one entry more.
-use Rattle.std.proofs.Common.{◌≡◌, ◌≢◌, ◌<◌, ◌≤◌, ◌-◌, ℕ, suc, ◌+◌, ◌%◌, List, [], ◌∷◌, ◌++◌, length, set, refl, sym, ◌∙◌, ap, subst, arith, append_assoc, length-append, inl, inr, ⊎_elim}
+use Rattle.std.proofs.Common.{◌≡◌, ◌≢◌, ◌<◌, ◌≤◌, ◌-◌, ℕ, suc, ◌+◌, ◌%◌, false, List, [], ◌∷◌, ◌++◌, length, set, refl, sym, ◌∙◌, ap, subst, arith, append_assoc, length-append, inl, inr, ⊎_elim}
 use Rattle.std.proofs.lemmas.List.{append-nil}
 use Rattle.std.proofs.lemmas.Bool.Decides.{nat_tests}
 use Rattle.std.specs.Prelude.{◌==◌}
-use Rattle.mq_blocks.specs.Drive.{PortState, counted, depth, staged_end, after_stage, Owns}
+use Rattle.mq_blocks.specs.Drive.{PortState, counted, depth, usable_depth, staged_end, after_stage, Owns}
 use Rattle.mq_blocks.specs.declared.command.Command.{Command}
 use Rattle.mq_pmr.specs.Runs.{Items, AreOwn, entry_at, slots_with, commands_of, after_some, is_last}
 
@@ -72,12 +72,16 @@ pub is_last_by_length : (is : Items) → (length is == 0) ≡ is_last is
 is_last_by_length [] = refl
 is_last_by_length (i ∷ is) = grind (arith, nat_tests)
 
+pub not_last : (is : Items) → 0 < length is → is_last is ≡ false
+not_last [] some = absurd (omega (arith, some))
+not_last (i ∷ is) some = refl
+
 -- a state is what no more stages make of it
 pub none_more : (s : PortState) (tx : ℕ) (items : Items) → after_some s tx 0 items ≡ s
 none_more s tx items = ap (λ (p : List Command). record s { pending = p }) (append-nil s.pending)
 
 -- a count of the ring's next 1,023 has another slot than the one before them
-pub other_slot : (head c : ℕ) → 0 < head → head ≤ c → c < head + 1023 → c % depth ≢ (head - 1) % depth
+pub other_slot : (head c : ℕ) → 0 < head → head ≤ c → c < head + usable_depth → c % depth ≢ (head - 1) % depth
 other_slot head c some low high same = omega (arith, some, low, high, same)
 
 pub own_more : (s : PortState) (items : Items) (item : ℕ × List ℕ) → AreOwn s items → Owns s item.0 → AreOwn s (items ++ item ∷ [])

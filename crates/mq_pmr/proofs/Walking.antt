@@ -35,7 +35,7 @@ all_joined slots from mid to first second n least less = elim (cases_lt n mid) [
   | inr above ↦ second n above less
 ]
 
-ends_high : (low limit : ℕ) (ts : List Rung) → AreEnds low limit ts → low ≤ limit
+pub ends_high : (low limit : ℕ) (ts : List Rung) → AreEnds low limit ts → low ≤ limit
 ends_high low limit [] ends = ends
 ends_high low limit (t ∷ ts) ends = omega (arith, ends.0, ends_high t.end limit ts ends.1)
 

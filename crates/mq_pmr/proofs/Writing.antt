@@ -4,7 +4,7 @@ use Rattle.std.proofs.lemmas.Bool.{cases_eq}
 use Rattle.std.proofs.lemmas.List.{get_or-set_other, get_or-set_same}
 use Rattle.std.proofs.lemmas.List.Elements.{All-cons, All-rest, All-append}
 use Rattle.std.specs.Prelude.{slice_get, Result, Ok, Err}
-use Rattle.mq_blocks.specs.Drive.{PortState, depth, staged_end, after_stage, after_ring, after_done, after_failed}
+use Rattle.mq_blocks.specs.Drive.{PortState, depth, usable_depth, staged_end, after_stage, after_ring, after_done, after_failed}
 use Rattle.mq_blocks.specs.declared.command.Command.{Command}
 use Rattle.mq_nvme.specs.Entry.{entry_of, lba_of, is_commit}
 use Rattle.mq_nvme.proofs.Entries.{lba_of-entry, is_commit-entry}
@@ -50,7 +50,7 @@ holds_new slots n tx lba commit entry ring is =
     let own : IsWriteOf entry tx (n % depth) lba = is ∙ ap (λ (b : Bool). entry_of record { tx = tx; slot = n % depth; lba = lba; commit = b }) (sym flag) in
     subst (λ (b : List ℕ). IsWriteOf b tx (n % depth) lba) (sym (get_or-set_same slots (n % depth) entry [] (omega (arith, ring)))) own
 
-pub written_staged : (s : PortState) (k : Kept) (entry : List ℕ) (tx lba : ℕ) (block : List ℕ) → Fits s k → k.end < k.head + 1023
+pub written_staged : (s : PortState) (k : Kept) (entry : List ℕ) (tx lba : ℕ) (block : List ℕ) → Fits s k → k.end < k.head + usable_depth
     → IsWriteOf (bytes_at (set s.staged (staged_end s % depth) entry) (staged_end s)) tx (staged_end s % depth) lba → IsWritten s k.slots k.done.end k.end
     → IsWritten (after_stage s entry tx lba block) (set k.slots (k.end % depth) (record { tx = tx; done = false })) k.done.end (k.end + 1)
 written_staged s k entry tx lba block fits room new w =

@@ -1,5 +1,6 @@
 pub mod Answers
 pub mod Queue
+pub mod Ring
 pub mod Rungs
 pub mod Runs
 pub mod Slots

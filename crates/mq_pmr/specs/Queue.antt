@@ -1,6 +1,6 @@
 -- What a queue keeps, and how it stands to its port.
 use Rattle.std.specs.Prelude.{◌≡◌, ◌<◌, ◌≤◌, ℕ, ◌+◌, ◌%◌, Bool, true, false, List, [], ◌∷◌, All, length, IsSome, Option, Some, nat_eq, if◌then◌else◌}
-use Rattle.mq_blocks.specs.Drive.{PortState, depth, staged_end, after_flush, after_store_head}
+use Rattle.mq_blocks.specs.Drive.{PortState, depth, usable_depth, staged_end, after_flush, after_store_head}
 use Rattle.mq_blocks.specs.declared.command.Command.{Command}
 use Rattle.mq_blocks.specs.declared.geometry.Geometry.{Geometry}
 use Rattle.mq_drive.specs.Start.{IsPortOf}
@@ -48,7 +48,7 @@ pub record Fits (s : PortState) (k : Kept) : Type 0 where
   pub stored : k.stored_head ≤ k.done.end
   pub done : k.done.end ≤ k.passed
   pub passed : k.passed ≤ s.doorbell
-  pub room : k.end ≤ k.head + 1023
+  pub room : k.end ≤ k.head + usable_depth
   -- one command waits at each count that is neither passed nor done
   pub below : (n : ℕ) → n < k.passed → waiting s n ≡ 0
   pub within : (n : ℕ) → k.passed ≤ n → n < k.end → waiting s n ≡ one_unless (done_at k.slots n)

@@ -16,6 +16,11 @@ pub AreEnds-prop : (low high : ℕ) (ts : List Rung) → IsProp (AreEnds low hig
 AreEnds-prop low high [] = le_prop
 AreEnds-prop low high (t ∷ ts) = ×_prop le_prop (AreEnds-prop t.end high ts)
 
+-- the end of the last of them; before there is one, this count
+abbrev pub last_end : ℕ → List Rung → ℕ
+last_end low [] = low
+last_end low (t ∷ ts) = last_end t.end ts
+
 -- none of these commands stands below this count
 abbrev pub are_from : ℕ → List Command → Bool
 are_from low [] = true

@@ -6,8 +6,6 @@
 mod queue;
 mod rungs;
 mod slots;
-#[cfg(test)]
-mod tests;
 mod took;
 mod walk;
 

@@ -1,7 +1,8 @@
 // A queue in persistent memory.
-ghost use Rattle.std.specs.Prelude.{◌≡◌, ◌≢◌, ◌⊎◌, ◌<◌, ◌≤◌, ◌+◌, ◌-◌, ◌%◌, ◌^◌, ◌++◌, ℕ, List, [], ◌∷◌, length, OnOk, OnErr, IfOk, IfErr, IsSome, Some, None, slice_index_or, reverse};
+ghost use Rattle.std.specs.Prelude.{◌≡◌, ◌≢◌, ◌⊎◌, ◌<◌, ◌≤◌, ◌+◌, ◌-◌, ◌%◌, ◌++◌, ℕ, List, [], ◌∷◌, length, OnOk, OnErr, IfOk, IfErr, IsSome, Some, None, slice_index_or, reverse, if◌then◌else◌};
 ghost use Rattle.std.specs.VecDeque.{deque_capacity};
-ghost use Rattle.mq_blocks.specs.Drive.{PortState, IsHome, Owns, staged_end, after_stage, after_flush, after_ring, after_store_head, depth};
+ghost use Rattle.mq_blocks.specs.Drive.{PortState, IsHome, Owns, staged_end, after_stage, after_flush, after_ring, after_store_head, depth, usable_depth};
+ghost use Rattle.mq_blocks.specs.Journal.{number_limit};
 ghost use Rattle.mq_drive.specs.Start.{IsPortOf};
 ghost use Rattle.mq_drive.specs.Steps.{OffCause, HomeGives};
 ghost use Rattle.mq_drive.specs.declared.role.Role.TheVariants.{Queue};
@@ -10,23 +11,27 @@ ghost use Rattle.mq_pmr.specs.Answers.{TookGives};
 ghost use Rattle.mq_pmr.specs.Queue.{Fits, IsRingOf, after_head};
 ghost use Rattle.mq_pmr.specs.Rungs.{AreEnds, AreEnds-prop, is_clear, last_leading, left_after};
 ghost use Rattle.mq_pmr.specs.Runs.{AreOwn, after_some};
+ghost use Rattle.mq_pmr.specs.Ring.{IsHeld, AreWhole, AreWhole-prop, AreOf, AreCertain, KeepsBefore};
 ghost use Rattle.mq_pmr.specs.Written.{IsWritten};
 
 use crate::Took;
 use crate::rungs::Rung;
 use crate::slots::Slot;
 use crate::walk::{add_rung, note_done, note_staged, pass_done, tx_of_slot};
-use mq_blocks::{Block, Geometry, Lba, OutOfMemory, QueueNo, TxNo};
+use mq_blocks::{Block, Geometry, Lba, OutOfMemory, QueueNo, RING_DEPTH, TxNo, USABLE_DEPTH};
 use mq_drive::{HomeStep, Off, Port, Step};
 use mq_nvme::fields::Ccid;
 use mq_nvme::{WriteReq, status_of, write_of};
 use std::alloc::Global;
 use std::collections::VecDeque;
+use std::snapshot::Snapshot;
 
 /// A queue of a drive: its port, and what is known of the entries in its ring. Counts are absolute.
 #[derive(Drop)]
 pub struct PmrQueue<P: Port> {
     port: P,
+    // the port as it was when the queue was opened
+    opened: Snapshot<P>,
     geometry: Geometry,
     queue: QueueNo,
     slots: Vec<Slot>,
@@ -42,13 +47,16 @@ pub struct PmrQueue<P: Port> {
     done: Rung,
     // the transactions that were rung after it
     rung: VecDeque<Rung>,
-    // the number of the transaction that is staged whole and not rung
+    // the number of the transaction that is staged whole and not rung; none also where a part of one is
+    // staged
     staged: Option<u64>,
     ghost fits: { Fits (P.state port) (record { slots = slots.items; end = end; head = head; stored_head = stored_head; passed = passed; done = done; rung = rung.items; staged = staged }) },
     ghost own: { IsRingOf geometry queue (P.state port) },
     ghost ends: { AreEnds done.end (P.state port).doorbell rung.items } by { AreEnds-prop done.end (P.state port).doorbell rung.items },
     ghost written: { IsWritten (P.state port) slots.items done.end end },
-    ghost reserved: { 1023 ≤ deque_capacity rung },
+    ghost whole: { AreWhole (P.state port).flushed done.end rung.items } by { AreWhole-prop (P.state port).flushed done.end rung.items },
+    ghost held: { IsHeld (P.state opened.value) (P.state port) done rung.items staged },
+    ghost reserved: { usable_depth ≤ deque_capacity rung },
 }
 
 /// Takes the first item out of items that stand in reverse.
@@ -77,8 +85,9 @@ impl<P: Port> PmrQueue<P> {
         requires pending { (P.state port).pending ≡ [] }
         requires posted { (P.state port).posted ≡ [] }
         requires failed { (P.state port).failed ≡ [] }
-        requires flushed { (P.state port).flushed_end ≤ (P.state port).doorbell }
+        requires flushed { (P.state port).flushed_end ≡ (P.state port).doorbell }
         ensures port { IfOk result (λ q. q.port ≡ port) }
+        ensures opened { IfOk result (λ q. q.opened.value ≡ port) }
         ensures own { IfOk result (λ q. (q.geometry ≡ geometry) × (q.queue ≡ queue)) }
         ensures done { IfOk result (λ q. q.done ≡ record { tx = 0; end = (P.state port).doorbell }) }
         ensures rung { IfOk result (λ q. q.rung.items ≡ []) }
@@ -89,8 +98,10 @@ impl<P: Port> PmrQueue<P> {
             Err(full) => return Err((port, full)),
         };
         let doorbell = port.doorbell();
+        let opened = Snapshot::of(&port);
         Ok(PmrQueue {
             port,
+            opened,
             geometry,
             queue,
             slots,
@@ -123,16 +134,18 @@ impl<P: Port> PmrQueue<P> {
 
     /// How many entries may be staged.
     pub fn room(&self) -> u32
-        ensures { result ≡ 1023 - (staged_end (P.state self.now.port) - (P.state self.now.port).head) }
+        ensures { result ≡ usable_depth - (staged_end (P.state self.now.port) - (P.state self.now.port).head) }
     {
-        1023 - (self.end - self.head) as u32
+        USABLE_DEPTH - (self.end - self.head) as u32
     }
 
     // Stages one entry of a transaction.
     fn stage_one(&mut self, tx: u64, lba: Lba, block: Block, commit: bool) -> Result<(), Off>
         requires tx { 1 ≤ tx }
-        requires below { staged_end (P.state self.old.port) < 2 ^ 63 }
-        requires room { staged_end (P.state self.old.port) - (P.state self.old.port).head < 1023 }
+        requires below { staged_end (P.state self.old.port) < number_limit }
+        requires room { staged_end (P.state self.old.port) - (P.state self.old.port).head < usable_depth }
+        requires unstaged { self.old.staged ≡ None }
+        requires whose { AreOf (P.state self.old.port) tx }
         requires own { Owns (P.state self.old.port) lba }
         ensures ok { OnOk result (P.state self.new.port ≡ after_stage (P.state self.old.port)
             (entry_of (record {
@@ -146,18 +159,22 @@ impl<P: Port> PmrQueue<P> {
         ensures cause { OffCause result (P.faults self.old.port) (P.faults self.new.port) }
         ensures done { self.new.done ≡ self.old.done }
         ensures rung { self.new.rung.items ≡ self.old.rung.items }
-        ensures staged { self.new.staged ≡ self.old.staged }
+        ensures whose { OnOk result (AreOf (P.state self.new.port) tx) }
+        ensures staged { OnOk result (self.new.staged ≡ (if commit then Some tx else None)) }
+        ensures part { OnErr result (self.new.staged ≡ self.old.staged) }
         ensures own { (self.new.geometry ≡ self.old.geometry) × (self.new.queue ≡ self.old.queue) }
+        ensures opened { self.new.opened ≡ self.old.opened }
     {
         let entry = write_of(&WriteReq {
             tx,
-            slot: (self.end % 1024) as u16,
+            slot: (self.end % RING_DEPTH as u64) as u16,
             lba: u64::from(lba.0),
             commit,
         });
         self.port.stage(self.end, entry, block)?;
         note_staged(&mut self.slots, self.end, tx);
         self.end += 1;
+        self.staged = tx_if(tx, commit);
         Ok(())
     }
 
@@ -166,9 +183,9 @@ impl<P: Port> PmrQueue<P> {
     pub fn stage_all(&mut self, tx: TxNo, items: &mut Vec<(Lba, Block)>) -> Result<(), Off>
         requires tx { 1 ≤ tx }
         requires some { 0 < length items.old.items }
-        requires room { length items.old.items ≤ 1023 -
+        requires room { length items.old.items ≤ usable_depth -
             (staged_end (P.state self.old.port) - (P.state self.old.port).head) }
-        requires end { staged_end (P.state self.old.port) + length items.old.items ≤ 2 ^ 63 }
+        requires end { staged_end (P.state self.old.port) + length items.old.items ≤ number_limit }
         requires empty { (P.state self.old.port).pending ≡ [] }
         requires own { AreOwn (P.state self.old.port) items.old.items }
         ensures ok { OnOk result (P.state self.new.port ≡ after_some (P.state self.old.port) tx
@@ -182,10 +199,12 @@ impl<P: Port> PmrQueue<P> {
             (((P.state self.old.port).head - 1) % depth) [] ≡ slice_index_or
             (P.state self.old.port).staged (((P.state self.old.port).head - 1) % depth) [] }
         ensures staged { OnOk result (self.new.staged ≡ Some tx) }
+        ensures part { OnErr result (self.new.staged ≡ None) }
         ensures done { self.new.done ≡ self.old.done }
         ensures rung { self.new.rung.items ≡ self.old.rung.items }
         ensures items { items.new.items ≡ [] }
         ensures own { (self.new.geometry ≡ self.old.geometry) × (self.new.queue ≡ self.old.queue) }
+        ensures opened { self.new.opened ≡ self.old.opened }
     {
         items.reverse();
         let answer = self.stage_reversed(tx.0, items);
@@ -197,9 +216,9 @@ impl<P: Port> PmrQueue<P> {
     fn stage_reversed(&mut self, tx: u64, items: &mut Vec<(Lba, Block)>) -> Result<(), Off>
         requires tx { 1 ≤ tx }
         requires some { 0 < length items.old.items }
-        requires room { length items.old.items ≤ 1023 -
+        requires room { length items.old.items ≤ usable_depth -
             (staged_end (P.state self.old.port) - (P.state self.old.port).head) }
-        requires end { staged_end (P.state self.old.port) + length items.old.items ≤ 2 ^ 63 }
+        requires end { staged_end (P.state self.old.port) + length items.old.items ≤ number_limit }
         requires empty { (P.state self.old.port).pending ≡ [] }
         requires own { AreOwn (P.state self.old.port) (reverse items.old.items) }
         ensures ok { OnOk result (P.state self.new.port ≡ after_some (P.state self.old.port) tx
@@ -213,16 +232,16 @@ impl<P: Port> PmrQueue<P> {
             (((P.state self.old.port).head - 1) % depth) [] ≡ slice_index_or
             (P.state self.old.port).staged (((P.state self.old.port).head - 1) % depth) [] }
         ensures staged { OnOk result (self.new.staged ≡ Some tx) }
+        ensures part { OnErr result (self.new.staged ≡ None) }
         ensures done { self.new.done ≡ self.old.done }
         ensures rung { self.new.rung.items ≡ self.old.rung.items }
         ensures own { (self.new.geometry ≡ self.old.geometry) × (self.new.queue ≡ self.old.queue) }
+        ensures opened { self.new.opened ≡ self.old.opened }
     {
-        self.staged = None;
         'staging: while !items.is_empty() {
             let (lba, block) = take_first(items);
             self.stage_one(tx, lba, block, items.is_empty())?;
         }
-        self.staged = Some(tx);
         Ok(())
     }
 
@@ -238,10 +257,13 @@ impl<P: Port> PmrQueue<P> {
             → self.old.staged ≡ Some tx
             → self.new.rung.items ≡ self.old.rung.items ++
             (record { tx = tx; end = staged_end (P.state self.old.port) }) ∷ []) }
+        ensures before { KeepsBefore (P.state self.old.port) (P.state self.new.port) }
         ensures same { OnErr result (self.new.rung.items ≡ self.old.rung.items) }
+        ensures unstaged { OnOk result (self.new.staged ≡ None) }
         ensures staged { OnErr result (self.new.staged ≡ self.old.staged) }
         ensures done { self.new.done ≡ self.old.done }
         ensures own { (self.new.geometry ≡ self.old.geometry) × (self.new.queue ≡ self.old.queue) }
+        ensures opened { self.new.opened ≡ self.old.opened }
     {
         self.flush()?;
         self.port.ring(self.end)?;
@@ -261,7 +283,9 @@ impl<P: Port> PmrQueue<P> {
         ensures rung { self.new.rung ≡ self.old.rung }
         ensures staged { self.new.staged ≡ self.old.staged }
         ensures passed { self.new.passed ≡ self.old.passed }
+        ensures before { KeepsBefore (P.state self.old.port) (P.state self.new.port) }
         ensures own { (self.new.geometry ≡ self.old.geometry) × (self.new.queue ≡ self.old.queue) }
+        ensures opened { self.new.opened ≡ self.old.opened }
     {
         self.port.flush()?;
         self.head = self.stored_head;
@@ -276,6 +300,7 @@ impl<P: Port> PmrQueue<P> {
         ensures rung { self.new.rung.items ≡ self.old.rung.items }
         ensures staged { self.new.staged ≡ self.old.staged }
         ensures own { (self.new.geometry ≡ self.old.geometry) × (self.new.queue ≡ self.old.queue) }
+        ensures opened { self.new.opened ≡ self.old.opened }
     {
         match self.port.step()? {
             Step::Idle => Ok(Took::Idle),
@@ -306,8 +331,10 @@ impl<P: Port> PmrQueue<P> {
             (P.state self.old.port) self.new.done.end) }
         ensures off { OnErr result ((P.state self.new.port ≡ P.state self.old.port)
             ⊎ (P.state self.new.port ≡ after_store_head (P.state self.old.port) self.new.done.end)) }
+        ensures before { KeepsBefore (P.state self.old.port) (P.state self.new.port) }
         ensures cause { OffCause result (P.faults self.old.port) (P.faults self.new.port) }
         ensures own { (self.new.geometry ≡ self.old.geometry) × (self.new.queue ≡ self.old.queue) }
+        ensures opened { self.new.opened ≡ self.old.opened }
     {
         self.pass();
         if self.head != self.done.end {
@@ -326,6 +353,7 @@ impl<P: Port> PmrQueue<P> {
             (is_clear (P.state self.old.port)) self.old.rung.items }
         ensures staged { self.new.staged ≡ self.old.staged }
         ensures own { (self.new.geometry ≡ self.old.geometry) × (self.new.queue ≡ self.old.queue) }
+        ensures opened { self.new.opened ≡ self.old.opened }
     {
         pass_done(
             &self.slots,
@@ -345,6 +373,7 @@ impl<P: Port> PmrQueue<P> {
         ensures rung { self.new.rung.items ≡ self.old.rung.items }
         ensures staged { self.new.staged ≡ self.old.staged }
         ensures own { (self.new.geometry ≡ self.old.geometry) × (self.new.queue ≡ self.old.queue) }
+        ensures opened { self.new.opened ≡ self.old.opened }
     {
         let head = self.done.end;
         self.port.store_head(head)?;
@@ -361,6 +390,7 @@ impl<P: Port> PmrQueue<P> {
         ensures rung { self.new.rung.items ≡ self.old.rung.items }
         ensures staged { self.new.staged ≡ self.old.staged }
         ensures own { (self.new.geometry ≡ self.old.geometry) × (self.new.queue ≡ self.old.queue) }
+        ensures opened { self.new.opened ≡ self.old.opened }
     {
         self.port.write_home(lba, block)
     }
@@ -369,16 +399,24 @@ impl<P: Port> PmrQueue<P> {
     pub fn into_port(self) -> P
         ensures port { result ≡ self.port }
         ensures own { IsPortOf self.geometry (Queue self.queue) (P.state result) }
+        ensures certain { AreCertain (P.state result) }
     {
         self.port
     }
 }
 
+// The number of a transaction, where its commit request is staged.
+fn tx_if(tx: u64, commit: bool) -> Option<u64>
+    ensures { result ≡ (if commit then Some tx else None) }
+{
+    if commit { Some(tx) } else { None }
+}
+
 // The records of a queue before anything is staged.
 fn records(alloc: Global) -> Result<(Vec<Slot>, VecDeque<Rung>), OutOfMemory>
-    ensures { IfOk result (λ r. (length r.0.items ≡ 1024) × (r.1.items ≡ []) × (1023 ≤ deque_capacity r.1)) }
+    ensures { IfOk result (λ r. (length r.0.items ≡ depth) × (r.1.items ≡ []) × (usable_depth ≤ deque_capacity r.1)) }
 {
-    let slots = vec![in alloc; Slot { tx: 0, done: false }; 1024]?;
-    let rung = VecDeque::with_capacity(alloc, 1023)?;
+    let slots = vec![in alloc; Slot { tx: 0, done: false }; RING_DEPTH as usize]?;
+    let rung = VecDeque::with_capacity(alloc, USABLE_DEPTH as usize)?;
     Ok((slots, rung))
 }

@@ -1,26 +1,28 @@
 // Walks over the slots and the transactions of a ring, each slot once.
-ghost use Rattle.std.specs.Prelude.{◌≡◌, ◌<◌, ◌≤◌, ◌+◌, ◌%◌, ◌^◌, ◌++◌, ◌∷◌, [], ℕ, Bool, true, false, length, vec_len, slice_set, drop};
+ghost use Rattle.std.specs.Prelude.{◌≡◌, ◌<◌, ◌≤◌, ◌+◌, ◌%◌, ◌++◌, ◌∷◌, [], ℕ, Bool, true, false, length, vec_len, slice_set, drop};
 ghost use Rattle.std.specs.Option.{option_to_list};
 ghost use Rattle.std.specs.VecDeque.{deque_len, deque_capacity};
+ghost use Rattle.mq_blocks.specs.Drive.{depth};
 ghost use Rattle.mq_pmr.specs.Slots.{tx_in, done_at, AllDone};
 ghost use Rattle.mq_pmr.specs.Rungs.{AreEnds, Walks};
 
 use crate::rungs::Rung;
 use crate::slots::Slot;
+use mq_blocks::RING_DEPTH;
 use std::collections::VecDeque;
 
 /// The entry at a count was staged.
 pub fn note_staged(slots: &mut Vec<Slot>, at: u64, tx: u64)
-    requires { length slots.old.items ≡ 1024 }
-    ensures { slots.new.items ≡ slice_set slots.old.items (at % 1024) (record { tx = tx; done = false }) }
+    requires { length slots.old.items ≡ depth }
+    ensures { slots.new.items ≡ slice_set slots.old.items (at % depth) (record { tx = tx; done = false }) }
 {
-    slots[(at % 1024) as usize] = Slot { tx, done: false };
+    slots[(at % RING_DEPTH as u64) as usize] = Slot { tx, done: false };
 }
 
 /// The command in a slot has ended with success.
 pub fn note_done(slots: &mut Vec<Slot>, slot: usize)
-    requires ring { length slots.old.items ≡ 1024 }
-    requires slot { slot < 1024 }
+    requires ring { length slots.old.items ≡ depth }
+    requires slot { slot < depth }
     ensures { slots.new.items ≡ slice_set slots.old.items slot
         (record { tx = tx_in slots.old.items slot; done = true }) }
 {
@@ -30,8 +32,8 @@ pub fn note_done(slots: &mut Vec<Slot>, slot: usize)
 
 /// The number of the transaction whose entry is in a slot.
 pub fn tx_of_slot(slots: &Vec<Slot>, slot: usize) -> u64
-    requires ring { length slots.now.items ≡ 1024 }
-    requires slot { slot < 1024 }
+    requires ring { length slots.now.items ≡ depth }
+    requires slot { slot < depth }
     ensures { result ≡ tx_in slots.now.items slot }
 {
     slots[slot].tx
@@ -51,7 +53,7 @@ pub fn add_rung(rung: &mut VecDeque<Rung>, next: Rung)
 
 /// Passes the done entries up to a count, and answers whether all of them are done.
 pub fn pass_to(slots: &Vec<Slot>, passed: &mut u64, end: u64) -> bool
-    requires { length slots.now.items ≡ 1024 }
+    requires { length slots.now.items ≡ depth }
     ensures up { passed.old ≤ passed.new }
     ensures all { AllDone slots.now.items passed.old passed.new }
     ensures yes { result ≡ true → end ≤ passed.new }
@@ -59,7 +61,7 @@ pub fn pass_to(slots: &Vec<Slot>, passed: &mut u64, end: u64) -> bool
     ensures high { (limit : ℕ) → passed.old ≤ limit → end ≤ limit → passed.new ≤ limit }
 {
     'walk: while *passed < end {
-        if !slots[(*passed % 1024) as usize].done {
+        if !slots[(*passed % RING_DEPTH as u64) as usize].done {
             return false;
         }
         *passed += 1;
@@ -69,7 +71,7 @@ pub fn pass_to(slots: &Vec<Slot>, passed: &mut u64, end: u64) -> bool
 
 /// Passes the transactions that lead and are done, and notes the last of them.
 pub fn pass_done(slots: &Vec<Slot>, passed: &mut u64, done: &mut Rung, rung: &mut VecDeque<Rung>)
-    requires { length slots.now.items ≡ 1024 }
+    requires { length slots.now.items ≡ depth }
     ensures capacity { deque_capacity rung.old ≤ deque_capacity rung.new }
     ensures walk { (limit : ℕ)
         → AreEnds done.old.end limit rung.old.items

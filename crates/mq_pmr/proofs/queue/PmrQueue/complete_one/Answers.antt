@@ -1,5 +1,5 @@
 use Rattle.std.proofs.Common.{Ok, ◌≡◌, ◌≢◌, ℕ, List, refl, sym, ◌∙◌, ap, subst, arith}
-use Rattle.mq_blocks.specs.Drive.{PortState, after_done}
+use Rattle.mq_blocks.specs.Drive.{PortState, after_done, after_failed}
 use Rattle.mq_drive.specs.declared.port.Step.TheVariants.{Done}
 use Rattle.mq_drive.specs.Steps.{Gains, CommandError}
 use Rattle.mq_nvme.specs.Completion.{status_of}
@@ -8,6 +8,7 @@ use Rattle.mq_pmr.specs.Slots.{tx_in}
 use Rattle.mq_pmr.specs.declared.slots.Slot.{Slot}
 use Rattle.mq_pmr.proofs.Completing.{slot_is, slot_low}
 use Rattle.mq_pmr.proofs.Fitting.{fits_done, fits_failed, is_posted, ends-along}
+use Rattle.mq_pmr.proofs.Holding.{held_as}
 use Rattle.mq_pmr.proofs.Owning.{step_ring}
 use Rattle.mq_pmr.specs.Written.{IsWritten}
 use Rattle.mq_pmr.proofs.Writing.{written_done, written_failed}
@@ -22,11 +23,14 @@ invariant_of-self-then-status-ne0 g c =
     let ends = rw c.in-Done.is at c.in_ok-step.ensures in
     let bad : status_of c.in-Done.completion ≢ 0 = λ none. c.if-status-ne0.true (c.status_of-status.ensures ∙ none) in
     let now = ends.error bad in
+    let ring = held_as (g.P.Port.state q.opened.value) old new (after_failed old ends.at ends.command) q.done q.rung.items q.staged now.0 (q.whole, q.held) in
     record {
       fits = subst (λ (s : PortState). Fits s kept) (sym now.0) (fits_failed old kept ends.at ends.command q.fits ends.posted);
       ends = ends-along old new q.done.end q.rung.items (ap (λ (s : PortState). s.doorbell) now.0) q.ends;
       own = step_ring q.geometry q.queue old new (g.P.Port.faults q.port) (g.P.Port.faults c.step.new.self) (Ok (Done c.in-Done.completion)) ends q.own;
       written = subst (λ (s : PortState). IsWritten s q.slots.items q.done.end q.end) (sym now.0) (written_failed old q.slots.items q.done.end q.end ends.at ends.command ends.posted q.written);
+      whole = ring.0;
+      held = ring.1;
       reserved = q.reserved;
     }
 
@@ -67,6 +71,7 @@ invariant_of-self-in-Done g c =
     let now = ends.success success in
     let slot = slot_is c.in-Done.completion c.get-slot.result ends.command.count c.get-slot.ensures.is ends.identifier in
     let slots = c.note_done.ensures in
+    let ring = held_as (g.P.Port.state q.opened.value) old new (after_done old ends.at ends.command) q.done q.rung.items q.staged now.0 (q.whole, q.held) in
     record {
       fits = subst (λ (s : PortState). Fits s (record kept { slots = c.note_done.new.slots.items })) (sym now.0)
           (subst (λ (l : List Slot). Fits (after_done old ends.at ends.command) (record kept { slots = l })) (sym slots)
@@ -76,6 +81,8 @@ invariant_of-self-in-Done g c =
       written = subst (λ (s : PortState). IsWritten s c.note_done.new.slots.items q.done.end q.end) (sym now.0)
           (subst (λ (l : List Slot). IsWritten (after_done old ends.at ends.command) l q.done.end q.end) (sym slots)
           (written_done old q.slots.items q.done.end q.end ends.at ends.command c.get-slot.result _ (let low = slot_low c.get-slot.result ends.command.count slot in let ring = q.fits.ring in omega (arith, low, ring)) refl q.written));
+      whole = ring.0;
+      held = ring.1;
       reserved = q.reserved;
     }
 

@@ -1,11 +1,13 @@
-use Rattle.std.proofs.Common.{◌≡◌, ◌≤◌, ◌<◌, ℕ, ◌+◌, ◌∷◌, [], ◌++◌, List, length, Option, Some, refl, sym, ◌∙◌, ap, subst, arith, rules}
+use Rattle.std.proofs.Common.{◌≡◌, ◌≤◌, ◌<◌, ℕ, ◌+◌, ◌∷◌, [], ◌++◌, List, length, Option, Some, None, refl, sym, ◌∙◌, ap, subst, arith, rules}
 use Rattle.std.specs.VecDeque.{deque_len}
-use Rattle.mq_blocks.specs.Drive.{PortState, after_ring}
+use Rattle.mq_blocks.specs.Drive.{PortState, staged_end, after_ring}
 use Rattle.mq_pmr.specs.Queue.{Fits, Kept}
 use Rattle.mq_pmr.specs.Rungs.{AreEnds}
 use Rattle.mq_pmr.specs.declared.rungs.Rung.{Rung}
 use Rattle.mq_pmr.proofs.Fitting.{fits_rung, ends_more, length-ends}
+use Rattle.mq_pmr.proofs.Holding.{whole_ring, held_ring}
 use Rattle.mq_pmr.proofs.Owning.{rung_ring}
+use Rattle.mq_pmr.specs.Ring.{IsHeld, AreWhole}
 use Rattle.mq_pmr.specs.Written.{IsWritten}
 use Rattle.mq_pmr.proofs.Writing.{written_rung}
 use Rattle.mq_pmr.proofs.queue.PmrQueue.ring_once.Goals as goal
@@ -29,6 +31,9 @@ invariant_of-self-in-Some g c =
     let new : PortState = g.P.Port.state c.ring.new.self in
     let rung : new ≡ after_ring old = c.in_ok-ring.ensures.ok in
     let staged = q.fits.staged c.in-Some.tx (sym c.take.ensures.value ∙ c.in-Some.is) in
+    let opened : PortState = g.P.Port.state q.opened.value in
+    let tail : old.flushed_end ≡ staged_end old = ap (λ (s : PortState). s.flushed_end) c.in_ok-flush.ensures.ok ∙ sym (ap staged_end c.in_ok-flush.ensures.ok) in
+    let is : q.staged ≡ Some c.in-Some.tx = sym c.take.ensures.value ∙ c.in-Some.is in
     let kept : Kept = record { slots = q.slots.items; end = q.end; head = q.head; stored_head = q.stored_head; passed = q.passed; done = q.done; rung = q.rung.items; staged = q.staged } in
     let next : Rung = record { tx = c.in-Some.tx; end = q.end } in
     let items : c.add_rung.new.rung.items ≡ q.rung.items ++ next ∷ [] = c.add_rung.ensures.items in
@@ -42,5 +47,10 @@ invariant_of-self-in-Some g c =
           (subst (AreEnds q.done.end q.end) (sym items) (ends_more q.done.end old.doorbell q.rung.items next staged q.ends));
       own = rung_ring q.geometry q.queue old new rung q.own;
       written = subst (λ (s : PortState). IsWritten s q.slots.items q.done.end q.end) (sym rung) (written_rung old q.slots.items q.done.end q.end q.written);
+      whole = subst (λ (s : PortState). AreWhole s.flushed q.done.end c.add_rung.new.rung.items) (sym rung)
+          (subst (AreWhole old.flushed q.done.end) (sym items) (whole_ring q.geometry q.queue opened old kept next q.own.port tail is q.fits.end q.held q.whole));
+      held = subst (IsHeld opened new q.done c.add_rung.new.rung.items) (sym c.take.ensures.after)
+          (subst (λ (s : PortState). IsHeld opened s q.done c.add_rung.new.rung.items None) (sym rung)
+          (subst (λ (l : List Rung). IsHeld opened (after_ring old) q.done l None) (sym items) (held_ring q.geometry q.queue opened old kept next q.own.port q.fits tail is q.fits.end q.held)));
       reserved = let more = c.add_rung.ensures.capacity in let was = q.reserved in omega (arith, more, was);
     }

@@ -1,12 +1,50 @@
-use Rattle.std.proofs.Common.{◌≡◌, ◌≢◌, ◌<◌, ◌≤◌, ℕ, suc, ◌+◌, ◌-◌, ◌%◌, Bool, List, [], ◌∷◌, length, reverse, refl, sym, ◌∙◌, ap, subst, arith, rules, add-zero, vec_len}
+use Rattle.std.proofs.Common.{◌≡◌, ◌≢◌, ◌<◌, ◌≤◌, ℕ, suc, ◌+◌, ◌-◌, ◌%◌, Bool, List, [], ◌∷◌, length, Some, None, reverse, refl, sym, ◌∙◌, ap, subst, arith, rules, add-zero, vec_len}
 use Rattle.std.proofs.lemmas.List.{length-reverse, get_or-set_other}
 use Rattle.std.proofs.lemmas.Result.{err_from_is_err_and}
-use Rattle.std.specs.Prelude.{◌==◌}
-use Rattle.mq_blocks.specs.Drive.{PortState, staged_end, depth}
+use Rattle.std.specs.Prelude.{◌==◌, if◌then◌else◌}
+use Rattle.mq_blocks.specs.Drive.{PortState, staged_end, depth, usable_depth}
 use Rattle.mq_nvme.specs.Entry.{entry_of}
 use Rattle.mq_pmr.specs.Runs.{Items, after_some, is_last, entry_at, AreOwn}
-use Rattle.mq_pmr.proofs.Staging.{Next, next, none_more, is_last_by_length, stays_staged, other_slot}
+use Rattle.mq_pmr.specs.Queue.{Kept}
+use Rattle.mq_pmr.proofs.Holding.{none_staged, none_of}
+use Rattle.mq_pmr.proofs.Staging.{Next, next, none_more, not_last, is_last_by_length, stays-refl, stays_staged, other_slot}
 use Rattle.mq_pmr.proofs.queue.PmrQueue.stage_reversed.Goals as goal
+
+pub staging-init : goal.staging-init
+staging-init g c =
+    let q = c.args.self.now in
+    let start : PortState = g.P.Port.state q.port in
+    let items : Items = reverse c.args.items.now.items in
+    let kept : Kept = record { slots = q.slots.items; end = q.end; head = q.head; stored_head = q.stored_head; passed = q.passed; done = q.done; rung = q.rung.items; staged = q.staged } in
+    let some : 0 < length items = let e = c.requires.some in let l = length-reverse c.args.items.now.items in omega (arith, e, l) in
+    record {
+      begun = omega arith;
+      end = refl;
+      goes_on = λ j. let same : j ≡ staged_end start - staged_end start + j = omega arith in ap (λ (n : ℕ). after_some start c.args.tx n items) same;
+      own = c.requires.own;
+      same = stays-refl start;
+      before = λ some. refl;
+      no_fault = refl;
+      done = refl;
+      rung = refl;
+      whose = none_of start c.args.tx c.requires.empty;
+      staged = none_staged start kept q.fits c.requires.empty ∙ sym (ap (λ (b : Bool). if b then Some c.args.tx else None) (not_last items some));
+      opened = refl;
+      stays = (refl, refl);
+    }
+
+pub stage_one-requires-clause-unstaged : goal.stage_one-requires-clause-unstaged
+stage_one-requires-clause-unstaged g c = c.staging.invariant.staged ∙ ap (λ (is : Items). if is_last is then Some c.args.tx else None) c.take_first-lba.ensures
+
+pub stage_one-requires-clause-whose : goal.stage_one-requires-clause-whose
+stage_one-requires-clause-whose g c = c.staging.invariant.whose
+
+pub returns-clause-staged : goal.returns-clause-staged
+returns-clause-staged g c =
+    let items : Items = c.staging.items.items in
+    let none : length items ≡ 0 = search rules in
+    c.staging.invariant.staged
+    ∙ ap (λ (b : Bool). if b then Some c.args.tx else None) (sym (is_last_by_length (reverse items)) ∙ ap (λ (n : ℕ). n == 0) (length-reverse items ∙ none))
 
 pub staging-preserved : goal.staging-preserved
 staging-preserved g c =
@@ -33,7 +71,7 @@ staging-preserved g c =
     let head : now.head ≡ start.head = inv.same.head in
     let low : now.head ≤ staged_end now =
     let a = q.fits.head in let b = q.fits.heads in let d = q.fits.stored in let e = q.fits.done in let f = q.fits.passed in omega (arith, a, b, d, e, f) in
-    let high : staged_end now < now.head + 1023 =
+    let high : staged_end now < now.head + usable_depth =
     let total = inv.end in let room = c.requires.room in let begun = inv.begun in omega (arith, total, room, begun, fewer, head) in
     record {
       begun = omega (arith, step.end, inv.begun);
@@ -51,6 +89,9 @@ staging-preserved g c =
       no_fault = c.in_ok-stage_one.ensures.cause ∙ inv.no_fault;
       done = c.stage_one.ensures.done ∙ inv.done;
       rung = c.stage_one.ensures.rung ∙ inv.rung;
+      whose = c.in_ok-stage_one.ensures.whose;
+      staged = c.in_ok-stage_one.ensures.staged ∙ ap (λ (b : Bool). if b then Some tx else None) flag;
+      opened = c.stage_one.ensures.opened ∙ inv.opened;
       stays = (c.stage_one.ensures.own.0 ∙ inv.stays.0, c.stage_one.ensures.own.1 ∙ inv.stays.1);
     }
 
@@ -68,6 +109,11 @@ returns-in_err-stage_one-clause-off g c =
     let is : g.P.Port.state c.stage_one.new.self.port ≡ after_some start tx k (reverse c.args.items.now.items) =
     c.in_err-stage_one.ensures.off ∙ sym (none_more now tx (reverse c.staging.items.items)) ∙ inv.goes_on 0 ∙ ap (λ (n : ℕ). after_some start tx n (reverse c.args.items.now.items)) (add-zero k) in
     let p = err_from_is_err_and c.from_residual.result c.from_residual.ensures.1 in rw p.1 (k, few, is)
+
+pub returns-in_err-stage_one-clause-part : goal.returns-in_err-stage_one-clause-part
+returns-in_err-stage_one-clause-part g c =
+    let is = c.in_err-stage_one.ensures.part ∙ c.staging.invariant.staged ∙ ap (λ (is : Items). if is_last is then Some c.args.tx else None) c.take_first-lba.ensures in
+    let p = err_from_is_err_and c.from_residual.result c.from_residual.ensures.1 in rw p.1 is
 
 pub returns-clause-ok : goal.returns-clause-ok
 returns-clause-ok g c =

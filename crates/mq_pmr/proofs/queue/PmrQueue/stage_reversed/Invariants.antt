@@ -1,6 +1,7 @@
-use Rattle.std.proofs.Common.{◌≡◌, ◌≤◌, ◌<◌, ℕ, ◌+◌, ◌-◌, ◌%◌, [], length, reverse, slice_index_or}
+use Rattle.std.proofs.Common.{◌≡◌, ◌≤◌, ◌<◌, ℕ, ◌+◌, ◌-◌, ◌%◌, [], length, Some, None, reverse, slice_index_or, if◌then◌else◌}
 use Rattle.mq_blocks.specs.Drive.{PortState, staged_end, depth}
-use Rattle.mq_pmr.specs.Runs.{AreOwn, after_some}
+use Rattle.mq_pmr.specs.Ring.{AreOf}
+use Rattle.mq_pmr.specs.Runs.{AreOwn, after_some, is_last}
 use Rattle.mq_pmr.proofs.Staging.{PortStays}
 use Rattle.mq_pmr.proofs.queue.PmrQueue.stage_reversed.Given as goal
 
@@ -19,6 +20,9 @@ invariant-staging g l =
       no_fault : g.P.Port.faults l.self.port ≡ g.P.Port.faults l.fn.self.port;
       done : l.self.done ≡ l.fn.self.done;
       rung : l.self.rung.items ≡ l.fn.self.rung.items;
+      whose : AreOf now l.tx;
+      staged : l.self.staged ≡ (if is_last (reverse l.items.items) then Some l.tx else None);
+      opened : l.self.opened ≡ l.fn.self.opened;
       stays : (l.self.geometry ≡ l.fn.self.geometry) × (l.self.queue ≡ l.fn.self.queue);
     }
 

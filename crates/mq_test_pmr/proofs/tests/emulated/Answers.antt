@@ -8,7 +8,7 @@ use Rattle.mq_drive.specs.declared.emu.EmuPort.{EmuPort}
 use Rattle.mq_drive.specs.declared.role.Role.TheVariants.{Queue}
 use Rattle.mq_drive.proofs.Starts.{port_of-start, quiet-start}
 use Rattle.std.proofs.lemmas.Result.{IfOk-weaker}
-use Rattle.mq_pmr.proofs.tests.emulated.Goals as goal
+use Rattle.mq_test_pmr.proofs.tests.emulated.Goals as goal
 
 of_one : (g : Geometry) (i : PortImage) → area_of g ≡ 1024 → zone_size g ≡ 240 → length i.slots ≡ 1024 → length i.blocks ≡ 1264 → i.base ≡ 0 → IsImageOf g (Queue 0) i
 of_one g i area zone slots blocks base = record { slots = slots; blocks = omega (arith, blocks, area, zone); words = base }

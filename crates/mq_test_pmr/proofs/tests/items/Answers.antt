@@ -2,7 +2,7 @@ use Rattle.std.proofs.Common.{◌≡◌, ◌<◌, ◌≤◌, ℕ, ◌+◌, ◌-�
 use Rattle.mq_blocks.specs.Drive.{PortState, Owns}
 use Rattle.mq_pmr.specs.Runs.{Items, AreOwn}
 use Rattle.mq_pmr.proofs.Staging.{own_more}
-use Rattle.mq_pmr.proofs.tests.items.Goals as goal
+use Rattle.mq_test_pmr.proofs.tests.items.Goals as goal
 
 pub filling-preserved : goal.filling-preserved
 filling-preserved c =

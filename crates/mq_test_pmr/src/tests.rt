@@ -8,10 +8,10 @@ ghost use Rattle.mq_drive.specs.Start.{IsPortOf};
 ghost use Rattle.mq_drive.specs.declared.role.Role.TheVariants.{Queue};
 ghost use Rattle.mq_pmr.specs.Runs.{AreOwn};
 
-use crate::{PmrQueue, Took};
 use mq_blocks::{Block, Geometry, GeometryRefusal, Lba, OutOfMemory, QueueNo, TxNo};
 use mq_drive::{EmuPort, FlakyPort, Fuse, FuseSeat, Off, Port, PortImage, Role};
 use mq_nvme::Entry;
+use mq_pmr::{PmrQueue, Took};
 use std::alloc::Global;
 use std::process::Abort;
 
@@ -99,6 +99,22 @@ fn items(alloc: Global, count: u32) -> Result<Vec<(Lba, Block)>, OutOfMemory>
         items.push((Lba(k), Block::zeroed(alloc)?))?;
     }
     Ok(items)
+}
+
+// What a case does with its queue, and what it finds there.
+#[derive(Clone, Copy)]
+enum Move {
+    // A transaction of so many items is staged.
+    Stages { tx: u64, count: u32 },
+    // It is staged and rung.
+    Commits { tx: u64, count: u32 },
+    // So many commands end with success, and then none is left.
+    Drains(u32),
+    // A command of this transaction ends with an error.
+    Fails { tx: u64 },
+    // The head is past the transaction of this number, or its store or flush is refused.
+    Advances(Option<u64>),
+    HasRoom(u32),
 }
 
 // A queue that stages nothing for which it has no room.
@@ -198,128 +214,177 @@ impl<P: Port> Tried<P> {
     }
 }
 
-// Commits a transaction of three items, and answers whether all went as it should.
-fn commits_three<P: Port>(alloc: Global, geometry: Geometry, port: P) -> (P, bool)
-    requires area { area_of geometry ≡ 1024 }
-    requires port { IsPortOf geometry (Queue 0) (P.state port) }
-    requires quiet { IsQuiescent (P.state port) }
-    requires doorbell { (P.state port).doorbell ≡ 0 }
-    requires head { (P.state port).head ≡ 0 }
-{
-    let mut tried = match Tried::open(alloc, port, geometry) {
-        Ok(tried) => tried,
-        Err(port) => return (port, false),
-    };
-    let staged = tried.room() == 1023 && tried.commit(alloc, 1, 3) && tried.room() == 1020;
-    // no command has ended, so the head stays
-    let waits = tried.advance() == Ok(TxNo(0));
-    let done = tried.drain(3) && tried.advance() == Ok(TxNo(1)) && tried.advance() == Ok(TxNo(1));
-    let all = staged && waits && done && tried.room() == 1023;
-    (tried.into_port(), all)
+// Makes a move, and answers whether all went as it says.
+fn follows<P: Port>(tried: &mut Tried<P>, alloc: Global, next: Move) -> bool {
+    match next {
+        Move::Stages { tx, count } => tx >= 1 && tried.stage(alloc, tx, count),
+        Move::Commits { tx, count } => tx >= 1 && tried.commit(alloc, tx, count),
+        Move::Drains(count) => tried.drain(count),
+        Move::Fails { tx } => fails(tried, TxNo(tx)),
+        Move::Advances(found) => advances(tried, found),
+        Move::HasRoom(count) => tried.room() == count,
+    }
 }
 
-// The third command ends with an error, which is the second transaction's.
-fn fails_third<P: Port>(alloc: Global, geometry: Geometry, port: P) -> (P, bool)
-    requires area { area_of geometry ≡ 1024 }
-    requires port { IsPortOf geometry (Queue 0) (P.state port) }
-    requires quiet { IsQuiescent (P.state port) }
-    requires doorbell { (P.state port).doorbell ≡ 0 }
-    requires head { (P.state port).head ≡ 0 }
-{
-    let mut tried = match Tried::open(alloc, port, geometry) {
-        Ok(tried) => tried,
-        Err(port) => return (port, false),
-    };
-    let first = tried.commit(alloc, 4, 2) && tried.drain(2);
-    let second = tried.commit(alloc, 9, 1);
-    let bad = Took::Bad {
-        tx: TxNo(9),
-        status: 640,
-    };
-    let stops = tried.complete() == Ok(bad) && tried.advance() == Ok(TxNo(4));
-    let all = first
-        && second
-        && stops
-        && tried.complete() == Ok(Took::Idle)
-        && tried.room() == 1022;
-    (tried.into_port(), all)
+fn fails<P: Port>(tried: &mut Tried<P>, tx: TxNo) -> bool {
+    tried.complete() == Ok(Took::Bad { tx, status: 640 })
 }
 
-// Commits 22 items over a port that refuses the flush of the head. Then the head is stored again, or
-// the ring is filled.
-fn fills_up<P: Port>(alloc: Global, geometry: Geometry, port: P, again: bool) -> (P, bool)
+fn advances<P: Port>(tried: &mut Tried<P>, found: Option<u64>) -> bool {
+    match (tried.advance(), found) {
+        (Ok(tx), Some(number)) => tx.0 == number,
+        (Err(Off), None) => true,
+        _ => false,
+    }
+}
+
+fn follows_all<P: Port>(tried: &mut Tried<P>, alloc: Global, moves: &[Move]) -> bool {
+    for next in moves {
+        if !follows(tried, alloc, *next) {
+            return false;
+        }
+    }
+    true
+}
+
+// Makes moves over a port that refuses one changing call, and answers whether all went as they say.
+// The call is counted from 1; 0 is none.
+fn tries<P: Port>(
+    alloc: Global,
+    geometry: Geometry,
+    port: P,
+    refuse: u64,
+    moves: &[Move],
+) -> (P, bool)
     requires area { area_of geometry ≡ 1024 }
     requires port { IsPortOf geometry (Queue 0) (P.state port) }
     requires quiet { IsQuiescent (P.state port) }
     requires doorbell { (P.state port).doorbell ≡ 0 }
     requires head { (P.state port).head ≡ 0 }
 {
-    // 22 stages, flush, ring, 22 completions, store of the head
-    let mut tried = match Tried::open(alloc, FlakyPort::new(port, 48), geometry) {
+    let mut tried = match Tried::open(alloc, FlakyPort::new(port, refuse), geometry) {
         Ok(tried) => tried,
         Err(port) => return (port.into_inner(), false),
     };
-    let done = tried.commit(alloc, 1, 22) && tried.drain(22);
-    let refused = tried.advance() == Err(Off) && tried.room() == 1001;
-    let goes_on = if again {
-        tried.advance() == Ok(TxNo(1)) && tried.room() == 1023
-    } else {
-        tried.stage(alloc, 2, 1001) && tried.room() == 0
-    };
-    let all = done && refused && goes_on;
+    let all = follows_all(&mut tried, alloc, moves);
     (tried.into_port().into_inner(), all)
+}
+
+// What is left of a case: whether all went as its moves say, how many events happened, and an image.
+#[derive(Drop)]
+struct Left {
+    all: bool,
+    events: u64,
+    image: PortImage,
+}
+
+// `fail` names the command that ends with an error, and `refuse` the call that is refused.
+fn left_by(
+    alloc: Global,
+    fail: Option<u64>,
+    refuse: u64,
+    moves: &[Move],
+) -> Result<Option<Left>, OutOfMemory> {
+    let geometry = match small() {
+        Ok(geometry) => geometry,
+        Err(_) => return Ok(None),
+    };
+    let (fuse, seat) = powered(alloc)?;
+    let port = emulated(alloc, &fuse, seat, geometry, fail)?;
+    let (port, all) = tries(alloc, geometry, port, refuse, moves);
+    let events = port.events();
+    let (image, _seat) = port.cut(3);
+    Ok(Some(Left { all, events, image }))
 }
 
 #[test]
 fn a_transaction_from_its_stages_to_the_head(rt: HostRuntime) -> Result<(), OutOfMemory> {
-    let alloc = rt.alloc();
-    let geometry = small().expect(&rt, "a geometry");
-    let (fuse, seat) = powered(alloc)?;
-    let port = emulated(alloc, &fuse, seat, geometry, None)?;
-    let (port, done) = commits_three(alloc, geometry, port);
-    assert!(rt; done);
+    let moves = [
+        Move::HasRoom(1023),
+        Move::Commits { tx: 1, count: 3 },
+        Move::HasRoom(1020),
+        // no command has ended, so the head stays
+        Move::Advances(Some(0)),
+        Move::Drains(3),
+        Move::Advances(Some(1)),
+        Move::Advances(Some(1)),
+        Move::HasRoom(1023),
+    ];
+    let left = left_by(rt.alloc(), None, 0, &moves)?.expect(&rt, "a geometry");
+    assert!(rt; left.all);
     // 3 stages, flush, ring, 3 completions, store and flush of the head
-    assert_eq!(rt; port.events(), 10);
-    let (image, _seat) = port.cut(0);
-    assert_eq!(rt; image.doorbell, 3);
-    assert_eq!(rt; image.head, 3);
+    assert_eq!(rt; left.events, 10);
+    assert_eq!(rt; left.image.doorbell, 3);
+    assert_eq!(rt; left.image.head, 3);
     Ok(())
 }
 
 #[test]
 fn the_head_stops_before_a_failed_command(rt: HostRuntime) -> Result<(), OutOfMemory> {
-    let alloc = rt.alloc();
-    let geometry = small().expect(&rt, "a geometry");
-    let (fuse, seat) = powered(alloc)?;
-    let port = emulated(alloc, &fuse, seat, geometry, Some(3))?;
-    let (port, done) = fails_third(alloc, geometry, port);
-    assert!(rt; done);
-    let (image, _seat) = port.cut(0);
-    assert_eq!(rt; image.doorbell, 3);
-    assert_eq!(rt; image.head, 2);
+    // the third command is the second transaction's
+    let moves = [
+        Move::Commits { tx: 4, count: 2 },
+        Move::Drains(2),
+        Move::Commits { tx: 9, count: 1 },
+        Move::Fails { tx: 9 },
+        Move::Advances(Some(4)),
+        Move::Drains(0),
+        Move::HasRoom(1022),
+    ];
+    let left = left_by(rt.alloc(), Some(3), 0, &moves)?.expect(&rt, "a geometry");
+    assert!(rt; left.all);
+    assert_eq!(rt; left.image.doorbell, 3);
+    assert_eq!(rt; left.image.head, 2);
+    Ok(())
+}
+
+// 22 stages, flush, ring, 22 completions and the store of the head: the flush of the head is refused.
+const BEFORE_THE_FLUSH: u64 = 48;
+
+fn has_the_entries(image: &PortImage) -> bool {
+    image
+        .slots
+        .iter()
+        .take(22)
+        .filter(|entry| entry.tx() == 1)
+        .count()
+        == 22
+}
+
+#[test]
+fn a_head_that_was_stored_and_not_flushed_is_stored_again(
+    rt: HostRuntime,
+) -> Result<(), OutOfMemory> {
+    let moves = [
+        Move::Commits { tx: 1, count: 22 },
+        Move::Drains(22),
+        Move::Advances(None),
+        Move::HasRoom(1001),
+        Move::Advances(Some(1)),
+        Move::HasRoom(1023),
+    ];
+    let left = left_by(rt.alloc(), None, BEFORE_THE_FLUSH, &moves)?.expect(&rt, "a geometry");
+    assert!(rt; left.all);
+    assert_eq!(rt; left.image.head, 22);
+    assert!(rt; has_the_entries(&left.image));
     Ok(())
 }
 
 #[test]
-fn a_head_that_was_stored_and_not_flushed(rt: HostRuntime) -> Result<(), OutOfMemory> {
-    let alloc = rt.alloc();
-    let geometry = small().expect(&rt, "a geometry");
-    for again in [false, true] {
-        let (fuse, seat) = powered(alloc)?;
-        let port = emulated(alloc, &fuse, seat, geometry, None)?;
-        let (port, done) = fills_up(alloc, geometry, port, again);
-        assert!(rt; done);
-        let (image, _seat) = port.cut(3);
-        assert!(rt; image.head == 22 || (image.head == 0 && !again));
-        let slots = image.slots.as_slice();
-        assert_eq!(rt;
-            slots
-                .iter()
-                .take(22)
-                .filter(|entry| entry.tx() == 1)
-                .count(),
-            22
-        );
-    }
+fn a_full_ring_keeps_what_stands_behind_the_flushed_head(
+    rt: HostRuntime,
+) -> Result<(), OutOfMemory> {
+    let moves = [
+        Move::Commits { tx: 1, count: 22 },
+        Move::Drains(22),
+        Move::Advances(None),
+        Move::HasRoom(1001),
+        Move::Stages { tx: 2, count: 1001 },
+        Move::HasRoom(0),
+    ];
+    let left = left_by(rt.alloc(), None, BEFORE_THE_FLUSH, &moves)?.expect(&rt, "a geometry");
+    assert!(rt; left.all);
+    assert!(rt; left.image.head == 22 || left.image.head == 0);
+    assert!(rt; has_the_entries(&left.image));
     Ok(())
 }

@@ -1,7 +1,7 @@
 use Rattle.std.proofs.Common.{◌≡◌, ◌≤◌, ℕ, ◌+◌, length}
 use Rattle.mq_blocks.specs.Drive.{PortState}
 use Rattle.mq_pmr.specs.Runs.{AreOwn}
-use Rattle.mq_pmr.proofs.tests.items.Given as goal
+use Rattle.mq_test_pmr.proofs.tests.items.Given as goal
 
 abbrev pub invariant-filling : goal.invariant-filling
 invariant-filling l = record {

@@ -2,7 +2,7 @@ use Rattle.std.proofs.Common.{◌≡◌, ◌≤◌, ℕ, ◌+◌, ◌-◌, List,
 use Rattle.mq_blocks.specs.Drive.{PortState, staged_end}
 use Rattle.mq_pmr.specs.Runs.{Items}
 use Rattle.mq_pmr.proofs.Staging.{end_all}
-use Rattle.mq_pmr.proofs.tests.Tried.stage.Goals as goal
+use Rattle.mq_test_pmr.proofs.tests.Tried.stage.Goals as goal
 
 pub stage_all-requires-clause-own : goal.stage_all-requires-clause-own
 stage_all-requires-clause-own g c = c.in-Ok.ensures.own (g.P.Port.state c.args.self.now.queue.port) c.args.self.now.area_first c.args.self.now.area_size
