@@ -10,7 +10,7 @@ use Rattle.mq_blocks.specs.Windows.{written}
 use Rattle.mq_blocks.specs.declared.geometry.Geometry.{Geometry}
 use Rattle.mq_exec.specs.Cuts.{IsBlankPut, IsBlanked, PlansCut}
 use Rattle.mq_exec.specs.declared.truncate.Cutting.{Cutting}
-use Rattle.mq_exec.proofs.LocalBytes.{cut-at, spliced-after, spliced-before, spliced-in}
+use Rattle.mq_exec.proofs.LocalBytes.{spliced-after, spliced-before, spliced-in}
 use Rattle.mq_inodes.specs.Changes.{IsOfFile, Stepped}
 use Rattle.mq_inodes.specs.Edits.{Becomes, Carries}
 use Rattle.mq_inodes.specs.Opened.{MayCut, cut_file}
@@ -25,6 +25,7 @@ use Rattle.mq_inodes.proofs.LocalVolumes.{cut-body, with_body-uses}
 use Rattle.mq_inodes.proofs.Showing.{use-carried}
 use Rattle.mq_layout.specs.Places.{file_limit}
 use Rattle.mq_pages.specs.declared.page.Kind.TheVariants.{Data}
+use Rattle.mq_tree.proofs.KeepBytes.{cut-at}
 use Rattle.mq_tree.specs.Laid.{ShowsPart, inode_of}
 use Rattle.mq_tree.specs.Requests.{cut_to, spliced, with_body}
 use Rattle.mq_tree.specs.Sound.{blocks_for}

@@ -18,12 +18,12 @@ use Rattle.mq_inodes.proofs.LocalFits.{fits-put}
 use Rattle.mq_inodes.proofs.LocalParts.{dir-along, dir-cleared, dir-written, file-along}
 use Rattle.mq_inodes.proofs.LocalSteps.{step-end, step-start, zone-held, zone-put}
 use Rattle.mq_inodes.proofs.LocalUses.{Rewrites}
-use Rattle.mq_inodes.proofs.Nodes.{length-padded}
 use Rattle.mq_layout.specs.Fields.{zero_bytes}
 use Rattle.mq_layout.specs.Inodes.{IsInode}
 use Rattle.mq_layout.specs.Places.{file_limit}
 use Rattle.mq_layout.specs.Slots.{Entry, IsEntry, slot_bytes}
 use Rattle.mq_layout.specs.declared.inode.Inode.{Inode}
+use Rattle.mq_tree.proofs.CleanLaid.{length-padded}
 use Rattle.mq_tree.specs.Laid.{IsPage, ShowsPart, inode_of, kind_of, links_of, or_zero, padded, size_of}
 use Rattle.mq_tree.specs.Requests.{with_body}
 use Rattle.mq_tree.specs.Volume.{Body, Free, File, Dir, Node, Part, Pointers, Volume, body, is_used, node}

@@ -20,16 +20,11 @@ use Rattle.mq_inodes.proofs.LocalUses.{Rewrites, uses-fewer}
 use Rattle.mq_layout.specs.Inodes.{IsInode}
 use Rattle.mq_layout.specs.Places.{file_limit, inode_block, zone_bitmap}
 use Rattle.mq_layout.specs.Places.{inodes_of}
+use Rattle.mq_tree.proofs.KeepChanges.{take-get}
 use Rattle.mq_tree.specs.Laid.{ShowsPart, ShowsPointers, inode_of, kind_of, size_of}
 use Rattle.mq_tree.specs.Volume.{Body, File, Node, Pointers, Volume, body, has_block, is_used, node}
 use Rattle.mq_tree.proofs.KeepUses.{node-here, node-other}
 use Rattle.mq_tree.specs.Uses.{AreUses}
-
-pub take-get : (n : ℕ) (xs : List ℕ) (k c : ℕ) → slice_get (take n xs) k ≡ Some c → slice_get xs k ≡ Some c
-take-get zero xs k c e = absurd (none-some c e)
-take-get (suc n) [] k c e = absurd (none-some c e)
-take-get (suc n) (x ∷ xs) zero c e = e
-take-get (suc n) (x ∷ xs) (suc k) c e = take-get n xs k c e
 
 get-take : (n : ℕ) (xs : List ℕ) (k c : ℕ) → k < n → slice_get xs k ≡ Some c → slice_get (take n xs) k ≡ Some c
 get-take zero xs k c l e = absurd (omega arith)

@@ -6,7 +6,7 @@ use Rattle.std.proofs.lemmas.List.Elements.{All-contains, Contains-append_left, 
 use Rattle.mq_blocks.specs.Geometry.{queues_of}
 use Rattle.mq_blocks.specs.declared.geometry.Geometry.{Geometry}
 use Rattle.mq_exec.specs.Plans.{HoldsMake, PlansMake, made_entry}
-use Rattle.mq_exec.specs.declared.make.Making.{Making}
+use Rattle.mq_exec.specs.declared.make.Creation.{Creation}
 use Rattle.mq_exec.proofs.Linkable.{IsLinkable, link-kept, link-same, takeables}
 use Rattle.mq_inodes.specs.Changes.{AreOthers}
 use Rattle.mq_inodes.specs.Dirs.{AreDirsAt}
@@ -51,7 +51,7 @@ made-link g q v i y o entry picks sound low free h =
 
 -- ---- pages
 
-pub holds-make : (g : Geometry) (q : ℕ) (pages : Pages) (v : Volume) (m : Making) (d need : ℕ) (known : List ℕ) → Agrees g pages v → q < queues_of g → m.directory.number ≡ d → AreDirsAt pages m.directory.blocks.items → length m.directory.blocks.items ≤ 1036 → IsHeld pages (inode_block g d)
+pub holds-make : (g : Geometry) (q : ℕ) (pages : Pages) (v : Volume) (m : Creation) (d need : ℕ) (known : List ℕ) → Agrees g pages v → q < queues_of g → m.directory.number ≡ d → AreDirsAt pages m.directory.blocks.items → length m.directory.blocks.items ≤ 1036 → IsHeld pages (inode_block g d)
     → HoldsPointers pages m.directory → IsHeld pages (inode_bitmap g) → m.inode < inodes_of g → ArePicked g q v need m.picks.items → All (IsMarkable g pages) m.picks.items → known ≡ m.picks.items ++ inode_block g m.inode ∷ [] → All (λ b. pages b ≢ None) known → HoldsMake g pages m
 holds-make g q pages v m d need known agrees low same dirs few table pointers marks inode picked markable e all = record {
   dirs = dirs;
@@ -66,7 +66,7 @@ holds-make g q pages v m d need known agrees low same dirs few table pointers ma
     every : (b : ℕ) → Contains (m.picks.items ++ inode_block g m.inode ∷ []) b → pages b ≢ None
     every b c = All-contains (λ x. pages x ≢ None) known b all (subst (λ (bs : List ℕ). Contains bs b) (sym e) c)
 
-pub made-linkable : (g : Geometry) (q : ℕ) (v : Volume) (y : Body) (path : Path) (m : Making) (old new : Working) → Agrees g (pages_of old) v → PlansMake g q v y path m → HoldsMake g (pages_of old) m → IsOver old new → Becomes g v (with_inode v m.inode y) old new
+pub made-linkable : (g : Geometry) (q : ℕ) (v : Volume) (y : Body) (path : Path) (m : Creation) (old new : Working) → Agrees g (pages_of old) v → PlansMake g q v y path m → HoldsMake g (pages_of old) m → IsOver old new → Becomes g v (with_inode v m.inode y) old new
     → IsLinkable g m.directory m.picks.items (pages_of new)
 made-linkable g q v y path m old new agrees plan holds over becomes =
     link-kept g q (with_inode v m.inode y) m.directory (made_entry path m) m.picks.items old new becomes.carries over (made-link g q v m.inode y m.directory _ m.picks.items agrees.sound plan.low plan.free plan.link)

@@ -6,11 +6,11 @@ use Rattle.std.proofs.lemmas.Bool.{cases_lt, leb-false, lt-leb, true≢false}
 use Rattle.std.proofs.lemmas.List.Elements.{All-contains, Contains-push_cases}
 use Rattle.mq_blocks.specs.Geometry.{queues_of}
 use Rattle.mq_blocks.specs.declared.geometry.Geometry.{Geometry}
-use Rattle.mq_exec.specs.Plans.{IsCarried, IsRefused, PlansMake, making}
-use Rattle.mq_exec.specs.declared.make.Making.{Making}
+use Rattle.mq_exec.specs.Plans.{IsCarried, IsRefused, PlansMake, make_request}
+use Rattle.mq_exec.specs.declared.make.Creation.{Creation}
 use Rattle.mq_exec.proofs.Answering.{past-looks}
 use Rattle.mq_exec.proofs.Coming.{carried-enough, carried-few}
-use Rattle.mq_exec.proofs.Making.{made-link}
+use Rattle.mq_exec.proofs.Creations.{made-link}
 use Rattle.mq_exec.proofs.NewNames.{IsNew, new-form}
 use Rattle.mq_exec.proofs.Taking.{linked-other, linked-takes}
 use Rattle.mq_inodes.specs.Dirs.{slots_at}
@@ -107,49 +107,49 @@ free-is g v i sound e = let f = first-free v i e in let l = f.0 in let c = sound
 
 -- ---- the request
 
-making-paths : (t : Bool) (path : Path) → paths_of (making t path) ≡ path ∷ []
+making-paths : (t : Bool) (path : Path) → paths_of (make_request t path) ≡ path ∷ []
 making-paths true path = refl
 making-paths false path = refl
 
-making-makes : (t : Bool) (path : Path) → is_making (making t path) ≡ true
+making-makes : (t : Bool) (path : Path) → is_making (make_request t path) ≡ true
 making-makes true path = refl
 making-makes false path = refl
 
-making-verdict : (g : Geometry) (q : ℕ) (v : Volume) (t : Bool) (path : Path) → list_all is_name path ≡ true → verdict g q v (making t path) ≡ make g q v (empty_body t) (target v (way path))
+making-verdict : (g : Geometry) (q : ℕ) (v : Volume) (t : Bool) (path : Path) → list_all is_name path ≡ true → verdict g q v (make_request t path) ≡ make g q v (empty_body t) (target v (way path))
 making-verdict g q v true path good = ap (λ (b : Bool). cond b (make g q v (Dir []) (target v (way path))) (refused BadName)) good
 making-verdict g q v false path good = ap (λ (b : Bool). cond b (make g q v (File []) (target v (way path))) (refused BadName)) good
 
-making-step : (g : Geometry) (q : ℕ) (v : Volume) (t : Bool) (path : Path) → list_all is_name path ≡ true → step g q v (making t path) ≡ carried_out g v (make g q v (empty_body t) (target v (way path)))
+making-step : (g : Geometry) (q : ℕ) (v : Volume) (t : Bool) (path : Path) → list_all is_name path ≡ true → step g q v (make_request t path) ≡ carried_out g v (make g q v (empty_body t) (target v (way path)))
 unfolding step
 making-step g q v t path good = ap (λ (x : Verdict). carried_out g v x) (making-verdict g q v t path good)
 
 -- ---- at what it looks
 
-pub make-past : (g : Geometry) (q : ℕ) (v : Volume) (t : Bool) (path : Path) (b : ℕ) → LeadsPast g v (way path) b → LooksAt g q v (making t path) b
-make-past g q v t path b h = past-looks g q v path (making t path) b (making-paths t path) h
+pub make-past : (g : Geometry) (q : ℕ) (v : Volume) (t : Bool) (path : Path) (b : ℕ) → LeadsPast g v (way path) b → LooksAt g q v (make_request t path) b
+make-past g q v t path b h = past-looks g q v path (make_request t path) b (making-paths t path) h
 
-pub make-searched : (g : Geometry) (q : ℕ) (v : Volume) (t : Bool) (path : Path) (d i need b : ℕ) → IsReady v path d → first_free 0 v ≡ Some i → need ≡ link_needs (node v d) → IsSearched g q v need b → LooksAt g q v (making t path) b
+pub make-searched : (g : Geometry) (q : ℕ) (v : Volume) (t : Bool) (path : Path) (d i need b : ℕ) → IsReady v path d → first_free 0 v ≡ Some i → need ≡ link_needs (node v d) → IsSearched g q v need b → LooksAt g q v (make_request t path) b
 make-searched g q v t path d i need b r e n h =
-    let same : needed (verdict g q v (making t path)) ≡ need = ap needed (making-verdict g q v t path r.good ∙ make-some g q v (empty_body t) path d i r e) ∙ sym n in
+    let same : needed (verdict g q v (make_request t path)) ≡ need = ap needed (making-verdict g q v t path r.good ∙ make-some g q v (empty_body t) path d i r e) ∙ sym n in
     searched h.zone h.inside (let few = h.few in omega arith) h.is
 
-make-takes : (g : Geometry) (q : ℕ) (v : Volume) (t : Bool) (path : Path) (d i : ℕ) → IsSound g v → IsReady v path d → first_free 0 v ≡ Some i → link_needs (node v d) ≤ free_blocks g v → TakesInode g q v (making t path) i
+make-takes : (g : Geometry) (q : ℕ) (v : Volume) (t : Bool) (path : Path) (d i : ℕ) → IsSound g v → IsReady v path d → first_free 0 v ≡ Some i → link_needs (node v d) ≤ free_blocks g v → TakesInode g q v (make_request t path) i
 make-takes g q v t path d i sound r e enough same =
     let y = empty_body t in
     let f = free-is g v i sound e in
     let low : i < length v = (let l = f.0 in let c = sound.count in omega arith) in
     let other : i ≢ d = λ is. free-dir (sym f.1 ∙ ap (λ (x : ℕ). body v x) is ∙ r.new.dir.1) in
-    let made : step g q v (making t path) ≡ record { reply = Done; next = made_volume g q v y path d i } = making-step g q v t path r.good ∙ make-enough g q v y path d i r e enough in
+    let made : step g q v (make_request t path) ≡ record { reply = Done; next = made_volume g q v y path d i } = making-step g q v t path r.good ∙ make-enough g q v y path d i r e enough in
     let now : body (made_volume g q v y path d i) i ≡ y = ap (λ (n : Node). n.body) (linked-other g q (with_inode v i y) d _ i other ∙ node-here v i (bare y) low) in
     true≢false (sym (ap (λ (o : Outcome). is_used (body o.next i)) made ∙ ap is_used now ∙ empty-used t) ∙ sym same ∙ ap is_used f.1)
   where
     free-dir : {slots : List (Option Entry)} → Free ≡ Dir slots → ⊥
     free-dir f = cc
 
-pub make-marks : (g : Geometry) (q : ℕ) (v : Volume) (t : Bool) (path : Path) (d b : ℕ) → IsSound g v → IsReady v path d → b ≡ inode_bitmap g → LooksAt g q v (making t path) b
+pub make-marks : (g : Geometry) (q : ℕ) (v : Volume) (t : Bool) (path : Path) (d b : ℕ) → IsSound g v → IsReady v path d → b ≡ inode_bitmap g → LooksAt g q v (make_request t path) b
 make-marks g q v t path d b sound r at = go (first_free 0 v) refl
   where
-    go : (found : Option ℕ) → first_free 0 v ≡ found → LooksAt g q v (making t path) b
+    go : (found : Option ℕ) → first_free 0 v ≡ found → LooksAt g q v (make_request t path) b
     go None e = no_inodes (ap (λ (o : Outcome). o.reply) (making-step g q v t path r.good ∙ make-none g q v (empty_body t) path d r e)) at
     go (Some i) e = elim (cases_lt (free_blocks g v) (link_needs (node v d))) [
       | inl few ↦ no_space (making-makes t path) (ap (λ (o : Outcome). o.reply) (making-step g q v t path r.good ∙ make-few g q v (empty_body t) path d i r e few)) at
@@ -158,7 +158,7 @@ make-marks g q v t path d b sound r at = go (first_free 0 v) refl
 
 -- the picked blocks, and the block of the inode
 pub make-wanted : (g : Geometry) (q : ℕ) (v : Volume) (t : Bool) (path : Path) (o : Opened) (i : ℕ) (picks : List ℕ) (b : ℕ) → IsSound g v → IsReady v path o.number → first_free 0 v ≡ Some i → MayLink g q v o (record { inode = i; name = last_of (way path) }) picks
-    → Contains (picks ++ inode_block g i ∷ []) b → LooksAt g q v (making t path) b
+    → Contains (picks ++ inode_block g i ∷ []) b → LooksAt g q v (make_request t path) b
 make-wanted g q v t path o i picks b sound r e m c =
     let y = empty_body t in
     let d = o.number in
@@ -170,7 +170,7 @@ make-wanted g q v t path o i picks b sound r e m c =
           let w = with_inode v i y in
           let uses : AreUses g w = bare-uses g v i (bare y) (sound-uses g v sound) low refl refl in
           let inside : d < length w = (let n = length-set v i (bare y) in let c = sound.count in let l = m.opened.low in omega arith) in
-          let made : step g q v (making t path) ≡ record { reply = Done; next = made_volume g q v y path d i } = making-step g q v t path r.good ∙ make-enough g q v y path d i r e enough in
+          let made : step g q v (make_request t path) ≡ record { reply = Done; next = made_volume g q v y path d i } = making-step g q v t path r.good ∙ make-enough g q v y path d i r e enough in
           let free = All-contains (IsFree g v) picks b (picks-all_free g q v _ picks m.queue m.picked) among in
           taken free.free (ap (λ (x : Outcome). is_taken x.next b) made ∙ linked-takes g q w o _ picks b (made-link g q v i y o _ picks sound f.0 f.1 m) uses inside among)
       | inr at ↦ taken_inode i (make-takes g q v t path d i sound r e enough) (sym at)
@@ -178,12 +178,12 @@ make-wanted g q v t path o i picks b sound r e m c =
 
 -- ---- the plan
 
-pub record IsPlanned (g : Geometry) (q : ℕ) (v : Volume) (path : Path) (m : Making) : Type 0 where
+pub record IsPlanned (g : Geometry) (q : ℕ) (v : Volume) (path : Path) (m : Creation) : Type 0 where
   pub ready : IsReady v path m.directory.number
   pub first : first_free 0 v ≡ Some m.inode
   pub link : MayLink g q v m.directory (record { inode = m.inode; name = last_of (way path) }) m.picks.items
 
-pub planned : (g : Geometry) (q : ℕ) (pages : Pages) (v : Volume) (path : Path) (m : Making) (d need : ℕ) (found : Option ℕ) → IsSound g v → q < queues_of g → IsReady v path m.directory.number → m.directory.number ≡ d → IsOpened g v m.directory → body v d ≡ Dir (slots_at pages m.directory.blocks.items)
+pub planned : (g : Geometry) (q : ℕ) (pages : Pages) (v : Volume) (path : Path) (m : Creation) (d need : ℕ) (found : Option ℕ) → IsSound g v → q < queues_of g → IsReady v path m.directory.number → m.directory.number ≡ d → IsOpened g v m.directory → body v d ≡ Dir (slots_at pages m.directory.blocks.items)
     → found ≡ first_free 0 v → found ≡ Some m.inode → need ≡ entry_needs (length m.directory.blocks.items) (unused 0 (slots_at pages m.directory.blocks.items)) → ArePicked g q v need m.picks.items → IsPlanned g q v path m
 planned g q pages v path m d need found sound low r same opened is first some e picked =
     let slots = slots_at pages m.directory.blocks.items in
@@ -196,7 +196,7 @@ planned g q pages v path m d need found sound low r same opened is first some e 
       link = may-link g q v m.directory slots m.inode (last_of (way path)) m.picks.items need sound low opened here few (free-is g v m.inode sound free).0 (new-form v path m.directory.number r.good r.new) e picked;
     }
 
-pub plans-make : (g : Geometry) (q : ℕ) (v : Volume) (t : Bool) (path : Path) (m : Making) → IsSound g v → IsPlanned g q v path m → PlansMake g q v (empty_body t) path m
+pub plans-make : (g : Geometry) (q : ℕ) (v : Volume) (t : Bool) (path : Path) (m : Creation) → IsSound g v → IsPlanned g q v path m → PlansMake g q v (empty_body t) path m
 plans-make g q v t path m sound p =
     let f = free-is g v m.inode sound p.first in
     record {

@@ -1,14 +1,13 @@
-// The calls that read, on a small file system of which the pages of all blocks but one are lifted, and two
-// calls that change.
-ghost use Rattle.std.specs.Prelude.{◌<◌, ◌≤◌, IfOk, IsTrue};
+// The calls on held pages that read, on a small file system of which the pages of all blocks but one are
+// lifted, and two calls that change.
+ghost use Rattle.std.specs.Prelude.{◌+◌, ◌<◌, ◌≤◌, IfOk, length};
 ghost use Rattle.mq_inodes.specs.Fits.{IsPossible};
 ghost use Rattle.mq_inodes.specs.MissingPages.{HasVolume};
-ghost use Rattle.mq_inodes.specs.Pages.{IsHeld, held_pages, pages_of};
+ghost use Rattle.mq_inodes.specs.Pages.{held_pages};
 ghost use Rattle.mq_layout.specs.Places.{file_limit, inodes_of};
 
-use crate::working::Page;
-use crate::{DIRECTORY, Missing, Target, Working};
 use mq_blocks::{Block, BlockNo, Geometry, OutOfMemory, QueueNo};
+use mq_inodes::{DIRECTORY, Missing, Target, Working};
 use mq_layout::Inode;
 use mq_pages::{Held, Kind, Write};
 use mq_test_pages::{lift, path, small_blocks};
@@ -236,13 +235,6 @@ fn absent_blocks_are_named(rt: HostRuntime) -> Result<(), OutOfMemory> {
     Ok(())
 }
 
-/// Whether a block is held.
-fn is_held(working: &Working, b: BlockNo) -> bool
-    ensures { IsTrue result → IsHeld (pages_of working.now) b }
-{
-    matches!(working.page(b), Page::Held(_))
-}
-
 /// Gives a file's inode another size, and leaves its blocks.
 fn resize(alloc: Global, working: &mut Working, i: u32, size: u64) -> Result<(), Missing>
     requires possible { HasVolume working.old }
@@ -256,6 +248,47 @@ fn resize(alloc: Global, working: &mut Working, i: u32, size: u64) -> Result<(),
     Ok(())
 }
 
+/// Puts bytes into the first block of a file.
+fn put_first(
+    alloc: Global,
+    working: &mut Working,
+    i: u32,
+    from: usize,
+    text: &[u8],
+) -> Result<(), Missing>
+    requires possible { HasVolume working.old }
+    requires low { i < inodes_of working.old.geometry }
+    requires inside { from + length text.now ≤ 4096 }
+{
+    let inode = working.inode(alloc, i)?;
+    if inode.kind != 1 {
+        return Ok(());
+    }
+    let file = working.open_file(alloc, i, &inode)?;
+    working.look_for_all(alloc, &file.blocks)?;
+    if !file.blocks.is_empty() {
+        working.put_bytes(alloc, file.blocks[0], from, text)?;
+    }
+    Ok(())
+}
+
+/// Whether just one block is written, as this kind, and it begins with these bytes from an offset on.
+fn writes_one(
+    alloc: Global,
+    working: Working,
+    b: u32,
+    kind: Kind,
+    from: usize,
+    bytes: &[u8],
+) -> bool {
+    match working.difference(alloc) {
+        Ok((writes, frees)) => {
+            frees.is_empty() && writes.len() == 1 && is_written(&writes[0], b, kind, from, bytes)
+        }
+        Err(_) => false,
+    }
+}
+
 /// Whether a block is written as this kind, and begins with these bytes from an offset on.
 fn is_written(write: &Write, b: u32, kind: Kind, from: usize, bytes: &[u8]) -> bool {
     write.block == BlockNo(b)
@@ -264,26 +297,28 @@ fn is_written(write: &Write, b: u32, kind: Kind, from: usize, bytes: &[u8]) -> b
         && write.content.bytes()[from..].starts_with(bytes)
 }
 
+/// Whether nothing is written or freed.
+fn writes_nothing(alloc: Global, working: Working) -> bool {
+    match working.difference(alloc) {
+        Ok((writes, frees)) => writes.is_empty() && frees.is_empty(),
+        Err(_) => false,
+    }
+}
+
 #[test]
 fn changes_are_the_difference(rt: HostRuntime) -> Result<(), OutOfMemory> {
     let alloc = rt.alloc();
     let small = Small::new(alloc, NONE)?;
-    let (writes, frees) = small.working(alloc).difference(alloc)?;
-    assert!(rt; writes.is_empty() && frees.is_empty());
+    assert!(rt; writes_nothing(alloc, small.working(alloc)));
     let mut working = small.working(alloc);
     answered(resize(alloc, &mut working, 3, 2))?;
-    assert!(rt; is_held(&working, BlockNo(20)));
-    working.put_bytes(alloc, BlockNo(20), 1, b"o")?;
-    let (writes, frees) = working.difference(alloc)?;
-    assert_eq!(rt; writes.len(), 2);
-    assert!(rt; is_written(&writes[0], 3, Kind::Meta, 392, &[2, 0]));
-    assert!(rt; is_written(&writes[1], 20, Kind::Data, 0, b"ho!\0"));
-    assert!(rt; frees.is_empty());
+    assert!(rt; writes_one(alloc, working, 3, Kind::Meta, 392, &[2, 0]));
+    let mut working = small.working(alloc);
+    answered(put_first(alloc, &mut working, 3, 1, b"o"))?;
+    assert!(rt; writes_one(alloc, working, 20, Kind::Data, 0, b"ho!\0"));
     // what is put as it was is no change
     let mut working = small.working(alloc);
-    assert!(rt; is_held(&working, BlockNo(20)));
-    working.put_bytes(alloc, BlockNo(20), 0, b"hi!")?;
-    let (writes, _) = working.difference(alloc)?;
-    assert!(rt; writes.is_empty());
+    answered(put_first(alloc, &mut working, 3, 0, b"hi!"))?;
+    assert!(rt; writes_nothing(alloc, working));
     Ok(())
 }
