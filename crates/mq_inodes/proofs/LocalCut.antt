@@ -20,7 +20,7 @@ use Rattle.mq_inodes.proofs.LocalUses.{Rewrites, uses-fewer}
 use Rattle.mq_layout.specs.Inodes.{IsInode}
 use Rattle.mq_layout.specs.Places.{file_limit, inode_block, zone_bitmap}
 use Rattle.mq_layout.specs.Places.{inodes_of}
-use Rattle.mq_tree.proofs.KeepChanges.{take-get}
+use Rattle.mq_tree.proofs.KeepChanges.{kept-option, take-get}
 use Rattle.mq_tree.specs.Laid.{ShowsPart, ShowsPointers, inode_of, kind_of, size_of}
 use Rattle.mq_tree.specs.Volume.{Body, File, Node, Pointers, Volume, body, has_block, is_used, node}
 use Rattle.mq_tree.proofs.KeepUses.{node-here, node-other}
@@ -31,10 +31,6 @@ get-take zero xs k c l e = absurd (omega arith)
 get-take (suc n) [] k c l e = e
 get-take (suc n) (x ∷ xs) zero c l e = e
 get-take (suc n) (x ∷ xs) (suc k) c l e = get-take n xs k c (omega arith) e
-
-pub kept-option : (t : Bool) (o : Option ℕ) (c : ℕ) → cond t o None ≡ Some c → o ≡ Some c
-kept-option true o c e = e
-kept-option false o c e = absurd (none-some c e)
 
 -- the blocks that change where it is cut
 pub record AreCut (g : Geometry) (v w : Volume) (i count : ℕ) (blocks : List ℕ) : Type 0 where

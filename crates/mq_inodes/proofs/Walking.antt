@@ -10,7 +10,7 @@ use Rattle.mq_layout.specs.Places.{inodes_of}
 use Rattle.mq_layout.specs.Slots.{Entry}
 use Rattle.mq_layout.specs.declared.inode.Inode.{Inode}
 use Rattle.mq_inodes.specs.Walks.{IsDirectory, LeadsPast, LooksIn, LooksUnder, directory, inode}
-use Rattle.mq_tree.proofs.KeepFaults.{walk-on}
+use Rattle.mq_tree.proofs.Walkways.{walk-err}
 use Rattle.mq_tree.specs.Laid.{inode_of, kind_of}
 use Rattle.mq_tree.specs.Looks.{Leads}
 use Rattle.mq_tree.specs.Requests.{enter, go_on, into_dir, walk}
@@ -92,7 +92,7 @@ pub walk-more : (v : Volume) (names : List (List ℕ)) (k : ℕ) (name : List �
 walk-more v names k name d r l is e h = ap (λ (w : Way). walk v w) (way-more names k name l is) ∙ ap (λ (x : Result ℕ Fault). go_on v name x) e ∙ sym h
 
 pub walk-refused : (v : Volume) (names : List (List ℕ)) (k : ℕ) (fault : Fault) → walk v (way (take k names)) ≡ Err fault → Err fault ≡ walk v (way names)
-walk-refused v names k fault e = sym (ap (λ (w : Way). walk v w) (way-rest names k) ∙ walk-on v (way (drop k names)) (way (take k names)) fault e)
+walk-refused v names k fault e = sym (ap (λ (w : Way). walk v w) (way-rest names k) ∙ walk-err v (way (take k names)) (way (drop k names)) fault e)
 
 -- ---- what is looked at on the way
 
