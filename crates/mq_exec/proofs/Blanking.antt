@@ -4,6 +4,7 @@ use Rattle.std.specs.Prelude.{Option, Some, is_some, min, nat_lt, slice_get}
 use Rattle.std.proofs.lemmas.Bool.{cases_lt, true≢false}
 use Rattle.std.proofs.lemmas.List.{get_or-drop, get_or_past, length-drop, length-replicate}
 use Rattle.std.proofs.lemmas.Option.{none-some, same_Some, slice_get-get_or}
+use Rattle.mq_blocks.proofs.Among.{among-here, among-one}
 use Rattle.mq_blocks.specs.Blocks.{zeros}
 use Rattle.mq_blocks.specs.Journal.{is_among}
 use Rattle.mq_blocks.specs.Windows.{written}
@@ -17,7 +18,6 @@ use Rattle.mq_inodes.specs.Opened.{MayCut, cut_file}
 use Rattle.mq_inodes.specs.Pages.{kinds_of, pages_of}
 use Rattle.mq_inodes.specs.declared.working.Working.{Working}
 use Rattle.mq_inodes.proofs.Becoming.{becomes-self, becomes-stepped}
-use Rattle.mq_inodes.proofs.Listed.{among-here, among-one}
 use Rattle.mq_inodes.proofs.LocalBodies.{bytes-step, inode-same, rebodied}
 use Rattle.mq_inodes.proofs.LocalKinds.{part-of-file}
 use Rattle.mq_inodes.proofs.LocalParts.{file-written, length-zeros, zeros-at}

@@ -4,6 +4,7 @@ use Rattle.std.specs.Prelude.{Option, Some, None, ◌↔◌, is_some, nat_lt, if
 use Rattle.std.proofs.lemmas.Bool.{cases_Bool, cases_lt, false_from_ne_true, lt-ltb, ltb-true, true≢false}
 use Rattle.std.proofs.lemmas.List.{get_or_default, get_or_past, same_lists}
 use Rattle.std.proofs.lemmas.Option.{none-some, same_Some}
+use Rattle.mq_blocks.proofs.Among.{among-apart, among-cons, among-either, among-here, among-parts}
 use Rattle.mq_blocks.specs.Geometry.{meta_of, queues_of}
 use Rattle.mq_blocks.specs.Journal.{is_among}
 use Rattle.mq_blocks.specs.declared.geometry.Geometry.{Geometry}
@@ -18,7 +19,6 @@ use Rattle.mq_inodes.proofs.Becoming.{becomes-fitted}
 use Rattle.mq_inodes.proofs.FreedInodes.{inside-along, table-held}
 use Rattle.mq_inodes.proofs.Held.{held-known, held-same, table-low}
 use Rattle.mq_inodes.proofs.Opening.{opened-pointers}
-use Rattle.mq_inodes.proofs.Listed.{among-apart, among-cons, among-either, among-here, among-parts}
 use Rattle.mq_inodes.proofs.LocalBodies.{inode-form}
 use Rattle.mq_inodes.proofs.LocalCut.{AreCut, cut-step}
 use Rattle.mq_inodes.proofs.LocalGone.{bitmap-in, cleared-by, gone-has, gone-left, gone-opened, gone_node, listed-zone, some-is, zone-listed, zones_of}

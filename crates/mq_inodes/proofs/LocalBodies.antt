@@ -5,6 +5,7 @@ use Rattle.std.specs.List.{All}
 use Rattle.std.proofs.lemmas.Bool.{cases_lt, true≢false}
 use Rattle.std.proofs.lemmas.List.{get_or_default, get_or_past}
 use Rattle.std.proofs.lemmas.Option.{none-some, same_Some, slice_get-get_or}
+use Rattle.mq_blocks.proofs.Among.{among-here}
 use Rattle.mq_blocks.specs.Geometry.{homes_of}
 use Rattle.mq_blocks.specs.Journal.{is_among}
 use Rattle.mq_blocks.specs.Windows.{written}
@@ -12,7 +13,6 @@ use Rattle.mq_blocks.specs.declared.geometry.Geometry.{Geometry}
 use Rattle.mq_inodes.specs.Changes.{AreOthers, IsPut, Stepped}
 use Rattle.mq_inodes.specs.Fits.{Fits}
 use Rattle.mq_inodes.specs.Pages.{Pages}
-use Rattle.mq_inodes.proofs.Listed.{among-here}
 use Rattle.mq_inodes.proofs.LocalChanges.{kept-rewrites, kept-uses}
 use Rattle.mq_inodes.proofs.LocalFits.{fits-put}
 use Rattle.mq_inodes.proofs.LocalParts.{dir-along, dir-cleared, dir-written, file-along}

@@ -5,11 +5,11 @@ use Rattle.std.proofs.lemmas.Bool.{cases_Bool, ne_eqb, true≢false}
 use Rattle.std.proofs.lemmas.List.{get_or_past, get_or_append_left, get_or_default, length-append, same_lists}
 use Rattle.std.proofs.lemmas.Nat.{div-mul-add}
 use Rattle.std.proofs.lemmas.Option.{none-some, same_Some}
+use Rattle.mq_blocks.proofs.Among.{among-apart, among-push}
 use Rattle.mq_blocks.specs.Geometry.{homes_of, meta_of, zone_size}
 use Rattle.mq_blocks.specs.Journal.{is_among}
 use Rattle.mq_blocks.specs.declared.geometry.Geometry.{Geometry}
 use Rattle.mq_inodes.specs.Changes.{AreOthers, zone_in}
-use Rattle.mq_inodes.proofs.Listed.{among-apart, among-push}
 use Rattle.mq_inodes.proofs.LocalFrame.{has-use, same-bool}
 use Rattle.mq_inodes.proofs.LocalParts.{pointers-along}
 use Rattle.mq_inodes.proofs.LocalUses.{Rewrites, use-cases, uses-fewer, uses-new}
