@@ -4,20 +4,20 @@ use Rattle.std.specs.Prelude.{Option, Some, is_some, min, nat_lt, slice_get}
 use Rattle.std.proofs.lemmas.Bool.{cases_lt, true≢false}
 use Rattle.std.proofs.lemmas.List.{get_or-drop, get_or_past, length-drop, length-replicate}
 use Rattle.std.proofs.lemmas.Option.{none-some, same_Some, slice_get-get_or}
+use Rattle.mq_blocks.proofs.Among.{among-here, among-one}
 use Rattle.mq_blocks.specs.Blocks.{zeros}
 use Rattle.mq_blocks.specs.Journal.{is_among}
 use Rattle.mq_blocks.specs.Windows.{written}
 use Rattle.mq_blocks.specs.declared.geometry.Geometry.{Geometry}
 use Rattle.mq_exec.specs.Cuts.{IsBlankPut, IsBlanked, PlansCut}
 use Rattle.mq_exec.specs.declared.truncate.Cutting.{Cutting}
-use Rattle.mq_exec.proofs.LocalBytes.{cut-at, spliced-after, spliced-before, spliced-in}
+use Rattle.mq_exec.proofs.LocalBytes.{spliced-after, spliced-before, spliced-in}
 use Rattle.mq_inodes.specs.Changes.{IsOfFile, Stepped}
 use Rattle.mq_inodes.specs.Edits.{Becomes, Carries}
 use Rattle.mq_inodes.specs.Opened.{MayCut, cut_file}
 use Rattle.mq_inodes.specs.Pages.{kinds_of, pages_of}
 use Rattle.mq_inodes.specs.declared.working.Working.{Working}
 use Rattle.mq_inodes.proofs.Becoming.{becomes-self, becomes-stepped}
-use Rattle.mq_inodes.proofs.Listed.{among-here, among-one}
 use Rattle.mq_inodes.proofs.LocalBodies.{bytes-step, inode-same, rebodied}
 use Rattle.mq_inodes.proofs.LocalKinds.{part-of-file}
 use Rattle.mq_inodes.proofs.LocalParts.{file-written, length-zeros, zeros-at}
@@ -25,6 +25,7 @@ use Rattle.mq_inodes.proofs.LocalVolumes.{cut-body, with_body-uses}
 use Rattle.mq_inodes.proofs.Showing.{use-carried}
 use Rattle.mq_layout.specs.Places.{file_limit}
 use Rattle.mq_pages.specs.declared.page.Kind.TheVariants.{Data}
+use Rattle.mq_tree.proofs.KeepBytes.{cut-at}
 use Rattle.mq_tree.specs.Laid.{ShowsPart, inode_of}
 use Rattle.mq_tree.specs.Requests.{cut_to, spliced, with_body}
 use Rattle.mq_tree.specs.Sound.{blocks_for}

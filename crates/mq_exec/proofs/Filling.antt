@@ -7,8 +7,8 @@ use Rattle.mq_exec.specs.Longer.{IsRewriting}
 use Rattle.mq_exec.specs.Overwrites.{IsSplicedAt}
 use Rattle.mq_exec.specs.Plans.{PlansRewrite}
 use Rattle.mq_exec.specs.declared.rewrite.Rewriting.{Rewriting}
-use Rattle.mq_exec.proofs.LocalBytes.{cut-at}
 use Rattle.mq_layout.specs.Places.{file_limit}
+use Rattle.mq_tree.proofs.KeepBytes.{cut-at}
 use Rattle.mq_tree.specs.Free.{needs}
 use Rattle.mq_tree.specs.Requests.{Makes, Verdict, cut_to, refused, resized, truncate_in}
 use Rattle.mq_tree.specs.Sound.{blocks_for}

@@ -12,8 +12,8 @@ pub mod LocalBytes
 pub mod LocalMoves
 pub mod Longer
 pub mod Looking
-pub mod Making
-pub mod MakingPlans
+pub mod Creations
+pub mod CreationPlans
 pub mod Naming
 pub mod NewNames
 pub mod Overwriting

@@ -15,6 +15,7 @@ use Rattle.mq_inodes.proofs.LocalSteps.{step-over, zone-put}
 use Rattle.mq_inodes.proofs.LocalUses.{Rewrites}
 use Rattle.mq_layout.specs.Inodes.{IsInode}
 use Rattle.mq_layout.specs.Places.{file_limit, inode_block, inodes_of}
+use Rattle.mq_tree.proofs.KeepBytes.{cut-at}
 use Rattle.mq_tree.specs.Laid.{IsPage, ShowsPart, inode_of, kind_of, size_of}
 use Rattle.mq_tree.specs.Requests.{cut_to, spliced, with_body}
 use Rattle.mq_tree.specs.Volume.{Body, Node, Part, Volume, body, is_used, node}
@@ -79,16 +80,6 @@ body-step g v i y blocks old new uses low inside used kind few inode show fits r
 
 abbrev zeros : ℕ → List ℕ
 zeros n = replicate n 0
-
--- before the new size a file has the bytes that it had, and zeros past them
-pub cut-at : (size : ℕ) (bytes : List ℕ) (k : ℕ) → k < size → get_or (cut_to size bytes) k 0 ≡ get_or bytes k 0
-cut-at size bytes k low =
-    let n = length-take size bytes in
-    elim (cases_lt k (length bytes)) [
-      | inl inside ↦ get_or_append_left (take size bytes) (zeros (size - length bytes)) 0 k (omega arith) ∙ get_or-take size bytes k 0 low
-      | inr past ↦
-          get_or-append_right (take size bytes) (zeros (size - length bytes)) (length bytes) k 0 (omega arith) past ∙ zeros-at (size - length bytes) (k - length bytes) ∙ sym (get_or_past bytes k 0 past)
-    ]
 
 -- before the new bytes
 pub spliced-before : (at : ℕ) (xs bytes : List ℕ) (k : ℕ) → k < at → get_or (spliced at xs bytes) k 0 ≡ get_or bytes k 0

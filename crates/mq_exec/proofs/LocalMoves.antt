@@ -11,11 +11,11 @@ use Rattle.mq_inodes.specs.Differences.{Differs}
 use Rattle.mq_inodes.specs.Changes.{IsOfFile}
 use Rattle.mq_inodes.specs.Pages.{Pages, content, over}
 use Rattle.mq_inodes.proofs.Held.{held-is}
-use Rattle.mq_inodes.proofs.Listed.{contains-first, contains-later}
 use Rattle.mq_inodes.proofs.LocalOnce.{page-once, shown-taken, shown-vacant}
 use Rattle.mq_pages.specs.declared.page.Kind.{Kind}
 use Rattle.mq_pages.specs.declared.page.Kind.TheVariants.{Data, Meta}
 use Rattle.mq_pages.specs.declared.page.Write.{Write}
+use Rattle.mq_tree.proofs.Members.{cons-here, cons-there}
 use Rattle.mq_tree.specs.Laid.{IsVacant, Shows}
 use Rattle.mq_tree.specs.Volume.{Volume}
 use Rattle.mq_tree.proofs.Decoding.{taken-use}
@@ -39,7 +39,7 @@ same-first {X} n x y xs ys (inr a) (inl e) = sym e
 same-first {X} n x y xs ys (inr a) (inr b) = let p = a.1 in let q = b.1 in absurd (omega arith)
 
 tails : {X : Type 0} (n : X → ℕ) (x y : X) (xs ys : List X) → x ≡ y → AllPairs (λ a b. n a < n b) (x ∷ xs) → AllPairs (λ a b. n a < n b) (y ∷ ys) → ((z : X) → Contains (x ∷ xs) z → Contains (y ∷ ys) z) → (z : X) → Contains xs z → Contains ys z
-tails {X} n x y xs ys same r t h z c = elim (later n y ys z t (h z (contains-later x xs z c))) [
+tails {X} n x y xs ys same r t h z c = elim (later n y ys z t (h z (cons-there x xs z c))) [
   | inl e ↦ absurd (below c e)
   | inr m ↦ m.0
 ]
@@ -54,10 +54,10 @@ tails {X} n x y xs ys same r t h z c = elim (later n y ys z t (h z (contains-lat
 
 rising-same : {X : Type 0} (n : X → ℕ) (xs ys : List X) → AllPairs (λ a b. n a < n b) xs → AllPairs (λ a b. n a < n b) ys → ((x : X) → Contains xs x ↔ Contains ys x) → xs ≡ ys
 rising-same {X} n [] [] r t h = refl
-rising-same {X} n [] (y ∷ ys) r t h = let c = (h y).1 (contains-first y ys) in let l = c.1 in absurd (omega arith)
-rising-same {X} n (x ∷ xs) [] r t h = let c = (h x).0 (contains-first x xs) in let l = c.1 in absurd (omega arith)
+rising-same {X} n [] (y ∷ ys) r t h = let c = (h y).1 (cons-here y ys y refl) in let l = c.1 in absurd (omega arith)
+rising-same {X} n (x ∷ xs) [] r t h = let c = (h x).0 (cons-here x xs x refl) in let l = c.1 in absurd (omega arith)
 rising-same {X} n (x ∷ xs) (y ∷ ys) r t h =
-    let same = same-first n x y xs ys (later n y ys x t ((h x).0 (contains-first x xs))) (later n x xs y r ((h y).1 (contains-first y ys))) in
+    let same = same-first n x y xs ys (later n y ys x t ((h x).0 (cons-here x xs x refl))) (later n x xs y r ((h y).1 (cons-here y ys y refl))) in
     let rest = rising-same n xs ys (tail-rises n x xs r) (tail-rises n y ys t) (λ z.
     (tails n x y xs ys same r t (λ a. (h a).0) z, tails n y x ys xs (sym same) t r (λ a. (h a).1) z)) in
     ap (λ (a : X). a ∷ xs) same ∙ ap (λ (zs : List X). y ∷ zs) rest

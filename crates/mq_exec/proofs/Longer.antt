@@ -6,6 +6,7 @@ use Rattle.std.proofs.lemmas.Bool.{cases_lt}
 use Rattle.std.proofs.lemmas.List.{drop_all, get_or_append_left, length-append, length-drop, take_all}
 use Rattle.std.proofs.lemmas.List.Elements.{All-contains, Contains-append_cases, Contains-append_right}
 use Rattle.std.proofs.lemmas.Option.{slice_get-get_or}
+use Rattle.mq_blocks.proofs.Among.{among-contains, contains-among}
 use Rattle.mq_blocks.specs.Geometry.{queues_of}
 use Rattle.mq_blocks.specs.declared.geometry.Geometry.{Geometry}
 use Rattle.mq_exec.specs.Longer.{IsRewriting, LooksLonger, longer_needs, part, picked}
@@ -24,7 +25,6 @@ use Rattle.mq_inodes.proofs.Becoming.{carries-sound}
 use Rattle.mq_inodes.proofs.Contents.{file-size}
 use Rattle.mq_inodes.proofs.Held.{used-held}
 use Rattle.mq_inodes.proofs.LinkedGrown.{picked-enough}
-use Rattle.mq_inodes.proofs.Listed.{among-contains, contains-among}
 use Rattle.mq_inodes.proofs.Sound.{sound-count}
 use Rattle.mq_layout.specs.Places.{file_limit}
 use Rattle.mq_layout.specs.declared.inode.Inode.{Inode}

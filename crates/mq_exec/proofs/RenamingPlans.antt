@@ -10,7 +10,7 @@ use Rattle.mq_exec.specs.Plans.{HoldsRename, IsCarried, IsRefused, IsSource, Pla
 use Rattle.mq_exec.specs.declared.rename.Renaming.{Renaming}
 use Rattle.mq_exec.proofs.Coming.{carried-enough, carried-few}
 use Rattle.mq_exec.proofs.Linkable.{link-same, picked-same, takeables}
-use Rattle.mq_exec.proofs.MakingPlans.{may-link, need-is}
+use Rattle.mq_exec.proofs.CreationPlans.{may-link, need-is}
 use Rattle.mq_exec.proofs.NewNames.{IsNew, new-form}
 use Rattle.mq_exec.proofs.Removing.{may-unlink}
 use Rattle.mq_exec.proofs.Taking.{body-taken, linked-takes}

@@ -4,6 +4,7 @@ use Rattle.std.specs.Prelude.{Option, Some, None, ◌↔◌, max, min, slice_get
 use Rattle.std.proofs.lemmas.Bool.{cases_eq, cases_lt, eq-eqb, ne_eqb, true≢false}
 use Rattle.std.proofs.lemmas.List.{get_or-drop, get_or-take, length-drop, length-take}
 use Rattle.std.proofs.lemmas.Option.{same_Some, slice_get-get_or, slice_get_within}
+use Rattle.mq_blocks.proofs.Among.{among-at, among-behind, among-cons, among-here, at-among}
 use Rattle.mq_blocks.specs.Geometry.{meta_of}
 use Rattle.mq_blocks.specs.Journal.{is_among}
 use Rattle.mq_blocks.specs.Windows.{written}
@@ -16,7 +17,6 @@ use Rattle.mq_inodes.specs.Pages.{kinds_of, pages_of}
 use Rattle.mq_inodes.specs.declared.working.Working.{Working}
 use Rattle.mq_inodes.proofs.Becoming.{becomes-stepped}
 use Rattle.mq_inodes.proofs.Held.{table-low}
-use Rattle.mq_inodes.proofs.Listed.{among-at, among-behind, among-cons, among-here, at-among}
 use Rattle.mq_inodes.proofs.LocalBodies.{rebodied}
 use Rattle.mq_inodes.proofs.LocalKinds.{part-of-file}
 use Rattle.mq_inodes.proofs.LocalParts.{file-along, file-written}

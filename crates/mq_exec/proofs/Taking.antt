@@ -21,7 +21,7 @@ use Rattle.mq_layout.specs.Slots.{Entry}
 use Rattle.mq_tree.specs.Requests.{entry_needs, linked, linked_at, unused, with_body}
 use Rattle.mq_tree.specs.Volume.{Body, Dir, Node, Volume, body, has_block, is_taken, node, slots_of}
 use Rattle.mq_tree.proofs.Decoding.{taken-use}
-use Rattle.mq_tree.proofs.KeepUses.{grown-is, node-here, node-other}
+use Rattle.mq_tree.proofs.KeepUses.{grown-is, node-here, node-other, past-twelve}
 use Rattle.mq_tree.specs.Uses.{AreUses}
 use Rattle.mq_tree.proofs.Uses.{use-taken}
 
@@ -60,12 +60,6 @@ needs-other have count n = elim (cases_lt 12 have) [
       let b = le-leb (have + 1) 12 (omega arith) in
       let e : have + suc count ≡ have + 1 + count = omega arith in
       rw (a, b, e) (omega arith)
-]
-
-past-twelve : (n : ℕ) → n ≢ 12 → nat_lt 12 n ≡ nat_lt 12 (n + 1)
-past-twelve n other = elim (cases_lt 12 n) [
-  | inl more ↦ lt-ltb 12 n more ∙ sym (lt-ltb 12 (n + 1) (omega arith))
-  | inr few ↦ le-ltb 12 n few ∙ sym (le-ltb 12 (n + 1) (omega arith))
 ]
 
 -- ---- a block more

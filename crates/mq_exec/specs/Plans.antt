@@ -2,7 +2,7 @@
 use Rattle.std.specs.Prelude.{◌≡◌, ◌≢◌, ◌<◌, ◌≤◌, ◌-◌, ℕ, Bool, true, false, List, length, slice_index, Option, Some, None, if◌then◌else◌, nat_eq, nat_le}
 use Rattle.std.specs.List.{All}
 use Rattle.mq_blocks.specs.declared.geometry.Geometry.{Geometry}
-use Rattle.mq_exec.specs.declared.make.Making.{Making}
+use Rattle.mq_exec.specs.declared.make.Creation.{Creation}
 use Rattle.mq_exec.specs.declared.remove.Removal.{Removal}
 use Rattle.mq_exec.specs.declared.rename.Renaming.{Renaming}
 use Rattle.mq_exec.specs.declared.rewrite.Rewriting.{Rewriting}
@@ -43,22 +43,22 @@ pub record ComesTo (g : Geometry) (v : Volume) (verdict : Verdict) (reply : Repl
   pub reply_is : reply ≡ (carried_out g v verdict).reply
   pub becomes : Becomes g v (carried_out g v verdict).next old new
 
--- ---- making
+-- ---- creations
 
-abbrev pub making : (is_directory : Bool) → Path → Request
-making true path = Mkdir path
-making false path = Create path
+abbrev pub make_request : (is_directory : Bool) → Path → Request
+make_request true path = Mkdir path
+make_request false path = Create path
 
-abbrev pub made_entry : Path → Making → Entry
+abbrev pub made_entry : Path → Creation → Entry
 made_entry path m = record { inode = m.inode; name = last_of (way path) }
 
-pub record PlansMake (g : Geometry) (q : ℕ) (v : Volume) (new : Body) (path : Path) (m : Making) : Type 0 where
+pub record PlansMake (g : Geometry) (q : ℕ) (v : Volume) (new : Body) (path : Path) (m : Creation) : Type 0 where
   pub carried : IsCarried g v (make g q v new (target v (way path))) (linked g q (with_inode v m.inode new) m.directory.number (made_entry path m))
   pub low : m.inode < inodes_of g
   pub free : body v m.inode ≡ Free
   pub link : MayLink g q v m.directory (made_entry path m) m.picks.items
 
-pub record HoldsMake (g : Geometry) (pages : Pages) (m : Making) : Type 0 where
+pub record HoldsMake (g : Geometry) (pages : Pages) (m : Creation) : Type 0 where
   pub dirs : AreDirsAt pages m.directory.blocks.items
   pub few : length m.directory.blocks.items ≤ 1036
   pub table : IsHeld pages (inode_block g m.directory.number)

@@ -14,8 +14,6 @@ mod outcome;
 mod remove;
 mod rename;
 mod rewrite;
-#[cfg(test)]
-mod tests;
 mod truncate;
 mod view;
 

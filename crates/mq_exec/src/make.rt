@@ -1,7 +1,7 @@
 // Files and directories that are made.
 ghost use Rattle.std.specs.Prelude.{◌≡◌, ◌<◌, Bool, IfErr, IfOk, MatchResult, OnOk, ⊤};
 ghost use Rattle.mq_blocks.specs.Geometry.{queues_of};
-ghost use Rattle.mq_exec.specs.Plans.{ComesTo, HoldsMake, IsRefused, PlansMake, made_entry, making};
+ghost use Rattle.mq_exec.specs.Plans.{ComesTo, HoldsMake, IsRefused, PlansMake, made_entry, make_request};
 ghost use Rattle.mq_inodes.specs.Edits.{Becomes, IsOver};
 ghost use Rattle.mq_inodes.specs.Fits.{Agrees};
 ghost use Rattle.mq_inodes.specs.MissingPages.{HasVolume, MissingOf, OfEach};
@@ -22,7 +22,7 @@ use std::alloc::Global;
 
 /// The directory that gets a name, the inode that is made, and the blocks that the name takes.
 #[derive(Drop)]
-pub struct Making {
+pub struct Creation {
     pub directory: Opened,
     pub inode: u32,
     pub picks: Vec<BlockNo>,
@@ -34,7 +34,7 @@ fn plan_make(
     working: &Working,
     queue: QueueNo,
     path: &Path,
-) -> Result<Result<Making, Fault>, Missing>
+) -> Result<Result<Creation, Fault>, Missing>
     requires possible { HasVolume working.now }
     requires queue { queue < queues_of working.now.geometry }
     requires names { list_all is_name path.now ≡ true }
@@ -45,7 +45,7 @@ fn plan_make(
     ensures pages { IfOk result (λ plan. MatchResult plan
         (HoldsMake working.now.geometry (pages_of working.now)) (λ _. ⊤)) }
     ensures lack { IfErr result (MissingOf working.now (λ v b. (directory : Bool)
-        → LooksAt working.now.geometry queue v (making directory path.now) b)) }
+        → LooksAt working.now.geometry queue v (make_request directory path.now) b)) }
 {
     let d = match working.target(alloc, path)? {
         Target::Root | Target::In { found: Some(_), .. } => return Ok(Err(Fault::Exists)),
@@ -68,7 +68,7 @@ fn plan_make(
     let mut wanted = Vec::from_slice(alloc, &picks)?;
     wanted.push(inode_block(working.geometry, inode))?;
     working.look_for_all(alloc, &wanted)?;
-    Ok(Ok(Making {
+    Ok(Ok(Creation {
         directory,
         inode,
         picks,
@@ -80,28 +80,28 @@ fn carry_make(
     alloc: Global,
     working: &mut Working,
     path: &Path,
-    making: Making,
+    creation: Creation,
     is_directory: bool,
 ) -> Result<(), OutOfMemory>
     requires possible { (q : ℕ)
         × (v : Volume)
         × Agrees working.old.geometry (pages_of working.old) v
-        × PlansMake working.old.geometry q v (empty_body is_directory) path.now making }
-    requires pages { HoldsMake working.old.geometry (pages_of working.old) making }
+        × PlansMake working.old.geometry q v (empty_body is_directory) path.now creation }
+    requires pages { HoldsMake working.old.geometry (pages_of working.old) creation }
     ensures over { OnOk result (IsOver working.old working.new) }
     ensures made { OnOk result ((q : ℕ) (v : Volume)
         → Agrees working.old.geometry (pages_of working.old) v
-        → PlansMake working.old.geometry q v (empty_body is_directory) path.now making
+        → PlansMake working.old.geometry q v (empty_body is_directory) path.now creation
         → Becomes working.old.geometry v
         (linked working.old.geometry q
-        (with_inode v making.inode (empty_body is_directory)) making.directory.number
-        (made_entry path.now making)) working.old working.new) }
+        (with_inode v creation.inode (empty_body is_directory)) creation.directory.number
+        (made_entry path.now creation)) working.old working.new) }
 {
-    let Making {
+    let Creation {
         mut directory,
         inode,
         picks,
-    } = making;
+    } = creation;
     let Some(name) = path.0.last() else {
         unreachable!();
     };
@@ -126,7 +126,7 @@ pub fn make(
         (make_of working.old.geometry queue v (empty_body is_directory)
         (target_of v (way path.now))) reply working.old working.new)) }
     ensures lack { IfErr result (MissingOf working.old
-        (λ v b. LooksAt working.old.geometry queue v (making is_directory path.now) b)) }
+        (λ v b. LooksAt working.old.geometry queue v (make_request is_directory path.now) b)) }
 {
     let planned = match plan_make(alloc, working, queue, path)? {
         Ok(planned) => planned,

@@ -1,5 +1,6 @@
 // Files that get other bytes.
-ghost use Rattle.std.specs.Prelude.{◌≡◌, ◌<◌, ◌≤◌, ◌+◌, ◌/◌, ◌^◌, ℕ, List, length, max, true, if◌then◌else◌, ◌==◌, IfErr, IfOk, MatchOption, OnOk, Some, ⊤};
+ghost use Rattle.std.specs.Prelude.{◌≡◌, ◌<◌, ◌≤◌, ◌+◌, ◌/◌, ◌^◌, ◌==◌, ℕ, List, length, max, true, if◌then◌else◌};
+ghost use Rattle.std.specs.Prelude.{IfErr, IfOk, MatchOption, OnOk, Some, ⊤};
 ghost use Rattle.std.specs.List.{list_all};
 ghost use Rattle.mq_blocks.specs.Geometry.{queues_of};
 ghost use Rattle.mq_exec.specs.Overwrites.{AreApart, IsOverwritten, IsSplicedAt, blocks_at, past_place as past_place_of};

@@ -4,6 +4,7 @@ use Rattle.std.specs.Prelude.{Option, Some, None, ◌↔◌, is_some, nat_lt, if
 use Rattle.std.proofs.lemmas.Bool.{cases_Bool, cases_lt, false_from_ne_true, lt-ltb, ltb-true, true≢false}
 use Rattle.std.proofs.lemmas.List.{get_or_default, get_or_past, same_lists}
 use Rattle.std.proofs.lemmas.Option.{none-some, same_Some}
+use Rattle.mq_blocks.proofs.Among.{among-apart, among-cons, among-either, among-here, among-parts}
 use Rattle.mq_blocks.specs.Geometry.{meta_of, queues_of}
 use Rattle.mq_blocks.specs.Journal.{is_among}
 use Rattle.mq_blocks.specs.declared.geometry.Geometry.{Geometry}
@@ -18,14 +19,12 @@ use Rattle.mq_inodes.proofs.Becoming.{becomes-fitted}
 use Rattle.mq_inodes.proofs.FreedInodes.{inside-along, table-held}
 use Rattle.mq_inodes.proofs.Held.{held-known, held-same, table-low}
 use Rattle.mq_inodes.proofs.Opening.{opened-pointers}
-use Rattle.mq_inodes.proofs.Listed.{among-apart, among-cons, among-either, among-here, among-parts}
 use Rattle.mq_inodes.proofs.LocalBodies.{inode-form}
 use Rattle.mq_inodes.proofs.LocalCut.{AreCut, cut-step}
 use Rattle.mq_inodes.proofs.LocalGone.{bitmap-in, cleared-by, gone-has, gone-left, gone-opened, gone_node, listed-zone, some-is, zone-listed, zones_of}
 use Rattle.mq_inodes.proofs.LocalKinds.{meta-not-data, pointers-not-file}
 use Rattle.mq_inodes.proofs.LocalLists.{cut-listed, cut_list, if_some, listed-drop}
 use Rattle.mq_inodes.proofs.LocalVolumes.{cut-uses}
-use Rattle.mq_inodes.proofs.Nodes.{length-padded}
 use Rattle.mq_inodes.proofs.Padded.{padded-cut, padded-past}
 use Rattle.mq_inodes.proofs.Releasing.{high-marks, released-meta}
 use Rattle.mq_inodes.proofs.Showing.{use-carried}
@@ -34,6 +33,7 @@ use Rattle.mq_layout.specs.Places.{file_limit, inode_block, inodes_of, zone_bitm
 use Rattle.mq_layout.specs.declared.inode.Inode.{Inode}
 use Rattle.mq_pages.specs.declared.page.Kind.{Kind}
 use Rattle.mq_pages.specs.declared.page.Kind.TheVariants.{Data, Meta}
+use Rattle.mq_tree.proofs.CleanLaid.{inode-parts, length-padded}
 use Rattle.mq_tree.specs.Laid.{inode_of, kind_of, links_of, or_zero, padded, size_of}
 use Rattle.mq_tree.specs.Volume.{Body, File, Node, Part, Pointers, Volume, body, has_block, is_used, node}
 use Rattle.mq_tree.proofs.KeepUses.{node-here}
@@ -43,17 +43,9 @@ use Rattle.mq_tree.proofs.Uses.{use-has}
 
 -- ---- what the inode says
 
-inode-fields : (x y : Inode) → x.kind ≡ y.kind → x.links ≡ y.links → x.size ≡ y.size → x.direct ≡ y.direct → x.indirect ≡ y.indirect → x ≡ y
-inode-fields x y kind links size direct indirect =
-    ap (λ (k : ℕ). record { kind = k; links = x.links; size = x.size; direct = x.direct; indirect = x.indirect }) kind
-    ∙ ap (λ (k : ℕ). record { kind = y.kind; links = k; size = x.size; direct = x.direct; indirect = x.indirect }) links
-    ∙ ap (λ (k : ℕ). record { kind = y.kind; links = y.links; size = k; direct = x.direct; indirect = x.indirect }) size
-    ∙ ap (λ (ks : List ℕ). record { kind = y.kind; links = y.links; size = y.size; direct = ks; indirect = x.indirect }) direct
-    ∙ ap (λ (k : ℕ). record { kind = y.kind; links = y.links; size = y.size; direct = y.direct; indirect = k }) indirect
-
 cut-inode : (n : Node) (count : ℕ) (bytes now : List ℕ) (old new : Inode) → n.body ≡ File bytes → old ≡ inode_of n → IsCutInode old new count (length now) → new ≡ inode_of (cut_node n count now)
 cut-inode n count bytes now old new is opened c =
-    inode-fields new (inode_of (cut_node n count now)) (c.kind ∙ ap (λ (x : Inode). x.kind) opened ∙ ap kind_of is) (c.links ∙ ap (λ (x : Inode). x.links) opened ∙ ap links_of is) c.size_is (same_lists _ _ (t ∙ sym m) same)
+    inode-parts new (inode_of (cut_node n count now)) (c.kind ∙ ap (λ (x : Inode). x.kind) opened ∙ ap kind_of is) (c.links ∙ ap (λ (x : Inode). x.links) opened ∙ ap links_of is) c.size_is (same_lists _ _ (t ∙ sym m) same)
     (c.indirect ∙ ap (λ (x : Inode). if nat_lt 12 count then x.indirect else 0) opened ∙ either (nat_lt 12 count) n.indirect)
   where
     t : length new.direct ≡ 12

@@ -19,9 +19,9 @@ use Rattle.mq_inodes.specs.Differences.{Differs, HasKind, has_content, has_page}
 use Rattle.mq_inodes.specs.Pages.{IsHeld, Pages, changed_of, content, kind_put, kinds_of, page_put, view_of}
 use Rattle.mq_inodes.specs.declared.working.Change.{Change}
 use Rattle.mq_inodes.specs.declared.working.Working.{Working}
-use Rattle.mq_inodes.proofs.Listed.{contains-first, contains-later}
 use Rattle.mq_pages.specs.declared.page.Kind.TheVariants.{Meta}
 use Rattle.mq_pages.specs.declared.page.Write.{Write}
+use Rattle.mq_tree.proofs.Members.{cons-here, cons-there}
 
 abbrev pub Put : Type 0
 Put = ℕ × Option Change
@@ -47,7 +47,7 @@ record IsFrom {X : Type 0} (out : Put → Option X) (es : List Put) (x : X) : Ty
   gives : out entry ≡ Some x
 
 later-from : {X : Type 0} (out : Put → Option X) (e : Put) (es : List Put) (x : X) → IsFrom out es x → IsFrom out (e ∷ es) x
-later-from {X} out e es x f = record { entry = f.entry; there = contains-later e es f.entry f.there; gives = f.gives }
+later-from {X} out e es x f = record { entry = f.entry; there = cons-there e es f.entry f.there; gives = f.gives }
 
 taken-from : {X : Type 0} (out : Put → Option X) (es : List Put) (x : X) → Contains (filter_map out es) x → IsFrom out es x
 taken-from {X} out [] x (k, l, h) = absurd (omega arith)
@@ -55,17 +55,17 @@ taken-from {X} out (e ∷ es) x c = at (λ d. later-from out e es x (taken-from 
   where
     at : (Contains (filter_map out es) x → IsFrom out (e ∷ es) x) → (o : Option X) → out e ≡ o → Contains (cons_option o (filter_map out es)) x → IsFrom out (e ∷ es) x
     at rest None is c = rest c
-    at rest (Some y) is (zero, l, h) = record { entry = e; there = contains-first e es; gives = is ∙ ap (λ (z : X). Some z) h }
+    at rest (Some y) is (zero, l, h) = record { entry = e; there = cons-here e es e refl; gives = is ∙ ap (λ (z : X). Some z) h }
     at rest (Some y) is (suc k, l, h) = rest (k, (omega arith), h)
 
 taken-all : {X : Type 0} (out : Put → Option X) (es : List Put) (e : Put) (x : X) → Contains es e → out e ≡ Some x → Contains (filter_map out es) x
 taken-all {X} out [] e x (k, l, h) is = absurd (omega arith)
-taken-all {X} out (f ∷ es) e x (zero, l, h) is = subst (λ (o : Option X). Contains (cons_option o (filter_map out es)) x) (sym (ap out h ∙ is)) (contains-first x (filter_map out es))
+taken-all {X} out (f ∷ es) e x (zero, l, h) is = subst (λ (o : Option X). Contains (cons_option o (filter_map out es)) x) (sym (ap out h ∙ is)) (cons-here x (filter_map out es) x refl)
 taken-all {X} out (f ∷ es) e x (suc k, l, h) is = behind (out f) (taken-all out es e x (k, (omega arith), h) is)
   where
     behind : (o : Option X) → Contains (filter_map out es) x → Contains (cons_option o (filter_map out es)) x
     behind None c = c
-    behind (Some y) c = contains-later y (filter_map out es) x c
+    behind (Some y) c = cons-there y (filter_map out es) x c
 
 -- where no entry is left, all was taken
 pub taken-end : {X : Type 0} (out : Put → Option X) (xs : List X) (rest es : List Put) → xs ++ filter_map out rest ≡ filter_map out es → rest ≡ [] → xs ≡ filter_map out es
@@ -141,7 +141,7 @@ write-from low view es x f = go f.entry f.there f.gives
         ]
 
 write-along : (low : ℕ) (view : Pages) → IsAlong (λ (x : Write). x.block) (write_of low view)
-write-along low view e x g = let f = write-from low view (e ∷ []) x (record { entry = e; there = contains-first e []; gives = g }) in ap (λ (z : Write). z.block) f.is ∙ alone e (f.block, Some f.change) f.there
+write-along low view e x g = let f = write-from low view (e ∷ []) x (record { entry = e; there = cons-here e [] e refl; gives = g }) in ap (λ (z : Write). z.block) f.is ∙ alone e (f.block, Some f.change) f.there
 
 -- ---- frees
 
@@ -162,7 +162,7 @@ free-from view es b f = go f.entry f.there f.gives
     go (x, Some c) there g = absurd (none-some b g)
 
 free-along : (view : Pages) → IsAlong (λ (b : ℕ). b) (freed_of view)
-free-along view e b g = let f = free-from view (e ∷ []) b (record { entry = e; there = contains-first e []; gives = g }) in alone e (b, None) f.there
+free-along view e b g = let f = free-from view (e ∷ []) b (record { entry = e; there = cons-here e [] e refl; gives = g }) in alone e (b, None) f.there
 
 -- ---- the difference
 

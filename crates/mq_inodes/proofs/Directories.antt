@@ -17,6 +17,7 @@ use Rattle.mq_inodes.specs.Pages.{IsHeld, Pages, content}
 use Rattle.mq_inodes.proofs.Becoming.{carries-sound}
 use Rattle.mq_inodes.proofs.Entries.{length-slots_in, slots_in-at}
 use Rattle.mq_inodes.proofs.Showing.{use-carried, use-there}
+use Rattle.mq_tree.proofs.KeepNodes.{count-most}
 use Rattle.mq_tree.specs.Decoded.{slot_of}
 use Rattle.mq_tree.specs.Laid.{ShowsPart, inode_of, kind_of}
 use Rattle.mq_tree.specs.Requests.{count_names}
@@ -67,11 +68,6 @@ count-append : (xs ys : List (Option Entry)) → count_names (xs ++ ys) ≡ coun
 count-append [] ys = omega arith
 count-append (None ∷ xs) ys = count-append xs ys
 count-append (Some x ∷ xs) ys = let h = count-append xs ys in omega arith
-
-count-most : (xs : List (Option Entry)) → count_names xs ≤ length xs
-count-most [] = omega arith
-count-most (None ∷ xs) = let h = count-most xs in omega arith
-count-most (Some x ∷ xs) = let h = count-most xs in omega arith
 
 -- with fewer blocks than a full directory has there is room for a name more
 pub room_below : (pages : Pages) (blocks : List ℕ) → length blocks < 1036 → false ≡ nat_le names_limit (count_names (slots_at pages blocks))

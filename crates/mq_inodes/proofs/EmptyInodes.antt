@@ -2,6 +2,7 @@
 use Rattle.std.proofs.Common.{◌≡◌, ◌≢◌, ℕ, ◌<◌, ◌≤◌, ◌⊎◌, inl, inr, [], ◌∷◌, length, Bool, true, false, refl, sym, ap, subst, ◌∙◌, arith, length-set}
 use Rattle.std.specs.Prelude.{None, if◌then◌else◌}
 use Rattle.std.proofs.lemmas.Option.{none-some}
+use Rattle.mq_blocks.proofs.Among.{among-cons, among-one}
 use Rattle.mq_blocks.specs.Geometry.{meta_of}
 use Rattle.mq_blocks.specs.Journal.{is_among}
 use Rattle.mq_blocks.specs.declared.geometry.Geometry.{Geometry}
@@ -11,7 +12,6 @@ use Rattle.mq_inodes.specs.Pages.{pages_of}
 use Rattle.mq_inodes.specs.Bare.{empty_body, with_inode}
 use Rattle.mq_inodes.specs.declared.working.Working.{Working}
 use Rattle.mq_inodes.proofs.Becoming.{becomes-stepped}
-use Rattle.mq_inodes.proofs.Listed.{among-cons, among-one}
 use Rattle.mq_inodes.proofs.LocalBodies.{bare-form}
 use Rattle.mq_inodes.proofs.LocalInodes.{bare}
 use Rattle.mq_inodes.proofs.LocalVolumes.{bare-uses, made-step}

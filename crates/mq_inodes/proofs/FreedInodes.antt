@@ -3,6 +3,7 @@ use Rattle.std.proofs.Common.{◌≡◌, ◌≢◌, ℕ, ◌<◌, ◌≤◌, inl
 use Rattle.std.specs.Prelude.{Some, None, ◌↔◌}
 use Rattle.std.proofs.lemmas.Bool.{cases_Bool, false_from_ne_true, true≢false}
 use Rattle.std.proofs.lemmas.Option.{none-some}
+use Rattle.mq_blocks.proofs.Among.{among-apart, among-cons, among-one}
 use Rattle.mq_blocks.specs.Geometry.{meta_of, queues_of}
 use Rattle.mq_blocks.specs.Journal.{is_among}
 use Rattle.mq_blocks.specs.declared.geometry.Geometry.{Geometry}
@@ -15,7 +16,6 @@ use Rattle.mq_inodes.specs.declared.opened.Opened.{Opened}
 use Rattle.mq_inodes.specs.declared.working.Working.{Working}
 use Rattle.mq_inodes.proofs.Becoming.{becomes-stepped}
 use Rattle.mq_inodes.proofs.Held.{bitmap-low, held-known, table-low}
-use Rattle.mq_inodes.proofs.Listed.{among-apart, among-cons, among-one}
 use Rattle.mq_inodes.proofs.LocalFrame.{same-bool}
 use Rattle.mq_inodes.proofs.LocalGone.{bitmap-in, cleared-by, gone-opened, listed-zone, zone-listed, zones_of}
 use Rattle.mq_inodes.proofs.LocalInodes.{AreFreed, freed-step}

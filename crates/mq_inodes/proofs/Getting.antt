@@ -21,13 +21,13 @@ use Rattle.mq_inodes.proofs.LocalChanges.{padded-push}
 use Rattle.mq_inodes.proofs.LocalKinds.{dir-not-file, meta-not-data, part-of-file, pointers-not-file}
 use Rattle.mq_inodes.proofs.LocalTaken.{IsFree, far-step, far_inode-step, file-far, get-last, longer, near-step, pointed-step, with_indirect}
 use Rattle.mq_inodes.proofs.LocalVolumes.{next-dir, next-file, with_block-uses, with_pointers-uses}
-use Rattle.mq_inodes.proofs.Nodes.{length-padded}
 use Rattle.mq_inodes.proofs.Padded.{padded-near}
 use Rattle.mq_layout.specs.Inodes.{IsInode}
 use Rattle.mq_layout.specs.Places.{file_limit, inode_block, inodes_of, zone_bitmap}
 use Rattle.mq_layout.specs.declared.inode.Inode.{Inode}
 use Rattle.mq_pages.specs.declared.page.Kind.{Kind}
 use Rattle.mq_pages.specs.declared.page.Kind.TheVariants.{Data, Meta}
+use Rattle.mq_tree.proofs.CleanLaid.{length-padded}
 use Rattle.mq_tree.specs.Free.{with_block, with_pointers}
 use Rattle.mq_tree.specs.Laid.{ShowsPart, inode_of, kind_of, links_of, or_zero, padded, size_of}
 use Rattle.mq_tree.specs.Volume.{Body, Free, File, Dir, Node, Part, Pointers, Volume, block_in, body, is_used, node}

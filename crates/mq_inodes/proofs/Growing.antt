@@ -5,6 +5,7 @@ use Rattle.std.specs.List.{All}
 use Rattle.std.proofs.lemmas.Bool.{cases_eq, eq-eqb, le-ltb, lt-ltb, ltb-false, ltb-true, ne_eqb, true≢false}
 use Rattle.std.proofs.lemmas.Bool.Decides.{nat_tests}
 use Rattle.std.proofs.lemmas.List.{get_or_default, length-append}
+use Rattle.mq_blocks.proofs.Among.{at-among}
 use Rattle.mq_blocks.specs.Geometry.{queues_of}
 use Rattle.mq_blocks.specs.Journal.{is_among}
 use Rattle.mq_blocks.specs.declared.geometry.Geometry.{Geometry}
@@ -18,7 +19,6 @@ use Rattle.mq_inodes.specs.declared.opened.Opened.{Opened}
 use Rattle.mq_inodes.specs.declared.working.Working.{Working}
 use Rattle.mq_inodes.proofs.Becoming.{becomes-self, becomes-then}
 use Rattle.mq_inodes.proofs.Getting.{indirect-high, more-within, no-indirect, some-indirect}
-use Rattle.mq_inodes.proofs.Listed.{at-among}
 use Rattle.mq_inodes.proofs.LocalTaken.{longer, with_indirect}
 use Rattle.mq_inodes.proofs.LocalVolumes.{one_more-is, pointed-is, pointed-not}
 use Rattle.mq_inodes.proofs.Picking.{IsTakenMore, block-more, picks-apart, picks-first, picks-free, picks-rest, pointers-more}

@@ -14,7 +14,6 @@ pub mod Lacking
 pub mod Lifting
 pub mod LinkedGrown
 pub mod Linking
-pub mod Listed
 pub mod LocalBodies
 pub mod LocalChanges
 pub mod LocalCut

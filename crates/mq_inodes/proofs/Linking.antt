@@ -3,6 +3,7 @@ use Rattle.std.proofs.Common.{get_or, set, ◌≡◌, ◌≢◌, ℕ, ◌*◌, �
 use Rattle.std.specs.Prelude.{Option, Some, None, Result, Ok, Err, OnOk, slice_get}
 use Rattle.std.specs.List.{All}
 use Rattle.std.proofs.lemmas.Option.{none-some, same_Some, slice_get-get_or}
+use Rattle.mq_blocks.proofs.Among.{among-apart, among-here, among-one}
 use Rattle.mq_blocks.specs.declared.geometry.Geometry.{Geometry}
 use Rattle.mq_inodes.specs.Changes.{IsOfFile, IsTextPut, Stepped}
 use Rattle.mq_inodes.specs.Dirs.{AreDirsAt, slots_at}
@@ -14,7 +15,6 @@ use Rattle.mq_inodes.specs.declared.working.Working.{Working}
 use Rattle.mq_inodes.proofs.Becoming.{becomes-stepped}
 use Rattle.mq_inodes.proofs.Directories.{carried-form, carried-slots}
 use Rattle.mq_inodes.proofs.Keeping.{keeps-put}
-use Rattle.mq_inodes.proofs.Listed.{among-apart, among-here, among-one}
 use Rattle.mq_inodes.proofs.LocalBodies.{rebodied}
 use Rattle.mq_inodes.proofs.LocalKinds.{dir-not-file, meta-not-data}
 use Rattle.mq_inodes.proofs.LocalLinked.{entry-step, linked-here, unlinked-step}

@@ -5,6 +5,7 @@ use Rattle.std.specs.List.{All}
 use Rattle.std.proofs.lemmas.Bool.{cases_lt, true≢false}
 use Rattle.std.proofs.lemmas.List.{get_or_default, get_or_past}
 use Rattle.std.proofs.lemmas.Option.{none-some, same_Some, slice_get-get_or}
+use Rattle.mq_blocks.proofs.Among.{among-here}
 use Rattle.mq_blocks.specs.Geometry.{homes_of}
 use Rattle.mq_blocks.specs.Journal.{is_among}
 use Rattle.mq_blocks.specs.Windows.{written}
@@ -12,18 +13,17 @@ use Rattle.mq_blocks.specs.declared.geometry.Geometry.{Geometry}
 use Rattle.mq_inodes.specs.Changes.{AreOthers, IsPut, Stepped}
 use Rattle.mq_inodes.specs.Fits.{Fits}
 use Rattle.mq_inodes.specs.Pages.{Pages}
-use Rattle.mq_inodes.proofs.Listed.{among-here}
 use Rattle.mq_inodes.proofs.LocalChanges.{kept-rewrites, kept-uses}
 use Rattle.mq_inodes.proofs.LocalFits.{fits-put}
 use Rattle.mq_inodes.proofs.LocalParts.{dir-along, dir-cleared, dir-written, file-along}
 use Rattle.mq_inodes.proofs.LocalSteps.{step-end, step-start, zone-held, zone-put}
 use Rattle.mq_inodes.proofs.LocalUses.{Rewrites}
-use Rattle.mq_inodes.proofs.Nodes.{length-padded}
 use Rattle.mq_layout.specs.Fields.{zero_bytes}
 use Rattle.mq_layout.specs.Inodes.{IsInode}
 use Rattle.mq_layout.specs.Places.{file_limit}
 use Rattle.mq_layout.specs.Slots.{Entry, IsEntry, slot_bytes}
 use Rattle.mq_layout.specs.declared.inode.Inode.{Inode}
+use Rattle.mq_tree.proofs.CleanLaid.{length-padded}
 use Rattle.mq_tree.specs.Laid.{IsPage, ShowsPart, inode_of, kind_of, links_of, or_zero, padded, size_of}
 use Rattle.mq_tree.specs.Requests.{with_body}
 use Rattle.mq_tree.specs.Volume.{Body, Free, File, Dir, Node, Part, Pointers, Volume, body, is_used, node}

@@ -5,16 +5,17 @@ use Rattle.std.proofs.lemmas.Bool.{cases_Bool, ne_eqb, true≢false}
 use Rattle.std.proofs.lemmas.List.{get_or_past, get_or_append_left, get_or_default, length-append, same_lists}
 use Rattle.std.proofs.lemmas.Nat.{div-mul-add}
 use Rattle.std.proofs.lemmas.Option.{none-some, same_Some}
+use Rattle.mq_blocks.proofs.Among.{among-apart, among-push}
 use Rattle.mq_blocks.specs.Geometry.{homes_of, meta_of, zone_size}
 use Rattle.mq_blocks.specs.Journal.{is_among}
 use Rattle.mq_blocks.specs.declared.geometry.Geometry.{Geometry}
 use Rattle.mq_inodes.specs.Changes.{AreOthers, zone_in}
-use Rattle.mq_inodes.proofs.Listed.{among-apart, among-push}
 use Rattle.mq_inodes.proofs.LocalFrame.{has-use, same-bool}
 use Rattle.mq_inodes.proofs.LocalParts.{pointers-along}
 use Rattle.mq_inodes.proofs.LocalUses.{Rewrites, use-cases, uses-fewer, uses-new}
-use Rattle.mq_inodes.proofs.Nodes.{length-padded}
 use Rattle.mq_layout.specs.Places.{inode_bitmap, inode_block, zone_bitmap}
+use Rattle.mq_tree.proofs.CleanLaid.{length-padded}
+use Rattle.mq_tree.proofs.KeepUses.{push-get}
 use Rattle.mq_tree.specs.Laid.{ShowsPart, ShowsPointers, inode_of, kind_of, padded, zone_block}
 use Rattle.mq_tree.specs.Volume.{Body, Free, File, Dir, Part, Pointers, Volume, block_in, body, has_block, is_block, is_taken, is_used, node}
 use Rattle.mq_tree.specs.Uses.{AreUses}
@@ -80,15 +81,6 @@ get-push : (xs : List ℕ) (b k c : ℕ) → slice_get xs k ≡ Some c → slice
 get-push [] b k c e = absurd (none-some c e)
 get-push (x ∷ xs) b zero c e = e
 get-push (x ∷ xs) b (suc k) c e = get-push xs b k c e
-
-push-get : (xs : List ℕ) (b k c : ℕ) → slice_get (xs ++ b ∷ []) k ≡ Some c → (slice_get xs k ≡ Some c) ⊎ ((k ≡ length xs) × (c ≡ b))
-push-get [] b zero c e = inr (refl, sym (same_Some b c e))
-push-get [] b (suc k) c e = absurd (none-some c e)
-push-get (x ∷ xs) b zero c e = inl e
-push-get (x ∷ xs) b (suc k) c e = elim (push-get xs b k c e) [
-  | inl l ↦ inl l
-  | inr r ↦ let h = r.0 in inr (omega arith, r.1)
-]
 
 -- a block is taken for the next part
 pub more-rewrites : (g : Geometry) (v w : Volume) (i b : ℕ) (blocks : List ℕ) → AreOthers v w i → body w i ≡ body v i → (node w i).blocks ≡ (node v i).blocks ++ b ∷ [] → (node w i).indirect ≡ (node v i).indirect

@@ -20,26 +20,17 @@ use Rattle.mq_inodes.proofs.LocalUses.{Rewrites, uses-fewer}
 use Rattle.mq_layout.specs.Inodes.{IsInode}
 use Rattle.mq_layout.specs.Places.{file_limit, inode_block, zone_bitmap}
 use Rattle.mq_layout.specs.Places.{inodes_of}
+use Rattle.mq_tree.proofs.KeepChanges.{kept-option, take-get}
 use Rattle.mq_tree.specs.Laid.{ShowsPart, ShowsPointers, inode_of, kind_of, size_of}
 use Rattle.mq_tree.specs.Volume.{Body, File, Node, Pointers, Volume, body, has_block, is_used, node}
 use Rattle.mq_tree.proofs.KeepUses.{node-here, node-other}
 use Rattle.mq_tree.specs.Uses.{AreUses}
-
-pub take-get : (n : ℕ) (xs : List ℕ) (k c : ℕ) → slice_get (take n xs) k ≡ Some c → slice_get xs k ≡ Some c
-take-get zero xs k c e = absurd (none-some c e)
-take-get (suc n) [] k c e = absurd (none-some c e)
-take-get (suc n) (x ∷ xs) zero c e = e
-take-get (suc n) (x ∷ xs) (suc k) c e = take-get n xs k c e
 
 get-take : (n : ℕ) (xs : List ℕ) (k c : ℕ) → k < n → slice_get xs k ≡ Some c → slice_get (take n xs) k ≡ Some c
 get-take zero xs k c l e = absurd (omega arith)
 get-take (suc n) [] k c l e = e
 get-take (suc n) (x ∷ xs) zero c l e = e
 get-take (suc n) (x ∷ xs) (suc k) c l e = get-take n xs k c (omega arith) e
-
-pub kept-option : (t : Bool) (o : Option ℕ) (c : ℕ) → cond t o None ≡ Some c → o ≡ Some c
-kept-option true o c e = e
-kept-option false o c e = absurd (none-some c e)
 
 -- the blocks that change where it is cut
 pub record AreCut (g : Geometry) (v w : Volume) (i count : ℕ) (blocks : List ℕ) : Type 0 where

@@ -13,7 +13,7 @@ use Rattle.mq_tree.specs.Laid.{ShowsUse, ShowsZone, inode_of, zone_block}
 use Rattle.mq_tree.specs.Volume.{Node, Use, Part, Pointers, Volume, block_in, body, has_block, is_taken, is_used, node}
 use Rattle.mq_tree.proofs.Decoding.{taken-use}
 use Rattle.mq_tree.specs.Uses.{AreUses}
-use Rattle.mq_tree.proofs.Uses.{use-has, use-taken}
+use Rattle.mq_tree.proofs.Uses.{has-taken, use-has, use-taken}
 
 -- ---- uses
 
@@ -32,9 +32,6 @@ has-use v i b h =
 pub owner-has : (v : Volume) (u : Use) (b : ℕ) → block_in v u ≡ Some b → has_block (node v (owner u)) b ≡ true
 owner-has v (Part i k) b e = use-has (node v i) b (inl (k, e))
 owner-has v (Pointers i) b e = use-has (node v i) b (inr e)
-
-has-taken : (v : Volume) (i b : ℕ) → has_block (node v i) b ≡ true → is_taken v b ≡ true
-has-taken v i b h = let r = has-use v i b h in use-taken v r.0 b r.2
 
 pub same-bool : (x y : Bool) → (x ≡ true → y ≡ true) → (y ≡ true → x ≡ true) → x ≡ y
 same-bool true y f h = sym (f refl)

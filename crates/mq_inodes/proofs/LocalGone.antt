@@ -4,6 +4,7 @@ use Rattle.std.specs.Prelude.{Option, Some, None, ◌||◌, is_some, nat_eq, nat
 use Rattle.std.specs.List.{All}
 use Rattle.std.proofs.lemmas.Bool.{cases_Bool, ltb-false, ltb-true, true≢false}
 use Rattle.std.proofs.lemmas.List.Elements.{All-contains}
+use Rattle.mq_blocks.proofs.Among.{among-behind, among-cons, among-contains, among-either, among-here, among-one, among-parts}
 use Rattle.mq_blocks.specs.Geometry.{queues_of}
 use Rattle.mq_blocks.specs.Journal.{is_among}
 use Rattle.mq_blocks.specs.declared.geometry.Geometry.{Geometry}
@@ -13,7 +14,6 @@ use Rattle.mq_inodes.specs.Opened.{IsOpened, IsReleasable, cut_file}
 use Rattle.mq_inodes.specs.Pages.{IsHeld, Pages, content}
 use Rattle.mq_inodes.specs.Released.{IsReleased, gone_from}
 use Rattle.mq_inodes.specs.declared.opened.Opened.{Opened}
-use Rattle.mq_inodes.proofs.Listed.{among-behind, among-cons, among-contains, among-either, among-here, among-one, among-parts}
 use Rattle.mq_inodes.proofs.LocalLists.{bitmap-zone, bitmaps, if_some, indirect-among, listed-drop, part-gone, pointers-gone}
 use Rattle.mq_layout.specs.Places.{zone_bitmap}
 use Rattle.mq_layout.specs.declared.inode.Inode.{Inode}

@@ -3,6 +3,7 @@ use Rattle.std.proofs.Common.{set, ◌≡◌, ◌≢◌, ℕ, ◌*◌, ◌<◌, 
 use Rattle.std.specs.Prelude.{Some, None, slice_get}
 use Rattle.std.proofs.lemmas.Bool.{true≢false}
 use Rattle.std.proofs.lemmas.Option.{none-some}
+use Rattle.mq_blocks.proofs.Among.{among-behind, among-here}
 use Rattle.mq_blocks.specs.Geometry.{queues_of}
 use Rattle.mq_blocks.specs.Journal.{is_among}
 use Rattle.mq_blocks.specs.Windows.{written}
@@ -10,7 +11,6 @@ use Rattle.mq_blocks.specs.declared.geometry.Geometry.{Geometry}
 use Rattle.mq_inodes.specs.Changes.{AreOthers, FitsAt, IsCleared, IsInodeMarked, IsInodePut, IsInodeTurned, IsMarkTurned, Stepped, zone_in}
 use Rattle.mq_inodes.specs.Fits.{Fits}
 use Rattle.mq_inodes.specs.Pages.{Pages}
-use Rattle.mq_inodes.proofs.Listed.{among-behind, among-here}
 use Rattle.mq_inodes.proofs.LocalChanges.{bare-rewrites, fewer-rewrites}
 use Rattle.mq_inodes.proofs.LocalFits.{fits-put}
 use Rattle.mq_inodes.proofs.LocalPages.{inode_marks-one, table-put}

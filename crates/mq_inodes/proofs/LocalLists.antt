@@ -3,17 +3,18 @@ use Rattle.std.proofs.Common.{◌≡◌, ℕ, zero, suc, ◌<◌, ◌≤◌, ◌
 use Rattle.std.specs.Prelude.{Option, Some, None, ◌||◌, nat_eq, nat_lt, slice_get, if◌then◌else◌}
 use Rattle.std.proofs.lemmas.Bool.{cases_Bool, false_from_ne_true, or_cases, true≢false}
 use Rattle.std.proofs.lemmas.Option.{none-some, same_Some, slice_get_within}
+use Rattle.mq_blocks.proofs.Among.{among-behind, among-cons, among-either, among-here, among-left, among-right}
 use Rattle.mq_blocks.specs.Geometry.{queues_of}
 use Rattle.mq_blocks.specs.Journal.{is_among}
 use Rattle.mq_blocks.specs.declared.geometry.Geometry.{Geometry}
 use Rattle.mq_inodes.specs.Changes.{zone_in}
 use Rattle.mq_inodes.specs.Opened.{cut_file, cut_node}
-use Rattle.mq_inodes.proofs.Listed.{among-behind, among-cons, among-either, among-here, among-left, among-right}
-use Rattle.mq_inodes.proofs.LocalCut.{AreCut, kept-option, take-get}
+use Rattle.mq_inodes.proofs.LocalCut.{AreCut}
 use Rattle.mq_inodes.proofs.LocalFrame.{has-use}
 use Rattle.mq_inodes.proofs.LocalInodes.{AreFreed}
 use Rattle.mq_inodes.proofs.LocalUses.{use-cases}
 use Rattle.mq_layout.specs.Places.{inode_bitmap, inode_block, zone_bitmap}
+use Rattle.mq_tree.proofs.KeepChanges.{kept-option, take-get}
 use Rattle.mq_tree.specs.Volume.{Node, Use, Part, Pointers, Volume, block_in, has_block, is_block, node}
 use Rattle.mq_tree.proofs.KeepUses.{node-here}
 use Rattle.mq_tree.specs.Uses.{AreUses}

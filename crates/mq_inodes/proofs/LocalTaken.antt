@@ -5,6 +5,7 @@ use Rattle.std.specs.Prelude.{Option, Some, None, ◌||◌, slice_get}
 use Rattle.std.proofs.lemmas.Bool.{ne_eqb, true≢false}
 use Rattle.std.proofs.lemmas.List.{get_or_at, get_or_past, length-append}
 use Rattle.std.proofs.lemmas.Option.{same_Some}
+use Rattle.mq_blocks.proofs.Among.{among-behind, among-here, among-push}
 use Rattle.mq_blocks.specs.Blocks.{zeros}
 use Rattle.mq_blocks.specs.Geometry.{homes_of, meta_of}
 use Rattle.mq_blocks.specs.Journal.{is_among}
@@ -14,7 +15,6 @@ use Rattle.mq_blocks.proofs.Windows.{number-shown}
 use Rattle.mq_inodes.specs.Changes.{AreOthers, FitsBut, IsInodePut, IsPointerPut, IsTakenIn, Stepped, zone_in}
 use Rattle.mq_inodes.specs.Fits.{Fits}
 use Rattle.mq_inodes.specs.Pages.{Pages}
-use Rattle.mq_inodes.proofs.Listed.{among-behind, among-here, among-push}
 use Rattle.mq_inodes.proofs.LocalBodies.{inode-form}
 use Rattle.mq_inodes.proofs.LocalChanges.{more-rewrites, more-uses, padded-push, pointed-rewrites, pointed-uses}
 use Rattle.mq_inodes.proofs.LocalFits.{fits-put}

@@ -10,7 +10,7 @@ use Rattle.mq_inodes.proofs.LocalFrame.{has-use, use-along}
 use Rattle.mq_layout.specs.Places.{inode_bitmap, inode_block, zone_bitmap}
 use Rattle.mq_tree.specs.Laid.{ShowsPart, ShowsPointers, inode_of, kind_of, zone_block}
 use Rattle.mq_tree.specs.Volume.{Use, Part, Pointers, Volume, block_in, body, has_block, is_taken, is_used, node}
-use Rattle.mq_tree.proofs.KeepUses.{uses-within}
+use Rattle.mq_tree.proofs.KeepUses.{not-used, uses-within}
 use Rattle.mq_tree.specs.Uses.{AreUses}
 use Rattle.mq_tree.proofs.Uses.{use-has, use-taken}
 
@@ -38,9 +38,6 @@ more-in v w i new b o parts pointers = record {
     | inr other ↦ inl (use-along w v u c (sym (o (owner u) other)) e)
   ];
 }
-
-not-used : (v : Volume) (u : Use) (b c : ℕ) → is_taken v b ≡ false → block_in v u ≡ Some c → c ≢ b
-not-used v u b c free e same = true≢false (sym (use-taken v u c e) ∙ ap (λ (x : ℕ). is_taken v x) same ∙ free)
 
 -- a free block of the zones is used, and no other that was not
 pub uses-new : (g : Geometry) (v w : Volume) (i : ℕ) (new : Use) (b : ℕ) → AreUses g v → AreOthers v w i → meta_of g ≤ b → b < homes_of g → is_taken v b ≡ false

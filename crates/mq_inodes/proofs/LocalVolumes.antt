@@ -13,13 +13,13 @@ use Rattle.mq_inodes.specs.Pages.{Pages}
 use Rattle.mq_inodes.proofs.LocalBodies.{bare-form, rebodied}
 use Rattle.mq_inodes.proofs.LocalChanges.{kept-uses, more-uses, pointed-uses}
 use Rattle.mq_inodes.specs.Opened.{cut_file, cut_node}
-use Rattle.mq_inodes.proofs.LocalCut.{kept-option, take-get}
 use Rattle.mq_inodes.proofs.LocalInodes.{bare, bare-step}
 use Rattle.mq_inodes.proofs.LocalParts.{zeros-dir, zeros-file}
 use Rattle.mq_inodes.proofs.LocalTaken.{IsFree, longer, with_indirect}
 use Rattle.mq_inodes.proofs.LocalUses.{uses-fewer}
 use Rattle.mq_layout.specs.Places.{file_limit, inode_bitmap, inode_block, inodes_of}
 use Rattle.mq_layout.specs.Slots.{Entry}
+use Rattle.mq_tree.proofs.KeepChanges.{kept-option, take-get}
 use Rattle.mq_tree.specs.Free.{first_of, grown, one_more, order, pointed, with_block, with_pointers}
 use Rattle.mq_tree.specs.Laid.{ShowsPart, inode_of, size_of}
 use Rattle.mq_tree.specs.Requests.{freed, resized, with_body}

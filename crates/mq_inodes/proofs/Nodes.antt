@@ -5,6 +5,7 @@ use Rattle.std.proofs.lemmas.Bool.{cases_lt, lt-ltb}
 use Rattle.std.proofs.lemmas.List.{get_or_append_left, get_or-append_right, get_or-take, get_or_default, length-append, length-take, same_lists, take_all}
 use Rattle.mq_layout.specs.Bits.{pointer_of}
 use Rattle.mq_layout.specs.declared.inode.Inode.{Inode}
+use Rattle.mq_tree.proofs.CleanLaid.{length-padded}
 use Rattle.mq_tree.proofs.LaidClean.{count-is}
 use Rattle.mq_tree.specs.Decoded.{table_of}
 use Rattle.mq_tree.specs.Laid.{ShowsPointers, inode_of, or_zero, padded}
@@ -20,12 +21,6 @@ node-count n good = count-is n.body (length n.blocks) good.body
 
 node-few : (n : Node) → IsNode n → length n.blocks ≤ 1036
 node-few n good = body-few n.body (length n.blocks) good.body
-
-pub length-padded : (count : ℕ) (xs : List ℕ) → length (padded count xs) ≡ count
-unfolding padded
-length-padded zero xs = refl
-length-padded (suc count) [] = ap suc (length-padded count [])
-length-padded (suc count) (x ∷ xs) = ap suc (length-padded count xs)
 
 -- where there are more than twelve, there is a block of pointers
 node-pointers : (n : Node) → IsNode n → 12 < length n.blocks → n.indirect ≡ Some (inode_of n).indirect

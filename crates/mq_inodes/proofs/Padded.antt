@@ -2,7 +2,7 @@
 use Rattle.std.proofs.Common.{get_or, set, ◌≡◌, ℕ, ◌<◌, ◌≤◌, List, [], ◌∷◌, ◌++◌, length, take, sym, ap, ◌∙◌, arith, inl, inr, length-append, length-set, length-take, get_or-set_same, get_or-set_other}
 use Rattle.std.proofs.lemmas.Bool.{cases_eq, cases_lt}
 use Rattle.std.proofs.lemmas.List.{get_or_append_left, get_or_at, get_or_default, get_or_past, get_or-take, same_lists}
-use Rattle.mq_inodes.proofs.Nodes.{length-padded}
+use Rattle.mq_tree.proofs.CleanLaid.{length-padded}
 use Rattle.mq_tree.specs.Laid.{padded}
 use Rattle.mq_tree.proofs.Unique.{padded-at}
 

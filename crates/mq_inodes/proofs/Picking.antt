@@ -4,12 +4,12 @@ use Rattle.std.specs.Prelude.{Option, Some, None, ◌||◌, if◌then◌else◌,
 use Rattle.std.specs.List.{All}
 use Rattle.std.proofs.lemmas.Bool.{cases_Bool, cases_eq, eq-eqb, ne_eqb, true≢false}
 use Rattle.std.proofs.lemmas.List.Elements.{All-cons}
+use Rattle.mq_blocks.proofs.Among.{among-here, among-push}
 use Rattle.mq_blocks.specs.Geometry.{queues_of}
 use Rattle.mq_blocks.specs.Journal.{is_among}
 use Rattle.mq_blocks.specs.declared.geometry.Geometry.{Geometry}
 use Rattle.mq_inodes.specs.Changes.{AreOthers}
 use Rattle.mq_inodes.specs.Picks.{ArePicked, free_of}
-use Rattle.mq_inodes.proofs.Listed.{among-here, among-push}
 use Rattle.mq_inodes.proofs.LocalFrame.{taken-same}
 use Rattle.mq_inodes.proofs.LocalTaken.{IsFree, get-last, longer, with_indirect}
 use Rattle.mq_inodes.proofs.LocalVolumes.{first-free_block}

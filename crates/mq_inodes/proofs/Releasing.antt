@@ -7,6 +7,7 @@ use Rattle.std.proofs.lemmas.Bool.{cases_Bool, cases_eq, cases_lt, false_from_ne
 use Rattle.std.proofs.lemmas.List.{get_or_default, length-drop, take_all}
 use Rattle.std.proofs.lemmas.Nat.{mod-mul-add}
 use Rattle.std.proofs.lemmas.Option.{none-some, same_Some}
+use Rattle.mq_blocks.proofs.Among.{among-apart, among-either, among-here, among-left, among-one, among-parts, among-right}
 use Rattle.mq_blocks.specs.Geometry.{homes_of, meta_of, queues_of, zone_size}
 use Rattle.mq_blocks.specs.Journal.{is_among}
 use Rattle.mq_blocks.specs.Windows.{written}
@@ -21,7 +22,6 @@ use Rattle.mq_inodes.specs.declared.opened.Opened.{Opened}
 use Rattle.mq_inodes.specs.declared.working.Working.{Working}
 use Rattle.mq_inodes.proofs.Becoming.{over-self, over-then, view-then}
 use Rattle.mq_inodes.proofs.Held.{held-is}
-use Rattle.mq_inodes.proofs.Listed.{among-apart, among-either, among-here, among-left, among-one, among-parts, among-right}
 use Rattle.mq_inodes.proofs.LocalChanges.{zone-of-block}
 use Rattle.mq_layout.specs.Bits.{bit_of, pointer_of}
 use Rattle.mq_layout.specs.Places.{zone_bitmap}

@@ -10,6 +10,7 @@ use Rattle.mq_layout.specs.Places.{inodes_of}
 use Rattle.mq_layout.specs.Slots.{Entry}
 use Rattle.mq_layout.specs.declared.inode.Inode.{Inode}
 use Rattle.mq_inodes.specs.Walks.{IsDirectory, LeadsPast, LooksIn, LooksUnder, directory, inode}
+use Rattle.mq_tree.proofs.Walkways.{walk-err}
 use Rattle.mq_tree.specs.Laid.{inode_of, kind_of}
 use Rattle.mq_tree.specs.Looks.{Leads}
 use Rattle.mq_tree.specs.Requests.{enter, go_on, into_dir, walk}
@@ -90,12 +91,8 @@ way-rest names k = ap (λ (ns : List (List ℕ)). reverse ns) (sym (take-append-
 pub walk-more : (v : Volume) (names : List (List ℕ)) (k : ℕ) (name : List ℕ) (d : ℕ) (r : Result ℕ Fault) → k < length names → name ≡ get_or names k name → walk v (way (take k names)) ≡ Ok d → r ≡ enter v (find name (slots_of (body v d))) → walk v (way (take (k + 1) names)) ≡ r
 walk-more v names k name d r l is e h = ap (λ (w : Way). walk v w) (way-more names k name l is) ∙ ap (λ (x : Result ℕ Fault). go_on v name x) e ∙ sym h
 
-walk-lost : (v : Volume) (xs way : Way) (fault : Fault) → walk v way ≡ Err fault → walk v (xs ++ way) ≡ Err fault
-walk-lost v [] way fault e = e
-walk-lost v (x ∷ xs) way fault e = ap (λ (r : Result ℕ Fault). go_on v x r) (walk-lost v xs way fault e)
-
 pub walk-refused : (v : Volume) (names : List (List ℕ)) (k : ℕ) (fault : Fault) → walk v (way (take k names)) ≡ Err fault → Err fault ≡ walk v (way names)
-walk-refused v names k fault e = sym (ap (λ (w : Way). walk v w) (way-rest names k) ∙ walk-lost v (way (drop k names)) (way (take k names)) fault e)
+walk-refused v names k fault e = sym (ap (λ (w : Way). walk v w) (way-rest names k) ∙ walk-err v (way (take k names)) (way (drop k names)) fault e)
 
 -- ---- what is looked at on the way
 

@@ -17,8 +17,6 @@ mod opened;
 mod release;
 mod slots;
 mod space;
-#[cfg(test)]
-mod tests;
 mod walk;
 mod working;
 

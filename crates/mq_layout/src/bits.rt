@@ -1,5 +1,5 @@
 // Bitmaps, and blocks of pointers.
-ghost use Rattle.std.specs.Prelude.{◌≡◌, ◌≢◌, ◌<◌, ◌≤◌, ◌+◌, ◌*◌, ◌%◌, ℕ, MatchOption, length, if◌then◌else◌, slice_index};
+ghost use Rattle.std.specs.Prelude.{◌≡◌, ◌≢◌, ◌<◌, ◌≤◌, ◌*◌, ℕ, MatchOption, length, if◌then◌else◌};
 ghost use Rattle.std.specs.Int.{to_le_bytes, w32};
 ghost use Rattle.mq_blocks.specs.Windows.{written};
 ghost use Rattle.mq_layout.specs.Bits.{AreSet, IsFirstClear, bit_of, pointer_of};
@@ -19,8 +19,7 @@ pub fn bit(block: &Block, at: u32) -> bool
 /// The first bit of a bitmap that is clear, of those from `from` on and below `end`. A full byte is
 /// passed at once.
 pub fn first_clear(block: &Block, from: u32, end: u32) -> Option<u32>
-    requires order { from ≤ end }
-    requires inside { end ≤ 32768 }
+    requires { end ≤ 32768 }
     ensures { MatchOption result (AreSet block.now from end) (IsFirstClear block.now from end) }
 {
     let mut at = from;

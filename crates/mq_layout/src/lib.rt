@@ -9,8 +9,6 @@ mod places;
 mod refusal;
 mod slot;
 mod superblock;
-#[cfg(test)]
-mod tests;
 
 pub use bits::{bit, first_clear, pointer, set_bit, set_pointer};
 pub use format::format_block;

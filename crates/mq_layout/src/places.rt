@@ -1,7 +1,9 @@
 // What lies where in the metadata region, and how much fits.
 ghost use Rattle.std.specs.Prelude.{◌≡◌, ◌<◌};
 ghost use Rattle.mq_blocks.specs.Geometry.{meta_of, queues_of};
-ghost use Rattle.mq_layout.specs.Places.{zone_bitmap as zone_bitmap_of, inode_bitmap as inode_bitmap_of, table_first as table_first_of, inodes_of, inode_block as inode_block_of, inode_place as inode_place_of};
+ghost use Rattle.mq_layout.specs.Places.{inode_bitmap as inode_bitmap_of, zone_bitmap as zone_bitmap_of};
+ghost use Rattle.mq_layout.specs.Places.{inode_block as inode_block_of, inode_place as inode_place_of};
+ghost use Rattle.mq_layout.specs.Places.{inodes_of, table_first as table_first_of};
 
 use mq_blocks::{BlockNo, Geometry, QueueNo};
 

@@ -1,5 +1,6 @@
 // The slots of a directory's block.
-ghost use Rattle.std.specs.Prelude.{◌≡◌, ◌≤◌, ◌<◌, ◌+◌, ◌*◌, ◌^◌, IsErrOf, IfErr, IfOk, Option, MatchResult, length, slice_index, ℕ};
+ghost use Rattle.std.specs.Prelude.{◌≡◌, ◌≤◌, ◌<◌, ◌+◌, ◌*◌, ◌^◌, ℕ, length, slice_index};
+ghost use Rattle.std.specs.Prelude.{IfErr, IfOk, IsErrOf, MatchResult, Option};
 ghost use Rattle.mq_blocks.specs.Windows.{written};
 ghost use Rattle.mq_layout.specs.Fields.{Finds, zero_bytes};
 ghost use Rattle.mq_layout.specs.Names.{IsName};

@@ -4,8 +4,6 @@
 mod held;
 mod page;
 mod shadows;
-#[cfg(test)]
-mod tests;
 
 pub use held::Held;
 pub use page::{Kind, PageCell, ShadowPage, Write};

@@ -7,4 +7,4 @@ mod pages;
 mod samples;
 
 pub use lifting::{lift, note};
-pub use samples::{empty_blocks, path, small_blocks};
+pub use samples::{empty_blocks, inode, patch, patch_all, path, slot, small_blocks};

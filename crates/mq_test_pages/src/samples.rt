@@ -27,7 +27,7 @@ pub fn empty_blocks(alloc: Global, geometry: Geometry) -> Result<Vec<Option<Bloc
 }
 
 /// Writes bytes into a block, where they fit.
-fn patch(blocks: &mut [Option<Block>], b: usize, at: usize, bytes: &[u8]) {
+pub fn patch(blocks: &mut [Option<Block>], b: usize, at: usize, bytes: &[u8]) {
     if let Some(Some(block)) = blocks.get_mut(b) {
         if at <= 4096 && bytes.len() <= 4096 - at {
             put(block.bytes_mut(), at, bytes);
@@ -36,14 +36,14 @@ fn patch(blocks: &mut [Option<Block>], b: usize, at: usize, bytes: &[u8]) {
 }
 
 /// The first bytes of an inode with this first block.
-fn inode(kind: u8, size: [u8; 2], block: u8) -> [u8; 20] {
+pub fn inode(kind: u8, size: [u8; 2], block: u8) -> [u8; 20] {
     [
         kind, 0, 1, 0, 0, 0, 0, 0, size[0], size[1], 0, 0, 0, 0, 0, 0, block, 0, 0, 0,
     ]
 }
 
 /// The first bytes of a slot whose name has one byte.
-fn slot(inode: u8, name: u8) -> [u8; 17] {
+pub fn slot(inode: u8, name: u8) -> [u8; 17] {
     [inode, 0, 0, 0, 1, 1, 0, 0, 0, 0, 0, 0, 0, 0, 0, 0, name]
 }
 
@@ -56,7 +56,7 @@ fn patch_file(blocks: &mut [Option<Block>]) {
 }
 
 /// Writes bytes into blocks, in order.
-fn patch_all(blocks: &mut [Option<Block>], patches: &[(usize, usize, &[u8])]) {
+pub fn patch_all(blocks: &mut [Option<Block>], patches: &[(usize, usize, &[u8])]) {
     for (b, at, bytes) in patches {
         patch(blocks, *b, *at, *bytes);
     }

@@ -153,7 +153,7 @@ impl Node {
     // A file with these bytes, which keeps so many blocks, and the block of pointers where it is
     // needed.
     pub(crate) fn set_file(&mut self, bytes: Vec<u8>, count: usize)
-        ensures { self.new ≡ record { body = File bytes.items; blocks = take count self.old.blocks; indirect = if nat_lt 12 count then self.old.indirect else None } }
+        ensures { self.new ≡ cut_node self.old count bytes.items }
     {
         self.body = Body::File(bytes);
         self.blocks.truncate(count);

@@ -20,7 +20,7 @@ no-file : {R : Type 0} (bytes : List ℕ) → Some (AFile bytes) ≡ Some ADir �
 no-file bytes e = absurd (cc)
 
 -- a function of what a body is, which does not look at the slots of a directory
-same-on : {X : Type 0} (f : Body → X) → ((s t : List (Option Entry)) → f (Dir s) ≡ f (Dir t)) → (a b : Body) → thing a ≡ thing b → f a ≡ f b
+pub same-on : {X : Type 0} (f : Body → X) → ((s t : List (Option Entry)) → f (Dir s) ≡ f (Dir t)) → (a b : Body) → thing a ≡ thing b → f a ≡ f b
 same-on f dirs Free Free e = refl
 same-on f dirs Free (File ys) e = no-thing (AFile ys) e
 same-on f dirs Free (Dir t) e = no-thing ADir e

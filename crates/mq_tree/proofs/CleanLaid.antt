@@ -109,7 +109,7 @@ says-kind g s n f = elim (kinds n.kind f.form.kind) [
       (ap kind_of b ∙ sym e, ap links_of b ∙ sym r.0, ap (λ (x : Body). size_of x (count_of n)) b ∙ size)
 ]
 
-length-padded : (n : ℕ) (xs : List ℕ) → length (padded n xs) ≡ n
+pub length-padded : (n : ℕ) (xs : List ℕ) → length (padded n xs) ≡ n
 unfolding padded
 length-padded zero xs = refl
 length-padded (suc n) [] = omega (arith, length-padded n [])
@@ -130,7 +130,7 @@ says-indirect g s n f = elim (cases_lt 12 (count_of n)) [
   | inr few ↦ let y = le-ltb 12 (count_of n) few in ap (λ (t : Bool). or_zero (cond t (Some n.indirect) None)) y ∙ sym (f.pointers.few few)
 ]
 
-inode-parts : (n m : Inode) → n.kind ≡ m.kind → n.links ≡ m.links → n.size ≡ m.size → n.direct ≡ m.direct → n.indirect ≡ m.indirect → n ≡ m
+pub inode-parts : (n m : Inode) → n.kind ≡ m.kind → n.links ≡ m.links → n.size ≡ m.size → n.direct ≡ m.direct → n.indirect ≡ m.indirect → n ≡ m
 inode-parts n m e f h i j =
     ap (λ (x : ℕ). record { kind = x; links = n.links; size = n.size; direct = n.direct; indirect = n.indirect }) e
     ∙ ap (λ (x : ℕ). record { kind = m.kind; links = x; size = n.size; direct = n.direct; indirect = n.indirect }) f

@@ -6,7 +6,7 @@ use Rattle.mq_tree.specs.Kept.{IsCut, IsSpliced}
 use Rattle.mq_tree.specs.Requests.{cut_to, spliced}
 use Rattle.mq_tree.proofs.KeepNodes.{cut-length, zeros-at}
 
-cut-at : (size : ℕ) (old : List ℕ) (k : ℕ) → k < size → get_or (cut_to size old) k 0 ≡ get_or old k 0
+pub cut-at : (size : ℕ) (old : List ℕ) (k : ℕ) → k < size → get_or (cut_to size old) k 0 ≡ get_or old k 0
 cut-at size old k low =
     let n = length-take size old in
     elim (cases_lt k (length old)) [

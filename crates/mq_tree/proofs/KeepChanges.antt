@@ -315,7 +315,11 @@ pub record FillsFile (g : Geometry) (v w : Volume) (i : ℕ) (bytes : List ℕ) 
   pub size : length w ≡ length v
   pub nodes : AreNodes g w
 
-take-get : (n : ℕ) (xs : List ℕ) (k b : ℕ) → slice_get (take n xs) k ≡ Some b → slice_get xs k ≡ Some b
+pub kept-option : (t : Bool) (o : Option ℕ) (b : ℕ) → cond t o None ≡ Some b → o ≡ Some b
+kept-option true o b e = e
+kept-option false o b e = absurd (none-some b e)
+
+pub take-get : (n : ℕ) (xs : List ℕ) (k b : ℕ) → slice_get (take n xs) k ≡ Some b → slice_get xs k ≡ Some b
 take-get zero xs k b e = absurd (none-some b e)
 take-get (suc n) [] k b e = absurd (none-some b e)
 take-get (suc n) (x ∷ xs) zero b e = e
@@ -355,7 +359,7 @@ filled-is g q v i old bytes low good was fine few enough =
     let low_u : i < length u = omega arith in
     let taken : length (take count (node u i).blocks) ≡ count = length-take-le count (node u i).blocks (omega arith) in
     let form : IsNode n = record { body = (few, taken, fine); indirect = pointers (length (node u i).blocks) count (node u i).indirect r.indirect (omega arith) ∙ ap (λ (c : ℕ). nat_lt 12 c) (sym taken) } in
-    let within : IsWithin w u = within-set u i n low_u (record { blocks = λ k b h. take-get count (node u i).blocks k b h; pointers = λ b h. kept (nat_lt 12 count) (node u i).indirect b h }) in
+    let within : IsWithin w u = within-set u i n low_u (record { blocks = λ k b h. take-get count (node u i).blocks k b h; pointers = λ b h. kept-option (nat_lt 12 count) (node u i).indirect b h }) in
     record {
       filled = record {
         slots = λ x j. elim (cases_eq x i) [
@@ -382,7 +386,3 @@ filled-is g q v i old bytes low good was fine few enough =
           ap (λ (b : Bool). is_some (cond b o None)) y ∙ is ∙ lt-ltb 12 have (omega arith) ∙ sym y
       | inr less ↦ let n = le-ltb 12 count less in ap (λ (b : Bool). is_some (cond b o None)) n ∙ sym n
     ]
-
-    kept : (t : Bool) (o : Option ℕ) (b : ℕ) → cond t o None ≡ Some b → o ≡ Some b
-    kept true o b e = e
-    kept false o b e = absurd (none-some b e)

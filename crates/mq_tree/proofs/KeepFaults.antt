@@ -3,13 +3,14 @@ use Rattle.std.proofs.Common.{◌≡◌, ◌≢◌, ℕ, List, [], ◌∷◌, �
 use Rattle.std.specs.Prelude.{Option, Some, None, option_and_then, reverse, Result, Ok, Err}
 use Rattle.std.proofs.lemmas.List.{reverse-append, reverse-reverse}
 use Rattle.std.proofs.lemmas.Option.{none-some}
+use Rattle.mq_tree.proofs.Walkways.{walk-err}
 use Rattle.mq_tree.specs.Faults.{IsEnd, IsLost, IsMissing}
 use Rattle.mq_tree.specs.Requests.{Root, Lost, In, Target, enter, go_on, into_dir, target, target_in, walk}
 use Rattle.mq_tree.specs.Volume.{ADir, AFile, Body, Free, File, Dir, Path, Thing, Volume, Way, body, find, inode_at, is_used, slots_of, thing, tree, way}
 use Rattle.mq_tree.specs.declared.request.Fault.{Fault}
 use Rattle.mq_tree.specs.declared.request.Fault.TheVariants.{NotDir, NotFound}
 use Rattle.mq_tree.proofs.KeepAsks.{file-bytes, target-leads, thing-leads}
-use Rattle.mq_tree.proofs.KeepPaths.{IsTree, find-found, thing-here, thing_at}
+use Rattle.mq_tree.proofs.KeepPaths.{IsTree, find-found, thing-here, thing_at, used-is}
 use Rattle.mq_tree.proofs.KeepTargets.{IsIn, leads-walk, same-way, target-in, tree-way, walk-leads, way-append, way-below}
 
 -- ---- steps of a walk
@@ -24,18 +25,13 @@ found-used v name d i t is =
     let f = find-found name (slots_of (body v d)) i is in
     ap (λ (x : ℕ). is_used (body v x)) (sym f.leads) ∙ (t.named d f.place f.entry f.there).1
 
-pub used-there : (b : Body) → is_used b ≡ true → (t : Thing) × (thing b ≡ Some t)
-used-there Free e = absurd (cc)
-used-there (File bytes) e = (AFile bytes, refl)
-used-there (Dir slots) e = (ADir, refl)
-
 nothing-found : (v : Volume) (name : List ℕ) (q : Way) (d : ℕ) → IsTree v → inode_at v q ≡ Some d → thing_at v (name ∷ q) ≡ None → find name (slots_of (body v d)) ≡ None
 nothing-found v name q d t at none = go (find name (slots_of (body v d))) refl
   where
     go : (o : Option ℕ) → find name (slots_of (body v d)) ≡ o → find name (slots_of (body v d)) ≡ None
     go None is = is
     go (Some i) is =
-        let u = used-there (body v i) (found-used v name d i t is) in
+        let u = used-is (body v i) (found-used v name d i t is) in
         absurd (none-some u.0 (sym none ∙ thing-here v (name ∷ q) i (under-name v name q d (Some i) at is) ∙ u.1))
 
 -- ---- from the tree to the walk
@@ -55,11 +51,6 @@ walk-end v name q d fault t at dir (Some (AFile bytes)) is end = go (find name (
         let there : thing (body v i) ≡ Some (AFile bytes) = sym (thing-here v (name ∷ q) i (under-name v name q d (Some i) at found)) ∙ is in
         ap (λ (r : Result ℕ Fault). go_on v name r) walked ∙ ap (λ (x : Option ℕ). enter v x) found ∙ ap (λ (b : Body). into_dir i b) (file-bytes (body v i) bytes there) ∙ ap (λ (f : Fault). Err f) (sym end)
 
--- it goes no further
-walk-on : (v : Volume) (r q : Way) (fault : Fault) → walk v q ≡ Err fault → walk v (r ++ q) ≡ Err fault
-walk-on v [] q fault e = e
-walk-on v (n ∷ r) q fault e = ap (λ (x : Result ℕ Fault). go_on v n x) (walk-on v r q fault e)
-
 pub lost-target : (v : Volume) (path : Path) (fault : Fault) → IsTree v → IsLost v path fault → target v (way path) ≡ Lost fault
 lost-target v path fault t l =
     let d = thing-leads v l.before ADir l.directory in
@@ -71,7 +62,7 @@ lost-target v path fault t l =
   where
     go : (r : Way) → way l.rest ≡ r → l.rest ≢ [] → (q : Way) → walk v q ≡ Err fault → target v (r ++ q) ≡ Lost fault
     go [] is more q e = absurd (more (same-way l.rest [] is))
-    go (n ∷ r) is more q e = ap (λ (x : Result ℕ Fault). target_in v n x) (walk-on v r q fault e)
+    go (n ∷ r) is more q e = ap (λ (x : Result ℕ Fault). target_in v n x) (walk-err v q r fault e)
 
 pub missing-target : (v : Volume) (path : Path) → IsTree v → (m : IsMissing v path) → (d : ℕ) × (name : List ℕ) × (target v (way path) ≡ In d name None) × (inode_at v (way m.parent) ≡ Some d)
 missing-target v path t m =

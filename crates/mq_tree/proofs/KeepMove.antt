@@ -76,7 +76,7 @@ no-way r p n e =
 cons-way : (a b : List ℕ) (s t : Way) → a ≡ b → s ≡ t → a ∷ s ≡ b ∷ t
 cons-way a b s t e f = cc
 
-tails : (a b : List ℕ) (s t : Way) → a ∷ s ≡ b ∷ t → s ≡ t
+pub tails : (a b : List ℕ) (s t : Way) → a ∷ s ≡ b ∷ t → s ≡ t
 tails a b s t e = cc
 
 heads : (a b : List ℕ) (s t : Way) → a ∷ s ≡ b ∷ t → a ≡ b

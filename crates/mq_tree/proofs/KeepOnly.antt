@@ -10,6 +10,7 @@ use Rattle.mq_blocks.specs.declared.geometry.Geometry.{Geometry}
 use Rattle.mq_layout.specs.Names.{is_name}
 use Rattle.mq_layout.specs.Places.{file_limit, names_limit}
 use Rattle.mq_layout.specs.Slots.{Entry}
+use Rattle.mq_tree.proofs.KeepMove.{tails}
 use Rattle.mq_tree.specs.Faults.{IsAddFault, IsAddFull, IsAddRoomFault, IsDirFault, IsFileFault, IsFullDir, IsLost, IsMissing, IsMoveFull, IsMoveFault, IsRenameFault, IsRmdirFault, IsSizeFault, IsUnfound}
 use Rattle.mq_tree.specs.Free.{first_free}
 use Rattle.mq_tree.specs.Kept.{IsBare}
@@ -23,8 +24,8 @@ use Rattle.mq_tree.specs.declared.request.Reply.TheVariants.{Data, Names, File a
 use Rattle.mq_tree.specs.declared.request.Request.TheVariants.{Stat}
 use Rattle.mq_tree.proofs.KeepAsks.{reads-leads}
 use Rattle.mq_tree.proofs.KeepChanges.{unlinked-other, unlinked-room}
-use Rattle.mq_tree.proofs.KeepFaults.{IsView, missing-target, path-of, target-view, there-target, used-there}
-use Rattle.mq_tree.proofs.KeepPaths.{IsTree, one-way, thing-here}
+use Rattle.mq_tree.proofs.KeepFaults.{IsView, missing-target, path-of, target-view, there-target}
+use Rattle.mq_tree.proofs.KeepPaths.{IsTree, one-way, thing-here, used-is}
 use Rattle.mq_tree.proofs.KeepRefusals.{bare-count}
 use Rattle.mq_tree.proofs.KeepTargets.{IsIn, way-append}
 use Rattle.mq_tree.proofs.KeepVolumes.{dir-slots, sound-nodes, sound-tree}
@@ -70,7 +71,7 @@ add-only v p fault verdict_on Q k root lost there missing Root view e = inl (inr
 add-only v p fault verdict_on Q k root lost there missing (Lost f) view e = inl (inl (lost-same v p f fault view (same-refused f fault (sym (lost f) ∙ e))))
 add-only v p fault verdict_on Q k root lost there missing (In d name None) view e = inr (missing d name view e)
 add-only v p fault verdict_on Q k root lost there missing (In d name (Some i)) view e =
-    let u = used-there (body v i) view.2 in
+    let u = used-is (body v i) view.2 in
     inl (inr (u.0, thing-here v (way p) i view.1 ∙ u.1, same-refused Exists fault (sym (there d name i) ∙ e)))
 
 -- what an inode at a path is, stands there
@@ -193,11 +194,8 @@ IsMoveOnly g q v from to fault = ((from ≡ []) × (fault ≡ Subtree)) ⊎ (((t
 parent-same : (v : Volume) (from parent : Path) (d c : ℕ) (name other : List ℕ) (found : Option ℕ) → IsTree v → IsIn v from d name found → inode_at v (way parent) ≡ Some c → from ≡ parent ++ other ∷ [] → c ≡ d
 parent-same v from parent d c name other found k source at is =
     let whole : way from ≡ other ∷ way parent = ap (λ (p : Path). way p) is ∙ way-append parent (other ∷ []) in
-    let tails : source.parent ≡ way parent = same-tail name other source.parent (way parent) (sym source.is ∙ whole) in
-    same_Some c d (sym at ∙ ap (λ (w : Way). inode_at v w) (sym tails) ∙ source.leads)
-  where
-    same-tail : (a b : List ℕ) (s t : Way) → a ∷ s ≡ b ∷ t → s ≡ t
-    same-tail a b s t e = cc
+    let rest : source.parent ≡ way parent = tails name other source.parent (way parent) (sym source.is ∙ whole) in
+    same_Some c d (sym at ∙ ap (λ (w : Way). inode_at v w) (sym rest) ∙ source.leads)
 
 parent-other : (v : Volume) (from parent : Path) (d c : ℕ) (name : List ℕ) (found : Option ℕ) → IsTree v → IsIn v from d name found → inode_at v (way parent) ≡ Some c → c ≡ d → from ≡ parent ++ name ∷ []
 parent-other v from parent d c name found k source at same =
@@ -224,7 +222,7 @@ rename-only g q v from to fault s good e = order (target-only v from fault (λ t
     room : (d : ℕ) (name : List ℕ) (i : ℕ) → IsView v from (In d name (Some i)) → is_below from to ≡ false → (c : ℕ) (new : List ℕ) → IsView v to (In c new None) → move g q (unlinked v d name) i (In c new None) ≡ refused fault → IsMoveFull g q v from to fault
     room d name i view apart c new missing h =
         let names = count_names (slots_of (body (unlinked v d name) c)) in
-        let t = used-there (body v i) view.2 in
+        let t = used-is (body v i) view.2 in
         elim (cond-refused (nat_le names_limit names) TooBig _ fault h) [
           | inl big ↦
               let f = target-full g q v from to d name i c s good view.3 missing.0 missing.1 (leb-true names_limit names big.0) in
@@ -234,7 +232,7 @@ rename-only g q v from to fault s good e = order (target-only v from fault (λ t
 
     there : (d : ℕ) (name : List ℕ) (i : ℕ) → IsView v from (In d name (Some i)) → rename g q v from to (In d name (Some i)) ≡ refused fault → IsMoveOnly g q v from to fault
     there d name i view h =
-        let t = used-there (body v i) view.2 in
+        let t = used-is (body v i) view.2 in
         let u = unlinked v d name in
         let is = thing-here v (way from) i view.1 ∙ t.1 in
         elim (cond-refused (is_below from to) Subtree (move g q u i (target v (way to))) fault h) [

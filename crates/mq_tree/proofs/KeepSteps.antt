@@ -9,6 +9,7 @@ use Rattle.mq_blocks.specs.declared.geometry.Geometry.{Geometry}
 use Rattle.mq_layout.specs.Names.{is_name}
 use Rattle.mq_layout.specs.Places.{file_limit, names_limit}
 use Rattle.mq_layout.specs.Slots.{Entry}
+use Rattle.mq_tree.proofs.Naming.{none-entry}
 use Rattle.mq_tree.specs.Free.{first_free, free_blocks}
 use Rattle.mq_tree.specs.Kept.{HasBytes, IsAdded, IsBare, IsRemoved, IsRenamed, IsRewritten}
 use Rattle.mq_tree.specs.Requests.{Root, Lost, In, Outcome, Target, Verdict, Says, Makes, act, after_group, asks, carried_out, count_names, cut_to, is_below, is_change, is_named, list_in, make, make_free, move, read_in, refused, rename, rmdir, rmdir_in, set_bytes, spliced, stat_in, step, target, truncate, truncate_in, unlink, unlink_in, unlinked, verdict, write, write_in}
@@ -32,9 +33,6 @@ new-file = record { thing_is = refl; form = (omega arith, refl, λ k. omega arit
 
 new-dir : IsNew (Dir []) ADir
 new-dir = record { thing_is = refl; form = (omega arith, refl, λ k e h. none-entry e h); empty = λ l. refl }
-  where
-    none-entry : {R : Type 0} (e : Entry) → None ≡ Some e → R
-    none-entry e h = absurd (cc)
 
 root-dir : (g : Geometry) (v : Volume) → IsSound g v → thing (body v 0) ≡ Some ADir
 root-dir g v s = ap (λ (b : Body). thing b) s.root.1

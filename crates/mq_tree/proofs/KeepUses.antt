@@ -39,7 +39,13 @@ free-within g v w h = free-more g v w (taken-within v w h)
 abbrev IsMore : Volume → Volume → Use → ℕ → Type 0
 IsMore v w u b = (x : Use) (c : ℕ) → block_in w x ≡ Some c → (block_in v x ≡ Some c) ⊎ ((x ≡ u) × (c ≡ b))
 
-not-used : (v : Volume) (u : Use) (b c : ℕ) → is_taken v b ≡ false → block_in v u ≡ Some c → c ≢ b
+pub past-twelve : (n : ℕ) → n ≢ 12 → nat_lt 12 n ≡ nat_lt 12 (n + 1)
+past-twelve n other = elim (cases_lt 12 n) [
+  | inl more ↦ lt-ltb 12 n more ∙ sym (lt-ltb 12 (n + 1) (omega arith))
+  | inr few ↦ le-ltb 12 n few ∙ sym (le-ltb 12 (n + 1) (omega arith))
+]
+
+pub not-used : (v : Volume) (u : Use) (b c : ℕ) → is_taken v b ≡ false → block_in v u ≡ Some c → c ≢ b
 not-used v u b c n e same = true≢false (sym (use-taken v u c e) ∙ ap (λ (x : ℕ). is_taken v x) same ∙ n)
 
 uses-more : (g : Geometry) (v w : Volume) (u : Use) (b : ℕ) → AreUses g v → (meta_of g ≤ b) × (b < homes_of g) → is_taken v b ≡ false → IsMore v w u b → AreUses g w
@@ -70,7 +76,7 @@ uses-free g v w u b more = free-one g v w b (λ x other n. false_from_ne_true _ 
 
 -- ---- one block more
 
-push-get : (xs : List ℕ) (b k c : ℕ) → slice_get (xs ++ b ∷ []) k ≡ Some c → (slice_get xs k ≡ Some c) ⊎ ((k ≡ length xs) × (c ≡ b))
+pub push-get : (xs : List ℕ) (b k c : ℕ) → slice_get (xs ++ b ∷ []) k ≡ Some c → (slice_get xs k ≡ Some c) ⊎ ((k ≡ length xs) × (c ≡ b))
 push-get [] b zero c e = inr (refl, sym (same_Some b c e))
 push-get [] b (suc k) c e = absurd (none-some c e)
 push-get (x ∷ xs) b zero c e = inl e
@@ -284,12 +290,6 @@ next-taken g q v i low l uses has few = elim (cases_eq (length (node v i).blocks
       (subst (λ x. IsTaken g v (one_more g q x i) i 1 (next_cost (length (node v i).blocks)) (nat_lt 12 (length (node v i).blocks))) (sym here)
       (subst (λ c. IsTaken g v (one_more g q v i) i 1 c (nat_lt 12 (length (node v i).blocks))) (sym cost) t))
 ]
-  where
-    past-twelve : (n : ℕ) → n ≢ 12 → nat_lt 12 n ≡ nat_lt 12 (n + 1)
-    past-twelve n other = elim (cases_lt 12 n) [
-      | inl more ↦ lt-ltb 12 n more ∙ sym (lt-ltb 12 (n + 1) (omega arith))
-      | inr few ↦ le-ltb 12 n few ∙ sym (le-ltb 12 (n + 1) (omega arith))
-    ]
 
 -- what is needed covers the next block, and what is needed then
 needs-next : (have count : ℕ) → needs have (have + suc count) ≡ next_cost have + needs (have + 1) (have + 1 + count)

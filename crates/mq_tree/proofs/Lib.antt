@@ -1,6 +1,7 @@
 pub mod Alike
 pub mod Claiming
 pub mod CleanLaid
+pub mod Counting
 pub mod Decoding
 pub mod Empties
 pub mod Examples

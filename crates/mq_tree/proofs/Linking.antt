@@ -28,7 +28,7 @@ use Rattle.mq_tree.specs.declared.corrupt.MountRefusal.{MountRefusal}
 use Rattle.mq_tree.specs.declared.corrupt.MountRefusal.TheVariants.{Corrupt, OutOfMemory}
 use Rattle.mq_tree.proofs.Decoding.{body-dir, length-table, table-at}
 use Rattle.mq_tree.proofs.Mounting.{table-more}
-use Rattle.mq_tree.proofs.Naming.{slot-found, slot-in, slot-is}
+use Rattle.mq_tree.proofs.Naming.{none-entry, slot-found, slot-in, slot-is}
 use Rattle.mq_tree.proofs.Sorting.{entries-push, entries-skip, insert-swap}
 
 -- ---- names that are the same
@@ -132,9 +132,6 @@ find-append (Some e ∷ xs) ys q = elim (cases_Bool (bytes_eq e.name q)) [
   | inl t ↦ rw t refl
   | inr f ↦ rw f (find-append xs ys q)
 ]
-
-none-entry : {R : Type 0} (e : Entry) → None ≡ Some e → R
-none-entry e h = absurd (cc)
 
 none-behind : (xs : List (Option Entry)) (f : Entry) (name : List ℕ) (k : ℕ) (e : Entry) → ((j : ℕ) → get_or xs j None ≡ Some e → ⊥) → get_or (Some f ∷ xs) k None ≡ Some e → e.name ≡ name → bytes_eq f.name name ≡ false → ⊥
 none-behind xs f name zero e rest there same n = let g : f ≡ e = cc in true≢false (sym (same-name f.name name (ap (λ (x : Entry). x.name) g ∙ same)) ∙ n)

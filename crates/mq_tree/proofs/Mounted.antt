@@ -3,6 +3,7 @@ use Rattle.std.proofs.Common.{◌≡◌, ◌≢◌, refl, sym, subst}
 use Rattle.mq_blocks.specs.declared.geometry.Geometry.{Geometry}
 use Rattle.mq_tree.specs.Clean.{IsClean}
 use Rattle.mq_tree.specs.Corrupt.{Refuses}
+use Rattle.mq_tree.specs.Counts.{IsCountable}
 use Rattle.mq_tree.specs.Decoded.{Stored, volume_in}
 use Rattle.mq_tree.specs.Empty.{ArePages}
 use Rattle.mq_tree.specs.Laid.{IsLaid, IsTreeOf, map_of}
@@ -14,6 +15,7 @@ use Rattle.mq_tree.specs.declared.corrupt.MountRefusal.{MountRefusal}
 use Rattle.mq_tree.specs.declared.corrupt.MountRefusal.TheVariants.{Corrupt, OutOfMemory}
 use Rattle.mq_tree.proofs.Alike.{alike-text}
 use Rattle.mq_tree.proofs.CleanLaid.{clean-laid}
+use Rattle.mq_tree.proofs.Counting.{alike-countable, sound-countable}
 use Rattle.mq_tree.proofs.Keeping.{same-tree}
 use Rattle.mq_tree.proofs.LaidClean.{volume-clean, volume-decoded}
 use Rattle.mq_tree.proofs.Refuted.{corrupt-not_clean}
@@ -37,6 +39,9 @@ pub mounted-listing : (g : Geometry) (s : Stored) (t : Volume) → ArePages s �
 mounted-listing g s t pages clean alike =
     let same : tree t ≡ tree (volume_in g s) = λ i path. same-tree t (volume_in g s) alike path i in
     subst (IsListing (tree t)) (sym (alike-text t (volume_in g s) alike)) (subst (λ (u : Things). IsListing u (list_text (volume_in g s))) (sym same) (sound-listing g (volume_in g s) (clean-laid g s pages clean).sound))
+
+pub mounted-countable : (g : Geometry) (s : Stored) (t : Volume) → ArePages s → IsClean g s → IsAlike t (volume_in g s) → IsCountable t
+mounted-countable g s t pages clean alike = alike-countable t (volume_in g s) alike (sound-countable g (volume_in g s) (clean-laid g s pages clean).sound)
 
 pub refused-none : (g : Geometry) (s : Stored) (e : MountRefusal) → ArePages s → Refuses g s e → e ≢ OutOfMemory → (t : Things) → IsTreeOf g (map_of g s) t → ⊥
 refused-none g s OutOfMemory pages h other t of = other refl

@@ -29,7 +29,7 @@ pub record IsEntry (g : Geometry) (s : Stored) (d k : ℕ) (e : Entry) : Type 0 
   pub inside : k < 15 * count_of (the_inode g s d)
   pub is : entry_of s (the_inode g s d) k ≡ Some e
 
-none-entry : {R : Type 0} (e : Entry) → None ≡ Some e → R
+pub none-entry : {R : Type 0} (e : Entry) → None ≡ Some e → R
 none-entry e h = absurd (cc)
 
 pub slot-found : (g : Geometry) (s : Stored) (d k : ℕ) (e : Entry) → IsTable g s → slot (volume_in g s) d k ≡ Some e → IsEntry g s d k e

@@ -21,7 +21,7 @@ pub use-has : (n : Node) (b : ℕ) → ((k : ℕ) × (slice_get n.blocks k ≡ S
 use-has n b (inl (k, e)) = or_left _ _ (among-get n.blocks k b e)
 use-has n b (inr e) = or_right (is_among b n.blocks) (is_block b n.indirect) (ap (λ (o : Option ℕ). is_block b o) e ∙ eq-eqb b b refl)
 
-has-taken : (v : Volume) (i b : ℕ) → has_block (node v i) b ≡ true → is_taken v b ≡ true
+pub has-taken : (v : Volume) (i b : ℕ) → has_block (node v i) b ≡ true → is_taken v b ≡ true
 has-taken [] i b h = absurd (true≢false (sym h))
 has-taken (n ∷ v) zero b h = or_left _ _ h
 has-taken (n ∷ v) (suc i) b h = or_right (has_block n b) (is_taken v b) (has-taken v i b h)

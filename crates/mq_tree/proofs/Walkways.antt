@@ -30,7 +30,7 @@ way-push names x = reverse-append names (x ∷ [])
 way-more : (names : Path) (k : ℕ) (x : List ℕ) → k < length names → way (take (k + 1) names) ≡ get_or names k x ∷ way (take k names)
 way-more names k x low = ap way (take_more names k x low) ∙ way-push (take k names) (get_or names k x)
 
-walk-err : (v : Volume) (w more : Way) (f : Fault) → walk v w ≡ Err f → walk v (more ++ w) ≡ Err f
+pub walk-err : (v : Volume) (w more : Way) (f : Fault) → walk v w ≡ Err f → walk v (more ++ w) ≡ Err f
 walk-err v w [] f e = e
 walk-err v w (name ∷ more) f e = ap (go_on v name) (walk-err v w more f e)
 

@@ -22,7 +22,7 @@ use Rattle.mq_tree.proofs.KeepAsks.{thing-leads}
 use Rattle.mq_tree.proofs.KeepMove.{leads-part}
 use Rattle.mq_tree.proofs.KeepPaths.{Edge, IsTree, Step, last-step, leads-used, next-step, one-way, thing-here, used-is}
 use Rattle.mq_tree.proofs.KeepTargets.{same-way, way-append}
-use Rattle.mq_tree.proofs.KeepVolumes.{sound-tree}
+use Rattle.mq_tree.proofs.KeepVolumes.{sound-tree, used-low}
 use Rattle.mq_tree.proofs.Members.{cons-cases, cons-here, cons-there, map-cases, map-has, none-contained}
 use Rattle.mq_tree.proofs.Sorting.{all-contained, contained-all, entries-found, entries-have, entries-sorted, entry_cmp, less-equal, sorted-same}
 use Rattle.mq_tree.proofs.Walking.{all-false}
@@ -209,11 +209,6 @@ record Ready (v : Volume) (count : ℕ) (spots : List CopyPlace) (seen : List Bo
   size : length seen ≡ length v
   enough : length spots + unlisted v seen ≤ count
   past : (i : ℕ) → is_seen seen i ≡ true → (p : Path) × (inode_at v (way p) ≡ Some i) × ((s : CopyPlace) → Contains spots s → path_cmp p s.path ≡ Less)
-
-used-low : (v : Volume) (i : ℕ) → is_used (body v i) ≡ true → i < length v
-used-low [] i u = absurd (true≢false (sym u))
-used-low (n ∷ v) zero u = omega arith
-used-low (n ∷ v) (suc i) u = let l = used-low v i u in omega arith
 
 spot-used : (v : Volume) (s : CopyPlace) → IsTree v → Waits v s → is_used (body v (place s)) ≡ true
 spot-used v s t w = leads-used v t (way s.path) (place s) w.leads

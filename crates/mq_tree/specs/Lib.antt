@@ -1,5 +1,6 @@
 pub mod Clean
 pub mod Corrupt
+pub mod Counts
 pub mod Decoded
 pub mod Directories
 pub mod Empty

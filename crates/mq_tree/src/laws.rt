@@ -7,6 +7,7 @@ ghost use Rattle.mq_blocks.specs.declared.geometry.Geometry.{Geometry};
 ghost use Rattle.mq_layout.specs.Empty.{empty_block};
 ghost use Rattle.mq_tree.specs.Clean.{IsClean};
 ghost use Rattle.mq_tree.specs.Corrupt.{IsCorrupt};
+ghost use Rattle.mq_tree.specs.Counts.{counts_in};
 ghost use Rattle.mq_tree.specs.Decoded.{Stored, volume_in};
 ghost use Rattle.mq_tree.specs.Empty.{ArePages, empty_volume};
 ghost use Rattle.mq_tree.specs.Laid.{IsLaid, Laid, map_of};
@@ -57,10 +58,12 @@ pub fn clean_blocks()
         → ⊥ }
 {}
 
-/// Trees that are alike have the same at each path, are listed alike, and answer requests to read alike.
+/// Trees that are alike have the same at each path, are listed and counted alike, and answer requests to
+/// read alike.
 pub fn alike_trees()
     ensures tree { (v w : Volume) → IsAlike v w → (path : Path) → tree v path ≡ tree w path }
     ensures text { (v w : Volume) → IsAlike v w → list_text v ≡ list_text w }
+    ensures counts { (v w : Volume) → IsAlike v w → counts_in v ≡ counts_in w }
     ensures reads { (g : Geometry) (q : ℕ) (v w : Volume)
         → IsAlike v w
         → (path : Path) (at count : ℕ)

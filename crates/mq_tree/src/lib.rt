@@ -6,6 +6,7 @@ mod bitmap_check;
 mod claims;
 mod contents;
 mod corrupt;
+mod counts;
 mod directory;
 mod dirs;
 mod duplicate_names;
@@ -21,12 +22,11 @@ mod request;
 mod slots;
 mod stored;
 mod table;
-#[cfg(test)]
-mod tests;
 mod tree;
 mod walk;
 
 pub use corrupt::{CorruptCause, MountRefusal};
+pub use counts::TreeCounts;
 pub use keeps::{
     a_group_keeps_a_volume_sound, files_are_rewritten, new_things_are_added,
     refusals_are_those_of_the_tree, refusals_change_nothing, replies_are_those_of_the_tree,

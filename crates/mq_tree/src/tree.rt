@@ -2,6 +2,7 @@
 ghost use Rattle.std.specs.Prelude.{◌≡◌, MatchOption, MatchResult, Ok, Err, length};
 ghost use Rattle.std.specs.List.{list_all};
 ghost use Rattle.mq_layout.specs.Names.{is_name};
+ghost use Rattle.mq_tree.specs.Counts.{IsCountable};
 ghost use Rattle.mq_tree.specs.ListText.{name_count};
 ghost use Rattle.mq_tree.specs.Requests.{into_dir, walk};
 ghost use Rattle.mq_tree.specs.Trees.{ReadsAs, body_kept, file_in, found_in, kept};
@@ -20,19 +21,31 @@ pub struct Tree {
 }
 
 impl Model for Tree {
+    ghost use Rattle.mq_tree.specs.Counts.{IsCountable};
     ghost use Rattle.mq_tree.specs.Trees.{kept};
     ghost use Rattle.mq_tree.specs.Volume.{Volume};
 
     ghost Value = { Volume };
 
     ghost view = { λ t. kept t.contents.items };
+
+    ghost invariant = { λ t. IsCountable (kept t.contents.items) };
 }
 
 impl Tree {
     pub(crate) fn new(contents: Vec<Content>) -> Tree
+        requires { IsCountable (kept contents.items) }
         ensures { result ≡ kept contents.items }
     {
         Tree { contents }
+    }
+
+    /// What the inodes are, by number.
+    pub(crate) fn contents(&self) -> &[Content]
+        ensures is { kept result.now ≡ self.now }
+        ensures countable { IsCountable (kept result.now) }
+    {
+        &self.contents
     }
 
     /// How many inodes there are.

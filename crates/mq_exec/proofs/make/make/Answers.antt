@@ -1,6 +1,6 @@
 use Rattle.std.proofs.Common.{Bool}
 use Rattle.std.proofs.lemmas.Result.{err_from_is_err_and}
-use Rattle.mq_exec.specs.Plans.{making}
+use Rattle.mq_exec.specs.Plans.{make_request}
 use Rattle.mq_exec.proofs.Coming.{comes-carried, comes-refused}
 use Rattle.mq_inodes.specs.Bare.{empty_body}
 use Rattle.mq_inodes.proofs.Lacking.{lacks-each}
@@ -13,7 +13,7 @@ pub returns-in_err-planned-clause-lack : goal.returns-in_err-planned-clause-lack
 returns-in_err-planned-clause-lack c =
     let g = c.args.working.now.geometry in
     let p = err_from_is_err_and c.from_residual.result c.from_residual.ensures.1 in
-    rw (p.1, p.2) (lacks-each c.args.working.now (λ v b. (t : Bool) → LooksAt g c.args.queue v (making t c.args.path.now) b) (λ v b. LooksAt g c.args.queue v (making c.args.is_directory c.args.path.now) b) c.in_err-planned.field-0.0
+    rw (p.1, p.2) (lacks-each c.args.working.now (λ v b. (t : Bool) → LooksAt g c.args.queue v (make_request t c.args.path.now) b) (λ v b. LooksAt g c.args.queue v (make_request c.args.is_directory c.args.path.now) b) c.in_err-planned.field-0.0
     (λ v b agrees h. h c.args.is_directory) c.in_err-planned.ensures.lack)
 
 pub returns-in-Err-clause-ok : goal.returns-in-Err-clause-ok

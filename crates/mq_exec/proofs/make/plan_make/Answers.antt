@@ -1,10 +1,10 @@
 use Rattle.std.proofs.Common.{◌≡◌, ◌<◌, Bool, ℕ, List, sym, ap, subst, ◌∙◌, ◌∷◌, ◌++◌, [], length}
 use Rattle.std.specs.List.{Contains}
 use Rattle.std.proofs.lemmas.Result.{err_from_is_err_and}
-use Rattle.mq_exec.specs.Plans.{making}
-use Rattle.mq_exec.specs.declared.make.Making.{Making}
-use Rattle.mq_exec.proofs.Making.{holds-make}
-use Rattle.mq_exec.proofs.MakingPlans.{free-is, make-few, make-marks, make-past, make-searched, make-wanted, need-at, planned, plans-make, ready}
+use Rattle.mq_exec.specs.Plans.{make_request}
+use Rattle.mq_exec.specs.declared.make.Creation.{Creation}
+use Rattle.mq_exec.proofs.Creations.{holds-make}
+use Rattle.mq_exec.proofs.CreationPlans.{free-is, make-few, make-marks, make-past, make-searched, make-wanted, need-at, planned, plans-make, ready}
 use Rattle.mq_exec.proofs.NewNames.{new-name, new-past}
 use Rattle.mq_inodes.specs.Dirs.{slots_at}
 use Rattle.mq_inodes.specs.MissingPages.{OfEach}
@@ -24,7 +24,7 @@ pub returns-in_err-target-clause-lack : goal.returns-in_err-target-clause-lack
 returns-in_err-target-clause-lack c =
     let g = c.args.working.now.geometry in
     let p = err_from_is_err_and c.from_residual.result c.from_residual.ensures.1 in
-    rw (p.1, p.2) (lacks-each c.args.working.now (λ v b. LeadsPast g v (way c.args.path.now) b) (λ v b. (t : Bool) → LooksAt g c.args.queue v (making t c.args.path.now) b) c.in_err-target.field-0.0
+    rw (p.1, p.2) (lacks-each c.args.working.now (λ v b. LeadsPast g v (way c.args.path.now) b) (λ v b. (t : Bool) → LooksAt g c.args.queue v (make_request t c.args.path.now) b) c.in_err-target.field-0.0
     (λ v b agrees h t. make-past g c.args.queue v t c.args.path.now b h) c.in_err-target.ensures.lack)
 
 pub open_directory-requires-clause-dir : goal.open_directory-requires-clause-dir
@@ -37,7 +37,7 @@ returns-in_err-directory-clause-lack c =
     let w = way c.args.path.now in
     let d = c.in-In-default-None.directory in
     let p = err_from_is_err_and c.from_residual-in_err-directory.result c.from_residual-in_err-directory.ensures.1 in
-    rw (p.1, p.2) (lacks-each c.args.working.now (λ v b. LooksIn g v d b) (λ v b. (t : Bool) → LooksAt g c.args.queue v (making t c.args.path.now) b) c.in_err-directory.field-0.0
+    rw (p.1, p.2) (lacks-each c.args.working.now (λ v b. LooksIn g v d b) (λ v b. (t : Bool) → LooksAt g c.args.queue v (make_request t c.args.path.now) b) c.in_err-directory.field-0.0
     (λ v b agrees h t. make-past g c.args.queue v t c.args.path.now b (new-past g v w d b (new-name g v w c.in_ok-target.field-0 d c.in-In-default-None.found agrees.sound c.in-In-default-None.is c.in-In-default-None.found-is (c.in_ok-target.ensures.ok v agrees)) h)) c.in_err-directory.ensures.lack)
 
 pub returns-in_err-inode-clause-lack : goal.returns-in_err-inode-clause-lack
@@ -47,7 +47,7 @@ returns-in_err-inode-clause-lack c =
     let o = c.in_ok-directory.directory in
     let pages = pages_of c.args.working.now in
     let p = err_from_is_err_and c.from_residual-in_err-inode.result c.from_residual-in_err-inode.ensures.1 in
-    rw (p.1, p.2) (lacks-each c.args.working.now (λ v b. b ≡ inode_bitmap g) (λ v b. (t : Bool) → LooksAt g c.args.queue v (making t c.args.path.now) b) c.in_err-inode.field-0.0
+    rw (p.1, p.2) (lacks-each c.args.working.now (λ v b. b ≡ inode_bitmap g) (λ v b. (t : Bool) → LooksAt g c.args.queue v (make_request t c.args.path.now) b) c.in_err-inode.field-0.0
     (λ v b agrees h t.
     let n = new-name g v w c.in_ok-target.field-0 c.in-In-default-None.directory c.in-In-default-None.found agrees.sound c.in-In-default-None.is c.in-In-default-None.found-is (c.in_ok-target.ensures.ok v agrees) in
     make-marks g c.args.queue v t c.args.path.now o.number b agrees.sound (ready pages v c.args.path.now o c.in-In-default-None.directory c.deref.result.now c.is_full.result n c.in_ok-directory.ensures.number (c.in_ok-directory.ensures.slots v agrees) c.deref.ensures.value c.is_full.ensures c.if-is_full.false c.requires.names) h) c.in_err-inode.ensures.lack)
@@ -60,7 +60,7 @@ returns-in_err-picks-clause-lack c =
     let pages = pages_of c.args.working.now in
     let p = err_from_is_err_and c.from_residual-in_err-picks.result c.from_residual-in_err-picks.ensures.1 in
     let need = c.link_need.ensures ∙ ap (λ (bs : List ℕ). entry_needs (length bs) (unused 0 (slots_at pages bs))) c.deref-2.ensures.value in
-    rw (p.1, p.2) (lacks-each c.args.working.now (λ v b. IsSearched g c.args.queue v c.link_need.result b) (λ v b. (t : Bool) → LooksAt g c.args.queue v (making t c.args.path.now) b) c.in_err-picks.field-0.0
+    rw (p.1, p.2) (lacks-each c.args.working.now (λ v b. IsSearched g c.args.queue v c.link_need.result b) (λ v b. (t : Bool) → LooksAt g c.args.queue v (make_request t c.args.path.now) b) c.in_err-picks.field-0.0
     (λ v b agrees h t.
     let n = new-name g v w c.in_ok-target.field-0 c.in-In-default-None.directory c.in-In-default-None.found agrees.sound c.in-In-default-None.is c.in-In-default-None.found-is (c.in_ok-target.ensures.ok v agrees) in
     let r = ready pages v c.args.path.now o c.in-In-default-None.directory c.deref.result.now c.is_full.result n c.in_ok-directory.ensures.number (c.in_ok-directory.ensures.slots v agrees) c.deref.ensures.value c.is_full.ensures c.if-is_full.false c.requires.names in
@@ -93,7 +93,7 @@ returns-in_err-look_for_all-clause-lack c =
     let p = err_from_is_err_and c.from_residual-in_err-look_for_all.result c.from_residual-in_err-look_for_all.ensures.1 in
     let need = c.link_need.ensures ∙ ap (λ (bs : List ℕ). entry_needs (length bs) (unused 0 (slots_at pages bs))) c.deref-2.ensures.value in
     let wanted : c.deref-4.result.now ≡ c.in-Some-2.picks.items ++ inode_block g c.in-Some.inode ∷ [] = c.deref-4.ensures.value ∙ c.in_ok-push.ensures.items ∙ ap (λ (bs : List ℕ). bs ++ c.inode_block.result ∷ []) (c.in_ok-wanted.ensures.items ∙ c.deref-3.ensures.value) ∙ ap (λ (x : ℕ). c.in-Some-2.picks.items ++ x ∷ []) c.inode_block.ensures.is in
-    rw (p.1, p.2) (lacks-weaker pages (Contains c.deref-4.result.now) (λ b. OfEach c.args.working.now (λ v. (t : Bool) → LooksAt g c.args.queue v (making t c.args.path.now) b)) c.in_err-look_for_all.field-0.0
+    rw (p.1, p.2) (lacks-weaker pages (Contains c.deref-4.result.now) (λ b. OfEach c.args.working.now (λ v. (t : Bool) → LooksAt g c.args.queue v (make_request t c.args.path.now) b)) c.in_err-look_for_all.field-0.0
     (λ b h v agrees t.
     let n = new-name g v w c.in_ok-target.field-0 c.in-In-default-None.directory c.in-In-default-None.found agrees.sound c.in-In-default-None.is c.in-In-default-None.found-is (c.in_ok-target.ensures.ok v agrees) in
     let r = ready pages v c.args.path.now o c.in-In-default-None.directory c.deref.result.now c.is_full.result n c.in_ok-directory.ensures.number (c.in_ok-directory.ensures.slots v agrees) c.deref.ensures.value c.is_full.ensures c.if-is_full.false c.requires.names in
@@ -110,7 +110,7 @@ returns-clause-ok c v agrees t =
     let need = c.link_need.ensures ∙ ap (λ (bs : List ℕ). entry_needs (length bs) (unused 0 (slots_at pages bs))) c.deref-2.ensures.value in
     let n = new-name g v w c.in_ok-target.field-0 c.in-In-default-None.directory c.in-In-default-None.found agrees.sound c.in-In-default-None.is c.in-In-default-None.found-is (c.in_ok-target.ensures.ok v agrees) in
     let r = ready pages v c.args.path.now o c.in-In-default-None.directory c.deref.result.now c.is_full.result n c.in_ok-directory.ensures.number (c.in_ok-directory.ensures.slots v agrees) c.deref.ensures.value c.is_full.ensures c.if-is_full.false c.requires.names in
-    let m : Making = record { directory = o; inode = c.in-Some.inode; picks = c.in-Some-2.picks } in
+    let m : Creation = record { directory = o; inode = c.in-Some.inode; picks = c.in-Some-2.picks } in
     plans-make g c.args.queue v t c.args.path.now m agrees.sound (planned g c.args.queue pages v c.args.path.now m c.in-In-default-None.directory c.link_need.result c.in_ok-inode.field-0 agrees.sound c.requires.queue r c.in_ok-directory.ensures.number
     (c.in_ok-directory.ensures.opened v agrees) (c.in_ok-directory.ensures.slots v agrees) (c.in_ok-inode.ensures.ok v agrees) c.in-Some.is need (rw c.in-Some-2.is at c.in_ok-picks.ensures.ok v agrees))
 

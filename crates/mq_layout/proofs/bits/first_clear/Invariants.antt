@@ -6,7 +6,7 @@ use Rattle.mq_layout.proofs.bits.first_clear.Given as goal
 abbrev pub invariant-loop-at : goal.invariant-loop-at
 invariant-loop-at l = record {
   low : l.from ≤ l.at;
-  high : l.at ≤ l.end + 7;
+  high : l.at ≤ l.from + (l.end - l.from) + 7;
   set : AreSet l.block l.from l.at;
 }
 

@@ -1,14 +1,17 @@
 use Rattle.std.proofs.Common.{subst, sym}
 use Rattle.std.proofs.lemmas.Result.{err_from_is_err_and}
 use Rattle.mq_tree.specs.Decoded.{volume_in}
-use Rattle.mq_tree.specs.Trees.{IsAlike}
-use Rattle.mq_tree.proofs.Mounted.{mounted-alike, mounted-listing, mounted-tree, refused-none}
+use Rattle.mq_tree.specs.Trees.{IsAlike, kept}
+use Rattle.mq_tree.proofs.Mounted.{mounted-alike, mounted-countable, mounted-listing, mounted-tree, refused-none}
 use Rattle.mq_tree.proofs.mounts.mount.Goals as goal
 
 pub returns-in_err-contents-clause-none : goal.returns-in_err-contents-clause-none
 returns-in_err-contents-clause-none c =
     let p = err_from_is_err_and c.from_residual-in_err-contents.result c.from_residual-in_err-contents.ensures.1 in
     rw (p.1, p.2) (refused-none c.args.geometry c.args.blocks.now c.in_err-contents.field-0.0 c.in_err-contents.ensures.pages c.in_err-contents.ensures.cause)
+
+pub new-requires : goal.new-requires
+new-requires c = mounted-countable c.args.geometry c.args.blocks.now (kept c.in_ok-contents.contents.items) c.in_ok-contents.ensures.pages c.in_ok-contents.ensures.clean c.in_ok-contents.ensures.alike
 
 pub returns-clause-tree : goal.returns-clause-tree
 returns-clause-tree c =

@@ -5,8 +5,8 @@ use Rattle.mq_inodes.proofs.Cutting.{becomes-cut, cut-form, pointers-held, point
 use Rattle.mq_inodes.proofs.Getting.{count-items}
 use Rattle.mq_inodes.proofs.Linking.{on_ok-both}
 use Rattle.mq_inodes.proofs.LocalGone.{gone-releasable}
-use Rattle.mq_inodes.proofs.Nodes.{length-padded}
 use Rattle.mq_layout.specs.declared.inode.Inode.{Inode}
+use Rattle.mq_tree.proofs.CleanLaid.{length-padded}
 use Rattle.mq_tree.specs.Volume.{node}
 use Rattle.mq_inodes.proofs.working.Working.cut.Goals as goal
 

@@ -1,0 +1,73 @@
+-- Files and directories that are made: the inode, and then its name.
+use Rattle.std.proofs.Common.{◌≡◌, ◌≢◌, ℕ, ◌<◌, ◌≤◌, List, [], ◌∷◌, ◌++◌, length, false, sym, ap, subst, ◌∙◌, arith}
+use Rattle.std.specs.Prelude.{Option, None}
+use Rattle.std.specs.List.{All, Contains}
+use Rattle.std.proofs.lemmas.List.Elements.{All-contains, Contains-append_left, Contains-get_or, Contains-push}
+use Rattle.mq_blocks.specs.Geometry.{queues_of}
+use Rattle.mq_blocks.specs.declared.geometry.Geometry.{Geometry}
+use Rattle.mq_exec.specs.Plans.{HoldsMake, PlansMake, made_entry}
+use Rattle.mq_exec.specs.declared.make.Creation.{Creation}
+use Rattle.mq_exec.proofs.Linkable.{IsLinkable, link-kept, link-same, takeables}
+use Rattle.mq_inodes.specs.Changes.{AreOthers}
+use Rattle.mq_inodes.specs.Dirs.{AreDirsAt}
+use Rattle.mq_inodes.specs.Edits.{Becomes, IsOver}
+use Rattle.mq_inodes.specs.Fits.{Agrees}
+use Rattle.mq_inodes.specs.Opened.{HoldsPointers, MayLink}
+use Rattle.mq_inodes.specs.Pages.{IsHeld, Pages, pages_of}
+use Rattle.mq_inodes.specs.Picks.{ArePicked, IsMarkable}
+use Rattle.mq_inodes.specs.Bare.{with_inode}
+use Rattle.mq_inodes.specs.declared.opened.Opened.{Opened}
+use Rattle.mq_inodes.specs.declared.working.Working.{Working}
+use Rattle.mq_inodes.proofs.Held.{meta-held}
+use Rattle.mq_inodes.proofs.LocalFrame.{taken-same}
+use Rattle.mq_inodes.proofs.LocalInodes.{bare}
+use Rattle.mq_inodes.proofs.LocalVolumes.{free-bare}
+use Rattle.mq_layout.specs.Places.{inode_bitmap, inode_block, inodes_of}
+use Rattle.mq_layout.specs.Slots.{Entry}
+use Rattle.mq_tree.specs.Sound.{IsSound}
+use Rattle.mq_tree.specs.Volume.{Body, Free, Dir, Node, Path, Volume, body, has_block, node}
+use Rattle.mq_tree.proofs.KeepUses.{node-here, node-other}
+
+-- ---- an inode more
+
+free-not-dir : (v : Volume) (d i : ℕ) (slots : List (Option Entry)) → body v d ≡ Dir slots → body v i ≡ Free → d ≢ i
+free-not-dir v d i slots is free e = free-dir (sym free ∙ ap (λ (x : ℕ). body v x) (sym e) ∙ is)
+  where
+    free-dir : Free ≡ Dir slots → ⊥
+    free-dir f = cc
+
+pub made-link : (g : Geometry) (q : ℕ) (v : Volume) (i : ℕ) (y : Body) (o : Opened) (entry : Entry) (picks : List ℕ) → IsSound g v → i < inodes_of g → body v i ≡ Free → MayLink g q v o entry picks → MayLink g q (with_inode v i y) o entry picks
+made-link g q v i y o entry picks sound low free h =
+    let w = with_inode v i y in
+    let inside : i < length v = (let c = sound.count in omega arith) in
+    let others : AreOthers v w i = λ x other. node-other v i x (bare y) other in
+    let none = free-bare (node v i) (sound.nodes i) free in
+    let here : node w i ≡ bare y = node-here v i (bare y) inside in
+    let has : (x : ℕ) → has_block (node v i) x ≡ has_block (node w i) x = λ x. lacks (node v i) x none.0 none.1 ∙ sym (lacks (node w i) x (ap (λ (n : Node). n.blocks) here) (ap (λ (n : Node). n.indirect) here)) in
+    link-same g q v w o entry picks (node-other v i o.number (bare y) (free-not-dir v o.number i h.slots h.is free)) (λ x. sym (taken-same v w i x others (has x))) h
+  where
+    lacks : (n : Node) (x : ℕ) → n.blocks ≡ [] → n.indirect ≡ None → has_block n x ≡ false
+    lacks n x bs ind = ap (λ (xs : List ℕ). has_block (record { body = n.body; blocks = xs; indirect = n.indirect }) x) bs ∙ ap (λ (p : Option ℕ). has_block (record { body = n.body; blocks = []; indirect = p }) x) ind
+
+-- ---- pages
+
+pub holds-make : (g : Geometry) (q : ℕ) (pages : Pages) (v : Volume) (m : Creation) (d need : ℕ) (known : List ℕ) → Agrees g pages v → q < queues_of g → m.directory.number ≡ d → AreDirsAt pages m.directory.blocks.items → length m.directory.blocks.items ≤ 1036 → IsHeld pages (inode_block g d)
+    → HoldsPointers pages m.directory → IsHeld pages (inode_bitmap g) → m.inode < inodes_of g → ArePicked g q v need m.picks.items → All (IsMarkable g pages) m.picks.items → known ≡ m.picks.items ++ inode_block g m.inode ∷ [] → All (λ b. pages b ≢ None) known → HoldsMake g pages m
+holds-make g q pages v m d need known agrees low same dirs few table pointers marks inode picked markable e all = record {
+  dirs = dirs;
+  few = few;
+  table = subst (λ (x : ℕ). IsHeld pages (inode_block g x)) (sym same) table;
+  pointers = pointers;
+  picks = takeables g q pages v need m.picks.items agrees.fits low picked markable (λ k x l. every _ (Contains-append_left m.picks.items (inode_block g m.inode ∷ []) _ (Contains-get_or m.picks.items k x l)));
+  marks = marks;
+  inode = meta-held g pages v (inode_block g m.inode) agrees.fits (omega arith) (every _ (Contains-push m.picks.items (inode_block g m.inode)));
+}
+  where
+    every : (b : ℕ) → Contains (m.picks.items ++ inode_block g m.inode ∷ []) b → pages b ≢ None
+    every b c = All-contains (λ x. pages x ≢ None) known b all (subst (λ (bs : List ℕ). Contains bs b) (sym e) c)
+
+pub made-linkable : (g : Geometry) (q : ℕ) (v : Volume) (y : Body) (path : Path) (m : Creation) (old new : Working) → Agrees g (pages_of old) v → PlansMake g q v y path m → HoldsMake g (pages_of old) m → IsOver old new → Becomes g v (with_inode v m.inode y) old new
+    → IsLinkable g m.directory m.picks.items (pages_of new)
+made-linkable g q v y path m old new agrees plan holds over becomes =
+    link-kept g q (with_inode v m.inode y) m.directory (made_entry path m) m.picks.items old new becomes.carries over (made-link g q v m.inode y m.directory _ m.picks.items agrees.sound plan.low plan.free plan.link)
+    (record { dirs = holds.dirs; takes = holds.picks; table = holds.table; pointers = holds.pointers })

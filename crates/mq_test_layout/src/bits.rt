@@ -1,0 +1,51 @@
+// Bits of bitmaps, and pointers.
+use crate::samples::{is_with, with};
+use mq_blocks::{Block, OutOfMemory};
+use mq_layout::{bit, first_clear, pointer, set_bit, set_pointer};
+
+#[test]
+fn bits_and_pointers_stand_in_their_places(rt: HostRuntime) -> Result<(), OutOfMemory> {
+    let mut block = Block::zeroed(rt.alloc())?;
+    for (at, value) in [(0, true), (11, true), (12, true), (11, false)] {
+        set_bit(&mut block, at, value);
+    }
+    assert!(rt; is_with(rt.alloc(), &block, 0, &[0x01, 0x10]));
+    assert!(rt; bit(&block, 12) && !bit(&block, 11));
+    block.clear();
+    set_pointer(&mut block, 1023, 258);
+    assert!(rt; is_with(rt.alloc(), &block, 4092, &[2, 1]));
+    assert_eq!(rt; pointer(&block, 1023), 258);
+    Ok(())
+}
+
+/// Whether the first clear bit of each range is this one.
+fn are_first(block: &Block, cases: &[(u32, u32, Option<u32>)]) -> bool {
+    for (from, end, wanted) in cases {
+        if *end > 32768 || first_clear(block, *from, *end) != *wanted {
+            return false;
+        }
+    }
+    true
+}
+
+#[test]
+fn first_clear_bit_is_found(rt: HostRuntime) -> Result<(), OutOfMemory> {
+    // Bits 19 and 32 are the first that are clear.
+    let mut block = with(rt.alloc(), 0, &[0xff, 0xff, 0xf7, 0xff, 0x02])?;
+    let cases = [
+        (0, 32768, Some(19)),
+        (13, 20, Some(19)),
+        (13, 19, None),
+        (20, 32768, Some(32)),
+        (21, 30, None),
+        (33, 33, None),
+        (33, 35, Some(34)),
+        (35, 33, None),
+    ];
+    assert!(rt; are_first(&block, &cases));
+    block.fill(0xff);
+    assert!(rt; are_first(&block, &[(0, 32768, None)]));
+    set_bit(&mut block, 32767, false);
+    assert!(rt; are_first(&block, &[(0, 32767, None), (7, 32768, Some(32767))]));
+    Ok(())
+}
