@@ -55,16 +55,20 @@ done_below base w t ts (u ∷ txs) n (inr deeper) l =
 
 -- ---- the front moves with what is done
 
-pub record DoneMore (old new : Tx → List Tx → Bool) : Type 0 where
-  pub each : (t : Tx) (ts : List Tx) → old t ts ≡ true → new t ts ≡ true
+-- of the transactions of the history, those that were done are done
+pub record DoneMore (old new : Tx → List Tx → Bool) (h : List Tx) : Type 0 where
+  pub each : (t : Tx) (ts : List Tx) → IsAt t ts h → old t ts ≡ true → new t ts ≡ true
 
-pub all_done_more : (old new : Tx → List Tx → Bool) (h : List Tx) → DoneMore old new → all_of old h ≡ true → all_of new h ≡ true
+done_rest : (old new : Tx → List Tx → Bool) (t : Tx) (ts : List Tx) → DoneMore old new (t ∷ ts) → DoneMore old new ts
+done_rest old new t ts m = record { each = λ u us at. m.each u us (inr at) }
+
+pub all_done_more : (old new : Tx → List Tx → Bool) (h : List Tx) → DoneMore old new h → all_of old h ≡ true → all_of new h ≡ true
 all_done_more old new [] m all = refl
 all_done_more old new (t ∷ ts) m all =
     let k = and_parts _ _ all in
-    and_from _ _ (m.each t ts k.0) (all_done_more old new ts m k.1)
+    and_from _ _ (m.each t ts (inl (refl, refl)) k.0) (all_done_more old new ts (done_rest old new t ts m) k.1)
 
-pub part_more : (old new : Tx → List Tx → Bool) (h : List Tx) → DoneMore old new → length (part_of old h) ≤ length (part_of new h)
+pub part_more : (old new : Tx → List Tx → Bool) (h : List Tx) → DoneMore old new h → length (part_of old h) ≤ length (part_of new h)
 part_more old new [] m = omega arith
 part_more old new (t ∷ ts) m =
     elim (cases_Bool (all_of new (t ∷ ts))) [
@@ -74,7 +78,7 @@ part_more old new (t ∷ ts) m =
             | inl d ↦ absurd (false≢true (sym e ∙ all_done_more old new (t ∷ ts) m d))
             | inr d ↦ d
           ] in
-          rw (part-less new t ts e, part-less old t ts e') (part_more old new ts m)
+          rw (part-less new t ts e, part-less old t ts e') (part_more old new ts (done_rest old new t ts m))
     ]
 
 pub part_full : (w : Tx → List Tx → Bool) (h : List Tx) → length h ≤ length (part_of w h) → all_of w h ≡ true

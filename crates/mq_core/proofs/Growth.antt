@@ -232,7 +232,7 @@ side_extends k q t txs p part new s room =
 
 -- ---- more is known to be done
 
-module _ (k : KnownJournal) (done : Tx → List Tx → Bool) (log : LogOk k) (more : DoneMore k.done done) where
+module _ (k : KnownJournal) (done : Tx → List Tx → Bool) (log : LogOk k) (more : DoneMore k.done done k.history) where
   abbrev pub done_known : KnownJournal
   done_known = record k { done = done }
 

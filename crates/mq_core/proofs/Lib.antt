@@ -1,20 +1,20 @@
 pub mod Fronts
-mod Commands
-mod Ports
-mod Sources
-mod SideEvents
-mod SideCommands
+pub mod Commands
+pub mod Ports
+pub mod Sources
+pub mod SideEvents
+pub mod SideCommands
 pub mod Growth
-mod Homes
+pub mod Homes
 pub mod Bases
 mod StatePorts
-mod StateEvents
-mod StateBases
+pub mod StateEvents
+pub mod StateBases
 mod Goodness
 mod Reading
 mod Cuts
 mod Unique
-mod Safe
+pub mod Safe
 pub mod Runs
 mod Lifts
 mod Insides

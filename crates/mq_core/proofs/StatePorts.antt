@@ -50,9 +50,9 @@ module _ (e : Entries) (s : State) (f : Facts e s) (q : ℕ) (own : q < s.geomet
     abbrev now : Tx → List Tx → Bool
     now = is_done s.starts (set s.ports q p)
 
-    more : DoneMore k.done now
+    more : DoneMore k.done now s.history
     more = record {
-      each = λ t ts d. le-leb _ _ (elim (cases_eq t.queue q) [
+      each = λ t ts at d. le-leb _ _ (elim (cases_eq t.queue q) [
         | inl same ↦ (let l = leb-true _ _ d in let h : (port_at s.ports t.queue).head ≤ (port_at (set s.ports q p) t.queue).head = rw (same, port_same s.ports q p within) higher in omega arith)
         | inr other ↦ rw (port_other s.ports q t.queue p other) (leb-true _ _ d)
       ]);
@@ -126,7 +126,7 @@ module _ (e : Entries) (s : State) (f : Facts e s) (q : ℕ) (own : q < s.geomet
           sides = sides;
           root = root_more k now f.log more s.root f.root;
           marks = λ t ts at d. elim (cases_Bool (is_done s.starts s.ports t ts)) [
-            | inl was ↦ absurd (false≢true (sym d ∙ more.each t ts was))
+            | inl was ↦ absurd (false≢true (sym d ∙ more.each t ts at was))
             | inr undone ↦ f.marks t ts at undone
           ];
           writing = λ x h. unders x h (f.writing x h);

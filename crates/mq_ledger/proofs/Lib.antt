@@ -11,3 +11,4 @@ mod Lookups
 mod Stages
 mod Nexts
 mod Draws
+pub mod Written

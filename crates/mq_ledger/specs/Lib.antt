@@ -8,3 +8,4 @@ pub mod Records
 pub mod Tables
 pub mod Form
 pub mod Staged
+pub mod Written

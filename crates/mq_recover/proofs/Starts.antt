@@ -2,25 +2,21 @@
 use Rattle.std.proofs.Common.{◌≡◌, ◌<◌, ◌≤◌, ℕ, zero, suc, ◌-◌, ◌%◌, ◌^◌, true, List, [], ◌∷◌, map, Option, Some, None, get_or, refl, sym, ◌∙◌, ap, subst, arith}
 use Rattle.std.proofs.lemmas.List.{length-replicate, get_or-replicate}
 use Rattle.mq_nvme.specs.Says.{says}
-use Rattle.mq_nvme.proofs.Saying.{says-entry}
 use Rattle.mq_blocks.specs.Blocks.{block_at}
 use Rattle.mq_blocks.specs.Drive.{PortState, PortImage}
 use Rattle.mq_blocks.specs.Geometry.{homes_of, zone_of}
 use Rattle.mq_blocks.specs.Journal.{IsQueueChain, number_limit}
 use Rattle.mq_blocks.specs.declared.geometry.Geometry.{Geometry}
-use Rattle.mq_ledger.specs.Items.{AreRead}
 use Rattle.mq_ledger.specs.Sides.{AreHome, home_index, home_index_in, flushed_at}
 use Rattle.mq_ledger.specs.State.{IsStartPort, known_of, port_at, from_at}
 use Rattle.mq_recover.specs.Drives.{DriveState, IsQuiescentPort, IsQuiescentDrive, view_over}
 use Rattle.mq_recover.specs.Recovery.{IsRead, IsStartDrive, started}
-use Rattle.mq_recover.specs.Written.{journal_entries}
+use Rattle.mq_ledger.specs.Written.{journal_entries}
+use Rattle.mq_ledger.proofs.Written.{entries_read}
 use Rattle.mq_recover.proofs.CutImages.{newest-low}
 use Rattle.mq_recover.proofs.RecoverCuts.{staged-same}
 use Rattle.mq_recover.proofs.RecoverStages.{apart-none}
 use Rattle.mq_recover.proofs.Zones.{IsZone, port_in, role_in, image-at, view-home, placed-in, port-of}
-
-read-entries : AreRead journal_entries
-read-entries slot s may = says-entry (record { tx = s.0; slot = slot; lba = s.1; commit = s.2 }) (record { slot = may.slot; tx_low = may.number_low; tx_high = may.number_high; lba = may.lba })
 
 from-at : (ports : List PortState) (q : ℕ) → from_at (map (λ p. p.doorbell) ports) q ≡ (port_at ports q).doorbell
 from-at [] q = refl
@@ -91,7 +87,7 @@ pub starts : (g : Geometry) (d : DriveState) (base : ℕ) → IsQuiescentDrive g
 starts g d base still heads read base_is start long holds =
     let limit = read.whole.limit in
     record {
-      entries = read-entries;
+      entries = entries_read;
       history = refl;
       low = limit;
       base = refl;

@@ -8,4 +8,3 @@ pub mod Recovery
 pub mod Refusals
 pub mod Standing
 pub mod Steps
-pub mod Written

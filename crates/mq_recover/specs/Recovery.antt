@@ -8,7 +8,7 @@ use Rattle.mq_blocks.specs.Journal.{Shown, shown, AreWhole, IsPrefix, IsTop, sta
 use Rattle.mq_blocks.specs.declared.geometry.Geometry.{Geometry}
 use Rattle.mq_ledger.specs.State.{State, IsStart, port_at}
 use Rattle.mq_recover.specs.Drives.{DriveState, IsQuiescentDrive, AreImages, view_over}
-use Rattle.mq_recover.specs.Written.{journal_entries}
+use Rattle.mq_ledger.specs.Written.{journal_entries}
 
 -- An image is readable: the descriptors of its prefix, newest first, and the greatest number that it
 -- shows.
