@@ -12,14 +12,14 @@ pub mod StateEvents
 pub mod StateBases
 mod Goodness
 mod Reading
-mod Cuts
+pub mod Cuts
 mod Unique
 pub mod Safe
 pub mod Runs
 mod Lifts
 mod Insides
 mod Settling
-mod HomeWrites
+pub mod HomeWrites
 mod Tellings
 mod HomeCalls
 mod BaseTests
