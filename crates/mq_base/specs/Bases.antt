@@ -29,11 +29,18 @@ pub record IsKeptAtHome (k : KnownJournal) (b x : ℕ) : Type 0 where
 -- The block's content after the base is kept at home, or was written directly, or a number above the base and up to
 -- the front changed the block.
 abbrev pub IsAtHome : KnownJournal → ℕ → ℕ → Type 0
-IsAtHome k b x = IsKeptAtHome k b x ⊎ (WroteDirectly k.history x (last k.base (upto b k.history) x) ⊎ (b < last k.base (upto (front k) k.history) x))
+IsAtHome k b x =
+    IsKeptAtHome k b x
+    ⊎ (WroteDirectly k.history x (last k.base (upto b k.history) x)
+    ⊎ (b < last k.base (upto (front k) k.history) x))
 
 -- the blocks below n that are in the map after the base
 abbrev pub AreAtHome : KnownJournal → ℕ → ℕ → Type 0
-AreAtHome k b n = (x : ℕ) (content : List ℕ) → x < n → map_after k.start (upto b k.history) x ≡ Some content → IsAtHome k b x
+AreAtHome k b n =
+    (x : ℕ) (content : List ℕ)
+    → x < n
+    → map_after k.start (upto b k.history) x ≡ Some content
+    → IsAtHome k b x
 
 -- the number is a base: it is from the first base up to the front, and all home blocks of the map after it are at home
 pub record BaseOk (k : KnownJournal) (b : ℕ) : Type 0 where

@@ -30,11 +30,21 @@ FrontsStay = (k l : KnownJournal) → HasGrown k l → front k ≤ front l
 
 -- a number whose whole map is kept at home
 abbrev pub KeptMapsAreBases : Type 0
-KeptMapsAreBases = (k : KnownJournal) (b : ℕ) → LogOk k → k.base ≤ b → b ≤ front k → ((x : ℕ) → k.due x b ≡ true) → BaseOk k b
+KeptMapsAreBases =
+    (k : KnownJournal) (b : ℕ)
+    → LogOk k
+    → k.base ≤ b
+    → b ≤ front k
+    → ((x : ℕ) → k.due x b ≡ true)
+    → BaseOk k b
 
 -- as that at the opening is
 abbrev pub FirstBasesAreBases : Type 0
-FirstBasesAreBases = (k : KnownJournal) (ended : List (ℕ × ℕ)) → LogOk k → k.due ≡ due_by k.base ended → BaseOk k k.base
+FirstBasesAreBases =
+    (k : KnownJournal) (ended : List (ℕ × ℕ))
+    → LogOk k
+    → k.due ≡ due_by k.base ended
+    → BaseOk k k.base
 
 -- the greater one of two bases
 abbrev pub GreaterBasesAreBases : Type 0
@@ -59,15 +69,33 @@ PagesGoOn =
 
 -- so many pages stay at home, whatever others do meanwhile
 abbrev pub PagesStay : Type 0
-PagesStay = (k l : KnownJournal) (b n : ℕ) → LogOk k → LogOk l → HasGrown k l → b ≤ front k → AreAtHome k b n → AreAtHome l b n
+PagesStay =
+    (k l : KnownJournal) (b n : ℕ)
+    → LogOk k
+    → LogOk l
+    → HasGrown k l
+    → b ≤ front k
+    → AreAtHome k b n
+    → AreAtHome l b n
 
 -- and once it is all of them, the number is a base
 abbrev pub PagesEnd : Type 0
-PagesEnd = (k : KnownJournal) (b : ℕ) → k.base ≤ b → b ≤ front k → AreAtHome k b (homes_of k.geometry) → BaseOk k b
+PagesEnd =
+    (k : KnownJournal) (b : ℕ)
+    → k.base ≤ b
+    → b ≤ front k
+    → AreAtHome k b (homes_of k.geometry)
+    → BaseOk k b
 
 -- each page needed no home write at some moment after the number was done
 abbrev pub NotesMakeABase : Type 0
-NotesMakeABase = (k : KnownJournal) (b : ℕ) → LogOk k → k.base ≤ b → b ≤ front k → AreBrought k b → BaseOk k b
+NotesMakeABase =
+    (k : KnownJournal) (b : ℕ)
+    → LogOk k
+    → k.base ≤ b
+    → b ≤ front k
+    → AreBrought k b
+    → BaseOk k b
 
 -- ---- a checkpoint that holds all pages at once
 
@@ -84,11 +112,22 @@ StoppedPagesMakeABase =
 
 -- a number up to which each queue is done is not above the front
 abbrev pub DoneQueuesReachTheFront : Type 0
-DoneQueuesReachTheFront = (k : KnownJournal) (n : ℕ) → LogOk k → n ≤ k.base + length k.history → AreDoneTo k n k.geometry.queues → n ≤ front k
+DoneQueuesReachTheFront =
+    (k : KnownJournal) (n : ℕ)
+    → LogOk k
+    → n ≤ k.base + length k.history
+    → AreDoneTo k n k.geometry.queues
+    → n ≤ front k
 
 -- a queue that was done up to a drawn number stays so
 abbrev pub DoneQueuesStay : Type 0
-DoneQueuesStay = (k l : KnownJournal) (q n : ℕ) → LogOk l → HasGrown k l → n ≤ k.base + length k.history → IsDoneTo k q n → IsDoneTo l q n
+DoneQueuesStay =
+    (k l : KnownJournal) (q n : ℕ)
+    → LogOk l
+    → HasGrown k l
+    → n ≤ k.base + length k.history
+    → IsDoneTo k q n
+    → IsDoneTo l q n
 
 -- ---- the numbers of a page
 
@@ -123,13 +162,17 @@ WaitingPagesWereLogged =
     → IsToBring k ended x version logged home
     → ((v : ℕ) → k.due x v ≡ true → v < last k.base k.history x)
     × (last k.base k.history x ≤ front k)
-    × ((t : Tx) (ts : List Tx) → IsAt t ts k.history → t.number ≡ last k.base k.history x → is_among x (blocks_of t.logged) ≡ true)
+    × ((t : Tx) (ts : List Tx)
+    → IsAt t ts k.history
+    → t.number ≡ last k.base k.history x
+    → is_among x (blocks_of t.logged) ≡ true)
 
 -- A home write of the page, of any bytes, begins: what holds of its port still holds, though more is not known. So it
 -- does if the home write fails or is cut off.
 abbrev pub HomeWritesBegin : Type 0
 HomeWritesBegin =
-    (k : KnownJournal) (ended : List (ℕ × ℕ)) (x version logged home : ℕ) (block : List ℕ) (q : ℕ) (txs : List Tx) (p : PortState)
+    (k : KnownJournal) (ended : List (ℕ × ℕ)) (x version logged home : ℕ) (block : List ℕ)
+    (q : ℕ) (txs : List Tx) (p : PortState)
     → LogOk k
     → IsToBring k ended x version logged home
     → zone_of k.geometry x ≡ Some q
@@ -149,12 +192,14 @@ RootHomeWritesBegin =
 -- it ends, and is not yet told: the block is at home with its bytes
 abbrev pub HomeWritesEnd : Type 0
 HomeWritesEnd =
-    (k : KnownJournal) (ended : List (ℕ × ℕ)) (x version logged home : ℕ) (block : List ℕ) (q : ℕ) (txs : List Tx) (p : PortState)
+    (k : KnownJournal) (ended : List (ℕ × ℕ)) (x version logged home : ℕ) (block : List ℕ)
+    (q : ℕ) (txs : List Tx) (p : PortState)
     → LogOk k
     → IsToBring k ended x version logged home
     → zone_of k.geometry x ≡ Some q
     → SideOk k q txs p
-    → SideOk k q txs (end_home k.geometry x block p) × Certainly (end_home k.geometry x block p) (home_index k.geometry x) block
+    → SideOk k q txs (end_home k.geometry x block p)
+    × Certainly (end_home k.geometry x block p) (home_index k.geometry x) block
 
 abbrev pub RootHomeWritesEnd : Type 0
 RootHomeWritesEnd =
@@ -164,7 +209,8 @@ RootHomeWritesEnd =
     → zone_of k.geometry x ≡ None
     → x < homes_of k.geometry
     → RootOk k p
-    → RootOk k (end_home k.geometry x block p) × Certainly (end_home k.geometry x block p) (home_index k.geometry x) block
+    → RootOk k (end_home k.geometry x block p)
+    × Certainly (end_home k.geometry x block p) (home_index k.geometry x) block
 
 -- It is told, where its bytes were the page's content: the history, its port, and each other port.
 abbrev pub ToldLogsHold : Type 0
@@ -176,7 +222,8 @@ ToldLogsHold =
 
 abbrev pub ToldSidesHold : Type 0
 ToldSidesHold =
-    (k : KnownJournal) (ended : List (ℕ × ℕ)) (x version logged home : ℕ) (block : List ℕ) (q : ℕ) (txs : List Tx) (p : PortState)
+    (k : KnownJournal) (ended : List (ℕ × ℕ)) (x version logged home : ℕ) (block : List ℕ)
+    (q : ℕ) (txs : List Tx) (p : PortState)
     → LogOk k
     → IsToBring k ended x version logged home
     → map_after k.start k.history x ≡ Some block
@@ -218,13 +265,18 @@ abbrev pub ToldPagesAreNumbered : Type 0
 ToldPagesAreNumbered =
     (k : KnownJournal) (ended : List (ℕ × ℕ)) (x version logged home : ℕ)
     → IsToBring k ended x version logged home
-    → (home_number (told k ended x version) ((x, version) ∷ ended) x ≡ version) × IsNumbered (told k ended x version) x version logged version
+    → (home_number (told k ended x version) ((x, version) ∷ ended) x ≡ version)
+    × IsNumbered (told k ended x version) x version logged version
 
 -- ---- the root
 
 -- a base is stored, if the stored one isn't greater
 abbrev pub BasesAreStored : Type 0
-BasesAreStored = (k : KnownJournal) (b : ℕ) (p : PortState) → RootStands k p → BaseOk k b → RootStands k (after_store_base p (max b p.stored_base))
+BasesAreStored =
+    (k : KnownJournal) (b : ℕ) (p : PortState)
+    → RootStands k p
+    → BaseOk k b
+    → RootStands k (after_store_base p (max b p.stored_base))
 
 -- and flushed
 abbrev pub BasesAreFlushed : Type 0

@@ -4,9 +4,12 @@ ghost use Rattle.mq_base.specs.Laws.{KeptMapsAreBases, FirstBasesAreBases, Great
 ghost use Rattle.mq_base.specs.Laws.{PagesBegin, PagesGoOn, PagesStay, PagesEnd};
 ghost use Rattle.mq_base.specs.Laws.{NotesMakeABase, StoppedPagesMakeABase};
 ghost use Rattle.mq_base.specs.Laws.{DoneQueuesReachTheFront, DoneQueuesStay, CellsAreNumbered};
-ghost use Rattle.mq_base.specs.Laws.{WaitingPagesWereLogged, WaitingPagesAreAboveBases, HomeWritesBegin, RootHomeWritesBegin, HomeWritesEnd, RootHomeWritesEnd};
-ghost use Rattle.mq_base.specs.Laws.{ToldLogsHold, ToldSidesHold, ToldRootsHold, OtherSidesHold, OtherRootsHold, ToldPagesAreNumbered};
-ghost use Rattle.mq_base.specs.Laws.{BasesAreStored, BasesAreFlushed, RaisedLogsHold, RaisedSidesHold, RaisedRootsHold};
+ghost use Rattle.mq_base.specs.Laws.{WaitingPagesWereLogged, WaitingPagesAreAboveBases, HomeWritesBegin};
+ghost use Rattle.mq_base.specs.Laws.{RootHomeWritesBegin, HomeWritesEnd, RootHomeWritesEnd};
+ghost use Rattle.mq_base.specs.Laws.{ToldLogsHold, ToldSidesHold, ToldRootsHold, OtherSidesHold};
+ghost use Rattle.mq_base.specs.Laws.{OtherRootsHold, ToldPagesAreNumbered};
+ghost use Rattle.mq_base.specs.Laws.{BasesAreStored, BasesAreFlushed, RaisedLogsHold, RaisedSidesHold};
+ghost use Rattle.mq_base.specs.Laws.{RaisedRootsHold};
 
 /// What is known grows while transactions are drawn and done, home writes end, and the base word is
 /// raised. A base stays one, and the front never falls.
