@@ -12,7 +12,7 @@ pub mod StateEvents
 pub mod StateBases
 mod Goodness
 mod Reading
-mod Cuts
+pub mod Cuts
 pub mod Safe
 pub mod Runs
 mod Lifts

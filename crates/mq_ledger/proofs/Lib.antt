@@ -13,3 +13,4 @@ mod Lookups
 mod Stages
 mod Nexts
 mod Draws
+pub mod Written

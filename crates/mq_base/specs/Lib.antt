@@ -1,0 +1,5 @@
+pub mod Grown
+pub mod Bases
+pub mod Pages
+pub mod Claims
+pub mod Laws
