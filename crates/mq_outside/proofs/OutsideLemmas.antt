@@ -1,6 +1,6 @@
 -- Lemmas on files and sinks.
 use Rattle.std.proofs.Common.{◌≡◌, inl, inr, ℕ, zero, suc, ◌+◌, ◌<◌, ◌≤◌, Bool, true, false, cond, List, [], ◌∷◌, ◌++◌, length, take, drop, get_or, refl, sym, subst, ap, ◌∙◌, append_assoc, arith}
-use Rattle.std.specs.Prelude.{Option, None, Some, find, position}
+use Rattle.std.specs.Prelude.{Option, None, Some, Result, Ok, Err, IfOk, IsErr, OnOk, find, position}
 use Rattle.std.specs.List.{position_or_len}
 use Rattle.std.proofs.Math.ListN.{set}
 use Rattle.std.proofs.Math.Dec.{ltb}
@@ -152,3 +152,12 @@ certain_in-put {Y} old new name bytes puts =
           ap (λ held. Some (unwrap_or held [])) (put_held-other (held_in old) name bytes other apart)
           ∙ sym (put_held-other (certain_in old) name bytes other apart)
     ]
+
+-- what holds of the reader that was opened holds of some reader
+pub opened-some : {F E T D : Type 0} (opened : Result F E) (r : Result T D) (same : Type 0) (P : F → Type 0) → (IsErr opened → IsErr r × same) → IfOk opened (λ f. OnOk r (P f)) → OnOk r ((f : F) × P f)
+opened-some (Ok f) (Ok u) same P refused all = (f, all)
+opened-some (Ok f) (Err e) same P refused all = tt
+opened-some (Err e) (Ok u) same P refused all = absurd (no (refused refl).0) where
+  no : false ≡ true → ⊥
+  no e = cc
+opened-some (Err e) (Err d) same P refused all = tt

@@ -55,7 +55,7 @@ fn read_opened<F: Read + Drop>(
     requires { length bytes.old.items ≤ load_limit }
     ensures within { OnOk result (length bytes.new.items ≤ load_limit) }
     ensures over { IsErrOf result LoadRefusal.TooLong → load_limit < length bytes.new.items }
-    ensures refused { IsErr opened → IsErr result }
+    ensures refused { IsErr opened → IsErr result × (bytes.new ≡ bytes.old) }
     ensures all { IfOk opened (λ f. OnOk result
         (IfSome (F.remaining f) (λ rest. bytes.new.items ≡ bytes.old.items ++ rest))) }
 {
@@ -69,11 +69,13 @@ fn read_opened<F: Read + Drop>(
     }
 }
 
-// Takes the bytes of the file with this name.
+// Takes the bytes of the file with this name. On success a file was opened and read to its end.
 fn read_file<R: rt::Files>(rt: &R, name: &str, bytes: &mut Vec<u8>) -> Result<(), LoadRefusal>
     requires { length bytes.old.items ≤ load_limit }
     ensures within { OnOk result (length bytes.new.items ≤ load_limit) }
     ensures over { IsErrOf result LoadRefusal.TooLong → load_limit < length bytes.new.items }
+    ensures all { OnOk result ((opened : R.File) × IfSome (R.File.Read.remaining opened)
+        (λ rest. bytes.new.items ≡ bytes.old.items ++ rest)) }
 {
     read_opened(File::open(rt, name), bytes)
 }
@@ -108,10 +110,13 @@ fn write_made<W: Write + Drop>(made: io::Result<W>, bytes: &[u8]) -> Result<W, S
     }
 }
 
-// Makes the file with this name hold the bytes.
-fn write_file<R: rt::Files>(rt: &R, name: &str, bytes: &[u8]) -> Result<(), SaveRefusal> {
-    let _file = write_made(File::create(rt, name), bytes)?;
-    Ok(())
+// Makes the file with this name hold the bytes, and hands it back. On success a file was made, and
+// all the bytes were written to it.
+fn write_file<R: rt::Files>(rt: &R, name: &str, bytes: &[u8]) -> Result<R::File, SaveRefusal>
+    ensures all { IfOk result (λ new. (made : R.File) × Appends (R.File.Write.contents made)
+        (R.File.Write.contents new) bytes.now) }
+{
+    write_made(File::create(rt, name), bytes)
 }
 
 /// The files of a runtime.
@@ -159,7 +164,7 @@ impl<R: rt::Files> Files for RealFiles<R> {
 
     fn save(&mut self, name: &str, bytes: &[u8]) -> Result<(), SaveRefusal> {
         match write_file(&self.rt, name, bytes) {
-            Ok(()) => Ok(()),
+            Ok(_) => Ok(()),
             Err(SaveRefusal::Failed) => {
                 self.faults = counted(self.faults);
                 Err(SaveRefusal::Failed)

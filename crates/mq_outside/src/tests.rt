@@ -1,6 +1,9 @@
 // Each form called through its trait once, and what no contract says.
 use super::*;
 use std::alloc::{AllocError, Global};
+use std::io::Write;
+use std::os::fd::AsRawFd;
+use std::test::Fail;
 use std::{fs, io};
 
 // Whether a load gave these bytes.
@@ -86,16 +89,40 @@ fn the_system_loads_what_was_saved(rt: HostRuntime) -> Result<(), AllocError> {
     // more bytes than the system takes or gives at a time
     let bytes = vec![in alloc; 7; 300_000]?;
     let mut files = RealFiles::new(&rt);
-    assert!(rt; matches!(files.load(alloc, "image"), Err(LoadRefusal::Failed)));
     assert!(rt; files.save("image", bytes.as_slice()).is_ok());
     assert!(rt; gave(files.load(alloc, "image"), bytes.as_slice()));
     assert!(rt; files.save("image", b"short").is_ok());
     assert!(rt; gave(files.load(alloc, "image"), b"short"));
-    assert!(rt; matches!(files.save("no/such/folder", b""), Err(SaveRefusal::Failed)));
-    // a folder can be opened, and not read
-    assert!(rt; matches!(files.load(alloc, "."), Err(LoadRefusal::Failed)));
-    assert!(rt; matches!(files.save(".", b""), Err(SaveRefusal::Failed)));
     assert!(rt; fs::remove_file(&rt, "image").is_ok());
+    Ok(())
+}
+
+// A name that is absent, one in a folder that is absent, a folder, which is opened and not read, and a
+// name below a file. Files without leave to be read are no case: a test may run with every leave.
+#[test]
+fn the_system_fails_where_no_file_can_be(rt: HostRuntime) {
+    let alloc = rt.alloc();
+    let mut files = RealFiles::new(&rt);
+    assert!(rt; files.save("file", b"bytes").is_ok());
+    for name in ["absent", "absent/name", ".", "file/name"] {
+        assert!(rt; matches!(files.load(alloc, name), Err(LoadRefusal::Failed)));
+    }
+    for name in ["absent/name", ".", "file/name"] {
+        assert!(rt; matches!(files.save(name, b"bytes"), Err(SaveRefusal::Failed)));
+    }
+    assert!(rt; fs::remove_file(&rt, "file").is_ok());
+}
+
+// A pipe of this process, which has a name while it is open, and gives its bytes in parts.
+#[test]
+fn the_system_loads_from_a_pipe(rt: HostRuntime) -> Result<(), Fail> {
+    let alloc = rt.alloc();
+    let bytes = vec![in alloc; 9; 40_000]?;
+    let (reader, mut writer) = io::pipe(&rt)?;
+    writer.write_all(bytes.as_slice())?;
+    drop(writer);
+    let name = format!(in alloc; "/dev/fd/{}", reader.as_raw_fd())?;
+    assert!(rt; gave(RealFiles::new(&rt).load(alloc, &name), bytes.as_slice()));
     Ok(())
 }
 
