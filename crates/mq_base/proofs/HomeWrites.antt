@@ -13,7 +13,7 @@ use Rattle.mq_ledger.specs.Items.{Target, AtPlace, AtHome, lba_of, item_at}
 use Rattle.mq_ledger.specs.KnownJournal.{KnownJournal, LogOk, front}
 use Rattle.mq_ledger.specs.Sides.{SideOk, RootOk, AreHome, Certainly, holds_count, home_index}
 use Rattle.mq_ledger.specs.declared.tx.Tx.{Tx}
-use Rattle.mq_ledger.proofs.Among.{apart_among}
+use Rattle.mq_blocks.proofs.Among.{apart-not_among}
 use Rattle.mq_ledger.proofs.Values.{last-changed, last-same, last_at, last_settled, value_settled, last_upto_le, at_most, among_written, changes_direct, changes_logged}
 use Rattle.mq_core.specs.Events.{begin_home, end_home}
 use Rattle.mq_core.proofs.Bases.{log_based, side_based}
@@ -95,7 +95,7 @@ above_base k b x content log ok u block there = elim (cases_lt b (last k.base k.
         | inr (inl w) ↦
             let number : w.tx.number ≡ last k.base k.history x = w.number ∙ same in
             let form = (log.each w.tx w.before w.at).0 in
-            absurd (false≢true (sym (apart_among (blocks_of w.tx.logged) (blocks_of w.tx.direct) x form.apart (u.logged w.tx w.before w.at number)) ∙ w.among))
+            absurd (false≢true (sym (apart-not_among (blocks_of w.tx.logged) (blocks_of w.tx.direct) x form.apart (u.logged w.tx w.before w.at number)) ∙ w.among))
         | inr (inr above) ↦ absurd (omega (arith, above, last_upto_le k.base (front k) k.history x log.numbers))
       ]
 ]

@@ -8,7 +8,7 @@ use Rattle.mq_ledger.specs.History.{blocks_of, of_queue, AreNumbered, IsAt}
 use Rattle.mq_ledger.specs.Items.{next, number_before, place_before, descriptor_for}
 use Rattle.mq_ledger.specs.KnownJournal.{KnownJournal, LogOk}
 use Rattle.mq_ledger.specs.declared.tx.Tx.{Tx}
-use Rattle.mq_ledger.proofs.Among.{rising_within, apart_from, apart_among}
+use Rattle.mq_blocks.proofs.Among.{rising-within, apart-from, apart-not_among}
 use Rattle.mq_ledger.proofs.Values.{at_most, at_numbered}
 use Rattle.mq_ledger.proofs.Queues.{IsFalling-of, FromQueue-of}
 
@@ -43,7 +43,7 @@ good_of k t txs q log at low =
     let own = form.queue in
     let logged : length (blocks_of t.logged) ≡ length t.logged = length-map t.logged (λ w. w.0) in
     let direct : length (blocks_of t.direct) ≡ length t.direct = length-map t.direct (λ w. w.0) in
-    let fewer = rising_within 0 (homes_of k.geometry) t.revoked (blocks_of t.direct) form.revoked form.direct form.revokes in
+    let fewer = rising-within 0 (homes_of k.geometry) t.revoked (blocks_of t.direct) form.revoked form.direct form.revokes in
     record {
       queue = omega arith;
       number = omega arith;
@@ -55,5 +55,5 @@ good_of k t txs q log at low =
       fits = omega arith;
       logged = form.logged;
       revoked = form.revoked;
-      apart = apart_from t.revoked (blocks_of t.logged) (λ x among. false_from_ne_true _ (λ e. false≢true (sym (apart_among (blocks_of t.logged) (blocks_of t.direct) x form.apart e) ∙ form.revokes x among)));
+      apart = apart-from t.revoked (blocks_of t.logged) (λ x among. false_from_ne_true _ (λ e. false≢true (sym (apart-not_among (blocks_of t.logged) (blocks_of t.direct) x form.apart e) ∙ form.revokes x among)));
     }

@@ -15,7 +15,7 @@ use Rattle.mq_ledger.specs.Items.{item_at}
 use Rattle.mq_ledger.specs.KnownJournal.{KnownJournal, LogOk, front}
 use Rattle.mq_ledger.specs.Sides.{Certainly, IsDone, SideOk, RootOk, home_index, place_index}
 use Rattle.mq_ledger.specs.declared.tx.Tx.{Tx}
-use Rattle.mq_ledger.proofs.Among.{apart_among}
+use Rattle.mq_blocks.proofs.Among.{apart-not_among}
 use Rattle.mq_ledger.proofs.Values.{last_at, last_settled, changes_direct}
 use Rattle.mq_core.specs.Events.{begin_home, end_home}
 use Rattle.mq_core.proofs.Commands.{apart_along}
@@ -101,7 +101,7 @@ side_written k q txs p x blocks certain begun begins log s zone u els =
           let most = last_at k.base b.t b.ts k.history x log.numbers b.at (changes_direct b.t x among) in
           let lg = u.logged b.t b.ts b.at (omega (arith, settled, m', number, most)) in
           let form = (log.each b.t b.ts b.at).0 in
-          false≢true (sym (apart_among (blocks_of b.t.logged) (blocks_of b.t.direct) x form.apart lg) ∙ among)) (s.direct c y low (before c d) target m);
+          false≢true (sym (apart-not_among (blocks_of b.t.logged) (blocks_of b.t.direct) x form.apart lg) ∙ among)) (s.direct c y low (before c d) target m);
       homes = λ y v block inside z due there m.
           kept _ _ (λ e.
           let is : y ≡ x = zone-apart k.geometry q y x z zone e in

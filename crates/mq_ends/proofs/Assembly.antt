@@ -11,7 +11,7 @@ use Rattle.mq_ledger.specs.KnownJournal.{KnownJournal, LogOk, front}
 use Rattle.mq_ledger.specs.Sides.{AreHome, Certainly, home_index}
 use Rattle.mq_ledger.specs.State.{Facts, IsLawful, from_at, is_done, port_at, port_of, known_of, front_of}
 use Rattle.mq_ledger.specs.declared.tx.Tx.{Tx}
-use Rattle.mq_ledger.proofs.Among.{apart_among}
+use Rattle.mq_blocks.proofs.Among.{apart-not_among}
 use Rattle.mq_ledger.proofs.Values.{last_upto_more, last_upto_bound, last_settled, value_settled, upto-upto, upto_number, numbered-upto, written_among, unwritten, write_of-append, map_written}
 use Rattle.mq_core.proofs.Bases.{log_based, side_based}
 use Rattle.mq_core.proofs.Fronts.{DoneMore, part_more, done_below}
@@ -33,7 +33,7 @@ direct_content start t ts x content not among there =
 
 not_both : (t : Tx) (x : ℕ) → AreApart (blocks_of t.logged) (blocks_of t.direct) → is_among x (blocks_of t.direct) ≡ true → is_among x (blocks_of t.logged) ≡ false
 not_both t x apart among = elim (cases_Bool (is_among x (blocks_of t.logged))) [
-  | inl e ↦ absurd (false≢true (sym (apart_among (blocks_of t.logged) (blocks_of t.direct) x apart e) ∙ among))
+  | inl e ↦ absurd (false≢true (sym (apart-not_among (blocks_of t.logged) (blocks_of t.direct) x apart e) ∙ among))
   | inr e ↦ e
 ]
 

@@ -1,4 +1,3 @@
-pub mod Among
 pub mod Chains
 pub mod Values
 pub mod Entries
@@ -13,4 +12,3 @@ mod Lookups
 mod Stages
 mod Nexts
 mod Draws
-pub mod Written

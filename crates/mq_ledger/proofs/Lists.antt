@@ -16,7 +16,7 @@ use Rattle.mq_ledger.specs.Form.{IsAscending}
 use Rattle.mq_ledger.specs.Records.{Every}
 use Rattle.mq_blocks.specs.Machine.{Writes}
 use Rattle.mq_ledger.specs.History.{blocks_of}
-use Rattle.mq_ledger.proofs.Among.{among_first, apart_from, apart_among}
+use Rattle.mq_blocks.proofs.Among.{among-here, apart-from, apart-not_among, among-at as among-index, among-left as among-append_left, among-right as among-append_right}
 
 pub rising-high : (low high : ℕ) (xs : List ℕ) (k : ℕ) → AreRising low high xs → k < length xs → get_or xs k 0 < high
 rising-high low high [] k r l = absurd (omega arith)
@@ -31,17 +31,10 @@ rising-ascending low high xs r i j le l = elim (cases_eq i j) [
 
 pub among-at : (xs : List ℕ) (k x : ℕ) → k < length xs → get_or xs k 0 ≡ x → is_among x xs ≡ true
 among-at [] k x l e = absurd (omega arith)
-among-at (y ∷ ys) zero x l e = subst (λ (z : ℕ). is_among z (y ∷ ys) ≡ true) e (among_first y ys)
+among-at (y ∷ ys) zero x l e = subst (λ (z : ℕ). is_among z (y ∷ ys) ≡ true) e (among-here y ys)
 among-at (y ∷ ys) (suc k) x l e = elim (cases_Bool (eqb y x)) [
   | inl same ↦ rw same refl
   | inr other ↦ rw other (among-at ys k x (omega arith) e)
-]
-
-pub among-index : (xs : List ℕ) (x : ℕ) → is_among x xs ≡ true → (k : ℕ) × (k < length xs) × (get_or xs k 0 ≡ x)
-among-index [] x e = absurd (false≢true e)
-among-index (y ∷ ys) x e = elim (cases_Bool (eqb y x)) [
-  | inl same ↦ (0, omega arith, eqb-true _ _ same)
-  | inr other ↦ (let r = among-index ys x (rw other at e) in (suc r.0, (let b = r.1 in omega arith), r.2))
 ]
 
 -- ---- a binary search by a key that rises
@@ -88,7 +81,7 @@ pub every-nil : (Has : ℕ → Type 0) → Every Has []
 every-nil Has x e = absurd (false≢true e)
 
 pub every-first : (Has : ℕ → Type 0) (y : ℕ) (ys : List ℕ) → Every Has (y ∷ ys) → Has y
-every-first Has y ys all = all y (among_first y ys)
+every-first Has y ys all = all y (among-here y ys)
 
 pub every-rest : (Has : ℕ → Type 0) (y : ℕ) (ys : List ℕ) → Every Has (y ∷ ys) → Every Has ys
 every-rest Has y ys all x e = all x (elim (cases_Bool (eqb y x)) [ inl same ↦ rw same refl | inr other ↦ rw other e ])
@@ -137,27 +130,13 @@ pub rising-end : (low high : ℕ) (xs : List ℕ) (i : ℕ) → length xs ≤ i 
 rising-end low high xs i l = subst (AreRising low high) (sym (drop_all i xs l)) tt
 
 pub apart-every : (xs ys : List ℕ) → Goes (AreApart xs ys) (Every (λ x. is_among x ys ≡ false) xs)
-apart-every xs ys = record { on = λ a x e. apart_among xs ys x a e; back = λ all. apart_from xs ys all }
+apart-every xs ys = record { on = λ a x e. apart-not_among xs ys x a e; back = λ all. apart-from xs ys all }
 
 pub among-append : (xs ys : List ℕ) (x : ℕ) → is_among x xs ≡ false → is_among x ys ≡ false → is_among x (xs ++ ys) ≡ false
 among-append [] ys x a b = b
 among-append (z ∷ zs) ys x a b = elim (cases_Bool (eqb z x)) [
   | inl same ↦ absurd (false≢true (sym (rw same at a)))
   | inr other ↦ rw other (among-append zs ys x (rw other at a) b)
-]
-
-pub among-append_left : (xs ys : List ℕ) (x : ℕ) → is_among x xs ≡ true → is_among x (xs ++ ys) ≡ true
-among-append_left [] ys x a = absurd (false≢true a)
-among-append_left (z ∷ zs) ys x a = elim (cases_Bool (eqb z x)) [
-  | inl same ↦ rw same refl
-  | inr other ↦ rw other (among-append_left zs ys x (rw other at a))
-]
-
-pub among-append_right : (xs ys : List ℕ) (x : ℕ) → is_among x ys ≡ true → is_among x (xs ++ ys) ≡ true
-among-append_right [] ys x a = a
-among-append_right (z ∷ zs) ys x a = elim (cases_Bool (eqb z x)) [
-  | inl same ↦ rw same refl
-  | inr other ↦ rw other (among-append_right zs ys x a)
 ]
 
 -- the block of an item that a loop reads

@@ -16,7 +16,7 @@ use Rattle.mq_ledger.specs.declared.latest.Latest.{Latest}
 use Rattle.mq_ledger.specs.declared.latest.Place.{Place}
 use Rattle.mq_ledger.specs.declared.latest.Place.TheVariants.{Free, Start, Written}
 use Rattle.mq_ledger.specs.declared.tx.Tx.{Tx}
-use Rattle.mq_ledger.proofs.Among.{among_low}
+use Rattle.mq_blocks.proofs.Among.{among-low}
 use Rattle.mq_ledger.proofs.Values.{written_among, unwritten, write_of-append, changes_logged, changes_direct, last-changed, last-same, unchanged, map_written, upto_number, upto_newer, upto_all, at_numbered}
 
 -- ---- tables keep their length
@@ -94,7 +94,7 @@ writes_in n copied i x low high c (w ∷ ws) table r l e = elim (cases_Bool (eqb
       let here : latest_at (put_mark n copied (Written n i) w.0 table) w.0 ≡ written_from n copied i (latest_at table w.0) = get_or-set_same table w.0 _ _ bound in
       let P : ℕ → Type 0 = λ z. latest_at (put_mark n copied (Written n i) w.0 table) z ≡ written_from n copied i (latest_at table z) in
       let none : is_among x (blocks_of ws) ≡ false = elim (cases_Bool (is_among x (blocks_of ws))) [
-        | inl more ↦ (let up = among_low (w.0 + 1) high (blocks_of ws) x r.2 more in absurd (omega arith))
+        | inl more ↦ (let up = among-low (w.0 + 1) high (blocks_of ws) x r.2 more in absurd (omega arith))
         | inr nor ↦ nor
       ] in
       let zero_more : i ≡ i + 0 = omega arith in

@@ -13,12 +13,12 @@ use Rattle.mq_ledger.proofs.Lists.{block-read, rising-high}
 use Rattle.mq_ledger.specs.declared.staging.Staged.{Staged}
 use Rattle.mq_ledger.specs.declared.tx.Tx.{Tx}
 use Rattle.mq_ledger.proofs.Entries.{item-direct}
-use Rattle.mq_ledger.proofs.Among.{rising_within}
+use Rattle.mq_blocks.proofs.Among.{rising-within}
 use Rattle.std.proofs.lemmas.List.{length-map, get_or_read}
 
 pub few_named : (g : Geometry) (t : Tx) → IsTx g t → length t.logged + length t.revoked ≤ list_limit
 few_named g t form =
-    let within = rising_within 0 (homes_of g) t.revoked (blocks_of t.direct) form.revoked form.direct form.revokes in
+    let within = rising-within 0 (homes_of g) t.revoked (blocks_of t.direct) form.revoked form.direct form.revokes in
     let long : length (blocks_of t.direct) ≡ length t.direct = length-map t.direct (λ (w : ℕ × List ℕ). w.0) in
     let few = form.few in
     omega arith

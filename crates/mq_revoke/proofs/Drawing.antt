@@ -10,7 +10,7 @@ use Rattle.mq_blocks.specs.Journal.{is_among}
 use Rattle.mq_ledger.specs.KnownJournal.{MayDraw, KnownJournal, IsTx, front}
 use Rattle.mq_ledger.specs.History.{blocks_of, writes, map_after, last, last_logged}
 use Rattle.mq_ledger.specs.declared.tx.Tx.{Tx}
-use Rattle.mq_ledger.proofs.Among.{rising_within, apart_from}
+use Rattle.mq_blocks.proofs.Among.{rising-within, apart-from}
 use Rattle.mq_revoke.specs.Guard.{IsOfHistory, MeetsRest, placed_of}
 use Rattle.mq_revoke.specs.Placing.{IsDirect, AreInOrder, IsPlacement}
 use Rattle.mq_revoke.specs.declared.placement.Planned.{Planned}
@@ -19,7 +19,7 @@ use Rattle.mq_revoke.proofs.Placing.{IsSoFar, blocks_where, goes_home, stays, is
 module _ (k : KnownJournal) (t : Tx) (ws : List Planned) (f b : ℕ) (order : AreInOrder k.geometry ws) (planned : IsPlacement k.geometry t.queue f b ws (placed_of t)) where
   -- no block is logged and direct
   apart : AreApart (blocks_of t.logged) (blocks_of t.direct)
-  apart = apart_from (blocks_of t.logged) (blocks_of t.direct) (λ x in_logged. false_from_ne_true _ (λ in_direct.
+  apart = apart-from (blocks_of t.logged) (blocks_of t.direct) (λ x in_logged. false_from_ne_true _ (λ in_direct.
       let as_logged = planned.logged.only x in_logged in
       let as_direct = planned.direct.only x in_direct in
       let one : as_direct.0 ≡ as_logged.0 = same_write 0 (homes_of k.geometry) ws as_direct.0 as_logged.0 as_direct.1.0 as_logged.1.0 order as_direct.1.1 as_direct.1.2 as_logged.1.1 as_logged.1.2 (as_direct.2 ∙ sym as_logged.2) in
@@ -31,8 +31,8 @@ module _ (k : KnownJournal) (t : Tx) (ws : List Planned) (f b : ℕ) (order : Ar
       let so : IsSoFar k.geometry t.queue f b ws (blocks_where (stays k.geometry t.queue f) ws) (blocks_where (goes_home k.geometry t.queue f) ws) (blocks_where (is_revoked k.geometry t.queue f b) ws) = record { logged_is = refl; direct_is = refl; revoked_is = refl } in
       let walked = so_far-placement k.geometry t.queue f b ws _ _ _ order so in
       let all = so_far-length k.geometry t.queue f b ws _ _ _ so in
-      let logged = rising_within 0 (homes_of k.geometry) (blocks_of t.logged) (blocks_where (stays k.geometry t.queue f) ws) planned.logged.rising walked.logged.rising (λ x among. let found = planned.logged.only x among in subst (λ n. is_among n (blocks_where (stays k.geometry t.queue f) ws) ≡ true) found.2 (walked.logged.all found.0 found.1 found.3)) in
-      let direct = rising_within 0 (homes_of k.geometry) (blocks_of t.direct) (blocks_where (goes_home k.geometry t.queue f) ws) planned.direct.rising walked.direct.rising (λ x among. let found = planned.direct.only x among in subst (λ n. is_among n (blocks_where (goes_home k.geometry t.queue f) ws) ≡ true) found.2 (walked.direct.all found.0 found.1 found.3)) in
+      let logged = rising-within 0 (homes_of k.geometry) (blocks_of t.logged) (blocks_where (stays k.geometry t.queue f) ws) planned.logged.rising walked.logged.rising (λ x among. let found = planned.logged.only x among in subst (λ n. is_among n (blocks_where (stays k.geometry t.queue f) ws) ≡ true) found.2 (walked.logged.all found.0 found.1 found.3)) in
+      let direct = rising-within 0 (homes_of k.geometry) (blocks_of t.direct) (blocks_where (goes_home k.geometry t.queue f) ws) planned.direct.rising walked.direct.rising (λ x among. let found = planned.direct.only x among in subst (λ n. is_among n (blocks_where (goes_home k.geometry t.queue f) ws) ≡ true) found.2 (walked.direct.all found.0 found.1 found.3)) in
       omega (arith, all, logged, direct, length-map t.logged (λ (w : ℕ × List ℕ). w.0), length-map t.direct (λ (w : ℕ × List ℕ). w.0))
 
   pub form : length ws ≤ write_limit k.geometry → MeetsRest k t → IsTx k.geometry t

@@ -5,7 +5,7 @@ use Rattle.mq_blocks.specs.Descriptor.{AreRising}
 use Rattle.mq_blocks.specs.Geometry.{homes_of}
 use Rattle.mq_blocks.specs.Journal.{is_among}
 use Rattle.mq_blocks.specs.declared.geometry.Geometry.{Geometry}
-use Rattle.mq_ledger.proofs.Among.{among_low, among_first, among_rest}
+use Rattle.mq_blocks.proofs.Among.{among-low, among-here, among-rest}
 use Rattle.mq_revoke.specs.Placed.{Placed}
 use Rattle.mq_revoke.specs.Placing.{IsDirect, IsCopied, AreThose, IsPlacement}
 use Rattle.mq_revoke.specs.declared.placement.Planned.{Planned}
@@ -17,18 +17,18 @@ IsWithin xs ys = (x : ℕ) → is_among x xs ≡ true → is_among x ys ≡ true
 -- the rest of two lists with the same head
 within-rest : (high x : ℕ) (xs ys : List ℕ) → AreRising (x + 1) high xs → IsWithin (x ∷ xs) (x ∷ ys) → IsWithin xs ys
 within-rest high x xs ys rising within z among =
-    let up = among_low (x + 1) high xs z rising among in
+    let up = among-low (x + 1) high xs z rising among in
     let other : x ≡ z → ⊥ = λ e. omega (arith, up, e) in
-    sym (among_rest x z ys other) ∙ within z (among_rest x z xs other ∙ among)
+    sym (among-rest x z ys other) ∙ within z (among-rest x z xs other ∙ among)
 
 head-low : (low high x y : ℕ) (xs ys : List ℕ) → AreRising low high (y ∷ ys) → IsWithin (x ∷ xs) (y ∷ ys) → y ≤ x
-head-low low high x y xs ys rising within = among_low y high (y ∷ ys) x (omega arith, rising.1, rising.2) (within x (among_first x xs))
+head-low low high x y xs ys rising within = among-low y high (y ∷ ys) x (omega arith, rising.1, rising.2) (within x (among-here x xs))
 
 -- two rising lists of the same numbers are one
 rising-same : (low high : ℕ) (xs ys : List ℕ) → AreRising low high xs → AreRising low high ys → IsWithin xs ys → IsWithin ys xs → xs ≡ ys
 rising-same low high [] [] r s to from = refl
-rising-same low high [] (y ∷ ys) r s to from = absurd (false≢true (from y (among_first y ys)))
-rising-same low high (x ∷ xs) [] r s to from = absurd (false≢true (to x (among_first x xs)))
+rising-same low high [] (y ∷ ys) r s to from = absurd (false≢true (from y (among-here y ys)))
+rising-same low high (x ∷ xs) [] r s to from = absurd (false≢true (to x (among-here x xs)))
 rising-same low high (x ∷ xs) (y ∷ ys) r s to from =
     let below : y ≤ x = head-low low high x y xs ys s to in
     let above : x ≤ y = head-low low high y x ys xs r from in
