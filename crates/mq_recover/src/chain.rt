@@ -204,7 +204,7 @@ fn read_request<P: Port>(port: &P, at: u64) -> Result<WriteReq, ChainRefusal>
     ensures ok { IfOk result (λ r. says (entry_at (P.state port.now) at) ≡ Some (r.tx, r.lba, r.commit)) }
     ensures refused { IfErr result (RefusesEntry (P.state port.now) at) }
 {
-    let entry = port.read_slot((at % u64::from(RING_DEPTH)) as u32);
+    let entry = port.read_slot((at % RING_DEPTH as u64) as u32);
     match read_write(&entry) {
         Ok(request) => Ok(request),
         Err(cause) => Err(ChainRefusal::Entry(cause)),

@@ -96,7 +96,7 @@ fn find_slot(counts: &[u64], slot: u64) -> Option<usize>
         → ⊥) (λ i. (i < length counts.now) × (slice_index_or counts.now i 0 % depth ≡ slot)) }
 {
     for i in 0..counts.len() {
-        if counts[i] % u64::from(RING_DEPTH) == slot {
+        if counts[i] % RING_DEPTH as u64 == slot {
             return Some(i);
         }
     }
@@ -236,7 +236,7 @@ impl<'f> PortRun<'f> {
         self.pending.reserve(1)?;
         let entry = write_of(&WriteReq {
             tx,
-            slot: (end % u64::from(RING_DEPTH)) as u16,
+            slot: (end % RING_DEPTH as u64) as u16,
             lba: u64::from(lba.0),
             commit,
         });
