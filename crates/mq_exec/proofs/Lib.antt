@@ -3,6 +3,8 @@ pub mod Below
 pub mod Blanking
 pub mod Carrying
 pub mod Coming
+pub mod CreationPlans
+pub mod Creations
 pub mod Filling
 pub mod Freeing
 pub mod GoneBlocks
@@ -12,8 +14,6 @@ pub mod LocalBytes
 pub mod LocalMoves
 pub mod Longer
 pub mod Looking
-pub mod Creations
-pub mod CreationPlans
 pub mod Naming
 pub mod NewNames
 pub mod Overwriting

@@ -68,7 +68,9 @@ fn reading(alloc: Global, ask: Ask<'_>) -> Option<(Vec<u8>, u32)> {
 fn each_request_reads_alone(rt: HostRuntime) {
     for (ask, wanted, needs) in &READINGS {
         let found = reading(rt.alloc(), *ask);
-        assert!(rt; found.is_some_and(|(text, rounds)| text.as_slice() == *wanted && rounds == *needs));
+        assert!(rt;
+            found.is_some_and(|(text, rounds)| text.as_slice() == *wanted && rounds == *needs)
+        );
     }
 }
 

@@ -3,12 +3,22 @@ use crate::samples::{is_with, with};
 use mq_blocks::{Block, OutOfMemory};
 use mq_layout::{bit, first_clear, pointer, set_bit, set_pointer};
 
+/// Sets or clears bits, in order.
+fn set_bits(block: &mut Block, bits: &[(u32, bool)]) {
+    for (at, value) in bits {
+        if *at < 32768 {
+            set_bit(block, *at, *value);
+        }
+    }
+}
+
 #[test]
 fn bits_and_pointers_stand_in_their_places(rt: HostRuntime) -> Result<(), OutOfMemory> {
     let mut block = Block::zeroed(rt.alloc())?;
-    for (at, value) in [(0, true), (11, true), (12, true), (11, false)] {
-        set_bit(&mut block, at, value);
-    }
+    set_bits(
+        &mut block,
+        &[(0, true), (11, true), (12, true), (11, false)],
+    );
     assert!(rt; is_with(rt.alloc(), &block, 0, &[0x01, 0x10]));
     assert!(rt; bit(&block, 12) && !bit(&block, 11));
     block.clear();
@@ -18,21 +28,19 @@ fn bits_and_pointers_stand_in_their_places(rt: HostRuntime) -> Result<(), OutOfM
     Ok(())
 }
 
-/// Whether the first clear bit of each range is this one.
-fn are_first(block: &Block, cases: &[(u32, u32, Option<u32>)]) -> bool {
-    for (from, end, wanted) in cases {
-        if *end > 32768 || first_clear(block, *from, *end) != *wanted {
-            return false;
-        }
+/// The first clear bit of a range that ends in the block.
+fn first(block: &Block, from: u32, end: u32) -> Option<u32> {
+    if end > 32768 {
+        return None;
     }
-    true
+    first_clear(block, from, end)
 }
 
 #[test]
 fn first_clear_bit_is_found(rt: HostRuntime) -> Result<(), OutOfMemory> {
     // Bits 19 and 32 are the first that are clear.
     let mut block = with(rt.alloc(), 0, &[0xff, 0xff, 0xf7, 0xff, 0x02])?;
-    let cases = [
+    let cases: [(u32, u32, Option<u32>); 8] = [
         (0, 32768, Some(19)),
         (13, 20, Some(19)),
         (13, 19, None),
@@ -42,10 +50,13 @@ fn first_clear_bit_is_found(rt: HostRuntime) -> Result<(), OutOfMemory> {
         (33, 35, Some(34)),
         (35, 33, None),
     ];
-    assert!(rt; are_first(&block, &cases));
+    for (from, end, wanted) in cases {
+        assert_eq!(rt; first(&block, from, end), wanted);
+    }
     block.fill(0xff);
-    assert!(rt; are_first(&block, &[(0, 32768, None)]));
+    assert_eq!(rt; first(&block, 0, 32768), None);
     set_bit(&mut block, 32767, false);
-    assert!(rt; are_first(&block, &[(0, 32767, None), (7, 32768, Some(32767))]));
+    assert_eq!(rt; first(&block, 0, 32767), None);
+    assert_eq!(rt; first(&block, 7, 32768), Some(32767));
     Ok(())
 }

@@ -2,9 +2,11 @@
 use crate::samples::{FILE, SLOT, SUPER, is_with, two, with};
 use mq_blocks::{Block, BlockNo, Geometry, OutOfMemory, QueueNo};
 use mq_layout::{
-    Inode, Slot, clear_slot, format_block, inode_block, inode_place, inodes, is_good_name,
-    read_inode, read_slot, read_super, write_inode, write_slot, write_super, zone_bitmap,
+    Inode, Slot, clear_slot, inode_block, inode_place, inodes, is_good_name, read_inode, read_slot,
+    read_super, write_inode, write_slot, write_super, zone_bitmap,
 };
+use mq_test_pages::empty_blocks;
+use std::alloc::Global;
 
 #[test]
 fn superblock_is_that_of_its_geometry(rt: HostRuntime) -> Result<(), OutOfMemory> {
@@ -17,27 +19,35 @@ fn superblock_is_that_of_its_geometry(rt: HostRuntime) -> Result<(), OutOfMemory
     Ok(())
 }
 
-/// How many bytes of a block of an empty file system aren't zeros.
-fn count_formatted(geometry: Geometry, b: u32, block: &mut Block) -> usize {
-    format_block(geometry, BlockNo(b), block);
-    block.bytes().iter().filter(|byte| **byte != 0).count()
+/// Whether this block has a byte that isn't zero.
+fn is_used(blocks: &[Option<Block>], b: u32) -> bool {
+    match blocks.get(b as usize) {
+        Some(Some(block)) => block.bytes().iter().any(|byte| *byte != 0),
+        _ => false,
+    }
+}
+
+/// Whether this block is zeros but for its first bytes.
+fn begins(alloc: Global, blocks: &[Option<Block>], b: usize, bytes: &[u8; 3]) -> bool {
+    match blocks.get(b) {
+        Some(Some(block)) => is_with(alloc, block, 0, bytes),
+        _ => false,
+    }
 }
 
 #[test]
 fn empty_file_system_has_three_blocks(rt: HostRuntime) -> Result<(), OutOfMemory> {
     let geometry = two().expect(&rt, "a geometry");
-    let mut block = Block::zeroed(rt.alloc())?;
+    let blocks = empty_blocks(rt.alloc(), geometry)?;
     let mut lbas = Vec::new(rt.alloc());
     for b in 0..geometry.homes() {
-        if count_formatted(geometry, b, &mut block) > 0 {
+        if is_used(&blocks, b) {
             lbas.push(geometry.home(BlockNo(b)).0)?;
         }
     }
     assert_eq!(rt; lbas.as_slice(), [2048, 2051, 2052].as_slice());
-    for (b, bytes) in [(3, [1, 0, 0]), (4, [2, 0, 1])] {
-        format_block(geometry, BlockNo(b), &mut block);
-        assert!(rt; is_with(rt.alloc(), &block, 0, &bytes));
-    }
+    assert!(rt; begins(rt.alloc(), &blocks, 3, &[1, 0, 0]));
+    assert!(rt; begins(rt.alloc(), &blocks, 4, &[2, 0, 1]));
     Ok(())
 }
 

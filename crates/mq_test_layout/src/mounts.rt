@@ -53,8 +53,14 @@ fn circles_of_directories_are_found(rt: HostRuntime) {
         (6, 0, &slot(1, b'b')),
         (4, 0, &[0; 17]),
     ];
-    assert_eq!(rt; found(rt.alloc(), &circle[..2]), corrupt(CorruptCause::Shared, 3));
-    assert_eq!(rt; found(rt.alloc(), &circle), corrupt(CorruptCause::Unreached, 3));
+    assert_eq!(rt;
+        found(rt.alloc(), &circle[..2]),
+        corrupt(CorruptCause::Shared, 3)
+    );
+    assert_eq!(rt;
+        found(rt.alloc(), &circle),
+        corrupt(CorruptCause::Unreached, 3)
+    );
 }
 
 /// The first block of the zone in which a full directory lies.

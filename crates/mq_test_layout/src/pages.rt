@@ -35,7 +35,10 @@ fn held_pages_are_got(rt: HostRuntime) -> Result<(), OutOfMemory> {
         (64, Some(4)),
         (65, None),
     ] {
-        assert_eq!(rt; held.get(BlockNo(block)).map(|cell| cell.version.0), version);
+        assert_eq!(rt;
+            held.get(BlockNo(block)).map(|cell| cell.version.0),
+            version
+        );
     }
     Ok(())
 }

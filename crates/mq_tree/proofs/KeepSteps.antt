@@ -8,7 +8,6 @@ use Rattle.mq_blocks.specs.Geometry.{queues_of}
 use Rattle.mq_blocks.specs.declared.geometry.Geometry.{Geometry}
 use Rattle.mq_layout.specs.Names.{is_name}
 use Rattle.mq_layout.specs.Places.{file_limit, names_limit}
-use Rattle.mq_layout.specs.Slots.{Entry}
 use Rattle.mq_tree.proofs.Naming.{none-entry}
 use Rattle.mq_tree.specs.Free.{first_free, free_blocks}
 use Rattle.mq_tree.specs.Kept.{HasBytes, IsAdded, IsBare, IsRemoved, IsRenamed, IsRewritten}

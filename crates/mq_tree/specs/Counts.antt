@@ -1,9 +1,7 @@
 -- How many directories and files a volume has, and how many bytes are in its files.
-use Rattle.std.specs.Prelude.{◌≤◌, ◌<◌, ℕ, ◌-◌, ◌^◌, List, length}
+use Rattle.std.specs.Prelude.{◌≤◌, ◌<◌, ℕ, ◌-◌, ◌^◌, length}
 use Rattle.std.specs.List.{sum_by}
-use Rattle.mq_tree.specs.Trees.{body_kept}
-use Rattle.mq_tree.specs.Volume.{Body, Free, File, Dir, Node, Volume, body}
-use Rattle.mq_tree.specs.declared.contents.Content.{Content}
+use Rattle.mq_tree.specs.Volume.{Body, Free, File, Dir, Volume, body}
 use Rattle.mq_tree.specs.declared.counts.TreeCounts.{TreeCounts}
 
 -- one inode alone

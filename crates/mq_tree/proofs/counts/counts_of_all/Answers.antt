@@ -1,4 +1,4 @@
-use Rattle.std.proofs.Common.{◌≡◌, ◌^◌, ap, arith}
+use Rattle.std.proofs.Common.{◌^◌, ap, arith}
 use Rattle.mq_tree.specs.Counts.{counts_of}
 use Rattle.mq_tree.specs.declared.counts.TreeCounts.{TreeCounts}
 use Rattle.mq_tree.specs.Trees.{kept}
@@ -8,19 +8,19 @@ use Rattle.mq_tree.proofs.counts.counts_of_all.Goals as goal
 pub overflow_add-counts : goal.overflow_add-counts
 overflow_add-counts c =
     let low = more-below (λ b. (counts_of b).directories) (2 ^ 64) c.args.contents.now c.loop-content.content-index _ _ c.content-item.result
-        (few-directories (kept c.args.contents.now) c.requires.few) c.loop-content-test.true c.content-item.is c.loop-content.invariant.directories (ap (λ (t : TreeCounts). t.directories) c.counts_of_one-one.ensures) in
+    (few-directories (kept c.args.contents.now) c.requires.few) c.loop-content-test.true c.content-item.is c.loop-content.invariant.directories (ap (λ (t : TreeCounts). t.directories) c.counts_of_one-one.ensures) in
     omega (arith, low)
 
 pub overflow_add-counts-in-loop-content : goal.overflow_add-counts-in-loop-content
 overflow_add-counts-in-loop-content c =
     let low = more-below (λ b. (counts_of b).files) (2 ^ 64) c.args.contents.now c.loop-content.content-index _ _ c.content-item.result
-        (few-files (kept c.args.contents.now) c.requires.few) c.loop-content-test.true c.content-item.is c.loop-content.invariant.files (ap (λ (t : TreeCounts). t.files) c.counts_of_one-one.ensures) in
+    (few-files (kept c.args.contents.now) c.requires.few) c.loop-content-test.true c.content-item.is c.loop-content.invariant.files (ap (λ (t : TreeCounts). t.files) c.counts_of_one-one.ensures) in
     omega (arith, low)
 
 pub overflow_add-counts-in-loop-content-2 : goal.overflow_add-counts-in-loop-content-2
 overflow_add-counts-in-loop-content-2 c =
     let low = more-below (λ b. (counts_of b).bytes) (2 ^ 64) c.args.contents.now c.loop-content.content-index _ _ c.content-item.result
-        c.requires.bytes c.loop-content-test.true c.content-item.is c.loop-content.invariant.bytes (ap (λ (t : TreeCounts). t.bytes) c.counts_of_one-one.ensures) in
+    c.requires.bytes c.loop-content-test.true c.content-item.is c.loop-content.invariant.bytes (ap (λ (t : TreeCounts). t.bytes) c.counts_of_one-one.ensures) in
     omega (arith, low)
 
 pub loop-content-preserved : goal.loop-content-preserved

@@ -9,8 +9,8 @@ use Rattle.mq_tree.proofs.tree.Tree.counts.Goals as goal
 pub overflow_sub-counts : goal.overflow_sub-counts
 overflow_sub-counts c =
     let all : c.counts_of_all-counts.result.directories ≡ (counts_of_volume c.args.self.now).directories =
-        ap (λ (t : TreeCounts). t.directories) c.counts_of_all-counts.ensures ∙ ap (λ (v : Volume). (counts_of_volume v).directories) c.contents.ensures.is in
+    ap (λ (t : TreeCounts). t.directories) c.counts_of_all-counts.ensures ∙ ap (λ (v : Volume). (counts_of_volume v).directories) c.contents.ensures.is in
     let one : (counts_of (body c.args.self.now 0)).directories ≡ 1 =
-        ap (λ (b : Body). (counts_of b).directories) (c.in-Some-Dir.ensures ∙ ap body_kept c.in-Some-Dir.field-0-is) in
+    ap (λ (b : Body). (counts_of b).directories) (c.in-Some-Dir.ensures ∙ ap body_kept c.in-Some-Dir.field-0-is) in
     let counted = root-counted c.args.self.now in
     omega (arith, all, one, counted)
