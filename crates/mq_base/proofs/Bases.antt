@@ -8,10 +8,11 @@ use Rattle.mq_core.proofs.Fronts.{part_more}
 use Rattle.mq_core.proofs.Growth.{front_low}
 use Rattle.mq_base.specs.Bases.{BaseOk, IsAtHome, WroteDirectly}
 use Rattle.mq_base.specs.Grown.{HasGrown, grown_to}
-use Rattle.mq_base.proofs.Newer.{part_longer, upto_older, at_later}
+use Rattle.mq_core.proofs.Bases.{at_append}
+use Rattle.mq_base.proofs.Newer.{part_longer, upto_older}
 
 pub directly_later : (newer h : List Tx) (x n : ℕ) → WroteDirectly h x n → WroteDirectly (newer ++ h) x n
-directly_later newer h x n w = record { tx = w.tx; before = w.before; at = at_later w.tx w.before newer h w.at; number = w.number; among = w.among }
+directly_later newer h x n w = record { tx = w.tx; before = w.before; at = at_append w.tx w.before newer h w.at; number = w.number; among = w.among }
 
 module _ (k : KnownJournal) (log : LogOk k) (newer : List Tx) (done : Tx → List Tx → Bool) (due : ℕ → ℕ → Bool) (word : ℕ) where
   abbrev later : KnownJournal
@@ -81,7 +82,7 @@ grown_on k l m g h =
       due = next.due;
       word = next.word;
       is = next.is ∙ ap (λ hs. record k { history = hs; done = next.done; due = next.due; word = next.word }) joined;
-      more_done = λ t ts at d. next.more_done t ts (at_later t ts g.newer k.history at) (g.more_done t ts at d);
+      more_done = λ t ts at d. next.more_done t ts (at_append t ts g.newer k.history at) (g.more_done t ts at d);
       more_due = λ x v d. next.more_due x v (g.more_due x v d);
       above = (let low = g.above in let high = next.above in omega arith);
     }

@@ -17,10 +17,6 @@ pub upto_older : (base f : ℕ) (newer h : List Tx) → AreNumbered base (newer 
 upto_older base f [] h n l = refl
 upto_older base f (t ∷ ns) h n l = upto-past f t (ns ++ h) (omega (arith, n.0, length-append ns h)) ∙ upto_older base f ns h n.1 l
 
-pub at_later : (t : Tx) (ts newer h : List Tx) → IsAt t ts h → IsAt t ts (newer ++ h)
-at_later t ts [] h at = at
-at_later t ts (u ∷ txs) h at = inr (at_later t ts txs h at)
-
 -- what has a number that was drawn then stood there then
 pub at_older : (base n : ℕ) (t : Tx) (ts newer h : List Tx) → AreNumbered base (newer ++ h) → n ≤ base + length h → IsAt t ts (newer ++ h) → t.number ≤ n → IsAt t ts h
 at_older base n t ts [] h numbers low at below = at

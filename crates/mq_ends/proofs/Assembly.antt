@@ -6,7 +6,7 @@ use Rattle.mq_blocks.specs.Geometry.{homes_of, zone_of}
 use Rattle.mq_blocks.specs.Journal.{is_among}
 use Rattle.mq_blocks.specs.Machine.{Map, write_of, or_kept}
 use Rattle.mq_ledger.specs.History.{blocks_of, writes, map_after, last, upto, of_queue, IsAt}
-use Rattle.mq_ledger.specs.Items.{end_of}
+use Rattle.mq_ledger.specs.Items.{end_of, descriptor_blocks}
 use Rattle.mq_ledger.specs.KnownJournal.{KnownJournal, LogOk, front}
 use Rattle.mq_ledger.specs.Sides.{AreHome, Certainly, home_index}
 use Rattle.mq_ledger.specs.State.{Facts, IsLawful, from_at, is_done, port_at, port_of, known_of, front_of}
@@ -141,7 +141,7 @@ module _ (p : Parts) (are : AreParts p) where
       ports = are.many;
       marked = many;
       sides = λ q own.
-          let s = side_more k done are.log more q (of_queue q h) (port_at p.ports q) (are.sides q own) (λ t ts at mine d. subst (λ n. end_of (from_at p.starts n) (of_queue n ts) + (writes t + 1) ≤ (port_at p.ports n).head) mine (leb-true _ _ d)) in
+          let s = side_more k done are.log more q (of_queue q h) (port_at p.ports q) (are.sides q own) (λ t ts at mine d. subst (λ n. end_of (from_at p.starts n) (of_queue n ts) + (writes t + descriptor_blocks t) ≤ (port_at p.ports n).head) mine (leb-true _ _ d)) in
           side_based seen bases p.root.base log_seen word_low base_low q (of_queue q h) (port_at p.ports q) s (bases_home (Some q));
       root = root_based seen bases p.root.base p.root (root_more k done are.log more p.root are.root.port) (omega arith) (bases_home None);
       marks = above;

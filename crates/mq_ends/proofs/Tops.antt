@@ -9,16 +9,14 @@ use Rattle.mq_ledger.specs.History.{of_queue}
 use Rattle.mq_ledger.specs.Items.{Entries, item_at}
 use Rattle.mq_ledger.specs.Sides.{flushed_at}
 use Rattle.mq_ledger.specs.State.{State, Facts, from_at, known_of, port_at}
+use Rattle.mq_ledger.proofs.Chains.{said-once}
 use Rattle.mq_ledger.proofs.Values.{at_most}
 use Rattle.mq_core.proofs.Cuts.{IsCut}
 use Rattle.mq_core.proofs.Growth.{front_low}
 use Rattle.mq_core.proofs.Sources.{from_of, number-from}
 
 said_number : {o : Option Says} {a b : Says} → o ≡ Some a → o ≡ Some b → a.0 ≡ b.0
-said_number {o} {a} {b} one other = ap (λ (x : Says). x.0) (inj (sym one ∙ other))
-  where
-    inj : {c d : Says} → Some c ≡ Some d → c ≡ d
-    inj e = cc
+said_number {o} {a} {b} one other = ap (λ (x : Says). x.0) (said-once o a b one other)
 
 -- the numbers of a chain fall from its newest one
 chain_low : (g : Geometry) (i : Shown) (q number place : ℕ) (ds : List Descriptor) (d : Descriptor) → IsChain g i q number place ds → Has ds d → d.number ≤ number
