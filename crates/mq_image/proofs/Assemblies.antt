@@ -1,10 +1,10 @@
 -- The image that a file is read as, from its parts.
-use Rattle.std.proofs.Common.{get_or, zero-add, ◌≡◌, ℕ, ◌+◌, ◌*◌, ◌<◌, ◌≤◌, List, [], ◌∷◌, ◌++◌, length, take, Bool, true, false, refl, sym, ap, ◌∙◌, subst, arith}
-use Rattle.std.specs.Prelude.{Option, Some, None}
+use Rattle.std.proofs.Common.{get_or, inl, inr, zero-add, ◌≡◌, ℕ, ◌+◌, ◌*◌, ◌<◌, ◌≤◌, List, [], ◌∷◌, ◌++◌, length, take, Bool, true, false, refl, sym, ap, ◌∙◌, subst, arith}
+use Rattle.std.specs.Prelude.{Option, Some, None, Ok}
 use Rattle.std.specs.Int.{to_le_bytes, w32, w64}
 use Rattle.std.specs.List.{flat_map}
-use Rattle.std.proofs.lemmas.Bool.{eqb-true, leb-true}
-use Rattle.std.proofs.lemmas.List.{append-nil, get_or_at, get_or_append_left, length_push, take_all, take_at}
+use Rattle.std.proofs.lemmas.Bool.{cases_lt, eqb-true, leb-true}
+use Rattle.std.proofs.lemmas.List.{append-nil, get_or_at, get_or_append_left, get_or_default, length_push, take_all, take_at}
 use Rattle.byteorder.specs.Endian.{little_number}
 use Rattle.mq_blocks.specs.Descriptor.{list_bytes}
 use Rattle.mq_blocks.specs.Drive.{PortImage}
@@ -13,12 +13,13 @@ use Rattle.mq_blocks.specs.Windows.{number_at, window, Shows}
 use Rattle.mq_blocks.specs.declared.geometry.Geometry.{Geometry}
 use Rattle.mq_blocks.proofs.Readings.{bytes-number_at_4, bytes-number_at_8, window-add}
 use Rattle.mq_blocks.proofs.Windows.{shows-join}
-use Rattle.mq_image.specs.Drives.{IsRead}
+use Rattle.mq_image.specs.Drives.{HasWidths, IsRead}
 use Rattle.mq_image.specs.Faults.{IsGeometryIn, or_then, unless, header_fault, extra_fault, blocks_end, count_at, count_in, queues_in}
 use Rattle.mq_image.specs.File.{all_blocks, areas, file_bytes, header_bytes, header_numbers, magic, namespace, no_port, record_count, records, ring_bytes, zones}
 use Rattle.mq_image.specs.Places.{IsSpan, rest_of}
 use Rattle.mq_image.specs.Reads.{AreAreasRead, ArePortsRead, AreZonesRead, IsPast, IsQueuePort, IsRootPort}
 use Rattle.mq_image.specs.declared.fault.FileFault.{FileFault}
+use Rattle.mq_image.specs.declared.fault.FileFault.TheVariants.{Reserved}
 use Rattle.mq_image.specs.declared.place.Place.{Place}
 use Rattle.mq_image.proofs.Readings.{past-span, past-join}
 use Rattle.mq_image.proofs.Spans.{span-join}
@@ -70,7 +71,7 @@ unless-none : (t : Bool) (f : FileFault) → unless t f ≡ None → t ≡ true
 unless-none true f h = refl
 unless-none false f h = absurd (cc)
 
-header-read : (file : List ℕ) (g : Geometry) (base : ℕ) → 40 ≤ length file → ((k : ℕ) → get_or file k 0 < 256) → header_fault file ≡ None → IsGeometryIn file g → base ≡ number_at 8 32 file → window file 0 40 ≡ header_bytes g base
+header-read : (file : List ℕ) (g : Geometry) (base : ℕ) → 40 ≤ length file → ((k : ℕ) → get_or file k 0 < 256) → header_fault (Ok g) file ≡ None → IsGeometryIn file g → base ≡ number_at 8 32 file → window file 0 40 ≡ header_bytes g base
 unfolding header_fault header_bytes
 header-read file g base room small none h b =
     let r0 : 0 + 8 ≤ length file = omega arith in
@@ -84,10 +85,9 @@ header-read file g base room small none h b =
     let a = then-none _ _ none in
     let m = then-none _ _ a.1 in
     let v = then-none _ _ m.1 in
-    let s = then-none _ _ v.1 in
     let magic_is : number_at 8 0 file ≡ little_number 8 magic = eqb-true _ _ (unless-none _ _ m.0) in
     let version_is : number_at 4 8 file ≡ 1 = eqb-true _ _ (unless-none _ _ v.0) in
-    let reserved_is : number_at 4 28 file ≡ 0 = eqb-true _ _ (unless-none _ _ s.1) in
+    let reserved_is : number_at 4 28 file ≡ 0 = eqb-true _ _ (unless-none _ (Reserved (number_at 4 28 file)) v.1) in
     let s₀ : Shows file 0 magic = sym (bytes-number_at_8 0 file r0 small) ∙ ap (to_le_bytes w64) magic_is in
     let s₁ : Shows file 8 (to_le_bytes w32 1) = sym (bytes-number_at_4 8 file r8 small) ∙ ap (to_le_bytes w32) version_is in
     let s₂ : Shows file 12 (to_le_bytes w32 (queues_of g)) = sym (bytes-number_at_4 12 file r12 small) ∙ ap (to_le_bytes w32) (sym h.queues) in
@@ -124,7 +124,7 @@ file-fold : (g : Geometry) (queues : List PortImage) (root : PortImage) → ((he
 unfolding file_bytes
 file-fold g queues root = refl
 
-pub file-read : (file : List ℕ) (g : Geometry) (base count : ℕ) (first last : Place) (ports : List PortImage) → ((k : ℕ) → get_or file k 0 < 256) → 40 ≤ length file → header_fault file ≡ None → IsGeometryIn file g → base ≡ number_at 8 32 file
+pub file-read : (file : List ℕ) (g : Geometry) (base count : ℕ) (first last : Place) (ports : List PortImage) → ((k : ℕ) → get_or file k 0 < 256) → 40 ≤ length file → header_fault (Ok g) file ≡ None → IsGeometryIn file g → base ≡ number_at 8 32 file
     → count ≡ count_in file → blocks_end file ≤ length file → extra_fault (blocks_end file) file ≡ None → first ≡ record { at = 40 + 65552 * queues_of g + 4; left = count; index = 0; lba = 0; size = queues_of g * area_of g + homes_of g }
     → ArePortsRead g base file first last ports → last.left ≡ 0 → IsRead (record { geometry = g; ports = ports }) file
 file-read file g base count first last ports small room header h b c end extra is r none = record {
@@ -133,6 +133,12 @@ file-read file g base count first last ports small room header h b c end extra i
     queues = λ q l. let p = r.queues q l in record { slots = p.slots; blocks = p.blocks; words = p.base };
     root = record { slots = r.root.slots; blocks = r.root.blocks ∙ sym (zero-add (meta_of g)); words = (r.root.doorbell, r.root.head) };
   };
+  widths = λ k d l. subst (λ (p : PortImage). HasWidths p) (sym (get_or_default ports k d no_port l)) (elim (cases_lt k (queues_of g)) [
+    | inl low ↦ (r.queues k low).widths
+    | inr high ↦
+        let last : k ≡ queues_of g = omega (arith, l, high, r.count_is) in
+        subst (λ (j : ℕ). HasWidths (get_or ports j no_port)) (sym last) r.root.widths
+  ]);
   bytes = whole;
   kept_is = r.span.kept_is;
 }

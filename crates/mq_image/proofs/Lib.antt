@@ -1,8 +1,12 @@
 pub mod Assemblies
 pub mod Geometries
+pub mod Lists
 pub mod Nexts
 pub mod Readings
+pub mod Records
 pub mod Refusals
 pub mod Spans
+pub mod Unique
 pub mod Writings
+pub mod Written
 pub mod Zones

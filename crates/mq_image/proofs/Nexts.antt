@@ -28,7 +28,7 @@ unfolding record_fault
 zero-first size zero index low at file more good blank = absurd (omega arith)
 zero-first size (suc left) index low at file more good blank = rw (good, blank) refl
 
-step-first : (size left rest index low at : ℕ) (file : List ℕ) → left ≡ rest + 1 → (nat_lt (number_at 4 at file) low || nat_le size (number_at 4 at file)) ≡ false
+pub step-first : (size left rest index low at : ℕ) (file : List ℕ) → left ≡ rest + 1 → (nat_lt (number_at 4 at file) low || nat_le size (number_at 4 at file)) ≡ false
     → is_blank (window file (at + 4) 4096) ≡ false → record_fault size left index low at file ≡ record_fault size rest (index + 1) (number_at 4 at file + 1) (at + 4100) file
 unfolding record_fault
 step-first size zero rest index low at file e good full = absurd (omega arith)

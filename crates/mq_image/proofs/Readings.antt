@@ -1,5 +1,5 @@
 -- Ports read from a file, one behind another.
-use Rattle.std.proofs.Common.{get_or, ◌≡◌, ℕ, add-zero, ◌+◌, ◌*◌, ◌<◌, ◌≤◌, List, [], ◌∷◌, ◌++◌, length, refl, sym, ap, ◌∙◌, arith, length-append}
+use Rattle.std.proofs.Common.{get_or, ◌≡◌, ℕ, add-zero, ◌+◌, ◌*◌, ◌^◌, ◌<◌, ◌≤◌, List, [], ◌∷◌, ◌++◌, length, refl, sym, ap, ◌∙◌, arith, length-append}
 use Rattle.std.specs.Prelude.{Option}
 use Rattle.std.specs.Int.{to_le_bytes, w64}
 use Rattle.std.specs.List.{flat_map}
@@ -9,7 +9,7 @@ use Rattle.std.proofs.lemmas.List.Elements.{All-push}
 use Rattle.mq_blocks.specs.Drive.{PortImage}
 use Rattle.mq_blocks.specs.Windows.{number_at, window}
 use Rattle.mq_blocks.specs.declared.geometry.Geometry.{Geometry}
-use Rattle.mq_blocks.proofs.Readings.{bytes-number_at_8, window-add}
+use Rattle.mq_blocks.proofs.Readings.{bytes-number_at_8, number_at-below, window-add}
 use Rattle.mq_nvme.specs.Dwords.{dword_bytes}
 use Rattle.mq_image.specs.File.{all_blocks, ring_bytes}
 use Rattle.mq_image.specs.Places.{IsInside, IsSpan}
@@ -42,6 +42,10 @@ ring-read file at p room small d h s =
     sym (window-add file at 16 65536 ∙ ap (λ (w : List ℕ). w ++ window file (at + 16) 65536) (window-add file at 8 8)
     ∙ ap (λ (w : List ℕ). (w ++ window file (at + 8) 8) ++ window file (at + 16) 65536) (sym a) ∙ ap (λ (w : List ℕ). (to_le_bytes w64 p.doorbell ++ w) ++ window file (at + 16) 65536) (sym b)
     ∙ ap (λ (w : List ℕ). (to_le_bytes w64 p.doorbell ++ to_le_bytes w64 p.head) ++ w) (sym s))
+
+-- a number that was read fits its eight bytes
+pub word-below : (n at : ℕ) (file : List ℕ) → ((k : ℕ) → get_or file k 0 < 256) → n ≡ number_at 8 at file → n < 2 ^ 64
+word-below n at file small e = omega (arith, e, number_at-below 8 at file small)
 
 -- ---- the queues' ports
 

@@ -155,7 +155,7 @@ namespace-length g queues root =
     omega arith
 
 -- the blocks of ports that have so many each
-all-sized : (n : ℕ) (queues : List PortImage) → All (λ (p : PortImage). length p.blocks ≡ n) queues → length (all_blocks queues) ≡ length queues * n
+pub all-sized : (n : ℕ) (queues : List PortImage) → All (λ (p : PortImage). length p.blocks ≡ n) queues → length (all_blocks queues) ≡ length queues * n
 all-sized n [] h = omega arith
 all-sized n (p ∷ ps) h =
     let a = length-append p.blocks (all_blocks ps) in

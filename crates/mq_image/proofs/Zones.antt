@@ -4,10 +4,12 @@ use Rattle.std.specs.Prelude.{Option}
 use Rattle.std.specs.List.{All, flat_map}
 use Rattle.std.proofs.lemmas.Bool.{cases_eq}
 use Rattle.std.proofs.lemmas.List.{append-nil, drop_all, drop_at, take_all, take_at, set-get_or, length-set}
+use Rattle.std.proofs.lemmas.List.Elements.{All-append}
 use Rattle.mq_blocks.specs.Drive.{PortImage}
 use Rattle.mq_blocks.specs.Geometry.{area_of, zone_size}
 use Rattle.mq_blocks.specs.declared.geometry.Geometry.{Geometry}
-use Rattle.mq_image.specs.File.{no_port, ring_bytes, zones}
+use Rattle.mq_image.specs.Drives.{HasWidths}
+use Rattle.mq_image.specs.File.{HasBytes, no_port, ring_bytes, zones}
 use Rattle.mq_image.specs.Places.{IsInside, IsSpan}
 use Rattle.mq_image.specs.Reads.{AreZonesRead, IsAreaPort, IsQueuePort, with_zone}
 use Rattle.mq_image.specs.declared.place.Place.{Place}
@@ -111,6 +113,13 @@ zones-more g file i old mid new before ports q zone l e r s n = record {
       blocks = let m = len in ap length blocks ∙ length-append p.blocks zone ∙ (let t : length p.blocks + length zone ≡ area_of g + zone_size g = omega arith in t);
       slots = ap (λ (x : PortImage). length x.slots) e ∙ alone.slots;
       base = ap (λ (x : PortImage). x.base) e ∙ alone.base;
+      widths = subst (λ (x : PortImage). HasWidths x) (sym e) (record {
+        doorbell = alone.widths.doorbell;
+        head = alone.widths.head;
+        base = alone.widths.base;
+        slots = alone.widths.slots;
+        blocks = All-append HasBytes p.blocks zone alone.widths.blocks s.bytes;
+      });
     }
 
     more : zones g (set ports i q) ≡ zones g ports ++ zone

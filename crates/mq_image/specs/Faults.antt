@@ -1,8 +1,8 @@
 -- Why bytes are not the file of an image: the first fault in the order of the tests.
-use Rattle.std.specs.Prelude.{◌≡◌, ℕ, zero, suc, ◌+◌, ◌-◌, ◌*◌, Bool, ◌&&◌, ◌||◌, List, length, Option, Some, None, Result, MatchResult, nat_eq, nat_le, nat_lt, if◌then◌else◌}
+use Rattle.std.specs.Prelude.{◌≡◌, ℕ, zero, suc, ◌+◌, ◌-◌, ◌*◌, Bool, ◌||◌, List, length, Option, Some, None, Result, Ok, Err, MatchResult, nat_eq, nat_le, nat_lt, if◌then◌else◌}
 use Rattle.byteorder.specs.Endian.{little_number}
 use Rattle.mq_blocks.specs.Windows.{number_at, window}
-use Rattle.mq_blocks.specs.Geometry.{queues_of, area_of, meta_of, zone_size}
+use Rattle.mq_blocks.specs.Geometry.{IsQueues, IsArea, AreHomes, queues_of, area_of, meta_of, zone_size, blocks_of_drive}
 use Rattle.mq_blocks.specs.declared.geometry.Geometry.{Geometry}
 use Rattle.mq_blocks.specs.declared.geometry.GeometryRefusal.{GeometryRefusal}
 use Rattle.mq_blocks.specs.declared.geometry.GeometryRefusal.TheVariants.{Queues, Area, Homes}
@@ -43,25 +43,26 @@ pub record IsGeometryIn (file : List ℕ) (g : Geometry) : Type 0 where
   pub meta : meta_of g ≡ meta_in file
   pub zone : zone_size g ≡ zone_in file
 
--- why four numbers are no geometry
-abbrev pub geometry_refusal : (queues area meta zone : ℕ) → Option GeometryRefusal
-geometry_refusal queues area meta zone =
-    if nat_le 1 queues && nat_le queues 16
-    then (if nat_le 1024 area && nat_le area 16384
-    then unless (nat_le (queues + 3) meta && (nat_le 1 zone && nat_le (meta + queues * zone) 32768)) (Homes meta zone)
-    else Some (Area area))
-    else Some (Queues queues)
+-- the four numbers of a header are those of a geometry, or the first that is out of its range is refused
+abbrev pub HasShape : List ℕ → Result Geometry GeometryRefusal → Type 0
+HasShape file (Ok g) = IsGeometryIn file g
+HasShape file (Err (Queues found)) = (IsQueues (queues_in file) → ⊥) × (found ≡ queues_in file)
+HasShape file (Err (Area found)) = IsQueues (queues_in file) × (IsArea (area_in file) → ⊥) × (found ≡ area_in file)
+HasShape file (Err (Homes meta zone)) =
+    IsQueues (queues_in file) × IsArea (area_in file) × (AreHomes (queues_in file) (meta_in file) (zone_in file) → ⊥)
+    × (meta ≡ meta_in file) × (zone ≡ zone_in file)
 
-abbrev pub geometry_fault : Option GeometryRefusal → Option FileFault
-geometry_fault None = None
-geometry_fault (Some refusal) = Some (Shape refusal)
+abbrev pub geometry_fault : Result Geometry GeometryRefusal → Option FileFault
+geometry_fault (Ok g) = None
+geometry_fault (Err refusal) = Some (Shape refusal)
 
-unfoldable pub header_fault : List ℕ → Option FileFault
-header_fault file =
+-- the first fault of a header of this shape
+unfoldable pub header_fault : Result Geometry GeometryRefusal → List ℕ → Option FileFault
+header_fault shape file =
     or_then (short_fault 40 file)
     (or_then (unless (nat_eq (number_at 8 0 file) (little_number 8 magic)) Magic)
     (or_then (unless (nat_eq (number_at 4 8 file) 1) (Version (number_at 4 8 file)))
-    (or_then (geometry_fault (geometry_refusal (queues_in file) (area_in file) (meta_in file) (zone_in file)))
+    (or_then (geometry_fault shape)
     (unless (nat_eq (number_at 4 28 file) 0) (Reserved (number_at 4 28 file))))))
 
 -- ---- the lengths
@@ -69,13 +70,6 @@ header_fault file =
 -- where the number of blocks stands, behind the rings
 abbrev pub count_at : ℕ → ℕ
 count_at queues = 40 + 65552 * queues
-
--- the blocks of the namespace
-abbrev pub namespace_size : (queues area meta zone : ℕ) → ℕ
-namespace_size queues area meta zone = queues * area + (meta + queues * zone)
-
-abbrev pub size_in : List ℕ → ℕ
-size_in file = namespace_size (queues_in file) (area_in file) (meta_in file) (zone_in file)
 
 abbrev pub count_in : List ℕ → ℕ
 count_in file = number_at 4 (count_at (queues_in file)) file
@@ -87,10 +81,10 @@ blocks_at file = count_at (queues_in file) + 4
 abbrev pub blocks_end : List ℕ → ℕ
 blocks_end file = blocks_at file + 4100 * count_in file
 
-unfoldable pub length_fault : List ℕ → Option FileFault
-length_fault file =
+unfoldable pub length_fault : Geometry → List ℕ → Option FileFault
+length_fault g file =
     or_then (short_fault (blocks_at file) file)
-    (or_then (unless (nat_le (count_in file) (size_in file)) (Count (count_in file)))
+    (or_then (unless (nat_le (count_in file) (blocks_of_drive g)) (Count (count_in file)))
     (short_fault (blocks_end file) file))
 
 -- ---- the blocks
@@ -106,17 +100,28 @@ record_fault size (suc count) index low at file =
     then Some (Zero (number_at 4 at file))
     else record_fault size count (index + 1) (number_at 4 at file + 1) (at + 4100) file)
 
-abbrev pub block_fault : List ℕ → Option FileFault
-block_fault file = record_fault (size_in file) (count_in file) 0 0 (blocks_at file) file
+abbrev pub block_fault : Geometry → List ℕ → Option FileFault
+block_fault g file = record_fault (blocks_of_drive g) (count_in file) 0 0 (blocks_at file) file
 
 -- ---- all
 
 abbrev pub extra_fault : ℕ → List ℕ → Option FileFault
 extra_fault end file = unless (nat_le (length file) end) (Extra (length file - end))
 
--- the first fault of a file
-unfoldable pub fault_of : List ℕ → Option FileFault
-fault_of file = or_then (header_fault file) (or_then (length_fault file) (or_then (block_fault file) (extra_fault (blocks_end file) file)))
+-- the first fault of a file with this geometry
+abbrev pub body_fault : Geometry → List ℕ → Option FileFault
+body_fault g file = or_then (length_fault g file) (or_then (block_fault g file) (extra_fault (blocks_end file) file))
+
+-- the first fault of a file of this shape
+unfoldable pub fault_of : Result Geometry GeometryRefusal → List ℕ → Option FileFault
+fault_of (Ok g) file = or_then (header_fault (Ok g) file) (body_fault g file)
+fault_of (Err refusal) file = header_fault (Err refusal) file
+
+-- the first fault of a file, or none
+pub record HasFault (file : List ℕ) (fault : Option FileFault) : Type 0 where
+  pub shape : Result Geometry GeometryRefusal
+  pub has : HasShape file shape
+  pub is : fault_of shape file ≡ fault
 
 -- a test is refused exactly where there is a fault, and names it
 abbrev pub Finds : {X : Type 0} → Option FileFault → Result X FileFault → Type 0
@@ -126,3 +131,11 @@ Finds fault result = MatchResult result (λ _. fault ≡ None) (λ e. fault ≡ 
 abbrev pub Refuses : Option FileFault → FileFault → Type 0
 Refuses fault OutOfMemory = Unit {0}
 Refuses fault cause = fault ≡ Some cause
+
+-- whatever the shape of the file's numbers, this is its first fault, unless memory ran out
+abbrev pub RefusesIn : List ℕ → FileFault → Type 0
+RefusesIn file e = (shape : Result Geometry GeometryRefusal) → HasShape file shape → Refuses (fault_of shape file) e
+
+-- a reading finds the first fault of the file, or none, unless memory runs out
+abbrev pub FindsFirst : {X : Type 0} → List ℕ → Result X FileFault → Type 0
+FindsFirst file result = (fault : Option FileFault) → HasFault file fault → MatchResult result (λ _. fault ≡ None) (Refuses fault)

@@ -1,10 +1,11 @@
 -- What the parts of a file are read as.
 use Rattle.std.specs.Prelude.{◌≡◌, ◌<◌, ◌≤◌, ℕ, ◌+◌, ◌*◌, List, ◌++◌, Option, length, take, slice_index_or}
 use Rattle.std.specs.List.{All, flat_map}
-use Rattle.mq_blocks.specs.Drive.{PortImage}
+use Rattle.mq_blocks.specs.Drive.{PortImage, depth}
 use Rattle.mq_blocks.specs.Geometry.{queues_of, area_of, meta_of, zone_size}
 use Rattle.mq_blocks.specs.Windows.{window}
 use Rattle.mq_blocks.specs.declared.geometry.Geometry.{Geometry}
+use Rattle.mq_image.specs.Drives.{HasWidths}
 use Rattle.mq_image.specs.File.{all_blocks, areas, namespace, no_port, ring_bytes, zones}
 use Rattle.mq_image.specs.Places.{IsInside, IsSpan, fault_left}
 use Rattle.mq_image.specs.declared.place.Place.{Place}
@@ -20,8 +21,9 @@ pub record IsPast (file : List ℕ) (old new : Place) (count : ℕ) : Type 0 whe
 -- a queue's port with a journal area and no zone
 pub record IsAreaPort (g : Geometry) (p : PortImage) : Type 0 where
   pub area : length p.blocks ≡ area_of g
-  pub slots : length p.slots ≡ 1024
+  pub slots : length p.slots ≡ depth
   pub base : p.base ≡ 0
+  pub widths : HasWidths p
 
 -- it was read as the port of this queue
 pub record IsAreaRead (g : Geometry) (file : List ℕ) (queue : ℕ) (old new : Place) (p : PortImage) : Type 0 where
@@ -40,8 +42,9 @@ pub record AreAreasRead (g : Geometry) (file : List ℕ) (count : ℕ) (old new 
 -- a queue's port
 pub record IsQueuePort (g : Geometry) (p : PortImage) : Type 0 where
   pub blocks : length p.blocks ≡ area_of g + zone_size g
-  pub slots : length p.slots ≡ 1024
+  pub slots : length p.slots ≡ depth
   pub base : p.base ≡ 0
+  pub widths : HasWidths p
 
 -- the port with the blocks of a zone behind its own
 abbrev pub with_zone : PortImage → List (Option (List ℕ)) → PortImage
@@ -64,6 +67,7 @@ pub record IsRootPort (g : Geometry) (base : ℕ) (p : PortImage) : Type 0 where
   pub doorbell : p.doorbell ≡ 0
   pub head : p.head ≡ 0
   pub base_is : p.base ≡ base
+  pub widths : HasWidths p
 
 -- all ports were read
 pub record ArePortsRead (g : Geometry) (base : ℕ) (file : List ℕ) (old new : Place) (ports : List PortImage) : Type 0 where

@@ -1,8 +1,10 @@
 // The head of a file, and the lengths of its parts.
-ghost use Rattle.std.specs.Prelude.{◌≡◌, ◌≤◌, ◌<◌, ◌+◌, ◌*◌, ℕ, None, Some, IfOk, MatchResult, length, slice_index};
-ghost use Rattle.mq_image.specs.Faults.{Finds, IsGeometryIn, unless, short_fault, header_fault, length_fault, extra_fault, geometry_refusal, geometry_fault, queues_in, area_in, meta_in, zone_in, size_in, count_in, blocks_at, blocks_end};
-ghost use Rattle.mq_blocks.specs.Geometry.{queues_of, area_of, meta_of, zone_size, homes_of};
+ghost use Rattle.std.specs.Prelude.{◌≡◌, ◌≤◌, ◌<◌, ◌+◌, ◌*◌, None, Ok, Result, Some, IfErr, IfOk, length};
+ghost use Rattle.mq_image.specs.Faults.{Finds, HasShape, IsGeometryIn, unless, short_fault, header_fault};
+ghost use Rattle.mq_image.specs.Faults.{length_fault, extra_fault, geometry_fault, count_in, blocks_end};
+ghost use Rattle.mq_blocks.specs.Geometry.{blocks_of_drive};
 ghost use Rattle.mq_blocks.specs.Windows.{number_at};
+ghost use Rattle.mq_blocks.specs.declared.geometry.GeometryRefusal.{GeometryRefusal};
 
 use crate::fault::FileFault;
 use mq_blocks::Geometry;
@@ -53,10 +55,10 @@ pub fn check_extra(file: &[u8], end: usize) -> Result<(), FileFault>
 /// The geometry in the head of a file.
 fn read_geometry(file: &[u8]) -> Result<Geometry, FileFault>
     requires { HEADER ≤ length file.now }
-    ensures finds { Finds (geometry_fault
-        (geometry_refusal (queues_in file.now) (area_in file.now) (meta_in file.now)
-        (zone_in file.now))) result }
     ensures is { IfOk result (IsGeometryIn file.now) }
+    ensures refused { IfErr result (λ e. (shape : Result Geometry GeometryRefusal)
+        → HasShape file.now shape
+        → geometry_fault shape ≡ Some e) }
 {
     let queues = u32_at(file, 12);
     let area = u32_at(file, 16);
@@ -68,9 +70,13 @@ fn read_geometry(file: &[u8]) -> Result<Geometry, FileFault>
 /// The head of a file.
 #[tactic(auto, unfolding(crate::specs::Faults::header_fault))]
 pub fn read_header(file: &[u8]) -> Result<Header, FileFault>
-    ensures finds { Finds (header_fault file.now) result }
-    ensures is { IfOk result (λ h. IsGeometryIn file.now h.geometry × (h.base ≡ number_at 8 32 file.now)) }
+    ensures none { IfOk result (λ h. header_fault (Ok h.geometry) file.now ≡ None) }
+    ensures geometry { IfOk result (λ h. IsGeometryIn file.now h.geometry) }
+    ensures base { IfOk result (λ h. h.base ≡ number_at 8 32 file.now) }
     ensures room { IfOk result (λ h. 40 ≤ length file.now) }
+    ensures refused { IfErr result (λ e. (shape : Result Geometry GeometryRefusal)
+        → HasShape file.now shape
+        → header_fault shape file.now ≡ Some e) }
 {
     check_length(file, 40)?;
     check(
@@ -92,10 +98,10 @@ pub fn read_header(file: &[u8]) -> Result<Header, FileFault>
 #[tactic(auto, unfolding(crate::specs::Faults::length_fault))]
 pub fn read_count(file: &[u8], geometry: Geometry) -> Result<u32, FileFault>
     requires head { IsGeometryIn file.now geometry }
-    ensures finds { Finds (length_fault file.now) result }
-    ensures is { IfOk result (λ count. (count ≡ count_in file.now)
-        × (count ≤ size_in file.now)
-        × (blocks_end file.now ≤ length file.now)) }
+    ensures finds { Finds (length_fault geometry file.now) result }
+    ensures is { IfOk result (λ count. count ≡ count_in file.now) }
+    ensures most { IfOk result (λ count. count ≤ blocks_of_drive geometry) }
+    ensures room { IfOk result (λ count. blocks_end file.now ≤ length file.now) }
 {
     let count_at = HEADER + RING * geometry.queues() as usize;
     check_length(file, count_at as u64 + 4)?;
@@ -110,7 +116,7 @@ pub fn read_count(file: &[u8], geometry: Geometry) -> Result<u32, FileFault>
 
 /// The blocks of the namespace.
 pub fn namespace_size(geometry: Geometry) -> u32
-    ensures is { result ≡ queues_of geometry * area_of geometry + homes_of geometry }
+    ensures is { result ≡ blocks_of_drive geometry }
     ensures most { result ≤ 294912 }
 {
     geometry.queues() * geometry.area() + geometry.homes()

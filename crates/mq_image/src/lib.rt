@@ -4,6 +4,7 @@
 mod fault;
 mod header;
 mod image;
+mod laws;
 mod place;
 mod read;
 mod ring;
@@ -13,5 +14,6 @@ mod write;
 
 pub use fault::FileFault;
 pub use image::DriveImage;
+pub use laws::written_images_are_read;
 pub use read::read_image;
 pub use write::write_image;

@@ -1,9 +1,10 @@
 // Reading the file of an image.
-ghost use Rattle.std.specs.Prelude.{◌≡◌, ◌≢◌, ◌⊎◌, ◌<◌, ◌≤◌, ◌+◌, ◌++◌, ◌*◌, ℕ, None, Some, IfOk, IfErr, IsErrOf, MatchResult, length, slice_index_or, slice_set};
-ghost use Rattle.mq_blocks.specs.Geometry.{queues_of, area_of, meta_of, zone_size, homes_of};
+ghost use Rattle.std.specs.Prelude.{◌≡◌, ◌⊎◌, ◌<◌, ◌≤◌, ◌+◌, ◌*◌, ◌^◌, None, Ok, Some, IfErr, IfOk, IsErrOf, MatchResult};
+ghost use Rattle.std.specs.Prelude.{length, slice_index_or, slice_set};
 ghost use Rattle.std.specs.List.{All};
+ghost use Rattle.mq_blocks.specs.Geometry.{queues_of, area_of, zone_size, blocks_of_drive};
 ghost use Rattle.mq_image.specs.Drives.{IsRead};
-ghost use Rattle.mq_image.specs.Faults.{Finds, Refuses, fault_of};
+ghost use Rattle.mq_image.specs.Faults.{FindsFirst, HasFault, IsGeometryIn, Refuses, RefusesIn, fault_of};
 ghost use Rattle.mq_image.specs.File.{no_port};
 ghost use Rattle.mq_image.specs.Places.{IsInside, fault_left};
 ghost use Rattle.mq_image.specs.Reads.{AreAreasRead, ArePortsRead, AreZonesRead, IsAreaPort, IsAreaRead, with_zone};
@@ -22,9 +23,9 @@ use std::alloc::Global;
 /// failed. Each block is copied once, and a block of zeros takes no memory.
 pub fn read_image(alloc: Global, bytes: &[u8]) -> Result<DriveImage, FileFault>
     ensures sound { IfOk result (λ x. IsRead x bytes.now) }
-    ensures finds { MatchResult result (λ _. fault_of bytes.now ≡ None) (Refuses (fault_of bytes.now)) }
+    ensures finds { FindsFirst bytes.now result }
     ensures exact { (e : FileFault)
-        → fault_of bytes.now ≡ Some e
+        → HasFault bytes.now (Some e)
         → IsErrOf result e ⊎ IsErrOf result FileFault.OutOfMemory }
 {
     read_file(alloc, bytes)
@@ -32,7 +33,8 @@ pub fn read_image(alloc: Global, bytes: &[u8]) -> Result<DriveImage, FileFault>
 
 fn read_file(alloc: Global, bytes: &[u8]) -> Result<DriveImage, FileFault>
     ensures sound { IfOk result (λ x. IsRead x bytes.now) }
-    ensures finds { MatchResult result (λ _. fault_of bytes.now ≡ None) (Refuses (fault_of bytes.now)) }
+    ensures finds { MatchResult result (λ x. IsGeometryIn bytes.now x.geometry
+        × (fault_of (Ok x.geometry) bytes.now ≡ None)) (RefusesIn bytes.now) }
 {
     let header = read_header(bytes)?;
     let count = read_count(bytes, header.geometry)?;
@@ -46,7 +48,13 @@ fn read_file(alloc: Global, bytes: &[u8]) -> Result<DriveImage, FileFault>
 }
 
 fn first_place(geometry: Geometry, count: u32) -> Place
-    ensures { result ≡ record { at = 40 + 65552 * queues_of geometry + 4; left = count; index = 0; lba = 0; size = queues_of geometry * area_of geometry + homes_of geometry } }
+    ensures { result ≡ record {
+      at = 40 + 65552 * queues_of geometry + 4;
+      left = count;
+      index = 0;
+      lba = 0;
+      size = blocks_of_drive geometry;
+    } }
 {
     let at = HEADER + RING * geometry.queues() as usize + 4;
     Place::new(at, count, namespace_size(geometry))
@@ -62,9 +70,10 @@ fn read_ports(
     requires inside { IsInside place.old file.now }
     requires rings { 40 + 65552 * queues_of header.now.geometry ≤ length file.now }
     requires start { place.old.lba ≡ 0 }
-    requires size { place.old.size ≡ queues_of header.now.geometry * area_of header.now.geometry + homes_of header.now.geometry }
-    ensures { MatchResult result (λ v. ArePortsRead header.now.geometry header.now.base file.now place.old place.new v.items) (Refuses
-        (fault_left place.old file.now)) }
+    requires size { place.old.size ≡ blocks_of_drive header.now.geometry }
+    requires base { header.now.base < 2 ^ 64 }
+    ensures { MatchResult result (λ v. ArePortsRead header.now.geometry header.now.base file.now
+        place.old place.new v.items) (Refuses (fault_left place.old file.now)) }
 {
     let geometry = header.geometry;
     let mut ports = read_queues(alloc, file, geometry, place)?;

@@ -1,6 +1,7 @@
 // A queue's words and ring in a file.
 ghost use Rattle.std.specs.Prelude.{◌≡◌, ◌≤◌, ◌<◌, ◌+◌, ◌*◌, ◌^◌, ◌++◌, ℕ, [], All, length, IfOk};
 ghost use Rattle.std.specs.List.{flat_map};
+ghost use Rattle.mq_blocks.specs.Drive.{depth};
 ghost use Rattle.mq_blocks.specs.Windows.{window, number_at, Shows};
 ghost use Rattle.mq_nvme.specs.Dwords.{AreDwords, dword_bytes};
 
@@ -26,7 +27,7 @@ fn entry_at(file: &[u8], at: usize) -> Entry
 /// The slots of a ring that stand from `at` on.
 pub fn read_slots(alloc: Global, file: &[u8], at: usize) -> Result<Vec<Entry>, OutOfMemory>
     requires { at + 65536 ≤ length file.now }
-    ensures count { IfOk result (λ v. length v.items ≡ 1024) }
+    ensures count { IfOk result (λ v. length v.items ≡ depth) }
     ensures dwords { IfOk result (λ v. All (λ e. AreDwords 16 e) v.items) }
     ensures bytes { IfOk result (λ v. flat_map dword_bytes v.items ≡ window file.now at 65536) }
 {

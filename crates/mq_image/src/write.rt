@@ -5,7 +5,9 @@ ghost use Rattle.std.specs.Int.{to_le_bytes, w32, w64};
 ghost use Rattle.mq_blocks.specs.Geometry.{area_of};
 ghost use Rattle.mq_nvme.specs.Dwords.{dword_bytes};
 ghost use Rattle.mq_image.specs.Drives.{IsDrive};
-ghost use Rattle.mq_image.specs.File.{HasArea, all_blocks, areas, file_bytes, header_bytes, image_bytes, kept, namespace, one_of, record_bytes, record_count, records, ring_bytes, zones};
+ghost use Rattle.mq_image.specs.File.{HasArea, all_blocks, areas, file_bytes, header_bytes, image_bytes};
+ghost use Rattle.mq_image.specs.File.{kept, namespace, one_of, record_bytes, record_count, records};
+ghost use Rattle.mq_image.specs.File.{ring_bytes, zones};
 
 use crate::header::{HEADER, MAGIC, RECORD, RING};
 use crate::image::DriveImage;

@@ -1,12 +1,24 @@
-use Rattle.std.proofs.Common.{get_or, ◌<◌, ◌∙◌, refl, arith}
-use Rattle.mq_image.proofs.Readings.{ring-read}
+use Rattle.std.proofs.Common.{get_or, ℕ, ◌<◌, ◌∙◌, refl, arith}
+use Rattle.mq_image.proofs.Readings.{ring-read, word-below}
 use Rattle.mq_image.proofs.read.read_port.Goals as goal
 
 pub returns : goal.returns
-returns c = record {
-  port = record { area = c.in_ok-blocks.ensures.count ∙ c.area.ensures; slots = c.in_ok-slots.ensures.count; base = refl };
-  span = c.in_ok-blocks.ensures.gives;
-  ring =
-      let room = c.requires.room in
-      ring-read c.args.file.now _ _ (omega arith) (λ k. let f : get_or c.args.file.now k 0 < 256 = omega (arith, c.type_inv.file k) in f) c.u64_at-doorbell.ensures c.u64_at-head.ensures c.in_ok-slots.ensures.bytes;
-}
+returns c =
+    let room = c.requires.room in
+    let small : (k : ℕ) → get_or c.args.file.now k 0 < 256 = λ k. let f : get_or c.args.file.now k 0 < 256 = omega (arith, c.type_inv.file k) in f in
+    record {
+      port = record {
+        area = c.in_ok-blocks.ensures.count ∙ c.area.ensures;
+        slots = c.in_ok-slots.ensures.count;
+        base = refl;
+        widths = record {
+          doorbell = word-below _ _ c.args.file.now small c.u64_at-doorbell.ensures;
+          head = word-below _ _ c.args.file.now small c.u64_at-head.ensures;
+          base = omega arith;
+          slots = c.in_ok-slots.ensures.dwords;
+          blocks = c.in_ok-blocks.ensures.gives.bytes;
+        };
+      };
+      span = c.in_ok-blocks.ensures.gives;
+      ring = ring-read c.args.file.now _ _ (omega arith) small c.u64_at-doorbell.ensures c.u64_at-head.ensures c.in_ok-slots.ensures.bytes;
+    }
