@@ -13,6 +13,7 @@ use Rattle.mq_blocks.specs.Drive.{PortState, PortImage, staged_end, index_of}
 use Rattle.mq_nvme.specs.Dwords.{AreDwords, dword_bytes}
 use Rattle.mq_drive.specs.Choices.{Chance, torn, next_bytes, next_slot, next_block, without, with_begun, torn_slots, torn_block, torn_blocks, writes_of, by_count, in_doubt, cut_of, generator_of, either_of, dwords_of}
 use Rattle.mq_drive.specs.Failures.{failed_of, unended_of, while_in, doubt_after, written_by}
+use Rattle.mq_drive.proofs.Doubts.{some_for}
 use Rattle.mq_drive.specs.declared.failing.Failure.{Failure}
 use Rattle.mq_drive.specs.declared.failing.Failure.TheVariants.{Queued, Home}
 
@@ -185,8 +186,115 @@ pub cut_is : (s : PortState) (r : Chance) (pick n : ℕ) (r0 r1 r2 r3 r4 : Lcg) 
     → ◌≡◌ {A = PortImage} (record { doorbell = s.doorbell; head = head; base = base; slots = slots; blocks = blocks }) (cut_of s r pick)
 cut_is s r pick n r0 r1 r2 r3 r4 slots head base blocks start count by_slots by_head by_base by_blocks =
     let first = by_slots ∙ ap (λ (k : ℕ). torn_slots k s.flushed_end s.staged s.flushed r0) count
-        ∙ ap (λ (g : Lcg). torn_slots (staged_end s - s.flushed_end) s.flushed_end s.staged s.flushed g) start in
+    ∙ ap (λ (g : Lcg). torn_slots (staged_end s - s.flushed_end) s.flushed_end s.staged s.flushed g) start in
     let second = by_head ∙ ap (λ (p : List (List ℕ) × Lcg). either_of s.head s.stored_head p.1) first in
     let third = by_base ∙ ap (λ (p : ℕ × Lcg). either_of s.base s.stored_base p.1) second in
     let last = by_blocks ∙ ap (λ (p : ℕ × Lcg). torn_blocks (index_of s) (in_doubt s r) s.blocks p.1) third in
     λ i. record { doorbell = s.doorbell; head = (second i).0; base = (third i).0; slots = (first i).0; blocks = (last i).0 }
+
+-- ---- what a device leaves to chance
+
+nothing : {A : Type 0} (doubt : Option ℕ) → while_in {A = A} doubt [] ≡ []
+nothing None = refl
+nothing (Some k) = refl
+
+no_failed : (doubt : Option ℕ) (failure : Option Failure) → failure ≡ None → while_in doubt (failed_of failure) ≡ []
+no_failed doubt failure none = ap (λ (o : Option Failure). while_in doubt (failed_of o)) none ∙ nothing doubt
+
+no_unended : (doubt : Option ℕ) (failure : Option Failure) → failure ≡ None → while_in doubt (unended_of failure) ≡ []
+no_unended doubt failure none = ap (λ (o : Option Failure). while_in doubt (unended_of o)) none ∙ nothing doubt
+
+-- a write has completed, and nothing is under way
+pub chance_done : (s : PortState) (number : ℕ) (order last : Lcg) (doubt new : Option ℕ) (failure : Option Failure) (under : Option HomeWrite) (lba : ℕ)
+    → ForSome failure (λ f. ForSome doubt (λ k. index_of s (written_by f) ≡ k)) → under ≡ None → new ≡ doubt_after doubt (index_of s lba) → order ≡ last
+    → ◌≡◌ {A = Chance} (record { number = number; order = order; failed = while_in new (failed_of failure); begun = while_in new (unended_of failure) ++ option_to_list under })
+    (record {
+      number = number;
+      order = last;
+      failed = filter (λ c. not (eqb (index_of s c.lba) (index_of s lba))) (while_in doubt (failed_of failure));
+      begun = filter (λ w. not (eqb (index_of s w.lba) (index_of s lba))) (while_in doubt (unended_of failure) ++ option_to_list under);
+    })
+chance_done s number order last doubt new failure under lba own none is same =
+    let failed = ap (λ (o : Option ℕ). while_in o (failed_of failure)) is ∙ failed_left (index_of s) doubt failure (index_of s lba) own in
+    let begun = ap (λ (o : Option ℕ). while_in o (unended_of failure) ++ option_to_list under) is ∙ begun_left (index_of s) doubt failure under (index_of s lba) own none in
+    λ i. record { number = number; order = same i; failed = failed i; begun = begun i }
+
+-- the first command has failed
+pub chance_failed : (number k : ℕ) (order last : Lcg) (doubt new : Option ℕ) (failure : Option Failure) (under : Option HomeWrite) (c : Command)
+    → failure ≡ None → new ≡ Some k → order ≡ last
+    → ◌≡◌ {A = Chance} (record { number = number; order = order; failed = while_in new (failed_of (Some (Queued c))); begun = while_in new (unended_of (Some (Queued c))) ++ option_to_list under })
+    (record {
+      number = number;
+      order = last;
+      failed = while_in doubt (failed_of failure) ++ c ∷ [];
+      begun = while_in doubt (unended_of failure) ++ option_to_list under;
+    })
+chance_failed number k order last doubt new failure under c none is same =
+    let failed = ap (λ (o : Option ℕ). while_in o (c ∷ [])) is ∙ sym (ap (λ (l : List Command). l ++ c ∷ []) (no_failed doubt failure none)) in
+    let begun = ap (λ (l : List HomeWrite). l ++ option_to_list under) (nothing new ∙ sym (no_unended doubt failure none)) in
+    λ i. record { number = number; order = same i; failed = failed i; begun = begun i }
+
+-- the first home write has failed
+pub chance_home : (number k : ℕ) (order : Lcg) (doubt new : Option ℕ) (failure : Option Failure) (under : Option HomeWrite) (w : HomeWrite)
+    → failure ≡ None → under ≡ None → new ≡ Some k
+    → ◌≡◌ {A = Chance} (record { number = number; order = order; failed = while_in new (failed_of (Some (Home w))); begun = while_in new (unended_of (Some (Home w))) ++ option_to_list under })
+    (record {
+      number = number;
+      order = order;
+      failed = while_in doubt (failed_of failure);
+      begun = (while_in doubt (unended_of failure) ++ option_to_list under) ++ w ∷ [];
+    })
+chance_home number k order doubt new failure under w none idle is =
+    let failed = nothing new ∙ sym (no_failed doubt failure none) in
+    let first = ap (λ (o : Option ℕ). while_in o (w ∷ []) ++ option_to_list under) is ∙ ap (λ (u : Option HomeWrite). w ∷ option_to_list u) idle in
+    let second = ap (λ (l : List HomeWrite). (l ++ option_to_list under) ++ w ∷ []) (no_unended doubt failure none) ∙ ap (λ (u : Option HomeWrite). option_to_list u ++ w ∷ []) idle in
+    let begun = first ∙ sym second in
+    λ i. record { number = number; order = order; failed = failed i; begun = begun i }
+
+-- a home write is cut short
+pub chance_open : (number : ℕ) (order : Lcg) (doubt new : Option ℕ) (failure : Option Failure) (under : Option HomeWrite) (w : HomeWrite) → under ≡ None → new ≡ doubt
+    → ◌≡◌ {A = Chance} (record { number = number; order = order; failed = while_in new (failed_of failure); begun = while_in new (unended_of failure) ++ w ∷ [] })
+    (record {
+      number = number;
+      order = order;
+      failed = while_in doubt (failed_of failure);
+      begun = (while_in doubt (unended_of failure) ++ option_to_list under) ++ w ∷ [];
+    })
+chance_open number order doubt new failure under w idle is =
+    let failed = ap (λ (o : Option ℕ). while_in o (failed_of failure)) is in
+    let before = ap (λ (u : Option HomeWrite). while_in doubt (unended_of failure) ++ option_to_list u) idle ∙ append-nil (while_in doubt (unended_of failure)) in
+    let begun = ap (λ (o : Option ℕ). while_in o (unended_of failure) ++ w ∷ []) is ∙ sym (ap (λ (l : List HomeWrite). l ++ w ∷ []) before) in
+    λ i. record { number = number; order = order; failed = failed i; begun = begun i }
+
+pub new_doubt : (new : Option ℕ) (j p : ℕ) → new ≡ Some j → j ≡ p → ForSome new (λ x. p ≡ x)
+new_doubt new j p is at = subst (λ (o : Option ℕ). ForSome o (λ x. p ≡ x)) (sym is) (some_for j (λ x. p ≡ x) (sym at))
+
+-- ---- the writes that a cut tears
+
+abbrev First : {A : Type 0} → (A → Type 0) → List A → Type 0
+First P [] = Unit {0}
+First P (x ∷ xs) = P x
+
+first_for : {A : Type 0} (P : A → Type 0) (o : Option A) → First P (option_to_list o) → ForSome o P
+first_for P None holds = λ x is. none_some x is
+first_for P (Some x) holds = some_for x P holds
+
+first_failed : (Q : ℕ → Type 0) (doubt : Option ℕ) (failure : Option Failure) → ForSome failure (λ f. ForSome doubt (λ k. Q (written_by f))) → First (λ c. Q c.lba) (while_in doubt (failed_of failure))
+first_failed Q None failure holds = tt
+first_failed Q (Some k) None holds = tt
+first_failed Q (Some k) (Some (Queued c)) holds = holds (Queued c) refl k refl
+first_failed Q (Some k) (Some (Home w)) holds = tt
+
+first_unended : (Q : ℕ → Type 0) (doubt : Option ℕ) (failure : Option Failure) → ForSome failure (λ f. ForSome doubt (λ k. Q (written_by f))) → First (λ w. Q w.lba) (while_in doubt (unended_of failure))
+first_unended Q None failure holds = tt
+first_unended Q (Some k) None holds = tt
+first_unended Q (Some k) (Some (Queued c)) holds = tt
+first_unended Q (Some k) (Some (Home w)) holds = holds (Home w) refl k refl
+
+pub failed_for : (Q : ℕ → Type 0) (doubt : Option ℕ) (failure : Option Failure) (failed : Option Command) → option_to_list failed ≡ while_in doubt (failed_of failure)
+    → ForSome failure (λ f. ForSome doubt (λ k. Q (written_by f))) → ForSome failed (λ c. Q c.lba)
+failed_for Q doubt failure failed is holds = first_for (λ c. Q c.lba) failed (subst (First (λ c. Q c.lba)) (sym is) (first_failed Q doubt failure holds))
+
+pub unended_for : (Q : ℕ → Type 0) (doubt : Option ℕ) (failure : Option Failure) (unended : Option HomeWrite) → option_to_list unended ≡ while_in doubt (unended_of failure)
+    → ForSome failure (λ f. ForSome doubt (λ k. Q (written_by f))) → ForSome unended (λ w. Q w.lba)
+unended_for Q doubt failure unended is holds = first_for (λ w. Q w.lba) unended (subst (First (λ w. Q w.lba)) (sym is) (first_unended Q doubt failure holds))

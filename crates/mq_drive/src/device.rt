@@ -1,5 +1,6 @@
 // What a port in memory keeps, and how it changes.
-ghost use Rattle.std.specs.Prelude.{◌≡◌, ◌<◌, ◌≤◌, ◌+◌, ◌-◌, ◌*◌, ◌/◌, ◌%◌, ◌^◌, ℕ, List, [], ◌∷◌, length, true, false, is_some, IfOk, OnOk, OnErr, All, IsSome, IsNone, IsTrue, ◌↔◌, slice_index_or, Some, None, Contains};
+ghost use Rattle.std.specs.Prelude.{◌≡◌, ◌<◌, ◌≤◌, ◌+◌, ◌-◌, ◌*◌, ◌/◌, ◌%◌, ◌^◌, ℕ, List, [], ◌∷◌, length, true, false, is_some, IfOk};
+ghost use Rattle.std.specs.Prelude.{OnOk, OnErr, All, IsSome, IsNone, IsTrue, ◌↔◌, slice_index_or, Some, None, Contains};
 ghost use Rattle.std.specs.Option.{ForSome, option_to_list};
 ghost use Rattle.std.specs.VecDeque.{deque_capacity};
 ghost use Rattle.mq_blocks.specs.Drive.{AreCounted, AreCounted-prop};
@@ -73,9 +74,11 @@ pub struct Device<'f> {
     ghost pending_last: { 0 < length pending.items → doorbell + length pending.items ≤ 2 ^ 63 },
     ghost pending_order: { 0 < length pending.items → stored_head ≤ doorbell },
     ghost pending_counted: { AreCounted doorbell (doorbell + length pending.items) pending.items } by { AreCounted-prop doorbell (doorbell + length pending.items) pending.items },
-    ghost pending_own: { All (λ c. (area.first ≤ c.lba) × (index_in area.first area.size homes.first c.lba < length blocks.stored.items)) pending.items },
+    ghost pending_own: { All (λ c. (area.first ≤ c.lba)
+        × (index_in area.first area.size homes.first c.lba < length blocks.stored.items)) pending.items },
     ghost posted_counted: { AreCounted stored_head doorbell posted.items } by { AreCounted-prop stored_head doorbell posted.items },
-    ghost posted_own: { All (λ c. (area.first ≤ c.lba) × (index_in area.first area.size homes.first c.lba < length blocks.stored.items)) posted.items },
+    ghost posted_own: { All (λ c. (area.first ≤ c.lba)
+        × (index_in area.first area.size homes.first c.lba < length blocks.stored.items)) posted.items },
     ghost heads: { head ≤ stored_head },
     ghost sized: { area.size + homes.size ≡ length blocks.stored.items },
     ghost area_before: { area.first + area.size ≤ homes.first },
@@ -91,8 +94,10 @@ pub struct Device<'f> {
     ghost failure_doubt: { ForSome failure (λ f. ForSome blocks.doubt (λ k. index_in area.first
         area.size homes.first (written_by f) ≡ k)) },
     ghost under_way_last: { ForSome under_way (λ w. 0 < power.offs) },
-    ghost under_way_own: { ForSome under_way (λ w. (area.first ≤ w.lba) × (index_in area.first area.size homes.first w.lba < length blocks.stored.items)) },
-    ghost under_way_doubt: { ForSome under_way (λ w. slice_index_or blocks.certain.items (index_in area.first area.size homes.first w.lba) false ≡ false) },
+    ghost under_way_own: { ForSome under_way (λ w. (area.first ≤ w.lba)
+        × (index_in area.first area.size homes.first w.lba < length blocks.stored.items)) },
+    ghost under_way_doubt: { ForSome under_way (λ w. slice_index_or blocks.certain.items
+        (index_in area.first area.size homes.first w.lba) false ≡ false) },
 }
 
 impl<'f> Device<'f> {

@@ -38,11 +38,7 @@ pub fn either(rng: &mut Lcg128Xsl64, old: u64, new: u64) -> u64
     if old == new {
         return old;
     }
-    if rng.next_word() % 2 == 1 {
-        new
-    } else {
-        old
-    }
+    if rng.next_word() % 2 == 1 { new } else { old }
 }
 
 /// The old entry, the new one, or the generator's next 64 bytes.

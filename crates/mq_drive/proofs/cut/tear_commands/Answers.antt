@@ -37,7 +37,7 @@ loop-command-preserved c =
       one = λ x some. inv.one x (c.tear_earlier-failed.ensures.left x some);
       left =
           block_step place (record { lba = c.in-Some.command.lba; block = c.in-Some.command.block }) (writes_of (by_count (option_to_list c.tear_earlier-failed.result) c.pop_front.new.self.items))
-              c.block_index-index.result c.tear_earlier-failed.new.blocks.stored.items c.tear.new.self.stored.items c.tear_earlier-failed.new.rng c.tear.new.rng c.block_index-index.ensures c.tear.ensures.chosen
+          c.block_index-index.result c.tear_earlier-failed.new.blocks.stored.items c.tear.new.self.stored.items c.tear_earlier-failed.new.rng c.tear.new.rng c.block_index-index.ensures c.tear.ensures.chosen
           ∙ c.tear_earlier-failed.ensures.chosen c.in-Some.command c.pop_front.new.self.items refl
           ∙ ap (λ (cs : List Command). Rattle.mq_drive.specs.Choices.torn_blocks place (writes_of (by_count (option_to_list c.loop-command.failed) cs)) c.loop-command.blocks.stored.items c.loop-command.rng) (sym is)
           ∙ inv.left;
