@@ -1,5 +1,7 @@
 pub mod Addresses
+pub mod Among
 mod Examples
 pub mod Readings
+pub mod Totals
 pub mod Windows
 pub mod Written

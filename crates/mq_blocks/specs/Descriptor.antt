@@ -17,6 +17,10 @@ pub record Descriptor : Type 0 where
   -- the home blocks whose earlier copies count no more
   pub revoked : List ℕ
 
+-- the most blocks that a descriptor lists, logged and revoked together
+abbrev pub list_limit : ℕ
+list_limit = 1000
+
 -- numbers from `low` on and below `high`, each above the one before it
 abbrev pub AreRising : ℕ → ℕ → List ℕ → Type 0
 AreRising low high [] = Unit {0}
@@ -40,7 +44,7 @@ pub record IsGood (homes : ℕ) (d : Descriptor) : Type 0 where
   pub falls : d.prev_number < d.number
   pub first : d.prev_number ≡ 0 → d.prev_place ≡ 0
   pub before : 0 < d.prev_number → d.prev_place + length d.logged < d.place
-  pub counts : length d.logged + length d.revoked ≤ 1000
+  pub counts : length d.logged + length d.revoked ≤ list_limit
   pub fits : length d.logged ≤ d.place
   pub logged : AreRising 0 homes d.logged
   pub revoked : AreRising 0 homes d.revoked

@@ -14,6 +14,11 @@ use Rattle.mq_blocks.specs.declared.command.HomeWrite.{HomeWrite}
 abbrev pub depth : ℕ
 depth = 1024
 
+-- how many of them may be in use at once: from the head to the staged end one slot stays free, so that the one
+-- before the head is never written
+abbrev pub usable_depth : ℕ
+usable_depth = 1023
+
 -- which event fuse it is: after how many events the power goes off, where that is told, and the numbers
 -- that tell the fuse from all others
 pub record FuseName : Type 0 where

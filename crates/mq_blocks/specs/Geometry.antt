@@ -19,6 +19,10 @@ queues_of g = g.queues
 abbrev pub area_of : Geometry → ℕ
 area_of g = g.area
 
+-- the most blocks that one transaction writes on such a drive
+abbrev pub write_limit : Geometry → ℕ
+write_limit g = 1000
+
 -- the blocks of the metadata region
 abbrev pub meta_of : Geometry → ℕ
 meta_of g = g.meta

@@ -3,7 +3,7 @@
 use Rattle.std.specs.Prelude.{◌≡◌, ◌≢◌, ◌⊎◌, ◌<◌, ◌≤◌, ℕ, ◌+◌, ◌-◌, ◌*◌, ◌%◌, ◌^◌, Bool, true, false, List, [], ◌∷◌, length, Option, Some, None, slice_index_or, nat_eq, if◌then◌else◌}
 use Rattle.mq_blocks.specs.Blocks.{block_at}
 use Rattle.mq_blocks.specs.Descriptor.{Descriptor, IsGood, descriptor_bytes}
-use Rattle.mq_blocks.specs.Drive.{PortImage, depth}
+use Rattle.mq_blocks.specs.Drive.{PortImage, depth, usable_depth}
 use Rattle.mq_blocks.specs.Geometry.{homes_of, area_lba, zone_of}
 use Rattle.mq_blocks.specs.declared.geometry.Geometry.{Geometry}
 
@@ -78,7 +78,7 @@ pub record IsQueueChain (g : Geometry) (i : Shown) (q : ℕ) (ds : List Descript
   pub lba : ℕ
   pub place : ℕ
   pub order : i.head q ≤ i.doorbell q
-  pub few : i.doorbell q - i.head q ≤ 1023
+  pub few : i.doorbell q - i.head q ≤ usable_depth
   pub low : i.doorbell q ≤ number_limit
   pub none : i.head q ≡ 0 → number ≡ 0
   pub newest : 0 < i.head q → IsCommit i q (i.head q - 1) number lba

@@ -4,4 +4,6 @@ pub mod Drive
 pub mod Geometry
 pub mod Journal
 pub mod Machine
+pub mod Ports
+pub mod Totals
 pub mod Windows

@@ -29,7 +29,8 @@ pub enum GeometryRefusal {
 }
 
 impl Geometry {
-    ghost use Rattle.mq_blocks.specs.Geometry.{queues_of, area_of, meta_of, zone_size, homes_of, home_lba, zone_of, area_lba, IsQueues, IsArea, AreHomes};
+    ghost use Rattle.mq_blocks.specs.Geometry.{queues_of, area_of, meta_of, zone_size, homes_of};
+    ghost use Rattle.mq_blocks.specs.Geometry.{home_lba, zone_of, area_lba, write_limit, IsQueues, IsArea, AreHomes};
 
     /// The geometry of these numbers. The first number that is out of its range is refused.
     pub fn new(queues: u32, area: u32, meta: u32, zone: u32) -> Result<Geometry, GeometryRefusal>
@@ -86,6 +87,13 @@ impl Geometry {
         ensures { result ≡ zone_size self.now }
     {
         self.zone
+    }
+
+    /// The most blocks that one transaction writes.
+    pub fn write_limit(&self) -> u32
+        ensures { result ≡ write_limit self.now }
+    {
+        1000
     }
 
     /// All home blocks.

@@ -6,10 +6,12 @@ pub mod bytes;
 mod command;
 mod geometry;
 mod laws;
+mod limits;
 mod numbers;
 
 pub use block::{Block, OutOfMemory};
 pub use command::{Command, HomeWrite};
 pub use geometry::{Geometry, GeometryRefusal};
 pub use laws::addresses_are_apart;
+pub use limits::{LIST_LIMIT, RING_DEPTH, USABLE_DEPTH};
 pub use numbers::{BlockNo, Lba, QueueNo, TxNo};

@@ -30,7 +30,7 @@ use Rattle.mq_turns.specs.Marks.{mark_of, claim_of}
 use Rattle.mq_turns.specs.Words.{same_turn, after_clear, MayClear}
 use Rattle.mq_turns.proofs.Seen.{sees_before, sees_look, sees_taken, turn_seen, opening_seen, mark_stays, stands_seen}
 use Rattle.mq_turns.proofs.Slots.{page_at, side_at}
-use Rattle.mq_turns.proofs.Totals.{hit, times_without_other}
+use Rattle.mq_turns.proofs.Each.{hit, times_without_other}
 use Rattle.mq_port_desk.specs.Laws.{unclaimed, length_history}
 use Rattle.mq_port_desk.specs.Machine.{tx_of, side_of, root_of, shape_of, ports}
 use Rattle.mq_port_desk.specs.Ports

@@ -24,7 +24,7 @@ use Rattle.mq_turns.specs.declared.rule.Known.{Known as Shared}
 use Rattle.mq_turns.specs.declared.turn.Turn.{Turn}
 use Rattle.mq_turns.specs.declared.turn.Turn.TheVariants.{Page, Side, Root}
 use Rattle.mq_turns.proofs.Changes.{turn_is}
-use Rattle.mq_turns.proofs.Totals.{each_map}
+use Rattle.mq_turns.proofs.Each.{each_map}
 use Rattle.mq_port_desk.specs.Faults.{charged_to}
 use Rattle.mq_port_desk.specs.Ports
 use Rattle.mq_port_desk.specs.Ports.{SideView, same_port, is_claimed, is_ended, last_ended, last_direct, numbered, start_of, from_of, IsOk, IsPage, IsSide, IsRoot, May, next_tx, faults_of}

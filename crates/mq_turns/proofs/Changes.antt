@@ -1,10 +1,10 @@
 -- What becomes known otherwise than by a draw: numbers are done, a home write ended, the base is raised.
-use Rattle.std.proofs.Common.{◌≡◌, ◌≢◌, ℕ, ◌<◌, ◌≤◌, eqb, Bool, true, false, List, length, get_or, set, sym, refl, ap, ◌∙◌, subst, arith}
+use Rattle.std.proofs.Common.{◌≡◌, ◌≢◌, ℕ, ◌<◌, ◌≤◌, Bool, true, false, List, length, get_or, set, sym, refl, ap, ◌∙◌, subst, arith}
 use Rattle.std.proofs.lemmas.Bool.{false≢true, eq-eqb, eqb-true}
 use mathlib.Core.Option.{some}
 use lib.ListN.{get_elem?}
 use Rattle.mq_turns.specs.Lists.{times}
-use Rattle.mq_turns.specs.Meaning.{Meaning, Grows}
+use Rattle.mq_turns.specs.Meaning.{Meaning}
 use Rattle.mq_turns.specs.Desk.{slots, IsTurn, slot_of, turn_at, refreshed, Now, Stay, Turns, Numbers, Words, Ruled}
 use Rattle.mq_turns.specs.Words.{same_turn}
 use Rattle.mq_turns.specs.declared.rule.Opening.{Opening}

@@ -1,6 +1,6 @@
 -- What is known done stays so, and the marks are right after each kind of step.
-use Rattle.std.proofs.Common.{◌≡◌, ◌≢◌, ◌⊎◌, ℕ, suc, ◌+◌, ◌-◌, ◌<◌, ◌≤◌, ◌&&◌, ◌||◌, eqb, max, min, nat_le, Bool, true, false, cond, List, [], ◌∷◌, ◌++◌, length, sym, refl, ap, ◌∙◌, subst, arith, inl, inr}
-use Rattle.std.proofs.lemmas.Bool.{cases_Bool, false≢true, eq-eqb, eqb-true, ne_eqb, leb-true, leb-false, le-leb, or_left, or_right, or_cases, and_parts}
+use Rattle.std.proofs.Common.{◌≡◌, ◌≢◌, ℕ, suc, ◌-◌, ◌<◌, ◌≤◌, ◌&&◌, eqb, max, min, nat_le, Bool, true, false, List, [], ◌∷◌, ◌++◌, length, sym, refl, ap, ◌∙◌, arith, inl, inr}
+use Rattle.std.proofs.lemmas.Bool.{cases_Bool, false≢true, eq-eqb, eqb-true, ne_eqb, leb-true, leb-false, le-leb, or_left, or_right}
 use Rattle.mq_turns.specs.Lists.{Each}
 use Rattle.mq_turns.specs.Meaning.{Meaning, Grows, newest, drawn, claimed, IsAt}
 use Rattle.mq_turns.specs.Marks.{is_claimed, mark_of, claim_of, passed, shown, unread, read_first, read_both, DoneBelow, DoneTo, Marked, Reader}
@@ -8,7 +8,7 @@ use Rattle.mq_turns.specs.declared.rule.Claim.{Claim}
 use Rattle.mq_turns.specs.declared.rule.Known.{Known}
 use Rattle.mq_turns.specs.declared.rule.Reading.{Reading}
 use Rattle.mq_turns.specs.declared.turn.Turn.TheVariants.{Side}
-use Rattle.mq_turns.proofs.Totals.{each_map}
+use Rattle.mq_turns.proofs.Each.{each_map}
 use Rattle.mq_turns.proofs.Growth.{at_bounds, at_back, newest_grows, grows_on}
 
 pub claimed_more : (q n : ℕ) (newer cs : List Claim) → is_claimed q n cs ≡ true → is_claimed q n (newer ++ cs) ≡ true

@@ -9,7 +9,8 @@ use lib.ListN.{get_elem?}
 use Rattle.std.specs.Prelude.{All}
 use Rattle.atomic_table.specs.Table.{Final, Seen}
 use Rattle.mq_turns.specs.Meaning.{Meaning, Grows, newest, IsAt}
-use Rattle.mq_turns.specs.Lists.{total, Each, tally, times}
+use Rattle.mq_blocks.specs.Totals.{total}
+use Rattle.mq_turns.specs.Lists.{Each, tally, times}
 use Rattle.mq_turns.specs.Marks.{Marked, Reader}
 use Rattle.mq_turns.specs.declared.rule.Charge.{Charge}
 use Rattle.mq_turns.specs.Desk.{slots, turn_at, holders, allotment, Drawer, Ruled, Stands, drawn_of, read_of, charged_of, IsInOrder}
@@ -22,7 +23,8 @@ use Rattle.mq_turns.specs.declared.turn.Turn.{Turn}
 use Rattle.mq_turns.specs.declared.turn.Turn.TheVariants.{Page, Side, Root}
 use Rattle.mq_turns.specs.declared.turn.Item.{Item}
 use Rattle.mq_turns.specs.declared.turn.Item.TheVariants as item
-use Rattle.mq_turns.proofs.Totals.{total_two, total_zero, total_only, total_append, each_append, each_map}
+use Rattle.mq_blocks.proofs.Totals.{total_two, total_zero, total_only, total_append}
+use Rattle.mq_turns.proofs.Each.{each_append, each_map}
 use Rattle.mq_turns.proofs.Readings.{charges_in}
 use Rattle.mq_turns.proofs.Slots.{page_at, side_at, root_at}
 

@@ -7,7 +7,7 @@ use Rattle.mq_turns.specs.declared.rule.Known.{Known}
 use Rattle.mq_turns.specs.declared.rule.Charge.{Charge}
 use Rattle.mq_turns.specs.declared.turn.Turn.{Turn}
 use Rattle.mq_turns.specs.declared.turn.Turn.TheVariants.{Side, Root}
-use Rattle.mq_turns.proofs.Totals.{each_append}
+use Rattle.mq_turns.proofs.Each.{each_append}
 
 -- a number of the history is one that was drawn
 pub at_bounds : {E : Type 0} (base : ℕ) (log : List E) (n : ℕ) (e : E) → IsAt base log n e → (base < n) × (n ≤ base + length log)

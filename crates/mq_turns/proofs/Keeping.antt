@@ -16,7 +16,7 @@ use Rattle.mq_turns.specs.declared.rule.Known.{Known}
 use Rattle.mq_turns.specs.declared.rule.View.{View}
 use Rattle.mq_turns.specs.declared.turn.Turn.{Turn}
 use Rattle.mq_turns.specs.declared.turn.Item.{Item}
-use Rattle.mq_turns.proofs.Totals.{each_map}
+use Rattle.mq_turns.proofs.Each.{each_map}
 use Rattle.mq_turns.proofs.Growth.{stays_drawn, grows_now, grows_drawn}
 use Rattle.mq_turns.proofs.Turns.{Change, Homes, turns_look, turns_change, turns_take, turns_settle, turns_reach, turns_free, away_empty}
 use Rattle.mq_turns.proofs.Numbers.{newest_few, numbers_stay, numbers_look, numbers_draw, room_left, below_newest}

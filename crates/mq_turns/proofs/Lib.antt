@@ -1,4 +1,4 @@
-pub mod Totals
+pub mod Each
 pub mod Growth
 pub mod Claims
 pub mod Slots
@@ -14,4 +14,3 @@ pub mod Sweeps
 pub mod Seats
 pub mod Laying
 pub mod Ending
-pub mod Counting

@@ -1,6 +1,6 @@
 -- The steps on marks and base, and notices, keep the rule and tell what they tell.
-use Rattle.std.proofs.Common.{◌≡◌, ℕ, suc, ◌+◌, ◌-◌, ◌<◌, ◌≤◌, eqb, min, Bool, true, false, cond, List, [], ◌∷◌, length, get_or, set, sym, refl, ap, ◌∙◌, subst, arith, inl, inr, Option, Some, None, length-set, get_or-set_other, get_or-set_same}
-use Rattle.std.proofs.lemmas.Bool.{cases_Bool, eq-eqb, eqb-true, ne_eqb}
+use Rattle.std.proofs.Common.{◌≡◌, ℕ, suc, ◌+◌, ◌-◌, ◌<◌, ◌≤◌, eqb, min, Bool, true, false, List, ◌∷◌, length, get_or, set, sym, refl, ap, ◌∙◌, subst, arith, inl, inr, Option, Some, length-set, get_or-set_other, get_or-set_same}
+use Rattle.std.proofs.lemmas.Bool.{cases_Bool, eq-eqb, ne_eqb}
 use mathlib.Core.Logic.{dite}
 use mathlib.Core.Option.{none, some}
 use native.Mathlib.Decide.{ℕ_discrete}
@@ -9,9 +9,9 @@ use lib.Seq.{set-get_or}
 use Rattle.atomic_table.specs.Table.{step, keeps, carried_after, Allows}
 use Rattle.mq_turns.specs.Meaning.{Meaning, newest, claimed, written, raised, charged}
 use Rattle.mq_turns.specs.Lists.{tally, times}
-use Rattle.mq_turns.specs.Marks.{mark_of, claim_of, queues_of, passed, shown, Marked, Reader}
+use Rattle.mq_turns.specs.Marks.{mark_of, claim_of, queues_of, shown, Marked, Reader}
 use Rattle.mq_turns.specs.Desk.{slots, IsTurn, slot_of, turn_at, Sat, Now, Stay, Sees, Turns, Numbers, Words, Ruled}
-use Rattle.mq_turns.specs.Words.{same_turn, after_peek, after_clear, after_base, after_raise, after_notice, known_by, is_about, MayClear, MayRaise, MayNote, peeked, cleared, based, raised_to, noticed}
+use Rattle.mq_turns.specs.Words.{same_turn, after_peek, after_clear, after_base, after_raise, after_notice, MayClear, MayRaise, MayNote, peeked, cleared, based, raised_to, noticed}
 use Rattle.mq_turns.specs.declared.rule.Claim.{Claim}
 use Rattle.mq_turns.specs.declared.rule.Charge.{Charge}
 use Rattle.mq_turns.specs.declared.rule.Opening.{Opening}
@@ -21,7 +21,7 @@ use Rattle.mq_turns.specs.declared.rule.View.{View}
 use Rattle.mq_turns.specs.declared.rule.Notice.{Notice}
 use Rattle.mq_turns.specs.declared.rule.Notice.TheVariants as notice
 use Rattle.mq_turns.specs.declared.turn.Turn.{Turn}
-use Rattle.mq_turns.specs.declared.turn.Turn.TheVariants.{Page, Side, Root}
+use Rattle.mq_turns.specs.declared.turn.Turn.TheVariants.{Side, Root}
 use Rattle.mq_turns.proofs.Growth.{grows_now, grows_claimed, grows_written, grows_raised, grows_charged, stays_claimed, stays_written, stays_raised, stays_charged}
 use Rattle.mq_turns.proofs.Changes.{not_same, holds_one, changes}
 use Rattle.mq_turns.proofs.Keeping.{sees}

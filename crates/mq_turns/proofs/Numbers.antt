@@ -7,11 +7,13 @@ use native.Mathlib.Decide.{ℕ_discrete}
 use lib.ListN.{get_elem?}
 use Rattle.atomic_table.proofs.Lists.{at_set, at_snoc, set_else}
 use Rattle.mq_turns.specs.Meaning.{Meaning, Grows, newest, drawn, IsAt}
-use Rattle.mq_turns.specs.Lists.{total, Each, tick, times}
+use Rattle.mq_blocks.specs.Totals.{total}
+use Rattle.mq_turns.specs.Lists.{Each, tick, times}
 use Rattle.mq_turns.specs.Desk.{Now, Drawer, Numbers, allotment, Below, Follows, IsInOrder, last_of}
 use Rattle.mq_turns.specs.declared.rule.Known.{Known}
 use Rattle.mq_turns.specs.declared.rule.View.{View}
-use Rattle.mq_turns.proofs.Totals.{total_set, total_same, total_le, total_gap, total_scaled, total_append, total_pair, total_zero, each_map, hit, miss, times_none}
+use Rattle.mq_blocks.proofs.Totals.{total_set, total_same, total_le, total_gap, total_scaled, total_append, total_pair, total_zero}
+use Rattle.mq_turns.proofs.Each.{each_map, hit, miss, times_none}
 use Rattle.mq_turns.proofs.Growth.{at_bounds, grows_on, grows_drawn, newest_grows, at_grows}
 use Rattle.mq_turns.proofs.Order.{order_same, order_draw}
 use Rattle.mq_turns.proofs.Turns.{Homes, chairs_stay}

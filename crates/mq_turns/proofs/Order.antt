@@ -5,7 +5,7 @@ use Rattle.mq_turns.specs.Lists.{Each}
 use Rattle.mq_turns.specs.Desk.{Follows, DrawAfterRead, ReadAfterDraw, InOrder, IsInOrder, after_look}
 use Rattle.mq_turns.specs.declared.rule.Known.{Known}
 use Rattle.mq_turns.specs.declared.rule.View.{View}
-use Rattle.mq_turns.proofs.Totals.{each_map, each_both}
+use Rattle.mq_turns.proofs.Each.{each_map, each_both}
 use Rattle.mq_turns.proofs.Growth.{newest_grows}
 
 module _ {P Q R E : Type 0} (μ : Meaning P Q R E) where

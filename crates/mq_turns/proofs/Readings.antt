@@ -1,19 +1,19 @@
 -- What each kind of step does to the marks, to the base, and to what the chairs read of them.
-use Rattle.std.proofs.Common.{◌≡◌, ◌≢◌, ℕ, suc, ◌+◌, ◌<◌, ◌≤◌, Bool, List, [], ◌∷◌, ◌++◌, cond, length, get_or, set, sym, refl, ap, ◌∙◌, subst, ⊎_elim, arith}
+use Rattle.std.proofs.Common.{◌≡◌, ◌≢◌, ℕ, suc, ◌+◌, ◌<◌, Bool, List, [], ◌∷◌, ◌++◌, length, get_or, set, sym, refl, ap, ◌∙◌, subst, ⊎_elim, arith}
 use mathlib.Core.Option.{some}
 use lib.ListN.{get_elem?}
 use Rattle.atomic_table.proofs.Lists.{at_set, at_snoc, set_else}
 use Rattle.mq_turns.specs.Meaning.{Meaning, Grows}
-use Rattle.mq_turns.specs.Lists.{total, tally}
-use Rattle.mq_turns.specs.Marks.{mark_of, unread, read_both, Marked, Reader}
+use Rattle.mq_turns.specs.Lists.{tally}
+use Rattle.mq_turns.specs.Marks.{mark_of, Marked, Reader}
 use Rattle.mq_turns.specs.Desk.{Now, Words}
 use Rattle.mq_turns.specs.declared.rule.Charge.{Charge}
 use Rattle.mq_turns.specs.declared.rule.Known.{Known}
 use Rattle.mq_turns.specs.declared.rule.Reading.{Reading}
 use Rattle.mq_turns.specs.declared.rule.View.{View}
-use Rattle.mq_turns.proofs.Totals.{total_set, total_same, total_append, total_pair}
+use Rattle.mq_blocks.proofs.Totals.{total_set, total_append, total_pair}
 use Rattle.mq_turns.proofs.Growth.{grows_now}
-use Rattle.mq_turns.proofs.Claims.{reader_grows, reader_none, reader_both}
+use Rattle.mq_turns.proofs.Claims.{reader_grows}
 use Rattle.mq_turns.proofs.Turns.{Homes, chairs_stay}
 
 abbrev pub charges_in : {P Q R E : Type 0} → (Charge → Bool) → View P Q R E → ℕ

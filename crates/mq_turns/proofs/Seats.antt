@@ -7,7 +7,7 @@ use Rattle.mq_turns.specs.Desk.{turn_at, allotment, Now, Below, blank, others, s
 use Rattle.mq_turns.specs.declared.rule.Opening.{Opening}
 use Rattle.mq_turns.specs.declared.rule.Known.{Known}
 use Rattle.mq_turns.specs.declared.rule.View.{View}
-use Rattle.mq_turns.proofs.Totals.{each_append, times_append}
+use Rattle.mq_turns.proofs.Each.{each_append, times_append}
 use Rattle.mq_turns.proofs.Order.{order_none, order_same}
 use Rattle.mq_turns.proofs.Turns.{turns_split, turns_join}
 use Rattle.mq_turns.proofs.Claims.{reader_none, reader_both}

@@ -1,9 +1,9 @@
 -- What a chair may draw from what it sees, whatever is known by then.
-use Rattle.std.proofs.Common.{◌≡◌, ◌≢◌, ℕ, ◌+◌, ◌<◌, ◌≤◌, Bool, true, false, cond, List, [], ◌∷◌, ◌++◌, inl, inr, length, sym, refl, ap, ◌∙◌, subst, arith, Option, Some, None}
+use Rattle.std.proofs.Common.{◌≡◌, ℕ, ◌<◌, Bool, true, cond, List, [], ◌∷◌, ◌++◌, inl, inr, sym, refl, ap, ◌∙◌, subst, arith, Some, None}
 use Rattle.std.proofs.lemmas.Bool.{false≢true}
 use mathlib.Core.Logic.{dite}
 use native.Mathlib.Decide.{ℕ_discrete}
-use Rattle.mq_turns.specs.Meaning.{Meaning, Grows, Apart, newest, IsAt}
+use Rattle.mq_turns.specs.Meaning.{Meaning, Apart, IsAt}
 use Rattle.mq_turns.specs.Lists.{Each, times}
 use Rattle.mq_turns.specs.Marks.{mark_of}
 use Rattle.mq_turns.specs.Chairs.{holding}
@@ -12,9 +12,9 @@ use Rattle.mq_turns.specs.declared.rule.Opening.{Opening}
 use Rattle.mq_turns.specs.declared.rule.Known.{Known}
 use Rattle.mq_turns.specs.declared.rule.View.{View}
 use Rattle.mq_turns.specs.declared.turn.Turn.{Turn}
-use Rattle.mq_turns.specs.declared.turn.Turn.TheVariants.{Side, Root}
+use Rattle.mq_turns.specs.declared.turn.Turn.TheVariants.{Side}
 use Rattle.mq_turns.specs.declared.turn.Item.{Item}
-use Rattle.mq_turns.proofs.Totals.{each_map, miss}
+use Rattle.mq_turns.proofs.Each.{miss}
 use Rattle.mq_turns.proofs.Claims.{mark_apart}
 use Rattle.mq_turns.proofs.Slots.{turn_at_slot}
 use Rattle.mq_turns.proofs.Turns.{along}

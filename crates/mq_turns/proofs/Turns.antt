@@ -8,7 +8,8 @@ use native.Mathlib.Decide.{ℕ_discrete}
 use lib.ListN.{get_elem?}
 use Rattle.atomic_table.proofs.Lists.{at_set, at_snoc, set_here, set_else}
 use Rattle.mq_turns.specs.Meaning.{Meaning}
-use Rattle.mq_turns.specs.Lists.{total, Each, tick, times, without}
+use Rattle.mq_blocks.specs.Totals.{total}
+use Rattle.mq_turns.specs.Lists.{Each, tick, times, without}
 use Rattle.mq_turns.specs.Desk.{hand_at, holders, hands, Now, refreshed, Stay, Holder, Turned, Turns, Stands}
 use Rattle.mq_turns.specs.declared.rule.Known.{Known}
 use Rattle.mq_turns.specs.declared.rule.View.{View}
@@ -16,7 +17,8 @@ use Rattle.mq_turns.specs.declared.turn.Turn.{Turn}
 use Rattle.mq_turns.specs.declared.turn.Turn.TheVariants.{Page, Side, Root}
 use Rattle.mq_turns.specs.declared.turn.Item.{Item}
 use Rattle.mq_turns.specs.declared.turn.Item.TheVariants as item
-use Rattle.mq_turns.proofs.Totals.{total_set, total_same, total_one, total_two, total_gap, total_append, total_pair, hit, miss, times_without_other, times_without, each_without}
+use Rattle.mq_blocks.proofs.Totals.{total_set, total_same, total_one, total_two, total_gap, total_append, total_pair}
+use Rattle.mq_turns.proofs.Each.{hit, miss, times_without_other, times_without, each_without}
 use Rattle.mq_turns.proofs.Growth.{stays_now, stays_on}
 
 abbrev pub Homes : Type 0 → Type 0 → Type 0 → Type 0 → Type 0 → Type 0

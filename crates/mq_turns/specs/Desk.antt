@@ -5,7 +5,8 @@ use Rattle.std.specs.Prelude.{◌≡◌, ◌≢◌, ◌⊎◌, ℕ, zero, suc, �
 use mathlib.Core.Option.{some}
 use lib.ListN.{get_elem?}
 use Rattle.atomic_table.specs.Table.{State, Me, Step}
-use Rattle.mq_turns.specs.Lists.{total, Each, Sorted, tally, tick, times, without}
+use Rattle.mq_blocks.specs.Totals.{total}
+use Rattle.mq_turns.specs.Lists.{Each, Sorted, tally, tick, times, without}
 use Rattle.mq_turns.specs.Meaning.{Meaning, Stays, Grows, opened, newest, drawn, IsAt}
 use Rattle.mq_turns.specs.Marks.{mark_of, unread, read_first, read_both, Marked, Reader}
 use Rattle.mq_turns.specs.declared.rule.Charge.{Charge}

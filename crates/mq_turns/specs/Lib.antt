@@ -8,4 +8,3 @@ pub mod Chairs
 pub mod AtDesk
 pub mod Opened
 pub mod Closing
-pub mod Counting

@@ -1,6 +1,6 @@
 -- The steps on marks and base, and what a chair notes: what each asks and tells.
-use Rattle.std.specs.Prelude.{◌≡◌, ℕ, suc, ◌+◌, ◌-◌, ◌<◌, ◌≤◌, nat_eq, min, Bool, true, false, List, [], ◌∷◌, Option, Some, None}
-use Rattle.mq_turns.specs.Lists.{Each, times}
+use Rattle.std.specs.Prelude.{◌≡◌, ℕ, suc, ◌-◌, ◌<◌, ◌≤◌, nat_eq, min, Bool, true, false, ◌∷◌}
+use Rattle.mq_turns.specs.Lists.{times}
 use Rattle.mq_turns.specs.Meaning.{Meaning, newest, claimed, written, raised, charged}
 use Rattle.mq_turns.specs.Marks.{mark_of, claim_of, queues_of, shown}
 use Rattle.mq_turns.specs.Desk.{IsTurn, slot_of, turn_at, refreshed, Sat, At, Sees}

@@ -1,7 +1,8 @@
 // The end of a desk: its chairs become one, and its values come out.
 ghost use Rattle.std.specs.Prelude.{◌≡◌, ◌≢◌, ℕ, ◌+◌, ◌<◌, ◌≤◌, ◌++◌, [], true, false, IfOk, IfErr, All, map, length, vec_len, vec_capacity, slice_index_or};
 ghost use Rattle.std.specs.Slots.{slots_items, slots_filled, slots_len, IsFull};
-ghost use Rattle.mq_turns.specs.Lists.{Each, total};
+ghost use Rattle.mq_blocks.specs.Totals.{total};
+ghost use Rattle.mq_turns.specs.Lists.{Each};
 ghost use Rattle.mq_turns.specs.Desk.{drawn_of, read_of, charged_of, IsInOrder};
 ghost use Rattle.mq_turns.specs.Chairs.{Ended};
 ghost use Rattle.mq_turns.specs.Closing.{HasPages, HasSides, HasRoot, ArePages, AreSides, IsRoot};

@@ -12,8 +12,6 @@ mod open;
 mod plays;
 mod rule;
 mod steps;
-#[cfg(test)]
-mod tests;
 mod turn;
 mod words;
 

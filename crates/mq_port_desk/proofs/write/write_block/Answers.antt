@@ -1,6 +1,6 @@
 use Rattle.std.proofs.Common.{rules, arith, ◌≡◌, ◌<◌, ◌+◌, ◌∷◌, length, ap, sym, subst, refl, ◌∙◌, ℕ, true, false, Some}
 use Rattle.mq_turns.specs.AtDesk.{view, start_of}
-use Rattle.mq_turns.proofs.Totals.{each_without}
+use Rattle.mq_turns.proofs.Each.{each_without}
 use Rattle.mq_turns.proofs.Seen.{stands_held}
 use Rattle.mq_turns.specs.Desk.{Stands}
 use Rattle.mq_turns.specs.Lists.{Each, times, without}

@@ -1,6 +1,7 @@
 use Rattle.std.proofs.Common.{◌≡◌, ℕ, ◌+◌, ◌<◌, ◌≤◌, ◌++◌, [], map, vec_len}
 use Rattle.std.specs.Prelude.{All}
-use Rattle.mq_turns.specs.Lists.{Each, total}
+use Rattle.mq_blocks.specs.Totals.{total}
+use Rattle.mq_turns.specs.Lists.{Each}
 use Rattle.mq_turns.specs.Desk.{drawn_of, read_of, charged_of, IsInOrder}
 use Rattle.mq_turns.specs.AtDesk.{view}
 use Rattle.mq_turns.proofs.close.join_all.Given as goal

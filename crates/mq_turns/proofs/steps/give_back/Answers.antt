@@ -1,4 +1,4 @@
-use Rattle.std.proofs.Common.{rules, arith, ◌≡◌, ◌∷◌, suc, ap, ◌∙◌, subst, Some}
+use Rattle.std.proofs.Common.{rules, arith, ◌∷◌, suc, ap, ◌∙◌, subst, Some}
 use Rattle.atomic_table.specs.Table.{rest}
 use Rattle.mq_turns.specs.Desk.{Sees}
 use Rattle.mq_turns.proofs.Seen.{sees_hand}

@@ -1,4 +1,3 @@
-use Rattle.std.proofs.Common.{rules}
 use Rattle.mq_turns.specs.Desk.{opening_of}
 use Rattle.mq_turns.proofs.Marking.{peeks}
 use Rattle.mq_turns.proofs.words.peek.Goals as goal

@@ -1,4 +1,3 @@
-use Rattle.std.proofs.Common.{rules}
 use Rattle.mq_turns.specs.Desk.{opening_of}
 use Rattle.mq_turns.proofs.Marking.{raises}
 use Rattle.mq_turns.proofs.words.raise.Goals as goal

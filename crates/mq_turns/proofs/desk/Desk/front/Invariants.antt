@@ -1,6 +1,5 @@
 use Rattle.std.proofs.Common.{◌≡◌, ◌<◌, []}
 use Rattle.mq_turns.specs.Swept.{Sweeping}
-use Rattle.mq_turns.specs.AtDesk.{view}
 use Rattle.mq_turns.proofs.desk.Desk.front.Given as goal
 
 abbrev pub invariant-loop-queue : goal.invariant-loop-queue

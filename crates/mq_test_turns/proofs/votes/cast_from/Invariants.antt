@@ -1,6 +1,6 @@
 use Rattle.std.proofs.Common.{◌≡◌, []}
 use Rattle.mq_turns.specs.AtDesk.{AtDesk, view}
-use Rattle.mq_turns.proofs.tests.cast_from.Given as goal
+use Rattle.mq_test_turns.proofs.votes.cast_from.Given as goal
 
 abbrev pub invariant-loop : goal.invariant-loop
 invariant-loop g l = record {

@@ -1,7 +1,7 @@
 use Rattle.std.proofs.Common.{◌≡◌, ◌<◌, vec_len, vec_capacity, length, []}
 use Rattle.mq_turns.specs.Lists.{Each}
 use Rattle.mq_turns.specs.AtDesk.{AtDesk, view}
-use Rattle.mq_turns.proofs.tests.cast_many.Given as goal
+use Rattle.mq_test_turns.proofs.votes.cast_many.Given as goal
 
 abbrev pub invariant-loop-group : goal.invariant-loop-group
 invariant-loop-group g l = record {

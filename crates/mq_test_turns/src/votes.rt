@@ -3,13 +3,13 @@ ghost use Rattle.std.specs.Prelude.{◌≡◌, ℕ, ◌+◌, ◌%◌, ◌^◌, �
 ghost use Rattle.mq_turns.specs.Marks.{DoneTo};
 ghost use Rattle.mq_turns.specs.Desk.{Follows, Sees, allotment, fresh};
 ghost use Rattle.mq_turns.specs.AtDesk.{AtDesk, view, start_of, chairs_of};
-ghost use Rattle.mq_turns.specs.Counting.{counting};
+ghost use Rattle.mq_test_turns.specs.Counting.{counting};
 ghost use Rattle.mq_turns.specs.declared.rule.Known.{Known};
-ghost use Rattle.mq_turns.specs.declared.tests.QueueSide.{QueueSide};
-ghost use Rattle.mq_turns.specs.declared.tests.Vote.{Vote};
+ghost use Rattle.mq_test_turns.specs.declared.votes.QueueSide.{QueueSide};
+ghost use Rattle.mq_test_turns.specs.declared.votes.Vote.{Vote};
 
-use crate::{Chair, Desk, Item, Machine, Turn};
 use mq_blocks::{OutOfMemory, QueueNo, TxNo};
+use mq_turns::{Chair, Desk, Item, Machine, Turn};
 use std::alloc::Global;
 use std::marker::PhantomData;
 use std::sync::Wait;
@@ -62,8 +62,8 @@ impl<P: Port> Machine for Counting<P> {
 
     type Entry = Vote;
 
-    ghost use Rattle.mq_turns.specs.Counting.{counting};
-    ghost use Rattle.mq_turns.specs.declared.tests.Vote.{Vote};
+    ghost use Rattle.mq_test_turns.specs.Counting.{counting};
+    ghost use Rattle.mq_test_turns.specs.declared.votes.Vote.{Vote};
 
     ghost meaning = { counting (λ (e : Vote). e.queue) (λ e. e.session) (λ e. e.group) (λ q. P.state q.port) };
 }

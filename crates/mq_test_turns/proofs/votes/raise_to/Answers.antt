@@ -2,8 +2,8 @@ use Rattle.std.proofs.Common.{arith, ◌≡◌, ◌≤◌, ◌∙◌, ap, ℕ, �
 use Rattle.mq_turns.specs.AtDesk.{view, start_of}
 use Rattle.mq_turns.specs.Desk.{slot_of}
 use Rattle.mq_turns.specs.declared.turn.Turn.TheVariants.{Root}
-use Rattle.mq_turns.proofs.Counting.{root_held, root_word, root_raised}
-use Rattle.mq_turns.proofs.tests.raise_to.Goals as goal
+use Rattle.mq_test_turns.proofs.Counting.{root_held, root_word, root_raised}
+use Rattle.mq_test_turns.proofs.votes.raise_to.Goals as goal
 
 pub raise-requires-clause-root : goal.raise-requires-clause-root
 raise-requires-clause-root g c =

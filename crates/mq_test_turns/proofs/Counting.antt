@@ -10,7 +10,7 @@ use Rattle.mq_turns.specs.Meaning.{newest, drawn, claimed, raised}
 use Rattle.mq_turns.specs.Marks.{mark_of, claim_of}
 use Rattle.mq_turns.specs.Words.{same_turn, after_clear, after_raise}
 use Rattle.mq_turns.specs.Desk.{IsTurn, slot_of, turn_at, refreshed, Stay, Sees, Covers, Stands, after_draw}
-use Rattle.mq_turns.specs.Counting.{votes, Counted, counted_along, counting}
+use Rattle.mq_test_turns.specs.Counting.{votes, Counted, counted_along, counting}
 use Rattle.mq_turns.specs.declared.rule.Opening.{Opening}
 use Rattle.mq_turns.specs.declared.rule.Known.{Known}
 use Rattle.mq_turns.specs.declared.rule.View.{View}
@@ -19,7 +19,7 @@ use Rattle.mq_turns.specs.declared.turn.Turn.TheVariants.{Page, Side, Root}
 use Rattle.mq_turns.specs.declared.turn.Item.TheVariants as item
 use Rattle.mq_turns.proofs.Seen.{opening_seen, turn_seen, mark_stays, stands_renewed}
 use Rattle.mq_turns.proofs.Slots.{turn_at_slot}
-use Rattle.mq_turns.proofs.Totals.{hit}
+use Rattle.mq_turns.proofs.Each.{hit}
 
 -- each of a few chairs may draw many numbers
 pub allots : (chairs : ℕ) → 0 < chairs → chairs ≤ 16 → 4294967296 ≤ allotment chairs

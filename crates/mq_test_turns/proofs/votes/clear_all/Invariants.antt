@@ -1,7 +1,7 @@
 use Rattle.std.proofs.Common.{◌≡◌, ◌≤◌, [], length}
 use Rattle.mq_turns.specs.Swept.{HasPassed}
 use Rattle.mq_turns.specs.AtDesk.{AtDesk, view, start_of}
-use Rattle.mq_turns.proofs.tests.clear_all.Given as goal
+use Rattle.mq_test_turns.proofs.votes.clear_all.Given as goal
 
 abbrev pub invariant-loop-index : goal.invariant-loop-index
 invariant-loop-index g l = record {

@@ -1,7 +1,7 @@
 use Rattle.std.proofs.Common.{rules, ◌≤◌, sym, subst}
 use Rattle.mq_turns.specs.Desk.{allotment}
-use Rattle.mq_turns.proofs.Counting.{count_starts, allots}
-use Rattle.mq_turns.proofs.tests.opened.Goals as goal
+use Rattle.mq_test_turns.proofs.Counting.{count_starts, allots}
+use Rattle.mq_test_turns.proofs.votes.opened.Goals as goal
 
 pub new-requires-2-clause-starts : goal.new-requires-2-clause-starts
 new-requires-2-clause-starts c = count_starts (λ e. e.queue) (λ e. e.session) (λ e. e.group) (λ q. q.port.count) _ (search rules)
