@@ -11,6 +11,8 @@ use Rattle.mq_drive.specs.declared.port.Off.{Off}
 use Rattle.mq_drive.specs.declared.port.Step.{Step}
 use Rattle.mq_drive.specs.declared.port.HomeStep.{HomeStep}
 use Rattle.mq_drive.specs.Emulated.{Counts, IsNext, StepCounts, HomeCounts, StepTickets, HomeTickets, phase_after, status_after}
+use Rattle.mq_drive.specs.Choices.{Chance, StepChooses, HomeChooses}
+use Rattle.mq_drive.specs.Steps.{Fault}
 use Rattle.mq_drive.specs.Limits.{fails_by, fails_next}
 use Rattle.mq_drive.specs.Roles.{id_of}
 use Rattle.mq_drive.specs.Seats.{IsRefused}
@@ -56,6 +58,14 @@ refused_tickets limit old (Err x) new bad over = over
 pub refused_home_tickets : (limit : Option ℕ) (old : List ℕ) (r : Result HomeStep Off) (new : List ℕ) → IsErr r → IsRefused limit old new → HomeTickets limit old r new
 refused_home_tickets limit old (Ok x) new bad over = absurd (true≢false (sym bad))
 refused_home_tickets limit old (Err x) new bad over = inl over
+
+pub refused_chosen : (s new : PortState) (faults more : List Fault) (n : Chance) (r : Result Step Off) → IsErr r → StepChooses s faults n r new more n
+refused_chosen s new faults more n (Ok x) bad = absurd (true≢false (sym bad))
+refused_chosen s new faults more n (Err x) bad = refl
+
+pub refused_home_chosen : (s new : PortState) (n : Chance) (lba : ℕ) (block : List ℕ) (r : Result HomeStep Off) → IsErr r → new ≡ s → HomeChooses s n lba block r new n
+refused_home_chosen s new n lba block (Ok x) bad same = absurd (true≢false (sym bad))
+refused_home_chosen s new n lba block (Err x) bad same = inl (same, refl)
 
 -- ---- which command fails
 

@@ -1,3 +1,4 @@
+pub mod Chances
 pub mod Commands
 pub mod Counts
 pub mod Cutting

@@ -2,10 +2,11 @@
 use Rattle.std.specs.Prelude.{ℕ, List, ◌++◌, replicate}
 use Rattle.std.specs.Option.{option_to_list}
 use Rattle.mq_blocks.specs.Drive.{PortState}
+use Rattle.mq_drive.specs.Choices.{Chance}
 use Rattle.mq_drive.specs.Emulated.{Counts}
 use Rattle.mq_drive.specs.Roles.{queue_in}
 use Rattle.mq_drive.specs.Steps.{Fault, PowerOff}
-use Rattle.mq_drive.specs.Failures.{failed_of, unended_of, errors_of}
+use Rattle.mq_drive.specs.Failures.{failed_of, unended_of, errors_of, while_in}
 use Rattle.mq_drive.specs.Seats.{fuse_of, tickets_of}
 use Rattle.mq_drive.specs.declared.device.Device.{Device}
 use Rattle.mq_drive.specs.declared.emu.EmuPort.{EmuPort}
@@ -50,6 +51,15 @@ device_counts p = record { completed = p.completions; executed = p.failing.execu
 abbrev pub device_tickets : Device → List ℕ
 device_tickets p = tickets_of p.power.seat
 
+-- what it leaves to chance
+abbrev pub device_chance : Device → Chance
+device_chance p = record {
+  number = p.number;
+  order = p.order;
+  failed = while_in p.blocks.doubt (failed_of p.failure);
+  begun = while_in p.blocks.doubt (unended_of p.failure) ++ option_to_list p.under_way;
+}
+
 -- the same of the port that holds it
 abbrev pub emu_state : EmuPort → PortState
 emu_state p = device_state p.device
@@ -71,3 +81,7 @@ counts_of p = device_counts p.device
 
 abbrev pub executed_of : EmuPort → ℕ
 executed_of p = p.device.failing.executed
+
+-- what it leaves to chance
+abbrev pub chance_of : EmuPort → Chance
+chance_of p = device_chance p.device

@@ -1,3 +1,4 @@
+pub mod Choices
 pub mod Emu
 pub mod Emulated
 pub mod Failures

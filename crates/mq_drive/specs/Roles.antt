@@ -1,5 +1,6 @@
 -- Which port a role is.
 use Rattle.std.specs.Prelude.{ℕ, ◌+◌, Option, Some, None}
+use Rattle.mq_blocks.specs.Ports as ports
 use Rattle.mq_drive.specs.declared.role.Role.{Role}
 use Rattle.mq_drive.specs.declared.role.Role.TheVariants.{Queue, Root}
 
@@ -13,8 +14,7 @@ queue_in Root = None
 
 -- the slots of a port's ring: the root has none
 abbrev pub slots_of : Role → ℕ
-slots_of (Queue q) = 1024
-slots_of Root = 0
+slots_of role = ports.slots_of (queue_in role)
 
 -- the identifier of a port's submission queue: the queue's number plus 1; the root has no queue
 abbrev pub id_of : Option ℕ → ℕ

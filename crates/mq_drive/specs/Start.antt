@@ -1,26 +1,29 @@
 -- The state of a port that starts from an image.
-use Rattle.std.specs.Prelude.{◌≡◌, ◌<◌, ℕ, ◌+◌, ◌*◌, [], true, length, slice_index_or, replicate, Option}
+use Rattle.std.specs.Prelude.{◌≡◌, ◌<◌, ℕ, ◌+◌, [], true, length, slice_index_or, replicate, Option}
 use Rattle.mq_blocks.specs.Drive.{FuseName, PortState, PortImage, IsFlushed}
 use Rattle.mq_blocks.specs.declared.geometry.Geometry.{Geometry}
+use Rattle.mq_blocks.specs.Ports as ports
+use Rattle.mq_drive.specs.Choices.{Chance, generator_of}
 use Rattle.mq_drive.specs.Roles.{queue_in, slots_of}
 use Rattle.mq_drive.specs.declared.role.Role.{Role}
 use Rattle.mq_drive.specs.declared.role.Role.TheVariants.{Queue, Root}
 
 abbrev pub area_first_of : Geometry → Role → ℕ
-area_first_of g (Queue q) = q * g.area
-area_first_of g Root = 0
+area_first_of g role = ports.area_first_of g (queue_in role)
 
 abbrev pub area_size_of : Geometry → Role → ℕ
-area_size_of g (Queue q) = g.area
-area_size_of g Root = 0
+area_size_of g role = ports.area_size_of g (queue_in role)
 
 abbrev pub homes_first_of : Geometry → Role → ℕ
-homes_first_of g (Queue q) = g.queues * g.area + (g.meta + q * g.zone)
-homes_first_of g Root = g.queues * g.area
+homes_first_of g role = ports.homes_first_of g (queue_in role)
 
 abbrev pub homes_size_of : Geometry → Role → ℕ
-homes_size_of g (Queue q) = g.zone
-homes_size_of g Root = g.meta
+homes_size_of g role = ports.homes_size_of g (queue_in role)
+
+-- the number of a port: the queue's, or of the root the count of queues
+abbrev pub number_of : Geometry → Role → ℕ
+number_of g (Queue q) = q
+number_of g Root = g.queues
 
 -- the role is one of the geometry's
 abbrev pub IsRole : Geometry → Role → Type 0
@@ -64,6 +67,15 @@ start_of g role i fuse fail = record {
   events = 0;
   fuse = fuse;
   fail = fail;
+}
+
+-- each port has a generator of its own, and no block is in doubt
+abbrev pub chance_at_start : Geometry → Role → (seed : ℕ) → Chance
+chance_at_start g role seed = record {
+  number = number_of g role;
+  order = generator_of seed (number_of g role);
+  failed = [];
+  begun = [];
 }
 
 -- a port of this role, on a drive of this geometry

@@ -2,10 +2,13 @@
 ghost use Rattle.std.specs.Prelude.{◌≡◌, ◌≢◌, ◌<◌, ℕ, Bool, true, false, length, slice_index_or, slice_set, Some, None, Option};
 ghost use Rattle.std.specs.Option.{ForSome};
 ghost use Rattle.mq_blocks.specs.Blocks.{block_at};
+ghost use Rattle.mq_drive.specs.Choices.{torn_block};
+ghost use Rattle.mq_drive.specs.Failures.{doubt_after};
 
+use crate::random::next_block;
 use crate::store::{put_block, put_flag, read_block};
 use mq_blocks::Block;
-use rand_core::Rng;
+use rand_core::utils::NextWord;
 use rand_pcg::Lcg128Xsl64;
 
 /// Blocks as last completed, and which of them are certain but for posted commands. The write that
@@ -16,7 +19,8 @@ pub struct Blocks {
     certain: Vec<bool>,
     doubt: Option<usize>,
     ghost sized: { length certain.items ≡ length stored.items },
-    ghost doubtful: { ForSome doubt (λ k. (k < length certain.items) × (slice_index_or certain.items k false ≡ false)) },
+    ghost doubtful: { ForSome doubt (λ k. (k < length certain.items)
+        × (slice_index_or certain.items k false ≡ false)) },
 }
 
 impl Blocks {
@@ -41,11 +45,12 @@ impl Blocks {
         read_block(&self.stored, k, into);
     }
 
-    /// A write of the block has completed.
+    /// A write of the block has completed: it ends the doubt of that block.
     pub fn complete(&mut self, k: usize, block: Block)
         requires { k < length self.old.stored.items }
         ensures blocks { self.new.stored.items ≡ slice_set self.old.stored.items k (Some block) }
         ensures certain { self.new.certain.items ≡ slice_set self.old.certain.items k true }
+        ensures doubt { self.new.doubt ≡ doubt_after self.old.doubt k }
     {
         put_block(&mut self.stored, k, block);
         put_flag(&mut self.certain, k, true);
@@ -59,6 +64,7 @@ impl Blocks {
         requires { k < length self.old.stored.items }
         ensures blocks { self.new.stored.items ≡ self.old.stored.items }
         ensures certain { self.new.certain.items ≡ slice_set self.old.certain.items k false }
+        ensures doubt { self.new.doubt ≡ self.old.doubt }
     {
         put_flag(&mut self.certain, k, false);
     }
@@ -80,31 +86,24 @@ impl Blocks {
         requires { k < length self.old.stored.items }
         ensures len { length self.new.stored.items ≡ length self.old.stored.items }
         ensures certain { self.new.certain.items ≡ self.old.certain.items }
-        ensures doubt { self.new.doubt ≡ self.old.doubt }
         ensures others { (j : ℕ)
             → j ≢ k
             → slice_index_or self.new.stored.items j None ≡ slice_index_or self.old.stored.items j None }
+        ensures chosen { (self.new.stored.items, rng.new) ≡ torn_block self.old.stored.items k block rng.old }
     {
-        let mut block = block;
-        match rng.next_u64() % 3 {
+        let block = match rng.next_word() % 3 {
             0 => return,
-            1 => {}
-            _ => rng.fill_bytes(block.bytes_mut()),
-        }
+            1 => block,
+            _ => next_block(rng, block),
+        };
         put_block(&mut self.stored, k, block);
     }
 
-    /// The same of the block that the write that ended with an error leaves in doubt, if it does.
-    pub fn tear_doubt(&mut self, block: Block, rng: &mut Lcg128Xsl64)
-        ensures len { length self.new.stored.items ≡ length self.old.stored.items }
-        ensures certain { self.new.certain.items ≡ self.old.certain.items }
-        ensures kept { (j : ℕ)
-            → slice_index_or self.old.certain.items j false ≡ true
-            → slice_index_or self.new.stored.items j None ≡ slice_index_or self.old.stored.items j None }
+    /// Which block the write that ended with an error leaves in doubt, if it does.
+    pub fn doubt(&self) -> Option<usize>
+        ensures { result ≡ self.now.doubt }
     {
-        if let Some(k) = self.doubt {
-            self.tear(k, block, rng);
-        }
+        self.doubt
     }
 
     /// The blocks as they are.

@@ -1,16 +1,18 @@
 // What a port in memory keeps, and how it changes.
-ghost use Rattle.std.specs.Prelude.{◌≡◌, ◌<◌, ◌≤◌, ◌+◌, ◌-◌, ◌*◌, ◌/◌, ◌%◌, ◌^◌, ℕ, List, [], ◌∷◌, length, true, false, is_some, IfOk, OnOk, OnErr, All, IsSome, IsNone, IsTrue, ◌↔◌, slice_index_or, Some, None, Contains};
+ghost use Rattle.std.specs.Prelude.{◌≡◌, ◌<◌, ◌≤◌, ◌+◌, ◌-◌, ◌*◌, ◌/◌, ◌%◌, ◌^◌, ℕ, List, [], ◌∷◌, length, true, false, is_some, IfOk};
+ghost use Rattle.std.specs.Prelude.{OnOk, OnErr, All, IsSome, IsNone, IsTrue, ◌↔◌, slice_index_or, Some, None, Contains};
 ghost use Rattle.std.specs.Option.{ForSome, option_to_list};
 ghost use Rattle.std.specs.VecDeque.{deque_capacity};
 ghost use Rattle.mq_blocks.specs.Drive.{AreCounted, AreCounted-prop};
 ghost use Rattle.mq_drive.specs.Fuse.{above, below, earlier};
 ghost use Rattle.mq_drive.specs.Emulated.{phase_after};
+ghost use Rattle.mq_drive.specs.Failures.{written_by};
 ghost use Rattle.mq_drive.specs.Happened.{happened_by, happened_in};
 ghost use Rattle.mq_drive.specs.Roles.{slots_of, queue_in, id_of};
 ghost use Rattle.mq_drive.specs.Slots.{AreSettled, index_in};
 
 use crate::blocks::Blocks;
-use crate::cut::{tear_commands, tear_homes, tear_slots};
+use crate::cut::{tear_commands, tear_home, tear_slots};
 use crate::extent::{Extent, block_index, extents, port_number, queue_id};
 use crate::failing::{Failing, Failure, parts_of};
 use crate::power::Power;
@@ -72,9 +74,11 @@ pub struct Device<'f> {
     ghost pending_last: { 0 < length pending.items → doorbell + length pending.items ≤ 2 ^ 63 },
     ghost pending_order: { 0 < length pending.items → stored_head ≤ doorbell },
     ghost pending_counted: { AreCounted doorbell (doorbell + length pending.items) pending.items } by { AreCounted-prop doorbell (doorbell + length pending.items) pending.items },
-    ghost pending_own: { All (λ c. (area.first ≤ c.lba) × (index_in area.first area.size homes.first c.lba < length blocks.stored.items)) pending.items },
+    ghost pending_own: { All (λ c. (area.first ≤ c.lba)
+        × (index_in area.first area.size homes.first c.lba < length blocks.stored.items)) pending.items },
     ghost posted_counted: { AreCounted stored_head doorbell posted.items } by { AreCounted-prop stored_head doorbell posted.items },
-    ghost posted_own: { All (λ c. (area.first ≤ c.lba) × (index_in area.first area.size homes.first c.lba < length blocks.stored.items)) posted.items },
+    ghost posted_own: { All (λ c. (area.first ≤ c.lba)
+        × (index_in area.first area.size homes.first c.lba < length blocks.stored.items)) posted.items },
     ghost heads: { head ≤ stored_head },
     ghost sized: { area.size + homes.size ≡ length blocks.stored.items },
     ghost area_before: { area.first + area.size ≤ homes.first },
@@ -85,16 +89,22 @@ pub struct Device<'f> {
     ghost id_is: { id ≡ id_of (queue_in role) },
     ghost events_counted: { power.happened ≡ happened_by events begins (length (option_to_list under_way)) },
     ghost failure_counted: { is_some failure ≡ failing.failed },
+    ghost failure_own: { ForSome failure (λ f. (area.first ≤ written_by f)
+        × (index_in area.first area.size homes.first (written_by f) < length blocks.stored.items)) },
+    ghost failure_doubt: { ForSome failure (λ f. ForSome blocks.doubt (λ k. index_in area.first
+        area.size homes.first (written_by f) ≡ k)) },
     ghost under_way_last: { ForSome under_way (λ w. 0 < power.offs) },
-    ghost under_way_own: { ForSome under_way (λ w. (area.first ≤ w.lba) × (index_in area.first area.size homes.first w.lba < length blocks.stored.items)) },
-    ghost under_way_doubt: { ForSome under_way (λ w. slice_index_or blocks.certain.items (index_in area.first area.size homes.first w.lba) false ≡ false) },
+    ghost under_way_own: { ForSome under_way (λ w. (area.first ≤ w.lba)
+        × (index_in area.first area.size homes.first w.lba < length blocks.stored.items)) },
+    ghost under_way_doubt: { ForSome under_way (λ w. slice_index_or blocks.certain.items
+        (index_in area.first area.size homes.first w.lba) false ≡ false) },
 }
 
 impl<'f> Device<'f> {
-    ghost use Rattle.mq_drive.specs.Emu.{device_state, device_faults};
+    ghost use Rattle.mq_drive.specs.Emu.{device_state, device_faults, device_chance};
     ghost use Rattle.mq_drive.specs.Limits.{fails_by};
     ghost use Rattle.mq_drive.specs.Seats.{name_of, fuse_of, tickets_of};
-    ghost use Rattle.mq_drive.specs.Start.{IsRole, IsImageOf, start_of};
+    ghost use Rattle.mq_drive.specs.Start.{IsRole, IsImageOf, start_of, chance_at_start};
     ghost use Rattle.mq_drive.specs.Steps.{PowerOff};
     ghost use Rattle.mq_blocks.specs.Drive.{staged_end};
 
@@ -114,6 +124,7 @@ impl<'f> Device<'f> {
         ensures state { IfOk result (λ d. device_state d ≡ start_of geometry role image
             (fuse_of power.entry.seat) fail) }
         ensures faults { IfOk result (λ d. device_faults d ≡ []) }
+        ensures chance { IfOk result (λ d. device_chance d ≡ chance_at_start geometry role seed) }
         ensures power { IfOk result (λ d. d.power ≡ power.entry) }
         ensures failing { IfOk result (λ d. d.failing.executed ≡ 0) }
         ensures completions { IfOk result (λ d. d.completions ≡ 0) }
@@ -205,9 +216,8 @@ impl<'f> Device<'f> {
 }
 
 impl<'f> Device<'f> {
-    ghost use Rattle.mq_drive.specs.Emu.{device_state, device_faults};
-    ghost use Rattle.mq_drive.specs.Seats.{fuse_of, tickets_of};
-    ghost use Rattle.mq_drive.specs.Steps.{PowerOff};
+    ghost use Rattle.mq_drive.specs.Choices.{cut_of};
+    ghost use Rattle.mq_drive.specs.Emu.{device_state, device_chance};
     ghost use Rattle.mq_blocks.specs.Drive.{IsImage, IsQuiescent, image_of};
     ghost use Rattle.mq_blocks.specs.declared.geometry.Geometry as geometry;
     ghost use Rattle.mq_drive.specs.Roles.{role_of};
@@ -221,6 +231,7 @@ impl<'f> Device<'f> {
         ensures role { (g : geometry.Geometry)
             → IsPortOf g (role_of (device_state self.entry).queue) (device_state self.entry)
             → IsImageOf g (role_of (device_state self.entry).queue) result.0 }
+        ensures chosen { result.0 ≡ cut_of (device_state self.entry) (device_chance self.entry) pick }
         ensures seat { result.1 ≡ self.entry.power.seat }
     {
         let Device {
@@ -248,9 +259,10 @@ impl<'f> Device<'f> {
         tear_slots(&mut flushed, &staged, flushed_end, end, &mut rng);
         let head = either(&mut rng, head, stored_head);
         let base = either(&mut rng, base, stored_base);
-        let (failed, unended) = parts_of(failure);
+        let (failed, unended) = parts_of(failure, blocks.doubt());
         tear_commands(&mut blocks, area, homes, posted, failed, &mut rng);
-        tear_homes(&mut blocks, area, homes, unended, under_way, &mut rng);
+        tear_home(&mut blocks, area, homes, unended, &mut rng);
+        tear_home(&mut blocks, area, homes, under_way, &mut rng);
         let image = PortImage {
             doorbell,
             head,
@@ -263,7 +275,8 @@ impl<'f> Device<'f> {
 }
 
 impl<'f> Port for Device<'f> {
-    ghost use Rattle.mq_drive.specs.Emu.{device_state, device_faults, device_counts, device_tickets};
+    ghost use Rattle.mq_drive.specs.Choices.{StepChooses, HomeChooses};
+    ghost use Rattle.mq_drive.specs.Emu.{device_state, device_faults, device_chance, device_counts, device_tickets};
     ghost use Rattle.mq_blocks.specs.Drive.{Owns, IsHome, AreFrom, staged_end, after_stage, after_flush, after_ring, after_store_head, after_store_base};
     ghost use Rattle.mq_nvme.specs.Entry.{tx_of, lba_of};
     ghost use Rattle.mq_drive.specs.Emulated.{StepCounts, HomeCounts, StepTickets, HomeTickets};
@@ -310,6 +323,7 @@ impl<'f> Port for Device<'f> {
             (tx_of entry) (lba_of entry) block) }
         ensures off { OnErr result (device_state self.new ≡ device_state self.old) }
         ensures cause { OffCause result (device_faults self.old) (device_faults self.new) }
+        ensures chance { device_chance self.new ≡ device_chance self.old }
         ensures counts { device_counts self.new ≡ device_counts self.old }
         ensures happens { OnOk result (Happens (device_state self.old).fuse.limit (device_tickets self.old)
             (device_tickets self.new)) }
@@ -333,6 +347,7 @@ impl<'f> Port for Device<'f> {
         ensures ok { OnOk result (device_state self.new ≡ after_flush (device_state self.old)) }
         ensures off { OnErr result (device_state self.new ≡ device_state self.old) }
         ensures cause { OffCause result (device_faults self.old) (device_faults self.new) }
+        ensures chance { device_chance self.new ≡ device_chance self.old }
         ensures counts { device_counts self.new ≡ device_counts self.old }
         ensures happens { OnOk result (Happens (device_state self.old).fuse.limit (device_tickets self.old)
             (device_tickets self.new)) }
@@ -355,6 +370,7 @@ impl<'f> Port for Device<'f> {
         ensures ok { OnOk result (device_state self.new ≡ after_ring (device_state self.old)) }
         ensures off { OnErr result (device_state self.new ≡ device_state self.old) }
         ensures cause { OffCause result (device_faults self.old) (device_faults self.new) }
+        ensures chance { device_chance self.new ≡ device_chance self.old }
         ensures counts { device_counts self.new ≡ device_counts self.old }
         ensures happens { OnOk result (Happens (device_state self.old).fuse.limit (device_tickets self.old)
             (device_tickets self.new)) }
@@ -372,6 +388,9 @@ impl<'f> Port for Device<'f> {
     fn step(&mut self) -> Result<Step, Off>
         ensures gives { StepGives (device_state self.old) (device_faults self.old) result
             (device_state self.new) (device_faults self.new) }
+        ensures chosen { StepChooses (device_state self.old) (device_faults self.old)
+            (device_chance self.old) result (device_state self.new) (device_faults self.new)
+            (device_chance self.new) }
         ensures counts { StepCounts (device_state self.old) (device_counts self.old) result
             (device_counts self.new) }
         ensures tickets { StepTickets (device_state self.old).fuse.limit (device_tickets self.old) result
@@ -414,6 +433,7 @@ impl<'f> Port for Device<'f> {
         ensures ok { OnOk result (device_state self.new ≡ after_store_head (device_state self.old) head) }
         ensures off { OnErr result (device_state self.new ≡ device_state self.old) }
         ensures cause { OffCause result (device_faults self.old) (device_faults self.new) }
+        ensures chance { device_chance self.new ≡ device_chance self.old }
         ensures counts { device_counts self.new ≡ device_counts self.old }
         ensures happens { OnOk result (Happens (device_state self.old).fuse.limit (device_tickets self.old)
             (device_tickets self.new)) }
@@ -432,6 +452,7 @@ impl<'f> Port for Device<'f> {
         ensures ok { OnOk result (device_state self.new ≡ after_store_base (device_state self.old) base) }
         ensures off { OnErr result (device_state self.new ≡ device_state self.old) }
         ensures cause { OffCause result (device_faults self.old) (device_faults self.new) }
+        ensures chance { device_chance self.new ≡ device_chance self.old }
         ensures counts { device_counts self.new ≡ device_counts self.old }
         ensures happens { OnOk result (Happens (device_state self.old).fuse.limit (device_tickets self.old)
             (device_tickets self.new)) }
@@ -448,6 +469,8 @@ impl<'f> Port for Device<'f> {
         requires { IsHome (device_state self.old) lba }
         ensures gives { HomeGives (device_state self.old) (device_faults self.old) lba block result
             (device_state self.new) (device_faults self.new) }
+        ensures chosen { HomeChooses (device_state self.old) (device_chance self.old) lba block result
+            (device_state self.new) (device_chance self.new) }
         ensures counts { HomeCounts (device_state self.old) (device_counts self.old) result
             (device_counts self.new) }
         ensures tickets { HomeTickets (device_state self.old).fuse.limit (device_tickets self.old) result

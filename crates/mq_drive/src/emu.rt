@@ -19,10 +19,10 @@ pub struct EmuPort<'f> {
 }
 
 impl<'f> EmuPort<'f> {
-    ghost use Rattle.mq_drive.specs.Emu.{emu_state, emu_faults, happened_of, executed_of, counts_of, drawn_by};
+    ghost use Rattle.mq_drive.specs.Emu.{emu_state, emu_faults, chance_of, happened_of, executed_of, counts_of, drawn_by};
     ghost use Rattle.mq_drive.specs.Limits.{fails_by};
     ghost use Rattle.mq_drive.specs.Seats.{name_of, fuse_of, tickets_of};
-    ghost use Rattle.mq_drive.specs.Start.{IsRole, IsImageOf, start_of};
+    ghost use Rattle.mq_drive.specs.Start.{IsRole, IsImageOf, start_of, chance_at_start};
     ghost use Rattle.mq_drive.specs.Steps.{PowerOff};
 
     /// The port of a role of the geometry, which starts from an image of that role, with a seat of a
@@ -47,6 +47,7 @@ impl<'f> EmuPort<'f> {
             (name_of fuse.now) fail) }
         ensures faults { IfOk result (λ p. emu_faults p ≡ []) }
         ensures tickets { IfOk result (λ p. (drawn_by p ≡ []) × (happened_of p ≡ 0)) }
+        ensures chance { IfOk result (λ p. chance_of p ≡ chance_at_start geometry role seed) }
         ensures counts { IfOk result (λ p. counts_of p ≡ record { completed = 0; executed = 0 }) }
     {
         let power = Power::new(fuse, seat);
@@ -96,7 +97,8 @@ impl<'f> EmuPort<'f> {
 }
 
 impl<'f> EmuPort<'f> {
-    ghost use Rattle.mq_drive.specs.Emu.{emu_state, emu_faults, happened_of, drawn_by};
+    ghost use Rattle.mq_drive.specs.Choices.{cut_of};
+    ghost use Rattle.mq_drive.specs.Emu.{emu_state, emu_faults, chance_of, happened_of, drawn_by};
     ghost use Rattle.mq_drive.specs.Steps.{PowerOff};
     ghost use Rattle.mq_blocks.specs.Drive.{IsImage, IsQuiescent, image_of};
     ghost use Rattle.mq_blocks.specs.declared.geometry.Geometry as geometry;
@@ -112,6 +114,7 @@ impl<'f> EmuPort<'f> {
         ensures role { (g : geometry.Geometry)
             → IsPortOf g (role_of (emu_state self.entry).queue) (emu_state self.entry)
             → IsImageOf g (role_of (emu_state self.entry).queue) result.0 }
+        ensures chosen { result.0 ≡ cut_of (emu_state self.entry) (chance_of self.entry) pick }
         ensures fuse { fuse_of result.1 ≡ (emu_state self.entry).fuse }
         ensures tickets { tickets_of result.1 ≡ drawn_by self.entry }
         ensures events { (l : ℕ)
@@ -134,7 +137,8 @@ impl<'f> EmuPort<'f> {
 }
 
 impl<'f> Port for EmuPort<'f> {
-    ghost use Rattle.mq_drive.specs.Emu.{emu_state, emu_faults, counts_of, drawn_by};
+    ghost use Rattle.mq_drive.specs.Choices.{StepChooses, HomeChooses};
+    ghost use Rattle.mq_drive.specs.Emu.{emu_state, emu_faults, chance_of, counts_of, drawn_by};
     ghost use Rattle.mq_blocks.specs.Drive.{Owns, IsHome, AreFrom, staged_end, after_stage, after_flush, after_ring, after_store_head, after_store_base};
     ghost use Rattle.mq_nvme.specs.Entry.{tx_of, lba_of};
     ghost use Rattle.mq_drive.specs.Emulated.{StepCounts, HomeCounts, StepTickets, HomeTickets};
@@ -180,6 +184,7 @@ impl<'f> Port for EmuPort<'f> {
             (lba_of entry) block) }
         ensures off { OnErr result (emu_state self.new ≡ emu_state self.old) }
         ensures cause { OffCause result (emu_faults self.old) (emu_faults self.new) }
+        ensures chance { chance_of self.new ≡ chance_of self.old }
         ensures counts { counts_of self.new ≡ counts_of self.old }
         ensures happens { OnOk result (Happens (emu_state self.old).fuse.limit (drawn_by self.old)
             (drawn_by self.new)) }
@@ -193,6 +198,7 @@ impl<'f> Port for EmuPort<'f> {
         ensures ok { OnOk result (emu_state self.new ≡ after_flush (emu_state self.old)) }
         ensures off { OnErr result (emu_state self.new ≡ emu_state self.old) }
         ensures cause { OffCause result (emu_faults self.old) (emu_faults self.new) }
+        ensures chance { chance_of self.new ≡ chance_of self.old }
         ensures counts { counts_of self.new ≡ counts_of self.old }
         ensures happens { OnOk result (Happens (emu_state self.old).fuse.limit (drawn_by self.old)
             (drawn_by self.new)) }
@@ -208,6 +214,7 @@ impl<'f> Port for EmuPort<'f> {
         ensures ok { OnOk result (emu_state self.new ≡ after_ring (emu_state self.old)) }
         ensures off { OnErr result (emu_state self.new ≡ emu_state self.old) }
         ensures cause { OffCause result (emu_faults self.old) (emu_faults self.new) }
+        ensures chance { chance_of self.new ≡ chance_of self.old }
         ensures counts { counts_of self.new ≡ counts_of self.old }
         ensures happens { OnOk result (Happens (emu_state self.old).fuse.limit (drawn_by self.old)
             (drawn_by self.new)) }
@@ -220,6 +227,8 @@ impl<'f> Port for EmuPort<'f> {
     fn step(&mut self) -> Result<Step, Off>
         ensures gives { StepGives (emu_state self.old) (emu_faults self.old) result (emu_state self.new)
             (emu_faults self.new) }
+        ensures chosen { StepChooses (emu_state self.old) (emu_faults self.old) (chance_of self.old) result
+            (emu_state self.new) (emu_faults self.new) (chance_of self.new) }
         ensures counts { StepCounts (emu_state self.old) (counts_of self.old) result (counts_of self.new) }
         ensures tickets { StepTickets (emu_state self.old).fuse.limit (drawn_by self.old) result
             (drawn_by self.new) }
@@ -235,6 +244,7 @@ impl<'f> Port for EmuPort<'f> {
         ensures ok { OnOk result (emu_state self.new ≡ after_store_head (emu_state self.old) head) }
         ensures off { OnErr result (emu_state self.new ≡ emu_state self.old) }
         ensures cause { OffCause result (emu_faults self.old) (emu_faults self.new) }
+        ensures chance { chance_of self.new ≡ chance_of self.old }
         ensures counts { counts_of self.new ≡ counts_of self.old }
         ensures happens { OnOk result (Happens (emu_state self.old).fuse.limit (drawn_by self.old)
             (drawn_by self.new)) }
@@ -250,6 +260,7 @@ impl<'f> Port for EmuPort<'f> {
         ensures ok { OnOk result (emu_state self.new ≡ after_store_base (emu_state self.old) base) }
         ensures off { OnErr result (emu_state self.new ≡ emu_state self.old) }
         ensures cause { OffCause result (emu_faults self.old) (emu_faults self.new) }
+        ensures chance { chance_of self.new ≡ chance_of self.old }
         ensures counts { counts_of self.new ≡ counts_of self.old }
         ensures happens { OnOk result (Happens (emu_state self.old).fuse.limit (drawn_by self.old)
             (drawn_by self.new)) }
@@ -263,6 +274,8 @@ impl<'f> Port for EmuPort<'f> {
         requires { IsHome (emu_state self.old) lba }
         ensures gives { HomeGives (emu_state self.old) (emu_faults self.old) lba block result
             (emu_state self.new) (emu_faults self.new) }
+        ensures chosen { HomeChooses (emu_state self.old) (chance_of self.old) lba block result
+            (emu_state self.new) (chance_of self.new) }
         ensures counts { HomeCounts (emu_state self.old) (counts_of self.old) result (counts_of self.new) }
         ensures tickets { HomeTickets (emu_state self.old).fuse.limit (drawn_by self.old) result
             (drawn_by self.new) }

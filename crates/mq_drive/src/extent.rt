@@ -2,7 +2,7 @@
 ghost use Rattle.std.specs.Prelude.{◌≡◌, ◌<◌, ◌≤◌, ◌+◌, ◌^◌, ℕ};
 ghost use Rattle.mq_drive.specs.Roles.{id_of, queue_in};
 ghost use Rattle.mq_drive.specs.Slots.{index_in};
-ghost use Rattle.mq_drive.specs.Start.{IsRole, area_first_of, area_size_of, homes_first_of, homes_size_of};
+ghost use Rattle.mq_drive.specs.Start.{IsRole, area_first_of, area_size_of, homes_first_of, homes_size_of, number_of};
 
 use crate::Role;
 use mq_blocks::{Geometry, Lba};
@@ -27,7 +27,9 @@ pub fn block_index(area: Extent, homes: Extent, lba: Lba) -> usize
 }
 
 /// The number of a role's port: the queue's, or of the root the count of queues.
-pub fn port_number(role: Role, geometry: Geometry) -> u32 {
+pub fn port_number(role: Role, geometry: Geometry) -> u32
+    ensures { result ≡ number_of geometry role }
+{
     match role {
         Role::Queue(queue) => queue.0,
         Role::Root => geometry.queues(),

@@ -1,7 +1,7 @@
 // Which command of an emulated port ends with an error.
 ghost use Rattle.std.specs.Prelude.{◌≡◌, ◌<◌, ◌≤◌, ◌^◌, ◌↔◌, ℕ, Bool, true, false};
 ghost use Rattle.mq_blocks.specs.Drive.{counted};
-ghost use Rattle.mq_drive.specs.Failures.{failed_of, unended_of};
+ghost use Rattle.mq_drive.specs.Failures.{failed_of, unended_of, while_in};
 ghost use Rattle.mq_drive.specs.Limits.{fails_by, fails_next};
 ghost use Rattle.std.specs.Option.{ForSome, option_to_list};
 
@@ -15,11 +15,17 @@ pub enum Failure {
     Home(HomeWrite),
 }
 
-/// The failed command, or the home write that failed.
-pub fn parts_of(failure: Option<Failure>) -> (Option<Command>, Option<HomeWrite>)
-    ensures failed { option_to_list result.0 ≡ failed_of failure }
-    ensures unended { option_to_list result.1 ≡ unended_of failure }
+/// The failed command, or the home write that failed, as long as a block is in doubt for it.
+pub fn parts_of(
+    failure: Option<Failure>,
+    doubt: Option<usize>,
+) -> (Option<Command>, Option<HomeWrite>)
+    ensures failed { option_to_list result.0 ≡ while_in doubt (failed_of failure) }
+    ensures unended { option_to_list result.1 ≡ while_in doubt (unended_of failure) }
 {
+    if doubt.is_none() {
+        return (None, None);
+    }
     match failure {
         Some(Failure::Queued(command)) => (Some(command), None),
         Some(Failure::Home(write)) => (None, Some(write)),

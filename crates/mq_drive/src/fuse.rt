@@ -10,9 +10,6 @@ use atomic_table::{Seat, Shared, Table};
 use mq_blocks::OutOfMemory;
 use std::alloc::Global;
 
-#[cfg(test)]
-mod tests;
-
 type Counter = Shared<(), Tickets, Rating, Law>;
 
 type Place = Seat<(), Tickets>;

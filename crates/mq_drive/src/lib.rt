@@ -15,8 +15,6 @@ mod power;
 mod random;
 mod role;
 mod store;
-#[cfg(test)]
-mod tests;
 mod tickets;
 
 pub use emu::EmuPort;

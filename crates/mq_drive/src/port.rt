@@ -1,7 +1,8 @@
 // A port of the drive.
 ghost use Rattle.std.specs.Prelude.{◌≡◌, ◌≢◌, ◌⊎◌, ◌<◌, ◌≤◌, ◌+◌, ◌-◌, ◌%◌, ◌^◌, ℕ, List, [], ◌∷◌, length, OnOk, OnErr, IsSome, IsNone, slice_index_or};
 ghost use Rattle.mq_blocks.specs.Blocks.{block_at};
-ghost use Rattle.mq_blocks.specs.Drive.{PortState, Owns, IsHome, IsFlushed, IsCertain, AreFrom, index_of, staged_end, after_stage, after_flush, after_ring, after_store_head, after_store_base};
+ghost use Rattle.mq_blocks.specs.Drive.{PortState, Owns, IsHome, IsFlushed, IsCertain, AreFrom, index_of, staged_end, after_stage};
+ghost use Rattle.mq_blocks.specs.Drive.{after_flush, after_ring, after_store_head, after_store_base};
 ghost use Rattle.mq_nvme.specs.Entry.{tx_of, lba_of};
 ghost use Rattle.mq_drive.specs.Roles.{role_of};
 ghost use Rattle.mq_drive.specs.Steps.{Fault, StepGives, HomeGives, OffCause, IsOwnWrite};
@@ -60,7 +61,8 @@ pub trait Port {
     /// A block; where it is uncertain, any bytes.
     fn read_block(&self, lba: Lba, into: &mut Block)
         requires { Owns (state self.now) lba }
-        ensures { IsCertain (state self.now) (index_of (state self.now) lba) → into.new ≡ block_at (state self.now).blocks (index_of (state self.now) lba) };
+        ensures { IsCertain (state self.now) (index_of (state self.now) lba)
+            → into.new ≡ block_at (state self.now).blocks (index_of (state self.now) lba) };
 
     /// Puts a write into the next slot of a queue's ring.
     fn stage(&mut self, at: u64, entry: Entry, block: Block) -> Result<(), Off>

@@ -1,9 +1,12 @@
-use Rattle.std.proofs.Common.{◌≡◌, ℕ, length, true, false, All, None, slice_index_or}
+use Rattle.std.proofs.Common.{◌≡◌, ℕ, length, true, false, All, Some, None, slice_index_or}
+use Rattle.std.specs.Option.{ForSome, option_to_list}
+use Rattle.mq_drive.specs.Choices.{torn_blocks, writes_of, by_count}
+use Rattle.mq_drive.specs.Slots.{index_in}
 use Rattle.mq_drive.proofs.Tearing.{IsOwn, IsOther}
 use Rattle.mq_drive.proofs.cut.tear_commands.Given as goal
 
--- the commands that are left are among the first ones, and a certain block that none of these
--- writes is as it was
+-- the commands that are left are among the first ones, a certain block that none of these writes is
+-- as it was, and those that are left lead to the end
 abbrev pub invariant-loop-command : goal.invariant-loop-command
 invariant-loop-command l = record {
   area : l.area ≡ l.fn.area;
@@ -14,6 +17,9 @@ invariant-loop-command l = record {
   rest : (k : ℕ) → All (IsOther l.area.first l.area.size l.homes.first k) l.fn.posted.items → All (IsOther l.area.first l.area.size l.homes.first k) l.posted.items;
   kept : (k : ℕ) → All (IsOther l.area.first l.area.size l.homes.first k) l.fn.posted.items → slice_index_or l.fn.blocks.certain.items k false ≡ true
       → slice_index_or l.blocks.stored.items k None ≡ slice_index_or l.fn.blocks.stored.items k None;
+  one : ForSome l.failed (λ c. l.fn.failed ≡ Some c);
+  left : torn_blocks (index_in l.fn.area.first l.fn.area.size l.fn.homes.first) (writes_of (by_count (option_to_list l.failed) l.posted.items)) l.blocks.stored.items l.rng
+      ≡ torn_blocks (index_in l.fn.area.first l.fn.area.size l.fn.homes.first) (writes_of (by_count (option_to_list l.fn.failed) l.fn.posted.items)) l.fn.blocks.stored.items l.fn.rng;
 }
 
 abbrev pub decreases-loop-command : goal.decreases-loop-command

@@ -1,6 +1,7 @@
 use Rattle.std.proofs.Math.ListN.{length-set}
-use Rattle.std.proofs.Common.{rules, ◌≡◌, ◌<◌, ℕ, Some, None, List, ◌++◌, length, All, replicate, refl, sym, ◌∙◌, ap, subst, arith, set, true, false}
-use Rattle.std.specs.Option.{option_to_list}
+use Rattle.std.proofs.Common.{rules, ◌≡◌, ◌<◌, ◌≤◌, ℕ, Option, Some, None, List, ◌++◌, length, All, replicate, refl, sym, ◌∙◌, ap, subst, arith, set, true, false}
+use Rattle.rand_pcg.specs.Lcg.{Lcg}
+use Rattle.std.specs.Option.{ForSome, option_to_list}
 use Rattle.std.specs.Prelude.{slice_get}
 use Rattle.std.specs.List.{remove}
 use Rattle.mq_nvme.specs.Completion.{status_of, identifier_of}
@@ -9,13 +10,18 @@ use Rattle.mq_blocks.specs.Drive.{AreCounted}
 use Rattle.mq_blocks.specs.declared.command.Command.{Command}
 use Rattle.mq_drive.specs.declared.device.Device.{Device}
 use Rattle.mq_drive.specs.declared.failing.Failure.TheVariants.{Queued}
-use Rattle.mq_drive.specs.Emu.{device_state, device_faults, device_counts, device_tickets}
+use Rattle.mq_drive.specs.Emu.{device_state, device_faults, device_chance, device_counts, device_tickets}
 use Rattle.mq_drive.specs.Seats.{fuse_of, tickets_of}
 use Rattle.mq_drive.specs.Failures.{errors_of}
 use Rattle.mq_drive.specs.Steps.{PowerOff, CommandError, Gains}
+use Rattle.mq_blocks.specs.Drive.{index_of}
+use Rattle.mq_drive.specs.Choices.{chosen}
+use Rattle.mq_drive.specs.Failures.{written_by}
+use Rattle.mq_drive.specs.declared.failing.Failure.{Failure}
+use Rattle.mq_drive.proofs.Chances.{chance_done, chance_failed, doubt_for, new_doubt}
 use Rattle.mq_drive.proofs.Commands.{counted_remove, all_remove, all_at}
-use Rattle.mq_drive.proofs.Doubts.{none_of, none_while, none_for}
-use Rattle.mq_drive.proofs.Executing.{next_is, same_counts, refused_counts, refused_tickets, fails_status, succeeds_status}
+use Rattle.mq_drive.proofs.Doubts.{none_of, none_while, none_for, some_for}
+use Rattle.mq_drive.proofs.Executing.{next_is, same_counts, refused_counts, refused_tickets, refused_chosen, fails_status, succeeds_status}
 use Rattle.mq_drive.proofs.Faults.{off_gains, refused_step, error_gains}
 use Rattle.mq_drive.proofs.Moves.{same_state, done_at, failed_at}
 use Rattle.mq_drive.proofs.Tearing.{IsOwn}
@@ -178,3 +184,73 @@ pub invariant_of-self-2-clause-events_counted : goal.invariant_of-self-2-clause-
 invariant_of-self-2-clause-events_counted c =
     let p = c.args.self.now in
     happened-event p.power.happened c.event.new.self.happened p.events c.bump-self-2.result p.begins p.power.offs p.under_way p.under_way_last c.in_ok-event.ensures.first p.events_counted c.in_ok-event.ensures.happens.0 c.bump-self-2.ensures
+
+-- ---- what is left to chance
+
+pub invariant_of-self-then-next-clause-failure_own : goal.invariant_of-self-then-next-clause-failure_own
+invariant_of-self-then-next-clause-failure_own c =
+    let p = c.args.self.now in
+    let own = own_at p c.choose-at.result c.take_at-command.result c.take_at-command.ensures.item in
+    let long : length c.fail.new.self.stored.items ≡ length p.blocks.stored.items = ap length c.fail.ensures.blocks in
+    some_for (Queued c.take_at-command.result)
+    (λ (f : Failure). (p.area.first ≤ written_by f) × (index_of (device_state p) (written_by f) < length c.fail.new.self.stored.items))
+    (own.0, let within = own.1 in omega (arith, within, long))
+
+pub invariant_of-self-then-next-clause-failure_doubt : goal.invariant_of-self-then-next-clause-failure_doubt
+invariant_of-self-then-next-clause-failure_doubt c =
+    some_for (Queued c.take_at-command.result)
+    (λ (f : Failure). ForSome c.fail.new.self.doubt (λ k. index_of (device_state c.args.self.now) (written_by f) ≡ k))
+    (new_doubt c.fail.new.self.doubt c.block_index-index.result (index_of (device_state c.args.self.now) c.take_at-command.result.lba) c.fail.ensures.doubt c.block_index-index.ensures)
+
+pub invariant_of-self-2-clause-failure_own : goal.invariant_of-self-2-clause-failure_own
+invariant_of-self-2-clause-failure_own c =
+    let p = c.args.self.now in
+    let long : length c.complete.new.self.stored.items ≡ length p.blocks.stored.items =
+    ap length c.complete.ensures.blocks ∙ length-set p.blocks.stored.items c.block_index-index.result (Some c.take_at-command.result.block) in
+    λ f is.
+    let own = p.failure_own f is in
+    let within : index_of (device_state p) (written_by f) < length c.complete.new.self.stored.items = subst (λ (n : ℕ). index_of (device_state p) (written_by f) < n) (sym long) own.1 in
+    (own.0, within)
+
+pub invariant_of-self-2-clause-failure_doubt : goal.invariant_of-self-2-clause-failure_doubt
+invariant_of-self-2-clause-failure_doubt c = λ f is.
+    let p = c.args.self.now in
+    subst (λ (o : Option ℕ). ForSome o (λ k. index_of (device_state p) (written_by f) ≡ k)) (sym c.complete.ensures.doubt)
+    (doubt_for p.blocks.doubt c.block_index-index.result (λ k. index_of (device_state p) (written_by f) ≡ k) (p.failure_doubt f is))
+
+pub returns-then-next-clause-chosen : goal.returns-then-next-clause-chosen
+unfolding returns-then-next-clause-gives
+returns-then-next-clause-chosen c =
+    let p = c.args.self.now in
+    let few : c.len.result ≡ length p.posted.items = search rules in
+    let chose : ◌≡◌ {A = ℕ × Lcg} (c.choose-at.result, c.choose-at.new.rng) (chosen (length p.posted.items) p.order) = c.choose-at.ensures.chosen ∙ ap (λ (n : ℕ). chosen n p.order) few in
+    let status : status_of c.completion_of-completion.result ≡ 640 = c.completion_of-completion.ensures.status in
+    let none : p.failure ≡ None = none_of p.failure (p.failure_counted ∙ (c.next.ensures.fails c.if-next.true).0) in
+    record {
+      ends = returns-then-next-clause-gives c;
+      at = ap (λ (x : ℕ × Lcg). x.0) chose;
+      success = λ good. absurd (omega (arith, good, status));
+      error = λ bad.
+          chance_failed p.number c.block_index-index.result c.choose-at.new.rng (chosen (length p.posted.items) p.order).1 p.blocks.doubt c.fail.new.self.doubt p.failure p.under_way c.take_at-command.result
+          none c.fail.ensures.doubt (ap (λ (x : ℕ × Lcg). x.1) chose);
+    }
+
+pub returns-clause-chosen : goal.returns-clause-chosen
+unfolding returns-clause-gives
+returns-clause-chosen c =
+    let p = c.args.self.now in
+    let few : c.len.result ≡ length p.posted.items = search rules in
+    let chose : ◌≡◌ {A = ℕ × Lcg} (c.choose-at.result, c.choose-at.new.rng) (chosen (length p.posted.items) p.order) = c.choose-at.ensures.chosen ∙ ap (λ (n : ℕ). chosen n p.order) few in
+    let success : status_of c.completion_of.result ≡ 0 = c.completion_of.ensures.status in
+    record {
+      ends = returns-clause-gives c;
+      at = ap (λ (x : ℕ × Lcg). x.0) chose;
+      success = λ good.
+          chance_done (device_state p) p.number c.choose-at.new.rng (chosen (length p.posted.items) p.order).1 p.blocks.doubt c.complete.new.self.doubt p.failure p.under_way c.take_at-command.result.lba
+          p.failure_doubt (nothing_open p c.in_ok-event.ensures.first)
+          (c.complete.ensures.doubt ∙ ap (λ (k : ℕ). Rattle.mq_drive.specs.Failures.doubt_after p.blocks.doubt k) c.block_index-index.ensures) (ap (λ (x : ℕ × Lcg). x.1) chose);
+      error = λ bad. absurd (bad success);
+    }
+
+pub returns-in_err-event-clause-chosen : goal.returns-in_err-event-clause-chosen
+returns-in_err-event-clause-chosen c = refused_chosen (device_state c.args.self.now) _ (device_faults c.args.self.now) _ (device_chance c.args.self.now) c.from_residual.result c.from_residual.ensures.0

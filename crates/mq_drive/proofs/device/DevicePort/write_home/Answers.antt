@@ -1,18 +1,20 @@
 use Rattle.std.proofs.Math.ListN.{length-set}
-use Rattle.std.proofs.Common.{◌≡◌, ◌<◌, ◌≤◌, ◌+◌, ℕ, Some, None, Bool, List, [], ◌∷◌, ◌++◌, length, get_or, All, inl, inr, refl, sym, ◌∙◌, ap, subst, arith, set, false}
-use Rattle.std.specs.Option.{option_to_list}
-use Rattle.mq_blocks.specs.Drive.{FuseName, counted}
+use Rattle.std.proofs.Common.{◌≡◌, ◌<◌, ◌≤◌, ◌+◌, ℕ, Option, Some, None, Bool, List, [], ◌∷◌, ◌++◌, length, get_or, All, inl, inr, refl, sym, ◌∙◌, ap, subst, arith, set, false}
+use Rattle.std.specs.Option.{ForSome, option_to_list}
+use Rattle.mq_blocks.specs.Drive.{FuseName, counted, index_of}
+use Rattle.mq_drive.specs.declared.failing.Failure.{Failure}
+use Rattle.mq_drive.proofs.Chances.{chance_done, chance_home, chance_open, doubt_for, new_doubt}
 use Rattle.mq_blocks.specs.declared.command.Command.{Command}
 use Rattle.mq_blocks.specs.declared.command.HomeWrite.{HomeWrite}
 use Rattle.mq_drive.specs.declared.device.Device.{Device}
 use Rattle.mq_drive.specs.declared.failing.Failure.TheVariants.{Home}
-use Rattle.mq_drive.specs.Emu.{device_state, device_faults, device_counts, device_tickets}
+use Rattle.mq_drive.specs.Emu.{device_state, device_faults, device_chance, device_counts, device_tickets}
 use Rattle.mq_drive.specs.Seats.{fuse_of, tickets_of, Happens, IsRefused}
-use Rattle.mq_drive.specs.Failures.{errors_of, failed_of, unended_of}
+use Rattle.mq_drive.specs.Failures.{errors_of, failed_of, unended_of, written_by, doubt_after}
 use Rattle.mq_drive.specs.Slots.{index_in}
 use Rattle.mq_drive.specs.Steps.{HomeError}
 use Rattle.mq_drive.proofs.Doubts.{none_of, none_while, none_for, some_for, false_at}
-use Rattle.mq_drive.proofs.Executing.{same_counts, refused_home_counts, refused_home_tickets}
+use Rattle.mq_drive.proofs.Executing.{same_counts, refused_home_counts, refused_home_tickets, refused_home_chosen}
 use Rattle.mq_drive.proofs.Faults.{off_gains, refused_home, error_gains}
 use Rattle.mq_drive.proofs.Moves.{set-set, same_state, begun_home, begun_failed, begun_open}
 use Rattle.mq_drive.proofs.Owned.{IsWithin, within_homes}
@@ -186,3 +188,79 @@ pub invariant_of-self-2-clause-events_counted : goal.invariant_of-self-2-clause-
 invariant_of-self-2-clause-events_counted c =
     let p = c.args.self.now in
     happened-home p.power.happened c.event.new.self.happened c.event-2.new.self.happened p.events p.begins c.bump-self.result p.power.offs p.under_way p.under_way_last c.in_ok-event.ensures.first p.events_counted c.in_ok-event.ensures.happens.0 c.in_default.ensures.happens.0 c.bump-self.ensures
+
+-- ---- what is left to chance
+
+own_failure : (p : Device) (n : ℕ) → n ≡ length p.blocks.stored.items
+    → ForSome p.failure (λ f. (p.area.first ≤ written_by f) × (index_in p.area.first p.area.size p.homes.first (written_by f) < n))
+own_failure p n same = λ f is.
+    let own = p.failure_own f is in
+    let within : index_in p.area.first p.area.size p.homes.first (written_by f) < n = subst (λ (m : ℕ). index_in p.area.first p.area.size p.homes.first (written_by f) < m) (sym same) own.1 in
+    (own.0, within)
+
+pub invariant_of-self-in-Err-clause-failure_own : goal.invariant_of-self-in-Err-clause-failure_own
+invariant_of-self-in-Err-clause-failure_own c = own_failure c.args.self.now (length c.begin.new.self.stored.items) (ap length c.begin.ensures.blocks)
+
+pub invariant_of-self-in-Err-clause-failure_doubt : goal.invariant_of-self-in-Err-clause-failure_doubt
+invariant_of-self-in-Err-clause-failure_doubt c = λ f is.
+    subst (λ (o : Option ℕ). ForSome o (λ k. index_of (device_state c.args.self.now) (written_by f) ≡ k)) (sym c.begin.ensures.doubt) (c.args.self.now.failure_doubt f is)
+
+pub invariant_of-self-then-next-clause-failure_own : goal.invariant_of-self-then-next-clause-failure_own
+invariant_of-self-then-next-clause-failure_own c =
+    let p = c.args.self.now in
+    let own = own_home p c.args.lba c.requires in
+    let long : length c.fail.new.self.stored.items ≡ length p.blocks.stored.items = ap length (c.fail.ensures.blocks ∙ c.begin.ensures.blocks) in
+    some_for (Home (record { lba = c.args.lba; block = c.args.block }))
+    (λ (f : Failure). (p.area.first ≤ written_by f) × (index_in p.area.first p.area.size p.homes.first (written_by f) < length c.fail.new.self.stored.items))
+    (own.low, let index = own.index in omega (arith, index, long))
+
+pub invariant_of-self-then-next-clause-failure_doubt : goal.invariant_of-self-then-next-clause-failure_doubt
+invariant_of-self-then-next-clause-failure_doubt c =
+    some_for (Home (record { lba = c.args.lba; block = c.args.block }))
+    (λ (f : Failure). ForSome c.fail.new.self.doubt (λ k. index_of (device_state c.args.self.now) (written_by f) ≡ k))
+    (new_doubt c.fail.new.self.doubt c.block_index-index.result (index_of (device_state c.args.self.now) c.args.lba) c.fail.ensures.doubt c.block_index-index.ensures)
+
+pub invariant_of-self-2-clause-failure_own : goal.invariant_of-self-2-clause-failure_own
+invariant_of-self-2-clause-failure_own c =
+    own_failure c.args.self.now (length c.complete.new.self.stored.items)
+    (ap length c.complete.ensures.blocks ∙ length-set c.begin.new.self.stored.items c.block_index-index.result (Some c.args.block) ∙ ap length c.begin.ensures.blocks)
+
+pub invariant_of-self-2-clause-failure_doubt : goal.invariant_of-self-2-clause-failure_doubt
+invariant_of-self-2-clause-failure_doubt c = λ f is.
+    let p = c.args.self.now in
+    subst (λ (o : Option ℕ). ForSome o (λ k. index_of (device_state p) (written_by f) ≡ k))
+    (sym (c.complete.ensures.doubt ∙ ap (λ (o : Option ℕ). doubt_after o c.block_index-index.result) c.begin.ensures.doubt))
+    (doubt_for p.blocks.doubt c.block_index-index.result (λ k. index_of (device_state p) (written_by f) ≡ k) (p.failure_doubt f is))
+
+pub returns-in_err-event-clause-chosen : goal.returns-in_err-event-clause-chosen
+returns-in_err-event-clause-chosen c =
+    refused_home_chosen (device_state c.args.self.now) _ (device_chance c.args.self.now) c.args.lba c.args.block c.from_residual.result c.from_residual.ensures.0
+    (same_state (device_state c.args.self.now) (fuse_of c.event.new.self.seat) c.event.ensures.fuse)
+
+pub returns-in-Err-clause-chosen : goal.returns-in-Err-clause-chosen
+returns-in-Err-clause-chosen c =
+    let p = c.args.self.now in
+    let w : HomeWrite = record { lba = c.args.lba; block = c.args.block } in
+    let nothing : p.under_way ≡ None = nothing_open p c.in_ok-event.ensures.first in
+    inr (
+      begun_home (device_state p) c.args.lba c.args.block (failed_of p.failure) (unended_of p.failure ++ w ∷ [])
+          c.begin.new.self.stored.items c.begin.new.self.certain.items c.bump-self.result (fuse_of c.event-2.new.self.seat) p.failing.named
+          refl (begun_open p.failure p.under_way w nothing) c.begin.ensures.blocks
+          (c.begin.ensures.certain ∙ ap (λ (k : ℕ). set p.blocks.certain.items k false) c.block_index-index.ensures)
+          c.bump-self.ensures (c.event-2.ensures.fuse ∙ c.event.ensures.fuse) refl,
+      chance_open p.number p.order p.blocks.doubt c.begin.new.self.doubt p.failure p.under_way w nothing c.begin.ensures.doubt,
+    )
+
+pub returns-then-next-clause-chosen : goal.returns-then-next-clause-chosen
+returns-then-next-clause-chosen c =
+    let p = c.args.self.now in
+    let nothing : p.under_way ≡ None = nothing_open p c.in_ok-event.ensures.first in
+    let none : p.failure ≡ None = none_of p.failure (p.failure_counted ∙ (c.next.ensures.fails c.if-next.true).0) in
+    chance_home p.number c.block_index-index.result p.order p.blocks.doubt c.fail.new.self.doubt p.failure p.under_way (record { lba = c.args.lba; block = c.args.block }) none nothing c.fail.ensures.doubt
+
+pub returns-clause-chosen : goal.returns-clause-chosen
+returns-clause-chosen c =
+    let p = c.args.self.now in
+    chance_done (device_state p) p.number p.order p.order p.blocks.doubt c.complete.new.self.doubt p.failure p.under_way c.args.lba
+    p.failure_doubt (nothing_open p c.in_ok-event.ensures.first)
+    (c.complete.ensures.doubt ∙ ap (λ (o : Option ℕ). doubt_after o c.block_index-index.result) c.begin.ensures.doubt ∙ ap (λ (k : ℕ). doubt_after p.blocks.doubt k) c.block_index-index.ensures) refl

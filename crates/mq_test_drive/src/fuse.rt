@@ -2,8 +2,8 @@
 ghost use Rattle.std.specs.Prelude.{◌≡◌, ◌≤◌, ◌^◌};
 ghost use Rattle.mq_drive.specs.Seats.{name_of, fuse_of};
 
-use crate::{Fuse, FuseSeat};
 use mq_blocks::OutOfMemory;
+use mq_drive::{Fuse, FuseSeat};
 use std::alloc::Global;
 use std::thread::{Threads, join};
 

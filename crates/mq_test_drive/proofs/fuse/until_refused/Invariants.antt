@@ -1,6 +1,6 @@
 use Rattle.std.proofs.Common.{◌≡◌, ◌≤◌}
 use Rattle.mq_drive.specs.Seats.{name_of, fuse_of}
-use Rattle.mq_drive.proofs.fuse.tests.until_refused.Given as goal
+use Rattle.mq_test_drive.proofs.fuse.until_refused.Given as goal
 
 abbrev pub invariant-loop : goal.invariant-loop
 invariant-loop l = record {
