@@ -106,7 +106,6 @@ end_above q from n t txs [] f at l = absurd at
 end_above q from n t txs (u ∷ ws) f (inl same) l =
     let e : u.number ≡ t.number = ap (λ (v : Tx). v.number) same.0 in
     rw (upto-past n u ws (omega arith), same.1) (omega (arith, total_upto n txs))
-
 end_above q from n t txs (u ∷ ws) f (inr deeper) l =
     let k = number_falls q t txs ws f.2 deeper in
     rw (upto-past n u ws (omega (arith, f.1))) (end_above q from n t txs ws f.2 deeper l)
@@ -116,7 +115,6 @@ next_above q n t txs [] f at l = absurd at
 next_above q n t txs (u ∷ ws) f (inl same) l =
     let e : u.number ≡ t.number = ap (λ (v : Tx). v.number) same.0 in
     rw (upto-past n u ws (omega arith), same.1) (next_upto n txs)
-
 next_above q n t txs (u ∷ ws) f (inr deeper) l =
     let k = number_falls q t txs ws f.2 deeper in
     rw (upto-past n u ws (omega (arith, f.1))) (next_above q n t txs ws f.2 deeper l)

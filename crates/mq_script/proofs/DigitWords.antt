@@ -72,6 +72,22 @@ byte_written v high low small e =
 digit_back : (c d : ℕ) → digit_in c ≡ Some d → (d < 16) × (hex_digit d ≡ c)
 digit_back c d e = grind arith
 
+-- the byte of two digits is written by them
+pub byte_read : (high low v : ℕ) → byte_in high low ≡ Some v → (v < 256) × (high ∷ low ∷ [] ≡ hex_text v)
+byte_read high low v e = step (digit_in high) (digit_in low) refl refl e
+  where
+    step : (h l : Option ℕ) → digit_in high ≡ h → digit_in low ≡ l → byte_of h l ≡ Some v → (v < 256) × (high ∷ low ∷ [] ≡ hex_text v)
+    step None l p q r = absurd (cc)
+    step (Some h) None p q r = absurd (cc)
+    step (Some h) (Some l) p q r =
+        let a = digit_back high h p in
+        let b = digit_back low l q in
+        let same : h * 16 + l ≡ v = cc in
+        let quotient : v / 16 ≡ h = omega (arith, b.0, same) in
+        let rest : v % 16 ≡ l = omega (arith, b.0, same) in
+        (omega (arith, a.0, b.0, same),
+        ap (λ (n : ℕ). n ∷ low ∷ []) (sym a.1 ∙ ap hex_digit (sym quotient)) ∙ ap (λ (n : ℕ). hex_digit (v / 16) ∷ n ∷ []) (sym b.1 ∙ ap hex_digit (sym rest)))
+
 byte_back : (high low : ℕ) (h l : Option ℕ) → digit_in high ≡ h → digit_in low ≡ l → ((v : ℕ) → v < 256 → high ∷ low ∷ [] ≡ hex_text v → ⊥) → None ≡ byte_of h l
 byte_back high low None l p q none = refl
 byte_back high low (Some h) None p q none = refl

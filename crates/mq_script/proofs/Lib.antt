@@ -8,3 +8,4 @@ pub mod PathWords
 pub mod Relining
 pub mod Rescripting
 pub mod Spelling
+pub mod Spelt

@@ -13,6 +13,7 @@ use Rattle.mq_script.specs.Lines.{is_plain, line_in}
 use Rattle.mq_script.specs.Printing.{path_text, data_text, request_text, requests_text, end_text, groups_text, script_text}
 use Rattle.mq_script.specs.Reading.{groups_in, lines_of, script_in, without_line_feed}
 use Rattle.mq_script.specs.Scripts.{Group, Script}
+use Rattle.mq_script.specs.Spelled.{end_word}
 use Rattle.mq_script.specs.declared.group.End.{End}
 use Rattle.mq_script.specs.declared.group.End.TheVariants.{Fsync, Fatomic, Ask}
 use Rattle.mq_script.specs.declared.line.Line.TheVariants.{Ends}
@@ -21,11 +22,6 @@ use Rattle.mq_script.proofs.Relining.{after_path, data_plain, line_again, number
 use Rattle.mq_script.proofs.Spelling.{avoids, joined}
 
 -- ---- the lines of groups
-
-end_word : End → List ℕ
-end_word Fsync = codes "fsync"
-end_word Fatomic = codes "fatomic"
-end_word Ask = codes "ask"
 
 abbrev group_lines : List Request → End → List (List ℕ) → List (List ℕ)
 group_lines [] end rest = end_word end ∷ rest
@@ -36,7 +32,6 @@ groups_lines [] = []
 groups_lines (g ∷ groups) = group_lines g.requests g.end (groups_lines groups)
 
 end_line : (end : End) (rest : List ℕ) → end_word end ++ 10 ∷ rest ≡ end_text end ++ rest
-unfolding end_word
 end_line Fsync rest = refl
 end_line Fatomic rest = refl
 end_line Ask rest = refl
@@ -76,7 +71,6 @@ request_plain (ListOf p) is = path_plain p is
 request_plain (Stat p) is = path_plain p is
 
 end_plain : (end : End) → list_all is_plain (end_word end) ≡ true
-unfolding end_word
 end_plain Fsync = refl
 end_plain Fatomic = refl
 end_plain Ask = refl
@@ -91,11 +85,11 @@ groups_feeds (g ∷ groups) is = group_feeds g.requests g.end (groups_lines grou
 
 -- ---- lines that were ended are cut where they end
 
-ended_join : (line : List ℕ) (lines : List (List ℕ)) → ended 10 (line ∷ lines) ≡ join_with_byte 10 (line ∷ lines) ++ 10 ∷ []
+pub ended_join : (line : List ℕ) (lines : List (List ℕ)) → ended 10 (line ∷ lines) ≡ join_with_byte 10 (line ∷ lines) ++ 10 ∷ []
 ended_join line [] = refl
 ended_join line (next ∷ lines) = ap (λ t. line ++ 10 ∷ t) (ended_join next lines) ∙ sym (append_assoc line (10 ∷ join_with_byte 10 (next ∷ lines)) (10 ∷ []))
 
-some_lines : (bytes : List ℕ) → 0 < length bytes → lines_of bytes ≡ slice_split (λ c. eqb c 10) (without_line_feed bytes)
+pub some_lines : (bytes : List ℕ) → 0 < length bytes → lines_of bytes ≡ slice_split (λ c. eqb c 10) (without_line_feed bytes)
 some_lines [] h = absurd (omega arith)
 some_lines (b ∷ bytes) h = refl
 
@@ -117,7 +111,6 @@ lines_again (line ∷ lines) h = ap lines_of (ended_join line lines) ∙ lines_e
 -- ---- the groups of these lines
 
 end_again : (end : End) → line_in (end_word end) ≡ Ok (Ends end)
-unfolding end_word
 end_again Fsync = refl
 end_again Fatomic = refl
 end_again Ask = refl

@@ -4,6 +4,7 @@ pub mod Lines
 pub mod Printing
 pub mod Reading
 pub mod Scripts
+pub mod Spelled
 pub mod Verbs
 pub mod Words
 pub mod Workloads

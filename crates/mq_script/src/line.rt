@@ -2,7 +2,8 @@
 ghost use Rattle.std.specs.Prelude.{◌≡◌};
 ghost use Rattle.std.specs.List.{list_all};
 ghost use Rattle.mq_script.specs.Answers.{Agrees};
-ghost use Rattle.mq_script.specs.Lines.{a_path, two_paths, a_path_and_a_number, a_path_and_two_numbers, a_path_a_number_and_data, an_end, arguments_in, is_plain, line_in};
+ghost use Rattle.mq_script.specs.Lines.{a_path, two_paths, a_path_and_a_number, a_path_and_two_numbers};
+ghost use Rattle.mq_script.specs.Lines.{a_path_a_number_and_data, an_end, arguments_in, is_plain, line_in};
 ghost use Rattle.mq_script.specs.Words.{words_after};
 
 use crate::data::read_data;

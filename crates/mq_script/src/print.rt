@@ -2,7 +2,8 @@
 ghost use Rattle.std.specs.Prelude.{◌≡◌, ◌<◌, ◌++◌, ◌∷◌, IfOk, OnOk, decimal};
 ghost use Rattle.std.specs.List.{list_all};
 ghost use Rattle.mq_text.specs.Text.{hex_digit};
-ghost use Rattle.mq_script.specs.Printing.{names_text, path_text, pairs_text, is_quotable, data_text, request_text, end_text, requests_text, groups_text, script_text};
+ghost use Rattle.mq_script.specs.Printing.{names_text, path_text, pairs_text, is_quotable, data_text};
+ghost use Rattle.mq_script.specs.Printing.{request_text, end_text, requests_text, groups_text, script_text};
 
 use crate::group::{End, Group, Script};
 use itoa::Buffer;

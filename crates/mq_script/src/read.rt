@@ -2,6 +2,7 @@
 ghost use Rattle.std.specs.Prelude.{◌≡◌, IfOk, map};
 ghost use Rattle.mq_script.specs.Answers.{AgreesAt, IsAt};
 ghost use Rattle.mq_script.specs.Reading.{lines_of, script_in};
+ghost use Rattle.mq_script.specs.Spelled.{Spells};
 
 use crate::group::{Group, Script};
 use crate::line::{Line, read_line};
@@ -38,6 +39,14 @@ fn refused_at(line: u32, refusal: LineRefusal) -> ScriptRefusal
 
 /// The script of a text.
 pub fn read_script(alloc: Global, bytes: &[u8]) -> Result<Script, ScriptRefusal>
+    ensures agrees { AgreesAt (script_in bytes.now) result }
+    ensures spelled { IfOk result (λ script. Spells bytes.now script) }
+{
+    read_groups(alloc, bytes)
+}
+
+/// The groups of a text.
+fn read_groups(alloc: Global, bytes: &[u8]) -> Result<Script, ScriptRefusal>
     ensures { AgreesAt (script_in bytes.now) result }
 {
     if bytes.len() > SIZE_LIMIT {
