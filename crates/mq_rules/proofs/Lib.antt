@@ -1,0 +1,6 @@
+mod Added
+mod Along
+pub mod Staying
+pub mod Telling
+pub mod Opening
+pub mod Meaning

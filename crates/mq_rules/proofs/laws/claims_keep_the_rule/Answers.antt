@@ -1,0 +1,8 @@
+use Rattle.mq_rules.proofs.Telling.{ok_claimed, side_claimed}
+use Rattle.mq_rules.proofs.laws.claims_keep_the_rule.Goals as goal
+
+pub returns : goal.returns
+returns g c = record {
+  ok = λ claim K k low. ok_claimed g.J.JournalValues.values g.J.JournalValues.group claim K k low;
+  side = λ claim K w k is past. side_claimed g.J.JournalValues.values g.J.JournalValues.group claim K w k is past;
+}
