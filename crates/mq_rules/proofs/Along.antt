@@ -6,7 +6,7 @@ use Rattle.mq_blocks.specs.Geometry.{zone_of}
 use Rattle.mq_blocks.specs.Journal.{is_among}
 use Rattle.mq_blocks.specs.Machine.{Map, Writes, write_of}
 use Rattle.mq_ledger.specs.History.{blocks_of, writes, changes, map_after, last, last_logged, upto, of_queue, IsAt}
-use Rattle.mq_ledger.specs.Items.{end_of}
+use Rattle.mq_ledger.specs.Items.{end_of, descriptor_blocks}
 use Rattle.mq_ledger.specs.KnownJournal.{KnownJournal, LogOk, front}
 use Rattle.mq_ledger.specs.Sides.{AreHome, SideOk, RootOk}
 use Rattle.mq_ledger.specs.declared.tx.Tx.{Tx}
@@ -14,9 +14,9 @@ use Rattle.mq_ledger.proofs.Values.{last_upto_more, last-same, unchanged, unwrit
 use Rattle.mq_ledger.proofs.Entries.{of_queue-other}
 use Rattle.mq_ledger.proofs.Queues.{FromQueue-of}
 use Rattle.mq_core.proofs.Fronts.{part_more, DoneMore, done_below}
-use Rattle.mq_core.proofs.Bases.{next_upto_more, total_upto_more, covered}
+use Rattle.mq_core.proofs.Bases.{at_append, next_upto_more, total_upto_more, covered}
 use Rattle.mq_core.proofs.Growth.{front_low, moved_to, side_moved}
-use Rattle.mq_base.proofs.Newer.{at_later, part_longer, upto_older}
+use Rattle.mq_base.proofs.Newer.{part_longer, upto_older}
 use Rattle.mq_base.specs.Pages.{last_direct}
 
 abbrev pub Among : List Tx → Tx → Type 0
@@ -58,7 +58,7 @@ module _ (k : KnownJournal) (newer : List Tx) (done : Tx → List Tx → Bool) (
         → SideOk k q (of_queue q k.history) p → SideOk later q (of_queue q k.history) p
     side_later q p apart known same s =
         let txs : List Tx = of_queue q k.history in
-        let ended : (t : Tx) (ts : List Tx) → IsAt t ts (newer ++ k.history) → t.queue ≡ q → done t ts ≡ true → end_of (k.from q) (of_queue q ts) + (writes t + 1) ≤ p.head = λ t ts at own d. elim (at_newer t ts newer k.history at) [
+        let ended : (t : Tx) (ts : List Tx) → IsAt t ts (newer ++ k.history) → t.queue ≡ q → done t ts ≡ true → end_of (k.from q) (of_queue q ts) + (writes t + descriptor_blocks t) ≤ p.head = λ t ts at own d. elim (at_newer t ts newer k.history at) [
           | inl new ↦ absurd (apart t new own)
           | inr old ↦ s.done t ts old own (known t ts own d)
         ] in
@@ -69,10 +69,10 @@ module _ (k : KnownJournal) (newer : List Tx) (done : Tx → List Tx → Bool) (
           low = omega (arith, total_upto_more k.word word txs above);
           based = covered (k.from q) p.head word txs order.head_low (λ t ws at low.
               let f = FromQueue-of q t ws k.history at in
-              let there = at_later t f.ts newer k.history f.at in
+              let there = at_append t f.ts newer k.history f.at in
               let reached = then.word_high in
               let d = done_below k.base done t f.ts (newer ++ k.history) then.numbers there (omega arith) in
-              subst (λ vs. end_of (k.from q) vs + (writes t + 1) ≤ p.head) f.rest (ended t f.ts there f.own d));
+              subst (λ vs. end_of (k.from q) vs + (writes t + descriptor_blocks t) ≤ p.head) f.rest (ended t f.ts there f.own d));
           done = ended;
           change = λ x v l. let seen = seen_later x in omega arith;
         }) (homes_later (Some q) p same s.homes)

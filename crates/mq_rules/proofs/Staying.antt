@@ -21,11 +21,11 @@ use Rattle.mq_turns.specs.Marks.{is_claimed}
 use Rattle.mq_turns.specs.Meaning.{Apart, Grows, newest, drawn}
 use Rattle.mq_turns.specs.declared.turn.Turn.{Turn}
 use Rattle.mq_turns.specs.declared.turn.Turn.TheVariants.{Page, Side, Root}
-use Rattle.mq_turns.proofs.Totals.{each_map}
+use Rattle.mq_turns.proofs.Each.{each_map}
 use Rattle.mq_rules.specs.Faults.{charged_to}
 use Rattle.mq_rules.specs.Groups.{Group}
 use Rattle.mq_rules.specs.Rule
-use Rattle.mq_rules.specs.Rule.{same_port, numbered, start_of, doorbell_of, faults_of, geometry_of, IsOk, IsPage, IsSide, IsRoot, May, next_tx}
+use Rattle.mq_rules.specs.Rule.{same_port, numbered, start_of, doorbell_of, port_of, faults_of, geometry_of, IsOk, IsPage, IsSide, IsRoot, May, next_tx}
 use Rattle.mq_rules.specs.Values.{Values}
 use Rattle.mq_rules.proofs.Added.{claimed_more, claimed_apart, unclaimed, ended_more, ended_apart, last_ended_apart, charged_apart, same_port-same}
 use Rattle.mq_rules.proofs.Along.{Among, queue_newer, side_later, root_later, same_block}
@@ -167,6 +167,7 @@ module _ {Q R E : Type 0} (values : Values Q R E) (group : Group E) where
         geometry = values.geometry (sym o i).root;
         queue = q;
         start = doorbell_of values group (sym o i) q;
+        opened = port_of values group (sym o i) q;
         first = faults_of values group (sym o i) q;
         word = L.word;
         txs = sym same i;

@@ -3,7 +3,7 @@
 use Rattle.std.proofs.Common.{◌≡◌, ℕ, ◌+◌, ◌<◌, ◌≤◌, ◌&&◌, nat_le, List, [], refl, sym, inl, inr, arith, eqb}
 use Rattle.std.proofs.lemmas.Bool.{or_cases, or_right, and_parts, leb-true}
 use Rattle.mq_ledger.specs.History.{writes, of_queue, IsAt}
-use Rattle.mq_ledger.specs.Items.{end_of}
+use Rattle.mq_ledger.specs.Items.{end_of, descriptor_blocks}
 use Rattle.mq_ledger.specs.KnownJournal.{KnownJournal, front}
 use Rattle.mq_ledger.specs.declared.tx.Tx.{Tx}
 use Rattle.mq_core.proofs.Fronts.{DoneMore}
@@ -51,7 +51,7 @@ module _ {Q R E : Type 0} (values : Values Q R E) (group : Group E) where
       }
 
   pub side_claimed : (c : Claim) (K : Desk) (w : Q) → IsOk values group K → IsSide values group c.queue K w
-      → ((t : Tx) (ts : List Tx) → IsAt t ts (core K).history → t.queue ≡ c.queue → t.number ≤ c.up_to → end_of ((core K).from c.queue) (of_queue c.queue ts) + (writes t + 1) ≤ (values.port w).head)
+      → ((t : Tx) (ts : List Tx) → IsAt t ts (core K).history → t.queue ≡ c.queue → t.number ≤ c.up_to → end_of ((core K).from c.queue) (of_queue c.queue ts) + (writes t + descriptor_blocks t) ≤ (values.port w).head)
       → IsSide values group c.queue (claimed c K) w
   side_claimed c K w ok is past = record {
     port = side_more (core K) (core (claimed c K)).done ok.log (more c K) c.queue (Rule.own_of values group c.queue K) (values.port w) is.port (λ t ts at mine d. elim (or_cases (eqb c.queue t.queue && nat_le t.number c.up_to) (is_claimed t.queue t.number K.claims) d) [

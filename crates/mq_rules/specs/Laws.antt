@@ -1,7 +1,7 @@
 -- What holds of the rule of a desk over ports, in one statement each.
 use Rattle.std.specs.Prelude.{◌≡◌, ◌<◌, ◌≤◌, ℕ, ◌+◌, true, List}
 use Rattle.mq_ledger.specs.History.{writes, of_queue, IsAt}
-use Rattle.mq_ledger.specs.Items.{end_of}
+use Rattle.mq_ledger.specs.Items.{end_of, descriptor_blocks}
 use Rattle.mq_ledger.specs.KnownJournal.{front}
 use Rattle.mq_ledger.specs.declared.tx.Tx.{Tx}
 use Rattle.mq_base.specs.Bases.{BaseOk}
@@ -124,7 +124,7 @@ module _ {Q R E : Type 0} (values : Values Q R E) (group : Group E) where
       → IsAt t ts (core_of values group K).history
       → t.queue ≡ c.queue
       → t.number ≤ c.up_to
-      → end_of ((core_of values group K).from c.queue) (of_queue c.queue ts) + (writes t + 1) ≤ (values.port w).head)
+      → end_of ((core_of values group K).from c.queue) (of_queue c.queue ts) + (writes t + descriptor_blocks t) ≤ (values.port w).head)
       → IsSide values group c.queue (claimed c K) w
 
   -- ---- what a note of a home write asks

@@ -1,6 +1,7 @@
 -- What lies on a desk over the ports of a drive, by what is known: cells of home blocks, sides of queues, and the root;
 -- and which groups may be drawn.
 use Rattle.std.specs.Prelude.{◌≡◌, ℕ, ◌+◌, ◌≤◌, nat_eq, Bool, true, false, List, [], ◌∷◌, length, map, slice_index_or, Option, Some, None, if◌then◌else◌}
+use Rattle.mq_blocks.specs.Drive.{PortState}
 use Rattle.mq_blocks.specs.Geometry.{zone_of}
 use Rattle.mq_blocks.specs.Machine.{Map}
 use Rattle.mq_blocks.specs.declared.geometry.Geometry.{Geometry}
@@ -8,6 +9,7 @@ use Rattle.mq_drive.specs.Steps.{Fault}
 use Rattle.mq_ledger.specs.History.{changes, map_after, last, last_logged, of_queue}
 use Rattle.mq_ledger.specs.KnownJournal.{KnownJournal, LogOk, MayDraw}
 use Rattle.mq_ledger.specs.Sides.{SideOk}
+use Rattle.mq_ledger.specs.State.{no_port}
 use Rattle.mq_ledger.specs.Written.{journal_entries}
 use Rattle.mq_ledger.specs.declared.tx.Tx.{Tx}
 use Rattle.mq_base.specs.Bases.{BaseOk, RootStands}
@@ -43,6 +45,9 @@ module _ {Q R E : Type 0} (values : Values Q R E) (group : Group E) where
 
   abbrev pub doorbell_of : Opening PageCell Q R → ℕ → ℕ
   doorbell_of o q = slice_index_or (map (λ w. (values.port w).doorbell) o.sides) q 0
+
+  abbrev pub port_of : Opening PageCell Q R → ℕ → PortState
+  port_of o q = slice_index_or (map values.port o.sides) q no_port
 
   abbrev pub faults_of : Opening PageCell Q R → ℕ → List Fault
   faults_of o q = slice_index_or (map values.faults o.sides) q []
@@ -129,6 +134,7 @@ module _ {Q R E : Type 0} (values : Values Q R E) (group : Group E) where
     geometry = geometry_of K;
     queue = q;
     start = doorbell_of K.opening q;
+    opened = port_of K.opening q;
     first = faults_of K.opening q;
     word = K.word;
     txs = own_of q K;

@@ -9,8 +9,9 @@ use Rattle.mq_ledger.specs.declared.tx.Tx.{Tx}
 pub record Part : Type 0 where
   pub geometry : Geometry
   pub queue : ℕ
-  -- the doorbell of its port at the opening, and the faults of its port there
+  -- the doorbell of its port at the opening; its whole port there, and the faults of the port
   pub start : ℕ
+  pub opened : PortState
   pub first : List Fault
   -- the base word
   pub word : ℕ
