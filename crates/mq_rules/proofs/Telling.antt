@@ -10,20 +10,21 @@ use Rattle.mq_core.proofs.Fronts.{DoneMore}
 use Rattle.mq_core.proofs.Growth.{log_more, side_more}
 use Rattle.mq_base.specs.Bases.{BaseOk}
 use Rattle.mq_base.specs.Grown.{HasGrown}
-use Rattle.mq_base.specs.Pages.{IsNumbered, IsToBring}
+use Rattle.mq_base.specs.Pages.{IsNumbered, IsToBring, WasBrought}
 use Rattle.mq_base.proofs.Bases.{base_later}
 use Rattle.mq_base.proofs.HomeWrites.{home_number_with, grown_brought, log_brought}
 use Rattle.mq_base.proofs.Pages.{numbered_of}
 use Rattle.mq_base.proofs.Roots.{grown_word, log_raised, stands_raised}
 use Rattle.mq_pages.specs.declared.page.PageCell.{PageCell}
 use Rattle.mq_turns.specs.Marks.{is_claimed}
-use Rattle.mq_turns.specs.Meaning.{newest, claimed, charged, raised, written}
+use Rattle.mq_turns.specs.Meaning.{Grows, newest, claimed, charged, raised, written}
 use Rattle.mq_turns.specs.declared.rule.Charge.{Charge}
 use Rattle.mq_turns.specs.declared.rule.Claim.{Claim}
 use Rattle.mq_rules.specs.Groups.{Group}
 use Rattle.mq_rules.specs.Rule
 use Rattle.mq_rules.specs.Rule.{IsOk, IsPage, IsSide, IsRoot}
 use Rattle.mq_rules.specs.Values.{Values}
+use Rattle.mq_rules.proofs.Staying.{core_grown}
 
 module _ {Q R E : Type 0} (values : Values Q R E) (group : Group E) where
   abbrev Desk : Type 0
@@ -70,6 +71,20 @@ module _ {Q R E : Type 0} (values : Values Q R E) (group : Group E) where
 
   pub page_waits : (b : ℕ) (K : Desk) (c : PageCell) → IsPage values group b K c → c.last_logged ≡ c.version → c.home_version < c.version → c.version ≤ front (core K) → IsToBring (core K) K.ended b c.version c.last_logged c.home_version
   page_waits b K c p last waits done = record { version_is = p.version; logged_is = p.last_logged; home_is = p.home_version; due_is = refl; last = last; waits = waits; done = done }
+
+  pub page_brought : (base b : ℕ) (K L : Desk) (c : PageCell) → IsOk values group K → Grows K L → base ≤ front (core K) → IsPage values group b K c → c.version ≤ front (core K) → (c.last_logged ≡ c.version → c.version ≤ base → c.version ≤ c.home_version) → WasBrought (core L) base b
+  page_brought base b K L c ok grows reached p done home = record {
+    earlier = core K;
+    log = ok.log;
+    grown = core_grown values group K L grows;
+    reached = reached;
+    version = c.version;
+    logged = c.last_logged;
+    home = c.home_version;
+    numbers = page_numbers b K c p;
+    done = done;
+    brought = λ content there same low. home same low;
+  }
 
   -- ---- its home write
 

@@ -6,8 +6,10 @@ use Rattle.mq_ledger.specs.KnownJournal.{front}
 use Rattle.mq_ledger.specs.declared.tx.Tx.{Tx}
 use Rattle.mq_base.specs.Bases.{BaseOk}
 use Rattle.mq_base.specs.Grown.{HasGrown}
-use Rattle.mq_base.specs.Pages.{IsNumbered, IsToBring, told}
+use Rattle.mq_base.specs.Pages.{IsNumbered, IsToBring, WasBrought, told}
 use Rattle.mq_pages.specs.declared.page.PageCell.{PageCell}
+use Rattle.mq_turns.specs.Marks.{is_claimed}
+use Rattle.mq_turns.specs.Meaning as history
 use Rattle.mq_turns.specs.Meaning.{Grows, newest, claimed, charged, drawn, raised, written}
 use Rattle.mq_turns.specs.declared.rule.Charge.{Charge}
 use Rattle.mq_turns.specs.declared.rule.Claim.{Claim}
@@ -104,6 +106,19 @@ module _ {Q R E : Type 0} (values : Values Q R E) (group : Group E) where
       → c.version ≤ front (core_of values group K)
       → IsToBring (core_of values group K) K.ended b c.version c.last_logged c.home_version
 
+  -- A page that was noted when nothing of it waited for a home write below the base, once the base was done, needed no
+  -- home write then.
+  abbrev pub NotedPagesWereBrought : Type 0
+  NotedPagesWereBrought =
+      (base b : ℕ) (K L : Desk values group) (c : PageCell)
+      → IsOk values group K
+      → Grows K L
+      → base ≤ front (core_of values group K)
+      → IsPage values group b K c
+      → c.version ≤ front (core_of values group K)
+      → (c.last_logged ≡ c.version → c.version ≤ base → c.version ≤ c.home_version)
+      → WasBrought (core_of values group L) base b
+
   -- ---- what a store of a mark asks
 
   -- of a claim no more than that its numbers were drawn
@@ -171,3 +186,17 @@ module _ {Q R E : Type 0} (values : Values Q R E) (group : Group E) where
       (c : Charge) (K : Desk values group)
       → IsOk values group K
       → IsOk values group (charged c K)
+
+  -- ---- done numbers
+
+  -- A number up to which every entry is claimed to be done is not above the front.
+  abbrev pub ClaimsReachTheFront : Type 0
+  ClaimsReachTheFront =
+      (n : ℕ) (K : Desk values group)
+      → IsOk values group K
+      → n ≤ newest K
+      → ((m : ℕ) (e : E)
+      → history.IsAt K.opening.base K.log m e
+      → m ≤ n
+      → is_claimed (group.tx e).queue m K.claims ≡ true)
+      → n ≤ front (core_of values group K)

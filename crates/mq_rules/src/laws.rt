@@ -2,8 +2,8 @@
 ghost use Rattle.mq_rules.specs.Laws.{PagesStay, SidesStay, RootsStay};
 ghost use Rattle.mq_rules.specs.Laws.{DrawsAreRuled, DrawsTouchTheirSides, MapsStayGood};
 ghost use Rattle.mq_rules.specs.Laws.{OpeningsAreRuled, JournalsGrow, NotesAreTold};
-ghost use Rattle.mq_rules.specs.Laws.{CellsAreNumbered, CellsWait};
-ghost use Rattle.mq_rules.specs.Laws.{ClaimsAreRuled, SidesShowClaims};
+ghost use Rattle.mq_rules.specs.Laws.{CellsAreNumbered, CellsWait, NotedPagesWereBrought};
+ghost use Rattle.mq_rules.specs.Laws.{ClaimsAreRuled, SidesShowClaims, ClaimsReachTheFront};
 ghost use Rattle.mq_rules.specs.Laws.{HomeWritesAreRuled, PagesShowHomeWrites};
 ghost use Rattle.mq_rules.specs.Laws.{RaisesAreRuled, RootsShowRaises, ChargesAreRuled};
 
@@ -37,12 +37,15 @@ pub fn the_journal_grows_with_the_desk<J: JournalValues>()
     ensures told { NotesAreTold J.values J.group }
     ensures page { CellsAreNumbered J.values J.group }
     ensures waits { CellsWait J.values J.group }
+    ensures noted { NotedPagesWereBrought J.values J.group }
 {}
 
-/// Numbers that were drawn may be claimed to be done by a side whose head is past those of its queue.
+/// Numbers that were drawn may be claimed to be done by a side whose head is past those of its queue. A
+/// number up to which all are claimed is not above the front.
 pub fn claims_keep_the_rule<J: JournalValues>()
     ensures ok { ClaimsAreRuled J.values J.group }
     ensures side { SidesShowClaims J.values J.group }
+    ensures front { ClaimsReachTheFront J.values J.group }
 {}
 
 /// The home write of a page that waits for it may be noted, and the page then says so.
