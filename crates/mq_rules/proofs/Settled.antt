@@ -14,7 +14,7 @@ use Rattle.mq_rules.proofs.Staying.{length_history}
 
 module _ {Q R E : Type 0} (values : Values Q R E) (group : Group E) where
   -- each transaction of the history is an entry's
-  entry_at : (base : ℕ) (es : List E) (t : Tx) (ts : List Tx) → ledger.IsAt t ts (Rule.history values group base es) → (e : E) × IsAt base es t.number e × ((group.tx e).queue ≡ t.queue)
+  pub entry_at : (base : ℕ) (es : List E) (t : Tx) (ts : List Tx) → ledger.IsAt t ts (Rule.history values group base es) → (e : E) × IsAt base es t.number e × ((group.tx e).queue ≡ t.queue)
   entry_at base [] t ts at = absurd at
   entry_at base (e ∷ es) t ts (inl same) =
       let number : base + length es + 1 ≡ t.number = ap (λ (u : Tx). u.number) same.0 in
