@@ -1,0 +1,7 @@
+mod Added
+mod Along
+pub mod Staying
+pub mod Settled
+pub mod Telling
+pub mod Opening
+pub mod Meaning

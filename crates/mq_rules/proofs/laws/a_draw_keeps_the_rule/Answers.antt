@@ -1,0 +1,11 @@
+use Rattle.std.proofs.Common.{refl}
+use Rattle.std.proofs.lemmas.Bool.{eq-eqb}
+use Rattle.mq_rules.proofs.Staying.{good_now, ok_drawn}
+use Rattle.mq_rules.proofs.laws.a_draw_keeps_the_rule.Goals as goal
+
+pub returns : goal.returns
+returns g c = record {
+  ok = λ e K k may. ok_drawn g.J.JournalValues.values g.J.JournalValues.group e K k may;
+  side = λ log e. eq-eqb (g.J.JournalValues.group.tx e).queue (g.J.JournalValues.group.tx e).queue refl;
+  map = λ K k. good_now g.J.JournalValues.values g.J.JournalValues.group K k;
+}

@@ -1,0 +1,5 @@
+use Rattle.mq_rules.proofs.Telling.{ok_charged}
+use Rattle.mq_rules.proofs.laws.charges_keep_the_rule.Goals as goal
+
+pub returns : goal.returns
+returns g c = λ charge K k. ok_charged g.J.JournalValues.values g.J.JournalValues.group charge K k

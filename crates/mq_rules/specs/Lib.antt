@@ -1,0 +1,6 @@
+pub mod Groups
+pub mod Values
+pub mod Faults
+pub mod Rule
+pub mod Opening
+pub mod Laws

@@ -1,0 +1,66 @@
+// What holds of the rule of a desk over ports.
+ghost use Rattle.mq_rules.specs.Laws.{PagesStay, SidesStay, RootsStay};
+ghost use Rattle.mq_rules.specs.Laws.{DrawsAreRuled, DrawsTouchTheirSides, MapsStayGood};
+ghost use Rattle.mq_rules.specs.Laws.{OpeningsAreRuled, JournalsGrow, NotesAreTold};
+ghost use Rattle.mq_rules.specs.Laws.{CellsAreNumbered, CellsWait, NotedPagesWereBrought};
+ghost use Rattle.mq_rules.specs.Laws.{ClaimsAreRuled, SidesShowClaims, ClaimsReachTheFront};
+ghost use Rattle.mq_rules.specs.Laws.{HomeWritesAreRuled, PagesShowHomeWrites};
+ghost use Rattle.mq_rules.specs.Laws.{RaisesAreRuled, RootsShowRaises, ChargesAreRuled};
+
+use crate::values::JournalValues;
+
+/// A page, a side or the root is by what is known later what it was, where nothing of that is about it.
+pub fn values_stay<J: JournalValues>()
+    ensures page { PagesStay J.values J.group }
+    ensures side { SidesStay J.values J.group }
+    ensures root { RootsStay J.values J.group }
+{}
+
+/// A group that may be drawn keeps the history legal and the base word a base, and changes its queue's
+/// side. Groups run on the map after each legal history.
+pub fn a_draw_keeps_the_rule<J: JournalValues>()
+    ensures ok { DrawsAreRuled J.values J.group }
+    ensures side { DrawsTouchTheirSides J.values J.group }
+    ensures map { MapsStayGood J.values J.group }
+{}
+
+/// What a desk is opened with over a journal in which nothing was drawn is what the rule says of it, so
+/// that a desk may be made of it.
+pub fn an_opening_is_ruled<J: JournalValues>()
+    ensures { OpeningsAreRuled J.values J.group }
+{}
+
+/// What the journal knows grows with what is known on the desk. A noted home write has been told, and the
+/// numbers of a cell are those of a page.
+pub fn the_journal_grows_with_the_desk<J: JournalValues>()
+    ensures grows { JournalsGrow J.values J.group }
+    ensures told { NotesAreTold J.values J.group }
+    ensures page { CellsAreNumbered J.values J.group }
+    ensures waits { CellsWait J.values J.group }
+    ensures noted { NotedPagesWereBrought J.values J.group }
+{}
+
+/// Numbers that were drawn may be claimed to be done by a side whose head is past those of its queue. A
+/// number up to which all are claimed is not above the front.
+pub fn claims_keep_the_rule<J: JournalValues>()
+    ensures ok { ClaimsAreRuled J.values J.group }
+    ensures side { SidesShowClaims J.values J.group }
+    ensures front { ClaimsReachTheFront J.values J.group }
+{}
+
+/// The home write of a page that waits for it may be noted, and the page then says so.
+pub fn a_home_write_keeps_the_rule<J: JournalValues>()
+    ensures ok { HomeWritesAreRuled J.values J.group }
+    ensures page { PagesShowHomeWrites J.values J.group }
+{}
+
+/// The base word may be raised to a base that the root has flushed.
+pub fn a_raised_base_keeps_the_rule<J: JournalValues>()
+    ensures ok { RaisesAreRuled J.values J.group }
+    ensures root { RootsShowRaises J.values J.group }
+{}
+
+/// A charge changes nothing that is asked of the history.
+pub fn charges_keep_the_rule<J: JournalValues>()
+    ensures { ChargesAreRuled J.values J.group }
+{}
