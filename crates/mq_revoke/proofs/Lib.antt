@@ -1,4 +1,4 @@
-mod Placing
+pub mod Placing
 mod Drawing
-mod Unique
+pub mod Unique
 mod Counting

@@ -11,7 +11,7 @@ use Rattle.mq_revoke.specs.Placing.{IsDirect, IsCopied, AreThose, IsPlacement}
 use Rattle.mq_revoke.specs.declared.placement.Planned.{Planned}
 
 -- what is among the one is among the other
-abbrev IsWithin : List ℕ → List ℕ → Type 0
+abbrev pub IsWithin : List ℕ → List ℕ → Type 0
 IsWithin xs ys = (x : ℕ) → is_among x xs ≡ true → is_among x ys ≡ true
 
 -- the rest of two lists with the same head
@@ -25,7 +25,7 @@ head-low : (low high x y : ℕ) (xs ys : List ℕ) → AreRising low high (y ∷
 head-low low high x y xs ys rising within = among-low y high (y ∷ ys) x (omega arith, rising.1, rising.2) (within x (among-here x xs))
 
 -- two rising lists of the same numbers are one
-rising-same : (low high : ℕ) (xs ys : List ℕ) → AreRising low high xs → AreRising low high ys → IsWithin xs ys → IsWithin ys xs → xs ≡ ys
+pub rising-same : (low high : ℕ) (xs ys : List ℕ) → AreRising low high xs → AreRising low high ys → IsWithin xs ys → IsWithin ys xs → xs ≡ ys
 rising-same low high [] [] r s to from = refl
 rising-same low high [] (y ∷ ys) r s to from = absurd (false≢true (from y (among-here y ys)))
 rising-same low high (x ∷ xs) [] r s to from = absurd (false≢true (to x (among-here x xs)))

@@ -1,0 +1,5 @@
+use Rattle.mq_side.proofs.Draws.{opened}
+use Rattle.mq_side.proofs.laws.a_new_side_is_one.Goals as goal
+
+pub returns : goal.returns
+returns c = opened

@@ -1,0 +1,5 @@
+use Rattle.mq_side.proofs.Counting.{events_bound}
+use Rattle.mq_side.proofs.laws.events_are_bounded.Goals as goal
+
+pub returns : goal.returns
+returns c = events_bound

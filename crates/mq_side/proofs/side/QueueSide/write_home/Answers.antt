@@ -1,0 +1,21 @@
+use Rattle.std.proofs.Common.{refl}
+use Rattle.mq_side.specs.Side.{SideState, side_state}
+use Rattle.mq_side.proofs.Ends.{SameRecords}
+use Rattle.mq_side.proofs.HomeWrites.{home_stays, home_goes}
+use Rattle.mq_side.proofs.side.QueueSide.write_home.Goals as goal
+
+pub returns-clause-stays : goal.returns-clause-stays
+returns-clause-stays g c =
+    let old : SideState = side_state g.P.Port.state g.P.Port.faults c.args.self.now in
+    let ring = c.write_home.new.self in
+    let new : SideState = record { geometry = ring.geometry; queue = ring.queue; port = g.P.Port.state ring.port; faults = g.P.Port.faults ring.port; passed = ring.done; rung = ring.rung.items; done = c.args.self.now.done; kept = c.args.self.now.kept } in
+    let same : SameRecords old new = record { geometry = c.write_home.ensures.own.0; queue = c.write_home.ensures.own.1; passed = c.write_home.ensures.done; rung = c.write_home.ensures.rung; done = refl } in
+    home_stays old new c.args.lba c.args.block same refl c.write_home.result c.write_home.ensures.home
+
+pub returns-clause-goes : goal.returns-clause-goes
+returns-clause-goes g c =
+    let old : SideState = side_state g.P.Port.state g.P.Port.faults c.args.self.now in
+    let ring = c.write_home.new.self in
+    let new : SideState = record { geometry = ring.geometry; queue = ring.queue; port = g.P.Port.state ring.port; faults = g.P.Port.faults ring.port; passed = ring.done; rung = ring.rung.items; done = c.args.self.now.done; kept = c.args.self.now.kept } in
+    let same : SameRecords old new = record { geometry = c.write_home.ensures.own.0; queue = c.write_home.ensures.own.1; passed = c.write_home.ensures.done; rung = c.write_home.ensures.rung; done = refl } in
+    home_goes old new c.args.lba c.args.block same refl c.write_home.result c.write_home.ensures.home

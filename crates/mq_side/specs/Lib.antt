@@ -1,0 +1,13 @@
+pub mod Quiet
+pub mod Side
+pub mod Commits
+pub mod Parts
+pub mod Stored
+pub mod Sent
+pub mod Staying
+pub mod Drained
+pub mod Homes
+pub mod Told
+pub mod Counts
+pub mod Roots
+pub mod Laws

@@ -1,0 +1,210 @@
+// A transaction's writes: prepared, and then numbered.
+ghost use Rattle.std.specs.Prelude.{◌≡◌, ◌<◌, ◌≤◌, ◌+◌, ◌++◌, ◌∷◌, ◌^◌, ℕ, true, [], length, reverse, vec_len, vec_capacity, IfOk};
+ghost use Rattle.mq_blocks.specs.Geometry.{queues_of, homes_of};
+ghost use Rattle.mq_blocks.specs.Journal.{is_among};
+ghost use Rattle.mq_ledger.specs.History.{blocks_of};
+ghost use Rattle.mq_side.specs.Commits.{copies_at, directs_of, items_of};
+ghost use Rattle.mq_side.specs.Parts.{writes_of};
+ghost use Rattle.mq_side.specs.Sent.{AreInZone};
+
+use mq_area::{Descriptor, write_descriptor};
+use mq_blocks::{Block, BlockNo, Geometry, Lba, QueueNo, TxNo};
+use mq_pages::ShadowPage;
+use std::marker::Model;
+
+/// A transaction that is ready to be drawn: shadows of its writes, and all the memory that its commit
+/// takes.
+#[derive(Drop)]
+pub struct Prepared {
+    // what goes into the journal area, and what goes home
+    pub(crate) logged: Vec<ShadowPage>,
+    pub(crate) direct: Vec<ShadowPage>,
+    // the lists of the descriptor, and the block in which it will be written
+    pub(crate) blocks: Vec<BlockNo>,
+    pub(crate) revoked: Vec<BlockNo>,
+    pub(crate) block: Block,
+    // room for the items of the ring
+    pub(crate) items: Vec<(Lba, Block)>,
+}
+
+impl Model for Prepared {
+    ghost use Rattle.std.specs.Prelude.{vec_capacity};
+    ghost use Rattle.mq_side.specs.Commits.{Commit};
+    ghost use Rattle.mq_side.specs.Parts.{writes_of, ArePartsOf};
+
+    ghost Value = { Commit };
+
+    ghost view = { λ p. record { logged = writes_of p.logged.items; direct = writes_of p.direct.items; revoked = p.revoked.items } };
+
+    ghost invariant = { λ p. ArePartsOf (writes_of p.logged.items) (writes_of p.direct.items) p.blocks.items p.revoked.items p.items.items (vec_capacity p.items) };
+}
+
+/// A transaction that was drawn: its writes, its number and its place on its queue. Its descriptor is
+/// written.
+#[derive(Drop)]
+pub struct Numbered {
+    logged: Vec<ShadowPage>,
+    direct: Vec<ShadowPage>,
+    number: TxNo,
+    at: Position,
+    // the descriptor, and the block in which it is written
+    descriptor: Descriptor,
+    block: Block,
+    items: Vec<(Lba, Block)>,
+}
+
+impl Model for Numbered {
+    ghost use Rattle.std.specs.Prelude.{vec_capacity};
+    ghost use Rattle.mq_side.specs.Commits.{NumberedCommit};
+    ghost use Rattle.mq_side.specs.Parts.{numbered_by, AreNumberedParts};
+
+    ghost Value = { NumberedCommit };
+
+    ghost view = { λ n. numbered_by n.logged.items n.direct.items n.descriptor.revoked n.number n.at };
+
+    ghost invariant = { λ n. AreNumberedParts (numbered_by n.logged.items n.direct.items n.descriptor.revoked n.number n.at) n.block n.items.items (vec_capacity n.items) };
+}
+
+/// Where a transaction stands on its queue: the place of its first copy, and number and place of the
+/// descriptor before its own.
+#[derive(Clone, Copy)]
+pub(crate) struct Position {
+    pub(crate) queue: QueueNo,
+    pub(crate) first: u64,
+    pub(crate) prev_place: u64,
+    pub(crate) prev_number: TxNo,
+}
+
+impl Prepared {
+    // The number of blocks that go into the journal area.
+    pub(crate) fn copies(&self) -> u64
+        ensures { result ≡ length self.now.logged }
+    {
+        self.logged.len() as u64
+    }
+
+    // Gives it a number and a place, and writes the descriptor.
+    pub(crate) fn number(self, tx: TxNo, at: Position) -> Numbered
+        requires { at.first + length self.logged < 2 ^ 64 }
+        ensures { result ≡ record {
+          commit = self;
+          queue = at.queue;
+          number = tx;
+          first = at.first;
+          prev_place = at.prev_place;
+          prev_number = at.prev_number;
+        } }
+    {
+        let descriptor = Descriptor {
+            queue: at.queue.0,
+            number: tx.0,
+            place: at.first + self.logged.len() as u64,
+            prev_place: at.prev_place,
+            prev_number: at.prev_number.0,
+            logged: self.blocks,
+            revoked: self.revoked,
+        };
+        let mut block = self.block;
+        write_descriptor(&descriptor, &mut block);
+        Numbered {
+            logged: self.logged,
+            direct: self.direct,
+            number: tx,
+            at,
+            descriptor,
+            block,
+            items: self.items,
+        }
+    }
+}
+
+// Adds an item where there is room.
+fn add(items: &mut Vec<(Lba, Block)>, lba: Lba, block: Block)
+    requires { vec_len items.old < vec_capacity items.old }
+    ensures items { items.new.items ≡ items.old.items ++ (lba, block) ∷ [] }
+    ensures capacity { vec_capacity items.old ≤ vec_capacity items.new }
+{
+    match items.push((lba, block)) {
+        Ok(()) => {}
+        Err(_) => unreachable!(),
+    }
+}
+
+// Takes the first page out of pages that stand in reverse.
+pub(crate) fn take_first(reversed: &mut Vec<ShadowPage>) -> ShadowPage
+    requires { 0 < length reversed.old.items }
+    ensures { reverse reversed.old.items ≡ result ∷ reverse reversed.new.items }
+{
+    match reversed.pop() {
+        Some(page) => page,
+        None => unreachable!(),
+    }
+}
+
+// Adds the copies of the logged pages, from a place of the queue on.
+fn add_copies(
+    items: &mut Vec<(Lba, Block)>,
+    geometry: Geometry,
+    queue: QueueNo,
+    first: u64,
+    mut pages: Vec<ShadowPage>,
+)
+    requires queue { queue < queues_of geometry }
+    requires room { length items.old.items + length pages.items ≤ vec_capacity items.old }
+    requires places { first + length pages.items < 2 ^ 64 }
+    ensures items { items.new.items ≡ items.old.items ++ copies_at geometry queue first (writes_of pages.items) }
+    ensures capacity { vec_capacity items.old ≤ vec_capacity items.new }
+{
+    let mut place = first;
+    pages.reverse();
+    'copying: while !pages.is_empty() {
+        let page = take_first(&mut pages);
+        add(items, geometry.area_lba(queue, place), page.content);
+        place += 1;
+    }
+}
+
+// Adds the direct pages, each to its home block.
+fn add_directs(items: &mut Vec<(Lba, Block)>, geometry: Geometry, mut pages: Vec<ShadowPage>)
+    requires room { length items.old.items + length pages.items ≤ vec_capacity items.old }
+    requires home { (x : ℕ) → is_among x (blocks_of (writes_of pages.items)) ≡ true → x < homes_of geometry }
+    ensures items { items.new.items ≡ items.old.items ++ directs_of geometry (writes_of pages.items) }
+    ensures capacity { vec_capacity items.old ≤ vec_capacity items.new }
+{
+    pages.reverse();
+    'placing: while !pages.is_empty() {
+        let page = take_first(&mut pages);
+        add(items, geometry.home(page.block), page.content);
+    }
+}
+
+impl Numbered {
+    /// The number of the transaction.
+    pub fn number(&self) -> TxNo
+        ensures { result ≡ self.now.number }
+    {
+        self.number
+    }
+
+    // What goes into the ring, in its order.
+    pub(crate) fn into_items(self, geometry: Geometry) -> Vec<(Lba, Block)>
+        requires queue { self.queue < queues_of geometry }
+        requires direct { AreInZone geometry self.queue self.commit.direct }
+        ensures { result.items ≡ items_of geometry self }
+    {
+        let Numbered {
+            logged,
+            direct,
+            number: _,
+            at,
+            descriptor: _,
+            block,
+            mut items,
+        } = self;
+        let place = at.first + logged.len() as u64;
+        add_copies(&mut items, geometry, at.queue, at.first, logged);
+        add_directs(&mut items, geometry, direct);
+        add(&mut items, geometry.area_lba(at.queue, place), block);
+        items
+    }
+}

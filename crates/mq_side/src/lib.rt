@@ -1,0 +1,25 @@
+//! One queue's side of a journal - its ring, its journal area and its zone - and the root with the base.
+#![tactic(auto)]
+
+mod answers;
+mod commit;
+mod drain;
+mod drawn;
+mod homes;
+mod laws;
+mod number;
+mod prepare;
+mod room;
+mod root;
+mod send;
+mod side;
+
+pub use answers::{Cause, Fit, Why};
+pub use commit::{Numbered, Prepared};
+pub use drawn::Drawn;
+pub use laws::{
+    a_claim_keeps_sides, a_draw_keeps_sides, a_new_side_is_one, a_number_is_stored,
+    a_placement_is_a_plan, events_are_bounded,
+};
+pub use root::Root;
+pub use side::QueueSide;

@@ -1,0 +1,83 @@
+// A queue's side.
+ghost use Rattle.std.specs.Prelude.{◌≡◌, [], ◌≤◌, ◌^◌, IfOk, IfErr, None};
+ghost use Rattle.mq_side.specs.Quiet.{IsQuiet};
+ghost use Rattle.mq_side.specs.Stored.{rows_of, next_in};
+
+use crate::{Drawn, Why};
+use mq_blocks::{OutOfMemory, TxNo};
+use mq_drive::Port;
+use mq_pmr::PmrQueue;
+use std::alloc::Global;
+
+/// A queue's ring, the transactions that were drawn on the queue, and how far it has come: the last
+/// number of which it knows that it is done, and the failure that it keeps.
+///
+/// An entry is kept for each transaction, of a type that the side knows nothing of.
+#[derive(Drop)]
+pub struct QueueSide<P: Port, E> {
+    pub(crate) pmr: PmrQueue<P>,
+    // the oldest first
+    pub(crate) stored: Vec<Drawn<E>>,
+    pub(crate) done: TxNo,
+    pub(crate) kept: Option<(TxNo, Why)>,
+    ghost quiet: { IsQuiet kept (P.state pmr.port) },
+    ghost places: { next_in (rows_of stored.items) ≤ 2 ^ 62 },
+}
+
+impl<P: Port, E> QueueSide<P, E> {
+    /// The side of a queue on which nothing was staged since its ring was opened. Places start at 0.
+    pub fn open(
+        alloc: Global,
+        pmr: PmrQueue<P>,
+    ) -> Result<QueueSide<P, E>, (PmrQueue<P>, OutOfMemory)>
+        requires pending { (P.state pmr.port).pending ≡ [] }
+        requires failed { (P.state pmr.port).failed ≡ [] }
+        ensures pmr { IfOk result (λ s. s.pmr ≡ pmr) }
+        ensures stored { IfOk result (λ s. s.stored.items ≡ []) }
+        ensures done { IfOk result (λ s. s.done ≡ 0) }
+        ensures kept { IfOk result (λ s. s.kept ≡ None) }
+        ensures err { IfErr result (λ e. e.0 ≡ pmr) }
+    {
+        let stored = match Vec::with_capacity(alloc, 16) {
+            Ok(stored) => stored,
+            Err(_) => return Err((pmr, OutOfMemory)),
+        };
+        Ok(QueueSide {
+            pmr,
+            stored,
+            done: TxNo(0),
+            kept: None,
+        })
+    }
+
+    /// The failure that stopped the queue, if there is one: the least transaction of which a command
+    /// failed, or the one whose send was cut.
+    pub fn kept(&self) -> Option<(TxNo, Why)>
+        ensures { result ≡ self.now.kept }
+    {
+        self.kept
+    }
+
+    /// The last transaction of which the side knows that it is done, or 0.
+    pub fn done(&self) -> TxNo
+        ensures { result ≡ self.now.done }
+    {
+        self.done
+    }
+
+    /// The transactions that were drawn on the queue, the oldest first.
+    pub fn stored(&self) -> &[Drawn<E>]
+        ensures { result.now ≡ self.now.stored.items }
+    {
+        &self.stored
+    }
+
+    /// The ring. What was stored is dropped.
+    pub fn into_pmr(self) -> PmrQueue<P>
+    where
+        E: Drop,
+        ensures { result ≡ self.pmr }
+    {
+        self.pmr
+    }
+}
