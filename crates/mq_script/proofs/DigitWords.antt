@@ -84,9 +84,10 @@ byte_read high low v e = step (digit_in high) (digit_in low) refl refl e
         let b = digit_back low l q in
         let same : h * 16 + l ≡ v = cc in
         let quotient : v / 16 ≡ h = omega (arith, b.0, same) in
-        let rest : v % 16 ≡ l = omega (arith, b.0, same) in
-        (omega (arith, a.0, b.0, same),
-        ap (λ (n : ℕ). n ∷ low ∷ []) (sym a.1 ∙ ap hex_digit (sym quotient)) ∙ ap (λ (n : ℕ). hex_digit (v / 16) ∷ n ∷ []) (sym b.1 ∙ ap hex_digit (sym rest)))
+        let rest : v % 16 ≡ l = omega (arith, b.0, same) in (
+          omega (arith, a.0, b.0, same),
+          ap (λ (n : ℕ). n ∷ low ∷ []) (sym a.1 ∙ ap hex_digit (sym quotient)) ∙ ap (λ (n : ℕ). hex_digit (v / 16) ∷ n ∷ []) (sym b.1 ∙ ap hex_digit (sym rest)),
+        )
 
 byte_back : (high low : ℕ) (h l : Option ℕ) → digit_in high ≡ h → digit_in low ≡ l → ((v : ℕ) → v < 256 → high ∷ low ∷ [] ≡ hex_text v → ⊥) → None ≡ byte_of h l
 byte_back high low None l p q none = refl

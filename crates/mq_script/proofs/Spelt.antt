@@ -108,14 +108,15 @@ names_is [] h = (record { letters = tt; not_root = λ e. no e }, refl) where
   no : ◌≡◌ {A = List (List ℕ)} [] ([] ∷ []) → ⊥
   no e = cc
 names_is (b ∷ bs) h =
-    let joined : join_with_byte 47 (slice_split (λ c. eqb c 47) (b ∷ bs)) ≡ b ∷ bs = join_with_byte-slice_split 47 (b ∷ bs) in
-    (record {
-      letters = parts_all (λ c. eqb c 47) is_visible is_letter letter (b ∷ bs) h;
-      not_root = λ e. no (sym (ap (join_with_byte 47) e) ∙ joined);
-    },
-    sym (path_join (slice_split (λ c. eqb c 47) (b ∷ bs)) (split_some (λ c. eqb c 47) (b ∷ bs)) ∙ ap (λ (l : List ℕ). 47 ∷ l) joined)) where
-  no : [] ≡ b ∷ bs → ⊥
-  no e = cc
+    let joined : join_with_byte 47 (slice_split (λ c. eqb c 47) (b ∷ bs)) ≡ b ∷ bs = join_with_byte-slice_split 47 (b ∷ bs) in (
+      record {
+        letters = parts_all (λ c. eqb c 47) is_visible is_letter letter (b ∷ bs) h;
+        not_root = λ e. no (sym (ap (join_with_byte 47) e) ∙ joined);
+      },
+      sym (path_join (slice_split (λ c. eqb c 47) (b ∷ bs)) (split_some (λ c. eqb c 47) (b ∷ bs)) ∙ ap (λ (l : List ℕ). 47 ∷ l) joined),
+    ) where
+      no : [] ≡ b ∷ bs → ⊥
+      no e = cc
 
 pub path_is : (word : List ℕ) (names : List (List ℕ)) → list_all is_visible word ≡ true → path_in word ≡ Some names → IsPath names × (word ≡ path_text names)
 path_is word names h e = step (after (codes "/") word) refl e
