@@ -12,7 +12,7 @@ use Rattle.mq_tree.specs.Laid.{ShowsPart, ShowsPointers, inode_of, kind_of, zone
 use Rattle.mq_tree.specs.Volume.{Use, Part, Pointers, Volume, block_in, body, has_block, is_taken, is_used, node}
 use Rattle.mq_tree.proofs.KeepUses.{not-used, uses-within}
 use Rattle.mq_tree.specs.Uses.{AreUses}
-use Rattle.mq_tree.proofs.Uses.{use-has, use-taken}
+use Rattle.mq_tree.proofs.Uses.{use-has}
 
 pub use-cases : (u : Use) (i : ℕ) → owner u ≡ i → ((k : ℕ) × (u ≡ Part i k)) ⊎ (u ≡ Pointers i)
 use-cases (Part j k) i e = inl (k, ap (λ (x : ℕ). Part x k) e)

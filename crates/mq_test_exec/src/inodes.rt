@@ -1,9 +1,11 @@
 // The calls on held pages that read, on a small file system of which the pages of all blocks but one are
 // lifted, and two calls that change.
 ghost use Rattle.std.specs.Prelude.{◌+◌, ◌<◌, ◌≤◌, IfOk, length};
+ghost use Rattle.std.specs.List.{All};
+ghost use Rattle.mq_inodes.specs.Files.{IsFileOf};
 ghost use Rattle.mq_inodes.specs.Fits.{IsPossible};
-ghost use Rattle.mq_inodes.specs.MissingPages.{HasVolume};
-ghost use Rattle.mq_inodes.specs.Pages.{held_pages};
+ghost use Rattle.mq_inodes.specs.MissingPages.{HasVolume, OfEach};
+ghost use Rattle.mq_inodes.specs.Pages.{IsHeld, held_pages, pages_of};
 ghost use Rattle.mq_layout.specs.Places.{file_limit, inodes_of};
 
 use mq_blocks::{Block, BlockNo, Geometry, OutOfMemory, QueueNo};
@@ -248,6 +250,22 @@ fn resize(alloc: Global, working: &mut Working, i: u32, size: u64) -> Result<(),
     Ok(())
 }
 
+/// The blocks of a file, which are held.
+fn held_blocks(
+    alloc: Global,
+    working: &Working,
+    i: u32,
+    inode: &Inode,
+) -> Result<Vec<BlockNo>, Missing>
+    requires possible { HasVolume working.now }
+    requires file { OfEach working.now (λ v. IsFileOf v i inode.now) }
+    ensures { IfOk result (λ blocks. All (IsHeld (pages_of working.now)) blocks.items) }
+{
+    let file = working.open_file(alloc, i, inode)?;
+    working.look_for_all(alloc, &file.blocks)?;
+    Ok(file.blocks)
+}
+
 /// Puts bytes into the first block of a file.
 fn put_first(
     alloc: Global,
@@ -264,10 +282,9 @@ fn put_first(
     if inode.kind != 1 {
         return Ok(());
     }
-    let file = working.open_file(alloc, i, &inode)?;
-    working.look_for_all(alloc, &file.blocks)?;
-    if !file.blocks.is_empty() {
-        working.put_bytes(alloc, file.blocks[0], from, text)?;
+    let blocks = held_blocks(alloc, working, i, &inode)?;
+    if !blocks.is_empty() {
+        working.put_bytes(alloc, blocks[0], from, text)?;
     }
     Ok(())
 }

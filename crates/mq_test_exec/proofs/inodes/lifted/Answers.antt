@@ -3,7 +3,7 @@ use Rattle.mq_inodes.proofs.Lifting.{laid-agrees, pages-of}
 use Rattle.mq_inodes.specs.Fits.{IsPossible}
 use Rattle.mq_inodes.specs.Pages.{held_pages}
 use Rattle.mq_tree.specs.Laid.{map_of}
-use Rattle.mq_inodes.proofs.tests.lifted.Goals as goal
+use Rattle.mq_test_exec.proofs.inodes.lifted.Goals as goal
 
 pub returns : goal.returns
 returns c =

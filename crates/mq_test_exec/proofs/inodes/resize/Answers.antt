@@ -3,7 +3,7 @@ use Rattle.mq_inodes.proofs.Showing.{inode-shown}
 use Rattle.mq_inodes.specs.Pages.{content, pages_of}
 use Rattle.mq_layout.specs.Inodes.{IsInode}
 use Rattle.mq_layout.specs.Places.{inode_block, inode_place}
-use Rattle.mq_inodes.proofs.tests.resize.Goals as goal
+use Rattle.mq_test_exec.proofs.inodes.resize.Goals as goal
 
 pub put_inode-requires-clause-form : goal.put_inode-requires-clause-form
 put_inode-requires-clause-form c =
