@@ -223,11 +223,7 @@ impl<'f> PortRun<'f> {
         ensures err { OnErr result (emu_state self.new.port ≡ emu_state self.old.port) }
     {
         let end = self.end();
-        if !self.is_queue
-            || tx == 0
-            || end >= 1 << 63
-            || end - self.head >= u64::from(USABLE_DEPTH)
-        {
+        if !self.is_queue || tx == 0 || end >= 1 << 63 || end - self.head >= USABLE_DEPTH as u64 {
             return Err(Refused::NotReady);
         }
         if !self.area.has(lba) && !self.homes.has(lba) {
