@@ -118,6 +118,7 @@ fn the_second_queue_has_its_own_order(rt: HostRuntime) -> Result<(), OutOfMemory
         post(&mut port, 1029, blocks).expect(&rt, "power");
         assert!(rt; two_steps(&mut port) == (ended(3, 2, first, 0), ended(3, 2, second, 0)));
         assert!(rt; port.step() == ended(3, 2, third, 0));
+        let (_image, _seat) = port.cut(0);
     }
     Ok(())
 }
