@@ -74,7 +74,8 @@ impl<P: Port> FlakyPort<P> {
 
 impl<P: Port> Port for FlakyPort<P> {
     ghost use Rattle.mq_drive.specs.Flaky.{with_refused};
-    ghost use Rattle.mq_blocks.specs.Drive.{IsHome, AreFrom, staged_end, after_stage, after_flush, after_ring, after_store_head, after_store_base, usable_depth};
+    ghost use Rattle.mq_blocks.specs.Drive.{IsHome, AreFrom, staged_end, after_stage, after_flush, after_ring};
+    ghost use Rattle.mq_blocks.specs.Drive.{after_store_head, after_store_base, usable_depth};
     ghost use Rattle.mq_nvme.specs.Entry.{tx_of, lba_of};
     ghost use Rattle.mq_drive.specs.Steps.{StepGives, HomeGives, OffCause, IsOwnWrite};
 
