@@ -1,5 +1,6 @@
 pub mod Addresses
 pub mod Among
+pub mod Counts
 mod Examples
 pub mod Readings
 pub mod Totals

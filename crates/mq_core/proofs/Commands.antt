@@ -3,6 +3,7 @@ use Rattle.std.proofs.Common.{◌≡◌, ◌≢◌, ℕ, zero, suc, ◌+◌, ◌
 use Rattle.std.proofs.lemmas.Bool.{cases_Bool, cases_eq, eqb-true, eq-eqb, ne_eqb, false≢true}
 use Rattle.std.specs.List.{remove}
 use Rattle.mq_blocks.specs.Drive.{PortState, AreFrom, AreCounted, IsApartFrom, index_of}
+use Rattle.mq_blocks.proofs.Counts.{counted_low, counted_high}
 use Rattle.mq_blocks.specs.declared.command.Command.{Command}
 use Rattle.mq_blocks.specs.declared.geometry.Geometry.{Geometry}
 use Rattle.mq_ledger.specs.Items.{command_of, item_at}
@@ -37,30 +38,12 @@ own_append g q from txs (c ∷ bs) cs a b = (a.0, own_append g q from txs bs cs 
 
 -- ---- counts
 
-pub counted_low : (low lower high : ℕ) (cs : List Command) → lower ≤ low → AreCounted low high cs → AreCounted lower high cs
-counted_low low lower high [] l k = tt
-counted_low low lower high (c ∷ cs) l k = (omega (arith, k.0), k.1)
-
-pub counted_high : (low high higher : ℕ) (cs : List Command) → high ≤ higher → AreCounted low high cs → AreCounted low higher cs
-counted_high low high higher [] l k = tt
-counted_high low high higher (c ∷ cs) l k = (k.0, (omega (arith, k.1.0), counted_high (c.count + 1) high higher cs l k.1.1))
-
-pub counted_remove : (low high i : ℕ) (cs : List Command) → AreCounted low high cs → AreCounted low high (remove cs i)
-counted_remove low high zero [] k = tt
-counted_remove low high zero (c ∷ cs) k = counted_low (c.count + 1) low high cs (omega (arith, k.0)) k.1.1
-counted_remove low high (suc i) [] k = tt
-counted_remove low high (suc i) (c ∷ cs) k = (k.0, (k.1.0, counted_remove (c.count + 1) high i cs k.1.1))
-
 pub counted_next : (n : ℕ) (cs : List Command) → AreNext n cs → AreCounted n (n + length cs) cs
 counted_next n [] k = tt
 counted_next n (c ∷ cs) k = (omega (arith, k.0), (omega (arith, k.0), go (counted_high (n + 1) (n + 1 + length cs) (n + length (c ∷ cs)) cs (omega arith) (counted_next (n + 1) cs k.1))))
   where
     go : AreCounted (n + 1) (n + length (c ∷ cs)) cs → AreCounted (c.count + 1) (n + length (c ∷ cs)) cs
     go r = rw k.0 r
-
-pub counted_append : (low mid high : ℕ) (bs cs : List Command) → low ≤ mid → mid ≤ high → AreCounted low mid bs → AreCounted mid high cs → AreCounted low high (bs ++ cs)
-counted_append low mid high [] cs l m a b = counted_low mid low high cs l b
-counted_append low mid high (c ∷ bs) cs l m a b = (a.0, (omega (arith, a.1.0), counted_append (c.count + 1) mid high bs cs (omega (arith, a.1.0)) m a.1.1 b))
 
 -- a count that stands in a list is in its range
 pub count_range : (low high n : ℕ) (cs : List Command) → AreCounted low high cs → holds_count n cs ≡ true → (low ≤ n) × (n < high)
@@ -71,10 +54,6 @@ count_range low high n (c ∷ cs) k e = elim (cases_Bool (eqb c.count n)) [
 ]
 
 -- a list from a higher count on
-pub counted_from : (low lower high : ℕ) (cs : List Command) → AreFrom low cs → AreCounted lower high cs → AreCounted low high cs
-counted_from low lower high [] f k = tt
-counted_from low lower high (c ∷ cs) f k = (f.0, (k.1.0, k.1.1))
-
 pub from_append : (low : ℕ) (bs cs : List Command) → AreFrom low bs → AreFrom low cs → AreFrom low (bs ++ cs)
 from_append low [] cs a b = b
 from_append low (c ∷ bs) cs a b = (a.0, from_append low bs cs a.1 b)

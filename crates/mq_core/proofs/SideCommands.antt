@@ -13,7 +13,8 @@ use Rattle.mq_ledger.specs.Sides.{Certainly, IsDone, SideOk, home_index, place_i
 use Rattle.mq_ledger.specs.declared.tx.Tx.{Tx}
 use Rattle.mq_ledger.proofs.Entries.{below-at, places_apart}
 use Rattle.mq_core.specs.Events.{MayRing, MayEnd, index_with, command_with, complete_side, fail_side}
-use Rattle.mq_core.proofs.Commands.{count-with, own_with, own_remove, own_append, counted_remove, counted_next, counted_append, count_range, from_append, left_out, taken_out, held_append, held_remove, next_holds, apart_own}
+use Rattle.mq_blocks.proofs.Counts.{counted_append, counted_remove}
+use Rattle.mq_core.proofs.Commands.{count-with, own_with, own_remove, own_append, counted_next, count_range, from_append, left_out, taken_out, held_append, held_remove, next_holds, apart_own}
 use Rattle.mq_core.proofs.Ports.{index-place, index-zone, zone-apart, certainly_ring, certainly_complete, certainly_fail, certainly_new}
 use Rattle.mq_core.proofs.Sources.{DirectIn, direct_in, direct-zone, unneeded, clash}
 

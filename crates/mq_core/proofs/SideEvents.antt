@@ -9,7 +9,8 @@ use Rattle.mq_ledger.specs.KnownJournal.{KnownJournal, LogOk}
 use Rattle.mq_ledger.specs.Sides.{Certainly, IsRing, IsDone, IsArea, SideOk, flushed_at, staged_at}
 use Rattle.mq_ledger.specs.declared.tx.Tx.{Tx}
 use Rattle.mq_core.specs.Events.{stage_side, MayStage, MayStoreHead}
-use Rattle.mq_core.proofs.Commands.{own_append, next_append, counted_from}
+use Rattle.mq_blocks.proofs.Counts.{counted_from}
+use Rattle.mq_core.proofs.Commands.{own_append, next_append}
 use Rattle.mq_core.proofs.Ports.{certainly_along}
 use Rattle.mq_core.proofs.Sources.{from_of, may-say}
 
@@ -240,7 +241,7 @@ side_store_head k q txs p h s may =
         pending = s.commands.pending;
         pending_counts = s.commands.pending_counts;
         posted = s.commands.posted;
-        posted_counts = counted_from h p.stored_head p.doorbell p.posted may.posted s.commands.posted_counts;
+        posted_counts = counted_from p.stored_head p.doorbell h p.posted may.posted s.commands.posted_counts;
         failed = s.commands.failed;
         failed_counts = may.failed;
       };
