@@ -5,7 +5,8 @@ use Rattle.mq_blocks.specs.Drive.{AreCounted, usable_depth}
 use Rattle.mq_blocks.specs.declared.command.Command.{Command}
 use Rattle.mq_drive.specs.declared.device.Device.{Device}
 use Rattle.mq_drive.specs.Slots.{AreSettled, index_in}
-use Rattle.mq_drive.proofs.Commands.{length-counted, counted_ring}
+use Rattle.mq_blocks.proofs.Counts.{length-counted}
+use Rattle.mq_drive.proofs.Commands.{counted_ring}
 use Rattle.mq_drive.specs.Failures.{errors_of}
 use Rattle.mq_drive.proofs.Faults.{refused}
 use Rattle.mq_drive.proofs.Happening.{happened-event}
