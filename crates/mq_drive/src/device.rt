@@ -9,7 +9,7 @@ ghost use Rattle.mq_drive.specs.Emulated.{phase_after};
 ghost use Rattle.mq_drive.specs.Failures.{written_by};
 ghost use Rattle.mq_drive.specs.Happened.{happened_by, happened_in};
 ghost use Rattle.mq_drive.specs.Roles.{slots_of, queue_in, id_of};
-ghost use Rattle.mq_drive.specs.Slots.{AreSettled, index_in};
+ghost use Rattle.mq_drive.specs.Slots.{AreSettled, AreStaged, AreStaged-prop, index_in};
 
 use crate::blocks::Blocks;
 use crate::cut::{tear_commands, tear_home, tear_slots};
@@ -73,7 +73,7 @@ pub struct Device<'f> {
     ghost pending_few: { 0 < length pending.items → doorbell + length pending.items - head ≤ usable_depth },
     ghost pending_last: { 0 < length pending.items → doorbell + length pending.items ≤ 2 ^ 63 },
     ghost pending_order: { 0 < length pending.items → stored_head ≤ doorbell },
-    ghost pending_counted: { AreCounted doorbell (doorbell + length pending.items) pending.items } by { AreCounted-prop doorbell (doorbell + length pending.items) pending.items },
+    ghost pending_counted: { AreStaged doorbell pending.items } by { AreStaged-prop doorbell pending.items },
     ghost pending_own: { All (λ c. (area.first ≤ c.lba)
         × (index_in area.first area.size homes.first c.lba < length blocks.stored.items)) pending.items },
     ghost posted_counted: { AreCounted stored_head doorbell posted.items } by { AreCounted-prop stored_head doorbell posted.items },
