@@ -110,7 +110,7 @@ fn refusal(entry: &Entry) -> Option<EntryRefusal>
 }
 
 // The refusal of what isn't a write of one logical block to namespace 1.
-#[tactic(auto, using(crate::proofs::Readings::whole, crate::proofs::Readings::opcode_is, crate::proofs::Readings::count_is), unfolding(crate::specs::Entry::block_rules))]
+#[tactic(auto, using(crate::proofs::Readings::block_fields), unfolding(crate::specs::Entry::block_rules))]
 fn block_refusal(entry: &Entry) -> Option<EntryRefusal>
     ensures { result ≡ first_refusal block_rules entry.now }
 {
