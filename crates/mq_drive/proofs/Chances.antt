@@ -1,5 +1,5 @@
 -- What an emulated port leaves to chance.
-use Rattle.std.proofs.Common.{◌≡◌, ◌≢◌, ℕ, ◌%◌, ◌*◌, ◌/◌, ◌^◌, slice_index, ◌-◌, ◌+◌, ◌<◌, zero, suc, Bool, true, false, not, cond, eqb, ne_eqb, ltb, ◌≤◌, List, [], ◌∷◌, ◌++◌, set, get_or, length, Option, Some, None, is_some, refl, sym, ◌∙◌, ap, subst, arith, true≢false}
+use Rattle.std.proofs.Common.{◌≡◌, ◌≢◌, ℕ, ◌%◌, ◌*◌, ◌/◌, ◌^◌, slice_index, ◌-◌, ◌+◌, ◌<◌, suc, Bool, true, false, not, cond, eqb, ne_eqb, ◌≤◌, List, [], ◌∷◌, ◌++◌, set, get_or, Option, Some, None, is_some, refl, sym, ◌∙◌, ap, subst, arith, true≢false}
 use Rattle.std.proofs.lemmas.Bool.{lt-ltb, le-ltb}
 use Rattle.std.proofs.lemmas.List.{append-nil, set-get_or}
 use Rattle.std.specs.Int.{to_le_bytes, w32}
@@ -11,7 +11,7 @@ use Rattle.mq_blocks.specs.declared.command.Command.{Command}
 use Rattle.mq_blocks.specs.declared.command.HomeWrite.{HomeWrite}
 use Rattle.mq_blocks.specs.Drive.{PortState, PortImage, depth, staged_end, index_of}
 use Rattle.mq_nvme.specs.Dwords.{AreDwords, dword_bytes}
-use Rattle.mq_drive.specs.Choices.{Chance, torn, next_bytes, next_slot, next_block, without, with_begun, torn_slots, torn_block, torn_blocks, writes_of, by_count, in_doubt, cut_of, generator_of, either_of, dwords_of}
+use Rattle.mq_drive.specs.Choices.{Chance, torn, next_bytes, next_slot, next_block, torn_slots, torn_block, torn_blocks, writes_of, by_count, in_doubt, cut_of, generator_of, either_of, dwords_of}
 use Rattle.mq_drive.specs.Failures.{failed_of, unended_of, while_in, doubt_after, written_by}
 use Rattle.mq_drive.proofs.Doubts.{some_for}
 use Rattle.mq_drive.specs.declared.failing.Failure.{Failure}
