@@ -37,7 +37,8 @@ pub record IsFresh (s : SideState) : Type 0 where
 -- is a side of a journal whose history has nothing of its queue
 abbrev pub Opening : Type 0
 Opening =
-    (k : KnownJournal) (q : ℕ) (s : SideState) → IsFresh s → s.geometry ≡ k.geometry → s.queue ≡ q → k.entries ≡ journal_entries → s.port.doorbell ≡ k.from q → SideOk k q [] s.port
+    (k : KnownJournal) (q : ℕ) (s : SideState) → IsFresh s → s.geometry ≡ k.geometry → s.queue ≡ q
+    → k.entries ≡ journal_entries → s.port.doorbell ≡ k.from q → SideOk k q [] s.port
     → IsQueueSide k q [] s
 
 -- ---- plans
@@ -45,7 +46,8 @@ Opening =
 -- a placement of writes is a plan of them
 abbrev pub Planning : Type 0
 Planning =
-    (g : Geometry) (queue front base : ℕ) (writes : List Planned) (plan : Placed) → AreInOrder g writes → IsPlacement g queue front base writes plan
+    (g : Geometry) (queue front base : ℕ) (writes : List Planned) (plan : Placed) → AreInOrder g writes
+    → IsPlacement g queue front base writes plan
     → IsPlanOf (homes_of g) (map (λ w. w.block) writes) plan
 
 -- ---- draws
@@ -53,43 +55,62 @@ Planning =
 -- what fits, has room
 abbrev pub Fitting : Type 0
 Fitting =
-    (k : KnownJournal) (t : Tx) (us : List Tx) (s : SideState) (base : ℕ) → IsQueueSide k t.queue us s → s.kept ≡ None → IsRung k t.queue us s → base ≤ k.word → FitIs k.geometry.area base (rows_for us) s.port (placed_of t) Yes
-    → next us + length t.logged < 2 ^ 62 → staged_end s.port + (writes t + descriptor_blocks t) ≤ number_limit → HasRoom k.geometry (k.from t.queue) k.word us t s.port
+    (k : KnownJournal) (t : Tx) (us : List Tx) (s : SideState) (base : ℕ) → IsQueueSide k t.queue us s
+    → s.kept ≡ None → IsRung k t.queue us s → base ≤ k.word
+    → FitIs k.geometry.area base (rows_for us) s.port (placed_of t) Yes
+    → next us + length t.logged < 2 ^ 62
+    → staged_end s.port + (writes t + descriptor_blocks t) ≤ number_limit
+    → HasRoom k.geometry (k.from t.queue) k.word us t s.port
 
 -- what is numbered next is the commit of the transaction, and then one more is stored
 abbrev pub Numbering : Type 0
-Numbering = (t : Tx) (us : List Tx) → numbered_in t.queue t.number (rows_for us) (record { logged = t.logged; direct = t.direct; revoked = t.revoked }) ≡ commit_of t us
+Numbering =
+    (t : Tx) (us : List Tx)
+    → numbered_in t.queue t.number (rows_for us)
+    (record { logged = t.logged; direct = t.direct; revoked = t.revoked }) ≡ commit_of t us
 
 abbrev pub Storing : Type 0 → Type 0
 Storing E =
     (t : Tx) (us : List Tx) (stored : List (Drawn E)) (entry : E) → AreStored us stored
-    → AreStored (t ∷ us) (stored ++ record { number = t.number; next = next_in (rows_of stored) + (length t.logged + descriptor_size); entry = entry } ∷ [])
+    → AreStored (t ∷ us) (stored
+    ++ record { number = t.number; next = next_in (rows_of stored) + (length t.logged + descriptor_size); entry = entry } ∷ [])
 
 -- the side's own draw: it keeps no failure, and there is room
 abbrev pub OwnDraw : Type 0
 OwnDraw =
-    (k : KnownJournal) (t : Tx) (s : SideState) → LogOk k → MayDraw k t → k.done t k.history ≡ false → s.kept ≡ None → HasRoom k.geometry (k.from t.queue) k.word (of_queue t.queue k.history) t s.port → IsQueueSide k t.queue (of_queue t.queue k.history) s
+    (k : KnownJournal) (t : Tx) (s : SideState) → LogOk k → MayDraw k t → k.done t k.history ≡ false
+    → s.kept ≡ None → HasRoom k.geometry (k.from t.queue) k.word (of_queue t.queue k.history) t s.port
+    → IsQueueSide k t.queue (of_queue t.queue k.history) s
     → IsQueueSide (draw_known t k) t.queue (t ∷ of_queue t.queue k.history) s
 
 -- whoever draws
 abbrev pub OtherDraws : Type 0
-OtherDraws = (k : KnownJournal) (t : Tx) (q : ℕ) (us : List Tx) (s : SideState) → LogOk k → t.number ≡ k.base + length k.history + 1 → k.done t k.history ≡ false → IsQueueSide k q us s → IsQueueSide (draw_known t k) q us s
+OtherDraws =
+    (k : KnownJournal) (t : Tx) (q : ℕ) (us : List Tx) (s : SideState) → LogOk k
+    → t.number ≡ k.base + length k.history + 1 → k.done t k.history ≡ false → IsQueueSide k q us s
+    → IsQueueSide (draw_known t k) q us s
 
 -- a draw leaves room for its own events
 abbrev pub DrawCounts : Type 0
 DrawCounts =
-    (first : ℕ) (k : KnownJournal) (q : ℕ) (t : Tx) (us : List Tx) (s : SideState) → IsQueueSide k q us s → IsRung k q us s → IsCounted first k q us s → IsCounted first (draw_known t k) q (t ∷ us) s
+    (first : ℕ) (k : KnownJournal) (q : ℕ) (t : Tx) (us : List Tx) (s : SideState) → IsQueueSide k q us s
+    → IsRung k q us s → IsCounted first k q us s → IsCounted first (draw_known t k) q (t ∷ us) s
 
 -- the items of a transaction's commit are those of the entries that come next
 abbrev pub HasItems : Type 0
-HasItems = (k : KnownJournal) (t : Tx) (us : List Tx) (s : SideState) → s.port.doorbell ≡ end_of (k.from t.queue) us → AreItems k.geometry t.queue (k.from t.queue) (t ∷ us) t.number s.port.doorbell (items_of k.geometry (commit_of t us))
+HasItems =
+    (k : KnownJournal) (t : Tx) (us : List Tx) (s : SideState)
+    → s.port.doorbell ≡ end_of (k.from t.queue) us
+    → AreItems k.geometry t.queue (k.from t.queue) (t ∷ us) t.number s.port.doorbell
+    (items_of k.geometry (commit_of t us))
 
 -- ---- what is known changes otherwise
 
 -- More is known to be done: of the side's own queue, no number above the last of which the side knows it.
 abbrev pub Claiming : Type 0
 Claiming =
-    (k : KnownJournal) (q : ℕ) (us : List Tx) (s : SideState) (done : Tx → List Tx → Bool) → LogOk k → IsQueueSide k q us s
+    (k : KnownJournal) (q : ℕ) (us : List Tx) (s : SideState) (done : Tx → List Tx → Bool) → LogOk k
+    → IsQueueSide k q us s
     → ((t : Tx) (ts : List Tx) → IsAt t ts k.history → k.done t ts ≡ true → done t ts ≡ true)
     → ((t : Tx) (ts : List Tx) → IsAt t ts k.history → t.queue ≡ q → done t ts ≡ true → (k.done t ts ≡ true) ⊎ (t.number ≤ s.done))
     → IsQueueSide (record k { done = done }) q us s
@@ -97,10 +118,13 @@ Claiming =
 -- Whatever else changes, only what holds of the port speaks of it.
 abbrev pub Changing : Type 0
 Changing =
-    (k l : KnownJournal) (q : ℕ) (us : List Tx) (s : SideState) → l.geometry ≡ k.geometry → l.entries ≡ k.entries → l.from q ≡ k.from q → SideOk l q us s.port → IsQueueSide k q us s
+    (k l : KnownJournal) (q : ℕ) (us : List Tx) (s : SideState) → l.geometry ≡ k.geometry
+    → l.entries ≡ k.entries → l.from q ≡ k.from q → SideOk l q us s.port → IsQueueSide k q us s
     → IsQueueSide l q us s
 
 -- ---- events
 
 abbrev pub Bound : Type 0
-Bound = (first : ℕ) (k : KnownJournal) (q : ℕ) (us : List Tx) (s : SideState) → s.port.events ≤ 2 ^ 64 - 1 → IsCounted first k q us s → s.port.events ≤ first + most_events us + length s.faults
+Bound =
+    (first : ℕ) (k : KnownJournal) (q : ℕ) (us : List Tx) (s : SideState) → s.port.events ≤ 2 ^ 64 - 1
+    → IsCounted first k q us s → s.port.events ≤ first + most_events us + length s.faults
