@@ -1,11 +1,12 @@
 -- Laws of sides.
-use Rattle.std.specs.Prelude.{◌≡◌, ◌⊎◌, ◌<◌, ◌≤◌, ℕ, ◌+◌, ◌-◌, ◌^◌, Bool, true, false, List, [], ◌∷◌, ◌++◌, length, map, None}
+use Rattle.std.specs.Prelude.{◌≡◌, ◌⊎◌, ◌<◌, ◌≤◌, ℕ, ◌+◌, ◌-◌, ◌^◌, Bool, true, false, List, [], ◌∷◌, ◌++◌}
+use Rattle.std.specs.Prelude.{length, map, None, Ok, Err}
 use Rattle.mq_blocks.specs.Drive.{staged_end}
 use Rattle.mq_blocks.specs.Geometry.{homes_of}
 use Rattle.mq_blocks.specs.Journal.{number_limit}
 use Rattle.mq_blocks.specs.declared.geometry.Geometry.{Geometry}
 use Rattle.mq_ledger.specs.History.{writes, of_queue, IsAt}
-use Rattle.mq_ledger.specs.Items.{end_of, next, descriptor_blocks}
+use Rattle.mq_ledger.specs.Items.{end_of, next, number_before, descriptor_blocks}
 use Rattle.mq_ledger.specs.KnownJournal.{KnownJournal, LogOk, MayDraw, draw_known}
 use Rattle.mq_ledger.specs.Sides.{SideOk}
 use Rattle.mq_ledger.specs.Written.{journal_entries}
@@ -17,9 +18,14 @@ use Rattle.mq_revoke.specs.Placing.{AreInOrder, IsPlacement}
 use Rattle.mq_revoke.specs.declared.placement.Planned.{Planned}
 use Rattle.mq_side.specs.Commits.{IsPlanOf, commit_of, items_of, descriptor_size}
 use Rattle.mq_side.specs.Counts.{IsCounted, most_events}
+use Rattle.mq_side.specs.Drained.{Drains, IsWhole}
 use Rattle.mq_side.specs.Sent.{AreItems}
 use Rattle.mq_side.specs.Side.{SideState, IsQueueSide, IsRung}
+use Rattle.mq_side.specs.Staying.{Stays}
 use Rattle.mq_side.specs.Stored.{rows_of, rows_for, AreStored, next_in, numbered_in, FitIs}
+use Rattle.mq_side.specs.declared.answers.Cause.{Cause}
+use Rattle.mq_side.specs.declared.answers.Cause.TheVariants.{Failed, FailedHome, Stopped}
+use Rattle.mq_side.specs.declared.answers.Cause.TheVariants as cause
 use Rattle.mq_side.specs.declared.answers.Fit.TheVariants.{Yes}
 use Rattle.mq_side.specs.declared.drawn.Drawn.{Drawn}
 
@@ -121,6 +127,35 @@ Changing =
     (k l : KnownJournal) (q : ℕ) (us : List Tx) (s : SideState) → l.geometry ≡ k.geometry
     → l.entries ≡ k.entries → l.from q ≡ k.from q → SideOk l q us s.port → IsQueueSide k q us s
     → IsQueueSide l q us s
+
+-- ---- what a drain has reached
+
+-- Where all that was drawn was rung, the answer is the number of the last transaction that was drawn.
+abbrev pub Reaching : Type 0
+Reaching =
+    (k : KnownJournal) (q : ℕ) (us : List Tx) (old new : SideState) (n : ℕ) → LogOk k
+    → IsQueueSide k q us old → IsRung k q us old → Drains old (Ok n) new → IsWhole old new → Stays old new
+    → n ≡ number_before us
+
+-- the answer names this transaction
+abbrev pub Names : Cause → ℕ → Type 0
+Names (Failed tx status) n = tx ≡ n
+Names (Stopped tx w) n = tx ≡ n
+Names cause.Off n = ⊥
+Names (FailedHome block status) n = ⊥
+
+-- Of a failure, each transaction of the queue before the one that is named is done.
+abbrev pub DoneBefore : Type 0
+DoneBefore =
+    (k : KnownJournal) (q : ℕ) (us : List Tx) (old new : SideState) (c : Cause) (n : ℕ) → LogOk k
+    → IsQueueSide k q us old → Drains old (Err c) new → Stays old new → Names c n
+    → (t : Tx) (ts : List Tx) → IsAt t ts us → t.number < n → t.number ≤ new.done
+
+-- Each transaction up to the last that is done has all its entries below the flushed head.
+abbrev pub BelowHead : Type 0
+BelowHead =
+    (k : KnownJournal) (q : ℕ) (us : List Tx) (s : SideState) → LogOk k → IsQueueSide k q us s
+    → (t : Tx) (ts : List Tx) → IsAt t ts us → t.number ≤ s.done → end_of (k.from q) (t ∷ ts) ≤ s.port.head
 
 -- ---- events
 
