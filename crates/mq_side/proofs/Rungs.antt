@@ -39,7 +39,7 @@ passed_is_end from us r (inr is) = rung_end from us r is
 
 -- ---- one more transaction is drawn
 
-pub rung_later : (from : ℕ) (t : Tx) (us : List Tx) (r : Rung) → IsRungOf from us r → IsRungOf from (t ∷ us) r
+abbrev pub rung_later : (from : ℕ) (t : Tx) (us : List Tx) (r : Rung) → IsRungOf from us r → IsRungOf from (t ∷ us) r
 rung_later from t us r is = record { t = is.t; ts = is.ts; at = inr is.at; tx = is.tx; end_is = is.end_is }
 
 pub rungs_later : (from : ℕ) (t : Tx) (us : List Tx) (low : ℕ) (rs : List Rung) → AreRungsOf from us low rs → AreRungsOf from (t ∷ us) low rs
