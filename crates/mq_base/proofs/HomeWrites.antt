@@ -18,7 +18,8 @@ use Rattle.mq_ledger.proofs.Values.{last-changed, last-same, last_at, last_settl
 use Rattle.mq_core.specs.Events.{begin_home, end_home}
 use Rattle.mq_core.proofs.Bases.{log_based, side_based}
 use Rattle.mq_core.proofs.Commands.{apart_along, apart_own, count_range}
-use Rattle.mq_core.proofs.Homes.{IsLoggedLast, side_written, root_written, else_begin, else_end}
+use Rattle.mq_core.specs.Homes.{IsLoggedLast}
+use Rattle.mq_core.proofs.Homes.{side_written, root_written, else_begin, else_end}
 use Rattle.mq_core.proofs.Ports.{index-place, index-zone, index-root, zone-apart}
 use Rattle.mq_core.proofs.Sources.{direct_in, direct-zone, late}
 use Rattle.mq_base.specs.Bases.{BaseOk}

@@ -10,7 +10,7 @@ use Rattle.mq_blocks.specs.Journal.{is_among}
 use Rattle.mq_blocks.specs.Ports.{IsPort}
 use Rattle.mq_blocks.specs.declared.command.HomeWrite.{HomeWrite}
 use Rattle.mq_blocks.specs.declared.geometry.Geometry.{Geometry}
-use Rattle.mq_ledger.specs.History.{blocks_of, last, upto, IsAt}
+use Rattle.mq_ledger.specs.History.{blocks_of, last, upto}
 use Rattle.mq_ledger.specs.Items.{item_at}
 use Rattle.mq_ledger.specs.KnownJournal.{KnownJournal, LogOk, front}
 use Rattle.mq_ledger.specs.Sides.{Certainly, IsDone, SideOk, RootOk, home_index, place_index}
@@ -18,15 +18,10 @@ use Rattle.mq_ledger.specs.declared.tx.Tx.{Tx}
 use Rattle.mq_blocks.proofs.Among.{apart-not_among}
 use Rattle.mq_ledger.proofs.Values.{last_at, last_settled, changes_direct}
 use Rattle.mq_core.specs.Events.{begin_home, end_home}
+use Rattle.mq_core.specs.Homes.{IsLoggedLast}
 use Rattle.mq_core.proofs.Commands.{apart_along}
 use Rattle.mq_core.proofs.Ports.{index-place, index-zone, zone-apart}
 use Rattle.mq_core.proofs.Sources.{direct_in, direct-zone}
-
--- the block's last change logged it, is done, and is above each number whose content is due
-pub record IsLoggedLast (k : KnownJournal) (x : ℕ) : Type 0 where
-  pub due : (v : ℕ) → k.due x v ≡ true → v < last k.base k.history x
-  pub high : last k.base k.history x ≤ front k
-  pub logged : (t : Tx) (ts : List Tx) → IsAt t ts k.history → t.number ≡ last k.base k.history x → is_among x (blocks_of t.logged) ≡ true
 
 -- the port with other contents and home writes
 abbrev pub written_to : PortState → List (Option (List ℕ)) → List Bool → List HomeWrite → ℕ → PortState

@@ -19,7 +19,8 @@ use Rattle.mq_ledger.proofs.Entries.{of_queue-own, of_queue-other}
 use Rattle.mq_core.specs.Events.{with_port, us_of, draw, clear, acknowledge, write_home, home_done, begin_home, end_home, content_at, unchanged_by, without, HasRoom, MayClear, MayWriteHome}
 use Rattle.mq_core.proofs.Ports.{index-zone, index-root, zone-apart}
 use Rattle.mq_core.proofs.Growth.{front_drawn, side_drawn, root_drawn, log_drawn, side_extends}
-use Rattle.mq_core.proofs.Homes.{IsLoggedLast, side_written, root_written, else_begin, else_end}
+use Rattle.mq_core.specs.Homes.{IsLoggedLast}
+use Rattle.mq_core.proofs.Homes.{side_written, root_written, else_begin, else_end}
 use Rattle.mq_core.proofs.StatePorts.{port_keeps, port_front, port_same}
 
 -- ---- a draw

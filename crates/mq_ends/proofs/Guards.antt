@@ -6,7 +6,7 @@ use Rattle.mq_ledger.specs.KnownJournal.{front}
 use Rattle.mq_ledger.specs.State.{front_of}
 use Rattle.mq_ledger.proofs.Values.{last_upto_more}
 use Rattle.mq_core.specs.Events.{MayWriteHome, MayStoreBase}
-use Rattle.mq_core.proofs.Homes.{IsLoggedLast}
+use Rattle.mq_core.specs.Homes.{IsLoggedLast}
 use Rattle.mq_base.specs.Bases.{BaseOk}
 use Rattle.mq_ends.specs.Parts.{Parts, AreParts, known, state, state_with}
 use Rattle.mq_ends.proofs.Assembly.{front_reached, based_home}

@@ -10,7 +10,7 @@ use Rattle.mq_core.proofs.Growth.{side_more}
 use Rattle.mq_side.specs.Side.{SideState, IsQueueSide}
 
 -- of two transactions of a queue the one with the greater number ends later
-ends_rise : (q from : ℕ) (t u : Tx) (us vs ws : List Tx) → IsFalling q ws → IsAt t us ws → IsAt u vs ws → t.number ≤ u.number → end_of from us + (writes t + 1) ≤ end_of from vs + (writes u + 1)
+pub ends_rise : (q from : ℕ) (t u : Tx) (us vs ws : List Tx) → IsFalling q ws → IsAt t us ws → IsAt u vs ws → t.number ≤ u.number → end_of from us + (writes t + 1) ≤ end_of from vs + (writes u + 1)
 ends_rise q from t u us vs [] f a b l = absurd a
 ends_rise q from t u us vs (w ∷ ws) f (inl a) (inl b) l =
     let e : total (t ∷ us) ≡ total (u ∷ vs) = λ i. total ((sym a.0 ∙ b.0) i ∷ (sym a.1 ∙ b.1) i) in

@@ -4,19 +4,21 @@ use Rattle.std.specs.Prelude.{slice_get}
 use Rattle.std.proofs.lemmas.Bool.{eq-eqb, ne_eqb, cases_lt, le-leb, lt-leb}
 use Rattle.mq_blocks.specs.Drive.{PortState, AreCounted, after_done, after_failed}
 use Rattle.mq_blocks.specs.declared.command.Command.{Command}
+use Rattle.mq_ledger.specs.Items.{item_at}
 use Rattle.mq_ledger.specs.KnownJournal.{KnownJournal, LogOk}
 use Rattle.mq_ledger.specs.Sides.{SideOk, holds_count}
 use Rattle.mq_ledger.specs.declared.tx.Tx.{Tx}
 use Rattle.mq_core.specs.Events.{index_with, command_with, complete_side, fail_side}
-use Rattle.mq_core.proofs.Commands.{count_range}
+use Rattle.mq_core.proofs.Commands.{count_range, own_with}
 use Rattle.mq_core.proofs.SideCommands.{side_complete, side_fail}
 use Rattle.mq_pmr.specs.Answers.{EndsWell, EndsBadly}
 use Rattle.mq_pmr.specs.Rungs.{last_end}
 use Rattle.mq_pmr.specs.declared.rungs.Rung.{Rung}
 use Rattle.mq_side.specs.Drained.{kept_with}
-use Rattle.mq_side.specs.Side.{SideState, IsQueueSide, IsPassedOf, AreRungsOf, IsDoneOf, IsKept, AreFromTx, HasTx}
+use Rattle.mq_side.specs.Side.{SideState, IsQueueSide, IsPassedOf, AreRungsOf, IsBelow, IsDoneOf, IsKept, AreFromTx, HasTx}
 use Rattle.mq_side.specs.declared.answers.Why.{Why}
 use Rattle.mq_side.specs.declared.answers.Why.TheVariants.{Status, Off}
+use Rattle.mq_side.proofs.Rungs.{rung_number}
 
 -- where the command at an index stands
 pub record Stands (cs : List Command) (at : ℕ) (c : Command) : Type 0 where
@@ -50,6 +52,11 @@ pub record SameRecords (old new : SideState) : Type 0 where
   pub rung : new.rung ≡ old.rung
   pub done : new.done ≡ old.done
 
+-- the ring's records are as they were
+pub rungs_along : (from : ℕ) (us : List Tx) (d e : Rung) (rs ss : List Rung) → e ≡ d → ss ≡ rs → AreRungsOf from us d.end rs → AreRungsOf from us e.end ss
+rungs_along from us d e rs ss same_passed same_rung are =
+    subst (λ (xs : List Rung). AreRungsOf from us e.end xs) (sym same_rung) (subst (λ (r : Rung). AreRungsOf from us r.end rs) (sym same_passed) are)
+
 -- what is done stays done where the head moves up
 pub done_up : (from : ℕ) (us : List Tx) (low high n : ℕ) → low ≤ high → IsDoneOf from us low n → IsDoneOf from us high n
 done_up from us low high n up (inl none) = inl none
@@ -75,7 +82,7 @@ moved k q us old new p is same bell up side kept s =
       entries = s.entries;
       side = subst (λ (r : PortState). SideOk k q us r) (sym is) side;
       passed = subst (λ (d : Rung). IsPassedOf (k.from q) us d) (sym same.passed) s.passed;
-      rung = subst (λ (rs : List Rung). AreRungsOf (k.from q) us rs) (sym same.rung) s.rung;
+      rung = rungs_along (k.from q) us old.passed new.passed old.rung new.rung same.passed same.rung s.rung;
       last = (λ i. last_end (same.passed i).end (same.rung i)) ∙ s.last ∙ sym bell ∙ ap (λ (r : PortState). r.doorbell) (sym is);
       done =
           let e : new.port.head ≡ p.head = ap (λ (r : PortState). r.head) is in
@@ -118,25 +125,36 @@ has_last n [] c e = inl e
 has_last n (d ∷ cs) c e = inr (has_last n cs c e)
 
 -- the least transaction stays the one that is kept
-first_failed : (from : ℕ) (us : List Tx) (failed pending : List Command) (bell : ℕ) (c : Command) (tx status : ℕ) → failed ≡ [] → tx ≡ c.tx → status ≢ 0 → IsKept from us (failed ++ c ∷ []) pending bell (Some (tx, Status status))
-first_failed from us failed pending bell c tx status none is bad =
+first_failed : (from : ℕ) (us : List Tx) (failed pending : List Command) (bell : ℕ) (c : Command) (tx status : ℕ) → failed ≡ [] → tx ≡ c.tx → status ≢ 0 → IsBelow from us bell tx → IsKept from us (failed ++ c ∷ []) pending bell (Some (tx, Status status))
+first_failed from us failed pending bell c tx status none is bad rung =
     let one : (c ∷ []) ≡ (failed ++ c ∷ []) = ap (λ (cs : List Command). cs ++ c ∷ []) (sym none) in
-    (bad, has_last tx failed c (sym is), subst (AreFromTx tx) one (omega (arith, is), tt))
+    (bad, has_last tx failed c (sym is), subst (AreFromTx tx) one (omega (arith, is), tt), rung)
 
-pub kept_more : (from : ℕ) (us : List Tx) (failed pending : List Command) (bell : ℕ) (c : Command) (kept : Option (ℕ × Why)) (tx status : ℕ) → tx ≡ c.tx → status ≢ 0
+pub kept_more : (from : ℕ) (us : List Tx) (failed pending : List Command) (bell : ℕ) (c : Command) (kept : Option (ℕ × Why)) (tx status : ℕ) → tx ≡ c.tx → status ≢ 0 → IsBelow from us bell tx
     → IsKept from us failed pending bell kept → IsKept from us (failed ++ c ∷ []) pending bell (kept_with kept tx status)
-kept_more from us failed pending bell c None tx status is bad k = first_failed from us failed pending bell c tx status k.0 is bad
-kept_more from us failed pending bell c (Some (n, Off)) tx status is bad k = first_failed from us failed pending bell c tx status k.0 is bad
-kept_more from us failed pending bell c (Some (n, Status s)) tx status is bad k = elim (cases_lt tx n) [
-  | inl less ↦ rw (lt-leb n tx less) (bad, has_last tx failed c (sym is), of_more tx failed c (of_less tx n failed (omega (arith, less)) k.2) (omega (arith, is)))
-  | inr more ↦ rw (le-leb n tx more) (k.0, has_more n failed c k.1, of_more n failed c k.2 (omega (arith, is, more)))
+kept_more from us failed pending bell c None tx status is bad rung k = first_failed from us failed pending bell c tx status k.0 is bad rung
+kept_more from us failed pending bell c (Some (n, Off)) tx status is bad rung k = first_failed from us failed pending bell c tx status k.0 is bad rung
+kept_more from us failed pending bell c (Some (n, Status s)) tx status is bad rung k = elim (cases_lt tx n) [
+  | inl less ↦ rw (lt-leb n tx less) (bad, has_last tx failed c (sym is), of_more tx failed c (of_less tx n failed (omega (arith, less)) k.2) (omega (arith, is)), rung)
+  | inr more ↦ rw (le-leb n tx more) (k.0, has_more n failed c k.1, of_more n failed c k.2 (omega (arith, is, more)), k.3)
 ]
+
+-- the command's transaction is rung
+rung_tx : (k : KnownJournal) (q : ℕ) (us : List Tx) (p : PortState) (at : ℕ) (c : Command) → SideOk k q us p → Stands p.posted at c → IsBelow (k.from q) us p.doorbell c.tx
+rung_tx k q us p at c s stands =
+    let own = own_with k.geometry q (k.from q) c.count us p.posted s.commands.posted stands.held in
+    let number : c.tx ≡ (item_at (k.from q) us c.count).number = ap (λ (d : Command). d.tx) (sym stands.command ∙ own) in
+    let range = count_range p.stored_head p.doorbell c.count p.posted s.commands.posted_counts stands.held in
+    let o = s.order in
+    subst (λ (n : ℕ). IsBelow (k.from q) us p.doorbell n) (sym number)
+    (rung_number (k.from q) c.count p.doorbell us s.ends.doorbell (let a = o.head_low in let b = o.stored in omega (arith, a, b, range.0)) range.1)
 
 pub badly_ended : (k : KnownJournal) (q : ℕ) (us : List Tx) (old new : SideState) (tx status : ℕ) → LogOk k → EndsBadly old.port tx new.port → status ≢ 0 → SameRecords old new → new.kept ≡ kept_with old.kept tx status → IsQueueSide k q us old → IsQueueSide k q us new
 badly_ended k q us old new tx status log ends bad same kept s =
     let c = ends.command in
     let at = stands_at old.port.stored_head old.port.doorbell ends.at old.port.posted c s.side.commands.posted_counts ends.posted in
     let p : PortState = after_failed old.port ends.at c in
+    let rung : IsBelow (k.from q) us old.port.doorbell tx = subst (λ (n : ℕ). IsBelow (k.from q) us old.port.doorbell n) (sym ends.tx_is) (rung_tx k q us old.port ends.at c s.side at) in
     let side : SideOk k q us p = subst (λ (r : PortState). SideOk k q us r) (failed_is old.port ends.at c at) (side_fail k q us old.port log s.side c.count at.held) in
     moved k q us old new p ends.is same refl (omega arith) side
-    (kept-along (k.from q) us p.failed p.pending p.doorbell (kept_with old.kept tx status) new.kept kept (kept_more (k.from q) us old.port.failed old.port.pending old.port.doorbell c old.kept tx status ends.tx_is bad s.kept)) s
+    (kept-along (k.from q) us p.failed p.pending p.doorbell (kept_with old.kept tx status) new.kept kept (kept_more (k.from q) us old.port.failed old.port.pending old.port.doorbell c old.kept tx status ends.tx_is bad rung s.kept)) s

@@ -69,7 +69,11 @@ module _ (k : KnownJournal) (q : ℕ) (us : List Tx) (old new : SideState) (log 
     entries = s.entries;
     side = subst (λ (t : PortState). SideOk k q us t) (sym is) side;
     passed = passed_is;
-    rung = subst (λ (rs : List Rung). AreRungsOf (k.from q) us rs) (sym a.rung) (leading_left (k.from q) us (is_clear old.port) old.rung s.rung);
+    rung =
+        let passes = is_clear old.port in
+        let left = leading_left (k.from q) us passes old.passed old.rung s.rung in
+        let behind : AreRungsOf (k.from q) us new.passed.end (left_after passes old.rung) = subst (λ (d : Rung). AreRungsOf (k.from q) us d.end (left_after passes old.rung)) (sym a.passed) left in
+        subst (λ (rs : List Rung). AreRungsOf (k.from q) us new.passed.end rs) (sym a.rung) behind;
     last = (λ i. last_end (a.passed i).end (a.rung i)) ∙ leading_last (is_clear old.port) old.passed old.rung ∙ s.last ∙ sym bell ∙ ap (λ (t : PortState). t.doorbell) (sym is);
     done = subst (λ (t : PortState). IsDoneOf (k.from q) us t.head new.done) (sym is) done;
     kept =

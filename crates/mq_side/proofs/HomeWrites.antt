@@ -14,28 +14,25 @@ use Rattle.mq_ledger.specs.Sides.{Certainly, SideOk, home_index}
 use Rattle.mq_ledger.specs.declared.tx.Tx.{Tx}
 use Rattle.mq_ledger.proofs.Values.{last_at, changes_direct}
 use Rattle.mq_core.specs.Events.{begin_home, end_home}
+use Rattle.mq_core.specs.Homes.{IsLoggedLast}
 use Rattle.mq_core.proofs.Commands.{apart_own}
 use Rattle.mq_core.proofs.Homes.{side_written, else_begin, else_end}
 use Rattle.mq_core.proofs.Ports.{index-zone}
 use Rattle.mq_core.proofs.SideCommands.{posted_late, apart_home}
 use Rattle.mq_core.proofs.Sources.{late}
 use Rattle.mq_side.specs.Side.{SideState, IsQueueSide}
-use Rattle.mq_side.specs.Homes.{IsLoggedLast, StaysAt, GoesHome}
+use Rattle.mq_side.specs.Homes.{StaysAt, GoesHome}
 use Rattle.mq_side.proofs.Ends.{SameRecords, moved, kept-along}
-
--- the same as the record in mq_core
-pub own_last : (k : KnownJournal) (x : ℕ) → IsLoggedLast k x → Rattle.mq_core.proofs.Homes.IsLoggedLast k x
-own_last k x u = record { due = u.due; high = u.high; logged = u.logged }
 
 module _ (k : KnownJournal) (q : ℕ) (us : List Tx) (p : PortState) (x : ℕ) (block : List ℕ) (log : LogOk k) (s : SideOk k q us p) (zone : zone_of k.geometry x ≡ Some q) (u : IsLoggedLast k x) where
   at : index_of p (home_lba k.geometry x) ≡ home_index k.geometry x
   at = (index-zone k.geometry q x p s.port zone).0
 
   pub home_begun : SideOk k q us (begin_home k.geometry x block p)
-  home_begun = side_written k q us p x _ _ _ _ log s zone (own_last k x u) (else_begin k.geometry x block p at)
+  home_begun = side_written k q us p x _ _ _ _ log s zone u (else_begin k.geometry x block p at)
 
   pub home_ended : SideOk k q us (end_home k.geometry x block (begin_home k.geometry x block p))
-  home_ended = side_written k q us (begin_home k.geometry x block p) x _ _ _ _ log home_begun zone (own_last k x u) (else_end k.geometry x block (begin_home k.geometry x block p) at)
+  home_ended = side_written k q us (begin_home k.geometry x block p) x _ _ _ _ log home_begun zone u (else_end k.geometry x block (begin_home k.geometry x block p) at)
 
   abbrev new : PortState
   new = end_home k.geometry x block (begin_home k.geometry x block p)

@@ -10,6 +10,7 @@ pub mod Counting
 pub mod CountedCalls
 pub mod CountedSides
 pub mod Draining
+pub mod Reaching
 pub mod Draws
 pub mod Rows
 pub mod Walks

@@ -16,7 +16,6 @@ use Rattle.mq_core.proofs.Homes.{root_written, else_begin, else_end}
 use Rattle.mq_core.proofs.Ports.{index-root, certainly_along}
 use Rattle.mq_side.specs.Homes.{MayGoHome, RootStaysAt, RootGoesHome}
 use Rattle.mq_side.specs.Roots.{IsRaiseCut, RootStays, after_raise}
-use Rattle.mq_side.proofs.HomeWrites.{own_last}
 
 -- ---- the base
 
@@ -70,10 +69,10 @@ module _ (k : KnownJournal) (p : PortState) (x lba : ℕ) (block : List ℕ) (lo
   at = (index-root k.geometry x p r.port may.zone may.block).0
 
   begun : RootOk k (begin_home k.geometry x block p)
-  begun = root_written k p x _ _ _ _ log r may.zone may.block (own_last k x may.last_is) (else_begin k.geometry x block p at)
+  begun = root_written k p x _ _ _ _ log r may.zone may.block may.last_is (else_begin k.geometry x block p at)
 
   ended : RootOk k (end_home k.geometry x block (begin_home k.geometry x block p))
-  ended = root_written k (begin_home k.geometry x block p) x _ _ _ _ log begun may.zone may.block (own_last k x may.last_is) (else_end k.geometry x block (begin_home k.geometry x block p) at)
+  ended = root_written k (begin_home k.geometry x block p) x _ _ _ _ log begun may.zone may.block may.last_is (else_end k.geometry x block (begin_home k.geometry x block p) at)
 
   abbrev then : PortState
   then = end_home k.geometry x block (begin_home k.geometry x block p)

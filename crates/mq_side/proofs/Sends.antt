@@ -2,7 +2,7 @@
 use Rattle.std.proofs.Common.{◌≡◌, ◌⊎◌, ℕ, ◌+◌, ◌<◌, ◌≤◌, List, [], ◌∷◌, ◌++◌, length, Option, Some, None, sym, refl, ap, subst, ◌∙◌, inl, inr, arith}
 use Rattle.mq_blocks.specs.Drive.{PortState, staged_end, after_flush, after_ring}
 use Rattle.mq_blocks.specs.declared.command.Command.{Command}
-use Rattle.mq_ledger.specs.Items.{end_of, number_before}
+use Rattle.mq_ledger.specs.Items.{end_of}
 use Rattle.mq_ledger.specs.KnownJournal.{KnownJournal, LogOk}
 use Rattle.mq_ledger.specs.Sides.{SideOk}
 use Rattle.mq_ledger.specs.declared.tx.Tx.{Tx}
@@ -14,20 +14,21 @@ use Rattle.mq_pmr.specs.Rungs.{last_end}
 use Rattle.mq_pmr.specs.declared.rungs.Rung.{Rung}
 use Rattle.mq_pmr.proofs.Staging.{end_all}
 use Rattle.mq_side.specs.Commits.{NumberedCommit, commit_of, items_of}
-use Rattle.mq_side.specs.Side.{SideState, IsQueueSide, IsRungOf, IsPassedOf, AreRungsOf, IsDoneOf, IsKept}
+use Rattle.mq_side.specs.Side.{SideState, IsQueueSide, IsRungOf, IsPassedOf, IsDoneOf, IsKept, NewestBegins}
 use Rattle.mq_side.specs.Sent.{AreItems, IsReady, Sends, RingsAll, IsCutAt, after_send}
 use Rattle.mq_side.specs.declared.answers.Why.{Why}
 use Rattle.mq_side.specs.declared.answers.Why.TheVariants.{Off}
 use Rattle.mq_ledger.specs.History.{IsAt}
 use Rattle.mq_ledger.proofs.Queues.{FromQueue-of}
-use Rattle.mq_side.proofs.Ends.{SameRecords, moved, done_up}
+use Rattle.mq_side.proofs.Ends.{SameRecords, moved, done_up, rungs_along}
 use Rattle.mq_side.proofs.Claims.{at_part}
 use Rattle.mq_side.proofs.Items.{staged_some, items_end, items_are, items_some}
 use Rattle.mq_side.proofs.Rungs.{rungs_more, last_more}
 
-newest_rung : (from tx end : ℕ) (us : List Tx) → number_before us ≡ tx → from < end_of from us → end ≡ end_of from us → IsRungOf from us (record { tx = tx; end = end })
-newest_rung from tx end [] newest some is = absurd (omega arith)
-newest_rung from tx end (t ∷ ts) newest some is = record { t = t; ts = ts; at = inl (refl, refl); tx = sym newest; end_is = is }
+-- the newest is rung, and its entries begin at the doorbell
+newest_rung : (from tx bell end : ℕ) (us : List Tx) → NewestBegins from us bell tx → end ≡ end_of from us → (is : IsRungOf from us (record { tx = tx; end = end })) × (end_of from is.ts ≡ bell)
+newest_rung from tx bell end [] newest is = absurd newest
+newest_rung from tx bell end (t ∷ ts) newest is = (record { t = t; ts = ts; at = inl (refl, refl); tx = sym newest.0; end_is = is }, sym newest.1)
 
 pub none_kept : (from : ℕ) (us : List Tx) (failed pending : List Command) (bell : ℕ) (kept : Option (ℕ × Why)) → kept ≡ None → IsKept from us failed pending bell kept → (failed ≡ []) × (pending ≡ [])
 none_kept from us failed pending bell kept e h = subst (λ (w : Option (ℕ × Why)). IsKept from us failed pending bell w) e h
@@ -45,7 +46,7 @@ pub record AreReady (k : KnownJournal) (q : ℕ) (us : List Tx) (s : SideState) 
   pub none : s.kept ≡ None
   pub items_are : AreItems k.geometry q (k.from q) us tx s.port.doorbell items
   pub some : 0 < length items
-  pub newest : number_before us ≡ tx
+  pub newest : NewestBegins (k.from q) us s.port.doorbell tx
 
 -- the transactions are those of the queue
 pub own_queue : (k : KnownJournal) (q : ℕ) (us : List Tx) (s : SideState) (t : Tx) (ts : List Tx) → us ≡ t ∷ ts → IsQueueSide k q us s → t.queue ≡ q
@@ -70,7 +71,7 @@ are_ready k q us s n r is =
       none = r.none;
       items_are = subst (λ h. AreItems g q from us n.number s.port.doorbell (items_of h n)) (sym is.geometry) e;
       some = items_some s.geometry n;
-      newest = ap number_before r.newest ∙ sym (ap (λ (m : NumberedCommit). m.number) r.commit);
+      newest = subst (λ (ws : List Tx). NewestBegins from ws s.port.doorbell n.number) (sym r.newest) (sym (ap (λ (m : NumberedCommit). m.number) r.commit), r.rung);
     }
 
 module _ (k : KnownJournal) (q : ℕ) (us : List Tx) (old : SideState) (tx : ℕ) (items : Items) (log : LogOk k) (r : AreReady k q us old tx items) (s : IsQueueSide k q us old) where
@@ -105,10 +106,9 @@ module _ (k : KnownJournal) (q : ℕ) (us : List Tx) (old : SideState) (tx : ℕ
 
   off_with : (new : SideState) (m : PortState) → SideOk k q us m → m.doorbell ≡ p.doorbell → p.head ≤ m.head → m.failed ≡ p.failed → new.port ≡ m → SameRecords old new → new.kept ≡ Some (tx, Off) → IsQueueSide k q us new
   off_with new m side bell up failed is same kept =
-      let w = whole in
-      let some = r.some in
+      let newest : NewestBegins (k.from q) us m.doorbell tx = subst (λ (b : ℕ). NewestBegins (k.from q) us b tx) (sym bell) r.newest in
       moved k q us old new m is same bell up side
-      (subst (λ (o : Option (ℕ × Why)). IsKept (k.from q) us m.failed m.pending m.doorbell o) (sym kept) (failed ∙ quiet.0, r.newest, omega (arith, w, some, bell))) s
+      (subst (λ (o : Option (ℕ × Why)). IsKept (k.from q) us m.failed m.pending m.doorbell o) (sym kept) (failed ∙ quiet.0, newest)) s
 
   pub staged_off : (new : SideState) (n : ℕ) → n < length items → new.port ≡ after_some p tx n items → SameRecords old new → new.kept ≡ Some (tx, Off) → IsQueueSide k q us new
   staged_off new n less is same kept = off_with new (after_some p tx n items) (staged_some k q us p tx n items log s.entries s.side here (omega (arith, less))) refl (omega arith) refl is same kept
@@ -127,14 +127,16 @@ module _ (k : KnownJournal) (q : ℕ) (us : List Tx) (old : SideState) (tx : ℕ
       let o = s.side.order in
       let may : MayRing (k.from q) us (after_flush then) = record { drawn = omega (arith, w, some); whole = e; flushed = e } in
       let side : SideOk k q us (after_ring (after_flush then)) = side_ring k q us (after_flush then) log (side_flush k q us then all) may in
-      let last : IsRungOf (k.from q) us (record { tx = tx; end = staged_end then }) = newest_rung (k.from q) tx (staged_end then) us r.newest (omega (arith, w, some, o.head_low, o.stored, o.rung)) e in (
+      let last = newest_rung (k.from q) tx p.doorbell (staged_end then) us r.newest e in (
         record {
           geometry = same.geometry ∙ s.geometry;
           queue = same.queue ∙ s.queue;
           entries = s.entries;
           side = subst (λ (t : PortState). SideOk k q us t) (sym is) side;
           passed = subst (λ (d : Rung). IsPassedOf (k.from q) us d) (sym same.passed) s.passed;
-          rung = subst (λ (rs : List Rung). AreRungsOf (k.from q) us rs) (sym same.rung) (rungs_more (k.from q) us old.rung (record { tx = tx; end = staged_end then }) s.rung last);
+          rung =
+              let more = rungs_more (k.from q) us old.passed.end old.rung (record { tx = tx; end = staged_end then }) s.rung last.0 (last.1 ∙ sym s.last) in
+              rungs_along (k.from q) us old.passed new.passed (old.rung ++ record { tx = tx; end = staged_end then } ∷ []) new.rung same.passed same.rung more;
           last = ap (last_end new.passed.end) same.rung ∙ last_more new.passed.end old.rung (record { tx = tx; end = staged_end then }) ∙ ap (λ (t : PortState). t.doorbell) (sym is);
           done =
               let h : new.port.head ≡ p.stored_head = ap (λ (t : PortState). t.head) is in

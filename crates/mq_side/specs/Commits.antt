@@ -21,7 +21,8 @@ descriptor_size = descriptor_blocks (record { number = 0; queue = 0; logged = []
 -- those of the writes whose blocks are among these
 abbrev pub written_in : List ℕ → List Write → Writes
 written_in blocks [] = []
-written_in blocks (w ∷ ws) = if is_among w.block blocks then (w.block, w.content) ∷ written_in blocks ws else written_in blocks ws
+written_in blocks (w ∷ ws) =
+    if is_among w.block blocks then (w.block, w.content) ∷ written_in blocks ws else written_in blocks ws
 
 -- The plan says of each of these blocks, in rising order, whether it is logged or direct, and names no other;
 -- it revokes direct ones alone.
@@ -41,7 +42,8 @@ pub record Commit : Type 0 where
   pub revoked : List ℕ
 
 abbrev pub commit_by : Placed → List Write → Commit
-commit_by plan writes = record { logged = written_in plan.logged writes; direct = written_in plan.direct writes; revoked = plan.revoked }
+commit_by plan writes =
+    record { logged = written_in plan.logged writes; direct = written_in plan.direct writes; revoked = plan.revoked }
 
 -- ---- what is numbered
 
@@ -94,7 +96,9 @@ directs_of g (w ∷ ws) = (home_lba g w.0, w.1) ∷ directs_of g ws
 
 -- the copies of the logged blocks, then the direct blocks, and the descriptor last
 abbrev pub items_of : Geometry → NumberedCommit → Items
-items_of g n = copies_at g n.queue n.first n.commit.logged ++ (directs_of g n.commit.direct ++ (area_lba g n.queue (place_of n), descriptor_bytes (descriptor_of n)) ∷ [])
+items_of g n =
+    copies_at g n.queue n.first n.commit.logged ++ (directs_of g n.commit.direct
+    ++ (area_lba g n.queue (place_of n), descriptor_bytes (descriptor_of n)) ∷ [])
 
 -- how many that are: the blocks that are written, and those of the descriptor
 abbrev pub size_of : NumberedCommit → ℕ

@@ -21,16 +21,23 @@ unless_same a b n = if nat_eq a b then 0 else n
 -- is rung and not passed; and two where the head is behind what is passed.
 abbrev pub ahead : ℕ → SideState → ℕ
 ahead end s =
-    (2 * (end - staged_end s.port) + (length s.port.pending + length s.port.posted)) + (unless_same s.port.doorbell end 4 + (2 * length s.rung + unless_same s.port.head s.passed.end 2))
+    (2 * (end - staged_end s.port) + (length s.port.pending + length s.port.posted))
+    + (unless_same s.port.doorbell end 4 + (2 * length s.rung + unless_same s.port.head s.passed.end 2))
 
 -- With those that are still to come, at most so many events have happened as the transactions and the faults
 -- allow, from these at the start on. So it is until there are as many faults as a count of 64 bits can say.
 abbrev pub IsCounted : ℕ → KnownJournal → ℕ → List Tx → SideState → Type 0
-IsCounted first k q us s = (2 ^ 64 - 1 ≤ length s.faults) ⊎ (s.port.events + ahead (end_of (k.from q) us) s ≤ first + most_events us + length s.faults)
+IsCounted first k q us s =
+    (2 ^ 64 - 1 ≤ length s.faults)
+    ⊎ (s.port.events + ahead (end_of (k.from q) us) s ≤ first + most_events us + length s.faults)
 
 -- whatever is known, a call keeps the count
 abbrev pub KeepsCount : SideState → SideState → Type 0
-KeepsCount old new = (first q : ℕ) (k : KnownJournal) (us : List Tx) → LogOk k → IsQueueSide k q us old → IsCounted first k q us old → IsCounted first k q us new
+KeepsCount old new =
+    (first q : ℕ) (k : KnownJournal) (us : List Tx) → LogOk k → IsQueueSide k q us old
+    → IsCounted first k q us old → IsCounted first k q us new
 
 abbrev pub SendCounts : SideState → NumberedCommit → SideState → Type 0
-SendCounts old n new = (first q : ℕ) (k : KnownJournal) (us : List Tx) → LogOk k → IsReady k q us old n → IsQueueSide k q us old → IsCounted first k q us old → IsCounted first k q us new
+SendCounts old n new =
+    (first q : ℕ) (k : KnownJournal) (us : List Tx) → LogOk k → IsReady k q us old n
+    → IsQueueSide k q us old → IsCounted first k q us old → IsCounted first k q us new

@@ -80,7 +80,9 @@ pub record Completes (old : SideState) (result : Result Bool Off) (new : SideSta
 -- past each leading transaction whose commands all succeeded
 abbrev pub AdvancesTo : {A : Type 0} → SideState → Result A Off → SideState → Type 0
 AdvancesTo old (Ok _) new =
-    (new.passed ≡ last_leading (is_clear old.port) old.passed old.rung) × (new.rung ≡ left_after (is_clear old.port) old.rung) × (new.port.head ≡ new.passed.end) × (new.done ≡ new.passed.tx) × (new.faults ≡ old.faults)
+    (new.passed ≡ last_leading (is_clear old.port) old.passed old.rung)
+    × (new.rung ≡ left_after (is_clear old.port) old.rung)
+    × (new.port.head ≡ new.passed.end) × (new.done ≡ new.passed.tx) × (new.faults ≡ old.faults)
 AdvancesTo old (Err _) new = (new.done ≡ old.done) × Gains PowerOff old.faults new.faults
 
 pub record Advances {A : Type 0} (old : SideState) (result : Result A Off) (new : SideState) : Type 0 where
@@ -104,9 +106,12 @@ pub record IsDrained (old new : SideState) : Type 0 where
   pub done : new.done ≡ new.passed.tx
 
 abbrev pub DrainsTo : SideState → Failures → List Fault → Result ℕ Cause → SideState → Type 0
-DrainsTo old failures faults (Ok n) new = (failures ≡ []) × (new.kept ≡ None) × (n ≡ new.done) × (new.faults ≡ faults) × IsDrained old new
-DrainsTo old failures faults (Err (Failed tx status)) new = (failures ≢ []) × (new.kept ≡ Some (tx, Status status)) × (new.faults ≡ faults) × IsDrained old new
-DrainsTo old failures faults (Err (Stopped tx w)) new = (failures ≡ []) × (new.kept ≡ Some (tx, w)) × (new.faults ≡ faults) × IsDrained old new
+DrainsTo old failures faults (Ok n) new =
+    (failures ≡ []) × (new.kept ≡ None) × (n ≡ new.done) × (new.faults ≡ faults) × IsDrained old new
+DrainsTo old failures faults (Err (Failed tx status)) new =
+    (failures ≢ []) × (new.kept ≡ Some (tx, Status status)) × (new.faults ≡ faults) × IsDrained old new
+DrainsTo old failures faults (Err (Stopped tx w)) new =
+    (failures ≡ []) × (new.kept ≡ Some (tx, w)) × (new.faults ≡ faults) × IsDrained old new
 DrainsTo old failures faults (Err cause.Off) new = Gains PowerOff faults new.faults × (new.done ≡ old.done)
 DrainsTo old failures faults (Err (FailedHome block status)) new = ⊥
 
@@ -122,7 +127,9 @@ pub record Drains (old : SideState) (result : Result ℕ Cause) (new : SideState
 
 -- At Ok the flushed head is at the doorbell: whatever is known, all that was rung is done.
 abbrev pub IsWhole : SideState → SideState → Type 0
-IsWhole old new = (q : ℕ) (k : KnownJournal) (us : List Tx) → LogOk k → IsQueueSide k q us old → new.port.head ≡ new.port.doorbell
+IsWhole old new =
+    (q : ℕ) (k : KnownJournal) (us : List Tx) → LogOk k → IsQueueSide k q us old
+    → new.port.head ≡ new.port.doorbell
 
 -- there are more faults, or as many as a count of 64 bits can say
 abbrev pub Rises : List Fault → List Fault → Type 0

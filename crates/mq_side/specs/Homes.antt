@@ -1,22 +1,15 @@
 -- Home writes through a side or the root.
-use Rattle.std.specs.Prelude.{◌≡◌, ◌<◌, ◌≤◌, ℕ, true, List, Option, Some, None, Result, Ok, Err}
+use Rattle.std.specs.Prelude.{◌≡◌, ◌<◌, ℕ, List, Option, Some, None, Result, Ok, Err}
 use Rattle.mq_blocks.specs.Drive.{PortState}
 use Rattle.mq_blocks.specs.Geometry.{homes_of, zone_of, home_lba}
-use Rattle.mq_blocks.specs.Journal.{is_among}
 use Rattle.mq_drive.specs.declared.port.Off.{Off}
 use Rattle.mq_drive.specs.declared.port.HomeStep.{HomeStep}
 use Rattle.mq_drive.specs.declared.port.HomeStep.TheVariants as home
-use Rattle.mq_ledger.specs.History.{blocks_of, last, IsAt}
-use Rattle.mq_ledger.specs.KnownJournal.{KnownJournal, LogOk, front}
+use Rattle.mq_ledger.specs.KnownJournal.{KnownJournal, LogOk}
 use Rattle.mq_ledger.specs.Sides.{Certainly, RootOk, home_index}
 use Rattle.mq_ledger.specs.declared.tx.Tx.{Tx}
+use Rattle.mq_core.specs.Homes.{IsLoggedLast}
 use Rattle.mq_side.specs.Side.{SideState, IsQueueSide}
-
--- the block's last change logged it, is done, and is above each number whose content is due
-pub record IsLoggedLast (k : KnownJournal) (x : ℕ) : Type 0 where
-  pub due : (v : ℕ) → k.due x v ≡ true → v < last k.base k.history x
-  pub high : last k.base k.history x ≤ front k
-  pub logged : (t : Tx) (ts : List Tx) → IsAt t ts k.history → t.number ≡ last k.base k.history x → is_among x (blocks_of t.logged) ≡ true
 
 -- This is a home block of the queue's zone, or of the metadata region, and nobody needs another content of it.
 pub record MayGoHome (k : KnownJournal) (z : Option ℕ) (x lba : ℕ) : Type 0 where
@@ -27,19 +20,26 @@ pub record MayGoHome (k : KnownJournal) (z : Option ℕ) (x lba : ℕ) : Type 0 
 
 -- whatever is known, the side stays one
 abbrev pub StaysAt : ℕ → SideState → SideState → Type 0
-StaysAt lba old new = (q : ℕ) (k : KnownJournal) (us : List Tx) (x : ℕ) → LogOk k → MayGoHome k (Some q) x lba → IsQueueSide k q us old → IsQueueSide k q us new
+StaysAt lba old new =
+    (q : ℕ) (k : KnownJournal) (us : List Tx) (x : ℕ) → LogOk k → MayGoHome k (Some q) x lba
+    → IsQueueSide k q us old → IsQueueSide k q us new
 
 -- and where the write ended with success, the content is certainly at home
 abbrev pub GoesHome : ℕ → List ℕ → SideState → Result HomeStep Off → SideState → Type 0
-GoesHome lba block old (Ok home.Done) new = (q : ℕ) (k : KnownJournal) (us : List Tx) (x : ℕ) → LogOk k → MayGoHome k (Some q) x lba → IsQueueSide k q us old → Certainly new.port (home_index k.geometry x) block
+GoesHome lba block old (Ok home.Done) new =
+    (q : ℕ) (k : KnownJournal) (us : List Tx) (x : ℕ) → LogOk k → MayGoHome k (Some q) x lba
+    → IsQueueSide k q us old → Certainly new.port (home_index k.geometry x) block
 GoesHome lba block old (Ok (home.Error status)) new = Unit {0}
 GoesHome lba block old (Err _) new = Unit {0}
 
 -- the same of the root
 abbrev pub RootStaysAt : ℕ → PortState → PortState → Type 0
-RootStaysAt lba old new = (k : KnownJournal) (x : ℕ) → LogOk k → MayGoHome k None x lba → RootOk k old → RootOk k new
+RootStaysAt lba old new =
+    (k : KnownJournal) (x : ℕ) → LogOk k → MayGoHome k None x lba → RootOk k old → RootOk k new
 
 abbrev pub RootGoesHome : ℕ → List ℕ → PortState → Result HomeStep Off → PortState → Type 0
-RootGoesHome lba block old (Ok home.Done) new = (k : KnownJournal) (x : ℕ) → LogOk k → MayGoHome k None x lba → RootOk k old → Certainly new (home_index k.geometry x) block
+RootGoesHome lba block old (Ok home.Done) new =
+    (k : KnownJournal) (x : ℕ) → LogOk k → MayGoHome k None x lba → RootOk k old
+    → Certainly new (home_index k.geometry x) block
 RootGoesHome lba block old (Ok (home.Error status)) new = Unit {0}
 RootGoesHome lba block old (Err _) new = Unit {0}

@@ -44,7 +44,9 @@ pub record IsReady (k : KnownJournal) (q : ℕ) (us : List Tx) (s : SideState) (
 
 -- whatever is known, the side stays one
 abbrev pub Sends : SideState → NumberedCommit → SideState → Type 0
-Sends old n new = (q : ℕ) (k : KnownJournal) (us : List Tx) → LogOk k → IsReady k q us old n → IsQueueSide k q us old → IsQueueSide k q us new
+Sends old n new =
+    (q : ℕ) (k : KnownJournal) (us : List Tx) → LogOk k → IsReady k q us old n → IsQueueSide k q us old
+    → IsQueueSide k q us new
 
 -- all of its items are staged in their order, flushed at once and made visible by one ring
 abbrev pub after_send : PortState → ℕ → Items → PortState
@@ -53,8 +55,12 @@ after_send p tx items = after_ring (after_flush (after_some p tx (length items) 
 -- what a send that was cut leaves: some of the items are staged, or all, and perhaps flushed
 abbrev pub IsCutAt : PortState → ℕ → Items → PortState → Type 0
 IsCutAt old tx items new =
-    ((n : ℕ) × (n < length items) × (new ≡ after_some old tx n items)) ⊎ ((new ≡ after_some old tx (length items) items) ⊎ (new ≡ after_flush (after_some old tx (length items) items)))
+    ((n : ℕ) × (n < length items) × (new ≡ after_some old tx n items))
+    ⊎ ((new ≡ after_some old tx (length items) items)
+    ⊎ (new ≡ after_flush (after_some old tx (length items) items)))
 
 -- whatever is known, all that was drawn is rung
 abbrev pub RingsAll : SideState → NumberedCommit → SideState → Type 0
-RingsAll old n new = (q : ℕ) (k : KnownJournal) (us : List Tx) → LogOk k → IsReady k q us old n → IsQueueSide k q us old → IsRung k q us new
+RingsAll old n new =
+    (q : ℕ) (k : KnownJournal) (us : List Tx) → LogOk k → IsReady k q us old n → IsQueueSide k q us old
+    → IsRung k q us new

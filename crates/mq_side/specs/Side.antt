@@ -1,12 +1,12 @@
 -- What a queue's side keeps beside its ring, and how it stands to what is known of the journal.
-use Rattle.std.specs.Prelude.{◌≡◌, ◌≢◌, ◌⊎◌, ◌<◌, ◌≤◌, ℕ, List, [], ◌∷◌, Option, Some, None}
+use Rattle.std.specs.Prelude.{◌≡◌, ◌≢◌, ◌⊎◌, ◌≤◌, ℕ, List, [], ◌∷◌, Option, Some, None}
 use Rattle.mq_blocks.specs.Drive.{PortState}
 use Rattle.mq_blocks.specs.declared.command.Command.{Command}
 use Rattle.mq_blocks.specs.declared.geometry.Geometry.{Geometry}
 use Rattle.mq_drive.specs.Steps.{Fault}
 use Rattle.mq_drive.specs.declared.port.Port.{Ghosts}
 use Rattle.mq_ledger.specs.History.{IsAt}
-use Rattle.mq_ledger.specs.Items.{end_of, number_before}
+use Rattle.mq_ledger.specs.Items.{end_of}
 use Rattle.mq_ledger.specs.KnownJournal.{KnownJournal}
 use Rattle.mq_ledger.specs.Sides.{SideOk}
 use Rattle.mq_ledger.specs.Written.{journal_entries}
@@ -57,21 +57,23 @@ pub record IsRungOf (from : ℕ) (us : List Tx) (r : Rung) : Type 0 where
 abbrev pub IsPassedOf : ℕ → List Tx → Rung → Type 0
 IsPassedOf from us r = ((r.tx ≡ 0) × (r.end ≡ from)) ⊎ IsRungOf from us r
 
-abbrev pub AreRungsOf : ℕ → List Tx → List Rung → Type 0
-AreRungsOf from us [] = Unit {0}
-AreRungsOf from us (r ∷ rs) = IsRungOf from us r × AreRungsOf from us rs
+-- some of them, one right behind the other, the first from a count on
+abbrev pub AreRungsOf : ℕ → List Tx → ℕ → List Rung → Type 0
+AreRungsOf from us low [] = Unit {0}
+AreRungsOf from us low (r ∷ rs) =
+    (is : IsRungOf from us r) × (end_of from is.ts ≡ low) × AreRungsOf from us r.end rs
 
--- it is the number of a transaction of these whose entries all stand below a head
-pub record IsBelowHead (from : ℕ) (us : List Tx) (head n : ℕ) : Type 0 where
+-- it is the number of a transaction of these whose entries all stand below a count
+pub record IsBelow (from : ℕ) (us : List Tx) (count n : ℕ) : Type 0 where
   pub t : Tx
   pub ts : List Tx
   pub at : IsAt t ts us
   pub number : n ≡ t.number
-  pub below : end_of from (t ∷ ts) ≤ head
+  pub below : end_of from (t ∷ ts) ≤ count
 
--- or it is 0, before any is done
+-- it stands below the head, or is 0, before any is done
 abbrev pub IsDoneOf : ℕ → List Tx → ℕ → ℕ → Type 0
-IsDoneOf from us head n = (n ≡ 0) ⊎ IsBelowHead from us head n
+IsDoneOf from us head n = (n ≡ 0) ⊎ IsBelow from us head n
 
 -- ---- the failure that is kept
 
@@ -85,10 +87,17 @@ abbrev pub HasTx : ℕ → List Command → Type 0
 HasTx n [] = ⊥
 HasTx n (c ∷ cs) = (c.tx ≡ n) ⊎ HasTx n cs
 
--- A send of the newest transaction was cut; or a command of the transaction failed, and none of a lower one.
+-- the newest of these has this number, and its entries begin at a count
+abbrev pub NewestBegins : ℕ → List Tx → ℕ → ℕ → Type 0
+NewestBegins from [] count n = ⊥
+NewestBegins from (t ∷ ts) count n = (t.number ≡ n) × (count ≡ end_of from ts)
+
+-- A send of the newest transaction was cut, and all before it are rung; or a command of the transaction, which
+-- is rung, failed, and none of a lower one.
 abbrev pub IsKeptBy : ℕ → List Tx → List Command → ℕ → ℕ → Why → Type 0
-IsKeptBy from us failed doorbell n Off = (failed ≡ []) × (number_before us ≡ n) × (doorbell < end_of from us)
-IsKeptBy from us failed doorbell n (Status s) = (s ≢ 0) × HasTx n failed × AreFromTx n failed
+IsKeptBy from us failed doorbell n Off = (failed ≡ []) × NewestBegins from us doorbell n
+IsKeptBy from us failed doorbell n (Status s) =
+    (s ≢ 0) × HasTx n failed × AreFromTx n failed × IsBelow from us doorbell n
 
 -- where none is kept, nothing failed and nothing is staged
 abbrev pub IsKept : ℕ → List Tx → List Command → List Command → ℕ → Option (ℕ × Why) → Type 0
@@ -104,7 +113,7 @@ pub record IsQueueSide (k : KnownJournal) (q : ℕ) (us : List Tx) (s : SideStat
   pub entries : k.entries ≡ journal_entries
   pub side : SideOk k q us s.port
   pub passed : IsPassedOf (k.from q) us s.passed
-  pub rung : AreRungsOf (k.from q) us s.rung
+  pub rung : AreRungsOf (k.from q) us s.passed.end s.rung
   pub last : last_end s.passed.end s.rung ≡ s.port.doorbell
   pub done : IsDoneOf (k.from q) us s.port.head s.done
   pub kept : IsKept (k.from q) us s.port.failed s.port.pending s.port.doorbell s.kept

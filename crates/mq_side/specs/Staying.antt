@@ -7,4 +7,5 @@ use Rattle.mq_side.specs.Side.{SideState, IsQueueSide}
 
 -- whatever is known, a side stays one
 abbrev pub Stays : SideState → SideState → Type 0
-Stays old new = (q : ℕ) (k : KnownJournal) (us : List Tx) → LogOk k → IsQueueSide k q us old → IsQueueSide k q us new
+Stays old new =
+    (q : ℕ) (k : KnownJournal) (us : List Tx) → LogOk k → IsQueueSide k q us old → IsQueueSide k q us new

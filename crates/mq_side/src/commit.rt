@@ -34,9 +34,14 @@ impl Model for Prepared {
 
     ghost Value = { Commit };
 
-    ghost view = { λ p. record { logged = writes_of p.logged.items; direct = writes_of p.direct.items; revoked = p.revoked.items } };
+    ghost view = { λ p. record {
+      logged = writes_of p.logged.items;
+      direct = writes_of p.direct.items;
+      revoked = p.revoked.items;
+    } };
 
-    ghost invariant = { λ p. ArePartsOf (writes_of p.logged.items) (writes_of p.direct.items) p.blocks.items p.revoked.items p.items.items (vec_capacity p.items) };
+    ghost invariant = { λ p. ArePartsOf (writes_of p.logged.items) (writes_of p.direct.items)
+        p.blocks.items p.revoked.items p.items.items (vec_capacity p.items) };
 }
 
 /// A transaction that was drawn: its writes, its number and its place on its queue. Its descriptor is
@@ -62,7 +67,9 @@ impl Model for Numbered {
 
     ghost view = { λ n. numbered_by n.logged.items n.direct.items n.descriptor.revoked n.number n.at };
 
-    ghost invariant = { λ n. AreNumberedParts (numbered_by n.logged.items n.direct.items n.descriptor.revoked n.number n.at) n.block n.items.items (vec_capacity n.items) };
+    ghost invariant = { λ n. AreNumberedParts
+        (numbered_by n.logged.items n.direct.items n.descriptor.revoked n.number n.at)
+        n.block n.items.items (vec_capacity n.items) };
 }
 
 /// Where a transaction stands on its queue: the place of its first copy, and number and place of the

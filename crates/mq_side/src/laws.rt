@@ -1,5 +1,5 @@
 // What holds of a side while others draw, and where a claim is made.
-ghost use Rattle.mq_side.specs.Laws.{Opening, Planning, Fitting, Numbering, Storing, OwnDraw, OtherDraws, DrawCounts, HasItems, Claiming, Changing, Bound};
+ghost use Rattle.mq_side.specs.Laws.{Opening, Planning, Fitting, Numbering, Storing, OwnDraw, OtherDraws, DrawCounts, HasItems, Claiming, Changing, Reaching, DoneBefore, BelowHead, Bound};
 
 /// A side on which nothing was drawn is one of a journal whose history has nothing of its queue.
 pub fn a_new_side_is_one()
@@ -33,6 +33,15 @@ pub fn a_number_is_stored<E>()
 pub fn a_claim_keeps_sides()
     ensures done { Claiming }
     ensures changed { Changing }
+{}
+
+/// A drain that ends without a fault has reached the last transaction that was drawn on the queue, where all of
+/// them were rung. One that ends with a failure has reached each transaction before the one that it names. What
+/// it has reached stands below the flushed head.
+pub fn a_drain_reaches()
+    ensures last { Reaching }
+    ensures before { DoneBefore }
+    ensures below { BelowHead }
 {}
 
 /// At most 2n + 4 events happen for each transaction of n entries, and one for each fault.

@@ -18,8 +18,8 @@ pub use answers::{Cause, Fit, Why};
 pub use commit::{Numbered, Prepared};
 pub use drawn::Drawn;
 pub use laws::{
-    a_claim_keeps_sides, a_draw_keeps_sides, a_new_side_is_one, a_number_is_stored,
-    a_placement_is_a_plan, events_are_bounded,
+    a_claim_keeps_sides, a_drain_reaches, a_draw_keeps_sides, a_new_side_is_one,
+    a_number_is_stored, a_placement_is_a_plan, events_are_bounded,
 };
 pub use root::Root;
 pub use side::QueueSide;

@@ -1,0 +1,11 @@
+use Rattle.mq_side.proofs.Reaching.{below_head, done_before, reaches}
+use Rattle.mq_side.proofs.laws.a_drain_reaches.Goals as goal
+
+pub returns-clause-last : goal.returns-clause-last
+returns-clause-last c = reaches
+
+pub returns-clause-before : goal.returns-clause-before
+returns-clause-before c = done_before
+
+pub returns-clause-below : goal.returns-clause-below
+returns-clause-below c = below_head
