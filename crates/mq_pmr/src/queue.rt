@@ -51,7 +51,16 @@ pub struct PmrQueue<P: Port> {
     // the number of the transaction that is staged whole and not rung; none also where a part of one is
     // staged
     staged: Option<u64>,
-    ghost fits: { Fits (P.state port) (record { slots = slots.items; end = end; head = head; stored_head = stored_head; passed = passed; done = done; rung = rung.items; staged = staged }) },
+    ghost fits: { Fits (P.state port) (record {
+      slots = slots.items;
+      end = end;
+      head = head;
+      stored_head = stored_head;
+      passed = passed;
+      done = done;
+      rung = rung.items;
+      staged = staged;
+    }) },
     ghost own: { IsRingOf geometry queue (P.state port) },
     ghost ends: { AreEnds done.end (P.state port).doorbell rung.items } by { AreEnds-prop done.end (P.state port).doorbell rung.items },
     ghost written: { IsWritten (P.state port) slots.items done.end end },
