@@ -1,0 +1,4 @@
+mod Written
+mod Changing
+mod Doing
+mod Ruling
