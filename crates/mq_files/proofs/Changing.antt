@@ -30,11 +30,14 @@ use Rattle.mq_tree.proofs.Regions.{region-outside}
 rising_from : {X : Type 0} (n : X → ℕ) (low high : ℕ) (xs : List X) → AllPairs (λ a b. n a < n b) xs → ((x : X) → Contains xs x → (low ≤ n x) × (n x < high)) → AreRising low high (map n xs)
 rising_from {X} n low high [] r within = tt
 rising_from {X} n low high (x ∷ xs) r within =
-    let here = within x (cons-here x xs x refl) in
-    (here.0, here.1, rising_from n (n x + 1) high xs (λ i j d l h. r (suc i) (suc j) d (omega arith) (omega arith)) (λ y c.
-      let w = within y (cons-there x xs y c) in
-      let up : n x < n y = above y c in
-      (omega arith, w.1)))
+    let here = within x (cons-here x xs x refl) in (
+      here.0,
+      here.1,
+      rising_from n (n x + 1) high xs (λ i j d l h. r (suc i) (suc j) d (omega arith) (omega arith)) (λ y c.
+          let w = within y (cons-there x xs y c) in
+          let up : n x < n y = above y c in
+          (omega arith, w.1)),
+    )
   where
     above : (y : X) → Contains xs y → n x < n y
     above y (k, l, e) = subst (λ (z : X). n x < n z) e (r 0 (suc k) y (omega arith) (omega arith))

@@ -3,7 +3,7 @@ ghost use Rattle.std.specs.Prelude.{◌≡◌, IfOk};
 ghost use Rattle.mq_files.specs.Entries.{IsAllLogged};
 ghost use Rattle.mq_files.specs.Plans.{IsEntryOf};
 
-use crate::lists::{Placed, Replies, Requests, all_logged, copy_placement, copy_replies, copy_requests};
+use crate::lists::{Placed, Replies, Requests, all_logged, copy_plan, copy_replies, copy_requests};
 use mq_blocks::{BlockNo, OutOfMemory};
 use mq_exec::Done;
 use mq_pages::Write;
@@ -29,6 +29,35 @@ pub struct FileEntry {
     pub frees: Snapshot<Vec<BlockNo>>,
 }
 
+// The entry of a group that was done, with its writes placed so.
+fn entry_of(
+    alloc: Global,
+    session: u32,
+    call: u64,
+    durable: bool,
+    requests: &[Request],
+    done: &Done,
+    placed: Placed,
+) -> Result<FileEntry, OutOfMemory>
+    ensures entry { IfOk result (λ e. IsEntryOf session requests.now done.now e) }
+    ensures placed { IfOk result (λ e. e.placed ≡ placed) }
+    ensures call { IfOk result (λ e. e.call ≡ call) }
+    ensures durable { IfOk result (λ e. e.durable ≡ durable) }
+{
+    let requests = copy_requests(alloc, requests)?;
+    let replies = copy_replies(alloc, &done.replies)?;
+    Ok(FileEntry {
+        session,
+        call,
+        durable,
+        requests,
+        replies,
+        placed,
+        writes: Snapshot::of(&done.writes),
+        frees: Snapshot::of(&done.frees),
+    })
+}
+
 impl FileEntry {
     /// The entry of a group that was done and is to be drawn, with its writes placed by a plan.
     pub fn new(
@@ -45,19 +74,12 @@ impl FileEntry {
         ensures call { IfOk result (λ e. e.call ≡ call) }
         ensures durable { IfOk result (λ e. e.durable ≡ durable) }
     {
-        Ok(FileEntry {
-            session,
-            call,
-            durable,
-            requests: copy_requests(alloc, requests)?,
-            replies: copy_replies(alloc, &done.replies)?,
-            placed: copy_placement(alloc, plan)?,
-            writes: Snapshot::of(&done.writes),
-            frees: Snapshot::of(&done.frees),
-        })
+        let placed = copy_plan(alloc, plan)?;
+        entry_of(alloc, session, call, durable, requests, done, placed)
     }
 
-    /// The entry of a group that was done and is not drawn: it writes and frees nothing, or too much.
+    /// The entry of a group that was done and is not drawn: it changes nothing, or writes too much. All
+    /// that it would write stands as logged.
     pub fn undrawn(
         alloc: Global,
         session: u32,
@@ -71,15 +93,7 @@ impl FileEntry {
         ensures call { IfOk result (λ e. e.call ≡ call) }
         ensures durable { IfOk result (λ e. e.durable ≡ durable) }
     {
-        Ok(FileEntry {
-            session,
-            call,
-            durable,
-            requests: copy_requests(alloc, requests)?,
-            replies: copy_replies(alloc, &done.replies)?,
-            placed: all_logged(alloc, &done.writes)?,
-            writes: Snapshot::of(&done.writes),
-            frees: Snapshot::of(&done.frees),
-        })
+        let placed = all_logged(alloc, &done.writes)?;
+        entry_of(alloc, session, call, durable, requests, done, placed)
     }
 }

@@ -56,10 +56,7 @@ impl Model for Placed {
 }
 
 /// A copy of the requests.
-pub(crate) fn copy_requests(
-    alloc: Global,
-    requests: &[Request],
-) -> Result<Requests, OutOfMemory>
+pub(crate) fn copy_requests(alloc: Global, requests: &[Request]) -> Result<Requests, OutOfMemory>
     ensures { IfOk result (λ copy. copy ≡ requests.now) }
 {
     let mut copies = Vec::with_capacity(alloc, requests.len())?;
@@ -81,7 +78,7 @@ pub(crate) fn copy_replies(alloc: Global, replies: &[Reply]) -> Result<Replies, 
 }
 
 /// A copy of a plan, without the room that it keeps.
-pub(crate) fn copy_placement(alloc: Global, plan: &Placement) -> Result<Placed, OutOfMemory>
+pub(crate) fn copy_plan(alloc: Global, plan: &Placement) -> Result<Placed, OutOfMemory>
     ensures { IfOk result (λ copy. copy ≡ plan.now) }
 {
     Ok(Placed {
