@@ -1,5 +1,5 @@
 -- The blocks that a group writes and frees where it leads from the volume of a map to another.
-use Rattle.std.proofs.Common.{get_or, ◌≡◌, ℕ, zero, suc, ◌+◌, ◌<◌, ◌≤◌, true, List, [], ◌∷◌, ◌++◌, length, map, refl, sym, subst, ◌∙◌, inl, inr, arith}
+use Rattle.std.proofs.Common.{◌≡◌, ℕ, suc, ◌+◌, ◌<◌, ◌≤◌, true, List, [], ◌∷◌, ◌++◌, length, map, refl, sym, subst, ◌∙◌, inl, inr, arith}
 use Rattle.std.specs.Prelude.{Option, Some, None}
 use Rattle.std.specs.List.{AllPairs, Contains}
 use Rattle.std.proofs.lemmas.Bool.{cases_lt, true≢false, false_from_ne_true}
@@ -49,8 +49,8 @@ shown_low g w b page s = elim (cases_lt b (homes_of g)) [
 ]
 
 option_there : (o : Option (List ℕ)) → (o ≡ None → ⊥) → (block : List ℕ) × (o ≡ Some block)
-option_there None no = absurd (no refl)
-option_there (Some block) no = (block, refl)
+option_there None some = absurd (some refl)
+option_there (Some block) some = (block, refl)
 
 module _ (g : Geometry) (m : Map) (v w : Volume) (ws : List Write) (fs : List ℕ) (laid : IsLaid g m v) (moves : Moves g v w ws fs) where
   pub writes_rise : AreRising 0 (homes_of g) (blocks_in ws)

@@ -1,6 +1,5 @@
 -- A group that was done on a map does there what its entry says, and may be drawn.
-use Rattle.std.proofs.Common.{◌≡◌, ℕ, ◌+◌, ◌<◌, ◌≤◌, true, List, length, map, refl, sym, ap, subst, ◌∙◌}
-use Rattle.std.specs.List.{All}
+use Rattle.std.proofs.Common.{◌≡◌, ℕ, ◌+◌, ◌<◌, List, length, map, refl, sym, ap, subst, ◌∙◌}
 use Rattle.std.proofs.lemmas.List.Elements.{All-append}
 use Rattle.mq_blocks.specs.Descriptor.{AreRising}
 use Rattle.mq_blocks.specs.Geometry.{homes_of, queues_of}
@@ -28,10 +27,8 @@ use Rattle.mq_rules.specs.Rule.{numbered}
 use Rattle.mq_side.specs.Commits.{IsPlanOf, commit_by, written_in}
 use Rattle.mq_side.proofs.Parting.{direct_blocks, logged_blocks}
 use Rattle.mq_side.proofs.Plans.{planned}
-use Rattle.mq_tree.specs.Laid.{IsLaid}
 use Rattle.mq_tree.specs.Requests.{after_group, replies}
 use Rattle.mq_tree.specs.Sound.{IsSound}
-use Rattle.mq_tree.specs.Volume.{Volume}
 use Rattle.mq_tree.specs.declared.request.Request.{Request}
 
 -- ---- before there is an entry
@@ -107,6 +104,7 @@ module _ (g : Geometry) (m : Map) (requests : List Request) (done : Done) (e : F
   }
 
   pub does : Changes done.writes.items done.frees.items → e.session < queues_of g → IsPlanOf (homes_of g) (blocks_in ws) e.placed → Does g m e
+  unfolding ran
   does changes queue plan = record {
     ran = ran queue;
     changes = of_entry (λ rs xs bs. Changes xs bs) changes;
@@ -133,16 +131,16 @@ module _ (k : KnownJournal) (requests : List Request) (done : Done) (e : FileEnt
   pub in_order : AreInOrder gk p.writes
   in_order = subst (λ (bs : List ℕ). AreRising 0 (homes_of gk) bs) (sym blocks) (done_rises gk e.session (map_known k) requests done d)
 
-  abbrev t : Tx
-  t = numbered (k.base + length k.history + 1) (tx_of e)
+  abbrev pub drawn : Tx
+  drawn = numbered (k.base + length k.history + 1) (tx_of e)
 
-  pub placement : IsPlacement gk e.session p.read_front p.read_base p.writes (placed_of t)
+  pub placement : IsPlacement gk e.session p.read_front p.read_base p.writes (placed_of drawn)
   placement = subst (λ (x : Placed). IsPlacement gk e.session p.read_front p.read_base p.writes x) (sym (placed_as (homes_of gk) e plans)) p.placed
 
   moved_here : Moves gk d.volume (volume_after gk d.volume e) us (freed_by e)
   moved_here = moved gk (map_known k) requests done e d is
 
-  pub meets : HasNumber k e → MeetsRest k t
+  pub meets : HasNumber k e → MeetsRest k drawn
   meets n = record {
     queue = n.queue;
     number = refl;

@@ -1,4 +1,4 @@
-mod Written
-mod Changing
-mod Doing
-mod Ruling
+pub mod Written
+pub mod Changing
+pub mod Doing
+pub mod Ruling

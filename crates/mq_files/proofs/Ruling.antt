@@ -1,17 +1,14 @@
 -- A done group by the rule of a desk over the ports of a drive.
-use Rattle.std.proofs.Common.{◌≡◌, ℕ, ◌+◌, ◌<◌, ◌≤◌, List, [], ◌∷◌, length, refl, sym, ap, subst, ◌∙◌, arith}
-use Rattle.mq_blocks.specs.Geometry.{queues_of}
+use Rattle.std.proofs.Common.{◌≡◌, ℕ, ◌+◌, ◌≤◌, List, [], ◌∷◌, length, refl, sym, ap, subst, arith}
 use Rattle.mq_blocks.specs.Journal.{number_limit}
-use Rattle.mq_exec.specs.declared.outcome.Done.{Done}
-use Rattle.mq_files.specs.Entries.{Changes, IsAllLogged, tx_of}
+use Rattle.mq_files.specs.Entries.{tx_of}
 use Rattle.mq_files.specs.Group.{file_group}
 use Rattle.mq_files.specs.Laws.{DoneGroupsFit, DoneGroupsMay, DoneGroupsMayBeDrawn}
-use Rattle.mq_files.specs.Plans.{DoneOn, HasNumber, IsEntryOf, IsPlanned}
+use Rattle.mq_files.specs.Plans.{HasNumber}
 use Rattle.mq_files.specs.declared.entry.FileEntry.{FileEntry}
 use Rattle.mq_files.proofs.Doing.{asks, does, plans}
 use Rattle.mq_ledger.specs.KnownJournal.{MayDraw}
-use Rattle.mq_ledger.specs.declared.tx.Tx.{Tx}
-use Rattle.mq_rules.specs.Rule.{Desk, Fits, May, core_of, geometry_of, history, map_now, numbered}
+use Rattle.mq_rules.specs.Rule.{core_of, geometry_of, history, map_now, numbered}
 use Rattle.mq_rules.specs.Values.{Values}
 use Rattle.mq_turns.specs.Meaning.{newest}
 

@@ -1,5 +1,5 @@
 -- The writes of a group, by where a plan puts them.
-use Rattle.std.proofs.Common.{◌≡◌, ◌⊎◌, ℕ, ◌+◌, ◌<◌, ◌≤◌, true, false, List, [], ◌∷◌, ◌++◌, length, map, refl, sym, ap, subst, ◌∙◌, inl, inr, arith, eqb}
+use Rattle.std.proofs.Common.{◌≡◌, ◌⊎◌, ℕ, ◌+◌, true, false, List, [], ◌∷◌, ◌++◌, length, refl, sym, subst, ◌∙◌, inl, inr, arith, eqb}
 use Rattle.std.specs.Prelude.{Option, Some, None}
 use Rattle.std.specs.List.{All, Contains}
 use Rattle.std.proofs.lemmas.Bool.{cases_Bool, eq-eqb, eqb-true, ne_eqb, false≢true, false_from_ne_true}
@@ -9,7 +9,6 @@ use Rattle.mq_blocks.specs.Journal.{is_among}
 use Rattle.mq_blocks.specs.Machine.{Writes, or_kept, write_of}
 use Rattle.mq_blocks.proofs.Among.{among-low, apart-not_among, contains-among}
 use Rattle.mq_files.specs.Laws.{blocks_in}
-use Rattle.mq_ledger.specs.History.{blocks_of}
 use Rattle.mq_ledger.proofs.Values.{unwritten, write_of-append}
 use Rattle.mq_pages.specs.declared.page.Write.{Write}
 use Rattle.mq_revoke.specs.Placed.{Placed}

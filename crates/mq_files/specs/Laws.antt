@@ -6,7 +6,7 @@ use Rattle.mq_blocks.specs.Journal.{number_limit}
 use Rattle.mq_blocks.specs.Machine.{Map}
 use Rattle.mq_blocks.specs.declared.geometry.Geometry.{Geometry}
 use Rattle.mq_exec.specs.declared.outcome.Done.{Done}
-use Rattle.mq_files.specs.Entries.{Asks, Changes, Does, IsAllLogged, freed_by, tx_of, written_by}
+use Rattle.mq_files.specs.Entries.{Asks, Changes, Does, IsAllLogged, tx_of, written_by}
 use Rattle.mq_files.specs.Group.{file_group}
 use Rattle.mq_files.specs.Plans.{DoneOn, HasNumber, IsEntryOf, IsPlanned, map_known}
 use Rattle.mq_files.specs.declared.entry.FileEntry.{FileEntry}
