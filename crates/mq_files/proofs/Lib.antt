@@ -1,0 +1,4 @@
+pub mod Written
+pub mod Changing
+pub mod Doing
+pub mod Ruling

@@ -1,0 +1,4 @@
+pub mod Entries
+pub mod Plans
+pub mod Group
+pub mod Laws

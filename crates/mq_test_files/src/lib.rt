@@ -1,0 +1,5 @@
+//! The test of the entries of groups.
+#![tactic(auto)]
+
+#[cfg(test)]
+mod entries;
