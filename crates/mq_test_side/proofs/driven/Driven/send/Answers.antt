@@ -1,4 +1,4 @@
-use Rattle.std.proofs.Common.{◌≡◌, ℕ, ◌+◌, length, sym, ap, ◌∙◌, arith}
+use Rattle.std.proofs.Common.{◌≡◌, ℕ, ◌+◌, length, refl, ap, ◌∙◌, arith}
 use Rattle.mq_blocks.specs.Drive.{PortState}
 use Rattle.mq_blocks.specs.declared.geometry.Geometry.{Geometry}
 use Rattle.mq_ledger.specs.History.{blocks_of}
@@ -27,7 +27,7 @@ invariant_of-self-in-Ok-send-clause-bell g c =
     let old : PortState = g.P.Port.state n.new.self.pmr.port in
     let port = ap (λ r. g.P.Port.state r.port) n.ensures.pmr ∙ ap (λ r. g.P.Port.state r.port) c.prepare.ensures.pmr in
     let bell : old.doorbell ≡ tried.end = ap (λ (p : PortState). p.doorbell) port ∙ tried.bell in
-    let kept = n.ensures.kept ∙ c.prepare.ensures.kept ∙ c.if-not-may_send.ensures.kept in
+    let kept = n.ensures.kept ∙ c.prepare.ensures.kept ∙ c.if-not-may_send.ensures.kept refl in
     let logged : length n.result.commit.logged ≡ length tried.plan.logged = ap (λ (m : NumberedCommit). length m.commit.logged) n.ensures.commit ∙ c.in-Ok.ensures.size.0 in
     let direct : length n.result.commit.direct ≡ length tried.plan.direct = ap (λ (m : NumberedCommit). length m.commit.direct) n.ensures.commit ∙ c.in-Ok.ensures.size.1 in
     let whole = c.requires.whole in
