@@ -1,4 +1,4 @@
 pub mod Placing
 mod Drawing
 pub mod Unique
-mod Counting
+pub mod Counting

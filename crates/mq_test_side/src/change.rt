@@ -1,14 +1,12 @@
 // What a transaction of a test writes.
 ghost use Rattle.std.specs.Prelude.{◌≡◌, ◌≤◌, map, IfOk};
-ghost use Rattle.mq_blocks.specs.Descriptor.{AreRising};
+ghost use Rattle.mq_blocks.specs.Geometry.{homes_of};
+ghost use Rattle.mq_revoke.specs.Placing.{AreInOrder};
 
-use mq_blocks::{Block, BlockNo, OutOfMemory, TxNo};
+use mq_blocks::{Block, BlockNo, Geometry, OutOfMemory, TxNo};
 use mq_pages::{Kind, Write};
 use mq_revoke::Planned;
 use std::alloc::Global;
-
-/// Home blocks: the metadata region and the zone.
-pub const HOMES: u32 = 256;
 
 // The blocks of the metadata region.
 const META: u32 = 16;
@@ -18,8 +16,6 @@ const META: u32 = 16;
 pub struct Change {
     pub writes: Vec<Write>,
     pub planned: Vec<Planned>,
-    ghost same: { map (λ w. w.block) writes.items ≡ map (λ w. w.block) planned.items },
-    ghost order: { AreRising 0 256 (map (λ w. w.block) planned.items) },
 }
 
 // A block that is filled with this byte.
@@ -36,9 +32,17 @@ fn kind_of(block: u32) -> Kind {
 
 /// Fills the blocks from one on and below another with a byte. Those of the zone are data, and were free
 /// before; transaction 1 logged them once.
-pub fn filling(alloc: Global, from: u32, to: u32, byte: u8) -> Result<Change, OutOfMemory>
+pub fn filling(
+    alloc: Global,
+    geometry: Geometry,
+    from: u32,
+    to: u32,
+    byte: u8,
+) -> Result<Change, OutOfMemory>
     requires order { from ≤ to }
-    requires high { to ≤ 256 }
+    requires high { to ≤ homes_of geometry }
+    ensures same { IfOk result (λ c. map (λ w. w.block) c.writes.items ≡ map (λ w. w.block) c.planned.items) }
+    ensures order { IfOk result (λ c. AreInOrder geometry c.planned.items) }
 {
     let mut writes = Vec::new(alloc);
     let mut planned = Vec::new(alloc);

@@ -1,14 +1,14 @@
 // A side that sends only what it has room for.
-ghost use Rattle.std.specs.Prelude.{◌≡◌, ◌×◌, ◌→◌, ◌<◌, ◌≤◌, ◌+◌, ◌^◌, [], length, IsTrue, None};
+ghost use Rattle.std.specs.Prelude.{◌≡◌, ◌<◌, ◌≤◌, ◌+◌, ◌^◌, [], length, map, IsTrue, None};
 ghost use Rattle.mq_blocks.specs.Drive.{IsQuiescent};
 ghost use Rattle.mq_blocks.specs.Geometry.{queues_of, area_of, meta_of, zone_size};
 ghost use Rattle.mq_drive.specs.Start.{IsPortOf};
 ghost use Rattle.mq_drive.specs.declared.role.Role.TheVariants.{Queue};
-ghost use Rattle.mq_revoke.specs.Placing.{IsPlacement};
+ghost use Rattle.mq_revoke.specs.Placing.{AreInOrder, IsPlacement};
 ghost use Rattle.mq_side.specs.Stored.{rows_of, next_in, FitIs};
 ghost use Rattle.mq_side.specs.declared.answers.Fit.TheVariants.{Yes};
 
-use crate::change::{Change, HOMES, filling, spoil};
+use crate::change::{Change, filling, spoil};
 use mq_blocks::{Block, BlockNo, Geometry, QueueNo, TxNo};
 use mq_drive::{HomeStep, Off, Port};
 use mq_pmr::PmrQueue;
@@ -87,10 +87,10 @@ impl<P: Port> Driven<P> {
 
     /// Fills the blocks from one on and below another with the transaction's number, which is at least 1.
     pub fn commit(&mut self, alloc: Global, tx: u8, from: u32, to: u32, base: u64) -> Went {
-        if tx == 0 || from > to || to > HOMES {
+        if tx == 0 || from > to || to > self.geometry.homes() {
             return Went::Refused;
         }
-        match filling(alloc, from, to, tx) {
+        match filling(alloc, self.geometry, from, to, tx) {
             Ok(change) => self.place(alloc, tx, change, TxNo(base)),
             Err(_) => Went::Refused,
         }
@@ -98,7 +98,9 @@ impl<P: Port> Driven<P> {
 
     // Plans it, and sends it where there is room.
     fn place(&mut self, alloc: Global, tx: u8, change: Change, base: TxNo) -> Went
-        requires { 1 ≤ tx }
+        requires number { 1 ≤ tx }
+        requires same { map (λ w. w.block) change.writes.items ≡ map (λ w. w.block) change.planned.items }
+        requires order { AreInOrder self.old.geometry change.planned.items }
     {
         let placed = plan(
             &change.planned,
@@ -129,14 +131,19 @@ impl<P: Port> Driven<P> {
     // Prepares it, draws it and sends it. The pages change before they are sent.
     fn send(&mut self, alloc: Global, tx: u8, change: Change, base: TxNo) -> Went
         requires number { 1 ≤ tx }
+        requires same { map (λ w. w.block) change.writes.items ≡ map (λ w. w.block) change.planned.items }
+        requires order { AreInOrder self.old.geometry change.planned.items }
         requires plan { IsPlacement self.old.geometry 0 0 base change.planned.items self.old.plan }
         requires few { length change.planned.items ≤ 1000 }
+        requires whole { length self.old.plan.logged + length self.old.plan.direct
+            ≡ length change.planned.items }
         requires fits { FitIs (area_of self.old.geometry) base (rows_of self.old.side.stored.items)
             (P.state self.old.side.pmr.port) self.old.plan Yes }
     {
         if !self.may_send() {
             return Went::Refused;
         }
+        let entries = change.planned.len() as u64 + 1;
         let Change {
             mut writes,
             planned: _,
@@ -146,7 +153,6 @@ impl<P: Port> Driven<P> {
             Err(_) => return Went::Refused,
         };
         spoil(&mut writes);
-        let entries = (self.plan.logged.len() + self.plan.direct.len() + 1) as u64;
         let tx = u64::from(tx);
         let numbered = self.side.numbered(prepared, TxNo(tx), tx * 10);
         match self.side.send(numbered) {
@@ -181,7 +187,7 @@ impl<P: Port> Driven<P> {
 
     /// Writes a block of the zone home. `None` is another block.
     pub fn write_home(&mut self, block: u32, content: Block) -> Option<Result<HomeStep, Off>> {
-        if block < 16 || block >= HOMES {
+        if block < 16 || block >= 256 || block >= self.geometry.homes() {
             return None;
         }
         let lba = self.geometry.home(BlockNo(block));

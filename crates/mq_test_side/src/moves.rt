@@ -6,9 +6,9 @@ ghost use Rattle.mq_drive.specs.Start.{IsPortOf};
 ghost use Rattle.mq_drive.specs.declared.role.Role.TheVariants.{Queue};
 
 use crate::driven::{Driven, Went};
-use crate::ports::{fresh, powered, small};
-use mq_blocks::{Block, Geometry, OutOfMemory, QueueNo, TxNo};
-use mq_drive::{EmuPort, FlakyPort, HomeStep, Port, PortImage, Role};
+use crate::ports::{emulated, powered, small};
+use mq_blocks::{Block, Geometry, OutOfMemory, TxNo};
+use mq_drive::{FlakyPort, HomeStep, Port, PortImage};
 use mq_side::{Cause, Why};
 use std::alloc::Global;
 
@@ -51,18 +51,13 @@ pub const fn sends(tx: u8, from: u32, to: u32) -> Move {
 // Whether a drain names a transaction of which a command failed, keeps it, and has done all before it; and
 // whether the next one answers that it stopped.
 fn fails<P: Port>(driven: &mut Driven<P>) -> bool {
-    match driven.drain() {
-        Err(Cause::Failed { tx, status }) => stops_before(driven, tx, status),
-        _ => false,
-    }
+    let answer = driven.drain();
+    let tx = TxNo(driven.done().0.saturating_add(1));
+    answer == Err(Cause::Failed { tx, status: 640 }) && stops_at(driven, tx, Why::Status(640))
 }
 
-fn stops_before<P: Port>(driven: &mut Driven<P>, tx: TxNo, status: u16) -> bool {
-    let why = Why::Status(status);
-    tx.0 >= 1
-        && status == 640
-        && driven.done().0 == tx.0 - 1
-        && driven.kept() == Some((tx, why))
+fn stops_at<P: Port>(driven: &mut Driven<P>, tx: TxNo, why: Why) -> bool {
+    driven.kept() == Some((tx, why))
         && driven.drain() == Err(Cause::Stopped { tx, why })
         && driven.kept() == Some((tx, why))
 }
@@ -151,10 +146,8 @@ pub fn left_by(
         Ok(geometry) => geometry,
         Err(_) => return Ok(None),
     };
-    let image = fresh(alloc, 1024, 1264)?;
     let (fuse, seat) = powered(alloc)?;
-    let role = Role::Queue(QueueNo(0));
-    let port = EmuPort::new(alloc, &fuse, seat, geometry, role, image, fail, 7)?;
+    let port = emulated(alloc, &fuse, seat, geometry, fail)?;
     let (port, all) = tries(alloc, geometry, port, refuse, moves);
     let events = port.events();
     let (image, _seat) = port.cut(3);

@@ -1,13 +1,10 @@
 // The root: bases, and the metadata region.
 ghost use Rattle.std.specs.Prelude.{◌≡◌};
-ghost use Rattle.mq_blocks.specs.Drive.{IsQuiescent};
-ghost use Rattle.mq_blocks.specs.Geometry.{queues_of, area_of, meta_of, zone_size};
-ghost use Rattle.mq_drive.specs.Start.{IsPortOf};
-ghost use Rattle.mq_drive.specs.declared.role.Role.TheVariants as role;
+ghost use Rattle.mq_test_side.specs.Roots.{IsSmallRoot};
 
-use crate::ports::{fresh, powered, small};
+use crate::ports::{emulated_root, powered, small};
 use mq_blocks::{Block, Lba, OutOfMemory, TxNo};
-use mq_drive::{EmuPort, FlakyPort, HomeStep, Off, Port, PortImage, Role};
+use mq_drive::{FlakyPort, HomeStep, Off, Port, PortImage};
 use mq_side::Root;
 use std::alloc::Global;
 
@@ -69,12 +66,7 @@ fn follows_all<P: Port>(rooted: &mut Rooted<P>, alloc: Global, moves: &[Move]) -
 
 // Makes moves over a port that refuses one changing call, and answers whether all went as they say.
 fn tries<P: Port>(alloc: Global, port: P, refuse: u64, moves: &[Move]) -> (P, bool)
-    requires queue { (P.state port).queue ≡ None }
-    requires base { (P.state port).stored_base ≡ (P.state port).base }
-    requires pending { (P.state port).pending ≡ [] }
-    requires posted { (P.state port).posted ≡ [] }
-    requires first { (P.state port).homes_first ≡ 1024 }
-    requires size { (P.state port).homes_size ≡ 16 }
+    requires { IsSmallRoot (P.state port) }
 {
     let root = Root::open(FlakyPort::new(port, refuse));
     let mut rooted = Rooted { root };
@@ -95,10 +87,8 @@ fn left_by(
         Ok(geometry) => geometry,
         Err(_) => return Ok(None),
     };
-    let mut image = fresh(alloc, 0, 16)?;
-    image.base = 5;
     let (fuse, seat) = powered(alloc)?;
-    let port = EmuPort::new(alloc, &fuse, seat, geometry, Role::Root, image, fail, 7)?;
+    let port = emulated_root(alloc, &fuse, seat, geometry, 5, fail)?;
     let (port, all) = tries(alloc, port, refuse, moves);
     let (image, _seat) = port.cut(3);
     Ok(Some((all, image)))

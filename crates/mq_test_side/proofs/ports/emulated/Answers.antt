@@ -1,0 +1,27 @@
+use Rattle.std.proofs.Common.{◌≡◌, ◌+◌, ◌*◌, ℕ, length, sym, subst, ap, ◌∙◌, arith}
+use Rattle.mq_blocks.specs.Drive.{PortImage, PortState, IsQuiescent}
+use Rattle.mq_blocks.specs.Geometry.{area_of, zone_size}
+use Rattle.mq_blocks.specs.declared.geometry.Geometry.{Geometry}
+use Rattle.mq_drive.specs.Emu.{emu_state}
+use Rattle.mq_drive.specs.Start.{IsPortOf, IsImageOf, start_of}
+use Rattle.mq_drive.specs.declared.emu.EmuPort.{EmuPort}
+use Rattle.mq_drive.specs.declared.role.Role.TheVariants.{Queue}
+use Rattle.mq_drive.proofs.Starts.{port_of-start, quiet-start}
+use Rattle.std.proofs.lemmas.Result.{IfOk-weaker}
+use Rattle.mq_test_side.proofs.ports.emulated.Goals as goal
+
+of_one : (g : Geometry) (i : PortImage) → area_of g ≡ 1024 → zone_size g ≡ 240 → length i.slots ≡ 1024 → length i.blocks ≡ 1264 → i.base ≡ 0 → IsImageOf g (Queue 0) i
+of_one g i area zone slots blocks base = record { slots = slots; blocks = omega (arith, blocks, area, zone); words = base }
+
+pub new-requires-clause-image : goal.new-requires-clause-image
+new-requires-clause-image c = of_one c.args.geometry c.in_ok-image.image c.requires.area c.requires.zone c.in_ok-image.ensures.slots c.in_ok-image.ensures.blocks c.in_ok-image.ensures.base
+
+pub returns-clause-port : goal.returns-clause-port
+returns-clause-port c = IfOk-weaker c.new.result _ (λ p. IsPortOf c.args.geometry (Queue 0) (emu_state p))
+    (λ p is. subst (IsPortOf c.args.geometry (Queue 0)) (sym is) (port_of-start c.args.geometry (Queue 0) _ _ _ (of_one c.args.geometry c.in_ok-image.image c.requires.area c.requires.zone c.in_ok-image.ensures.slots c.in_ok-image.ensures.blocks c.in_ok-image.ensures.base)))
+    c.new.ensures.state
+
+pub returns-clause-quiet : goal.returns-clause-quiet
+returns-clause-quiet c = IfOk-weaker c.new.result _ (λ p. IsQuiescent (emu_state p))
+    (λ p is. subst IsQuiescent (sym is) (quiet-start c.args.geometry (Queue 0) _ _ _))
+    c.new.ensures.state
