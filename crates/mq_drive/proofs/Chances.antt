@@ -1,5 +1,5 @@
 -- What an emulated port leaves to chance.
-use Rattle.std.proofs.Common.{◌≡◌, ◌≢◌, ℕ, ◌%◌, ◌*◌, ◌/◌, ◌^◌, slice_index, ◌-◌, ◌+◌, ◌<◌, zero, suc, Bool, true, false, not, cond, eqb, ne_eqb, ltb, ◌≤◌, List, [], ◌∷◌, ◌++◌, set, get_or, length, Option, Some, None, is_some, refl, sym, ◌∙◌, ap, subst, arith, true≢false}
+use Rattle.std.proofs.Common.{◌≡◌, ◌≢◌, ℕ, ◌%◌, ◌*◌, ◌/◌, ◌^◌, slice_index, ◌-◌, ◌+◌, ◌<◌, suc, Bool, true, false, not, cond, eqb, ne_eqb, ◌≤◌, List, [], ◌∷◌, ◌++◌, set, get_or, Option, Some, None, is_some, refl, sym, ◌∙◌, ap, subst, arith, true≢false}
 use Rattle.std.proofs.lemmas.Bool.{lt-ltb, le-ltb}
 use Rattle.std.proofs.lemmas.List.{append-nil, set-get_or}
 use Rattle.std.specs.Int.{to_le_bytes, w32}
@@ -9,9 +9,9 @@ use Rattle.rand_pcg.specs.Lcg.{Lcg}
 use Rattle.rand_pcg.specs.Pcg.{pcg64}
 use Rattle.mq_blocks.specs.declared.command.Command.{Command}
 use Rattle.mq_blocks.specs.declared.command.HomeWrite.{HomeWrite}
-use Rattle.mq_blocks.specs.Drive.{PortState, PortImage, staged_end, index_of}
+use Rattle.mq_blocks.specs.Drive.{PortState, PortImage, depth, staged_end, index_of}
 use Rattle.mq_nvme.specs.Dwords.{AreDwords, dword_bytes}
-use Rattle.mq_drive.specs.Choices.{Chance, torn, next_bytes, next_slot, next_block, without, with_begun, torn_slots, torn_block, torn_blocks, writes_of, by_count, in_doubt, cut_of, generator_of, either_of, dwords_of}
+use Rattle.mq_drive.specs.Choices.{Chance, torn, next_bytes, next_slot, next_block, torn_slots, torn_block, torn_blocks, writes_of, by_count, in_doubt, cut_of, generator_of, either_of, dwords_of}
 use Rattle.mq_drive.specs.Failures.{failed_of, unended_of, while_in, doubt_after, written_by}
 use Rattle.mq_drive.proofs.Doubts.{some_for}
 use Rattle.mq_drive.specs.declared.failing.Failure.{Failure}
@@ -130,10 +130,10 @@ doubt_kept (Some k) at is = ap (λ (b : Bool). cond b None (Some k)) is
 -- ---- what a cut leaves
 
 pub slots_step : (left count : ℕ) (staged slots : List (List ℕ)) (entry : List ℕ) (rng after : Lcg)
-    → (entry, after) ≡ torn next_slot (get_or slots (count % 1024) []) (get_or staged (count % 1024) []) rng
-    → torn_slots left (count + 1) staged (set slots (count % 1024) entry) after ≡ torn_slots (suc left) count staged slots rng
+    → (entry, after) ≡ torn next_slot (get_or slots (count % depth) []) (get_or staged (count % depth) []) rng
+    → torn_slots left (count + 1) staged (set slots (count % depth) entry) after ≡ torn_slots (suc left) count staged slots rng
 slots_step left count staged slots entry rng after is =
-    ap (λ (p : List ℕ × Lcg). torn_slots left (count + 1) staged (set slots (count % 1024) p.0) p.1) is
+    ap (λ (p : List ℕ × Lcg). torn_slots left (count + 1) staged (set slots (count % depth) p.0) p.1) is
 
 -- one block
 pub block_step : (place : ℕ → ℕ) (w : HomeWrite) (writes : List HomeWrite) (at : ℕ) (blocks more : List (Option (List ℕ))) (rng after : Lcg)

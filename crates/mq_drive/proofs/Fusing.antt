@@ -15,7 +15,7 @@ views_stay : (K : Tickets → Type 0) (vs : List Tickets) (id : ℕ) (w : Ticket
 views_stay K vs id w mine others j u e = ⊎_elim (λ (t : (j ≡ id) × (w ≡ u)). subst K t.1 mine) (λ (t : (j ≢ id) × (get_elem? vs j ≡ some u)). others j u t.1) (at_set vs id j w u e)
 
 -- a table at its start
-pub opens : (limit seats : ℕ) → 0 < seats → limit ≤ 9223372036854775808 → seats < 4294967296 → Lawful limit seats (opening (0 ∷ []) [] (fresh seats))
+pub opens : (limit seats : ℕ) → 0 < seats → limit ≤ 2 ^ 63 → seats < 2 ^ 32 → Lawful limit seats (opening (0 ∷ []) [] (fresh seats))
 opens limit seats one low few = record {
   one_word = (0, refl);
   once = λ t. let e = tick_ge t 0 (omega arith) in omega arith;

@@ -1,9 +1,9 @@
 -- A port stays a port of its role.
-use Rattle.std.proofs.Common.{◌≡◌, ◌<◌, ◌≤◌, ℕ, ◌+◌, ◌%◌, true, false, List, [], ◌∷◌, ◌++◌, length, get_or, Some, Result, Ok, Err, inl, inr, ⊎_elim, refl, sym, ◌∙◌, ap, subst, arith, length-append}
+use Rattle.std.proofs.Common.{◌≤◌, ℕ, ◌%◌, true, false, List, [], ◌∷◌, Some, Result, Ok, Err, inl, inr, ⊎_elim, refl, sym, ◌∙◌, subst, arith, length-append}
 use Rattle.std.proofs.lemmas.Bool.{cases_eq}
 use Rattle.std.proofs.lemmas.List.{get_or-set_other}
 use Rattle.std.proofs.Math.ListN.{length-set}
-use Rattle.mq_blocks.specs.Drive.{PortState, IsFlushed, depth, staged_end, counted, index_of, after_stage, after_flush, after_ring, after_done, after_failed, after_store_head, after_begin, after_end}
+use Rattle.mq_blocks.specs.Drive.{PortState, depth, staged_end, index_of, after_stage, after_flush, after_ring, after_done, after_failed, after_begin, after_end}
 use Rattle.mq_blocks.specs.declared.command.Command.{Command}
 use Rattle.mq_blocks.specs.declared.geometry.Geometry.{Geometry}
 use Rattle.mq_nvme.specs.Completion.{status_of}

@@ -17,9 +17,9 @@ pub record Counts : Type 0 where
   pub executed : ℕ
 
 -- the phase of the completion after so many: 1 at first, and inverted at each pass through a
--- completion queue of 1,024
+-- completion queue of the ring's depth
 abbrev pub phase_after : ℕ → Bool
-phase_after completed = nat_eq (completed / 1024 % 2) 0
+phase_after completed = nat_eq (completed / depth % 2) 0
 
 -- the status of the command after so many: Write Fault where it is the one that is to fail, else
 -- success

@@ -1,7 +1,7 @@
 -- The tickets of a fuse: what its seats know, and the rule.
 --
 -- A fuse has one word, the counter, from which each event draws a ticket.
-use Rattle.std.specs.Prelude.{◌≡◌, ◌<◌, ◌≤◌, ℕ, ◌+◌, Bool, true, false, List, [], ◌∷◌, ◌++◌, slice_index, nat_lt, nat_le, nat_eq}
+use Rattle.std.specs.Prelude.{◌≡◌, ◌<◌, ◌≤◌, ℕ, ◌+◌, ◌^◌, Bool, true, false, List, [], ◌∷◌, ◌++◌, slice_index, nat_lt, nat_le, nat_eq}
 use mathlib.Core.Option.{some}
 use lib.ListN.{get_elem?}
 use Rattle.atomic_table.specs.Table.{State, Me, Step}
@@ -50,7 +50,7 @@ pub record Lawful (limit seats : ℕ) (s : State (Unit {0}) Tickets) : Type 0 wh
   pub once : (t : ℕ) → total (λ v. times t v.drawn) s.views ≡ tick (nat_lt t (slice_index s.words 0))
   pub whole : total (λ v. v.seats) s.views ≡ seats
   pub each : (j : ℕ) (v : Tickets) → get_elem? s.views j ≡ some v → Fits limit v
-  pub small : (limit ≤ 9223372036854775808) × (seats < 4294967296)
+  pub small : (limit ≤ 2 ^ 63) × (seats < 2 ^ 32)
 
 -- what the one step tells: the counter's number is the seat's next ticket, and all its tickets differ
 abbrev pub drew : Step (Unit {0}) → Me (Unit {0}) Tickets → ℕ → Me (Unit {0}) Tickets → Type 0

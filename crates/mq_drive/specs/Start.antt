@@ -30,7 +30,7 @@ abbrev pub IsRole : Geometry → Role → Type 0
 IsRole g (Queue q) = q < g.queues
 IsRole g Root = Unit {0}
 
--- a queue has 1,024 slots and base 0; the root has no slots, doorbell 0 and head 0
+-- a queue has as many slots as a ring is deep, and base 0; the root has no slots, doorbell 0 and head 0
 abbrev pub HasWords : Role → PortImage → Type 0
 HasWords (Queue q) i = i.base ≡ 0
 HasWords Root i = (i.doorbell ≡ 0) × (i.head ≡ 0)

@@ -1,6 +1,7 @@
 // What a cut of the power leaves of what is not certain.
 ghost use Rattle.std.specs.Prelude.{◌≡◌, ◌≢◌, ◌<◌, ◌≤◌, ◌-◌, ◌%◌, ℕ, List, [], ◌∷◌, length, true, false, All, Option, None, slice_index_or};
 ghost use Rattle.std.specs.Option.{ForSome, option_to_list};
+ghost use Rattle.mq_blocks.specs.Drive.{depth};
 ghost use Rattle.mq_blocks.specs.declared.command.Command as command;
 ghost use Rattle.mq_drive.specs.Choices.{torn_slots, torn_block, torn_blocks, writes_of, by_count};
 ghost use Rattle.mq_drive.specs.Slots.{index_in};
@@ -9,7 +10,7 @@ use crate::blocks::Blocks;
 use crate::extent::{Extent, block_index};
 use crate::random::either_entry;
 use crate::store::{put_slot, slot_at};
-use mq_blocks::{Command, HomeWrite};
+use mq_blocks::{Command, HomeWrite, RING_DEPTH};
 use mq_nvme::Entry;
 use rand_pcg::Lcg128Xsl64;
 use std::collections::VecDeque;
@@ -24,16 +25,16 @@ pub fn tear_slots(
     rng: &mut Lcg128Xsl64,
 )
     requires same { length flushed.old.items ≡ length staged.now.items }
-    requires ring { from < to → length staged.now.items ≡ 1024 }
+    requires ring { from < to → length staged.now.items ≡ depth }
     ensures len { length flushed.new.items ≡ length flushed.old.items }
     ensures kept { (k : ℕ)
-        → ((c : ℕ) → from ≤ c → c < to → c % 1024 ≢ k)
+        → ((c : ℕ) → from ≤ c → c < to → c % depth ≢ k)
         → slice_index_or flushed.new.items k [] ≡ slice_index_or flushed.old.items k [] }
     ensures chosen { (flushed.new.items, rng.new) ≡ torn_slots (to - from) from staged.now.items
         flushed.old.items rng.old }
 {
     for count in from..to {
-        let k = (count % 1024) as usize;
+        let k = (count % RING_DEPTH as u64) as usize;
         let entry = either_entry(rng, slot_at(flushed, k), slot_at(staged, k));
         put_slot(flushed, k, entry);
     }

@@ -3,13 +3,13 @@ ghost use Rattle.std.specs.Prelude.{◌≡◌, ◌<◌, ◌≤◌, ◌+◌, ◌-
 ghost use Rattle.std.specs.Prelude.{OnOk, OnErr, All, IsSome, IsNone, IsTrue, ◌↔◌, slice_index_or, Some, None, Contains};
 ghost use Rattle.std.specs.Option.{ForSome, option_to_list};
 ghost use Rattle.std.specs.VecDeque.{deque_capacity};
-ghost use Rattle.mq_blocks.specs.Drive.{AreCounted, AreCounted-prop};
+ghost use Rattle.mq_blocks.specs.Drive.{AreCounted, AreCounted-prop, depth, usable_depth};
 ghost use Rattle.mq_drive.specs.Fuse.{above, below, earlier};
 ghost use Rattle.mq_drive.specs.Emulated.{phase_after};
 ghost use Rattle.mq_drive.specs.Failures.{written_by};
 ghost use Rattle.mq_drive.specs.Happened.{happened_by, happened_in};
 ghost use Rattle.mq_drive.specs.Roles.{slots_of, queue_in, id_of};
-ghost use Rattle.mq_drive.specs.Slots.{AreSettled, index_in};
+ghost use Rattle.mq_drive.specs.Slots.{AreSettled, AreStaged, AreStaged-prop, index_in};
 
 use crate::blocks::Blocks;
 use crate::cut::{tear_commands, tear_home, tear_slots};
@@ -19,19 +19,19 @@ use crate::power::Power;
 use crate::random::{choose, either, generator};
 use crate::store::{add, add_all, bump, put_slot, settle, slot_at, take_at};
 use crate::{FuseSeat, HomeStep, Off, Port, PortImage, Role, Step};
-use mq_blocks::{Block, Command, Geometry, HomeWrite, Lba, OutOfMemory};
+use mq_blocks::{Block, Command, Geometry, HomeWrite, Lba, OutOfMemory, RING_DEPTH, USABLE_DEPTH};
 use mq_nvme::{Completion, Ended, Entry, WRITE_FAULT, completion_of};
 use rand_pcg::Lcg128Xsl64;
 use std::alloc::Global;
 use std::collections::VecDeque;
 
 // The phase of the completion after so many: 1 at first, and inverted at each pass through a
-// completion queue of 1,024 (NVM Express 1.4, "Completion Queue Entry").
+// completion queue of the ring's depth (NVM Express 1.4, "Completion Queue Entry").
 fn phase_after(completions: u64) -> bool
-    ensures is { IsTrue result ↔ (completions / 1024 % 2 ≡ 0) }
+    ensures is { IsTrue result ↔ (completions / depth % 2 ≡ 0) }
     ensures phase { result ≡ phase_after completions }
 {
-    completions / 1024 % 2 == 0
+    completions / RING_DEPTH as u64 % 2 == 0
 }
 
 /// A port in memory: its parts, and what holds of them.
@@ -67,13 +67,13 @@ pub struct Device<'f> {
     ghost settled: { AreSettled flushed.items staged.items flushed_end (doorbell + length pending.items) },
     ghost flushed_low: { doorbell ≤ flushed_end },
     ghost flushed_high: { flushed_end ≤ doorbell + length pending.items },
-    ghost pending_room: { 1023 ≤ deque_capacity pending },
-    ghost posted_room: { 1023 ≤ deque_capacity posted },
-    ghost pending_ring: { 0 < length pending.items → length staged.items ≡ 1024 },
-    ghost pending_few: { 0 < length pending.items → doorbell + length pending.items - head ≤ 1023 },
+    ghost pending_room: { usable_depth ≤ deque_capacity pending },
+    ghost posted_room: { usable_depth ≤ deque_capacity posted },
+    ghost pending_ring: { 0 < length pending.items → length staged.items ≡ depth },
+    ghost pending_few: { 0 < length pending.items → doorbell + length pending.items - head ≤ usable_depth },
     ghost pending_last: { 0 < length pending.items → doorbell + length pending.items ≤ 2 ^ 63 },
     ghost pending_order: { 0 < length pending.items → stored_head ≤ doorbell },
-    ghost pending_counted: { AreCounted doorbell (doorbell + length pending.items) pending.items } by { AreCounted-prop doorbell (doorbell + length pending.items) pending.items },
+    ghost pending_counted: { AreStaged doorbell pending.items } by { AreStaged-prop doorbell pending.items },
     ghost pending_own: { All (λ c. (area.first ≤ c.lba)
         × (index_in area.first area.size homes.first c.lba < length blocks.stored.items)) pending.items },
     ghost posted_counted: { AreCounted stored_head doorbell posted.items } by { AreCounted-prop stored_head doorbell posted.items },
@@ -149,9 +149,9 @@ impl<'f> Device<'f> {
             flushed,
             staged: slots,
             flushed_end: doorbell,
-            pending: VecDeque::with_capacity(alloc, 1023)?,
+            pending: VecDeque::with_capacity(alloc, USABLE_DEPTH as usize)?,
             doorbell,
-            posted: VecDeque::with_capacity(alloc, 1023)?,
+            posted: VecDeque::with_capacity(alloc, USABLE_DEPTH as usize)?,
             failure: None,
             head,
             stored_head: head,
@@ -317,7 +317,7 @@ impl<'f> Port for Device<'f> {
         requires next { at ≡ staged_end (device_state self.old) }
         requires below { at < 2 ^ 63 }
         requires order { (device_state self.old).stored_head ≤ (device_state self.old).doorbell }
-        requires room { at - (device_state self.old).head < 1023 }
+        requires room { at - (device_state self.old).head < usable_depth }
         requires write { IsOwnWrite (device_state self.old) at entry }
         ensures ok { OnOk result (device_state self.new ≡ after_stage (device_state self.old) entry
             (tx_of entry) (lba_of entry) block) }
@@ -338,7 +338,7 @@ impl<'f> Port for Device<'f> {
             block,
         };
         add(&mut self.pending, command);
-        put_slot(&mut self.staged, (at % 1024) as usize, entry);
+        put_slot(&mut self.staged, (at % RING_DEPTH as u64) as usize, entry);
         self.events = bump(self.events);
         Ok(())
     }
@@ -404,9 +404,9 @@ impl<'f> Port for Device<'f> {
         let command = take_at(&mut self.posted, at);
         let index = block_index(self.area, self.homes, command.lba);
         let ended = Ended {
-            sq_head: (self.doorbell % 1024) as u16,
+            sq_head: (self.doorbell % RING_DEPTH as u64) as u16,
             sq_id: self.id as u16,
-            cid: (command.count % 1024) as u16,
+            cid: (command.count % RING_DEPTH as u64) as u16,
             phase: phase_after(self.completions),
             status: 0,
         };

@@ -139,7 +139,8 @@ impl<'f> EmuPort<'f> {
 impl<'f> Port for EmuPort<'f> {
     ghost use Rattle.mq_drive.specs.Choices.{StepChooses, HomeChooses};
     ghost use Rattle.mq_drive.specs.Emu.{emu_state, emu_faults, chance_of, counts_of, drawn_by};
-    ghost use Rattle.mq_blocks.specs.Drive.{Owns, IsHome, AreFrom, staged_end, after_stage, after_flush, after_ring, after_store_head, after_store_base};
+    ghost use Rattle.mq_blocks.specs.Drive.{Owns, IsHome, AreFrom, staged_end, after_stage, after_flush};
+    ghost use Rattle.mq_blocks.specs.Drive.{after_ring, after_store_head, after_store_base, usable_depth};
     ghost use Rattle.mq_nvme.specs.Entry.{tx_of, lba_of};
     ghost use Rattle.mq_drive.specs.Emulated.{StepCounts, HomeCounts, StepTickets, HomeTickets};
     ghost use Rattle.mq_drive.specs.Seats.{Happens, IsRefused};
@@ -178,7 +179,7 @@ impl<'f> Port for EmuPort<'f> {
         requires next { at ≡ staged_end (emu_state self.old) }
         requires below { at < 2 ^ 63 }
         requires order { (emu_state self.old).stored_head ≤ (emu_state self.old).doorbell }
-        requires room { at - (emu_state self.old).head < 1023 }
+        requires room { at - (emu_state self.old).head < usable_depth }
         requires write { IsOwnWrite (emu_state self.old) at entry }
         ensures ok { OnOk result (emu_state self.new ≡ after_stage (emu_state self.old) entry (tx_of entry)
             (lba_of entry) block) }

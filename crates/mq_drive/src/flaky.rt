@@ -74,7 +74,8 @@ impl<P: Port> FlakyPort<P> {
 
 impl<P: Port> Port for FlakyPort<P> {
     ghost use Rattle.mq_drive.specs.Flaky.{with_refused};
-    ghost use Rattle.mq_blocks.specs.Drive.{IsHome, AreFrom, staged_end, after_stage, after_flush, after_ring, after_store_head, after_store_base};
+    ghost use Rattle.mq_blocks.specs.Drive.{IsHome, AreFrom, staged_end, after_stage, after_flush, after_ring};
+    ghost use Rattle.mq_blocks.specs.Drive.{after_store_head, after_store_base, usable_depth};
     ghost use Rattle.mq_nvme.specs.Entry.{tx_of, lba_of};
     ghost use Rattle.mq_drive.specs.Steps.{StepGives, HomeGives, OffCause, IsOwnWrite};
 
@@ -111,7 +112,7 @@ impl<P: Port> Port for FlakyPort<P> {
         requires next { at ≡ staged_end (P.state self.old.port) }
         requires below { at < 2 ^ 63 }
         requires order { (P.state self.old.port).stored_head ≤ (P.state self.old.port).doorbell }
-        requires room { at - (P.state self.old.port).head < 1023 }
+        requires room { at - (P.state self.old.port).head < usable_depth }
         requires write { IsOwnWrite (P.state self.old.port) at entry }
         ensures ok { OnOk result (P.state self.new.port ≡ after_stage (P.state self.old.port) entry
             (tx_of entry) (lba_of entry) block) }

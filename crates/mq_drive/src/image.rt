@@ -5,7 +5,7 @@ use std::marker::Model;
 
 /// The content of a port after a power cut: words, ring and blocks. A queue's blocks are those of
 /// its journal area and then of its zone, the root's are the metadata region; `None` is a block of
-/// zeros. A queue has 1,024 slots and base 0; the root has no slots, doorbell 0 and head 0.
+/// zeros. A queue has as many slots as a ring is deep, and base 0; the root has no slots, doorbell 0 and head 0.
 #[derive(Drop)]
 pub struct PortImage {
     pub doorbell: u64,

@@ -2,7 +2,7 @@
 ghost use Rattle.std.specs.Prelude.{◌≡◌, ◌≢◌, ◌⊎◌, ◌<◌, ◌≤◌, ◌+◌, ◌-◌, ◌%◌, ◌^◌, ℕ, List, [], ◌∷◌, length, OnOk, OnErr, IsSome, IsNone, slice_index_or};
 ghost use Rattle.mq_blocks.specs.Blocks.{block_at};
 ghost use Rattle.mq_blocks.specs.Drive.{PortState, Owns, IsHome, IsFlushed, IsCertain, AreFrom, index_of, staged_end, after_stage};
-ghost use Rattle.mq_blocks.specs.Drive.{after_flush, after_ring, after_store_head, after_store_base};
+ghost use Rattle.mq_blocks.specs.Drive.{after_flush, after_ring, after_store_head, after_store_base, usable_depth};
 ghost use Rattle.mq_nvme.specs.Entry.{tx_of, lba_of};
 ghost use Rattle.mq_drive.specs.Roles.{role_of};
 ghost use Rattle.mq_drive.specs.Steps.{Fault, StepGives, HomeGives, OffCause, IsOwnWrite};
@@ -70,7 +70,7 @@ pub trait Port {
         requires next { at ≡ staged_end (state self.old) }
         requires below { at < 2 ^ 63 }
         requires order { (state self.old).stored_head ≤ (state self.old).doorbell }
-        requires room { at - (state self.old).head < 1023 }
+        requires room { at - (state self.old).head < usable_depth }
         requires write { IsOwnWrite (state self.old) at entry }
         ensures ok { OnOk result (state self.new ≡ after_stage (state self.old) entry (tx_of entry)
             (lba_of entry) block) }

@@ -3,10 +3,10 @@ ghost use Rattle.std.specs.Prelude.{◌≡◌, ◌≢◌, ◌<◌, ◌≤◌, �
 ghost use Rattle.std.specs.List.{remove};
 ghost use Rattle.std.specs.VecDeque.{deque_len, deque_capacity};
 ghost use Rattle.mq_blocks.specs.Blocks.{block_at};
-ghost use Rattle.mq_blocks.specs.Drive.{counted};
+ghost use Rattle.mq_blocks.specs.Drive.{counted, depth};
 ghost use Rattle.mq_drive.specs.Slots.{AreSettled};
 
-use mq_blocks::{Block, Command};
+use mq_blocks::{Block, Command, RING_DEPTH};
 use mq_nvme::Entry;
 use std::collections::VecDeque;
 
@@ -97,12 +97,12 @@ pub fn take_at(commands: &mut VecDeque<Command>, at: usize) -> Command
 /// Copies the slots of the counts from `from` up to `to`.
 pub fn settle(flushed: &mut Vec<Entry>, staged: &Vec<Entry>, from: u64, to: u64)
     requires same { length flushed.old.items ≡ length staged.now.items }
-    requires ring { from < to → length staged.now.items ≡ 1024 }
+    requires ring { from < to → length staged.now.items ≡ depth }
     requires settled { AreSettled flushed.old.items staged.now.items from to }
     ensures { flushed.new.items ≡ staged.now.items }
 {
     for count in from..to {
-        let k = (count % 1024) as usize;
+        let k = (count % RING_DEPTH as u64) as usize;
         flushed[k] = staged[k];
     }
 }

@@ -6,13 +6,10 @@ ghost use Rattle.mq_blocks.specs.Windows.{window, number_at, Shows};
 ghost use Rattle.mq_nvme.specs.Dwords.{AreDwords, dword_bytes};
 
 use crate::header::RING;
-use mq_blocks::OutOfMemory;
 use mq_blocks::bytes::u64_at;
+use mq_blocks::{OutOfMemory, RING_DEPTH};
 use mq_nvme::Entry;
 use std::alloc::Global;
-
-/// The slots of a ring.
-const SLOTS: usize = 1_024;
 
 fn entry_at(file: &[u8], at: usize) -> Entry
     requires { at + 64 ≤ length file.now }
@@ -31,8 +28,8 @@ pub fn read_slots(alloc: Global, file: &[u8], at: usize) -> Result<Vec<Entry>, O
     ensures dwords { IfOk result (λ v. All (λ e. AreDwords 16 e) v.items) }
     ensures bytes { IfOk result (λ v. flat_map dword_bytes v.items ≡ window file.now at 65536) }
 {
-    let mut slots = Vec::with_capacity(alloc, SLOTS)?;
-    for slot in 0..SLOTS {
+    let mut slots = Vec::with_capacity(alloc, RING_DEPTH as usize)?;
+    for slot in 0..RING_DEPTH as usize {
         slots.push(entry_at(file, at + 64 * slot))?;
     }
     Ok(slots)

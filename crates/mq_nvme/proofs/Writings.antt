@@ -1,5 +1,6 @@
 -- What entries are that are written field by field.
 use Rattle.std.proofs.Common.{◌≡◌, ◌<◌, ℕ, ◌+◌, ◌*◌, ◌/◌, ◌%◌, ◌^◌, [], ◌∷◌, Bool, true, false, not, if◌then◌else◌, refl, arith}
+use Rattle.mq_blocks.specs.Drive.{depth}
 use Rattle.mq_nvme.specs.Completion.{completion_of}
 use Rattle.mq_nvme.specs.Entry.{blank, entry_of}
 use Rattle.mq_nvme.specs.Field.{place, set_field, with_bits}
@@ -26,7 +27,7 @@ pub completion_written : (x : Ended) → x.sq_head < 2 ^ 16 → x.sq_id < 2 ^ 16
 unfolding set_field completion_of
 completion_written x h i c s = rw (head x.sq_head x.sq_id h i, last x.phase x.cid x.status c s) refl
 
-first : (slot : ℕ) → slot < 1024 → with_bits 16 16 slot (with_bits 0 8 1 0) ≡ 1 + 65536 * slot
+first : (slot : ℕ) → slot < depth → with_bits 16 16 slot (with_bits 0 8 1 0) ≡ 1 + 65536 * slot
 unfolding with_bits
 first slot h = omega arith
 
@@ -39,7 +40,7 @@ unfolding with_bits
 marks true = refl
 marks false = refl
 
-pub entry_written : (r : WriteReq) → r.slot < 1024
+pub entry_written : (r : WriteReq) → r.slot < depth
     → set_field (place 12 30 1) 1 (set_field (place 12 17 1) (bit r.commit) (set_field (place 12 16 1) (bit (not r.commit))
     (set_field (place 11 0 32) (r.lba / 2 ^ 32) (set_field (place 10 0 32) (r.lba % 2 ^ 32)
     (set_field (place 6 0 32) (4096 * r.slot) (set_field (place 3 0 32) (r.tx / 2 ^ 32) (set_field (place 2 0 32) (r.tx % 2 ^ 32)

@@ -1,5 +1,6 @@
 -- Submission queue entries as lists of 16 dwords (NVM Express 1.4, "Submission Queue Entry").
 use Rattle.std.specs.Prelude.{◌≡◌, ◌<◌, ◌≤◌, ℕ, ◌+◌, ◌*◌, ◌/◌, ◌%◌, ◌^◌, List, [], ◌∷◌, ◌++◌, Bool, ◌==◌, ◌||◌, nat_lt, if◌then◌else◌, Option, Some, None, slice_index}
+use Rattle.mq_blocks.specs.Drive.{depth}
 use Rattle.mq_nvme.specs.declared.write.WriteReq.{WriteReq}
 use Rattle.mq_nvme.specs.declared.write.EntryRefusal.{EntryRefusal}
 use Rattle.mq_nvme.specs.declared.write.EntryRefusal.TheVariants.{Opcode, Namespace, Count, Flags}
@@ -36,7 +37,7 @@ request_of e = record { tx = tx_of e; slot = slot_of e; lba = lba_of e; commit =
 
 -- the requests that have an entry
 pub record IsRequest (r : WriteReq) : Type 0 where
-  pub slot : r.slot < 1024
+  pub slot : r.slot < depth
   pub tx_low : 1 ≤ r.tx
   pub tx_high : r.tx < 2 ^ 64
   pub lba : r.lba < 2 ^ 64
@@ -72,7 +73,7 @@ block_rules =
 unfoldable pub common_rules : List Rule
 common_rules =
     record { holds = λ e. slice_index e 0 / 256 % 256 == 0; refusal = flags 0 }
-    ∷ record { holds = λ e. nat_lt (slot_of e) 1024; refusal = flags 0 }
+    ∷ record { holds = λ e. nat_lt (slot_of e) depth; refusal = flags 0 }
     ∷ record { holds = λ e. nat_lt 0 (tx_of e); refusal = flags 2 }
     ∷ zero_at 4
     ∷ zero_at 5

@@ -64,7 +64,7 @@ impl Entry {
     }
 
     /// Whether this is the last request of its transaction, by bit 17 of dword 12.
-    #[tactic(auto, using(crate::proofs::Readings::whole), unfolding(crate::specs::Entry::is_commit, crate::specs::Field::get_field, crate::specs::Field::bits_of))]
+    #[tactic(auto, unfolding(crate::specs::Entry::is_commit, crate::specs::Field::get_field, crate::specs::Field::bits_of))]
     pub fn is_commit(&self) -> bool
         ensures { result ≡ is_commit self.now }
     {

@@ -1,5 +1,6 @@
 // Write commands.
 ghost use Rattle.std.specs.Prelude.{◌≡◌, ◌<◌, ◌≤◌, ◌↔◌, ◌==◌, ◌||◌, ◌+◌, ◌/◌, ◌%◌, ◌^◌, IfOk, None, slice_index};
+ghost use Rattle.mq_blocks.specs.Drive.{depth};
 ghost use Rattle.mq_nvme.specs.Entry.{entry_of, request_of, flags, block_rules, common_rules, command_rules, first_refusal, refusal_of, IsWrite};
 
 use crate::fields::{
@@ -7,6 +8,7 @@ use crate::fields::{
     Prp2High, Prp2Low, Psdt, ReqTx, ReqTxCommit, SlbaHigh, SlbaLow, TxHigh, TxLow,
 };
 use crate::{Dwords, Entry, Field};
+use mq_blocks::RING_DEPTH;
 
 // What the standard reserves of command dword 0: bits 13:10.
 type Reserved = Field<0, 10, 4>;
@@ -20,7 +22,7 @@ type Unused = Field<12, 18, 12>;
 pub struct WriteReq {
     /// The number of the transaction, from 1 on.
     pub tx: u64,
-    /// The slot of the submission queue, below 1,024, which is the command identifier too.
+    /// The slot of the submission queue, below the ring's depth, which is the command identifier too.
     pub slot: u16,
     /// The starting logical block.
     pub lba: u64,
@@ -45,7 +47,7 @@ pub enum EntryRefusal {
 /// of the transaction and bit 16 in the ones before it.
 #[tactic(auto, unfolding(crate::specs::Entry::entry_of))]
 pub fn write_of(req: &WriteReq) -> Entry
-    requires slot { req.now.slot < 1024 }
+    requires slot { req.now.slot < depth }
     requires tx { 1 ≤ req.now.tx }
     ensures is { result ≡ entry_of req.now }
     ensures write { IsWrite result req.now }
@@ -108,7 +110,7 @@ fn refusal(entry: &Entry) -> Option<EntryRefusal>
 }
 
 // The refusal of what isn't a write of one logical block to namespace 1.
-#[tactic(auto, using(crate::proofs::Readings::whole, crate::proofs::Readings::opcode_is, crate::proofs::Readings::count_is), unfolding(crate::specs::Entry::block_rules))]
+#[tactic(auto, using(crate::proofs::Readings::block_fields), unfolding(crate::specs::Entry::block_rules))]
 fn block_refusal(entry: &Entry) -> Option<EntryRefusal>
     ensures { result ≡ first_refusal block_rules entry.now }
 {
@@ -144,7 +146,7 @@ fn common_refusal(entry: &Entry) -> Option<EntryRefusal>
         return Some(flags(entry, 0));
     }
     let slot = Cid::get(entry);
-    if slot >= 1024 {
+    if slot >= RING_DEPTH {
         return Some(flags(entry, 0));
     }
     if entry.tx() == 0 {
@@ -218,7 +220,7 @@ mod tests {
     use super::*;
 
     fn request() -> WriteReq
-        ensures slot { result.slot < 1024 }
+        ensures slot { result.slot < depth }
         ensures tx { 1 ≤ result.tx }
     {
         WriteReq {

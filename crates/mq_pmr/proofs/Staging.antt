@@ -80,7 +80,7 @@ not_last (i ∷ is) some = refl
 pub none_more : (s : PortState) (tx : ℕ) (items : Items) → after_some s tx 0 items ≡ s
 none_more s tx items = ap (λ (p : List Command). record s { pending = p }) (append-nil s.pending)
 
--- a count of the ring's next 1,023 has another slot than the one before them
+-- a count of the ring's next usable slots has another slot than the one before them
 pub other_slot : (head c : ℕ) → 0 < head → head ≤ c → c < head + usable_depth → c % depth ≢ (head - 1) % depth
 other_slot head c some low high same = omega (arith, some, low, high, same)
 

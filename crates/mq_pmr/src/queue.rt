@@ -1,5 +1,6 @@
 // A queue in persistent memory.
-ghost use Rattle.std.specs.Prelude.{◌≡◌, ◌≢◌, ◌⊎◌, ◌<◌, ◌≤◌, ◌+◌, ◌-◌, ◌%◌, ◌++◌, ℕ, List, [], ◌∷◌, length, OnOk, OnErr, IfOk, IfErr, IsSome, Some, None, slice_index_or, reverse, if◌then◌else◌};
+ghost use Rattle.std.specs.Prelude.{◌≡◌, ◌≢◌, ◌⊎◌, ◌<◌, ◌≤◌, ◌+◌, ◌-◌, ◌%◌, ◌++◌, ℕ, List, [], ◌∷◌, length, OnOk, OnErr};
+ghost use Rattle.std.specs.Prelude.{IfOk, IfErr, IsSome, Some, None, slice_index_or, reverse, if◌then◌else◌};
 ghost use Rattle.std.specs.VecDeque.{deque_capacity};
 ghost use Rattle.mq_blocks.specs.Drive.{PortState, IsHome, Owns, staged_end, after_stage, after_flush, after_ring, after_store_head, depth, usable_depth};
 ghost use Rattle.mq_blocks.specs.Journal.{number_limit};
@@ -50,7 +51,16 @@ pub struct PmrQueue<P: Port> {
     // the number of the transaction that is staged whole and not rung; none also where a part of one is
     // staged
     staged: Option<u64>,
-    ghost fits: { Fits (P.state port) (record { slots = slots.items; end = end; head = head; stored_head = stored_head; passed = passed; done = done; rung = rung.items; staged = staged }) },
+    ghost fits: { Fits (P.state port) (record {
+      slots = slots.items;
+      end = end;
+      head = head;
+      stored_head = stored_head;
+      passed = passed;
+      done = done;
+      rung = rung.items;
+      staged = staged;
+    }) },
     ghost own: { IsRingOf geometry queue (P.state port) },
     ghost ends: { AreEnds done.end (P.state port).doorbell rung.items } by { AreEnds-prop done.end (P.state port).doorbell rung.items },
     ghost written: { IsWritten (P.state port) slots.items done.end end },

@@ -4,6 +4,7 @@
 
 mod machine;
 mod open;
+mod side;
 mod write;
 
 pub use machine::{Commit, PortMachine, QueuePort, RootPort};

@@ -2,7 +2,8 @@
 ghost use Rattle.std.specs.Prelude.{◌≡◌, ℕ, ◌<◌, ◌≤◌, ◌^◌, Some, IfOk, slice_get, vec_len};
 ghost use Rattle.mq_turns.specs.AtDesk.{AtDesk, view, start_of, chairs_of};
 ghost use Rattle.mq_turns.specs.Desk.{fresh};
-ghost use Rattle.mq_port_desk.specs.Opening.{IsFresh};
+ghost use Rattle.mq_rules.specs.Opening.{IsFresh};
+ghost use Rattle.mq_port_desk.specs.Machine.{commits, port_values};
 
 use crate::machine::{PortMachine, QueuePort, RootPort};
 use mq_blocks::{OutOfMemory, TxNo};
@@ -25,7 +26,8 @@ pub fn open_desk<P: Port + Drop>(
     requires chairs { 0 < chairs }
     requires base { base ≤ 2 ^ 62 }
     requires few { (vec_len cells < 2 ^ 32) × (vec_len queues < 2 ^ 32) }
-    requires fresh { IsFresh P.state (record { pages = cells.items; sides = queues.items; root = root; base = base }) }
+    requires fresh { IsFresh (port_values P.state P.faults) commits
+        (record { pages = cells.items; sides = queues.items; root = root; base = base }) }
     ensures desk { IfOk result (λ d. (start_of d.0 ≡ record { pages = cells.items; sides = queues.items; root = root; base = base })
         × (chairs_of d.0 ≡ chairs)) }
     ensures chairs { IfOk result (λ d. (vec_len d.1 ≡ chairs)

@@ -1,4 +1,4 @@
-mod Added
+pub mod Added
 mod Along
 pub mod Staying
 pub mod Settled

@@ -91,7 +91,7 @@ module _ {Q R E : Type 0} (values : Values Q R E) (group : Group E) (o : Opening
         let there = at_map values.port o.sides q w no_port at in
         let many = length-map o.sides values.port in
         let all = fresh.start.ports in
-        let own : q < (values.geometry o.root).queues = let lt = there.1 in omega arith in
+        let own : q < (Rule.shape_of values group o).queues = let lt = there.1 in omega arith in
         record {
           port = side q (values.port w) (subst (λ p. SideOk k q [] p) there.0 (facts.sides q own));
           stored = fresh.stored q w at;
@@ -102,7 +102,7 @@ module _ {Q R E : Type 0} (values : Values Q R E) (group : Group E) (o : Opening
         let base_is = fresh.start.base in
         let stored_is = fresh.start.stored_base in
         record {
-          geometry_is = refl;
+          says = fresh.shape;
           port = record {
             port = record { port = facts.root.port; posted = facts.root.posted; bases = (omega arith, omega arith); homes = homes None (values.root o.root) facts.root.homes };
             flushed = subst (λ b. BaseOk core b) (sym base_is) base;

@@ -80,7 +80,7 @@ module _ {Q R E : Type 0} (values : Values Q R E) (group : Group E) where
 
     core_grows : core L ≡ later
     core_grows = let o = g.opening in let h = history_grows in λ i. record {
-      geometry = values.geometry (o i).root;
+      geometry = Rule.shape_of values group (o i);
       entries = journal_entries;
       start = start_of values group (o i);
       base = (o i).base;
@@ -164,7 +164,7 @@ module _ {Q R E : Type 0} (values : Values Q R E) (group : Group E) where
       let F : KnownJournal × List Tx → Type 0 = λ z. SideOk z.0 q z.1 (values.port w) in
       let says = values.later (Rule.part_of values group q K) L.word w s.grows.word is.says in
       let part : record (Rule.part_of values group q K) { word = L.word } ≡ Rule.part_of values group q L = λ i. record {
-        geometry = values.geometry (sym o i).root;
+        geometry = Rule.shape_of values group (sym o i);
         queue = q;
         start = doorbell_of values group (sym o i) q;
         opened = port_of values group (sym o i) q;
@@ -179,7 +179,7 @@ module _ {Q R E : Type 0} (values : Values Q R E) (group : Group E) where
         charged = λ f.
             let was = is.charged f in
             let start : tally f (faults_of values group L.opening q) ≡ tally f (faults_of values group K.opening q) = ap (λ p. tally f (faults_of values group p q)) o in
-            let charges : charged_to (geometry_of values group L) (Side q) f L.charges ≡ charged_to (geometry_of values group K) (Side q) f K.charges = (λ i. charged_to (values.geometry (o i).root) (Side q) f (s.grows.charges i)) ∙ charged_apart (geometry_of values group K) (Side q) f s.grows.blamed K.charges s.charges in
+            let charges : charged_to (geometry_of values group L) (Side q) f L.charges ≡ charged_to (geometry_of values group K) (Side q) f K.charges = (λ i. charged_to (Rule.shape_of values group (o i)) (Side q) f (s.grows.charges i)) ∙ charged_apart (geometry_of values group K) (Side q) f s.grows.blamed K.charges s.charges in
             omega arith;
       }
 
@@ -192,7 +192,7 @@ module _ {Q R E : Type 0} (values : Values Q R E) (group : Group E) where
       (λ x v zone e. due_apart K L s.grows x v (each_map _ _ (λ h n. not_home (geometry_of values group K) None x zone h n) s.grows.written s.ended) e) is.port.port in
       let later_base : (b : ℕ) → BaseOk (core K) b → BaseOk (core L) b = λ b. base_later (core K) (core L) b k.log l.log (core_grown K L s.grows) in
       record {
-        geometry_is = is.geometry_is ∙ ap (λ p. values.geometry p.root) (sym o);
+        says = subst (λ g. values.root_says g r) (ap (Rule.shape_of values group) (sym o)) is.says;
         port = record {
           port = subst (λ z. RootOk z (values.root r)) (sym core_is) port;
           flushed = later_base (values.root r).base is.port.flushed;
@@ -201,7 +201,7 @@ module _ {Q R E : Type 0} (values : Values Q R E) (group : Group E) where
         charged = λ f.
             let was = is.charged f in
             let start : tally f (values.root_faults L.opening.root) ≡ tally f (values.root_faults K.opening.root) = ap (λ p. tally f (values.root_faults p.root)) o in
-            let charges : charged_to (geometry_of values group L) Root f L.charges ≡ charged_to (geometry_of values group K) Root f K.charges = (λ i. charged_to (values.geometry (o i).root) Root f (s.grows.charges i)) ∙ charged_apart (geometry_of values group K) Root f s.grows.blamed K.charges s.charges in
+            let charges : charged_to (geometry_of values group L) Root f L.charges ≡ charged_to (geometry_of values group K) Root f K.charges = (λ i. charged_to (Rule.shape_of values group (o i)) Root f (s.grows.charges i)) ∙ charged_apart (geometry_of values group K) Root f s.grows.blamed K.charges s.charges in
             omega arith;
       }
 

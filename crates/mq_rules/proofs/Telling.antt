@@ -114,7 +114,7 @@ module _ {Q R E : Type 0} (values : Values Q R E) (group : Group E) where
       }
 
   pub root_raised : (b : ℕ) (K : Desk) (r : R) → IsOk values group K → IsRoot values group K r → K.word ≤ b → b ≤ (values.root r).base → IsRoot values group (raised b K) r
-  root_raised b K r ok is up low = record { geometry_is = is.geometry_is; port = stands_raised (core K) b (values.root r) ok.log is.port up low; charged = is.charged }
+  root_raised b K r ok is up low = record { says = is.says; port = stands_raised (core K) b (values.root r) ok.log is.port up low; charged = is.charged }
 
   -- ---- charges
 

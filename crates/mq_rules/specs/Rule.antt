@@ -52,8 +52,11 @@ module _ {Q R E : Type 0} (values : Values Q R E) (group : Group E) where
   abbrev pub faults_of : Opening PageCell Q R → ℕ → List Fault
   faults_of o q = slice_index_or (map values.faults o.sides) q []
 
+  abbrev pub shape_of : Opening PageCell Q R → Geometry
+  shape_of o = values.geometry o.sides o.root
+
   abbrev pub geometry_of : Desk → Geometry
-  geometry_of K = values.geometry K.opening.root
+  geometry_of K = shape_of K.opening
 
   -- ---- the history
 
@@ -113,8 +116,8 @@ module _ {Q R E : Type 0} (values : Values Q R E) (group : Group E) where
   -- a home write is about its page and the port that has the block
   abbrev pub lies : Lie PageCell Q R
   lies o h (Page b) = nat_eq h.0 b
-  lies o h (Side q) = same_port (zone_of (values.geometry o.root) h.0) (Some q)
-  lies o h Root = same_port (zone_of (values.geometry o.root) h.0) None
+  lies o h (Side q) = same_port (zone_of (shape_of o) h.0) (Some q)
+  lies o h Root = same_port (zone_of (shape_of o) h.0) None
 
   -- what is known grew, and nothing of it is about the turn
   abbrev pub Stay : Turn → Desk → Desk → Type 0
@@ -150,7 +153,7 @@ module _ {Q R E : Type 0} (values : Values Q R E) (group : Group E) where
 
   -- The flushed and the stored base are bases, not below the base word.
   pub record IsRoot (K : Desk) (r : R) : Type 0 where
-    pub geometry_is : values.geometry r ≡ geometry_of K
+    pub says : values.root_says (geometry_of K) r
     pub port : RootStands (core_of K) (values.root r)
     pub charged : AreCharged (geometry_of K) Root K.charges (values.root_faults K.opening.root) (values.root_faults r)
 

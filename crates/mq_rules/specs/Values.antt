@@ -25,9 +25,11 @@ pub record Values (Q R E : Type 0) : Type 1 where
   pub faults : Q → List Fault
   pub stored : Q → List (ℕ × E)
   pub says : Part → Q → Type 0
-  -- of the root: its port, the faults of the port, and the shape of the drive
+  -- of the root: its port, the faults of the port, and what the rest of its record says of the shape of the drive
   pub root : R → PortState
   pub root_faults : R → List Fault
-  pub geometry : R → Geometry
+  pub root_says : Geometry → R → Type 0
+  -- the shape of the drive, by the sides and the root that a desk was opened with
+  pub geometry : List Q → R → Geometry
   -- the law: a later base word takes nothing away
   pub later : (p : Part) (word : ℕ) (w : Q) → p.word ≤ word → says p w → says (record p { word = word }) w

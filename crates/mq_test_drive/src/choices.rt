@@ -3,7 +3,7 @@ use crate::drive::{
     QUEUE, ended, filled, fresh, holds, is_blank, is_drawn, one_queue, post, powered, three,
     two_queues, two_steps, write,
 };
-use mq_blocks::{Lba, OutOfMemory, QueueNo};
+use mq_blocks::{Lba, OutOfMemory, QueueNo, RING_DEPTH};
 use mq_drive::{EmuPort, HomeStep, Off, Port, PortImage, Role, Step};
 use std::alloc::Global;
 use std::process::Abort;
@@ -22,7 +22,7 @@ struct Doubt {
 
 fn in_doubt(rt: &impl Abort, alloc: Global, seed: u64, pick: u64) -> Result<Doubt, OutOfMemory> {
     let geometry = one_queue().expect(rt, "a geometry");
-    let image = fresh(alloc, 1024, 1264)?;
+    let image = fresh(alloc, RING_DEPTH as usize, 1264)?;
     let (blocks, nine) = (three(alloc)?, filled(alloc, 9)?);
     let (fuse, seat) = powered(alloc, Some(8))?;
     let mut port = EmuPort::new(alloc, &fuse, seat, geometry, QUEUE, image, Some(2), seed)?;
@@ -82,7 +82,7 @@ fn a_cut_chooses_of_slots(rt: HostRuntime) -> Result<(), OutOfMemory> {
         (5, 10687978544412273069, 10765868234212061531),
     ];
     for (pick, first, last) in drawn {
-        let mut image = fresh(alloc, 1024, 1264)?;
+        let mut image = fresh(alloc, RING_DEPTH as usize, 1264)?;
         image.doorbell = 1;
         let (three, four) = (filled(alloc, 3)?, filled(alloc, 4)?);
         let (fuse, seat) = powered(alloc, None)?;
@@ -110,7 +110,7 @@ fn the_second_queue_has_its_own_order(rt: HostRuntime) -> Result<(), OutOfMemory
     let geometry = two_queues().expect(&rt, "a geometry");
     let orders = [(3, 1, 0, 2), (1, 1, 2, 0), (u64::MAX, 0, 2, 1)];
     for (seed, first, second, third) in orders {
-        let image = fresh(alloc, 1024, 1264)?;
+        let image = fresh(alloc, RING_DEPTH as usize, 1264)?;
         let blocks = three(alloc)?;
         let (fuse, seat) = powered(alloc, None)?;
         let role = Role::Queue(QueueNo(1));

@@ -1,6 +1,7 @@
 // What the drives of the tests are made of, and what is asked of their images.
 ghost use Rattle.std.specs.Prelude.{◌≡◌, ◌<◌, ◌≤◌, ◌+◌, ◌^◌, [], length, false, IfOk, IsSome};
 ghost use Rattle.std.specs.Option.{ForSome};
+ghost use Rattle.mq_blocks.specs.Drive.{depth};
 ghost use Rattle.mq_blocks.specs.Geometry.{queues_of, area_of, meta_of, zone_size};
 ghost use Rattle.mq_drive.specs.Emu.{emu_state};
 ghost use Rattle.mq_drive.specs.Seats.{name_of, fuse_of, tickets_of};
@@ -72,7 +73,7 @@ pub fn filled(alloc: Global, byte: u8) -> Result<Block, OutOfMemory> {
 
 /// The write of transaction 7 in this slot.
 pub fn write(at: u16, lba: u64) -> Entry
-    requires { at < 1024 }
+    requires { at < depth }
     ensures { result ≡ entry_of (record { tx = 7; slot = at; lba = lba; commit = false }) }
 {
     write_of(&WriteReq {

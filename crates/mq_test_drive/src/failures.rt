@@ -3,7 +3,7 @@ use crate::drive::{
     QUEUE, ended, filled, fresh, holds, is_blank, is_drawn, one_queue, post, powered, three,
     two_steps,
 };
-use mq_blocks::{Lba, OutOfMemory};
+use mq_blocks::{Lba, OutOfMemory, RING_DEPTH};
 use mq_drive::{EmuPort, HomeStep, Port, Role};
 
 #[test]
@@ -72,7 +72,7 @@ fn a_write_of_another_block_leaves_the_doubt(rt: HostRuntime) -> Result<(), OutO
 fn the_third_command_fails(rt: HostRuntime) -> Result<(), OutOfMemory> {
     let alloc = rt.alloc();
     let geometry = one_queue().expect(&rt, "a geometry");
-    let image = fresh(alloc, 1024, 1264)?;
+    let image = fresh(alloc, RING_DEPTH as usize, 1264)?;
     let blocks = three(alloc)?;
     let (fuse, seat) = powered(alloc, None)?;
     let mut port = EmuPort::new(alloc, &fuse, seat, geometry, QUEUE, image, Some(3), 4)?;

@@ -1,6 +1,6 @@
 // A port from a fresh image to a cut, and from an image on.
 use crate::drive::{QUEUE, ended, filled, fresh, holds, is_blank, one_queue, powered, write};
-use mq_blocks::{Block, Lba, OutOfMemory};
+use mq_blocks::{Block, Lba, OutOfMemory, RING_DEPTH};
 use mq_drive::{EmuPort, HomeStep, Port, PortImage, Role, Step};
 use mq_nvme::Entry;
 
@@ -18,7 +18,7 @@ fn is_written(image: &PortImage) -> bool {
 fn what_is_rung_is_done(rt: HostRuntime) -> Result<(), OutOfMemory> {
     let alloc = rt.alloc();
     let geometry = one_queue().expect(&rt, "a geometry");
-    let image = fresh(alloc, 1024, 1264)?;
+    let image = fresh(alloc, RING_DEPTH as usize, 1264)?;
     let (three, four) = (filled(alloc, 3)?, filled(alloc, 4)?);
     let (fuse, seat) = powered(alloc, None)?;
     let mut port = EmuPort::new(alloc, &fuse, seat, geometry, QUEUE, image, None, 4)?;
@@ -41,7 +41,7 @@ fn what_is_rung_is_done(rt: HostRuntime) -> Result<(), OutOfMemory> {
 fn a_port_starts_from_an_image(rt: HostRuntime) -> Result<(), OutOfMemory> {
     let alloc = rt.alloc();
     let geometry = one_queue().expect(&rt, "a geometry");
-    let mut image = fresh(alloc, 1024, 1264)?;
+    let mut image = fresh(alloc, RING_DEPTH as usize, 1264)?;
     image.doorbell = 2;
     image.slots[1] = write(1, 1044);
     image.blocks[1028] = Some(filled(alloc, 4)?);
@@ -66,7 +66,7 @@ fn a_port_starts_from_an_image(rt: HostRuntime) -> Result<(), OutOfMemory> {
 fn a_cut_before_the_flush(rt: HostRuntime) -> Result<(), OutOfMemory> {
     let alloc = rt.alloc();
     let geometry = one_queue().expect(&rt, "a geometry");
-    let mut image = fresh(alloc, 1024, 1264)?;
+    let mut image = fresh(alloc, RING_DEPTH as usize, 1264)?;
     image.doorbell = 1;
     let three = filled(alloc, 3)?;
     let (fuse, seat) = powered(alloc, None)?;

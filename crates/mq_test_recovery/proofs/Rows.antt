@@ -2,7 +2,7 @@
 use Rattle.std.proofs.Common.{◌≡◌, ◌≢◌, ◌<◌, ◌≤◌, ◌⊎◌, inl, inr, ⊎_elim, ℕ, zero, suc, ◌+◌, ◌-◌, ◌%◌, List, [], ◌∷◌, ◌++◌, length, Option, Some, None, refl, sym, ◌∙◌, ap, subst, arith, append_assoc, add-one}
 use Rattle.std.specs.Prelude.{IsSome, IfSome, IfOk, Result, Ok, Err, if◌then◌else◌}
 use Rattle.mq_blocks.specs.Descriptor.{Descriptor}
-use Rattle.mq_blocks.specs.Drive.{depth}
+use Rattle.mq_blocks.specs.Drive.{depth, usable_depth}
 use Rattle.mq_blocks.specs.Journal.{Shown, Has, Holds, IsChain, AreInRow, IsQueueChain, IsCommit, Reaches, Says, logged_copy, is_among, or_else, stands, number_limit}
 use Rattle.mq_blocks.specs.declared.geometry.Geometry.{Geometry}
 use Rattle.mq_test_recovery.specs.Plain.{found, with_found, row_of, IsOf, AreOf, IsChainFrom}
@@ -118,7 +118,7 @@ chain-more g i q number place from_number from_place ds more txs d above holds i
 -- head and doorbell are as they must be, and the entries between them
 pub record IsRung (i : Shown) (q head doorbell : ℕ) : Type 0 where
   pub order : head ≤ doorbell
-  pub few : doorbell - head ≤ 1023
+  pub few : doorbell - head ≤ usable_depth
   pub low : doorbell ≤ number_limit
   pub each : (c : ℕ) → head ≤ c → c < doorbell → (s : Says) × (i.entry q (c % depth) ≡ Some s) × (s.0 ≤ number_limit)
   pub whole : head < doorbell → (n : ℕ) × (l : ℕ) × IsCommit i q (doorbell - 1) n l

@@ -1,6 +1,6 @@
 // The chain of the queue, as a list of descriptors. None is an image that is not readable.
 ghost use Rattle.std.specs.Prelude.{◌≡◌, ◌<◌, ◌≤◌, ◌-◌, ◌%◌, ◌^◌, ℕ, true, length, IfOk, IfSome, IsTrue, Some};
-ghost use Rattle.mq_blocks.specs.Drive.{depth};
+ghost use Rattle.mq_blocks.specs.Drive.{depth, usable_depth};
 ghost use Rattle.mq_blocks.specs.Geometry.{area_lba};
 ghost use Rattle.mq_blocks.specs.Journal.{Says, IsChain, AreInReach, Holds, IsCommit, IsQueueChain, number_limit};
 ghost use Rattle.mq_test_recovery.specs.Plain.{AreOf, IsChainFrom};
@@ -8,7 +8,7 @@ ghost use Rattle.mq_drive.specs.Views.{IsQuiescentPair, view_of};
 
 use crate::ports::{read_area, request_at};
 use mq_area::{Descriptor, DescriptorRefusal, Expect, PlaceIs, read_descriptor};
-use mq_blocks::{Block, Geometry, OutOfMemory, QueueNo, TxNo};
+use mq_blocks::{Block, Geometry, OutOfMemory, QueueNo, TxNo, USABLE_DEPTH};
 use mq_drive::Port;
 use mq_nvme::WriteReq;
 use std::alloc::Global;
@@ -43,9 +43,9 @@ pub fn read_chain<P: Port>(
 
 // Whether head and doorbell are as they must be.
 fn are_words(head: u64, doorbell: u64) -> bool
-    ensures { IsTrue result → ((head ≤ doorbell) × (doorbell - head ≤ 1023) × (doorbell ≤ number_limit)) }
+    ensures { IsTrue result → ((head ≤ doorbell) × (doorbell - head ≤ usable_depth) × (doorbell ≤ number_limit)) }
 {
-    head <= doorbell && doorbell - head <= 1023 && doorbell <= LIMIT
+    head <= doorbell && doorbell - head <= USABLE_DEPTH as u64 && doorbell <= LIMIT
 }
 
 // Whether the entries from head to doorbell are requests, and the last a commit request.

@@ -4,7 +4,7 @@ ghost use Rattle.mq_blocks.specs.Drive.{depth};
 ghost use Rattle.mq_blocks.specs.Geometry.{area_of, homes_of};
 ghost use Rattle.mq_drive.specs.Views.{IsQuiescentPair, view_of};
 
-use mq_blocks::{Block, BlockNo, Geometry, QueueNo};
+use mq_blocks::{Block, BlockNo, Geometry, QueueNo, RING_DEPTH};
 use mq_drive::Port;
 use mq_nvme::{WriteReq, read_write};
 
@@ -14,7 +14,7 @@ pub fn request_at<P: Port>(geometry: Geometry, queue: &P, root: &P, count: u64) 
     ensures { IfSome result (λ r. (view_of geometry (P.state queue.now) (P.state root.now)).entry 0
         (count % depth) ≡ Some (r.tx, r.lba, r.commit)) }
 {
-    let entry = queue.read_slot((count % 1024) as u32);
+    let entry = queue.read_slot((count % RING_DEPTH as u64) as u32);
     match read_write(&entry) {
         Ok(request) => Some(request),
         Err(_) => None,

@@ -1,9 +1,10 @@
 // What stands on a small drive, by the blocks of its queue.
 ghost use Rattle.std.specs.Prelude.{◌≡◌, ◌<◌, ◌≤◌, ◌+◌, length, IfOk};
+ghost use Rattle.mq_blocks.specs.Descriptor.{list_limit};
 
 use crate::{PlainStanding, plain_standing};
 use mq_area::{Descriptor, write_descriptor};
-use mq_blocks::{Block, BlockNo, Geometry, OutOfMemory, QueueNo};
+use mq_blocks::{Block, BlockNo, Geometry, OutOfMemory, QueueNo, RING_DEPTH};
 use mq_drive::{EmuPort, Fuse, PortImage, Role};
 use mq_nvme::{Entry, WriteReq, write_of};
 use std::alloc::Global;
@@ -23,7 +24,7 @@ fn filled(alloc: Global, index: usize, byte: u8) -> Result<Stored, OutOfMemory> 
 }
 
 fn described(alloc: Global, d: &Descriptor) -> Result<Stored, OutOfMemory>
-    requires { length d.now.logged + length d.now.revoked ≤ 1000 }
+    requires { length d.now.logged + length d.now.revoked ≤ list_limit }
 {
     let mut block = Block::zeroed(alloc)?;
     write_descriptor(d, &mut block);
@@ -111,7 +112,7 @@ fn standing(
         doorbell,
         head,
         base: 0,
-        slots: vec![in alloc; entry; 1024]?,
+        slots: vec![in alloc; entry; RING_DEPTH as usize]?,
         blocks: stored_blocks(alloc, 1264, stored)?,
     };
     let root = PortImage {

@@ -1,5 +1,5 @@
 // What a cut leaves of a drive, and its recovery.
-ghost use Rattle.std.specs.Prelude.{◌≡◌, ◌<◌, ◌≤◌, ℕ, [], All, length, IfOk, IfSome, IsTrue, None};
+ghost use Rattle.std.specs.Prelude.{◌≡◌, ◌<◌, ◌≤◌, ◌^◌, ℕ, [], All, length, IfOk, IfSome, IsTrue, None};
 ghost use Rattle.mq_blocks.specs.Geometry.{queues_of, homes_of};
 ghost use Rattle.mq_drive.specs.Emu.{emu_state};
 ghost use Rattle.mq_drive.specs.Seats.{name_of, fuse_of, tickets_of};
@@ -226,7 +226,7 @@ fn cut_ports(alloc: Global, ports: Ports<EmuPort<'_>>, pick: u64) -> Result<Left
 
 /// A limit that a fuse may have.
 pub fn limited(limit: Option<u64>) -> Option<u64>
-    ensures { IfSome result (λ l. l ≤ 9223372036854775808) }
+    ensures { IfSome result (λ l. l ≤ 2 ^ 63) }
 {
     match limit {
         Some(limit) => Some(limit.min(1 << 63)),

@@ -1,10 +1,10 @@
-use Rattle.std.proofs.Common.{◌≡◌, ◌≢◌, ◌<◌, ◌≤◌, ℕ, Bool, false, Some, List, ◌∷◌, length, get_or, All, refl, sym, ◌∙◌, ap, subst}
+use Rattle.std.proofs.Common.{◌≡◌, ◌≢◌, ℕ, Bool, false, List, ◌∷◌, length, get_or, All, refl, sym, ◌∙◌, ap, subst}
 use Rattle.std.proofs.lemmas.List.Elements.{All-rest}
-use Rattle.std.specs.Option.{ForSome, option_to_list}
+use Rattle.std.specs.Option.{option_to_list}
 use Rattle.mq_blocks.specs.declared.command.Command.{Command}
 use Rattle.mq_drive.specs.Choices.{writes_of, by_count}
 use Rattle.mq_drive.specs.Slots.{index_in}
-use Rattle.mq_drive.proofs.Chances.{block_step, failed_alone}
+use Rattle.mq_drive.proofs.Chances.{block_step}
 use Rattle.mq_drive.proofs.Tearing.{IsOwn, IsOther, first_of}
 use Rattle.mq_drive.proofs.cut.tear_commands.Goals as goal
 

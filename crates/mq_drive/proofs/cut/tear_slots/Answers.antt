@@ -1,6 +1,7 @@
-use Rattle.std.proofs.Common.{rules, ◌≡◌, ◌≢◌, ◌<◌, ◌≤◌, ◌+◌, ◌-◌, ◌%◌, ℕ, suc, List, [], length, get_or, set, refl, sym, ◌∙◌, ap, arith}
+use Rattle.std.proofs.Common.{rules, ◌≡◌, ◌≢◌, ◌+◌, ◌-◌, ◌%◌, ℕ, suc, List, [], length, get_or, sym, ◌∙◌, ap, arith}
 use Rattle.std.proofs.Math.ListN.{length-set}
 use Rattle.std.proofs.lemmas.List.{get_or-set_other}
+use Rattle.mq_blocks.specs.Drive.{depth}
 use Rattle.mq_drive.specs.Choices.{torn, next_slot, torn_slots}
 use Rattle.mq_drive.proofs.Chances.{slots_step}
 use Rattle.mq_drive.proofs.cut.tear_slots.Goals as goal
@@ -8,7 +9,7 @@ use Rattle.mq_drive.proofs.cut.tear_slots.Goals as goal
 pub loop-count-preserved : goal.loop-count-preserved
 loop-count-preserved c =
     let before = c.loop-count-test.true in
-    let k : ℕ = c.loop-count.count % 1024 in
+    let k : ℕ = c.loop-count.count % depth in
     let one : suc (c.args.to - (c.loop-count.count + 1)) ≡ c.args.to - c.loop-count.count = omega (arith, before) in
     record {
       len = ap length c.put_slot.ensures ∙ length-set c.loop-count.flushed.items k c.either_entry-entry.result ∙ c.loop-count.invariant.len;

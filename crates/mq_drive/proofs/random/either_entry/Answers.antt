@@ -1,5 +1,5 @@
-use Rattle.std.proofs.Common.{rules, ◌≡◌, ◌≢◌, ◌%◌, ℕ, ◌∙◌, ap}
-use Rattle.mq_drive.specs.Choices.{torn, next_slot}
+use Rattle.std.proofs.Common.{rules, ◌≡◌, ◌≢◌, ◌%◌}
+use Rattle.mq_drive.specs.Choices.{next_slot}
 use Rattle.mq_drive.proofs.Chances.{torn_old, torn_new, torn_next}
 use Rattle.mq_drive.proofs.random.either_entry.Goals as goal
 

@@ -1,4 +1,3 @@
-use Rattle.std.proofs.Common.{rules, ◌≡◌, ℕ, length, ◌∙◌, ap}
 use Rattle.mq_drive.specs.Choices.{next_bytes}
 use Rattle.mq_drive.proofs.Chances.{slot_is}
 use Rattle.mq_drive.proofs.random.next_entry.Goals as goal

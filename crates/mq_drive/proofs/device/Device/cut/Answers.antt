@@ -1,7 +1,7 @@
 use Rattle.std.proofs.Common.{rules, ◌≡◌, ◌<◌, ◌≤◌, ◌+◌, ◌-◌, ◌++◌, ℕ, Bool, false, List, Option, length, get_or, None, refl, sym, ◌∙◌, ap, subst}
 use Rattle.std.specs.Option.{ForSome, option_to_list}
 use Rattle.rand_pcg.specs.Lcg.{Lcg}
-use Rattle.mq_blocks.specs.Drive.{PortState, PortImage, index_of, staged_end}
+use Rattle.mq_blocks.specs.Drive.{PortImage, index_of}
 use Rattle.mq_blocks.specs.declared.command.Command.{Command}
 use Rattle.mq_blocks.specs.declared.command.HomeWrite.{HomeWrite}
 use Rattle.mq_drive.specs.Choices.{torn_blocks, writes_of, by_count, in_doubt}

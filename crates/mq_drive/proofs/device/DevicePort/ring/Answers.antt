@@ -1,11 +1,12 @@
 use Rattle.std.proofs.Common.{rules, ◌≡◌, ◌<◌, ◌≤◌, ◌+◌, ◌-◌, ℕ, suc, List, [], ◌∷◌, length, All, sym, ap, subst, arith}
 use Rattle.std.proofs.lemmas.List.Elements.{All-append}
 use Rattle.std.specs.VecDeque.{deque_len, deque_capacity}
-use Rattle.mq_blocks.specs.Drive.{AreCounted}
+use Rattle.mq_blocks.specs.Drive.{AreCounted, usable_depth}
 use Rattle.mq_blocks.specs.declared.command.Command.{Command}
 use Rattle.mq_drive.specs.declared.device.Device.{Device}
 use Rattle.mq_drive.specs.Slots.{AreSettled, index_in}
-use Rattle.mq_drive.proofs.Commands.{length-counted, counted_ring}
+use Rattle.mq_blocks.proofs.Counts.{length-counted}
+use Rattle.mq_drive.proofs.Commands.{counted_ring}
 use Rattle.mq_drive.specs.Failures.{errors_of}
 use Rattle.mq_drive.proofs.Faults.{refused}
 use Rattle.mq_drive.proofs.Happening.{happened-event}
@@ -14,11 +15,11 @@ use Rattle.mq_drive.proofs.device.DevicePort.ring.Goals as goal
 abbrev IsOwn : Device → ℕ → Command → Type 0
 IsOwn p n x = (p.area.first ≤ x.lba) × (index_in p.area.first p.area.size p.homes.first x.lba < n)
 
-fit : (xs ys : List Command) (room head stored doorbell : ℕ) → 1023 ≤ room → length xs ≤ doorbell - stored → head ≤ stored → (0 < length ys → doorbell + length ys - head ≤ 1023) → (0 < length ys → stored ≤ doorbell)
+fit : (xs ys : List Command) (room head stored doorbell : ℕ) → usable_depth ≤ room → length xs ≤ doorbell - stored → head ≤ stored → (0 < length ys → doorbell + length ys - head ≤ usable_depth) → (0 < length ys → stored ≤ doorbell)
     → length xs ≤ room → length xs + length ys ≤ room
 fit xs [] room head stored doorbell least few heads some order now = omega arith
 fit xs (y ∷ ys) room head stored doorbell least few heads some order now =
-    let a : doorbell + suc (length ys) - head ≤ 1023 = some (omega arith) in
+    let a : doorbell + suc (length ys) - head ≤ usable_depth = some (omega arith) in
     let b : stored ≤ doorbell = order (omega arith) in
     omega arith
 

@@ -2,7 +2,7 @@ use Rattle.std.proofs.Common.{rules, ◌≡◌, ◌<◌, ◌≤◌, ◌+◌, ◌
 use Rattle.std.proofs.lemmas.List.Elements.{All-append, All-cons}
 use Rattle.mq_nvme.specs.Entry.{lba_of}
 use Rattle.mq_nvme.proofs.Entries.{lba_of-entry}
-use Rattle.mq_blocks.specs.Drive.{AreCounted}
+use Rattle.mq_blocks.specs.Drive.{AreCounted, depth}
 use Rattle.mq_blocks.specs.declared.command.Command.{Command}
 use Rattle.mq_drive.specs.declared.device.Device.{Device}
 use Rattle.mq_drive.specs.Slots.{AreSettled, index_in}
@@ -41,8 +41,8 @@ invariant_of-self-2-clause-settled c =
     let old = settled_stage p.flushed.items p.staged.items p.flushed_end (p.doorbell + length p.pending.items) c.args.entry p.flushed_high p.settled in
     let one : length c.add.new.commands.items ≡ length p.pending.items + 1 = more p.pending.items c.add.new.commands.items _ c.add.ensures.items in
     let end : p.doorbell + length c.add.new.commands.items ≡ p.doorbell + length p.pending.items + 1 = omega (arith, one) in
-    let staged : c.put_slot.new.slots.items ≡ set p.staged.items ((p.doorbell + length p.pending.items) % 1024) c.args.entry =
-    c.put_slot.ensures ∙ ap (λ (n : ℕ). set p.staged.items (n % 1024) c.args.entry) c.requires.next in
+    let staged : c.put_slot.new.slots.items ≡ set p.staged.items ((p.doorbell + length p.pending.items) % depth) c.args.entry =
+    c.put_slot.ensures ∙ ap (λ (n : ℕ). set p.staged.items (n % depth) c.args.entry) c.requires.next in
     subst (λ (n : ℕ). AreSettled p.flushed.items c.put_slot.new.slots.items p.flushed_end n) (sym end) (subst (λ (l : List (List ℕ)). AreSettled p.flushed.items l p.flushed_end (p.doorbell + length p.pending.items + 1)) (sym staged) old)
 
 pub invariant_of-self-2-clause-pending_counted : goal.invariant_of-self-2-clause-pending_counted

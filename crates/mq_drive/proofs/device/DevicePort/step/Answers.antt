@@ -19,7 +19,8 @@ use Rattle.mq_drive.specs.Choices.{chosen}
 use Rattle.mq_drive.specs.Failures.{written_by}
 use Rattle.mq_drive.specs.declared.failing.Failure.{Failure}
 use Rattle.mq_drive.proofs.Chances.{chance_done, chance_failed, doubt_for, new_doubt}
-use Rattle.mq_drive.proofs.Commands.{counted_remove, all_remove, all_at}
+use Rattle.mq_blocks.proofs.Counts.{counted_remove}
+use Rattle.mq_drive.proofs.Commands.{all_remove, all_at}
 use Rattle.mq_drive.proofs.Doubts.{none_of, none_while, none_for, some_for}
 use Rattle.mq_drive.proofs.Executing.{next_is, same_counts, refused_counts, refused_tickets, refused_chosen, fails_status, succeeds_status}
 use Rattle.mq_drive.proofs.Faults.{off_gains, refused_step, error_gains}

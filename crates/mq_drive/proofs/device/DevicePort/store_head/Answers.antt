@@ -1,4 +1,4 @@
-use Rattle.mq_drive.proofs.Commands.{counted_from}
+use Rattle.mq_blocks.proofs.Counts.{counted_from}
 use Rattle.mq_drive.specs.Failures.{errors_of}
 use Rattle.mq_drive.proofs.Faults.{refused}
 use Rattle.mq_drive.proofs.Happening.{happened-event}

@@ -1,0 +1,108 @@
+-- What the side of a queue and the root show on a desk.
+use lib.Dec.{lit≤}
+use Rattle.std.specs.Prelude.{◌≡◌, ◌⊎◌, ◌≤◌, ℕ, suc, ◌+◌, ◌-◌, ◌^◌, List, [], ◌∷◌, length, map, reverse, slice_index_or, None, nat_lt, if◌then◌else◌}
+use Rattle.mq_blocks.specs.Drive.{PortState, counted}
+use Rattle.mq_blocks.specs.declared.geometry.Geometry.{Geometry}
+use Rattle.mq_drive.specs.Steps.{Fault}
+use Rattle.mq_drive.specs.declared.port.Port.{Ghosts}
+use Rattle.mq_ledger.specs.Items.{end_of}
+use Rattle.mq_ledger.specs.declared.tx.Tx.{Tx}
+use Rattle.mq_pmr.specs.Rungs.{last_end}
+use Rattle.mq_rules.specs.Values.{Part, Values}
+use Rattle.mq_side.specs.Counts.{ahead, most_events}
+use Rattle.mq_side.specs.Side.{SideState, IsPassedOf, AreRungsOf, IsDoneOf, IsKept, side_state}
+use Rattle.mq_side.specs.Stored.{AreStored}
+use Rattle.mq_side.specs.Told.{IsTold}
+use Rattle.mq_side.specs.declared.drawn.Drawn.{Drawn}
+use Rattle.mq_side.specs.declared.root.Root.{Root}
+use Rattle.mq_side.specs.declared.side.QueueSide.{QueueSide}
+
+-- how many of a queue's transactions were rung, of which the newest may not be
+abbrev pub rung_of : ℕ → List Tx → ℕ → ℕ
+rung_of start [] doorbell = 0
+rung_of start (t ∷ ts) doorbell = if nat_lt doorbell (end_of start (t ∷ ts)) then length ts else suc (length ts)
+
+-- With the events that are still to come, no more have happened since the opening than the transactions and the
+-- faults allow. So it is until there are as many faults as a count of 64 bits can say.
+abbrev pub AreFew : Part → SideState → Type 0
+AreFew p s =
+    (2 ^ 64 - 1 ≤ length s.faults)
+    ⊎ (s.port.events + ahead (end_of p.start p.txs) s ≤ p.opened.events + most_events p.txs + length s.faults)
+
+-- What a side's record says beside its port: its records are of the queue's transactions, the failure that it
+-- keeps is one of its port's faults, and each transaction that was sent was rung once.
+pub record IsRecord (p : Part) (s : SideState) : Type 0 where
+  pub geometry : s.geometry ≡ p.geometry
+  pub queue : s.queue ≡ p.queue
+  pub passed : IsPassedOf p.start p.txs s.passed
+  pub rung : AreRungsOf p.start p.txs s.rung
+  pub last : last_end s.passed.end s.rung ≡ s.port.doorbell
+  pub done : IsDoneOf p.start p.txs s.port.head s.done
+  pub kept : IsKept p.start p.txs s.port.failed s.port.pending s.port.doorbell s.kept
+  pub told : IsTold s.faults s.kept
+  pub few : AreFew p s
+  pub rings : s.port.rings ≡ counted p.opened.rings (rung_of p.start p.txs s.port.doorbell)
+
+-- Where it keeps no failure, all that was drawn is rung.
+abbrev pub IsWhole : Part → SideState → Type 0
+IsWhole p s = s.kept ≡ None → s.port.doorbell ≡ end_of p.start p.txs
+
+-- it says so too with another base word
+pub record_later : (p : Part) (word : ℕ) (s : SideState) → IsRecord p s → IsRecord (record p { word = word }) s
+record_later p word s is = record {
+  geometry = is.geometry;
+  queue = is.queue;
+  passed = is.passed;
+  rung = is.rung;
+  last = is.last;
+  done = is.done;
+  kept = is.kept;
+  told = is.told;
+  few = is.few;
+  rings = is.rings;
+}
+
+-- the entries that are stored, each with its number, newest first
+abbrev pub entries_in : {E : Type 0} → List (Drawn E) → List (ℕ × E)
+entries_in stored = reverse (map (λ d. (d.number, d.entry)) stored)
+
+-- where there is no side that says otherwise: of the smallest drive
+abbrev pub least_geometry : Geometry
+least_geometry = record {
+  queues = 1;
+  area = 1024;
+  meta = 4;
+  zone = 1;
+  queues_low = lit≤ tt;
+  queues_high = lit≤ tt;
+  area_low = lit≤ tt;
+  area_high = lit≤ tt;
+  meta_low = lit≤ tt;
+  zone_low = lit≤ tt;
+  homes_high = lit≤ tt;
+}
+
+module _ {P E : Type 0} {G : Ghosts P} (state : P → PortState) (faults : P → List Fault) where
+  -- what a side's record says, with what it stores of the transactions
+  pub record Says (p : Part) (s : QueueSide P E G) : Type 0 where
+    pub is : IsRecord p (side_state state faults s)
+    pub whole : IsWhole p (side_state state faults s)
+    pub stored : AreStored p.txs s.stored.items
+
+  -- The shape of the drive is that of its sides; the root says nothing of it.
+  abbrev pub side_values : Values (QueueSide P E G) (Root P G) E
+  side_values = record {
+    port = λ s. state s.pmr.port;
+    faults = λ s. faults s.pmr.port;
+    stored = λ s. entries_in s.stored.items;
+    says = Says;
+    root = λ r. state r.port;
+    root_faults = λ r. faults r.port;
+    root_says = λ g r. Unit {0};
+    geometry = λ sides r. slice_index_or (map (λ s. s.pmr.geometry) sides) 0 least_geometry;
+    later = λ p word s above says. record {
+      is = record_later p word (side_state state faults s) says.is;
+      whole = says.whole;
+      stored = says.stored;
+    };
+  }

@@ -1,0 +1,7 @@
+//! The journal on a desk: the machine whose values are cells of home blocks, sides of queues and the root,
+//! for groups of any kind.
+#![tactic(auto)]
+
+mod machine;
+
+pub use machine::{Groups, JournalMachine};

@@ -1,0 +1,53 @@
+// The machine.
+
+use mq_drive::Port;
+use mq_pages::PageCell;
+use mq_rules::JournalValues;
+use mq_side::{QueueSide, Root};
+use mq_turns::Machine;
+use std::marker::PhantomData;
+
+/// A kind of groups of requests: what is drawn for a group, and what it does to the map of home blocks.
+pub trait Groups {
+    ghost use Rattle.mq_rules.specs.Groups.{Group};
+
+    /// A group, with its replies and its writes.
+    type Entry: Drop;
+
+    ghost group: { Group Self.Entry };
+}
+
+/// The machine over ports of this kind, for these groups. A page is the cell of a home block, a side the
+/// side of a queue, which stores the groups that were drawn on it.
+pub struct JournalMachine<P, G> {
+    port: PhantomData<P>,
+    groups: PhantomData<G>,
+}
+
+impl<P: Port + Drop, G: Groups> Machine for JournalMachine<P, G> {
+    type Page = PageCell;
+
+    type Side = QueueSide<P, G::Entry>;
+
+    type Root = Root<P>;
+
+    type Entry = G::Entry;
+
+    ghost use Rattle.mq_journal.specs.Machine.{journal};
+
+    ghost meaning = { journal P.state P.faults G.group };
+}
+
+impl<P: Port + Drop, G: Groups> JournalValues for JournalMachine<P, G> {
+    type Side = QueueSide<P, G::Entry>;
+
+    type Root = Root<P>;
+
+    type Entry = G::Entry;
+
+    ghost use Rattle.mq_journal.specs.Values.{side_values};
+
+    ghost values = { side_values P.state P.faults };
+
+    ghost group = { G.group };
+}
