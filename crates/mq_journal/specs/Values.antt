@@ -35,7 +35,7 @@ pub record IsRecord (p : Part) (s : SideState) : Type 0 where
   pub geometry : s.geometry ≡ p.geometry
   pub queue : s.queue ≡ p.queue
   pub passed : IsPassedOf p.start p.txs s.passed
-  pub rung : AreRungsOf p.start p.txs s.rung
+  pub rung : AreRungsOf p.start p.txs s.passed.end s.rung
   pub last : last_end s.passed.end s.rung ≡ s.port.doorbell
   pub done : IsDoneOf p.start p.txs s.port.head s.done
   pub kept : IsKept p.start p.txs s.port.failed s.port.pending s.port.doorbell s.kept
