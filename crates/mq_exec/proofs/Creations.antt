@@ -81,7 +81,8 @@ pub made-slots : (g : Geometry) (q : ℕ) (v : Volume) (y : Body) (path : Path) 
 made-slots g q v y path m old new agrees carries plan holds dirs becomes =
     let l = plan.link in
     let o = m.directory in
-    let n = made-link g q v m.inode y o (made_entry path m) m.picks.items agrees.sound plan.low plan.free l in
+    let w = with_inode v m.inode y in
+    let e : node w o.number ≡ node v o.number = node-other v m.inode o.number (bare y) (free-not-dir v o.number m.inode l.slots l.is plan.free) in
     let before : l.slots ≡ slots_at (pages_of old) o.blocks.items = carried-slots g (pages_of old) v o.number l.slots o.blocks.items carries l.is l.opened.blocks l.size (λ k x i. (holds.dirs k x i).held) in
-    let after : n.slots ≡ slots_at (pages_of new) o.blocks.items = carried-slots g (pages_of new) (with_inode v m.inode y) o.number n.slots o.blocks.items becomes.carries n.is n.opened.blocks n.size (λ k x i. (dirs k x i).held) in
+    let after : l.slots ≡ slots_at (pages_of new) o.blocks.items = carried-slots g (pages_of new) w o.number l.slots o.blocks.items becomes.carries (ap (λ (n : Node). n.body) e ∙ l.is) (l.opened.blocks ∙ ap (λ (n : Node). n.blocks) (sym e)) l.size (λ k x i. (dirs k x i).held) in
     holds.slot ∙ ap (λ (s : List (Option Entry)). unused 0 s) (sym before ∙ after)

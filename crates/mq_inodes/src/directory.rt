@@ -91,11 +91,7 @@ impl<'a> Working<'a> {
     }
 
     /// The inode under a name. Where there is none, the first unused slot, counted over the blocks.
-    pub(crate) fn search_names(
-        &self,
-        blocks: &[BlockNo],
-        name: &[u8],
-    ) -> (Option<u32>, Option<u32>)
+    pub(crate) fn search_names(&self, blocks: &[BlockNo], name: &[u8]) -> (Option<u32>, Option<u32>)
         requires held { AreDirsAt (pages_of self.now) blocks.now }
         requires few { length blocks.now ≤ 1036 }
         ensures found { result.0 ≡ find_name name.now (slots_at (pages_of self.now) blocks.now) }

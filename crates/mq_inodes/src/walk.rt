@@ -127,7 +127,9 @@ impl<'a> Working<'a> {
             Place::Root => Target::Root,
             Place::Lost(fault) => Target::Lost(fault),
             Place::In {
-                directory, found, ..
+                directory,
+                found,
+                ..
             } => Target::In {
                 directory: directory.number,
                 found,

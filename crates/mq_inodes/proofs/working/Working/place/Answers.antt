@@ -31,9 +31,11 @@ pub returns-clause-ok : goal.returns-clause-ok
 returns-clause-ok c v agrees =
     let g = c.args.self.now.geometry in
     let is : c.args.path.now ≡ c.in-Some.names.now ++ c.in-Some.last.now ∷ [] = cc (c.path.view_is, c.deref.ensures.value, c.in-Some.ensures.cases.0) in
-    placed-name v (way c.args.path.now) (way c.in-Some.names.now) c.in-Some.last.now c.in-Ok.d c.in_ok-directory.directory c.search_names.result.0 c.search_names.result.1 (way-last c.args.path.now c.in-Some.names.now c.in-Some.last.now is)
-    (sym (c.in_ok-d.ensures.ok v agrees) ∙ c.in-Ok.is) c.in_ok-directory.ensures.number (c.in_ok-directory.ensures.slots v agrees) _
+    let called : c.deref-3.result.now ≡ c.in-Some.last.now = cc (c.last.view_is, c.deref-3.ensures.value) in
+    placed-name (pages_of c.args.self.now) v (way c.args.path.now) (way c.in-Some.names.now) c.in-Some.last.now c.in-Ok.d c.in_ok-directory.directory c.search_names-found.result.0 c.search_names-found.result.1 c.deref-2.result.now c.deref-3.result.now
+    (way-last c.args.path.now c.in-Some.names.now c.in-Some.last.now is) (sym (c.in_ok-d.ensures.ok v agrees) ∙ c.in-Ok.is) c.in_ok-directory.ensures.number (c.in_ok-directory.ensures.slots v agrees) c.deref-2.ensures.value called c.search_names-found.ensures.found
 
 pub returns-clause-holds : goal.returns-clause-holds
 returns-clause-holds c =
-    holds-name c.args.self.now c.in_ok-directory.directory c.in-Ok.d c.search_names.result.0 c.search_names.result.1 c.in_ok-directory.ensures.number c.in_ok-directory.ensures.opened c.in_ok-directory.ensures.slots c.in_ok-directory.ensures.dirs c.in_ok-directory.ensures.few c.in_ok-directory.ensures.table c.in_ok-directory.ensures.pointers _
+    holds-name c.args.self.now c.in_ok-directory.directory c.in-Ok.d c.search_names-found.result.0 c.search_names-found.result.1 c.deref-2.result.now c.in_ok-directory.ensures.number c.in_ok-directory.ensures.opened c.in_ok-directory.ensures.slots c.in_ok-directory.ensures.dirs c.in_ok-directory.ensures.few c.in_ok-directory.ensures.table
+    c.in_ok-directory.ensures.pointers c.deref-2.ensures.value c.search_names-found.ensures.unused
