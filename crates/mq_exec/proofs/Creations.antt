@@ -9,8 +9,8 @@ use Rattle.mq_exec.specs.Plans.{HoldsMake, PlansMake, made_entry}
 use Rattle.mq_exec.specs.declared.make.Creation.{Creation}
 use Rattle.mq_exec.proofs.Linkable.{IsLinkable, link-kept, link-same, takeables}
 use Rattle.mq_inodes.specs.Changes.{AreOthers}
-use Rattle.mq_inodes.specs.Dirs.{AreDirsAt}
-use Rattle.mq_inodes.specs.Edits.{Becomes, IsOver}
+use Rattle.mq_inodes.specs.Dirs.{AreDirsAt, slots_at}
+use Rattle.mq_inodes.specs.Edits.{Becomes, Carries, IsOver}
 use Rattle.mq_inodes.specs.Fits.{Agrees}
 use Rattle.mq_inodes.specs.Opened.{HoldsPointers, MayLink}
 use Rattle.mq_inodes.specs.Pages.{IsHeld, Pages, pages_of}
@@ -18,12 +18,14 @@ use Rattle.mq_inodes.specs.Picks.{ArePicked, IsMarkable}
 use Rattle.mq_inodes.specs.Bare.{with_inode}
 use Rattle.mq_inodes.specs.declared.opened.Opened.{Opened}
 use Rattle.mq_inodes.specs.declared.working.Working.{Working}
+use Rattle.mq_inodes.proofs.Directories.{carried-slots}
 use Rattle.mq_inodes.proofs.Held.{meta-held}
 use Rattle.mq_inodes.proofs.LocalFrame.{taken-same}
 use Rattle.mq_inodes.proofs.LocalInodes.{bare}
 use Rattle.mq_inodes.proofs.LocalVolumes.{free-bare}
 use Rattle.mq_layout.specs.Places.{inode_bitmap, inode_block, inodes_of}
 use Rattle.mq_layout.specs.Slots.{Entry}
+use Rattle.mq_tree.specs.Requests.{unused}
 use Rattle.mq_tree.specs.Sound.{IsSound}
 use Rattle.mq_tree.specs.Volume.{Body, Free, Dir, Node, Path, Volume, body, has_block, node}
 use Rattle.mq_tree.proofs.KeepUses.{node-here, node-other}
@@ -52,8 +54,8 @@ made-link g q v i y o entry picks sound low free h =
 -- ---- pages
 
 pub holds-make : (g : Geometry) (q : ℕ) (pages : Pages) (v : Volume) (m : Creation) (d need : ℕ) (known : List ℕ) → Agrees g pages v → q < queues_of g → m.directory.number ≡ d → AreDirsAt pages m.directory.blocks.items → length m.directory.blocks.items ≤ 1036 → IsHeld pages (inode_block g d)
-    → HoldsPointers pages m.directory → IsHeld pages (inode_bitmap g) → m.inode < inodes_of g → ArePicked g q v need m.picks.items → All (IsMarkable g pages) m.picks.items → known ≡ m.picks.items ++ inode_block g m.inode ∷ [] → All (λ b. pages b ≢ None) known → HoldsMake g pages m
-holds-make g q pages v m d need known agrees low same dirs few table pointers marks inode picked markable e all = record {
+    → HoldsPointers pages m.directory → IsHeld pages (inode_bitmap g) → m.inode < inodes_of g → ArePicked g q v need m.picks.items → All (IsMarkable g pages) m.picks.items → known ≡ m.picks.items ++ inode_block g m.inode ∷ [] → All (λ b. pages b ≢ None) known → m.unused ≡ unused 0 (slots_at pages m.directory.blocks.items) → HoldsMake g pages m
+holds-make g q pages v m d need known agrees low same dirs few table pointers marks inode picked markable e all slot = record {
   dirs = dirs;
   few = few;
   table = subst (λ (x : ℕ). IsHeld pages (inode_block g x)) (sym same) table;
@@ -61,6 +63,7 @@ holds-make g q pages v m d need known agrees low same dirs few table pointers ma
   picks = takeables g q pages v need m.picks.items agrees.fits low picked markable (λ k x l. every _ (Contains-append_left m.picks.items (inode_block g m.inode ∷ []) _ (Contains-get_or m.picks.items k x l)));
   marks = marks;
   inode = meta-held g pages v (inode_block g m.inode) agrees.fits (omega arith) (every _ (Contains-push m.picks.items (inode_block g m.inode)));
+  slot = slot;
 }
   where
     every : (b : ℕ) → Contains (m.picks.items ++ inode_block g m.inode ∷ []) b → pages b ≢ None
@@ -71,3 +74,15 @@ pub made-linkable : (g : Geometry) (q : ℕ) (v : Volume) (y : Body) (path : Pat
 made-linkable g q v y path m old new agrees plan holds over becomes =
     link-kept g q (with_inode v m.inode y) m.directory (made_entry path m) m.picks.items old new becomes.carries over (made-link g q v m.inode y m.directory _ m.picks.items agrees.sound plan.low plan.free plan.link)
     (record { dirs = holds.dirs; takes = holds.picks; table = holds.table; pointers = holds.pointers })
+
+-- the slots of the directory stay
+pub made-slots : (g : Geometry) (q : ℕ) (v : Volume) (y : Body) (path : Path) (m : Creation) (old new : Working) → Agrees g (pages_of old) v → Carries g (pages_of old) v → PlansMake g q v y path m → HoldsMake g (pages_of old) m → AreDirsAt (pages_of new) m.directory.blocks.items → Becomes g v (with_inode v m.inode y) old new
+    → m.unused ≡ unused 0 (slots_at (pages_of new) m.directory.blocks.items)
+made-slots g q v y path m old new agrees carries plan holds dirs becomes =
+    let l = plan.link in
+    let o = m.directory in
+    let w = with_inode v m.inode y in
+    let e : node w o.number ≡ node v o.number = node-other v m.inode o.number (bare y) (free-not-dir v o.number m.inode l.slots l.is plan.free) in
+    let before : l.slots ≡ slots_at (pages_of old) o.blocks.items = carried-slots g (pages_of old) v o.number l.slots o.blocks.items carries l.is l.opened.blocks l.size (λ k x i. (holds.dirs k x i).held) in
+    let after : l.slots ≡ slots_at (pages_of new) o.blocks.items = carried-slots g (pages_of new) w o.number l.slots o.blocks.items becomes.carries (ap (λ (n : Node). n.body) e ∙ l.is) (l.opened.blocks ∙ ap (λ (n : Node). n.blocks) (sym e)) l.size (λ k x i. (dirs k x i).held) in
+    holds.slot ∙ ap (λ (s : List (Option Entry)). unused 0 s) (sym before ∙ after)

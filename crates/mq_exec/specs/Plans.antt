@@ -8,7 +8,7 @@ use Rattle.mq_exec.specs.declared.rename.Renaming.{Renaming}
 use Rattle.mq_exec.specs.declared.rewrite.Rewriting.{Rewriting}
 use Rattle.mq_exec.specs.declared.file.Found.{Found}
 use Rattle.mq_inodes.specs.Bare.{with_inode}
-use Rattle.mq_inodes.specs.Dirs.{AreDirsAt}
+use Rattle.mq_inodes.specs.Dirs.{AreDirsAt, slots_at}
 use Rattle.mq_inodes.specs.Edits.{Becomes}
 use Rattle.mq_inodes.specs.Opened.{HoldsPointers, IsOpened, IsReleasable, IsTakeable, MayGrow, MayLink, MayUnlink}
 use Rattle.mq_inodes.specs.Pages.{IsHeld, Pages}
@@ -66,6 +66,7 @@ pub record HoldsMake (g : Geometry) (pages : Pages) (m : Creation) : Type 0 wher
   pub picks : All (IsTakeable g pages) m.picks.items
   pub marks : IsHeld pages (inode_bitmap g)
   pub inode : IsHeld pages (inode_block g m.inode)
+  pub slot : m.unused ≡ unused 0 (slots_at pages m.directory.blocks.items)
 
 -- ---- removing
 

@@ -15,17 +15,19 @@ ghost use Rattle.std.specs.List.{list_all};
 ghost use Rattle.std.specs.Prelude.{ℕ, true};
 
 use mq_blocks::{BlockNo, OutOfMemory, QueueNo};
-use mq_inodes::{Missing, Opened, Target, Working};
+use mq_inodes::{Missing, Opened, Place, Working, name_need};
 use mq_layout::inode_block;
 use mq_tree::{Fault, Path, Reply};
 use std::alloc::Global;
 
-/// The directory that gets a name, the inode that is made, and the blocks that the name takes.
+/// The directory that gets a name, the inode that is made, the blocks that the name takes, and the first
+/// unused slot of the directory.
 #[derive(Drop)]
 pub struct Creation {
     pub directory: Opened,
     pub inode: u32,
     pub picks: Vec<BlockNo>,
+    pub unused: Option<u32>,
 }
 
 /// What making a file or a directory takes, or why it is refused.
@@ -47,22 +49,23 @@ fn plan_make(
     ensures lack { IfErr result (MissingOf working.now (λ v b. (directory : Bool)
         → LooksAt working.now.geometry queue v (make_request directory path.now) b)) }
 {
-    let d = match working.target(alloc, path)? {
-        Target::Root | Target::In { found: Some(_), .. } => return Ok(Err(Fault::Exists)),
-        Target::Lost(fault) => return Ok(Err(fault)),
-        Target::In {
+    let (directory, unused) = match working.place(alloc, path)? {
+        Place::Root | Place::In { found: Some(_), .. } => return Ok(Err(Fault::Exists)),
+        Place::Lost(fault) => return Ok(Err(fault)),
+        Place::In {
             directory,
             found: None,
-        } => directory,
+            unused,
+        } => (directory, unused),
     };
-    let directory = working.open_directory(alloc, d)?;
     if working.is_full(&directory.blocks) {
         return Ok(Err(Fault::TooBig));
     }
     let Some(inode) = working.free_inode(alloc)? else {
         return Ok(Err(Fault::NoInodes));
     };
-    let Some(picks) = working.pick(alloc, queue, working.link_need(&directory.blocks))? else {
+    let need = name_need(&directory.blocks, unused);
+    let Some(picks) = working.pick(alloc, queue, need)? else {
         return Ok(Err(Fault::NoSpace));
     };
     let mut wanted = Vec::from_slice(alloc, &picks)?;
@@ -72,6 +75,7 @@ fn plan_make(
         directory,
         inode,
         picks,
+        unused,
     }))
 }
 
@@ -101,12 +105,13 @@ fn carry_make(
         mut directory,
         inode,
         picks,
+        unused,
     } = creation;
     let Some(name) = path.0.last() else {
         unreachable!();
     };
     working.make_inode(alloc, inode, is_directory)?;
-    working.link_name(alloc, &mut directory, inode, &name.0, &picks)
+    working.link_name_at(alloc, &mut directory, inode, &name.0, &picks, unused)
 }
 
 /// Makes an empty file or directory.

@@ -37,6 +37,7 @@ pub mod Nodes
 pub mod Opening
 pub mod Padded
 pub mod Picking
+pub mod Placing
 pub mod Releasing
 pub mod Searching
 pub mod Showing

@@ -5,7 +5,7 @@ use Rattle.std.specs.Str.{bytes_eq}
 use Rattle.std.proofs.lemmas.Bool.{cases_Bool}
 use Rattle.std.proofs.lemmas.Slice.Eq.{bytes_eq-Decides}
 use Rattle.mq_layout.specs.Slots.{Entry}
-use Rattle.mq_inodes.specs.Dirs.{slots_at, slots_in}
+use Rattle.mq_inodes.specs.Dirs.{earlier, later, slots_at, slots_in}
 use Rattle.mq_inodes.specs.Pages.{Pages, content}
 use Rattle.mq_inodes.proofs.Directories.{length-slots_at, slots-drop}
 use Rattle.mq_inodes.proofs.Entries.{length-slots_in}
@@ -38,6 +38,19 @@ unused-passed pages blocks k b page n l is same e h =
     let m = length-slots_in (content (pages b)) in
     sym (unused-beyond n 0 (n + 15) (slots_in (content (pages b))) (slots_at pages (drop (k + 1) blocks)) (omega arith) (e ∙ ap (λ (p : List ℕ). unused 0 (slots_in p)) same))
     ∙ sym (ap (λ (s : List (Option Entry)). unused n s) (slots-drop pages blocks k b l is)) ∙ h
+
+-- the first of the blocks before, or of this block, is that of all, or it is behind
+pub unused-after : (pages : Pages) (blocks : List ℕ) (k b : ℕ) (page : List ℕ) (n : ℕ) (old new : Option ℕ) → k < length blocks → b ≡ get_or blocks k b → page ≡ content (pages b) → new ≡ earlier old (later n (unused 0 (slots_in page)))
+    → earlier old (unused n (slots_at pages (drop k blocks))) ≡ unused 0 (slots_at pages blocks) → earlier new (unused (n + 15) (slots_at pages (drop (k + 1) blocks))) ≡ unused 0 (slots_at pages blocks)
+unused-after pages blocks k b page n (Some at) new l is same e h = ap (λ (o : Option ℕ). earlier o (unused (n + 15) (slots_at pages (drop (k + 1) blocks)))) e ∙ h
+unused-after pages blocks k b page n None new l is same e h = go (unused 0 (slots_in page)) refl
+  where
+    rest : Option ℕ
+    rest = unused (n + 15) (slots_at pages (drop (k + 1) blocks))
+
+    go : (o : Option ℕ) → unused 0 (slots_in page) ≡ o → earlier new rest ≡ unused 0 (slots_at pages blocks)
+    go None none = ap (λ (o : Option ℕ). earlier o rest) (e ∙ ap (λ (o : Option ℕ). later n o) none) ∙ unused-passed pages blocks k b page n l is same (sym none) h
+    go (Some at) some = ap (λ (o : Option ℕ). earlier o rest) (e ∙ ap (λ (o : Option ℕ). later n o) some) ∙ unused-found pages blocks k b page n at l is same (sym some) h
 
 pub unused-low : (k n : ℕ) (xs : List (Option Entry)) → Some n ≡ unused k xs → n < k + length xs
 unused-low k n [] e = absurd (cc)

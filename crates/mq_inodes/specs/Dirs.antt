@@ -1,5 +1,5 @@
 -- The slots that held blocks of a directory have.
-use Rattle.std.specs.Prelude.{ℕ, List, [], ◌∷◌, ◌++◌, Option, Some, None}
+use Rattle.std.specs.Prelude.{ℕ, ◌+◌, List, [], ◌∷◌, ◌++◌, Option, Some, None}
 use Rattle.std.specs.List.{All}
 use Rattle.mq_inodes.specs.Pages.{IsHeld, Pages, content}
 use Rattle.mq_layout.specs.Slots.{Entry}
@@ -15,6 +15,16 @@ abbrev pub names_of : List (Option Entry) → List (List ℕ)
 names_of [] = []
 names_of (None ∷ slots) = names_of slots
 names_of (Some e ∷ slots) = e.name ∷ names_of slots
+
+-- a slot that was found, or else another
+abbrev pub earlier : Option ℕ → Option ℕ → Option ℕ
+earlier None other = other
+earlier (Some at) other = Some at
+
+-- a slot behind so many
+abbrev pub later : (first : ℕ) → Option ℕ → Option ℕ
+later first None = None
+later first (Some at) = Some (first + at)
 
 -- of blocks one after another
 abbrev pub slots_at : Pages → (blocks : List ℕ) → List (Option Entry)

@@ -6,14 +6,14 @@ ghost use Rattle.mq_inodes.specs.MissingPages.{HasVolume, MissingPages, MissingO
 ghost use Rattle.mq_inodes.specs.Pages.{IsHeld, content as content_at, pages_of};
 ghost use Rattle.mq_layout.specs.Places.{names_limit};
 ghost use Rattle.mq_tree.specs.Laid.{inode_of};
-ghost use Rattle.mq_tree.specs.Requests.{count_names, names_in};
+ghost use Rattle.mq_tree.specs.Requests.{count_names, names_in, unused as first_unused};
 ghost use Rattle.mq_tree.specs.Volume.{Dir, body, find as find_name, has_block, node};
 
 use crate::lack::Missing;
-use crate::slots::{count_in, find_in, push_names};
+use crate::slots::{count_in, find_in, push_names, unused_after};
 use crate::working::{Page, Working};
 use mq_blocks::{Block, BlockNo, OutOfMemory};
-use mq_layout::{Inode, NAMES_LIMIT};
+use mq_layout::{Inode, NAMES_LIMIT, SLOTS_PER_BLOCK};
 use mq_tree::Name;
 use std::alloc::Global;
 
@@ -88,6 +88,27 @@ impl<'a> Working<'a> {
             }
         }
         None
+    }
+
+    /// The inode under a name. Where there is none, the first unused slot, counted over the blocks.
+    pub(crate) fn search_names(&self, blocks: &[BlockNo], name: &[u8]) -> (Option<u32>, Option<u32>)
+        requires held { AreDirsAt (pages_of self.now) blocks.now }
+        requires few { length blocks.now ≤ 1036 }
+        ensures found { result.0 ≡ find_name name.now (slots_at (pages_of self.now) blocks.now) }
+        ensures unused { result.0 ≡ None
+            → result.1 ≡ first_unused 0 (slots_at (pages_of self.now) blocks.now) }
+    {
+        let mut unused = None;
+        let mut first = 0;
+        for b in blocks {
+            let page = self.held(*b);
+            if let Some(inode) = find_in(page, name) {
+                return (Some(inode), None);
+            }
+            unused = unused_after(unused, first, page);
+            first += SLOTS_PER_BLOCK;
+        }
+        (None, unused)
     }
 
     /// How many names there are.

@@ -23,6 +23,6 @@ mod working;
 pub use blocks::{DIRECT, count_for, needs};
 pub use edits::are_bytes;
 pub use lack::Missing;
-pub use opened::Opened;
-pub use walk::{DIRECTORY, Target};
+pub use opened::{Opened, name_need};
+pub use walk::{DIRECTORY, Place, Target};
 pub use working::Working;

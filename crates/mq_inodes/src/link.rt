@@ -109,7 +109,39 @@ impl<'a> Working<'a> {
             (linked self.old.geometry q v o.old.number
             (record { inode = inode; name = name.now })) self.old self.new) }
     {
-        if let Some(slot) = self.unused(&o.blocks) {
+        let unused = self.unused(&o.blocks);
+        self.link_name_at(alloc, o, inode, name, picks, unused)
+    }
+
+    /// A directory gets a name: in its first unused slot, which is this one, or in the first of a block more.
+    pub fn link_name_at(
+        &mut self,
+        alloc: Global,
+        o: &mut Opened,
+        inode: u32,
+        name: &[u8],
+        picks: &[BlockNo],
+        unused: Option<u32>,
+    ) -> Result<(), OutOfMemory>
+        requires possible { (q : ℕ)
+            × (v : Volume)
+            × Carries self.old.geometry (pages_of self.old) v
+            × MayLink self.old.geometry q v o.old (record { inode = inode; name = name.now }) picks.now }
+        requires held { AreDirsAt (pages_of self.old) o.old.blocks.items }
+        requires few { length o.old.blocks.items ≤ 1036 }
+        requires slot { unused ≡ first_unused 0 (slots_at (pages_of self.old) o.old.blocks.items) }
+        requires picks { All (IsTakeable self.old.geometry (pages_of self.old)) picks.now }
+        requires table { IsHeld (pages_of self.old) (inode_block_of self.old.geometry o.old.number) }
+        requires pointers { HoldsPointers (pages_of self.old) o.old }
+        ensures over { OnOk result (IsOver self.old self.new) }
+        ensures linked { OnOk result ((q : ℕ) (v : Volume)
+            → Carries self.old.geometry (pages_of self.old) v
+            → MayLink self.old.geometry q v o.old (record { inode = inode; name = name.now }) picks.now
+            → Becomes self.old.geometry v
+            (linked self.old.geometry q v o.old.number
+            (record { inode = inode; name = name.now })) self.old self.new) }
+    {
+        if let Some(slot) = unused {
             return self.put_slot(
                 alloc,
                 o.blocks[(slot / SLOTS_PER_BLOCK) as usize],

@@ -25,6 +25,18 @@ pub struct Opened {
     pub blocks: Vec<BlockNo>,
 }
 
+/// How many blocks a directory with these blocks takes for a name more, where this is its first unused slot.
+pub fn name_need(blocks: &[BlockNo], unused: Option<u32>) -> u32
+    requires { length blocks.now ≤ 1036 }
+    ensures { result ≡ entry_needs (length blocks.now) unused }
+{
+    let count = blocks.len() as u32;
+    match unused {
+        Some(_) => 0,
+        None => needs(count, count + 1),
+    }
+}
+
 impl<'a> Working<'a> {
     /// A directory, with its blocks held.
     pub fn open_directory(&self, alloc: Global, d: u32) -> Result<Opened, Missing>
@@ -73,10 +85,6 @@ impl<'a> Working<'a> {
         ensures { result ≡ entry_needs (length blocks.now)
             (unused_in 0 (slots_at (pages_of self.now) blocks.now)) }
     {
-        let count = blocks.len() as u32;
-        match self.unused(blocks) {
-            Some(_) => 0,
-            None => needs(count, count + 1),
-        }
+        name_need(blocks, self.unused(blocks))
     }
 }

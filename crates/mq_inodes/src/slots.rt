@@ -2,7 +2,7 @@
 ghost use Rattle.std.specs.Prelude.{◌≡◌, ◌≤◌, ◌<◌, ◌+◌, ◌*◌, ◌++◌, IfOk, MatchOption, Some, None};
 ghost use Rattle.std.specs.Option.{IfSome};
 ghost use Rattle.mq_blocks.specs.Windows.{window};
-ghost use Rattle.mq_inodes.specs.Dirs.{names_of, slots_in};
+ghost use Rattle.mq_inodes.specs.Dirs.{earlier, later, names_of, slots_in};
 ghost use Rattle.mq_tree.specs.Clean.{IsDirBlock};
 ghost use Rattle.mq_tree.specs.Decoded.{slot_of};
 ghost use Rattle.mq_tree.specs.Requests.{count_names, unused};
@@ -85,6 +85,21 @@ pub fn unused_in(block: &Block) -> Option<u32>
         }
     }
     None
+}
+
+/// The first unused slot of the blocks before, or that of this block, of which so many slots stand before.
+pub fn unused_after(found: Option<u32>, first: u32, block: &Block) -> Option<u32>
+    requires form { IsDirBlock block.now }
+    requires few { first ≤ 15540 }
+    ensures { result ≡ earlier found (later first (unused 0 (slots_in block.now))) }
+{
+    if let Some(at) = found {
+        return Some(at);
+    }
+    match unused_in(block) {
+        Some(at) => Some(first + at),
+        None => None,
+    }
 }
 
 /// The slot of a name.

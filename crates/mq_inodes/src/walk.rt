@@ -1,11 +1,12 @@
 // Walking along a path.
 ghost use Rattle.std.specs.Prelude.{◌≡◌, IfErr, IfOk};
 ghost use Rattle.mq_inodes.specs.MissingPages.{HasVolume, MissingOf, OfEach};
-ghost use Rattle.mq_inodes.specs.Walks.{IsDirectory, LeadsPast, LooksIn, LooksUnder, named};
+ghost use Rattle.mq_inodes.specs.Walks.{HoldsPlace, IsDirectory, LeadsPast, LooksIn, LooksUnder, named, placed};
 ghost use Rattle.mq_tree.specs.Requests.{enter as enter_found, target as target_of, walk as walk_of};
 ghost use Rattle.mq_tree.specs.Volume.{body, find as find_name, slots_of, way};
 
 use crate::lack::Missing;
+use crate::opened::Opened;
 use crate::working::Working;
 use mq_tree::{Fault, Name, Path};
 use std::alloc::Global;
@@ -21,6 +22,21 @@ pub enum Target {
     Lost(Fault),
     /// Its last name in a directory, with the inode that is found under it.
     In { directory: u32, found: Option<u32> },
+}
+
+/// What a path names, with the directory in which its last name stands.
+#[derive(Drop)]
+pub enum Place {
+    Root,
+    /// Nothing: walking to it is refused.
+    Lost(Fault),
+    /// Its last name in a directory, with the inode that is found under it. Where there is none, with the
+    /// first unused slot of the directory.
+    In {
+        directory: Opened,
+        found: Option<u32>,
+        unused: Option<u32>,
+    },
 }
 
 impl<'a> Working<'a> {
@@ -74,6 +90,31 @@ impl<'a> Working<'a> {
         Ok(Ok(at))
     }
 
+    /// What a path names, with the directory of its last name, which is held.
+    pub fn place(&self, alloc: Global, path: &Path) -> Result<Place, Missing>
+        requires { HasVolume self.now }
+        ensures ok { IfOk result (λ place. OfEach self.now
+            (λ v. placed (way path.now) place ≡ target_of v (way path.now))) }
+        ensures holds { IfOk result (HoldsPlace self.now) }
+        ensures lack { IfErr result (MissingOf self.now
+            (λ v b. LeadsPast self.now.geometry v (way path.now) b)) }
+    {
+        let Some((last, names)) = path.0.split_last() else {
+            return Ok(Place::Root);
+        };
+        let d = match self.walk(alloc, names)? {
+            Ok(d) => d,
+            Err(fault) => return Ok(Place::Lost(fault)),
+        };
+        let directory = self.open_directory(alloc, d)?;
+        let (found, unused) = self.search_names(&directory.blocks, &last.0);
+        Ok(Place::In {
+            directory,
+            found,
+            unused,
+        })
+    }
+
     /// What a path names.
     pub fn target(&self, alloc: Global, path: &Path) -> Result<Target, Missing>
         requires { HasVolume self.now }
@@ -82,15 +123,17 @@ impl<'a> Working<'a> {
         ensures lack { IfErr result (MissingOf self.now
             (λ v b. LeadsPast self.now.geometry v (way path.now) b)) }
     {
-        let Some((last, names)) = path.0.split_last() else {
-            return Ok(Target::Root);
-        };
-        match self.walk(alloc, names)? {
-            Ok(directory) => Ok(Target::In {
+        Ok(match self.place(alloc, path)? {
+            Place::Root => Target::Root,
+            Place::Lost(fault) => Target::Lost(fault),
+            Place::In {
                 directory,
-                found: self.lookup(alloc, directory, last)?,
-            }),
-            Err(fault) => Ok(Target::Lost(fault)),
-        }
+                found,
+                ..
+            } => Target::In {
+                directory: directory.number,
+                found,
+            },
+        })
     }
 }

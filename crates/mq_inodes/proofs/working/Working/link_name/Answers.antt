@@ -1,66 +1,8 @@
-use Rattle.std.proofs.Common.{ℕ, ◌≡◌, ◌-◌, ◌/◌, List, length, get_or, sym, ap, ◌∙◌, arith}
-use Rattle.std.specs.Prelude.{Option, Some, None}
+use Rattle.std.proofs.Common.{◌≡◌, List, ℕ, ap, ◌∙◌}
 use Rattle.mq_inodes.specs.Dirs.{slots_at}
-use Rattle.mq_inodes.specs.Pages.{Pages, pages_of}
-use Rattle.mq_inodes.proofs.Linking.{name-linked, on_ok-both}
-use Rattle.mq_inodes.proofs.LinkedGrown.{blank-held, full-blank, full-linked, full-slots, may-grow}
-use Rattle.mq_inodes.proofs.SlotNumbers.{unused-inside}
-use Rattle.mq_inodes.proofs.working.Working.link_name.Goals as goal
+use Rattle.mq_inodes.specs.Pages.{pages_of}
 use Rattle.mq_tree.specs.Requests.{unused}
+use Rattle.mq_inodes.proofs.working.Working.link_name.Goals as goal
 
--- of the blocks themselves
-seen : (pages : Pages) (bs blocks : List ℕ) (r o : Option ℕ) → r ≡ o → r ≡ unused 0 (slots_at pages bs) → bs ≡ blocks → o ≡ unused 0 (slots_at pages blocks)
-seen pages bs blocks r o is e same = sym is ∙ e ∙ ap (λ (xs : List ℕ). unused 0 (slots_at pages xs)) same
-
-pub index-requires : goal.index-requires
-index-requires c =
-    let inside = unused-inside (pages_of c.args.self.now) c.args.o.now.blocks.items c.in-Some.slot (seen (pages_of c.args.self.now) c.deref.result.now c.args.o.now.blocks.items c.unused.result (Some c.in-Some.slot) c.in-Some.is c.unused.ensures c.deref.ensures.value) in
-    omega arith
-
-pub put_slot-requires-clause-held : goal.put_slot-requires-clause-held
-put_slot-requires-clause-held c =
-    let inside = unused-inside (pages_of c.args.self.now) c.args.o.now.blocks.items c.in-Some.slot (seen (pages_of c.args.self.now) c.deref.result.now c.args.o.now.blocks.items c.unused.result (Some c.in-Some.slot) c.in-Some.is c.unused.ensures c.deref.ensures.value) in
-    rw c.index.ensures (c.requires.held (c.in-Some.slot / 15) c.index.result.now inside).held
-
-pub returns-in-Some-clause-linked : goal.returns-in-Some-clause-linked
-returns-in-Some-clause-linked c = on_ok-both c.put_slot.result c.put_slot.ensures.kinds c.put_slot.ensures.put (λ kind put q v carries may.
-    name-linked c.args.self.now.geometry q v c.args.o.now _ c.args.picks.now c.in-Some.slot c.index.result.now c.args.self.now c.put_slot.new.self carries may c.requires.held
-    (seen (pages_of c.args.self.now) c.deref.result.now c.args.o.now.blocks.items c.unused.result (Some c.in-Some.slot) c.in-Some.is c.unused.ensures c.deref.ensures.value) c.index.ensures kind put)
-
-pub grow-requires-clause-possible : goal.grow-requires-clause-possible
-grow-requires-clause-possible c =
-    let p = c.requires.possible in
-    let none = seen (pages_of c.args.self.now) c.deref.result.now c.args.o.now.blocks.items c.unused.result None c.in_default.is c.unused.ensures c.deref.ensures.value in
-    (p.0, p.1, 1, p.2, may-grow c.args.self.now.geometry p.0 p.1 c.args.o.now _ c.args.picks.now p.3 (full-slots c.args.self.now.geometry p.0 p.1 c.args.o.now _ c.args.picks.now c.args.self.now p.3 p.2 c.requires.held none))
-
-pub overflow_sub-len : goal.overflow_sub-len
-overflow_sub-len c =
-    let p = c.requires.possible in
-    let none = seen (pages_of c.args.self.now) c.deref.result.now c.args.o.now.blocks.items c.unused.result None c.in_default.is c.unused.ensures c.deref.ensures.value in
-    let longer = (full-blank c.args.self.now.geometry p.0 p.1 c.args.o.now c.grow.new.o _ c.args.picks.now c.args.self.now c.grow.new.self p.3 p.2 c.requires.held none c.in_ok-grow.ensures.over c.in_ok-grow.ensures.grown).longer in
-    let e = c.len.ensures in
-    omega arith
-
-pub index-last-requires : goal.index-last-requires
-index-last-requires c =
-    let p = c.requires.possible in
-    let none = seen (pages_of c.args.self.now) c.deref.result.now c.args.o.now.blocks.items c.unused.result None c.in_default.is c.unused.ensures c.deref.ensures.value in
-    let longer = (full-blank c.args.self.now.geometry p.0 p.1 c.args.o.now c.grow.new.o _ c.args.picks.now c.args.self.now c.grow.new.self p.3 p.2 c.requires.held none c.in_ok-grow.ensures.over c.in_ok-grow.ensures.grown).longer in
-    let e = c.len.ensures in
-    omega arith
-
-pub put_slot-requires-2-clause-held : goal.put_slot-requires-2-clause-held
-put_slot-requires-2-clause-held c =
-    let p = c.requires.possible in
-    let none = seen (pages_of c.args.self.now) c.deref.result.now c.args.o.now.blocks.items c.unused.result None c.in_default.is c.unused.ensures c.deref.ensures.value in
-    let count : c.len.result ≡ length c.grow.new.o.blocks.items = (let e = c.len.ensures in omega arith) in
-    let at = c.index-last.ensures ∙ ap (λ (n : ℕ). get_or c.grow.new.o.blocks.items (n - 1) c.index-last.result.now) count in
-    blank-held _ c.args.o.now c.grow.new.o c.grow.new.self _ c.index-last.result.now (full-blank c.args.self.now.geometry p.0 p.1 c.args.o.now c.grow.new.o _ c.args.picks.now c.args.self.now c.grow.new.self p.3 p.2 c.requires.held none c.in_ok-grow.ensures.over c.in_ok-grow.ensures.grown) at
-
-pub returns-clause-linked : goal.returns-clause-linked
-returns-clause-linked c =
-    let none = seen (pages_of c.args.self.now) c.deref.result.now c.args.o.now.blocks.items c.unused.result None c.in_default.is c.unused.ensures c.deref.ensures.value in
-    let count : c.len.result ≡ length c.grow.new.o.blocks.items = (let e = c.len.ensures in omega arith) in
-    let at = c.index-last.ensures ∙ ap (λ (n : ℕ). get_or c.grow.new.o.blocks.items (n - 1) c.index-last.result.now) count in
-    on_ok-both c.put_slot-2.result c.put_slot-2.ensures.kinds c.put_slot-2.ensures.put (λ kind put q v carries may.
-    full-linked c.args.self.now.geometry q v c.args.o.now c.grow.new.o _ c.args.picks.now c.index-last.result.now c.args.self.now c.grow.new.self c.put_slot-2.new.self carries may c.requires.held none c.in_ok-grow.ensures.over c.in_ok-grow.ensures.grown at kind put)
+pub link_name_at-requires-clause-slot : goal.link_name_at-requires-clause-slot
+link_name_at-requires-clause-slot c = c.unused-unused.ensures ∙ ap (λ (bs : List ℕ). unused 0 (slots_at (pages_of c.args.self.now) bs)) c.deref.ensures.value
