@@ -93,7 +93,7 @@ fn has_all(entry: &FileEntry) -> bool {
             Request::Mkdir(_),
             Request::Write(_, 7, bytes),
             Request::Stat(_),
-        ] => { bytes.0.as_slice() == b"text" }
+        ] => { bytes.0.as_slice() == b"text".as_slice() }
         _ => false,
     };
     let answered = match entry.replies.0.as_slice() {
