@@ -4,12 +4,13 @@ use Rattle.mq_blocks.specs.Drive.{PortState, PortImage, IsImage, IsQuiescent, co
 use Rattle.mq_blocks.specs.declared.geometry.Geometry.{Geometry}
 use Rattle.mq_drive.specs.Start.{IsPortOf}
 use Rattle.mq_drive.specs.declared.role.Role.{Role}
-use Rattle.mqfs.specs.Cuts.{HasBounds, HasEnded, IsCut, nearly_done}
+use Rattle.mqfs.specs.Cuts.{HasBounds, HasEnded, IsCut, nearly_done, rung_by}
 use Rattle.mq_pmr.specs.Runs.{Items, commands_of, after_some}
 use Rattle.mqfs.specs.Runs.{after_all, after_line}
-use Rattle.mqfs.proofs.Events.{counted-counted}
+use Rattle.mqfs.proofs.Events.{counted-counted, rung_all, rung_none}
 use Rattle.mqfs.proofs.Cutting.{port_flushed, port_rung, port_stored, port_ended, port_some, early_some, early_flushed, early_ended, early_all}
 use Rattle.mqfs.proofs.Ended.{ended_all}
+use Rattle.mqfs.proofs.Lines.{staged_all}
 use Rattle.mq_pmr.proofs.Staging.{length-commands}
 
 bounds_ended : (s t u : PortState) (n : ℕ) → HasBounds s t → HasEnded t u n → HasBounds s u
@@ -78,6 +79,14 @@ module _ (s : PortState) (tx : ℕ) (items : Items) (quiet : IsQuiescent s) wher
   unfolding after_line
   events_line = let sum : 2 * length items + 2 + 2 ≡ 2 * length items + 4 = omega arith in counts 2 ∙ ap (counted s.events) sum
 
+  -- before the ring the doorbell is where it was
+  still : (k : ℕ) → k < length items + 2 → s.doorbell ≡ s.doorbell + rung_by (length items) k
+  still k less = let none = rung_none (length items) k less in omega (arith, none)
+
+  -- with it, past the items
+  moved : (k : ℕ) → length items + 2 ≤ k → (after_ring (after_flush (after_some s tx (length items) items))).doorbell ≡ s.doorbell + rung_by (length items) k
+  moved k more = staged_all s tx items quiet ∙ ap (λ (n : ℕ). s.doorbell + n) (sym (rung_all (length items) k more))
+
   pub port_all : (g : Geometry) (role : Role) → IsPortOf g role s → IsPortOf g role (after_all (after_ring (after_flush (after_some s tx (length items) items))))
   port_all g role port =
       let rung : PortState = after_ring (after_flush (after_some s tx (length items) items)) in
@@ -87,6 +96,7 @@ module _ (s : PortState) (tx : ℕ) (items : Items) (quiet : IsQuiescent s) wher
     pub cut_staging : (k : ℕ) → k ≤ length items → new ≡ after_some s tx k items → IsCut s new tx items k
     cut_staging k few is = subst (λ (u : PortState). IsCut s u tx items k) (sym is) record {
       events_are = refl;
+      rung_is = still k (omega arith);
       bounds = record { fuse = refl; fail = refl; begins = refl };
       port = λ g role port. port_some s tx items quiet g role k port;
       stage = inl (early_some s tx items quiet done settled room k, omega arith);
@@ -95,6 +105,7 @@ module _ (s : PortState) (tx : ℕ) (items : Items) (quiet : IsQuiescent s) wher
     pub cut_flushed : new ≡ after_flush (after_some s tx (length items) items) → IsCut s new tx items (length items + 1)
     cut_flushed is = subst (λ (u : PortState). IsCut s u tx items (length items + 1)) (sym is) record {
       events_are = counted-counted s.events (length items) 1;
+      rung_is = still (length items + 1) (omega arith);
       bounds = record { fuse = refl; fail = refl; begins = refl };
       port = λ g role port. port_flushed g role _ (port_some s tx items quiet g role (length items) port);
       stage = inl (early_flushed s tx items quiet done settled room, omega arith);
@@ -107,6 +118,7 @@ module _ (s : PortState) (tx : ℕ) (items : Items) (quiet : IsQuiescent s) wher
         let few : n ≤ length items = omega (arith, at.left, rung_count) in
         record {
           events_are = ap (λ (u : PortState). u.events) at.is ∙ ap (λ (m : ℕ). counted m n) (counted-counted s.events (length items) 2) ∙ counted-counted s.events (length items + 2) n;
+          rung_is = ap (λ (u : PortState). u.doorbell) at.is ∙ moved (length items + 2 + n) (omega arith);
           bounds = bounds_ended s rung new n (record { fuse = refl; fail = refl; begins = refl }) at;
           port = λ g role port. port_ended g role rung new n at (port_rung g role _ (port_flushed g role _ (port_some s tx items quiet g role (length items) port)));
           stage = inl (early_ended s tx items quiet done settled room new n at, omega arith);
@@ -115,6 +127,7 @@ module _ (s : PortState) (tx : ℕ) (items : Items) (quiet : IsQuiescent s) wher
     pub cut_all : new ≡ after_all (after_ring (after_flush (after_some s tx (length items) items))) → IsCut s new tx items (2 * length items + 2)
     cut_all is = subst (λ (u : PortState). IsCut s u tx items (2 * length items + 2)) (sym is) record {
       events_are = events_all;
+      rung_is = moved (2 * length items + 2) (omega arith);
       bounds = record { fuse = refl; fail = refl; begins = refl };
       port = port_all;
       stage = inl (early_all s tx items quiet done settled room, omega arith);
@@ -126,6 +139,7 @@ module _ (s : PortState) (tx : ℕ) (items : Items) (quiet : IsQuiescent s) wher
         let rung : PortState = after_ring (after_flush (after_some s tx (length items) items)) in
         record {
           events_are = ap (λ (u : PortState). u.events) is ∙ events_nearly;
+          rung_is = ap (λ (u : PortState). u.doorbell) is ∙ moved (2 * length items + 3) (omega arith);
           bounds = subst (HasBounds s) (sym is) record { fuse = refl; fail = refl; begins = refl };
           port = λ g role port. subst (λ (u : PortState). IsPortOf g role u) (sym is)
               (port_stored g role (after_all rung) (staged_end s + length items) (port_all g role port));

@@ -13,14 +13,14 @@ use Rattle.mq_drive.specs.Start.{IsPortOf}
 use Rattle.mq_drive.specs.declared.role.Role.TheVariants.{Queue}
 use Rattle.mq_nvme.specs.Says.{says}
 use Rattle.mqfs.specs.Commits.{IsCleanQueue, AllBelow, Keeps, ShowsMap, blocks_in, items_of, descriptor_for}
-use Rattle.mqfs.specs.Cuts.{HasBounds, IsCut, IsEarly, IsReached, QueueShows, events_of, line_events}
+use Rattle.mqfs.specs.Cuts.{HasBounds, HasStopped, IsCut, IsEarly, IsReached, QueueShows, events_of, line_events, rung_after, rung_by}
 use Rattle.mqfs.specs.Lines.{set_in, writes_from, named, transaction_of, transactions_of, map_after}
 use Rattle.mq_pmr.specs.Runs.{Items, AreOwn}
 use Rattle.mqfs.specs.Runs.{AreDistinct, after_line}
 use Rattle.mq_text.specs.Text.{AreGoodItems, IsGoodLine, AreGoodLines, IsGoodText, sets_in, places_of}
 use Rattle.mq_text.specs.declared.item.BlockItem.{BlockItem}
 use Rattle.mqfs.proofs.Cutting.{early_all, early_none, settled_port}
-use Rattle.mqfs.proofs.Events.{counted-counted, events_more}
+use Rattle.mqfs.proofs.Events.{counted-counted, events_more, places_upto, rung_between, rung_inside}
 use Rattle.mqfs.proofs.Exits.{bounds_line, bounds_then, events_line, nearly_image, port_all}
 use Rattle.mqfs.proofs.Fills.{below_set, length-writes, length-writes_sets, named_is, rising_writes}
 use Rattle.mqfs.proofs.JournalItems.{length-items, own_items, distinct_items, new_below}
@@ -39,6 +39,7 @@ pub record SoFar (g : Geometry) (start s : PortState) (lines : Lines) (n next la
   pub keeps : Keeps g s next last ds (transactions_of lines n)
   pub follows : 0 < n → last + 1 ≡ next
   pub doorbell : s.doorbell ≡ start.doorbell + next
+  pub places : next ≡ places_upto lines n
   pub rings : s.rings ≡ counted start.rings n
   pub events : s.events ≡ counted start.events (events_of lines n)
   pub bounds : HasBounds start s
@@ -67,6 +68,7 @@ none_yet g s lines clean good below = record {
   };
   follows = λ some. absurd (omega arith);
   doorbell = omega arith;
+  places = refl;
   rings = refl;
   events = refl;
   bounds = record { fuse = refl; fail = refl; begins = refl };
@@ -114,11 +116,19 @@ pub finished : (g : Geometry) (start s : PortState) (lines : Lines) (n next last
 finished g start s lines n next last so_far one low short all q r image base =
     subst (λ (m : ℕ). ShowsMap g (shown says g (q ∷ []) r) m (map_after lines m)) all (shows_lines g start s lines n next last so_far one low short (omega arith) q r image base)
 
+-- and the doorbell is past all of them
+pub finished_rung : (g : Geometry) (start s : PortState) (lines : Lines) (n next last : ℕ) → SoFar g start s lines n next last → n ≡ length lines
+    → s.doorbell ≡ start.doorbell + rung_after lines (events_of lines (length lines))
+finished_rung g start s lines n next last so_far all =
+    let rung = rung_between lines n (omega arith) in
+    let bell = so_far.doorbell in
+    let places = so_far.places in
+    subst (λ (m : ℕ). s.doorbell ≡ start.doorbell + rung_after lines (events_of lines m)) all (omega arith)
+
 -- what a refusal leaves
 pub record IsStopped (g : Geometry) (start new : PortState) (lines : Lines) : Type 0 where
   pub count : ℕ
-  pub events : new.events ≡ counted start.events count
-  pub few : count < events_of lines (length lines)
+  pub stopped : HasStopped start new lines count
   pub shows : QueueShows g new lines count
   pub port : IsPortOf g (Queue 0) new
   pub bounds : HasBounds start new
@@ -128,8 +138,11 @@ pub stopped_between : (g : Geometry) (start s : PortState) (lines : Lines) (n ne
     → IsStopped g start s lines
 stopped_between g start s lines n next last so_far one low short within = record {
   count = events_of lines n;
-  events = so_far.events;
-  few = let more = events_more lines (suc n) (length lines) (omega arith) in omega arith;
+  stopped = record {
+    events_are = so_far.events;
+    few = let more = events_more lines (suc n) (length lines) (omega arith) in omega arith;
+    rung = let rung = rung_between lines n (omega arith) in let bell = so_far.doorbell in let places = so_far.places in omega arith;
+  };
   shows = λ q r image base. (n, record { within = omega arith; ends = inl (omega arith, λ less. omega arith) }, shows_lines g start s lines n next last so_far one low short (omega arith) q r image base);
   port = so_far.keeps.port;
   bounds = so_far.bounds;
@@ -225,6 +238,9 @@ module _ (g : Geometry) (start s : PortState) (lines : Lines) (n next last : ℕ
             ap (λ (u : PortState). u.doorbell) (sym same)
             ∙ doorbell_is g s next last ds (transactions_of lines n) so_far.keeps one (transaction_of (n + 1) line) (let e : n + 1 ≡ length ds + 1 = omega arith in e) small low_next fits few_ws rising
             ∙ (let bell = so_far.doorbell in omega (arith, count));
+        places =
+            let c = count in let t = sets ∙ ap sets_in is in let p = so_far.places in
+            (let e : next + length items ≡ places_upto lines (suc n) = omega arith in e) ∙ ap (places_upto lines) (let e : suc n ≡ n + 1 = omega arith in e);
         events =
             ap (λ (u : PortState). u.events) moved ∙ events_line s (n + 1) items so_far.keeps.quiet ∙ ap (λ (m : ℕ). counted m (2 * length items + 4)) so_far.events
             ∙ counted-counted start.events (events_of lines n) (2 * length items + 4) ∙ ap (counted start.events) (sym events_next);
@@ -271,17 +287,36 @@ module _ (g : Geometry) (start s : PortState) (lines : Lines) (n next last : ℕ
         shows_lines g start (after_line s (n + 1) items) lines (n + 1) (next + length items) (next + length items - 1) done one low short (omega arith) q r image base,
       )
 
+  -- a refusal comes before the line's last event
+  cut_few : (new : PortState) (k : ℕ) → IsCut s new (n + 1) items k → k < 2 * length items + 4
+  cut_few new k cut = ⊎_elim (λ early. let less_k = early.1 in omega arith) (λ nearly. let at = nearly.1 in omega arith) cut.stage
+
+  -- the doorbell has moved past the lines before it, and past it where it was rung
+  cut_rung : (new : PortState) (k : ℕ) → IsCut s new (n + 1) items k → new.doorbell ≡ start.doorbell + rung_after lines (events_of lines n + k)
+  cut_rung new k cut =
+      let same : length items ≡ sets_in (get_or lines n []) + 1 = let c = count in let t = sets ∙ ap sets_in is in omega arith in
+      let inside = cut_few new k cut in
+      let rung = rung_inside lines n k less (omega arith) in
+      let here : new.doorbell ≡ s.doorbell + rung_by (sets_in (get_or lines n []) + 1) k = cut.rung_is ∙ ap (λ (m : ℕ). s.doorbell + rung_by m k) same in
+      let bell = so_far.doorbell in
+      let places = so_far.places in
+      omega arith
+
   pub stopped_inside : (new : PortState) (k : ℕ) → IsCut s new (n + 1) items k → IsStopped g start new lines
   stopped_inside new k cut =
       let keeps = so_far.keeps in
       let room : length items ≤ 1023 = turn.room in
       record {
         count = events_of lines n + k;
-        events = cut.events_are ∙ ap (λ (m : ℕ). counted m k) so_far.events ∙ counted-counted start.events (events_of lines n) k;
-        few =
-            let after_next = events_next in
-            let end = events_more lines (n + 1) (length lines) (omega arith) in
-            ⊎_elim (λ early. let less_k = early.1 in omega arith) (λ nearly. let at = nearly.1 in omega arith) cut.stage;
+        stopped = record {
+          events_are = cut.events_are ∙ ap (λ (m : ℕ). counted m k) so_far.events ∙ counted-counted start.events (events_of lines n) k;
+          few =
+              let after_next = events_next in
+              let end = events_more lines (n + 1) (length lines) (omega arith) in
+              let inside = cut_few new k cut in
+              omega arith;
+          rung = cut_rung new k cut;
+        };
         shows = λ q r image base. ⊎_elim
             (λ early. stands_before new k early.0 (cut.port g (Queue 0) keeps.port) (let less_k = early.1 in omega arith) q r image base)
             (λ nearly.

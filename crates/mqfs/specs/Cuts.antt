@@ -1,5 +1,5 @@
 -- What a refusal in the middle of a commit leaves, and how many lines of a text then stand.
-use Rattle.std.specs.Prelude.{◌≡◌, ◌<◌, ◌≤◌, ◌⊎◌, ℕ, zero, suc, ◌+◌, ◌-◌, ◌*◌, ◌%◌, List, [], ◌∷◌, length, false, Option, Some, None, slice_index_or}
+use Rattle.std.specs.Prelude.{◌≡◌, ◌<◌, ◌≤◌, ◌⊎◌, ℕ, zero, suc, ◌+◌, ◌-◌, ◌*◌, ◌%◌, List, [], ◌∷◌, length, false, Option, Some, None, slice_index_or, min, nat_lt, if◌then◌else◌}
 use Rattle.mq_nvme.specs.Says.{says}
 use Rattle.mq_blocks.specs.Blocks.{block_at}
 use Rattle.mq_blocks.specs.Drive.{PortState, PortImage, IsImage, IsFlushed, IsCertain, counted, depth, index_of, staged_end, after_flush, after_ring, after_store_head}
@@ -36,14 +36,6 @@ abbrev pub IsPrefixAt : List (List BlockItem) → Option ℕ → ℕ → Type 0
 IsPrefixAt lines None p = p ≡ length lines
 IsPrefixAt lines (Some events) p = IsReached lines events p
 
--- How many lines stand, by the tickets of the queue's port, where its power is that of a fuse with this
--- limit: all where the power stayed on, and its events were those of the whole text; where it went off,
--- those that stand after so many events, and a ticket was at or above the limit.
-abbrev pub StandsUnder : List (List BlockItem) → Option ℕ → List ℕ → ℕ → Type 0
-StandsUnder lines None tickets p = p ≡ length lines
-StandsUnder lines (Some limit) tickets p =
-    ((p ≡ length lines) × (below limit tickets ≡ events_of lines (length lines))) ⊎ (IsReached lines (below limit tickets) p × (0 < above limit tickets))
-
 -- each image of the queue's port, with a root of base 0, shows as many lines as stand after these
 -- events
 abbrev pub QueueShows : Geometry → PortState → List (List BlockItem) → ℕ → Type 0
@@ -54,6 +46,46 @@ QueueShows g queue lines events =
 abbrev pub ShowsReached : Geometry → PortState → PortState → List (List BlockItem) → ℕ → Type 0
 ShowsReached g queue root lines events =
     (q r : PortImage) → IsImage queue q → IsImage root r → (n : ℕ) × IsReached lines events n × ShowsMap g (shown says g (q ∷ []) r) n (map_after lines n)
+
+-- ---- the doorbell
+
+-- How far a transaction of so many entries has moved the doorbell after so many of its events: each entry is
+-- staged, they are flushed, and one write rings them all.
+abbrev pub rung_by : (entries events : ℕ) → ℕ
+rung_by entries events = if nat_lt events (entries + 2) then 0 else entries
+
+-- How far the first n lines have moved it after so many events of the text. A line that sets so many blocks has one
+-- entry more, its descriptor's.
+abbrev pub rung_upto : List (List BlockItem) → (events n : ℕ) → ℕ
+rung_upto lines events zero = 0
+rung_upto lines events (suc n) = rung_upto lines events n + rung_by (sets_in (line_at lines n) + 1) (events - events_of lines n)
+
+-- the same of all lines
+abbrev pub rung_after : List (List BlockItem) → ℕ → ℕ
+rung_after lines events = rung_upto lines events (length lines)
+
+-- What a refusal after so many events of a text, fewer than it has, leaves of the queue's counts: the doorbell has
+-- moved past the lines that were rung, and past no other.
+pub record HasStopped (s new : PortState) (lines : List (List BlockItem)) (events : ℕ) : Type 0 where
+  pub events_are : new.events ≡ counted s.events events
+  pub few : events < events_of lines (length lines)
+  pub rung : new.doorbell ≡ s.doorbell + rung_after lines events
+
+-- How many lines stand and where the doorbell stands, by the tickets of the queue's port, where its power is that
+-- of a fuse with this limit and the doorbell began at 0. All lines stand where the power stayed on, and the events
+-- were those of the whole text. Where it went off, a ticket was at or above the limit, and those lines stand that do
+-- after so many events, fewer than the text has.
+abbrev pub StandsUnder : List (List BlockItem) → Option ℕ → List ℕ → (doorbell p : ℕ) → Type 0
+StandsUnder lines None tickets doorbell p = (p ≡ length lines) × (doorbell ≡ rung_after lines (events_of lines (length lines)))
+StandsUnder lines (Some limit) tickets doorbell p =
+    (doorbell ≡ rung_after lines (below limit tickets))
+    × (((p ≡ length lines) × (below limit tickets ≡ events_of lines (length lines)))
+    ⊎ (IsReached lines (below limit tickets) p × (0 < above limit tickets) × (below limit tickets < events_of lines (length lines))))
+
+-- the events that happen of a text where the power goes off after so many, or stays on
+abbrev pub events_under : List (List BlockItem) → Option ℕ → ℕ
+events_under lines None = events_of lines (length lines)
+events_under lines (Some cut) = min cut (events_of lines (length lines))
 
 -- ---- in the middle of a transaction
 
@@ -99,6 +131,7 @@ nearly_done s tx items =
 -- after so many events of a transaction, fewer than it has
 pub record IsCut (s new : PortState) (tx : ℕ) (items : Items) (events : ℕ) : Type 0 where
   pub events_are : new.events ≡ counted s.events events
+  pub rung_is : new.doorbell ≡ s.doorbell + rung_by (length items) events
   pub bounds : HasBounds s new
   pub port : (g : Geometry) (role : Role) → IsPortOf g role s → IsPortOf g role new
   pub stage : (IsEarly s new tx items × (events < 2 * length items + 3)) ⊎ ((new ≡ nearly_done s tx items) × (events ≡ 2 * length items + 3))

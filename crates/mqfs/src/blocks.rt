@@ -17,7 +17,7 @@ ghost use Rattle.mqfs.specs.Fresh.{IsTextGeometry, IsFresh};
 ghost use Rattle.mqfs.specs.Lines.{map_after};
 ghost use Rattle.mq_text.specs.Text.{IsGoodText};
 ghost use Rattle.mqfs.specs.Blocks.{IsBlockText, output_of};
-ghost use Rattle.mqfs.specs.Cuts.{IsPrefixAt, StandsUnder};
+ghost use Rattle.mqfs.specs.Cuts.{IsPrefixAt, StandsUnder, events_under, rung_after};
 ghost use Rattle.mq_text.specs.declared.refusal.BlockTextCause.{BlockTextCause};
 ghost use Rattle.mq_text.specs.Refusals.{IsRefusal, IsRefused, RefusesText};
 ghost use Rattle.mqfs.specs.Live.{HoldsMap};
@@ -127,7 +127,7 @@ fn commit_until(
     requires queue_seat { (fuse_of seats.0 ≡ name_of fuse.now) × (tickets_of seats.0 ≡ []) }
     requires root_seat { (fuse_of seats.1 ≡ name_of fuse.now) × (tickets_of seats.1 ≡ []) }
     ensures shows { IfOk result (λ r. (p : ℕ)
-        × StandsUnder text.now (name_of fuse.now).limit (tickets_of r.0.1) p
+        × StandsUnder text.now (name_of fuse.now).limit (tickets_of r.0.1) r.0.0.doorbell p
         × ShowsMap geometry (shown says geometry (r.0.0 ∷ []) r.1.0) p (map_after text.now p)) }
     ensures queue { IfOk result (λ r. IsImageOf geometry (Queue 0) r.0.0) }
     ensures root { IfOk result (λ r. IsImageOf geometry Root r.1.0) }
@@ -166,6 +166,7 @@ fn commit_fresh(
     ensures shows { IfOk result (λ r. (p : ℕ)
         × IsPrefixAt text.now cut p
         × ShowsMap geometry (shown says geometry (r.0 ∷ []) r.1) p (map_after text.now p)) }
+    ensures doorbell { IfOk result (λ r. r.0.doorbell ≡ rung_after text.now (events_under text.now cut)) }
     ensures queue { IfOk result (λ r. IsImageOf geometry (Queue 0) r.0) }
     ensures root { IfOk result (λ r. IsImageOf geometry Root r.1) }
 {

@@ -8,7 +8,7 @@ ghost use Rattle.mq_drive.specs.Start.{IsPortOf};
 ghost use Rattle.mq_drive.specs.declared.role.Role.TheVariants.{Queue};
 ghost use Rattle.mqfs.specs.Causes.{HasTextCause};
 ghost use Rattle.mqfs.specs.Commits.{IsClean, IsCleanQueue, AllBelow, ShowsMap, ShowsLines};
-ghost use Rattle.mqfs.specs.Cuts.{HasBounds, QueueShows, ShowsReached, events_of};
+ghost use Rattle.mqfs.specs.Cuts.{HasBounds, HasStopped, QueueShows, ShowsReached, events_of, rung_after};
 ghost use Rattle.mqfs.specs.Lines.{map_after};
 ghost use Rattle.mq_text.specs.Text.{IsGoodText};
 
@@ -74,10 +74,11 @@ pub fn commit_lines<P: Port>(
     ensures done { OnOk result ((P.state queue.new.port).head ≡ (P.state queue.new.port).doorbell) }
     ensures events { OnOk result ((P.state queue.new.port).events ≡ counted (P.state queue.old.port).events
         (events_of text.now (length text.now))) }
+    ensures rung { OnOk result ((P.state queue.new.port).doorbell ≡ (P.state queue.old.port).doorbell +
+        rung_after text.now (events_of text.now (length text.now))) }
     ensures cut { OnErr result ((e : ℕ)
-        × ((P.state queue.new.port).events ≡ counted (P.state queue.old.port).events e)
-        × QueueShows geometry (P.state queue.new.port) text.now e
-        × (e < events_of text.now (length text.now))) }
+        × HasStopped (P.state queue.old.port) (P.state queue.new.port) text.now e
+        × QueueShows geometry (P.state queue.new.port) text.now e) }
     ensures port { IsPortOf geometry (Queue 0) (P.state queue.new.port) }
     ensures bounds { HasBounds (P.state queue.old.port) (P.state queue.new.port) }
     ensures cause { HasTextCause result (P.faults queue.old.port) (P.faults queue.new.port) }
@@ -117,10 +118,11 @@ fn commit_through<P: Port>(
     ensures done { OnOk result.1 ((P.state result.0).head ≡ (P.state result.0).doorbell) }
     ensures events { OnOk result.1 ((P.state result.0).events ≡ counted (P.state port).events
         (events_of text.now (length text.now))) }
+    ensures rung { OnOk result.1 ((P.state result.0).doorbell ≡ (P.state port).doorbell +
+        rung_after text.now (events_of text.now (length text.now))) }
     ensures cut { OnErr result.1 ((e : ℕ)
-        × ((P.state result.0).events ≡ counted (P.state port).events e)
-        × QueueShows geometry (P.state result.0) text.now e
-        × (e < events_of text.now (length text.now))) }
+        × HasStopped (P.state port) (P.state result.0) text.now e
+        × QueueShows geometry (P.state result.0) text.now e) }
     ensures port { IsPortOf geometry (Queue 0) (P.state result.0) }
     ensures bounds { HasBounds (P.state port) (P.state result.0) }
     ensures cause { HasTextCause result.1 (P.faults port) (P.faults result.0) }
@@ -192,13 +194,18 @@ pub fn commit_text<P: Port>(
         → slice_get ports.queues.items 0 ≡ Some p
         → slice_get result.0.queues.items 0 ≡ Some q
         → (P.state q).events ≡ counted (P.state p).events (events_of text.now (length text.now))) }
+    // The doorbell is past all lines, and after a refusal past those that were rung.
+    ensures rung { OnOk result.1 ((p q : P)
+        → slice_get ports.queues.items 0 ≡ Some p
+        → slice_get result.0.queues.items 0 ≡ Some q
+        → (P.state q).doorbell ≡ (P.state p).doorbell +
+        rung_after text.now (events_of text.now (length text.now))) }
     ensures cut { OnErr result.1 ((p q : P)
         → slice_get ports.queues.items 0 ≡ Some p
         → slice_get result.0.queues.items 0 ≡ Some q
         → (e : ℕ)
-        × ((P.state q).events ≡ counted (P.state p).events e)
-        × ShowsReached geometry (P.state q) (P.state result.0.root) text.now e
-        × (e < events_of text.now (length text.now))) }
+        × HasStopped (P.state p) (P.state q) text.now e
+        × ShowsReached geometry (P.state q) (P.state result.0.root) text.now e) }
     ensures port { (p : P)
         → slice_get result.0.queues.items 0 ≡ Some p
         → IsPortOf geometry (Queue 0) (P.state p) }

@@ -1,4 +1,4 @@
-use Rattle.std.proofs.Common.{◌≡◌, ℕ, List, [], ◌∷◌, ◌++◌, Some, sym, ◌∙◌, ap, subst, refl, length}
+use Rattle.std.proofs.Common.{◌≡◌, ℕ, ◌+◌, List, [], ◌∷◌, ◌++◌, Some, sym, ◌∙◌, ap, subst, refl, length, arith}
 use Rattle.std.specs.Prelude.{slice_get}
 use Rattle.mq_blocks.specs.Drive.{FuseName, counted}
 use Rattle.mq_drive.specs.Emu.{emu_state, emu_faults}
@@ -9,7 +9,7 @@ use Rattle.mq_drive.specs.Steps.{Fault, CommandError, Gains}
 use Rattle.mq_drive.specs.declared.emu.EmuPort.{EmuPort}
 use Rattle.mq_drive.specs.declared.role.Role.{Role}
 use Rattle.mq_drive.specs.declared.role.Role.TheVariants.{Queue}
-use Rattle.mqfs.specs.Cuts.{events_of, StandsUnder}
+use Rattle.mqfs.specs.Cuts.{events_of, rung_after, StandsUnder}
 use Rattle.mqfs.proofs.CutTexts.{all_stand, reached_stand, none_failed, off_cause, failed_cause}
 use Rattle.mqfs.proofs.Drives.{one_item}
 use Rattle.mqfs.proofs.blocks.commit_until.Goals as goal
@@ -23,11 +23,17 @@ returns-in-Ok-clause-shows c =
     let fresh = c.in_ok-fresh_port.ensures.fresh in
     let bounds = c.commit_text-ports.ensures.bounds c.in_ok-fresh_port.field-0 q was got in
     let shows = rw c.in-Ok.is at c.commit_text-ports.ensures.ok in
-    let counts = rw c.in-Ok.is at c.commit_text-ports.ensures.events in (
+    let counts = rw c.in-Ok.is at c.commit_text-ports.ensures.events in
+    let rung = rw c.in-Ok.is at c.commit_text-ports.ensures.rung in
+    let p : EmuPort = c.in_ok-fresh_port.field-0 in
+    let bell : (emu_state p).doorbell ≡ 0 = fresh.doorbell in
+    let rings : (emu_state q).doorbell ≡ (emu_state p).doorbell + rung_after c.args.text.now (events_of c.args.text.now (length c.args.text.now)) = rung p q was got in
+    let image : c.cut.result.0.doorbell ≡ (emu_state q).doorbell = c.cut.ensures.image.doorbell in
+    let doorbell : c.cut.result.0.doorbell ≡ rung_after c.args.text.now (events_of c.args.text.now (length c.args.text.now)) = omega (arith, bell, rings, image) in (
       length c.args.text.now,
-      subst (λ (ts : List ℕ). StandsUnder c.args.text.now (name_of c.args.fuse.now).limit ts (length c.args.text.now)) (sym c.cut.ensures.tickets)
-          (all_stand c.args.text.now (name_of c.args.fuse.now).limit q c.requires.cut (ap (λ (f : FuseName). f.limit) (bounds.fuse ∙ fresh.fuse_is)) (bounds.begins ∙ fresh.begins)
-          (counts c.in_ok-fresh_port.field-0 q was got ∙ ap (λ n. counted n (events_of c.args.text.now (length c.args.text.now))) fresh.events)),
+      subst (λ (ts : List ℕ). StandsUnder c.args.text.now (name_of c.args.fuse.now).limit ts c.cut.result.0.doorbell (length c.args.text.now)) (sym c.cut.ensures.tickets)
+          (all_stand c.args.text.now (name_of c.args.fuse.now).limit q c.cut.result.0.doorbell c.requires.cut (ap (λ (f : FuseName). f.limit) (bounds.fuse ∙ fresh.fuse_is)) (bounds.begins ∙ fresh.begins)
+          (counts c.in_ok-fresh_port.field-0 q was got ∙ ap (λ n. counted n (events_of c.args.text.now (length c.args.text.now))) fresh.events) doorbell),
       shows q got c.cut.result.0 c.cut-in-Ok.result.0 c.cut.ensures.image c.cut-in-Ok.ensures.image,
     )
 
@@ -68,10 +74,15 @@ returns-clause-shows c =
     let cut = rw c.in-Err.is at c.commit_text-ports.ensures.cut in
     let left = cut p q was got in
     let gains = off_cause c.commit_text-ports.result.1 c.in-Err.refusal (emu_faults p) (emu_faults q) (c.commit_text-ports.ensures.cause p q was got) c.in-Err.is c.in_ok-check_power-in-Err.ensures in
+    let stopped = left.1 in
+    let bell : (emu_state p).doorbell ≡ 0 = fresh.doorbell in
+    let rings : (emu_state q).doorbell ≡ (emu_state p).doorbell + rung_after c.args.text.now left.0 = stopped.rung in
+    let image : c.cut-in-Err.result.0.doorbell ≡ (emu_state q).doorbell = c.cut-in-Err.ensures.image.doorbell in
+    let doorbell : c.cut-in-Err.result.0.doorbell ≡ rung_after c.args.text.now left.0 = omega (arith, bell, rings, image) in
     let shows = left.2 c.cut-in-Err.result.0 c.cut-in-Err-2.result.0 c.cut-in-Err.ensures.image c.cut-in-Err-2.ensures.image in (
       shows.0,
-      subst (λ (ts : List ℕ). StandsUnder c.args.text.now (name_of c.args.fuse.now).limit ts shows.0) (sym c.cut-in-Err.ensures.tickets)
-          (reached_stand c.args.text.now (name_of c.args.fuse.now).limit (emu_faults p) q left.0 shows.0 c.requires.cut (ap (λ (f : FuseName). f.limit) (bounds.fuse ∙ fresh.fuse_is)) (bounds.begins ∙ fresh.begins) (left.1 ∙ ap (λ n. counted n left.0) fresh.events) gains shows.1),
+      subst (λ (ts : List ℕ). StandsUnder c.args.text.now (name_of c.args.fuse.now).limit ts c.cut-in-Err.result.0.doorbell shows.0) (sym c.cut-in-Err.ensures.tickets)
+          (reached_stand c.args.text.now (name_of c.args.fuse.now).limit (emu_faults p) q left.0 shows.0 c.cut-in-Err.result.0.doorbell c.requires.cut (ap (λ (f : FuseName). f.limit) (bounds.fuse ∙ fresh.fuse_is)) (bounds.begins ∙ fresh.begins) (stopped.events_are ∙ ap (λ n. counted n left.0) fresh.events) gains shows.1 stopped.few doorbell),
       shows.2,
     )
 

@@ -2,7 +2,7 @@ use Rattle.std.proofs.Common.{rules, ◌≡◌, ◌<◌, length, vec_len, refl, 
 use Rattle.std.proofs.lemmas.Result.{err_from_is_err_and}
 use Rattle.mq_drive.specs.declared.role.Role.TheVariants.{Queue}
 use Rattle.mq_pmr.specs.Runs.{Items}
-use Rattle.mqfs.proofs.TextSteps.{Lines, none_yet, finished, places_many, line_turn, line_more, line_between, line_stopped, some_items}
+use Rattle.mqfs.proofs.TextSteps.{Lines, none_yet, finished, finished_rung, places_many, line_turn, line_more, line_between, line_stopped, some_items}
 use Rattle.mqfs.proofs.commit.commit_lines.Goals as goal
 
 pub loop-line-init : goal.loop-line-init
@@ -90,6 +90,16 @@ returns-clause-ok g c =
     finished c.args.geometry (state c.args.queue.now.port) (state c.loop-line.queue.port) lines c.loop-line.line-index c.loop-line.next c.loop-line.last c.loop-line.invariant.so_far
     c.requires.clean.one c.requires.clean.low (omega (arith, places_many lines, c.requires.good.1)) all q r image base
 
+pub returns-clause-rung : goal.returns-clause-rung
+returns-clause-rung g c =
+    let state = g.P.Port.state in
+    let xs : Lines = c.deref-line-items.result.now in
+    let lines : Lines = c.args.text.now in
+    let same : xs ≡ lines = c.deref-line-items.ensures.value ∙ c.text.view_is in
+    let len : length xs ≡ length lines = ap length same in
+    let all : c.loop-line.line-index ≡ length lines = omega (arith, len) in
+    finished_rung c.args.geometry (state c.args.queue.now.port) (state c.loop-line.queue.port) lines c.loop-line.line-index c.loop-line.next c.loop-line.last c.loop-line.invariant.so_far all
+
 pub returns-in_err-items-clause-cut : goal.returns-in_err-items-clause-cut
 returns-in_err-items-clause-cut g c =
     let state = g.P.Port.state in
@@ -99,7 +109,7 @@ returns-in_err-items-clause-cut g c =
     let stopped = line_between c.args.geometry (state c.args.queue.now.port) (state c.loop-line.queue.port) c.args.text.now xs c.loop-line.line-index c.loop-line.number c.loop-line.next c.loop-line.last inv.so_far
     c.requires.clean c.requires.good same c.loop-line-test.true c.line-item.result c.line-item.is inv.number in
     let p = err_from_is_err_and c.from_residual.result c.from_residual.ensures.1 in
-    rw p.1 (stopped.count, stopped.events, stopped.shows, stopped.few)
+    rw p.1 (stopped.count, stopped.stopped, stopped.shows)
 
 pub returns-in_err-commit_line-clause-cut : goal.returns-in_err-commit_line-clause-cut
 returns-in_err-commit_line-clause-cut g c =
@@ -111,7 +121,7 @@ returns-in_err-commit_line-clause-cut g c =
     let stopped = line_stopped c.args.geometry (state c.args.queue.now.port) (state c.loop-line.queue.port) c.args.text.now xs c.loop-line.line-index c.loop-line.number c.loop-line.next c.loop-line.last inv.so_far
     c.requires.clean c.requires.good same c.loop-line-test.true c.line-item.result c.line-item.is inv.number c.in_ok-items.items.items (state c.commit_line.new.queue.port) cut.0 c.in_ok-items.ensures cut.1 in
     let p = err_from_is_err_and c.from_residual-in_err-commit_line.result c.from_residual-in_err-commit_line.ensures.1 in
-    rw p.1 (stopped.count, stopped.events, stopped.shows, stopped.few)
+    rw p.1 (stopped.count, stopped.stopped, stopped.shows)
 
 pub returns-in_err-commit_line-clause-port : goal.returns-in_err-commit_line-clause-port
 returns-in_err-commit_line-clause-port g c = c.in_err-commit_line.ensures.cut.1.port c.args.geometry (Queue 0) c.loop-line.invariant.so_far.keeps.port

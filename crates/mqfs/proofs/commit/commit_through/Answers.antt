@@ -24,4 +24,4 @@ returns-in-Err-clause-cut g c =
     let stopped : IsStopped c.args.geometry s s lines =
     stopped_between c.args.geometry s s lines 0 0 0 (none_yet c.args.geometry s lines q.clean q.good q.below) q.clean.one q.clean.low short some in
     let at : IsStopped c.args.geometry s new lines = subst (λ (u : PortState). IsStopped c.args.geometry s u lines) (sym back) stopped in
-    (at.count, at.events, at.shows, at.few)
+    (at.count, at.stopped, at.shows)
