@@ -57,7 +57,9 @@ impl Sink for MemSink {
     fn put(&mut self, bytes: &[u8]) -> Result<usize, PutRefusal>
         requires { 0 < length bytes.now }
         ensures some { IfOk result (λ n. (1 ≤ n) × (n ≤ length bytes.now)) }
-        ensures wrote { MatchResult result (λ n. self.new.written.items ≡ self.old.written.items ++ take n bytes.now) (λ _. self.new.written.items ≡ self.old.written.items) }
+        ensures wrote { MatchResult result
+            (λ n. self.new.written.items ≡ self.old.written.items ++ take n bytes.now)
+            (λ _. self.new.written.items ≡ self.old.written.items) }
         ensures cause { PutCause result self.old.schedule.faults self.new.schedule.faults }
         ensures piece { IfOk result (λ n. n ≡ piece_of bytes.now) }
         ensures listed { IsErrOf result PutRefusal.Failed
@@ -102,7 +104,9 @@ impl Sink for SureSink {
     fn put(&mut self, bytes: &[u8]) -> Result<usize, PutRefusal>
         requires { 0 < length bytes.now }
         ensures some { IfOk result (λ n. (1 ≤ n) × (n ≤ length bytes.now)) }
-        ensures wrote { MatchResult result (λ n. self.new.written.items ≡ self.old.written.items ++ take n bytes.now) (λ _. self.new.written.items ≡ self.old.written.items) }
+        ensures wrote { MatchResult result
+            (λ n. self.new.written.items ≡ self.old.written.items ++ take n bytes.now)
+            (λ _. self.new.written.items ≡ self.old.written.items) }
         ensures piece { MatchResult result (λ n. n ≡ piece_of bytes.now) (λ e. e ≡ PutRefusal.OutOfMemory) }
     {
         append_piece(&mut self.written, bytes)

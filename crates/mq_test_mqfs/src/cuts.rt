@@ -17,7 +17,10 @@ fn cut_is_right(
 ) -> Result<bool, AllocError> {
     let line = match pick {
         0 => format!(in alloc; "blocks t --cut {events} --pick {pick}")?,
-        _ => format!(in alloc; "blocks t --cut {events} --pick {pick} --again {}", events % 13)?,
+        _ => format!(in alloc;
+            "blocks t --cut {events} --pick {pick} --again {}",
+            events % 13
+        )?,
     };
     let found = outcome_of(alloc, &line, bytes)?;
     Ok(found.status == 0 && is_right(alloc, text, events, &found.output)?)

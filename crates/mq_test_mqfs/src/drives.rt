@@ -17,7 +17,9 @@ use crate::standing::all_events;
 use mq_blocks::{Block, BlockNo, Geometry, OutOfMemory, QueueNo, TxNo};
 use mq_drive::{EmuPort, Fuse, FuseSeat, PortImage, Ports, Role};
 use mq_nvme::Entry;
-use mq_recover::{Chain, ChainRefusal, ImageFault, Standing, read_chain, read_home, recover, stands};
+use mq_recover::{
+    Chain, ChainRefusal, ImageFault, Standing, read_chain, read_home, recover, stands,
+};
 use mq_test_recovery::{PlainStanding, plain_standing};
 use mq_text::{BlockText, read_block_text};
 use mqfs::commit_text;
@@ -198,7 +200,10 @@ fn look_at(
     geometry: Geometry,
     queue: &EmuPort<'_>,
     root: &EmuPort<'_>,
-) -> (Result<Chain, ChainRefusal>, Result<Option<PlainStanding>, OutOfMemory>)
+) -> (
+    Result<Chain, ChainRefusal>,
+    Result<Option<PlainStanding>, OutOfMemory>,
+)
     requires { IsQuiescentPair geometry (emu_state queue.now) (emu_state root.now) }
 {
     let chain = read_chain(alloc, geometry, queue, TxNo(0));

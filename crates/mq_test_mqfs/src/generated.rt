@@ -8,12 +8,7 @@ use std::alloc::{AllocError, Global};
 const POOL: [u32; 6] = [0, 3, 15, 16, 200, 255];
 
 // What a line does with a block: it sets it, frees it, or neither, and then it has no item of it.
-fn push_item(
-    alloc: Global,
-    block: u32,
-    word: u64,
-    text: &mut Vec<u8>,
-) -> Result<(), AllocError> {
+fn push_item(alloc: Global, block: u32, word: u64, text: &mut Vec<u8>) -> Result<(), AllocError> {
     let item = match word % 4 {
         0 => format!(in alloc; "-{block} ")?,
         1 => String::new(alloc),

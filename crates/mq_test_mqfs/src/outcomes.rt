@@ -14,7 +14,10 @@ const PRINTED: [(&str, &str); 9] = [
     ("", "prefix 0\n"),
     // later lines go over earlier ones
     ("5=ab 7=01\n7=02\n9=ff\n", "prefix 3\n5 ab\n7 02\n9 ff\n"),
-    ("5=ab 200=01\n200=02\n9=ff\n", "prefix 3\n5 ab\n9 ff\n200 02\n"),
+    (
+        "5=ab 200=01\n200=02\n9=ff\n",
+        "prefix 3\n5 ab\n9 ff\n200 02\n",
+    ),
     ("1=00\n1=01\n1=02\n1=03\n", "prefix 4\n1 03\n"),
 ];
 
@@ -74,7 +77,10 @@ fn a_text_that_passes_the_area(rt: HostRuntime) -> Result<(), AllocError> {
         "blocks t --pick 9223372036854775807",
         "blocks t --cut 9223372036854775807 --pick 10",
     ] {
-        assert!(rt; outcome_of(rt.alloc(), line, &text)?.is(2, b"blocks line 5: Area\n"), "{line}");
+        assert!(rt;
+            outcome_of(rt.alloc(), line, &text)?.is(2, b"blocks line 5: Area\n"),
+            "{line}"
+        );
     }
     Ok(())
 }
@@ -141,7 +147,10 @@ fn a_recovery_of_two_lines_is_cut_at_each_event(rt: HostRuntime) -> Result<(), A
     for again in 0..13_u32 {
         for pick in 0..8_u32 {
             let output = cut_again(rt.alloc(), 18, pick, again)?;
-            assert!(rt; output.as_slice() == BOTH.as_bytes(), "again {again} pick {pick}");
+            assert!(rt;
+                output.as_slice() == BOTH.as_bytes(),
+                "again {again} pick {pick}"
+            );
         }
     }
     assert!(rt; ends(rt.alloc(), "blocks t --cut 10 --again 3", TWO_LINES, 0, ONE)?);
@@ -165,7 +174,10 @@ fn again_is_the_same(alloc: Global, cut: u32, pick: u32) -> Result<bool, AllocEr
 fn a_cut_of_a_recovery_changes_nothing(rt: HostRuntime) -> Result<(), AllocError> {
     for cut in 0..20_u32 {
         for pick in 0..4_u32 {
-            assert!(rt; again_is_the_same(rt.alloc(), cut, pick)?, "cut {cut} pick {pick}");
+            assert!(rt;
+                again_is_the_same(rt.alloc(), cut, pick)?,
+                "cut {cut} pick {pick}"
+            );
         }
     }
     Ok(())

@@ -65,11 +65,17 @@ fn numbers_of_another_form(rt: HostRuntime) -> Result<(), AllocError> {
             ["blocks", "t", "--cut", number, "--pick", "0"],
             ["blocks", "t", "--cut", "0", "--pick", number],
         ] {
-            assert!(rt; words_end(rt.alloc(), &words, "1=00\n", 1, USAGE)?, "{number}");
+            assert!(rt;
+                words_end(rt.alloc(), &words, "1=00\n", 1, USAGE)?,
+                "{number}"
+            );
         }
         for option in ["--cut", "--pick"] {
             let words = ["blocks", "t", option, number];
-            assert!(rt; words_end(rt.alloc(), &words, "1=00\n", 1, USAGE)?, "{option} {number}");
+            assert!(rt;
+                words_end(rt.alloc(), &words, "1=00\n", 1, USAGE)?,
+                "{option} {number}"
+            );
         }
     }
     Ok(())
