@@ -28,6 +28,18 @@ Rose old new = (old < new) ⊎ ((old ≡ count_end) × (new ≡ count_end))
 abbrev pub Held : Type 0
 Held = List ℕ → Option (List ℕ)
 
+-- What files show: what each name holds, where they tell it, how many of their calls failed, and how many bytes
+-- their loads took.
+pub record FilesState : Type 0 where
+  pub contents : Option Held
+  pub faults : ℕ
+  pub taken : ℕ
+
+-- what a sink shows: the bytes written so far, where it tells them, and how many of its calls failed
+pub record SinkState : Type 0 where
+  pub contents : Option (List ℕ)
+  pub faults : ℕ
+
 -- where the files tell what they hold, the name holds the bytes
 abbrev pub Holds : Option Held → List ℕ → List ℕ → Type 0
 Holds None name bytes = Unit {0}
@@ -52,7 +64,7 @@ abbrev pub put_name : Option Held → List ℕ → List ℕ → Option Held
 put_name None name bytes = None
 put_name (Some held) name bytes = Some (put_held held name bytes)
 
--- what is told of all other names is as before
+-- what all other names hold is as before
 abbrev pub OthersSame : Option Held → Option Held → List ℕ → Type 0
 OthersSame None None name = Unit {0}
 OthersSame None (Some new) name = ⊥
@@ -75,9 +87,9 @@ LoadTakes (Err load.OutOfMemory) old new = old ≤ new
 
 -- where a load was too long, the name holds more bytes than one load gives
 abbrev pub LoadRefused : LoadRefusal → Option Held → List ℕ → Type 0
-LoadRefused load.Failed told name = Unit {0}
-LoadRefused load.TooLong told name = HoldsOver told name
-LoadRefused load.OutOfMemory told name = Unit {0}
+LoadRefused load.Failed contents name = Unit {0}
+LoadRefused load.TooLong contents name = HoldsOver contents name
+LoadRefused load.OutOfMemory contents name = Unit {0}
 
 -- a save fails only where the faults rose, and they rise only where it fails
 abbrev pub SaveCause : {T : Type 0} → Result T SaveRefusal → ℕ → ℕ → Type 0

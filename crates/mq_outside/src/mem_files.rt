@@ -40,11 +40,11 @@ impl MemFiles {
     /// Files with these names and their bytes; of two with one name, the first counts. `fail`
     /// lists the calls that are to fail, counted from 1 over loads and saves alike.
     pub fn new(alloc: Global, names: Vec<(String, Vec<u8>)>, fail: Vec<u64>) -> MemFiles
-        ensures told { ⟦<MemFiles as Files>⟧.told result ≡ Some (held_in names.items) }
+        ensures contents { (⟦<MemFiles as Files>⟧.state result).contents ≡ Some (held_in names.items) }
         ensures fail { result.schedule.fail ≡ fail }
         ensures calls { result.schedule.calls ≡ 0 }
-        ensures faults { ⟦<MemFiles as Files>⟧.faults result ≡ 0 }
-        ensures taken { ⟦<MemFiles as Files>⟧.taken result ≡ 0 }
+        ensures faults { (⟦<MemFiles as Files>⟧.state result).faults ≡ 0 }
+        ensures taken { (⟦<MemFiles as Files>⟧.state result).taken ≡ 0 }
     {
         MemFiles {
             alloc,
@@ -56,7 +56,7 @@ impl MemFiles {
 
     /// What the name holds.
     pub fn get(&self, name: &str) -> Option<&[u8]>
-        ensures { Tells (⟦<MemFiles as Files>⟧.told self.now) name.now
+        ensures { Tells (⟦<MemFiles as Files>⟧.state self.now).contents name.now
             (option_map (λ bytes. bytes.now) result) }
     {
         names::held(self.entries.as_slice(), name)
@@ -64,11 +64,11 @@ impl MemFiles {
 }
 
 impl Files for MemFiles {
-    ghost faults = { λ f. f.schedule.faults };
-
-    ghost taken = { λ f. f.taken };
-
-    ghost told = { λ f. Some (held_in f.entries.items) };
+    ghost state = { λ f. record {
+      contents = Some (held_in f.entries.items);
+      faults = f.schedule.faults;
+      taken = f.taken;
+    } };
 
     fn load(&mut self, alloc: Global, name: &str) -> Result<Vec<u8>, LoadRefusal>
         ensures gives { MatchResult result (λ v. Holds
@@ -127,8 +127,8 @@ pub struct SureFiles {
 impl SureFiles {
     /// Files of which every name holds no bytes yet.
     pub fn new(alloc: Global) -> SureFiles
-        ensures told { ⟦<SureFiles as Files>⟧.told result ≡ Some (λ _. Some []) }
-        ensures taken { ⟦<SureFiles as Files>⟧.taken result ≡ 0 }
+        ensures contents { (⟦<SureFiles as Files>⟧.state result).contents ≡ Some (λ _. Some []) }
+        ensures taken { (⟦<SureFiles as Files>⟧.state result).taken ≡ 0 }
     {
         SureFiles {
             alloc,
@@ -139,7 +139,7 @@ impl SureFiles {
 
     /// What the name holds.
     pub fn get(&self, name: &str) -> Option<&[u8]>
-        ensures { Tells (⟦<SureFiles as Files>⟧.told self.now) name.now
+        ensures { Tells (⟦<SureFiles as Files>⟧.state self.now).contents name.now
             (option_map (λ bytes. bytes.now) result) }
     {
         Some(names::held(self.entries.as_slice(), name).unwrap_or(&[]))
@@ -147,11 +147,11 @@ impl SureFiles {
 }
 
 impl Files for SureFiles {
-    ghost faults = { λ _. 0 };
-
-    ghost taken = { λ f. f.taken };
-
-    ghost told = { λ f. Some (certain_in f.entries.items) };
+    ghost state = { λ f. record {
+      contents = Some (certain_in f.entries.items);
+      faults = 0;
+      taken = f.taken;
+    } };
 
     fn load(&mut self, alloc: Global, name: &str) -> Result<Vec<u8>, LoadRefusal> {
         let bytes = names::held(self.entries.as_slice(), name).unwrap_or(&[]);

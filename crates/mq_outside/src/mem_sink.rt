@@ -32,10 +32,10 @@ pub struct MemSink {
 impl MemSink {
     /// An empty sink. `fail` lists the puts that are to fail, counted from 1.
     pub fn new(alloc: Global, fail: Vec<u64>) -> MemSink
-        ensures written { ⟦<MemSink as Sink>⟧.contents result ≡ Some [] }
+        ensures written { (⟦<MemSink as Sink>⟧.state result).contents ≡ Some [] }
         ensures fail { result.schedule.fail ≡ fail }
         ensures calls { result.schedule.calls ≡ 0 }
-        ensures faults { ⟦<MemSink as Sink>⟧.faults result ≡ 0 }
+        ensures faults { (⟦<MemSink as Sink>⟧.state result).faults ≡ 0 }
     {
         MemSink {
             written: Vec::new(alloc),
@@ -45,21 +45,21 @@ impl MemSink {
 
     /// What was written so far.
     pub fn written(&self) -> &[u8]
-        ensures { ⟦<MemSink as Sink>⟧.contents self.now ≡ Some result.now }
+        ensures { (⟦<MemSink as Sink>⟧.state self.now).contents ≡ Some result.now }
     {
         self.written.as_slice()
     }
 }
 
 impl Sink for MemSink {
-    ghost faults = { λ s. s.schedule.faults };
-
-    ghost contents = { λ s. Some s.written.items };
+    ghost state = { λ s. record { contents = Some s.written.items; faults = s.schedule.faults } };
 
     fn put(&mut self, bytes: &[u8]) -> Result<usize, PutRefusal>
         requires { 0 < length bytes.now }
         ensures some { IfOk result (λ n. (1 ≤ n) × (n ≤ length bytes.now)) }
-        ensures wrote { MatchResult result (λ n. self.new.written.items ≡ self.old.written.items ++ take n bytes.now) (λ _. self.new.written.items ≡ self.old.written.items) }
+        ensures wrote { MatchResult result
+            (λ n. self.new.written.items ≡ self.old.written.items ++ take n bytes.now)
+            (λ _. self.new.written.items ≡ self.old.written.items) }
         ensures cause { PutCause result self.old.schedule.faults self.new.schedule.faults }
         ensures piece { IfOk result (λ n. n ≡ piece_of bytes.now) }
         ensures listed { IsErrOf result PutRefusal.Failed
@@ -83,7 +83,7 @@ pub struct SureSink {
 impl SureSink {
     /// An empty sink.
     pub fn new(alloc: Global) -> SureSink
-        ensures { ⟦<SureSink as Sink>⟧.contents result ≡ Some [] }
+        ensures { (⟦<SureSink as Sink>⟧.state result).contents ≡ Some [] }
     {
         SureSink {
             written: Vec::new(alloc),
@@ -92,21 +92,21 @@ impl SureSink {
 
     /// What was written so far.
     pub fn written(&self) -> &[u8]
-        ensures { ⟦<SureSink as Sink>⟧.contents self.now ≡ Some result.now }
+        ensures { (⟦<SureSink as Sink>⟧.state self.now).contents ≡ Some result.now }
     {
         self.written.as_slice()
     }
 }
 
 impl Sink for SureSink {
-    ghost faults = { λ _. 0 };
-
-    ghost contents = { λ s. Some s.written.items };
+    ghost state = { λ s. record { contents = Some s.written.items; faults = 0 } };
 
     fn put(&mut self, bytes: &[u8]) -> Result<usize, PutRefusal>
         requires { 0 < length bytes.now }
         ensures some { IfOk result (λ n. (1 ≤ n) × (n ≤ length bytes.now)) }
-        ensures wrote { MatchResult result (λ n. self.new.written.items ≡ self.old.written.items ++ take n bytes.now) (λ _. self.new.written.items ≡ self.old.written.items) }
+        ensures wrote { MatchResult result
+            (λ n. self.new.written.items ≡ self.old.written.items ++ take n bytes.now)
+            (λ _. self.new.written.items ≡ self.old.written.items) }
         ensures piece { MatchResult result (λ n. n ≡ piece_of bytes.now) (λ e. e ≡ PutRefusal.OutOfMemory) }
     {
         append_piece(&mut self.written, bytes)

@@ -129,9 +129,9 @@ pub struct RealFiles<R: rt::Files> {
 
 impl<R: rt::Files> RealFiles<R> {
     pub fn new(rt: R) -> RealFiles<R>
-        ensures faults { ⟦<RealFiles<R> as Files>⟧.faults result ≡ 0 }
-        ensures taken { ⟦<RealFiles<R> as Files>⟧.taken result ≡ 0 }
-        ensures told { ⟦<RealFiles<R> as Files>⟧.told result ≡ None }
+        ensures faults { (⟦<RealFiles<R> as Files>⟧.state result).faults ≡ 0 }
+        ensures taken { (⟦<RealFiles<R> as Files>⟧.state result).taken ≡ 0 }
+        ensures contents { (⟦<RealFiles<R> as Files>⟧.state result).contents ≡ None }
     {
         RealFiles {
             rt,
@@ -142,11 +142,7 @@ impl<R: rt::Files> RealFiles<R> {
 }
 
 impl<R: rt::Files> Files for RealFiles<R> {
-    ghost faults = { λ f. f.faults };
-
-    ghost taken = { λ f. f.taken };
-
-    ghost told = { λ _. None };
+    ghost state = { λ f. record { contents = None; faults = f.faults; taken = f.taken } };
 
     fn load(&mut self, alloc: Global, name: &str) -> Result<Vec<u8>, LoadRefusal> {
         let mut bytes = Vec::new(alloc);
@@ -203,17 +199,15 @@ pub struct RealSink<W: Write> {
 
 impl<W: Write> RealSink<W> {
     pub fn new(writer: W) -> RealSink<W>
-        ensures faults { ⟦<RealSink<W> as Sink>⟧.faults result ≡ 0 }
-        ensures contents { ⟦<RealSink<W> as Sink>⟧.contents result ≡ None }
+        ensures faults { (⟦<RealSink<W> as Sink>⟧.state result).faults ≡ 0 }
+        ensures contents { (⟦<RealSink<W> as Sink>⟧.state result).contents ≡ None }
     {
         RealSink { writer, faults: 0 }
     }
 }
 
 impl<W: Write> Sink for RealSink<W> {
-    ghost faults = { λ s. s.faults };
-
-    ghost contents = { λ _. None };
+    ghost state = { λ s. record { contents = None; faults = s.faults } };
 
     fn put(&mut self, bytes: &[u8]) -> Result<usize, PutRefusal>
         requires { 0 < length bytes.now }

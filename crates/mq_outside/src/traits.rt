@@ -28,52 +28,44 @@ pub enum PutRefusal {
 
 /// Files by name. A count stands still at `u64::MAX`.
 pub trait Files {
-    ghost use Rattle.std.specs.Prelude.{◌≡◌, ◌≤◌, ℕ, List, Option, IfOk, MatchResult, length};
-    ghost use Rattle.mq_outside.specs.Outside.{Holds, LoadCause, LoadRefused, LoadTakes, SaveCause, Saves};
+    ghost use Rattle.std.specs.Prelude.{◌≡◌, ◌≤◌, IfOk, MatchResult, length};
+    ghost use Rattle.mq_outside.specs.Outside.{FilesState, Holds, LoadCause, LoadRefused, LoadTakes, SaveCause, Saves};
 
-    // How many calls failed.
-    ghost faults: { Self → ℕ };
-
-    // How many bytes loads took.
-    ghost taken: { Self → ℕ };
-
-    // What each name holds, where the files tell it: None for a name that is absent.
-    ghost told: { Self → Option (List ℕ → Option (List ℕ)) };
+    // What each name holds, how many calls failed, and how many bytes loads took.
+    ghost state: { Self → FilesState };
 
     /// The bytes that the name holds.
     fn load(&mut self, alloc: Global, name: &str) -> Result<Vec<u8>, LoadRefusal>
-        ensures gives { MatchResult result (λ v. Holds (told self.old) name.now v.items)
-            (λ e. LoadRefused e (told self.old) name.now) }
+        ensures gives { MatchResult result (λ v. Holds (state self.old).contents name.now v.items)
+            (λ e. LoadRefused e (state self.old).contents name.now) }
         ensures within { IfOk result (λ v. length v.items ≤ LOAD_LIMIT) }
-        ensures cause { LoadCause result (faults self.old) (faults self.new) }
-        ensures takes { LoadTakes result (taken self.old) (taken self.new) }
-        ensures names { told self.new ≡ told self.old };
+        ensures cause { LoadCause result (state self.old).faults (state self.new).faults }
+        ensures takes { LoadTakes result (state self.old).taken (state self.new).taken }
+        ensures names { (state self.new).contents ≡ (state self.old).contents };
 
     /// Makes the name hold the bytes.
     fn save(&mut self, name: &str, bytes: &[u8]) -> Result<(), SaveRefusal>
-        ensures names { Saves result (told self.old) (told self.new) name.now bytes.now }
-        ensures cause { SaveCause result (faults self.old) (faults self.new) }
-        ensures takes { taken self.new ≡ taken self.old };
+        ensures names { Saves result (state self.old).contents (state self.new).contents name.now bytes.now }
+        ensures cause { SaveCause result (state self.old).faults (state self.new).faults }
+        ensures takes { (state self.new).taken ≡ (state self.old).taken };
 }
 
 /// Output, taken a piece at a time. A count stands still at `u64::MAX`.
 pub trait Sink {
-    ghost use Rattle.std.specs.Prelude.{◌≡◌, ◌<◌, ◌≤◌, ℕ, List, Option, IfOk, MatchResult, length, take};
-    ghost use Rattle.mq_outside.specs.Outside.{PutCause, appended};
+    ghost use Rattle.std.specs.Prelude.{◌≡◌, ◌<◌, ◌≤◌, IfOk, MatchResult, length, take};
+    ghost use Rattle.mq_outside.specs.Outside.{PutCause, SinkState, appended};
 
-    // How many calls failed.
-    ghost faults: { Self → ℕ };
-
-    // The bytes written so far, where the sink tells them.
-    ghost contents: { Self → Option (List ℕ) };
+    // The bytes written so far, and how many calls failed.
+    ghost state: { Self → SinkState };
 
     /// Appends the first bytes of the piece, and answers how many.
     fn put(&mut self, bytes: &[u8]) -> Result<usize, PutRefusal>
         requires { 0 < length bytes.now }
         ensures some { IfOk result (λ n. (1 ≤ n) × (n ≤ length bytes.now)) }
-        ensures wrote { MatchResult result (λ n. contents self.new ≡ appended (contents self.old)
-            (take n bytes.now)) (λ _. contents self.new ≡ contents self.old) }
-        ensures cause { PutCause result (faults self.old) (faults self.new) };
+        ensures wrote { MatchResult result
+            (λ n. (state self.new).contents ≡ appended (state self.old).contents (take n bytes.now))
+            (λ _. (state self.new).contents ≡ (state self.old).contents) }
+        ensures cause { PutCause result (state self.old).faults (state self.new).faults };
 }
 
 ghost use Rattle.std.specs.Prelude.{◌≡◌, MatchResult};
@@ -81,10 +73,10 @@ ghost use Rattle.mq_outside.specs.Outside.{AppendsPrefix, PutCause, appended};
 
 /// Appends all the bytes. A refusal leaves a prefix of them appended.
 pub fn put_all<K: Sink>(sink: &mut K, bytes: &[u8]) -> Result<(), PutRefusal>
-    ensures wrote { MatchResult result (λ _. K.contents sink.new ≡ appended
-        (K.contents sink.old) bytes.now)
-        (λ _. AppendsPrefix (K.contents sink.old) (K.contents sink.new) bytes.now) }
-    ensures cause { PutCause result (K.faults sink.old) (K.faults sink.new) }
+    ensures wrote { MatchResult result
+        (λ _. (K.state sink.new).contents ≡ appended (K.state sink.old).contents bytes.now)
+        (λ _. AppendsPrefix (K.state sink.old).contents (K.state sink.new).contents bytes.now) }
+    ensures cause { PutCause result (K.state sink.old).faults (K.state sink.new).faults }
 {
     let mut at = 0;
     while at < bytes.len() {

@@ -2,7 +2,7 @@
 use Rattle.std.proofs.Common.{◌≡◌, ◌≢◌, ◌<◌, ◌≤◌, inl, inr, ℕ, zero, suc, ◌+◌, ◌-◌, ◌%◌, List, [], ◌∷◌, ◌++◌, length, set, get_or, refl, sym, ◌∙◌, ap, subst, arith, add-zero, length-append}
 use Rattle.std.proofs.lemmas.List.{get_or-set_other}
 use Rattle.std.proofs.lemmas.Nat.{mod_below}
-use Rattle.mq_blocks.specs.Drive.{PortState, IsQuiescent, IsFlushed, IsApartFrom, depth, index_of, staged_end, after_flush, after_ring, after_store_head}
+use Rattle.mq_blocks.specs.Drive.{PortState, IsQuiescent, IsFlushed, IsApartFrom, depth, index_of, staged_end, after_flush, after_ring, after_store_head, usable_depth}
 use Rattle.mq_blocks.specs.declared.command.Command.{Command}
 use Rattle.mq_blocks.specs.declared.geometry.Geometry.{Geometry}
 use Rattle.mq_drive.specs.Start.{IsPortOf}
@@ -148,7 +148,7 @@ module _ (s : PortState) (tx : ℕ) (items : Items) (quiet : IsQuiescent s) wher
   no_posted : (j : ℕ) (t : PortState) → t.posted ≡ s.posted → IsApartFrom t j t.posted
   no_posted j t same = subst (IsApartFrom t j) (sym (same ∙ quiet.posted)) tt
 
-  module _ (done : s.head ≡ s.doorbell) (settled : (k : ℕ) → k < depth → get_or s.flushed k [] ≡ get_or s.staged k []) (room : length items ≤ 1023) where
+  module _ (done : s.head ≡ s.doorbell) (settled : (k : ℕ) → k < depth → get_or s.flushed k [] ≡ get_or s.staged k []) (room : length items ≤ usable_depth) where
     same_slot : 0 < s.head → get_or (slots_with s.staged tx (staged_end s) (length items) items) ((s.head - 1) % depth) [] ≡ get_or s.flushed ((s.head - 1) % depth) []
     same_slot some =
         slots_other s.staged tx (staged_end s) (length items) ((s.head - 1) % depth) items

@@ -1,30 +1,19 @@
--- A drive of one queue, and faults that did not come.
-use Rattle.std.proofs.Common.{◌≡◌, ⊎_elim, ◌+◌, List, [], ◌∷◌, ◌++◌, length, get_or, Some, refl, sym, ap, subst, arith, length-append}
+-- A list of one port.
+use Rattle.std.proofs.Common.{◌≡◌, List, [], ◌∷◌, length, map, get_or, Option, Some, refl, sym, ap, arith}
 use Rattle.std.specs.Prelude.{slice_get}
-use Rattle.std.specs.Prelude.{Result, Err}
-use Rattle.mq_drive.specs.Steps.{Fault, PowerOff, CommandError, Gains}
-use Rattle.mqfs.specs.Causes.{HasTextCause}
-use Rattle.mqfs.specs.declared.commit.TextRefusal.{TextRefusal}
-use Rattle.mqfs.specs.declared.commit.TextRefusal.TheVariants.{Off, Failed, OutOfMemory}
 
 pub one_item : {A : Type 0} (xs : List A) (x : A) → length xs ≡ 1 → x ≡ get_or xs 0 x → slice_get xs 0 ≡ Some x
 one_item [] x one is = absurd (omega arith)
 one_item (y ∷ ys) x one is = ap Some (sym is)
 
-pub no_gain : (f : Fault) → Gains f [] [] → ⊥
-no_gain f gains = ⊎_elim
-    (λ more.
-    let long : length (more.before ++ f ∷ more.after) ≡ length more.before + length (f ∷ more.after) = length-append more.before (f ∷ more.after) in
-    let none : 0 ≡ length (more.before ++ f ∷ more.after) = ap length more.new_is in
-    omega arith)
-    (λ full. omega (arith, full.0))
-    gains
+pub has_one : {A : Type 0} (xs : List A) → length xs ≡ 1 → (x : A) × (slice_get xs 0 ≡ Some x)
+has_one [] one = absurd (omega arith)
+has_one (x ∷ xs) one = (x, refl)
 
-no_cause_of : (A : Type 0) (e : TextRefusal) → HasTextCause {A = A} (Err e) [] [] → e ≡ OutOfMemory
-no_cause_of A Off cause = absurd (no_gain PowerOff cause)
-no_cause_of A (Failed status) cause = absurd (no_gain (CommandError cause.0 status) cause.1)
-no_cause_of A OutOfMemory cause = refl
+same_some : {A : Type 0} (y x : A) → ◌≡◌ {A = Option A} (Some y) (Some x) → y ≡ x
+same_some y x is = cc
 
--- over a port without faults only memory is wanting
-pub no_cause : {A : Type 0} (r : Result A TextRefusal) (e : TextRefusal) → HasTextCause r [] [] → r ≡ Err e → e ≡ OutOfMemory
-no_cause {A} r e cause is = no_cause_of A e (subst (λ (x : Result A TextRefusal). HasTextCause x [] []) is cause)
+-- what a function makes of the one item
+pub first_mapped : {A B : Type 0} (f : A → B) (xs : List A) (x : A) (d : B) → slice_get xs 0 ≡ Some x → get_or (map f xs) 0 d ≡ f x
+first_mapped f [] x d is = cc
+first_mapped f (y ∷ ys) x d is = ap f (same_some y x is)

@@ -1,6 +1,6 @@
 -- The refusals of a transaction: how many events came before each, and what it leaves.
 use Rattle.std.proofs.Common.{◌≡◌, ◌<◌, ◌≤◌, ◌⊎◌, ⊎_elim, inl, inr, ℕ, ◌+◌, ◌*◌, [], ◌++◌, length, get_or, refl, sym, ◌∙◌, ap, subst, arith}
-use Rattle.mq_blocks.specs.Drive.{PortState, PortImage, IsImage, IsQuiescent, counted, depth, staged_end, after_flush, after_ring, after_store_head}
+use Rattle.mq_blocks.specs.Drive.{PortState, PortImage, IsImage, IsQuiescent, counted, depth, staged_end, after_flush, after_ring, after_store_head, usable_depth}
 use Rattle.mq_blocks.specs.declared.geometry.Geometry.{Geometry}
 use Rattle.mq_drive.specs.Start.{IsPortOf}
 use Rattle.mq_drive.specs.declared.role.Role.{Role}
@@ -92,7 +92,7 @@ module _ (s : PortState) (tx : ℕ) (items : Items) (quiet : IsQuiescent s) wher
       let rung : PortState = after_ring (after_flush (after_some s tx (length items) items)) in
       port_ended g role rung _ _ (ended_all rung) (port_rung g role _ (port_flushed g role _ (port_some s tx items quiet g role (length items) port)))
 
-  module _ (done : s.head ≡ s.doorbell) (settled : (k : ℕ) → k < depth → get_or s.flushed k [] ≡ get_or s.staged k []) (room : length items ≤ 1023) (new : PortState) where
+  module _ (done : s.head ≡ s.doorbell) (settled : (k : ℕ) → k < depth → get_or s.flushed k [] ≡ get_or s.staged k []) (room : length items ≤ usable_depth) (new : PortState) where
     pub cut_staging : (k : ℕ) → k ≤ length items → new ≡ after_some s tx k items → IsCut s new tx items k
     cut_staging k few is = subst (λ (u : PortState). IsCut s u tx items k) (sym is) record {
       events_are = refl;

@@ -4,7 +4,7 @@ use Rattle.std.proofs.lemmas.Bool.{cases_eq}
 use Rattle.std.proofs.lemmas.Nat.{mod_below}
 use Rattle.mq_nvme.specs.Says.{says}
 use Rattle.mq_blocks.specs.Descriptor.{Descriptor}
-use Rattle.mq_blocks.specs.Drive.{PortState, PortImage, IsImage, IsFlushed, index_of, depth}
+use Rattle.mq_blocks.specs.Drive.{PortState, PortImage, IsImage, IsFlushed, index_of, depth, usable_depth}
 use Rattle.mq_blocks.specs.Geometry.{area_lba}
 use Rattle.mq_blocks.specs.Journal.{Shown, Says, shown, number_limit, IsChain, AreInReach, IsQueueChain, Has, AreWhole, AreInRow, IsPrefix, logged_copy, is_among, or_else, stands}
 use Rattle.mq_blocks.specs.Machine.{Map, Transaction, write_of, or_kept, after, after_all}
@@ -67,7 +67,7 @@ stands_all g i (d ∷ ds) (t ∷ ts) b v carry is =
 -- what the entries from the head to the doorbell say
 pub record AreReadable (s new : PortState) : Type 0 where
   pub order : s.head ≤ new.doorbell
-  pub few : new.doorbell ≤ s.head + 1023
+  pub few : new.doorbell ≤ s.head + usable_depth
   pub low : new.doorbell ≤ number_limit
   pub flushed : (c : ℕ) → s.head ≤ c → c < new.doorbell → IsFlushed new (c % depth)
   pub each : (c : ℕ) → s.head ≤ c → c < new.doorbell → (e : Says) × (says (get_or new.flushed (c % depth) []) ≡ Some e) × (e.0 ≤ number_limit)

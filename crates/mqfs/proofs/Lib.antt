@@ -1,5 +1,4 @@
 mod Programs
-mod Restarts
 pub mod CutTexts
 pub mod Cutting
 pub mod Drives
@@ -14,6 +13,7 @@ pub mod JournalShows
 pub mod Lines
 pub mod Lists
 pub mod LiveBlocks
+pub mod Restarts
 pub mod RungEntries
 pub mod TextSteps
 pub mod Words

@@ -6,7 +6,7 @@ use Rattle.mqfs.specs.Blocks.{IsBlockText, output_of}
 use Rattle.mqfs.specs.Cuts.{IsPrefixAt}
 use Rattle.mqfs.specs.Program.{Words, AreBlocks, Said, usage, output, refused, fault, too_long, memory, memory_line, EndsWith, IsRefusedText, IsToSay, IsUnlessWanting, IsSaidOf, status_of, text_of, refusal_said, TakesWithin}
 use Rattle.mq_text.specs.Refusals.{RefusesText, IsRefused}
-use Rattle.mq_outside.specs.Outside.{Held, Holds}
+use Rattle.mq_outside.specs.Outside.{FilesState, SinkState, Held, Holds}
 use Rattle.mq_text.specs.declared.item.BlockItem.{BlockItem}
 use Rattle.mq_text.specs.declared.refusal.BlockTextCause.{BlockTextCause}
 use Rattle.mq_text.specs.declared.refusal.BlockTextRefusal.{BlockTextRefusal}
@@ -55,21 +55,21 @@ prefix_longer old new first bytes prefix = (
 
 -- what there is to say of bytes that were loaded
 pub said_output :
-    {A : Type 0} (items : A → List ℕ) (o : Result A BlockTextRefusal) (ends : ℕ → List ℕ → Type 0) (told : Option Held) (name bytes : List ℕ) (cut : Option ℕ) (f nf t nt : ℕ)
+    {A : Type 0} (items : A → List ℕ) (o : Result A BlockTextRefusal) (ends : ℕ → List ℕ → Type 0) (name bytes : List ℕ) (cut : Option ℕ) (old new : FilesState)
     → IfOk o (λ v. (lines : List (List BlockItem)) × (p : ℕ) × IsBlockText bytes lines × IsPrefixAt lines cut p × (items v ≡ output_of lines p))
     → IfErr o (IsRefused (RefusesText bytes))
     → MatchResult o (λ v. ends 0 (items v)) (λ e. ends (status_of (refusal_said e)) (text_of [] (refusal_said e)) ⊎ ends 6 memory_line)
-    → Holds told name bytes → nf ≡ f → TakesWithin t nt
-    → (said : Said) × IsSaidOf said told name cut f nf t nt × ends (status_of said) (text_of name said)
-said_output items (Ok v) ends told name bytes cut f nf t nt ok bad end holds same within =
+    → Holds old.contents name bytes → new.faults ≡ old.faults → TakesWithin old.taken new.taken
+    → (said : Said) × IsSaidOf said name cut old new × ends (status_of said) (text_of name said)
+said_output items (Ok v) ends name bytes cut old new ok bad end holds same within =
     (output ok.0 ok.1, (bytes, holds, ok.2, ok.3, same, within), subst (ends 0) ok.4 end)
-said_output items (Err (At line cause)) ends told name bytes cut f nf t nt ok bad (inl end) holds same within =
+said_output items (Err (At line cause)) ends name bytes cut old new ok bad (inl end) holds same within =
     (refused line cause, (bytes, holds, bad, same, within), end)
-said_output items (Err (At line cause)) ends told name bytes cut f nf t nt ok bad (inr end) holds same within =
+said_output items (Err (At line cause)) ends name bytes cut old new ok bad (inr end) holds same within =
     (memory, same, end)
-said_output items (Err OutOfMemory) ends told name bytes cut f nf t nt ok bad (inl end) holds same within =
+said_output items (Err OutOfMemory) ends name bytes cut old new ok bad (inl end) holds same within =
     (memory, same, end)
-said_output items (Err OutOfMemory) ends told name bytes cut f nf t nt ok bad (inr end) holds same within =
+said_output items (Err OutOfMemory) ends name bytes cut old new ok bad (inr end) holds same within =
     (memory, same, end)
 
 -- ---- what a status tells
@@ -79,11 +79,10 @@ wanting true result e = inl e
 wanting false result e = inr e
 
 pub unless_wanting :
-    (status : ℕ) (text : List ℕ) (result : ℕ) (contents new_contents : Option (List ℕ)) (faults new_faults : ℕ) → EndsWith status text result contents new_contents faults new_faults
-    → IsUnlessWanting status result
-unless_wanting status text result contents new_contents faults new_faults (inl e) = inl e.0
-unless_wanting status text result contents new_contents faults new_faults (inr (inl e)) = inr (inl e.0)
-unless_wanting status text result contents new_contents faults new_faults (inr (inr e)) = inr (wanting (nat_eq status 4) result e.0)
+    (status : ℕ) (text : List ℕ) (result : ℕ) (old new : SinkState) → EndsWith status text result old new → IsUnlessWanting status result
+unless_wanting status text result old new (inl e) = inl e.0
+unless_wanting status text result old new (inr (inl e)) = inr (inl e.0)
+unless_wanting status text result old new (inr (inr e)) = inr (wanting (nat_eq status 4) result e.0)
 
 still_wanting : (wanted result : ℕ) → IsUnlessWanting 4 result → IsUnlessWanting wanted result
 still_wanting wanted result (inl e) = inr (inl e)
@@ -97,21 +96,25 @@ still_memory wanted result (inr e) = inr e
 one_held : (held : Held) (name bytes other : List ℕ) → held name ≡ Some bytes → held name ≡ Some other → bytes ≡ other
 one_held held name bytes other p q = let same : ◌≡◌ {A = Option (List ℕ)} (Some bytes) (Some other) = sym p ∙ q in cc
 
-module _ (held : Held) (name : List ℕ) (cut : Option ℕ) (bytes : List ℕ) (f nf t nt result : ℕ) (holds : held name ≡ Some bytes) where
-  done_of : (lines : List (List BlockItem)) → IsBlockText bytes lines → (said : Said) → IsSaidOf said (Some held) name cut f nf t nt → IsUnlessWanting (status_of said) result → IsUnlessWanting 0 result
+module _ (held : Held) (name : List ℕ) (cut : Option ℕ) (bytes : List ℕ) (old new : FilesState) (result : ℕ) (tells : old.contents ≡ Some held) (holds : held name ≡ Some bytes) where
+  -- the bytes that the name was found to hold are those
+  same_held : (other : List ℕ) → Holds old.contents name other → bytes ≡ other
+  same_held other has = one_held held name bytes other holds (subst (λ (o : Option Held). Holds o name other) tells has)
+
+  done_of : (lines : List (List BlockItem)) → IsBlockText bytes lines → (said : Said) → IsSaidOf said name cut old new → IsUnlessWanting (status_of said) result → IsUnlessWanting 0 result
   done_of lines is usage says ends = absurd says
   done_of lines is (output others p) says ends = ends
   done_of lines is (refused line cause) says ends =
-      let same : bytes ≡ says.0 = one_held held name bytes says.0 holds says.1 in
+      let same : bytes ≡ says.0 = same_held says.0 says.1 in
       absurd (good_or_refused bytes lines line cause is.spelled is.good (subst (λ (l : List ℕ). RefusesText l line cause) (sym same) says.2))
   done_of lines is fault says ends = still_wanting 0 result ends
   done_of lines is too_long says ends = still_wanting 0 result ends
   done_of lines is memory says ends = still_memory 0 result ends
 
-  refused_of : (line : ℕ) (cause : BlockTextCause) → RefusesText bytes line cause → (said : Said) → IsSaidOf said (Some held) name cut f nf t nt → IsUnlessWanting (status_of said) result → IsUnlessWanting 2 result
+  refused_of : (line : ℕ) (cause : BlockTextCause) → RefusesText bytes line cause → (said : Said) → IsSaidOf said name cut old new → IsUnlessWanting (status_of said) result → IsUnlessWanting 2 result
   refused_of line cause is usage says ends = absurd says
   refused_of line cause is (output lines p) says ends =
-      let same : bytes ≡ says.0 = one_held held name bytes says.0 holds says.1 in
+      let same : bytes ≡ says.0 = same_held says.0 says.1 in
       let text : IsBlockText bytes lines = subst (λ (l : List ℕ). IsBlockText l lines) (sym same) says.2 in
       absurd (good_or_refused bytes lines line cause text.spelled text.good is)
   refused_of line cause is (refused l c) says ends = ends
@@ -119,32 +122,31 @@ module _ (held : Held) (name : List ℕ) (cut : Option ℕ) (bytes : List ℕ) (
   refused_of line cause is too_long says ends = still_wanting 2 result ends
   refused_of line cause is memory says ends = still_memory 2 result ends
 
-module _ (words : Words) (told : Option Held) (f nf t nt status : ℕ) (text : List ℕ) (result : ℕ) (say : IsToSay words told f nf t nt status text) (ends : IsUnlessWanting status result)
-    (held : Held) (name : List ℕ) (options : Options) (bytes : List ℕ) (are : AreBlocks words name options) (tells : told ≡ Some held) (holds : held name ≡ Some bytes) where
+module _ (words : Words) (old new : FilesState) (status : ℕ) (text : List ℕ) (result : ℕ) (say : IsToSay words old new status text) (ends : IsUnlessWanting status result)
+    (held : Held) (name : List ℕ) (options : Options) (bytes : List ℕ) (are : AreBlocks words name options) (tells : old.contents ≡ Some held) (holds : held name ≡ Some bytes) where
   -- what was to be said of the name and the cut that the words ask
-  asked : (said : Said) × IsSaidOf said (Some held) name options.cut f nf t nt × IsUnlessWanting (status_of said) result
+  asked : (said : Said) × IsSaidOf said name options.cut old new × IsUnlessWanting (status_of said) result
   asked = elim say [
     | inl none ↦ absurd (none.0 name options are)
     | inr some ↦ (
         let one = one_command words some.0 name some.1 options some.3 are in (
           some.2,
-          subst (λ (o : Options). IsSaidOf some.2 (Some held) name o.cut f nf t nt) one.1
-              (subst (λ (n : List ℕ). IsSaidOf some.2 (Some held) n some.1.cut f nf t nt) one.0
-              (subst (λ (o : Option Held). IsSaidOf some.2 o some.0 some.1.cut f nf t nt) tells some.4)),
+          subst (λ (o : Options). IsSaidOf some.2 name o.cut old new) one.1 (subst (λ (n : List ℕ). IsSaidOf some.2 n some.1.cut old new) one.0 some.4),
           subst (λ (s : ℕ). IsUnlessWanting s result) some.5 ends,
         )
         )
   ]
 
   pub done_where : (lines : List (List BlockItem)) → IsBlockText bytes lines → IsUnlessWanting 0 result
-  done_where lines is = done_of held name options.cut bytes f nf t nt result holds lines is asked.0 asked.1 asked.2
+  done_where lines is = done_of held name options.cut bytes old new result tells holds lines is asked.0 asked.1 asked.2
 
   pub refused_where : (line : ℕ) (cause : BlockTextCause) → RefusesText bytes line cause → IsUnlessWanting 2 result
-  refused_where line cause is = refused_of held name options.cut bytes f nf t nt result holds line cause is asked.0 asked.1 asked.2
+  refused_where line cause is = refused_of held name options.cut bytes old new result tells holds line cause is asked.0 asked.1 asked.2
 
 -- what a refused text comes to, where that was said whole
-module _ (words : Words) (told : Option Held) (f nf t nt status : ℕ) (text : List ℕ) (result : ℕ) (contents new_contents : Option (List ℕ)) where
-  refusal_of : (name : List ℕ) (options : Options) (said : Said) → AreBlocks words name options → IsSaidOf said told name options.cut f nf t nt → status_of said ≡ 2 → new_contents ≡ appended contents (text_of name said) → IsRefusedText words told contents new_contents
+module _ (words : Words) (files new_files : FilesState) (status : ℕ) (text : List ℕ) (result : ℕ) (old new : SinkState) where
+  refusal_of : (name : List ℕ) (options : Options) (said : Said) → AreBlocks words name options → IsSaidOf said name options.cut files new_files → status_of said ≡ 2
+      → new.contents ≡ appended old.contents (text_of name said) → IsRefusedText words files old new
   refusal_of name options usage are says two is = absurd says
   refusal_of name options (output lines p) are says two is = absurd (omega (arith, two))
   refusal_of name options (refused line cause) are says two is = (name, options, says.0, line, cause, are, says.1, says.2, is)
@@ -156,9 +158,9 @@ module _ (words : Words) (told : Option Held) (f nf t nt status : ℕ) (text : L
   not_wanting (inl e) two = omega (arith, e, two)
   not_wanting (inr e) two = omega (arith, e, two)
 
-  pub refused_tells : (faults new_faults : ℕ) → IsToSay words told f nf t nt status text → EndsWith status text result contents new_contents faults new_faults → result ≡ 2 → IsRefusedText words told contents new_contents
-  refused_tells faults new_faults (inl say) (inl e) two = let one = say.1 in let same = e.0 in absurd (omega (arith, one, same, two))
-  refused_tells faults new_faults (inr say) (inl e) two =
-      refusal_of say.0 say.1 say.2 say.3 say.4 (sym say.5 ∙ sym e.0 ∙ two) (e.1 ∙ ap (appended contents) say.6)
-  refused_tells faults new_faults say (inr (inl e)) two = absurd (not_wanting (inl e.0) two)
-  refused_tells faults new_faults say (inr (inr e)) two = absurd (not_wanting (wanting (nat_eq status 4) result e.0) two)
+  pub refused_tells : IsToSay words files new_files status text → EndsWith status text result old new → result ≡ 2 → IsRefusedText words files old new
+  refused_tells (inl say) (inl e) two = let one = say.1 in let same = e.0 in absurd (omega (arith, one, same, two))
+  refused_tells (inr say) (inl e) two =
+      refusal_of say.0 say.1 say.2 say.3 say.4 (sym say.5 ∙ sym e.0 ∙ two) (e.1 ∙ ap (appended old.contents) say.6)
+  refused_tells say (inr (inl e)) two = absurd (not_wanting (inl e.0) two)
+  refused_tells say (inr (inr e)) two = absurd (not_wanting (wanting (nat_eq status 4) result e.0) two)

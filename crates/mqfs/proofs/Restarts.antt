@@ -1,6 +1,6 @@
 -- Images of a drive of one queue, the drive that starts from them, and its recovery.
-use Rattle.std.proofs.Common.{◌≡◌, ◌<◌, ◌≤◌, ◌⊎◌, ⊎_elim, ℕ, zero, suc, ◌+◌, ◌*◌, List, [], ◌∷◌, length, map, get_or, Option, Some, None, refl, inl, inr, sym, ◌∙◌, ap, subst, arith}
-use Rattle.std.specs.Prelude.{Contains, Result, Ok, Err, IfOk}
+use Rattle.std.proofs.Common.{◌≡◌, ◌<◌, ◌≤◌, ◌⊎◌, ⊎_elim, ℕ, zero, suc, ◌+◌, ◌*◌, ◌^◌, List, [], ◌∷◌, length, map, get_or, Option, Some, None, refl, inl, inr, sym, ◌∙◌, ap, subst, arith}
+use Rattle.std.specs.Prelude.{Contains, slice_get, Result, Ok, Err, IfOk}
 use Rattle.std.proofs.lemmas.List.{length-map}
 use Rattle.mq_blocks.specs.Descriptor.{Descriptor}
 use Rattle.mq_blocks.specs.Drive.{FuseName, PortState, PortImage, IsImage, IsQuiescent}
@@ -10,16 +10,18 @@ use Rattle.mq_blocks.specs.declared.geometry.Geometry.{Geometry}
 use Rattle.mq_ledger.specs.State.{port_at}
 use Rattle.mq_drive.specs.Emu.{emu_state, emu_faults}
 use Rattle.mq_drive.specs.Start.{IsImageOf, IsPortOf, start_of}
-use Rattle.mq_drive.specs.Views.{IsQuiescentPair as AreTwoStill}
 use Rattle.mq_drive.specs.Steps.{Fault, PowerOff, HomeError, Gains}
 use Rattle.mq_drive.specs.declared.emu.EmuPort.{EmuPort}
 use Rattle.mq_drive.proofs.Faults.{off_unlimited, no_error, home_error_is_none}
 use Rattle.mq_drive.proofs.Starts.{port_of-start, quiet-start}
 use Rattle.mq_drive.specs.declared.role.Role.TheVariants.{Queue, Root}
-use Rattle.mqfs.specs.Commits.{AreBelow, AllBelow}
+use Rattle.mqfs.specs.Commits.{AreBelow, AllBelow, IsClean, IsCleanQueue}
 use Rattle.mqfs.specs.Fresh.{IsTextGeometry}
 use Rattle.mqfs.specs.Restart.{IsLeftOf, cut_view, no_faults}
-use Rattle.mq_recover.specs.Drives.{DriveState, IsQuiescentDrive, IsQuiescentPort, AreImages, ArePorts, AreBoundsKept, IsBoundKept, drive, states, faults_of, view_over}
+use Rattle.mqfs.specs.Ports.{drive_of, faults_on, the_queue}
+use Rattle.mqfs.proofs.Drives.{first_mapped}
+use Rattle.mq_drive.specs.declared.port.Ports.{Ports}
+use Rattle.mq_recover.specs.Drives.{DriveFaults, DriveState, IsQuiescentDrive, IsQuiescentPort, AreImages, ArePorts, AreBoundsKept, IsBoundKept, drive, states, faults_of, view_over}
 use Rattle.mq_recover.specs.RecoverCauses.{HasDriveCause, OnDrive, OnImage, OneGains}
 use Rattle.mq_recover.specs.Recovery.{IsRead, StandsAs}
 use Rattle.mq_recover.specs.Refusals.{RefusesImage}
@@ -67,6 +69,46 @@ start_still g f q r one queue root = record {
 
 pub started_still : (g : Geometry) (f : FuseName) (q r : PortImage) (d : DriveState) → g.queues ≡ 1 → IsImageOf g (Queue 0) q → IsImageOf g Root r → d ≡ start_drive g f q r → IsQuiescentDrive g d
 started_still g f q r d one queue root is = subst (IsQuiescentDrive g) (sym is) (start_still g f q r one queue root)
+
+-- the port of the one queue
+pub first_of : (items : List EmuPort) (x : EmuPort) → slice_get items 0 ≡ Some x → port_at (map emu_state items) 0 ≡ emu_state x
+first_of items x is = first_mapped emu_state items x _ is
+
+faults_of_first : (items : List EmuPort) (x : EmuPort) → slice_get items 0 ≡ Some x → map emu_faults items ≡ [] ∷ [] → emu_faults x ≡ []
+faults_of_first items x is none = sym (first_mapped emu_faults items x [] is) ∙ ap (λ (l : List (List Fault)). get_or l 0 []) none
+
+-- the two ports
+pub record AreStarted (g : Geometry) (f : FuseName) (q r : PortImage) (ports : Ports EmuPort) (x : EmuPort) : Type 0 where
+  pub queue : emu_state x ≡ start_of g (Queue 0) q f None
+  pub root : emu_state ports.root ≡ start_of g Root r f None
+  pub none : emu_faults x ≡ []
+
+pub are_started : (g : Geometry) (f : FuseName) (q r : PortImage) (ports : Ports EmuPort) (x : EmuPort) → drive_of emu_state ports ≡ start_drive g f q r → faults_on emu_faults ports ≡ no_faults → the_queue ports ≡ Some x
+    → AreStarted g f q r ports x
+are_started g f q r ports x is none at = record {
+  queue = sym (first_of ports.queues.items x at) ∙ ap (λ (d : DriveState). port_at d.queues 0) is;
+  root = ap (λ (d : DriveState). d.root) is;
+  none = faults_of_first ports.queues.items x at (ap (λ (d : DriveFaults). d.queues) none);
+}
+
+-- one that starts from images whose words are 0 is clean
+pub fresh_clean : (g : Geometry) (f : FuseName) (q r : PortImage) (ports : Ports EmuPort) (x : EmuPort) → g.queues ≡ 1 → IsImageOf g (Queue 0) q → IsImageOf g Root r → q.doorbell ≡ 0 → q.head ≡ 0 → r.base ≡ 0 → AreStarted g f q r ports x
+    → IsClean g (emu_state x) (emu_state ports.root)
+fresh_clean g f q r ports x one queue root doorbell head base started =
+    let low : q.doorbell ≤ 2 ^ 62 = omega (arith, doorbell) in
+    let clean : IsCleanQueue g (start_of g (Queue 0) q f None) = record {
+      one = one;
+      port = port_of-start g (Queue 0) q f None queue;
+      quiet = quiet-start g (Queue 0) q f None;
+      done = head ∙ sym doorbell;
+      low = low;
+      before = λ (some : 0 < q.head). absurd (omega (arith, some, head));
+    } in record {
+      queue_clean = subst (IsCleanQueue g) (sym started.queue) clean;
+      root_port = subst (IsPortOf g Root) (sym started.root) (port_of-start g Root r f None root);
+      root_quiet = subst IsQuiescent (sym started.root) (quiet-start g Root r f None);
+      base = ap (λ (s : PortState). s.base) started.root ∙ base;
+    }
 
 -- what it shows to recovery is what the images show
 pub started_view : (g : Geometry) (f : FuseName) (q r : PortImage) (d : DriveState) → d ≡ start_drive g f q r → view_over g d ≡ cut_view g q r
@@ -125,6 +167,24 @@ pub record IsAnswered {A : Type 0} (g : Geometry) (f : FuseName) (q r : PortImag
   pub cause : HasDriveCause g result no_faults (faults_of emu_faults items root)
   pub bounds : AreBoundsKept g d (states emu_state items root)
   pub count : length items ≡ 1
+
+-- what a recovery of ports that have started from images answers
+pub answered : {A : Type 0} (g : Geometry) (f : FuseName) (q r : PortImage) (start new : Ports EmuPort) (result : Result A RecoverRefusal) → g.queues ≡ 1 → IsImageOf g (Queue 0) q → IsImageOf g Root r
+    → (ds : List Descriptor) × Reaches g (cut_view g q r) ds → drive_of emu_state start ≡ start_drive g f q r → faults_on emu_faults start ≡ no_faults
+    → OnImage result (λ c. (drive_of emu_state new ≡ drive_of emu_state start) × ((c ≡ fault.OutOfMemory) ⊎ RefusesImage g (drive_of emu_state start) c))
+    → HasDriveCause g result (faults_on emu_faults start) (faults_on emu_faults new) → AreBoundsKept g (drive_of emu_state start) (drive_of emu_state new)
+    → length new.queues.items ≡ length start.queues.items → IsAnswered g f q r (drive_of emu_state start) result new.queues.items new.root
+answered g f q r start new result one queue root reaches is none image cause bounds count = record {
+  one = one;
+  start = is;
+  still = started_still g f q r (drive_of emu_state start) one queue root is;
+  ds = reaches.0;
+  reaches = started_reaches g f q r (drive_of emu_state start) reaches.0 is reaches.1;
+  image = image;
+  cause = subst (λ (o : DriveFaults). HasDriveCause g result o (faults_on emu_faults new)) none cause;
+  bounds = bounds;
+  count = count ∙ one_port start.queues.items start.root g f q r is;
+}
 
 module _ {A : Type 0} (g : Geometry) (f : FuseName) (q r : PortImage) (d : DriveState) (result : Result A RecoverRefusal) (items : List EmuPort) (root : EmuPort) (a : IsAnswered g f q r d result items root) where
   -- a refusal of the image is want of memory
@@ -215,16 +275,3 @@ pub left_of : (g : Geometry) (f : FuseName) (old_queue old_root : PortImage) (d 
 left_of g f old_queue old_root d e q r ds noted found top is one reaches noted_is queue root read stand =
     subst (λ v. IsLeftOf g v (cut_view g q r) (Some noted) ds) (started_view g f old_queue old_root d is)
     (stands_left g d e q r ds noted found top one (started_reaches g f old_queue old_root d ds is reaches) noted_is queue root read stand)
-
--- a drive of one queue by its two ports
-pub two_still : (g : Geometry) (items : List EmuPort) (root x : EmuPort) → g.queues ≡ 1 → length items ≡ 1 → x ≡ get_or items 0 x → IsQuiescentDrive g (states emu_state items root) → AreTwoStill g (emu_state x) (emu_state root)
-two_still g items root x one count is still =
-    let queue = still.each 0 (omega (arith, one)) in
-    let same = first_state items x count is in
-    record {
-      one = one;
-      queue_port = subst (IsPortOf g (Queue 0)) same queue.port;
-      root_port = still.root.port;
-      queue_quiet = subst IsQuiescent same queue.quiet;
-      root_quiet = still.root.quiet;
-    }

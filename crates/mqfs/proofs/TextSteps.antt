@@ -3,7 +3,7 @@ use Rattle.std.proofs.Common.{◌≡◌, ◌<◌, ◌≤◌, ⊎_elim, inl, inr,
 use Rattle.std.proofs.Math.Seq.{drop-cons}
 use Rattle.std.proofs.lemmas.List.{get_or_default}
 use Rattle.mq_blocks.specs.Descriptor.{Descriptor, AreRising, descriptor_bytes}
-use Rattle.mq_blocks.specs.Drive.{PortState, PortImage, IsImage, counted, index_of, staged_end}
+use Rattle.mq_blocks.specs.Drive.{PortState, PortImage, IsImage, counted, index_of, staged_end, usable_depth}
 use Rattle.mq_blocks.specs.Geometry.{homes_of}
 use Rattle.mq_blocks.specs.Journal.{shown}
 use Rattle.mq_blocks.specs.Machine.{Writes, Transaction}
@@ -81,7 +81,7 @@ none_yet g s lines clean good below = record {
 pub record Turn (g : Geometry) (s : PortState) (line : List BlockItem) (items : Items) : Type 0 where
   pub good : AreGoodItems line
   pub end : staged_end s + length items ≤ 2 ^ 63
-  pub room : length items ≤ 1023
+  pub room : length items ≤ usable_depth
   pub own : AreOwn s items
   pub distinct : AreDistinct (index_of s) items
 
@@ -305,7 +305,7 @@ module _ (g : Geometry) (start s : PortState) (lines : Lines) (n next last : ℕ
   pub stopped_inside : (new : PortState) (k : ℕ) → IsCut s new (n + 1) items k → IsStopped g start new lines
   stopped_inside new k cut =
       let keeps = so_far.keeps in
-      let room : length items ≤ 1023 = turn.room in
+      let room : length items ≤ usable_depth = turn.room in
       record {
         count = events_of lines n + k;
         stopped = record {

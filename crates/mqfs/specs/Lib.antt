@@ -5,6 +5,7 @@ pub mod Cuts
 pub mod Fresh
 pub mod Lines
 pub mod Live
+pub mod Ports
 pub mod Program
 pub mod Restart
 pub mod Runs

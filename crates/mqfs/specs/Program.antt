@@ -4,7 +4,7 @@ use Rattle.mqfs.specs.Blocks.{IsBlockText, output_of}
 use Rattle.mqfs.specs.Cuts.{IsPrefixAt}
 use Rattle.mq_text.specs.Refusals.{RefusesText, cause_name}
 use Rattle.mq_text.specs.Text.{number_text}
-use Rattle.mq_outside.specs.Outside.{Held, Holds, HoldsOver, Rose, appended, AppendsPrefix, count_end, load_limit}
+use Rattle.mq_outside.specs.Outside.{FilesState, SinkState, Holds, HoldsOver, Rose, appended, AppendsPrefix, count_end, load_limit}
 use Rattle.mqfs.specs.declared.program.words.Options.{Options}
 use Rattle.mq_text.specs.declared.item.BlockItem.{BlockItem}
 use Rattle.mq_text.specs.declared.refusal.BlockTextCause.{BlockTextCause}
@@ -97,34 +97,36 @@ text_of name fault = fault_line name
 text_of name too_long = too_long_line name
 text_of name memory = memory_line
 
--- what is said of `blocks NAME` with a cut, by what the name holds and by the counts of the files
-abbrev pub IsSaidOf : Said → Option Held → (name : List ℕ) → (cut : Option ℕ) → (faults new_faults taken new_taken : ℕ) → Type 0
-IsSaidOf usage told name cut faults new_faults taken new_taken = ⊥
-IsSaidOf (output lines p) told name cut faults new_faults taken new_taken =
-    (bytes : List ℕ) × Holds told name bytes × IsBlockText bytes lines × IsPrefixAt lines cut p × (new_faults ≡ faults) × TakesWithin taken new_taken
-IsSaidOf (refused line cause) told name cut faults new_faults taken new_taken = (bytes : List ℕ) × Holds told name bytes × RefusesText bytes line cause × (new_faults ≡ faults) × TakesWithin taken new_taken
-IsSaidOf fault told name cut faults new_faults taken new_taken = Rose faults new_faults
-IsSaidOf too_long told name cut faults new_faults taken new_taken = HoldsOver told name × (new_faults ≡ faults) × TakesOver taken new_taken
-IsSaidOf memory told name cut faults new_faults taken new_taken = new_faults ≡ faults
+-- what is said of `blocks NAME` with a cut, by what the files show before and after
+abbrev pub IsSaidOf : Said → (name : List ℕ) → (cut : Option ℕ) → (old new : FilesState) → Type 0
+IsSaidOf usage name cut old new = ⊥
+IsSaidOf (output lines p) name cut old new =
+    (bytes : List ℕ) × Holds old.contents name bytes × IsBlockText bytes lines × IsPrefixAt lines cut p × (new.faults ≡ old.faults) × TakesWithin old.taken new.taken
+IsSaidOf (refused line cause) name cut old new =
+    (bytes : List ℕ) × Holds old.contents name bytes × RefusesText bytes line cause × (new.faults ≡ old.faults) × TakesWithin old.taken new.taken
+IsSaidOf fault name cut old new = Rose old.faults new.faults
+IsSaidOf too_long name cut old new = HoldsOver old.contents name × (new.faults ≡ old.faults) × TakesOver old.taken new.taken
+IsSaidOf memory name cut old new = new.faults ≡ old.faults
 
 -- A text was to be said with a status. It was, or the sink failed, or memory was wanting, which
 -- doesn't go before 4.
-abbrev pub EndsWith : (status : ℕ) (text : List ℕ) (result : ℕ) (contents new_contents : Option (List ℕ)) (faults new_faults : ℕ) → Type 0
-EndsWith status text result contents new_contents faults new_faults =
-    ((result ≡ status) × (new_contents ≡ appended contents text) × (new_faults ≡ faults))
-    ⊎ (((result ≡ 4) × AppendsPrefix contents new_contents text × Rose faults new_faults)
-    ⊎ ((result ≡ if nat_eq status 4 then 4 else 6) × AppendsPrefix contents new_contents text × (new_faults ≡ faults)))
+abbrev pub EndsWith : (status : ℕ) (text : List ℕ) (result : ℕ) (old new : SinkState) → Type 0
+EndsWith status text result old new =
+    ((result ≡ status) × (new.contents ≡ appended old.contents text) × (new.faults ≡ old.faults))
+    ⊎ (((result ≡ 4) × AppendsPrefix old.contents new.contents text × Rose old.faults new.faults)
+    ⊎ ((result ≡ if nat_eq status 4 then 4 else 6) × AppendsPrefix old.contents new.contents text × (new.faults ≡ old.faults)))
 
 -- what is said of a block text that is not read
 abbrev pub refusal_said : BlockTextRefusal → Said
 refusal_said (At line cause) = refused line cause
 refusal_said OutOfMemory = memory
 
--- what there is to say to the words, and with which status, by the counts of the files
-abbrev pub IsToSay : Words → Option Held → (faults new_faults taken new_taken status : ℕ) → List ℕ → Type 0
-IsToSay words told faults new_faults taken new_taken status text =
-    (AreUnknown words × (status ≡ 1) × (text ≡ usage_line) × (new_faults ≡ faults) × (new_taken ≡ taken))
-    ⊎ ((name : List ℕ) × (options : Options) × (said : Said) × AreBlocks words name options × IsSaidOf said told name options.cut faults new_faults taken new_taken × (status ≡ status_of said) × (text ≡ text_of name said))
+-- what there is to say to the words, and with which status, by what the files show before and after
+abbrev pub IsToSay : Words → (old new : FilesState) → (status : ℕ) → List ℕ → Type 0
+IsToSay words old new status text =
+    (AreUnknown words × (status ≡ 1) × (text ≡ usage_line) × (new.faults ≡ old.faults) × (new.taken ≡ old.taken))
+    ⊎ ((name : List ℕ) × (options : Options) × (said : Said)
+    × AreBlocks words name options × IsSaidOf said name options.cut old new × (status ≡ status_of said) × (text ≡ text_of name said))
 
 -- ---- what each status tells
 
@@ -138,18 +140,18 @@ IsUnlessWanting s result = (result ≡ s) ⊎ ((result ≡ 4) ⊎ (result ≡ 6)
 
 -- The words are `blocks`, a name that holds a block text, and options. What was said is the output
 -- of the lines that stand after the cut.
-abbrev pub IsDone : Words → Option Held → (contents new_contents : Option (List ℕ)) → Type 0
-IsDone words told contents new_contents =
+abbrev pub IsDone : Words → FilesState → (old new : SinkState) → Type 0
+IsDone words files old new =
     (name : List ℕ) × (options : Options) × (bytes : List ℕ) × (lines : List (List BlockItem)) × (p : ℕ)
-    × AreBlocks words name options × Holds told name bytes × IsBlockText bytes lines × IsPrefixAt lines options.cut p × (new_contents ≡ appended contents (output_of lines p))
+    × AreBlocks words name options × Holds files.contents name bytes × IsBlockText bytes lines × IsPrefixAt lines options.cut p × (new.contents ≡ appended old.contents (output_of lines p))
 
 -- The words are `blocks`, a name that holds bytes that are refused, and options. The line of that
 -- was said.
-abbrev pub IsRefusedText : Words → Option Held → (contents new_contents : Option (List ℕ)) → Type 0
-IsRefusedText words told contents new_contents =
+abbrev pub IsRefusedText : Words → FilesState → (old new : SinkState) → Type 0
+IsRefusedText words files old new =
     (name : List ℕ) × (options : Options) × (bytes : List ℕ) × (line : ℕ) × (cause : BlockTextCause)
-    × AreBlocks words name options × Holds told name bytes × RefusesText bytes line cause × (new_contents ≡ appended contents (refused_line line cause))
+    × AreBlocks words name options × Holds files.contents name bytes × RefusesText bytes line cause × (new.contents ≡ appended old.contents (refused_line line cause))
 
 -- the words are `blocks`, a name that holds more bytes than one load gives, and options
-abbrev pub IsTooLong : Words → Option Held → (taken new_taken : ℕ) → Type 0
-IsTooLong words told taken new_taken = (name : List ℕ) × (options : Options) × AreBlocks words name options × HoldsOver told name × TakesOver taken new_taken
+abbrev pub IsTooLong : Words → (old new : FilesState) → Type 0
+IsTooLong words old new = (name : List ℕ) × (options : Options) × AreBlocks words name options × HoldsOver old.contents name × TakesOver old.taken new.taken

@@ -25,19 +25,12 @@ ghost use Rattle.mqfs.specs.Live.{HoldsMap};
 use crate::commit::{TextRefusal, commit_text};
 use crate::live::{live_blocks, live_marks};
 use crate::power::power_of_two;
-use crate::restart::{recover_first, recover_images};
-use mq_blocks::{Block, Geometry, OutOfMemory, QueueNo};
-use mq_drive::{EmuPort, Fuse, FuseSeat, PortImage, Ports, Role};
+use crate::restart::{recover_first, recover_images, restarted};
+use mq_blocks::{Block, Geometry, OutOfMemory, QueueNo, RING_DEPTH};
+use mq_drive::{Fuse, FuseSeat, PortImage, Ports, Role};
 use mq_nvme::Entry;
 use mq_text::{BlockItem, BlockText, BlockTextRefusal, print_blocks, read_block_text};
 use std::alloc::Global;
-
-#[cfg(test)]
-mod compared;
-#[cfg(test)]
-mod cuts;
-#[cfg(test)]
-mod tests;
 
 /// The geometry of block texts: one queue with the smallest journal area, and 256 home blocks.
 pub fn text_geometry() -> Geometry
@@ -67,35 +60,24 @@ fn sizes(geometry: Geometry, role: Role) -> (usize, u32)
     ensures blocks { result.1 ≡ area_size_of geometry role + homes_size_of geometry role }
 {
     match role {
-        Role::Queue(_) => (1024, geometry.area() + geometry.zone()),
+        Role::Queue(_) => (RING_DEPTH as usize, geometry.area() + geometry.zone()),
         Role::Root => (0, geometry.meta()),
     }
 }
 
-// A port of zeros, whose choices follow from a number.
-fn fresh_port<'f>(
-    alloc: Global,
-    fuse: &'f Fuse,
-    seat: FuseSeat,
-    geometry: Geometry,
-    role: Role,
-    pick: u64,
-) -> Result<EmuPort<'f>, OutOfMemory>
-    requires role { IsRole geometry role }
-    requires seat { (fuse_of seat ≡ name_of fuse.now) × (tickets_of seat ≡ []) }
-    ensures fresh { IfOk result (λ p. IsFresh geometry role (name_of fuse.now) (emu_state p)) }
-    ensures faults { IfOk result (λ p. emu_faults p ≡ []) }
-    ensures tickets { IfOk result (λ p. drawn_by p ≡ []) }
+// An image of zeros of a role.
+fn fresh_image(alloc: Global, geometry: Geometry, role: Role) -> Result<PortImage, OutOfMemory>
+    ensures image { IfOk result (IsImageOf geometry role) }
+    ensures fresh { IfOk result IsFresh }
 {
     let (slots, count) = sizes(geometry, role);
-    let image = PortImage {
+    Ok(PortImage {
         doorbell: 0,
         head: 0,
         base: 0,
         slots: vec![in alloc; Entry::zeroed(); slots]?,
         blocks: absent_blocks(alloc, count)?,
-    };
-    EmuPort::new(alloc, fuse, seat, geometry, role, image, None, pick)
+    })
 }
 
 // Where no command fails, a text is refused by its power or for want of memory.
@@ -134,11 +116,10 @@ fn commit_until(
     ensures queue_seat { IfOk result (λ r. fuse_of r.0.1 ≡ name_of fuse.now) }
     ensures root_seat { IfOk result (λ r. (fuse_of r.1.1 ≡ name_of fuse.now) × (tickets_of r.1.1 ≡ [])) }
 {
-    let mut queues = Vec::with_capacity(alloc, 1)?;
-    let role = Role::Queue(QueueNo(0));
-    queues.push(fresh_port(alloc, fuse, seats.0, geometry, role, pick)?)?;
-    let root = fresh_port(alloc, fuse, seats.1, geometry, Role::Root, pick)?;
-    let (ports, answer) = commit_text(alloc, geometry, Ports { queues, root }, text);
+    let queue = fresh_image(alloc, geometry, Role::Queue(QueueNo(0)))?;
+    let root = fresh_image(alloc, geometry, Role::Root)?;
+    let ports = restarted(alloc, fuse, seats, geometry, (queue, root), pick)?;
+    let (ports, answer) = commit_text(alloc, geometry, ports, text);
     let Ports { mut queues, root } = ports;
     let queue = queues.remove(0);
     match answer {

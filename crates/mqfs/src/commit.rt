@@ -1,5 +1,5 @@
 // A block text is committed, each line as one transaction of the one queue.
-ghost use Rattle.std.specs.Prelude.{◌≡◌, ◌<◌, ◌≤◌, ◌+◌, ◌^◌, ℕ, List, length, OnOk, OnErr, Some, slice_get, [], ◌∷◌, vec_capacity};
+ghost use Rattle.std.specs.Prelude.{◌≡◌, ◌<◌, ◌≤◌, ◌+◌, ◌^◌, ℕ, List, length, OnOk, OnErr, Some, [], ◌∷◌, vec_capacity};
 ghost use Rattle.mq_blocks.specs.Drive.{PortState, PortImage, IsImage, IsQuiescent, counted};
 ghost use Rattle.mq_blocks.specs.Geometry.{homes_of};
 ghost use Rattle.mq_blocks.specs.Journal.{shown};
@@ -10,6 +10,7 @@ ghost use Rattle.mqfs.specs.Causes.{HasTextCause};
 ghost use Rattle.mqfs.specs.Commits.{IsClean, IsCleanQueue, AllBelow, ShowsMap, ShowsLines};
 ghost use Rattle.mqfs.specs.Cuts.{HasBounds, HasStopped, QueueShows, ShowsReached, events_of, rung_after};
 ghost use Rattle.mqfs.specs.Lines.{map_after};
+ghost use Rattle.mqfs.specs.Ports.{the_queue};
 ghost use Rattle.mq_text.specs.Text.{IsGoodText};
 
 use crate::items::items_of_line;
@@ -173,49 +174,49 @@ pub fn commit_text<P: Port>(
 ) -> (Ports<P>, Result<(), TextRefusal>)
     requires one { length ports.queues.items ≡ 1 }
     requires clean { (p : P)
-        → slice_get ports.queues.items 0 ≡ Some p
+        → the_queue ports ≡ Some p
         → IsClean geometry (P.state p) (P.state ports.root) }
     requires good { IsGoodText text.now }
     requires below { AllBelow (homes_of geometry) text.now }
     ensures ok { OnOk result.1 ((p : P)
-        → slice_get result.0.queues.items 0 ≡ Some p
+        → the_queue result.0 ≡ Some p
         → ShowsLines geometry (P.state p) (P.state result.0.root) text.now (length text.now)) }
     ensures rings { OnOk result.1 ((p q : P)
-        → slice_get ports.queues.items 0 ≡ Some p
-        → slice_get result.0.queues.items 0 ≡ Some q
+        → the_queue ports ≡ Some p
+        → the_queue result.0 ≡ Some q
         → (P.state q).rings ≡ counted (P.state p).rings (length text.now)) }
     ensures quiet { OnOk result.1 ((p : P)
-        → slice_get result.0.queues.items 0 ≡ Some p
+        → the_queue result.0 ≡ Some p
         → IsQuiescent (P.state p)) }
     ensures done { OnOk result.1 ((p : P)
-        → slice_get result.0.queues.items 0 ≡ Some p
+        → the_queue result.0 ≡ Some p
         → (P.state p).head ≡ (P.state p).doorbell) }
     ensures events { OnOk result.1 ((p q : P)
-        → slice_get ports.queues.items 0 ≡ Some p
-        → slice_get result.0.queues.items 0 ≡ Some q
+        → the_queue ports ≡ Some p
+        → the_queue result.0 ≡ Some q
         → (P.state q).events ≡ counted (P.state p).events (events_of text.now (length text.now))) }
     // The doorbell is past all lines, and after a refusal past those that were rung.
     ensures rung { OnOk result.1 ((p q : P)
-        → slice_get ports.queues.items 0 ≡ Some p
-        → slice_get result.0.queues.items 0 ≡ Some q
+        → the_queue ports ≡ Some p
+        → the_queue result.0 ≡ Some q
         → (P.state q).doorbell ≡ (P.state p).doorbell +
         rung_after text.now (events_of text.now (length text.now))) }
     ensures cut { OnErr result.1 ((p q : P)
-        → slice_get ports.queues.items 0 ≡ Some p
-        → slice_get result.0.queues.items 0 ≡ Some q
+        → the_queue ports ≡ Some p
+        → the_queue result.0 ≡ Some q
         → (e : ℕ)
         × HasStopped (P.state p) (P.state q) text.now e
         × ShowsReached geometry (P.state q) (P.state result.0.root) text.now e) }
     ensures port { (p : P)
-        → slice_get result.0.queues.items 0 ≡ Some p
+        → the_queue result.0 ≡ Some p
         → IsPortOf geometry (Queue 0) (P.state p) }
     ensures bounds { (p q : P)
-        → slice_get ports.queues.items 0 ≡ Some p
-        → slice_get result.0.queues.items 0 ≡ Some q
+        → the_queue ports ≡ Some p
+        → the_queue result.0 ≡ Some q
         → HasBounds (P.state p) (P.state q) }
     ensures cause { (p q : P)
-        → slice_get ports.queues.items 0 ≡ Some p
-        → slice_get result.0.queues.items 0 ≡ Some q
+        → the_queue ports ≡ Some p
+        → the_queue result.0 ≡ Some q
         → HasTextCause result.1 (P.faults p) (P.faults q) }
     ensures queues { length result.0.queues.items ≡ 1 }
     ensures root { result.0.root ≡ ports.root }

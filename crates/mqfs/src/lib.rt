@@ -9,8 +9,6 @@ mod live;
 mod power;
 mod program;
 mod restart;
-#[cfg(test)]
-mod tests;
 
 pub use commit::{TextRefusal, commit_text};
 pub use mq_text::{

@@ -1,6 +1,6 @@
 // One line of a text, committed as a transaction through a queue.
 ghost use Rattle.std.specs.Prelude.{◌≡◌, ◌<◌, ◌≤◌, ◌+◌, ◌^◌, ℕ, [], length, OnOk, OnErr, slice_index_or};
-ghost use Rattle.mq_blocks.specs.Drive.{PortState, IsQuiescent, depth, index_of, staged_end};
+ghost use Rattle.mq_blocks.specs.Drive.{PortState, IsQuiescent, depth, index_of, staged_end, usable_depth};
 ghost use Rattle.mq_pmr.specs.Runs.{AreOwn};
 ghost use Rattle.mqfs.specs.Causes.{HasCause};
 ghost use Rattle.mqfs.specs.Cuts.{HasEnded, IsCut};
@@ -57,7 +57,7 @@ pub fn commit_line<P: Port>(
     requires tx { 1 ≤ tx }
     requires some { 0 < length items.items }
     requires end { staged_end (P.state queue.old.port) + length items.items ≤ 2 ^ 63 }
-    requires room { length items.items ≤ 1023 }
+    requires room { length items.items ≤ usable_depth }
     requires quiet { IsQuiescent (P.state queue.old.port) }
     requires done { (P.state queue.old.port).head ≡ (P.state queue.old.port).doorbell }
     requires settled { (k : ℕ)

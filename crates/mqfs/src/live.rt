@@ -5,7 +5,8 @@ ghost use Rattle.mq_blocks.specs.Machine.{Map};
 ghost use Rattle.mqfs.specs.Fresh.{IsTextGeometry};
 ghost use Rattle.mqfs.specs.Lines.{live_from, map_after, named};
 ghost use Rattle.mqfs.specs.Live.{AreMarks, HoldsMap, marked};
-ghost use Rattle.mq_recover.specs.Drives.{IsQuiescentDrive, states, view_over};
+ghost use Rattle.mq_recover.specs.Drives.{IsQuiescentDrive, view_over};
+ghost use Rattle.mqfs.specs.Ports.{drive_of};
 ghost use Rattle.mq_text.specs.Text.{AreGoodItems, IsGoodText};
 
 use crate::items::NAMED;
@@ -57,11 +58,11 @@ pub fn live_blocks<P: Port>(
     marks: &[bool],
 ) -> Result<Vec<(BlockNo, u8)>, OutOfMemory>
     requires geometry { IsTextGeometry geometry }
-    requires still { IsQuiescentDrive geometry (states P.state ports.now.queues.items ports.now.root) }
+    requires still { IsQuiescentDrive geometry (drive_of P.state ports.now) }
     requires marks { length marks.now ≡ 256 }
     ensures { IfOk result (λ v. (m : Map)
         → AreMarks m marks.now
-        → HoldsMap geometry (states P.state ports.now.queues.items ports.now.root) m
+        → HoldsMap geometry (drive_of P.state ports.now) m
         → v.items ≡ live_from m 0 named) }
 {
     let mut live = Vec::new(alloc);

@@ -45,18 +45,18 @@ fn ended(status: u8, put: Result<(), PutRefusal>) -> u8
 
 // Says a text, and answers the status.
 fn say<K: Sink>(status: u8, text: &[u8], out: &mut K) -> u8
-    ensures { EndsWith status text.now result (K.contents out.old) (K.contents out.new) (K.faults out.old)
-        (K.faults out.new) }
+    ensures { EndsWith status text.now result (K.state out.old) (K.state out.new) }
 {
     ended(status, put_all(out, text))
 }
 
 // Appends a word, a name and a line feed.
 fn put_named<K: Sink>(out: &mut K, first: &[u8], name: &[u8]) -> Result<(), PutRefusal>
-    ensures wrote { MatchResult result (λ _. K.contents out.new ≡ appended (K.contents out.old)
-        (named_line first.now name.now))
-        (λ _. AppendsPrefix (K.contents out.old) (K.contents out.new) (named_line first.now name.now)) }
-    ensures cause { PutCause result (K.faults out.old) (K.faults out.new) }
+    ensures wrote { MatchResult result
+        (λ _. (K.state out.new).contents ≡ appended (K.state out.old).contents (named_line first.now name.now))
+        (λ _. AppendsPrefix (K.state out.old).contents (K.state out.new).contents
+        (named_line first.now name.now)) }
+    ensures cause { PutCause result (K.state out.old).faults (K.state out.new).faults }
 {
     put_all(out, first)?;
     put_all(out, name)?;
@@ -65,8 +65,7 @@ fn put_named<K: Sink>(out: &mut K, first: &[u8], name: &[u8]) -> Result<(), PutR
 
 // Says a word and a name, with the status of a fault.
 fn say_named<K: Sink>(first: &[u8], name: &[u8], out: &mut K) -> u8
-    ensures { EndsWith 4 (named_line first.now name.now) result (K.contents out.old) (K.contents out.new)
-        (K.faults out.old) (K.faults out.new) }
+    ensures { EndsWith 4 (named_line first.now name.now) result (K.state out.old) (K.state out.new) }
 {
     ended(FAULT, put_named(out, first, name))
 }
@@ -81,10 +80,8 @@ fn refusal_text(alloc: Global, line: u32, cause: BlockTextCause) -> Result<Strin
 
 // Says why a block text is refused, or that memory was not to be had for that.
 fn say_refused<K: Sink>(alloc: Global, line: u32, cause: BlockTextCause, out: &mut K) -> u8
-    ensures { EndsWith 2 (refused_line line cause) result (K.contents out.old) (K.contents out.new)
-        (K.faults out.old) (K.faults out.new)
-        ⊎ EndsWith 6 memory_line result (K.contents out.old) (K.contents out.new) (K.faults out.old)
-        (K.faults out.new) }
+    ensures { EndsWith 2 (refused_line line cause) result (K.state out.old) (K.state out.new)
+        ⊎ EndsWith 6 memory_line result (K.state out.old) (K.state out.new) }
 {
     match refusal_text(alloc, line, cause) {
         Ok(text) => say(REFUSED, text.as_bytes(), out),
@@ -95,9 +92,8 @@ fn say_refused<K: Sink>(alloc: Global, line: u32, cause: BlockTextCause, out: &m
 // Says why a block text is not read, or that memory was not to be had for that.
 fn say_refusal<K: Sink>(alloc: Global, refusal: BlockTextRefusal, out: &mut K) -> u8
     ensures { EndsWith (status_of (refusal_said refusal)) (text_of [] (refusal_said refusal)) result
-        (K.contents out.old) (K.contents out.new) (K.faults out.old) (K.faults out.new)
-        ⊎ EndsWith 6 memory_line result (K.contents out.old) (K.contents out.new) (K.faults out.old)
-        (K.faults out.new) }
+        (K.state out.old) (K.state out.new)
+        ⊎ EndsWith 6 memory_line result (K.state out.old) (K.state out.new) }
 {
     match refusal {
         BlockTextRefusal::At { line, cause } => say_refused(alloc, line, cause, out),
@@ -107,12 +103,10 @@ fn say_refusal<K: Sink>(alloc: Global, refusal: BlockTextRefusal, out: &mut K) -
 
 // Says what the bytes of a block text come to, or that memory was not to be had.
 fn say_output<K: Sink>(alloc: Global, output: Result<Vec<u8>, BlockTextRefusal>, out: &mut K) -> u8
-    ensures { MatchResult output (λ v. EndsWith 0 v.items result (K.contents out.old) (K.contents out.new)
-        (K.faults out.old) (K.faults out.new))
+    ensures { MatchResult output (λ v. EndsWith 0 v.items result (K.state out.old) (K.state out.new))
         (λ e. EndsWith (status_of (refusal_said e)) (text_of [] (refusal_said e)) result
-        (K.contents out.old) (K.contents out.new) (K.faults out.old) (K.faults out.new)
-        ⊎ EndsWith 6 memory_line result (K.contents out.old) (K.contents out.new) (K.faults out.old)
-        (K.faults out.new)) }
+        (K.state out.old) (K.state out.new)
+        ⊎ EndsWith 6 memory_line result (K.state out.old) (K.state out.new)) }
 {
     match output {
         Ok(text) => say(DONE, &text, out),
@@ -144,11 +138,9 @@ fn blocks<F: Files, K: Sink>(
 ) -> u8
     requires small { AreSmall options }
     ensures ends { (said : Said)
-        × IsSaidOf said (F.told files.old) name.now options.cut (F.faults files.old) (F.faults files.new)
-        (F.taken files.old) (F.taken files.new)
-        × EndsWith (status_of said) (text_of name.now said) result (K.contents out.old)
-        (K.contents out.new) (K.faults out.old) (K.faults out.new) }
-    ensures told { F.told files.new ≡ F.told files.old }
+        × IsSaidOf said name.now options.cut (F.state files.old) (F.state files.new)
+        × EndsWith (status_of said) (text_of name.now said) result (K.state out.old) (K.state out.new) }
+    ensures contents { (F.state files.new).contents ≡ (F.state files.old).contents }
 {
     match files.load(alloc, name) {
         Ok(bytes) => say_output(alloc, run_blocks(alloc, &bytes, options), out),
@@ -162,11 +154,9 @@ fn blocks<F: Files, K: Sink>(
 fn run<F: Files, K: Sink>(alloc: Global, words: &[String], files: &mut F, out: &mut K) -> u8
     ensures ends { (status : ℕ)
         × (text : List ℕ)
-        × IsToSay (map string_bytes words.now) (F.told files.old) (F.faults files.old)
-        (F.faults files.new) (F.taken files.old) (F.taken files.new) status text
-        × EndsWith status text result (K.contents out.old) (K.contents out.new) (K.faults out.old)
-        (K.faults out.new) }
-    ensures told { F.told files.new ≡ F.told files.old }
+        × IsToSay (map string_bytes words.now) (F.state files.old) (F.state files.new) status text
+        × EndsWith status text result (K.state out.old) (K.state out.new) }
+    ensures contents { (F.state files.new).contents ≡ (F.state files.old).contents }
 {
     match read_blocks(words) {
         Some(BlocksCommand { name, options }) => blocks(alloc, name, options, files, out),
@@ -182,48 +172,46 @@ pub fn mqfs<F: Files, K: Sink>(alloc: Global, words: &[String], files: &mut F, o
     ensures status { IsStatus result }
     // The output is that of the lines that stand, of the text that the name holds.
     ensures done { result ≡ 0
-        → IsDone (map string_bytes words.now) (F.told files.old) (K.contents out.old) (K.contents out.new) }
+        → IsDone (map string_bytes words.now) (F.state files.old) (K.state out.old) (K.state out.new) }
     ensures done_where { (held : Held) (name : List ℕ) (options : Options) (bytes : List ℕ)
         (lines : List (List BlockItem))
         → AreBlocks (map string_bytes words.now) name options
-        → F.told files.old ≡ Some held
+        → (F.state files.old).contents ≡ Some held
         → held name ≡ Some bytes
         → IsBlockText bytes lines
         → IsUnlessWanting 0 result }
     // The words are no command.
     ensures usage { result ≡ 1
         → AreUnknown (map string_bytes words.now)
-        × (K.contents out.new ≡ appended (K.contents out.old) usage_line)
-        × (F.taken files.new ≡ F.taken files.old) }
+        × ((K.state out.new).contents ≡ appended (K.state out.old).contents usage_line)
+        × ((F.state files.new).taken ≡ (F.state files.old).taken) }
     ensures usage_where { AreUnknown (map string_bytes words.now) → IsUnlessWanting 1 result }
     // The name holds bytes that are refused.
     ensures refused { result ≡ 2
-        → IsRefusedText (map string_bytes words.now) (F.told files.old) (K.contents out.old)
-        (K.contents out.new) }
+        → IsRefusedText (map string_bytes words.now) (F.state files.old) (K.state out.old)
+        (K.state out.new) }
     ensures refused_where { (held : Held) (name : List ℕ) (options : Options) (bytes : List ℕ) (line : ℕ)
         (cause : BlockTextCause)
         → AreBlocks (map string_bytes words.now) name options
-        → F.told files.old ≡ Some held
+        → (F.state files.old).contents ≡ Some held
         → held name ≡ Some bytes
         → RefusesText bytes line cause
         → IsUnlessWanting 2 result }
     // A file or the output failed, or a file was too long.
     ensures fault { result ≡ 4
-        → Rose (F.faults files.old) (F.faults files.new)
-        ⊎ (Rose (K.faults out.old) (K.faults out.new)
-        ⊎ IsTooLong (map string_bytes words.now) (F.told files.old) (F.taken files.old)
-        (F.taken files.new)) }
+        → Rose (F.state files.old).faults (F.state files.new).faults
+        ⊎ (Rose (K.state out.old).faults (K.state out.new).faults
+        ⊎ IsTooLong (map string_bytes words.now) (F.state files.old) (F.state files.new)) }
     ensures fault_where { result ≢ 4
-        → (F.faults files.new ≡ F.faults files.old) × (K.faults out.new ≡ K.faults out.old) }
-    ensures takes { result ≢ 4 → result ≢ 6 → TakesWithin (F.taken files.old) (F.taken files.new) }
+        → ((F.state files.new).faults ≡ (F.state files.old).faults)
+        × ((K.state out.new).faults ≡ (K.state out.old).faults) }
+    ensures takes { result ≢ 4 → result ≢ 6 → TakesWithin (F.state files.old).taken (F.state files.new).taken }
     // At every status one text was to be said, and at most that text is; no name changes.
     ensures ends { (status : ℕ)
         × (text : List ℕ)
-        × IsToSay (map string_bytes words.now) (F.told files.old) (F.faults files.old)
-        (F.faults files.new) (F.taken files.old) (F.taken files.new) status text
-        × EndsWith status text result (K.contents out.old) (K.contents out.new) (K.faults out.old)
-        (K.faults out.new) }
-    ensures told { F.told files.new ≡ F.told files.old }
+        × IsToSay (map string_bytes words.now) (F.state files.old) (F.state files.new) status text
+        × EndsWith status text result (K.state out.old) (K.state out.new) }
+    ensures contents { (F.state files.new).contents ≡ (F.state files.old).contents }
 {
     run(alloc, words, files, out)
 }

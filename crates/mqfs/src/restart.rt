@@ -3,11 +3,12 @@ ghost use Rattle.std.specs.Prelude.{◌≡◌, ◌<◌, ◌≤◌, ◌⊎◌, �
 ghost use Rattle.mq_blocks.specs.Descriptor.{Descriptor};
 ghost use Rattle.mq_blocks.specs.Geometry.{homes_of, queues_of};
 ghost use Rattle.mq_blocks.specs.Journal.{Reaches, stands};
-ghost use Rattle.mq_drive.specs.Emu.{emu_state, emu_faults};
+ghost use Rattle.mq_drive.specs.Emu.{emu_state, emu_faults, drawn_by};
 ghost use Rattle.mq_drive.specs.Seats.{name_of, fuse_of, tickets_of};
 ghost use Rattle.mq_drive.specs.Start.{IsImageOf, start_of};
 ghost use Rattle.mq_drive.specs.declared.role.Role.TheVariants.{Queue, Root};
-ghost use Rattle.mq_recover.specs.Drives.{IsQuiescentDrive, drive, states, faults_of, view_over};
+ghost use Rattle.mq_recover.specs.Drives.{IsQuiescentDrive, drive, view_over};
+ghost use Rattle.mqfs.specs.Ports.{drive_of, faults_on};
 ghost use Rattle.mqfs.specs.Restart.{IsLeftOf, cut_view, no_faults};
 
 use crate::power::power_of_two;
@@ -62,11 +63,11 @@ fn read_prefix<P: Port>(
     geometry: Geometry,
     ports: &Ports<P>,
 ) -> Result<u64, OutOfMemory>
-    requires still { IsQuiescentDrive geometry (states P.state ports.now.queues.items ports.now.root) }
+    requires still { IsQuiescentDrive geometry (drive_of P.state ports.now) }
     requires reaches { (ds : List Descriptor)
-        × Reaches geometry (view_over geometry (states P.state ports.now.queues.items ports.now.root)) ds }
+        × Reaches geometry (view_over geometry (drive_of P.state ports.now)) ds }
     ensures { IfOk result (λ p. (ds : List Descriptor)
-        → Reaches geometry (view_over geometry (states P.state ports.now.queues.items ports.now.root)) ds
+        → Reaches geometry (view_over geometry (drive_of P.state ports.now)) ds
         → p ≡ length ds) }
 {
     match stands(alloc, geometry, ports) {
@@ -90,10 +91,11 @@ pub fn restarted<'f>(
     requires one { 0 < queues_of geometry }
     requires queue { IsImageOf geometry (Queue 0) images.0 }
     requires root { IsImageOf geometry Root images.1 }
-    ensures states { IfOk result (λ p. states emu_state p.queues.items p.root ≡ drive
+    ensures states { IfOk result (λ p. drive_of emu_state p ≡ drive
         (start_of geometry (Queue 0) images.0 (name_of fuse.now) None ∷ [])
         (start_of geometry Root images.1 (name_of fuse.now) None)) }
-    ensures faults { IfOk result (λ p. faults_of emu_faults p.queues.items p.root ≡ no_faults) }
+    ensures faults { IfOk result (λ p. faults_on emu_faults p ≡ no_faults) }
+    ensures tickets { IfOk result (λ p. drawn_by p.root ≡ []) }
 {
     let mut queues = Vec::with_capacity(alloc, 1)?;
     let role = Role::Queue(QueueNo(0));
@@ -134,10 +136,10 @@ pub fn recover_images<'f>(
     ensures homes { IfOk result (λ r. (ds : List Descriptor) (b : ℕ)
         → Reaches geometry (cut_view geometry images.0 images.1) ds
         → b < homes_of geometry
-        → (view_over geometry (states emu_state r.1.queues.items r.1.root)).home b ≡ stands geometry
+        → (view_over geometry (drive_of emu_state r.1)).home b ≡ stands geometry
         (cut_view geometry images.0 images.1) ds b) }
     ensures still { IfOk result (λ r. IsQuiescentDrive geometry
-        (states emu_state r.1.queues.items r.1.root)) }
+        (drive_of emu_state r.1)) }
 {
     let mut ports = restarted(alloc, fuse, seats, geometry, images, pick)?;
     match recover(alloc, geometry, &mut ports) {

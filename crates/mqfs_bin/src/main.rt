@@ -27,8 +27,7 @@ fn words_after_name<R: Env + AllocGlobal>(rt: &R) -> io::Result<Vec<String>> {
 
 /// Says that memory was not to be had, where that can be written.
 fn say_no_memory<K: Sink>(out: &mut K) -> u8
-    ensures { EndsWith NO_MEMORY memory_line result (K.contents out.old) (K.contents out.new)
-        (K.faults out.old) (K.faults out.new) }
+    ensures { EndsWith NO_MEMORY memory_line result (K.state out.old) (K.state out.new) }
 {
     match put_all(out, b"memory\n") {
         Ok(()) => NO_MEMORY,

@@ -14,6 +14,6 @@ loop-at-preserved g c =
       within = omega (arith, fits, c.loop-at.invariant.within);
       wrote = c.in_ok-at.ensures.wrote
           ∙ ap (λ w. appended w (take n (take (length bytes - at) (drop at bytes)))) c.loop-at.invariant.wrote
-          ∙ appended-more at n (length bytes - at) bytes (g.K.Sink.contents c.args.sink.now) fits;
+          ∙ appended-more at n (length bytes - at) bytes (g.K.Sink.state c.args.sink.now).contents fits;
       cause = c.in_ok-at.ensures.cause ∙ c.loop-at.invariant.cause;
     }

@@ -5,8 +5,8 @@ use Rattle.mq_outside.proofs.traits.put_all.Given as goal
 abbrev pub invariant-loop-at : goal.invariant-loop-at
 invariant-loop-at g l = record {
   within : l.at ≤ length l.bytes;
-  wrote : g.K.Sink.contents l.sink ≡ appended (g.K.Sink.contents l.initial.sink) (take l.at l.bytes);
-  cause : g.K.Sink.faults l.sink ≡ g.K.Sink.faults l.initial.sink;
+  wrote : (g.K.Sink.state l.sink).contents ≡ appended (g.K.Sink.state l.initial.sink).contents (take l.at l.bytes);
+  cause : (g.K.Sink.state l.sink).faults ≡ (g.K.Sink.state l.initial.sink).faults;
 }
 
 abbrev pub decreases-loop-at : goal.decreases-loop-at

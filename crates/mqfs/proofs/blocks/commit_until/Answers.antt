@@ -1,39 +1,54 @@
-use Rattle.std.proofs.Common.{◌≡◌, ℕ, ◌+◌, List, [], ◌∷◌, ◌++◌, Some, sym, ◌∙◌, ap, subst, refl, length, arith}
-use Rattle.std.specs.Prelude.{slice_get}
-use Rattle.mq_blocks.specs.Drive.{FuseName, counted}
-use Rattle.mq_drive.specs.Emu.{emu_state, emu_faults}
+use Rattle.std.proofs.Common.{◌≡◌, ℕ, ◌+◌, List, [], Some, None, refl, sym, ◌∙◌, ap, subst, length, arith}
+use Rattle.mq_blocks.specs.Drive.{FuseName, PortState, PortImage, counted}
+use Rattle.mq_drive.specs.Emu.{emu_state, emu_faults, drawn_by}
 use Rattle.mq_drive.specs.Roles.{role_of}
 use Rattle.mq_drive.specs.Seats.{name_of}
-use Rattle.mq_drive.specs.Start.{IsPortOf, IsImageOf}
+use Rattle.mq_drive.specs.Start.{IsPortOf, IsImageOf, start_of}
 use Rattle.mq_drive.specs.Steps.{Fault, CommandError, Gains}
 use Rattle.mq_drive.specs.declared.emu.EmuPort.{EmuPort}
 use Rattle.mq_drive.specs.declared.role.Role.{Role}
-use Rattle.mq_drive.specs.declared.role.Role.TheVariants.{Queue}
+use Rattle.mq_drive.specs.declared.role.Role.TheVariants.{Queue, Root}
+use Rattle.mq_recover.specs.Drives.{DriveState}
 use Rattle.mqfs.specs.Cuts.{events_of, rung_after, StandsUnder}
 use Rattle.mqfs.proofs.CutTexts.{all_stand, reached_stand, none_failed, off_cause, failed_cause}
-use Rattle.mqfs.proofs.Drives.{one_item}
+use Rattle.mqfs.proofs.Drives.{one_item, has_one}
+use Rattle.mqfs.proofs.Restarts.{AreStarted, are_started, fresh_clean, one_port}
 use Rattle.mqfs.proofs.blocks.commit_until.Goals as goal
+
+pub commit_text-ports-requires-clause-one : goal.commit_text-ports-requires-clause-one
+commit_text-ports-requires-clause-one c = one_port c.in_ok-ports.ports.queues.items c.in_ok-ports.ports.root c.args.geometry (name_of c.args.fuse.now) c.in_ok-queue.queue c.in_ok-root.root c.in_ok-ports.ensures.states
+
+pub commit_text-ports-requires-clause-clean : goal.commit_text-ports-requires-clause-clean
+commit_text-ports-requires-clause-clean c = λ p at.
+    let g = c.args.geometry in
+    let f = name_of c.args.fuse.now in
+    let queue : PortImage = c.in_ok-queue.queue in
+    let root : PortImage = c.in_ok-root.root in
+    fresh_clean g f queue root c.in_ok-ports.ports p c.requires.geometry.queues c.in_ok-queue.ensures.image c.in_ok-root.ensures.image c.in_ok-queue.ensures.fresh.doorbell c.in_ok-queue.ensures.fresh.head c.in_ok-root.ensures.fresh.base
+    (are_started g f queue root c.in_ok-ports.ports p c.in_ok-ports.ensures.states c.in_ok-ports.ensures.faults at)
 
 pub returns-in-Ok-clause-shows : goal.returns-in-Ok-clause-shows
 returns-in-Ok-clause-shows c =
-    let q = c.remove-queue.result in
+    let f = name_of c.args.fuse.now in
+    let ports = c.in_ok-ports.ports in
+    let first = has_one ports.queues.items (one_port ports.queues.items ports.root c.args.geometry f c.in_ok-queue.queue c.in_ok-root.root c.in_ok-ports.ensures.states) in
+    let p : EmuPort = first.0 in
+    let was = first.1 in
+    let q : EmuPort = c.remove-queue.result in
     let got = one_item c.commit_text-ports.result.0.queues.items q c.commit_text-ports.ensures.queues c.remove-queue.ensures.value in
-    let pushed : c.push.new.self.items ≡ [] ++ c.in_ok-fresh_port.field-0 ∷ [] = c.in_ok-push.ensures.items ∙ ap (λ (l : List EmuPort). l ++ c.in_ok-fresh_port.field-0 ∷ []) c.in_ok-queues.ensures.items in
-    let was : slice_get c.push.new.self.items 0 ≡ Some c.in_ok-fresh_port.field-0 = ap (λ (l : List EmuPort). slice_get l 0) pushed in
-    let fresh = c.in_ok-fresh_port.ensures.fresh in
-    let bounds = c.commit_text-ports.ensures.bounds c.in_ok-fresh_port.field-0 q was got in
+    let started : AreStarted c.args.geometry f c.in_ok-queue.queue c.in_ok-root.root ports p = are_started c.args.geometry f c.in_ok-queue.queue c.in_ok-root.root ports p c.in_ok-ports.ensures.states c.in_ok-ports.ensures.faults was in
+    let bounds = c.commit_text-ports.ensures.bounds p q was got in
     let shows = rw c.in-Ok.is at c.commit_text-ports.ensures.ok in
     let counts = rw c.in-Ok.is at c.commit_text-ports.ensures.events in
     let rung = rw c.in-Ok.is at c.commit_text-ports.ensures.rung in
-    let p : EmuPort = c.in_ok-fresh_port.field-0 in
-    let bell : (emu_state p).doorbell ≡ 0 = fresh.doorbell in
+    let bell : (emu_state p).doorbell ≡ 0 = ap (λ (s : PortState). s.doorbell) started.queue ∙ c.in_ok-queue.ensures.fresh.doorbell in
     let rings : (emu_state q).doorbell ≡ (emu_state p).doorbell + rung_after c.args.text.now (events_of c.args.text.now (length c.args.text.now)) = rung p q was got in
     let image : c.cut.result.0.doorbell ≡ (emu_state q).doorbell = c.cut.ensures.image.doorbell in
     let doorbell : c.cut.result.0.doorbell ≡ rung_after c.args.text.now (events_of c.args.text.now (length c.args.text.now)) = omega (arith, bell, rings, image) in (
       length c.args.text.now,
-      subst (λ (ts : List ℕ). StandsUnder c.args.text.now (name_of c.args.fuse.now).limit ts c.cut.result.0.doorbell (length c.args.text.now)) (sym c.cut.ensures.tickets)
-          (all_stand c.args.text.now (name_of c.args.fuse.now).limit q c.cut.result.0.doorbell c.requires.cut (ap (λ (f : FuseName). f.limit) (bounds.fuse ∙ fresh.fuse_is)) (bounds.begins ∙ fresh.begins)
-          (counts c.in_ok-fresh_port.field-0 q was got ∙ ap (λ n. counted n (events_of c.args.text.now (length c.args.text.now))) fresh.events) doorbell),
+      subst (λ (ts : List ℕ). StandsUnder c.args.text.now f.limit ts c.cut.result.0.doorbell (length c.args.text.now)) (sym c.cut.ensures.tickets)
+          (all_stand c.args.text.now f.limit q c.cut.result.0.doorbell c.requires.cut (ap (λ (n : FuseName). n.limit) (bounds.fuse ∙ ap (λ (s : PortState). s.fuse) started.queue)) (bounds.begins ∙ ap (λ (s : PortState). s.begins) started.queue)
+          (counts p q was got ∙ ap (λ (s : PortState). counted s.events (events_of c.args.text.now (length c.args.text.now))) started.queue) doorbell),
       shows q got c.cut.result.0 c.cut-in-Ok.result.0 c.cut.ensures.image c.cut-in-Ok.ensures.image,
     )
 
@@ -46,43 +61,58 @@ returns-in-Ok-clause-queue c =
 
 pub returns-in-Ok-clause-queue_seat : goal.returns-in-Ok-clause-queue_seat
 returns-in-Ok-clause-queue_seat c =
-    let p = c.in_ok-fresh_port.field-0 in
-    let q = c.remove-queue.result in
-    let got = one_item c.commit_text-ports.result.0.queues.items q c.commit_text-ports.ensures.queues c.remove-queue.ensures.value in
-    let pushed : c.push.new.self.items ≡ [] ++ p ∷ [] = c.in_ok-push.ensures.items ∙ ap (λ (l : List EmuPort). l ++ p ∷ []) c.in_ok-queues.ensures.items in
-    let was : slice_get c.push.new.self.items 0 ≡ Some p = ap (λ (l : List EmuPort). slice_get l 0) pushed in
-    c.cut.ensures.fuse ∙ (c.commit_text-ports.ensures.bounds p q was got).fuse ∙ c.in_ok-fresh_port.ensures.fresh.fuse_is
+    let f = name_of c.args.fuse.now in
+    let ports = c.in_ok-ports.ports in
+    let first = has_one ports.queues.items (one_port ports.queues.items ports.root c.args.geometry f c.in_ok-queue.queue c.in_ok-root.root c.in_ok-ports.ensures.states) in
+    let got = one_item c.commit_text-ports.result.0.queues.items c.remove-queue.result c.commit_text-ports.ensures.queues c.remove-queue.ensures.value in
+    let started = are_started c.args.geometry f c.in_ok-queue.queue c.in_ok-root.root ports first.0 c.in_ok-ports.ensures.states c.in_ok-ports.ensures.faults first.1 in
+    c.cut.ensures.fuse ∙ (c.commit_text-ports.ensures.bounds first.0 c.remove-queue.result first.1 got).fuse ∙ ap (λ (s : PortState). s.fuse) started.queue
+
+pub returns-in-Ok-clause-root_seat : goal.returns-in-Ok-clause-root_seat
+returns-in-Ok-clause-root_seat c =
+    let same : c.commit_text-ports.result.0.root ≡ c.in_ok-ports.ports.root = c.commit_text-ports.ensures.root in
+    let start : emu_state c.commit_text-ports.result.0.root ≡ start_of c.args.geometry Root c.in_ok-root.root (name_of c.args.fuse.now) None = ap emu_state same ∙ ap (λ (d : DriveState). d.root) c.in_ok-ports.ensures.states in
+    (c.cut-in-Ok.ensures.fuse ∙ ap (λ (s : PortState). s.fuse) start, c.cut-in-Ok.ensures.tickets ∙ ap drawn_by same ∙ c.in_ok-ports.ensures.tickets)
+
+pub returns-clause-root_seat : goal.returns-clause-root_seat
+returns-clause-root_seat c =
+    let same : c.commit_text-ports.result.0.root ≡ c.in_ok-ports.ports.root = c.commit_text-ports.ensures.root in
+    let start : emu_state c.commit_text-ports.result.0.root ≡ start_of c.args.geometry Root c.in_ok-root.root (name_of c.args.fuse.now) None = ap emu_state same ∙ ap (λ (d : DriveState). d.root) c.in_ok-ports.ensures.states in
+    (c.cut-in-Err-2.ensures.fuse ∙ ap (λ (s : PortState). s.fuse) start, c.cut-in-Err-2.ensures.tickets ∙ ap drawn_by same ∙ c.in_ok-ports.ensures.tickets)
 
 pub returns-clause-queue_seat : goal.returns-clause-queue_seat
 returns-clause-queue_seat c =
-    let p = c.in_ok-fresh_port.field-0 in
-    let q = c.remove-queue.result in
-    let got = one_item c.commit_text-ports.result.0.queues.items q c.commit_text-ports.ensures.queues c.remove-queue.ensures.value in
-    let pushed : c.push.new.self.items ≡ [] ++ p ∷ [] = c.in_ok-push.ensures.items ∙ ap (λ (l : List EmuPort). l ++ p ∷ []) c.in_ok-queues.ensures.items in
-    let was : slice_get c.push.new.self.items 0 ≡ Some p = ap (λ (l : List EmuPort). slice_get l 0) pushed in
-    c.cut-in-Err.ensures.fuse ∙ (c.commit_text-ports.ensures.bounds p q was got).fuse ∙ c.in_ok-fresh_port.ensures.fresh.fuse_is
+    let f = name_of c.args.fuse.now in
+    let ports = c.in_ok-ports.ports in
+    let first = has_one ports.queues.items (one_port ports.queues.items ports.root c.args.geometry f c.in_ok-queue.queue c.in_ok-root.root c.in_ok-ports.ensures.states) in
+    let got = one_item c.commit_text-ports.result.0.queues.items c.remove-queue.result c.commit_text-ports.ensures.queues c.remove-queue.ensures.value in
+    let started = are_started c.args.geometry f c.in_ok-queue.queue c.in_ok-root.root ports first.0 c.in_ok-ports.ensures.states c.in_ok-ports.ensures.faults first.1 in
+    c.cut-in-Err.ensures.fuse ∙ (c.commit_text-ports.ensures.bounds first.0 c.remove-queue.result first.1 got).fuse ∙ ap (λ (s : PortState). s.fuse) started.queue
 
 pub returns-clause-shows : goal.returns-clause-shows
 returns-clause-shows c =
-    let p = c.in_ok-fresh_port.field-0 in
-    let q = c.remove-queue.result in
+    let f = name_of c.args.fuse.now in
+    let ports = c.in_ok-ports.ports in
+    let first = has_one ports.queues.items (one_port ports.queues.items ports.root c.args.geometry f c.in_ok-queue.queue c.in_ok-root.root c.in_ok-ports.ensures.states) in
+    let p : EmuPort = first.0 in
+    let was = first.1 in
+    let q : EmuPort = c.remove-queue.result in
     let got = one_item c.commit_text-ports.result.0.queues.items q c.commit_text-ports.ensures.queues c.remove-queue.ensures.value in
-    let pushed : c.push.new.self.items ≡ [] ++ p ∷ [] = c.in_ok-push.ensures.items ∙ ap (λ (l : List EmuPort). l ++ p ∷ []) c.in_ok-queues.ensures.items in
-    let was : slice_get c.push.new.self.items 0 ≡ Some p = ap (λ (l : List EmuPort). slice_get l 0) pushed in
-    let fresh = c.in_ok-fresh_port.ensures.fresh in
+    let started : AreStarted c.args.geometry f c.in_ok-queue.queue c.in_ok-root.root ports p = are_started c.args.geometry f c.in_ok-queue.queue c.in_ok-root.root ports p c.in_ok-ports.ensures.states c.in_ok-ports.ensures.faults was in
     let bounds = c.commit_text-ports.ensures.bounds p q was got in
     let cut = rw c.in-Err.is at c.commit_text-ports.ensures.cut in
     let left = cut p q was got in
     let gains = off_cause c.commit_text-ports.result.1 c.in-Err.refusal (emu_faults p) (emu_faults q) (c.commit_text-ports.ensures.cause p q was got) c.in-Err.is c.in_ok-check_power-in-Err.ensures in
     let stopped = left.1 in
-    let bell : (emu_state p).doorbell ≡ 0 = fresh.doorbell in
+    let bell : (emu_state p).doorbell ≡ 0 = ap (λ (s : PortState). s.doorbell) started.queue ∙ c.in_ok-queue.ensures.fresh.doorbell in
     let rings : (emu_state q).doorbell ≡ (emu_state p).doorbell + rung_after c.args.text.now left.0 = stopped.rung in
     let image : c.cut-in-Err.result.0.doorbell ≡ (emu_state q).doorbell = c.cut-in-Err.ensures.image.doorbell in
     let doorbell : c.cut-in-Err.result.0.doorbell ≡ rung_after c.args.text.now left.0 = omega (arith, bell, rings, image) in
     let shows = left.2 c.cut-in-Err.result.0 c.cut-in-Err-2.result.0 c.cut-in-Err.ensures.image c.cut-in-Err-2.ensures.image in (
       shows.0,
-      subst (λ (ts : List ℕ). StandsUnder c.args.text.now (name_of c.args.fuse.now).limit ts c.cut-in-Err.result.0.doorbell shows.0) (sym c.cut-in-Err.ensures.tickets)
-          (reached_stand c.args.text.now (name_of c.args.fuse.now).limit (emu_faults p) q left.0 shows.0 c.cut-in-Err.result.0.doorbell c.requires.cut (ap (λ (f : FuseName). f.limit) (bounds.fuse ∙ fresh.fuse_is)) (bounds.begins ∙ fresh.begins) (stopped.events_are ∙ ap (λ n. counted n left.0) fresh.events) gains shows.1 stopped.few doorbell),
+      subst (λ (ts : List ℕ). StandsUnder c.args.text.now f.limit ts c.cut-in-Err.result.0.doorbell shows.0) (sym c.cut-in-Err.ensures.tickets)
+          (reached_stand c.args.text.now f.limit (emu_faults p) q left.0 shows.0 c.cut-in-Err.result.0.doorbell c.requires.cut (ap (λ (n : FuseName). n.limit) (bounds.fuse ∙ ap (λ (s : PortState). s.fuse) started.queue))
+          (bounds.begins ∙ ap (λ (s : PortState). s.begins) started.queue) (stopped.events_are ∙ ap (λ (s : PortState). counted s.events left.0) started.queue) gains shows.1 stopped.few doorbell),
       shows.2,
     )
 
@@ -95,22 +125,20 @@ returns-clause-queue c =
 
 pub check_power-requires : goal.check_power-requires
 check_power-requires c status is =
-    let p = c.in_ok-fresh_port.field-0 in
-    let q = c.remove-queue.result in
+    let f = name_of c.args.fuse.now in
+    let ports = c.in_ok-ports.ports in
+    let first = has_one ports.queues.items (one_port ports.queues.items ports.root c.args.geometry f c.in_ok-queue.queue c.in_ok-root.root c.in_ok-ports.ensures.states) in
+    let p : EmuPort = first.0 in
+    let was = first.1 in
+    let q : EmuPort = c.remove-queue.result in
     let got = one_item c.commit_text-ports.result.0.queues.items q c.commit_text-ports.ensures.queues c.remove-queue.ensures.value in
-    let pushed : c.push.new.self.items ≡ [] ++ p ∷ [] = c.in_ok-push.ensures.items ∙ ap (λ (l : List EmuPort). l ++ p ∷ []) c.in_ok-queues.ensures.items in
-    let was : slice_get c.push.new.self.items 0 ≡ Some p = ap (λ (l : List EmuPort). slice_get l 0) pushed in
+    let started : AreStarted c.args.geometry f c.in_ok-queue.queue c.in_ok-root.root ports p = are_started c.args.geometry f c.in_ok-queue.queue c.in_ok-root.root ports p c.in_ok-ports.ensures.states c.in_ok-ports.ensures.faults was in
     let bounds = c.commit_text-ports.ensures.bounds p q was got in
     let failed = failed_cause c.commit_text-ports.result.1 c.in-Err.refusal status (emu_faults p) (emu_faults q) (c.commit_text-ports.ensures.cause p q was got) c.in-Err.is is in
-    none_failed q failed.0 status (bounds.fail ∙ c.in_ok-fresh_port.ensures.fresh.fail_is)
-    (subst (λ (l : List Fault). Gains (CommandError failed.0 status) l (emu_faults q)) c.in_ok-fresh_port.ensures.faults failed.1)
+    none_failed q failed.0 status (bounds.fail ∙ ap (λ (s : PortState). s.fail) started.queue) (subst (λ (l : List Fault). Gains (CommandError failed.0 status) l (emu_faults q)) started.none failed.1)
 
 pub invariant_of-queue : goal.invariant_of-queue
-invariant_of-queue c =
-    let p = c.remove-queue.result.device in
-    record { same_ring = p.same_ring; ring = p.ring; settled = p.settled; flushed_low = p.flushed_low; flushed_high = p.flushed_high; pending_room = p.pending_room; posted_room = p.posted_room; pending_ring = p.pending_ring; pending_few = p.pending_few; pending_last = p.pending_last; pending_order = p.pending_order; pending_counted = p.pending_counted; pending_own = p.pending_own; posted_counted = p.posted_counted; posted_own = p.posted_own; heads = p.heads; sized = p.sized; area_before = p.area_before; queue_base = p.queue_base; root_words = p.root_words; homes_end = p.homes_end; id_small = p.id_small; id_is = p.id_is; events_counted = p.events_counted; failure_counted = p.failure_counted; failure_own = p.failure_own; failure_doubt = p.failure_doubt; under_way_last = p.under_way_last; under_way_own = p.under_way_own; under_way_doubt = p.under_way_doubt }
+invariant_of-queue c = search c.remove-queue.result.device
 
 pub invariant_of-root : goal.invariant_of-root
-invariant_of-root c =
-    let p = c.commit_text-ports.result.0.root.device in
-    record { same_ring = p.same_ring; ring = p.ring; settled = p.settled; flushed_low = p.flushed_low; flushed_high = p.flushed_high; pending_room = p.pending_room; posted_room = p.posted_room; pending_ring = p.pending_ring; pending_few = p.pending_few; pending_last = p.pending_last; pending_order = p.pending_order; pending_counted = p.pending_counted; pending_own = p.pending_own; posted_counted = p.posted_counted; posted_own = p.posted_own; heads = p.heads; sized = p.sized; area_before = p.area_before; queue_base = p.queue_base; root_words = p.root_words; homes_end = p.homes_end; id_small = p.id_small; id_is = p.id_is; events_counted = p.events_counted; failure_counted = p.failure_counted; failure_own = p.failure_own; failure_doubt = p.failure_doubt; under_way_last = p.under_way_last; under_way_own = p.under_way_own; under_way_doubt = p.under_way_doubt }
+invariant_of-root c = search c.commit_text-ports.result.0.root.device

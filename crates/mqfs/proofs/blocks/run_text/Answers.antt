@@ -2,7 +2,7 @@ use Rattle.std.proofs.Common.{◌≡◌, ◌<◌, ◌≤◌, ℕ, List, length, 
 use Rattle.std.specs.Option.{unwrap_or}
 use Rattle.mq_blocks.specs.Geometry.{homes_of}
 use Rattle.mq_drive.specs.Emu.{emu_state}
-use Rattle.mq_recover.specs.Drives.{states}
+use Rattle.mqfs.specs.Ports.{drive_of}
 use Rattle.mq_recover.proofs.RecoverChains.{ok-map}
 use Rattle.mqfs.specs.Lines.{map_after, live_from, named}
 use Rattle.mqfs.specs.Live.{AreMarks, HoldsMap}
@@ -38,7 +38,7 @@ returns c =
     let found = c.in_ok-found.ensures.prefix left.left left.reaches in
     let same : c.unwrap_or-prefix.result ≡ shown.0 = c.unwrap_or-prefix.ensures ∙ ap (unwrap_or c.in_ok-noted.noted) found ∙ left.prefix ∙ shown.2.prefix_is in
     let size : homes_of g ≡ 256 = text_homes g c.text_geometry-geometry.ensures in
-    let holds : HoldsMap g (states emu_state c.in_ok-found.ports.queues.items c.in_ok-found.ports.root) (map_after lines shown.0) = λ b v less some.
+    let holds : HoldsMap g (drive_of emu_state c.in_ok-found.ports) (map_after lines shown.0) = λ b v less some.
     let below : b < homes_of g = omega (arith, size, less) in
     c.in_ok-found.ensures.homes left.left b left.reaches below ∙ left.alike b below ∙ shown.2.blocks b v below some
     in
@@ -48,16 +48,10 @@ returns c =
     ok-map c.print_blocks.result _ _ (λ v is. run_output lines c.args.cut shown.0 c.unwrap_or-prefix.result v.items c.deref-2.result.now shown.1 same is (c.deref-2.ensures.value ∙ live)) c.print_blocks.ensures
 
 pub invariant_of-ports : goal.invariant_of-ports
-invariant_of-ports c =
-    let p = c.in_ok-found.ports.root.device in
-    record { same_ring = p.same_ring; ring = p.ring; settled = p.settled; flushed_low = p.flushed_low; flushed_high = p.flushed_high; pending_room = p.pending_room; posted_room = p.posted_room; pending_ring = p.pending_ring; pending_few = p.pending_few; pending_last = p.pending_last; pending_order = p.pending_order; pending_counted = p.pending_counted; pending_own = p.pending_own; posted_counted = p.posted_counted; posted_own = p.posted_own; heads = p.heads; sized = p.sized; area_before = p.area_before; queue_base = p.queue_base; root_words = p.root_words; homes_end = p.homes_end; id_small = p.id_small; id_is = p.id_is; events_counted = p.events_counted; failure_counted = p.failure_counted; failure_own = p.failure_own; failure_doubt = p.failure_doubt; under_way_last = p.under_way_last; under_way_own = p.under_way_own; under_way_doubt = p.under_way_doubt }
+invariant_of-ports c = search c.in_ok-found.ports.root.device
 
 pub invariant_of-ports-in_err-live : goal.invariant_of-ports-in_err-live
-invariant_of-ports-in_err-live c =
-    let p = c.in_ok-found.ports.root.device in
-    record { same_ring = p.same_ring; ring = p.ring; settled = p.settled; flushed_low = p.flushed_low; flushed_high = p.flushed_high; pending_room = p.pending_room; posted_room = p.posted_room; pending_ring = p.pending_ring; pending_few = p.pending_few; pending_last = p.pending_last; pending_order = p.pending_order; pending_counted = p.pending_counted; pending_own = p.pending_own; posted_counted = p.posted_counted; posted_own = p.posted_own; heads = p.heads; sized = p.sized; area_before = p.area_before; queue_base = p.queue_base; root_words = p.root_words; homes_end = p.homes_end; id_small = p.id_small; id_is = p.id_is; events_counted = p.events_counted; failure_counted = p.failure_counted; failure_own = p.failure_own; failure_doubt = p.failure_doubt; under_way_last = p.under_way_last; under_way_own = p.under_way_own; under_way_doubt = p.under_way_doubt }
+invariant_of-ports-in_err-live c = search c.in_ok-found.ports.root.device
 
 pub invariant_of-ports-2 : goal.invariant_of-ports-2
-invariant_of-ports-2 c =
-    let p = c.in_ok-found.ports.root.device in
-    record { same_ring = p.same_ring; ring = p.ring; settled = p.settled; flushed_low = p.flushed_low; flushed_high = p.flushed_high; pending_room = p.pending_room; posted_room = p.posted_room; pending_ring = p.pending_ring; pending_few = p.pending_few; pending_last = p.pending_last; pending_order = p.pending_order; pending_counted = p.pending_counted; pending_own = p.pending_own; posted_counted = p.posted_counted; posted_own = p.posted_own; heads = p.heads; sized = p.sized; area_before = p.area_before; queue_base = p.queue_base; root_words = p.root_words; homes_end = p.homes_end; id_small = p.id_small; id_is = p.id_is; events_counted = p.events_counted; failure_counted = p.failure_counted; failure_own = p.failure_own; failure_doubt = p.failure_doubt; under_way_last = p.under_way_last; under_way_own = p.under_way_own; under_way_doubt = p.under_way_doubt }
+invariant_of-ports-2 c = search c.in_ok-found.ports.root.device

@@ -2,10 +2,9 @@ use Rattle.std.proofs.Common.{◌≡◌, ◌-◌, ◌++◌}
 use Rattle.mq_blocks.specs.Machine.{Map}
 use Rattle.mqfs.specs.Lines.{live_from, named}
 use Rattle.mqfs.specs.Live.{AreMarks, HoldsMap}
-use Rattle.mq_recover.specs.Drives.{states}
+use Rattle.mqfs.specs.Ports.{drive_of}
 use Rattle.mqfs.proofs.live.live_blocks.Given as goal
 
 abbrev pub invariant-loop-b : goal.invariant-loop-b
 invariant-loop-b g l =
-    let state = g.P.Port.state in
-    (m : Map) → AreMarks m l.marks → HoldsMap l.geometry (states state l.ports.queues.items l.ports.root) m → live_from m 0 named ≡ l.live.items ++ live_from m l.b (named - l.b)
+    (m : Map) → AreMarks m l.marks → HoldsMap l.geometry (drive_of g.P.Port.state l.ports) m → live_from m 0 named ≡ l.live.items ++ live_from m l.b (named - l.b)

@@ -4,7 +4,7 @@ use Rattle.mqfs.proofs.program.say_refused.Goals as goal
 
 pub returns-in-Ok : goal.returns-in-Ok
 returns-in-Ok g c =
-    inl (subst (λ (t : List ℕ). EndsWith 2 t c.say.result (g.K.Sink.contents c.args.out.now) (g.K.Sink.contents c.say.new.out) (g.K.Sink.faults c.args.out.now) (g.K.Sink.faults c.say.new.out)) (c.as_bytes.ensures.value ∙ c.in-Ok.ensures) c.say.ensures)
+    inl (subst (λ (t : List ℕ). EndsWith 2 t c.say.result (g.K.Sink.state c.args.out.now) (g.K.Sink.state c.say.new.out)) (c.as_bytes.ensures.value ∙ c.in-Ok.ensures) c.say.ensures)
 
 pub returns-in-Err : goal.returns-in-Err
 returns-in-Err g c = inr c.say-in-Err.ensures

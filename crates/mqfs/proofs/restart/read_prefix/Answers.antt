@@ -1,15 +1,16 @@
 use Rattle.std.proofs.Common.{⊎_elim, length, ap, ◌∙◌}
-use Rattle.mq_recover.specs.Drives.{states, view_over}
+use Rattle.mq_recover.specs.Drives.{view_over}
+use Rattle.mqfs.specs.Ports.{drive_of}
 use Rattle.mq_recover.proofs.Images.{reaches-same, reaches-refused, read-reaches}
 use Rattle.mqfs.proofs.restart.read_prefix.Goals as goal
 
 pub only_memory-requires : goal.only_memory-requires
 only_memory-requires g c =
-    let d = states g.P.Port.state c.args.ports.now.queues.items c.args.ports.now.root in
+    let d = drive_of g.P.Port.state c.args.ports.now in
     ⊎_elim (λ same. same) (λ refuses. absurd (reaches-refused c.args.geometry d c.requires.reaches.0 c.in-Err.fault c.requires.reaches.1 refuses)) c.in-Err.ensures.refused
 
 pub returns-in-Ok : goal.returns-in-Ok
 returns-in-Ok g c = λ ds reaches.
-    let v = view_over c.args.geometry (states g.P.Port.state c.args.ports.now.queues.items c.args.ports.now.root) in
+    let v = view_over c.args.geometry (drive_of g.P.Port.state c.args.ports.now) in
     let stood = c.in-Ok.ensures.ok in
     stood.3.prefix_is ∙ ap length (reaches-same c.args.geometry v stood.0 ds (read-reaches c.args.geometry v stood.0 stood.1 stood.2) reaches)

@@ -10,16 +10,17 @@ use Rattle.mq_drive.specs.Emu.{emu_state, emu_faults}
 use Rattle.mq_drive.specs.Seats.{name_of}
 use Rattle.mq_recover.specs.Drives.{DriveFaults, states, faults_of, view_over}
 use Rattle.mq_recover.specs.RecoverCauses.{HasDriveCause}
-use Rattle.mqfs.proofs.Restarts.{IsAnswered, IsLeft, first_state, image_memory, left, left_of, none_failed, one_port, started_reaches, started_still}
+use Rattle.mqfs.specs.Ports.{drive_of}
+use Rattle.mqfs.proofs.Restarts.{IsAnswered, answered, IsLeft, first_state, image_memory, left, left_of, none_failed, one_port, started_reaches, started_still}
 use Rattle.mqfs.proofs.restart.recover_until.Goals as goal
 
 pub read_prefix-requires-clause-still : goal.read_prefix-requires-clause-still
 read_prefix-requires-clause-still c =
-    started_still c.args.geometry (name_of c.args.fuse.now) c.args.images.0 c.args.images.1 (states emu_state c.in_ok-ports.ports.queues.items c.in_ok-ports.ports.root) c.requires.one c.requires.queue c.requires.root c.in_ok-ports.ensures.states
+    started_still c.args.geometry (name_of c.args.fuse.now) c.args.images.0 c.args.images.1 (drive_of emu_state c.in_ok-ports.ports) c.requires.one c.requires.queue c.requires.root c.in_ok-ports.ensures.states
 
 pub recover-answer-requires : goal.recover-answer-requires
 recover-answer-requires c =
-    started_still c.args.geometry (name_of c.args.fuse.now) c.args.images.0 c.args.images.1 (states emu_state c.in_ok-ports.ports.queues.items c.in_ok-ports.ports.root) c.requires.one c.requires.queue c.requires.root c.in_ok-ports.ensures.states
+    started_still c.args.geometry (name_of c.args.fuse.now) c.args.images.0 c.args.images.1 (drive_of emu_state c.in_ok-ports.ports) c.requires.one c.requires.queue c.requires.root c.in_ok-ports.ensures.states
 
 pub check_power-requires-clause-image : goal.check_power-requires-clause-image
 check_power-requires-clause-image c = λ fault is.
@@ -28,19 +29,11 @@ check_power-requires-clause-image c = λ fault is.
     let items = c.recover-answer.new.ports.queues.items in
     let root = c.recover-answer.new.ports.root in
     let start = c.in_ok-ports.ensures.states in
-    let d = states emu_state c.in_ok-ports.ports.queues.items c.in_ok-ports.ports.root in
-    let answered : IsAnswered g f c.args.images.0 c.args.images.1 d c.recover-answer.result items root = record {
-      one = c.requires.one;
-      start = start;
-      still = started_still g f c.args.images.0 c.args.images.1 d c.requires.one c.requires.queue c.requires.root start;
-      ds = c.requires.reaches.0;
-      reaches = started_reaches g f c.args.images.0 c.args.images.1 d c.requires.reaches.0 start c.requires.reaches.1;
-      image = c.recover-answer.ensures.image;
-      cause = subst (λ (o : DriveFaults). HasDriveCause g c.recover-answer.result o (faults_of emu_faults items root)) c.in_ok-ports.ensures.faults c.recover-answer.ensures.cause;
-      bounds = c.recover-answer.ensures.bounds;
-      count = c.recover-answer.ensures.count ∙ one_port c.in_ok-ports.ports.queues.items c.in_ok-ports.ports.root g f c.args.images.0 c.args.images.1 start;
-    } in
-    image_memory g f c.args.images.0 c.args.images.1 d c.recover-answer.result items root answered fault is
+    let d = drive_of emu_state c.in_ok-ports.ports in
+    let a : IsAnswered g f c.args.images.0 c.args.images.1 d c.recover-answer.result items root =
+    answered g f c.args.images.0 c.args.images.1 c.in_ok-ports.ports c.recover-answer.new.ports c.recover-answer.result c.requires.one c.requires.queue c.requires.root c.requires.reaches start c.in_ok-ports.ensures.faults
+    c.recover-answer.ensures.image c.recover-answer.ensures.cause c.recover-answer.ensures.bounds c.recover-answer.ensures.count in
+    image_memory g f c.args.images.0 c.args.images.1 d c.recover-answer.result items root a fault is
 
 pub check_power-requires-clause-sound : goal.check_power-requires-clause-sound
 check_power-requires-clause-sound c = λ block status is.
@@ -49,29 +42,17 @@ check_power-requires-clause-sound c = λ block status is.
     let items = c.recover-answer.new.ports.queues.items in
     let root = c.recover-answer.new.ports.root in
     let start = c.in_ok-ports.ensures.states in
-    let d = states emu_state c.in_ok-ports.ports.queues.items c.in_ok-ports.ports.root in
-    let answered : IsAnswered g f c.args.images.0 c.args.images.1 d c.recover-answer.result items root = record {
-      one = c.requires.one;
-      start = start;
-      still = started_still g f c.args.images.0 c.args.images.1 d c.requires.one c.requires.queue c.requires.root start;
-      ds = c.requires.reaches.0;
-      reaches = started_reaches g f c.args.images.0 c.args.images.1 d c.requires.reaches.0 start c.requires.reaches.1;
-      image = c.recover-answer.ensures.image;
-      cause = subst (λ (o : DriveFaults). HasDriveCause g c.recover-answer.result o (faults_of emu_faults items root)) c.in_ok-ports.ensures.faults c.recover-answer.ensures.cause;
-      bounds = c.recover-answer.ensures.bounds;
-      count = c.recover-answer.ensures.count ∙ one_port c.in_ok-ports.ports.queues.items c.in_ok-ports.ports.root g f c.args.images.0 c.args.images.1 start;
-    } in
-    none_failed g f c.args.images.0 c.args.images.1 d c.recover-answer.result items root answered block status is
+    let d = drive_of emu_state c.in_ok-ports.ports in
+    let a : IsAnswered g f c.args.images.0 c.args.images.1 d c.recover-answer.result items root =
+    answered g f c.args.images.0 c.args.images.1 c.in_ok-ports.ports c.recover-answer.new.ports c.recover-answer.result c.requires.one c.requires.queue c.requires.root c.requires.reaches start c.in_ok-ports.ensures.faults
+    c.recover-answer.ensures.image c.recover-answer.ensures.cause c.recover-answer.ensures.bounds c.recover-answer.ensures.count in
+    none_failed g f c.args.images.0 c.args.images.1 d c.recover-answer.result items root a block status is
 
 pub invariant_of-ports : goal.invariant_of-ports
-invariant_of-ports c =
-    let p = c.in_ok-ports.ports.root.device in
-    record { same_ring = p.same_ring; ring = p.ring; settled = p.settled; flushed_low = p.flushed_low; flushed_high = p.flushed_high; pending_room = p.pending_room; posted_room = p.posted_room; pending_ring = p.pending_ring; pending_few = p.pending_few; pending_last = p.pending_last; pending_order = p.pending_order; pending_counted = p.pending_counted; pending_own = p.pending_own; posted_counted = p.posted_counted; posted_own = p.posted_own; heads = p.heads; sized = p.sized; area_before = p.area_before; queue_base = p.queue_base; root_words = p.root_words; homes_end = p.homes_end; id_small = p.id_small; id_is = p.id_is; events_counted = p.events_counted; failure_counted = p.failure_counted; failure_own = p.failure_own; failure_doubt = p.failure_doubt; under_way_last = p.under_way_last; under_way_own = p.under_way_own; under_way_doubt = p.under_way_doubt }
+invariant_of-ports c = search c.in_ok-ports.ports.root.device
 
 pub invariant_of-ports-in_err-check_power : goal.invariant_of-ports-in_err-check_power
-invariant_of-ports-in_err-check_power c =
-    let p = c.recover-answer.new.ports.root.device in
-    record { same_ring = p.same_ring; ring = p.ring; settled = p.settled; flushed_low = p.flushed_low; flushed_high = p.flushed_high; pending_room = p.pending_room; posted_room = p.posted_room; pending_ring = p.pending_ring; pending_few = p.pending_few; pending_last = p.pending_last; pending_order = p.pending_order; pending_counted = p.pending_counted; pending_own = p.pending_own; posted_counted = p.posted_counted; posted_own = p.posted_own; heads = p.heads; sized = p.sized; area_before = p.area_before; queue_base = p.queue_base; root_words = p.root_words; homes_end = p.homes_end; id_small = p.id_small; id_is = p.id_is; events_counted = p.events_counted; failure_counted = p.failure_counted; failure_own = p.failure_own; failure_doubt = p.failure_doubt; under_way_last = p.under_way_last; under_way_own = p.under_way_own; under_way_doubt = p.under_way_doubt }
+invariant_of-ports-in_err-check_power c = search c.recover-answer.new.ports.root.device
 
 pub returns-clause-left : goal.returns-clause-left
 returns-clause-left c = λ ds reaches.
@@ -80,22 +61,14 @@ returns-clause-left c = λ ds reaches.
     let items = c.recover-answer.new.ports.queues.items in
     let root = c.recover-answer.new.ports.root in
     let start = c.in_ok-ports.ensures.states in
-    let d = states emu_state c.in_ok-ports.ports.queues.items c.in_ok-ports.ports.root in
-    let answered : IsAnswered g f c.args.images.0 c.args.images.1 d c.recover-answer.result items root = record {
-      one = c.requires.one;
-      start = start;
-      still = started_still g f c.args.images.0 c.args.images.1 d c.requires.one c.requires.queue c.requires.root start;
-      ds = c.requires.reaches.0;
-      reaches = started_reaches g f c.args.images.0 c.args.images.1 d c.requires.reaches.0 start c.requires.reaches.1;
-      image = c.recover-answer.ensures.image;
-      cause = subst (λ (o : DriveFaults). HasDriveCause g c.recover-answer.result o (faults_of emu_faults items root)) c.in_ok-ports.ensures.faults c.recover-answer.ensures.cause;
-      bounds = c.recover-answer.ensures.bounds;
-      count = c.recover-answer.ensures.count ∙ one_port c.in_ok-ports.ports.queues.items c.in_ok-ports.ports.root g f c.args.images.0 c.args.images.1 start;
-    } in
+    let d = drive_of emu_state c.in_ok-ports.ports in
+    let a : IsAnswered g f c.args.images.0 c.args.images.1 d c.recover-answer.result items root =
+    answered g f c.args.images.0 c.args.images.1 c.in_ok-ports.ports c.recover-answer.new.ports c.recover-answer.result c.requires.one c.requires.queue c.requires.root c.requires.reaches start c.in_ok-ports.ensures.faults
+    c.recover-answer.ensures.image c.recover-answer.ensures.cause c.recover-answer.ensures.bounds c.recover-answer.ensures.count in
     let e = states emu_state items root in
     let l : IsLeft g d e = left g d e c.recover-answer.result c.recover-answer.ensures.ok c.recover-answer.ensures.drive c.in_ok-check_power.ensures
-    (none_failed g f c.args.images.0 c.args.images.1 d c.recover-answer.result items root answered) in
-    let queue = first_state items c.remove-queue.result answered.count c.remove-queue.ensures.value in
+    (none_failed g f c.args.images.0 c.args.images.1 d c.recover-answer.result items root a) in
+    let queue = first_state items c.remove-queue.result a.count c.remove-queue.ensures.value in
     left_of g f c.args.images.0 c.args.images.1 d e c.cut-queue_image.result.0 c.cut-root_image.result.0 ds c.in_ok-prefix.prefix l.found l.top start c.requires.one reaches
     (c.in_ok-prefix.ensures ds (started_reaches g f c.args.images.0 c.args.images.1 d ds start reaches))
     (subst (λ (s : PortState). IsImage s c.cut-queue_image.result.0) (sym queue) c.cut-queue_image.ensures.image) c.cut-root_image.ensures.image l.read l.stand
@@ -107,22 +80,14 @@ returns-clause-queue c =
     let items = c.recover-answer.new.ports.queues.items in
     let root = c.recover-answer.new.ports.root in
     let start = c.in_ok-ports.ensures.states in
-    let d = states emu_state c.in_ok-ports.ports.queues.items c.in_ok-ports.ports.root in
-    let answered : IsAnswered g f c.args.images.0 c.args.images.1 d c.recover-answer.result items root = record {
-      one = c.requires.one;
-      start = start;
-      still = started_still g f c.args.images.0 c.args.images.1 d c.requires.one c.requires.queue c.requires.root start;
-      ds = c.requires.reaches.0;
-      reaches = started_reaches g f c.args.images.0 c.args.images.1 d c.requires.reaches.0 start c.requires.reaches.1;
-      image = c.recover-answer.ensures.image;
-      cause = subst (λ (o : DriveFaults). HasDriveCause g c.recover-answer.result o (faults_of emu_faults items root)) c.in_ok-ports.ensures.faults c.recover-answer.ensures.cause;
-      bounds = c.recover-answer.ensures.bounds;
-      count = c.recover-answer.ensures.count ∙ one_port c.in_ok-ports.ports.queues.items c.in_ok-ports.ports.root g f c.args.images.0 c.args.images.1 start;
-    } in
+    let d = drive_of emu_state c.in_ok-ports.ports in
+    let a : IsAnswered g f c.args.images.0 c.args.images.1 d c.recover-answer.result items root =
+    answered g f c.args.images.0 c.args.images.1 c.in_ok-ports.ports c.recover-answer.new.ports c.recover-answer.result c.requires.one c.requires.queue c.requires.root c.requires.reaches start c.in_ok-ports.ensures.faults
+    c.recover-answer.ensures.image c.recover-answer.ensures.cause c.recover-answer.ensures.bounds c.recover-answer.ensures.count in
     let e = states emu_state items root in
     let l : IsLeft g d e = left g d e c.recover-answer.result c.recover-answer.ensures.ok c.recover-answer.ensures.drive c.in_ok-check_power.ensures
-    (none_failed g f c.args.images.0 c.args.images.1 d c.recover-answer.result items root answered) in
-    let queue = first_state items c.remove-queue.result answered.count c.remove-queue.ensures.value in
+    (none_failed g f c.args.images.0 c.args.images.1 d c.recover-answer.result items root a) in
+    let queue = first_state items c.remove-queue.result a.count c.remove-queue.ensures.value in
     let port : IsPortOf g (Queue 0) (emu_state c.remove-queue.result) = subst (IsPortOf g (Queue 0)) queue (l.ports.each 0 (let one = c.requires.one in omega (arith, one))) in
     let role : role_of (emu_state c.remove-queue.result).queue ≡ Queue 0 = ap role_of port.queue in
     subst (λ (r : Role). IsImageOf g r c.cut-queue_image.result.0) role (c.cut-queue_image.ensures.role g (subst (λ (r : Role). IsPortOf g r (emu_state c.remove-queue.result)) (sym role) port))
@@ -134,21 +99,13 @@ returns-clause-root c =
     let items = c.recover-answer.new.ports.queues.items in
     let root = c.recover-answer.new.ports.root in
     let start = c.in_ok-ports.ensures.states in
-    let d = states emu_state c.in_ok-ports.ports.queues.items c.in_ok-ports.ports.root in
-    let answered : IsAnswered g f c.args.images.0 c.args.images.1 d c.recover-answer.result items root = record {
-      one = c.requires.one;
-      start = start;
-      still = started_still g f c.args.images.0 c.args.images.1 d c.requires.one c.requires.queue c.requires.root start;
-      ds = c.requires.reaches.0;
-      reaches = started_reaches g f c.args.images.0 c.args.images.1 d c.requires.reaches.0 start c.requires.reaches.1;
-      image = c.recover-answer.ensures.image;
-      cause = subst (λ (o : DriveFaults). HasDriveCause g c.recover-answer.result o (faults_of emu_faults items root)) c.in_ok-ports.ensures.faults c.recover-answer.ensures.cause;
-      bounds = c.recover-answer.ensures.bounds;
-      count = c.recover-answer.ensures.count ∙ one_port c.in_ok-ports.ports.queues.items c.in_ok-ports.ports.root g f c.args.images.0 c.args.images.1 start;
-    } in
+    let d = drive_of emu_state c.in_ok-ports.ports in
+    let a : IsAnswered g f c.args.images.0 c.args.images.1 d c.recover-answer.result items root =
+    answered g f c.args.images.0 c.args.images.1 c.in_ok-ports.ports c.recover-answer.new.ports c.recover-answer.result c.requires.one c.requires.queue c.requires.root c.requires.reaches start c.in_ok-ports.ensures.faults
+    c.recover-answer.ensures.image c.recover-answer.ensures.cause c.recover-answer.ensures.bounds c.recover-answer.ensures.count in
     let e = states emu_state items root in
     let l : IsLeft g d e = left g d e c.recover-answer.result c.recover-answer.ensures.ok c.recover-answer.ensures.drive c.in_ok-check_power.ensures
-    (none_failed g f c.args.images.0 c.args.images.1 d c.recover-answer.result items root answered) in
+    (none_failed g f c.args.images.0 c.args.images.1 d c.recover-answer.result items root a) in
     let port : IsPortOf g Root (emu_state root) = l.ports.root in
     let role : role_of (emu_state root).queue ≡ Root = ap role_of port.queue in
     subst (λ (r : Role). IsImageOf g r c.cut-root_image.result.0) role (c.cut-root_image.ensures.role g (subst (λ (r : Role). IsPortOf g r (emu_state root)) (sym role) port))

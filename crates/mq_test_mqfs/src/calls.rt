@@ -1,0 +1,105 @@
+// Calls of the program over files and an output in memory.
+use mq_outside::{MemFiles, MemSink};
+use mqfs::mqfs;
+use std::alloc::{AllocError, Global};
+
+// These words.
+pub fn words_of(alloc: Global, words: &[&str]) -> Result<Vec<String>, AllocError> {
+    let mut all = Vec::new(alloc);
+    for word in words {
+        all.push(String::from_str(alloc, *word)?)?;
+    }
+    Ok(all)
+}
+
+// The words of a line, which are parted by spaces.
+fn words_in(alloc: Global, line: &str) -> Result<Vec<String>, AllocError> {
+    let mut all = Vec::new(alloc);
+    for word in line.split_whitespace() {
+        all.push(String::from_str(alloc, word)?)?;
+    }
+    Ok(all)
+}
+
+// Files with the one name `t`, of which the calls listed fail.
+fn file_t(alloc: Global, text: &[u8], fail: &[u64]) -> Result<MemFiles, AllocError> {
+    let name = String::from_str(alloc, "t")?;
+    let names = vec![in alloc; (name, Vec::from_slice(alloc, text)?)]?;
+    Ok(MemFiles::new(alloc, names, Vec::from_slice(alloc, fail)?))
+}
+
+// Which loads and which puts fail, counted from 1.
+#[derive(Clone, Copy)]
+pub struct Failing<'a> {
+    pub loads: &'a [u64],
+    pub puts: &'a [u64],
+}
+
+const NOTHING_FAILS: Failing<'static> = Failing {
+    loads: &[],
+    puts: &[],
+};
+
+// How a call ended, what it printed, and whether `t` holds what it held.
+#[derive(Drop)]
+pub struct Outcome {
+    pub status: u8,
+    pub output: Vec<u8>,
+    pub is_kept: bool,
+}
+
+impl Outcome {
+    // Whether the call ended so, and changed no file.
+    pub fn is(&self, status: u8, output: &[u8]) -> bool {
+        self.status == status && self.output.as_slice() == output && self.is_kept
+    }
+}
+
+// What a call with these words comes to, where `t` holds this text.
+pub fn outcome(
+    alloc: Global,
+    words: &[String],
+    text: &[u8],
+    failing: Failing<'_>,
+) -> Result<Outcome, AllocError> {
+    let mut files = file_t(alloc, text, failing.loads)?;
+    let mut out = MemSink::new(alloc, Vec::from_slice(alloc, failing.puts)?);
+    let status = mqfs(alloc, words, &mut files, &mut out);
+    let output = Vec::from_slice(alloc, out.written())?;
+    Ok(Outcome {
+        status,
+        output,
+        is_kept: files.get("t") == Some(text),
+    })
+}
+
+// The same of the words of a line, where nothing fails.
+pub fn outcome_of(alloc: Global, line: &str, text: &[u8]) -> Result<Outcome, AllocError> {
+    let words = words_in(alloc, line)?;
+    outcome(alloc, &words, text, NOTHING_FAILS)
+}
+
+// Whether a call with the words of a line, where `t` holds this text, ends so.
+pub fn ends(
+    alloc: Global,
+    line: &str,
+    text: &str,
+    status: u8,
+    output: &str,
+) -> Result<bool, AllocError> {
+    let found = outcome_of(alloc, line, text.as_bytes())?;
+    Ok(found.is(status, output.as_bytes()))
+}
+
+// Whether a call with these words ends so.
+pub fn words_end(
+    alloc: Global,
+    words: &[&str],
+    text: &str,
+    status: u8,
+    output: &str,
+) -> Result<bool, AllocError> {
+    let words = words_of(alloc, words)?;
+    let found = outcome(alloc, &words, text.as_bytes(), NOTHING_FAILS)?;
+    Ok(found.is(status, output.as_bytes()))
+}

@@ -1,0 +1,18 @@
+//! Tests of the program `mqfs`: whole calls over files and an output in memory, and texts that are cut from power
+//! and recovered.
+#![tactic(auto)]
+
+#[cfg(test)]
+mod calls;
+#[cfg(test)]
+mod cuts;
+#[cfg(test)]
+mod drives;
+#[cfg(test)]
+mod generated;
+#[cfg(test)]
+mod outcomes;
+#[cfg(test)]
+mod refusals;
+#[cfg(test)]
+mod standing;

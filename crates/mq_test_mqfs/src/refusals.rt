@@ -1,0 +1,149 @@
+// Words that are no command, texts that are refused, and files and outputs that fail.
+use crate::calls::{Failing, ends, outcome, words_end, words_of};
+use std::alloc::AllocError;
+
+const USAGE: &str = "usage: mqfs blocks|format|run|recover|ls|cat|gen|dump\n";
+
+// Words that are no command, also where `t` holds a text that is read.
+const NO_COMMAND: [&str; 26] = [
+    "",
+    "blocks",
+    "blocks t t",
+    "block t",
+    "Blocks t",
+    "t blocks",
+    // options stand once, in order, and with a number
+    "blocks t --cut 1 --cut 1",
+    "blocks t --pick 1 --pick 1",
+    "blocks t --pick 1 --cut 1",
+    "blocks t --cut 1 --Pick 1",
+    "blocks t --cut --pick 1 1",
+    "blocks t --again 1 --again 1",
+    "blocks t --again 1 --cut 1",
+    "blocks t --again 1 --pick 1",
+    "blocks t --cut",
+    "blocks t --pick",
+    "blocks t --cut 1 --pick",
+    "blocks t --cut 1 1",
+    "blocks t --cut=1",
+    "blocks t --again",
+    "blocks t --cut 1 --again",
+    "blocks t --again 1 --seed 1",
+    "blocks t --seed 1",
+    "blocks --cut 1",
+    "blocks --cut 1 t",
+    "blocks t --cut 1 --pick 1 t",
+];
+
+#[test]
+fn other_words_are_no_command(rt: HostRuntime) -> Result<(), AllocError> {
+    for line in NO_COMMAND {
+        assert!(rt; ends(rt.alloc(), line, "1=00\n", 1, USAGE)?, "{line}");
+    }
+    Ok(())
+}
+
+// Words that are no number of an option.
+const NO_NUMBER: [&str; 11] = [
+    "",
+    "05",
+    "00",
+    "+5",
+    "-5",
+    "5 ",
+    "x",
+    "0x5",
+    "9223372036854775808",
+    "18446744073709551616",
+    "99999999999999999999999",
+];
+
+#[test]
+fn numbers_of_another_form(rt: HostRuntime) -> Result<(), AllocError> {
+    for number in NO_NUMBER {
+        for words in [
+            ["blocks", "t", "--cut", number, "--pick", "0"],
+            ["blocks", "t", "--cut", "0", "--pick", number],
+        ] {
+            assert!(rt;
+                words_end(rt.alloc(), &words, "1=00\n", 1, USAGE)?,
+                "{number}"
+            );
+        }
+        for option in ["--cut", "--pick"] {
+            let words = ["blocks", "t", option, number];
+            assert!(rt;
+                words_end(rt.alloc(), &words, "1=00\n", 1, USAGE)?,
+                "{option} {number}"
+            );
+        }
+    }
+    Ok(())
+}
+
+// Texts that are refused, each with the line that says it.
+const REFUSED: [(&str, &str); 4] = [
+    ("\n", "blocks line 1: Empty\n"),
+    ("5=ab 300=00", "blocks line 1: Block\n"),
+    ("5=ab\n-05\n", "blocks line 2: Item\n"),
+    ("5=ab 5=01\n", "blocks line 1: Twice\n"),
+];
+
+#[test]
+fn other_texts_are_refused(rt: HostRuntime) -> Result<(), AllocError> {
+    for (text, output) in REFUSED {
+        for line in [
+            "blocks t",
+            "blocks t --cut 0",
+            "blocks t --pick 9223372036854775807",
+            "blocks t --cut 9223372036854775807 --pick 10",
+        ] {
+            assert!(rt; ends(rt.alloc(), line, text, 2, output)?, "{line}: {text}");
+        }
+    }
+    Ok(())
+}
+
+// Names that no file has.
+#[test]
+fn a_name_may_be_any_word(rt: HostRuntime) -> Result<(), AllocError> {
+    assert!(rt; words_end(rt.alloc(), &["blocks", ""], "", 4, "fault load \n")?);
+    assert!(rt; words_end(rt.alloc(), &["blocks", "a b"], "", 4, "fault load a b\n")?);
+    for (line, output) in [
+        ("blocks --cut", "fault load --cut\n"),
+        ("blocks --pick --cut 1", "fault load --pick\n"),
+    ] {
+        assert!(rt; ends(rt.alloc(), line, "", 4, output)?, "{line}");
+    }
+    Ok(())
+}
+
+#[test]
+fn a_file_that_fails(rt: HostRuntime) -> Result<(), AllocError> {
+    let words = words_of(rt.alloc(), &["blocks", "t"])?;
+    let failing = Failing {
+        loads: &[1],
+        puts: &[],
+    };
+    assert!(rt; outcome(rt.alloc(), &words, b"1=00\n", failing)?.is(4, b"fault load t\n"));
+    Ok(())
+}
+
+// An output of three pieces, of which the first or the second fails.
+const THREE_PIECES: &[u8] =
+    b"1=00 2=00 3=00 4=00 5=00 6=00 7=00 8=00 9=00 10=00 11=00 12=00 13=00 14=00\n";
+
+#[test]
+fn an_output_that_fails(rt: HostRuntime) -> Result<(), AllocError> {
+    let words = words_of(rt.alloc(), &["blocks", "t"])?;
+    for (put, length) in [(1, 0), (2, 64)] {
+        let failing = Failing {
+            loads: &[],
+            puts: &[put],
+        };
+        let found = outcome(rt.alloc(), &words, THREE_PIECES, failing)?;
+        assert_eq!(rt; found.status, 4);
+        assert_eq!(rt; found.output.len(), length);
+    }
+    Ok(())
+}
