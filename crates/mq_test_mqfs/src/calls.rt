@@ -56,7 +56,7 @@ impl Outcome {
 }
 
 // What a call with these words comes to, where `t` holds this text.
-pub fn outcome(
+pub fn outcome_with(
     alloc: Global,
     words: &[String],
     text: &[u8],
@@ -76,7 +76,7 @@ pub fn outcome(
 // The same of the words of a line, where nothing fails.
 pub fn outcome_of(alloc: Global, line: &str, text: &[u8]) -> Result<Outcome, AllocError> {
     let words = words_in(alloc, line)?;
-    outcome(alloc, &words, text, NOTHING_FAILS)
+    outcome_with(alloc, &words, text, NOTHING_FAILS)
 }
 
 // Whether a call with the words of a line, where `t` holds this text, ends so.
@@ -100,6 +100,6 @@ pub fn words_end(
     output: &str,
 ) -> Result<bool, AllocError> {
     let words = words_of(alloc, words)?;
-    let found = outcome(alloc, &words, text.as_bytes(), NOTHING_FAILS)?;
+    let found = outcome_with(alloc, &words, text.as_bytes(), NOTHING_FAILS)?;
     Ok(found.is(status, output.as_bytes()))
 }

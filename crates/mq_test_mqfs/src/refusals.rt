@@ -1,5 +1,5 @@
 // Words that are no command, texts that are refused, and files and outputs that fail.
-use crate::calls::{Failing, ends, outcome, words_end, words_of};
+use crate::calls::{Failing, ends, outcome_with, words_end, words_of};
 use std::alloc::AllocError;
 
 const USAGE: &str = "usage: mqfs blocks|format|run|recover|ls|cat|gen|dump\n";
@@ -125,7 +125,7 @@ fn a_file_that_fails(rt: HostRuntime) -> Result<(), AllocError> {
         loads: &[1],
         puts: &[],
     };
-    assert!(rt; outcome(rt.alloc(), &words, b"1=00\n", failing)?.is(4, b"fault load t\n"));
+    assert!(rt; outcome_with(rt.alloc(), &words, b"1=00\n", failing)?.is(4, b"fault load t\n"));
     Ok(())
 }
 
@@ -141,7 +141,7 @@ fn an_output_that_fails(rt: HostRuntime) -> Result<(), AllocError> {
             loads: &[],
             puts: &[put],
         };
-        let found = outcome(rt.alloc(), &words, THREE_PIECES, failing)?;
+        let found = outcome_with(rt.alloc(), &words, THREE_PIECES, failing)?;
         assert_eq!(rt; found.status, 4);
         assert_eq!(rt; found.output.len(), length);
     }
