@@ -96,7 +96,7 @@ module _ {Q R E : Type 0} (values : Values Q R E) (group : Group E) (o : Opening
           port = side q (values.port w) (subst (λ p. SideOk k q [] p) there.0 (facts.sides q own));
           stored = fresh.stored q w at;
           says = fresh.says q w at;
-          charged = λ f. let same = ap (tally f) (at_map values.faults o.sides q w [] at).0 in omega arith;
+          charged = inr (λ f. let same = ap (tally f) (at_map values.faults o.sides q w [] at).0 in omega arith);
         };
     root =
         let base_is = fresh.start.base in
@@ -108,6 +108,6 @@ module _ {Q R E : Type 0} (values : Values Q R E) (group : Group E) (o : Opening
             flushed = subst (λ b. BaseOk core b) (sym base_is) base;
             stored = subst (λ b. BaseOk core b) (sym stored_is) base;
           };
-          charged = λ f. omega arith;
+          charged = inr (λ f. omega arith);
         };
   }

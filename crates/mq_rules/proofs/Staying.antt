@@ -176,11 +176,14 @@ module _ {Q R E : Type 0} (values : Values Q R E) (group : Group E) where
         port = subst F (λ i. (sym core_is i, sym same i)) port;
         stored = is.stored ∙ (sym (apart_entries q K.opening.base s.grows.newer K.log s.apart) ∙ (λ i. Rule.entries_of values group q (sym o i).base (sym s.grows.log i)));
         says = subst (λ p. values.says p w) part says;
-        charged = λ f.
-            let was = is.charged f in
-            let start : tally f (faults_of values group L.opening q) ≡ tally f (faults_of values group K.opening q) = ap (λ p. tally f (faults_of values group p q)) o in
-            let charges : charged_to (geometry_of values group L) (Side q) f L.charges ≡ charged_to (geometry_of values group K) (Side q) f K.charges = (λ i. charged_to (Rule.shape_of values group (o i)) (Side q) f (s.grows.charges i)) ∙ charged_apart (geometry_of values group K) (Side q) f s.grows.blamed K.charges s.charges in
-            omega arith;
+        charged = elim is.charged [
+          | inl full ↦ inl full
+          | inr each ↦ inr (λ f.
+              let was = each f in
+              let start : tally f (faults_of values group L.opening q) ≡ tally f (faults_of values group K.opening q) = ap (λ p. tally f (faults_of values group p q)) o in
+              let charges : charged_to (geometry_of values group L) (Side q) f L.charges ≡ charged_to (geometry_of values group K) (Side q) f K.charges = (λ i. charged_to (Rule.shape_of values group (o i)) (Side q) f (s.grows.charges i)) ∙ charged_apart (geometry_of values group K) (Side q) f s.grows.blamed K.charges s.charges in
+              omega arith)
+        ];
       }
 
   pub root_along : (K L : Desk) (r : R) → Stay Root K L → IsOk values group K → IsOk values group L → IsRoot values group K r → IsRoot values group L r
@@ -198,11 +201,14 @@ module _ {Q R E : Type 0} (values : Values Q R E) (group : Group E) where
           flushed = later_base (values.root r).base is.port.flushed;
           stored = later_base (values.root r).stored_base is.port.stored;
         };
-        charged = λ f.
-            let was = is.charged f in
-            let start : tally f (values.root_faults L.opening.root) ≡ tally f (values.root_faults K.opening.root) = ap (λ p. tally f (values.root_faults p.root)) o in
-            let charges : charged_to (geometry_of values group L) Root f L.charges ≡ charged_to (geometry_of values group K) Root f K.charges = (λ i. charged_to (Rule.shape_of values group (o i)) Root f (s.grows.charges i)) ∙ charged_apart (geometry_of values group K) Root f s.grows.blamed K.charges s.charges in
-            omega arith;
+        charged = elim is.charged [
+          | inl full ↦ inl full
+          | inr each ↦ inr (λ f.
+              let was = each f in
+              let start : tally f (values.root_faults L.opening.root) ≡ tally f (values.root_faults K.opening.root) = ap (λ p. tally f (values.root_faults p.root)) o in
+              let charges : charged_to (geometry_of values group L) Root f L.charges ≡ charged_to (geometry_of values group K) Root f K.charges = (λ i. charged_to (Rule.shape_of values group (o i)) Root f (s.grows.charges i)) ∙ charged_apart (geometry_of values group K) Root f s.grows.blamed K.charges s.charges in
+              omega arith)
+        ];
       }
 
   -- ---- a draw

@@ -1,5 +1,5 @@
 -- Faults of ports, and what is charged to them.
-use Rattle.std.specs.Prelude.{ℕ, ◌+◌, ◌≤◌, ◌&&◌, Bool, cond, List, [], ◌∷◌}
+use Rattle.std.specs.Prelude.{◌⊎◌, ℕ, ◌+◌, ◌-◌, ◌^◌, ◌≤◌, ◌&&◌, Bool, cond, List, [], ◌∷◌, length}
 use Rattle.mq_blocks.specs.Geometry.{home_lba}
 use Rattle.mq_blocks.specs.declared.geometry.Geometry.{Geometry}
 use Rattle.mq_drive.specs.Steps.{Fault, PowerOff, CommandError, HomeError}
@@ -21,6 +21,7 @@ abbrev pub charged_to : Geometry → Turn → (Fault → Bool) → List Charge �
 charged_to g t f [] = 0
 charged_to g t f (c ∷ cs) = cond (same_turn t c.port && f (fault_of g c.blame)) 1 0 + charged_to g t f cs
 
--- the port has gained a fault for each charge
+-- The port has gained a fault for each charge. So it is until there are as many as a count of 64 bits can say: from there
+-- on a call that is refused leaves the list of faults as it is.
 abbrev pub AreCharged : Geometry → Turn → List Charge → List Fault → List Fault → Type 0
-AreCharged g t cs old new = (f : Fault → Bool) → tally f old + charged_to g t f cs ≤ tally f new
+AreCharged g t cs old new = (2 ^ 64 - 1 ≤ length new) ⊎ ((f : Fault → Bool) → tally f old + charged_to g t f cs ≤ tally f new)
