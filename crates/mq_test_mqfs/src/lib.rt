@@ -12,7 +12,10 @@ mod drives;
 mod generated;
 #[cfg(test)]
 mod outcomes;
+mod ports;
 #[cfg(test)]
 mod refusals;
 #[cfg(test)]
 mod standing;
+
+pub use ports::let_go;
