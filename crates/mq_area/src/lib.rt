@@ -7,8 +7,6 @@ mod header;
 mod lists;
 mod read;
 mod refusal;
-#[cfg(test)]
-mod tests;
 mod write;
 
 pub use descriptor::{Descriptor, Expect, PlaceIs};

@@ -8,8 +8,6 @@ mod laws;
 mod place;
 mod read;
 mod ring;
-#[cfg(test)]
-mod tests;
 mod write;
 
 pub use fault::FileFault;

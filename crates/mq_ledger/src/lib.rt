@@ -9,12 +9,11 @@ mod latest;
 mod queue_rows;
 mod records;
 mod staging;
-#[cfg(test)]
-mod tests;
 mod tx;
 
 pub use content::{Blocks, Content, Writes, copy_blocks, copy_content};
 pub use entry::PlainEntry;
+pub use form::is_transaction;
 pub use queue_rows::QueueEnd;
 pub use records::{DESCRIPTOR_BLOCKS, Ledger, repeated};
 pub use staging::Staged;

@@ -6,8 +6,6 @@ mod mem_files;
 mod mem_sink;
 mod names;
 mod real;
-#[cfg(test)]
-mod tests;
 mod traits;
 
 pub use mem_files::{MemFiles, SureFiles};

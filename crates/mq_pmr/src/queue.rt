@@ -149,6 +149,13 @@ impl<P: Port> PmrQueue<P> {
         USABLE_DEPTH - (self.end - self.head) as u32
     }
 
+    /// The count of the next entry, past all that were staged.
+    pub fn end(&self) -> u64
+        ensures { result ≡ staged_end (P.state self.now.port) }
+    {
+        self.end
+    }
+
     // Stages one entry of a transaction.
     fn stage_one(&mut self, tx: u64, lba: Lba, block: Block, commit: bool) -> Result<(), Off>
         requires tx { 1 ≤ tx }

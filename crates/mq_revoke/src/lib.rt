@@ -4,8 +4,6 @@
 
 mod laws;
 mod placement;
-#[cfg(test)]
-mod tests;
 
 pub use laws::{a_placement_is_the_only_one, a_plan_meets_the_guard};
 pub use placement::{Placement, Planned, TooLarge, plan};

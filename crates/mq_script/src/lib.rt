@@ -11,8 +11,6 @@ mod path;
 mod print;
 mod read;
 mod refusal;
-#[cfg(test)]
-mod tests;
 mod verb;
 mod words;
 

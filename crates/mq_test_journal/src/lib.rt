@@ -1,10 +1,15 @@
-//! Transactions and events in tables, for tests of the journal's layers; and the tests of the machine.
+//! Transactions and events in tables, for tests of the journal's layers; and the tests of the ledger, of plans
+//! and of the machine.
 #![tactic(auto)]
 
 mod contents;
 #[cfg(test)]
+mod ledger;
+#[cfg(test)]
 mod machine;
 mod plan;
+#[cfg(test)]
+mod plans;
 #[cfg(test)]
 mod runs;
 mod step;

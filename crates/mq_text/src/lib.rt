@@ -7,8 +7,6 @@ mod number;
 mod parts;
 mod print;
 mod refusal;
-#[cfg(test)]
-mod tests;
 mod whole;
 
 pub use item::{BlockItem, read_hex};

@@ -1,8 +1,6 @@
 // The ledger's answers against values worked out by hand from the definitions.
-use crate::form::is_transaction;
-use crate::records::Ledger;
-use crate::{Blocks, Content, QueueEnd, Tx, Writes};
 use mq_blocks::{BlockNo, Geometry, OutOfMemory, QueueNo, TxNo};
+use mq_ledger::{Blocks, Content, Ledger, QueueEnd, Tx, Writes, is_transaction};
 use std::alloc::Global;
 use std::process::Abort;
 

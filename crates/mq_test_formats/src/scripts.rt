@@ -1,4 +1,5 @@
-use super::*;
+// Scripts: each refusal, what is read and printed, and a workload against one of another generator.
+use mq_script::{ScriptCause, ScriptRefusal, print_script, read_script, workload};
 use std::alloc::{AllocError, Global};
 use std::process::Abort;
 use std::test::Fail;

@@ -4,8 +4,8 @@ ghost use Rattle.mq_blocks.specs.Geometry.{homes_of};
 ghost use Rattle.mq_blocks.specs.declared.geometry.Geometry.{Geometry as Shape};
 ghost use Rattle.mq_revoke.specs.Placing.{AreInOrder};
 
-use crate::{Placement, Planned, TooLarge, plan};
 use mq_blocks::{BlockNo, Geometry, OutOfMemory, QueueNo, TxNo};
+use mq_revoke::{Placement, Planned, TooLarge, plan};
 use std::alloc::Global;
 use std::process::Abort;
 

@@ -1,5 +1,9 @@
-use super::*;
+// Block texts: what is read, and each refusal with its line.
 use mq_blocks::BlockNo;
+use mq_text::{
+    BlockItem, BlockLine, BlockText, BlockTextCause, BlockTextRefusal, print_blocks,
+    read_block_text,
+};
 use std::alloc::{AllocError, Global};
 use std::process::Abort;
 use std::test::Fail;

@@ -1,5 +1,8 @@
 // Each form called through its trait once, and what no contract says.
-use super::*;
+use mq_outside::{
+    Files, LoadRefusal, MemFiles, MemSink, PutRefusal, RealFiles, RealSink, SaveRefusal, Sink,
+    SureFiles, SureSink, put_all,
+};
 use std::alloc::{AllocError, Global};
 use std::io::Write;
 use std::os::fd::AsRawFd;

@@ -1,9 +1,9 @@
 // The fault of a file after one edit, by a table, and an image that is written and read again.
 ghost use Rattle.std.specs.Prelude.{◌≡◌, IfOk, length};
 
-use super::*;
 use mq_blocks::{Block, GeometryRefusal};
 use mq_drive::PortImage;
+use mq_image::{FileFault, read_image, write_image};
 use std::alloc::{AllocError, Global};
 
 // Where the number of blocks stands in a file of one queue.

@@ -1,7 +1,7 @@
 // A descriptor as it stands in a block, and each refusal once.
 ghost use Rattle.std.specs.Prelude.{◌<◌};
 
-use crate::{Descriptor, DescriptorRefusal, Expect, PlaceIs, read_descriptor, write_descriptor};
+use mq_area::{Descriptor, DescriptorRefusal, Expect, PlaceIs, read_descriptor, write_descriptor};
 use mq_blocks::{Block, BlockNo, Geometry, OutOfMemory, QueueNo, TxNo};
 use std::alloc::Global;
 
