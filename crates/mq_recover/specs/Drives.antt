@@ -7,6 +7,7 @@ use Rattle.mq_blocks.specs.declared.geometry.Geometry.{Geometry}
 use Rattle.mq_ledger.specs.State.{port_at}
 use Rattle.mq_drive.specs.Start.{IsPortOf, HasWords}
 use Rattle.mq_drive.specs.Steps.{Fault}
+use Rattle.mq_drive.specs.declared.port.Ports.{Ports}
 use Rattle.mq_drive.specs.declared.role.Role.{Role}
 use Rattle.mq_drive.specs.declared.role.Role.TheVariants.{Queue, Root}
 
@@ -21,6 +22,10 @@ drive queues root = record { queues = queues; root = root }
 -- the states of these ports
 abbrev pub states : {P : Type 0} → (P → PortState) → List P → P → DriveState
 states state queues root = drive (map state queues) (state root)
+
+-- the states of the ports of a drive
+abbrev pub drive_of : {P : Type 0} → (P → PortState) → Ports P → DriveState
+drive_of state ports = states state ports.queues.items ports.root
 
 -- the drive with another state of a queue's port
 abbrev pub at_queue : ℕ → (PortState → PortState) → DriveState → DriveState
@@ -75,3 +80,7 @@ pub record DriveFaults : Type 0 where
 
 abbrev pub faults_of : {P : Type 0} → (P → List Fault) → List P → P → DriveFaults
 faults_of faults queues root = record { queues = map faults queues; root = faults root }
+
+-- the faults of the ports of a drive
+abbrev pub faults_on : {P : Type 0} → (P → List Fault) → Ports P → DriveFaults
+faults_on faults ports = faults_of faults ports.queues.items ports.root

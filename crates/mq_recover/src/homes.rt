@@ -4,7 +4,7 @@ ghost use Rattle.mq_blocks.specs.Drive.{IsHome, IsQuiescent};
 ghost use Rattle.mq_blocks.specs.Geometry.{homes_of, home_lba, zone_of};
 ghost use Rattle.mq_ledger.specs.State.{port_at};
 ghost use Rattle.mq_drive.specs.Steps.{OffCause};
-ghost use Rattle.mq_recover.specs.Drives.{ArePorts, states, faults_of};
+ghost use Rattle.mq_recover.specs.Drives.{ArePorts, drive_of, faults_on};
 ghost use Rattle.mq_recover.specs.RecoverHomes.{AreBelow, GivesHome, GivesOne, CanMove, AreCutMoves, after_raise, after_move, IsCutRaise, IsCutMove};
 ghost use Rattle.mq_recover.specs.RecoverCauses.{HasHomeCause, HasDriveCause, HasMoveCause};
 ghost use Rattle.mq_recover.specs.Steps.{after_events, home_events, StopsAt};
@@ -20,16 +20,16 @@ pub fn write_homes<P: Port>(
     ports: &mut Ports<P>,
     writes: VecDeque<(BlockNo, Block)>,
 ) -> Result<(), RecoverRefusal>
-    requires ports { ArePorts geometry (states P.state ports.old.queues.items ports.old.root) }
+    requires ports { ArePorts geometry (drive_of P.state ports.old) }
     requires below { AreBelow (homes_of geometry) writes.items }
-    ensures ok { OnOk result (states P.state ports.new.queues.items ports.new.root ≡ after_events geometry
-        (states P.state ports.old.queues.items ports.old.root) (home_events writes.items)) }
+    ensures ok { OnOk result (drive_of P.state ports.new ≡ after_events geometry
+        (drive_of P.state ports.old) (home_events writes.items)) }
     ensures drive { IfErr result (λ e. StopsAt geometry e
-        (states P.state ports.old.queues.items ports.old.root) (home_events writes.items)
-        (states P.state ports.new.queues.items ports.new.root)) }
+        (drive_of P.state ports.old) (home_events writes.items)
+        (drive_of P.state ports.new)) }
     ensures cause { HasDriveCause geometry result
-        (faults_of P.faults ports.old.queues.items ports.old.root)
-        (faults_of P.faults ports.new.queues.items ports.new.root) }
+        (faults_on P.faults ports.old)
+        (faults_on P.faults ports.new) }
 {
     let mut writes = writes;
     while let Some((b, block)) = writes.pop_front() {
@@ -45,14 +45,14 @@ fn write_one<P: Port>(
     b: BlockNo,
     block: Block,
 ) -> Result<(), RecoverRefusal>
-    requires ports { ArePorts geometry (states P.state ports.old.queues.items ports.old.root) }
+    requires ports { ArePorts geometry (drive_of P.state ports.old) }
     requires below { b < homes_of geometry }
     ensures gives { GivesOne geometry (zone_of geometry b)
-        (states P.state ports.old.queues.items ports.old.root) b block result
-        (states P.state ports.new.queues.items ports.new.root) }
+        (drive_of P.state ports.old) b block result
+        (drive_of P.state ports.new) }
     ensures cause { HasDriveCause geometry result
-        (faults_of P.faults ports.old.queues.items ports.old.root)
-        (faults_of P.faults ports.new.queues.items ports.new.root) }
+        (faults_on P.faults ports.old)
+        (faults_on P.faults ports.new) }
 {
     match geometry.zone_of(b) {
         None => write_through(geometry, &mut ports.root, b, block),

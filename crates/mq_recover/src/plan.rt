@@ -1,7 +1,7 @@
 // What an image shows, and what goes home.
 ghost use Rattle.std.specs.Prelude.{◌≡◌, ◌≢◌, ◌⊎◌, ◌<◌, ◌≤◌, ℕ, IfOk, IfErr, IsErrOf, None, length, max, slice_index_or, ◌%◌};
 ghost use Rattle.mq_blocks.specs.Geometry.{area_of, homes_of};
-ghost use Rattle.mq_recover.specs.Drives.{IsQuiescentDrive, states, view_over};
+ghost use Rattle.mq_recover.specs.Drives.{IsQuiescentDrive, drive_of, view_over};
 ghost use Rattle.mq_recover.specs.Plans.{AreRead, IsFoundIn, IsPlan, newest_number};
 ghost use Rattle.mq_recover.specs.Recover.{IsSpotOf};
 ghost use Rattle.mq_recover.specs.RecoverHomes.{writes_from};
@@ -53,12 +53,12 @@ pub fn make_plan<P: Port>(
     geometry: Geometry,
     ports: &Ports<P>,
 ) -> Result<Plan, ImageFault>
-    requires { IsQuiescentDrive geometry (states P.state ports.now.queues.items ports.now.root) }
-    ensures ok { IfOk result (IsPlan geometry (states P.state ports.now.queues.items ports.now.root)) }
+    requires { IsQuiescentDrive geometry (drive_of P.state ports.now) }
+    ensures ok { IfOk result (IsPlan geometry (drive_of P.state ports.now)) }
     ensures refused { IfErr result (λ e. (e ≡ ImageFault.OutOfMemory)
-        ⊎ RefusesImage geometry (states P.state ports.now.queues.items ports.now.root) e) }
+        ⊎ RefusesImage geometry (drive_of P.state ports.now) e) }
     ensures exact { (e : ImageFault)
-        → RefusesImage geometry (states P.state ports.now.queues.items ports.now.root) e
+        → RefusesImage geometry (drive_of P.state ports.now) e
         → IsErrOf result e ⊎ IsErrOf result ImageFault.OutOfMemory }
 {
     let found = find_copies(alloc, geometry, ports)?;
@@ -73,10 +73,10 @@ pub fn find_copies<P: Port>(
     geometry: Geometry,
     ports: &Ports<P>,
 ) -> Result<Found, ImageFault>
-    requires { IsQuiescentDrive geometry (states P.state ports.now.queues.items ports.now.root) }
-    ensures ok { IfOk result (IsFoundIn geometry (states P.state ports.now.queues.items ports.now.root)) }
+    requires { IsQuiescentDrive geometry (drive_of P.state ports.now) }
+    ensures ok { IfOk result (IsFoundIn geometry (drive_of P.state ports.now)) }
     ensures refused { IfErr result (λ e. (e ≡ ImageFault.OutOfMemory)
-        ⊎ RefusesImage geometry (states P.state ports.now.queues.items ports.now.root) e) }
+        ⊎ RefusesImage geometry (drive_of P.state ports.now) e) }
 {
     let base = ports.root.base();
     if base > LIMIT {
@@ -100,11 +100,11 @@ fn read_queues<P: Port>(
     ports: &Ports<P>,
     base: TxNo,
 ) -> Result<QueuesRead, ImageFault>
-    requires still { IsQuiescentDrive geometry (states P.state ports.now.queues.items ports.now.root) }
+    requires still { IsQuiescentDrive geometry (drive_of P.state ports.now) }
     requires base { base ≡ (P.state ports.now.root).base }
-    ensures ok { IfOk result (AreRead geometry (states P.state ports.now.queues.items ports.now.root)) }
+    ensures ok { IfOk result (AreRead geometry (drive_of P.state ports.now)) }
     ensures refused { IfErr result (λ e. (e ≡ ImageFault.OutOfMemory)
-        ⊎ RefusesSome geometry (states P.state ports.now.queues.items ports.now.root) e) }
+        ⊎ RefusesSome geometry (drive_of P.state ports.now) e) }
 {
     let mut chains = Vec::new(alloc);
     let mut top = base.0;
@@ -153,11 +153,11 @@ fn read_copies<P: Port>(
     ports: &Ports<P>,
     copies: &[Option<CopyPlace>],
 ) -> Result<VecDeque<(BlockNo, Block)>, OutOfMemory>
-    requires still { IsQuiescentDrive geometry (states P.state ports.now.queues.items ports.now.root) }
+    requires still { IsQuiescentDrive geometry (drive_of P.state ports.now) }
     requires homes { length copies.now ≡ homes_of geometry }
     requires own { (x : ℕ) → IsSpotOf geometry.queues (slice_index_or copies.now x None) }
     ensures { IfOk result (λ w. w.items ≡ writes_from
-        (view_over geometry (states P.state ports.now.queues.items ports.now.root)).area
+        (view_over geometry (drive_of P.state ports.now)).area
         (area_of geometry) 0 copies.now) }
 {
     let mut writes = VecDeque::new(alloc);
@@ -178,10 +178,10 @@ pub fn read_copy_place<P: Port>(
     spot: CopyPlace,
     into: &mut Block,
 )
-    requires still { IsQuiescentDrive geometry (states P.state ports.now.queues.items ports.now.root) }
+    requires still { IsQuiescentDrive geometry (drive_of P.state ports.now) }
     requires own { spot.queue < geometry.queues }
     ensures { into.new ≡ (view_over geometry
-        (states P.state ports.now.queues.items ports.now.root)).area spot.queue
+        (drive_of P.state ports.now)).area spot.queue
         (spot.place % area_of geometry) }
 {
     let port = &ports.queues[spot.queue.0 as usize];

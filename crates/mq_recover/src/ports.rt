@@ -1,7 +1,7 @@
 // Recovery: what stands is written home, the base is raised past it, and the heads go to the
 // doorbells.
 ghost use Rattle.std.specs.Prelude.{◌≡◌, ◌⊎◌, length, IfOk, IsErrOf};
-ghost use Rattle.mq_recover.specs.Drives.{IsQuiescentDrive, AreBoundsKept, states, faults_of};
+ghost use Rattle.mq_recover.specs.Drives.{AreBoundsKept, IsQuiescentDrive, drive_of, faults_on};
 ghost use Rattle.mq_recover.specs.RecoverCauses.{HasDriveCause, OnImage, OnDrive, UnlessImage};
 ghost use Rattle.mq_recover.specs.Refusals.{IsReadableImage, RefusesImage};
 ghost use Rattle.mq_recover.specs.Steps.{IsDone, IsCutShort};
@@ -22,30 +22,30 @@ pub fn recover<P: Port>(
     geometry: Geometry,
     ports: &mut Ports<P>,
 ) -> Result<Recovered, RecoverRefusal>
-    requires { IsQuiescentDrive geometry (states P.state ports.old.queues.items ports.old.root) }
+    requires { IsQuiescentDrive geometry (drive_of P.state ports.old) }
     ensures ok { IfOk result (λ r. IsDone geometry
-        (states P.state ports.old.queues.items ports.old.root) r.prefix r.base
-        (states P.state ports.new.queues.items ports.new.root)) }
-    ensures image { OnImage result (λ fault. (states P.state ports.new.queues.items ports.new.root ≡ states P.state ports.old.queues.items ports.old.root)
+        (drive_of P.state ports.old) r.prefix r.base
+        (drive_of P.state ports.new)) }
+    ensures image { OnImage result (λ fault. (drive_of P.state ports.new ≡ drive_of P.state ports.old)
         × ((fault ≡ ImageFault.OutOfMemory)
-        ⊎ RefusesImage geometry (states P.state ports.old.queues.items ports.old.root) fault)) }
+        ⊎ RefusesImage geometry (drive_of P.state ports.old) fault)) }
     ensures exact { (e : ImageFault)
-        → RefusesImage geometry (states P.state ports.old.queues.items ports.old.root) e
+        → RefusesImage geometry (drive_of P.state ports.old) e
         → IsErrOf result (RecoverRefusal.Image e)
         ⊎ IsErrOf result (RecoverRefusal.Image ImageFault.OutOfMemory) }
     ensures readable { UnlessImage result (IsReadableImage geometry
-        (states P.state ports.old.queues.items ports.old.root)) }
-    ensures complete { IsReadableImage geometry (states P.state ports.old.queues.items ports.old.root)
+        (drive_of P.state ports.old)) }
+    ensures complete { IsReadableImage geometry (drive_of P.state ports.old)
         → OnImage result (λ fault. fault ≡ ImageFault.OutOfMemory) }
     ensures drive { OnDrive result (λ e. IsCutShort geometry e
-        (states P.state ports.old.queues.items ports.old.root)
-        (states P.state ports.new.queues.items ports.new.root)) }
+        (drive_of P.state ports.old)
+        (drive_of P.state ports.new)) }
     ensures count { length ports.new.queues.items ≡ length ports.old.queues.items }
-    ensures bounds { AreBoundsKept geometry (states P.state ports.old.queues.items ports.old.root)
-        (states P.state ports.new.queues.items ports.new.root) }
+    ensures bounds { AreBoundsKept geometry (drive_of P.state ports.old)
+        (drive_of P.state ports.new) }
     ensures cause { HasDriveCause geometry result
-        (faults_of P.faults ports.old.queues.items ports.old.root)
-        (faults_of P.faults ports.new.queues.items ports.new.root) }
+        (faults_on P.faults ports.old)
+        (faults_on P.faults ports.new) }
 {
     let plan = make_plan(alloc, geometry, ports)?;
     let recovered = plan.recovered;

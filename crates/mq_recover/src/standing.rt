@@ -2,7 +2,7 @@
 ghost use Rattle.std.specs.Prelude.{◌≡◌, ◌⊎◌, ◌<◌, ℕ, length, IfOk, IfErr, IsErrOf, IsOkUnless, None, slice_index_or};
 ghost use Rattle.mq_blocks.specs.Blocks.{block_at};
 ghost use Rattle.mq_blocks.specs.Geometry.{homes_of};
-ghost use Rattle.mq_recover.specs.Drives.{IsQuiescentDrive, states, view_over};
+ghost use Rattle.mq_recover.specs.Drives.{IsQuiescentDrive, drive_of, view_over};
 ghost use Rattle.mq_recover.specs.Recover.{IsSpotOf};
 ghost use Rattle.mq_recover.specs.Refusals.{IsReadableImage, RefusesImage};
 ghost use Rattle.mq_recover.specs.Standing.{newest_of, StandsIn};
@@ -33,16 +33,16 @@ pub fn stands<P: Port>(
     geometry: Geometry,
     ports: &Ports<P>,
 ) -> Result<Standing, ImageFault>
-    requires { IsQuiescentDrive geometry (states P.state ports.now.queues.items ports.now.root) }
-    ensures ok { IfOk result (StandsIn geometry (states P.state ports.now.queues.items ports.now.root)) }
+    requires { IsQuiescentDrive geometry (drive_of P.state ports.now) }
+    ensures ok { IfOk result (StandsIn geometry (drive_of P.state ports.now)) }
     ensures refused { IfErr result (λ e. (e ≡ ImageFault.OutOfMemory)
-        ⊎ RefusesImage geometry (states P.state ports.now.queues.items ports.now.root) e) }
+        ⊎ RefusesImage geometry (drive_of P.state ports.now) e) }
     ensures exact { (e : ImageFault)
-        → RefusesImage geometry (states P.state ports.now.queues.items ports.now.root) e
+        → RefusesImage geometry (drive_of P.state ports.now) e
         → IsErrOf result e ⊎ IsErrOf result ImageFault.OutOfMemory }
     ensures readable { IfOk result (λ _. IsReadableImage geometry
-        (states P.state ports.now.queues.items ports.now.root)) }
-    ensures complete { IsReadableImage geometry (states P.state ports.now.queues.items ports.now.root)
+        (drive_of P.state ports.now)) }
+    ensures complete { IsReadableImage geometry (drive_of P.state ports.now)
         → IsOkUnless result ImageFault.OutOfMemory }
 {
     let found = find_copies(alloc, geometry, ports)?;
@@ -62,13 +62,13 @@ fn read_blocks<P: Port>(
     ports: &Ports<P>,
     copies: &[Option<CopyPlace>],
 ) -> Result<Vec<Option<Block>>, OutOfMemory>
-    requires still { IsQuiescentDrive geometry (states P.state ports.now.queues.items ports.now.root) }
+    requires still { IsQuiescentDrive geometry (drive_of P.state ports.now) }
     requires homes { length copies.now ≡ homes_of geometry }
     requires own { (x : ℕ) → IsSpotOf geometry.queues (slice_index_or copies.now x None) }
     ensures { IfOk result (λ v. (length v.items ≡ homes_of geometry)
         × ((b : ℕ)
         → b < homes_of geometry
-        → block_at v.items b ≡ newest_of geometry (states P.state ports.now.queues.items ports.now.root)
+        → block_at v.items b ≡ newest_of geometry (drive_of P.state ports.now)
         (slice_index_or copies.now b None) b)) }
 {
     let mut blocks = Vec::new(alloc);
@@ -85,9 +85,9 @@ fn read_blocks<P: Port>(
 
 /// A home block, through the port that has it.
 pub fn read_home<P: Port>(geometry: Geometry, ports: &Ports<P>, b: BlockNo, into: &mut Block)
-    requires still { IsQuiescentDrive geometry (states P.state ports.now.queues.items ports.now.root) }
+    requires still { IsQuiescentDrive geometry (drive_of P.state ports.now) }
     requires within { b < homes_of geometry }
-    ensures { into.new ≡ (view_over geometry (states P.state ports.now.queues.items ports.now.root)).home b }
+    ensures { into.new ≡ (view_over geometry (drive_of P.state ports.now)).home b }
 {
     let lba = geometry.home(b);
     match geometry.zone_of(b) {

@@ -18,10 +18,10 @@ use Rattle.mq_drive.specs.declared.role.Role.TheVariants.{Queue, Root}
 use Rattle.mqfs.specs.Commits.{AreBelow, AllBelow, IsClean, IsCleanQueue}
 use Rattle.mqfs.specs.Fresh.{IsTextGeometry}
 use Rattle.mqfs.specs.Restart.{IsLeftOf, cut_view, no_faults}
-use Rattle.mqfs.specs.Ports.{drive_of, faults_on, the_queue}
+use Rattle.mqfs.specs.Ports.{the_queue}
 use Rattle.mqfs.proofs.Drives.{first_mapped}
 use Rattle.mq_drive.specs.declared.port.Ports.{Ports}
-use Rattle.mq_recover.specs.Drives.{DriveFaults, DriveState, IsQuiescentDrive, IsQuiescentPort, AreImages, ArePorts, AreBoundsKept, IsBoundKept, drive, states, faults_of, view_over}
+use Rattle.mq_recover.specs.Drives.{DriveFaults, DriveState, IsQuiescentDrive, IsQuiescentPort, AreImages, ArePorts, AreBoundsKept, IsBoundKept, drive, states, faults_of, view_over, drive_of, faults_on}
 use Rattle.mq_recover.specs.RecoverCauses.{HasDriveCause, OnDrive, OnImage, OneGains}
 use Rattle.mq_recover.specs.Recovery.{IsRead, StandsAs}
 use Rattle.mq_recover.specs.Refusals.{RefusesImage}

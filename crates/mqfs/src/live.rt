@@ -5,8 +5,7 @@ ghost use Rattle.mq_blocks.specs.Machine.{Map};
 ghost use Rattle.mqfs.specs.Fresh.{IsTextGeometry};
 ghost use Rattle.mqfs.specs.Lines.{live_from, map_after, named};
 ghost use Rattle.mqfs.specs.Live.{AreMarks, HoldsMap, marked};
-ghost use Rattle.mq_recover.specs.Drives.{IsQuiescentDrive, view_over};
-ghost use Rattle.mqfs.specs.Ports.{drive_of};
+ghost use Rattle.mq_recover.specs.Drives.{IsQuiescentDrive, view_over, drive_of};
 ghost use Rattle.mq_text.specs.Text.{AreGoodItems, IsGoodText};
 
 use crate::items::NAMED;

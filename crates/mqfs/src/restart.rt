@@ -7,8 +7,7 @@ ghost use Rattle.mq_drive.specs.Emu.{emu_state, emu_faults, drawn_by};
 ghost use Rattle.mq_drive.specs.Seats.{name_of, fuse_of, tickets_of};
 ghost use Rattle.mq_drive.specs.Start.{IsImageOf, start_of};
 ghost use Rattle.mq_drive.specs.declared.role.Role.TheVariants.{Queue, Root};
-ghost use Rattle.mq_recover.specs.Drives.{IsQuiescentDrive, drive, view_over};
-ghost use Rattle.mqfs.specs.Ports.{drive_of, faults_on};
+ghost use Rattle.mq_recover.specs.Drives.{IsQuiescentDrive, drive, view_over, drive_of, faults_on};
 ghost use Rattle.mqfs.specs.Restart.{IsLeftOf, cut_view, no_faults};
 
 use crate::power::power_of_two;

@@ -1,8 +1,8 @@
+use Rattle.mq_recover.specs.Drives.{drive_of}
 use Rattle.std.proofs.Common.{◌≡◌, ◌<◌, ◌≤◌, ℕ, List, length, sym, ◌∙◌, ap, subst, arith}
 use Rattle.std.specs.Option.{unwrap_or}
 use Rattle.mq_blocks.specs.Geometry.{homes_of}
 use Rattle.mq_drive.specs.Emu.{emu_state}
-use Rattle.mqfs.specs.Ports.{drive_of}
 use Rattle.mq_recover.proofs.RecoverChains.{ok-map}
 use Rattle.mqfs.specs.Lines.{map_after, live_from, named}
 use Rattle.mqfs.specs.Live.{AreMarks, HoldsMap}

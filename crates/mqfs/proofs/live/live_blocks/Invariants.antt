@@ -1,8 +1,8 @@
+use Rattle.mq_recover.specs.Drives.{drive_of}
 use Rattle.std.proofs.Common.{◌≡◌, ◌-◌, ◌++◌}
 use Rattle.mq_blocks.specs.Machine.{Map}
 use Rattle.mqfs.specs.Lines.{live_from, named}
 use Rattle.mqfs.specs.Live.{AreMarks, HoldsMap}
-use Rattle.mqfs.specs.Ports.{drive_of}
 use Rattle.mqfs.proofs.live.live_blocks.Given as goal
 
 abbrev pub invariant-loop-b : goal.invariant-loop-b

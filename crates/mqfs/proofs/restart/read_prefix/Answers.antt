@@ -1,6 +1,5 @@
 use Rattle.std.proofs.Common.{⊎_elim, length, ap, ◌∙◌}
-use Rattle.mq_recover.specs.Drives.{view_over}
-use Rattle.mqfs.specs.Ports.{drive_of}
+use Rattle.mq_recover.specs.Drives.{view_over, drive_of}
 use Rattle.mq_recover.proofs.Images.{reaches-same, reaches-refused, read-reaches}
 use Rattle.mqfs.proofs.restart.read_prefix.Goals as goal
 

@@ -8,9 +8,8 @@ use Rattle.mq_blocks.specs.Descriptor.{Descriptor}
 use Rattle.mq_blocks.specs.Journal.{stands}
 use Rattle.mq_drive.specs.Emu.{emu_state, emu_faults}
 use Rattle.mq_drive.specs.Seats.{name_of}
-use Rattle.mq_recover.specs.Drives.{DriveFaults, states, faults_of, view_over}
+use Rattle.mq_recover.specs.Drives.{DriveFaults, states, faults_of, view_over, drive_of}
 use Rattle.mq_recover.specs.RecoverCauses.{HasDriveCause}
-use Rattle.mqfs.specs.Ports.{drive_of}
 use Rattle.mqfs.proofs.Restarts.{IsAnswered, answered, IsLeft, first_state, image_memory, left, left_of, none_failed, one_port, started_reaches, started_still}
 use Rattle.mqfs.proofs.restart.recover_until.Goals as goal
 
