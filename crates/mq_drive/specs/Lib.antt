@@ -2,6 +2,7 @@ pub mod Choices
 pub mod Emu
 pub mod Emulated
 pub mod Failures
+pub mod Faults
 pub mod Flaky
 pub mod Fuse
 pub mod Happened
