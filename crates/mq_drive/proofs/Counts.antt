@@ -1,10 +1,10 @@
 -- Counts of tickets.
 use Rattle.std.proofs.Common.{◌≡◌, ◌≢◌, ⊎_elim, ℕ, zero, suc, ◌+◌, ◌<◌, ◌≤◌, min, Bool, true, false, List, [], ◌∷◌, ◌++◌, inl, inr, refl, ap, arith, ltb, leb, eqb, lt-ltb, le-ltb, eq-eqb, ne_eqb}
 use Rattle.std.proofs.lemmas.Bool.{cases_lt, cases_eq, le-leb, lt-leb}
-use Rattle.mq_drive.specs.Total.{total}
+use Rattle.mq_blocks.specs.Totals.{total}
 use Rattle.mq_drive.specs.Fuse.{tick, times, below, above}
 use Rattle.mq_drive.specs.declared.tickets.Tickets.{Tickets}
-use Rattle.mq_drive.proofs.Totals.{total_zero, total_sum}
+use Rattle.mq_blocks.proofs.Totals.{total_zero, total_sum}
 
 pub tick_lt : (t n : ℕ) → t < n → tick (ltb t n) ≡ 1
 tick_lt t n h = ap tick (lt-ltb t n h)

@@ -5,10 +5,10 @@ use mathlib.Core.Option.{none, some, some-injective, some-ne-none}
 use lib.ListN.{get_elem?}
 use Rattle.atomic_table.specs.Table.{State, Me, step, keeps, Allows, Splits, Joins, opening, Final, Seen}
 use Rattle.atomic_table.proofs.Lists.{at_set, set_else, at_snoc}
-use Rattle.mq_drive.specs.Total.{total}
+use Rattle.mq_blocks.specs.Totals.{total}
 use Rattle.mq_drive.specs.Fuse.{tick, times, below, above, fresh, joined, Fits, Lawful, drew}
 use Rattle.mq_drive.specs.declared.tickets.Tickets.{Tickets}
-use Rattle.mq_drive.proofs.Totals.{total_set, total_one, total_two, total_append, total_le, total_only, total_pair, total_sum}
+use Rattle.mq_blocks.proofs.Totals.{total_set, total_one, total_two, total_append, total_le, total_only, total_pair, total_sum}
 use Rattle.mq_drive.proofs.Counts.{tick_lt, tick_ge, tick_eq, tick_ne, times-append, above-append, below_first, above_first, below_few, total_below, below_whole, above_some}
 
 views_stay : (K : Tickets → Type 0) (vs : List Tickets) (id : ℕ) (w : Tickets) → K w → ((j : ℕ) (u : Tickets) → get_elem? vs j ≡ some u → K u) → (j : ℕ) (u : Tickets) → get_elem? (set vs id w) j ≡ some u → K u

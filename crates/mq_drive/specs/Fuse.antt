@@ -5,7 +5,7 @@ use Rattle.std.specs.Prelude.{◌≡◌, ◌<◌, ◌≤◌, ℕ, ◌+◌, ◌^�
 use mathlib.Core.Option.{some}
 use lib.ListN.{get_elem?}
 use Rattle.atomic_table.specs.Table.{State, Me, Step}
-use Rattle.mq_drive.specs.Total.{total}
+use Rattle.mq_blocks.specs.Totals.{total}
 use Rattle.mq_drive.specs.declared.tickets.Tickets.{Tickets}
 
 abbrev pub tick : Bool → ℕ

@@ -12,5 +12,4 @@ pub mod Seats
 pub mod Slots
 pub mod Start
 pub mod Steps
-pub mod Total
 pub mod Views

@@ -2,7 +2,7 @@
 ghost use Rattle.std.specs.Prelude.{◌≡◌, ◌<◌, ◌≤◌, ◌+◌, ◌^◌, ℕ, [], ◌∷◌, length, vec_capacity, true, false, IfOk, OnOk, OnErr, All, Some, None, Contains};
 ghost use Rattle.std.specs.Option.{ForSome};
 ghost use Rattle.mq_drive.specs.Fuse.{above, below, earlier, fresh};
-ghost use Rattle.mq_drive.specs.Total.{total};
+ghost use Rattle.mq_blocks.specs.Totals.{total};
 
 use crate::Off;
 use crate::tickets::{Apart, Law, Rating, Ticket, Tickets, Together};

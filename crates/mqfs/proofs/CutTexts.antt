@@ -7,7 +7,7 @@ use Rattle.mq_drive.specs.Emu.{emu_state, emu_faults, drawn_by}
 use Rattle.mq_drive.specs.Fuse.{above, below}
 use Rattle.mq_drive.specs.Seats.{tickets_of}
 use Rattle.mq_drive.specs.Steps.{Fault, PowerOff, CommandError, Gains}
-use Rattle.mq_drive.specs.Total.{total}
+use Rattle.mq_blocks.specs.Totals.{total}
 use Rattle.mq_drive.specs.declared.emu.EmuPort.{EmuPort}
 use Rattle.mq_drive.specs.declared.fuse.FuseSeat.{FuseSeat}
 use Rattle.mq_drive.proofs.Happening.{happened-alone}

@@ -3,7 +3,7 @@ use Rattle.std.proofs.lemmas.List.Elements.{All-pop}
 use Rattle.mq_drive.specs.Fuse.{above, below}
 use Rattle.mq_drive.proofs.Counts.{below-append, above-append}
 use Rattle.mq_drive.proofs.Fusing.{joins}
-use Rattle.mq_drive.proofs.Totals.{total_last}
+use Rattle.mq_blocks.proofs.Totals.{total_last}
 use Rattle.mq_drive.proofs.fuse.join_all.Goals as goal
 
 pub join_seat-requires : goal.join_seat-requires

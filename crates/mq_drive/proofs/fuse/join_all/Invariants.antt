@@ -1,6 +1,6 @@
 use Rattle.std.proofs.Common.{◌≡◌, ◌+◌, ℕ, [], length, All}
 use Rattle.mq_drive.specs.Fuse.{above, below}
-use Rattle.mq_drive.specs.Total.{total}
+use Rattle.mq_blocks.specs.Totals.{total}
 use Rattle.mq_drive.proofs.fuse.join_all.Given as goal
 
 -- what is joined and what is left are together what there was

@@ -2,7 +2,8 @@ use Rattle.std.proofs.Common.{rules, ◌≡◌, ◌<◌, ◌+◌, ℕ, [], ◌�
 use Rattle.mq_drive.specs.Fuse.{above, below}
 use Rattle.mq_drive.specs.Seats.{tickets_of}
 use Rattle.mq_drive.proofs.Fusing.{ends}
-use Rattle.mq_drive.proofs.Totals.{total_last, total_contains}
+use Rattle.mq_blocks.proofs.Totals.{total_last}
+use Rattle.mq_drive.proofs.Totals.{total_contains}
 use Rattle.mq_drive.proofs.fuse.Fuse.close.Goals as goal
 
 -- all seats are one
