@@ -9,7 +9,7 @@ use Rattle.mq_blocks.proofs.Among.{among-contains, contains-among}
 use Rattle.mq_exec.specs.Moves.{IsChangeOf, KeepsRest, Moves}
 use Rattle.mq_exec.specs.declared.outcome.Done.{Done}
 use Rattle.mq_exec.proofs.Resting.{laid-after}
-use Rattle.mq_files.specs.Entries.{Asks, Changes, Does, IsAllLogged, Ran, freed_by, tx_of, volume_after, written_by}
+use Rattle.mq_files.specs.Entries.{Asks, Changes, Does, IsAllLogged, IsUndrawn, Ran, freed_by, tx_of, volume_after, written_by}
 use Rattle.mq_files.specs.Laws.{blocks_in, commit_of_tx}
 use Rattle.mq_files.specs.Plans.{DoneOn, HasNumber, IsEntryOf, IsPlanned, map_known}
 use Rattle.mq_files.specs.declared.entry.FileEntry.{FileEntry}
@@ -93,8 +93,8 @@ module _ (g : Geometry) (m : Map) (requests : List Request) (done : Done) (e : F
     moves = moved;
   }
 
-  pub asks : e.session < queues_of g → IsAllLogged e → Asks g m e
-  asks queue placed = record { ran = ran queue; placed = placed }
+  pub asks : e.session < queues_of g → IsUndrawn g done.writes.items done.frees.items → IsAllLogged e → Asks g m e
+  asks queue undrawn placed = record { ran = ran queue; undrawn = of_entry (λ rs xs bs. IsUndrawn g xs bs) undrawn; placed = placed }
 
   change : IsPlanOf (homes_of g) (blocks_in ws) e.placed → IsChangeOf (change_of (tx_of e)) ws fs
   change plan = record {

@@ -18,7 +18,7 @@ module _ {Q R : Type 0} (values : Values Q R FileEntry) where
   history_length base (e ∷ es) = let rest = history_length base es in omega arith
 
   pub fits : DoneGroupsFit values
-  fits K requests done e d is queue placed = asks (geometry_of values file_group K) (map_now values file_group K) requests done e d is queue placed
+  fits K requests done e d is queue undrawn placed = asks (geometry_of values file_group K) (map_now values file_group K) requests done e d is queue undrawn placed
 
   pub may : DoneGroupsMayBeDrawn → DoneGroupsMay values
   may law K requests done e d is changes queue limit p =

@@ -1,6 +1,6 @@
 -- What an entry says, and what its group does to a map of home blocks.
-use Rattle.std.specs.Prelude.{◌≡◌, ◌<◌, ◌+◌, ℕ, List, [], length, map}
-use Rattle.mq_blocks.specs.Geometry.{queues_of}
+use Rattle.std.specs.Prelude.{◌≡◌, ◌⊎◌, ◌<◌, ◌+◌, ℕ, List, [], length, map}
+use Rattle.mq_blocks.specs.Geometry.{queues_of, write_limit}
 use Rattle.mq_blocks.specs.Machine.{Map, after}
 use Rattle.mq_blocks.specs.declared.geometry.Geometry.{Geometry}
 use Rattle.mq_exec.specs.Moves.{IsChangeOf, Moves}
@@ -44,6 +44,10 @@ volume_after g v e = after_group g e.session v e.requests
 abbrev pub Changes : List Write → List ℕ → Type 0
 Changes writes frees = 0 < length writes + length frees
 
+-- a group that isn't drawn changes nothing, or more than one transaction may
+abbrev pub IsUndrawn : Geometry → List Write → List ℕ → Type 0
+IsUndrawn g writes frees = ((writes ≡ []) × (frees ≡ [])) ⊎ (write_limit g < length writes)
+
 -- all that it would write stands as logged
 pub record IsAllLogged (e : FileEntry) : Type 0 where
   pub logged : e.placed.logged ≡ map (λ w. w.block) (written_by e)
@@ -71,4 +75,5 @@ pub record Does (g : Geometry) (m : Map) (e : FileEntry) : Type 0 where
 -- It ran and isn't drawn: it changes nothing, or too much for one transaction.
 pub record Asks (g : Geometry) (m : Map) (e : FileEntry) : Type 0 where
   pub ran : Ran g m e
+  pub undrawn : IsUndrawn g (written_by e) (freed_by e)
   pub placed : IsAllLogged e

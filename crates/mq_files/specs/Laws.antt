@@ -6,7 +6,7 @@ use Rattle.mq_blocks.specs.Journal.{number_limit}
 use Rattle.mq_blocks.specs.Machine.{Map}
 use Rattle.mq_blocks.specs.declared.geometry.Geometry.{Geometry}
 use Rattle.mq_exec.specs.declared.outcome.Done.{Done}
-use Rattle.mq_files.specs.Entries.{Asks, Changes, Does, IsAllLogged, tx_of, written_by}
+use Rattle.mq_files.specs.Entries.{Asks, Changes, Does, IsAllLogged, IsUndrawn, tx_of, written_by}
 use Rattle.mq_files.specs.Group.{file_group}
 use Rattle.mq_files.specs.Plans.{DoneOn, HasNumber, IsEntryOf, IsPlanned, map_known}
 use Rattle.mq_files.specs.declared.entry.FileEntry.{FileEntry}
@@ -95,6 +95,7 @@ DoneGroupsAsk =
     → DoneOn g e.session m requests done
     → IsEntryOf e.session requests done e
     → e.session < queues_of g
+    → IsUndrawn g done.writes.items done.frees.items
     → IsAllLogged e
     → Asks g m e
 
@@ -120,5 +121,6 @@ module _ {Q R : Type 0} (values : Values Q R FileEntry) where
       → DoneOn (geometry_of values file_group K) e.session (map_now values file_group K) requests done
       → IsEntryOf e.session requests done e
       → e.session < queues_of (geometry_of values file_group K)
+      → IsUndrawn (geometry_of values file_group K) done.writes.items done.frees.items
       → IsAllLogged e
       → Fits values file_group e K

@@ -36,7 +36,7 @@ pub fn a_done_group_may_be_drawn()
     a_plan_meets_the_guard();
 }
 
-/// A group that was done on a map, and is not drawn, ran there.
+/// A group that was done on a map, and is not drawn, since it changes nothing or too much, ran there.
 pub fn a_done_group_asks()
     ensures { DoneGroupsAsk }
 {}

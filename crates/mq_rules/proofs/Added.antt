@@ -3,6 +3,7 @@ use Rattle.std.proofs.Common.{◌≡◌, ◌≢◌, ℕ, ◌<◌, ◌≤◌, ◌
 use Rattle.std.proofs.lemmas.Bool.{cases_Bool, eq-eqb, ne_eqb, eqb-true, leb-true, or_cases, or_right, and_parts, false≢true}
 use Rattle.mq_blocks.specs.declared.geometry.Geometry.{Geometry}
 use Rattle.mq_base.specs.Pages.{is_ended, last_ended}
+use Rattle.mq_drive.specs.Faults.{IsAdded}
 use Rattle.mq_drive.specs.Steps.{Fault}
 use Rattle.mq_turns.specs.Lists.{Each}
 use Rattle.mq_turns.specs.Marks.{is_claimed}
@@ -12,7 +13,7 @@ use Rattle.mq_turns.specs.declared.rule.Claim.{Claim}
 use Rattle.mq_turns.specs.declared.turn.Turn.{Turn}
 use Rattle.mq_turns.specs.declared.turn.Turn.TheVariants.{Side}
 use Rattle.mq_turns.proofs.Changes.{turn_is}
-use Rattle.mq_rules.specs.Faults.{charged_to}
+use Rattle.mq_rules.specs.Faults.{AreBacked, AreCharged, charged_to, fault_of, of_kind}
 use Rattle.mq_rules.specs.Rule.{same_port}
 
 pub claimed_more : (l m : List Claim) (q n : ℕ) → is_claimed q n m ≡ true → is_claimed q n (l ++ m) ≡ true
@@ -59,6 +60,18 @@ charged_apart g t f (c ∷ cs) m a = elim (cases_Bool (same_turn t c.port)) [
   | inl mine ↦ absurd (a.0 (sym (turn_is t c.port mine)))
   | inr other ↦ rw other (let ih = charged_apart g t f cs m a.1 in omega arith)
 ]
+
+named_apart : (g : Geometry) (t : Turn) (old new : List Fault) (l m : List Charge) → Each (λ c. c.port ≢ t) l → Each (λ c. c.port ≡ t → IsAdded (fault_of g c.blame) old new) m → Each (λ c. c.port ≡ t → IsAdded (fault_of g c.blame) old new) (l ++ m)
+named_apart g t old new [] m a each = each
+named_apart g t old new (c ∷ cs) m a each = ((λ same. absurd (a.0 same)), named_apart g t old new cs m a.1 each)
+
+pub backed_apart : (g : Geometry) (t : Turn) (l m : List Charge) (old new : List Fault) → Each (λ c. c.port ≢ t) l → AreCharged g t m old new → AreCharged g t (l ++ m) old new
+backed_apart g t l m old new a (inl full) = inl full
+backed_apart g t l m old new a (inr backed) = inr (record {
+  more = backed.more;
+  counts = λ f. let same = charged_apart g t (of_kind f) l m a in let was = backed.counts f in omega arith;
+  named = named_apart g t old new l m a backed.named;
+})
 
 pub same_port-same : (z : Option ℕ) → same_port z z ≡ true
 same_port-same None = refl

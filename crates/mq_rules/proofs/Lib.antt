@@ -5,3 +5,4 @@ pub mod Settled
 pub mod Telling
 pub mod Opening
 pub mod Meaning
+pub mod Drawing

@@ -1,9 +1,12 @@
 -- What lies on a desk at its opening is what the rule says of it.
-use Rattle.std.proofs.Common.{◌≡◌, ℕ, zero, suc, ◌<◌, true, false, List, [], ◌∷◌, length, map, get_or, Option, Some, None, sym, refl, ap, subst, ◌∙◌, inl, inr, arith, eqb}
+use Rattle.std.proofs.Common.{◌≡◌, ℕ, zero, suc, ◌<◌, true, false, List, [], ◌∷◌, length, map, get_or, Option, Some, None, ◌≤◌, ◌+◌, sym, refl, ap, subst, ◌∙◌, inl, inr, arith, eqb}
 use Rattle.std.proofs.lemmas.Bool.{or_cases, or_left, eqb-true, false≢true}
 use Rattle.std.specs.Prelude.{slice_get}
 use lib.ListN.{length-map}
 use Rattle.mq_blocks.specs.Drive.{PortState}
+use Rattle.mq_blocks.specs.declared.geometry.Geometry.{Geometry}
+use Rattle.mq_drive.specs.Faults.{count_of}
+use Rattle.mq_drive.specs.Steps.{Fault}
 use Rattle.mq_ledger.specs.KnownJournal.{KnownJournal, LogOk}
 use Rattle.mq_ledger.specs.Sides.{SideOk, AreHome}
 use Rattle.mq_ledger.specs.State.{State, Facts, known_of, no_port}
@@ -13,14 +16,23 @@ use Rattle.mq_core.proofs.Runs.{start_facts}
 use Rattle.mq_base.specs.Bases.{BaseOk}
 use Rattle.mq_base.proofs.Openings.{first_base}
 use Rattle.mq_pages.specs.declared.page.PageCell.{PageCell}
-use Rattle.mq_turns.specs.Lists.{tally}
 use Rattle.mq_turns.specs.Meaning.{opened}
 use Rattle.mq_turns.specs.declared.rule.Known.{Known}
 use Rattle.mq_turns.specs.declared.rule.Opening.{Opening}
+use Rattle.mq_turns.specs.declared.turn.Turn.{Turn}
+use Rattle.mq_turns.specs.declared.turn.Turn.TheVariants.{Side, Root}
+use Rattle.mq_rules.specs.Faults.{AreCharged, of_kind}
 use Rattle.mq_rules.specs.Groups.{Group}
 use Rattle.mq_rules.specs.Opening.{state_of, IsFresh, IsRuled}
 use Rattle.mq_rules.specs.Rule
 use Rattle.mq_rules.specs.Values.{Values}
+
+nothing_charged : (g : Geometry) (t : Turn) (old new : List Fault) → old ≡ new → AreCharged g t [] old new
+nothing_charged g t old new same = inr (record {
+  more = λ f. let e = ap (count_of f) same in omega arith;
+  counts = λ f. let e = ap (count_of (of_kind f)) same in omega arith;
+  named = tt;
+})
 
 pub at_map : {A B : Type 0} (f : A → B) (xs : List A) (i : ℕ) (x : A) (d : B) → slice_get xs i ≡ Some x → (get_or (map f xs) i d ≡ f x) × (i < length xs)
 at_map f [] i x d e = absurd (cc)
@@ -96,7 +108,7 @@ module _ {Q R E : Type 0} (values : Values Q R E) (group : Group E) (o : Opening
           port = side q (values.port w) (subst (λ p. SideOk k q [] p) there.0 (facts.sides q own));
           stored = fresh.stored q w at;
           says = fresh.says q w at;
-          charged = inr (λ f. let same = ap (tally f) (at_map values.faults o.sides q w [] at).0 in omega arith);
+          charged = nothing_charged (Rule.shape_of values group o) (Side q) (Rule.faults_of values group o q) (values.faults w) (at_map values.faults o.sides q w [] at).0;
         };
     root =
         let base_is = fresh.start.base in
@@ -108,6 +120,6 @@ module _ {Q R E : Type 0} (values : Values Q R E) (group : Group E) (o : Opening
             flushed = subst (λ b. BaseOk core b) (sym base_is) base;
             stored = subst (λ b. BaseOk core b) (sym stored_is) base;
           };
-          charged = inr (λ f. omega arith);
+          charged = nothing_charged (Rule.shape_of values group o) Root (values.root_faults o.root) (values.root_faults o.root) refl;
         };
   }

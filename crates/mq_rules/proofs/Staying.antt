@@ -9,6 +9,7 @@ use Rattle.mq_ledger.specs.KnownJournal.{KnownJournal, LogOk}
 use Rattle.mq_ledger.specs.Sides.{RootOk, SideOk}
 use Rattle.mq_ledger.specs.Written.{journal_entries}
 use Rattle.mq_ledger.specs.declared.tx.Tx.{Tx}
+use Rattle.mq_drive.specs.Steps.{Fault}
 use Rattle.mq_core.proofs.Fronts.{DoneMore}
 use Rattle.mq_core.proofs.Growth.{log_drawn}
 use Rattle.mq_base.specs.Bases.{BaseOk}
@@ -16,18 +17,19 @@ use Rattle.mq_base.specs.Grown.{HasGrown}
 use Rattle.mq_base.specs.Pages.{due_by, is_ended, last_direct, last_ended}
 use Rattle.mq_base.proofs.Bases.{base_later}
 use Rattle.mq_pages.specs.declared.page.PageCell.{PageCell}
-use Rattle.mq_turns.specs.Lists.{Each, tally}
+use Rattle.mq_turns.specs.Lists.{Each}
 use Rattle.mq_turns.specs.Marks.{is_claimed}
 use Rattle.mq_turns.specs.Meaning.{Apart, Grows, newest, drawn}
+use Rattle.mq_turns.specs.declared.rule.Charge.{Charge}
 use Rattle.mq_turns.specs.declared.turn.Turn.{Turn}
 use Rattle.mq_turns.specs.declared.turn.Turn.TheVariants.{Page, Side, Root}
 use Rattle.mq_turns.proofs.Each.{each_map}
-use Rattle.mq_rules.specs.Faults.{charged_to}
+use Rattle.mq_rules.specs.Faults.{AreCharged}
 use Rattle.mq_rules.specs.Groups.{Group}
 use Rattle.mq_rules.specs.Rule
 use Rattle.mq_rules.specs.Rule.{same_port, numbered, start_of, doorbell_of, port_of, faults_of, geometry_of, IsOk, IsPage, IsSide, IsRoot, May, next_tx}
 use Rattle.mq_rules.specs.Values.{Values}
-use Rattle.mq_rules.proofs.Added.{claimed_more, claimed_apart, unclaimed, ended_more, ended_apart, last_ended_apart, charged_apart, same_port-same}
+use Rattle.mq_rules.proofs.Added.{claimed_more, claimed_apart, unclaimed, ended_more, ended_apart, last_ended_apart, backed_apart, same_port-same}
 use Rattle.mq_rules.proofs.Along.{Among, queue_newer, side_later, root_later, same_block}
 
 -- its number changes nothing of what a transaction does
@@ -176,14 +178,8 @@ module _ {Q R E : Type 0} (values : Values Q R E) (group : Group E) where
         port = subst F (λ i. (sym core_is i, sym same i)) port;
         stored = is.stored ∙ (sym (apart_entries q K.opening.base s.grows.newer K.log s.apart) ∙ (λ i. Rule.entries_of values group q (sym o i).base (sym s.grows.log i)));
         says = subst (λ p. values.says p w) part says;
-        charged = elim is.charged [
-          | inl full ↦ inl full
-          | inr each ↦ inr (λ f.
-              let was = each f in
-              let start : tally f (faults_of values group L.opening q) ≡ tally f (faults_of values group K.opening q) = ap (λ p. tally f (faults_of values group p q)) o in
-              let charges : charged_to (geometry_of values group L) (Side q) f L.charges ≡ charged_to (geometry_of values group K) (Side q) f K.charges = (λ i. charged_to (Rule.shape_of values group (o i)) (Side q) f (s.grows.charges i)) ∙ charged_apart (geometry_of values group K) (Side q) f s.grows.blamed K.charges s.charges in
-              omega arith)
-        ];
+        charged = subst (λ (z : Geometry × (List Charge × List Fault)). AreCharged z.0 (Side q) z.1.0 z.1.1 (values.faults w)) (λ i. (Rule.shape_of values group (sym o i), (sym s.grows.charges i, faults_of values group (sym o i) q)))
+            (backed_apart (geometry_of values group K) (Side q) s.grows.blamed K.charges (faults_of values group K.opening q) (values.faults w) s.charges is.charged);
       }
 
   pub root_along : (K L : Desk) (r : R) → Stay Root K L → IsOk values group K → IsOk values group L → IsRoot values group K r → IsRoot values group L r
@@ -201,14 +197,8 @@ module _ {Q R E : Type 0} (values : Values Q R E) (group : Group E) where
           flushed = later_base (values.root r).base is.port.flushed;
           stored = later_base (values.root r).stored_base is.port.stored;
         };
-        charged = elim is.charged [
-          | inl full ↦ inl full
-          | inr each ↦ inr (λ f.
-              let was = each f in
-              let start : tally f (values.root_faults L.opening.root) ≡ tally f (values.root_faults K.opening.root) = ap (λ p. tally f (values.root_faults p.root)) o in
-              let charges : charged_to (geometry_of values group L) Root f L.charges ≡ charged_to (geometry_of values group K) Root f K.charges = (λ i. charged_to (Rule.shape_of values group (o i)) Root f (s.grows.charges i)) ∙ charged_apart (geometry_of values group K) Root f s.grows.blamed K.charges s.charges in
-              omega arith)
-        ];
+        charged = subst (λ (z : Geometry × (List Charge × List Fault)). AreCharged z.0 Root z.1.0 z.1.1 (values.root_faults r)) (λ i. (Rule.shape_of values group (sym o i), (sym s.grows.charges i, values.root_faults (sym o i).root)))
+            (backed_apart (geometry_of values group K) Root s.grows.blamed K.charges (values.root_faults K.opening.root) (values.root_faults r) s.charges is.charged);
       }
 
   -- ---- a draw

@@ -15,9 +15,10 @@ use Rattle.mq_turns.specs.declared.rule.Charge.{Charge}
 use Rattle.mq_turns.specs.declared.rule.Claim.{Claim}
 use Rattle.mq_turns.specs.declared.rule.Opening.{Opening}
 use Rattle.mq_turns.specs.declared.turn.Turn.TheVariants.{Page, Side, Root}
+use Rattle.mq_rules.specs.Cells.{cell_after}
 use Rattle.mq_rules.specs.Groups.{Group}
 use Rattle.mq_rules.specs.Opening.{IsFresh, IsRuled}
-use Rattle.mq_rules.specs.Rule.{Desk, Stay, IsOk, IsPage, IsSide, IsRoot, May, core_of, geometry_of, map_now, touches}
+use Rattle.mq_rules.specs.Rule.{Desk, Stay, IsOk, IsPage, IsSide, IsRoot, May, core_of, geometry_of, map_now, next_tx, touches}
 use Rattle.mq_rules.specs.Values.{Values}
 
 module _ {Q R E : Type 0} (values : Values Q R E) (group : Group E) where
@@ -62,6 +63,14 @@ module _ {Q R E : Type 0} (values : Values Q R E) (group : Group E) where
   DrawsTouchTheirSides =
       (log : List E) (e : E)
       → touches values group log e (Side (group.tx e).queue) ≡ true
+
+  -- a page says what the transaction made of it
+  abbrev pub PagesShowDraws : Type 0
+  PagesShowDraws =
+      (b : ℕ) (e : E) (K : Desk values group) (c : PageCell)
+      → IsOk values group K
+      → IsPage values group b K c
+      → IsPage values group b (drawn e K) (cell_after (next_tx values group e K) b c)
 
   -- groups run on the map at the newest number
   abbrev pub MapsStayGood : Type 0

@@ -1,6 +1,7 @@
 pub mod Groups
 pub mod Values
 pub mod Faults
+pub mod Cells
 pub mod Rule
 pub mod Opening
 pub mod Laws

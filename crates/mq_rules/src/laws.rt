@@ -1,6 +1,6 @@
 // What holds of the rule of a desk over ports.
 ghost use Rattle.mq_rules.specs.Laws.{PagesStay, SidesStay, RootsStay};
-ghost use Rattle.mq_rules.specs.Laws.{DrawsAreRuled, DrawsTouchTheirSides, MapsStayGood};
+ghost use Rattle.mq_rules.specs.Laws.{DrawsAreRuled, DrawsTouchTheirSides, PagesShowDraws, MapsStayGood};
 ghost use Rattle.mq_rules.specs.Laws.{OpeningsAreRuled, JournalsGrow, NotesAreTold};
 ghost use Rattle.mq_rules.specs.Laws.{CellsAreNumbered, CellsWait, NotedPagesWereBrought};
 ghost use Rattle.mq_rules.specs.Laws.{ClaimsAreRuled, SidesShowClaims, ClaimsReachTheFront};
@@ -17,10 +17,11 @@ pub fn values_stay<J: JournalValues>()
 {}
 
 /// A group that may be drawn keeps the history legal and the base word a base, and changes its queue's
-/// side. Groups run on the map after each legal history.
+/// side. A page shows what it made of the block. Groups run on the map after each legal history.
 pub fn a_draw_keeps_the_rule<J: JournalValues>()
     ensures ok { DrawsAreRuled J.values J.group }
     ensures side { DrawsTouchTheirSides J.values J.group }
+    ensures page { PagesShowDraws J.values J.group }
     ensures map { MapsStayGood J.values J.group }
 {}
 

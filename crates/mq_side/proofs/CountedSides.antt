@@ -1,6 +1,11 @@
 -- The count of events over whole calls.
-use Rattle.std.proofs.Common.{◌≡◌, ◌⊎◌, ℕ, ◌+◌, ◌≤◌, List, ◌∷◌, length, refl, ap, inl, inr, arith}
-use Rattle.mq_blocks.specs.Drive.{PortState, staged_end, after_flush, after_ring, after_store_head}
+use Rattle.std.proofs.Common.{◌≡◌, ◌⊎◌, ℕ, ◌+◌, ◌-◌, ◌*◌, ◌≤◌, List, ◌∷◌, length, sym, refl, ap, subst, inl, inr, arith}
+use Rattle.std.specs.Prelude.{Result, Ok, Err}
+use Rattle.mq_blocks.specs.Drive.{PortState, staged_end, after_flush, after_ring, after_store_head, after_begin, after_end}
+use Rattle.mq_drive.specs.Steps.{HomeGives, HomeError, PowerOff}
+use Rattle.mq_drive.specs.declared.port.Off.{Off}
+use Rattle.mq_drive.specs.declared.port.HomeStep.{HomeStep}
+use Rattle.mq_drive.specs.declared.port.HomeStep.TheVariants as home
 use Rattle.mq_ledger.specs.Items.{end_of}
 use Rattle.mq_ledger.specs.KnownJournal.{KnownJournal, LogOk, draw_known}
 use Rattle.mq_ledger.specs.declared.tx.Tx.{Tx}
@@ -10,9 +15,10 @@ use Rattle.mq_pmr.specs.Runs.{Items, after_some}
 use Rattle.mq_pmr.specs.Rungs.{is_clear}
 use Rattle.mq_pmr.specs.declared.rungs.Rung.{Rung}
 use Rattle.mq_side.specs.Side.{SideState, IsQueueSide, IsRung}
-use Rattle.mq_side.specs.Counts.{IsCounted, ahead}
+use Rattle.mq_side.specs.Counts.{IsCounted, ahead, unless_same}
 use Rattle.mq_side.specs.Sent.{IsCutAt}
 use Rattle.mq_side.specs.Drained.{Rises}
+use Rattle.mq_side.proofs.Completes.{gains_rises}
 use Rattle.mq_side.proofs.Counting.{step_counts, fault_counts, draw_counts, staged_ahead, flushed_ahead}
 use Rattle.mq_side.proofs.CountedCalls.{sent_ahead, one_less, ended_ahead, passed_ahead, stored_ahead, headed_ahead}
 use Rattle.mq_side.proofs.Ends.{SameRecords}
@@ -88,3 +94,40 @@ idle_counts first k q us old new faults is same c =
 
 pub drawn_counts : (first : ℕ) (k : KnownJournal) (q : ℕ) (t : Tx) (us : List Tx) (s : SideState) → IsQueueSide k q us s → IsRung k q us s → IsCounted first k q us s → IsCounted first (draw_known t k) q (t ∷ us) s
 drawn_counts first k q t us s is rung c = draw_counts first k q t us s rung (is.side.order.drawn) c
+
+-- ---- a home write
+
+-- of a port, nothing that is counted moved
+record SameCounts (old new : PortState) : Type 0 where
+  pub events : new.events ≡ old.events
+  pub end : staged_end new ≡ staged_end old
+  pub pending : length new.pending ≡ length old.pending
+  pub posted : length new.posted ≡ length old.posted
+  pub doorbell : new.doorbell ≡ old.doorbell
+  pub head : new.head ≡ old.head
+
+ahead_same : (end : ℕ) (old new : SideState) → SameRecords old new → SameCounts old.port new.port → new.port.events + ahead end new ≡ old.port.events + ahead end old
+ahead_same end old new same c =
+    let passed = same.passed in
+    let rung = same.rung in
+    λ i. c.events i + ((2 * (end - c.end i) + (c.pending i + c.posted i)) + (unless_same (c.doorbell i) end 4 + (2 * length (rung i) + unless_same (c.head i) (passed i).end 2)))
+
+begun_same : (p : PortState) (lba : ℕ) (block : List ℕ) → SameCounts p (after_begin p lba block)
+begun_same p lba block = record { events = refl; end = refl; pending = refl; posted = refl; doorbell = refl; head = refl }
+
+ended_same : (p : PortState) (lba : ℕ) (block : List ℕ) → SameCounts p (after_end (after_begin p lba block) lba block)
+ended_same p lba block = record { events = refl; end = refl; pending = refl; posted = refl; doorbell = refl; head = refl }
+
+pub home_counts : (first : ℕ) (k : KnownJournal) (q : ℕ) (us : List Tx) (old new : SideState) (lba : ℕ) (block : List ℕ) (result : Result HomeStep Off) → SameRecords old new → HomeGives old.port old.faults lba block result new.port new.faults → IsCounted first k q us old → IsCounted first k q us new
+home_counts first k q us old new lba block (Ok home.Done) same gives c =
+    let e = ahead_same (end_of (k.from q) us) old new same (subst (λ p. SameCounts old.port p) (sym gives.0) (ended_same old.port lba block)) in
+    step_counts first k q us old new gives.1 (omega (arith, e)) c
+home_counts first k q us old new lba block (Ok (home.Error status)) same gives c =
+    let e = ahead_same (end_of (k.from q) us) old new same (subst (λ p. SameCounts old.port p) (sym gives.1) (begun_same old.port lba block)) in
+    fault_counts first k q us old new (gains_rises (HomeError lba status) old.faults new.faults gives.2) (omega (arith, e)) c
+home_counts first k q us old new lba block (Err off) same gives c = elim gives.0 [
+  | inl is ↦ still_counts first k q us old new (gains_rises PowerOff old.faults new.faults gives.1) is same c
+  | inr is ↦ (
+    let e = ahead_same (end_of (k.from q) us) old new same (subst (λ p. SameCounts old.port p) (sym is) (begun_same old.port lba block)) in
+    fault_counts first k q us old new (gains_rises PowerOff old.faults new.faults gives.1) (omega (arith, e)) c)
+]

@@ -2,8 +2,10 @@
 ghost use Rattle.std.specs.Prelude.{◌≡◌};
 ghost use Rattle.mq_blocks.specs.Drive.{IsHome};
 ghost use Rattle.mq_drive.specs.Steps.{HomeGives};
+ghost use Rattle.mq_side.specs.Counts.{KeepsCount};
 ghost use Rattle.mq_side.specs.Homes.{StaysAt, GoesHome};
 ghost use Rattle.mq_side.specs.Side.{side_state};
+ghost use Rattle.mq_side.specs.Told.{KeepsTold};
 
 use crate::QueueSide;
 use mq_blocks::{Block, Lba};
@@ -18,6 +20,10 @@ impl<P: Port, E> QueueSide<P, E> {
         ensures stays { StaysAt lba (side_state P.state P.faults self.old)
             (side_state P.state P.faults self.new) }
         ensures goes { GoesHome lba block (side_state P.state P.faults self.old) result
+            (side_state P.state P.faults self.new) }
+        ensures counts { KeepsCount (side_state P.state P.faults self.old)
+            (side_state P.state P.faults self.new) }
+        ensures told { KeepsTold (side_state P.state P.faults self.old)
             (side_state P.state P.faults self.new) }
         ensures kept { self.new.kept ≡ self.old.kept }
         ensures done { self.new.done ≡ self.old.done }

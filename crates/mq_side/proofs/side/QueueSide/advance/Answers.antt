@@ -31,7 +31,7 @@ returns-in_err-done-clause-counts g c =
     counts_cut old new a (rings_of old new _ _ c.args.self.now.pmr.fits ring.fits refl refl c.args.self.now.pmr.ends posted failed) (gains_rises PowerOff old.faults new.faults e.cause) e.off
 
 pub returns-in_err-done-clause-told : goal.returns-in_err-done-clause-told
-returns-in_err-done-clause-told g c d = told_more PowerOff (g.P.Port.faults c.args.self.now.pmr.port) (g.P.Port.faults c.advance_head.new.self.port) c.args.self.now.kept c.in_err-done.ensures.cause d
+returns-in_err-done-clause-told g c first d = told_more first PowerOff (g.P.Port.faults c.args.self.now.pmr.port) (g.P.Port.faults c.advance_head.new.self.port) c.args.self.now.kept c.in_err-done.ensures.cause d
 
 pub returns-clause-stays : goal.returns-clause-stays
 returns-clause-stays g c =

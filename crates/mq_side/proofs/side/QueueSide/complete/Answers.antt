@@ -16,7 +16,7 @@ completion-init g c = record {
   so = none_so_far (side_state g.P.Port.state g.P.Port.faults c.args.self.now);
   stays = λ q k us log s. s;
   counts = λ first q k us log s n. n;
-  told = λ d. d;
+  told = λ first d. d;
   stored = refl;
 }
 
@@ -33,7 +33,7 @@ completion-preserved-in-One g c =
       so = well_so_far old now new c.completion.failed inv.so same c.in-One.slot gives.0 refl gives.1;
       stays = λ q k us log s. well_ended k q us now new c.in-One.slot log gives.0 same refl (inv.stays q k us log s);
       counts = λ first q k us log s n. well_counts first k q us now new c.in-One.slot gives.0 gives.1 same (inv.counts first q k us log s n);
-      told = λ d. told_same now.faults new.faults now.kept new.kept gives.1 refl (inv.told d);
+      told = λ first d. told_same first now.faults new.faults now.kept new.kept gives.1 refl (inv.told first d);
       stored = inv.stored;
     }
 
@@ -51,7 +51,7 @@ completion-preserved g c =
       so = badly_so_far old now new c.completion.failed inv.so same c.in-Bad.tx c.in-Bad.status gives.0 gives.2 c.keep-self.ensures;
       stays = λ q k us log s. badly_ended k q us now new c.in-Bad.tx c.in-Bad.status log gives.0 gives.1 same c.keep-self.ensures (inv.stays q k us log s);
       counts = λ first q k us log s n. badly_counts first k q us now new c.in-Bad.tx gives.0 rises same (inv.counts first q k us log s n);
-      told = λ d. subst (λ (w : Option (ℕ × Why)). IsTold new.faults w) (sym c.keep-self.ensures) (told_new now.faults new.faults now.kept c.in-Bad.tx c.in-Bad.status gives.2 (inv.told d));
+      told = λ first d. subst (λ (w : Option (ℕ × Why)). IsTold first new.faults w) (sym c.keep-self.ensures) (told_new first now.faults new.faults now.kept c.in-Bad.tx c.in-Bad.status gives.2 (inv.told first d));
       stored = inv.stored;
     }
 
@@ -96,9 +96,9 @@ returns-in_err-complete_one-clause-counts g c =
     λ first q k us log s n. still_counts first k q us now new (gains_rises PowerOff now.faults new.faults gives.2) gives.1 same (c.completion.invariant.counts first q k us log s n)
 
 pub returns-in_err-complete_one-clause-told : goal.returns-in_err-complete_one-clause-told
-returns-in_err-complete_one-clause-told g c d =
+returns-in_err-complete_one-clause-told g c first d =
     let now : SideState = side_state g.P.Port.state g.P.Port.faults c.completion.self in
-    told_more PowerOff now.faults (g.P.Port.faults c.complete_one.new.self.port) now.kept c.in_err-complete_one.ensures.gives.2 (c.completion.invariant.told d)
+    told_more first PowerOff now.faults (g.P.Port.faults c.complete_one.new.self.port) now.kept c.in_err-complete_one.ensures.gives.2 (c.completion.invariant.told first d)
 
 pub returns-in-Idle-clause-completes : goal.returns-in-Idle-clause-completes
 returns-in-Idle-clause-completes g c =

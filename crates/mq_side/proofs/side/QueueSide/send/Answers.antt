@@ -15,7 +15,7 @@ use Rattle.mq_side.proofs.Items.{length_items}
 use Rattle.mq_side.proofs.Ready.{items_owned}
 use Rattle.mq_side.proofs.Sends.{are_ready, sends_whole, sends_cut, cut_along, rung_along}
 use Rattle.mq_side.proofs.Ends.{SameRecords}
-use Rattle.mq_side.proofs.Telling.{new_in}
+use Rattle.mq_side.proofs.Telling.{told_kept}
 use Rattle.mq_side.proofs.side.QueueSide.send.Goals as goal
 
 pub ring_all-requires : goal.ring_all-requires
@@ -59,7 +59,7 @@ returns-in-Err-clause-counts g c =
     λ first q k us log r s m. cut_counts first k q us old n.number (items_of old.geometry n) log (are_ready k q us old n r s) s (stored_low old _ c.args.self.now.pmr.fits refl) m new (gains_rises PowerOff old.faults new.faults e.cause) cut same
 
 pub returns-in-Err-clause-told : goal.returns-in-Err-clause-told
-returns-in-Err-clause-told g c d = new_in PowerOff (g.P.Port.faults c.args.self.now.pmr.port) (g.P.Port.faults c.ring_all.new.ring.port) c.in-Err.ensures.cause
+returns-in-Err-clause-told g c first d = told_kept first (g.P.Port.faults c.args.self.now.pmr.port) (g.P.Port.faults c.ring_all.new.ring.port) c.args.self.now.kept c.number-tx.result Off c.in-Err.ensures.cause d
 
 pub returns-clause-stays : goal.returns-clause-stays
 returns-clause-stays g c =
