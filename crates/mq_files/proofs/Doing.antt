@@ -10,7 +10,7 @@ use Rattle.mq_exec.specs.Moves.{IsChangeOf, KeepsRest, Moves}
 use Rattle.mq_exec.specs.declared.outcome.Done.{Done}
 use Rattle.mq_exec.proofs.Resting.{laid-after}
 use Rattle.mq_files.specs.Entries.{Asks, Changes, Does, IsAllLogged, IsUndrawn, Ran, freed_by, tx_of, volume_after, written_by}
-use Rattle.mq_files.specs.Laws.{blocks_in, commit_of_tx}
+use Rattle.mq_files.specs.Laws.{blocks_in}
 use Rattle.mq_files.specs.Plans.{DoneOn, HasNumber, IsEntryOf, IsPlanned, map_known}
 use Rattle.mq_files.specs.declared.entry.FileEntry.{FileEntry}
 use Rattle.mq_files.proofs.Changing.{freed_there, frees_apart, frees_rise, whole_writes, writes_rise}
@@ -24,7 +24,7 @@ use Rattle.mq_revoke.specs.Placed.{Placed}
 use Rattle.mq_revoke.specs.Placing.{AreInOrder, IsPlacement}
 use Rattle.mq_revoke.specs.declared.placement.Planned.{Planned}
 use Rattle.mq_rules.specs.Rule.{numbered}
-use Rattle.mq_side.specs.Commits.{IsPlanOf, commit_by, written_in}
+use Rattle.mq_side.specs.Commits.{IsPlanOf, commit_by, commit_of_tx, written_in}
 use Rattle.mq_side.proofs.Parting.{direct_blocks, logged_blocks}
 use Rattle.mq_side.proofs.Plans.{planned}
 use Rattle.mq_tree.specs.Requests.{after_group, replies}

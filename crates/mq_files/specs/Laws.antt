@@ -19,7 +19,7 @@ use Rattle.mq_revoke.specs.Placing.{IsPlacement}
 use Rattle.mq_revoke.specs.declared.placement.Planned.{Planned}
 use Rattle.mq_rules.specs.Rule.{Desk, Fits, May, core_of, geometry_of, map_now, numbered}
 use Rattle.mq_rules.specs.Values.{Values}
-use Rattle.mq_side.specs.Commits.{Commit, IsPlanOf, commit_by}
+use Rattle.mq_side.specs.Commits.{IsPlanOf, commit_by, commit_of_tx}
 use Rattle.mq_tree.specs.declared.request.Request.{Request}
 use Rattle.mq_turns.specs.Meaning.{newest}
 
@@ -45,10 +45,6 @@ PlacementsPlan =
     → IsPlanOf (homes_of g) (blocks_in done.writes.items) plan
 
 -- ---- what an entry says
-
--- what a transaction writes, by where it goes
-abbrev pub commit_of_tx : Tx → Commit
-commit_of_tx t = record { logged = t.logged; direct = t.direct; revoked = t.revoked }
 
 -- what is prepared of the writes by the plan is what the transaction of the entry writes
 abbrev pub EntriesTellCommits : Type 0

@@ -1,1 +1,4 @@
 pub mod Sides
+pub mod Marking
+pub mod Numbering
+pub mod Drawing

@@ -1,34 +1,158 @@
--- A side between a draw and its send.
-use Rattle.std.specs.Prelude.{◌≡◌, ℕ, List}
-use Rattle.mq_blocks.specs.Drive.{PortState}
+-- The draw of a number for a group: what it asks of a session, and what it leaves.
+use Rattle.std.specs.Prelude.{◌≡◌, ◌<◌, ◌≤◌, ◌^◌, ◌-◌, ℕ, suc, Bool, true, List, ◌∷◌}
+use Rattle.mq_blocks.specs.Drive.{PortState, staged_end, usable_depth}
+use Rattle.mq_blocks.specs.Geometry.{area_of}
+use Rattle.mq_blocks.specs.Journal.{number_limit}
 use Rattle.mq_drive.specs.Steps.{Fault}
 use Rattle.mq_drive.specs.declared.port.Port.{Ghosts}
-use Rattle.mq_ledger.specs.Sides.{SideOk}
-use Rattle.mq_rules.specs.Faults.{AreCharged}
-use Rattle.mq_rules.specs.Groups.{Group}
 use Rattle.mq_pages.specs.declared.page.PageCell.{PageCell}
-use Rattle.mq_rules.specs.Rule.{core_of, entries_of, faults_of, geometry_of, own_of, part_of}
-use Rattle.mq_rules.specs.Values.{Values}
-use Rattle.mq_side.specs.Commits.{NumberedCommit}
-use Rattle.mq_side.specs.Sent.{IsReady}
+use Rattle.mq_revoke.specs.Placed.{Placed}
+use Rattle.mq_rules.specs.Groups.{Group}
+use Rattle.mq_rules.specs.Rule.{IsSide, May, core_of, own_of, touches}
+use Rattle.mq_rules.specs.Values.{Part, Values}
+use Rattle.mq_side.specs.Commits.{NumberedCommit, commit_of_tx, size_of}
+use Rattle.mq_side.specs.Sent.{AreInZone, IsReady}
 use Rattle.mq_side.specs.Side.{side_state}
-use Rattle.mq_side.specs.Stored.{AreStored}
+use Rattle.mq_side.specs.Stored.{AreStored, FitIs, IsBounded, rows_of}
+use Rattle.mq_side.specs.declared.answers.Fit.TheVariants.{Yes}
 use Rattle.mq_side.specs.declared.root.Root.{Root}
 use Rattle.mq_side.specs.declared.side.QueueSide.{QueueSide}
+use Rattle.mq_turns.specs.Chairs.{giving}
+use Rattle.mq_turns.specs.Desk.{IsTurn, Sees, refreshed, slot_of, turn_at}
+use Rattle.mq_turns.specs.Lists.{Each, times}
+use Rattle.mq_turns.specs.Marks.{mark_of}
+use Rattle.mq_turns.specs.Meaning.{Meaning, drawn, newest}
 use Rattle.mq_turns.specs.declared.rule.Known.{Known}
+use Rattle.mq_turns.specs.declared.rule.Opening.{Opening}
+use Rattle.mq_turns.specs.declared.rule.Reading.{Reading}
+use Rattle.mq_turns.specs.declared.rule.View.{View}
+use Rattle.mq_turns.specs.declared.turn.Turn.{Turn}
 use Rattle.mq_turns.specs.declared.turn.Turn.TheVariants.{Side}
-use Rattle.mq_journal.specs.Values.{IsRecord, entries_in, side_values}
+use Rattle.mq_journal.specs.Machine.{journal}
+use Rattle.mq_journal.specs.Values.{IsRecord, entries_in, least_geometry, record_later, side_values}
 
 module _ {P E : Type 0} {G : Ghosts P} (state : P → PortState) (faults : P → List Fault) (group : Group E) where
-  abbrev values : Values (QueueSide P E G) (Root P G) E
-  values = side_values {P = P} {E = E} {G = G} state faults
+  abbrev pub Start : Type 0
+  Start = Opening PageCell (QueueSide P E G) (Root P G)
 
-  -- The side of the queue, on which the commit was drawn last, and nothing of it is staged. It is what the rule says of the
-  -- side, but that all is rung.
-  pub record HasNumbered (q : ℕ) (K : Known PageCell (QueueSide P E G) (Root P G) E) (s : QueueSide P E G) (n : NumberedCommit) : Type 0 where
-    pub port : SideOk (core_of values group K) q (own_of values group q K) (state s.pmr.port)
-    pub stored : entries_in s.stored.items ≡ entries_of values group q K.opening.base K.log
-    pub is : IsRecord (part_of values group q K) (side_state state faults s)
-    pub rows : AreStored (own_of values group q K) s.stored.items
-    pub charged : AreCharged (geometry_of values group K) (Side q) K.charges (faults_of values group K.opening q) (faults s.pmr.port)
+  abbrev pub Shared : Type 0
+  Shared = Known PageCell (QueueSide P E G) (Root P G) E
+
+  abbrev pub Seat : Type 0
+  Seat = View PageCell (QueueSide P E G) (Root P G) E
+
+  abbrev pub values : Values (QueueSide P E G) (Root P G) E
+  values = side_values state faults
+
+  abbrev pub machine : Meaning PageCell (QueueSide P E G) (Root P G) E
+  machine = journal state faults group
+
+  -- ---- a side between a draw and its send
+
+  -- Its record says what a side's says, but that all is rung.
+  pub record SaysDrawn (p : Part) (s : QueueSide P E G) : Type 0 where
+    pub is : IsRecord p (side_state state faults s)
+    pub stored : AreStored p.txs s.stored.items
+
+  abbrev pub drawn_values : Values (QueueSide P E G) (Root P G) E
+  drawn_values = record {
+    port = values.port;
+    faults = values.faults;
+    stored = values.stored;
+    says = SaysDrawn;
+    root = values.root;
+    root_faults = values.root_faults;
+    root_says = values.root_says;
+    geometry = values.geometry;
+    later = λ p word s above says. record { is = record_later p word (side_state state faults s) says.is; stored = says.stored };
+  }
+
+  -- The commit was drawn last on the queue, and nothing of it is staged.
+  pub record HasNumbered (q : ℕ) (K : Shared) (s : QueueSide P E G) (n : NumberedCommit) : Type 0 where
+    pub side : IsSide drawn_values group q K s
     pub ready : IsReady (core_of values group K) q (own_of values group q K) (side_state state faults s) n
+
+  -- It may be sent.
+  pub record MaySend (s : QueueSide P E G) (n : NumberedCommit) : Type 0 where
+    pub number : 1 ≤ n.number
+    pub room : size_of n ≤ usable_depth - (staged_end (state s.pmr.port) - (state s.pmr.port).head)
+    pub end : staged_end (state s.pmr.port) + size_of n ≤ number_limit
+    pub direct : AreInZone s.pmr.geometry n.queue n.commit.direct
+
+  -- ---- what a session knows
+
+  -- It holds the side of the queue, which is what the rule says by what it knows of it.
+  pub record HoldsSide (o : Start) (q : ℕ) (s : QueueSide P E G) (v : Seat) : Type 0 where
+    pub turn : IsTurn o (Side q)
+    pub holds : 0 < times (slot_of o (Side q)) v.held
+    pub is : Each (λ h. h.0 ≡ slot_of o (Side q) → IsSide values group q h.1 s) v.held
+
+  -- It holds the side of the queue, on which this was drawn.
+  pub record HoldsNumbered (o : Start) (q : ℕ) (s : QueueSide P E G) (n : NumberedCommit) (v : Seat) : Type 0 where
+    pub turn : IsTurn o (Side q)
+    pub holds : 0 < times (slot_of o (Side q)) v.held
+    pub has : Each (λ h. h.0 ≡ slot_of o (Side q) → HasNumbered q h.1 s n) v.held
+
+  -- of all but that side
+  abbrev pub SeesRest : Start → ℕ → Seat → Shared → Type 0
+  SeesRest o q v K = Sees machine (giving (slot_of o (Side q)) v) K
+
+  -- Whatever is known: the session holds all that the group changes, and it may be drawn.
+  pub record MayCome (o : Start) (q : ℕ) (e : E) (v : Seat) : Type 0 where
+    pub holds : (K : Shared) → SeesRest o q v K → (t : Turn) → IsTurn K.opening t → touches values group K.log e t ≡ true → 0 < times (slot_of K.opening t) v.held
+    pub may : (K : Shared) → SeesRest o q v K → newest K < 2 ^ 63 → May values group e K
+
+  -- Ring and area have room for what is placed so, by a base that the session has read, and the counts are within
+  -- bounds.
+  pub record HasPlace (s : QueueSide P E G) (v : Seat) (plan : Placed) : Type 0 where
+    pub base : ℕ
+    pub read : base ≤ v.reading.base
+    pub fits : FitIs (area_of s.pmr.geometry) base (rows_of s.stored.items) (state s.pmr.port) plan Yes
+    pub bounds : IsBounded (rows_of s.stored.items) (state s.pmr.port) plan
+
+  -- ---- what is told
+
+  -- what was read stays read, and more may be known to be done
+  pub record ReadOn (old new : Reading PageCell (QueueSide P E G) (Root P G) E) : Type 0 where
+    pub done : old.done ≤ new.done
+    pub base : new.base ≡ old.base
+    pub pages : new.pages ≡ old.pages
+    pub charged : new.charged ≡ old.charged
+
+  -- neither what the session is nor what it has drawn and read changes
+  pub record SameSession (old new : Seat) : Type 0 where
+    pub parts : new.parts ≡ old.parts
+    pub opening : new.opening ≡ old.opening
+    pub session : new.session ≡ old.session
+    pub read : new.read ≡ old.read
+    pub reading : ReadOn old.reading new.reading
+
+  -- Before a draw on the queue: the mark is not above the next number, the side is what the rule says, and the rest is
+  -- as it was known.
+  pub record IsMarked (o : Start) (q : ℕ) (s : QueueSide P E G) (old : Seat) (K : Shared) : Type 0 where
+    pub mark : mark_of q K.claims ≤ suc (newest K)
+    pub side : IsSide values group q K s
+    pub sees : SeesRest o q old K
+
+  pub record Marks (o : Start) (q : ℕ) (s : QueueSide P E G) (old new : Seat) : Type 0 where
+    pub knows : (K : Shared) → Sees machine new K → IsMarked o q s old K
+    pub about : ℕ → Bool
+    pub by : Shared
+    pub held : new.held ≡ refreshed about by old.held
+    pub alone : (k : ℕ) → about k ≡ true → k ≡ slot_of o (Side q)
+    pub drawn : new.drawn ≡ old.drawn
+    pub rest : SameSession old new
+
+  -- What was known at the draw; with the entry it is what the session then knows of all that the entry changes.
+  pub record Draws (o : Start) (q : ℕ) (e : E) (old new : Seat) (s : QueueSide P E G) (n : NumberedCommit) : Type 0 where
+    pub known : Shared
+    pub sees : SeesRest o q old known
+    pub may : May values group e known
+    pub number : n.number ≡ suc (newest known)
+    pub commit : n.commit ≡ commit_of_tx (group.tx e)
+    pub queue : n.queue ≡ q
+    pub held : new.held ≡ refreshed (λ k. touches values group known.log e (turn_at known.opening k)) (drawn e known) old.held
+    pub drawn : new.drawn ≡ (n.number, e) ∷ old.drawn
+    pub side : HoldsNumbered o q s n new
+    pub sends : MaySend s n
+    pub rest : SameSession old new

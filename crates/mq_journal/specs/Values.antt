@@ -30,7 +30,7 @@ AreFew p s =
     ⊎ (s.port.events + ahead (end_of p.start p.txs) s ≤ p.opened.events + most_events p.txs + length s.faults)
 
 -- What a side's record says beside its port: its records are of the queue's transactions, the failure that it
--- keeps is one of its port's faults, and each transaction that was sent was rung once.
+-- keeps is one of the faults that its port has gained since the opening, and each transaction that was sent was rung once.
 pub record IsRecord (p : Part) (s : SideState) : Type 0 where
   pub geometry : s.geometry ≡ p.geometry
   pub queue : s.queue ≡ p.queue
@@ -39,7 +39,7 @@ pub record IsRecord (p : Part) (s : SideState) : Type 0 where
   pub last : last_end s.passed.end s.rung ≡ s.port.doorbell
   pub done : IsDoneOf p.start p.txs s.port.head s.done
   pub kept : IsKept p.start p.txs s.port.failed s.port.pending s.port.doorbell s.kept
-  pub told : IsTold s.faults s.kept
+  pub told : IsTold p.first s.faults s.kept
   pub few : AreFew p s
   pub rings : s.port.rings ≡ counted p.opened.rings (rung_of p.start p.txs s.port.doorbell)
 

@@ -128,6 +128,6 @@ home_counts first k q us old new lba block (Ok (home.Error status)) same gives c
 home_counts first k q us old new lba block (Err off) same gives c = elim gives.0 [
   | inl is ↦ still_counts first k q us old new (gains_rises PowerOff old.faults new.faults gives.1) is same c
   | inr is ↦ (
-    let e = ahead_same (end_of (k.from q) us) old new same (subst (λ p. SameCounts old.port p) (sym is) (begun_same old.port lba block)) in
-    fault_counts first k q us old new (gains_rises PowerOff old.faults new.faults gives.1) (omega (arith, e)) c)
+      let e = ahead_same (end_of (k.from q) us) old new same (subst (λ p. SameCounts old.port p) (sym is) (begun_same old.port lba block)) in
+      fault_counts first k q us old new (gains_rises PowerOff old.faults new.faults gives.1) (omega (arith, e)) c)
 ]

@@ -83,7 +83,7 @@ fits_area area base rows p plan fit = elim (cases_lt (covered_in base rows + are
   | inr fits ↦ fits
 ]
 
-fits_ring : (area base : ℕ) (rows : List Row) (p : PortState) (plan : Placed) → FitIs area base rows p plan Yes → FitsRing p plan
+pub fits_ring : (area base : ℕ) (rows : List Row) (p : PortState) (plan : Placed) → FitIs area base rows p plan Yes → FitsRing p plan
 fits_ring area base rows p plan fit = elim (cases_lt (usable_depth - (staged_end p - p.head)) (slots_in plan)) [
   | inl less ↦ absurd (yes_ring (fit.ring_lacks.1 (fits_area area base rows p plan fit, λ fits. omega (arith, less, fits))))
   | inr fits ↦ fits

@@ -4,7 +4,7 @@ use Rattle.std.proofs.Math.Seq.{take-suc}
 use Rattle.std.proofs.lemmas.List.{map-append, reverse-append}
 use Rattle.mq_ledger.specs.Items.{next, place_before}
 use Rattle.mq_ledger.specs.declared.tx.Tx.{Tx}
-use Rattle.mq_side.specs.Commits.{commit_of, descriptor_size}
+use Rattle.mq_side.specs.Commits.{commit_of, commit_of_tx, descriptor_size}
 use Rattle.mq_side.specs.Stored.{Row, rows_of, rows_for, AreStored, next_in, numbered_in}
 use Rattle.mq_side.specs.declared.drawn.Drawn.{Drawn}
 use Rattle.mq_side.proofs.Draws.{next_is, newest_is}
@@ -33,11 +33,11 @@ last_place : (us : List Tx) → next us - 1 ≡ place_before us
 last_place [] = refl
 last_place (t ∷ ts) = (let e : next ts + (length t.logged + 1) - 1 ≡ next ts + length t.logged = omega arith in e)
 
-pub numbering : (t : Tx) (us : List Tx) → numbered_in t.queue t.number (rows_for us) (record { logged = t.logged; direct = t.direct; revoked = t.revoked }) ≡ commit_of t us
+pub numbering : (t : Tx) (us : List Tx) → numbered_in t.queue t.number (rows_for us) (commit_of_tx t) ≡ commit_of t us
 numbering t us =
     let place : next_in (rows_for us) - 1 ≡ place_before us = ap (λ (n : ℕ). n - 1) (next_is us) ∙ last_place us in
     λ i. record {
-      commit = record { logged = t.logged; direct = t.direct; revoked = t.revoked };
+      commit = commit_of_tx t;
       queue = t.queue;
       number = t.number;
       first = next_is us i;

@@ -1,5 +1,5 @@
 -- A fault that was gained stays among the faults.
-use Rattle.std.proofs.Common.{◌≡◌, ◌⊎◌, ℕ, ◌+◌, ◌-◌, ◌≤◌, ◌^◌, Bool, cond, List, ◌∷◌, ◌++◌, length, Option, Some, None, sym, refl, ap, subst, ◌∙◌, inl, inr, arith, length-append}
+use Rattle.std.proofs.Common.{◌≡◌, ◌⊎◌, ℕ, ◌+◌, ◌-◌, ◌≤◌, ◌^◌, Bool, true, cond, List, ◌∷◌, ◌++◌, length, Option, Some, None, sym, refl, ap, subst, ◌∙◌, inl, inr, arith, length-append}
 use Rattle.std.specs.Prelude.{Result, Ok, Err}
 use Rattle.std.proofs.lemmas.Bool.{cases_lt, le-leb, lt-leb}
 use Rattle.mq_blocks.proofs.Totals.{total_append}
@@ -34,7 +34,7 @@ added_still : (first : List Fault) (y x : Fault) (old new : List Fault) → IsWi
 added_still first y x old new one added f e = let a = one_more x old new f one in let b = added f e in omega arith
 
 added_now : (first : List Fault) (x : Fault) (old new : List Fault) → IsWithOneMore x old new → AreMore first old → IsAdded x first new
-added_now first x old new one more f e = let a = one_more x old new f one in let b = more f in let c : cond (f x) 1 0 ≡ 1 = ap (λ t. cond t 1 0) e in omega arith
+added_now first x old new one more f e = let a = one_more x old new f one in let b = more f in let c : cond {A = ℕ} (f x) 1 0 ≡ 1 = ap (λ (t : Bool). cond {A = ℕ} t 1 0) e in omega arith
 
 among_still : (first : List Fault) (x : Fault) (old new : List Fault) (kept : Option (ℕ × Why)) → IsWithOneMore x old new → IsKeptAmong first old kept → IsKeptAmong first new kept
 among_still first x old new None one added = tt

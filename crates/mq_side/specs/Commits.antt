@@ -72,10 +72,14 @@ descriptor_of n = record {
   revoked = n.commit.revoked;
 }
 
+-- what a transaction writes, by where it goes
+abbrev pub commit_of_tx : Tx → Commit
+commit_of_tx t = record { logged = t.logged; direct = t.direct; revoked = t.revoked }
+
 -- the commit of a transaction, where these stand before it on its queue
 abbrev pub commit_of : Tx → List Tx → NumberedCommit
 commit_of t us = record {
-  commit = record { logged = t.logged; direct = t.direct; revoked = t.revoked };
+  commit = commit_of_tx t;
   queue = t.queue;
   number = t.number;
   first = next us;

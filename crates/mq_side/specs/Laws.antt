@@ -16,7 +16,7 @@ use Rattle.mq_revoke.specs.Guard.{placed_of}
 use Rattle.mq_revoke.specs.Placed.{Placed}
 use Rattle.mq_revoke.specs.Placing.{AreInOrder, IsPlacement}
 use Rattle.mq_revoke.specs.declared.placement.Planned.{Planned}
-use Rattle.mq_side.specs.Commits.{IsPlanOf, commit_of, items_of, descriptor_size}
+use Rattle.mq_side.specs.Commits.{IsPlanOf, commit_of, commit_of_tx, items_of, descriptor_size}
 use Rattle.mq_side.specs.Counts.{IsCounted, most_events}
 use Rattle.mq_side.specs.Drained.{Drains, IsWhole}
 use Rattle.mq_side.specs.Sent.{AreItems}
@@ -72,8 +72,7 @@ Fitting =
 abbrev pub Numbering : Type 0
 Numbering =
     (t : Tx) (us : List Tx)
-    → numbered_in t.queue t.number (rows_for us)
-    (record { logged = t.logged; direct = t.direct; revoked = t.revoked }) ≡ commit_of t us
+    → numbered_in t.queue t.number (rows_for us) (commit_of_tx t) ≡ commit_of t us
 
 abbrev pub Storing : Type 0 → Type 0
 Storing E =

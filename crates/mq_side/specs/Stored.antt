@@ -1,6 +1,7 @@
 -- What a side stores of each transaction that was drawn on its queue, and which plans fit beside them.
-use Rattle.std.specs.Prelude.{◌≡◌, ◌≤◌, ◌↔◌, ℕ, ◌+◌, ◌-◌, List, [], ◌∷◌, length, map, reverse, nat_le, if◌then◌else◌}
+use Rattle.std.specs.Prelude.{◌≡◌, ◌<◌, ◌≤◌, ◌↔◌, ◌^◌, ℕ, ◌+◌, ◌-◌, List, [], ◌∷◌, length, map, reverse, nat_le, if◌then◌else◌}
 use Rattle.mq_blocks.specs.Drive.{PortState, staged_end, usable_depth}
+use Rattle.mq_blocks.specs.Journal.{number_limit}
 use Rattle.mq_ledger.specs.Items.{next}
 use Rattle.mq_ledger.specs.declared.tx.Tx.{Tx}
 use Rattle.mq_revoke.specs.Placed.{Placed}
@@ -55,6 +56,11 @@ FitsArea area base rows plan = next_in rows + places_in plan ≤ covered_in base
 -- the entries have room in the ring
 abbrev pub FitsRing : PortState → Placed → Type 0
 FitsRing p plan = slots_in plan ≤ usable_depth - (staged_end p - p.head)
+
+-- the places of the copies, and the counts of the entries, are within the bounds of numbers
+pub record IsBounded (rows : List Row) (p : PortState) (plan : Placed) : Type 0 where
+  pub places : next_in rows + length plan.logged < 2 ^ 62
+  pub end : staged_end p + slots_in plan ≤ number_limit
 
 pub record FitIs (area base : ℕ) (rows : List Row) (p : PortState) (plan : Placed) (fit : Fit) : Type 0 where
   pub area_lacks : (fit ≡ Area) ↔ (FitsArea area base rows plan → ⊥)

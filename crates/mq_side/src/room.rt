@@ -1,7 +1,7 @@
 // The room of a queue, in its journal area and in its ring.
-ghost use Rattle.std.specs.Prelude.{◌≡◌};
+ghost use Rattle.std.specs.Prelude.{◌≡◌, ◌↔◌, IsTrue};
 ghost use Rattle.mq_blocks.specs.Geometry.{area_of};
-ghost use Rattle.mq_side.specs.Stored.{rows_of, next_in, newest_in, covered_in, FitIs};
+ghost use Rattle.mq_side.specs.Stored.{rows_of, next_in, newest_in, covered_in, FitIs, IsBounded};
 
 use crate::{Drawn, Fit, QueueSide};
 use mq_blocks::TxNo;
@@ -44,6 +44,18 @@ fn covered<E>(stored: &[Drawn<E>], base: TxNo) -> u64
 }
 
 impl<P: Port, E> QueueSide<P, E> {
+    /// Whether a transaction that is placed so stays within the bounds of numbers, below 2^62 with its
+    /// places and at most 2^63 with its counts. A queue that has come so far takes no more.
+    pub fn is_bounded(&self, plan: &Placement) -> bool
+        ensures { IsTrue result ↔ IsBounded (rows_of self.now.stored.items)
+            (P.state self.now.pmr.port) plan.now }
+    {
+        let copies = plan.logged.len() as u64;
+        let entries = copies + plan.direct.len() as u64 + DESCRIPTOR_BLOCKS;
+        next_place(&self.stored) + copies < 1 << 62
+            && self.pmr.end().saturating_add(entries) <= 1 << 63
+    }
+
     /// Whether a transaction that is placed so has room: its copies and its descriptor in the journal
     /// area, beside those of the transactions above the base, and its entries in the ring.
     pub fn fits(&self, plan: &Placement, base: TxNo) -> Fit

@@ -1,10 +1,11 @@
 // A queue's side.
-ghost use Rattle.std.specs.Prelude.{◌≡◌, [], ◌≤◌, ◌^◌, IfOk, IfErr, None};
+ghost use Rattle.std.specs.Prelude.{◌≡◌, ◌↔◌, [], ◌≤◌, ◌^◌, IfOk, IfErr, IsTrue, None};
+ghost use Rattle.mq_blocks.specs.Drive.{staged_end};
 ghost use Rattle.mq_side.specs.Quiet.{IsQuiet};
 ghost use Rattle.mq_side.specs.Stored.{rows_of, next_in};
 
 use crate::{Drawn, Why};
-use mq_blocks::{OutOfMemory, TxNo};
+use mq_blocks::{Geometry, OutOfMemory, QueueNo, TxNo, USABLE_DEPTH};
 use mq_drive::Port;
 use mq_pmr::PmrQueue;
 use std::alloc::Global;
@@ -48,6 +49,28 @@ impl<P: Port, E> QueueSide<P, E> {
             done: TxNo(0),
             kept: None,
         })
+    }
+
+    /// The geometry of the drive.
+    pub fn geometry(&self) -> Geometry
+        ensures { result ≡ self.now.pmr.geometry }
+    {
+        self.pmr.geometry()
+    }
+
+    /// The queue of the drive that it is the side of.
+    pub fn queue(&self) -> QueueNo
+        ensures { result ≡ self.now.pmr.queue }
+    {
+        self.pmr.queue()
+    }
+
+    /// Whether nothing is under way: the head, as last flushed, has passed all that was staged.
+    pub fn is_at_rest(&self) -> bool
+        ensures { IsTrue result ↔ (staged_end (P.state self.now.pmr.port)
+            ≤ (P.state self.now.pmr.port).head) }
+    {
+        self.pmr.room() == USABLE_DEPTH
     }
 
     /// The failure that stopped the queue, if there is one: the least transaction of which a command

@@ -127,3 +127,8 @@ returns-in-Idle-clause-counts g c =
     let same : SameRecords now new = record { geometry = c.complete_one.ensures.own.0; queue = c.complete_one.ensures.own.1; passed = c.complete_one.ensures.done; rung = c.complete_one.ensures.rung; done = refl } in
     let gives = rw c.in-Idle.is at c.in_ok-complete_one.ensures.gives in
     λ first q k us log s n. idle_counts first k q us now new gives.2 gives.1 same (c.completion.invariant.counts first q k us log s n)
+
+pub returns-in-Idle-clause-told : goal.returns-in-Idle-clause-told
+returns-in-Idle-clause-told g c first d =
+    let gives = rw c.in-Idle.is at c.in_ok-complete_one.ensures.gives in
+    told_same first (g.P.Port.faults c.completion.self.pmr.port) (g.P.Port.faults c.complete_one.new.self.port) c.completion.self.kept c.completion.self.kept gives.2 refl (c.completion.invariant.told first d)

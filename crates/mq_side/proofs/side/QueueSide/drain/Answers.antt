@@ -48,3 +48,9 @@ returns-in_err-advance-clause-cause g c =
     let new : SideState = side_state g.P.Port.state g.P.Port.faults c.advance.new.self in
     let p = err_from_is_err_and c.from_residual-in_err-advance.result c.from_residual-in_err-advance.ensures.1 in
     rw p.1 (subst (λ (e : Cause). DrainCause (Err e) old.faults new.faults) (sym p.2) (cut_head_cause old mid new c.in_ok-failed.failed _ c.in_ok-failed.ensures.completes c.in_err-advance.ensures.advances))
+
+pub returns-in_err-advance-clause-told : goal.returns-in_err-advance-clause-told
+returns-in_err-advance-clause-told g c first d = c.in_err-advance.ensures.told first (c.in_ok-failed.ensures.told first d)
+
+pub returns-clause-told : goal.returns-clause-told
+returns-clause-told g c first d = c.in_ok-advance.ensures.told first (c.in_ok-failed.ensures.told first d)
