@@ -21,7 +21,7 @@ use Rattle.mq_turns.specs.declared.turn.Turn.TheVariants.{Side}
 use Rattle.mq_turns.proofs.Seen.{opening_seen, times_renewed}
 use Rattle.mq_turns.proofs.Slots.{turn_at_slot}
 use Rattle.mq_journal.specs.Numbers
-use Rattle.mq_journal.specs.Numbers.{Draws, HasNumbered, HoldsNumbered, HoldsSide, Marks, MayCome, MaySend, SameSession}
+use Rattle.mq_journal.specs.Numbers.{Draws, HasNumbered, HoldsNumbered, HoldsSide, Marks, MayCome, MaySend, SameSession, Seat, Shared, Start}
 use Rattle.mq_journal.proofs.Marking.{renewed_twice}
 
 -- what was renewed under a slot is what it was renewed by
@@ -29,20 +29,14 @@ renewed_has : {A B C D : Type 0} (F : Known A B C D → Type 0) (touched : ℕ �
 renewed_has F touched L slot [] mine has = tt
 renewed_has F touched L slot (h ∷ hs) mine has = ((λ at. subst (λ b. F (cond b L h.1)) (sym (ap touched at ∙ mine)) has), renewed_has F touched L slot hs mine has)
 
-module _ {P E : Type 0} {G : Ghosts P} (state : P → PortState) (faults : P → List Fault) (group : Group E) (o : Numbers.Start {G = G} state faults group) (q : ℕ) (s : QueueSide P E G) (e : E) (own : (group.tx e).queue ≡ q) where
-  abbrev Shared : Type 0
-  Shared = Numbers.Shared {G = G} state faults group
-
-  abbrev Seat : Type 0
-  Seat = Numbers.Seat {G = G} state faults group
-
+module _ {P E : Type 0} {G : Ghosts P} (state : P → PortState) (faults : P → List Fault) (group : Group E) (o : Start P E G) (q : ℕ) (s : QueueSide P E G) (e : E) (own : (group.tx e).queue ≡ q) where
   abbrev values : Values (QueueSide P E G) (Root P G) E
   values = Numbers.values state faults group
 
   abbrev μ : Meaning PageCell (QueueSide P E G) (Root P G) E
   μ = Numbers.machine state faults group
 
-  module _ (old mid : Seat) (marks : Marks state faults group o q s old mid) where
+  module _ (old mid : Seat P E G) (marks : Marks state faults group o q s old mid) where
     -- as much is held as before
     pub held_still : (k : ℕ) → times k mid.held ≡ times k old.held
     held_still k = ap (times k) marks.held ∙ times_renewed μ marks.about marks.by k old.held
@@ -61,7 +55,7 @@ module _ {P E : Type 0} {G : Ghosts P} (state : P → PortState) (faults : P →
       read = subst (Each (λ r. μ.group r.0 < μ.group e)) (sym marks.rest.read) f.read;
     }
 
-    module _ (new : Seat) (K : Shared) (opening : old.opening ≡ Some o) (turn : IsTurn o (Side q)) (holds : 0 < times (slot_of o (Side q)) old.held) (sees : Sees μ mid K) (drew : new ≡ after_draw μ e K mid) where
+    module _ (new : Seat P E G) (K : Shared P E G) (opening : old.opening ≡ Some o) (turn : IsTurn o (Side q)) (holds : 0 < times (slot_of o (Side q)) old.held) (sees : Sees μ mid K) (drew : new ≡ after_draw μ e K mid) where
       abbrev touched : ℕ → Bool
       touched k = touches values group K.log e (turn_at K.opening k)
 
@@ -73,9 +67,9 @@ module _ {P E : Type 0} {G : Ghosts P} (state : P → PortState) (faults : P →
 
       held_is : new.held ≡ refreshed touched (drawn e K) old.held
       held_is =
-          ap (λ (z : Seat). z.held) drew
+          ap (λ (z : Seat P E G). z.held) drew
           ∙ (ap (refreshed touched (drawn e K)) marks.held
-          ∙ renewed_twice touched marks.about (drawn e K) marks.by old.held (λ k yes. subst (λ j. touched j ≡ true) (sym (marks.alone k yes)) mine))
+          ∙ renewed_twice touched marks.about (drawn e K) marks.by old.held (λ k found. subst (λ j. touched j ≡ true) (sym (marks.alone k found)) mine))
 
       pub draws : (s' : QueueSide P E G) (n : NumberedCommit) → May values group e K → n.number ≡ suc (newest K) → n.commit ≡ commit_of_tx (group.tx e) → n.queue ≡ q → HasNumbered state faults group q (drawn e K) s' n → MaySend state faults group s' n → Draws state faults group o q e old new s' n
       draws s' n may number commit queue has sends = record {
@@ -86,7 +80,7 @@ module _ {P E : Type 0} {G : Ghosts P} (state : P → PortState) (faults : P →
         commit = commit;
         queue = queue;
         held = held_is;
-        drawn = ap (λ (z : Seat). z.drawn) drew ∙ (λ i. (sym number i, e) ∷ marks.drawn i);
+        drawn = ap (λ (z : Seat P E G). z.drawn) drew ∙ (λ i. (sym number i, e) ∷ marks.drawn i);
         side = record {
           turn = turn;
           holds = subst (λ l. 0 < times (slot_of o (Side q)) l) (sym held_is) (let same = times_renewed μ touched (drawn e K) (slot_of o (Side q)) old.held in omega arith);
@@ -94,10 +88,10 @@ module _ {P E : Type 0} {G : Ghosts P} (state : P → PortState) (faults : P →
         };
         sends = sends;
         rest = record {
-          parts = ap (λ (z : Seat). z.parts) drew ∙ marks.rest.parts;
-          opening = ap (λ (z : Seat). z.opening) drew ∙ marks.rest.opening;
-          session = ap (λ (z : Seat). z.session) drew ∙ marks.rest.session;
-          read = ap (λ (z : Seat). z.read) drew ∙ marks.rest.read;
-          reading = subst (λ (z : Seat). Numbers.ReadOn {G = G} state faults group old.reading z.reading) (sym drew) marks.rest.reading;
+          parts = ap (λ (z : Seat P E G). z.parts) drew ∙ marks.rest.parts;
+          opening = ap (λ (z : Seat P E G). z.opening) drew ∙ marks.rest.opening;
+          session = ap (λ (z : Seat P E G). z.session) drew ∙ marks.rest.session;
+          read = ap (λ (z : Seat P E G). z.read) drew ∙ marks.rest.read;
+          reading = subst (λ (z : Seat P E G). Numbers.ReadOn state faults group old.reading z.reading) (sym drew) marks.rest.reading;
         };
       }

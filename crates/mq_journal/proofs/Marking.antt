@@ -16,7 +16,7 @@ use Rattle.mq_rules.specs.Rule.{IsSide}
 use Rattle.mq_rules.specs.Values.{Values}
 use Rattle.mq_rules.proofs.Telling.{ok_claimed, side_claimed}
 use Rattle.mq_side.specs.Side.{side_state}
-use Rattle.mq_side.specs.declared.root.Root.{Root}
+use Rattle.mq_side.specs.declared.root.Root as side
 use Rattle.mq_side.specs.declared.side.QueueSide.{QueueSide}
 use Rattle.mq_side.proofs.Sends.{none_kept}
 use Rattle.mq_turns.specs.Chairs.{giving}
@@ -38,6 +38,7 @@ use Rattle.mq_turns.proofs.Each.{each_without}
 use Rattle.mq_turns.proofs.Seen.{mark_stays, opening_seen, sees_look, stands_held, stay_renewed}
 use Rattle.mq_turns.proofs.Slots.{turn_at_slot}
 use Rattle.mq_journal.specs.Numbers
+use Rattle.mq_journal.specs.Numbers.{Seat, Shared, Start}
 
 -- ---- slots
 
@@ -54,30 +55,27 @@ side_alone o q k same = let n : ℕ = length o.pages in let m : ℕ = length o.s
 -- ---- lists of what is held
 
 module _ {A B C D : Type 0} where
-  abbrev Told : Type 0
-  Told = Known A B C D
-
-  renewed_none : (L : Told) (l : List (ℕ × Told)) → refreshed (λ k. false) L l ≡ l
+  renewed_none : (L : Known A B C D) (l : List (ℕ × Known A B C D)) → refreshed (λ k. false) L l ≡ l
   renewed_none L [] = refl
   renewed_none L (h ∷ hs) = ap (λ t. h ∷ t) (renewed_none L hs)
 
   -- what is held besides a slot that alone was renewed
-  each_left : (F : ℕ × Told → Type 0) (about : ℕ → Bool) (L : Told) (slot : ℕ) (l : List (ℕ × Told)) → ((k : ℕ) → about k ≡ true → k ≡ slot) → Each F (refreshed about L l) → Each F (without slot l)
+  each_left : (F : ℕ × Known A B C D → Type 0) (about : ℕ → Bool) (L : Known A B C D) (slot : ℕ) (l : List (ℕ × Known A B C D)) → ((k : ℕ) → about k ≡ true → k ≡ slot) → Each F (refreshed about L l) → Each F (without slot l)
   each_left F about L slot [] alone all = tt
   each_left F about L slot (h ∷ hs) alone all = elim (cases_eq h.0 slot) [
     | inl mine ↦ subst (λ b. Each F (cond b (without slot hs) (h ∷ without slot hs))) (sym (eq-eqb h.0 slot mine)) (each_left F about L slot hs alone all.1)
     | inr other ↦ elim (cases_Bool (about h.0)) [
-      | inl yes ↦ absurd (other (alone h.0 yes))
-      | inr no ↦ subst (λ b. Each F (cond b (without slot hs) (h ∷ without slot hs))) (sym (ne_eqb h.0 slot other)) (subst (λ b. F (h.0, cond b L h.1)) no all.0, each_left F about L slot hs alone all.1)
+      | inl found ↦ absurd (other (alone h.0 found))
+      | inr apart ↦ subst (λ b. Each F (cond b (without slot hs) (h ∷ without slot hs))) (sym (ne_eqb h.0 slot other)) (subst (λ b. F (h.0, cond b L h.1)) apart all.0, each_left F about L slot hs alone all.1)
     ]
   ]
 
   -- of two renewals, the second of all that the first was about
-  pub renewed_twice : (f g : ℕ → Bool) (L M : Told) (l : List (ℕ × Told)) → ((k : ℕ) → g k ≡ true → f k ≡ true) → refreshed f L (refreshed g M l) ≡ refreshed f L l
+  pub renewed_twice : (f g : ℕ → Bool) (L M : Known A B C D) (l : List (ℕ × Known A B C D)) → ((k : ℕ) → g k ≡ true → f k ≡ true) → refreshed f L (refreshed g M l) ≡ refreshed f L l
   renewed_twice f g L M [] more = refl
   renewed_twice f g L M (h ∷ hs) more = elim (cases_Bool (g h.0)) [
-    | inl yes ↦ rw (more h.0 yes) (ap (λ t. (h.0, L) ∷ t) (renewed_twice f g L M hs more))
-    | inr no ↦ rw no (ap (λ t. (h.0, cond (f h.0) L h.1) ∷ t) (renewed_twice f g L M hs more))
+    | inl found ↦ rw (more h.0 found) (ap (λ t. (h.0, L) ∷ t) (renewed_twice f g L M hs more))
+    | inr apart ↦ rw apart (ap (λ t. (h.0, cond (f h.0) L h.1) ∷ t) (renewed_twice f g L M hs more))
   ]
 
 -- ---- what was read
@@ -86,7 +84,7 @@ module _ {A B C D : Type 0} where
   read_passed : (queues n low : ℕ) (r : Reading A B C D) → (r.done ≤ (passed queues n low r).done) × ((passed queues n low r).base ≡ r.base) × ((passed queues n low r).pages ≡ r.pages) × ((passed queues n low r).charged ≡ r.charged)
   read_passed queues n low r = elim (cases_Bool (nat_le queues n)) [
     | inl all ↦ (rw all (omega arith), refl, refl, refl)
-    | inr some ↦ (rw some (omega arith), refl, refl, refl)
+    | inr few ↦ (rw few (omega arith), refl, refl, refl)
   ]
 
   read_shown : (queues q n : ℕ) (r : Reading A B C D) → (r.done ≤ (shown queues q n r).done) × ((shown queues q n r).base ≡ r.base) × ((shown queues q n r).pages ≡ r.pages) × ((shown queues q n r).charged ≡ r.charged)
@@ -100,26 +98,11 @@ module _ {A B C D : Type 0} where
 
 -- ---- the newest of a queue
 
-module _ {P E : Type 0} {G : Ghosts P} (state : P → PortState) (faults : P → List Fault) (group : Group E) where
-  abbrev Shared : Type 0
-  Shared = Numbers.Shared {G = G} state faults group
-
-  abbrev Seat : Type 0
-  Seat = Numbers.Seat {G = G} state faults group
-
-  abbrev Start : Type 0
-  Start = Numbers.Start {G = G} state faults group
-
-  abbrev values : Values (QueueSide P E G) (Root P G) E
-  values = Numbers.values state faults group
-
-  abbrev μ : Meaning PageCell (QueueSide P E G) (Root P G) E
-  μ = Numbers.machine state faults group
-
+module _ {Q R E : Type 0} (values : Values Q R E) (group : Group E) where
   abbrev hist : ℕ → List E → List Tx
   hist = Rule.history values group
 
-  -- its entry in the history, and what stands there before it
+  -- of an entry of the queue: its place in the history, and what stands there before it
   record NewestOwn (q base : ℕ) (es : List E) (t : Tx) (ts : List Tx) : Type 0 where
     pub n : ℕ
     pub e : E
@@ -169,9 +152,18 @@ module _ {P E : Type 0} {G : Ghosts P} (state : P → PortState) (faults : P →
             }
       ]
 
+-- ---- sides
+
+module _ {P E : Type 0} {G : Ghosts P} (state : P → PortState) (faults : P → List Fault) (group : Group E) where
+  abbrev values : Values (QueueSide P E G) (side.Root P G) E
+  values = Numbers.values state faults group
+
+  abbrev μ : Meaning PageCell (QueueSide P E G) (side.Root P G) E
+  μ = Numbers.machine state faults group
+
   -- ---- a side on which something is under way
 
-  module _ (q : ℕ) (K : Shared) (s : QueueSide P E G) (is : IsSide values group q K s) (none : s.kept ≡ None) where
+  module _ (q : ℕ) (K : Shared P E G) (s : QueueSide P E G) (is : IsSide values group q K s) (none : s.kept ≡ None) where
     abbrev p : PortState
     p = state s.pmr.port
 
@@ -192,23 +184,23 @@ module _ {P E : Type 0} {G : Ghosts P} (state : P → PortState) (faults : P →
 
     -- its newest transaction is not done
     pub mark_low : (us : List Tx) → own ≡ us → (staged_end p ≤ p.head → ⊥) → Marked μ K → mark_of q K.claims ≤ suc (newest K)
-    mark_low [] no busy marked = absurd (busy (let a = end_is in let b : end_of from own ≡ from = ap (end_of from) no ∙ (let z : from + 0 ≡ from = omega arith in z) in let c = is.port.order.head_low in omega arith))
-    mark_low (t ∷ ts) some busy marked =
-        let r = newest_own q K.opening.base K.log t ts some in
+    mark_low [] empty busy marked = absurd (busy (let a = end_is in let b : end_of from own ≡ from = ap (end_of from) empty ∙ (let z : from + 0 ≡ from = omega arith in z) in let c = is.port.order.head_low in omega arith))
+    mark_low (t ∷ ts) newest_is busy marked =
+        let r = newest_own values group q K.opening.base K.log t ts newest_is in
         elim (cases_Bool (is_claimed q r.n K.claims)) [
           | inl done ↦ absurd (busy (
-            let claimed : is_claimed t.queue t.number K.claims ≡ true = ap (λ (z : ℕ × ℕ). is_claimed z.0 z.1 K.claims) (λ i. (r.queue i, r.number i)) ∙ done in
-            let a = is.port.done t r.h r.there r.queue claimed in
-            let b : end_of from own ≡ end_of from ts + (writes t + descriptor_blocks t) = ap (end_of from) some ∙ (let z : from + (total ts + (writes t + descriptor_blocks t)) ≡ from + total ts + (writes t + descriptor_blocks t) = omega arith in z) in
-            let c : end_of from (of_queue q r.h) ≡ end_of from ts = ap (end_of from) r.rest in
-            let d = end_is in
-            omega arith))
-          | inr not ↦
-            let open_at : is_claimed (group.tx r.e).queue r.n K.claims ≡ false = ap (λ z. is_claimed z r.n K.claims) r.own ∙ not in
-            let low = marked.undone r.n r.e r.at open_at in
-            let same : mark_of (group.tx r.e).queue K.claims ≡ mark_of q K.claims = ap (λ z. mark_of z K.claims) r.own in
-            let l = r.low in
-            omega arith
+              let claimed : is_claimed t.queue t.number K.claims ≡ true = ap (λ (z : ℕ × ℕ). is_claimed z.0 z.1 K.claims) (λ i. (r.queue i, r.number i)) ∙ done in
+              let a = is.port.done t r.h r.there r.queue claimed in
+              let b : end_of from own ≡ end_of from ts + (writes t + descriptor_blocks t) = ap (end_of from) newest_is ∙ (let z : from + (total ts + (writes t + descriptor_blocks t)) ≡ from + total ts + (writes t + descriptor_blocks t) = omega arith in z) in
+              let c : end_of from (of_queue q r.h) ≡ end_of from ts = ap (end_of from) r.rest in
+              let d = end_is in
+              omega arith))
+          | inr undone ↦
+              let open_at : is_claimed (group.tx r.e).queue r.n K.claims ≡ false = ap (λ z. is_claimed z r.n K.claims) r.own ∙ undone in
+              let low = marked.undone r.n r.e r.at open_at in
+              let same : mark_of (group.tx r.e).queue K.claims ≡ mark_of q K.claims = ap (λ z. mark_of z K.claims) r.own in
+              let l = r.low in
+              omega arith
         ]
 
     -- at rest all of its transactions stand below the head
@@ -219,19 +211,19 @@ module _ {P E : Type 0} {G : Ghosts P} (state : P → PortState) (faults : P →
         omega arith
 
   -- what the session knows of a side that it holds
-  pub side_known : (o : Start) (q : ℕ) (s : QueueSide P E G) (v : Seat) → v.opening ≡ Some o → Numbers.HoldsSide {G = G} state faults group o q s v → (K : Shared) → Sees μ v K → IsSide values group q K s
+  pub side_known : (o : Start P E G) (q : ℕ) (s : QueueSide P E G) (v : Seat P E G) → v.opening ≡ Some o → Numbers.HoldsSide state faults group o q s v → (K : Shared P E G) → Sees μ v K → IsSide values group q K s
   side_known o q s v opening h K sees = stands_held {M = ℕ} μ o (Side q) v (item.Side s) opening h.turn h.holds h.is K sees
 
   -- ---- a look, and nothing more
 
-  module _ (o : Start) (q : ℕ) (s : QueueSide P E G) (v w : Seat) (K0 : Shared) (knows : (K : Shared) → Sees μ v K → IsSide values group q K s) (none : s.kept ≡ None) (sees0 : Sees μ v K0) (looked : w ≡ after_look None K0 v) where
-    look_before : (K : Shared) → Sees μ w K → Sees μ v K
+  module _ (o : Start P E G) (q : ℕ) (s : QueueSide P E G) (v w : Seat P E G) (K0 : Shared P E G) (knows : (K : Shared P E G) → Sees μ v K → IsSide values group q K s) (none : s.kept ≡ None) (sees0 : Sees μ v K0) (looked : w ≡ after_look None K0 v) where
+    look_before : (K : Shared P E G) → Sees μ w K → Sees μ v K
     look_before K sees = sees_look μ K0 K v sees0 (subst (λ z. Sees μ z K) looked sees)
 
-    rest_seen : (K : Shared) → Sees μ v K → Numbers.SeesRest {G = G} state faults group o q v K
+    rest_seen : (K : Shared P E G) → Sees μ v K → Numbers.SeesRest state faults group o q v K
     rest_seen K sees = record { opening = sees.opening; ok = sees.ok; few = sees.few; held = each_without _ (slot_of o (Side q)) v.held sees.held; seen = sees.seen; drew = sees.drew; marked = sees.marked; reader = sees.reader }
 
-    pub busy_marks : (staged_end (state s.pmr.port) ≤ (state s.pmr.port).head → ⊥) → Numbers.Marks {G = G} state faults group o q s v w
+    pub busy_marks : (staged_end (state s.pmr.port) ≤ (state s.pmr.port).head → ⊥) → Numbers.Marks state faults group o q s v w
     busy_marks busy = record {
       knows = λ K sees.
           let before = look_before K sees in
@@ -239,35 +231,35 @@ module _ {P E : Type 0} {G : Ghosts P} (state : P → PortState) (faults : P →
           record { mark = mark_low q K s side none (Rule.own_of values group q K) refl busy sees.marked; side = side; sees = rest_seen K before };
       about = λ k. false;
       by = K0;
-      held = ap (λ (z : Seat). z.held) looked ∙ sym (renewed_none K0 v.held);
-      alone = λ k no. absurd (false≢true no);
-      drawn = ap (λ (z : Seat). z.drawn) looked;
+      held = ap (λ (z : Seat P E G). z.held) looked ∙ sym (renewed_none K0 v.held);
+      alone = λ k found. absurd (false≢true found);
+      drawn = ap (λ (z : Seat P E G). z.drawn) looked;
       rest = record {
-        parts = ap (λ (z : Seat). z.parts) looked;
-        opening = ap (λ (z : Seat). z.opening) looked;
-        session = ap (λ (z : Seat). z.session) looked;
-        read = ap (λ (z : Seat). z.read) looked;
-        reading = subst (λ (z : Seat). Numbers.ReadOn {G = G} state faults group v.reading z.reading) (sym looked) (record { done = omega arith; base = refl; pages = refl; charged = refl });
+        parts = ap (λ (z : Seat P E G). z.parts) looked;
+        opening = ap (λ (z : Seat P E G). z.opening) looked;
+        session = ap (λ (z : Seat P E G). z.session) looked;
+        read = ap (λ (z : Seat P E G). z.read) looked;
+        reading = subst (λ (z : Seat P E G). Numbers.ReadOn state faults group v.reading z.reading) (sym looked) (record { done = omega arith; base = refl; pages = refl; charged = refl });
       };
     }
 
     -- ---- and a clear
 
-    module _ (u : Seat) (K1 : Shared) (opening : v.opening ≡ Some o) (turn : q < length o.sides) (held : 0 < times (slot_of o (Side q)) v.held) (sees1 : Sees μ w K1) (low : ℕ) (low_is : low ≡ newest K0 + 1) (cleared : u ≡ after_clear q low K1 w) (rest : staged_end (state s.pmr.port) ≤ (state s.pmr.port).head) where
-      abbrev L : Shared
+    module _ (u : Seat P E G) (K1 : Shared P E G) (opening : v.opening ≡ Some o) (turn : q < length o.sides) (held : 0 < times (slot_of o (Side q)) v.held) (sees1 : Sees μ w K1) (low : ℕ) (low_is : low ≡ newest K0 + 1) (cleared : u ≡ after_clear q low K1 w) (rest : staged_end (state s.pmr.port) ≤ (state s.pmr.port).head) where
+      abbrev L : Shared P E G
       L = claimed (claim_of q low (newest K1)) K1
 
       abbrev about : ℕ → Bool
       about k = same_turn (Side q) (turn_at L.opening k)
 
       held_is : u.held ≡ refreshed about L v.held
-      held_is = ap (λ (z : Seat). z.held) cleared ∙ ap (λ (z : Seat). refreshed about L z.held) looked
+      held_is = ap (λ (z : Seat P E G). z.held) cleared ∙ ap (λ (z : Seat P E G). refreshed about L z.held) looked
 
       start : K1.opening ≡ o
       start = opening_seen μ o K1 v opening (look_before K1 sees1)
 
       alone : (k : ℕ) → about k ≡ true → k ≡ slot_of o (Side q)
-      alone k yes = side_alone o q k (subst (λ z. same_turn (Side q) (turn_at z k) ≡ true) start yes)
+      alone k found = side_alone o q k (subst (λ z. same_turn (Side q) (turn_at z k) ≡ true) start found)
 
       side_then : IsSide values group q L s
       side_then =
@@ -277,25 +269,25 @@ module _ {P E : Type 0} {G : Ghosts P} (state : P → PortState) (faults : P →
       mark_then : mark_of q L.claims ≡ low
       mark_then = ap (λ c. cond c low (mark_of q K1.claims)) (eq-eqb q q refl)
 
-      side_stays : (K : Shared) → Sees μ u K → μ.ok L × Stay μ (Side q) L K
+      side_stays : (K : Shared P E G) → Sees μ u K → μ.ok L × Stay μ (Side q) L K
       side_stays K sees =
-          let now : K.opening ≡ o = opening_seen μ o K u (ap (λ (z : Seat). z.opening) cleared ∙ (ap (λ (z : Seat). z.opening) looked ∙ opening)) sees in
+          let now : K.opening ≡ o = opening_seen μ o K u (ap (λ (z : Seat P E G). z.opening) cleared ∙ (ap (λ (z : Seat P E G). z.opening) looked ∙ opening)) sees in
           let there : turn_at o (slot_of o (Side q)) ≡ Side q = turn_at_slot o (Side q) turn in
           let mine : about (slot_of o (Side q)) ≡ true = ap (λ z. same_turn (Side q) (turn_at z (slot_of o (Side q)))) start ∙ (ap (same_turn (Side q)) there ∙ eq-eqb q q refl) in
           stay_renewed μ about L K v u (Side q) (slot_of o (Side q)) held_is mine held (ap (λ z. turn_at z (slot_of o (Side q))) now ∙ there) sees
 
-      pub idle_marks : Numbers.Marks {G = G} state faults group o q s v u
+      pub idle_marks : Numbers.Marks state faults group o q s v u
       idle_marks = record {
         knows = λ K sees.
             let stays = side_stays K sees in
-            let seen : u.seen ≡ newest K0 = ap (λ (z : Seat). z.seen) cleared ∙ ap (λ (z : Seat). z.seen) looked in
-            let drew : u.drawn ≡ v.drawn = ap (λ (z : Seat). z.drawn) cleared ∙ ap (λ (z : Seat). z.drawn) looked in
+            let seen : u.seen ≡ newest K0 = ap (λ (z : Seat P E G). z.seen) cleared ∙ ap (λ (z : Seat P E G). z.seen) looked in
+            let drew : u.drawn ≡ v.drawn = ap (λ (z : Seat P E G). z.drawn) cleared ∙ ap (λ (z : Seat P E G). z.drawn) looked in
             let before = look_before K1 sees1 in
             record {
               mark = let m = mark_stays μ q L K stays.1 in let n = mark_then in let a = sees.seen in omega arith;
               side = μ.side_along q L K s stays.1 stays.0 sees.ok side_then;
               sees = record {
-                opening = sym (ap (λ (z : Seat). z.opening) cleared ∙ ap (λ (z : Seat). z.opening) looked) ∙ sees.opening;
+                opening = sym (ap (λ (z : Seat P E G). z.opening) cleared ∙ ap (λ (z : Seat P E G). z.opening) looked) ∙ sees.opening;
                 ok = sees.ok;
                 few = sees.few;
                 held = each_left (λ h. μ.ok h.1 × Stay μ (turn_at K.opening h.0) h.1 K) about L (slot_of o (Side q)) v.held alone (subst (Each (λ h. μ.ok h.1 × Stay μ (turn_at K.opening h.0) h.1 K)) held_is sees.held);
@@ -309,26 +301,26 @@ module _ {P E : Type 0} {G : Ghosts P} (state : P → PortState) (faults : P →
         by = L;
         held = held_is;
         alone = alone;
-        drawn = ap (λ (z : Seat). z.drawn) cleared ∙ ap (λ (z : Seat). z.drawn) looked;
+        drawn = ap (λ (z : Seat P E G). z.drawn) cleared ∙ ap (λ (z : Seat P E G). z.drawn) looked;
         rest = record {
-          parts = ap (λ (z : Seat). z.parts) cleared ∙ ap (λ (z : Seat). z.parts) looked;
-          opening = ap (λ (z : Seat). z.opening) cleared ∙ ap (λ (z : Seat). z.opening) looked;
-          session = ap (λ (z : Seat). z.session) cleared ∙ ap (λ (z : Seat). z.session) looked;
-          read = ap (λ (z : Seat). z.read) cleared ∙ ap (λ (z : Seat). z.read) looked;
+          parts = ap (λ (z : Seat P E G). z.parts) cleared ∙ ap (λ (z : Seat P E G). z.parts) looked;
+          opening = ap (λ (z : Seat P E G). z.opening) cleared ∙ ap (λ (z : Seat P E G). z.opening) looked;
+          session = ap (λ (z : Seat P E G). z.session) cleared ∙ ap (λ (z : Seat P E G). z.session) looked;
+          read = ap (λ (z : Seat P E G). z.read) cleared ∙ ap (λ (z : Seat P E G). z.read) looked;
           reading = read_on;
         };
       }
         where
-          claim_grows : (K : Shared) (c : Claim) → Grows K (claimed c K)
+          claim_grows : (K : Shared P E G) (c : Claim) → Grows K (claimed c K)
           claim_grows K c = record { opening = refl; newer = []; log = refl; claimed = c ∷ []; claims = refl; written = []; ended = refl; word = omega arith; blamed = []; charges = refl }
 
-          read_on : Numbers.ReadOn {G = G} state faults group v.reading u.reading
+          read_on : Numbers.ReadOn state faults group v.reading u.reading
           read_on =
               let r = read_shown (queues_of w.opening) q (min (low - 1) (newest K1)) w.reading in
-              subst (λ (z : Seat). Numbers.ReadOn {G = G} state faults group v.reading z.reading) (sym cleared)
-              (subst (λ (z : Seat). Numbers.ReadOn {G = G} state faults group z.reading (after_clear q low K1 w).reading) looked
+              subst (λ (z : Seat P E G). Numbers.ReadOn state faults group v.reading z.reading) (sym cleared)
+              (subst (λ (z : Seat P E G). Numbers.ReadOn state faults group z.reading (after_clear q low K1 w).reading) looked
               (record { done = r.0; base = r.1; pages = r.2; charged = r.3 }))
 
 -- a mark claims no number that was not drawn
-pub may_mark : {P E : Type 0} {G : Ghosts P} (state : P → PortState) (faults : P → List Fault) (group : Group E) (q low : ℕ) (v : Numbers.Seat {G = G} state faults group) → MayClear (Numbers.machine state faults group) q low v
+pub may_mark : {P E : Type 0} {G : Ghosts P} (state : P → PortState) (faults : P → List Fault) (group : Group E) (q low : ℕ) (v : Seat P E G) → MayClear (Numbers.machine state faults group) q low v
 may_mark state faults group q low v K sees = ok_claimed (Numbers.values state faults group) group (claim_of q low (newest K)) K sees.ok (omega arith)

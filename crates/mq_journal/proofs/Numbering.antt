@@ -39,7 +39,7 @@ use Rattle.mq_side.proofs.Rows.{numbering, stored_more}
 use Rattle.mq_turns.specs.Meaning.{drawn, newest}
 use Rattle.mq_turns.specs.declared.turn.Turn.TheVariants.{Side}
 use Rattle.mq_journal.specs.Numbers
-use Rattle.mq_journal.specs.Numbers.{HasNumbered, MaySend}
+use Rattle.mq_journal.specs.Numbers.{HasNumbered, MaySend, Shared}
 use Rattle.mq_journal.specs.Values.{IsRecord, entries_in, rung_of}
 use Rattle.mq_journal.proofs.Sides.{queue_side}
 
@@ -50,19 +50,18 @@ rung_same start doorbell t (u ∷ ws) at = rw (le-ltb doorbell (end_of start (u 
 
 -- the newest of what is stored
 entries_more : {E : Type 0} (stored : List (Drawn E)) (d : Drawn E) → entries_in (stored ++ d ∷ []) ≡ (d.number, d.entry) ∷ entries_in stored
-entries_more stored d = ap reverse (map-append (λ (x : Drawn _). (x.number, x.entry)) stored (d ∷ [])) ∙ reverse-append (map (λ (x : Drawn _). (x.number, x.entry)) stored) (d.number, d.entry)
+entries_more {E} stored d =
+    let pair : Drawn E → ℕ × E = λ x. (x.number, x.entry) in
+    ap reverse (map-append pair stored (d ∷ [])) ∙ reverse-append (map pair stored) (pair d ∷ [])
 
 module _ {P E : Type 0} {G : Ghosts P} (state : P → PortState) (faults : P → List Fault) (group : Group E) where
-  abbrev Shared : Type 0
-  Shared = Numbers.Shared {G = G} state faults group
-
   abbrev values : Values (QueueSide P E G) (Root P G) E
   values = Numbers.values state faults group
 
   abbrev after_values : Values (QueueSide P E G) (Root P G) E
   after_values = Numbers.drawn_values state faults group
 
-  module _ (e : E) (K : Shared) (s : QueueSide P E G) (base number : ℕ) (n : NumberedCommit) (is : IsSide values group (group.tx e).queue K s) (none : s.kept ≡ None) (ok : IsOk values group K) (may : May values group e K)
+  module _ (e : E) (K : Shared P E G) (s : QueueSide P E G) (base number : ℕ) (n : NumberedCommit) (is : IsSide values group (group.tx e).queue K s) (none : s.kept ≡ None) (ok : IsOk values group K) (may : May values group e K)
       (low : base ≤ K.word) (fits : FitIs (area_of s.pmr.geometry) base (rows_of s.stored.items) (state s.pmr.port) (placed_of (group.tx e)) Yes) (bounds : IsBounded (rows_of s.stored.items) (state s.pmr.port) (placed_of (group.tx e)))
       (number_is : number ≡ suc (newest K)) (numbered : n ≡ numbered_in s.pmr.queue number (rows_of s.stored.items) (commit_of_tx (group.tx e))) where
     abbrev q : ℕ
@@ -80,7 +79,7 @@ module _ {P E : Type 0} {G : Ghosts P} (state : P → PortState) (faults : P →
     abbrev ss : SideState
     ss = side_state state faults s
 
-    abbrev L : Shared
+    abbrev L : Shared P E G
     L = drawn e K
 
     number_next : number ≡ t.number
@@ -151,9 +150,18 @@ module _ {P E : Type 0} {G : Ghosts P} (state : P → PortState) (faults : P →
     commit_is = numbered ∙ ((λ i. numbered_in (is.says.is.queue i) (number_next i) (rows i) (commit_of_tx (group.tx e))) ∙ numbering t us)
 
     -- whatever room it has for more
-    module _ (u : QueueSide P E G) (after : u ≡ record s { stored = u.stored }) (stored : u.stored.items ≡ s.stored.items ++ record { number = number; next = next_in (rows_of s.stored.items) + (length (group.tx e).logged + descriptor_size); entry = e } ∷ []) where
+    module _ (u : QueueSide P E G) (pmr : u.pmr ≡ s.pmr) (done : u.done ≡ s.done) (kept : u.kept ≡ s.kept) (stored : u.stored.items ≡ s.stored.items ++ record { number = number; next = next_in (rows_of s.stored.items) + (length (group.tx e).logged + descriptor_size); entry = e } ∷ []) where
       same : ss ≡ side_state state faults u
-      same = sym (ap (λ x. side_state state faults x) after)
+      same = λ i. record {
+        geometry = (sym pmr i).geometry;
+        queue = (sym pmr i).queue;
+        port = state (sym pmr i).port;
+        faults = faults (sym pmr i).port;
+        passed = (sym pmr i).done;
+        rung = (sym pmr i).rung.items;
+        done = sym done i;
+        kept = sym kept i;
+      }
 
       port_same : state s.pmr.port ≡ state u.pmr.port
       port_same = ap (λ (x : SideState). x.port) same

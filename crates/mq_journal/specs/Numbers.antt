@@ -1,5 +1,5 @@
 -- The draw of a number for a group: what it asks of a session, and what it leaves.
-use Rattle.std.specs.Prelude.{◌≡◌, ◌<◌, ◌≤◌, ◌^◌, ◌-◌, ℕ, suc, Bool, true, List, ◌∷◌}
+use Rattle.std.specs.Prelude.{◌≡◌, ◌<◌, ◌≤◌, ◌^◌, ◌+◌, ◌-◌, ℕ, suc, Bool, true, List, ◌∷◌}
 use Rattle.mq_blocks.specs.Drive.{PortState, staged_end, usable_depth}
 use Rattle.mq_blocks.specs.Geometry.{area_of}
 use Rattle.mq_blocks.specs.Journal.{number_limit}
@@ -31,16 +31,17 @@ use Rattle.mq_turns.specs.declared.turn.Turn.TheVariants.{Side}
 use Rattle.mq_journal.specs.Machine.{journal}
 use Rattle.mq_journal.specs.Values.{IsRecord, entries_in, least_geometry, record_later, side_values}
 
+-- how a desk was opened, what is known on it, and the view of a session
+abbrev pub Start : (P E : Type 0) → Ghosts P → Type 0
+Start P E G = Opening PageCell (QueueSide P E G) (Root P G)
+
+abbrev pub Shared : (P E : Type 0) → Ghosts P → Type 0
+Shared P E G = Known PageCell (QueueSide P E G) (Root P G) E
+
+abbrev pub Seat : (P E : Type 0) → Ghosts P → Type 0
+Seat P E G = View PageCell (QueueSide P E G) (Root P G) E
+
 module _ {P E : Type 0} {G : Ghosts P} (state : P → PortState) (faults : P → List Fault) (group : Group E) where
-  abbrev pub Start : Type 0
-  Start = Opening PageCell (QueueSide P E G) (Root P G)
-
-  abbrev pub Shared : Type 0
-  Shared = Known PageCell (QueueSide P E G) (Root P G) E
-
-  abbrev pub Seat : Type 0
-  Seat = View PageCell (QueueSide P E G) (Root P G) E
-
   abbrev pub values : Values (QueueSide P E G) (Root P G) E
   values = side_values state faults
 
@@ -68,7 +69,7 @@ module _ {P E : Type 0} {G : Ghosts P} (state : P → PortState) (faults : P →
   }
 
   -- The commit was drawn last on the queue, and nothing of it is staged.
-  pub record HasNumbered (q : ℕ) (K : Shared) (s : QueueSide P E G) (n : NumberedCommit) : Type 0 where
+  pub record HasNumbered (q : ℕ) (K : Shared P E G) (s : QueueSide P E G) (n : NumberedCommit) : Type 0 where
     pub side : IsSide drawn_values group q K s
     pub ready : IsReady (core_of values group K) q (own_of values group q K) (side_state state faults s) n
 
@@ -82,29 +83,29 @@ module _ {P E : Type 0} {G : Ghosts P} (state : P → PortState) (faults : P →
   -- ---- what a session knows
 
   -- It holds the side of the queue, which is what the rule says by what it knows of it.
-  pub record HoldsSide (o : Start) (q : ℕ) (s : QueueSide P E G) (v : Seat) : Type 0 where
+  pub record HoldsSide (o : Start P E G) (q : ℕ) (s : QueueSide P E G) (v : Seat P E G) : Type 0 where
     pub turn : IsTurn o (Side q)
     pub holds : 0 < times (slot_of o (Side q)) v.held
     pub is : Each (λ h. h.0 ≡ slot_of o (Side q) → IsSide values group q h.1 s) v.held
 
   -- It holds the side of the queue, on which this was drawn.
-  pub record HoldsNumbered (o : Start) (q : ℕ) (s : QueueSide P E G) (n : NumberedCommit) (v : Seat) : Type 0 where
+  pub record HoldsNumbered (o : Start P E G) (q : ℕ) (s : QueueSide P E G) (n : NumberedCommit) (v : Seat P E G) : Type 0 where
     pub turn : IsTurn o (Side q)
     pub holds : 0 < times (slot_of o (Side q)) v.held
     pub has : Each (λ h. h.0 ≡ slot_of o (Side q) → HasNumbered q h.1 s n) v.held
 
   -- of all but that side
-  abbrev pub SeesRest : Start → ℕ → Seat → Shared → Type 0
+  abbrev pub SeesRest : Start P E G → ℕ → Seat P E G → Shared P E G → Type 0
   SeesRest o q v K = Sees machine (giving (slot_of o (Side q)) v) K
 
   -- Whatever is known: the session holds all that the group changes, and it may be drawn.
-  pub record MayCome (o : Start) (q : ℕ) (e : E) (v : Seat) : Type 0 where
-    pub holds : (K : Shared) → SeesRest o q v K → (t : Turn) → IsTurn K.opening t → touches values group K.log e t ≡ true → 0 < times (slot_of K.opening t) v.held
-    pub may : (K : Shared) → SeesRest o q v K → newest K < 2 ^ 63 → May values group e K
+  pub record MayCome (o : Start P E G) (q : ℕ) (e : E) (v : Seat P E G) : Type 0 where
+    pub holds : (K : Shared P E G) → SeesRest o q v K → (t : Turn) → IsTurn K.opening t → touches values group K.log e t ≡ true → 0 < times (slot_of K.opening t) v.held
+    pub may : (K : Shared P E G) → SeesRest o q v K → newest K < 2 ^ 63 → May values group e K
 
   -- Ring and area have room for what is placed so, by a base that the session has read, and the counts are within
   -- bounds.
-  pub record HasPlace (s : QueueSide P E G) (v : Seat) (plan : Placed) : Type 0 where
+  pub record HasPlace (s : QueueSide P E G) (v : Seat P E G) (plan : Placed) : Type 0 where
     pub base : ℕ
     pub read : base ≤ v.reading.base
     pub fits : FitIs (area_of s.pmr.geometry) base (rows_of s.stored.items) (state s.pmr.port) plan Yes
@@ -120,7 +121,7 @@ module _ {P E : Type 0} {G : Ghosts P} (state : P → PortState) (faults : P →
     pub charged : new.charged ≡ old.charged
 
   -- neither what the session is nor what it has drawn and read changes
-  pub record SameSession (old new : Seat) : Type 0 where
+  pub record SameSession (old new : Seat P E G) : Type 0 where
     pub parts : new.parts ≡ old.parts
     pub opening : new.opening ≡ old.opening
     pub session : new.session ≡ old.session
@@ -129,23 +130,23 @@ module _ {P E : Type 0} {G : Ghosts P} (state : P → PortState) (faults : P →
 
   -- Before a draw on the queue: the mark is not above the next number, the side is what the rule says, and the rest is
   -- as it was known.
-  pub record IsMarked (o : Start) (q : ℕ) (s : QueueSide P E G) (old : Seat) (K : Shared) : Type 0 where
+  pub record IsMarked (o : Start P E G) (q : ℕ) (s : QueueSide P E G) (old : Seat P E G) (K : Shared P E G) : Type 0 where
     pub mark : mark_of q K.claims ≤ suc (newest K)
     pub side : IsSide values group q K s
     pub sees : SeesRest o q old K
 
-  pub record Marks (o : Start) (q : ℕ) (s : QueueSide P E G) (old new : Seat) : Type 0 where
-    pub knows : (K : Shared) → Sees machine new K → IsMarked o q s old K
+  pub record Marks (o : Start P E G) (q : ℕ) (s : QueueSide P E G) (old new : Seat P E G) : Type 0 where
+    pub knows : (K : Shared P E G) → Sees machine new K → IsMarked o q s old K
     pub about : ℕ → Bool
-    pub by : Shared
+    pub by : Shared P E G
     pub held : new.held ≡ refreshed about by old.held
     pub alone : (k : ℕ) → about k ≡ true → k ≡ slot_of o (Side q)
     pub drawn : new.drawn ≡ old.drawn
     pub rest : SameSession old new
 
   -- What was known at the draw; with the entry it is what the session then knows of all that the entry changes.
-  pub record Draws (o : Start) (q : ℕ) (e : E) (old new : Seat) (s : QueueSide P E G) (n : NumberedCommit) : Type 0 where
-    pub known : Shared
+  pub record Draws (o : Start P E G) (q : ℕ) (e : E) (old new : Seat P E G) (s : QueueSide P E G) (n : NumberedCommit) : Type 0 where
+    pub known : Shared P E G
     pub sees : SeesRest o q old known
     pub may : May values group e known
     pub number : n.number ≡ suc (newest known)

@@ -2,10 +2,8 @@
 //! for groups of any kind.
 #![tactic(auto)]
 
-mod laws;
 mod machine;
-mod number;
+mod numbers;
 
-pub use laws::a_side_on_the_desk_is_one;
 pub use machine::{Groups, JournalMachine};
-pub use number::number;
+pub use numbers::number;

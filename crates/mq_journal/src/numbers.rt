@@ -14,10 +14,11 @@ use mq_turns::{Chair, Desk};
 
 // Looks, and stores the queue's mark where nothing of the queue is undone, so that the mark is not above
 // the next number. Where something is undone, the mark is at or below it.
-fn mark_next<P: Port + Drop, G: Groups>(
+fn mark_next<'e, P: Port + Drop, G: Groups>(
     desk: &Desk<JournalMachine<P, G>>,
     chair: &mut Chair<JournalMachine<P, G>>,
     side: &QueueSide<P, G::Entry>,
+    _entry: &'e G::Entry,
 )
     requires at { AtDesk desk.now chair.old }
     requires side { HoldsSide P.state P.faults G.group (start_of desk.now) side.now.pmr.queue side.now
@@ -27,7 +28,8 @@ fn mark_next<P: Port + Drop, G: Groups>(
     ensures marks { Marks P.state P.faults G.group (start_of desk.now) side.now.pmr.queue side.now
         (view chair.old) (view chair.new) }
 {
-    let last = desk.look(chair, None);
+    let none: Option<&'e G::Entry> = None;
+    let last = desk.look(chair, none);
     if !side.is_at_rest() {
         return;
     }
@@ -66,7 +68,7 @@ pub fn number<P: Port + Drop, G: Groups>(
     ensures done { side.new.done ≡ side.old.done }
     ensures kept { side.new.kept ≡ None }
 {
-    mark_next(desk, chair, side);
+    mark_next(desk, chair, side, &entry);
     let number = desk.draw(chair, side.queue(), &entry);
     side.numbered(prepared, number, entry)
 }
