@@ -6,3 +6,4 @@ pub mod Telling
 pub mod Opening
 pub mod Meaning
 pub mod Drawing
+pub mod Charging

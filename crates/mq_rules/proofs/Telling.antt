@@ -1,6 +1,6 @@
 -- What a chair that holds them has to show before numbers are known done, a home write is known to have ended, or the
 -- base is raised.
-use Rattle.std.proofs.Common.{◌≡◌, ℕ, ◌+◌, ◌<◌, ◌≤◌, ◌&&◌, nat_le, List, [], refl, sym, inl, inr, arith, eqb}
+use Rattle.std.proofs.Common.{◌≡◌, ℕ, ◌+◌, ◌<◌, ◌≤◌, ◌&&◌, ◌⊎◌, ◌-◌, ◌^◌, nat_le, List, [], ◌∷◌, length, refl, sym, subst, inl, inr, arith, eqb}
 use Rattle.std.proofs.lemmas.Bool.{or_cases, or_right, and_parts, leb-true}
 use Rattle.mq_ledger.specs.History.{writes, of_queue, IsAt}
 use Rattle.mq_ledger.specs.Items.{end_of, descriptor_blocks}
@@ -20,10 +20,13 @@ use Rattle.mq_turns.specs.Marks.{is_claimed}
 use Rattle.mq_turns.specs.Meaning.{Grows, newest, claimed, charged, raised, written}
 use Rattle.mq_turns.specs.declared.rule.Charge.{Charge}
 use Rattle.mq_turns.specs.declared.rule.Claim.{Claim}
+use Rattle.mq_turns.specs.declared.turn.Turn.TheVariants.{Side}
+use Rattle.mq_rules.specs.Faults.{AreCharged, IsBacked}
 use Rattle.mq_rules.specs.Groups.{Group}
 use Rattle.mq_rules.specs.Rule
 use Rattle.mq_rules.specs.Rule.{IsOk, IsPage, IsSide, IsRoot}
 use Rattle.mq_rules.specs.Values.{Values}
+use Rattle.mq_rules.proofs.Charging.{charged_backed}
 use Rattle.mq_rules.proofs.Staying.{core_grown}
 
 module _ {Q R E : Type 0} (values : Values Q R E) (group : Group E) where
@@ -120,3 +123,18 @@ module _ {Q R E : Type 0} (values : Values Q R E) (group : Group E) where
 
   pub ok_charged : (c : Charge) (K : Desk) → IsOk values group K → IsOk values group (charged c K)
   ok_charged c K ok = record { log = ok.log; claims = ok.claims; base = ok.base; legal = ok.legal }
+
+  pub side_charged : (c : Charge) (q : ℕ) (K : Desk) (w u : Q) → c.port ≡ Side q → IsSide values group q K u
+      → AreCharged (Rule.geometry_of values group K) (Side q) K.charges (Rule.faults_of values group K.opening q) (values.faults w)
+      → (2 ^ 64 - 1 ≤ length (values.faults u)) ⊎ IsBacked (Rule.geometry_of values group K) c.blame (Rule.faults_of values group K.opening q) (values.faults w) (values.faults u)
+      → IsSide values group q (charged c K) u
+  side_charged c q K w u mine is was backed =
+      let g = Rule.geometry_of values group K in
+      let first = Rule.faults_of values group K.opening q in
+      record {
+        port = is.port;
+        stored = is.stored;
+        says = is.says;
+        charged = subst (λ t. AreCharged g t (c ∷ K.charges) first (values.faults u)) mine
+            (charged_backed g c K.charges first (values.faults w) (values.faults u) (subst (λ t. AreCharged g t K.charges first (values.faults w)) (sym mine) was) backed);
+      }

@@ -40,6 +40,13 @@ pub record AreBacked (g : Geometry) (t : Turn) (cs : List Charge) (old new : Lis
   pub counts : (f : Fault → Bool) → count_of (of_kind f) old + charged_to g t (of_kind f) cs ≤ count_of (of_kind f) new
   pub named : Each (λ c. c.port ≡ t → IsAdded (fault_of g c.blame) old new) cs
 
+-- What the port has gained in a call stands behind a refusal that is charged to it: one fault more of its kind, and the
+-- one that it names since the opening.
+pub record IsBacked (g : Geometry) (b : Blame) (first old new : List Fault) : Type 0 where
+  pub more : AreMore old new
+  pub kind : (f : Fault → Bool) → count_of (of_kind f) old + cond (of_kind f (fault_of g b)) 1 0 ≤ count_of (of_kind f) new
+  pub named : IsAdded (fault_of g b) first new
+
 -- So it is until there are as many faults as a count of 64 bits can say: from there on a call that is refused leaves the
 -- list of faults as it is.
 abbrev pub AreCharged : Geometry → Turn → List Charge → List Fault → List Fault → Type 0

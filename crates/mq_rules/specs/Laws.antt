@@ -1,5 +1,5 @@
 -- What holds of the rule of a desk over ports, in one statement each.
-use Rattle.std.specs.Prelude.{◌≡◌, ◌<◌, ◌≤◌, ℕ, ◌+◌, true, List}
+use Rattle.std.specs.Prelude.{◌≡◌, ◌⊎◌, ◌<◌, ◌≤◌, ℕ, ◌+◌, ◌-◌, ◌^◌, true, List, length}
 use Rattle.mq_ledger.specs.History.{writes, of_queue, IsAt}
 use Rattle.mq_ledger.specs.Items.{end_of, descriptor_blocks}
 use Rattle.mq_ledger.specs.KnownJournal.{front}
@@ -16,9 +16,10 @@ use Rattle.mq_turns.specs.declared.rule.Claim.{Claim}
 use Rattle.mq_turns.specs.declared.rule.Opening.{Opening}
 use Rattle.mq_turns.specs.declared.turn.Turn.TheVariants.{Page, Side, Root}
 use Rattle.mq_rules.specs.Cells.{cell_after}
+use Rattle.mq_rules.specs.Faults.{AreCharged, IsBacked}
 use Rattle.mq_rules.specs.Groups.{Group}
 use Rattle.mq_rules.specs.Opening.{IsFresh, IsRuled}
-use Rattle.mq_rules.specs.Rule.{Desk, Stay, IsOk, IsPage, IsSide, IsRoot, May, core_of, geometry_of, map_now, next_tx, touches}
+use Rattle.mq_rules.specs.Rule.{Desk, Stay, IsOk, IsPage, IsSide, IsRoot, May, core_of, faults_of, geometry_of, map_now, next_tx, touches}
 use Rattle.mq_rules.specs.Values.{Values}
 
 module _ {Q R E : Type 0} (values : Values Q R E) (group : Group E) where
@@ -195,6 +196,16 @@ module _ {Q R E : Type 0} (values : Values Q R E) (group : Group E) where
       (c : Charge) (K : Desk values group)
       → IsOk values group K
       → IsOk values group (charged c K)
+
+  -- a side whose port has gained a fault of its kind stays what it is
+  abbrev pub SidesShowCharges : Type 0
+  SidesShowCharges =
+      (c : Charge) (q : ℕ) (K : Desk values group) (w u : Q)
+      → c.port ≡ Side q
+      → IsSide values group q K u
+      → AreCharged (geometry_of values group K) (Side q) K.charges (faults_of values group K.opening q) (values.faults w)
+      → (2 ^ 64 - 1 ≤ length (values.faults u)) ⊎ IsBacked (geometry_of values group K) c.blame (faults_of values group K.opening q) (values.faults w) (values.faults u)
+      → IsSide values group q (charged c K) u
 
   -- ---- done numbers
 

@@ -5,7 +5,8 @@ ghost use Rattle.mq_rules.specs.Laws.{OpeningsAreRuled, JournalsGrow, NotesAreTo
 ghost use Rattle.mq_rules.specs.Laws.{CellsAreNumbered, CellsWait, NotedPagesWereBrought};
 ghost use Rattle.mq_rules.specs.Laws.{ClaimsAreRuled, SidesShowClaims, ClaimsReachTheFront};
 ghost use Rattle.mq_rules.specs.Laws.{HomeWritesAreRuled, PagesShowHomeWrites};
-ghost use Rattle.mq_rules.specs.Laws.{RaisesAreRuled, RootsShowRaises, ChargesAreRuled};
+ghost use Rattle.mq_rules.specs.Laws.{RaisesAreRuled, RootsShowRaises};
+ghost use Rattle.mq_rules.specs.Laws.{ChargesAreRuled, SidesShowCharges};
 
 use crate::values::JournalValues;
 
@@ -61,7 +62,9 @@ pub fn a_raised_base_keeps_the_rule<J: JournalValues>()
     ensures root { RootsShowRaises J.values J.group }
 {}
 
-/// A charge changes nothing that is asked of the history.
+/// A charge changes nothing that is asked of the history. The side that it is charged to stays what it is
+/// where its port has gained a fault of the same kind since, and the named one since the opening.
 pub fn charges_keep_the_rule<J: JournalValues>()
-    ensures { ChargesAreRuled J.values J.group }
+    ensures ok { ChargesAreRuled J.values J.group }
+    ensures side { SidesShowCharges J.values J.group }
 {}

@@ -33,14 +33,18 @@ AreItems g q from us tx c (i ∷ is) = IsItem g q tx (item_at from us c) i (is_l
 
 -- ---- a send
 
--- The commit's transaction was drawn last on the queue; nothing of it is staged, and all before it is rung.
-pub record IsReady (k : KnownJournal) (q : ℕ) (us : List Tx) (s : SideState) (n : NumberedCommit) : Type 0 where
+-- The commit's transaction was drawn last on the queue, whose entries begin at a count; nothing of it is staged, and
+-- all before it is rung.
+pub record IsReadyFrom (from : ℕ) (us : List Tx) (s : SideState) (n : NumberedCommit) : Type 0 where
   pub t : Tx
   pub ts : List Tx
   pub newest : us ≡ t ∷ ts
   pub commit : n ≡ commit_of t ts
-  pub rung : s.port.doorbell ≡ end_of (k.from q) ts
+  pub rung : s.port.doorbell ≡ end_of from ts
   pub none : s.kept ≡ None
+
+abbrev pub IsReady : KnownJournal → ℕ → List Tx → SideState → NumberedCommit → Type 0
+IsReady k q us s n = IsReadyFrom (k.from q) us s n
 
 -- whatever is known, the side stays one
 abbrev pub Sends : SideState → NumberedCommit → SideState → Type 0

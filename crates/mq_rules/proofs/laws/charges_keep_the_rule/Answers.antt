@@ -1,5 +1,8 @@
-use Rattle.mq_rules.proofs.Telling.{ok_charged}
+use Rattle.mq_rules.proofs.Telling.{ok_charged, side_charged}
 use Rattle.mq_rules.proofs.laws.charges_keep_the_rule.Goals as goal
 
 pub returns : goal.returns
-returns g c = λ charge K k. ok_charged g.J.JournalValues.values g.J.JournalValues.group charge K k
+returns g c = record {
+  ok = λ charge K k. ok_charged g.J.JournalValues.values g.J.JournalValues.group charge K k;
+  side = λ charge q K w u mine is was backed. side_charged g.J.JournalValues.values g.J.JournalValues.group charge q K w u mine is was backed;
+}
