@@ -1,6 +1,8 @@
 // The ledger's answers against values worked out by hand from the definitions.
+use crate::contents::map_of;
+use crate::plan::Plan;
 use mq_blocks::{BlockNo, Geometry, OutOfMemory, QueueNo, TxNo};
-use mq_ledger::{Blocks, Content, Ledger, QueueEnd, Tx, Writes, is_transaction};
+use mq_ledger::{Content, Ledger, QueueEnd, Tx, is_transaction};
 use std::alloc::Global;
 use std::process::Abort;
 
@@ -10,50 +12,11 @@ fn fresh(alloc: Global) -> Result<Option<Ledger>, OutOfMemory> {
     let Ok(geometry) = Geometry::new(2, 1024, 5, 1) else {
         return Ok(None);
     };
-    let mut blocks = Vec::new(alloc);
-    for x in 0..geometry.homes() {
-        let block = if x == 4 {
-            Some(filled(alloc, 7)?)
-        } else {
-            None
-        };
-        blocks.push(block)?;
-    }
+    let blocks = map_of(alloc, geometry, &[(4, 7)])?;
     if blocks.len() != geometry.homes() as usize {
         return Ok(None);
     }
     Ok(Some(Ledger::start(alloc, geometry, &blocks, TxNo(3))?))
-}
-
-fn filled(alloc: Global, byte: u8) -> Result<Content, OutOfMemory> {
-    Ok(Content(vec![in alloc; byte; 4096]?))
-}
-
-fn writes(alloc: Global, list: &[(u32, u8)]) -> Result<Writes, OutOfMemory> {
-    let mut writes = Vec::new(alloc);
-    for (block, byte) in list {
-        writes.push((BlockNo(*block), filled(alloc, *byte)?))?;
-    }
-    Ok(Writes(writes))
-}
-
-fn blocks(alloc: Global, list: &[u32]) -> Result<Blocks, OutOfMemory> {
-    let mut blocks = Vec::new(alloc);
-    for block in list {
-        blocks.push(BlockNo(*block))?;
-    }
-    Ok(Blocks(blocks))
-}
-
-fn logs(alloc: Global, number: u64, queue: u32, logged: &[(u32, u8)]) -> Result<Tx, OutOfMemory> {
-    Ok(Tx {
-        number: TxNo(number),
-        queue: QueueNo(queue),
-        logged: writes(alloc, logged)?,
-        direct: Writes(Vec::new(alloc)),
-        revoked: Blocks(Vec::new(alloc)),
-        freed: Blocks(Vec::new(alloc)),
-    })
 }
 
 // Draws a transaction where the ledger allows it, and answers whether it does.
@@ -130,67 +93,128 @@ fn is_clear(ledger: &Ledger, queue: u32, head: u64, mark: u64) -> bool {
     queue < ledger.geometry().queues() && ledger.is_clear(QueueNo(queue), head, mark)
 }
 
-// A ledger with three transactions: blocks 1 and 5 logged by queue 0; block 1 logged and block 6
-// written directly by queue 1; block 2 logged and block 5 freed by queue 0.
+// Three transactions: blocks 1 and 5 logged by queue 0; block 1 logged and block 6 written directly by queue 1;
+// block 2 logged and block 5 freed by queue 0.
+const THREE: [Plan<'static>; 3] = [
+    Plan {
+        number: 4,
+        queue: 0,
+        logged: &[(1, 11), (5, 15)],
+        direct: &[],
+        revoked: &[],
+        freed: &[],
+    },
+    Plan {
+        number: 5,
+        queue: 1,
+        logged: &[(1, 21)],
+        direct: &[(6, 26)],
+        revoked: &[],
+        freed: &[],
+    },
+    Plan {
+        number: 6,
+        queue: 0,
+        logged: &[(2, 32)],
+        direct: &[],
+        revoked: &[],
+        freed: &[5],
+    },
+];
+
+// A ledger with the three transactions.
 fn three(alloc: Global) -> Result<Option<Ledger>, OutOfMemory> {
     let Some(mut ledger) = fresh(alloc)? else {
         return Ok(None);
     };
-    let first = logs(alloc, 4, 0, &[(1, 11), (5, 15)])?;
-    let mut second = logs(alloc, 5, 1, &[(1, 21)])?;
-    second.direct = writes(alloc, &[(6, 26)])?;
-    let mut third = logs(alloc, 6, 0, &[(2, 32)])?;
-    third.freed = blocks(alloc, &[5])?;
-    if draw(&mut ledger, first, 3)?
-        && draw(&mut ledger, second, 3)?
-        && draw(&mut ledger, third, 3)?
-    {
-        return Ok(Some(ledger));
+    for plan in &THREE {
+        if !draw(&mut ledger, plan.make(alloc)?, 3)? {
+            return Ok(None);
+        }
     }
-    Ok(None)
+    Ok(Some(ledger))
+}
+
+// Blocks, and what is seen of each, before the front advances.
+const AT_FIRST: [(u32, [u64; 6]); 6] = [
+    (0, [3, 3, 0, 1, 3, 0]),
+    (1, [5, 5, 21, 1, 3, 0]),
+    (2, [6, 6, 32, 1, 3, 0]),
+    (4, [3, 3, 7, 1, 3, 7]),
+    (5, [6, 4, 0, 0, 3, 0]),
+    (6, [5, 3, 26, 0, 3, 0]),
+];
+
+// After each step of the front.
+const AFTER: [[(u32, [u64; 6]); 2]; 3] = [
+    [(1, [5, 5, 21, 1, 4, 11]), (5, [6, 4, 0, 0, 4, 15])],
+    [(1, [5, 5, 21, 1, 5, 21]), (6, [5, 3, 26, 0, 5, 26])],
+    [(5, [6, 4, 0, 0, 6, 0]), (6, [5, 3, 26, 0, 5, 26])],
+];
+
+fn are_seen(rt: &impl Abort, ledger: &Ledger, rows: &[(u32, [u64; 6])]) {
+    for (block, values) in rows {
+        assert_eq!(rt; seen(ledger, *block), *values, "block {block}");
+    }
 }
 
 #[test]
 fn tables_follow_the_history(rt: HostRuntime) -> Result<(), OutOfMemory> {
-    let alloc = rt.alloc();
-    let mut ledger = three(alloc)?.expect(&rt, "a ledger");
-    assert_eq!(rt; seen(&ledger, 0), [3, 3, 0, 1, 3, 0]);
-    assert_eq!(rt; seen(&ledger, 1), [5, 5, 21, 1, 3, 0]);
-    assert_eq!(rt; seen(&ledger, 2), [6, 6, 32, 1, 3, 0]);
-    assert_eq!(rt; seen(&ledger, 4), [3, 3, 7, 1, 3, 7]);
-    assert_eq!(rt; seen(&ledger, 5), [6, 4, 0, 0, 3, 0]);
-    assert_eq!(rt; seen(&ledger, 6), [5, 3, 26, 0, 3, 0]);
-    assert!(rt; advance_front(&mut ledger));
-    assert_eq!(rt; seen(&ledger, 1), [5, 5, 21, 1, 4, 11]);
-    assert_eq!(rt; seen(&ledger, 5), [6, 4, 0, 0, 4, 15]);
-    assert!(rt; advance_front(&mut ledger));
-    assert_eq!(rt; seen(&ledger, 1), [5, 5, 21, 1, 5, 21]);
-    assert_eq!(rt; seen(&ledger, 6), [5, 3, 26, 0, 5, 26]);
-    assert!(rt; advance_front(&mut ledger));
-    assert_eq!(rt; seen(&ledger, 5), [6, 4, 0, 0, 6, 0]);
+    let mut ledger = three(rt.alloc())?.expect(&rt, "a ledger");
+    are_seen(&rt, &ledger, &AT_FIRST);
+    for rows in &AFTER {
+        assert!(rt; advance_front(&mut ledger));
+        are_seen(&rt, &ledger, rows);
+    }
     assert!(rt; !advance_front(&mut ledger));
     Ok(())
 }
 
+// Queues: the count and the place behind their transactions.
+const ENDS: [(u32, [u64; 2]); 2] = [(0, [5, 5]), (1, [3, 2])];
+
+// Words, and the place up to which they cover queue 0.
+const COVERED: [(u64, u64); 3] = [(3, 0), (5, 3), (6, 5)];
+
+// Counts, and whether each is an end on queue 0.
+const IS_END: [(u64, bool); 5] = [(0, true), (3, true), (4, false), (5, true), (6, false)];
+
+// Heads and marks, and whether queue 0 is clear.
+const IS_CLEAR: [(u64, u64, bool); 5] = [
+    (3, 6, true),
+    (3, 7, false),
+    (2, 4, true),
+    (2, 5, false),
+    (5, 100, true),
+];
+
+fn are_ends(rt: &impl Abort, ledger: &Ledger) {
+    for (queue, values) in &ENDS {
+        assert_eq!(rt; ends(ledger, *queue), *values);
+    }
+    for (count, is) in &IS_END {
+        assert_eq!(rt; is_end(ledger, 0, *count), *is, "count {count}");
+    }
+}
+
+fn are_covered(rt: &impl Abort, ledger: &Ledger) {
+    for (word, place) in &COVERED {
+        assert_eq!(rt; covered(ledger, 0, *word), *place, "word {word}");
+    }
+    for (head, mark, is) in &IS_CLEAR {
+        assert_eq!(rt;
+            is_clear(ledger, 0, *head, *mark),
+            *is,
+            "head {head}, mark {mark}"
+        );
+    }
+}
+
 #[test]
 fn counts_and_places_follow_the_queues(rt: HostRuntime) -> Result<(), OutOfMemory> {
-    let alloc = rt.alloc();
-    let ledger = three(alloc)?.expect(&rt, "a ledger");
-    assert_eq!(rt; ends(&ledger, 0), [5, 5]);
-    assert_eq!(rt; ends(&ledger, 1), [3, 2]);
-    assert_eq!(rt; covered(&ledger, 0, 3), 0);
-    assert_eq!(rt; covered(&ledger, 0, 5), 3);
-    assert_eq!(rt; covered(&ledger, 0, 6), 5);
-    assert!(rt; is_end(&ledger, 0, 0));
-    assert!(rt; is_end(&ledger, 0, 3));
-    assert!(rt; !is_end(&ledger, 0, 4));
-    assert!(rt; is_end(&ledger, 0, 5));
-    assert!(rt; !is_end(&ledger, 0, 6));
-    assert!(rt; is_clear(&ledger, 0, 3, 6));
-    assert!(rt; !is_clear(&ledger, 0, 3, 7));
-    assert!(rt; is_clear(&ledger, 0, 2, 4));
-    assert!(rt; !is_clear(&ledger, 0, 2, 5));
-    assert!(rt; is_clear(&ledger, 0, 5, 100));
+    let ledger = three(rt.alloc())?.expect(&rt, "a ledger");
+    are_ends(&rt, &ledger);
+    are_covered(&rt, &ledger);
     let first = QueueEnd {
         queue: QueueNo(0),
         count: 3,
@@ -199,19 +223,20 @@ fn counts_and_places_follow_the_queues(rt: HostRuntime) -> Result<(), OutOfMemor
     Ok(())
 }
 
+// Transaction 7 of queue 0, which writes block 5 directly, and revokes it or not.
+fn writes_5(alloc: Global, revoked: &[u32]) -> Result<Tx, OutOfMemory> {
+    Plan::writes(7, 0, &[(5, 45)], revoked).make(alloc)
+}
+
+// The last change of block 5 has number 6, and its last copy number 4.
 #[test]
 fn a_freed_block_is_written_directly(rt: HostRuntime) -> Result<(), OutOfMemory> {
     let alloc = rt.alloc();
     let mut ledger = three(alloc)?.expect(&rt, "a ledger");
-    let mut bare = logs(alloc, 7, 0, &[])?;
-    bare.direct = writes(alloc, &[(5, 45)])?;
-    let mut revoking = logs(alloc, 7, 0, &[])?;
-    revoking.direct = writes(alloc, &[(5, 45)])?;
-    revoking.revoked = blocks(alloc, &[5])?;
-    // the last change of block 5 has number 6, and its last copy number 4
+    let bare = writes_5(alloc, &[])?;
+    let revoking = writes_5(alloc, &[5])?;
     assert!(rt; !ledger.may_draw(&revoking, TxNo(3)));
-    assert!(rt; advance_front(&mut ledger));
-    assert!(rt; advance_front(&mut ledger));
+    assert!(rt; advance_front(&mut ledger) && advance_front(&mut ledger));
     assert!(rt; !ledger.may_draw(&revoking, TxNo(3)));
     assert!(rt; advance_front(&mut ledger));
     assert!(rt; !ledger.may_draw(&bare, TxNo(3)));

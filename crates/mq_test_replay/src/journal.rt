@@ -165,11 +165,17 @@ impl Journal {
             return Ok(Told::NotAllowed);
         }
         let answer = drive.draw(alloc, &copy);
-        add(&mut self.tally.direct, copy.direct.0.len());
-        add(&mut self.tally.revoked, copy.revoked.0.len());
-        add(&mut self.tally.freed, copy.freed.0.len());
-        self.history.push(copy)?;
+        self.keep(copy)?;
         outcome(answer)
+    }
+
+    // The transaction follows those of the history.
+    fn keep(&mut self, tx: Tx) -> Result<(), OutOfMemory> {
+        add(&mut self.tally.direct, tx.direct.0.len());
+        add(&mut self.tally.revoked, tx.revoked.0.len());
+        add(&mut self.tally.freed, tx.freed.0.len());
+        self.history.push(tx)?;
+        Ok(())
     }
 
     fn step(

@@ -33,6 +33,44 @@ enum Wish {
     Raise,
 }
 
+/// What is chosen where nothing is wished.
+#[derive(Drop)]
+enum Choice {
+    Event(Event),
+    /// A transaction.
+    Draw,
+    StoreHead,
+    /// A block is logged, freed and written directly.
+    WriteAgain,
+    Raise,
+    /// One home write, or the base becomes certain.
+    WriteHome,
+}
+
+// What a number below 32 stands for.
+fn choice_of(number: u64, queue: QueueNo, front: TxNo) -> Choice {
+    match number {
+        0..=5 => Choice::Draw,
+        24 | 25 => Choice::StoreHead,
+        29 => Choice::WriteAgain,
+        30 => Choice::Raise,
+        31 => Choice::WriteHome,
+        _ => Choice::Event(event_for(number, queue, front)),
+    }
+}
+
+// The event that the other numbers stand for.
+fn event_for(number: u64, queue: QueueNo, front: TxNo) -> Event {
+    match number {
+        6..=13 => Event::Stage { queue },
+        14 | 15 => Event::Flush { queue },
+        16 | 17 => Event::Ring { queue },
+        18..=23 => Event::Complete { queue, count: 0 },
+        26 | 27 => Event::FlushHead { queue },
+        _ => Event::Acknowledge { number: front },
+    }
+}
+
 /// A generator of events, with what it wishes next, the first wish last.
 #[derive(Drop)]
 pub struct Script {
@@ -125,28 +163,24 @@ impl Script {
         drive: &Drive<'_>,
     ) -> Result<Event, OutOfMemory> {
         let queue = QueueNo(self.below(u64::from(drive.geometry().queues())) as u32);
-        match self.below(32) {
-            0..=5 => {
+        match choice_of(self.below(32), queue, journal.front()) {
+            Choice::Event(event) => Ok(event),
+            Choice::Draw => {
                 let tx = self.transaction(alloc, journal, drive, queue)?;
                 self.draw(journal, tx)
             }
-            6..=13 => Ok(Event::Stage { queue }),
-            14 | 15 => Ok(Event::Flush { queue }),
-            16 | 17 => Ok(Event::Ring { queue }),
-            18..=23 => Ok(Event::Complete { queue, count: 0 }),
-            24 | 25 => {
-                let which = self.below(2);
-                let head = drive.end_above(queue, which).unwrap_or(0);
-                Ok(Event::StoreHead { queue, head })
-            }
-            26 | 27 => Ok(Event::FlushHead { queue }),
-            28 => Ok(Event::Acknowledge {
-                number: journal.front(),
-            }),
-            29 => self.write_again(drive),
-            30 => self.raise(drive),
-            _ => self.write_home(drive),
+            Choice::StoreHead => Ok(self.store_head(drive, queue)),
+            Choice::WriteAgain => self.write_again(drive),
+            Choice::Raise => self.raise(drive),
+            Choice::WriteHome => self.write_home(drive),
         }
+    }
+
+    // The head of a queue is stored where one of its next transactions ends.
+    fn store_head(&mut self, drive: &Drive<'_>, queue: QueueNo) -> Event {
+        let which = self.below(2);
+        let head = drive.end_above(queue, which).unwrap_or(0);
+        Event::StoreHead { queue, head }
     }
 
     fn finish_all(&mut self, drive: &Drive<'_>) -> Result<(), OutOfMemory> {

@@ -13,8 +13,6 @@ mod names;
 mod node;
 mod slots;
 mod step;
-#[cfg(test)]
-mod tests;
 mod verdict;
 mod volume;
 mod walk;

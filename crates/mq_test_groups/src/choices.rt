@@ -1,8 +1,7 @@
 // Requests that a generator chooses.
-use crate::entry::copy_name;
-use crate::{Body, Volume};
 use mq_blocks::OutOfMemory;
 use mq_layout::FILE_LIMIT;
+use mq_test_tree::{Body, Volume};
 use mq_tree::{Bytes, Name, Path, Request};
 use rand_core::SeedableRng;
 use rand_core::utils::NextWord;
@@ -46,7 +45,7 @@ fn parent(alloc: Global, volume: &Volume, i: u32) -> Result<Option<(u32, Name)>,
         for slot in node.body().slots() {
             if let Some(entry) = slot {
                 if entry.inode == i {
-                    return Ok(Some((d, copy_name(alloc, &entry.name)?)));
+                    return Ok(Some((d, name_of(alloc, &entry.name.0)?)));
                 }
             }
         }
@@ -177,7 +176,7 @@ impl Choices {
         }
         let mut names = Vec::new(alloc);
         for name in &from.0 {
-            names.push(copy_name(alloc, name)?)?;
+            names.push(name_of(alloc, &name.0)?)?;
         }
         for _ in 0..self.below(3) {
             names.push(self.name(alloc, 4)?)?;

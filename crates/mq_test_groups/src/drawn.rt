@@ -1,10 +1,10 @@
 // The home blocks of a file system, drawn from what it holds, byte by byte.
 ghost use Rattle.std.specs.Prelude.{◌<◌, ◌≤◌};
 
-use crate::{Body, NamedInode, Node, Volume};
 use mq_blocks::bytes::put;
 use mq_blocks::{Block, BlockNo, Geometry, OutOfMemory};
 use mq_layout::{inode_bitmap, table_first, write_super};
+use mq_test_tree::{Body, NamedInode, Node, Volume};
 use std::alloc::Global;
 
 // Writes bytes into a block, where they fit.

@@ -4,12 +4,12 @@ ghost use Rattle.mq_blocks.specs.Geometry.{queues_of};
 ghost use Rattle.mq_tree.specs.Laid.{IsTreeOf, map_of};
 ghost use Rattle.mq_tree.specs.Volume.{tree as tree_of};
 
-use super::drawn::{drawn, is_of_file};
-use crate::Volume;
+use crate::drawn::{drawn, is_of_file};
 use mq_blocks::{Block, BlockNo, Geometry, OutOfMemory, QueueNo};
 use mq_exec::{Done, Outcome, View, pages_of_a_map, run};
 use mq_pages::{Kind, Write};
 use mq_test_pages::{lift, note};
+use mq_test_tree::Volume;
 use mq_tree::{Name, Reply, Request, Tree, mount};
 use std::alloc::Global;
 

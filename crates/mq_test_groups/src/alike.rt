@@ -1,8 +1,8 @@
 // Groups that a generator chooses, which the plain volume and the home blocks must answer alike.
-use super::choices::{Bent, Choices};
-use super::pages::{Twins, Wrong};
-use crate::{Body, Volume};
+use crate::choices::{Bent, Choices};
+use crate::pages::{Twins, Wrong};
 use mq_blocks::{Geometry, OutOfMemory, QueueNo};
+use mq_test_tree::{Body, Volume};
 use mq_tree::{Fault, Name, Path, Reply, Request};
 use std::alloc::Global;
 

@@ -3,7 +3,7 @@ use Rattle.mq_inodes.proofs.Lifting.{pages-of}
 use Rattle.mq_inodes.specs.Fits.{Agrees}
 use Rattle.mq_inodes.specs.Pages.{held_pages}
 use Rattle.mq_tree.specs.Laid.{map_of}
-use Rattle.mq_test_tree.proofs.tests.pages.carried.Goals as goal
+use Rattle.mq_test_groups.proofs.pages.carried.Goals as goal
 
 pub run-requires-clause-possible : goal.run-requires-clause-possible
 run-requires-clause-possible c =
