@@ -2,3 +2,5 @@ pub mod Sides
 pub mod Marking
 pub mod Numbering
 pub mod Drawing
+pub mod Sent
+pub mod Holding

@@ -58,9 +58,6 @@ module _ {P E : Type 0} {G : Ghosts P} (state : P → PortState) (faults : P →
   abbrev values : Values (QueueSide P E G) (Root P G) E
   values = Numbers.values state faults group
 
-  abbrev after_values : Values (QueueSide P E G) (Root P G) E
-  after_values = Numbers.drawn_values state faults group
-
   module _ (e : E) (K : Shared P E G) (s : QueueSide P E G) (base number : ℕ) (n : NumberedCommit) (is : IsSide values group (group.tx e).queue K s) (none : s.kept ≡ None) (ok : IsOk values group K) (may : May values group e K)
       (low : base ≤ K.word) (fits : FitIs (area_of s.pmr.geometry) base (rows_of s.stored.items) (state s.pmr.port) (placed_of (group.tx e)) Yes) (bounds : IsBounded (rows_of s.stored.items) (state s.pmr.port) (placed_of (group.tx e)))
       (number_is : number ≡ suc (newest K)) (numbered : n ≡ numbered_in s.pmr.queue number (rows_of s.stored.items) (commit_of_tx (group.tx e))) where
@@ -177,22 +174,17 @@ module _ {P E : Type 0} {G : Ghosts P} (state : P → PortState) (faults : P →
           let with : ℕ → List (Drawn E) = λ m. s.stored.items ++ record { number = m; next = next_in (rows_of s.stored.items) + (length (group.tx e).logged + descriptor_size); entry = e } ∷ [] in
           subst (λ l. AreStored (t ∷ us) l) (ap with (sym number_next) ∙ sym stored) (stored_more t us s.stored.items e is.says.stored)
 
-      pub side_numbered : IsSide after_values group q L u
+      pub has_numbered : HasNumbered state faults group q L u n
       unfolding part_with
-      side_numbered = record {
+      has_numbered = record {
         port = subst (λ (z : List Tx × PortState). SideOk (draw_known t k) q z.0 z.1) (λ i. (sym own_is i, port_same i)) now.side;
         stored = entries ∙ (let there = eq-eqb q q refl in rw there refl);
         says = record {
           is = subst (λ (z : List Tx × SideState). IsRecord (part_with z.0) z.1) (λ i. (sym own_is i, same i)) record_now;
           stored = subst (λ txs. AreStored txs u.stored.items) (sym own_is) (stored_now);
+          ready = record { t = t; ts = us; newest = own_is; commit = commit_is; rung = subst (λ (p : PortState). p.doorbell ≡ end_of (k.from q) us) port_same rung; none = ap (λ (x : SideState). x.kept) (sym same) ∙ none };
         };
         charged = subst (λ fs. AreCharged (Rule.geometry_of values group K) (Side q) K.charges (Rule.faults_of values group K.opening q) fs) faults_same is.charged;
-      }
-
-      pub has_numbered : HasNumbered state faults group q L u n
-      has_numbered = record {
-        side = side_numbered;
-        ready = record { t = t; ts = us; newest = own_is; commit = commit_is; rung = subst (λ (p : PortState). p.doorbell ≡ end_of (k.from q) us) port_same rung; none = ap (λ (x : SideState). x.kept) (sym same) ∙ none };
       }
 
       pub may_send : MaySend state faults group u n

@@ -8,10 +8,10 @@ use Rattle.mq_drive.specs.declared.port.Port.{Ghosts}
 use Rattle.mq_pages.specs.declared.page.PageCell.{PageCell}
 use Rattle.mq_revoke.specs.Placed.{Placed}
 use Rattle.mq_rules.specs.Groups.{Group}
-use Rattle.mq_rules.specs.Rule.{IsSide, May, core_of, own_of, touches}
+use Rattle.mq_rules.specs.Rule.{IsSide, May, touches}
 use Rattle.mq_rules.specs.Values.{Part, Values}
 use Rattle.mq_side.specs.Commits.{NumberedCommit, commit_of_tx, size_of}
-use Rattle.mq_side.specs.Sent.{AreInZone, IsReady}
+use Rattle.mq_side.specs.Sent.{AreInZone, IsReadyFrom}
 use Rattle.mq_side.specs.Side.{side_state}
 use Rattle.mq_side.specs.Stored.{AreStored, FitIs, IsBounded, rows_of}
 use Rattle.mq_side.specs.declared.answers.Fit.TheVariants.{Yes}
@@ -22,7 +22,10 @@ use Rattle.mq_turns.specs.Desk.{IsTurn, Sees, refreshed, slot_of, turn_at}
 use Rattle.mq_turns.specs.Lists.{Each, times}
 use Rattle.mq_turns.specs.Marks.{mark_of}
 use Rattle.mq_turns.specs.Meaning.{Meaning, drawn, newest}
+use Rattle.mq_turns.specs.Words.{after_notice}
+use Rattle.mq_turns.specs.declared.rule.Blame.TheVariants as blame
 use Rattle.mq_turns.specs.declared.rule.Known.{Known}
+use Rattle.mq_turns.specs.declared.rule.Notice.TheVariants as notice
 use Rattle.mq_turns.specs.declared.rule.Opening.{Opening}
 use Rattle.mq_turns.specs.declared.rule.Reading.{Reading}
 use Rattle.mq_turns.specs.declared.rule.View.{View}
@@ -50,28 +53,33 @@ module _ {P E : Type 0} {G : Ghosts P} (state : P → PortState) (faults : P →
 
   -- ---- a side between a draw and its send
 
-  -- Its record says what a side's says, but that all is rung.
-  pub record SaysDrawn (p : Part) (s : QueueSide P E G) : Type 0 where
+  -- Its record says what a side's says, but that all is rung: the commit was drawn last on the queue, and nothing of it
+  -- is staged.
+  pub record SaysDrawn (n : NumberedCommit) (p : Part) (s : QueueSide P E G) : Type 0 where
     pub is : IsRecord p (side_state state faults s)
     pub stored : AreStored p.txs s.stored.items
+    pub ready : IsReadyFrom p.start p.txs (side_state state faults s) n
 
-  abbrev pub drawn_values : Values (QueueSide P E G) (Root P G) E
-  drawn_values = record {
+  abbrev pub drawn_values : NumberedCommit → Values (QueueSide P E G) (Root P G) E
+  drawn_values n = record {
     port = values.port;
     faults = values.faults;
     stored = values.stored;
-    says = SaysDrawn;
+    says = SaysDrawn n;
     root = values.root;
     root_faults = values.root_faults;
     root_says = values.root_says;
     geometry = values.geometry;
-    later = λ p word s above says. record { is = record_later p word (side_state state faults s) says.is; stored = says.stored };
+    later = λ p word s above says. record {
+      is = record_later p word (side_state state faults s) says.is;
+      stored = says.stored;
+      ready = says.ready;
+    };
   }
 
-  -- The commit was drawn last on the queue, and nothing of it is staged.
-  pub record HasNumbered (q : ℕ) (K : Shared P E G) (s : QueueSide P E G) (n : NumberedCommit) : Type 0 where
-    pub side : IsSide drawn_values group q K s
-    pub ready : IsReady (core_of values group K) q (own_of values group q K) (side_state state faults s) n
+  -- what the rule says of it
+  abbrev pub HasNumbered : ℕ → Shared P E G → QueueSide P E G → NumberedCommit → Type 0
+  HasNumbered q K s n = IsSide (drawn_values n) group q K s
 
   -- It may be sent.
   pub record MaySend (s : QueueSide P E G) (n : NumberedCommit) : Type 0 where
@@ -157,3 +165,9 @@ module _ {P E : Type 0} {G : Ghosts P} (state : P → PortState) (faults : P →
     pub side : HoldsNumbered o q s n new
     pub sends : MaySend s n
     pub rest : SameSession old new
+
+  -- The side was given back, and a refusal for an `Off` was charged to its port.
+  pub record IsCharged (o : Start P E G) (q : ℕ) (old new : Seat P E G) : Type 0 where
+    pub known : Shared P E G
+    pub sees : Sees machine old known
+    pub is : new ≡ giving (slot_of o (Side q)) (after_notice machine (notice.Charge (record { port = Side q; blame = blame.Off })) known old)

@@ -4,6 +4,8 @@
 
 mod machine;
 mod numbers;
+mod sending;
 
 pub use machine::{Groups, JournalMachine};
 pub use numbers::number;
+pub use sending::send;

@@ -14,7 +14,7 @@ use Rattle.mq_side.specs.Told.{IsKeptAmong, IsTold, IsToldSince, fault_of}
 use Rattle.mq_side.specs.declared.answers.Why.{Why}
 use Rattle.mq_side.specs.declared.answers.Why.TheVariants.{Status, Off}
 
-one_more : (x : Fault) (old new : List Fault) (f : Fault → Bool) → IsWithOneMore x old new → count_of f new ≡ count_of f old + cond (f x) 1 0
+pub one_more : (x : Fault) (old new : List Fault) (f : Fault → Bool) → IsWithOneMore x old new → count_of f new ≡ count_of f old + cond (f x) 1 0
 one_more x old new f more =
     let one : Fault → ℕ = λ y. cond (f y) 1 0 in
     let a : count_of f old ≡ count_of f more.before + count_of f more.after = ap (count_of f) more.old_is ∙ total_append one more.before more.after in
