@@ -1,7 +1,7 @@
 -- A draw on a queue whose mark allows it.
 use Rattle.std.proofs.Common.{◌≡◌, ℕ, suc, ◌+◌, ◌<◌, ◌≤◌, ◌^◌, Bool, true, cond, List, [], ◌∷◌, length, Some, sym, refl, ap, subst, ◌∙◌, arith}
 use Rattle.std.proofs.lemmas.Bool.{eq-eqb}
-use Rattle.mq_blocks.specs.Drive.{PortState}
+use Rattle.mq_blocks.specs.Drive.{PortState, staged_end}
 use Rattle.mq_drive.specs.Steps.{Fault}
 use Rattle.mq_drive.specs.declared.port.Port.{Ghosts}
 use Rattle.mq_pages.specs.declared.page.PageCell.{PageCell}
@@ -71,12 +71,14 @@ module _ {P E : Type 0} {G : Ghosts P} (state : P → PortState) (faults : P →
           ∙ (ap (refreshed touched (drawn e K)) marks.held
           ∙ renewed_twice touched marks.about (drawn e K) marks.by old.held (λ k found. subst (λ j. touched j ≡ true) (sym (marks.alone k found)) mine))
 
-      pub draws : (s' : QueueSide P E G) (n : NumberedCommit) → May values group e K → n.number ≡ suc (newest K) → n.commit ≡ commit_of_tx (group.tx e) → n.queue ≡ q → HasNumbered state faults group q (drawn e K) s' n → MaySend state faults group s' n → Draws state faults group o q e old new s' n
-      draws s' n may number commit queue has sends = record {
+      pub draws : (s' : QueueSide P E G) (n : NumberedCommit) → May values group e K → n.number ≡ suc (newest K) → n.commit ≡ commit_of_tx (group.tx e) → n.queue ≡ q → HasNumbered state faults group q (drawn e K) s' n → MaySend state faults group s' n → s'.pmr ≡ s.pmr → Draws state faults group o q e old new s' n
+      draws s' n may number commit queue has sends pmr = record {
         known = K;
         sees = (marks.knows K sees).sees;
         may = may;
         number = number;
+        seen = ap (λ (z : Seat P E G). z.seen) drew ∙ sym number;
+        past = λ rest. (marks.knows K sees).past (subst (λ r. staged_end (state r.port) ≤ (state r.port).head) pmr rest);
         commit = commit;
         queue = queue;
         held = held_is;

@@ -4,3 +4,4 @@ pub mod Numbering
 pub mod Drawing
 pub mod Sent
 pub mod Holding
+pub mod AfterDrain

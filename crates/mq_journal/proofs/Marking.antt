@@ -228,7 +228,7 @@ module _ {P E : Type 0} {G : Ghosts P} (state : P → PortState) (faults : P →
       knows = λ K sees.
           let before = look_before K sees in
           let side = knows K before in
-          record { mark = mark_low q K s side none (Rule.own_of values group q K) refl busy sees.marked; side = side; sees = rest_seen K before };
+          record { mark = mark_low q K s side none (Rule.own_of values group q K) refl busy sees.marked; past = λ le. absurd (busy le); side = side; sees = rest_seen K before };
       about = λ k. false;
       by = K0;
       held = ap (λ (z : Seat P E G). z.held) looked ∙ sym (renewed_none K0 v.held);
@@ -285,6 +285,7 @@ module _ {P E : Type 0} {G : Ghosts P} (state : P → PortState) (faults : P →
             let before = look_before K1 sees1 in
             record {
               mark = let m = mark_stays μ q L K stays.1 in let n = mark_then in let a = sees.seen in omega arith;
+              past = λ le. let m = mark_stays μ q L K stays.1 in let n = mark_then in let a = sees0.seen in omega arith;
               side = μ.side_along q L K s stays.1 stays.0 sees.ok side_then;
               sees = record {
                 opening = sym (ap (λ (z : Seat P E G). z.opening) cleared ∙ ap (λ (z : Seat P E G). z.opening) looked) ∙ sees.opening;

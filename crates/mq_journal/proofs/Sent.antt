@@ -50,7 +50,7 @@ after_newest : (start : ℕ) (t : Tx) (ts : List Tx) (doorbell : ℕ) → doorbe
 after_newest start t ts doorbell at = rw (le-ltb doorbell (end_of start (t ∷ ts)) (omega arith)) refl
 
 -- a port that gained an `Off` stands behind a refusal for it
-off_backed : (g : Geometry) (first old new : List Fault) → AreMore first old → Gains PowerOff old new → (2 ^ 64 - 1 ≤ length new) ⊎ IsBacked g blame.Off first old new
+pub off_backed : (g : Geometry) (first old new : List Fault) → AreMore first old → Gains PowerOff old new → (2 ^ 64 - 1 ≤ length new) ⊎ IsBacked g blame.Off first old new
 off_backed g first old new since (inl one) = inr (record {
   more = λ f. let a = one_more PowerOff old new f one in omega arith;
   kind = λ f. let a = one_more PowerOff old new (of_kind f) one in omega arith;
@@ -58,11 +58,11 @@ off_backed g first old new since (inl one) = inr (record {
 })
 off_backed g first old new since (inr full) = inl (let a = full.0 in let b : length new ≡ length old = ap length full.1 in omega arith)
 
-gained_more : (old new : List Fault) (x : Fault) → Gains x old new → AreMore old new
+pub gained_more : (old new : List Fault) (x : Fault) → Gains x old new → AreMore old new
 gained_more old new x (inl one) f = let a = one_more x old new f one in omega arith
 gained_more old new x (inr full) f = let b : count_of f new ≡ count_of f old = ap (count_of f) full.1 in omega arith
 
-gained_longer : (old new : List Fault) → Gains PowerOff old new → length old ≤ length new
+pub gained_longer : (old new : List Fault) → Gains PowerOff old new → length old ≤ length new
 gained_longer old new gains = (gains_rises PowerOff old new gains).0
 
 module _ {P E : Type 0} {G : Ghosts P} (state : P → PortState) (faults : P → List Fault) (group : Group E) (q : ℕ) (K : Shared P E G) (s u : QueueSide P E G) (n : NumberedCommit) (ok : IsOk (Numbers.values state faults group) group K) (has : HasNumbered state faults group q K s n) where

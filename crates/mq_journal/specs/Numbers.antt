@@ -128,7 +128,7 @@ module _ {P E : Type 0} {G : Ghosts P} (state : P → PortState) (faults : P →
     pub pages : new.pages ≡ old.pages
     pub charged : new.charged ≡ old.charged
 
-  -- neither what the session is nor what it has drawn and read changes
+  -- neither what the session is nor what it has read changes, and no charge is made
   pub record SameSession (old new : Seat P E G) : Type 0 where
     pub parts : new.parts ≡ old.parts
     pub opening : new.opening ≡ old.opening
@@ -136,10 +136,15 @@ module _ {P E : Type 0} {G : Ghosts P} (state : P → PortState) (faults : P →
     pub read : new.read ≡ old.read
     pub reading : ReadOn old.reading new.reading
 
-  -- Before a draw on the queue: the mark is not above the next number, the side is what the rule says, and the rest is
-  -- as it was known.
+  -- nothing of the queue is under way
+  abbrev pub IsResting : QueueSide P E G → Type 0
+  IsResting s = staged_end (state s.pmr.port) ≤ (state s.pmr.port).head
+
+  -- Before a draw on the queue: the mark is not above the next number, and where nothing is under way it is past all
+  -- that the session had seen; the side is what the rule says, and the rest is as it was known.
   pub record IsMarked (o : Start P E G) (q : ℕ) (s : QueueSide P E G) (old : Seat P E G) (K : Shared P E G) : Type 0 where
     pub mark : mark_of q K.claims ≤ suc (newest K)
+    pub past : IsResting s → old.seen < mark_of q K.claims
     pub side : IsSide values group q K s
     pub sees : SeesRest o q old K
 
@@ -158,6 +163,8 @@ module _ {P E : Type 0} {G : Ghosts P} (state : P → PortState) (faults : P →
     pub sees : SeesRest o q old known
     pub may : May values group e known
     pub number : n.number ≡ suc (newest known)
+    pub seen : new.seen ≡ n.number
+    pub past : IsResting s → old.seen < mark_of q known.claims
     pub commit : n.commit ≡ commit_of_tx (group.tx e)
     pub queue : n.queue ≡ q
     pub held : new.held ≡ refreshed (λ k. touches values group known.log e (turn_at known.opening k)) (drawn e known) old.held

@@ -56,4 +56,4 @@ returns-clause-draws g c =
     let sends = may_send state faults group e K s place.base number c.numbered.result is c.requires.none drew.3.ok may low place.fits place.bounds next numbered u c.numbered.ensures.pmr c.numbered.ensures.done c.numbered.ensures.kept stored in
     draws state faults group o s.pmr.queue s e own old mid marks (view c.draw-number.new.chair) K c.requires.at.1 c.requires.side.turn c.requires.side.holds drew.3 drew.1
     u c.numbered.result may (ap (λ (x : NumberedCommit). x.number) numbered ∙ next) (ap (λ (x : NumberedCommit). x.commit) numbered) (ap (λ (x : NumberedCommit). x.queue) numbered)
-    (subst (λ z. HasNumbered state faults group z (drawn e K) u c.numbered.result) own has) sends
+    (subst (λ z. HasNumbered state faults group z (drawn e K) u c.numbered.result) own has) sends c.numbered.ensures.pmr
