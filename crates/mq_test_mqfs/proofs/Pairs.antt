@@ -9,8 +9,7 @@ use Rattle.mq_drive.specs.Views.{IsQuiescentPair}
 use Rattle.mq_drive.specs.declared.emu.EmuPort.{EmuPort}
 use Rattle.mq_drive.specs.declared.port.Ports.{Ports}
 use Rattle.mq_drive.specs.declared.role.Role.TheVariants.{Queue}
-use Rattle.mq_recover.specs.Drives.{IsQuiescentDrive}
-use Rattle.mqfs.specs.Ports.{drive_of}
+use Rattle.mq_recover.specs.Drives.{IsQuiescentDrive, drive_of}
 use Rattle.mqfs.proofs.Restarts.{first_of}
 
 pub pair_of : (g : Geometry) (ports : Ports EmuPort) (x : EmuPort) → g.queues ≡ 1 → slice_get ports.queues.items 0 ≡ Some x → IsQuiescentDrive g (drive_of emu_state ports) → IsQuiescentPair g (emu_state x) (emu_state ports.root)

@@ -6,10 +6,9 @@ ghost use Rattle.mq_drive.specs.Seats.{name_of, fuse_of, tickets_of};
 ghost use Rattle.mq_drive.specs.Start.{IsImageOf, start_of};
 ghost use Rattle.mq_drive.specs.Views.{IsQuiescentPair};
 ghost use Rattle.mq_drive.specs.declared.role.Role.TheVariants.{Queue, Root};
-ghost use Rattle.mq_recover.specs.Drives.{IsQuiescentDrive, drive};
+ghost use Rattle.mq_recover.specs.Drives.{IsQuiescentDrive, drive, drive_of, faults_on};
 ghost use Rattle.mq_text.specs.Text.{IsGoodText};
 ghost use Rattle.mqfs.specs.Fresh.{IsTextGeometry};
-ghost use Rattle.mqfs.specs.Ports.{drive_of, faults_on};
 ghost use Rattle.mqfs.specs.Restart.{no_faults};
 
 use crate::generated::some_text;
