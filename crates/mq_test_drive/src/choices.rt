@@ -73,52 +73,77 @@ fn the_failed_command_stands_behind_the_posted_one(rt: HostRuntime) -> Result<()
     Ok(())
 }
 
+// What a cut leaves of a queue's port of which two slots are staged and a head is stored.
+fn staged_and_cut(rt: &impl Abort, alloc: Global, pick: u64) -> Result<PortImage, OutOfMemory> {
+    let geometry = one_queue().expect(rt, "a geometry");
+    let mut image = fresh(alloc, RING_DEPTH as usize, 1264)?;
+    image.doorbell = 1;
+    let (three, four) = (filled(alloc, 3)?, filled(alloc, 4)?);
+    let (fuse, seat) = powered(alloc, None)?;
+    let mut port = EmuPort::new(alloc, &fuse, seat, geometry, QUEUE, image, None, 0)?;
+    port.stage(1, write(1, 5), three).expect(rt, "power");
+    port.stage(2, write(2, 6), four).expect(rt, "power");
+    port.store_head(1).expect(rt, "power");
+    Ok(port.cut(pick).0)
+}
+
+// Whether a slot begins and ends with these words of the generator.
+fn is_torn(image: &PortImage, at: usize, first: u64, last: u64) -> bool {
+    match image.slots.get(at) {
+        Some(entry) => {
+            let bytes = entry.to_bytes();
+            bytes.starts_with(&first.to_le_bytes()) && bytes.ends_with(&last.to_le_bytes())
+        }
+        None => false,
+    }
+}
+
 #[test]
 fn a_cut_chooses_of_slots(rt: HostRuntime) -> Result<(), OutOfMemory> {
-    let alloc = rt.alloc();
-    let geometry = one_queue().expect(&rt, "a geometry");
     let drawn = [
         (3, 4177547917591030546u64, 2670815422052757406u64),
         (5, 10687978544412273069, 10765868234212061531),
     ];
     for (pick, first, last) in drawn {
-        let mut image = fresh(alloc, RING_DEPTH as usize, 1264)?;
-        image.doorbell = 1;
-        let (three, four) = (filled(alloc, 3)?, filled(alloc, 4)?);
-        let (fuse, seat) = powered(alloc, None)?;
-        let mut port = EmuPort::new(alloc, &fuse, seat, geometry, QUEUE, image, None, 0)?;
-        port.stage(1, write(1, 5), three).expect(&rt, "power");
-        port.stage(2, write(2, 6), four).expect(&rt, "power");
-        port.store_head(1).expect(&rt, "power");
-        let (image, _seat) = port.cut(pick);
-        let torn = image.slots.get(1).map(|entry| entry.to_bytes());
-        assert!(rt;
-            torn.is_some_and(|bytes| bytes.starts_with(&first.to_le_bytes())
-                && bytes.ends_with(&last.to_le_bytes()))
-        );
+        let image = staged_and_cut(&rt, rt.alloc(), pick)?;
+        assert!(rt; is_torn(&image, 1, first, last));
         assert!(rt; image.slots.get(2) == Some(&write(2, 6)));
         assert_eq!(rt; image.head, 1);
     }
     Ok(())
 }
 
+// What three steps of the second queue's port answer.
+fn order_of(
+    rt: &impl Abort,
+    alloc: Global,
+    seed: u64,
+) -> Result<[Result<Step, Off>; 3], OutOfMemory> {
+    let geometry = two_queues().expect(rt, "a geometry");
+    let image = fresh(alloc, RING_DEPTH as usize, 1264)?;
+    let blocks = three(alloc)?;
+    let (fuse, seat) = powered(alloc, None)?;
+    let role = Role::Queue(QueueNo(1));
+    let mut port = EmuPort::new(alloc, &fuse, seat, geometry, role, image, None, seed)?;
+    post(&mut port, 1029, blocks).expect(rt, "power");
+    let (first, second) = two_steps(&mut port);
+    let third = port.step();
+    let (_image, _seat) = port.cut(0);
+    Ok([first, second, third])
+}
+
 // The generator of the second queue's port is that of the seed + 1: with the seeds beside it the
 // order of execution is another one.
 #[test]
 fn the_second_queue_has_its_own_order(rt: HostRuntime) -> Result<(), OutOfMemory> {
-    let alloc = rt.alloc();
-    let geometry = two_queues().expect(&rt, "a geometry");
     let orders = [(3, 1, 0, 2), (1, 1, 2, 0), (u64::MAX, 0, 2, 1)];
     for (seed, first, second, third) in orders {
-        let image = fresh(alloc, RING_DEPTH as usize, 1264)?;
-        let blocks = three(alloc)?;
-        let (fuse, seat) = powered(alloc, None)?;
-        let role = Role::Queue(QueueNo(1));
-        let mut port = EmuPort::new(alloc, &fuse, seat, geometry, role, image, None, seed)?;
-        post(&mut port, 1029, blocks).expect(&rt, "power");
-        assert!(rt; two_steps(&mut port) == (ended(3, 2, first, 0), ended(3, 2, second, 0)));
-        assert!(rt; port.step() == ended(3, 2, third, 0));
-        let (_image, _seat) = port.cut(0);
+        let wanted = [
+            ended(3, 2, first, 0),
+            ended(3, 2, second, 0),
+            ended(3, 2, third, 0),
+        ];
+        assert!(rt; order_of(&rt, rt.alloc(), seed)? == wanted);
     }
     Ok(())
 }

@@ -3,6 +3,7 @@
 
 #[cfg(test)]
 mod choices;
+#[cfg(test)]
 mod drive;
 #[cfg(test)]
 mod failures;
@@ -12,8 +13,3 @@ mod fuse;
 mod power;
 #[cfg(test)]
 mod rounds;
-
-pub use drive::{
-    QUEUE, ended, filled, fresh, holds, is_blank, is_drawn, one_queue, post, powered, three,
-    two_queues, two_steps, write,
-};

@@ -1,11 +1,13 @@
 // How long the power of a port lasts.
-ghost use Rattle.std.specs.Prelude.{◌≡◌, ◌≤◌, IsNone};
+ghost use Rattle.std.specs.Prelude.{◌≡◌, ◌≤◌, ◌^◌, IsNone};
 ghost use Rattle.mq_blocks.specs.Drive.{IsHome};
 ghost use Rattle.mq_drive.specs.Emu.{emu_state};
 
 use crate::drive::{filled, fresh, holds, is_blank, one_queue, powered};
 use mq_blocks::{Block, Lba, OutOfMemory};
-use mq_drive::{EmuPort, Port, Role};
+use mq_drive::{EmuPort, Port, PortImage, Role};
+use std::alloc::Global;
+use std::process::Abort;
 
 // What the root's port of this drive gives to three calls, and how many of them happened.
 fn root_calls(port: &mut EmuPort<'_>, block: Block) -> u64
@@ -25,10 +27,27 @@ fn root_calls(port: &mut EmuPort<'_>, block: Block) -> u64
     3
 }
 
+// How many of three calls happened with power for so many events, how many events did, whether the port
+// has failed, and what a cut leaves. The pick 1 takes what is written of a home write that is under way.
+fn calls_until(
+    rt: &impl Abort,
+    alloc: Global,
+    limit: u64,
+) -> Result<(u64, u64, bool, PortImage), OutOfMemory>
+    requires { limit ≤ 2 ^ 63 }
+{
+    let geometry = one_queue().expect(rt, "a geometry");
+    let image = fresh(alloc, 0, 16)?;
+    let five = filled(alloc, 5)?;
+    let (fuse, seat) = powered(alloc, Some(limit))?;
+    let mut port = EmuPort::new(alloc, &fuse, seat, geometry, Role::Root, image, None, 0)?;
+    let calls = root_calls(&mut port, five);
+    let (events, failed) = (port.events(), port.failed());
+    Ok((calls, events, failed, port.cut(1).0))
+}
+
 #[test]
 fn the_power_goes_off_at_the_limit(rt: HostRuntime) -> Result<(), OutOfMemory> {
-    let alloc = rt.alloc();
-    let geometry = one_queue().expect(&rt, "a geometry");
     // The home write is two events: with a limit of 3 it is under way when the power goes off.
     for (limit, calls, events) in [
         (0, 0, 0),
@@ -38,22 +57,13 @@ fn the_power_goes_off_at_the_limit(rt: HostRuntime) -> Result<(), OutOfMemory> {
         (4, 3, 4),
         (9, 3, 4),
     ] {
-        let image = fresh(alloc, 0, 16)?;
-        let five = filled(alloc, 5)?;
-        let (fuse, seat) = powered(alloc, Some(limit))?;
-        let mut port = EmuPort::new(alloc, &fuse, seat, geometry, Role::Root, image, None, 0)?;
-        assert_eq!(rt; root_calls(&mut port, five), calls);
-        assert_eq!(rt; port.events(), events);
-        assert!(rt; !port.failed());
-        // The pick 1 takes what is written of a home write that is under way.
-        let (image, _seat) = port.cut(1);
+        let (called, happened, failed, image) = calls_until(&rt, rt.alloc(), limit)?;
         assert!(rt;
-            if events < 3 {
-                is_blank(&image, 2)
-            } else {
-                holds(&image, 2, 5)
-            }
+            (called, happened, failed) == (calls, events, false),
+            "limit {limit}"
         );
+        let is_written = events >= 3;
+        assert!(rt; (is_blank(&image, 2), holds(&image, 2, 5)) == (!is_written, is_written));
     }
     Ok(())
 }
