@@ -1,5 +1,5 @@
 -- The ports of a drive, started one after another.
-use Rattle.std.proofs.Common.{◌≡◌, ◌<◌, ◌≤◌, ℕ, ◌+◌, ◌-◌, List, [], ◌∷◌, ◌++◌, All, length, map, take, get_or, None, refl, sym, ◌∙◌, ap, subst, arith, append_assoc, length-append}
+use Rattle.std.proofs.Common.{◌≡◌, ◌<◌, ◌≤◌, ℕ, zero, suc, ◌+◌, ◌-◌, List, [], ◌∷◌, ◌++◌, All, length, map, take, get_or, None, refl, sym, ◌∙◌, ap, subst, arith, append_assoc, length-append}
 use Rattle.std.specs.List.{remove}
 use Rattle.std.proofs.lemmas.List.{get_or-append_right, map_push, take_at}
 use Rattle.std.proofs.lemmas.List.Elements.{All-push}
@@ -25,7 +25,7 @@ head-of (y ∷ ys) x some is = ap (λ (z : _). z ∷ ys) (sym is)
 
 first-fresh : (fuse : FuseName) (seats : List FuseSeat) (s : FuseSeat) → 0 < length seats → s ≡ get_or seats 0 s → All (IsFreshSeat fuse) seats → IsFreshSeat fuse s × All (IsFreshSeat fuse) (remove seats 0)
 first-fresh fuse [] s some is all = absurd (omega arith)
-first-fresh fuse (t ∷ ts) s some is all = (subst (IsFreshSeat fuse) (sym is) all.0, all.1)
+first-fresh fuse (t ∷ ts) s some is all = (subst (IsFreshSeat fuse) (sym is) (all 0 t (omega arith)), λ k d low. all (suc k) d (omega arith))
 
 starts-push : (g : Geometry) (fuse : FuseName) (n : ℕ) (is : List PortImage) (i : PortImage) → starts_from g fuse n (is ++ i ∷ []) ≡ starts_from g fuse n is ++ start_of g (Queue (n + length is)) i fuse None ∷ []
 starts-push g fuse n [] i = ap (λ (k : ℕ). start_of g (Queue k) i fuse None ∷ []) (let e : n ≡ n + 0 = omega arith in e)
@@ -49,7 +49,7 @@ none-started g fuse all queues seats none fresh = record {
   parts = refl;
   count = refl;
   states = ap (map emu_state) none;
-  fresh = subst (All IsFreshPort) (sym none) tt;
+  fresh = subst (All IsFreshPort) (sym none) (λ k d low. absurd (omega arith));
   seats_count = let few = fresh.count_is in omega arith;
   seats_fresh = fresh.each;
 }
@@ -109,3 +109,20 @@ module _ (g : Geometry) (fuse : FuseName) (all : List PortImage) (n : ℕ) (queu
           queues = subst (All IsFreshPort) (sym are) to.fresh;
           root = subst IsFreshPort (sym root_is) fresh;
         }
+
+-- the image of a queue's port, of a geometry that is the drive's
+pub image-of : (g : Geometry) (x : DriveImage) (i : PortImage) (q : ℕ) → IsDrive x → g ≡ x.geometry → q < queues_of g → get_or x.ports q no_port ≡ i → IsImageOf g (Queue q) i
+image-of g x i q drive same low is =
+    let count : queues_of g ≡ queues_of x.geometry = ap queues_of same in
+    subst (λ (h : Geometry). IsImageOf h (Queue q) i) (sym same) (subst (IsImageOf x.geometry (Queue q)) is (drive.queues q (omega arith)))
+
+pub root-image-of : (g : Geometry) (x : DriveImage) (i : PortImage) → IsDrive x → g ≡ x.geometry → get_or x.ports (queues_of g) no_port ≡ i → IsImageOf g Root i
+root-image-of g x i drive same is =
+    subst (λ (h : Geometry). IsImageOf h Root i) (sym same) (subst (IsImageOf x.geometry Root) (ap (λ (h : Geometry). get_or x.ports (queues_of h) no_port) (sym same) ∙ is) drive.root)
+
+pub size-of : (g : Geometry) (x : DriveImage) → IsDrive x → g ≡ x.geometry → length x.ports ≡ queues_of g + 1
+size-of g x drive same = drive.ports ∙ ap (λ (h : Geometry). queues_of h + 1) (sym same)
+
+-- the image with its own geometry, under another name
+pub same-image : (fuse : FuseName) (g : Geometry) (x : DriveImage) (ports : Ports EmuPort) → g ≡ x.geometry → AreStarted fuse (record { geometry = g; ports = x.ports }) ports → AreStarted fuse x ports
+same-image fuse g x ports same started = subst (λ (h : Geometry). AreStarted fuse (record { geometry = h; ports = x.ports }) ports) same started

@@ -46,3 +46,13 @@ readable-of fuse x d ds top is read =
 pub read-refused : (x : DriveImage) (ds : List Descriptor) (top : ℕ) (e : ImageFault) → Reads x ds top → RefusesDrive x e → ⊥
 read-refused x ds top e read refused =
     image-refused x.geometry (drive_from refused.fuse x) e (readable-of refused.fuse x (drive_from refused.fuse x) ds top refl read) refused.refuses
+
+-- the same under another name of the geometry
+pub standing-under : (fuse : FuseName) (g : Geometry) (x : DriveImage) (d : DriveState) (s : Standing) → g ≡ x.geometry → d ≡ drive_from fuse x → StandsIn g d s → IsStandingOf x s
+standing-under fuse g x d s same is stood = standing-of fuse x d s is (subst (λ (h : Geometry). StandsIn h d s) same stood)
+
+pub refuses-under : (fuse : FuseName) (g : Geometry) (x : DriveImage) (d : DriveState) (e : ImageFault) → g ≡ x.geometry → d ≡ drive_from fuse x → (e ≡ OutOfMemory) ⊎ RefusesImage g d e → (e ≡ OutOfMemory) ⊎ RefusesDrive x e
+refuses-under fuse g x d e same is refused = refuses-of fuse x d e is (subst (λ (h : Geometry). (e ≡ OutOfMemory) ⊎ RefusesImage h d e) same refused)
+
+pub readable-under : (fuse : FuseName) (g : Geometry) (x : DriveImage) (d : DriveState) (ds : List Descriptor) (top : ℕ) → g ≡ x.geometry → d ≡ drive_from fuse x → Reads x ds top → IsReadableImage g d
+readable-under fuse g x d ds top same is read = subst (λ (h : Geometry). IsReadableImage h d) (sym same) (readable-of fuse x d ds top is read)

@@ -59,3 +59,7 @@ started-still fuse x d drive is = subst (IsQuiescentDrive x.geometry) (sym is) (
 
 pub started-view : (fuse : FuseName) (x : DriveImage) (d : DriveState) → d ≡ drive_from fuse x → view_over x.geometry d ≡ view_of x
 started-view fuse x d is = ap (view_over x.geometry) is ∙ start-view fuse x
+
+-- the same under another name of its geometry
+pub still-under : (fuse : FuseName) (g : Geometry) (x : DriveImage) (d : DriveState) → IsDrive x → g ≡ x.geometry → d ≡ drive_from fuse x → IsQuiescentDrive g d
+still-under fuse g x d drive same is = subst (λ (h : Geometry). IsQuiescentDrive h d) (sym same) (started-still fuse x d drive is)

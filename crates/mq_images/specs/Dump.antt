@@ -37,10 +37,14 @@ queues_text i chains (suc q) = queues_text i chains q ++ queue_text i chains q
 abbrev pub dump_text : Geometry → Shown → (chains : ℕ → List Descriptor) → (prefix : ℕ) → List ℕ
 dump_text g i chains prefix = base_line i.base ++ (queues_text i chains (queues_of g) ++ prefix_line prefix)
 
--- the image is readable, and this text tells its words, its chains and how many transactions stand
-pub record IsDump (x : DriveImage) (text : List ℕ) : Type 0 where
+-- what is shown is readable, and this text tells its words, its chains and how many transactions stand
+pub record IsDumpOf (g : Geometry) (i : Shown) (text : List ℕ) : Type 0 where
   pub chains : ℕ → List Descriptor
   pub ds : List Descriptor
-  pub whole : AreWhole x.geometry (view_of x) chains
-  pub prefix : IsPrefix x.geometry (view_of x) chains ds
-  pub text_is : text ≡ dump_text x.geometry (view_of x) chains (length ds)
+  pub whole : AreWhole g i chains
+  pub prefix : IsPrefix g i chains ds
+  pub text_is : text ≡ dump_text g i chains (length ds)
+
+-- the same of an image
+abbrev pub IsDump : DriveImage → List ℕ → Type 0
+IsDump x text = IsDumpOf x.geometry (view_of x) text

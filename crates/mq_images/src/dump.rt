@@ -5,9 +5,10 @@ ghost use Rattle.mq_blocks.specs.Descriptor.{Descriptor as Text};
 ghost use Rattle.mq_blocks.specs.Geometry.{queues_of};
 ghost use Rattle.mq_blocks.specs.Journal.{AreWhole};
 ghost use Rattle.mq_image.specs.Drives.{IsDrive};
-ghost use Rattle.mq_images.specs.Dump.{IsDump, base_line, descriptor_line, dump_text, prefix_line, queue_line, queue_text, queues_text, transaction_line};
+ghost use Rattle.mq_images.specs.Dump.{IsDump, IsDumpOf, base_line, descriptor_line, dump_text, prefix_line, queue_line, queue_text, queues_text, transaction_line};
 ghost use Rattle.mq_images.specs.Standing.{Reads, RefusesDrive};
 ghost use Rattle.mq_recover.specs.Drives.{IsQuiescentDrive, drive_of, view_over};
+ghost use Rattle.mq_recover.specs.Refusals.{IsReadableImage, RefusesImage};
 
 use crate::ports::{drive_power, start_ports};
 use mq_area::Descriptor;
@@ -178,6 +179,24 @@ fn dump_ports<P: Port>(
     Ok(text)
 }
 
+// The words and the chains of a drive, where it is readable.
+fn dump_drive<P: Port>(
+    alloc: Global,
+    geometry: Geometry,
+    ports: &Ports<P>,
+) -> Result<Vec<u8>, ImageFault>
+    requires { IsQuiescentDrive geometry (drive_of P.state ports.now) }
+    ensures ok { IfOk result (λ v. IsDumpOf geometry
+        (view_over geometry (drive_of P.state ports.now)) v.items) }
+    ensures refused { IfErr result (λ e. (e ≡ ImageFault.OutOfMemory)
+        ⊎ RefusesImage geometry (drive_of P.state ports.now) e) }
+    ensures complete { IsReadableImage geometry (drive_of P.state ports.now)
+        → IsOkUnless result ImageFault.OutOfMemory }
+{
+    let standing = stands(alloc, geometry, ports)?;
+    Ok(dump_ports(alloc, geometry, ports, standing.prefix)?)
+}
+
 /// The text that tells the words and the chains of an image: its base, for each queue the doorbell, the head and the
 /// transactions of its chain, newest first, and how many transactions stand.
 pub fn dump_image(alloc: Global, image: DriveImage) -> Result<Vec<u8>, ImageFault>
@@ -191,6 +210,5 @@ pub fn dump_image(alloc: Global, image: DriveImage) -> Result<Vec<u8>, ImageFaul
     let geometry = image.geometry;
     let (fuse, seats) = drive_power(alloc, geometry, None)?;
     let ports = start_ports(alloc, &fuse, seats, image, 0)?;
-    let standing = stands(alloc, geometry, &ports)?;
-    Ok(dump_ports(alloc, geometry, &ports, standing.prefix)?)
+    dump_drive(alloc, geometry, &ports)
 }
