@@ -4,7 +4,7 @@ use Rattle.mq_blocks.specs.Blocks.{block_at}
 use Rattle.mq_blocks.specs.Descriptor.{Descriptor}
 use Rattle.mq_blocks.specs.Drive.{FuseName}
 use Rattle.mq_blocks.specs.Geometry.{homes_of}
-use Rattle.mq_blocks.specs.Journal.{Shown, stands}
+use Rattle.mq_blocks.specs.Journal.{AreWhole, Shown, stands}
 use Rattle.mq_blocks.specs.declared.geometry.Geometry.{Geometry}
 use Rattle.mq_image.specs.File.{DriveImage}
 use Rattle.mq_images.specs.Standing.{AreStanding, IsStandingOf, Reads, RefusesDrive}
@@ -17,7 +17,7 @@ use Rattle.mq_recover.specs.Standing.{IsStanding, StandsIn}
 use Rattle.mq_recover.specs.declared.refusal.ImageFault.{ImageFault}
 use Rattle.mq_recover.specs.declared.refusal.ImageFault.TheVariants.{OutOfMemory}
 use Rattle.mq_recover.specs.declared.standing.Standing.{Standing}
-use Rattle.mq_recover.proofs.Images.{image-refused, read-readable}
+use Rattle.mq_recover.proofs.Images.{image-refused, read-readable, whole-readable}
 
 -- what stands on the drive stands on the image
 pub standing-of : (fuse : FuseName) (x : DriveImage) (d : DriveState) (s : Standing) → d ≡ drive_from fuse x → StandsIn x.geometry d s → IsStandingOf x s
@@ -56,3 +56,9 @@ refuses-under fuse g x d e same is refused = refuses-of fuse x d e is (subst (λ
 
 pub readable-under : (fuse : FuseName) (g : Geometry) (x : DriveImage) (d : DriveState) (ds : List Descriptor) (top : ℕ) → g ≡ x.geometry → d ≡ drive_from fuse x → Reads x ds top → IsReadableImage g d
 readable-under fuse g x d ds top same is read = subst (λ (h : Geometry). IsReadableImage h d) (sym same) (readable-of fuse x d ds top is read)
+
+-- the same of an image whose chains are whole
+pub whole-refused : (x : DriveImage) (chains : ℕ → List Descriptor) (e : ImageFault) → AreWhole x.geometry (view_of x) chains → RefusesDrive x e → ⊥
+whole-refused x chains e whole refused =
+    let d = drive_from refused.fuse x in
+    image-refused x.geometry d e (whole-readable x.geometry d chains (subst (λ (i : Shown). AreWhole x.geometry i chains) (sym (started-view refused.fuse x d refl)) whole)) refused.refuses

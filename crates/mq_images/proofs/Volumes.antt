@@ -25,6 +25,7 @@ use Rattle.mq_tree.specs.Corrupt.{Refuses}
 use Rattle.mq_tree.specs.Laid.{IsLaid, IsTreeOf, is_marked, map_of}
 use Rattle.mq_tree.specs.Trees.{IsAlike}
 use Rattle.mq_tree.specs.Volume.{Things, Volume, layout, tree}
+use Rattle.mq_tree.proofs.Unique.{volume-once}
 use Rattle.mq_tree.specs.declared.corrupt.CorruptCause.{CorruptCause}
 use Rattle.mq_tree.specs.declared.corrupt.MountRefusal.{MountRefusal}
 use Rattle.mq_tree.specs.declared.corrupt.MountRefusal.TheVariants as mount
@@ -91,10 +92,12 @@ module _ (g : Geometry) (x : DriveImage) (same : g ≡ x.geometry) (s : Standing
   pub mounts : (v : Volume) (e : MountRefusal) → StandsFor x v → (e ≢ mount.OutOfMemory → (t : Things) → IsTreeOf g (map_of g s.blocks.items) t → ⊥) → e ≢ mount.OutOfMemory → ⊥
   mounts v e for none other = none other (tree v) (tree-of g (map_of g s.blocks.items) v (volume-laid v for))
 
-  pub mount-refuses : (e : MountRefusal) (r : StandingRefusal) → Refuses g s.blocks.items e → ((cause : CorruptCause) (b : ℕ) → e ≡ mount.Corrupt cause b → r ≡ standing.Corrupt cause b) → (e ≡ mount.OutOfMemory → r ≡ standing.OutOfMemory) → RefusesVolume x r
-  mount-refuses (mount.Corrupt cause b) r refuses is memory =
-      subst (RefusesVolume x) (sym (is cause b refl)) (not_mounted stood.ds stood.top s.blocks.items stood.read stood.blocks (subst (λ (h : Geometry). Refuses h s.blocks.items (mount.Corrupt cause b)) same refuses))
-  mount-refuses mount.OutOfMemory r refuses is memory = subst (RefusesVolume x) (sym (memory refl)) wanting
+  pub mount-refuses : (e : MountRefusal) (r : StandingRefusal) → Refuses g s.blocks.items e → (e ≢ mount.OutOfMemory → (t : Things) → IsTreeOf g (map_of g s.blocks.items) t → ⊥) → ((cause : CorruptCause) (b : ℕ) → e ≡ mount.Corrupt cause b → r ≡ standing.Corrupt cause b) → (e ≡ mount.OutOfMemory → r ≡ standing.OutOfMemory) → RefusesVolume x r
+  mount-refuses (mount.Corrupt cause b) r refuses none is memory =
+      subst (RefusesVolume x) (sym (is cause b refl)) (not_mounted stood.ds stood.top s.blocks.items stood.read stood.blocks
+      (λ v laid. none (λ e. cc) (tree v) (tree-of g (map_of g s.blocks.items) v (subst (λ (h : Geometry). IsLaid h (map_of h s.blocks.items) v) (sym same) laid)))
+      (subst (λ (h : Geometry). Refuses h s.blocks.items (mount.Corrupt cause b)) same refuses))
+  mount-refuses mount.OutOfMemory r refuses none is memory = subst (RefusesVolume x) (sym (memory refl)) wanting
 
   pub mount-wants : (v : Volume) (e : MountRefusal) (r : StandingRefusal) → StandsFor x v → (e ≢ mount.OutOfMemory → (t : Things) → IsTreeOf g (map_of g s.blocks.items) t → ⊥) → (e ≡ mount.OutOfMemory → r ≡ standing.OutOfMemory) → r ≡ standing.OutOfMemory
   mount-wants v (mount.Corrupt cause b) r for none memory = absurd (mounts v (mount.Corrupt cause b) for none (λ e. cc))
@@ -109,3 +112,26 @@ image-refuses x e r (inr refuses) (inr other) = subst (RefusesVolume x) (sym oth
 pub image-wants : (e : ImageFault) (r : StandingRefusal) → e ≡ image.OutOfMemory → ((e ≡ image.OutOfMemory) × (r ≡ standing.OutOfMemory)) ⊎ ((e ≢ image.OutOfMemory) × (r ≡ standing.Image e)) → r ≡ standing.OutOfMemory
 image-wants e r is (inl memory) = memory.1
 image-wants e r is (inr other) = absurd (other.0 is)
+
+-- where a volume stands, nothing is refused
+pub stands-refused : (x : DriveImage) (v : Volume) (r : StandingRefusal) → StandsFor x v → RefusesVolume x r → r ≢ standing.OutOfMemory → ⊥
+stands-refused x v _ for (not_readable e refuses) other = read-refused x for.ds for.top e for.read refuses
+stands-refused x v _ for (not_mounted ds top stored read blocks none corrupt) other =
+    let once : for.ds ≡ ds = (read-same x.geometry (view_of x) for.ds ds for.top top for.read read).0 in
+    let others = for.standing in
+    none v (laid-along x.geometry (map_of x.geometry for.stored) (map_of x.geometry stored) v
+    (same-map x.geometry for.stored stored (λ b low. others.each b low ∙ ap (λ (es : List Descriptor). stands x.geometry (view_of x) es b) once ∙ sym (blocks.each b low)))
+    for.laid)
+stands-refused x v _ for wanting other = other refl
+
+-- an image stands for one volume
+pub stands-once : (x : DriveImage) (v w : Volume) → StandsFor x v → StandsFor x w → v ≡ w
+stands-once x v w for other =
+    let once : for.ds ≡ other.ds = (read-same x.geometry (view_of x) for.ds other.ds for.top other.top for.read other.read).0 in
+    let these = for.standing in
+    let those = other.standing in
+    volume-once x.geometry (map_of x.geometry other.stored) v w
+    (laid-along x.geometry (map_of x.geometry for.stored) (map_of x.geometry other.stored) v
+    (same-map x.geometry for.stored other.stored (λ b low. these.each b low ∙ ap (λ (ds : List Descriptor). stands x.geometry (view_of x) ds b) once ∙ sym (those.each b low)))
+    for.laid)
+    other.laid

@@ -52,8 +52,8 @@ pub record RefusesDrive (x : DriveImage) (e : ImageFault) : Type 0 where
   pub fuse : FuseName
   pub refuses : RefusesImage x.geometry (drive_from fuse x) e
 
--- the image is not readable, or the blocks that stand have no tree and this is wrong at this block
+-- the image is not readable; or the blocks that stand hold no volume, and this is wrong at this block
 pub data RefusesVolume (x : DriveImage) : StandingRefusal → Type 0 where
   not_readable : (e : ImageFault) → RefusesDrive x e → RefusesVolume x (Image e)
-  not_mounted : {cause : _} {b : ℕ} (ds : List Descriptor) (top : ℕ) (stored : List (Option (List ℕ))) → Reads x ds top → AreStanding x ds stored → IsCorrupt x.geometry stored cause b → RefusesVolume x (Corrupt cause b)
+  not_mounted : {cause : _} {b : ℕ} (ds : List Descriptor) (top : ℕ) (stored : List (Option (List ℕ))) → Reads x ds top → AreStanding x ds stored → ((v : Volume) → IsLaid x.geometry (map_of x.geometry stored) v → ⊥) → IsCorrupt x.geometry stored cause b → RefusesVolume x (Corrupt cause b)
   wanting : RefusesVolume x OutOfMemory

@@ -36,11 +36,7 @@ fn put_transaction(
 }
 
 // Appends the lines of a chain.
-fn put_chain(
-    alloc: Global,
-    text: &mut Vec<u8>,
-    chain: &[Descriptor],
-) -> Result<(), OutOfMemory>
+fn put_chain(alloc: Global, text: &mut Vec<u8>, chain: &[Descriptor]) -> Result<(), OutOfMemory>
     ensures { IfOk result (λ _. text.new.items ≡ text.old.items ++ flat_map descriptor_line chain.now) }
 {
     for descriptor in chain {

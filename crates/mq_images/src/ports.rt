@@ -49,22 +49,11 @@ pub fn start_ports<'f>(
         let image = images.remove(0);
         let seat = seats.remove(0);
         let role = Role::Queue(QueueNo(q));
-        queues.push(EmuPort::new(
-            alloc, fuse, seat, geometry, role, image, None, seed,
-        )?)?;
+        queues.push(EmuPort::new(alloc, fuse, seat, geometry, role, image, None, seed)?)?;
     }
     let image = images.remove(0);
     let seat = seats.remove(0);
-    let root = EmuPort::new(
-        alloc,
-        fuse,
-        seat,
-        geometry,
-        Role::Root,
-        image,
-        None,
-        seed,
-    )?;
+    let root = EmuPort::new(alloc, fuse, seat, geometry, Role::Root, image, None, seed)?;
     Ok(Ports { queues, root })
 }
 

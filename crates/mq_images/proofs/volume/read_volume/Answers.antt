@@ -18,7 +18,8 @@ returns-clause-refused c =
     let g = c.image.inside.geometry in
     let same : g ≡ c.args.image.geometry = ap (λ (x : DriveImage). x.geometry) c.image.view_is in
     let refuses : Refuses g c.in-Ok.standing.blocks.items c.in-Err-mount.refusal = subst (λ (l : List (Option (List ℕ))). Refuses g l c.in-Err-mount.refusal) c.deref.ensures.value c.in-Err-mount.ensures.cause in
-    mount-refuses g c.args.image same c.in-Ok.standing c.in-Ok.ensures.ok c.in-Err-mount.refusal c.not_mounted.result refuses c.not_mounted.ensures.corrupt c.not_mounted.ensures.memory
+    let none = subst (λ (l : List (Option (List ℕ))). c.in-Err-mount.refusal ≢ mount.OutOfMemory → (t : Things) → IsTreeOf g (map_of g l) t → ⊥) c.deref.ensures.value c.in-Err-mount.ensures.none in
+    mount-refuses g c.args.image same c.in-Ok.standing c.in-Ok.ensures.ok c.in-Err-mount.refusal c.not_mounted.result refuses none c.not_mounted.ensures.corrupt c.not_mounted.ensures.memory
 
 pub returns-clause-complete : goal.returns-clause-complete
 returns-clause-complete c = λ v for.
