@@ -1,12 +1,21 @@
 -- What is said of bytes that were loaded.
 use Rattle.std.proofs.Common.{◌≡◌, ◌≢◌, ◌⊎◌, inl, inr, ℕ, List, Option, Some, None, refl, sym, ◌∙◌, ap, subst}
 use Rattle.std.specs.Prelude.{Result, Ok, Err, IfOk, MatchResult}
-use Rattle.mq_commands.specs.Commands.{Dumps, Lists, SaysOfImage, ShowsFile, is_image, no_image, dumped, not_dumped, listed, not_listed, shown, no_file, not_shown}
-use Rattle.mq_commands.specs.Lines.{file_line}
-use Rattle.mq_ending.specs.Ending.{EndsWith, IsLoaded, IsNotLoaded, SaysOf, load_failed, load_memory, load_too_long, loaded, memory_line, not_loaded, wanting}
+use Rattle.mq_blocks.specs.declared.geometry.Geometry.{Geometry}
+use Rattle.mq_blocks.specs.declared.geometry.GeometryRefusal.{GeometryRefusal}
+use Rattle.mq_commands.specs.Commands.{Formats, RefusesNumbers, SavesAs, SaysOfImage, ShowsFile, formatted, is_image, no_file, no_geometry, no_image, not_saved, numbers_of, saved, shown, unsaved, wants_memory}
+use Rattle.mq_commands.specs.Lines.{file_line, geometry_line, path_line}
+use Rattle.mq_commands.specs.declared.formatting.Numbers.{Numbers}
+use Rattle.mq_ending.specs.Ending.{EndsWith, IsLoaded, IsNotLoaded, IsSaved, SaysOf, load_failed, load_memory, load_too_long, loaded, memory_line, not_loaded, wanting}
 use Rattle.mq_image.specs.Drives.{IsRead}
 use Rattle.mq_image.specs.Faults.{HasFault, Refuses}
-use Rattle.mq_image.specs.File.{DriveImage}
+use Rattle.mq_image.specs.File.{DriveImage, image_bytes}
+use Rattle.mq_images.specs.Empty.{IsEmptyDrive}
+use Rattle.mq_images.specs.Standing.{StandsFor}
+use Rattle.mq_tree.specs.Trees.{IsAlike, ReadsAs}
+use Rattle.mq_tree.specs.Volume.{Path, Volume}
+use Rattle.mq_tree.specs.declared.request.Fault.{Fault}
+use Rattle.mq_tree.proofs.Alike.{alike-reads}
 use Rattle.mq_image.specs.declared.fault.FileFault.{FileFault}
 use Rattle.mq_image.specs.declared.fault.FileFault.TheVariants as file
 use Rattle.mq_outside.specs.Outside.{FilesState, SinkState}
@@ -61,3 +70,36 @@ pub not-loaded-same : (name : List ℕ) (old new : FilesState) (status : ℕ) (t
 not-loaded-same name old new _ _ (load_failed same rose) = same
 not-loaded-same name old new _ _ (load_too_long same over faults takes) = same
 not-loaded-same name old new _ _ (load_memory same faults) = same
+
+-- a tree that is alike is read alike
+pub reads-along : (t v : Volume) (path : Path) (r : Result (List ℕ) Fault) → IsAlike t v → ReadsAs t path r → ReadsAs v path r
+reads-along t v path r alike reads = λ g q at count. sym (alike-reads g q t v alike path at count) ∙ reads g q at count
+
+-- what is said of the bytes of a file, or of why there are none
+pub shows : (path : Path) (x : DriveImage) (t : Volume) (bytes : List ℕ) → (v : Volume) × StandsFor x v × IsAlike t v → ReadsAs t path (Ok bytes) → ShowsFile path x 0 bytes
+shows path x t bytes found reads = shown found.0 bytes found.1 (reads-along t found.0 path (Ok bytes) found.2 reads)
+
+pub shows-none : (path : Path) (x : DriveImage) (t : Volume) (fault : Fault) → (v : Volume) × StandsFor x v × IsAlike t v → ReadsAs t path (Err fault) → ShowsFile path x 3 (path_line fault)
+shows-none path x t fault found reads = no_file found.0 fault found.1 (reads-along t found.0 path (Err fault) found.2 reads)
+
+pub refused-as-two : {A E : Type 0} (stat : A → ℕ) (words : A → List ℕ) (Of : ℕ → List ℕ → Type 0) (line : List ℕ) (r : Result A E) → IfOk r (λ a. (stat a ≡ 3) × (words a ≡ line)) → Of 3 line → IfOk r (λ a. Of (stat a) (words a))
+refused-as-two stat words Of line (Ok a) is of = said-as Of 3 (stat a) line (words a) is.0 is.1 of
+refused-as-two stat words Of line (Err e) is of = tt
+
+-- ---- `format`
+
+-- what is said where an image was to be saved
+pub formats : (n : Numbers) (name file : List ℕ) (g : Geometry) (x : DriveImage) (old new : FilesState) (before after : SinkState) (result : ℕ) → numbers_of g ≡ n → IsEmptyDrive g x → file ≡ image_bytes x
+    → (status : ℕ) × (text : List ℕ) × SavesAs name file old new status text × EndsWith status text result before after
+    → (status : ℕ) × (text : List ℕ) × Formats n name old new status text × EndsWith status text result before after
+formats n name file g x old new before after result are empty is said = (said.0, said.1, saves n name file g x old new said.0 said.1 are empty is said.2, said.3)
+  where
+    saves : (n : Numbers) (name file : List ℕ) (g : Geometry) (x : DriveImage) (old new : FilesState) (status : ℕ) (text : List ℕ) → numbers_of g ≡ n → IsEmptyDrive g x → file ≡ image_bytes x → SavesAs name file old new status text → Formats n name old new status text
+    saves n name file g x old new _ _ are empty is (saved save) = formatted g x are empty (subst (λ (l : List ℕ). IsSaved name l old new) is save)
+    saves n name file g x old new _ _ are empty is (unsaved not) = not_saved not
+
+-- what is said of numbers that are no geometry
+pub no-numbers : (n : Numbers) (name : List ℕ) (files : FilesState) (e : GeometryRefusal) (before after : SinkState) (result : ℕ) → RefusesNumbers n e → EndsWith 3 (geometry_line e) result before after ⊎ EndsWith 6 memory_line result before after
+    → (status : ℕ) × (text : List ℕ) × Formats n name files files status text × EndsWith status text result before after
+no-numbers n name files e before after result refuses (inl ends) = (3, geometry_line e, no_geometry e refuses refl, ends)
+no-numbers n name files e before after result refuses (inr ends) = (6, memory_line, wants_memory refl, ends)

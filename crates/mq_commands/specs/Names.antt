@@ -27,7 +27,6 @@ descriptor_name (descriptor.List index found) = codes "List"
 descriptor_name (descriptor.Rest offset) = codes "Rest"
 descriptor_name descriptor.OutOfMemory = codes "OutOfMemory"
 
-
 abbrev pub corrupt_name : CorruptCause → List ℕ
 corrupt_name corrupt.Layout = codes "Layout"
 corrupt_name corrupt.Pointer = codes "Pointer"

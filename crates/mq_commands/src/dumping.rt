@@ -1,8 +1,17 @@
 // `dump`: the words and the chains of an image.
-ghost use Rattle.std.specs.Prelude.{◌≡◌, ℕ, List, IfOk};
+ghost use Rattle.std.specs.Prelude.{◌≡◌, ℕ, List, IfOk, Some};
+ghost use Rattle.mq_blocks.specs.Descriptor.{Descriptor};
+ghost use Rattle.mq_blocks.specs.Journal.{AreWhole};
 ghost use Rattle.mq_commands.specs.Commands.{Dumps, SaysOfImage};
-ghost use Rattle.mq_ending.specs.Ending.{EndsWith, SaysOf};
-ghost use Rattle.mq_image.specs.Drives.{IsDrive};
+ghost use Rattle.mq_ending.specs.Ending.{EndsWith, IsUnlessWanting, SaysOf};
+ghost use Rattle.mq_image.specs.Drives.{IsDrive, IsRead};
+ghost use Rattle.mq_image.specs.Faults.{HasFault};
+ghost use Rattle.mq_image.specs.File.{DriveImage as Image};
+ghost use Rattle.mq_image.specs.declared.fault.FileFault.{FileFault};
+ghost use Rattle.mq_images.specs.Standing.{RefusesDrive};
+ghost use Rattle.mq_images.specs.Views.{view_of};
+ghost use Rattle.mq_outside.specs.Outside.{Tells};
+ghost use Rattle.mq_recover.specs.declared.refusal.ImageFault.{ImageFault};
 
 use crate::answer::{Answer, refuse_drive, refuse_file, say_answer};
 use mq_blocks::OutOfMemory;
@@ -40,6 +49,20 @@ pub fn dump<F: Files, K: Sink>(alloc: Global, name: &str, files: &mut F, out: &m
         × (text : List ℕ)
         × SaysOf (SaysOfImage Dumps) name.now (F.state files.old) (F.state files.new) status text
         × EndsWith status text result (K.state out.old) (K.state out.new) }
+    ensures done_where { (bytes : List ℕ) (x : Image) (chains : ℕ → List Descriptor)
+        → Tells (F.state files.old).contents name.now (Some bytes)
+        → IsRead x bytes
+        → AreWhole x.geometry (view_of x) chains
+        → IsUnlessWanting 0 result }
+    ensures refused_where { (bytes : List ℕ) (e : FileFault)
+        → Tells (F.state files.old).contents name.now (Some bytes)
+        → HasFault bytes (Some e)
+        → IsUnlessWanting 3 result }
+    ensures unreadable_where { (bytes : List ℕ) (x : Image) (e : ImageFault)
+        → Tells (F.state files.old).contents name.now (Some bytes)
+        → IsRead x bytes
+        → RefusesDrive x e
+        → IsUnlessWanting 3 result }
     ensures contents { (F.state files.new).contents ≡ (F.state files.old).contents }
 {
     match load_or_say(alloc, name, files, out) {

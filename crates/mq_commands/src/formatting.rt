@@ -1,8 +1,9 @@
 // `format`: a new image that holds the empty file system.
 ghost use Rattle.std.specs.Prelude.{◌≡◌, ◌⊎◌, ℕ, List, IfErr, IfOk};
+ghost use Rattle.mq_blocks.specs.declared.geometry.Geometry.{Geometry as Shape};
 ghost use Rattle.mq_commands.specs.Commands.{Formats, RefusesNumbers, SavesAs, numbers_of};
 ghost use Rattle.mq_commands.specs.Lines.{geometry_line};
-ghost use Rattle.mq_ending.specs.Ending.{EndsWith, memory_line};
+ghost use Rattle.mq_ending.specs.Ending.{EndsWith, IsUnlessWanting, memory_line};
 ghost use Rattle.mq_image.specs.File.{DriveImage, image_bytes};
 ghost use Rattle.mq_images.specs.Empty.{IsEmptyDrive};
 
@@ -76,6 +77,8 @@ pub fn format<F: Files, K: Sink>(
         × (text : List ℕ)
         × Formats numbers name.now (F.state files.old) (F.state files.new) status text
         × EndsWith status text result (K.state out.old) (K.state out.new) }
+    ensures done_where { (g : Shape) → numbers_of g ≡ numbers → IsUnlessWanting 0 result }
+    ensures refused_where { (e : GeometryRefusal) → RefusesNumbers numbers e → IsUnlessWanting 3 result }
 {
     let geometry = match shape(numbers) {
         Ok(geometry) => geometry,

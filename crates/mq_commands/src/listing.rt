@@ -1,8 +1,17 @@
 // `ls` and `cat`: the tree that stands on an image, and the bytes of its files.
-ghost use Rattle.std.specs.Prelude.{◌≡◌, ℕ, List, IfOk};
+ghost use Rattle.std.specs.Prelude.{◌≡◌, ℕ, List, IfOk, Err, Ok, Some};
 ghost use Rattle.mq_commands.specs.Commands.{Lists, SaysOfImage, ShowsFile};
-ghost use Rattle.mq_ending.specs.Ending.{EndsWith, SaysOf};
-ghost use Rattle.mq_image.specs.Drives.{IsDrive};
+ghost use Rattle.mq_ending.specs.Ending.{EndsWith, IsUnlessWanting, SaysOf};
+ghost use Rattle.mq_image.specs.Drives.{IsDrive, IsRead};
+ghost use Rattle.mq_image.specs.Faults.{HasFault};
+ghost use Rattle.mq_image.specs.File.{DriveImage as Image};
+ghost use Rattle.mq_image.specs.declared.fault.FileFault.{FileFault};
+ghost use Rattle.mq_images.specs.Standing.{RefusesDrive, StandsFor};
+ghost use Rattle.mq_outside.specs.Outside.{Tells};
+ghost use Rattle.mq_recover.specs.declared.refusal.ImageFault.{ImageFault};
+ghost use Rattle.mq_tree.specs.Trees.{ReadsAs};
+ghost use Rattle.mq_tree.specs.Volume.{Volume};
+ghost use Rattle.mq_tree.specs.declared.request.Fault.{Fault};
 
 use crate::answer::{Answer, refuse_file, refuse_path, refuse_volume, say_answer};
 use mq_blocks::OutOfMemory;
@@ -41,6 +50,20 @@ pub fn ls<F: Files, K: Sink>(alloc: Global, name: &str, files: &mut F, out: &mut
         × (text : List ℕ)
         × SaysOf (SaysOfImage Lists) name.now (F.state files.old) (F.state files.new) status text
         × EndsWith status text result (K.state out.old) (K.state out.new) }
+    ensures done_where { (bytes : List ℕ) (x : Image) (v : Volume)
+        → Tells (F.state files.old).contents name.now (Some bytes)
+        → IsRead x bytes
+        → StandsFor x v
+        → IsUnlessWanting 0 result }
+    ensures refused_where { (bytes : List ℕ) (e : FileFault)
+        → Tells (F.state files.old).contents name.now (Some bytes)
+        → HasFault bytes (Some e)
+        → IsUnlessWanting 3 result }
+    ensures unreadable_where { (bytes : List ℕ) (x : Image) (e : ImageFault)
+        → Tells (F.state files.old).contents name.now (Some bytes)
+        → IsRead x bytes
+        → RefusesDrive x e
+        → IsUnlessWanting 3 result }
     ensures contents { (F.state files.new).contents ≡ (F.state files.old).contents }
 {
     match load_or_say(alloc, name, files, out) {
@@ -91,6 +114,27 @@ pub fn cat<F: Files, K: Sink>(
         × (text : List ℕ)
         × SaysOf (SaysOfImage (ShowsFile path.now)) name.now (F.state files.old) (F.state files.new) status text
         × EndsWith status text result (K.state out.old) (K.state out.new) }
+    ensures done_where { (bytes : List ℕ) (x : Image) (v : Volume) (content : List ℕ)
+        → Tells (F.state files.old).contents name.now (Some bytes)
+        → IsRead x bytes
+        → StandsFor x v
+        → ReadsAs v path.now (Ok content)
+        → IsUnlessWanting 0 result }
+    ensures no_file_where { (bytes : List ℕ) (x : Image) (v : Volume) (fault : Fault)
+        → Tells (F.state files.old).contents name.now (Some bytes)
+        → IsRead x bytes
+        → StandsFor x v
+        → ReadsAs v path.now (Err fault)
+        → IsUnlessWanting 3 result }
+    ensures refused_where { (bytes : List ℕ) (e : FileFault)
+        → Tells (F.state files.old).contents name.now (Some bytes)
+        → HasFault bytes (Some e)
+        → IsUnlessWanting 3 result }
+    ensures unreadable_where { (bytes : List ℕ) (x : Image) (e : ImageFault)
+        → Tells (F.state files.old).contents name.now (Some bytes)
+        → IsRead x bytes
+        → RefusesDrive x e
+        → IsUnlessWanting 3 result }
     ensures contents { (F.state files.new).contents ≡ (F.state files.old).contents }
 {
     match load_or_say(alloc, name, files, out) {

@@ -46,7 +46,10 @@ fn path_of(alloc: Global, names: &[&[u8]]) -> Result<Path, AllocError> {
 fn files_of(alloc: Global, held: Option<&[u8]>, fail: &[u64]) -> Result<MemFiles, AllocError> {
     let mut names = Vec::new(alloc);
     if let Some(bytes) = held {
-        names.push((String::from_str(alloc, "d")?, Vec::from_slice(alloc, bytes)?))?;
+        names.push((
+            String::from_str(alloc, "d")?,
+            Vec::from_slice(alloc, bytes)?,
+        ))?;
     }
     Ok(MemFiles::new(alloc, names, Vec::from_slice(alloc, fail)?))
 }

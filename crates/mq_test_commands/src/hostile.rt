@@ -26,15 +26,30 @@ const REFUSED: [(&[Part<'static>], &str); 27] = [
     (&[(131_144, &[9])], "image Extra 4100\n"),
     (&[(131_144, &[11])], "image Short 176248 172148\n"),
     (&[(135_248, &[0])], "image Order 1\n"),
-    (&[(151_660, &[2])], "image Bad queue 0 Descriptor 1 Version\n"),
+    (
+        &[(151_660, &[2])],
+        "image Bad queue 0 Descriptor 1 Version\n",
+    ),
     (&[(151_664, &[1])], "image Bad queue 0 Descriptor 1 Queue\n"),
-    (&[(151_668, &[2])], "image Bad queue 0 Descriptor 1 Number\n"),
+    (
+        &[(151_668, &[2])],
+        "image Bad queue 0 Descriptor 1 Number\n",
+    ),
     (&[(151_676, &[6])], "image Bad queue 0 Descriptor 1 Place\n"),
-    (&[(151_692, &[1])], "image Bad queue 0 Descriptor 1 Previous\n"),
-    (&[(151_700, &[6])], "image Bad queue 0 Descriptor 1 Counts\n"),
+    (
+        &[(151_692, &[1])],
+        "image Bad queue 0 Descriptor 1 Previous\n",
+    ),
+    (
+        &[(151_700, &[6])],
+        "image Bad queue 0 Descriptor 1 Counts\n",
+    ),
     (&[(151_700, &[4])], "image Bad queue 0 Descriptor 1 Rest\n"),
     (&[(151_708, &[3])], "image Bad queue 0 Descriptor 1 List\n"),
-    (&[(65_592, &[3]), (65_600, &[5])], "image Bad queue 1 Words\n"),
+    (
+        &[(65_592, &[3]), (65_600, &[5])],
+        "image Bad queue 1 Words\n",
+    ),
 ];
 
 #[test]
@@ -81,7 +96,10 @@ fn images_without_a_tree_are_refused(rt: HostRuntime) -> Result<(), AllocError> 
     for (edits, line) in CORRUPT {
         let hostile = edited(rt.alloc(), &image, edits)?;
         assert!(rt; ends(rt.alloc(), Call::Ls, &hostile, 3, line)?, "{line}");
-        assert!(rt; ends(rt.alloc(), Call::Cat(&[b"a"]), &hostile, 3, line)?, "{line}");
+        assert!(rt;
+            ends(rt.alloc(), Call::Cat(&[b"a"]), &hostile, 3, line)?,
+            "{line}"
+        );
     }
     Ok(())
 }

@@ -24,14 +24,20 @@ const NO_GEOMETRIES: [(Call<'static>, &str); 5] = [
     (Call::Format(17, 0, 0, 0), "geometry Queues 17\n"),
     (Call::Format(2, 1023, 0, 0), "geometry Area 1023\n"),
     (Call::Format(2, 1024, 4, 256), "geometry Homes 4 256\n"),
-    (Call::Format(2, 16384, 64, 32768), "geometry Homes 64 32768\n"),
+    (
+        Call::Format(2, 16384, 64, 32768),
+        "geometry Homes 64 32768\n",
+    ),
 ];
 
 #[test]
 fn numbers_of_no_geometry(rt: HostRuntime) -> Result<(), AllocError> {
     for (call, line) in NO_GEOMETRIES {
         let found = outcome(rt.alloc(), call, None, NOTHING_FAILS)?;
-        assert!(rt; found.status == 3 && found.output.as_slice() == line.as_bytes(), "{line}");
+        assert!(rt;
+            found.status == 3 && found.output.as_slice() == line.as_bytes(),
+            "{line}"
+        );
         assert!(rt; found.held.is_none());
     }
     Ok(())
@@ -97,11 +103,46 @@ fn what_was_not_acknowledged_need_not_stand(rt: HostRuntime) -> Result<(), Alloc
 
 // Calls with a failing file or output: the status, and what is said.
 const FAULTS: [(Call<'static>, Failing<'static>, &str); 5] = [
-    (Call::Ls, Failing { files: &[1], puts: &[] }, "fault load d\n"),
-    (Call::Dump, Failing { files: &[1], puts: &[] }, "fault load d\n"),
-    (GOOD, Failing { files: &[1], puts: &[] }, "fault save d\n"),
-    (Call::Ls, Failing { files: &[], puts: &[1] }, ""),
-    (Call::Ls, Failing { files: &[1], puts: &[2] }, "fault load "),
+    (
+        Call::Ls,
+        Failing {
+            files: &[1],
+            puts: &[],
+        },
+        "fault load d\n",
+    ),
+    (
+        Call::Dump,
+        Failing {
+            files: &[1],
+            puts: &[],
+        },
+        "fault load d\n",
+    ),
+    (
+        GOOD,
+        Failing {
+            files: &[1],
+            puts: &[],
+        },
+        "fault save d\n",
+    ),
+    (
+        Call::Ls,
+        Failing {
+            files: &[],
+            puts: &[1],
+        },
+        "",
+    ),
+    (
+        Call::Ls,
+        Failing {
+            files: &[1],
+            puts: &[2],
+        },
+        "fault load ",
+    ),
 ];
 
 #[test]
@@ -109,7 +150,10 @@ fn faults_of_files_and_output(rt: HostRuntime) -> Result<(), AllocError> {
     let empty = empty_image(rt.alloc())?;
     for (call, failing, output) in FAULTS {
         let found = outcome(rt.alloc(), call, Some(empty.as_slice()), failing)?;
-        assert!(rt; found.status == 4 && found.output.as_slice() == output.as_bytes(), "{output}");
+        assert!(rt;
+            found.status == 4 && found.output.as_slice() == output.as_bytes(),
+            "{output}"
+        );
         match found.held {
             Some(bytes) => assert!(rt; bytes.as_slice() == empty.as_slice()),
             None => assert!(rt; false),
