@@ -77,7 +77,7 @@ fn status_of(
 }
 
 // What a call comes to.
-pub fn outcome(
+pub fn call_outcome(
     alloc: Global,
     call: Call<'_>,
     held: Option<&[u8]>,
@@ -105,7 +105,7 @@ pub fn ends(
     status: u8,
     output: &str,
 ) -> Result<bool, AllocError> {
-    let found = outcome(alloc, call, Some(image), NOTHING_FAILS)?;
+    let found = call_outcome(alloc, call, Some(image), NOTHING_FAILS)?;
     let same = match &found.held {
         Some(bytes) => bytes.as_slice() == image,
         None => false,

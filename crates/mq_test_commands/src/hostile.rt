@@ -1,10 +1,25 @@
 // Images with wrong bytes.
 use crate::bytes::{Part, edited, empty_image, journal_image};
 use crate::calls::{Call, ends};
-use std::alloc::AllocError;
+use std::alloc::{AllocError, Global};
 
-// Edits of the image with one transaction in its journal, and the line that `dump` says of it.
-const REFUSED: [(&[Part<'static>], &str); 27] = [
+// Edits of the image with one transaction in its journal, each with the line that is said of it.
+type Cases<'a> = &'a [(&'a [Part<'a>], &'a str)];
+
+// Whether `dump` says of each edit what it is to say.
+fn are_said(alloc: Global, cases: Cases<'_>) -> Result<bool, AllocError> {
+    let image = journal_image(alloc)?;
+    for (edits, line) in cases {
+        let hostile = edited(alloc, &image, edits)?;
+        if !ends(alloc, Call::Dump, &hostile, 3, line)? {
+            return Ok(false);
+        }
+    }
+    Ok(true)
+}
+
+// The head and the records of the file.
+const WRONG_HEADS: [(&[Part<'static>], &str); 11] = [
     (&[(0, &[0])], "image Magic\n"),
     (&[(8, &[2])], "image Version 2\n"),
     (&[(12, &[0])], "image Geometry Queues 0\n"),
@@ -15,6 +30,20 @@ const REFUSED: [(&[Part<'static>], &str); 27] = [
         &[(32, &[1, 0, 0, 0, 0, 0, 0, 128])],
         "image Limit 9223372036854775809\n",
     ),
+    (&[(131_144, &[65, 10])], "image Count 2625\n"),
+    (&[(131_144, &[9])], "image Extra 4100\n"),
+    (&[(131_144, &[11])], "image Short 176248 172148\n"),
+    (&[(135_248, &[0])], "image Order 1\n"),
+];
+
+#[test]
+fn wrong_heads_are_refused(rt: HostRuntime) -> Result<(), AllocError> {
+    assert!(rt; are_said(rt.alloc(), &WRONG_HEADS)?);
+    Ok(())
+}
+
+// The words and the entries of the queues.
+const WRONG_RINGS: [(&[Part<'static>], &str); 8] = [
     (&[(48, &[8])], "image Bad queue 0 Words\n"),
     (&[(48, &[0]), (490, &[1])], "image Bad queue 0 Commit\n"),
     (&[(440, &[2])], "image Bad queue 0 Entry Opcode\n"),
@@ -22,10 +51,20 @@ const REFUSED: [(&[Part<'static>], &str); 27] = [
     (&[(480, &[0, 8])], "image Bad queue 0 AreaPlace\n"),
     (&[(480, &[4])], "image Bad queue 0 Descriptor 1 Magic\n"),
     (&[(490, &[1])], "image Bad queue 0 Commit\n"),
-    (&[(131_144, &[65, 10])], "image Count 2625\n"),
-    (&[(131_144, &[9])], "image Extra 4100\n"),
-    (&[(131_144, &[11])], "image Short 176248 172148\n"),
-    (&[(135_248, &[0])], "image Order 1\n"),
+    (
+        &[(65_592, &[3]), (65_600, &[5])],
+        "image Bad queue 1 Words\n",
+    ),
+];
+
+#[test]
+fn wrong_rings_are_refused(rt: HostRuntime) -> Result<(), AllocError> {
+    assert!(rt; are_said(rt.alloc(), &WRONG_RINGS)?);
+    Ok(())
+}
+
+// The descriptor.
+const WRONG_DESCRIPTORS: [(&[Part<'static>], &str); 8] = [
     (
         &[(151_660, &[2])],
         "image Bad queue 0 Descriptor 1 Version\n",
@@ -46,19 +85,20 @@ const REFUSED: [(&[Part<'static>], &str); 27] = [
     ),
     (&[(151_700, &[4])], "image Bad queue 0 Descriptor 1 Rest\n"),
     (&[(151_708, &[3])], "image Bad queue 0 Descriptor 1 List\n"),
-    (
-        &[(65_592, &[3]), (65_600, &[5])],
-        "image Bad queue 1 Words\n",
-    ),
 ];
 
 #[test]
-fn hostile_images_are_refused(rt: HostRuntime) -> Result<(), AllocError> {
-    let image = journal_image(rt.alloc())?;
-    for (edits, line) in REFUSED {
-        let hostile = edited(rt.alloc(), &image, edits)?;
-        assert!(rt; ends(rt.alloc(), Call::Dump, &hostile, 3, line)?, "{line}");
-        assert!(rt; ends(rt.alloc(), Call::Ls, &hostile, 3, line)?, "{line}");
+fn wrong_descriptors_are_refused(rt: HostRuntime) -> Result<(), AllocError> {
+    assert!(rt; are_said(rt.alloc(), &WRONG_DESCRIPTORS)?);
+    Ok(())
+}
+
+// `ls` says the same.
+#[test]
+fn a_wrong_head_is_refused_by_all(rt: HostRuntime) -> Result<(), AllocError> {
+    let hostile = edited(rt.alloc(), &journal_image(rt.alloc())?, &[(8, &[2])])?;
+    for call in [Call::Ls, Call::Cat(&[])] {
+        assert!(rt; ends(rt.alloc(), call, &hostile, 3, "image Version 2\n")?);
     }
     Ok(())
 }

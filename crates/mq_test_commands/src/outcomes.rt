@@ -1,6 +1,6 @@
 // What the commands say of good images, and where files and output fail.
 use crate::bytes::{edited, empty_image, journal_image};
-use crate::calls::{Call, Failing, NOTHING_FAILS, ends, outcome};
+use crate::calls::{Call, Failing, NOTHING_FAILS, call_outcome, ends};
 use std::alloc::AllocError;
 
 const GOOD: Call<'static> = Call::Format(2, 1024, 64, 256);
@@ -8,8 +8,8 @@ const GOOD: Call<'static> = Call::Format(2, 1024, 64, 256);
 #[test]
 fn a_new_image_has_three_blocks(rt: HostRuntime) -> Result<(), AllocError> {
     let empty = empty_image(rt.alloc())?;
-    let found = outcome(rt.alloc(), GOOD, None, NOTHING_FAILS)?;
-    assert!(rt; found.status == 0 && found.output.as_slice() == b"formatted\n");
+    let found = call_outcome(rt.alloc(), GOOD, None, NOTHING_FAILS)?;
+    assert!(rt; found.status == 0 && found.output.as_slice() == b"formatted\n".as_slice());
     assert!(rt; empty.len() == 143_448);
     match found.held {
         Some(bytes) => assert!(rt; bytes.as_slice() == empty.as_slice()),
@@ -33,7 +33,7 @@ const NO_GEOMETRIES: [(Call<'static>, &str); 5] = [
 #[test]
 fn numbers_of_no_geometry(rt: HostRuntime) -> Result<(), AllocError> {
     for (call, line) in NO_GEOMETRIES {
-        let found = outcome(rt.alloc(), call, None, NOTHING_FAILS)?;
+        let found = call_outcome(rt.alloc(), call, None, NOTHING_FAILS)?;
         assert!(rt;
             found.status == 3 && found.output.as_slice() == line.as_bytes(),
             "{line}"
@@ -149,7 +149,7 @@ const FAULTS: [(Call<'static>, Failing<'static>, &str); 5] = [
 fn faults_of_files_and_output(rt: HostRuntime) -> Result<(), AllocError> {
     let empty = empty_image(rt.alloc())?;
     for (call, failing, output) in FAULTS {
-        let found = outcome(rt.alloc(), call, Some(empty.as_slice()), failing)?;
+        let found = call_outcome(rt.alloc(), call, Some(empty.as_slice()), failing)?;
         assert!(rt;
             found.status == 4 && found.output.as_slice() == output.as_bytes(),
             "{output}"
@@ -164,7 +164,7 @@ fn faults_of_files_and_output(rt: HostRuntime) -> Result<(), AllocError> {
 
 #[test]
 fn an_absent_name_is_a_fault(rt: HostRuntime) -> Result<(), AllocError> {
-    let found = outcome(rt.alloc(), Call::Ls, None, NOTHING_FAILS)?;
-    assert!(rt; found.status == 4 && found.output.as_slice() == b"fault load d\n");
+    let found = call_outcome(rt.alloc(), Call::Ls, None, NOTHING_FAILS)?;
+    assert!(rt; found.status == 4 && found.output.as_slice() == b"fault load d\n".as_slice());
     Ok(())
 }
