@@ -21,6 +21,21 @@ pub struct Outcome {
     pub held: Option<Vec<u8>>,
 }
 
+impl Outcome {
+    // Whether `d` holds these bytes.
+    pub fn holds(&self, bytes: &[u8]) -> bool {
+        match &self.held {
+            Some(held) => held.as_slice() == bytes,
+            None => false,
+        }
+    }
+
+    // Whether the call ended so.
+    pub fn is(&self, status: u8, output: &str) -> bool {
+        self.status == status && self.output.as_slice() == output.as_bytes()
+    }
+}
+
 // Which calls of the files and which puts fail, counted from 1.
 #[derive(Clone, Copy)]
 pub struct Failing<'a> {
@@ -106,9 +121,5 @@ pub fn ends(
     output: &str,
 ) -> Result<bool, AllocError> {
     let found = call_outcome(alloc, call, Some(image), NOTHING_FAILS)?;
-    let same = match &found.held {
-        Some(bytes) => bytes.as_slice() == image,
-        None => false,
-    };
-    Ok(same && found.status == status && found.output.as_slice() == output.as_bytes())
+    Ok(found.holds(image) && found.is(status, output))
 }

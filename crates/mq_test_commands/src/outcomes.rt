@@ -9,12 +9,8 @@ const GOOD: Call<'static> = Call::Format(2, 1024, 64, 256);
 fn a_new_image_has_three_blocks(rt: HostRuntime) -> Result<(), AllocError> {
     let empty = empty_image(rt.alloc())?;
     let found = call_outcome(rt.alloc(), GOOD, None, NOTHING_FAILS)?;
-    assert!(rt; found.status == 0 && found.output.as_slice() == b"formatted\n".as_slice());
-    assert!(rt; empty.len() == 143_448);
-    match found.held {
-        Some(bytes) => assert!(rt; bytes.as_slice() == empty.as_slice()),
-        None => assert!(rt; false),
-    }
+    assert!(rt; found.is(0, "formatted\n"));
+    assert!(rt; empty.len() == 143_448 && found.holds(&empty));
     Ok(())
 }
 
@@ -34,11 +30,7 @@ const NO_GEOMETRIES: [(Call<'static>, &str); 5] = [
 fn numbers_of_no_geometry(rt: HostRuntime) -> Result<(), AllocError> {
     for (call, line) in NO_GEOMETRIES {
         let found = call_outcome(rt.alloc(), call, None, NOTHING_FAILS)?;
-        assert!(rt;
-            found.status == 3 && found.output.as_slice() == line.as_bytes(),
-            "{line}"
-        );
-        assert!(rt; found.held.is_none());
+        assert!(rt; found.is(3, line) && found.held.is_none(), "{line}");
     }
     Ok(())
 }
@@ -150,14 +142,7 @@ fn faults_of_files_and_output(rt: HostRuntime) -> Result<(), AllocError> {
     let empty = empty_image(rt.alloc())?;
     for (call, failing, output) in FAULTS {
         let found = call_outcome(rt.alloc(), call, Some(empty.as_slice()), failing)?;
-        assert!(rt;
-            found.status == 4 && found.output.as_slice() == output.as_bytes(),
-            "{output}"
-        );
-        match found.held {
-            Some(bytes) => assert!(rt; bytes.as_slice() == empty.as_slice()),
-            None => assert!(rt; false),
-        }
+        assert!(rt; found.is(4, output) && found.holds(&empty), "{output}");
     }
     Ok(())
 }
@@ -165,6 +150,6 @@ fn faults_of_files_and_output(rt: HostRuntime) -> Result<(), AllocError> {
 #[test]
 fn an_absent_name_is_a_fault(rt: HostRuntime) -> Result<(), AllocError> {
     let found = call_outcome(rt.alloc(), Call::Ls, None, NOTHING_FAILS)?;
-    assert!(rt; found.status == 4 && found.output.as_slice() == b"fault load d\n".as_slice());
+    assert!(rt; found.is(4, "fault load d\n"));
     Ok(())
 }
