@@ -1,0 +1,13 @@
+//! The commands on images: each loads an image or makes one, and says one text with a status.
+#![tactic(auto)]
+
+mod answer;
+mod dumping;
+mod formatting;
+mod lines;
+mod listing;
+mod names;
+
+pub use dumping::dump;
+pub use formatting::{Numbers, format};
+pub use listing::{cat, ls};

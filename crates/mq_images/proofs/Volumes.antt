@@ -1,0 +1,137 @@
+-- The volume that stands on an image.
+use Rattle.std.proofs.Common.{◌≡◌, ◌≢◌, ◌<◌, ◌≤◌, ◌⊎◌, inl, inr, ℕ, ◌+◌, ◌-◌, ◌*◌, ◌/◌, ◌%◌, Bool, List, length, Option, Some, None, refl, sym, ◌∙◌, ap, subst, arith}
+use Rattle.std.specs.Prelude.{if◌then◌else◌, nat_eq}
+use Rattle.std.proofs.lemmas.Bool.{cases_lt, lt-ltb, le-ltb}
+use Rattle.std.proofs.lemmas.Nat.{div_below}
+use Rattle.mq_blocks.specs.Blocks.{block_at}
+use Rattle.mq_blocks.specs.Descriptor.{Descriptor}
+use Rattle.mq_blocks.specs.Geometry.{homes_of, meta_of, zone_size}
+use Rattle.mq_blocks.specs.Machine.{Map}
+use Rattle.mq_blocks.specs.declared.geometry.Geometry.{Geometry}
+use Rattle.mq_blocks.specs.Journal.{stands}
+use Rattle.mq_image.specs.File.{DriveImage}
+use Rattle.mq_images.specs.Standing.{AreStanding, IsStandingOf, Reads, RefusesDrive, RefusesVolume, StandsFor, not_mounted, not_readable, wanting}
+use Rattle.mq_images.specs.Views.{view_of}
+use Rattle.mq_images.specs.declared.refusal.StandingRefusal.{StandingRefusal}
+use Rattle.mq_images.specs.declared.refusal.StandingRefusal.TheVariants as standing
+use Rattle.mq_images.proofs.Standings.{read-refused}
+use Rattle.mq_layout.specs.Bits.{bit_of}
+use Rattle.mq_layout.specs.Places.{zone_bitmap}
+use Rattle.mq_recover.specs.declared.refusal.ImageFault.{ImageFault}
+use Rattle.mq_recover.specs.declared.refusal.ImageFault.TheVariants as image
+use Rattle.mq_recover.specs.declared.standing.Standing.{Standing}
+use Rattle.mq_recover.proofs.Images.{read-same}
+use Rattle.mq_tree.specs.Corrupt.{Refuses}
+use Rattle.mq_tree.specs.Laid.{IsLaid, IsTreeOf, is_marked, map_of}
+use Rattle.mq_tree.specs.Trees.{IsAlike}
+use Rattle.mq_tree.specs.Volume.{Things, Volume, layout, tree}
+use Rattle.mq_tree.proofs.Unique.{volume-once}
+use Rattle.mq_tree.specs.declared.corrupt.CorruptCause.{CorruptCause}
+use Rattle.mq_tree.specs.declared.corrupt.MountRefusal.{MountRefusal}
+use Rattle.mq_tree.specs.declared.corrupt.MountRefusal.TheVariants as mount
+
+-- these blocks are the same as those
+abbrev AreSame : Geometry → List (Option (List ℕ)) → List (Option (List ℕ)) → Type 0
+AreSame g s t = (b : ℕ) → b < homes_of g → block_at s b ≡ block_at t b
+
+marked-same : (g : Geometry) (s t : List (Option (List ℕ))) (b : ℕ) → AreSame g s t → meta_of g ≤ b → b < homes_of g → is_marked g s b ≡ is_marked g t b
+marked-same g s t b same high inside =
+    let zone = g.zone_low in
+    let meta = g.meta_low in
+    let low : (b - meta_of g) / zone_size g < g.queues = div_below (b - meta_of g) (zone_size g) g.queues (omega arith) (omega arith) in
+    ap (λ (page : List ℕ). nat_eq (bit_of page ((b - meta_of g) % zone_size g)) 1) (same (zone_bitmap ((b - meta_of g) / zone_size g)) (omega (arith, low, meta)))
+
+abbrev where_marked : Bool → List ℕ → Option (List ℕ)
+where_marked m page = if m then Some page else None
+
+same-map : (g : Geometry) (s t : List (Option (List ℕ))) → AreSame g s t → (b : ℕ) → map_of g s b ≡ map_of g t b
+unfolding map_of
+same-map g s t same b = elim (cases_lt b (meta_of g)) [
+  | inl low ↦ rw (lt-ltb b (meta_of g) low) (ap (λ (page : List ℕ). Some page) (same b (omega arith)))
+  | inr high ↦ elim (cases_lt b (homes_of g)) [
+    | inl inside ↦ rw (le-ltb b (meta_of g) high, lt-ltb b (homes_of g) inside)
+        (ap (λ (m : Bool). where_marked m (block_at s b)) (marked-same g s t b same high inside) ∙ ap (where_marked (is_marked g t b)) (same b inside))
+    | inr outside ↦ rw (le-ltb b (meta_of g) high, le-ltb b (homes_of g) outside) refl
+  ]
+]
+
+laid-along : (g : Geometry) (m n : Map) (v : Volume) → ((b : ℕ) → m b ≡ n b) → IsLaid g m v → IsLaid g n v
+laid-along g m n v same laid = record {
+  sound = laid.sound;
+  shown = λ b page is. laid.shown b page (same b ∙ is);
+  vacant = λ b none. laid.vacant b (same b ∙ none);
+}
+
+-- a volume has its tree
+tree-of : (g : Geometry) (m : Map) (v : Volume) → IsLaid g m v → IsTreeOf g m (tree v)
+tree-of g m v laid = record { places = layout v; laid = record { volume = v; laid = laid; things = λ path. refl; places = λ path. refl } }
+
+module _ (g : Geometry) (x : DriveImage) (same : g ≡ x.geometry) (s : Standing) (stood : IsStandingOf x s) where
+  -- what a mount of the blocks that stand finds
+  pub volume-of : (t : Volume) → IsTreeOf g (map_of g s.blocks.items) (tree t) → ((v : Volume) → IsLaid g (map_of g s.blocks.items) v → IsAlike t v) → (v : Volume) × StandsFor x v × IsAlike t v
+  volume-of t found alike =
+      let laid = found.places in
+      let l = found.laid in (
+        l.volume,
+        record { ds = stood.ds; top = stood.top; stored = s.blocks.items; read = stood.read; standing = stood.blocks; laid = subst (λ (h : Geometry). IsLaid h (map_of h s.blocks.items) l.volume) same l.laid },
+        alike l.volume l.laid,
+      )
+
+  -- a volume that stands is on these blocks
+  pub volume-laid : (v : Volume) → StandsFor x v → IsLaid g (map_of g s.blocks.items) v
+  volume-laid v for =
+      let once : for.ds ≡ stood.ds = (read-same x.geometry (view_of x) for.ds stood.ds for.top stood.top for.read stood.read).0 in
+      let blocks = stood.blocks in
+      let others = for.standing in
+      subst (λ (h : Geometry). IsLaid h (map_of h s.blocks.items) v) (sym same)
+      (laid-along x.geometry (map_of x.geometry for.stored) (map_of x.geometry s.blocks.items) v
+      (same-map x.geometry for.stored s.blocks.items (λ b low. others.each b low ∙ ap (λ (ds : List Descriptor). stands x.geometry (view_of x) ds b) once ∙ sym (blocks.each b low)))
+      for.laid)
+
+  -- so a mount does not refuse them
+  pub mounts : (v : Volume) (e : MountRefusal) → StandsFor x v → (e ≢ mount.OutOfMemory → (t : Things) → IsTreeOf g (map_of g s.blocks.items) t → ⊥) → e ≢ mount.OutOfMemory → ⊥
+  mounts v e for none other = none other (tree v) (tree-of g (map_of g s.blocks.items) v (volume-laid v for))
+
+  pub mount-refuses : (e : MountRefusal) (r : StandingRefusal) → Refuses g s.blocks.items e → (e ≢ mount.OutOfMemory → (t : Things) → IsTreeOf g (map_of g s.blocks.items) t → ⊥) → ((cause : CorruptCause) (b : ℕ) → e ≡ mount.Corrupt cause b → r ≡ standing.Corrupt cause b) → (e ≡ mount.OutOfMemory → r ≡ standing.OutOfMemory) → RefusesVolume x r
+  mount-refuses (mount.Corrupt cause b) r refuses none is memory =
+      subst (RefusesVolume x) (sym (is cause b refl)) (not_mounted stood.ds stood.top s.blocks.items stood.read stood.blocks
+      (λ v laid. none (λ e. cc) (tree v) (tree-of g (map_of g s.blocks.items) v (subst (λ (h : Geometry). IsLaid h (map_of h s.blocks.items) v) (sym same) laid)))
+      (subst (λ (h : Geometry). Refuses h s.blocks.items (mount.Corrupt cause b)) same refuses))
+  mount-refuses mount.OutOfMemory r refuses none is memory = subst (RefusesVolume x) (sym (memory refl)) wanting
+
+  pub mount-wants : (v : Volume) (e : MountRefusal) (r : StandingRefusal) → StandsFor x v → (e ≢ mount.OutOfMemory → (t : Things) → IsTreeOf g (map_of g s.blocks.items) t → ⊥) → (e ≡ mount.OutOfMemory → r ≡ standing.OutOfMemory) → r ≡ standing.OutOfMemory
+  mount-wants v (mount.Corrupt cause b) r for none memory = absurd (mounts v (mount.Corrupt cause b) for none (λ e. cc))
+  mount-wants v mount.OutOfMemory r for none memory = memory refl
+
+-- what a reading of the image refuses
+pub image-refuses : (x : DriveImage) (e : ImageFault) (r : StandingRefusal) → (e ≡ image.OutOfMemory) ⊎ RefusesDrive x e → ((e ≡ image.OutOfMemory) × (r ≡ standing.OutOfMemory)) ⊎ ((e ≢ image.OutOfMemory) × (r ≡ standing.Image e)) → RefusesVolume x r
+image-refuses x e r refused (inl memory) = subst (RefusesVolume x) (sym memory.1) wanting
+image-refuses x e r (inl memory) (inr other) = absurd (other.0 memory)
+image-refuses x e r (inr refuses) (inr other) = subst (RefusesVolume x) (sym other.1) (not_readable e refuses)
+
+pub image-wants : (e : ImageFault) (r : StandingRefusal) → e ≡ image.OutOfMemory → ((e ≡ image.OutOfMemory) × (r ≡ standing.OutOfMemory)) ⊎ ((e ≢ image.OutOfMemory) × (r ≡ standing.Image e)) → r ≡ standing.OutOfMemory
+image-wants e r is (inl memory) = memory.1
+image-wants e r is (inr other) = absurd (other.0 is)
+
+-- where a volume stands, nothing is refused
+pub stands-refused : (x : DriveImage) (v : Volume) (r : StandingRefusal) → StandsFor x v → RefusesVolume x r → r ≢ standing.OutOfMemory → ⊥
+stands-refused x v _ for (not_readable e refuses) other = read-refused x for.ds for.top e for.read refuses
+stands-refused x v _ for (not_mounted ds top stored read blocks none corrupt) other =
+    let once : for.ds ≡ ds = (read-same x.geometry (view_of x) for.ds ds for.top top for.read read).0 in
+    let others = for.standing in
+    none v (laid-along x.geometry (map_of x.geometry for.stored) (map_of x.geometry stored) v
+    (same-map x.geometry for.stored stored (λ b low. others.each b low ∙ ap (λ (es : List Descriptor). stands x.geometry (view_of x) es b) once ∙ sym (blocks.each b low)))
+    for.laid)
+stands-refused x v _ for wanting other = other refl
+
+-- an image stands for one volume
+pub stands-once : (x : DriveImage) (v w : Volume) → StandsFor x v → StandsFor x w → v ≡ w
+stands-once x v w for other =
+    let once : for.ds ≡ other.ds = (read-same x.geometry (view_of x) for.ds other.ds for.top other.top for.read other.read).0 in
+    let these = for.standing in
+    let those = other.standing in
+    volume-once x.geometry (map_of x.geometry other.stored) v w
+    (laid-along x.geometry (map_of x.geometry for.stored) (map_of x.geometry other.stored) v
+    (same-map x.geometry for.stored other.stored (λ b low. these.each b low ∙ ap (λ (ds : List Descriptor). stands x.geometry (view_of x) ds b) once ∙ sym (those.each b low)))
+    for.laid)
+    other.laid

@@ -1,0 +1,38 @@
+use Rattle.std.proofs.Common.{◌≡◌, ◌⊎◌, ap}
+use Rattle.mq_drive.specs.Emu.{emu_state}
+use Rattle.mq_drive.specs.Seats.{name_of}
+use Rattle.mq_image.specs.File.{DriveImage}
+use Rattle.mq_images.specs.Standing.{IsStandingOf, RefusesDrive}
+use Rattle.mq_recover.specs.Drives.{drive_of}
+use Rattle.mq_recover.specs.Refusals.{RefusesImage}
+use Rattle.mq_recover.specs.Standing.{StandsIn}
+use Rattle.mq_recover.specs.declared.refusal.ImageFault.TheVariants.{OutOfMemory}
+use Rattle.mq_images.proofs.Results.{on-err, on-ok}
+use Rattle.mq_images.proofs.Standings.{readable-under, refuses-under, standing-under}
+use Rattle.mq_images.proofs.Starting.{still-under}
+use Rattle.mq_images.proofs.ports.read_standing.Goals as goal
+
+pub invariant_of-ports : goal.invariant_of-ports
+invariant_of-ports c = search c.in_ok-ports.ports.root.device
+
+pub stands-requires : goal.stands-requires
+stands-requires c = still-under (name_of c.in_ok-fuse.fuse) c.image.inside.geometry c.args.image (drive_of emu_state c.in_ok-ports.ports) c.requires (ap (λ (x : DriveImage). x.geometry) c.image.view_is) c.in_ok-ports.ensures.states
+
+pub returns-clause-ok : goal.returns-clause-ok
+returns-clause-ok c =
+    let g = c.image.inside.geometry in
+    let d = drive_of emu_state c.in_ok-ports.ports in
+    let same : g ≡ c.args.image.geometry = ap (λ (x : DriveImage). x.geometry) c.image.view_is in
+    on-ok c.stands.result (StandsIn g d) (IsStandingOf c.args.image) c.stands.ensures.ok (λ s stood. standing-under (name_of c.in_ok-fuse.fuse) g c.args.image d s same c.in_ok-ports.ensures.states stood)
+
+pub returns-clause-refused : goal.returns-clause-refused
+returns-clause-refused c =
+    let g = c.image.inside.geometry in
+    let d = drive_of emu_state c.in_ok-ports.ports in
+    let same : g ≡ c.args.image.geometry = ap (λ (x : DriveImage). x.geometry) c.image.view_is in
+    on-err c.stands.result (λ e. (e ≡ OutOfMemory) ⊎ RefusesImage g d e) (λ e. (e ≡ OutOfMemory) ⊎ RefusesDrive c.args.image e) c.stands.ensures.refused (λ e refused. refuses-under (name_of c.in_ok-fuse.fuse) g c.args.image d e same c.in_ok-ports.ensures.states refused)
+
+pub returns-clause-complete : goal.returns-clause-complete
+returns-clause-complete c = λ ds top read.
+    let same : c.image.inside.geometry ≡ c.args.image.geometry = ap (λ (x : DriveImage). x.geometry) c.image.view_is in
+    c.stands.ensures.complete (readable-under (name_of c.in_ok-fuse.fuse) c.image.inside.geometry c.args.image (drive_of emu_state c.in_ok-ports.ports) ds top same c.in_ok-ports.ensures.states read)

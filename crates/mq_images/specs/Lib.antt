@@ -1,0 +1,5 @@
+pub mod Dump
+pub mod Empty
+pub mod Standing
+pub mod Starts
+pub mod Views

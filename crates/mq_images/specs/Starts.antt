@@ -1,0 +1,30 @@
+-- The ports of a drive that starts from an image.
+use Rattle.std.specs.Prelude.{◌≡◌, ℕ, ◌+◌, List, [], All, length}
+use Rattle.mq_blocks.specs.Drive.{FuseName}
+use Rattle.mq_drive.specs.Emu.{drawn_by, emu_faults, emu_state}
+use Rattle.mq_drive.specs.Seats.{fuse_of, tickets_of}
+use Rattle.mq_drive.specs.declared.emu.EmuPort.{EmuPort}
+use Rattle.mq_drive.specs.declared.fuse.FuseSeat.{FuseSeat}
+use Rattle.mq_drive.specs.declared.port.Ports.{Ports}
+use Rattle.mq_image.specs.File.{DriveImage}
+use Rattle.mq_images.specs.Views.{drive_from}
+use Rattle.mq_recover.specs.Drives.{drive_of}
+
+-- the seat has drawn no ticket of this fuse
+abbrev pub IsFreshSeat : FuseName → FuseSeat → Type 0
+IsFreshSeat fuse s = (fuse_of s ≡ fuse) × (tickets_of s ≡ [])
+
+-- so many of them
+pub record AreFreshSeats (fuse : FuseName) (count : ℕ) (seats : List FuseSeat) : Type 0 where
+  pub count_is : length seats ≡ count
+  pub each : All (IsFreshSeat fuse) seats
+
+-- the port has no fault, and its seat has drawn no ticket
+abbrev pub IsFreshPort : EmuPort → Type 0
+IsFreshPort p = (emu_faults p ≡ []) × (drawn_by p ≡ [])
+
+-- these are the ports of the drive that starts from the image
+pub record AreStarted (fuse : FuseName) (x : DriveImage) (p : Ports EmuPort) : Type 0 where
+  pub states : drive_of emu_state p ≡ drive_from fuse x
+  pub queues : All IsFreshPort p.queues.items
+  pub root : IsFreshPort p.root

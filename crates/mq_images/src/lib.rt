@@ -1,0 +1,14 @@
+//! What is done on the image of a drive in memory: the empty file system, the volume that stands, the chains, and
+//! a recovery.
+#![tactic(auto)]
+
+mod dump;
+mod format;
+mod ports;
+mod refusal;
+mod volume;
+
+pub use dump::dump_image;
+pub use format::format_drive;
+pub use refusal::StandingRefusal;
+pub use volume::{list_volume, read_volume};

@@ -1,0 +1,73 @@
+// The drive that starts from an image, and what stands on it.
+ghost use Rattle.std.specs.Prelude.{◌≡◌, ◌⊎◌, ◌+◌, ◌≤◌, ◌^◌, ℕ, List, IfErr, IfOk, IsErrOf, IsOkUnless, All, None};
+ghost use Rattle.std.specs.Option.{ForSome};
+ghost use Rattle.mq_blocks.specs.Descriptor.{Descriptor};
+ghost use Rattle.mq_blocks.specs.Geometry.{queues_of};
+ghost use Rattle.mq_drive.specs.Emu.{drawn_by, emu_faults, emu_state};
+ghost use Rattle.mq_drive.specs.Seats.{name_of, ports_of};
+ghost use Rattle.mq_drive.specs.Start.{IsImageOf, IsRole, start_of};
+ghost use Rattle.mq_image.specs.Drives.{IsDrive};
+ghost use Rattle.mq_images.specs.Standing.{IsStandingOf, Reads, RefusesDrive};
+ghost use Rattle.mq_images.specs.Starts.{AreFreshSeats, AreStarted, IsFreshPort, IsFreshSeat};
+
+use mq_blocks::{Geometry, OutOfMemory, QueueNo};
+use mq_drive::{EmuPort, Fuse, FuseSeat, Ports, Role};
+use mq_image::DriveImage;
+use mq_recover::{ImageFault, Standing, stands};
+use std::alloc::Global;
+
+/// A fuse that lets `limit` events happen, or all, with a seat for each port of a drive.
+pub fn drive_power(
+    alloc: Global,
+    geometry: Geometry,
+    limit: Option<u64>,
+) -> Result<(Fuse, Vec<FuseSeat>), OutOfMemory>
+    requires { ForSome limit (λ l. l ≤ 2 ^ 63) }
+    ensures fuse { IfOk result (λ r. ((name_of r.0).limit ≡ limit) × (ports_of r.0 ≡ queues_of geometry + 1)) }
+    ensures seats { IfOk result (λ r. AreFreshSeats (name_of r.0) (queues_of geometry + 1) r.1.items) }
+{
+    Fuse::new(alloc, limit, geometry.queues() + 1)
+}
+
+/// The ports of a drive that starts from an image.
+pub fn start_ports<'f>(
+    alloc: Global,
+    fuse: &'f Fuse,
+    seats: Vec<FuseSeat>,
+    image: DriveImage,
+    seed: u64,
+) -> Result<Ports<EmuPort<'f>>, OutOfMemory>
+    requires seats { AreFreshSeats (name_of fuse.now) (queues_of image.geometry + 1) seats.items }
+    requires image { IsDrive image }
+    ensures { IfOk result (AreStarted (name_of fuse.now) image) }
+{
+    let DriveImage { geometry, ports } = image;
+    let mut images = ports;
+    let mut seats = seats;
+    let mut queues = Vec::with_capacity(alloc, geometry.queues() as usize)?;
+    for q in 0..geometry.queues() {
+        let image = images.remove(0);
+        let seat = seats.remove(0);
+        let role = Role::Queue(QueueNo(q));
+        queues.push(EmuPort::new(alloc, fuse, seat, geometry, role, image, None, seed)?)?;
+    }
+    let image = images.remove(0);
+    let seat = seats.remove(0);
+    let root = EmuPort::new(alloc, fuse, seat, geometry, Role::Root, image, None, seed)?;
+    Ok(Ports { queues, root })
+}
+
+/// What stands on the home blocks of an image.
+pub fn read_standing(alloc: Global, image: DriveImage) -> Result<Standing, ImageFault>
+    requires { IsDrive image }
+    ensures ok { IfOk result (IsStandingOf image) }
+    ensures refused { IfErr result (λ e. (e ≡ ImageFault.OutOfMemory) ⊎ RefusesDrive image e) }
+    ensures complete { (ds : List Descriptor) (top : ℕ)
+        → Reads image ds top
+        → IsOkUnless result ImageFault.OutOfMemory }
+{
+    let geometry = image.geometry;
+    let (fuse, seats) = drive_power(alloc, geometry, None)?;
+    let ports = start_ports(alloc, &fuse, seats, image, 0)?;
+    stands(alloc, geometry, &ports)
+}
