@@ -1,5 +1,4 @@
-//! What is done on the image of a drive in memory: the empty file system, the volume that stands, the chains, and
-//! a recovery.
+//! What is done on the image of a drive in memory: the empty file system, the volume that stands, and the chains.
 #![tactic(auto)]
 
 mod dump;
