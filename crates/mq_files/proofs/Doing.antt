@@ -1,8 +1,10 @@
 -- A group that was done on a map does there what its entry says, and may be drawn.
-use Rattle.std.proofs.Common.{◌≡◌, ℕ, ◌+◌, ◌<◌, List, length, map, refl, sym, ap, subst, ◌∙◌}
-use Rattle.std.proofs.lemmas.List.Elements.{All-append}
+use Rattle.std.proofs.Common.{◌≡◌, ◌↔◌, ℕ, ◌+◌, ◌<◌, ◌≤◌, true, not, List, [], ◌∷◌, length, map, Option, Some, None, is_some, refl, sym, ap, subst, ◌∙◌}
+use Rattle.std.specs.List.{All}
+use Rattle.std.proofs.lemmas.List.Elements.{All-append, All-cons, All-nil}
+use lib.ListN.{length-map}
 use Rattle.mq_blocks.specs.Descriptor.{AreRising}
-use Rattle.mq_blocks.specs.Geometry.{homes_of, queues_of}
+use Rattle.mq_blocks.specs.Geometry.{homes_of, queues_of, write_limit}
 use Rattle.mq_blocks.specs.Machine.{Map}
 use Rattle.mq_blocks.specs.declared.geometry.Geometry.{Geometry}
 use Rattle.mq_blocks.proofs.Among.{among-contains, contains-among}
@@ -11,15 +13,15 @@ use Rattle.mq_exec.specs.declared.outcome.Done.{Done}
 use Rattle.mq_exec.proofs.Resting.{laid-after}
 use Rattle.mq_files.specs.Entries.{Asks, Changes, Does, IsAllLogged, IsUndrawn, Ran, freed_by, tx_of, volume_after, written_by}
 use Rattle.mq_files.specs.Laws.{blocks_in}
-use Rattle.mq_files.specs.Plans.{DoneOn, HasNumber, IsEntryOf, IsPlanned, map_known}
+use Rattle.mq_files.specs.Plans.{DoneOn, HasNumber, IsEntryOf, IsPlanned, map_known, planned_by}
 use Rattle.mq_files.specs.declared.entry.FileEntry.{FileEntry}
 use Rattle.mq_files.proofs.Changing.{freed_there, frees_apart, frees_rise, whole_writes, writes_rise}
 use Rattle.mq_files.proofs.Written.{all, only, whole_in}
-use Rattle.mq_ledger.specs.History.{change_of}
+use Rattle.mq_ledger.specs.History.{change_of, map_after}
 use Rattle.mq_ledger.specs.KnownJournal.{KnownJournal}
 use Rattle.mq_ledger.specs.declared.tx.Tx.{Tx}
 use Rattle.mq_pages.specs.declared.page.Write.{Write}
-use Rattle.mq_revoke.specs.Guard.{MeetsRest, placed_of}
+use Rattle.mq_revoke.specs.Guard.{IsOfHistory, MeetsRest, placed_of}
 use Rattle.mq_revoke.specs.Placed.{Placed}
 use Rattle.mq_revoke.specs.Placing.{AreInOrder, IsPlacement}
 use Rattle.mq_revoke.specs.declared.placement.Planned.{Planned}
@@ -114,6 +116,18 @@ module _ (g : Geometry) (m : Map) (requests : List Request) (done : Done) (e : F
 
 -- ---- a draw
 
+blocks_planned : (start : Map) (base : ℕ) (txs : List Tx) (ws : List Write) → map (λ p. p.block) (map (planned_by start base txs) ws) ≡ blocks_in ws
+blocks_planned start base txs [] = refl
+blocks_planned start base txs (w ∷ ws) = ap (λ (bs : List ℕ). w.block ∷ bs) (blocks_planned start base txs ws)
+
+free_is : (o : Option (List ℕ)) → (not (is_some o) ≡ true) ↔ (o ≡ None)
+free_is None = ((λ e. refl), λ e. refl)
+free_is (Some block) = ((λ e. absurd cc), λ e. absurd cc)
+
+of_history : (k : KnownJournal) (ws : List Write) → All (IsOfHistory k) (map (planned_by k.start k.base k.history) ws)
+of_history k [] = All-nil (IsOfHistory k)
+of_history k (w ∷ ws) = All-cons (IsOfHistory k) (planned_by k.start k.base k.history w) (map (planned_by k.start k.base k.history) ws) (record { was_free = free_is (map_after k.start k.history w.block); version = refl; last_logged = refl }) (of_history k ws)
+
 module _ (k : KnownJournal) (requests : List Request) (done : Done) (e : FileEntry) (d : DoneOn k.geometry e.session (map_known k) requests done) (is : IsEntryOf e.session requests done e) (p : IsPlanned k e) where
   abbrev gk : Geometry
   gk = k.geometry
@@ -121,21 +135,31 @@ module _ (k : KnownJournal) (requests : List Request) (done : Done) (e : FileEnt
   abbrev us : List Write
   us = written_by e
 
-  blocks : map (λ w. w.block) p.writes ≡ blocks_in done.writes.items
-  blocks = p.blocks ∙ ap blocks_in is.writes_are
+  -- what is planned with
+  abbrev pub ps : List Planned
+  ps = map (planned_by k.start k.base k.history) us
+
+  blocks : map (λ w. w.block) ps ≡ blocks_in done.writes.items
+  blocks = blocks_planned k.start k.base k.history us ∙ ap blocks_in is.writes_are
+
+  pub few : length ps ≤ write_limit k.geometry
+  few = subst (λ (n : ℕ). n ≤ write_limit k.geometry) (sym (length-map us (planned_by k.start k.base k.history))) p.few
+
+  pub told : All (IsOfHistory k) ps
+  told = of_history k us
 
   -- the entry's plan is one of its writes
   pub plans : IsPlanOf (homes_of gk) (blocks_in us) e.placed
-  plans = subst (λ (ws : List Write). IsPlanOf (homes_of gk) (blocks_in ws) e.placed) (sym is.writes_are) (done_planned gk e.session p.read_front p.read_base (map_known k) requests done p.writes e.placed d blocks p.placed)
+  plans = subst (λ (ws : List Write). IsPlanOf (homes_of gk) (blocks_in ws) e.placed) (sym is.writes_are) (done_planned gk e.session e.reads.front e.reads.base (map_known k) requests done ps e.placed d blocks p.placed)
 
-  pub in_order : AreInOrder gk p.writes
+  pub in_order : AreInOrder gk ps
   in_order = subst (λ (bs : List ℕ). AreRising 0 (homes_of gk) bs) (sym blocks) (done_rises gk e.session (map_known k) requests done d)
 
   abbrev pub drawn : Tx
   drawn = numbered (k.base + length k.history + 1) (tx_of e)
 
-  pub placement : IsPlacement gk e.session p.read_front p.read_base p.writes (placed_of drawn)
-  placement = subst (λ (x : Placed). IsPlacement gk e.session p.read_front p.read_base p.writes x) (sym (placed_as (homes_of gk) e plans)) p.placed
+  pub placement : IsPlacement gk e.session e.reads.front e.reads.base ps (placed_of drawn)
+  placement = subst (λ (x : Placed). IsPlacement gk e.session e.reads.front e.reads.base ps x) (sym (placed_as (homes_of gk) e plans)) p.placed
 
   moved_here : Moves gk d.volume (volume_after gk d.volume e) us (freed_by e)
   moved_here = moved gk (map_known k) requests done e d is

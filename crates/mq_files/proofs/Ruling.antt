@@ -28,4 +28,5 @@ module _ {Q R : Type 0} (values : Values Q R FileEntry) where
       record {
         draw = subst (λ (n : ℕ). MayDraw k (numbered n (tx_of e))) long (law k requests done e d is numbers p);
         does = does (geometry_of values file_group K) (map_now values file_group K) requests done e d is changes queue (plans k requests done e d is p);
+        placed = p.placed;
       }

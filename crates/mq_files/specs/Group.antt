@@ -3,6 +3,7 @@ use Rattle.mq_blocks.specs.Machine.{Map}
 use Rattle.mq_blocks.specs.declared.geometry.Geometry.{Geometry}
 use Rattle.mq_files.specs.Entries.{Asks, Does, tx_of, volume_after}
 use Rattle.mq_files.specs.declared.entry.FileEntry.{FileEntry}
+use Rattle.mq_files.specs.Plans.{IsPlaced}
 use Rattle.mq_rules.specs.Groups.{Group}
 use Rattle.mq_tree.specs.Laid.{IsLaid}
 use Rattle.mq_tree.specs.Volume.{Volume}
@@ -19,5 +20,6 @@ file_group = record {
   good = CarriesVolume;
   does = Does;
   asks = Asks;
+  placed = IsPlaced;
   keeps = λ g m e done carries. (volume_after g done.ran.volume e, done.next);
 }

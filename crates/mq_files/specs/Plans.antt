@@ -1,6 +1,5 @@
 -- A group that was done on pages of a map, and the plan of its writes.
-use Rattle.std.specs.Prelude.{◌≡◌, ◌<◌, ◌≤◌, ◌+◌, ℕ, List, length, map}
-use Rattle.std.specs.List.{All}
+use Rattle.std.specs.Prelude.{◌≡◌, ◌<◌, ◌≤◌, ◌+◌, ℕ, Bool, true, false, not, List, length, map, is_some}
 use Rattle.mq_blocks.specs.Geometry.{queues_of, write_limit}
 use Rattle.mq_blocks.specs.Journal.{number_limit}
 use Rattle.mq_blocks.specs.Machine.{Map}
@@ -9,9 +8,12 @@ use Rattle.mq_exec.specs.Outcomes.{IsDone}
 use Rattle.mq_exec.specs.declared.outcome.Done.{Done}
 use Rattle.mq_files.specs.Entries.{freed_by, written_by}
 use Rattle.mq_files.specs.declared.entry.FileEntry.{FileEntry}
-use Rattle.mq_ledger.specs.History.{map_after}
+use Rattle.mq_ledger.specs.History.{last, last_logged, map_after}
 use Rattle.mq_ledger.specs.KnownJournal.{KnownJournal, front}
-use Rattle.mq_revoke.specs.Guard.{IsOfHistory}
+use Rattle.mq_ledger.specs.declared.tx.Tx.{Tx}
+use Rattle.mq_pages.specs.declared.page.Kind.{Kind}
+use Rattle.mq_pages.specs.declared.page.Kind.TheVariants.{Data, Meta}
+use Rattle.mq_pages.specs.declared.page.Write.{Write}
 use Rattle.mq_revoke.specs.Placing.{IsPlacement}
 use Rattle.mq_revoke.specs.declared.placement.Planned.{Planned}
 use Rattle.mq_tree.specs.Laid.{IsLaid}
@@ -36,17 +38,33 @@ pub record IsEntryOf (session : ℕ) (requests : List Request) (done : Done) (e 
 abbrev pub map_known : KnownJournal → Map
 map_known k = map_after k.start k.history
 
--- The writes are placed by a plan over what is known, with a front and a base that may have been read earlier.
+-- ---- placing
+
+abbrev pub is_data : Kind → Bool
+is_data Data = true
+is_data Meta = false
+
+-- what the rule of placing asks of a write, on the map at the base and the transactions from there on
+abbrev pub planned_by : Map → ℕ → List Tx → Write → Planned
+planned_by start base txs w = record {
+  block = w.block;
+  is_data = is_data w.kind;
+  was_free = not (is_some (map_after start txs w.block));
+  version = last base txs w.block;
+  last_logged = last_logged base txs w.block;
+}
+
+-- The blocks of the group are placed by the rule, with the front and the base that the session had read.
+abbrev pub IsPlaced : Geometry → Map → ℕ → List Tx → FileEntry → Type 0
+IsPlaced g start base txs e =
+    IsPlacement g e.session e.reads.front e.reads.base (map (planned_by start base txs) (written_by e)) e.placed
+
+-- They are so by what is known. What was read may have been read earlier.
 pub record IsPlanned (k : KnownJournal) (e : FileEntry) : Type 0 where
-  pub writes : List Planned
-  pub blocks : map (λ w. w.block) writes ≡ map (λ w. w.block) (written_by e)
-  pub few : length writes ≤ write_limit k.geometry
-  pub told : All (IsOfHistory k) writes
-  pub read_front : ℕ
-  pub read_base : ℕ
-  pub front_low : read_front ≤ front k
-  pub base_low : read_base ≤ k.word
-  pub placed : IsPlacement k.geometry e.session read_front read_base writes e.placed
+  pub few : length (written_by e) ≤ write_limit k.geometry
+  pub front_low : e.reads.front ≤ front k
+  pub base_low : e.reads.base ≤ k.word
+  pub placed : IsPlaced k.geometry k.start k.base k.history e
 
 -- The session has a queue of the drive, and there is a number for its group.
 pub record HasNumber (k : KnownJournal) (e : FileEntry) : Type 0 where

@@ -4,13 +4,21 @@ ghost use Rattle.mq_files.specs.Entries.{IsAllLogged};
 ghost use Rattle.mq_files.specs.Plans.{IsEntryOf};
 
 use crate::lists::{Placed, Replies, Requests, all_logged, copy_plan, copy_replies, copy_requests};
-use mq_blocks::{BlockNo, OutOfMemory};
+use mq_blocks::{BlockNo, OutOfMemory, TxNo};
 use mq_exec::Done;
 use mq_pages::Write;
 use mq_revoke::Placement;
 use mq_tree::Request;
 use std::alloc::Global;
 use std::snapshot::Snapshot;
+
+/// What a session read before it placed the blocks of a group: all transactions up to the front were
+/// done, and no copy up to the base counted any more.
+#[derive(Clone, Copy, Debug, PartialEq, Eq)]
+pub struct Reads {
+    pub front: TxNo,
+    pub base: TxNo,
+}
 
 /// A group of requests as it was drawn, or as it was read: what was asked, what was answered, and where
 /// its writes go.
@@ -24,6 +32,8 @@ pub struct FileEntry {
     pub requests: Requests,
     pub replies: Replies,
     pub placed: Placed,
+    /// What they were placed by; of a group that isn't drawn, zeros.
+    pub reads: Reads,
     /// What it writes and frees. Proofs alone have it.
     pub writes: Snapshot<Vec<Write>>,
     pub frees: Snapshot<Vec<BlockNo>>,
@@ -38,9 +48,11 @@ fn entry_of(
     requests: &[Request],
     done: &Done,
     placed: Placed,
+    reads: Reads,
 ) -> Result<FileEntry, OutOfMemory>
     ensures entry { IfOk result (λ e. IsEntryOf session requests.now done.now e) }
     ensures placed { IfOk result (λ e. e.placed ≡ placed) }
+    ensures reads { IfOk result (λ e. e.reads ≡ reads) }
     ensures call { IfOk result (λ e. e.call ≡ call) }
     ensures durable { IfOk result (λ e. e.durable ≡ durable) }
 {
@@ -53,13 +65,15 @@ fn entry_of(
         requests,
         replies,
         placed,
+        reads,
         writes: Snapshot::of(&done.writes),
         frees: Snapshot::of(&done.frees),
     })
 }
 
 impl FileEntry {
-    /// The entry of a group that was done and is to be drawn, with its writes placed by a plan.
+    /// The entry of a group that was done and is to be drawn, with its writes placed by a plan, which
+    /// was made by what the session had read.
     pub fn new(
         alloc: Global,
         session: u32,
@@ -68,14 +82,18 @@ impl FileEntry {
         requests: &[Request],
         done: &Done,
         plan: &Placement,
+        reads: Reads,
     ) -> Result<FileEntry, OutOfMemory>
         ensures entry { IfOk result (λ e. IsEntryOf session requests.now done.now e) }
         ensures placed { IfOk result (λ e. e.placed ≡ plan.now) }
+        ensures reads { IfOk result (λ e. e.reads ≡ reads) }
         ensures call { IfOk result (λ e. e.call ≡ call) }
         ensures durable { IfOk result (λ e. e.durable ≡ durable) }
     {
         let placed = copy_plan(alloc, plan)?;
-        entry_of(alloc, session, call, durable, requests, done, placed)
+        entry_of(
+            alloc, session, call, durable, requests, done, placed, reads,
+        )
     }
 
     /// The entry of a group that was done and is not drawn: it changes nothing, or writes too much. All
@@ -94,6 +112,12 @@ impl FileEntry {
         ensures durable { IfOk result (λ e. e.durable ≡ durable) }
     {
         let placed = all_logged(alloc, &done.writes)?;
-        entry_of(alloc, session, call, durable, requests, done, placed)
+        let reads = Reads {
+            front: TxNo(0),
+            base: TxNo(0),
+        };
+        entry_of(
+            alloc, session, call, durable, requests, done, placed, reads,
+        )
     }
 }

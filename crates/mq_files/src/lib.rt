@@ -6,7 +6,7 @@ mod entry;
 mod laws;
 mod lists;
 
-pub use entry::FileEntry;
+pub use entry::{FileEntry, Reads};
 pub use laws::{
     a_done_group_asks, a_done_group_does, a_done_group_may_be_drawn, a_done_group_may_be_prepared,
     a_group_meets_the_rule, an_entry_tells_its_commit,

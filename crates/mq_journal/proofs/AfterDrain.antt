@@ -1,5 +1,5 @@
 -- A side that was drained.
-use Rattle.std.proofs.Common.{◌≡◌, ◌≢◌, ◌⊎◌, ℕ, suc, ◌+◌, ◌-◌, ◌<◌, ◌≤◌, ◌^◌, min, Bool, true, false, cond, List, [], ◌∷◌, length, Option, nat_le, sym, refl, ap, subst, ◌∙◌, inl, inr, arith}
+use Rattle.std.proofs.Common.{◌≡◌, ◌≢◌, ◌⊎◌, ℕ, suc, ◌+◌, ◌-◌, ◌<◌, ◌≤◌, ◌^◌, min, Bool, true, false, cond, List, [], ◌∷◌, length, map, Option, nat_le, sym, refl, ap, subst, ◌∙◌, inl, inr, arith}
 use Rattle.std.specs.Prelude.{None, Some, Result, Ok, Err}
 use Rattle.std.proofs.lemmas.Bool.{cases_Bool}
 use Rattle.mq_blocks.specs.Drive.{PortState, counted}
@@ -15,7 +15,7 @@ use Rattle.mq_ledger.specs.declared.tx.Tx.{Tx}
 use Rattle.mq_ledger.proofs.Queues.{FromQueue-of, at_end, at_own}
 use Rattle.mq_ledger.proofs.Values.{at_numbered}
 use Rattle.mq_pages.specs.declared.page.PageCell.{PageCell}
-use Rattle.mq_rules.specs.Faults.{AreCharged, IsBacked, of_kind}
+use Rattle.mq_rules.specs.Faults.{AreCharged, IsBacked, of_kind, reports_of}
 use Rattle.mq_rules.specs.Groups.{Group}
 use Rattle.mq_rules.specs.Rule
 use Rattle.mq_rules.specs.Rule.{IsOk, IsSide}
@@ -38,11 +38,12 @@ use Rattle.mq_side.specs.declared.side.QueueSide.{QueueSide}
 use Rattle.mq_side.proofs.Completes.{gains_rises}
 use Rattle.mq_side.proofs.Reaching.{below_head, done_before}
 use Rattle.mq_side.proofs.Telling.{one_more}
-use Rattle.mq_turns.specs.declared.rule.Blame.TheVariants as blame
+use Rattle.mq_turns.specs.declared.rule.Report.TheVariants as report
 use Rattle.mq_turns.specs.declared.turn.Turn.TheVariants.{Side}
 use Rattle.mq_journal.specs.Numbers
 use Rattle.mq_journal.specs.Numbers.{Shared}
 use Rattle.mq_journal.specs.Values.{IsRecord, entries_in, rung_of}
+use Rattle.mq_journal.proofs.Showing.{failed_more, shows_still}
 use Rattle.mq_journal.proofs.Sent.{gained_longer, gained_more, off_backed}
 use Rattle.mq_journal.proofs.Sides.{queue_side}
 
@@ -156,6 +157,7 @@ module _ {P E : Type 0} {G : Ghosts P} (state : P → PortState) (faults : P →
         });
         whole = λ none. drains.doorbell ∙ is.says.whole (quiet_before none);
         stored = subst (λ v. AreStored us v.items) (sym stored) is.says.stored;
+        shows = shows_still start us us (λ t ts at. at) ss.port.doorbell uu.port.doorbell ss.port.failed uu.port.failed ss.kept uu.kept (let a = drains.doorbell in omega arith) (λ some. ((λ none. some (quiet_before none)), drains.doorbell, λ m has. failed_more m ss.port.failed uu.port.failed (map (λ f. f.0) drains.failures) drains.takes.failed has)) (reports_of (Side q) K.charges) is.says.shows;
       };
       charged = charged_more g (Side q) K.charges first (faults s.pmr.port) (faults u.pmr.port) more is.charged;
     }
@@ -184,13 +186,13 @@ module _ {P E : Type 0} {G : Ghosts P} (state : P → PortState) (faults : P →
 
   -- ---- what stands behind the refusal
 
-  pub failed_backed : (tx status : ℕ) → Drains ss (Err (Failed tx status)) uu → KeepsTold ss uu → (2 ^ 64 - 1 ≤ length uu.faults) ⊎ IsBacked g (blame.Failed tx status) first ss.faults uu.faults
+  pub failed_backed : (tx status : ℕ) → Drains ss (Err (Failed tx status)) uu → KeepsTold ss uu → (2 ^ 64 - 1 ≤ length uu.faults) ⊎ IsBacked g (report.Failed tx status) first ss.faults uu.faults
   failed_backed tx status drains told = go drains.failures drains.takes.gained drains.ends.0 (subst (λ o. IsTold first uu.faults o) drains.ends.1 (told first is.says.is.told))
     where
       last : (f : Fault → Bool) → count_of f uu.faults ≡ count_of f drains.faults
       last f = ap (count_of f) drains.ends.2
 
-      go : (fs : Failures) → AreGained fs ss.faults drains.faults → fs ≢ [] → IsTold first uu.faults (Some (tx, Status status)) → (2 ^ 64 - 1 ≤ length uu.faults) ⊎ IsBacked g (blame.Failed tx status) first ss.faults uu.faults
+      go : (fs : Failures) → AreGained fs ss.faults drains.faults → fs ≢ [] → IsTold first uu.faults (Some (tx, Status status)) → (2 ^ 64 - 1 ≤ length uu.faults) ⊎ IsBacked g (report.Failed tx status) first ss.faults uu.faults
       go fs gained some (inl full) = inl full
       go [] gained some (inr t) = absurd (some refl)
       go (f ∷ fs) gained some (inr t) = elim (kind_more f fs ss.faults drains.faults gained) [
@@ -202,16 +204,16 @@ module _ {P E : Type 0} {G : Ghosts P} (state : P → PortState) (faults : P →
         })
       ]
 
-  pub off_backed_too : Drains ss (Err cause.Off) uu → (2 ^ 64 - 1 ≤ length uu.faults) ⊎ IsBacked g blame.Off first ss.faults uu.faults
+  pub off_backed_too : Drains ss (Err cause.Off) uu → (2 ^ 64 - 1 ≤ length uu.faults) ⊎ IsBacked g report.Off first ss.faults uu.faults
   off_backed_too drains = go is.charged
     where
       before : AreMore ss.faults drains.faults
       before = all_more drains.failures ss.faults drains.faults drains.takes.gained
 
-      onward : IsBacked g blame.Off first drains.faults uu.faults → IsBacked g blame.Off first ss.faults uu.faults
+      onward : IsBacked g report.Off first drains.faults uu.faults → IsBacked g report.Off first ss.faults uu.faults
       onward b = record { more = λ x. let a = before x in let c = b.more x in omega arith; kind = λ x. let a = before (of_kind x) in let c = b.kind x in omega arith; named = b.named }
 
-      go : AreCharged g (Side q) K.charges first ss.faults → (2 ^ 64 - 1 ≤ length uu.faults) ⊎ IsBacked g blame.Off first ss.faults uu.faults
+      go : AreCharged g (Side q) K.charges first ss.faults → (2 ^ 64 - 1 ≤ length uu.faults) ⊎ IsBacked g report.Off first ss.faults uu.faults
       go (inl full) = inl (let l = longer drains.failures ss.faults drains.faults drains.takes.gained in let m = gained_longer drains.faults uu.faults drains.ends.0 in omega arith)
       go (inr was) = elim (off_backed g first drains.faults uu.faults (λ x. let a = was.more x in let b = before x in omega arith) drains.ends.0) [
         | inl full ↦ inl full

@@ -1,7 +1,10 @@
 pub mod Sides
 pub mod Marking
+pub mod Showing
 pub mod Numbering
 pub mod Drawing
 pub mod Sent
 pub mod Holding
+pub mod Reporting
 pub mod AfterDrain
+pub mod Draining

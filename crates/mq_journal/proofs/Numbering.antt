@@ -19,7 +19,7 @@ use Rattle.mq_ledger.proofs.Entries.{of_queue-own}
 use Rattle.mq_core.specs.Events.{HasRoom}
 use Rattle.mq_pages.specs.declared.page.PageCell.{PageCell}
 use Rattle.mq_revoke.specs.Guard.{placed_of}
-use Rattle.mq_rules.specs.Faults.{AreCharged}
+use Rattle.mq_rules.specs.Faults.{AreCharged, reports_of}
 use Rattle.mq_rules.specs.Groups.{Group}
 use Rattle.mq_rules.specs.Rule
 use Rattle.mq_rules.specs.Rule.{IsOk, IsSide, May}
@@ -40,7 +40,8 @@ use Rattle.mq_turns.specs.Meaning.{drawn, newest}
 use Rattle.mq_turns.specs.declared.turn.Turn.TheVariants.{Side}
 use Rattle.mq_journal.specs.Numbers
 use Rattle.mq_journal.specs.Numbers.{HasNumbered, MaySend, Shared}
-use Rattle.mq_journal.specs.Values.{IsRecord, entries_in, rung_of}
+use Rattle.mq_journal.specs.Values.{IsRecord, ShowsAll, entries_in, rung_of}
+use Rattle.mq_journal.proofs.Showing.{shows_still}
 use Rattle.mq_journal.proofs.Sides.{queue_side}
 
 -- as many were rung as stand before it
@@ -126,7 +127,14 @@ module _ {P E : Type 0} {G : Ghosts P} (state : P → PortState) (faults : P →
       first = Rule.faults_of values group K.opening q;
       word = K.word;
       txs = txs;
+      reports = reports_of (Side q) K.charges;
     }
+
+    abbrev from : ℕ
+    from = Rule.doorbell_of values group K.opening q
+
+    shows_now : ShowsAll from (t ∷ us) ss (reports_of (Side q) K.charges)
+    shows_now = shows_still from us (t ∷ us) (λ u ts at. inr at) ss.port.doorbell ss.port.doorbell ss.port.failed ss.port.failed ss.kept ss.kept (omega arith) (λ some. (some, refl, λ m has. has)) (reports_of (Side q) K.charges) is.says.shows
 
     record_now : IsRecord (part_with (t ∷ us)) ss
     unfolding part_with
@@ -182,6 +190,7 @@ module _ {P E : Type 0} {G : Ghosts P} (state : P → PortState) (faults : P →
         says = record {
           is = subst (λ (z : List Tx × SideState). IsRecord (part_with z.0) z.1) (λ i. (sym own_is i, same i)) record_now;
           stored = subst (λ txs. AreStored txs u.stored.items) (sym own_is) (stored_now);
+          shows = subst (λ (z : List Tx × SideState). ShowsAll from z.0 z.1 (reports_of (Side q) K.charges)) (λ i. (sym own_is i, same i)) shows_now;
           ready = record { t = t; ts = us; newest = own_is; commit = commit_is; rung = subst (λ (p : PortState). p.doorbell ≡ end_of (k.from q) us) port_same rung; none = ap (λ (x : SideState). x.kept) (sym same) ∙ none };
         };
         charged = subst (λ fs. AreCharged (Rule.geometry_of values group K) (Side q) K.charges (Rule.faults_of values group K.opening q) fs) faults_same is.charged;

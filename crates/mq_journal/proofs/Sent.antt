@@ -8,12 +8,13 @@ use Rattle.mq_drive.specs.Faults.{AreMore, IsAdded, count_of}
 use Rattle.mq_drive.specs.Steps.{Fault, Gains, PowerOff}
 use Rattle.mq_drive.specs.declared.port.Port.{Ghosts}
 use Rattle.mq_drive.specs.declared.port.Off as drive
+use Rattle.mq_ledger.specs.History.{IsAt}
 use Rattle.mq_ledger.specs.Items.{end_of}
 use Rattle.mq_ledger.specs.KnownJournal.{KnownJournal}
 use Rattle.mq_ledger.specs.declared.tx.Tx.{Tx}
 use Rattle.mq_pages.specs.declared.page.PageCell.{PageCell}
 use Rattle.mq_pmr.specs.Runs.{Items}
-use Rattle.mq_rules.specs.Faults.{AreCharged, IsBacked, fault_of, of_kind}
+use Rattle.mq_rules.specs.Faults.{AreCharged, IsBacked, of_kind, reports_of}
 use Rattle.mq_rules.specs.Groups.{Group}
 use Rattle.mq_rules.specs.Rule
 use Rattle.mq_rules.specs.Rule.{IsOk, IsSide}
@@ -31,11 +32,13 @@ use Rattle.mq_side.specs.declared.root.Root.{Root}
 use Rattle.mq_side.specs.declared.side.QueueSide.{QueueSide}
 use Rattle.mq_side.proofs.Completes.{gains_rises}
 use Rattle.mq_side.proofs.Telling.{one_more}
-use Rattle.mq_turns.specs.declared.rule.Blame.TheVariants as blame
+use Rattle.mq_turns.specs.declared.rule.Report.{Report}
+use Rattle.mq_turns.specs.declared.rule.Report.TheVariants as report
 use Rattle.mq_turns.specs.declared.turn.Turn.TheVariants.{Side}
 use Rattle.mq_journal.specs.Numbers
 use Rattle.mq_journal.specs.Numbers.{HasNumbered, Shared}
-use Rattle.mq_journal.specs.Values.{IsRecord, entries_in, rung_of}
+use Rattle.mq_journal.specs.Values.{IsRecord, Shows, ShowsAll, entries_in, rung_of}
+use Rattle.mq_journal.proofs.Showing.{shows_still}
 
 -- one more is counted
 counted-next : (n k : ℕ) → counted n (suc k) ≡ counted (counted n k) 1
@@ -50,7 +53,7 @@ after_newest : (start : ℕ) (t : Tx) (ts : List Tx) (doorbell : ℕ) → doorbe
 after_newest start t ts doorbell at = rw (le-ltb doorbell (end_of start (t ∷ ts)) (omega arith)) refl
 
 -- a port that gained an `Off` stands behind a refusal for it
-pub off_backed : (g : Geometry) (first old new : List Fault) → AreMore first old → Gains PowerOff old new → (2 ^ 64 - 1 ≤ length new) ⊎ IsBacked g blame.Off first old new
+pub off_backed : (g : Geometry) (first old new : List Fault) → AreMore first old → Gains PowerOff old new → (2 ^ 64 - 1 ≤ length new) ⊎ IsBacked g report.Off first old new
 off_backed g first old new since (inl one) = inr (record {
   more = λ f. let a = one_more PowerOff old new f one in omega arith;
   kind = λ f. let a = one_more PowerOff old new (of_kind f) one in omega arith;
@@ -113,11 +116,21 @@ module _ {P E : Type 0} {G : Ghosts P} (state : P → PortState) (faults : P →
       rings = rings;
     }
 
-    side_with : uu.port.rings ≡ counted (Rule.port_of values group K.opening q).rings (rung_of (Rule.doorbell_of values group K.opening q) us uu.port.doorbell) → (u.kept ≡ None → uu.port.doorbell ≡ end_of (k.from q) us) → AreMore (faults s.pmr.port) (faults u.pmr.port) → IsSide values group q K u
-    side_with rings whole more = record {
+    abbrev start : ℕ
+    start = Rule.doorbell_of values group K.opening q
+
+    abbrev reports : List Report
+    reports = reports_of (Side q) K.charges
+
+    -- No failure was kept, so that nothing stays undone.
+    shows_with : ss.port.doorbell ≤ uu.port.doorbell → ShowsAll start us uu reports
+    shows_with up = shows_still start us us (λ t ts at. at) ss.port.doorbell uu.port.doorbell ss.port.failed uu.port.failed ss.kept uu.kept up (λ some. absurd (some has.says.ready.none)) reports has.says.shows
+
+    side_with : ss.port.doorbell ≤ uu.port.doorbell → uu.port.rings ≡ counted (Rule.port_of values group K.opening q).rings (rung_of (Rule.doorbell_of values group K.opening q) us uu.port.doorbell) → (u.kept ≡ None → uu.port.doorbell ≡ end_of (k.from q) us) → AreMore (faults s.pmr.port) (faults u.pmr.port) → IsSide values group q K u
+    side_with up rings whole more = record {
       port = now.side;
       stored = ap (λ v. entries_in v.items) stored ∙ has.stored;
-      says = record { is = record_with rings; whole = whole; stored = subst (λ v. AreStored us v.items) (sym stored) has.says.stored };
+      says = record { is = record_with rings; whole = whole; stored = subst (λ v. AreStored us v.items) (sym stored) has.says.stored; shows = shows_with up };
       charged = charged_more (Rule.geometry_of values group K) (Side q) K.charges (Rule.faults_of values group K.opening q) (faults s.pmr.port) (faults u.pmr.port) more has.charged;
     }
 
@@ -131,13 +144,12 @@ module _ {P E : Type 0} {G : Ghosts P} (state : P → PortState) (faults : P →
     -- it was sent
     pub sent_side : (items : Items) → RingsAll ss n uu → uu.port ≡ after_send ss.port n.number items → faults u.pmr.port ≡ faults s.pmr.port → IsSide values group q K u
     sent_side items whole is same =
-        let start = Rule.doorbell_of values group K.opening q in
         let opened = (Rule.port_of values group K.opening q).rings in
         let r = has.says.ready in
         let rung = whole q k us ok.log r qs in
         let at : uu.port.doorbell ≡ end_of start (r.t ∷ r.ts) = rung ∙ ap (end_of start) r.newest in
         let many : rung_of start us uu.port.doorbell ≡ suc (length r.ts) = ap (λ l. rung_of start l uu.port.doorbell) r.newest ∙ after_newest start r.t r.ts uu.port.doorbell at in
-        side_with (ap (λ (p : PortState). p.rings) is ∙ (ap (λ m. counted m 1) rings_before ∙ (sym (counted-next opened (length r.ts)) ∙ ap (counted opened) (sym many)))) (λ none. rung) (λ f. let e : count_of f (faults u.pmr.port) ≡ count_of f (faults s.pmr.port) = ap (count_of f) same in omega arith)
+        side_with (let a = r.rung in omega arith) (ap (λ (p : PortState). p.rings) is ∙ (ap (λ m. counted m 1) rings_before ∙ (sym (counted-next opened (length r.ts)) ∙ ap (counted opened) (sym many)))) (λ none. rung) (λ f. let e : count_of f (faults u.pmr.port) ≡ count_of f (faults s.pmr.port) = ap (count_of f) same in omega arith)
 
     -- it was cut
     cut_rings : (items : Items) → IsCutAt ss.port n.number items uu.port → (uu.port.rings ≡ ss.port.rings) × (uu.port.doorbell ≡ ss.port.doorbell)
@@ -147,17 +159,37 @@ module _ {P E : Type 0} {G : Ghosts P} (state : P → PortState) (faults : P →
 
     pub cut_side : (items : Items) → IsCutAt ss.port n.number items uu.port → u.kept ≡ Some (n.number, Off) → Gains PowerOff (faults s.pmr.port) (faults u.pmr.port) → IsSide values group q K u
     cut_side items cut kept gains =
-        let start = Rule.doorbell_of values group K.opening q in
         let same = cut_rings items cut in
-        side_with (same.0 ∙ (has.says.is.rings ∙ ap (λ d. counted (Rule.port_of values group K.opening q).rings (rung_of start us d)) (sym same.1))) (λ none. absurd (some_none (sym kept ∙ none))) (gained_more (faults s.pmr.port) (faults u.pmr.port) PowerOff gains)
+        side_with (let a = same.1 in omega arith) (same.0 ∙ (has.says.is.rings ∙ ap (λ d. counted (Rule.port_of values group K.opening q).rings (rung_of start us d)) (sym same.1))) (λ none. absurd (some_none (sym kept ∙ none))) (gained_more (faults s.pmr.port) (faults u.pmr.port) PowerOff gains)
       where
         some_none : {A : Type 0} {x : A} → Some x ≡ None → ⊥
         some_none e = cc
 
+    -- it shows that it was rung
+    pub sent_shows : RingsAll ss n uu → Shows start us uu.port.doorbell uu.port.failed uu.kept (report.Sent n.number)
+    sent_shows whole =
+        let r = has.says.ready in
+        let rung = whole q k us ok.log r qs in
+        record {
+          t = r.t;
+          ts = r.ts;
+          at = subst (λ l. IsAt r.t r.ts l) (sym r.newest) (inl (refl, refl));
+          number = ap (λ (c : NumberedCommit). c.number) r.commit;
+          below = let a : end_of start us ≡ end_of start (r.t ∷ r.ts) = ap (end_of start) r.newest in omega arith;
+        }
+
+    -- no fault is charged for it
+    pub sent_backed : faults u.pmr.port ≡ faults s.pmr.port → (2 ^ 64 - 1 ≤ length (faults u.pmr.port)) ⊎ IsBacked (Rule.geometry_of values group K) (report.Sent n.number) (Rule.faults_of values group K.opening q) (faults s.pmr.port) (faults u.pmr.port)
+    sent_backed same = inr (record {
+      more = λ f. let e : count_of f (faults u.pmr.port) ≡ count_of f (faults s.pmr.port) = ap (count_of f) same in omega arith;
+      kind = λ f. let e : count_of (of_kind f) (faults u.pmr.port) ≡ count_of (of_kind f) (faults s.pmr.port) = ap (count_of (of_kind f)) same in omega arith;
+      named = tt;
+    })
+
     -- and its port stands behind the refusal
-    pub cut_backed : Gains PowerOff (faults s.pmr.port) (faults u.pmr.port) → (2 ^ 64 - 1 ≤ length (faults u.pmr.port)) ⊎ IsBacked (Rule.geometry_of values group K) blame.Off (Rule.faults_of values group K.opening q) (faults s.pmr.port) (faults u.pmr.port)
+    pub cut_backed : Gains PowerOff (faults s.pmr.port) (faults u.pmr.port) → (2 ^ 64 - 1 ≤ length (faults u.pmr.port)) ⊎ IsBacked (Rule.geometry_of values group K) report.Off (Rule.faults_of values group K.opening q) (faults s.pmr.port) (faults u.pmr.port)
     cut_backed gains = backed has.charged
       where
-        backed : AreCharged (Rule.geometry_of values group K) (Side q) K.charges (Rule.faults_of values group K.opening q) (faults s.pmr.port) → (2 ^ 64 - 1 ≤ length (faults u.pmr.port)) ⊎ IsBacked (Rule.geometry_of values group K) blame.Off (Rule.faults_of values group K.opening q) (faults s.pmr.port) (faults u.pmr.port)
+        backed : AreCharged (Rule.geometry_of values group K) (Side q) K.charges (Rule.faults_of values group K.opening q) (faults s.pmr.port) → (2 ^ 64 - 1 ≤ length (faults u.pmr.port)) ⊎ IsBacked (Rule.geometry_of values group K) report.Off (Rule.faults_of values group K.opening q) (faults s.pmr.port) (faults u.pmr.port)
         backed (inl full) = inl (let l = gained_longer (faults s.pmr.port) (faults u.pmr.port) gains in omega arith)
         backed (inr was) = off_backed (Rule.geometry_of values group K) (Rule.faults_of values group K.opening q) (faults s.pmr.port) (faults u.pmr.port) was.more gains

@@ -1,3 +1,4 @@
 pub mod Values
 pub mod Machine
 pub mod Numbers
+pub mod Draining

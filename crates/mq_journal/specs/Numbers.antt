@@ -21,18 +21,19 @@ use Rattle.mq_turns.specs.Chairs.{giving}
 use Rattle.mq_turns.specs.Desk.{IsTurn, Sees, refreshed, slot_of, turn_at}
 use Rattle.mq_turns.specs.Lists.{Each, times}
 use Rattle.mq_turns.specs.Marks.{mark_of}
-use Rattle.mq_turns.specs.Meaning.{Meaning, drawn, newest}
+use Rattle.mq_turns.specs.Meaning.{Meaning, charged, drawn, newest}
 use Rattle.mq_turns.specs.Words.{after_notice}
-use Rattle.mq_turns.specs.declared.rule.Blame.TheVariants as blame
+use Rattle.mq_turns.specs.declared.rule.Charge.{Charge}
 use Rattle.mq_turns.specs.declared.rule.Known.{Known}
 use Rattle.mq_turns.specs.declared.rule.Notice.TheVariants as notice
 use Rattle.mq_turns.specs.declared.rule.Opening.{Opening}
 use Rattle.mq_turns.specs.declared.rule.Reading.{Reading}
+use Rattle.mq_turns.specs.declared.rule.Report.{Report}
 use Rattle.mq_turns.specs.declared.rule.View.{View}
 use Rattle.mq_turns.specs.declared.turn.Turn.{Turn}
 use Rattle.mq_turns.specs.declared.turn.Turn.TheVariants.{Side}
 use Rattle.mq_journal.specs.Machine.{journal}
-use Rattle.mq_journal.specs.Values.{IsRecord, entries_in, least_geometry, record_later, side_values}
+use Rattle.mq_journal.specs.Values.{IsRecord, ShowsAll, record_later, side_values}
 
 -- how a desk was opened, what is known on it, and the view of a session
 abbrev pub Start : (P E : Type 0) → Ghosts P → Type 0
@@ -58,6 +59,7 @@ module _ {P E : Type 0} {G : Ghosts P} (state : P → PortState) (faults : P →
   pub record SaysDrawn (n : NumberedCommit) (p : Part) (s : QueueSide P E G) : Type 0 where
     pub is : IsRecord p (side_state state faults s)
     pub stored : AreStored p.txs s.stored.items
+    pub shows : ShowsAll p.start p.txs (side_state state faults s) p.reports
     pub ready : IsReadyFrom p.start p.txs (side_state state faults s) n
 
   abbrev pub drawn_values : NumberedCommit → Values (QueueSide P E G) (Root P G) E
@@ -73,6 +75,7 @@ module _ {P E : Type 0} {G : Ghosts P} (state : P → PortState) (faults : P →
     later = λ p word s above says. record {
       is = record_later p word (side_state state faults s) says.is;
       stored = says.stored;
+      shows = says.shows;
       ready = says.ready;
     };
   }
@@ -173,8 +176,18 @@ module _ {P E : Type 0} {G : Ghosts P} (state : P → PortState) (faults : P →
     pub sends : MaySend s n
     pub rest : SameSession old new
 
-  -- The side was given back, and a refusal for an `Off` was charged to its port.
-  pub record IsCharged (o : Start P E G) (q : ℕ) (old new : Seat P E G) : Type 0 where
+  -- ---- what is reported of a port
+
+  -- the account of the port of a queue's side
+  abbrev pub reported : ℕ → Report → Charge
+  reported q r = record { port = Side q; report = r }
+
+  -- Whatever is known: with the report, the side is what the rule says.
+  abbrev pub ShowsReport : ℕ → Report → QueueSide P E G → Seat P E G → Type 0
+  ShowsReport q r s v = (K : Shared P E G) → Sees machine v K → IsSide values group q (charged (reported q r) K) s
+
+  -- It was reported of the side's port, and the side was given back.
+  pub record IsReported (o : Start P E G) (q : ℕ) (r : Report) (old new : Seat P E G) : Type 0 where
     pub known : Shared P E G
     pub sees : Sees machine old known
-    pub is : new ≡ giving (slot_of o (Side q)) (after_notice machine (notice.Charge (record { port = Side q; blame = blame.Off })) known old)
+    pub is : new ≡ giving (slot_of o (Side q)) (after_notice machine (notice.Charge (reported q r)) known old)

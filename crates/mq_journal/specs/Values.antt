@@ -1,21 +1,27 @@
 -- What the side of a queue and the root show on a desk.
 use lib.Dec.{lit≤}
-use Rattle.std.specs.Prelude.{◌≡◌, ◌⊎◌, ◌≤◌, ℕ, suc, ◌+◌, ◌-◌, ◌^◌, List, [], ◌∷◌, length, map, reverse, slice_index_or, None, nat_lt, if◌then◌else◌}
+use Rattle.std.specs.Prelude.{◌≡◌, ◌≢◌, ◌⊎◌, ◌<◌, ◌≤◌, ℕ, suc, ◌+◌, ◌-◌, ◌^◌, List, [], ◌∷◌, length, map, reverse, slice_index_or, Option, Some, None, nat_lt, if◌then◌else◌}
 use Rattle.mq_blocks.specs.Drive.{PortState, counted}
+use Rattle.mq_blocks.specs.declared.command.Command.{Command}
 use Rattle.mq_blocks.specs.declared.geometry.Geometry.{Geometry}
 use Rattle.mq_drive.specs.Steps.{Fault}
 use Rattle.mq_drive.specs.declared.port.Port.{Ghosts}
+use Rattle.mq_ledger.specs.History.{IsAt}
 use Rattle.mq_ledger.specs.Items.{end_of}
 use Rattle.mq_ledger.specs.declared.tx.Tx.{Tx}
 use Rattle.mq_pmr.specs.Rungs.{last_end}
 use Rattle.mq_rules.specs.Values.{Part, Values}
 use Rattle.mq_side.specs.Counts.{ahead, most_events}
-use Rattle.mq_side.specs.Side.{SideState, IsPassedOf, AreRungsOf, IsDoneOf, IsKept, side_state}
+use Rattle.mq_side.specs.Side.{SideState, IsPassedOf, AreRungsOf, IsBelow, IsDoneOf, IsKept, HasTx, side_state}
 use Rattle.mq_side.specs.Stored.{AreStored}
 use Rattle.mq_side.specs.Told.{IsTold}
+use Rattle.mq_side.specs.declared.answers.Why.{Why}
 use Rattle.mq_side.specs.declared.drawn.Drawn.{Drawn}
 use Rattle.mq_side.specs.declared.root.Root.{Root}
 use Rattle.mq_side.specs.declared.side.QueueSide.{QueueSide}
+use Rattle.mq_turns.specs.Lists.{Each}
+use Rattle.mq_turns.specs.declared.rule.Report.{Report}
+use Rattle.mq_turns.specs.declared.rule.Report.TheVariants as report
 
 -- how many of a queue's transactions were rung, of which the newest may not be
 abbrev pub rung_of : ℕ → List Tx → ℕ → ℕ
@@ -62,6 +68,36 @@ record_later p word s is = record {
   rings = is.rings;
 }
 
+-- ---- what was reported of its port
+
+-- it is the number of a transaction of these whose entries don't all stand below a count
+pub record IsUnrung (from : ℕ) (us : List Tx) (count n : ℕ) : Type 0 where
+  pub t : Tx
+  pub ts : List Tx
+  pub at : IsAt t ts us
+  pub number : n ≡ t.number
+  pub above : count < end_of from (t ∷ ts)
+
+-- A command of the transaction, which is rung, has failed; or its send was cut. A failure is kept from then on.
+abbrev pub StaysFailed : ℕ → List Tx → ℕ → List Command → Option (ℕ × Why) → ℕ → Type 0
+StaysFailed from us doorbell failed kept n = (kept ≢ None) × HasTx n failed × IsBelow from us doorbell n
+
+abbrev pub StaysCut : ℕ → List Tx → ℕ → Option (ℕ × Why) → ℕ → Type 0
+StaysCut from us doorbell kept n = (kept ≢ None) × IsUnrung from us doorbell n
+
+-- What the side shows of a report of its port: a transaction that was rung stands below the doorbell, and one that
+-- stays undone is so still.
+abbrev pub Shows : ℕ → List Tx → ℕ → List Command → Option (ℕ × Why) → Report → Type 0
+Shows from us doorbell failed kept report.Off = Unit {0}
+Shows from us doorbell failed kept (report.Failed tx status) = StaysFailed from us doorbell failed kept tx
+Shows from us doorbell failed kept (report.FailedHome block status) = Unit {0}
+Shows from us doorbell failed kept (report.Stopped tx None) = StaysCut from us doorbell kept tx
+Shows from us doorbell failed kept (report.Stopped tx (Some status)) = StaysFailed from us doorbell failed kept tx
+Shows from us doorbell failed kept (report.Sent tx) = IsBelow from us doorbell tx
+
+abbrev pub ShowsAll : ℕ → List Tx → SideState → List Report → Type 0
+ShowsAll from us s reports = Each (Shows from us s.port.doorbell s.port.failed s.kept) reports
+
 -- the entries that are stored, each with its number, newest first
 abbrev pub entries_in : {E : Type 0} → List (Drawn E) → List (ℕ × E)
 entries_in stored = reverse (map (λ d. (d.number, d.entry)) stored)
@@ -88,6 +124,7 @@ module _ {P E : Type 0} {G : Ghosts P} (state : P → PortState) (faults : P →
     pub is : IsRecord p (side_state state faults s)
     pub whole : IsWhole p (side_state state faults s)
     pub stored : AreStored p.txs s.stored.items
+    pub shows : ShowsAll p.start p.txs (side_state state faults s) p.reports
 
   -- The shape of the drive is that of its sides; the root says nothing of it.
   abbrev pub side_values : Values (QueueSide P E G) (Root P G) E
@@ -104,5 +141,6 @@ module _ {P E : Type 0} {G : Ghosts P} (state : P → PortState) (faults : P →
       is = record_later p word (side_state state faults s) says.is;
       whole = says.whole;
       stored = says.stored;
+      shows = says.shows;
     };
   }

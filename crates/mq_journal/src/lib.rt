@@ -2,10 +2,13 @@
 //! for groups of any kind.
 #![tactic(auto)]
 
+mod draining;
 mod machine;
 mod numbers;
+mod reporting;
 mod sending;
 
+pub use draining::drain;
 pub use machine::{Groups, JournalMachine};
 pub use numbers::number;
 pub use sending::send;

@@ -3,7 +3,6 @@ use Rattle.std.proofs.Common.{◌≡◌, ◌≢◌, ℕ, ◌<◌, ◌≤◌, ◌
 use Rattle.std.proofs.lemmas.Bool.{cases_Bool, eq-eqb, ne_eqb, eqb-true, leb-true, or_cases, or_right, and_parts, false≢true}
 use Rattle.mq_blocks.specs.declared.geometry.Geometry.{Geometry}
 use Rattle.mq_base.specs.Pages.{is_ended, last_ended}
-use Rattle.mq_drive.specs.Faults.{IsAdded}
 use Rattle.mq_drive.specs.Steps.{Fault}
 use Rattle.mq_turns.specs.Lists.{Each}
 use Rattle.mq_turns.specs.Marks.{is_claimed}
@@ -13,7 +12,7 @@ use Rattle.mq_turns.specs.declared.rule.Claim.{Claim}
 use Rattle.mq_turns.specs.declared.turn.Turn.{Turn}
 use Rattle.mq_turns.specs.declared.turn.Turn.TheVariants.{Side}
 use Rattle.mq_turns.proofs.Changes.{turn_is}
-use Rattle.mq_rules.specs.Faults.{AreBacked, AreCharged, charged_to, fault_of, of_kind}
+use Rattle.mq_rules.specs.Faults.{AreBacked, AreCharged, WasGained, charged_to, named_by, of_kind, reports_of}
 use Rattle.mq_rules.specs.Rule.{same_port}
 
 pub claimed_more : (l m : List Claim) (q n : ℕ) → is_claimed q n m ≡ true → is_claimed q n (l ++ m) ≡ true
@@ -61,7 +60,15 @@ charged_apart g t f (c ∷ cs) m a = elim (cases_Bool (same_turn t c.port)) [
   | inr other ↦ rw other (let ih = charged_apart g t f cs m a.1 in omega arith)
 ]
 
-named_apart : (g : Geometry) (t : Turn) (old new : List Fault) (l m : List Charge) → Each (λ c. c.port ≢ t) l → Each (λ c. c.port ≡ t → IsAdded (fault_of g c.blame) old new) m → Each (λ c. c.port ≡ t → IsAdded (fault_of g c.blame) old new) (l ++ m)
+-- and reported of them
+pub reports_apart : (t : Turn) (l m : List Charge) → Each (λ c. c.port ≢ t) l → reports_of t (l ++ m) ≡ reports_of t m
+reports_apart t [] m a = refl
+reports_apart t (c ∷ cs) m a = elim (cases_Bool (same_turn t c.port)) [
+  | inl mine ↦ absurd (a.0 (sym (turn_is t c.port mine)))
+  | inr other ↦ rw other (reports_apart t cs m a.1)
+]
+
+named_apart : (g : Geometry) (t : Turn) (old new : List Fault) (l m : List Charge) → Each (λ c. c.port ≢ t) l → Each (λ c. c.port ≡ t → WasGained (named_by g c.report) old new) m → Each (λ c. c.port ≡ t → WasGained (named_by g c.report) old new) (l ++ m)
 named_apart g t old new [] m a each = each
 named_apart g t old new (c ∷ cs) m a each = ((λ same. absurd (a.0 same)), named_apart g t old new cs m a.1 each)
 

@@ -1,5 +1,5 @@
 -- A port that gains faults, and what is charged to them.
-use Rattle.std.proofs.Common.{◌≡◌, ◌⊎◌, ℕ, ◌+◌, ◌-◌, ◌≤◌, ◌^◌, ◌&&◌, Bool, true, cond, List, [], ◌∷◌, length, refl, ap, inl, inr, arith}
+use Rattle.std.proofs.Common.{◌≡◌, ◌⊎◌, ℕ, ◌+◌, ◌-◌, ◌≤◌, ◌^◌, ◌&&◌, Bool, true, cond, List, [], ◌∷◌, length, Option, Some, None, refl, ap, inl, inr, arith}
 use Rattle.std.proofs.lemmas.Bool.{eq-eqb}
 use Rattle.mq_blocks.specs.declared.geometry.Geometry.{Geometry}
 use Rattle.mq_drive.specs.Faults.{count_of, AreMore, IsAdded}
@@ -10,7 +10,7 @@ use Rattle.mq_turns.specs.declared.rule.Charge.{Charge}
 use Rattle.mq_turns.specs.declared.turn.Turn.{Turn}
 use Rattle.mq_turns.specs.declared.turn.Turn.TheVariants.{Page, Side, Root}
 use Rattle.mq_turns.proofs.Each.{each_map}
-use Rattle.mq_rules.specs.Faults.{AreBacked, AreCharged, IsBacked, charged_to, fault_of, of_kind}
+use Rattle.mq_rules.specs.Faults.{AreBacked, AreCharged, IsBacked, WasGained, charged_to, fault_of, named_by, of_kind, passes}
 
 same_self : (t : Turn) → same_turn t t ≡ true
 same_self (Page b) = eq-eqb b b refl
@@ -24,8 +24,12 @@ all_counted (x ∷ xs) = let ih = all_counted xs in omega arith
 longer : (old new : List Fault) → AreMore old new → length old ≤ length new
 longer old new more = let a = more (λ x. true) in let b = all_counted old in let c = all_counted new in omega arith
 
-named_still : (g : Geometry) (t : Turn) (first old new : List Fault) → AreMore old new → (cs : List Charge) → Each (λ c. c.port ≡ t → IsAdded (fault_of g c.blame) first old) cs → Each (λ c. c.port ≡ t → IsAdded (fault_of g c.blame) first new) cs
-named_still g t first old new more cs = each_map _ _ (λ c added mine f is. let a = added mine f is in let b = more f in omega arith) cs
+gained_still : (o : Option Fault) (first old new : List Fault) → AreMore old new → WasGained o first old → WasGained o first new
+gained_still None first old new more gained = gained
+gained_still (Some x) first old new more gained = λ f is. let a = gained f is in let b = more f in omega arith
+
+named_still : (g : Geometry) (t : Turn) (first old new : List Fault) → AreMore old new → (cs : List Charge) → Each (λ c. c.port ≡ t → WasGained (named_by g c.report) first old) cs → Each (λ c. c.port ≡ t → WasGained (named_by g c.report) first new) cs
+named_still g t first old new more cs = each_map _ _ (λ c gained mine. gained_still (named_by g c.report) first old new more (gained mine)) cs
 
 -- with more faults all charges are backed as before
 pub charged_more : (g : Geometry) (t : Turn) (cs : List Charge) (first old new : List Fault) → AreMore old new → AreCharged g t cs first old → AreCharged g t cs first new
@@ -37,7 +41,7 @@ charged_more g t cs first old new more (inr was) = inr (record {
 })
 
 -- and one charge more where a fault of its kind is new
-pub charged_backed : (g : Geometry) (c : Charge) (cs : List Charge) (first old new : List Fault) → AreCharged g c.port cs first old → (2 ^ 64 - 1 ≤ length new) ⊎ IsBacked g c.blame first old new → AreCharged g c.port (c ∷ cs) first new
+pub charged_backed : (g : Geometry) (c : Charge) (cs : List Charge) (first old new : List Fault) → AreCharged g c.port cs first old → (2 ^ 64 - 1 ≤ length new) ⊎ IsBacked g c.report first old new → AreCharged g c.port (c ∷ cs) first new
 charged_backed g c cs first old new was (inl full) = inl full
 charged_backed g c cs first old new (inl full) (inr backed) = inl (let l = longer old new backed.more in omega arith)
 charged_backed g c cs first old new (inr was) (inr backed) = inr (record {
@@ -45,7 +49,7 @@ charged_backed g c cs first old new (inr was) (inr backed) = inr (record {
   counts = λ f.
       let a = was.counts f in
       let b = backed.kind f in
-      let s : cond {A = ℕ} (same_turn c.port c.port && of_kind f (fault_of g c.blame)) 1 0 ≡ cond {A = ℕ} (of_kind f (fault_of g c.blame)) 1 0 = ap (λ (z : Bool). cond {A = ℕ} (z && of_kind f (fault_of g c.blame)) 1 0) (same_self c.port) in
+      let s : cond {A = ℕ} (same_turn c.port c.port && passes (of_kind f) (fault_of g c.report)) 1 0 ≡ cond {A = ℕ} (passes (of_kind f) (fault_of g c.report)) 1 0 = ap (λ (z : Bool). cond {A = ℕ} (z && passes (of_kind f) (fault_of g c.report)) 1 0) (same_self c.port) in
       omega arith;
   named = ((λ mine. backed.named), named_still g c.port first old new backed.more cs was.named);
 })

@@ -24,12 +24,12 @@ use Rattle.mq_turns.specs.declared.rule.Charge.{Charge}
 use Rattle.mq_turns.specs.declared.turn.Turn.{Turn}
 use Rattle.mq_turns.specs.declared.turn.Turn.TheVariants.{Page, Side, Root}
 use Rattle.mq_turns.proofs.Each.{each_map}
-use Rattle.mq_rules.specs.Faults.{AreCharged}
+use Rattle.mq_rules.specs.Faults.{AreCharged, reports_of}
 use Rattle.mq_rules.specs.Groups.{Group}
 use Rattle.mq_rules.specs.Rule
 use Rattle.mq_rules.specs.Rule.{same_port, numbered, start_of, doorbell_of, port_of, faults_of, geometry_of, IsOk, IsPage, IsSide, IsRoot, May, next_tx}
 use Rattle.mq_rules.specs.Values.{Values}
-use Rattle.mq_rules.proofs.Added.{claimed_more, claimed_apart, unclaimed, ended_more, ended_apart, last_ended_apart, backed_apart, same_port-same}
+use Rattle.mq_rules.proofs.Added.{claimed_more, claimed_apart, unclaimed, ended_more, ended_apart, last_ended_apart, backed_apart, reports_apart, same_port-same}
 use Rattle.mq_rules.proofs.Along.{Among, queue_newer, side_later, root_later, same_block}
 
 -- its number changes nothing of what a transaction does
@@ -164,6 +164,7 @@ module _ {Q R E : Type 0} (values : Values Q R E) (group : Group E) where
       (λ u us own e. claimed_apart s.grows.claimed K.claims u.queue u.number (each_map _ _ (λ c n. λ e. n (e ∙ ap Side own)) s.grows.claimed s.claims) (ap (λ cs. is_claimed u.queue u.number cs) (sym s.grows.claims) ∙ e))
       (λ x v zone e. due_apart K L s.grows x v (each_map _ _ (λ h n. not_home (geometry_of values group K) (Some q) x zone h n) s.grows.written s.ended) e) is.port in
       let F : KnownJournal × List Tx → Type 0 = λ z. SideOk z.0 q z.1 (values.port w) in
+      let reports : reports_of (Side q) L.charges ≡ reports_of (Side q) K.charges = ap (reports_of (Side q)) s.grows.charges ∙ reports_apart (Side q) s.grows.blamed K.charges s.charges in
       let says = values.later (Rule.part_of values group q K) L.word w s.grows.word is.says in
       let part : record (Rule.part_of values group q K) { word = L.word } ≡ Rule.part_of values group q L = λ i. record {
         geometry = Rule.shape_of values group (sym o i);
@@ -173,6 +174,7 @@ module _ {Q R E : Type 0} (values : Values Q R E) (group : Group E) where
         first = faults_of values group (sym o i) q;
         word = L.word;
         txs = sym same i;
+        reports = sym reports i;
       } in
       record {
         port = subst F (λ i. (sym core_is i, sym same i)) port;
@@ -227,13 +229,13 @@ module _ {Q R E : Type 0} (values : Values Q R E) (group : Group E) where
         log = log;
         claims = each_map _ _ (λ c le. omega arith) K.claims k.claims;
         base = base_later (core K) (core (drawn e K)) K.word k.log log (core_grown K (drawn e K) (grows_drawn e K)) k.base;
-        legal = (may.does, k.legal);
+        legal = (may.does, may.placed, k.legal);
       }
 
   -- groups run on the map at the newest number
   good_from : (g : Geometry) (start : Map) (base : ℕ) (es : List E) → Rule.IsLegal values group g start base es → group.good g (map_after start (hist base es))
   good_from g start base [] legal = legal
-  good_from g start base (e ∷ es) legal = subst (λ m. group.good g m) (after-number (map_after start (hist base es)) (group.tx e) (base + length es + 1)) (group.keeps g (map_after start (hist base es)) e legal.0 (good_from g start base es legal.1))
+  good_from g start base (e ∷ es) legal = subst (λ m. group.good g m) (after-number (map_after start (hist base es)) (group.tx e) (base + length es + 1)) (group.keeps g (map_after start (hist base es)) e legal.0 (good_from g start base es legal.2))
 
   pub good_now : (K : Desk) → IsOk values group K → group.good (geometry_of values group K) (Rule.map_now values group K)
   good_now K k = good_from (geometry_of values group K) (start_of values group K.opening) K.opening.base K.log k.legal

@@ -20,7 +20,7 @@ use Rattle.mq_turns.specs.Marks.{is_claimed}
 use Rattle.mq_turns.specs.Meaning.{Grows, newest, claimed, charged, raised, written}
 use Rattle.mq_turns.specs.declared.rule.Charge.{Charge}
 use Rattle.mq_turns.specs.declared.rule.Claim.{Claim}
-use Rattle.mq_turns.specs.declared.turn.Turn.TheVariants.{Side}
+use Rattle.mq_turns.specs.declared.turn.Turn.TheVariants.{Side, Root}
 use Rattle.mq_rules.specs.Faults.{AreCharged, IsBacked}
 use Rattle.mq_rules.specs.Groups.{Group}
 use Rattle.mq_rules.specs.Rule
@@ -125,16 +125,31 @@ module _ {Q R E : Type 0} (values : Values Q R E) (group : Group E) where
   ok_charged c K ok = record { log = ok.log; claims = ok.claims; base = ok.base; legal = ok.legal }
 
   pub side_charged : (c : Charge) (q : ℕ) (K : Desk) (w u : Q) → c.port ≡ Side q → IsSide values group q K u
+      → values.says (Rule.part_of values group q (charged c K)) u
       → AreCharged (Rule.geometry_of values group K) (Side q) K.charges (Rule.faults_of values group K.opening q) (values.faults w)
-      → (2 ^ 64 - 1 ≤ length (values.faults u)) ⊎ IsBacked (Rule.geometry_of values group K) c.blame (Rule.faults_of values group K.opening q) (values.faults w) (values.faults u)
+      → (2 ^ 64 - 1 ≤ length (values.faults u)) ⊎ IsBacked (Rule.geometry_of values group K) c.report (Rule.faults_of values group K.opening q) (values.faults w) (values.faults u)
       → IsSide values group q (charged c K) u
-  side_charged c q K w u mine is was backed =
+  side_charged c q K w u mine is says was backed =
       let g = Rule.geometry_of values group K in
       let first = Rule.faults_of values group K.opening q in
       record {
         port = is.port;
         stored = is.stored;
-        says = is.says;
+        says = says;
         charged = subst (λ t. AreCharged g t (c ∷ K.charges) first (values.faults u)) mine
             (charged_backed g c K.charges first (values.faults w) (values.faults u) (subst (λ t. AreCharged g t K.charges first (values.faults w)) (sym mine) was) backed);
+      }
+
+  pub root_charged : (c : Charge) (K : Desk) (r s : R) → c.port ≡ Root → IsRoot values group K s
+      → AreCharged (Rule.geometry_of values group K) Root K.charges (values.root_faults K.opening.root) (values.root_faults r)
+      → (2 ^ 64 - 1 ≤ length (values.root_faults s)) ⊎ IsBacked (Rule.geometry_of values group K) c.report (values.root_faults K.opening.root) (values.root_faults r) (values.root_faults s)
+      → IsRoot values group (charged c K) s
+  root_charged c K r s mine is was backed =
+      let g = Rule.geometry_of values group K in
+      let first = values.root_faults K.opening.root in
+      record {
+        says = is.says;
+        port = is.port;
+        charged = subst (λ t. AreCharged g t (c ∷ K.charges) first (values.root_faults s)) mine
+            (charged_backed g c K.charges first (values.root_faults r) (values.root_faults s) (subst (λ t. AreCharged g t K.charges first (values.root_faults r)) (sym mine) was) backed);
       }

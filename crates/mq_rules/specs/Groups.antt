@@ -1,5 +1,5 @@
--- What a group of requests does to the map of home blocks.
-use Rattle.std.specs.Prelude.{ℕ}
+-- What a group of requests does to the map of home blocks, and where its blocks go.
+use Rattle.std.specs.Prelude.{ℕ, List}
 use Rattle.mq_blocks.specs.Machine.{Map, after}
 use Rattle.mq_blocks.specs.declared.geometry.Geometry.{Geometry}
 use Rattle.mq_ledger.specs.History.{change_of}
@@ -17,5 +17,7 @@ pub record Group (E : Type 0) : Type 1 where
   -- it ran on this map, with its replies and its transaction; or it would have, and is not drawn
   pub does : Geometry → Map → E → Type 0
   pub asks : Geometry → Map → E → Type 0
+  -- Its blocks are placed by the rule. The map is that at the base, and the transactions are those from there to it.
+  pub placed : Geometry → Map → ℕ → List Tx → E → Type 0
   -- the law: groups run on the map that it leaves
   pub keeps : (g : Geometry) (m : Map) (e : E) → does g m e → good g m → good g (after m (change_of (tx e)))

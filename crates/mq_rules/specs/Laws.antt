@@ -19,7 +19,7 @@ use Rattle.mq_rules.specs.Cells.{cell_after}
 use Rattle.mq_rules.specs.Faults.{AreCharged, IsBacked}
 use Rattle.mq_rules.specs.Groups.{Group}
 use Rattle.mq_rules.specs.Opening.{IsFresh, IsRuled}
-use Rattle.mq_rules.specs.Rule.{Desk, Stay, IsOk, IsPage, IsSide, IsRoot, May, core_of, faults_of, geometry_of, map_now, next_tx, touches}
+use Rattle.mq_rules.specs.Rule.{Desk, Stay, IsOk, IsPage, IsSide, IsRoot, May, core_of, faults_of, geometry_of, map_now, next_tx, part_of, touches}
 use Rattle.mq_rules.specs.Values.{Values}
 
 module _ {Q R E : Type 0} (values : Values Q R E) (group : Group E) where
@@ -197,15 +197,26 @@ module _ {Q R E : Type 0} (values : Values Q R E) (group : Group E) where
       → IsOk values group K
       → IsOk values group (charged c K)
 
-  -- a side whose port has gained a fault of its kind stays what it is
+  -- a side stays what it is whose record says so, and whose port has gained a fault of its kind
   abbrev pub SidesShowCharges : Type 0
   SidesShowCharges =
       (c : Charge) (q : ℕ) (K : Desk values group) (w u : Q)
       → c.port ≡ Side q
       → IsSide values group q K u
+      → values.says (part_of values group q (charged c K)) u
       → AreCharged (geometry_of values group K) (Side q) K.charges (faults_of values group K.opening q) (values.faults w)
-      → (2 ^ 64 - 1 ≤ length (values.faults u)) ⊎ IsBacked (geometry_of values group K) c.blame (faults_of values group K.opening q) (values.faults w) (values.faults u)
+      → (2 ^ 64 - 1 ≤ length (values.faults u)) ⊎ IsBacked (geometry_of values group K) c.report (faults_of values group K.opening q) (values.faults w) (values.faults u)
       → IsSide values group q (charged c K) u
+
+  -- and the root
+  abbrev pub RootsShowCharges : Type 0
+  RootsShowCharges =
+      (c : Charge) (K : Desk values group) (r s : R)
+      → c.port ≡ Root
+      → IsRoot values group K s
+      → AreCharged (geometry_of values group K) Root K.charges (values.root_faults K.opening.root) (values.root_faults r)
+      → (2 ^ 64 - 1 ≤ length (values.root_faults s)) ⊎ IsBacked (geometry_of values group K) c.report (values.root_faults K.opening.root) (values.root_faults r) (values.root_faults s)
+      → IsRoot values group (charged c K) s
 
   -- ---- done numbers
 

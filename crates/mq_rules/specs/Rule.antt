@@ -22,7 +22,7 @@ use Rattle.mq_turns.specs.declared.rule.Known.{Known}
 use Rattle.mq_turns.specs.declared.rule.Opening.{Opening}
 use Rattle.mq_turns.specs.declared.turn.Turn.{Turn}
 use Rattle.mq_turns.specs.declared.turn.Turn.TheVariants.{Page, Side, Root}
-use Rattle.mq_rules.specs.Faults.{AreCharged}
+use Rattle.mq_rules.specs.Faults.{AreCharged, reports_of}
 use Rattle.mq_rules.specs.Groups.{Group}
 use Rattle.mq_rules.specs.Values.{Part, Values}
 
@@ -93,10 +93,14 @@ module _ {Q R E : Type 0} (values : Values Q R E) (group : Group E) where
   entries_of q base [] = []
   entries_of q base (e ∷ es) = if nat_eq (group.tx e).queue q then (base + length es + 1, e) ∷ entries_of q base es else entries_of q base es
 
-  -- groups ran one after another, each on the map that those before it left, the first on the map at the opening
+  -- groups ran one after another, each on the map that those before it left, the first on the map at the opening, and
+  -- the blocks of each were placed by the rule
   abbrev pub IsLegal : Geometry → Map → ℕ → List E → Type 0
   IsLegal g start base [] = group.good g start
-  IsLegal g start base (e ∷ es) = group.does g (map_after start (history base es)) e × IsLegal g start base es
+  IsLegal g start base (e ∷ es) =
+      group.does g (map_after start (history base es)) e
+      × group.placed g start base (history base es) e
+      × IsLegal g start base es
 
   -- The history is legal, each claim is of a drawn number, and the base word is a base.
   pub record IsOk (K : Desk) : Type 0 where
@@ -141,10 +145,11 @@ module _ {Q R E : Type 0} (values : Values Q R E) (group : Group E) where
     first = faults_of K.opening q;
     word = K.word;
     txs = own_of q K;
+    reports = reports_of (Side q) K.charges;
   }
 
-  -- The port's entries are those of all transactions of its queue, the groups are stored, and the port has gained a
-  -- fault for each that was charged to it.
+  -- The port's entries are those of all transactions of its queue, the groups are stored, and the port has gained the
+  -- faults of what was reported of it.
   pub record IsSide (q : ℕ) (K : Desk) (w : Q) : Type 0 where
     pub port : SideOk (core_of K) q (own_of q K) (values.port w)
     pub stored : values.stored w ≡ entries_of q K.opening.base K.log
@@ -163,10 +168,12 @@ module _ {Q R E : Type 0} (values : Values Q R E) (group : Group E) where
   abbrev pub next_tx : E → Desk → Tx
   next_tx e K = numbered (newest K + 1) (group.tx e)
 
-  -- The journal allows the transaction, and the group ran on the map at the newest number.
+  -- The journal allows the transaction, the group ran on the map at the newest number, and its blocks are placed by the
+  -- rule.
   pub record May (e : E) (K : Desk) : Type 0 where
     pub draw : MayDraw (core_of K) (next_tx e K)
     pub does : group.does (geometry_of K) (map_now K) e
+    pub placed : group.placed (geometry_of K) (start_of K.opening) K.opening.base (history_of K) e
 
   abbrev pub Fits : E → Desk → Type 0
   Fits e K = group.asks (geometry_of K) (map_now K) e

@@ -4,6 +4,7 @@ use Rattle.mq_blocks.specs.Drive.{PortState}
 use Rattle.mq_blocks.specs.declared.geometry.Geometry.{Geometry}
 use Rattle.mq_drive.specs.Steps.{Fault}
 use Rattle.mq_ledger.specs.declared.tx.Tx.{Tx}
+use Rattle.mq_turns.specs.declared.rule.Report.{Report}
 
 -- what a side's own record may speak of, beside its port
 pub record Part : Type 0 where
@@ -17,6 +18,8 @@ pub record Part : Type 0 where
   pub word : ℕ
   -- the transactions of its queue, newest first
   pub txs : List Tx
+  -- what was reported of its port, newest first
+  pub reports : List Report
 
 pub record Values (Q R E : Type 0) : Type 1 where
   -- of a side: its port, the faults of the port, in no order, the entries that it stores, each with its number, newest

@@ -6,7 +6,7 @@ ghost use Rattle.mq_rules.specs.Laws.{CellsAreNumbered, CellsWait, NotedPagesWer
 ghost use Rattle.mq_rules.specs.Laws.{ClaimsAreRuled, SidesShowClaims, ClaimsReachTheFront};
 ghost use Rattle.mq_rules.specs.Laws.{HomeWritesAreRuled, PagesShowHomeWrites};
 ghost use Rattle.mq_rules.specs.Laws.{RaisesAreRuled, RootsShowRaises};
-ghost use Rattle.mq_rules.specs.Laws.{ChargesAreRuled, SidesShowCharges};
+ghost use Rattle.mq_rules.specs.Laws.{ChargesAreRuled, SidesShowCharges, RootsShowCharges};
 
 use crate::values::JournalValues;
 
@@ -62,9 +62,11 @@ pub fn a_raised_base_keeps_the_rule<J: JournalValues>()
     ensures root { RootsShowRaises J.values J.group }
 {}
 
-/// A charge changes nothing that is asked of the history. The side that it is charged to stays what it is
-/// where its port has gained a fault of the same kind since, and the named one since the opening.
+/// A report of a port changes nothing that is asked of the history. The side or the root stays what it is
+/// where its port has gained a fault of the kind that is charged to it, and the named one since the
+/// opening; a side, where its own record says so, too.
 pub fn charges_keep_the_rule<J: JournalValues>()
     ensures ok { ChargesAreRuled J.values J.group }
     ensures side { SidesShowCharges J.values J.group }
+    ensures root { RootsShowCharges J.values J.group }
 {}

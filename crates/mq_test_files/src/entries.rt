@@ -1,7 +1,7 @@
 // An entry of a group that writes two blocks and frees one, planned and not.
 use mq_blocks::{Block, BlockNo, Geometry, OutOfMemory, QueueNo, TxNo};
 use mq_exec::Done;
-use mq_files::{FileEntry, Placed};
+use mq_files::{FileEntry, Placed, Reads};
 use mq_pages::{Kind, Write};
 use mq_revoke::{Placement, Planned, plan};
 use mq_tree::{Bytes, Fault, Path, Reply, Request};
@@ -116,7 +116,12 @@ fn an_entry_has_what_its_group_came_to(rt: HostRuntime) -> Result<(), OutOfMemor
     let requests = requests(alloc)?;
     let done = done(alloc)?;
     let plan = planned(alloc)?;
-    let drawn = FileEntry::new(alloc, 0, 3, true, &requests, &done, &plan)?;
+    let reads = Reads {
+        front: TxNo(2),
+        base: TxNo(0),
+    };
+    let drawn = FileEntry::new(alloc, 0, 3, true, &requests, &done, &plan, reads)?;
+    assert_eq!(rt; drawn.reads, reads);
     expect_entry(&rt, &drawn, 3, true);
     let direct = [BlockNo(70)];
     assert!(rt; lies(&drawn.placed, &[BlockNo(1)], &direct, &direct));

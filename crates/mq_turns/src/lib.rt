@@ -18,5 +18,5 @@ mod words;
 pub use close::Parts;
 pub use desk::{Chair, Desk};
 pub use machine::Machine;
-pub use rule::{Blame, Charge, Claim, Known, Knows, Law, Notice, Opening, Reading, Start, View};
+pub use rule::{Charge, Claim, Known, Knows, Law, Notice, Opening, Reading, Report, Start, View};
 pub use turn::{Item, Turn};

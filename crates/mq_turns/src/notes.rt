@@ -43,8 +43,9 @@ impl<M: Machine> Desk<M> {
         words::note_page::<M, Brand>(&self.table.shared, &mut chair.place, counter, block, page);
     }
 
-    /// Charges a refusal that the chair answers to a fault of a port that it holds. The port has to
-    /// show a fault for each charge by the time that it is given back. Nothing but a load happens.
+    /// Enters in the account of a port what the chair reports of it: a refusal that it answers, or that
+    /// a transaction was rung. The chair holds the port, which has to show what was reported by the
+    /// time that it is given back. Nothing but a load happens.
     pub fn charge(&self, chair: &mut Chair<M>, charge: &Charge)
         requires at { AtDesk self.now chair.old }
         requires may { MayNote M.meaning (notice.Charge charge.now) (view chair.old) }

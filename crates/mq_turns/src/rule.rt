@@ -26,7 +26,7 @@ pub struct Known<P, Q, R, E> {
     pub ended: LinkedList<(BlockNo, u64)>,
     /// The base word.
     pub word: u64,
-    /// Faults of ports that were answered as refusals.
+    /// What was reported of the ports, the newest first.
     pub charges: LinkedList<Charge>,
 }
 
@@ -39,17 +39,28 @@ pub struct Claim {
     pub mark: u64,
 }
 
-/// A fault, as a refusal names it.
-pub enum Blame {
+/// What a chair reports of a port: a refusal, by the fault that it is charged to, or how far its
+/// transactions have come.
+#[derive(Clone, Copy, Debug, PartialEq, Eq)]
+pub enum Report {
+    /// The port refused a call.
     Off,
+    /// A command of the transaction ended with this status.
     Failed { tx: TxNo, status: u16 },
+    /// A home write of the block ended with this status.
     FailedHome { block: BlockNo, status: u16 },
+    /// The transaction stays undone: its send was cut, or a command of it ended with this status, in
+    /// an earlier call.
+    Stopped { tx: TxNo, status: Option<u16> },
+    /// The transaction was rung.
+    Sent(TxNo),
 }
 
-/// A fault of a port, which is a side's or the root's.
+/// An entry in the account of a port, which is a side's or the root's.
+#[derive(Clone, Copy, Debug, PartialEq, Eq)]
 pub struct Charge {
     pub port: Turn,
-    pub blame: Blame,
+    pub report: Report,
 }
 
 /// What a chair notes at a step of its own. Proofs alone have one.
@@ -73,7 +84,7 @@ pub struct Reading<P, Q, R, E> {
     pub base: u64,
     /// Pages that it noted, with what was known then, the newest first.
     pub pages: LinkedList<(BlockNo, P, Known<P, Q, R, E>)>,
-    /// Faults that it answered as refusals.
+    /// What it reported of ports, the newest first.
     pub charged: LinkedList<Charge>,
 }
 

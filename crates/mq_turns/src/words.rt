@@ -145,7 +145,7 @@ pub(crate) fn note_page<M: Machine, N: Notifies<M::Page>>(
     top.load::<Notify<M, N>>(place, word);
 }
 
-/// Charges a fault of a port. Each call picks the notice.
+/// Enters a report of a port in its account. Each call picks the notice.
 pub(crate) fn charge<M: Machine, N: Notifies<M::Page>>(
     top: &Top<M>,
     place: &mut Place<M>,
