@@ -91,9 +91,7 @@ impl FileEntry {
         ensures durable { IfOk result (λ e. e.durable ≡ durable) }
     {
         let placed = copy_plan(alloc, plan)?;
-        entry_of(
-            alloc, session, call, durable, requests, done, placed, reads,
-        )
+        entry_of(alloc, session, call, durable, requests, done, placed, reads)
     }
 
     /// The entry of a group that was done and is not drawn: it changes nothing, or writes too much. All
@@ -116,8 +114,6 @@ impl FileEntry {
             front: TxNo(0),
             base: TxNo(0),
         };
-        entry_of(
-            alloc, session, call, durable, requests, done, placed, reads,
-        )
+        entry_of(alloc, session, call, durable, requests, done, placed, reads)
     }
 }

@@ -1,11 +1,11 @@
 -- A side that was drained.
-use Rattle.std.proofs.Common.{◌≡◌, ◌≢◌, ◌⊎◌, ℕ, suc, ◌+◌, ◌-◌, ◌<◌, ◌≤◌, ◌^◌, min, Bool, true, false, cond, List, [], ◌∷◌, length, map, Option, nat_le, sym, refl, ap, subst, ◌∙◌, inl, inr, arith}
+use Rattle.std.proofs.Common.{◌≡◌, ◌≢◌, ◌⊎◌, ℕ, ◌+◌, ◌-◌, ◌<◌, ◌≤◌, ◌^◌, Bool, cond, List, [], ◌∷◌, length, map, Option, nat_le, sym, refl, ap, subst, ◌∙◌, inl, inr, arith}
 use Rattle.std.specs.Prelude.{None, Some, Result, Ok, Err}
 use Rattle.std.proofs.lemmas.Bool.{cases_Bool}
 use Rattle.mq_blocks.specs.Drive.{PortState, counted}
 use Rattle.mq_blocks.specs.declared.geometry.Geometry.{Geometry}
-use Rattle.mq_drive.specs.Faults.{AreMore, IsAdded, count_of}
-use Rattle.mq_drive.specs.Steps.{Fault, CommandError, Gains, PowerOff}
+use Rattle.mq_drive.specs.Faults.{AreMore, count_of}
+use Rattle.mq_drive.specs.Steps.{Fault, CommandError, PowerOff}
 use Rattle.mq_drive.specs.declared.port.Port.{Ghosts}
 use Rattle.mq_blocks.specs.declared.command.Command.{Command}
 use Rattle.mq_ledger.specs.History.{AreNumbered, IsAt, of_queue, writes}
@@ -14,7 +14,6 @@ use Rattle.mq_ledger.specs.KnownJournal.{KnownJournal}
 use Rattle.mq_ledger.specs.declared.tx.Tx.{Tx}
 use Rattle.mq_ledger.proofs.Queues.{FromQueue-of, at_end, at_own}
 use Rattle.mq_ledger.proofs.Values.{at_numbered}
-use Rattle.mq_pages.specs.declared.page.PageCell.{PageCell}
 use Rattle.mq_rules.specs.Faults.{AreCharged, IsBacked, of_kind, reports_of}
 use Rattle.mq_rules.specs.Groups.{Group}
 use Rattle.mq_rules.specs.Rule
@@ -42,7 +41,7 @@ use Rattle.mq_turns.specs.declared.rule.Report.TheVariants as report
 use Rattle.mq_turns.specs.declared.turn.Turn.TheVariants.{Side}
 use Rattle.mq_journal.specs.Numbers
 use Rattle.mq_journal.specs.Numbers.{Shared}
-use Rattle.mq_journal.specs.Values.{IsRecord, entries_in, rung_of}
+use Rattle.mq_journal.specs.Values.{entries_in, rung_of}
 use Rattle.mq_journal.proofs.Showing.{failed_more, shows_still}
 use Rattle.mq_journal.proofs.Sent.{gained_longer, gained_more, off_backed}
 use Rattle.mq_journal.proofs.Sides.{queue_side}
@@ -63,7 +62,7 @@ none_before kept (f ∷ fs) e = absurd (some_kept kept f.0 f.1 (none_before (kep
 
 -- ---- faults
 
-all_more : (fs : Failures) (old new : List Fault) → AreGained fs old new → AreMore old new
+pub all_more : (fs : Failures) (old new : List Fault) → AreGained fs old new → AreMore old new
 all_more [] old new same f = let e : count_of f new ≡ count_of f old = ap (count_of f) same in omega arith
 all_more (x ∷ xs) old new (mid, first, rest) f = let a = gained_more old mid (CommandError x.0 x.1) first f in let b = all_more xs mid new rest f in omega arith
 
@@ -76,7 +75,7 @@ kind_more : (f : ℕ × ℕ) (fs : Failures) (old new : List Fault) → AreGaine
 kind_more f fs old new (mid, inl one, rest) = inr (λ g. let a = one_more (CommandError f.0 f.1) old mid (of_kind g) one in let b = all_more fs mid new rest (of_kind g) in omega arith)
 kind_more f fs old new (mid, inr full, rest) = inl full.0
 
-ended_more : (old : SideState) (fs : Failures) (mid : List Fault) (r : Result ℕ Cause) (new : SideState) → DrainsTo old fs mid r new → AreMore mid new.faults
+pub ended_more : (old : SideState) (fs : Failures) (mid : List Fault) (r : Result ℕ Cause) (new : SideState) → DrainsTo old fs mid r new → AreMore mid new.faults
 ended_more old fs mid (Ok n) new ends f = let e : count_of f new.faults ≡ count_of f mid = ap (count_of f) ends.3 in omega arith
 ended_more old fs mid (Err (Failed tx status)) new ends f = let e : count_of f new.faults ≡ count_of f mid = ap (count_of f) ends.2 in omega arith
 ended_more old fs mid (Err (Stopped tx w)) new ends f = let e : count_of f new.faults ≡ count_of f mid = ap (count_of f) ends.2 in omega arith

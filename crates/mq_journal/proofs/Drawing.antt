@@ -1,5 +1,5 @@
 -- A draw on a queue whose mark allows it.
-use Rattle.std.proofs.Common.{◌≡◌, ℕ, suc, ◌+◌, ◌<◌, ◌≤◌, ◌^◌, Bool, true, cond, List, [], ◌∷◌, length, Some, sym, refl, ap, subst, ◌∙◌, arith}
+use Rattle.std.proofs.Common.{◌≡◌, ℕ, suc, ◌<◌, ◌≤◌, Bool, true, cond, List, [], ◌∷◌, Some, sym, ap, subst, ◌∙◌, arith}
 use Rattle.std.proofs.lemmas.Bool.{eq-eqb}
 use Rattle.mq_blocks.specs.Drive.{PortState, staged_end}
 use Rattle.mq_drive.specs.Steps.{Fault}
@@ -16,7 +16,6 @@ use Rattle.mq_turns.specs.Lists.{Each, times}
 use Rattle.mq_turns.specs.Marks.{mark_of}
 use Rattle.mq_turns.specs.Meaning.{Meaning, drawn, newest}
 use Rattle.mq_turns.specs.declared.rule.Known.{Known}
-use Rattle.mq_turns.specs.declared.turn.Turn.{Turn}
 use Rattle.mq_turns.specs.declared.turn.Turn.TheVariants.{Side}
 use Rattle.mq_turns.proofs.Seen.{opening_seen, times_renewed}
 use Rattle.mq_turns.proofs.Slots.{turn_at_slot}

@@ -5,6 +5,7 @@ pub mod Numbering
 pub mod Drawing
 pub mod Sent
 pub mod Holding
-pub mod Reporting
+pub mod Reports
 pub mod AfterDrain
-pub mod Draining
+pub mod Refusing
+pub mod Keeping

@@ -1,5 +1,5 @@
 -- Before a draw: the queue's mark is not above the next number.
-use Rattle.std.proofs.Common.{◌≡◌, ◌≢◌, ℕ, suc, ◌+◌, ◌-◌, ◌<◌, ◌≤◌, Bool, true, false, cond, min, List, [], ◌∷◌, length, nat_le, Option, Some, None, sym, refl, ap, subst, ◌∙◌, inl, inr, arith, eqb}
+use Rattle.std.proofs.Common.{◌≡◌, ℕ, suc, ◌+◌, ◌-◌, ◌<◌, ◌≤◌, Bool, true, false, cond, min, List, [], ◌∷◌, length, nat_le, Some, None, sym, refl, ap, subst, ◌∙◌, inl, inr, arith, eqb}
 use Rattle.std.proofs.lemmas.Bool.{cases_Bool, cases_eq, cases_lt, eq-eqb, ne_eqb, eqb-true, lt-ltb, le-ltb, false≢true}
 use Rattle.mq_blocks.specs.Drive.{PortState, staged_end}
 use Rattle.mq_drive.specs.Steps.{Fault}
@@ -15,12 +15,10 @@ use Rattle.mq_rules.specs.Rule
 use Rattle.mq_rules.specs.Rule.{IsSide}
 use Rattle.mq_rules.specs.Values.{Values}
 use Rattle.mq_rules.proofs.Telling.{ok_claimed, side_claimed}
-use Rattle.mq_side.specs.Side.{side_state}
 use Rattle.mq_side.specs.declared.root.Root as side
 use Rattle.mq_side.specs.declared.side.QueueSide.{QueueSide}
 use Rattle.mq_side.proofs.Sends.{none_kept}
-use Rattle.mq_turns.specs.Chairs.{giving}
-use Rattle.mq_turns.specs.Desk.{IsTurn, Sees, Stay, after_look, refreshed, slot_of, turn_at}
+use Rattle.mq_turns.specs.Desk.{Sees, Stay, after_look, refreshed, slot_of, turn_at}
 use Rattle.mq_turns.specs.Lists.{Each, times, without}
 use Rattle.mq_turns.specs.Marks.{Marked, claim_of, is_claimed, mark_of, passed, queues_of, shown}
 use Rattle.mq_turns.specs.Meaning as history
@@ -31,8 +29,7 @@ use Rattle.mq_turns.specs.declared.rule.Known.{Known}
 use Rattle.mq_turns.specs.declared.rule.Opening.{Opening}
 use Rattle.mq_turns.specs.declared.rule.Reading.{Reading}
 use Rattle.mq_turns.specs.declared.turn.Item.TheVariants as item
-use Rattle.mq_turns.specs.declared.turn.Turn.{Turn}
-use Rattle.mq_turns.specs.declared.turn.Turn.TheVariants.{Page, Side, Root}
+use Rattle.mq_turns.specs.declared.turn.Turn.TheVariants.{Side}
 use Rattle.mq_turns.proofs.Claims.{reader_grows}
 use Rattle.mq_turns.proofs.Each.{each_without}
 use Rattle.mq_turns.proofs.Seen.{mark_stays, opening_seen, sees_look, stands_held, stay_renewed}

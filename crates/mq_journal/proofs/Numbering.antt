@@ -1,5 +1,5 @@
 -- A side on which a number was drawn.
-use Rattle.std.proofs.Common.{◌≡◌, ℕ, suc, ◌+◌, ◌-◌, ◌<◌, ◌≤◌, ◌^◌, true, false, List, [], ◌∷◌, ◌++◌, length, map, reverse, nat_lt, sym, refl, ap, subst, ◌∙◌, inl, inr, arith, if◌then◌else◌}
+use Rattle.std.proofs.Common.{◌≡◌, ℕ, suc, ◌+◌, ◌-◌, ◌≤◌, false, List, [], ◌∷◌, ◌++◌, length, map, reverse, sym, refl, ap, subst, ◌∙◌, inr, arith}
 use Rattle.std.specs.Prelude.{None}
 use Rattle.std.proofs.lemmas.Bool.{eq-eqb, lt-ltb, le-ltb}
 use Rattle.std.proofs.lemmas.List.{map-append, reverse-append}
@@ -10,14 +10,12 @@ use Rattle.mq_blocks.specs.Journal.{number_limit}
 use Rattle.mq_blocks.specs.declared.geometry.Geometry.{Geometry}
 use Rattle.mq_drive.specs.Steps.{Fault}
 use Rattle.mq_drive.specs.declared.port.Port.{Ghosts}
-use Rattle.mq_ledger.specs.History.{of_queue, writes}
-use Rattle.mq_ledger.specs.Items.{descriptor_blocks, end_of}
+use Rattle.mq_ledger.specs.Items.{end_of}
 use Rattle.mq_ledger.specs.KnownJournal.{KnownJournal, draw_known}
 use Rattle.mq_ledger.specs.Sides.{SideOk}
 use Rattle.mq_ledger.specs.declared.tx.Tx.{Tx}
 use Rattle.mq_ledger.proofs.Entries.{of_queue-own}
 use Rattle.mq_core.specs.Events.{HasRoom}
-use Rattle.mq_pages.specs.declared.page.PageCell.{PageCell}
 use Rattle.mq_revoke.specs.Guard.{placed_of}
 use Rattle.mq_rules.specs.Faults.{AreCharged, reports_of}
 use Rattle.mq_rules.specs.Groups.{Group}

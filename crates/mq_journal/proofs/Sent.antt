@@ -1,18 +1,16 @@
 -- A side whose commit was sent, or whose send was cut.
-use Rattle.std.proofs.Common.{◌≡◌, ◌⊎◌, ℕ, zero, suc, ◌+◌, ◌-◌, ◌<◌, ◌≤◌, ◌^◌, min, Bool, cond, List, ◌∷◌, length, Option, sym, refl, ap, subst, ◌∙◌, inl, inr, arith}
-use Rattle.std.specs.Prelude.{None, Some, Result, Ok, Err}
+use Rattle.std.proofs.Common.{◌≡◌, ◌⊎◌, ℕ, zero, suc, ◌+◌, ◌-◌, ◌≤◌, ◌^◌, min, Bool, cond, List, ◌∷◌, length, sym, refl, ap, subst, ◌∙◌, inl, inr, arith}
+use Rattle.std.specs.Prelude.{None, Some}
 use Rattle.std.proofs.lemmas.Bool.{lt-ltb, le-ltb}
 use Rattle.mq_blocks.specs.Drive.{PortState, counted}
 use Rattle.mq_blocks.specs.declared.geometry.Geometry.{Geometry}
-use Rattle.mq_drive.specs.Faults.{AreMore, IsAdded, count_of}
+use Rattle.mq_drive.specs.Faults.{AreMore, count_of}
 use Rattle.mq_drive.specs.Steps.{Fault, Gains, PowerOff}
 use Rattle.mq_drive.specs.declared.port.Port.{Ghosts}
-use Rattle.mq_drive.specs.declared.port.Off as drive
 use Rattle.mq_ledger.specs.History.{IsAt}
 use Rattle.mq_ledger.specs.Items.{end_of}
 use Rattle.mq_ledger.specs.KnownJournal.{KnownJournal}
 use Rattle.mq_ledger.specs.declared.tx.Tx.{Tx}
-use Rattle.mq_pages.specs.declared.page.PageCell.{PageCell}
 use Rattle.mq_pmr.specs.Runs.{Items}
 use Rattle.mq_rules.specs.Faults.{AreCharged, IsBacked, of_kind, reports_of}
 use Rattle.mq_rules.specs.Groups.{Group}
@@ -20,13 +18,12 @@ use Rattle.mq_rules.specs.Rule
 use Rattle.mq_rules.specs.Rule.{IsOk, IsSide}
 use Rattle.mq_rules.specs.Values.{Values}
 use Rattle.mq_rules.proofs.Charging.{charged_more}
-use Rattle.mq_side.specs.Commits.{NumberedCommit, items_of}
+use Rattle.mq_side.specs.Commits.{NumberedCommit}
 use Rattle.mq_side.specs.Counts.{SendCounts}
 use Rattle.mq_side.specs.Sent.{IsCutAt, RingsAll, Sends, after_send}
 use Rattle.mq_side.specs.Side.{IsQueueSide, SideState, side_state}
 use Rattle.mq_side.specs.Stored.{AreStored}
 use Rattle.mq_side.specs.Told.{KeepsTold}
-use Rattle.mq_side.specs.declared.answers.Why.{Why}
 use Rattle.mq_side.specs.declared.answers.Why.TheVariants.{Off}
 use Rattle.mq_side.specs.declared.root.Root.{Root}
 use Rattle.mq_side.specs.declared.side.QueueSide.{QueueSide}

@@ -1,13 +1,12 @@
 -- What a side shows of the reports of its port, from call to call.
-use Rattle.std.proofs.Common.{◌≡◌, ◌≢◌, ◌⊎◌, ℕ, ◌+◌, ◌<◌, ◌≤◌, cond, Bool, List, [], ◌∷◌, ◌++◌, map, Option, Some, None, sym, refl, ap, subst, ◌∙◌, inl, inr, arith}
+use Rattle.std.proofs.Common.{◌≡◌, ◌≢◌, ◌⊎◌, ℕ, ◌≤◌, cond, Bool, List, [], ◌∷◌, ◌++◌, Option, Some, None, sym, refl, ap, subst, ◌∙◌, inl, inr, arith}
 use Rattle.std.proofs.lemmas.Bool.{eq-eqb}
 use Rattle.mq_blocks.specs.declared.command.Command.{Command}
 use Rattle.mq_ledger.specs.History.{IsAt}
-use Rattle.mq_ledger.specs.Items.{end_of}
 use Rattle.mq_ledger.specs.declared.tx.Tx.{Tx}
 use Rattle.mq_rules.specs.Faults.{reports_of}
 use Rattle.mq_side.specs.Drained.{numbers_of}
-use Rattle.mq_side.specs.Side.{HasTx, IsBelow, SideState}
+use Rattle.mq_side.specs.Side.{HasTx, IsBelow}
 use Rattle.mq_side.specs.declared.answers.Why.{Why}
 use Rattle.mq_turns.specs.Lists.{Each}
 use Rattle.mq_turns.specs.declared.rule.Charge.{Charge}
@@ -15,7 +14,7 @@ use Rattle.mq_turns.specs.declared.rule.Report.{Report}
 use Rattle.mq_turns.specs.declared.rule.Report.TheVariants as report
 use Rattle.mq_turns.specs.declared.turn.Turn.TheVariants.{Side}
 use Rattle.mq_turns.proofs.Each.{each_map}
-use Rattle.mq_journal.specs.Values.{IsUnrung, Shows, ShowsAll, StaysCut, StaysFailed}
+use Rattle.mq_journal.specs.Values.{IsUnrung, Shows, StaysCut, StaysFailed}
 
 -- ---- commands that failed
 

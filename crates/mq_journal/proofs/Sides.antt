@@ -1,14 +1,13 @@
 -- A side on a desk, as the calls on it speak of it.
-use Rattle.std.proofs.Common.{◌≡◌, ℕ, List, refl}
+use Rattle.std.proofs.Common.{ℕ, List, refl}
 use Rattle.mq_blocks.specs.Drive.{PortState}
 use Rattle.mq_drive.specs.Steps.{Fault}
 use Rattle.mq_drive.specs.declared.port.Port.{Ghosts}
 use Rattle.mq_rules.specs.Groups.{Group}
-use Rattle.mq_rules.specs.Rule.{Desk, IsSide, core_of, own_of, part_of}
-use Rattle.mq_side.specs.Counts.{IsCounted}
+use Rattle.mq_rules.specs.Rule.{Desk, IsSide, core_of, own_of}
 use Rattle.mq_side.specs.Side.{IsQueueSide, side_state}
 use Rattle.mq_side.specs.declared.side.QueueSide.{QueueSide}
-use Rattle.mq_journal.specs.Values.{IsRecord, side_values}
+use Rattle.mq_journal.specs.Values.{side_values}
 
 module _ {P E : Type 0} {G : Ghosts P} (state : P → PortState) (faults : P → List Fault) (group : Group E) where
   pub queue_side : (q : ℕ) (K : Desk (side_values {G = G} state faults) group) (s : QueueSide P E G) → IsSide (side_values state faults) group q K s

@@ -37,12 +37,12 @@ report_of (cause.Failed tx status) = report.Failed tx status
 report_of (cause.FailedHome block status) = report.FailedHome block status
 report_of (cause.Stopped tx why) = report.Stopped tx (status_of why)
 
--- the number that a failure names
-abbrev pub named_by : Cause → Option ℕ
-named_by cause.Off = None
-named_by (cause.Failed tx status) = Some tx
-named_by (cause.FailedHome block status) = None
-named_by (cause.Stopped tx why) = Some tx
+-- the number that a failure names, where it is a greater one
+abbrev pub named_above : ℕ → Cause → Option ℕ
+named_above at cause.Off = None
+named_above at (cause.Failed tx status) = if nat_le tx at then None else Some tx
+named_above at (cause.FailedHome block status) = None
+named_above at (cause.Stopped tx why) = if nat_le tx at then None else Some tx
 
 -- A failure of a number up to this one is answered, and one of a greater number is not.
 abbrev pub answer_upto : ℕ → Result ℕ Cause → Result (Unit {0}) Cause
@@ -52,9 +52,33 @@ answer_upto at (Err (cause.Failed tx status)) = if nat_le tx at then Err (cause.
 answer_upto at (Err (cause.FailedHome block status)) = Err (cause.FailedHome block status)
 answer_upto at (Err (cause.Stopped tx why)) = if nat_le tx at then Err (cause.Stopped tx why) else Ok tt
 
-module _ {P E : Type 0} {G : Ghosts P} (state : P → PortState) (faults : P → List Fault) (group : Group E) where
-  -- ---- one side in hand
+-- ---- what the session knows then
 
+module _ {P E : Type 0} {G : Ghosts P} where
+  -- The session's sweep over the queues has come to this one, of which all numbers up to `at` are done. Nothing else of
+  -- what it knows has changed.
+  pub record Passes (q at : ℕ) (old new : Seat P E G) : Type 0 where
+    pub low : ℕ
+    pub reach : at ≤ low
+    pub is : new ≡ record old { hand = 0; reading = shown (queues_of old.opening) q low old.reading }
+
+  -- The refusal was reported of the queue's port. Nothing else of what it knows has changed.
+  abbrev pub Refuses : ℕ → Cause → Seat P E G → Seat P E G → Type 0
+  Refuses q c old new =
+      new ≡ record old { hand = 0; reading = record old.reading { charged = reported q (report_of c) ∷ old.reading.charged } }
+
+-- ---- one side in hand
+
+module _ {P E : Type 0} {G : Ghosts P} (state : P → PortState) (faults : P → List Fault) where
+  -- A drain of this side came to this, and it was answered so.
+  pub record IsAnswered (at : ℕ) (s : QueueSide P E G) (answer : Result (Unit {0}) Cause) : Type 0 where
+    pub result : Result ℕ Cause
+    pub after : QueueSide P E G
+    pub drains : Drains (side_state state faults s) result (side_state state faults after)
+    pub cause : DrainCause result (faults s.pmr.port) (faults after.pmr.port)
+    pub is : answer ≡ answer_upto at result
+
+module _ {P E : Type 0} {G : Ghosts P} (state : P → PortState) (faults : P → List Fault) (group : Group E) where
   -- Whatever is known: with the claim that the queue's numbers below this one are done, the side is what the rule says.
   abbrev pub ShowsBelow : ℕ → ℕ → QueueSide P E G → Seat P E G → Type 0
   ShowsBelow q low s v =
@@ -67,32 +91,10 @@ module _ {P E : Type 0} {G : Ghosts P} (state : P → PortState) (faults : P →
     pub sees : Sees (Numbers.machine state faults group) old known
     pub is : new ≡ giving (slot_of o (Side q)) (after_clear q low known old)
 
-  -- A drain of this side came to this, and it was answered so.
-  pub record IsAnswered (at : ℕ) (s : QueueSide P E G) (answer : Result (Unit {0}) Cause) : Type 0 where
-    pub result : Result ℕ Cause
-    pub after : QueueSide P E G
-    pub drains : Drains (side_state state faults s) result (side_state state faults after)
-    pub cause : DrainCause result (faults s.pmr.port) (faults after.pmr.port)
-    pub is : answer ≡ answer_upto at result
-
-  -- ---- over the desk
-
   -- The side, as it was taken by what was known then, was drained.
   pub record WasDrained (q at : ℕ) (old : Seat P E G) (answer : Result (Unit {0}) Cause) : Type 0 where
     pub taken : Shared P E G
     pub sees : Sees (Numbers.machine state faults group) old taken
     pub side : QueueSide P E G
     pub stood : IsSide (Numbers.values state faults group) group q taken side
-    pub answered : IsAnswered at side answer
-
-  -- The session's sweep over the queues has come to this one, of which all numbers up to `at` are done. Nothing else of
-  -- what it knows has changed.
-  pub record Passes (q at : ℕ) (old new : Seat P E G) : Type 0 where
-    pub low : ℕ
-    pub reach : at ≤ low
-    pub is : new ≡ record old { hand = 0; reading = shown (queues_of old.opening) q low old.reading }
-
-  -- The refusal was reported of the queue's port. Nothing else of what it knows has changed.
-  abbrev pub Refuses : ℕ → Cause → Seat P E G → Seat P E G → Type 0
-  Refuses q c old new =
-      new ≡ record old { hand = 0; reading = record old.reading { charged = reported state faults group q (report_of c) ∷ old.reading.charged } }
+    pub answered : IsAnswered state faults at side answer

@@ -2,3 +2,4 @@ pub mod Values
 pub mod Machine
 pub mod Numbers
 pub mod Draining
+pub mod Laws

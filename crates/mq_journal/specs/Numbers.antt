@@ -45,6 +45,10 @@ Shared P E G = Known PageCell (QueueSide P E G) (Root P G) E
 abbrev pub Seat : (P E : Type 0) → Ghosts P → Type 0
 Seat P E G = View PageCell (QueueSide P E G) (Root P G) E
 
+-- a report of the port of a queue's side
+abbrev pub reported : ℕ → Report → Charge
+reported q r = record { port = Side q; report = r }
+
 module _ {P E : Type 0} {G : Ghosts P} (state : P → PortState) (faults : P → List Fault) (group : Group E) where
   abbrev pub values : Values (QueueSide P E G) (Root P G) E
   values = side_values state faults
@@ -104,6 +108,10 @@ module _ {P E : Type 0} {G : Ghosts P} (state : P → PortState) (faults : P →
     pub turn : IsTurn o (Side q)
     pub holds : 0 < times (slot_of o (Side q)) v.held
     pub has : Each (λ h. h.0 ≡ slot_of o (Side q) → HasNumbered q h.1 s n) v.held
+
+  -- something may be known by now
+  abbrev pub IsSeen : Seat P E G → Type 0
+  IsSeen v = (K : Shared P E G) × Sees machine v K
 
   -- of all but that side
   abbrev pub SeesRest : Start P E G → ℕ → Seat P E G → Shared P E G → Type 0
@@ -177,10 +185,6 @@ module _ {P E : Type 0} {G : Ghosts P} (state : P → PortState) (faults : P →
     pub rest : SameSession old new
 
   -- ---- what is reported of a port
-
-  -- the account of the port of a queue's side
-  abbrev pub reported : ℕ → Report → Charge
-  reported q r = record { port = Side q; report = r }
 
   -- Whatever is known: with the report, the side is what the rule says.
   abbrev pub ShowsReport : ℕ → Report → QueueSide P E G → Seat P E G → Type 0

@@ -1,11 +1,11 @@
 // The side of a queue is drained.
-ghost use Rattle.std.specs.Prelude.{◌≡◌, ℕ, ◌<◌, ◌≤◌, ◌-◌, ◌^◌, IfErr, OnOk};
+ghost use Rattle.std.specs.Prelude.{◌<◌, ◌≤◌, ◌-◌, ◌^◌, ◌≡◌, ℕ, IfErr, OnOk, Err, None, Some};
 ghost use Rattle.mq_turns.specs.AtDesk.{AtDesk, view, start_of};
 ghost use Rattle.mq_turns.specs.Desk.{IsTurn, slot_of};
 ghost use Rattle.mq_turns.specs.Lists.{Each, times};
 ghost use Rattle.mq_turns.specs.declared.turn.Turn.TheVariants.{Side};
-ghost use Rattle.mq_journal.specs.Draining.{IsAnswered, IsPassed, Passes, Refuses, ShowsBelow, WasDrained, named_by, report_of, status_of};
-ghost use Rattle.mq_journal.specs.Numbers.{HoldsSide, IsReported};
+ghost use Rattle.mq_journal.specs.Draining.{IsAnswered, IsPassed, Passes, Refuses, ShowsBelow, WasDrained, answer_upto, named_above, report_of, status_of};
+ghost use Rattle.mq_journal.specs.Numbers.{HoldsSide, IsReported, IsSeen, ShowsReport};
 
 use crate::machine::{Groups, JournalMachine};
 use crate::reporting::report;
@@ -26,10 +26,10 @@ fn status_of(why: Why) -> Option<u16>
 }
 
 // A refusal, as it is reported of the port.
-fn report_of(cause: Cause) -> Report
-    ensures { result ≡ report_of cause }
+fn report_of(cause: &Cause) -> Report
+    ensures { result ≡ report_of cause.now }
 {
-    match cause {
+    match *cause {
         Cause::Off => Report::Off,
         Cause::Failed { tx, status } => Report::Failed { tx, status },
         Cause::FailedHome { block, status } => Report::FailedHome { block, status },
@@ -40,19 +40,20 @@ fn report_of(cause: Cause) -> Report
     }
 }
 
-// The number that a failure names.
-fn named(cause: Cause) -> Option<TxNo>
-    ensures { result ≡ named_by cause }
+// The number that a failure names, where it is a greater one.
+fn named_above(cause: &Cause, at: TxNo) -> Option<TxNo>
+    ensures { result ≡ named_above at cause.now }
 {
-    match cause {
-        Cause::Failed { tx, status: _ } => Some(tx),
-        Cause::Stopped { tx, why: _ } => Some(tx),
-        Cause::Off => None,
+    let tx = match *cause {
+        Cause::Failed { tx, status: _ } => tx,
+        Cause::Stopped { tx, why: _ } => tx,
+        Cause::Off => return None,
         Cause::FailedHome {
             block: _,
             status: _,
-        } => None,
-    }
+        } => return None,
+    };
+    if tx <= at { None } else { Some(tx) }
 }
 
 // Stores the queue's mark, below which all of the queue is done, and gives the side back.
@@ -76,6 +77,45 @@ fn pass<P: Port + Drop, G: Groups>(
     desk.give_back(chair, Turn::Side(queue), Item::Side(side));
 }
 
+// Answers the failure of a drain, or passes it over where its number is a greater one; and gives the side
+// back.
+fn stop<P: Port + Drop, G: Groups>(
+    desk: &Desk<JournalMachine<P, G>>,
+    chair: &mut Chair<JournalMachine<P, G>>,
+    side: QueueSide<P, G::Entry>,
+    at: TxNo,
+    cause: Cause,
+) -> Result<(), Cause>
+    requires at { AtDesk desk.now chair.old }
+    requires turn { IsTurn (start_of desk.now) (Side side.pmr.queue) }
+    requires holds { 0 < times (slot_of (start_of desk.now) (Side side.pmr.queue)) (view chair.old).held }
+    requires low { (n : ℕ) → named_above at cause ≡ Some n → 1 ≤ n }
+    requires below { (n : ℕ)
+        → named_above at cause ≡ Some n
+        → ShowsBelow P.state P.faults G.group side.pmr.queue n side (view chair.old) }
+    requires shows { named_above at cause ≡ None
+        → ShowsReport P.state P.faults G.group side.pmr.queue (report_of cause) side (view chair.old) }
+    ensures at { AtDesk desk.now chair.new }
+    ensures answer { result ≡ answer_upto at (Err cause) }
+    ensures passed { OnOk result ((low : ℕ)
+        × (at < low)
+        × IsPassed P.state P.faults G.group (start_of desk.now) side.pmr.queue low
+        (view chair.old) (view chair.new)) }
+    ensures refused { IfErr result (λ c. IsReported P.state P.faults G.group (start_of desk.now)
+        side.pmr.queue (report_of c) (view chair.old) (view chair.new)) }
+{
+    match named_above(&cause, at) {
+        Some(tx) => {
+            pass(desk, chair, side, tx.0);
+            Ok(())
+        }
+        None => {
+            report(desk, chair, side, report_of(&cause));
+            Err(cause)
+        }
+    }
+}
+
 // Drains a side that the chair holds, and gives it back.
 fn drain_side<P: Port + Drop, G: Groups>(
     desk: &Desk<JournalMachine<P, G>>,
@@ -86,29 +126,24 @@ fn drain_side<P: Port + Drop, G: Groups>(
     requires at { AtDesk desk.now chair.old }
     requires side { HoldsSide P.state P.faults G.group (start_of desk.now) side.pmr.queue side
         (view chair.old) }
+    requires known { IsSeen P.state P.faults G.group (view chair.old) }
     requires limit { at < 2 ^ 64 - 1 }
     ensures at { AtDesk desk.now chair.new }
     ensures answered { IsAnswered P.state P.faults at side result }
     ensures passed { OnOk result ((low : ℕ)
         × (at < low)
         × IsPassed P.state P.faults G.group (start_of desk.now) side.pmr.queue low
-            (view chair.old) (view chair.new)) }
+        (view chair.old) (view chair.new)) }
     ensures refused { IfErr result (λ c. IsReported P.state P.faults G.group (start_of desk.now)
         side.pmr.queue (report_of c) (view chair.old) (view chair.new)) }
 {
-    let drained = side.drain();
-    let Err(cause) = drained else {
-        pass(desk, chair, side, u64::MAX);
-        return Ok(());
-    };
-    if let Some(tx) = named(cause) {
-        if tx > at {
-            pass(desk, chair, side, tx.0);
-            return Ok(());
+    match side.drain() {
+        Ok(_) => {
+            pass(desk, chair, side, u64::MAX);
+            Ok(())
         }
+        Err(cause) => stop(desk, chair, side, at, cause),
     }
-    report(desk, chair, side, report_of(cause));
-    Err(cause)
 }
 
 /// Takes the side of a queue, completes until nothing is posted, stores and flushes the head past all
@@ -129,7 +164,7 @@ pub fn drain<R: Wait, P: Port + Drop, G: Groups>(
     ensures at { AtDesk desk.now chair.new }
     ensures drained { WasDrained P.state P.faults G.group queue at (view chair.old) result }
     ensures passed { OnOk result (Passes queue at (view chair.old) (view chair.new)) }
-    ensures refused { IfErr result (λ c. Refuses P.state P.faults G.group queue c
+    ensures refused { IfErr result (λ c. Refuses queue c
         (view chair.old) (view chair.new)) }
 {
     let item = desk.take(rt, chair, Turn::Side(queue));

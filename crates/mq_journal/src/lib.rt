@@ -3,12 +3,14 @@
 #![tactic(auto)]
 
 mod draining;
+mod laws;
 mod machine;
 mod numbers;
 mod reporting;
 mod sending;
 
 pub use draining::drain;
+pub use laws::a_held_side_stays;
 pub use machine::{Groups, JournalMachine};
 pub use numbers::number;
 pub use sending::send;

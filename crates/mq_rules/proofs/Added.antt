@@ -12,7 +12,7 @@ use Rattle.mq_turns.specs.declared.rule.Claim.{Claim}
 use Rattle.mq_turns.specs.declared.turn.Turn.{Turn}
 use Rattle.mq_turns.specs.declared.turn.Turn.TheVariants.{Side}
 use Rattle.mq_turns.proofs.Changes.{turn_is}
-use Rattle.mq_rules.specs.Faults.{AreBacked, AreCharged, WasGained, charged_to, named_by, of_kind, reports_of}
+use Rattle.mq_rules.specs.Faults.{AreCharged, WasGained, charged_to, named_by, of_kind, reports_of}
 use Rattle.mq_rules.specs.Rule.{same_port}
 
 pub claimed_more : (l m : List Claim) (q n : ℕ) → is_claimed q n m ≡ true → is_claimed q n (l ++ m) ≡ true

@@ -1,8 +1,8 @@
 -- A port that gains faults, and what is charged to them.
-use Rattle.std.proofs.Common.{◌≡◌, ◌⊎◌, ℕ, ◌+◌, ◌-◌, ◌≤◌, ◌^◌, ◌&&◌, Bool, true, cond, List, [], ◌∷◌, length, Option, Some, None, refl, ap, inl, inr, arith}
+use Rattle.std.proofs.Common.{◌≡◌, ◌⊎◌, ℕ, ◌-◌, ◌≤◌, ◌^◌, ◌&&◌, Bool, true, cond, List, [], ◌∷◌, length, Option, Some, None, refl, ap, inl, inr, arith}
 use Rattle.std.proofs.lemmas.Bool.{eq-eqb}
 use Rattle.mq_blocks.specs.declared.geometry.Geometry.{Geometry}
-use Rattle.mq_drive.specs.Faults.{count_of, AreMore, IsAdded}
+use Rattle.mq_drive.specs.Faults.{count_of, AreMore}
 use Rattle.mq_drive.specs.Steps.{Fault}
 use Rattle.mq_turns.specs.Lists.{Each}
 use Rattle.mq_turns.specs.Words.{same_turn}
@@ -10,7 +10,7 @@ use Rattle.mq_turns.specs.declared.rule.Charge.{Charge}
 use Rattle.mq_turns.specs.declared.turn.Turn.{Turn}
 use Rattle.mq_turns.specs.declared.turn.Turn.TheVariants.{Page, Side, Root}
 use Rattle.mq_turns.proofs.Each.{each_map}
-use Rattle.mq_rules.specs.Faults.{AreBacked, AreCharged, IsBacked, WasGained, charged_to, fault_of, named_by, of_kind, passes}
+use Rattle.mq_rules.specs.Faults.{AreCharged, IsBacked, WasGained, fault_of, named_by, of_kind, passes}
 
 same_self : (t : Turn) → same_turn t t ≡ true
 same_self (Page b) = eq-eqb b b refl

@@ -1,5 +1,5 @@
 -- A page after a draw.
-use Rattle.std.proofs.Common.{◌≡◌, ℕ, ◌+◌, ◌≤◌, true, false, List, Option, None, is_some, max, sym, refl, ap, inl, inr, arith, if◌then◌else◌}
+use Rattle.std.proofs.Common.{◌≡◌, ℕ, List, Option, None, is_some, ap, inl, inr, arith, if◌then◌else◌}
 use Rattle.std.proofs.lemmas.Bool.{cases_Bool}
 use Rattle.mq_blocks.specs.Journal.{is_among}
 use Rattle.mq_blocks.specs.Machine.{Map, after, or_kept, write_of}
@@ -7,10 +7,10 @@ use Rattle.mq_ledger.specs.History.{change_of, changes}
 use Rattle.mq_ledger.specs.KnownJournal.{KnownJournal}
 use Rattle.mq_ledger.specs.declared.tx.Tx.{Tx}
 use Rattle.mq_core.proofs.Growth.{front_low}
-use Rattle.mq_base.specs.Pages.{last_direct, last_ended}
+use Rattle.mq_base.specs.Pages.{last_ended}
 use Rattle.mq_base.proofs.Pages.{due_last}
 use Rattle.mq_pages.specs.declared.page.PageCell.{PageCell}
-use Rattle.mq_turns.specs.Meaning.{newest, drawn}
+use Rattle.mq_turns.specs.Meaning.{drawn}
 use Rattle.mq_rules.specs.Cells.{cell_after}
 use Rattle.mq_rules.specs.Groups.{Group}
 use Rattle.mq_rules.specs.Rule

@@ -1,5 +1,5 @@
 -- What lies on a desk at its opening is what the rule says of it.
-use Rattle.std.proofs.Common.{◌≡◌, ℕ, zero, suc, ◌<◌, true, false, List, [], ◌∷◌, length, map, get_or, Option, Some, None, ◌≤◌, ◌+◌, sym, refl, ap, subst, ◌∙◌, inl, inr, arith, eqb}
+use Rattle.std.proofs.Common.{◌≡◌, ℕ, zero, suc, ◌<◌, true, false, List, [], ◌∷◌, length, map, get_or, Option, Some, None, sym, refl, ap, subst, ◌∙◌, inl, inr, arith, eqb}
 use Rattle.std.proofs.lemmas.Bool.{or_cases, or_left, eqb-true, false≢true}
 use Rattle.std.specs.Prelude.{slice_get}
 use lib.ListN.{length-map}

@@ -1,6 +1,6 @@
-use Rattle.std.proofs.Common.{◌≡◌, ℕ, ◌+◌, ◌<◌, ◌≤◌, [], ◌∷◌, ◌++◌, length, sym, refl, ap, subst, ◌∙◌, arith}
+use Rattle.std.proofs.Common.{◌≡◌, ◌+◌, ◌<◌, ◌≤◌, [], ◌∷◌, ◌++◌, length, sym, ap, subst, ◌∙◌, arith}
 use Rattle.mq_rules.specs.Rule.{IsSide}
-use Rattle.mq_side.specs.Commits.{Commit, NumberedCommit, commit_of_tx, descriptor_size}
+use Rattle.mq_side.specs.Commits.{Commit, NumberedCommit, descriptor_size}
 use Rattle.mq_side.specs.Stored.{next_in, numbered_in, rows_of}
 use Rattle.mq_turns.specs.AtDesk.{view, start_of}
 use Rattle.mq_turns.specs.Desk.{slot_of}

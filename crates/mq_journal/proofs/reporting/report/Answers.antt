@@ -1,7 +1,6 @@
-use Rattle.std.proofs.Common.{◌≡◌, ℕ, ◌+◌, ◌<◌, true, List, length, sym, refl, ap, subst, ◌∙◌, arith}
+use Rattle.std.proofs.Common.{◌≡◌, ℕ, ◌+◌, ◌<◌, true, length, sym, refl, ap, subst, ◌∙◌, arith}
 use Rattle.std.proofs.lemmas.Bool.{eq-eqb}
 use Rattle.mq_rules.specs.Rule.{IsSide}
-use Rattle.mq_rules.proofs.Telling.{ok_charged}
 use Rattle.mq_turns.specs.AtDesk.{view, start_of}
 use Rattle.mq_turns.specs.Chairs.{giving}
 use Rattle.mq_turns.specs.Desk.{slot_of, turn_at}
@@ -24,7 +23,7 @@ give_back-requires-clause-holds g c =
     let v = view c.args.chair.now in
     let noted = c.charge.ensures.noted in
     let qr = c.queue-queue.result in
-    let L = charged (reported g.P.Port.state g.P.Port.faults g.G.Groups.group qr c.args.report) noted.0 in
+    let L = charged (reported qr c.args.report) noted.0 in
     let same = ap (λ w. times (slot_of o (Side q)) w.held) noted.1 ∙ times_renewed μ (λ k. same_turn (Side qr) (turn_at L.opening k)) L (slot_of o (Side q)) v.held in
     let holds = c.requires.holds in
     let there : 0 < times (slot_of o (Side q)) (view c.charge.new.chair).held = omega arith in
@@ -42,8 +41,8 @@ give_back-requires-clause-stands g c = λ K sees.
     let v = view c.args.chair.now in
     let noted = c.charge.ensures.noted in
     let K1 = noted.0 in
-    let is = subst (λ z. view c.charge.new.chair ≡ after_notice μ (notice.Charge (reported state faults group z c.args.report)) K1 v) c.queue-queue.ensures noted.1 in
-    let L = charged (reported state faults group q c.args.report) K1 in
+    let is = subst (λ z. view c.charge.new.chair ≡ after_notice μ (notice.Charge (reported z c.args.report)) K1 v) c.queue-queue.ensures noted.1 in
+    let L = charged (reported q c.args.report) K1 in
     let slot = slot_of o (Side q) in
     let start = opening_seen μ o K1 v c.requires.at.1 noted.2 in
     let there = turn_at_slot o (Side q) c.requires.turn in
@@ -61,5 +60,5 @@ returns-clause-reported g c =
     let o = start_of c.args.desk.now in
     let v = view c.args.chair.now in
     let noted = c.charge.ensures.noted in
-    let is = subst (λ z. view c.charge.new.chair ≡ after_notice μ (notice.Charge (reported state faults group z c.args.report)) noted.0 v) c.queue-queue.ensures noted.1 in
+    let is = subst (λ z. view c.charge.new.chair ≡ after_notice μ (notice.Charge (reported z c.args.report)) noted.0 v) c.queue-queue.ensures noted.1 in
     record { known = noted.0; sees = noted.2; is = c.give_back.ensures.gave ∙ (λ i. giving (length o.pages + c.queue-queue.ensures i) (is i)) }

@@ -1,15 +1,14 @@
-use Rattle.std.proofs.Common.{◌≡◌, ℕ, ◌<◌, ◌+◌, length, sym, refl, ap, subst, ◌∙◌}
+use Rattle.std.proofs.Common.{ℕ, ◌<◌, sym, subst}
 use Rattle.mq_rules.specs.Rule.{IsSide}
 use Rattle.mq_side.specs.Commits.{items_of}
 use Rattle.mq_turns.specs.AtDesk.{view, start_of}
 use Rattle.mq_turns.specs.Desk.{slot_of}
-use Rattle.mq_turns.specs.Lists.{times}
 use Rattle.mq_turns.specs.Meaning.{charged}
 use Rattle.mq_turns.specs.declared.rule.Report.TheVariants as report
 use Rattle.mq_turns.specs.declared.turn.Turn.TheVariants.{Side}
-use Rattle.mq_journal.specs.Numbers.{HasNumbered, IsReported, ShowsReport, machine, values}
+use Rattle.mq_journal.specs.Numbers.{HasNumbered, values}
 use Rattle.mq_journal.proofs.Holding.{held_some, numbered_known}
-use Rattle.mq_journal.proofs.Reporting.{side_reported}
+use Rattle.mq_journal.proofs.Reports.{side_reported}
 use Rattle.mq_journal.proofs.Sent.{cut_backed, cut_side, sent_backed, sent_shows, sent_side}
 use Rattle.mq_journal.proofs.sending.send.Goals as goal
 
@@ -42,7 +41,7 @@ report-requires-clause-shows g c = λ K sees.
     let shows = sent_shows state faults group q K s u n sees.ok has e.stays e.counts e.told e.stored e.own e.whole in
     let backed = sent_backed state faults group q K s u n sees.ok has e.stays e.counts e.told e.stored e.own e.cause in
     let known = side_reported state faults group q K s u (report.Sent n.number) is shows has.charged backed in
-    subst (λ z. IsSide (values state faults group) group z.0 (charged (record { port = Side z.0; report = report.Sent z.1 }) K) u) (λ i. (sym e.own.1 i, sym e.answer i)) known
+    subst (λ (z : ℕ × ℕ). IsSide (values state faults group) group z.0 (charged (record { port = Side z.0; report = report.Sent z.1 }) K) u) (λ i. (sym e.own.1 i, sym e.answer i)) known
 
 pub report-requires-in-Err-clause-shows : goal.report-requires-in-Err-clause-shows
 report-requires-in-Err-clause-shows g c = λ K sees.

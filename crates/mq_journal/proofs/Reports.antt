@@ -1,5 +1,5 @@
 -- A report of the port of a side.
-use Rattle.std.proofs.Common.{◌≡◌, ◌⊎◌, ℕ, ◌-◌, ◌≤◌, ◌^◌, List, ◌∷◌, length, refl, sym, subst}
+use Rattle.std.proofs.Common.{◌⊎◌, ℕ, ◌-◌, ◌≤◌, ◌^◌, List, ◌∷◌, length, refl, sym, subst}
 use Rattle.mq_blocks.specs.Drive.{PortState}
 use Rattle.mq_drive.specs.Steps.{Fault}
 use Rattle.mq_drive.specs.declared.port.Port.{Ghosts}
@@ -19,7 +19,7 @@ use Rattle.mq_turns.specs.declared.rule.Report.{Report}
 use Rattle.mq_turns.specs.declared.turn.Turn.TheVariants.{Side}
 use Rattle.mq_journal.specs.Numbers
 use Rattle.mq_journal.specs.Numbers.{Shared, reported}
-use Rattle.mq_journal.specs.Values.{IsRecord, Says, Shows}
+use Rattle.mq_journal.specs.Values.{IsRecord, Shows}
 use Rattle.mq_journal.proofs.Showing.{reports_next}
 
 -- what a record says, it says whatever was reported
@@ -50,11 +50,11 @@ module _ {P E : Type 0} {G : Ghosts P} (state : P → PortState) (faults : P →
   abbrev ShowsIt : Type 0
   ShowsIt = Shows from us (state u.pmr.port).doorbell (state u.pmr.port).failed u.kept r
 
-  says_reported : IsSide values group q K u → ShowsIt → values.says (Rule.part_of values group q (charged (reported state faults group q r) K)) u
+  says_reported : IsSide values group q K u → ShowsIt → values.says (Rule.part_of values group q (charged (reported q r) K)) u
   says_reported is shows =
-      let all : Each (Shows from us (state u.pmr.port).doorbell (state u.pmr.port).failed u.kept) (reports_of (Side q) (reported state faults group q r ∷ K.charges)) = subst (Each (Shows from us (state u.pmr.port).doorbell (state u.pmr.port).failed u.kept)) (sym (reports_next q (reported state faults group q r) K.charges refl)) (shows, is.says.shows) in
+      let all : Each (Shows from us (state u.pmr.port).doorbell (state u.pmr.port).failed u.kept) (reports_of (Side q) (reported q r ∷ K.charges)) = subst (Each (Shows from us (state u.pmr.port).doorbell (state u.pmr.port).failed u.kept)) (sym (reports_next q (reported q r) K.charges refl)) (shows, is.says.shows) in
       record {
-        is = record_reported (Rule.part_of values group q K) (reports_of (Side q) (reported state faults group q r ∷ K.charges)) (side_state state faults u) is.says.is;
+        is = record_reported (Rule.part_of values group q K) (reports_of (Side q) (reported q r ∷ K.charges)) (side_state state faults u) is.says.is;
         whole = is.says.whole;
         stored = is.says.stored;
         shows = all;
@@ -64,5 +64,5 @@ module _ {P E : Type 0} {G : Ghosts P} (state : P → PortState) (faults : P →
   pub side_reported : IsSide values group q K u → ShowsIt
       → AreCharged (Rule.geometry_of values group K) (Side q) K.charges (Rule.faults_of values group K.opening q) (faults s.pmr.port)
       → (2 ^ 64 - 1 ≤ length (faults u.pmr.port)) ⊎ IsBacked (Rule.geometry_of values group K) r (Rule.faults_of values group K.opening q) (faults s.pmr.port) (faults u.pmr.port)
-      → IsSide values group q (charged (reported state faults group q r) K) u
-  side_reported is shows was backed = side_charged values group (reported state faults group q r) q K s u refl is (says_reported is shows) was backed
+      → IsSide values group q (charged (reported q r) K) u
+  side_reported is shows was backed = side_charged values group (reported q r) q K s u refl is (says_reported is shows) was backed

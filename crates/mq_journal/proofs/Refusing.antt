@@ -1,9 +1,8 @@
 -- A side that is taken, drained and given back.
-use Rattle.std.proofs.Common.{◌≡◌, ◌≢◌, ◌⊎◌, ℕ, suc, ◌+◌, ◌-◌, ◌<◌, ◌≤◌, ◌^◌, ◌==◌, min, Bool, true, cond, List, [], ◌∷◌, length, Option, sym, refl, ap, subst, ◌∙◌, inl, inr, arith}
+use Rattle.std.proofs.Common.{◌≡◌, ◌≢◌, ◌⊎◌, ℕ, ◌+◌, ◌-◌, ◌<◌, ◌≤◌, ◌^◌, ◌==◌, min, nat_le, Bool, true, cond, List, [], ◌∷◌, length, sym, refl, ap, subst, ◌∙◌, inl, inr, arith, if◌then◌else◌}
 use Rattle.std.specs.Prelude.{None, Some, Result, Ok, Err}
-use Rattle.std.proofs.lemmas.Bool.{cases_Bool, eq-eqb, le-leb, lt-nleb, ne_eqb}
+use Rattle.std.proofs.lemmas.Bool.{cases_Bool, cases_lt, eq-eqb, false≢true, le-leb, lt-leb, ne_eqb}
 use Rattle.mq_blocks.specs.Drive.{PortState}
-use Rattle.mq_blocks.specs.declared.command.Command.{Command}
 use Rattle.mq_blocks.specs.declared.geometry.Geometry.{Geometry}
 use Rattle.mq_drive.specs.Faults.{count_of}
 use Rattle.mq_drive.specs.Steps.{Fault}
@@ -31,41 +30,68 @@ use Rattle.mq_side.specs.declared.root.Root.{Root}
 use Rattle.mq_side.specs.declared.side.QueueSide.{QueueSide}
 use Rattle.mq_turns.specs.Chairs.{giving, holding}
 use Rattle.mq_turns.specs.Desk.{IsTurn, Sees, refreshed, slot_of, turn_at}
-use Rattle.mq_turns.specs.Lists.{Each, times, without}
+use Rattle.mq_turns.specs.Lists.{Each, without}
 use Rattle.mq_turns.specs.Marks.{claim_of, queues_of, shown}
 use Rattle.mq_turns.specs.Meaning.{Meaning, charged, claimed, newest}
 use Rattle.mq_turns.specs.Words.{after_clear, after_notice, same_turn}
 use Rattle.mq_turns.specs.declared.rule.Known.{Known}
 use Rattle.mq_turns.specs.declared.rule.Notice.TheVariants as notice
-use Rattle.mq_turns.specs.declared.rule.Report.{Report}
 use Rattle.mq_turns.specs.declared.rule.Report.TheVariants as report
 use Rattle.mq_turns.specs.declared.turn.Turn.TheVariants.{Side}
 use Rattle.mq_turns.proofs.Each.{each_map}
 use Rattle.mq_turns.proofs.Growth.{stays_now}
 use Rattle.mq_turns.proofs.Seen.{opening_seen}
-use Rattle.mq_journal.specs.Draining.{IsPassed, Passes, Refuses, ShowsBelow, answer_upto, named_by, report_of, status_of}
+use Rattle.mq_journal.specs.Draining.{IsPassed, Passes, Refuses, answer_upto, named_above, report_of, status_of}
 use Rattle.mq_journal.specs.Numbers
 use Rattle.mq_journal.specs.Numbers.{HoldsSide, IsReported, Seat, Shared, ShowsReport, Start, reported}
 use Rattle.mq_journal.specs.Values.{IsUnrung, Shows, StaysCut, StaysFailed}
-use Rattle.mq_journal.proofs.AfterDrain.{all_below, all_more, below_named, drained_side, ended_more, failed_backed, off_backed_too, positive}
-use Rattle.mq_journal.proofs.Marking.{side_alone, side_known}
-use Rattle.mq_journal.proofs.Reporting.{side_reported}
+use Rattle.mq_journal.proofs.AfterDrain.{all_below, all_more, below_named, drained_side, failed_backed, off_backed_too, positive}
+use Rattle.mq_journal.proofs.Marking.{side_alone}
+use Rattle.mq_journal.proofs.Reports.{side_reported}
 use Rattle.mq_journal.proofs.Sides.{queue_side}
 
 -- ---- what is answered
 
--- a failure of a greater number is not
-pub unanswered : (at tx : ℕ) (c : Cause) → named_by c ≡ Some tx → at < tx → answer_upto at (Err c) ≡ Ok tt
-unanswered at tx cause.Off named above = absurd cc
-unanswered at tx (cause.Failed n status) named above = let same : n ≡ tx = cc in rw (lt-nleb n at (omega arith)) refl
-unanswered at tx (cause.FailedHome block status) named above = absurd cc
-unanswered at tx (cause.Stopped n w) named above = let same : n ≡ tx = cc in rw (lt-nleb n at (omega arith)) refl
+-- what a failure of a greater number names
+abbrev Named : Cause → ℕ → Type 0
+Named cause.Off n = ⊥
+Named (cause.Failed tx status) n = tx ≡ n
+Named (cause.FailedHome block status) n = ⊥
+Named (cause.Stopped tx w) n = tx ≡ n
 
-pub answered : (at : ℕ) (c : Cause) → ((tx : ℕ) → named_by c ≡ Some tx → tx ≤ at) → answer_upto at (Err c) ≡ Err c
-answered at cause.Off low = refl
-answered at (cause.Failed n status) low = rw (le-leb n at (low n refl)) refl
-answered at (cause.FailedHome block status) low = refl
-answered at (cause.Stopped n w) low = rw (le-leb n at (low n refl)) refl
+greater : (at tx n : ℕ) → (if nat_le tx at then None else Some tx) ≡ Some n → (tx ≡ n) × (at < tx)
+greater at tx n e = elim (cases_Bool (nat_le tx at)) [
+  | inl low ↦ absurd (let k : None ≡ Some n = rw low at e in cc)
+  | inr high ↦ (let k : Some tx ≡ Some n = rw high at e in cc, elim (cases_lt at tx) [ inl above ↦ above | inr under ↦ absurd (false≢true (sym high ∙ le-leb tx at under)) ])
+]
+
+named_is : (at n : ℕ) (c : Cause) → named_above at c ≡ Some n → Named c n × (at < n)
+named_is at n cause.Off e = absurd cc
+named_is at n (cause.Failed tx status) e = let g = greater at tx n e in (g.0, let a = g.0 in let b = g.1 in omega arith)
+named_is at n (cause.FailedHome block status) e = absurd cc
+named_is at n (cause.Stopped tx w) e = let g = greater at tx n e in (g.0, let a = g.0 in let b = g.1 in omega arith)
+
+pub above_at : (at n : ℕ) (c : Cause) → named_above at c ≡ Some n → at < n
+above_at at n c e = (named_is at n c e).1
+
+-- a failure of a greater number is not answered, and any other refusal is
+pub unanswered : (at n : ℕ) (c : Cause) → named_above at c ≡ Some n → answer_upto at (Err c) ≡ Ok tt
+unanswered at n cause.Off e = absurd cc
+unanswered at n (cause.Failed tx status) e = rw (lt-leb tx at (greater at tx n e).1) refl
+unanswered at n (cause.FailedHome block status) e = absurd cc
+unanswered at n (cause.Stopped tx w) e = rw (lt-leb tx at (greater at tx n e).1) refl
+
+lesser : (at tx : ℕ) → (if nat_le tx at then None else Some tx) ≡ None → nat_le tx at ≡ true
+lesser at tx e = elim (cases_Bool (nat_le tx at)) [
+  | inl low ↦ low
+  | inr high ↦ absurd (let k : Some tx ≡ None = rw high at e in cc)
+]
+
+pub answered : (at : ℕ) (c : Cause) → named_above at c ≡ None → answer_upto at (Err c) ≡ Err c
+answered at cause.Off e = refl
+answered at (cause.Failed tx status) e = rw (lesser at tx e) refl
+answered at (cause.FailedHome block status) e = refl
+answered at (cause.Stopped tx w) e = rw (lesser at tx e) refl
 
 -- ---- a transaction whose send was cut
 
@@ -145,20 +171,25 @@ module _ {P E : Type 0} {G : Ghosts P} (state : P → PortState) (faults : P →
     shows_all n low drains whole = side_claimed values group (claim_of q low (newest K)) K u ok (side_then (Ok n) drains) (λ t ts at mine le. all_below state faults group q K s u ok is n drains whole t ts at mine)
 
     -- and before a failure all below its number
-    pub number_low : (c : Cause) (n : ℕ) → Drains ss (Err c) uu → named_by c ≡ Some n → 1 ≤ n
-    number_low cause.Off n drains named = absurd cc
-    number_low (cause.Failed m status) n drains named = let same : m ≡ n = cc in let a = positive state faults group q K s u ok is m (why.Status status) stays drains.ends.1 in omega arith
-    number_low (cause.FailedHome block status) n drains named = absurd cc
-    number_low (cause.Stopped m w) n drains named = let same : m ≡ n = cc in let a = positive state faults group q K s u ok is m w stays drains.ends.1 in omega arith
+    number_low : (c : Cause) (n : ℕ) → Drains ss (Err c) uu → Named c n → 1 ≤ n
+    number_low cause.Off n drains named = absurd named
+    number_low (cause.Failed m status) n drains named = let a = positive state faults group q K s u ok is m (why.Status status) stays drains.ends.1 in omega arith
+    number_low (cause.FailedHome block status) n drains named = absurd named
+    number_low (cause.Stopped m w) n drains named = let a = positive state faults group q K s u ok is m w stays drains.ends.1 in omega arith
 
-    below : (c : Cause) (n : ℕ) → Drains ss (Err c) uu → named_by c ≡ Some n → (t : Tx) (ts : List Tx) → IsAt t ts (Rule.history_of values group K) → t.queue ≡ q → t.number < n → end_of from (of_queue q ts) + (writes t + descriptor_blocks t) ≤ uu.port.head
-    below cause.Off n drains named t ts at mine less = absurd cc
-    below (cause.Failed m status) n drains named t ts at mine less = let same : m ≡ n = cc in below_named state faults group q K s u ok is (cause.Failed m status) n drains stays same t ts at mine less
-    below (cause.FailedHome block status) n drains named t ts at mine less = absurd cc
-    below (cause.Stopped m w) n drains named t ts at mine less = let same : m ≡ n = cc in below_named state faults group q K s u ok is (cause.Stopped m w) n drains stays same t ts at mine less
+    pub low_of : (at n : ℕ) (c : Cause) → Drains ss (Err c) uu → named_above at c ≡ Some n → 1 ≤ n
+    low_of at n c drains named = number_low c n drains (named_is at n c named).0
 
-    pub shows_below : (c : Cause) (n : ℕ) → Drains ss (Err c) uu → named_by c ≡ Some n → IsSide values group q (claimed (claim_of q n (newest K)) K) u
-    shows_below c n drains named = side_claimed values group (claim_of q n (newest K)) K u ok (side_then (Err c) drains) (λ t ts at mine le. below c n drains named t ts at mine (let low = number_low c n drains named in omega arith))
+    below : (c : Cause) (n : ℕ) → Drains ss (Err c) uu → Named c n → (t : Tx) (ts : List Tx) → IsAt t ts (Rule.history_of values group K) → t.queue ≡ q → t.number < n → end_of from (of_queue q ts) + (writes t + descriptor_blocks t) ≤ uu.port.head
+    below cause.Off n drains named t ts at mine less = absurd named
+    below (cause.Failed m status) n drains named t ts at mine less = below_named state faults group q K s u ok is (cause.Failed m status) n drains stays named t ts at mine less
+    below (cause.FailedHome block status) n drains named t ts at mine less = absurd named
+    below (cause.Stopped m w) n drains named t ts at mine less = below_named state faults group q K s u ok is (cause.Stopped m w) n drains stays named t ts at mine less
+
+    pub shows_below : (at n : ℕ) (c : Cause) → Drains ss (Err c) uu → named_above at c ≡ Some n → IsSide values group q (claimed (claim_of q n (newest K)) K) u
+    shows_below at n c drains named =
+        let names = (named_is at n c named).0 in
+        side_claimed values group (claim_of q n (newest K)) K u ok (side_then (Err c) drains) (λ t ts there mine le. below c n drains names t ts there mine (let low = number_low c n drains names in omega arith))
 
     -- ---- its refusal
 
@@ -197,7 +228,7 @@ module _ {P E : Type 0} {G : Ghosts P} (state : P → PortState) (faults : P →
     backed (cause.Stopped n w) drains = stopped_backed n w drains
 
     -- with its report the side is what the rule says
-    pub shows_refusal : (c : Cause) → Drains ss (Err c) uu → IsSide values group q (charged (reported state faults group q (report_of c)) K) u
+    pub shows_refusal : (c : Cause) → Drains ss (Err c) uu → IsSide values group q (charged (reported q (report_of c)) K) u
     shows_refusal c drains = side_reported state faults group q K s u (report_of c) (side_then (Err c) drains) (shows_it c drains) is.charged (backed c drains)
 
   -- ---- what the session knows then
@@ -219,11 +250,11 @@ module _ {P E : Type 0} {G : Ghosts P} (state : P → PortState) (faults : P →
         is = p.is ∙ (ap (λ (z : Seat P E G). giving (slot_of o (Side q)) (after_clear q low K z)) held ∙ ap (λ l. record v { hand = 0; held = l; reading = shown (queues_of v.opening) q (min (low - 1) (newest K)) v.reading }) back);
       }
 
-  pub refuses : (o : Start P E G) (q : ℕ) (c : Cause) (v w new : Seat P E G) (K1 : Shared P E G) → v.opening ≡ Some o → Each (λ h. h.0 < slot_of o (Side q)) v.held → w ≡ holding (slot_of o (Side q)) K1 v → IsReported state faults group o q (report_of c) w new → Refuses state faults group q c v new
+  pub refuses : (o : Start P E G) (q : ℕ) (c : Cause) (v w new : Seat P E G) (K1 : Shared P E G) → v.opening ≡ Some o → Each (λ h. h.0 < slot_of o (Side q)) v.held → w ≡ holding (slot_of o (Side q)) K1 v → IsReported state faults group o q (report_of c) w new → Refuses q c v new
   refuses o q c v w new K1 opening above held p =
       let K = p.known in
       let start : K.opening ≡ o = opening_seen μ o K w (ap (λ (z : Seat P E G). z.opening) held ∙ opening) p.sees in
-      let r = reported state faults group q (report_of c) in
+      let r = reported q (report_of c) in
       let L = charged r K in
       let back : without (slot_of o (Side q)) (refreshed (about K.opening q) L ((slot_of o (Side q), K1) ∷ v.held)) ≡ v.held = taken_back (about K.opening q) L K1 (slot_of o (Side q)) v.held (λ k found. side_alone o q k (subst (λ z. about z q k ≡ true) start found)) above in
       p.is ∙ (ap (λ (z : Seat P E G). giving (slot_of o (Side q)) (after_notice μ (notice.Charge r) K z)) held ∙ ap (λ l. record v { hand = 0; held = l; reading = record v.reading { charged = r ∷ v.reading.charged } }) back)

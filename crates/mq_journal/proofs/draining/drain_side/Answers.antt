@@ -1,0 +1,59 @@
+use Rattle.std.proofs.Common.{sym, subst}
+use Rattle.mq_rules.specs.Rule.{IsSide}
+use Rattle.mq_turns.specs.AtDesk.{view, start_of}
+use Rattle.mq_turns.specs.Marks.{claim_of}
+use Rattle.mq_turns.specs.Meaning.{charged, claimed, newest}
+use Rattle.mq_journal.specs.Draining.{report_of}
+use Rattle.mq_journal.specs.Numbers.{reported, values}
+use Rattle.mq_journal.proofs.Marking.{side_known}
+use Rattle.mq_journal.proofs.Refusing.{low_of, shows_all, shows_below, shows_refusal}
+use Rattle.mq_journal.proofs.draining.drain_side.Goals as goal
+
+pub pass-requires-clause-shows : goal.pass-requires-clause-shows
+pass-requires-clause-shows g c = λ K sees.
+    let state = g.P.Port.state in
+    let faults = g.P.Port.faults in
+    let group = g.G.Groups.group in
+    let s = c.args.side in
+    let u = c.drain.new.self in
+    let e = c.in-Ok.ensures in
+    let is = side_known state faults group (start_of c.args.desk.now) s.pmr.queue s (view c.args.chair.now) c.requires.at.1 c.requires.side K sees in
+    subst (λ z. IsSide (values state faults group) group z (claimed (claim_of z 18446744073709551615 (newest K)) K) u) (sym e.drains.queue)
+    (shows_all state faults group s.pmr.queue K s u sees.ok is e.stays e.counts e.told e.stored c.in-Ok.field-0 18446744073709551615 e.drains e.whole)
+
+pub stop-requires-clause-low : goal.stop-requires-clause-low
+stop-requires-clause-low g c = λ n named.
+    let state = g.P.Port.state in
+    let faults = g.P.Port.faults in
+    let group = g.G.Groups.group in
+    let s = c.args.side in
+    let u = c.drain.new.self in
+    let e = c.in-Err.ensures in
+    let K = c.requires.known.0 in
+    let sees = c.requires.known.1 in
+    let is = side_known state faults group (start_of c.args.desk.now) s.pmr.queue s (view c.args.chair.now) c.requires.at.1 c.requires.side K sees in
+    low_of state faults group s.pmr.queue K s u sees.ok is e.stays e.counts e.told e.stored c.args.at n c.in-Err.cause e.drains named
+
+pub stop-requires-clause-below : goal.stop-requires-clause-below
+stop-requires-clause-below g c = λ n named K sees.
+    let state = g.P.Port.state in
+    let faults = g.P.Port.faults in
+    let group = g.G.Groups.group in
+    let s = c.args.side in
+    let u = c.drain.new.self in
+    let e = c.in-Err.ensures in
+    let is = side_known state faults group (start_of c.args.desk.now) s.pmr.queue s (view c.args.chair.now) c.requires.at.1 c.requires.side K sees in
+    subst (λ z. IsSide (values state faults group) group z (claimed (claim_of z n (newest K)) K) u) (sym e.drains.queue)
+    (shows_below state faults group s.pmr.queue K s u sees.ok is e.stays e.counts e.told e.stored c.args.at n c.in-Err.cause e.drains named)
+
+pub stop-requires-clause-shows : goal.stop-requires-clause-shows
+stop-requires-clause-shows g c = λ named K sees.
+    let state = g.P.Port.state in
+    let faults = g.P.Port.faults in
+    let group = g.G.Groups.group in
+    let s = c.args.side in
+    let u = c.drain.new.self in
+    let e = c.in-Err.ensures in
+    let is = side_known state faults group (start_of c.args.desk.now) s.pmr.queue s (view c.args.chair.now) c.requires.at.1 c.requires.side K sees in
+    subst (λ z. IsSide (values state faults group) group z (charged (reported z (report_of c.in-Err.cause)) K) u) (sym e.drains.queue)
+    (shows_refusal state faults group s.pmr.queue K s u sees.ok is e.stays e.counts e.told e.stored c.in-Err.cause e.drains)
