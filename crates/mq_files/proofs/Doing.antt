@@ -1,5 +1,5 @@
 -- A group that was done on a map does there what its entry says, and may be drawn.
-use Rattle.std.proofs.Common.{◌≡◌, ◌↔◌, ℕ, ◌+◌, ◌<◌, ◌≤◌, true, not, List, [], ◌∷◌, length, map, Option, Some, None, is_some, refl, sym, ap, subst, ◌∙◌}
+use Rattle.std.proofs.Common.{◌≡◌, ◌↔◌, ℕ, ◌+◌, ◌<◌, ◌≤◌, true, List, [], ◌∷◌, length, map, Option, Some, None, is_none, refl, sym, ap, subst, ◌∙◌}
 use Rattle.std.specs.List.{All}
 use Rattle.std.proofs.lemmas.List.Elements.{All-append, All-cons, All-nil}
 use lib.ListN.{length-map}
@@ -120,7 +120,7 @@ blocks_planned : (start : Map) (base : ℕ) (txs : List Tx) (ws : List Write) �
 blocks_planned start base txs [] = refl
 blocks_planned start base txs (w ∷ ws) = ap (λ (bs : List ℕ). w.block ∷ bs) (blocks_planned start base txs ws)
 
-free_is : (o : Option (List ℕ)) → (not (is_some o) ≡ true) ↔ (o ≡ None)
+free_is : (o : Option (List ℕ)) → (is_none o ≡ true) ↔ (o ≡ None)
 free_is None = ((λ e. refl), λ e. refl)
 free_is (Some block) = ((λ e. absurd cc), λ e. absurd cc)
 

@@ -1,5 +1,6 @@
 -- What holds of groups that were done, in one statement each.
-use Rattle.std.specs.Prelude.{◌≡◌, ◌<◌, ◌≤◌, ◌+◌, ℕ, List, length, map}
+use Rattle.std.specs.Prelude.{◌≡◌, ◌<◌, ◌≤◌, ◌+◌, ℕ, List, length, map, Some}
+use Rattle.std.specs.List.{Contains}
 use Rattle.mq_blocks.specs.Descriptor.{AreRising}
 use Rattle.mq_blocks.specs.Geometry.{homes_of, queues_of}
 use Rattle.mq_blocks.specs.Journal.{number_limit}
@@ -8,16 +9,18 @@ use Rattle.mq_blocks.specs.declared.geometry.Geometry.{Geometry}
 use Rattle.mq_exec.specs.declared.outcome.Done.{Done}
 use Rattle.mq_files.specs.Entries.{Asks, Changes, Does, IsAllLogged, IsUndrawn, tx_of, written_by}
 use Rattle.mq_files.specs.Group.{file_group}
-use Rattle.mq_files.specs.Plans.{DoneOn, HasNumber, IsEntryOf, IsPlanned, map_known}
+use Rattle.mq_files.specs.Plans.{DoneOn, HasNumber, IsEntryOf, IsPlanned, map_known, planned_by, planned_with}
 use Rattle.mq_files.specs.declared.entry.FileEntry.{FileEntry}
 use Rattle.mq_ledger.specs.KnownJournal.{KnownJournal, MayDraw}
 use Rattle.mq_ledger.specs.declared.tx.Tx.{Tx}
+use Rattle.mq_pages.specs.Held.{Cells, cell_of}
+use Rattle.mq_pages.specs.declared.page.PageCell.{PageCell}
 use Rattle.mq_pages.specs.declared.page.Write.{Write}
 use Rattle.mq_revoke.specs.Guard.{placed_of}
 use Rattle.mq_revoke.specs.Placed.{Placed}
 use Rattle.mq_revoke.specs.Placing.{IsPlacement}
 use Rattle.mq_revoke.specs.declared.placement.Planned.{Planned}
-use Rattle.mq_rules.specs.Rule.{Desk, Fits, May, core_of, geometry_of, map_now, numbered}
+use Rattle.mq_rules.specs.Rule.{Desk, Fits, IsPage, May, core_of, geometry_of, history_of, map_now, numbered, start_of}
 use Rattle.mq_rules.specs.Values.{Values}
 use Rattle.mq_side.specs.Commits.{IsPlanOf, commit_by, commit_of_tx}
 use Rattle.mq_tree.specs.declared.request.Request.{Request}
@@ -120,3 +123,13 @@ module _ {Q R : Type 0} (values : Values Q R FileEntry) where
       → IsUndrawn (geometry_of values file_group K) done.writes.items done.frees.items
       → IsAllLogged e
       → Fits values file_group e K
+
+  -- ---- what a plan is made of
+
+  -- the cells of the pages that a session holds are what the rule of placing asks for
+  abbrev pub PagesTellPlans : Type 0
+  PagesTellPlans =
+      (K : Desk values file_group) (cells : Cells) (writes : List Write)
+      → ((b : ℕ) (c : PageCell) → cell_of cells b ≡ Some c → IsPage values file_group b K c)
+      → ((w : Write) → Contains writes w → (c : PageCell) × (cell_of cells w.block ≡ Some c))
+      → map (planned_with cells) writes ≡ map (planned_by (start_of values file_group K.opening) K.opening.base (history_of values file_group K)) writes

@@ -1,5 +1,5 @@
 -- A group that was done on pages of a map, and the plan of its writes.
-use Rattle.std.specs.Prelude.{◌≡◌, ◌<◌, ◌≤◌, ◌+◌, ℕ, Bool, true, false, not, List, length, map, is_some}
+use Rattle.std.specs.Prelude.{◌≡◌, ◌<◌, ◌≤◌, ◌+◌, ℕ, Bool, true, false, List, length, map, Option, Some, None, is_none}
 use Rattle.mq_blocks.specs.Geometry.{queues_of, write_limit}
 use Rattle.mq_blocks.specs.Journal.{number_limit}
 use Rattle.mq_blocks.specs.Machine.{Map}
@@ -11,8 +11,10 @@ use Rattle.mq_files.specs.declared.entry.FileEntry.{FileEntry}
 use Rattle.mq_ledger.specs.History.{last, last_logged, map_after}
 use Rattle.mq_ledger.specs.KnownJournal.{KnownJournal, front}
 use Rattle.mq_ledger.specs.declared.tx.Tx.{Tx}
+use Rattle.mq_pages.specs.Held.{Cells, cell_of}
 use Rattle.mq_pages.specs.declared.page.Kind.{Kind}
 use Rattle.mq_pages.specs.declared.page.Kind.TheVariants.{Data, Meta}
+use Rattle.mq_pages.specs.declared.page.PageCell.{PageCell}
 use Rattle.mq_pages.specs.declared.page.Write.{Write}
 use Rattle.mq_revoke.specs.Placing.{IsPlacement}
 use Rattle.mq_revoke.specs.declared.placement.Planned.{Planned}
@@ -49,10 +51,26 @@ abbrev pub planned_by : Map → ℕ → List Tx → Write → Planned
 planned_by start base txs w = record {
   block = w.block;
   is_data = is_data w.kind;
-  was_free = not (is_some (map_after start txs w.block));
+  was_free = is_none (map_after start txs w.block);
   version = last base txs w.block;
   last_logged = last_logged base txs w.block;
 }
+
+-- the same, by the cells of the pages that a session holds, where the write's block is one of them
+abbrev pub cell_or_free : Option PageCell → PageCell
+cell_or_free None = record { content = None; version = 0; last_logged = 0; home_version = 0 }
+cell_or_free (Some cell) = cell
+
+abbrev pub planned_with : Cells → Write → Planned
+planned_with cells w =
+    let cell = cell_or_free (cell_of cells w.block) in
+    record {
+      block = w.block;
+      is_data = is_data w.kind;
+      was_free = is_none cell.content;
+      version = cell.version;
+      last_logged = cell.last_logged;
+    }
 
 -- The blocks of the group are placed by the rule, with the front and the base that the session had read.
 abbrev pub IsPlaced : Geometry → Map → ℕ → List Tx → FileEntry → Type 0

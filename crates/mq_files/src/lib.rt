@@ -5,6 +5,7 @@
 mod entry;
 mod laws;
 mod lists;
+mod planning;
 
 pub use entry::{FileEntry, Reads};
 pub use laws::{
@@ -13,3 +14,4 @@ pub use laws::{
 };
 pub use lists::{Placed, Replies, Requests};
 pub use mq_ledger::Blocks;
+pub use planning::{held_pages_tell_plans, plan_writes};
