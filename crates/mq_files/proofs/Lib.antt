@@ -2,3 +2,4 @@ pub mod Written
 pub mod Changing
 pub mod Doing
 pub mod Ruling
+pub mod Settled

@@ -8,7 +8,8 @@ use Rattle.mq_files.specs.declared.entry.FileEntry.{FileEntry}
 use Rattle.mq_ledger.specs.History.{change_of}
 use Rattle.mq_ledger.specs.declared.tx.Tx.{Tx}
 use Rattle.mq_pages.specs.declared.page.Write.{Write}
-use Rattle.mq_side.specs.Commits.{Commit, commit_by}
+use Rattle.mq_revoke.specs.Placed.{Placed}
+use Rattle.mq_side.specs.Commits.{commit_by}
 use Rattle.mq_tree.specs.Laid.{IsLaid}
 use Rattle.mq_tree.specs.Requests.{after_group, replies}
 use Rattle.mq_tree.specs.Volume.{Volume}
@@ -21,20 +22,20 @@ written_by e = e.writes.value.items
 abbrev pub freed_by : FileEntry → List ℕ
 freed_by e = e.frees.value.items
 
--- what it writes, by where it goes
-abbrev pub commit_by_entry : FileEntry → Commit
-commit_by_entry e = commit_by e.placed (written_by e)
-
--- its transaction, whose number is the one at which it is drawn
-abbrev pub tx_of : FileEntry → Tx
-tx_of e = record {
-  number = 0;
-  queue = e.session;
-  logged = (commit_by_entry e).logged;
-  direct = (commit_by_entry e).direct;
-  revoked = (commit_by_entry e).revoked;
-  freed = freed_by e;
+-- the transaction of a group: its number, its queue, where its writes go, and what it writes and frees
+abbrev pub tx_by : ℕ → ℕ → Placed → List Write → List ℕ → Tx
+tx_by number queue plan writes frees = record {
+  number = number;
+  queue = queue;
+  logged = (commit_by plan writes).logged;
+  direct = (commit_by plan writes).direct;
+  revoked = (commit_by plan writes).revoked;
+  freed = frees;
 }
+
+-- that of an entry, whose number is the one at which it is drawn
+abbrev pub tx_of : FileEntry → Tx
+tx_of e = tx_by 0 e.session e.placed (written_by e) (freed_by e)
 
 -- the volume that its requests make of this one
 abbrev pub volume_after : Geometry → Volume → FileEntry → Volume

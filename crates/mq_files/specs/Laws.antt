@@ -1,5 +1,5 @@
 -- What holds of groups that were done, in one statement each.
-use Rattle.std.specs.Prelude.{◌≡◌, ◌<◌, ◌≤◌, ◌+◌, ℕ, List, length, map, Some}
+use Rattle.std.specs.Prelude.{◌≡◌, ◌<◌, ◌≤◌, ◌+◌, ◌++◌, ℕ, List, length, map, Some}
 use Rattle.std.specs.List.{Contains}
 use Rattle.mq_blocks.specs.Descriptor.{AreRising}
 use Rattle.mq_blocks.specs.Geometry.{homes_of, queues_of}
@@ -7,7 +7,7 @@ use Rattle.mq_blocks.specs.Journal.{number_limit}
 use Rattle.mq_blocks.specs.Machine.{Map}
 use Rattle.mq_blocks.specs.declared.geometry.Geometry.{Geometry}
 use Rattle.mq_exec.specs.declared.outcome.Done.{Done}
-use Rattle.mq_files.specs.Entries.{Asks, Changes, Does, IsAllLogged, IsUndrawn, tx_of, written_by}
+use Rattle.mq_files.specs.Entries.{Asks, Changes, Does, IsAllLogged, IsUndrawn, tx_by, tx_of, written_by}
 use Rattle.mq_files.specs.Group.{file_group}
 use Rattle.mq_files.specs.Plans.{DoneOn, HasNumber, IsEntryOf, IsPlanned, map_known, planned_by, planned_with}
 use Rattle.mq_files.specs.declared.entry.FileEntry.{FileEntry}
@@ -20,6 +20,7 @@ use Rattle.mq_revoke.specs.Guard.{placed_of}
 use Rattle.mq_revoke.specs.Placed.{Placed}
 use Rattle.mq_revoke.specs.Placing.{IsPlacement}
 use Rattle.mq_revoke.specs.declared.placement.Planned.{Planned}
+use Rattle.mq_rules.specs.Cells.{cell_after}
 use Rattle.mq_rules.specs.Rule.{Desk, Fits, IsPage, May, core_of, geometry_of, history_of, map_now, numbered, start_of}
 use Rattle.mq_rules.specs.Values.{Values}
 use Rattle.mq_side.specs.Commits.{IsPlanOf, commit_by, commit_of_tx}
@@ -97,6 +98,15 @@ DoneGroupsAsk =
     → IsUndrawn g done.writes.items done.frees.items
     → IsAllLogged e
     → Asks g m e
+
+-- ---- what a drawn group makes of a page
+
+-- what it writes to greater blocks changes nothing of the page, and its queue doesn't either
+abbrev pub PagesStayBelow : Type 0
+PagesStayBelow =
+    (number queue b : ℕ) (plan : Placed) (writes more : List Write) (frees : List ℕ) (c : PageCell)
+    → ((w : Write) → Contains more w → b < w.block)
+    → cell_after (tx_by number queue plan (writes ++ more) frees) b c ≡ cell_after (tx_by number 0 plan writes frees) b c
 
 -- ---- on a desk
 

@@ -1,4 +1,5 @@
 pub mod Entries
 pub mod Plans
+pub mod Pages
 pub mod Group
 pub mod Laws

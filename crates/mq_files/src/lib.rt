@@ -5,6 +5,7 @@
 mod entry;
 mod laws;
 mod lists;
+mod pages;
 mod planning;
 
 pub use entry::{FileEntry, Reads};
@@ -14,4 +15,5 @@ pub use laws::{
 };
 pub use lists::{Placed, Replies, Requests};
 pub use mq_ledger::Blocks;
+pub use pages::{a_page_stays_below, page_after};
 pub use planning::{held_pages_tell_plans, plan_writes};

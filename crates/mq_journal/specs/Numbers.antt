@@ -1,20 +1,21 @@
 -- The draw of a number for a group: what it asks of a session, and what it leaves.
-use Rattle.std.specs.Prelude.{◌≡◌, ◌<◌, ◌≤◌, ◌^◌, ◌+◌, ◌-◌, ℕ, suc, Bool, true, List, ◌∷◌}
+use Rattle.std.specs.Prelude.{◌≡◌, ◌<◌, ◌≤◌, ◌^◌, ◌+◌, ◌-◌, ℕ, suc, Bool, true, List, ◌∷◌, Some}
 use Rattle.mq_blocks.specs.Drive.{PortState, staged_end, usable_depth}
 use Rattle.mq_blocks.specs.Geometry.{area_of}
 use Rattle.mq_blocks.specs.Journal.{number_limit}
-use Rattle.mq_drive.specs.Steps.{Fault}
+use Rattle.mq_drive.specs.Steps.{Fault, Gains, PowerOff}
 use Rattle.mq_drive.specs.declared.port.Port.{Ghosts}
 use Rattle.mq_pages.specs.declared.page.PageCell.{PageCell}
 use Rattle.mq_revoke.specs.Placed.{Placed}
 use Rattle.mq_rules.specs.Groups.{Group}
 use Rattle.mq_rules.specs.Rule.{IsSide, May, touches}
 use Rattle.mq_rules.specs.Values.{Part, Values}
-use Rattle.mq_side.specs.Commits.{NumberedCommit, commit_of_tx, size_of}
-use Rattle.mq_side.specs.Sent.{AreInZone, IsReadyFrom}
+use Rattle.mq_side.specs.Commits.{NumberedCommit, commit_of_tx, items_of, size_of}
+use Rattle.mq_side.specs.Sent.{AreInZone, IsCutAt, IsReadyFrom}
 use Rattle.mq_side.specs.Side.{side_state}
 use Rattle.mq_side.specs.Stored.{AreStored, FitIs, IsBounded, rows_of}
 use Rattle.mq_side.specs.declared.answers.Fit.TheVariants.{Yes}
+use Rattle.mq_side.specs.declared.answers.Why.TheVariants.{Off}
 use Rattle.mq_side.specs.declared.root.Root.{Root}
 use Rattle.mq_side.specs.declared.side.QueueSide.{QueueSide}
 use Rattle.mq_turns.specs.Chairs.{giving}
@@ -183,6 +184,15 @@ module _ {P E : Type 0} {G : Ghosts P} (state : P → PortState) (faults : P →
     pub side : HoldsNumbered o q s n new
     pub sends : MaySend s n
     pub rest : SameSession old new
+
+  -- ---- a send that was cut
+
+  -- The port refused a call of the send, so that it gained an `Off`, and the side keeps the commit as cut.
+  pub record WasCut (s : QueueSide P E G) (n : NumberedCommit) : Type 0 where
+    pub after : QueueSide P E G
+    pub port : IsCutAt (state s.pmr.port) n.number (items_of s.pmr.geometry n) (state after.pmr.port)
+    pub gained : Gains PowerOff (faults s.pmr.port) (faults after.pmr.port)
+    pub kept : after.kept ≡ Some (n.number, Off)
 
   -- ---- what is reported of a port
 

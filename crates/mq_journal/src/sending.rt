@@ -2,7 +2,7 @@
 ghost use Rattle.std.specs.Prelude.{◌≡◌, IfOk, OnOk, OnErr};
 ghost use Rattle.mq_turns.specs.AtDesk.{AtDesk, view, start_of};
 ghost use Rattle.mq_turns.specs.declared.rule.Report.TheVariants as report;
-ghost use Rattle.mq_journal.specs.Numbers.{HoldsNumbered, IsReported, MaySend};
+ghost use Rattle.mq_journal.specs.Numbers.{HoldsNumbered, IsReported, MaySend, WasCut};
 
 use crate::machine::{Groups, JournalMachine};
 use crate::reporting::report;
@@ -29,6 +29,7 @@ pub fn send<P: Port + Drop, G: Groups>(
     ensures answer { IfOk result (λ tx. tx ≡ numbered.number) }
     ensures sent { OnOk result (IsReported P.state P.faults G.group (start_of desk.now) side.pmr.queue
         (report.Sent numbered.number) (view chair.old) (view chair.new)) }
+    ensures cut { OnErr result (WasCut P.state P.faults G.group side numbered) }
     ensures charged { OnErr result (IsReported P.state P.faults G.group (start_of desk.now) side.pmr.queue
         report.Off (view chair.old) (view chair.new)) }
 {

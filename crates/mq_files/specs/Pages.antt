@@ -1,0 +1,33 @@
+-- What a drawn group makes of the page of a block.
+use Rattle.std.specs.Prelude.{◌≡◌, ◌≢◌, ◌||◌, ℕ, Bool, List, [], ◌∷◌, ◌++◌, map, Option, Some, None, if◌then◌else◌}
+use Rattle.std.specs.List.{Contains}
+use Rattle.mq_blocks.specs.Descriptor.{AreRising}
+use Rattle.mq_pages.specs.declared.page.PageCell.{PageCell}
+use Rattle.mq_pages.specs.declared.page.Write.{Write}
+
+-- ---- writes, from the last on
+
+-- the last of these writes is taken out where it is of the block
+abbrev pub TakesWrite : List Write → ℕ → Option Write → List Write → Type 0
+TakesWrite old b (Some w) new = (old ≡ new ++ w ∷ []) × (w.block ≡ b)
+TakesWrite old b None new = (new ≡ old) × ((ws : List Write) (w : Write) → old ≡ ws ++ w ∷ [] → w.block ≢ b)
+
+-- those of the block are gone, and those of lesser blocks are left
+pub record LeavesBelow (b : ℕ) (old new : List Write) : Type 0 where
+  pub gone : List Write
+  pub is : old ≡ new ++ gone
+  pub own : (w : Write) → Contains gone w → w.block ≡ b
+  pub below : AreRising 0 b (map (λ w. w.block) new)
+
+-- ---- one page
+
+abbrev pub page_with : PageCell → ℕ → Option (List ℕ) → (logged direct freed : Bool) → PageCell
+page_with cell number written logged direct freed =
+    if logged || (direct || freed)
+    then record {
+      content = if logged || direct then written else None;
+      version = number;
+      last_logged = if logged then number else cell.last_logged;
+      home_version = if direct then number else cell.home_version;
+    }
+    else cell

@@ -1,0 +1,87 @@
+// What a drawn group makes of the pages that its session holds.
+ghost use Rattle.std.specs.Prelude.{◌≡◌, ◌+◌};
+ghost use Rattle.mq_blocks.specs.Descriptor.{AreRising};
+ghost use Rattle.mq_blocks.specs.Journal.{is_among};
+ghost use Rattle.mq_files.specs.Entries.{tx_by};
+ghost use Rattle.mq_files.specs.Laws.{PagesStayBelow, blocks_in};
+ghost use Rattle.mq_ledger.specs.Form.{IsAscending};
+ghost use Rattle.mq_files.specs.Pages.{LeavesBelow, TakesWrite, page_with};
+ghost use Rattle.mq_rules.specs.Cells.{cell_after};
+
+use mq_blocks::{Block, BlockNo, TxNo};
+use mq_pages::{PageCell, Write};
+use mq_revoke::Placement;
+
+// Whether the block is one of these, which rise.
+fn is_in(blocks: &[BlockNo], block: BlockNo) -> bool
+    requires { IsAscending blocks.now }
+    ensures { result ≡ is_among block blocks.now }
+{
+    blocks
+        .binary_search_by_key(&block.0, |other| other.0)
+        .is_ok()
+}
+
+// Takes out the last write, where it is of this block.
+fn take_write(writes: &mut Vec<Write>, block: BlockNo) -> Option<Write>
+    ensures { TakesWrite writes.old.items block result writes.new.items }
+{
+    let last = writes.last()?;
+    if last.block != block {
+        return None;
+    }
+    writes.pop()
+}
+
+// The page with a content that was written, logged or not, directly or not; or freed.
+fn page_with(
+    cell: PageCell,
+    number: TxNo,
+    written: Option<Block>,
+    logged: bool,
+    direct: bool,
+    freed: bool,
+) -> PageCell
+    ensures { result ≡ page_with cell number written logged direct freed }
+{
+    if !logged && !direct && !freed {
+        return cell;
+    }
+    PageCell {
+        content: if logged || direct { written } else { None },
+        version: number,
+        last_logged: if logged { number } else { cell.last_logged },
+        home_version: if direct { number } else { cell.home_version },
+    }
+}
+
+/// What the transaction of a group makes of the page of a block. A session goes through the pages that it
+/// holds from the greatest block on, and gives each back. The content of a write is moved into its page.
+pub fn page_after(
+    block: BlockNo,
+    cell: PageCell,
+    number: TxNo,
+    plan: &Placement,
+    writes: &mut Vec<Write>,
+    frees: &[BlockNo],
+) -> PageCell
+    requires logged { IsAscending plan.now.logged }
+    requires direct { IsAscending plan.now.direct }
+    requires frees { IsAscending frees.now }
+    requires writes { AreRising 0 (block + 1) (blocks_in writes.old.items) }
+    ensures cell { result ≡ cell_after (tx_by number 0 plan.now writes.old.items frees.now) block cell }
+    ensures left { LeavesBelow block writes.old.items writes.new.items }
+{
+    let logged = is_in(&plan.logged, block);
+    let direct = is_in(&plan.direct, block);
+    let freed = is_in(frees, block);
+    match take_write(writes, block) {
+        Some(write) => page_with(cell, number, Some(write.content), logged, direct, freed),
+        None => page_with(cell, number, None, false, false, freed),
+    }
+}
+
+/// What is written to greater blocks changes nothing of a page.
+pub fn a_page_stays_below()
+    ensures { PagesStayBelow }
+{}
