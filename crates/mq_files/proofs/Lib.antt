@@ -3,3 +3,4 @@ pub mod Changing
 pub mod Doing
 pub mod Ruling
 pub mod Settled
+mod Searching

@@ -4,7 +4,7 @@ use Rattle.mq_blocks.specs.Journal.{number_limit}
 use Rattle.mq_files.specs.Entries.{tx_of}
 use Rattle.mq_files.specs.Group.{file_group}
 use Rattle.mq_files.specs.Laws.{DoneGroupsFit, DoneGroupsMay, DoneGroupsMayBeDrawn, PagesTellPlans}
-use Rattle.mq_files.specs.Plans.{HasNumber, cell_or_free, is_data, planned_by, planned_with}
+use Rattle.mq_files.specs.Plans.{HasNumber, is_data, planned_by, planned_by_cell, planned_with}
 use Rattle.mq_files.specs.declared.entry.FileEntry.{FileEntry}
 use Rattle.mq_files.proofs.Doing.{asks, does, plans}
 use Rattle.mq_ledger.specs.KnownJournal.{MayDraw}
@@ -37,15 +37,11 @@ module _ {Q R : Type 0} (values : Values Q R FileEntry) where
 
   pub tells_plans : PagesTellPlans values
   tells_plans K cells [] pages known = refl
-  tells_plans K cells (w ∷ ws) pages known = λ i. one i ∷ rest i
-    where
-      one : planned_with cells w ≡ planned_by (start_of values file_group K.opening) K.opening.base (history_of values file_group K) w
-      one =
-          let found = known w (cons-here w ws w refl) in
-          let p = pages w.block found.0 found.1 in
-          let there : cell_or_free (cell_of cells w.block) ≡ found.0 = ap cell_or_free found.1 in
-          (λ i. record { block = w.block; is_data = is_data w.kind; was_free = is_none (there i).content; version = (there i).version; last_logged = (there i).last_logged })
-          ∙ (λ i. record { block = w.block; is_data = is_data w.kind; was_free = is_none (p.content i); version = p.version i; last_logged = p.last_logged i })
-
-      rest : map (planned_with cells) ws ≡ map (planned_by (start_of values file_group K.opening) K.opening.base (history_of values file_group K)) ws
-      rest = tells_plans K cells ws pages (λ x c. known x (cons-there w ws x c))
+  tells_plans K cells (w ∷ ws) pages known =
+      let rest = tells_plans K cells ws pages (λ x c. known x (cons-there w ws x c)) in
+      let found = known w (cons-here w ws w refl) in
+      let p = pages w.block found.0 found.1 in
+      let one : planned_with cells w ≡ planned_by (start_of values file_group K.opening) K.opening.base (history_of values file_group K) w =
+          ap (planned_by_cell w.block (is_data w.kind)) found.1
+          ∙ (λ i. record { block = w.block; is_data = is_data w.kind; was_free = is_none (p.content i); version = p.version i; last_logged = p.last_logged i }) in
+      λ i. one i ∷ rest i

@@ -21,13 +21,13 @@ pub record LeavesBelow (b : ℕ) (old new : List Write) : Type 0 where
 
 -- ---- one page
 
+abbrev pub content_with : Option (List ℕ) → Option (List ℕ) → (is_written freed : Bool) → Option (List ℕ)
+content_with old written is_written freed = if is_written then written else (if freed then None else old)
+
 abbrev pub page_with : PageCell → ℕ → Option (List ℕ) → (logged direct freed : Bool) → PageCell
-page_with cell number written logged direct freed =
-    if logged || (direct || freed)
-    then record {
-      content = if logged || direct then written else None;
-      version = number;
-      last_logged = if logged then number else cell.last_logged;
-      home_version = if direct then number else cell.home_version;
-    }
-    else cell
+page_with cell number written logged direct freed = record {
+  content = content_with cell.content written (logged || direct) freed;
+  version = if (logged || direct) || freed then number else cell.version;
+  last_logged = if logged then number else cell.last_logged;
+  home_version = if direct then number else cell.home_version;
+}

@@ -56,21 +56,20 @@ planned_by start base txs w = record {
   last_logged = last_logged base txs w.block;
 }
 
--- the same, by the cells of the pages that a session holds, where the write's block is one of them
-abbrev pub cell_or_free : Option PageCell → PageCell
-cell_or_free None = record { content = None; version = 0; last_logged = 0; home_version = 0 }
-cell_or_free (Some cell) = cell
+-- the same of a block by the cell of its page; one that isn't held counts as not free, so that it is logged
+abbrev pub planned_by_cell : ℕ → Bool → Option PageCell → Planned
+planned_by_cell block of_file None = record { block = block; is_data = of_file; was_free = false; version = 0; last_logged = 0 }
+planned_by_cell block of_file (Some cell) = record {
+  block = block;
+  is_data = of_file;
+  was_free = is_none cell.content;
+  version = cell.version;
+  last_logged = cell.last_logged;
+}
 
+-- by the cells of the pages that a session holds
 abbrev pub planned_with : Cells → Write → Planned
-planned_with cells w =
-    let cell = cell_or_free (cell_of cells w.block) in
-    record {
-      block = w.block;
-      is_data = is_data w.kind;
-      was_free = is_none cell.content;
-      version = cell.version;
-      last_logged = cell.last_logged;
-    }
+planned_with cells w = planned_by_cell w.block (is_data w.kind) (cell_of cells w.block)
 
 -- The blocks of the group are placed by the rule, with the front and the base that the session had read.
 abbrev pub IsPlaced : Geometry → Map → ℕ → List Tx → FileEntry → Type 0

@@ -106,6 +106,7 @@ impl FileEntry {
     ) -> Result<FileEntry, OutOfMemory>
         ensures entry { IfOk result (λ e. IsEntryOf session requests.now done.now e) }
         ensures logged { IfOk result IsAllLogged }
+        ensures reads { IfOk result (λ e. e.reads ≡ record { front = 0; base = 0 }) }
         ensures call { IfOk result (λ e. e.call ≡ call) }
         ensures durable { IfOk result (λ e. e.durable ≡ durable) }
     {

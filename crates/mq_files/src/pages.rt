@@ -1,11 +1,10 @@
 // What a drawn group makes of the pages that its session holds.
-ghost use Rattle.std.specs.Prelude.{◌≡◌, ◌+◌};
+ghost use Rattle.std.specs.Prelude.{◌≡◌, ◌+◌, ℕ};
 ghost use Rattle.mq_blocks.specs.Descriptor.{AreRising};
 ghost use Rattle.mq_blocks.specs.Journal.{is_among};
 ghost use Rattle.mq_files.specs.Entries.{tx_by};
 ghost use Rattle.mq_files.specs.Laws.{PagesStayBelow, blocks_in};
-ghost use Rattle.mq_ledger.specs.Form.{IsAscending};
-ghost use Rattle.mq_files.specs.Pages.{LeavesBelow, TakesWrite, page_with};
+ghost use Rattle.mq_files.specs.Pages.{LeavesBelow, TakesWrite, content_with, page_with};
 ghost use Rattle.mq_rules.specs.Cells.{cell_after};
 
 use mq_blocks::{Block, BlockNo, TxNo};
@@ -14,7 +13,7 @@ use mq_revoke::Placement;
 
 // Whether the block is one of these, which rise.
 fn is_in(blocks: &[BlockNo], block: BlockNo) -> bool
-    requires { IsAscending blocks.now }
+    requires { (high : ℕ) × AreRising 0 high blocks.now }
     ensures { result ≡ is_among block blocks.now }
 {
     blocks
@@ -33,6 +32,24 @@ fn take_write(writes: &mut Vec<Write>, block: BlockNo) -> Option<Write>
     writes.pop()
 }
 
+// The content of the page: what was written, nothing where it was freed, or what it had.
+fn content_with(
+    old: Option<Block>,
+    written: Option<Block>,
+    is_written: bool,
+    freed: bool,
+) -> Option<Block>
+    ensures { result ≡ content_with old written is_written freed }
+{
+    if is_written {
+        return written;
+    }
+    if freed {
+        return None;
+    }
+    old
+}
+
 // The page with a content that was written, logged or not, directly or not; or freed.
 fn page_with(
     cell: PageCell,
@@ -44,14 +61,19 @@ fn page_with(
 ) -> PageCell
     ensures { result ≡ page_with cell number written logged direct freed }
 {
-    if !logged && !direct && !freed {
-        return cell;
-    }
+    let PageCell {
+        content,
+        version,
+        last_logged,
+        home_version,
+    } = cell;
+    let is_written = logged || direct;
+    let is_changed = is_written || freed;
     PageCell {
-        content: if logged || direct { written } else { None },
-        version: number,
-        last_logged: if logged { number } else { cell.last_logged },
-        home_version: if direct { number } else { cell.home_version },
+        content: content_with(content, written, is_written, freed),
+        version: if is_changed { number } else { version },
+        last_logged: if logged { number } else { last_logged },
+        home_version: if direct { number } else { home_version },
     }
 }
 
@@ -65,9 +87,9 @@ pub fn page_after(
     writes: &mut Vec<Write>,
     frees: &[BlockNo],
 ) -> PageCell
-    requires logged { IsAscending plan.now.logged }
-    requires direct { IsAscending plan.now.direct }
-    requires frees { IsAscending frees.now }
+    requires logged { (high : ℕ) × AreRising 0 high plan.now.logged }
+    requires direct { (high : ℕ) × AreRising 0 high plan.now.direct }
+    requires frees { (high : ℕ) × AreRising 0 high frees.now }
     requires writes { AreRising 0 (block + 1) (blocks_in writes.old.items) }
     ensures cell { result ≡ cell_after (tx_by number 0 plan.now writes.old.items frees.now) block cell }
     ensures left { LeavesBelow block writes.old.items writes.new.items }

@@ -10,13 +10,13 @@ use mq_revoke::Planned;
 use mq_rules::JournalValues;
 use std::alloc::Global;
 
-// What the rule of placing asks of one write. A block that isn't held counts as free and never changed.
+// What the rule of placing asks of one write. A block that isn't held counts as not free.
 fn plan_write(held: &Held, write: &Write) -> Planned
     ensures { result ≡ planned_with held.now.cells write.now }
 {
     let (was_free, version, last_logged) = match held.get(write.block) {
         Some(cell) => (cell.content.is_none(), cell.version, cell.last_logged),
-        None => (true, TxNo(0), TxNo(0)),
+        None => (false, TxNo(0), TxNo(0)),
     };
     Planned {
         block: write.block,
