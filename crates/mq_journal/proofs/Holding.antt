@@ -35,7 +35,7 @@ module _ {P E : Type 0} {G : Ghosts P} (state : P → PortState) (faults : P →
 
   -- what is known is what it is, whatever a side says
   still_ok : (n : NumberedCommit) (K : Shared P E G) → μ.ok K → IsOk (Numbers.drawn_values state faults group n) group K
-  still_ok n K ok = record { log = ok.log; claims = ok.claims; base = ok.base; legal = ok.legal }
+  still_ok n K ok = record { log = ok.log; claims = ok.claims; base = ok.base; legal = ok.legal; ports = ok.ports }
 
   pub numbered_known : (o : Start P E G) (q : ℕ) (s : QueueSide P E G) (n : NumberedCommit) (v : Seat P E G) → v.opening ≡ Some o → HoldsNumbered state faults group o q s n v → (K : Shared P E G) → Sees μ v K → HasNumbered state faults group q K s n
   numbered_known o q s n v opening h K sees =

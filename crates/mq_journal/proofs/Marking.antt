@@ -78,18 +78,18 @@ module _ {A B C D : Type 0} where
 -- ---- what was read
 
 module _ {A B C D : Type 0} where
-  read_passed : (queues n low : ℕ) (r : Reading A B C D) → (r.done ≤ (passed queues n low r).done) × ((passed queues n low r).base ≡ r.base) × ((passed queues n low r).pages ≡ r.pages) × ((passed queues n low r).charged ≡ r.charged)
+  read_passed : (queues n low : ℕ) (r : Reading A B C D) → (r.done ≤ (passed queues n low r).done) × ((passed queues n low r).base ≡ r.base) × ((passed queues n low r).pages ≡ r.pages) × ((passed queues n low r).answers ≡ r.answers) × ((passed queues n low r).charged ≡ r.charged)
   read_passed queues n low r = elim (cases_Bool (nat_le queues n)) [
-    | inl all ↦ (rw all (omega arith), refl, refl, refl)
-    | inr few ↦ (rw few (omega arith), refl, refl, refl)
+    | inl all ↦ (rw all (omega arith), refl, refl, refl, refl)
+    | inr few ↦ (rw few (omega arith), refl, refl, refl, refl)
   ]
 
-  read_shown : (queues q n : ℕ) (r : Reading A B C D) → (r.done ≤ (shown queues q n r).done) × ((shown queues q n r).base ≡ r.base) × ((shown queues q n r).pages ≡ r.pages) × ((shown queues q n r).charged ≡ r.charged)
+  read_shown : (queues q n : ℕ) (r : Reading A B C D) → (r.done ≤ (shown queues q n r).done) × ((shown queues q n r).base ≡ r.base) × ((shown queues q n r).pages ≡ r.pages) × ((shown queues q n r).answers ≡ r.answers) × ((shown queues q n r).charged ≡ r.charged)
   read_shown queues q n r = elim (cases_Bool (eqb q 0)) [
     | inl first ↦ rw first (read_passed queues 1 n r)
     | inr later ↦ elim (cases_Bool (eqb q r.swept)) [
       | inl next ↦ rw (later, next) (read_passed queues (suc q) (min r.low n) r)
-      | inr other ↦ rw (later, other) (omega arith, refl, refl, refl)
+      | inr other ↦ rw (later, other) (omega arith, refl, refl, refl, refl)
     ]
   ]
 
@@ -236,7 +236,7 @@ module _ {P E : Type 0} {G : Ghosts P} (state : P → PortState) (faults : P →
         opening = ap (λ (z : Seat P E G). z.opening) looked;
         session = ap (λ (z : Seat P E G). z.session) looked;
         read = ap (λ (z : Seat P E G). z.read) looked;
-        reading = subst (λ (z : Seat P E G). Numbers.ReadOn state faults group v.reading z.reading) (sym looked) (record { done = omega arith; base = refl; pages = refl; charged = refl });
+        reading = subst (λ (z : Seat P E G). Numbers.ReadOn state faults group v.reading z.reading) (sym looked) (record { done = omega arith; base = refl; pages = refl; answers = refl; charged = refl });
       };
     }
 
@@ -317,7 +317,7 @@ module _ {P E : Type 0} {G : Ghosts P} (state : P → PortState) (faults : P →
               let r = read_shown (queues_of w.opening) q (min (low - 1) (newest K1)) w.reading in
               subst (λ (z : Seat P E G). Numbers.ReadOn state faults group v.reading z.reading) (sym cleared)
               (subst (λ (z : Seat P E G). Numbers.ReadOn state faults group z.reading (after_clear q low K1 w).reading) looked
-              (record { done = r.0; base = r.1; pages = r.2; charged = r.3 }))
+              (record { done = r.0; base = r.1; pages = r.2; answers = r.3; charged = r.4 }))
 
 -- a mark claims no number that was not drawn
 pub may_mark : {P E : Type 0} {G : Ghosts P} (state : P → PortState) (faults : P → List Fault) (group : Group E) (q low : ℕ) (v : Seat P E G) → MayClear (Numbers.machine state faults group) q low v

@@ -138,6 +138,7 @@ module _ {P E : Type 0} {G : Ghosts P} (state : P → PortState) (faults : P →
     pub done : old.done ≤ new.done
     pub base : new.base ≡ old.base
     pub pages : new.pages ≡ old.pages
+    pub answers : new.answers ≡ old.answers
     pub charged : new.charged ≡ old.charged
 
   -- neither what the session is nor what it has read changes, and no charge is made

@@ -94,7 +94,7 @@ module _ {Q R E : Type 0} (values : Values Q R E) (group : Group E) (o : Opening
 
   pub opening_ruled : IsRuled values group o
   opening_ruled = record {
-    ok = record { log = log; claims = tt; base = base; legal = fresh.good };
+    ok = record { log = log; claims = tt; base = base; legal = fresh.good; ports = tt };
     pages = λ b c at.
         let is = fresh.cells b c at in
         let there = (at_map (λ (d : PageCell). d.content) o.pages b c None at).0 in

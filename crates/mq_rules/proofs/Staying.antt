@@ -230,6 +230,7 @@ module _ {Q R E : Type 0} (values : Values Q R E) (group : Group E) where
         claims = each_map _ _ (λ c le. omega arith) K.claims k.claims;
         base = base_later (core K) (core (drawn e K)) K.word k.log log (core_grown K (drawn e K) (grows_drawn e K)) k.base;
         legal = (may.does, may.placed, k.legal);
+        ports = k.ports;
       }
 
   -- groups run on the map at the newest number

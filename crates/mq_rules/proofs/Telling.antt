@@ -24,7 +24,7 @@ use Rattle.mq_turns.specs.declared.turn.Turn.TheVariants.{Side, Root}
 use Rattle.mq_rules.specs.Faults.{AreCharged, IsBacked}
 use Rattle.mq_rules.specs.Groups.{Group}
 use Rattle.mq_rules.specs.Rule
-use Rattle.mq_rules.specs.Rule.{IsOk, IsPage, IsSide, IsRoot}
+use Rattle.mq_rules.specs.Rule.{IsOfPort, IsOk, IsPage, IsSide, IsRoot}
 use Rattle.mq_rules.specs.Values.{Values}
 use Rattle.mq_rules.proofs.Charging.{charged_backed}
 use Rattle.mq_rules.proofs.Staying.{core_grown}
@@ -52,6 +52,7 @@ module _ {Q R E : Type 0} (values : Values Q R E) (group : Group E) where
         claims = (low, ok.claims);
         base = base_later (core K) (core (claimed c K)) K.word ok.log log (done_grown c K) ok.base;
         legal = ok.legal;
+        ports = ok.ports;
       }
 
   pub side_claimed : (c : Claim) (K : Desk) (w : Q) → IsOk values group K → IsSide values group c.queue K w
@@ -99,6 +100,7 @@ module _ {Q R E : Type 0} (values : Values Q R E) (group : Group E) where
         claims = ok.claims;
         base = base_later (core K) (core (written (b, version) K)) K.word ok.log log (grown_brought (core K) K.ended b version logged home bring) ok.base;
         legal = ok.legal;
+        ports = ok.ports;
       }
 
   pub page_written : (b : ℕ) (K : Desk) (c : PageCell) → IsPage values group b K c → IsToBring (core K) K.ended b c.version c.last_logged c.home_version → IsPage values group b (written (b, c.version) K) (record c { home_version = c.version })
@@ -114,6 +116,7 @@ module _ {Q R E : Type 0} (values : Values Q R E) (group : Group E) where
         claims = ok.claims;
         base = base_later (core K) (core (raised b K)) b ok.log log (grown_word (core K) b up) base;
         legal = ok.legal;
+        ports = ok.ports;
       }
 
   pub root_raised : (b : ℕ) (K : Desk) (r : R) → IsOk values group K → IsRoot values group K r → K.word ≤ b → b ≤ (values.root r).base → IsRoot values group (raised b K) r
@@ -121,8 +124,8 @@ module _ {Q R E : Type 0} (values : Values Q R E) (group : Group E) where
 
   -- ---- charges
 
-  pub ok_charged : (c : Charge) (K : Desk) → IsOk values group K → IsOk values group (charged c K)
-  ok_charged c K ok = record { log = ok.log; claims = ok.claims; base = ok.base; legal = ok.legal }
+  pub ok_charged : (c : Charge) (K : Desk) → IsOk values group K → IsOfPort (length K.opening.sides) c → IsOk values group (charged c K)
+  ok_charged c K ok port = record { log = ok.log; claims = ok.claims; base = ok.base; legal = ok.legal; ports = (port, ok.ports) }
 
   pub side_charged : (c : Charge) (q : ℕ) (K : Desk) (w u : Q) → c.port ≡ Side q → IsSide values group q K u
       → values.says (Rule.part_of values group q (charged c K)) u

@@ -19,7 +19,7 @@ use Rattle.mq_rules.specs.Cells.{cell_after}
 use Rattle.mq_rules.specs.Faults.{AreCharged, IsBacked}
 use Rattle.mq_rules.specs.Groups.{Group}
 use Rattle.mq_rules.specs.Opening.{IsFresh, IsRuled}
-use Rattle.mq_rules.specs.Rule.{Desk, Stay, IsOk, IsPage, IsSide, IsRoot, May, core_of, faults_of, geometry_of, map_now, next_tx, part_of, touches}
+use Rattle.mq_rules.specs.Rule.{Desk, Stay, IsOfPort, IsOk, IsPage, IsSide, IsRoot, May, core_of, faults_of, geometry_of, map_now, next_tx, part_of, touches}
 use Rattle.mq_rules.specs.Values.{Values}
 
 module _ {Q R E : Type 0} (values : Values Q R E) (group : Group E) where
@@ -195,6 +195,7 @@ module _ {Q R E : Type 0} (values : Values Q R E) (group : Group E) where
   ChargesAreRuled =
       (c : Charge) (K : Desk values group)
       → IsOk values group K
+      → IsOfPort (length K.opening.sides) c
       → IsOk values group (charged c K)
 
   -- a side stays what it is whose record says so, and whose port has gained a fault of its kind

@@ -1,6 +1,6 @@
 -- What lies on a desk over the ports of a drive, by what is known: cells of home blocks, sides of queues, and the root;
 -- and which groups may be drawn.
-use Rattle.std.specs.Prelude.{◌≡◌, ℕ, ◌+◌, ◌≤◌, nat_eq, Bool, true, false, List, [], ◌∷◌, length, map, slice_index_or, Option, Some, None, if◌then◌else◌}
+use Rattle.std.specs.Prelude.{◌≡◌, ℕ, ◌+◌, ◌<◌, ◌≤◌, nat_eq, Bool, true, false, List, [], ◌∷◌, length, map, slice_index_or, Option, Some, None, if◌then◌else◌}
 use Rattle.mq_blocks.specs.Drive.{PortState}
 use Rattle.mq_blocks.specs.Geometry.{zone_of}
 use Rattle.mq_blocks.specs.Machine.{Map}
@@ -18,8 +18,11 @@ use Rattle.mq_pages.specs.declared.page.PageCell.{PageCell}
 use Rattle.mq_turns.specs.Lists.{Each}
 use Rattle.mq_turns.specs.Marks.{is_claimed}
 use Rattle.mq_turns.specs.Meaning.{Lie, Stays, Touch, newest}
+use Rattle.mq_turns.specs.declared.rule.Charge.{Charge}
 use Rattle.mq_turns.specs.declared.rule.Known.{Known}
 use Rattle.mq_turns.specs.declared.rule.Opening.{Opening}
+use Rattle.mq_turns.specs.declared.rule.Report.{Report}
+use Rattle.mq_turns.specs.declared.rule.Report.TheVariants as report
 use Rattle.mq_turns.specs.declared.turn.Turn.{Turn}
 use Rattle.mq_turns.specs.declared.turn.Turn.TheVariants.{Page, Side, Root}
 use Rattle.mq_rules.specs.Faults.{AreCharged, reports_of}
@@ -30,6 +33,25 @@ abbrev pub same_port : Option ℕ → Option ℕ → Bool
 same_port (Some q) (Some r) = nat_eq q r
 same_port None None = true
 same_port _ _ = false
+
+-- the turn is that of a port, where there are so many sides
+abbrev pub IsPortOf : ℕ → Turn → Type 0
+IsPortOf sides (Page b) = ⊥
+IsPortOf sides (Side q) = q < sides
+IsPortOf sides Root = Unit {0}
+
+-- a call was refused, for a fault of the port
+abbrev pub IsRefusal : Report → Type 0
+IsRefusal report.Off = Unit {0}
+IsRefusal (report.Failed tx status) = Unit {0}
+IsRefusal (report.FailedHome block status) = Unit {0}
+IsRefusal (report.Stopped tx status) = ⊥
+IsRefusal (report.Sent tx) = ⊥
+
+-- The report is of the port of a side that there is, or of the root's. That a transaction was rung, or stays undone, is
+-- reported of sides alone.
+abbrev pub IsOfPort : ℕ → Charge → Type 0
+IsOfPort sides c = IsPortOf sides c.port × (c.port ≡ Root → IsRefusal c.report)
 
 abbrev pub numbered : ℕ → Tx → Tx
 numbered n t = record t { number = n }
@@ -102,12 +124,13 @@ module _ {Q R E : Type 0} (values : Values Q R E) (group : Group E) where
       × group.placed g start base (history base es) e
       × IsLegal g start base es
 
-  -- The history is legal, each claim is of a drawn number, and the base word is a base.
+  -- The history is legal, each claim is of a drawn number, the base word is a base, and each report is of a port.
   pub record IsOk (K : Desk) : Type 0 where
     pub log : LogOk (core_of K)
     pub claims : Each (λ c. c.up_to ≤ newest K) K.claims
     pub base : BaseOk (core_of K) K.word
     pub legal : IsLegal (geometry_of K) (start_of K.opening) K.opening.base K.log
+    pub ports : Each (IsOfPort (length K.opening.sides)) K.charges
 
   -- ---- what changes what
 

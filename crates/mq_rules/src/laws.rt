@@ -62,7 +62,7 @@ pub fn a_raised_base_keeps_the_rule<J: JournalValues>()
     ensures root { RootsShowRaises J.values J.group }
 {}
 
-/// A report of a port changes nothing that is asked of the history. The side or the root stays what it is
+/// A report may be made of each port; it changes nothing else that is asked. The side or the root stays what it is
 /// where its port has gained a fault of the kind that is charged to it, and the named one since the
 /// opening; a side, where its own record says so, too.
 pub fn charges_keep_the_rule<J: JournalValues>()

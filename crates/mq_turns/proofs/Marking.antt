@@ -19,6 +19,7 @@ use Rattle.mq_turns.specs.declared.rule.Known.{Known}
 use Rattle.mq_turns.specs.declared.rule.Reading.{Reading}
 use Rattle.mq_turns.specs.declared.rule.View.{View}
 use Rattle.mq_turns.specs.declared.rule.Notice.{Notice}
+use Rattle.mq_turns.specs.declared.rule.Answer.TheVariants.{Base, Front}
 use Rattle.mq_turns.specs.declared.rule.Notice.TheVariants as notice
 use Rattle.mq_turns.specs.declared.turn.Turn.{Turn}
 use Rattle.mq_turns.specs.declared.turn.Turn.TheVariants.{Side, Root}
@@ -94,7 +95,7 @@ module _ {M P Q R E : Type 0} (μ : Meaning P Q R E) (o : Opening P Q R) (chairs
         after_base m v,
         keeps,
         tt,
-        rereads K s id v (record v.reading { base = m }) word rk.1 rk.2 rk.3 rk.4 at live refl record { low = d.low; swept = d.swept; last = d.last; done = d.done; base = omega arith; pages = d.pages },
+        rereads K s id v (record v.reading { base = m; answers = Base m ∷ v.reading.answers }) word rk.1 rk.2 rk.3 rk.4 at live refl record { low = d.low; swept = d.swept; last = d.last; done = d.done; base = omega arith; pages = d.pages },
         (K, refl, sym now, sees μ o chairs K s id v rk.1 rk.2 rk.3 rk.4 at live),
       )
 
@@ -223,6 +224,17 @@ module _ {M P Q R E : Type 0} (μ : Meaning P Q R E) (o : Opening P Q R) (chairs
         keeps,
         tt,
         rereads K s id v (record v.reading { pages = (b, p, K) ∷ v.reading.pages }) word rk.1 rk.2 rk.3 rk.4 at live refl record { low = d.low; swept = d.swept; last = d.last; done = d.done; base = d.base; pages = ((seen.ok, grows_now K, may K seen), d.pages) },
+        (K, refl, seen),
+      )
+  notes_it deep id me word (notice.Front n) count_is live may s rk len at fits =
+      let K : Known P Q R E = rk.0 in
+      let v : View P Q R E = me.0 in
+      let seen = sees μ o chairs K s id v rk.1 rk.2 rk.3 rk.4 at live in
+      let d = rk.4.each_chair id v at in (
+        after_notice μ (notice.Front n) K v,
+        keeps,
+        tt,
+        rereads K s id v (record v.reading { answers = Front n ∷ v.reading.answers }) word rk.1 rk.2 rk.3 rk.4 at live refl record { low = d.low; swept = d.swept; last = d.last; done = d.done; base = d.base; pages = d.pages },
         (K, refl, seen),
       )
   notes_it deep id me word (notice.Charge c) count_is live may s rk len at fits =

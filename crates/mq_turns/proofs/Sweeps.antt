@@ -4,9 +4,11 @@ use Rattle.std.proofs.lemmas.Bool.{cases_Bool, eq-eqb, eqb-true, eqb-false, leb-
 use Rattle.mq_turns.specs.Lists.{Each}
 use Rattle.mq_turns.specs.Meaning.{Meaning, Grows, newest}
 use Rattle.mq_turns.specs.Marks.{mark_of, queues_of, passed, shown, DoneTo, Reader}
-use Rattle.mq_turns.specs.Words.{after_peek, after_clear}
+use Rattle.mq_turns.specs.Words.{after_peek, after_clear, after_notice}
 use Rattle.mq_turns.specs.Desk.{Sees, Below}
-use Rattle.mq_turns.specs.Swept.{after_count, least_below, HasPassed, Sweeping, AfterFront}
+use Rattle.mq_turns.specs.Swept.{after_count, least_below, HasPassed, Sweeping, AfterFront, AfterMarks}
+use Rattle.mq_turns.specs.declared.rule.Answer.TheVariants.{Front}
+use Rattle.mq_turns.specs.declared.rule.Notice.TheVariants as notice
 use Rattle.mq_turns.specs.declared.rule.Opening.{Opening}
 use Rattle.mq_turns.specs.declared.rule.Known.{Known}
 use Rattle.mq_turns.specs.declared.rule.Reading.{Reading}
@@ -15,15 +17,15 @@ use Rattle.mq_turns.proofs.Seen.{opening_seen}
 
 module _ {P Q R E : Type 0} where
   pub record Passing (queues q low n : ℕ) (r t : Reading P Q R E) : Type 0 where
-    pub kept : (r.done ≤ t.done) × (t.base ≡ r.base) × (t.pages ≡ r.pages) × (t.charged ≡ r.charged)
+    pub kept : (r.done ≤ t.done) × (t.base ≡ r.base) × (t.pages ≡ r.pages) × (t.answers ≡ r.answers) × (t.charged ≡ r.charged)
     pub swept : t.swept ≡ suc q
     pub low_is : min low n ≤ t.low
     pub ended : queues ≤ suc q → min low n ≤ t.done
 
   passing : (queues q low m n : ℕ) (r : Reading P Q R E) → min low n ≤ m → Passing queues q low n r (passed queues (suc q) m r)
   passing queues q low m n r le = elim (cases_Bool (nat_le queues (suc q))) [
-    | inl all ↦ record { kept = rw all (omega arith, refl, refl, refl); swept = refl; low_is = le; ended = λ lt. rw all (omega arith) }
-    | inr some_left ↦ let more = leb-false queues (suc q) some_left in record { kept = rw some_left (omega arith, refl, refl, refl); swept = refl; low_is = le; ended = λ lt. absurd (omega arith) }
+    | inl all ↦ record { kept = rw all (omega arith, refl, refl, refl, refl); swept = refl; low_is = le; ended = λ lt. rw all (omega arith) }
+    | inr some_left ↦ let more = leb-false queues (suc q) some_left in record { kept = rw some_left (omega arith, refl, refl, refl, refl); swept = refl; low_is = le; ended = λ lt. absurd (omega arith) }
   ]
 
   pub shows_next : (queues q low n m : ℕ) (r : Reading P Q R E) → low ≤ m → (0 < q → (r.swept ≡ q) × (low ≤ r.low)) → Passing queues q low n r (shown queues q (min n m) r)
@@ -54,7 +56,7 @@ module _ {P Q R E : Type 0} (μ : Meaning P Q R E) where
     below = below;
     read = (refl, tt);
     low_is = refl;
-    kept = (omega arith, refl, refl, refl);
+    kept = (omega arith, refl, refl, refl, refl);
     passes = none_passed queues n v.reading;
   }
 
@@ -114,15 +116,37 @@ module _ {P Q R E : Type 0} (μ : Meaning P Q R E) where
         below = z.below;
         read = (ap suc many, ((K, ap (λ i. mark_of i K.claims) many ∙ read, before_sweep (length o.sides) q low K v w s z), z.read.1));
         low_is = ap (λ m. min m (mark - 1)) least;
-        kept = (omega arith, kept.1 ∙ was.1, kept.2 ∙ was.2, kept.3 ∙ was.3);
+        kept = (omega arith, kept.1 ∙ was.1, kept.2 ∙ was.2, kept.3 ∙ was.3, kept.4 ∙ was.4);
         passes = record { passed = λ lt. (p.swept, p.low_is); ended = λ lt all. p.ended all };
       }
 
   -- all marks are read
-  pub sweep_ends : (o : Opening P Q R) (low : ℕ) (v w : View P Q R E) → v.opening ≡ Some o → Sweeping μ (length o.sides) (length o.sides) low v w → AfterFront μ o low v w
+  pub sweep_ends : (o : Opening P Q R) (low : ℕ) (v w : View P Q R E) → v.opening ≡ Some o → Sweeping μ (length o.sides) (length o.sides) low v w → AfterMarks μ o low v w
   sweep_ends o low v w start z = record {
     sweep = z;
     done = passed_done o low w (ap (λ (u : View P Q R E). u.opening) z.is ∙ start) (subst (λ (u : View P Q R E). HasPassed (length o.sides) (length o.sides) low u.reading) (sym z.is) z.passes);
+  }
+
+  -- what is seen once the front is kept was to be seen before
+  before_kept : (n : ℕ) (K : Known P Q R E) (v : View P Q R E) → Sees μ (record v { reading = record v.reading { answers = Front n ∷ v.reading.answers } }) K → Sees μ v K
+  before_kept n K v s = record {
+    opening = s.opening;
+    ok = s.ok;
+    few = s.few;
+    held = s.held;
+    seen = s.seen;
+    drew = s.drew;
+    marked = s.marked;
+    reader = let r = s.reader in record { low = r.low; swept = r.swept; last = r.last; done = r.done; base = r.base; pages = r.pages };
+  }
+
+  -- the front is kept
+  pub keeps_front : (o : Opening P Q R) (front : ℕ) (v w x : View P Q R E) (K : Known P Q R E) → AfterMarks μ o front v w → x ≡ after_notice μ (notice.Front front) K w → AfterFront μ o front v x
+  keeps_front o front v w x K marks is = record {
+    swept = w;
+    marks = marks;
+    is = is;
+    done = λ L sees. marks.done L (before_kept front L w (subst (λ (u : View P Q R E). Sees μ u L) is sees));
   }
 
   -- one queue more is cleared, with a mark above n, by a chair that has seen n

@@ -30,10 +30,10 @@ module _ {P Q R : Type 0} where
 module _ {P Q R E : Type 0} where
   -- nothing was read; and what stands at the opening
   abbrev pub unread : Reading P Q R E
-  unread = record { swept = 0; low = 0; done = 0; base = 0; pages = []; charged = [] }
+  unread = record { swept = 0; low = 0; done = 0; base = 0; pages = []; answers = []; charged = [] }
 
   abbrev pub read_first : ℕ → Reading P Q R E
-  read_first base = record { swept = 0; low = 0; done = base; base = base; pages = []; charged = [] }
+  read_first base = record { swept = 0; low = 0; done = base; base = base; pages = []; answers = []; charged = [] }
 
   -- a sweep over so many queues has passed n of them, whose numbers up to `low` are done
   abbrev pub passed : ℕ → ℕ → ℕ → Reading P Q R E → Reading P Q R E
@@ -43,9 +43,9 @@ module _ {P Q R E : Type 0} where
   abbrev pub shown : ℕ → ℕ → ℕ → Reading P Q R E → Reading P Q R E
   shown queues q n r = cond (nat_eq q 0) (passed queues 1 n r) (cond (nat_eq q r.swept) (passed queues (suc q) (min r.low n) r) r)
 
-  -- what two chairs read and noted; pages are forgotten
+  -- what two chairs read and noted; pages and answers are forgotten
   abbrev pub read_both : Reading P Q R E → Reading P Q R E → Reading P Q R E
-  read_both r t = record { swept = 0; low = 0; done = max r.done t.done; base = max r.base t.base; pages = []; charged = r.charged ++ t.charged }
+  read_both r t = record { swept = 0; low = 0; done = max r.done t.done; base = max r.base t.base; pages = []; answers = []; charged = r.charged ++ t.charged }
 
 module _ {P Q R E : Type 0} (μ : Meaning P Q R E) where
   -- all numbers up to n of the first queues are done

@@ -3,6 +3,7 @@ use Rattle.std.specs.Prelude.{◌≡◌, ℕ, ◌-◌, ◌<◌, ◌≤◌, min, 
 use Rattle.mq_turns.specs.Meaning.{Meaning, newest}
 use Rattle.mq_turns.specs.Marks.{mark_of, DoneTo}
 use Rattle.mq_turns.specs.Desk.{Sees, Below}
+use Rattle.mq_turns.specs.declared.rule.Answer.TheVariants.{Front}
 use Rattle.mq_turns.specs.declared.rule.Opening.{Opening}
 use Rattle.mq_turns.specs.declared.rule.Known.{Known}
 use Rattle.mq_turns.specs.declared.rule.Reading.{Reading}
@@ -41,11 +42,18 @@ module _ {P Q R E : Type 0} (μ : Meaning P Q R E) where
     pub below : Below counter v
     pub read : (length marks ≡ q) × AreMarks counter v marks
     pub low_is : low ≡ least_below counter marks
-    pub kept : (v.reading.done ≤ reading.done) × (reading.base ≡ v.reading.base) × (reading.pages ≡ v.reading.pages) × (reading.charged ≡ v.reading.charged)
+    pub kept : (v.reading.done ≤ reading.done) × (reading.base ≡ v.reading.base) × (reading.pages ≡ v.reading.pages) × (reading.answers ≡ v.reading.answers) × (reading.charged ≡ v.reading.charged)
     pub passes : HasPassed queues q low reading
 
   -- The chair has read the counter and then each mark. The front is the least of the counter and the numbers just below the
   -- marks, and the chair knows that all numbers up to it are done. Nothing else has changed.
-  pub record AfterFront (o : Opening P Q R) (front : ℕ) (v w : View P Q R E) : Type 0 where
+  pub record AfterMarks (o : Opening P Q R) (front : ℕ) (v w : View P Q R E) : Type 0 where
     pub sweep : Sweeping (length o.sides) (length o.sides) front v w
+    pub done : (K : Known P Q R E) → Sees μ w K → DoneTo μ front K
+
+  -- So it has, and keeps the front as its newest answer.
+  pub record AfterFront (o : Opening P Q R) (front : ℕ) (v w : View P Q R E) : Type 0 where
+    pub swept : View P Q R E
+    pub marks : AfterMarks o front v swept
+    pub is : w ≡ record swept { reading = record swept.reading { answers = Front front ∷ swept.reading.answers } }
     pub done : (K : Known P Q R E) → Sees μ w K → DoneTo μ front K

@@ -2,8 +2,9 @@
 use Rattle.std.specs.Prelude.{◌≡◌, ℕ, suc, ◌-◌, ◌<◌, ◌≤◌, nat_eq, min, Bool, true, false, ◌∷◌}
 use Rattle.mq_turns.specs.Lists.{times}
 use Rattle.mq_turns.specs.Meaning.{Meaning, newest, claimed, written, raised, charged}
-use Rattle.mq_turns.specs.Marks.{mark_of, claim_of, queues_of, shown}
+use Rattle.mq_turns.specs.Marks.{mark_of, claim_of, queues_of, shown, DoneTo}
 use Rattle.mq_turns.specs.Desk.{IsTurn, slot_of, turn_at, refreshed, Sat, At, Sees}
+use Rattle.mq_turns.specs.declared.rule.Answer.TheVariants.{Front, Base}
 use Rattle.mq_turns.specs.declared.rule.Known.{Known}
 use Rattle.mq_turns.specs.declared.rule.View.{View}
 use Rattle.mq_turns.specs.declared.rule.Notice.{Notice}
@@ -35,7 +36,7 @@ module _ {P Q R E : Type 0} where
   after_clear q low K v = record (renewed (same_turn (Side q)) (claimed (claim_of q low (newest K)) K) v) { reading = shown (queues_of v.opening) q (min (low - 1) (newest K)) v.reading }
 
   abbrev pub after_base : ℕ → View P Q R E → View P Q R E
-  after_base b v = record v { reading = record v.reading { base = b } }
+  after_base b v = record v { reading = record v.reading { base = b; answers = Base b ∷ v.reading.answers } }
 
   abbrev pub after_raise : ℕ → Known P Q R E → View P Q R E → View P Q R E
   after_raise b K v = record (renewed (same_turn Root) (raised b K) v) { reading = record v.reading { base = b } }
@@ -53,22 +54,26 @@ module _ {P Q R E : Type 0} (μ : Meaning P Q R E) where
   known_by (notice.Home b n) K = written (b, n) K
   known_by (notice.Page b p) K = K
   known_by (notice.Charge c) K = charged c K
+  known_by (notice.Front n) K = K
 
   abbrev pub is_about : Notice P → Known P Q R E → Turn → Bool
   is_about (notice.Home b n) K t = μ.lies K.opening (b, n) t
   is_about (notice.Page b p) K t = false
   is_about (notice.Charge c) K t = same_turn c.port t
+  is_about (notice.Front n) K t = false
 
   abbrev pub after_notice : Notice P → Known P Q R E → View P Q R E → View P Q R E
   after_notice (notice.Home b n) K v = renewed (is_about (notice.Home b n) K) (written (b, n) K) v
   after_notice (notice.Page b p) K v = record v { reading = record v.reading { pages = (b, p, K) ∷ v.reading.pages } }
   after_notice (notice.Charge c) K v = record (renewed (is_about (notice.Charge c) K) (charged c K) v) { reading = record v.reading { charged = c ∷ v.reading.charged } }
+  after_notice (notice.Front n) K v = record v { reading = record v.reading { answers = Front n ∷ v.reading.answers } }
 
   -- what a notice asks: the chair holds what it is about, and it fits all that is known
   abbrev pub MayNote : Notice P → View P Q R E → Type 0
   MayNote (notice.Home b n) v = (K : Known P Q R E) → Sees μ v K → μ.ok (written (b, n) K) × ((t : Turn) → IsTurn K.opening t → μ.lies K.opening (b, n) t ≡ true → 0 < times (slot_of K.opening t) v.held)
   MayNote (notice.Page b p) v = (K : Known P Q R E) → Sees μ v K → μ.page b K p
   MayNote (notice.Charge c) v = (K : Known P Q R E) → Sees μ v K → μ.ok (charged c K) × (0 < times (slot_of K.opening c.port) v.held)
+  MayNote (notice.Front n) v = (K : Known P Q R E) → Sees μ v K → DoneTo μ n K
 
   -- ---- what each step tells
 

@@ -18,5 +18,7 @@ mod words;
 pub use close::Parts;
 pub use desk::{Chair, Desk};
 pub use machine::Machine;
-pub use rule::{Charge, Claim, Known, Knows, Law, Notice, Opening, Reading, Report, Start, View};
+pub use rule::{
+    Answer, Charge, Claim, Known, Knows, Law, Notice, Opening, Reading, Report, Start, View,
+};
 pub use turn::{Item, Turn};

@@ -4,7 +4,7 @@ ghost use Rattle.mq_turns.specs.Meaning.{newest};
 ghost use Rattle.mq_turns.specs.Lists.{times};
 ghost use Rattle.mq_turns.specs.Marks.{DoneTo};
 ghost use Rattle.mq_turns.specs.Words.{after_clear, after_base, after_raise, MayClear, MayRaise};
-ghost use Rattle.mq_turns.specs.Swept.{AfterFront};
+ghost use Rattle.mq_turns.specs.Swept.{AfterFront, AfterMarks};
 ghost use Rattle.mq_turns.specs.Desk.{IsTurn, slot_of, Sees};
 ghost use Rattle.mq_turns.specs.AtDesk.{AtDesk, view, start_of};
 ghost use Rattle.mq_turns.specs.declared.rule.Known.{Known};
@@ -14,6 +14,7 @@ use crate::desk::{Chair, Desk};
 use crate::machine::Machine;
 use crate::{steps, words};
 use mq_blocks::{QueueNo, TxNo};
+use std::marker::Brand;
 
 impl<M: Machine> Desk<M> {
     /// Stores the mark of a queue whose side the chair holds. All chairs know then that the queue's
@@ -34,11 +35,11 @@ impl<M: Machine> Desk<M> {
         words::clear(&self.table.shared, &mut chair.place, word, low);
     }
 
-    /// Reads the counter, then each mark: one load for each of them.
-    pub fn front(&self, chair: &mut Chair<M>) -> TxNo
+    // Reads the counter, then each mark.
+    fn read_marks(&self, chair: &mut Chair<M>) -> TxNo
         requires at { AtDesk self.now chair.old }
         ensures at { AtDesk self.now chair.new }
-        ensures front { AfterFront M.meaning (start_of self.now) result (view chair.old) (view chair.new) }
+        ensures marks { AfterMarks M.meaning (start_of self.now) result (view chair.old) (view chair.new) }
     {
         let counter = self.table.slot_count();
         let mut low = steps::count(&self.table.shared, &mut chair.place, counter);
@@ -49,7 +50,20 @@ impl<M: Machine> Desk<M> {
         TxNo(low)
     }
 
-    /// The base: one load.
+    /// Reads the counter, then each mark: one load for each of them. The chair keeps the answer, by one
+    /// load more, which is for proofs alone.
+    pub fn front(&self, chair: &mut Chair<M>) -> TxNo
+        requires at { AtDesk self.now chair.old }
+        ensures at { AtDesk self.now chair.new }
+        ensures front { AfterFront M.meaning (start_of self.now) result (view chair.old) (view chair.new) }
+    {
+        let front = self.read_marks(chair);
+        let counter = self.table.slot_count();
+        words::note_front::<M, Brand>(&self.table.shared, &mut chair.place, counter, front);
+        front
+    }
+
+    /// The base: one load. The chair keeps the answer.
     pub fn base(&self, chair: &mut Chair<M>) -> TxNo
         requires at { AtDesk self.now chair.old }
         ensures at { AtDesk self.now chair.new }

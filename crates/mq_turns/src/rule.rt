@@ -63,6 +63,14 @@ pub struct Charge {
     pub report: Report,
 }
 
+/// What a chair was answered of marks and base. Proofs alone have one.
+pub enum Answer {
+    /// A front.
+    Front(TxNo),
+    /// A base.
+    Base(TxNo),
+}
+
 /// What a chair notes at a step of its own. Proofs alone have one.
 pub enum Notice<P> {
     /// A home write of the block ended, with the content of the number.
@@ -70,6 +78,8 @@ pub enum Notice<P> {
     /// The page is what it is by all that is known now.
     Page(BlockNo, P),
     Charge(Charge),
+    /// All numbers up to this one are done: the front that it is answered.
+    Front(TxNo),
 }
 
 /// What a chair read of marks and base, and what it noted. Proofs alone have one.
@@ -84,6 +94,8 @@ pub struct Reading<P, Q, R, E> {
     pub base: u64,
     /// Pages that it noted, with what was known then, the newest first.
     pub pages: LinkedList<(BlockNo, P, Known<P, Q, R, E>)>,
+    /// The fronts and bases that it was answered, the newest first.
+    pub answers: LinkedList<Answer>,
     /// What it reported of ports, the newest first.
     pub charged: LinkedList<Charge>,
 }

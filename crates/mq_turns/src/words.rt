@@ -145,6 +145,32 @@ pub(crate) fn note_page<M: Machine, N: Notifies<M::Page>>(
     top.load::<Notify<M, N>>(place, word);
 }
 
+/// Keeps a front that the chair is answered. Each call picks the notice.
+pub(crate) fn note_front<M: Machine, N: Notifies<M::Page>>(
+    top: &Top<M>,
+    place: &mut Place<M>,
+    word: usize,
+    front: TxNo,
+)
+    requires table { (place.old.table_id ≡ top.now.table_id)
+        × (word < top.now.table_id.words)
+        × (0 < place.old.me.0.parts)
+        × (top.now.table_id.slots ≡ slots (opening_of top.now.key)) }
+    requires may { MayNote M.meaning (notice.Front front) place.old.me.0 }
+    requires notice { N.notice ≡ Some (notice.Front front) }
+    ensures seat { (place.new.table_id ≡ place.old.table_id) × (place.new.id ≡ place.old.id) }
+    ensures noted { (K : Known M.Page M.Side M.Root M.Entry)
+        × (place.new.me ≡ (
+          after_notice M.meaning
+              (notice.Front front) K place.old.me.0,
+          place.old.me.1,
+        ))
+        × Sees M.meaning place.old.me.0 K }
+{
+    let _ = front;
+    top.load::<Notify<M, N>>(place, word);
+}
+
 /// Enters a report of a port in its account. Each call picks the notice.
 pub(crate) fn charge<M: Machine, N: Notifies<M::Page>>(
     top: &Top<M>,

@@ -1,6 +1,7 @@
 use Rattle.std.proofs.Common.{◌≡◌, ℕ, ◌+◌, ◌<◌, true, length, sym, refl, ap, subst, ◌∙◌, arith}
 use Rattle.std.proofs.lemmas.Bool.{eq-eqb}
 use Rattle.mq_rules.specs.Rule.{IsSide}
+use Rattle.mq_rules.proofs.Telling.{ok_charged}
 use Rattle.mq_turns.specs.AtDesk.{view, start_of}
 use Rattle.mq_turns.specs.Chairs.{giving}
 use Rattle.mq_turns.specs.Desk.{slot_of, turn_at}
@@ -9,11 +10,29 @@ use Rattle.mq_turns.specs.Meaning.{charged}
 use Rattle.mq_turns.specs.Words.{after_notice, same_turn}
 use Rattle.mq_turns.specs.declared.rule.Notice.TheVariants as notice
 use Rattle.mq_turns.specs.declared.turn.Item.TheVariants as item
-use Rattle.mq_turns.specs.declared.turn.Turn.TheVariants.{Side}
+use Rattle.mq_turns.specs.declared.turn.Turn.TheVariants.{Root, Side}
 use Rattle.mq_turns.proofs.Seen.{opening_seen, stands_renewed, times_renewed}
 use Rattle.mq_turns.proofs.Slots.{turn_at_slot}
-use Rattle.mq_journal.specs.Numbers.{machine, reported, values}
+use Rattle.mq_journal.specs.Numbers.{Start, machine, reported, values}
 use Rattle.mq_journal.proofs.reporting.report.Goals as goal
+
+pub charge-requires-clause-may : goal.charge-requires-clause-may
+charge-requires-clause-may g c = λ K sees.
+    let state = g.P.Port.state in
+    let faults = g.P.Port.faults in
+    let group = g.G.Groups.group in
+    let o = start_of c.args.desk.now in
+    let v = view c.args.chair.now in
+    let q = c.args.side.pmr.queue in
+    let qr = c.queue-queue.result in
+    let own : q ≡ qr = sym c.queue-queue.ensures in
+    let start : o ≡ K.opening = sym (opening_seen (machine state faults group) o K v c.requires.at.1 sees) in
+    let turn : qr < length K.opening.sides = subst (λ (z : ℕ × Start g.row.P.Denot g.row.G-Entry.Denot g.P.Port). z.0 < length z.1.sides) (λ i. (own i, start i)) c.requires.turn in
+    let holds : 0 < times (slot_of K.opening (Side qr)) v.held = subst (λ (z : ℕ × Start g.row.P.Denot g.row.G-Entry.Denot g.P.Port). 0 < times (slot_of z.1 (Side z.0)) v.held) (λ i. (own i, start i)) c.requires.holds in
+    (ok_charged (values state faults group) group (reported qr c.args.report) K sees.ok (turn, λ e. absurd (side_root qr e)), holds)
+  where
+    side_root : (q : ℕ) → Side q ≡ Root → ⊥
+    side_root q e = cc
 
 pub give_back-requires-clause-holds : goal.give_back-requires-clause-holds
 give_back-requires-clause-holds g c =
