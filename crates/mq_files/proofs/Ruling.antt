@@ -1,5 +1,5 @@
 -- A done group by the rule of a desk over the ports of a drive.
-use Rattle.std.proofs.Common.{◌≡◌, ℕ, ◌+◌, ◌≤◌, List, [], ◌∷◌, length, map, is_none, refl, sym, ap, subst, ◌∙◌, arith}
+use Rattle.std.proofs.Common.{◌≡◌, ℕ, ◌+◌, ◌≤◌, List, [], ◌∷◌, length, is_none, refl, sym, ap, subst, ◌∙◌, arith}
 use Rattle.mq_blocks.specs.Journal.{number_limit}
 use Rattle.mq_files.specs.Entries.{tx_of}
 use Rattle.mq_files.specs.Group.{file_group}
@@ -8,7 +8,6 @@ use Rattle.mq_files.specs.Plans.{HasNumber, is_data, planned_by, planned_by_cell
 use Rattle.mq_files.specs.declared.entry.FileEntry.{FileEntry}
 use Rattle.mq_files.proofs.Doing.{asks, does, plans}
 use Rattle.mq_ledger.specs.KnownJournal.{MayDraw}
-use Rattle.mq_pages.specs.Held.{cell_of}
 use Rattle.mq_rules.specs.Rule.{core_of, geometry_of, history, history_of, map_now, numbered, start_of}
 use Rattle.mq_rules.specs.Values.{Values}
 use Rattle.mq_tree.proofs.Members.{cons-here, cons-there}
@@ -42,6 +41,6 @@ module _ {Q R : Type 0} (values : Values Q R FileEntry) where
       let found = known w (cons-here w ws w refl) in
       let p = pages w.block found.0 found.1 in
       let one : planned_with cells w ≡ planned_by (start_of values file_group K.opening) K.opening.base (history_of values file_group K) w =
-          ap (planned_by_cell w.block (is_data w.kind)) found.1
-          ∙ (λ i. record { block = w.block; is_data = is_data w.kind; was_free = is_none (p.content i); version = p.version i; last_logged = p.last_logged i }) in
+      ap (planned_by_cell w.block (is_data w.kind)) found.1
+      ∙ (λ i. record { block = w.block; is_data = is_data w.kind; was_free = is_none (p.content i); version = p.version i; last_logged = p.last_logged i }) in
       λ i. one i ∷ rest i

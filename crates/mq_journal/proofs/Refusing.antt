@@ -1,6 +1,6 @@
 -- A side that is taken, drained and given back.
 use Rattle.std.proofs.Common.{◌≡◌, ◌≢◌, ◌⊎◌, ℕ, ◌+◌, ◌-◌, ◌<◌, ◌≤◌, ◌^◌, ◌==◌, min, nat_le, Bool, true, cond, List, [], ◌∷◌, length, sym, refl, ap, subst, ◌∙◌, inl, inr, arith, if◌then◌else◌}
-use Rattle.std.specs.Prelude.{None, Some, Result, Ok, Err}
+use Rattle.std.specs.Prelude.{None, Some, Result, Ok, Err, OnOk}
 use Rattle.std.proofs.lemmas.Bool.{cases_Bool, cases_lt, eq-eqb, false≢true, le-leb, lt-leb, ne_eqb}
 use Rattle.mq_blocks.specs.Drive.{PortState}
 use Rattle.mq_blocks.specs.declared.geometry.Geometry.{Geometry}
@@ -40,8 +40,8 @@ use Rattle.mq_turns.specs.declared.rule.Report.TheVariants as report
 use Rattle.mq_turns.specs.declared.turn.Turn.TheVariants.{Side}
 use Rattle.mq_turns.proofs.Each.{each_map}
 use Rattle.mq_turns.proofs.Growth.{stays_now}
-use Rattle.mq_turns.proofs.Seen.{opening_seen}
-use Rattle.mq_journal.specs.Draining.{IsPassed, Passes, Refuses, answer_upto, named_above, report_of, status_of}
+use Rattle.mq_turns.proofs.Seen.{opening_seen, sees_before}
+use Rattle.mq_journal.specs.Draining.{IsPassed, Passes, Refuses, answer_upto, mark_after, named_above, report_of, status_of}
 use Rattle.mq_journal.specs.Numbers
 use Rattle.mq_journal.specs.Numbers.{HoldsSide, IsReported, Seat, Shared, ShowsReport, Start, reported}
 use Rattle.mq_journal.specs.Values.{IsUnrung, Shows, StaysCut, StaysFailed}
@@ -51,6 +51,10 @@ use Rattle.mq_journal.proofs.Reports.{side_reported}
 use Rattle.mq_journal.proofs.Sides.{queue_side}
 
 -- ---- what is answered
+
+pub on_ok_both : {T E : Type 0} (r : Result T E) {A B C : Type 0} → (A → B → C) → OnOk r A → OnOk r B → OnOk r C
+on_ok_both (Ok x) f a b = f a b
+on_ok_both (Err e) f a b = tt
 
 -- what a failure of a greater number names
 abbrev Named : Cause → ℕ → Type 0
@@ -70,6 +74,12 @@ named_is at n cause.Off e = absurd cc
 named_is at n (cause.Failed tx status) e = let g = greater at tx n e in (g.0, let a = g.0 in let b = g.1 in omega arith)
 named_is at n (cause.FailedHome block status) e = absurd cc
 named_is at n (cause.Stopped tx w) e = let g = greater at tx n e in (g.0, let a = g.0 in let b = g.1 in omega arith)
+
+pub mark_named : (at n : ℕ) (c : Cause) → named_above at c ≡ Some n → n ≡ mark_after (Err c)
+mark_named at n cause.Off e = absurd cc
+mark_named at n (cause.Failed tx status) e = sym (greater at tx n e).0
+mark_named at n (cause.FailedHome block status) e = absurd cc
+mark_named at n (cause.Stopped tx w) e = sym (greater at tx n e).0
 
 pub above_at : (at n : ℕ) (c : Cause) → named_above at c ≡ Some n → at < n
 above_at at n c e = (named_is at n c e).1
@@ -236,18 +246,19 @@ module _ {P E : Type 0} {G : Ghosts P} (state : P → PortState) (faults : P →
   abbrev about : Start P E G → ℕ → ℕ → Bool
   about o q k = same_turn (Side q) (turn_at o k)
 
-  pub passes : (o : Start P E G) (q at low : ℕ) (v w new : Seat P E G) (K1 : Shared P E G) → v.opening ≡ Some o → Each (λ h. h.0 < slot_of o (Side q)) v.held → at ≤ v.seen → at < low → w ≡ holding (slot_of o (Side q)) K1 v → IsPassed state faults group o q low w new → Passes q at v new
-  passes o q at low v w new K1 opening above seen less held p =
+  pub passes : (o : Start P E G) (q at mark : ℕ) (v w new : Seat P E G) (K1 : Shared P E G) → v.opening ≡ Some o → Each (λ h. h.0 < slot_of o (Side q)) v.held → at ≤ v.seen → at < mark → w ≡ holding (slot_of o (Side q)) K1 v → IsPassed state faults group o q mark w new → Passes state faults group q at mark v new
+  passes o q at mark v w new K1 opening above seen less held p =
       let K = p.known in
       let start : K.opening ≡ o = opening_seen μ o K w (ap (λ (z : Seat P E G). z.opening) held ∙ opening) p.sees in
       let top : w.seen ≡ v.seen = ap (λ (z : Seat P E G). z.seen) held in
-      let reach : at ≤ min (low - 1) (newest K) = let a = p.sees.seen in omega arith in
-      let L = claimed (claim_of q low (newest K)) K in
+      let reach : at ≤ min (mark - 1) (newest K) = let a = p.sees.seen in omega arith in
+      let L = claimed (claim_of q mark (newest K)) K in
       let back : without (slot_of o (Side q)) (refreshed (about K.opening q) L ((slot_of o (Side q), K1) ∷ v.held)) ≡ v.held = taken_back (about K.opening q) L K1 (slot_of o (Side q)) v.held (λ k found. side_alone o q k (subst (λ z. about z q k ≡ true) start found)) above in
       record {
-        low = min (low - 1) (newest K);
+        known = K;
+        sees = sees_before μ (slot_of o (Side q)) K1 K v (subst (λ (z : Seat P E G). Sees μ z K) held p.sees);
         reach = reach;
-        is = p.is ∙ (ap (λ (z : Seat P E G). giving (slot_of o (Side q)) (after_clear q low K z)) held ∙ ap (λ l. record v { hand = 0; held = l; reading = shown (queues_of v.opening) q (min (low - 1) (newest K)) v.reading }) back);
+        is = p.is ∙ (ap (λ (z : Seat P E G). giving (slot_of o (Side q)) (after_clear q mark K z)) held ∙ ap (λ l. record v { hand = 0; held = l; reading = shown (queues_of v.opening) q (min (mark - 1) (newest K)) v.reading }) back);
       }
 
   pub refuses : (o : Start P E G) (q : ℕ) (c : Cause) (v w new : Seat P E G) (K1 : Shared P E G) → v.opening ≡ Some o → Each (λ h. h.0 < slot_of o (Side q)) v.held → w ≡ holding (slot_of o (Side q)) K1 v → IsReported state faults group o q (report_of c) w new → Refuses q c v new

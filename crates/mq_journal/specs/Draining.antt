@@ -1,5 +1,5 @@
 -- A queue's side is taken, drained and given back.
-use Rattle.std.specs.Prelude.{◌≡◌, ◌≤◌, ℕ, nat_le, if◌then◌else◌, List, ◌∷◌, Option, Some, None, Result, Ok, Err}
+use Rattle.std.specs.Prelude.{◌≡◌, ◌<◌, ◌≤◌, ◌-◌, ◌^◌, ℕ, min, nat_le, if◌then◌else◌, List, ◌∷◌, Option, Some, None, Result, Ok, Err, OnOk}
 use Rattle.mq_blocks.specs.Drive.{PortState}
 use Rattle.mq_drive.specs.Steps.{Fault}
 use Rattle.mq_drive.specs.declared.port.Port.{Ghosts}
@@ -52,33 +52,25 @@ answer_upto at (Err (cause.Failed tx status)) = if nat_le tx at then Err (cause.
 answer_upto at (Err (cause.FailedHome block status)) = Err (cause.FailedHome block status)
 answer_upto at (Err (cause.Stopped tx why)) = if nat_le tx at then Err (cause.Stopped tx why) else Ok tt
 
+-- the queue's mark after a drain: nothing of the queue is undone, or nothing below the number of its failure
+abbrev pub mark_after : Result ℕ Cause → ℕ
+mark_after (Ok done) = 2 ^ 64 - 1
+mark_after (Err cause.Off) = 0
+mark_after (Err (cause.Failed tx status)) = tx
+mark_after (Err (cause.FailedHome block status)) = 0
+mark_after (Err (cause.Stopped tx why)) = tx
+
 -- ---- what the session knows then
 
 module _ {P E : Type 0} {G : Ghosts P} where
-  -- The session's sweep over the queues has come to this one, of which all numbers up to `at` are done. Nothing else of
-  -- what it knows has changed.
-  pub record Passes (q at : ℕ) (old new : Seat P E G) : Type 0 where
-    pub low : ℕ
-    pub reach : at ≤ low
-    pub is : new ≡ record old { hand = 0; reading = shown (queues_of old.opening) q low old.reading }
-
   -- The refusal was reported of the queue's port. Nothing else of what it knows has changed.
   abbrev pub Refuses : ℕ → Cause → Seat P E G → Seat P E G → Type 0
   Refuses q c old new =
       new ≡ record old { hand = 0; reading = record old.reading { charged = reported q (report_of c) ∷ old.reading.charged } }
 
--- ---- one side in hand
-
-module _ {P E : Type 0} {G : Ghosts P} (state : P → PortState) (faults : P → List Fault) where
-  -- A drain of this side came to this, and it was answered so.
-  pub record IsAnswered (at : ℕ) (s : QueueSide P E G) (answer : Result (Unit {0}) Cause) : Type 0 where
-    pub result : Result ℕ Cause
-    pub after : QueueSide P E G
-    pub drains : Drains (side_state state faults s) result (side_state state faults after)
-    pub cause : DrainCause result (faults s.pmr.port) (faults after.pmr.port)
-    pub is : answer ≡ answer_upto at result
-
 module _ {P E : Type 0} {G : Ghosts P} (state : P → PortState) (faults : P → List Fault) (group : Group E) where
+  -- ---- one side in hand
+
   -- Whatever is known: with the claim that the queue's numbers below this one are done, the side is what the rule says.
   abbrev pub ShowsBelow : ℕ → ℕ → QueueSide P E G → Seat P E G → Type 0
   ShowsBelow q low s v =
@@ -91,10 +83,35 @@ module _ {P E : Type 0} {G : Ghosts P} (state : P → PortState) (faults : P →
     pub sees : Sees (Numbers.machine state faults group) old known
     pub is : new ≡ giving (slot_of o (Side q)) (after_clear q low known old)
 
-  -- The side, as it was taken by what was known then, was drained.
-  pub record WasDrained (q at : ℕ) (old : Seat P E G) (answer : Result (Unit {0}) Cause) : Type 0 where
+  -- A drain of this side came to this, and it was answered so: where nothing is answered, the mark says how far all is done.
+  pub record IsAnswered (o : Start P E G) (at : ℕ) (s : QueueSide P E G) (old new : Seat P E G) (answer : Result (Unit {0}) Cause) : Type 0 where
+    pub result : Result ℕ Cause
+    pub after : QueueSide P E G
+    pub drains : Drains (side_state state faults s) result (side_state state faults after)
+    pub cause : DrainCause result (faults s.pmr.port) (faults after.pmr.port)
+    pub is : answer ≡ answer_upto at result
+    pub low : OnOk answer (at < mark_after result)
+    pub passed : OnOk answer (IsPassed o s.pmr.queue (mark_after result) old new)
+
+  -- ---- over the desk
+
+  -- The session's sweep over the queues has come to this one, by this mark, and all of its numbers up to `at` are done.
+  -- Nothing else of what it knows has changed.
+  pub record Passes (q at mark : ℕ) (old new : Seat P E G) : Type 0 where
+    pub known : Shared P E G
+    pub sees : Sees (Numbers.machine state faults group) old known
+    pub reach : at ≤ min (mark - 1) (newest known)
+    pub is : new ≡ record old { hand = 0; reading = shown (queues_of old.opening) q (min (mark - 1) (newest known)) old.reading }
+
+  -- The side, as it was taken by what was known then, was drained, and it was answered so.
+  pub record WasDrained (q at : ℕ) (old new : Seat P E G) (answer : Result (Unit {0}) Cause) : Type 0 where
     pub taken : Shared P E G
     pub sees : Sees (Numbers.machine state faults group) old taken
     pub side : QueueSide P E G
     pub stood : IsSide (Numbers.values state faults group) group q taken side
-    pub answered : IsAnswered state faults at side answer
+    pub result : Result ℕ Cause
+    pub after : QueueSide P E G
+    pub drains : Drains (side_state state faults side) result (side_state state faults after)
+    pub cause : DrainCause result (faults side.pmr.port) (faults after.pmr.port)
+    pub is : answer ≡ answer_upto at result
+    pub passed : OnOk answer (Passes q at (mark_after result) old new)

@@ -4,7 +4,7 @@ ghost use Rattle.mq_turns.specs.AtDesk.{AtDesk, view, start_of};
 ghost use Rattle.mq_turns.specs.Desk.{IsTurn, slot_of};
 ghost use Rattle.mq_turns.specs.Lists.{Each, times};
 ghost use Rattle.mq_turns.specs.declared.turn.Turn.TheVariants.{Side};
-ghost use Rattle.mq_journal.specs.Draining.{IsAnswered, IsPassed, Passes, Refuses, ShowsBelow, WasDrained, answer_upto, named_above, report_of, status_of};
+ghost use Rattle.mq_journal.specs.Draining.{IsAnswered, IsPassed, Refuses, ShowsBelow, WasDrained, answer_upto, mark_after, named_above, report_of, status_of};
 ghost use Rattle.mq_journal.specs.Numbers.{HoldsSide, IsReported, IsSeen, ShowsReport};
 
 use crate::machine::{Groups, JournalMachine};
@@ -97,10 +97,9 @@ fn stop<P: Port + Drop, G: Groups>(
         → ShowsReport P.state P.faults G.group side.pmr.queue (report_of cause) side (view chair.old) }
     ensures at { AtDesk desk.now chair.new }
     ensures answer { result ≡ answer_upto at (Err cause) }
-    ensures passed { OnOk result ((low : ℕ)
-        × (at < low)
-        × IsPassed P.state P.faults G.group (start_of desk.now) side.pmr.queue low
-        (view chair.old) (view chair.new)) }
+    ensures low { OnOk result (at < mark_after (Err cause)) }
+    ensures passed { OnOk result (IsPassed P.state P.faults G.group (start_of desk.now) side.pmr.queue
+        (mark_after (Err cause)) (view chair.old) (view chair.new)) }
     ensures refused { IfErr result (λ c. IsReported P.state P.faults G.group (start_of desk.now)
         side.pmr.queue (report_of c) (view chair.old) (view chair.new)) }
 {
@@ -129,11 +128,8 @@ fn drain_side<P: Port + Drop, G: Groups>(
     requires known { IsSeen P.state P.faults G.group (view chair.old) }
     requires limit { at < 2 ^ 64 - 1 }
     ensures at { AtDesk desk.now chair.new }
-    ensures answered { IsAnswered P.state P.faults at side result }
-    ensures passed { OnOk result ((low : ℕ)
-        × (at < low)
-        × IsPassed P.state P.faults G.group (start_of desk.now) side.pmr.queue low
-        (view chair.old) (view chair.new)) }
+    ensures answered { IsAnswered P.state P.faults G.group (start_of desk.now) at side
+        (view chair.old) (view chair.new) result }
     ensures refused { IfErr result (λ c. IsReported P.state P.faults G.group (start_of desk.now)
         side.pmr.queue (report_of c) (view chair.old) (view chair.new)) }
 {
@@ -162,8 +158,7 @@ pub fn drain<R: Wait, P: Port + Drop, G: Groups>(
     requires above { Each (λ h. h.0 < slot_of (start_of desk.now) (Side queue)) (view chair.old).held }
     requires seen { at ≤ (view chair.old).seen }
     ensures at { AtDesk desk.now chair.new }
-    ensures drained { WasDrained P.state P.faults G.group queue at (view chair.old) result }
-    ensures passed { OnOk result (Passes queue at (view chair.old) (view chair.new)) }
+    ensures drained { WasDrained P.state P.faults G.group queue at (view chair.old) (view chair.new) result }
     ensures refused { IfErr result (λ c. Refuses queue c
         (view chair.old) (view chair.new)) }
 {

@@ -1,7 +1,7 @@
 use Rattle.std.proofs.Common.{◌≡◌, Bool, false, ap, ◌∙◌}
 use Rattle.std.specs.Prelude.{Some, None}
 use Rattle.mq_blocks.specs.Journal.{is_among}
-use Rattle.mq_files.specs.Pages.{TakesWrite, page_with}
+use Rattle.mq_files.specs.Pages.{page_with}
 use Rattle.mq_revoke.specs.Placed.{Placed}
 use Rattle.mq_files.proofs.Settled.{left_none, left_some, page_none, page_some}
 use Rattle.mq_files.proofs.pages.page_after.Goals as goal
