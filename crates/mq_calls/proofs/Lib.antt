@@ -1,3 +1,5 @@
 pub mod Lists
 pub mod Holding
 pub mod Taking
+pub mod Counting
+pub mod Asking

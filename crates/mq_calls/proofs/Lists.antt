@@ -54,10 +54,6 @@ module _ {A : Type 0} where
   without_each-last [] k l = refl
   without_each-last (j ∷ js) k l = ap (without j) (without_each-last js k l)
 
--- how often a number stands in a list of numbers
-ticks : ℕ → List ℕ → ℕ
-ticks k [] = 0
-ticks k (n ∷ ns) = tick n k + ticks k ns
 
 -- ---- cells by rising block
 

@@ -4,6 +4,7 @@
 
 mod laws;
 mod pages;
+mod wanted;
 
 pub use laws::{held_pages_are_current, held_pages_stay};
 pub use pages::{give_back_pages, take_pages};
