@@ -1,21 +1,21 @@
 -- Pages of further blocks, for a session that holds those of the wanted ones.
-use Rattle.std.proofs.Common.{◌≡◌, ◌⊎◌, ℕ, suc, ◌+◌, ◌<◌, ◌≤◌, List, [], ◌∷◌, ◌++◌, length, get_or, map, refl, sym, ap, subst, ◌∙◌, inl, inr, arith}
-use Rattle.std.specs.Prelude.{◌↔◌}
+use Rattle.std.proofs.Common.{◌≡◌, ◌⊎◌, ℕ, ◌+◌, ◌<◌, ◌≤◌, List, [], ◌∷◌, ◌++◌, length, get_or, refl, sym, ap, subst, ◌∙◌, inl, inr, arith}
+use Rattle.std.specs.Prelude.{None}
 use Rattle.std.specs.List.{All, AllPairs, Contains}
 use Rattle.std.proofs.lemmas.Bool.{cases_eq}
 use Rattle.std.proofs.lemmas.List.{map-append}
 use Rattle.std.proofs.lemmas.List.Elements.{All-contains, Contains-append_cases, Contains-append_left, Contains-append_right, Contains-get_or}
 use Rattle.mq_pages.specs.Held.{Cells, IsRising}
 use Rattle.mq_pages.specs.declared.page.PageCell.{PageCell}
-use Rattle.mq_turns.specs.Desk.{Sees, Stay, turn_at}
-use Rattle.mq_turns.specs.Lists.{Each, times, without}
+use Rattle.mq_turns.specs.Desk.{Sees, Stay, after_look, turn_at}
+use Rattle.mq_turns.specs.Lists.{Each, times}
 use Rattle.mq_turns.specs.Meaning.{Meaning}
 use Rattle.mq_turns.specs.declared.rule.Known.{Known}
 use Rattle.mq_turns.specs.declared.rule.Opening.{Opening}
 use Rattle.mq_turns.specs.declared.rule.View.{View}
 use Rattle.mq_turns.proofs.Each.{each_map, each_without, times_append}
-use Rattle.mq_calls.specs.Pages.{AddsCells, HoldsOnlyPages, HoldsPage, HoldsPages, IsSeen, TakesPages, blocks_of, giving_pages, taking_pages, without_each}
-use Rattle.mq_calls.specs.Wanted.{AreTogether, AreWanted, HaveSame, HoldsWanted, IsSameSession}
+use Rattle.mq_calls.specs.Pages.{AddsCells, HoldsOnlyPages, HoldsPage, HoldsPages, TakesPages, blocks_of, giving_pages, taking_pages, without_each}
+use Rattle.mq_calls.specs.Wanted.{AreTogether, AreWanted, HoldsWanted, IsSameSession}
 use Rattle.mq_calls.proofs.Counting.{all-given, cells-few, rising-few, times-contains, times-taken}
 use Rattle.mq_calls.proofs.Holding.{cells-low}
 use Rattle.mq_calls.proofs.Lists.{held-all, none-held}
@@ -150,6 +150,17 @@ module _ {Q R E : Type 0} (μ : Meaning PageCell Q R E) where
     };
     blocks = λ b. (λ c. c, λ c. c);
     seen = (h.seen.0, sees-given (blocks_of before) h.seen.0 v h.seen.1);
+  }))
+
+  -- a look, with nothing held
+  pub looked-none : (o : Opening PageCell Q R) (cells : Cells) (v w : View PageCell Q R E) (K : Known PageCell Q R E) → v.held ≡ [] → cells ≡ [] → w ≡ after_look None K v → Sees μ v K → HoldsWanted μ o [] cells w
+  looked-none o cells v w K none empty is s = subst (λ (cs : Cells). HoldsWanted μ o [] cs w) (sym empty) (subst (λ (x : View PageCell Q R E). HoldsWanted μ o [] [] x) (sym is) (record {
+    pages = record {
+      pages = record { rising = none-rises; each = tt };
+      only = λ k. ap (times k) none;
+    };
+    blocks = λ b. (λ c. c, λ c. c);
+    seen = (K, record { opening = s.opening; ok = s.ok; few = s.few; held = s.held; seen = omega arith; drew = s.drew; marked = s.marked; reader = s.reader });
   }))
 
   pub held-none : (o : Opening PageCell Q R) (cells : Cells) (v : View PageCell Q R E) → HoldsOnlyPages μ o cells v → cells ≡ [] → v.held ≡ []

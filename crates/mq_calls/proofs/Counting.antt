@@ -1,5 +1,5 @@
 -- How often numbers stand in lists, and how long rising lists can be.
-use Rattle.std.proofs.Common.{◌≡◌, ◌≢◌, ℕ, zero, suc, ◌+◌, ◌-◌, ◌<◌, ◌≤◌, List, [], ◌∷◌, ◌++◌, length, get_or, map, refl, sym, ap, subst, ◌∙◌, inl, inr, arith, Some}
+use Rattle.std.proofs.Common.{◌≡◌, ℕ, zero, suc, ◌+◌, ◌-◌, ◌<◌, ◌≤◌, List, [], ◌∷◌, ◌++◌, length, get_or, map, refl, sym, ap, subst, ◌∙◌, inl, inr, arith, Some}
 use Rattle.std.specs.Prelude.{reverse, slice_get}
 use Rattle.std.specs.List.{All, AllPairs, Contains}
 use Rattle.std.proofs.lemmas.Bool.{cases_eq}
@@ -8,13 +8,13 @@ use Rattle.std.proofs.lemmas.Option.{get_or_from_slice_get}
 use Rattle.mq_pages.specs.Held.{Cells, IsRising}
 use Rattle.mq_pages.specs.declared.page.PageCell.{PageCell}
 use Rattle.mq_turns.specs.Lists.{Each, tick, times, without}
-use Rattle.mq_turns.proofs.Each.{hit, miss, times_append, times_without, times_without_other}
+use Rattle.mq_turns.proofs.Each.{hit, miss, times_without, times_without_other}
 use Rattle.mq_calls.specs.Pages.{blocks_of, without_each}
-use Rattle.mq_calls.proofs.Lists.{none-held, without_each-less}
+use Rattle.mq_calls.proofs.Lists.{without_each-less}
 
 -- ---- how often
 
-ticks : ℕ → List ℕ → ℕ
+pub ticks : ℕ → List ℕ → ℕ
 ticks k [] = 0
 ticks k (n ∷ ns) = tick n k + ticks k ns
 
@@ -69,7 +69,7 @@ module _ {A : Type 0} where
       ]
 
 -- a number that stands there
-ticks-contains : (k : ℕ) (xs : List ℕ) → 0 < ticks k xs → Contains xs k
+pub ticks-contains : (k : ℕ) (xs : List ℕ) → 0 < ticks k xs → Contains xs k
 unfolding ticks
 ticks-contains k [] some = absurd (omega arith)
 ticks-contains k (x ∷ xs) some = elim (cases_eq x k) [
@@ -79,6 +79,12 @@ ticks-contains k (x ∷ xs) some = elim (cases_eq x k) [
       let rest = ticks-contains k xs (omega arith) in
       (suc rest.0, let l = rest.1 in omega arith, rest.2)
 ]
+
+pub contains-ticks : (k : ℕ) (xs : List ℕ) → Contains xs k → 0 < ticks k xs
+unfolding ticks
+contains-ticks k [] (i, l, e) = absurd (omega arith)
+contains-ticks k (x ∷ xs) (zero, l, e) = let one = hit x k e in omega arith
+contains-ticks k (x ∷ xs) (suc i, l, e) = let rest = contains-ticks k xs (i, let m = l in omega arith, e) in omega arith
 
 pub times-contains : (k : ℕ) (cells : Cells) → 0 < times k cells → Contains (blocks_of cells) k
 times-contains k cells some = ticks-contains k (blocks_of cells) (subst (λ (n : ℕ). 0 < n) (times-slots k cells) some)

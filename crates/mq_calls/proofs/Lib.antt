@@ -3,3 +3,5 @@ pub mod Holding
 pub mod Taking
 pub mod Counting
 pub mod Asking
+pub mod Finding
+pub mod Missing

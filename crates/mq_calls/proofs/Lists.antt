@@ -5,7 +5,7 @@ use Rattle.std.proofs.lemmas.Bool.{cases_Bool, cases_lt, eqb-true, false≢true}
 use Rattle.std.proofs.lemmas.Option.{none-some}
 use Rattle.mq_pages.specs.Held.{Cells, IsAboveLast, IsRising, cell_of}
 use Rattle.mq_pages.specs.declared.page.PageCell.{PageCell}
-use Rattle.mq_turns.specs.Lists.{Each, tick, times, without}
+use Rattle.mq_turns.specs.Lists.{Each, times, without}
 use Rattle.mq_turns.proofs.Each.{hit, miss, times_without, times_without_other}
 use Rattle.mq_calls.specs.Pages.{blocks_of, without_each}
 
@@ -53,7 +53,6 @@ module _ {A : Type 0} where
   pub without_each-last : (ks : List ℕ) (k : ℕ) (l : List (ℕ × A)) → without_each (ks ++ k ∷ []) l ≡ without_each ks (without k l)
   without_each-last [] k l = refl
   without_each-last (j ∷ js) k l = ap (without j) (without_each-last js k l)
-
 
 -- ---- cells by rising block
 

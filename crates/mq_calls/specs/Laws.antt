@@ -1,8 +1,12 @@
 -- What holds of the pages that a session holds, in one statement each.
-use Rattle.std.specs.Prelude.{◌≡◌, ◌≢◌, ℕ, Bool, false, Some}
+use Rattle.std.specs.Prelude.{◌≡◌, ◌≢◌, ℕ, Bool, false, List, Option, Some}
 use Rattle.std.specs.List.{All}
+use Rattle.mq_inodes.specs.Pages.{held_pages}
 use Rattle.mq_pages.specs.Held.{Cells, cell_of}
 use Rattle.mq_pages.specs.declared.page.PageCell.{PageCell}
+use Rattle.mq_rules.specs.Groups.{Group}
+use Rattle.mq_rules.specs.Rule.{Desk, IsPage, map_now}
+use Rattle.mq_rules.specs.Values.{Values}
 use Rattle.mq_turns.specs.Chairs.{giving, holding}
 use Rattle.mq_turns.specs.Desk.{Sees, refreshed}
 use Rattle.mq_turns.specs.Meaning.{Meaning}
@@ -46,3 +50,13 @@ module _ {Q R E : Type 0} (μ : Meaning PageCell Q R E) where
       → w.held ≡ refreshed about L v.held
       → HoldsPages μ o cells v
       → HoldsPages μ o cells w
+
+module _ {Q R E : Type 0} (values : Values Q R E) (group : Group E) where
+  -- what such cells hold is what the map at the newest number says
+  abbrev pub PagesAreOfTheMap : Type 0
+  PagesAreOfTheMap =
+      (cells : Cells) (K : Desk values group)
+      → ((b : ℕ) (c : PageCell) → cell_of cells b ≡ Some c → IsPage values group b K c)
+      → (b : ℕ) (page : Option (List ℕ))
+      → held_pages cells b ≡ Some page
+      → map_now values group K b ≡ page

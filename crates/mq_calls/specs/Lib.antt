@@ -1,3 +1,4 @@
 pub mod Pages
 pub mod Wanted
+pub mod Runs
 pub mod Laws

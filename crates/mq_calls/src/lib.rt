@@ -3,8 +3,12 @@
 #![tactic(auto)]
 
 mod laws;
+mod machine;
 mod pages;
+mod rounds;
 mod wanted;
 
-pub use laws::{held_pages_are_current, held_pages_stay};
+pub use laws::{current_pages_are_of_the_map, held_pages_are_current, held_pages_stay};
+pub use machine::{FileGroups, FileMachine};
 pub use pages::{give_back_pages, take_pages};
+pub use rounds::run_held;

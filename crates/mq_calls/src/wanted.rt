@@ -49,12 +49,14 @@ pub(crate) fn take_more<M: Machine<Page = PageCell>, R: Wait>(
 ) -> Result<(), OutOfMemory>
     requires at { AtDesk desk.now chair.old }
     requires wanted { AreWanted (length (start_of desk.now).pages) wanted.old.items }
-    requires holds { HoldsWanted M.meaning (start_of desk.now) wanted.old.items held.old.cells (view chair.old) }
+    requires holds { HoldsWanted M.meaning (start_of desk.now) wanted.old.items held.old.cells
+        (view chair.old) }
     requires blocks { AreWanted (length (start_of desk.now).pages) blocks.now }
     requires room { length (start_of desk.now).pages ≤ held.old.room }
     ensures at { AtDesk desk.now chair.new }
     ensures wanted { AreWanted (length (start_of desk.now).pages) wanted.new.items }
-    ensures holds { HoldsWanted M.meaning (start_of desk.now) wanted.new.items held.new.cells (view chair.new) }
+    ensures holds { HoldsWanted M.meaning (start_of desk.now) wanted.new.items held.new.cells
+        (view chair.new) }
     ensures more { OnOk result (AreTogether wanted.old.items blocks.now wanted.new.items) }
     ensures err { OnErr result (wanted.new.items ≡ wanted.old.items) }
     ensures same { IsSameSession (view chair.old) (view chair.new) }

@@ -1,9 +1,8 @@
-use Rattle.std.proofs.Common.{◌≡◌, ◌<◌, ◌≤◌, ◌+◌, ℕ, List, [], length, rules, sym, ap, subst, ◌∙◌, arith}
+use Rattle.std.proofs.Common.{◌≡◌, ◌<◌, ℕ, List, [], length, sym, ap, subst, arith}
 use Rattle.std.specs.List.{All}
-use Rattle.mq_pages.specs.Held.{Cells}
 use Rattle.mq_turns.specs.AtDesk.{start_of, view}
 use Rattle.mq_calls.specs.Wanted.{AreWanted, HoldsWanted}
-use Rattle.mq_calls.proofs.Asking.{alone, held-low-all, held-none, more-held, nothing-held, room-above, room-alone, together-wanted}
+use Rattle.mq_calls.proofs.Asking.{alone, held-low-all, more-held, nothing-held, room-above, room-alone, together-wanted}
 use Rattle.mq_calls.proofs.wanted.take_more.Goals as goal
 
 -- all further blocks are above what is wanted
@@ -15,7 +14,7 @@ take_pages-requires-clause-above g c =
 pub take_pages-requires-clause-room : goal.take_pages-requires-clause-room
 take_pages-requires-clause-room g c =
     let above = held-low-all g.M.Machine.meaning (start_of c.args.desk.now) c.args.wanted.now.items c.args.blocks.now c.args.held.now.cells (view c.args.chair.now) c.requires.holds
-        (subst (λ (xs : List ℕ). All (λ b. All (λ a. a < b) xs) c.args.blocks.now) c.deref.ensures.value (c.are_above-above.ensures c.if-above.true)) in
+    (subst (λ (xs : List ℕ). All (λ b. All (λ a. a < b) xs) c.args.blocks.now) c.deref.ensures.value (c.are_above-above.ensures c.if-above.true)) in
     let few = room-above g.M.Machine.meaning (start_of c.args.desk.now) c.args.blocks.now c.args.held.now.cells (view c.args.chair.now) c.requires.holds.pages.pages c.requires.blocks above in
     let room = c.requires.room in
     omega arith
@@ -67,5 +66,5 @@ returns-clause-holds g c =
     let none = nothing-held g.M.Machine.meaning o c.args.wanted.now.items c.args.held.now.cells c.give_back_pages.new.held.cells (view c.args.chair.now) (view c.give_back_pages.new.chair) c.requires.holds c.give_back_pages.ensures.cells c.give_back_pages.ensures.gave in
     let e = c.take_pages-2.ensures in
     let now = more-held g.M.Machine.meaning o [] c.deref-2.result.now c.deref-2.result.now c.give_back_pages.new.held.cells c.take_pages-2.new.held.cells (view c.give_back_pages.new.chair) (view c.take_pages-2.new.chair) none e.took e.pages e.cells
-        (alone (length o.pages) c.deref-2.result.now (subst (AreWanted (length o.pages)) (sym c.deref-2.ensures.value) all)) in
+    (alone (length o.pages) c.deref-2.result.now (subst (AreWanted (length o.pages)) (sym c.deref-2.ensures.value) all)) in
     subst (λ (xs : List ℕ). HoldsWanted g.M.Machine.meaning o xs c.take_pages-2.new.held.cells (view c.take_pages-2.new.chair)) c.deref-2.ensures.value now
