@@ -1,6 +1,7 @@
 -- What a session holds of pages, and what it knows of them.
-use Rattle.std.proofs.Common.{◌≡◌, ◌≢◌, ℕ, ◌<◌, Bool, false, cond, List, [], ◌∷◌, ◌++◌, refl, sym, ap, subst, ◌∙◌, arith, Some}
-use Rattle.std.specs.List.{All}
+use Rattle.std.proofs.Common.{◌≡◌, ◌≢◌, ℕ, zero, suc, ◌<◌, Bool, true, false, cond, List, [], ◌∷◌, ◌++◌, length, get_or, inl, inr, refl, sym, ap, subst, ◌∙◌, arith, Some}
+use Rattle.std.specs.List.{All, AllZip}
+use Rattle.std.proofs.lemmas.Bool.{cases_Bool}
 use Rattle.mq_pages.specs.Held.{Cells, IsAboveLast, cell_of}
 use Rattle.mq_pages.specs.declared.page.PageCell.{PageCell}
 use Rattle.mq_pages.proofs.Cells.{rising-push}
@@ -16,7 +17,7 @@ use Rattle.mq_turns.specs.declared.turn.Turn.TheVariants.{Page}
 use Rattle.mq_turns.proofs.Each.{each_append, each_both, each_map, each_without, hit, times_without_other}
 use Rattle.mq_turns.proofs.Growth.{stays_now}
 use Rattle.mq_turns.proofs.Seen.{stands_held, times_renewed}
-use Rattle.mq_calls.specs.Pages.{HoldsPage, HoldsPages, blocks_of}
+use Rattle.mq_calls.specs.Pages.{HoldsPage, HoldsPages, IsAfterStep, blocks_of}
 use Rattle.mq_calls.proofs.Lists.{above-last, each-block, each-cell, each-front, held-below, rising-front, rising-last}
 
 module _ {Q R E : Type 0} (μ : Meaning PageCell Q R E) where
@@ -89,6 +90,58 @@ module _ {Q R E : Type 0} (μ : Meaning PageCell Q R E) where
   pages-renewed o cells v w about L apart is h = record {
     rising = h.rising;
     each = each_both (λ x. about x.0 ≡ false) (λ x. HoldsPage μ o v x.0 x.1) (λ x. HoldsPage μ o w x.0 x.1) (λ x off p. page-renewed o v w x.0 x.1 about L off is p) cells (each-block (λ b. about b ≡ false) cells apart) h.each;
+  }
+
+  -- ---- a step about pages that are held
+
+  renewed-page : (about : ℕ → Bool) (L : Known PageCell Q R E) (b : ℕ) (c : PageCell) (l : List (ℕ × Known PageCell Q R E)) → about b ≡ true → μ.page b L c → Each (λ h. h.0 ≡ b → μ.page b h.1 c) (refreshed about L l)
+  renewed-page about L b c [] mine page = tt
+  renewed-page about L b c (h ∷ hs) mine page = (
+    λ e. subst (λ (N : Known PageCell Q R E). μ.page b N c) (sym (ap (λ (t : Bool). cond t L h.1) (ap about e ∙ mine))) page,
+    renewed-page about L b c hs mine page,
+  )
+
+  page-about : (o : Opening PageCell Q R) (v w : View PageCell Q R E) (b : ℕ) (old new : PageCell) (about : ℕ → Bool) (L : Known PageCell Q R E) → about b ≡ true → μ.page b L new → w.held ≡ refreshed about L v.held → HoldsPage μ o v b old → HoldsPage μ o w b new
+  page-about o v w b old new about L mine page is h = record {
+    turn = h.turn;
+    holds = let a = h.holds in let same = times_renewed μ about L b v.held in let all = ap (times b) is in omega arith;
+    is = subst (Each (λ h. h.0 ≡ b → μ.page b h.1 new)) (sym is) (renewed-page about L b new v.held mine page);
+  }
+
+  page-after : (o : Opening PageCell Q R) (v w : View PageCell Q R E) (about : ℕ → Bool) (L : Known PageCell Q R E) (x y : ℕ × PageCell) → IsAfterStep μ about L x y → w.held ≡ refreshed about L v.held → HoldsPage μ o v x.0 x.1 → HoldsPage μ o w y.0 y.1
+  page-after o v w about L x y a is h = subst (λ (n : ℕ). HoldsPage μ o w n y.1) (sym a.block) (elim (cases_Bool (about x.0)) [
+    | inl mine ↦ page-about o v w x.0 x.1 y.1 about L mine (a.about_it mine) is h
+    | inr other ↦ subst (λ (c : PageCell). HoldsPage μ o w x.0 c) (sym (a.about_others other)) (page-renewed o v w x.0 x.1 about L other is h)
+  ])
+
+  each-after : (o : Opening PageCell Q R) (cells new : Cells) (v w : View PageCell Q R E) (about : ℕ → Bool) (L : Known PageCell Q R E) → AllZip (IsAfterStep μ about L) cells new → w.held ≡ refreshed about L v.held → Each (λ x. HoldsPage μ o v x.0 x.1) cells → Each (λ x. HoldsPage μ o w x.0 x.1) new
+  each-after o [] [] v w about L zip is h = tt
+  each-after o [] (y ∷ ys) v w about L zip is h = absurd zip
+  each-after o (x ∷ xs) [] v w about L zip is h = absurd zip
+  each-after o (x ∷ xs) (y ∷ ys) v w about L zip is h = (page-after o v w about L x y zip.0 is h.0, each-after o xs ys v w about L zip.1 is h.1)
+
+  zip-length : (about : ℕ → Bool) (L : Known PageCell Q R E) (xs ys : Cells) → AllZip (IsAfterStep μ about L) xs ys → length ys ≡ length xs
+  zip-length about L [] [] zip = refl
+  zip-length about L [] (y ∷ ys) zip = absurd zip
+  zip-length about L (x ∷ xs) [] zip = absurd zip
+  zip-length about L (x ∷ xs) (y ∷ ys) zip = let rest = zip-length about L xs ys zip.1 in omega arith
+
+  zip-block : (about : ℕ → Bool) (L : Known PageCell Q R E) (xs ys : Cells) → AllZip (IsAfterStep μ about L) xs ys → (i : ℕ) (d : ℕ × PageCell) → i < length xs → (get_or ys i d).0 ≡ (get_or xs i d).0
+  zip-block about L [] [] zip i d l = refl
+  zip-block about L [] (y ∷ ys) zip i d l = absurd zip
+  zip-block about L (x ∷ xs) [] zip i d l = absurd zip
+  zip-block about L (x ∷ xs) (y ∷ ys) zip zero d l = zip.0.block
+  zip-block about L (x ∷ xs) (y ∷ ys) zip (suc i) d l = zip-block about L xs ys zip.1 i d (omega arith)
+
+  pub pages-after : (o : Opening PageCell Q R) (cells new : Cells) (v w : View PageCell Q R E) (about : ℕ → Bool) (L : Known PageCell Q R E) → AllZip (IsAfterStep μ about L) cells new → w.held ≡ refreshed about L v.held → HoldsPages μ o cells v → HoldsPages μ o new w
+  pages-after o cells new v w about L zip is h = record {
+    rising = λ i j d lt l.
+        let long = zip-length about L cells new zip in
+        let a = zip-block about L cells new zip i d (omega arith) in
+        let b = zip-block about L cells new zip j d (omega arith) in
+        let up = h.rising i j d lt (omega arith) in
+        omega arith;
+    each = each-after o cells new v w about L zip is h.each;
   }
 
   -- ---- a page above all that is held

@@ -1,6 +1,6 @@
 -- What holds of the pages that a session holds, in one statement each.
 use Rattle.std.specs.Prelude.{◌≡◌, ◌≢◌, ℕ, Bool, false, List, Option, Some}
-use Rattle.std.specs.List.{All}
+use Rattle.std.specs.List.{All, AllZip}
 use Rattle.mq_inodes.specs.Pages.{held_pages}
 use Rattle.mq_pages.specs.Held.{Cells, cell_of}
 use Rattle.mq_pages.specs.declared.page.PageCell.{PageCell}
@@ -13,7 +13,7 @@ use Rattle.mq_turns.specs.Meaning.{Meaning}
 use Rattle.mq_turns.specs.declared.rule.Known.{Known}
 use Rattle.mq_turns.specs.declared.rule.Opening.{Opening}
 use Rattle.mq_turns.specs.declared.rule.View.{View}
-use Rattle.mq_calls.specs.Pages.{HoldsPages, blocks_of}
+use Rattle.mq_calls.specs.Pages.{HoldsPages, IsAfterStep, blocks_of}
 
 module _ {Q R E : Type 0} (μ : Meaning PageCell Q R E) where
   -- whatever is known by now, each cell is what the machine says of its page
@@ -50,6 +50,15 @@ module _ {Q R E : Type 0} (μ : Meaning PageCell Q R E) where
       → w.held ≡ refreshed about L v.held
       → HoldsPages μ o cells v
       → HoldsPages μ o cells w
+
+  -- a step that is about some of them, as a draw is, gives them the cells that the machine then has for them
+  abbrev pub PagesFollowStep : Type 0
+  PagesFollowStep =
+      (o : Opening PageCell Q R) (cells new : Cells) (v w : View PageCell Q R E) (about : ℕ → Bool) (L : Known PageCell Q R E)
+      → AllZip (IsAfterStep μ about L) cells new
+      → w.held ≡ refreshed about L v.held
+      → HoldsPages μ o cells v
+      → HoldsPages μ o new w
 
 module _ {Q R E : Type 0} (values : Values Q R E) (group : Group E) where
   -- what such cells hold is what the map at the newest number says

@@ -1,5 +1,5 @@
 -- The pages that a session holds.
-use Rattle.std.specs.Prelude.{◌≡◌, ◌<◌, ℕ, List, [], ◌∷◌, ◌++◌, map, reverse}
+use Rattle.std.specs.Prelude.{◌≡◌, ◌<◌, ℕ, Bool, true, false, List, [], ◌∷◌, ◌++◌, map, reverse}
 use Rattle.mq_pages.specs.Held.{Cells, IsRising}
 use Rattle.mq_pages.specs.declared.page.PageCell.{PageCell}
 use Rattle.mq_turns.specs.Desk.{IsTurn, Sees}
@@ -51,6 +51,13 @@ module _ {Q R E : Type 0} (μ : Meaning PageCell Q R E) where
   pub record HoldsOnlyPages (o : Opening PageCell Q R) (cells : Cells) (v : View PageCell Q R E) : Type 0 where
     pub pages : HoldsPages o cells v
     pub only : (k : ℕ) → times k v.held ≡ times k cells
+
+  -- A cell and the one that stands for the same page after a step of the session's own, which is about these slots: it is
+  -- what the machine says of the page by what was known then. Where the step is not about the page, it is the same cell.
+  pub record IsAfterStep (about : ℕ → Bool) (L : Known PageCell Q R E) (old new : ℕ × PageCell) : Type 0 where
+    pub block : new.0 ≡ old.0
+    pub about_it : about old.0 ≡ true → μ.page old.0 L new.1
+    pub about_others : about old.0 ≡ false → new.1 ≡ old.1
 
   -- something may be known by now
   abbrev pub IsSeen : View PageCell Q R E → Type 0

@@ -1,6 +1,6 @@
 // What holds of the pages that a session holds.
 ghost use Rattle.mq_calls.specs.Laws.{CellsAreCurrent, PagesAreOfTheMap};
-ghost use Rattle.mq_calls.specs.Laws.{PagesStayAtGiveBack, PagesStayAtStep, PagesStayAtTake};
+ghost use Rattle.mq_calls.specs.Laws.{PagesFollowStep, PagesStayAtGiveBack, PagesStayAtStep, PagesStayAtTake};
 
 use mq_pages::PageCell;
 use mq_rules::JournalValues;
@@ -17,9 +17,11 @@ pub fn current_pages_are_of_the_map<J: JournalValues>()
 {}
 
 /// The pages of a session stay held while it takes another turn or gives one back, and at a step of its own
-/// that is about other turns: a draw that leaves the pages alone, a store of a mark, a charge.
+/// that is about other turns: a draw that leaves the pages alone, a store of a mark, a charge. A step that
+/// is about them gives them other cells.
 pub fn held_pages_stay<M: Machine<Page = PageCell>>()
     ensures take { PagesStayAtTake M.meaning }
     ensures give_back { PagesStayAtGiveBack M.meaning }
     ensures step { PagesStayAtStep M.meaning }
+    ensures follow { PagesFollowStep M.meaning }
 {}
