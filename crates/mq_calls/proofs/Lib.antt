@@ -1,0 +1,7 @@
+pub mod Lists
+pub mod Holding
+pub mod Taking
+pub mod Counting
+pub mod Asking
+pub mod Finding
+pub mod Missing

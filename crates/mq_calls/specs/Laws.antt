@@ -1,0 +1,71 @@
+-- What holds of the pages that a session holds, in one statement each.
+use Rattle.std.specs.Prelude.{◌≡◌, ◌≢◌, ℕ, Bool, false, List, Option, Some}
+use Rattle.std.specs.List.{All, AllZip}
+use Rattle.mq_inodes.specs.Pages.{held_pages}
+use Rattle.mq_pages.specs.Held.{Cells, cell_of}
+use Rattle.mq_pages.specs.declared.page.PageCell.{PageCell}
+use Rattle.mq_rules.specs.Groups.{Group}
+use Rattle.mq_rules.specs.Rule.{Desk, IsPage, map_now}
+use Rattle.mq_rules.specs.Values.{Values}
+use Rattle.mq_turns.specs.Chairs.{giving, holding}
+use Rattle.mq_turns.specs.Desk.{Sees, refreshed}
+use Rattle.mq_turns.specs.Meaning.{Meaning}
+use Rattle.mq_turns.specs.declared.rule.Known.{Known}
+use Rattle.mq_turns.specs.declared.rule.Opening.{Opening}
+use Rattle.mq_turns.specs.declared.rule.View.{View}
+use Rattle.mq_calls.specs.Pages.{HoldsPages, IsAfterStep, blocks_of}
+
+module _ {Q R E : Type 0} (μ : Meaning PageCell Q R E) where
+  -- whatever is known by now, each cell is what the machine says of its page
+  abbrev pub CellsAreCurrent : Type 0
+  CellsAreCurrent =
+      (o : Opening PageCell Q R) (cells : Cells) (v : View PageCell Q R E) (K : Known PageCell Q R E) (b : ℕ) (c : PageCell)
+      → v.opening ≡ Some o
+      → HoldsPages μ o cells v
+      → Sees μ v K
+      → cell_of cells b ≡ Some c
+      → μ.page b K c
+
+  -- the pages stay held while the session takes a turn with another slot
+  abbrev pub PagesStayAtTake : Type 0
+  PagesStayAtTake =
+      (o : Opening PageCell Q R) (cells : Cells) (v : View PageCell Q R E) (k : ℕ) (K : Known PageCell Q R E)
+      → All (λ b. b ≢ k) (blocks_of cells)
+      → HoldsPages μ o cells v
+      → HoldsPages μ o cells (holding k K v)
+
+  -- and when it gives one back
+  abbrev pub PagesStayAtGiveBack : Type 0
+  PagesStayAtGiveBack =
+      (o : Opening PageCell Q R) (cells : Cells) (v : View PageCell Q R E) (k : ℕ)
+      → All (λ b. b ≢ k) (blocks_of cells)
+      → HoldsPages μ o cells v
+      → HoldsPages μ o cells (giving k v)
+
+  -- and at a step of its own that is about other turns, which it then knows of anew
+  abbrev pub PagesStayAtStep : Type 0
+  PagesStayAtStep =
+      (o : Opening PageCell Q R) (cells : Cells) (v w : View PageCell Q R E) (about : ℕ → Bool) (L : Known PageCell Q R E)
+      → All (λ b. about b ≡ false) (blocks_of cells)
+      → w.held ≡ refreshed about L v.held
+      → HoldsPages μ o cells v
+      → HoldsPages μ o cells w
+
+  -- a step that is about some of them, as a draw is, gives them the cells that the machine then has for them
+  abbrev pub PagesFollowStep : Type 0
+  PagesFollowStep =
+      (o : Opening PageCell Q R) (cells new : Cells) (v w : View PageCell Q R E) (about : ℕ → Bool) (L : Known PageCell Q R E)
+      → AllZip (IsAfterStep μ about L) cells new
+      → w.held ≡ refreshed about L v.held
+      → HoldsPages μ o cells v
+      → HoldsPages μ o new w
+
+module _ {Q R E : Type 0} (values : Values Q R E) (group : Group E) where
+  -- what such cells hold is what the map at the newest number says
+  abbrev pub PagesAreOfTheMap : Type 0
+  PagesAreOfTheMap =
+      (cells : Cells) (K : Desk values group)
+      → ((b : ℕ) (c : PageCell) → cell_of cells b ≡ Some c → IsPage values group b K c)
+      → (b : ℕ) (page : Option (List ℕ))
+      → held_pages cells b ≡ Some page
+      → map_now values group K b ≡ page

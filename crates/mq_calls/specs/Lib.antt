@@ -1,0 +1,4 @@
+pub mod Pages
+pub mod Wanted
+pub mod Runs
+pub mod Laws

@@ -1,0 +1,43 @@
+-- A group of file requests on the pages that a session holds.
+use Rattle.std.specs.Prelude.{ℕ, List}
+use Rattle.mq_blocks.specs.Drive.{PortState}
+use Rattle.mq_blocks.specs.declared.geometry.Geometry.{Geometry}
+use Rattle.mq_drive.specs.Steps.{Fault}
+use Rattle.mq_drive.specs.declared.port.Port.{Ghosts}
+use Rattle.mq_exec.specs.Outcomes.{AreKnown}
+use Rattle.mq_exec.specs.declared.outcome.Done.{Done}
+use Rattle.mq_files.specs.Group.{file_group}
+use Rattle.mq_files.specs.Plans.{DoneOn}
+use Rattle.mq_files.specs.declared.entry.FileEntry.{FileEntry}
+use Rattle.mq_inodes.specs.Pages.{held_pages}
+use Rattle.mq_journal.specs.Machine.{journal}
+use Rattle.mq_journal.specs.Values.{side_values}
+use Rattle.mq_pages.specs.Held.{Cells}
+use Rattle.mq_pages.specs.declared.page.PageCell.{PageCell}
+use Rattle.mq_rules.specs.Rule.{Desk, geometry_of, map_now, shape_of}
+use Rattle.mq_rules.specs.Values.{Values}
+use Rattle.mq_side.specs.declared.root.Root.{Root}
+use Rattle.mq_side.specs.declared.side.QueueSide.{QueueSide}
+use Rattle.mq_tree.specs.declared.request.Request.{Request}
+use Rattle.mq_turns.specs.Desk.{Sees}
+use Rattle.mq_turns.specs.Meaning.{Meaning}
+use Rattle.mq_turns.specs.declared.rule.Opening.{Opening}
+use Rattle.mq_turns.specs.declared.rule.View.{View}
+
+module _ {P : Type 0} {G : Ghosts P} (state : P → PortState) (faults : P → List Fault) where
+  -- what the sides and the root show, and what the values and the groups mean
+  abbrev pub file_values : Values (QueueSide P FileEntry G) (Root P G) FileEntry
+  file_values = side_values state faults
+
+  abbrev pub files : Meaning PageCell (QueueSide P FileEntry G) (Root P G) FileEntry
+  files = journal state faults file_group
+
+  -- the shape of the drive, by the values that a desk was opened with
+  abbrev pub geometry_at : Opening PageCell (QueueSide P FileEntry G) (Root P G) → Geometry
+  geometry_at o = shape_of file_values file_group o
+
+  -- The page of each block that the group changes is held, and whatever is known by now, the group is done so on the map
+  -- at the newest number.
+  pub record IsDoneOnHeld (session : ℕ) (requests : List Request) (cells : Cells) (v : View PageCell (QueueSide P FileEntry G) (Root P G) FileEntry) (done : Done) : Type 0 where
+    pub known : AreKnown (held_pages cells) done
+    pub does : (K : Desk file_values file_group) → Sees files v K → DoneOn (geometry_of file_values file_group K) session (map_now file_values file_group K) requests done

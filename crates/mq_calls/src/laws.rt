@@ -1,0 +1,27 @@
+// What holds of the pages that a session holds.
+ghost use Rattle.mq_calls.specs.Laws.{CellsAreCurrent, PagesAreOfTheMap};
+ghost use Rattle.mq_calls.specs.Laws.{PagesFollowStep, PagesStayAtGiveBack, PagesStayAtStep, PagesStayAtTake};
+
+use mq_pages::PageCell;
+use mq_rules::JournalValues;
+use mq_turns::Machine;
+
+/// By whatever may be known by now, each cell that a session holds is what the machine says of its page.
+pub fn held_pages_are_current<M: Machine<Page = PageCell>>()
+    ensures { CellsAreCurrent M.meaning }
+{}
+
+/// Over a journal the contents of such cells are those of the map at the newest number.
+pub fn current_pages_are_of_the_map<J: JournalValues>()
+    ensures { PagesAreOfTheMap J.values J.group }
+{}
+
+/// The pages of a session stay held while it takes another turn or gives one back, and at a step of its own
+/// that is about other turns: a draw that leaves the pages alone, a store of a mark, a charge. A step that
+/// is about them gives them other cells.
+pub fn held_pages_stay<M: Machine<Page = PageCell>>()
+    ensures take { PagesStayAtTake M.meaning }
+    ensures give_back { PagesStayAtGiveBack M.meaning }
+    ensures step { PagesStayAtStep M.meaning }
+    ensures follow { PagesFollowStep M.meaning }
+{}

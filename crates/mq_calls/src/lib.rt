@@ -1,0 +1,14 @@
+//! Calls of the sessions of a file system on a desk that many threads share: the pages that a session takes,
+//! runs a group of requests on, and gives back.
+#![tactic(auto)]
+
+mod laws;
+mod machine;
+mod pages;
+mod rounds;
+mod wanted;
+
+pub use laws::{current_pages_are_of_the_map, held_pages_are_current, held_pages_stay};
+pub use machine::{FileGroups, FileMachine};
+pub use pages::{give_back_pages, take_pages};
+pub use rounds::run_held;
