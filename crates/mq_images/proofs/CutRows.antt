@@ -1,21 +1,18 @@
 -- What cuts of the power leave of ports in a row.
-use Rattle.std.proofs.Common.{◌≡◌, ◌<◌, ◌≤◌, ℕ, zero, suc, ◌+◌, ◌-◌, ◌*◌, ◌^◌, min, List, [], ◌∷◌, ◌++◌, All, length, map, get_or, Option, Some, None, refl, sym, ◌∙◌, ap, subst, arith, append_assoc, length-append}
+use Rattle.std.proofs.Common.{◌≡◌, ◌<◌, ◌≤◌, ℕ, zero, suc, ◌+◌, ◌-◌, ◌*◌, ◌^◌, min, List, [], ◌∷◌, ◌++◌, All, length, map, get_or, Some, None, refl, sym, ◌∙◌, ap, subst, arith, append_assoc, length-append}
 use Rattle.std.specs.List.{remove}
 use Rattle.std.specs.Prelude.{Contains, slice_get}
 use Rattle.std.proofs.lemmas.List.{map_push}
 use Rattle.std.proofs.lemmas.List.Elements.{All-push}
-use Rattle.mq_blocks.specs.Drive.{FuseName, IsImage, IsQuiescent, PortImage, PortState, counted, image_of}
+use Rattle.mq_blocks.specs.Drive.{FuseName, IsQuiescent, PortImage, PortState, counted, image_of}
 use Rattle.mq_blocks.specs.Totals.{total}
-use Rattle.mq_blocks.specs.declared.geometry.Geometry.{Geometry}
 use Rattle.mq_drive.specs.Emu.{drawn_by, emu_faults, emu_state}
 use Rattle.mq_drive.specs.Fuse.{below}
-use Rattle.mq_drive.specs.Happened.{happened_in, home_errors}
+use Rattle.mq_drive.specs.Happened.{home_errors}
 use Rattle.mq_drive.specs.Seats.{fuse_of, tickets_of}
-use Rattle.mq_drive.specs.Start.{IsImageOf, IsPortOf}
 use Rattle.mq_drive.specs.Steps.{CommandError, Fault, HomeError, PowerOff}
 use Rattle.mq_drive.specs.declared.emu.EmuPort.{EmuPort}
 use Rattle.mq_drive.specs.declared.fuse.FuseSeat.{FuseSeat}
-use Rattle.mq_drive.specs.declared.role.Role.{Role}
 use Rattle.mq_drive.proofs.Faults.{command_error_is_none, home_error_is_none, only_offs}
 use Rattle.mq_images.specs.Cuts.{AreCutPorts, CutPort, IsCutPort}
 use Rattle.mq_images.proofs.Rows.{head-of}

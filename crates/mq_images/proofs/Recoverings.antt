@@ -1,12 +1,12 @@
 -- What a recovery of an image leaves, and how many of its events happened.
-use Rattle.std.proofs.Common.{◌≡◌, ◌<◌, ◌≤◌, ◌⊎◌, inl, inr, ⊎_elim, ℕ, zero, suc, ◌+◌, ◌-◌, ◌*◌, ◌^◌, Bool, true, false, List, [], ◌∷◌, ◌++◌, All, length, map, take, get_or, set, Option, Some, None, refl, sym, ◌∙◌, ap, subst, arith, length-append}
+use Rattle.std.proofs.Common.{◌≡◌, ◌<◌, ◌≤◌, inl, inr, ⊎_elim, ℕ, zero, suc, ◌+◌, ◌-◌, Bool, true, false, List, [], ◌∷◌, ◌++◌, All, length, map, take, get_or, Option, Some, None, refl, sym, ◌∙◌, ap, subst, arith, length-append}
 use Rattle.std.specs.Option.{ForSome}
-use Rattle.std.specs.Prelude.{Contains, Err, Result, if◌then◌else◌, slice_get}
+use Rattle.std.specs.Prelude.{Contains, Err, if◌then◌else◌, slice_get}
 use Rattle.std.proofs.lemmas.Bool.{cases_lt}
 use Rattle.std.proofs.lemmas.List.{get_or_append_left, get_or-append_right, get_or-set_same, length-map, map_push, take_at}
-use Rattle.mq_blocks.specs.Descriptor.{AreRising, Descriptor}
+use Rattle.mq_blocks.specs.Descriptor.{Descriptor}
 use Rattle.mq_blocks.specs.Drive.{FuseName, IsImage, IsQuiescent, PortImage, PortState, image_of}
-use Rattle.mq_blocks.specs.Geometry.{area_of, home_lba, homes_of, queues_of, zone_of}
+use Rattle.mq_blocks.specs.Geometry.{area_of, home_lba, zone_of}
 use Rattle.mq_blocks.specs.Journal.{Shown, image_at, shown, stands}
 use Rattle.mq_blocks.specs.Machine.{Writes}
 use Rattle.mq_blocks.specs.Totals.{total}
@@ -48,7 +48,7 @@ use Rattle.mq_recover.specs.Standing.{StandsIn}
 use Rattle.mq_recover.proofs.Images.{read-same, view-seen}
 use Rattle.mq_recover.proofs.RecoverCuts.{each-stage}
 use Rattle.mq_recover.proofs.Recoveries.{writes-below}
-use Rattle.mq_recover.proofs.Zones.{IsZone, port_in, role_in, still-ports}
+use Rattle.mq_recover.proofs.Zones.{IsZone, port_in, still-ports}
 
 -- ---- which port has a new fault
 

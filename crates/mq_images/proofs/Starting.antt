@@ -1,8 +1,8 @@
 -- The drive that starts from an image: its ports in a row, and what they show.
-use Rattle.std.proofs.Common.{◌≡◌, ◌<◌, ◌≤◌, ℕ, zero, suc, ◌+◌, List, [], ◌∷◌, length, map, take, get_or, None, refl, sym, ◌∙◌, ap, subst, arith}
+use Rattle.std.proofs.Common.{◌≡◌, ◌<◌, ℕ, zero, suc, ◌+◌, List, [], ◌∷◌, length, map, get_or, None, refl, sym, ◌∙◌, ap, subst, arith}
 use Rattle.std.proofs.lemmas.List.{length-take-le, get_or-take}
-use Rattle.mq_blocks.specs.Drive.{FuseName, PortImage, PortState, image_of}
-use Rattle.mq_blocks.specs.Journal.{Shown, image_at, shown}
+use Rattle.mq_blocks.specs.Drive.{FuseName, PortImage, image_of}
+use Rattle.mq_blocks.specs.Journal.{image_at, shown}
 use Rattle.mq_blocks.specs.declared.geometry.Geometry.{Geometry}
 use Rattle.mq_drive.specs.Start.{IsImageOf, start_of}
 use Rattle.mq_drive.specs.declared.role.Role.TheVariants.{Queue, Root}

@@ -1,10 +1,9 @@
 -- How many events of a drive happened in a recovery.
-use Rattle.std.proofs.Common.{◌≡◌, ◌<◌, ◌≤◌, inl, inr, ℕ, zero, suc, ◌+◌, ◌-◌, ◌*◌, ◌^◌, min, Bool, List, [], ◌∷◌, ◌++◌, All, length, map, take, get_or, set, Option, Some, None, refl, sym, ◌∙◌, ap, subst, arith, length-append}
+use Rattle.std.proofs.Common.{◌≡◌, ◌<◌, ◌≤◌, inl, inr, ℕ, zero, suc, ◌+◌, ◌-◌, ◌*◌, ◌^◌, Bool, List, [], ◌∷◌, ◌++◌, length, map, take, get_or, set, Option, Some, None, refl, sym, ◌∙◌, ap, subst, arith, length-append}
 use Rattle.std.proofs.lemmas.Bool.{cases_eq, eq-eqb, ne_eqb}
-use Rattle.std.proofs.lemmas.List.{length-map}
 use Rattle.std.specs.Prelude.{false, if◌then◌else◌, nat_eq, true}
-use Rattle.mq_blocks.specs.Descriptor.{AreRising, Descriptor}
-use Rattle.mq_blocks.specs.Drive.{FuseName, PortImage, PortState, after_begin, after_end, after_flush, after_store_base, after_store_head, counted, without_last}
+use Rattle.mq_blocks.specs.Descriptor.{AreRising}
+use Rattle.mq_blocks.specs.Drive.{FuseName, PortImage, PortState, after_begin, after_end, after_flush, after_store_base, after_store_head, without_last}
 use Rattle.mq_blocks.specs.Geometry.{home_lba, homes_of, zone_of}
 use Rattle.mq_blocks.specs.Machine.{Writes}
 use Rattle.mq_blocks.specs.Totals.{total}
@@ -18,7 +17,7 @@ use Rattle.mq_images.specs.Views.{drive_from, starts_from, view_of}
 use Rattle.mq_ledger.specs.State.{no_port, port_at}
 use Rattle.mq_recover.specs.Drives.{DriveState}
 use Rattle.mq_recover.specs.RecoverHomes.{AreBelow}
-use Rattle.mq_recover.specs.Steps.{BeginHome, EndHome, Event, FlushBase, FlushHead, StoreBase, StoreHead, after_event, after_events, at_home, base_events, head_events, heads_events, home_events, recovery_events}
+use Rattle.mq_recover.specs.Steps.{BeginHome, EndHome, Event, FlushBase, FlushHead, StoreBase, StoreHead, after_event, after_events, at_home, base_events, heads_events, home_events, recovery_events}
 use Rattle.mq_recover.proofs.Zones.{IsZone, at-count, at-each, at-twice, port_in, zone-is}
 
 -- ---- one port

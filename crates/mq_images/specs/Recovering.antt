@@ -1,5 +1,5 @@
 -- What a recovery makes of an image, where its power may go off.
-use Rattle.std.specs.Prelude.{◌≡◌, ◌⊎◌, ◌<◌, ◌≤◌, ℕ, ◌+◌, ◌*◌, Bool, true, false, List, [], ◌∷◌, length, map, Option, Some, None, nat_eq, if◌then◌else◌}
+use Rattle.std.specs.Prelude.{◌≡◌, ◌⊎◌, ◌<◌, ◌≤◌, ℕ, ◌+◌, ◌*◌, List, [], ◌∷◌, length, map, Option, Some, None, nat_eq, if◌then◌else◌}
 use Rattle.std.specs.Option.{ForSome}
 use Rattle.mq_blocks.specs.Descriptor.{AreRising, Descriptor}
 use Rattle.mq_blocks.specs.Drive.{PortImage}

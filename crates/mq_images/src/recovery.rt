@@ -46,11 +46,7 @@ fn cut_port(port: EmuPort<'_>, pick: u64) -> (PortImage, FuseSeat)
 }
 
 // What cuts of the power leave of the ports of a drive.
-fn cut_ports(
-    alloc: Global,
-    ports: Ports<EmuPort<'_>>,
-    pick: u64,
-) -> Result<Left, OutOfMemory>
+fn cut_ports(alloc: Global, ports: Ports<EmuPort<'_>>, pick: u64) -> Result<Left, OutOfMemory>
     ensures { IfOk result (λ left. AreCutPorts (row_of ports.entry) left.images.items left.seats.items) }
 {
     let Ports { mut queues, root } = ports;
@@ -115,7 +111,10 @@ fn recover_ports(
         Ok(found) => Ok(Run { found, whole: true }),
         Err(refusal) => {
             check_power(refusal)?;
-            Ok(Run { found: looked, whole: false })
+            Ok(Run {
+                found: looked,
+                whole: false,
+            })
         }
     }
 }

@@ -1,4 +1,4 @@
-use Rattle.std.proofs.Common.{◌≡◌, ◌<◌, ◌≤◌, length, arith}
+use Rattle.std.proofs.Common.{arith}
 use Rattle.mq_images.proofs.CutRows.{all-cut, next-cut, none-cut}
 use Rattle.mq_images.proofs.recovery.cut_ports.Goals as goal
 
