@@ -1,5 +1,5 @@
 -- Each status comes exactly where its cause holds.
-use Rattle.std.proofs.Common.{◌≡◌, ◌≢◌, ◌⊎◌, inl, inr, ℕ, List, Option, Some, None, All, refl, sym, ◌∙◌, ap, subst, arith}
+use Rattle.std.proofs.Common.{◌≡◌, inl, inr, ℕ, List, Option, Some, None, refl, sym, ◌∙◌, ap, subst}
 use Rattle.std.specs.Prelude.{Ok, Err, Result}
 use Rattle.mq_blocks.specs.Geometry.{AreHomes, IsArea, IsQueues, area_of, meta_of, queues_of, zone_size}
 use Rattle.mq_blocks.specs.declared.geometry.Geometry.{Geometry}

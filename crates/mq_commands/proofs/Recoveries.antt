@@ -1,11 +1,11 @@
 -- What `recover` says, and that each status comes exactly where its cause holds.
-use Rattle.std.proofs.Common.{◌≡◌, ◌≢◌, ◌⊎◌, ⊎_elim, inl, inr, ℕ, List, [], ◌∷◌, ◌++◌, Option, Some, None, refl, sym, ◌∙◌, ap, subst, append_assoc}
-use Rattle.std.specs.Prelude.{Err, IfOk, MatchResult, Ok, Result}
+use Rattle.std.proofs.Common.{◌≡◌, ℕ, List, Option, Some, refl, sym, ◌∙◌, subst}
+use Rattle.std.specs.Prelude.{IfOk, MatchResult, Result}
 use Rattle.mq_blocks.specs.Descriptor.{Descriptor}
-use Rattle.mq_commands.specs.Commands.{SavesAs, SaysOfImage, is_image, no_image, saved, unsaved}
+use Rattle.mq_commands.specs.Commands.{SavesAs, SaysOfImage, saved, unsaved}
 use Rattle.mq_commands.specs.Recovers.{IsRecoveredAs, Recovers, RefusesRecovery, not_recovered, recovered_text}
 use Rattle.mq_commands.specs.Recovers as recovers
-use Rattle.mq_ending.specs.Ending.{EndsWith, IsLoaded, IsNotLoaded, IsSaved, IsUnlessWanting, SaysOf, memory_line, not_loaded}
+use Rattle.mq_ending.specs.Ending.{EndsWith, IsLoaded, IsNotLoaded, IsSaved, IsUnlessWanting, memory_line, not_loaded}
 use Rattle.mq_ending.proofs.Pieces.{unless_wanting}
 use Rattle.mq_image.specs.Drives.{IsRead}
 use Rattle.mq_image.specs.Faults.{HasFault}

@@ -1,13 +1,12 @@
 -- What is said of bytes that were loaded.
-use Rattle.std.proofs.Common.{◌≡◌, ◌≢◌, ◌⊎◌, inl, inr, ℕ, List, Option, Some, None, refl, sym, ◌∙◌, ap, subst}
+use Rattle.std.proofs.Common.{◌≡◌, ◌≢◌, ◌⊎◌, inl, inr, ℕ, List, Option, Some, refl, sym, ◌∙◌, subst}
 use Rattle.std.specs.Prelude.{Result, Ok, Err, IfOk, MatchResult, codes}
 use Rattle.mq_blocks.specs.declared.geometry.Geometry.{Geometry}
 use Rattle.mq_blocks.specs.declared.geometry.GeometryRefusal.{GeometryRefusal}
-use Rattle.mq_commands.specs.Commands.{Formats, RefusesNumbers, SavesAs, SaysOfImage, ShowsFile, formatted, is_image, no_file, no_geometry, no_image, not_saved, numbers_of, saved, shown, unsaved, wants_memory}
+use Rattle.mq_commands.specs.Commands.{Formats, RefusesNumbers, SavesAs, SaysOfImage, ShowsFile, formatted, no_file, no_geometry, no_image, not_saved, numbers_of, saved, shown, unsaved, wants_memory}
 use Rattle.mq_commands.specs.Lines.{file_line, geometry_line, path_line}
 use Rattle.mq_commands.specs.declared.formatting.Numbers.{Numbers}
 use Rattle.mq_ending.specs.Ending.{EndsWith, IsLoaded, IsNotLoaded, IsSaved, SaysOf, load_failed, load_memory, load_too_long, loaded, memory_line, not_loaded, wanting}
-use Rattle.mq_image.specs.Drives.{IsRead}
 use Rattle.mq_image.specs.Faults.{HasFault, Refuses}
 use Rattle.mq_image.specs.File.{DriveImage, image_bytes}
 use Rattle.mq_images.specs.Empty.{IsEmptyDrive}

@@ -1,4 +1,4 @@
-use Rattle.std.proofs.Common.{◌≡◌, subst}
+use Rattle.std.proofs.Common.{subst}
 use Rattle.mq_commands.specs.Commands.{saved, unsaved}
 use Rattle.mq_ending.specs.Ending.{EndsWith}
 use Rattle.mq_outside.specs.Outside.{SinkState}

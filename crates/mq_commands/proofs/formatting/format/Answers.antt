@@ -1,4 +1,4 @@
-use Rattle.std.proofs.Common.{◌≡◌, List, ℕ, refl, ◌∙◌}
+use Rattle.std.proofs.Common.{refl, ◌∙◌}
 use Rattle.mq_commands.specs.Commands.{wants_memory}
 use Rattle.mq_ending.specs.Ending.{memory_line}
 use Rattle.mq_commands.proofs.Exact.{formatted-where, no-geometry-where}

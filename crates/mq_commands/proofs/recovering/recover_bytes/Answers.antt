@@ -1,5 +1,5 @@
-use Rattle.std.proofs.Common.{◌≡◌, ◌≢◌}
-use Rattle.std.specs.Prelude.{IfOk, Result}
+use Rattle.std.proofs.Common.{◌≢◌}
+use Rattle.std.specs.Prelude.{IfOk}
 use Rattle.mq_commands.specs.Commands.{SaysOfImage, is_image}
 use Rattle.mq_commands.specs.Lines.{file_line}
 use Rattle.mq_commands.specs.Recovers.{IsRecoveredAs, RefusesRecovery}
