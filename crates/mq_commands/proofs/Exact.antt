@@ -1,5 +1,5 @@
 -- Each status comes exactly where its cause holds.
-use Rattle.std.proofs.Common.{◌≡◌, ◌≢◌, ◌⊎◌, inl, inr, ℕ, List, Option, Some, None, All, refl, sym, ◌∙◌, ap, subst, arith}
+use Rattle.std.proofs.Common.{◌≡◌, inl, inr, ℕ, List, Option, Some, None, refl, sym, ◌∙◌, ap, subst}
 use Rattle.std.specs.Prelude.{Ok, Err, Result}
 use Rattle.mq_blocks.specs.Geometry.{AreHomes, IsArea, IsQueues, area_of, meta_of, queues_of, zone_size}
 use Rattle.mq_blocks.specs.declared.geometry.Geometry.{Geometry}
@@ -29,14 +29,14 @@ use Rattle.mq_blocks.specs.Journal.{AreWhole}
 use Rattle.mq_images.specs.Views.{view_of}
 
 -- bytes are those of one image
-read-once : (x y : DriveImage) (bytes : List ℕ) → IsRead x bytes → IsRead y bytes → x ≡ y
+pub read-once : (x y : DriveImage) (bytes : List ℕ) → IsRead x bytes → IsRead y bytes → x ≡ y
 read-once x y bytes a b =
     let own = read-same x x a.drive a.widths (subst (IsRead x) a.bytes a) in
     let other = read-same x y a.drive a.widths (subst (IsRead y) a.bytes b) in
     own ∙ sym other
 
 -- and then have no fault
-read-faulty : (x : DriveImage) (bytes : List ℕ) (e : FileFault) → IsRead x bytes → HasFault bytes (Some e) → ⊥
+pub read-faulty : (x : DriveImage) (bytes : List ℕ) (e : FileFault) → IsRead x bytes → HasFault bytes (Some e) → ⊥
 read-faulty x bytes e read has =
     let none : HasFault bytes None = subst (λ (l : List ℕ). HasFault l None) (sym read.bytes) (no-fault x read.drive read.widths) in
     let geometry : IsGeometryIn bytes x.geometry = subst (λ (l : List ℕ). IsGeometryIn l x.geometry) (sym read.bytes) (file-shown x.geometry (queue_ports x) (root_port x) (ports-shown x read.drive read.widths)).header.geometry in
@@ -50,7 +50,7 @@ pub refused-status : (Of : DriveImage → ℕ → List ℕ → Type 0) (bytes : 
 refused-status Of bytes e has s t (is_image y read of) = absurd (read-faulty y bytes e read has)
 refused-status Of bytes e has _ _ (no_image other faulty) = refl
 
-of-image : (Of : DriveImage → ℕ → List ℕ → Type 0) (bytes : List ℕ) (x : DriveImage) (wanted : ℕ) → IsRead x bytes → ((s : ℕ) (t : List ℕ) → Of x s t → s ≡ wanted) → (s : ℕ) (t : List ℕ) → SaysOfImage Of bytes s t → s ≡ wanted
+pub of-image : (Of : DriveImage → ℕ → List ℕ → Type 0) (bytes : List ℕ) (x : DriveImage) (wanted : ℕ) → IsRead x bytes → ((s : ℕ) (t : List ℕ) → Of x s t → s ≡ wanted) → (s : ℕ) (t : List ℕ) → SaysOfImage Of bytes s t → s ≡ wanted
 of-image Of bytes x wanted read each s t (is_image y other of) = each s t (subst (λ (z : DriveImage). Of z s t) (read-once y x bytes other read) of)
 of-image Of bytes x wanted read each _ _ (no_image e faulty) = absurd (read-faulty x bytes e read faulty)
 
@@ -91,7 +91,7 @@ shows-refused path x e refuses _ _ (not_shown f other some) = refl
 
 -- ---- the status with which the command ends
 
-one-held : (contents : Option Held) (name bytes other : List ℕ) → Tells contents name (Some bytes) → Holds contents name other → other ≡ bytes
+pub one-held : (contents : Option Held) (name bytes other : List ℕ) → Tells contents name (Some bytes) → Holds contents name other → other ≡ bytes
 one-held None name bytes other tells holds = absurd tells
 one-held (Some held) name bytes other tells holds = let same : ◌≡◌ {A = Option (List ℕ)} (Some other) (Some bytes) = sym holds ∙ tells in cc
 
@@ -108,7 +108,7 @@ not-loaded-status name old new _ _ wanted result (load_failed same rose) ends = 
 not-loaded-status name old new _ _ wanted result (load_too_long same over faults takes) ends = still-fault wanted result ends
 not-loaded-status name old new _ _ wanted result (load_memory same faults) ends = still-memory wanted result ends
 
-says-where : (Of : List ℕ → ℕ → List ℕ → Type 0) (name bytes : List ℕ) (wanted : ℕ) (old new : FilesState) (result status : ℕ) (text : List ℕ) → Tells old.contents name (Some bytes) → ((s : ℕ) (t : List ℕ) → Of bytes s t → s ≡ wanted) → SaysOf Of name old new status text → IsUnlessWanting status result → IsUnlessWanting wanted result
+pub says-where : (Of : List ℕ → ℕ → List ℕ → Type 0) (name bytes : List ℕ) (wanted : ℕ) (old new : FilesState) (result status : ℕ) (text : List ℕ) → Tells old.contents name (Some bytes) → ((s : ℕ) (t : List ℕ) → Of bytes s t → s ≡ wanted) → SaysOf Of name old new status text → IsUnlessWanting status result → IsUnlessWanting wanted result
 says-where Of name bytes wanted old new result status text tells each (loaded other load of) ends =
     let same : other ≡ bytes = one-held old.contents name bytes other tells load.holds in
     subst (λ (s : ℕ). IsUnlessWanting s result) (each status text (subst (λ (l : List ℕ). Of l status text) same of)) ends
@@ -168,7 +168,7 @@ numbers-good n g (Queues found) are refuses = (subst (λ (m : Numbers). RefusesN
 numbers-good n g (Area found) are refuses = (subst (λ (m : Numbers). RefusesNumbers m (Area found)) (sym are) refuses).2 (good-numbers g).1
 numbers-good n g (Homes meta zone) are refuses = (subst (λ (m : Numbers). RefusesNumbers m (Homes meta zone)) (sym are) refuses).4 (good-numbers g).2
 
-not-saved-status : (name : List ℕ) (old new : FilesState) (status : ℕ) (text : List ℕ) (wanted result : ℕ) → IsNotSaved name old new status text → IsUnlessWanting status result → IsUnlessWanting wanted result
+pub not-saved-status : (name : List ℕ) (old new : FilesState) (status : ℕ) (text : List ℕ) (wanted result : ℕ) → IsNotSaved name old new status text → IsUnlessWanting status result → IsUnlessWanting wanted result
 not-saved-status name old new _ _ wanted result (save_failed others rose taken) ends = still-fault wanted result ends
 not-saved-status name old new _ _ wanted result (save_memory same faults taken) ends = still-memory wanted result ends
 

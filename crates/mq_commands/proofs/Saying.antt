@@ -1,13 +1,12 @@
 -- What is said of bytes that were loaded.
-use Rattle.std.proofs.Common.{◌≡◌, ◌≢◌, ◌⊎◌, inl, inr, ℕ, List, Option, Some, None, refl, sym, ◌∙◌, ap, subst}
-use Rattle.std.specs.Prelude.{Result, Ok, Err, IfOk, MatchResult}
+use Rattle.std.proofs.Common.{◌≡◌, ◌≢◌, ◌⊎◌, inl, inr, ℕ, List, Option, Some, refl, sym, ◌∙◌, subst}
+use Rattle.std.specs.Prelude.{Result, Ok, Err, IfOk, MatchResult, codes}
 use Rattle.mq_blocks.specs.declared.geometry.Geometry.{Geometry}
 use Rattle.mq_blocks.specs.declared.geometry.GeometryRefusal.{GeometryRefusal}
-use Rattle.mq_commands.specs.Commands.{Formats, RefusesNumbers, SavesAs, SaysOfImage, ShowsFile, formatted, is_image, no_file, no_geometry, no_image, not_saved, numbers_of, saved, shown, unsaved, wants_memory}
+use Rattle.mq_commands.specs.Commands.{Formats, RefusesNumbers, SavesAs, SaysOfImage, ShowsFile, formatted, no_file, no_geometry, no_image, not_saved, numbers_of, saved, shown, unsaved, wants_memory}
 use Rattle.mq_commands.specs.Lines.{file_line, geometry_line, path_line}
 use Rattle.mq_commands.specs.declared.formatting.Numbers.{Numbers}
 use Rattle.mq_ending.specs.Ending.{EndsWith, IsLoaded, IsNotLoaded, IsSaved, SaysOf, load_failed, load_memory, load_too_long, loaded, memory_line, not_loaded, wanting}
-use Rattle.mq_image.specs.Drives.{IsRead}
 use Rattle.mq_image.specs.Faults.{HasFault, Refuses}
 use Rattle.mq_image.specs.File.{DriveImage, image_bytes}
 use Rattle.mq_images.specs.Empty.{IsEmptyDrive}
@@ -90,11 +89,11 @@ refused-as-two stat words Of line (Err e) is of = tt
 
 -- what is said where an image was to be saved
 pub formats : (n : Numbers) (name file : List ℕ) (g : Geometry) (x : DriveImage) (old new : FilesState) (before after : SinkState) (result : ℕ) → numbers_of g ≡ n → IsEmptyDrive g x → file ≡ image_bytes x
-    → (status : ℕ) × (text : List ℕ) × SavesAs name file old new status text × EndsWith status text result before after
+    → (status : ℕ) × (text : List ℕ) × SavesAs name file (codes "formatted\n") old new status text × EndsWith status text result before after
     → (status : ℕ) × (text : List ℕ) × Formats n name old new status text × EndsWith status text result before after
 formats n name file g x old new before after result are empty is said = (said.0, said.1, saves n name file g x old new said.0 said.1 are empty is said.2, said.3)
   where
-    saves : (n : Numbers) (name file : List ℕ) (g : Geometry) (x : DriveImage) (old new : FilesState) (status : ℕ) (text : List ℕ) → numbers_of g ≡ n → IsEmptyDrive g x → file ≡ image_bytes x → SavesAs name file old new status text → Formats n name old new status text
+    saves : (n : Numbers) (name file : List ℕ) (g : Geometry) (x : DriveImage) (old new : FilesState) (status : ℕ) (text : List ℕ) → numbers_of g ≡ n → IsEmptyDrive g x → file ≡ image_bytes x → SavesAs name file (codes "formatted\n") old new status text → Formats n name old new status text
     saves n name file g x old new _ _ are empty is (saved save) = formatted g x are empty (subst (λ (l : List ℕ). IsSaved name l old new) is save)
     saves n name file g x old new _ _ are empty is (unsaved not) = not_saved not
 

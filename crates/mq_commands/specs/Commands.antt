@@ -1,5 +1,5 @@
 -- What there is to say of an image to each command, and with which status.
-use Rattle.std.specs.Prelude.{◌≡◌, ◌≢◌, ℕ, List, Option, Some, Ok, Err, codes}
+use Rattle.std.specs.Prelude.{◌≡◌, ◌≢◌, ℕ, List, Some, Ok, Err, codes}
 use Rattle.mq_blocks.specs.Geometry.{IsArea, IsQueues, AreHomes, area_of, meta_of, queues_of, zone_size}
 use Rattle.mq_blocks.specs.declared.geometry.Geometry.{Geometry}
 use Rattle.mq_blocks.specs.declared.geometry.GeometryRefusal.{GeometryRefusal}
@@ -44,6 +44,13 @@ pub data Dumps (x : DriveImage) : (status : ℕ) → (text : List ℕ) → Type 
   dumped : (text : List ℕ) → IsDump x text → Dumps x 0 text
   not_dumped : (e : ImageFault) → RefusesDrive x e → Dumps x 3 (drive_line e)
 
+-- ---- saves
+
+-- bytes are saved, and then a text is said; or they are not saved
+pub data SavesAs (name bytes said : List ℕ) (old new : FilesState) : (status : ℕ) → (text : List ℕ) → Type 0 where
+  saved : IsSaved name bytes old new → SavesAs name bytes said old new 0 said
+  unsaved : {status : ℕ} {text : List ℕ} → IsNotSaved name old new status text → SavesAs name bytes said old new status text
+
 -- ---- `format`
 
 -- the numbers of a geometry
@@ -55,11 +62,6 @@ abbrev pub RefusesNumbers : Numbers → GeometryRefusal → Type 0
 RefusesNumbers n (Queues found) = (found ≡ n.queues) × (IsQueues n.queues → ⊥)
 RefusesNumbers n (Area found) = (found ≡ n.area) × IsQueues n.queues × (IsArea n.area → ⊥)
 RefusesNumbers n (Homes meta zone) = (meta ≡ n.meta) × (zone ≡ n.zone) × IsQueues n.queues × IsArea n.area × (AreHomes n.queues n.meta n.zone → ⊥)
-
--- bytes are saved, and that is said; or they are not
-pub data SavesAs (name bytes : List ℕ) (old new : FilesState) : (status : ℕ) → (text : List ℕ) → Type 0 where
-  saved : IsSaved name bytes old new → SavesAs name bytes old new 0 (codes "formatted\n")
-  unsaved : {status : ℕ} {text : List ℕ} → IsNotSaved name old new status text → SavesAs name bytes old new status text
 
 -- what `format` makes of a name and numbers, and what it says of them, by what the files show before and after
 pub data Formats (n : Numbers) (name : List ℕ) (old new : FilesState) : (status : ℕ) → (text : List ℕ) → Type 0 where

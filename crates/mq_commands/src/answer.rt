@@ -1,15 +1,16 @@
 // What a command has to say, and how it is said.
-ghost use Rattle.std.specs.Prelude.{◌≡◌, ◌≢◌, IfOk, MatchResult};
+ghost use Rattle.std.specs.Prelude.{◌≡◌, ◌≢◌, ℕ, List, IfOk, MatchResult};
+ghost use Rattle.mq_commands.specs.Commands.{SavesAs};
 ghost use Rattle.mq_commands.specs.Lines.{drive_line, file_line, path_line, volume_line};
 ghost use Rattle.std.specs.String.{string_bytes};
 ghost use Rattle.mq_ending.specs.Ending.{EndsWith, memory_line};
 
 use crate::lines::{line_of_drive, line_of_file, line_of_path, line_of_volume};
 use mq_blocks::OutOfMemory;
-use mq_ending::{IMAGE, say, say_memory};
+use mq_ending::{DONE, IMAGE, save_or_say, say, say_memory};
 use mq_image::FileFault;
 use mq_images::StandingRefusal;
-use mq_outside::Sink;
+use mq_outside::{Files, Sink};
 use mq_recover::ImageFault;
 use mq_tree::Fault;
 use std::alloc::Global;
@@ -82,5 +83,24 @@ pub fn say_answer<K: Sink>(answer: Result<Answer, OutOfMemory>, out: &mut K) -> 
     match answer {
         Ok(Answer { status, text }) => say(status, &text, out),
         Err(OutOfMemory) => say_memory(out),
+    }
+}
+
+/// Saves a file, and then says a text; where it is not saved, why is said.
+pub fn save_and_say<F: Files, K: Sink>(
+    name: &str,
+    file: &[u8],
+    text: &[u8],
+    files: &mut F,
+    out: &mut K,
+) -> u8
+    ensures { (status : ℕ)
+        × (said : List ℕ)
+        × SavesAs name.now file.now text.now (F.state files.old) (F.state files.new) status said
+        × EndsWith status said result (K.state out.old) (K.state out.new) }
+{
+    match save_or_say(name, file, files, out) {
+        Ok(()) => say(DONE, text, out),
+        Err(status) => status,
     }
 }

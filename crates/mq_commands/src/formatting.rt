@@ -1,15 +1,16 @@
 // `format`: a new image that holds the empty file system.
 ghost use Rattle.std.specs.Prelude.{◌≡◌, ◌⊎◌, ℕ, List, IfErr, IfOk};
 ghost use Rattle.mq_blocks.specs.declared.geometry.Geometry.{Geometry as Shape};
-ghost use Rattle.mq_commands.specs.Commands.{Formats, RefusesNumbers, SavesAs, numbers_of};
+ghost use Rattle.mq_commands.specs.Commands.{Formats, RefusesNumbers, numbers_of};
 ghost use Rattle.mq_commands.specs.Lines.{geometry_line};
 ghost use Rattle.mq_ending.specs.Ending.{EndsWith, IsUnlessWanting, memory_line};
 ghost use Rattle.mq_image.specs.File.{DriveImage, image_bytes};
 ghost use Rattle.mq_images.specs.Empty.{IsEmptyDrive};
 
+use crate::answer::save_and_say;
 use crate::lines::line_of_geometry;
 use mq_blocks::{Geometry, GeometryRefusal, OutOfMemory};
-use mq_ending::{DONE, IMAGE, save_or_say, say, say_memory};
+use mq_ending::{IMAGE, say, say_memory};
 use mq_image::write_image;
 use mq_images::format_drive;
 use mq_outside::{Files, Sink};
@@ -51,19 +52,6 @@ fn say_refused<K: Sink>(alloc: Global, refusal: GeometryRefusal, out: &mut K) ->
     }
 }
 
-// Saves a file, and says so.
-fn save_new<F: Files, K: Sink>(name: &str, file: &[u8], files: &mut F, out: &mut K) -> u8
-    ensures { (status : ℕ)
-        × (text : List ℕ)
-        × SavesAs name.now file.now (F.state files.old) (F.state files.new) status text
-        × EndsWith status text result (K.state out.old) (K.state out.new) }
-{
-    match save_or_say(name, file, files, out) {
-        Ok(()) => say(DONE, b"formatted\n", out),
-        Err(status) => status,
-    }
-}
-
 /// `format NAME QUEUES AREA META ZONE`: makes the name hold the image of a fresh drive with the empty file system.
 /// Nothing is said before the image is saved, but the line of a refusal.
 pub fn format<F: Files, K: Sink>(
@@ -85,7 +73,7 @@ pub fn format<F: Files, K: Sink>(
         Err(refusal) => return say_refused(alloc, refusal, out),
     };
     match empty_file(alloc, geometry) {
-        Ok(file) => save_new(name, &file, files, out),
+        Ok(file) => save_and_say(name, &file, b"formatted\n", files, out),
         Err(_) => say_memory(out),
     }
 }

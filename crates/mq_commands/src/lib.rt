@@ -7,7 +7,9 @@ mod formatting;
 mod lines;
 mod listing;
 mod names;
+mod recovering;
 
 pub use dumping::dump;
 pub use formatting::{Numbers, format};
 pub use listing::{cat, ls};
+pub use recovering::recover;

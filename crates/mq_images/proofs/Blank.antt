@@ -1,6 +1,6 @@
 -- The image of an empty drive, of the ports of its queues and of its root.
-use Rattle.std.proofs.Common.{◌≡◌, ◌≢◌, ◌<◌, ◌≤◌, ◌⊎◌, inl, inr, ℕ, ◌+◌, ◌-◌, ◌*◌, ◌/◌, Bool, if◌then◌else◌, List, [], ◌∷◌, ◌++◌, length, take, get_or, Option, Some, None, refl, sym, ◌∙◌, ap, subst, arith, length-append}
-use Rattle.std.proofs.lemmas.Bool.{cases_eq, cases_lt, lt-ltb, le-ltb}
+use Rattle.std.proofs.Common.{◌≡◌, ◌<◌, ◌≤◌, inl, inr, ℕ, ◌+◌, ◌-◌, ◌*◌, ◌/◌, Bool, if◌then◌else◌, List, [], ◌∷◌, ◌++◌, length, get_or, Option, Some, None, refl, sym, ◌∙◌, ap, subst, arith, length-append}
+use Rattle.std.proofs.lemmas.Bool.{cases_lt, lt-ltb, le-ltb}
 use Rattle.std.proofs.lemmas.List.{get_or_append_left, get_or-append_right, take_at}
 use Rattle.std.proofs.lemmas.Nat.{div_below}
 use Rattle.mq_blocks.specs.Blocks.{block_at, content, zeros}
@@ -10,11 +10,9 @@ use Rattle.mq_blocks.specs.Journal.{home_block, image_at}
 use Rattle.mq_blocks.specs.declared.geometry.Geometry.{Geometry}
 use Rattle.mq_drive.specs.Start.{IsImageOf}
 use Rattle.mq_drive.specs.declared.role.Role.TheVariants.{Queue, Root}
-use Rattle.mq_image.specs.Drives.{IsDrive}
 use Rattle.mq_image.specs.File.{DriveImage, no_port, queue_ports, root_port}
 use Rattle.mq_images.specs.Empty.{AreBlankQueues, IsBlankQueue, IsEmptyDrive, IsUnused}
 use Rattle.mq_layout.specs.Empty.{empty_block}
-use Rattle.mq_layout.specs.Places.{inode_bitmap, table_first}
 use Rattle.mq_layout.proofs.EmptyLaws.{empty-zeros}
 
 -- the root's port of the empty file system

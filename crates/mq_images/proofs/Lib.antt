@@ -1,7 +1,10 @@
 pub mod Blank
 pub mod Chains
+pub mod CutRows
+pub mod Recoverings
 pub mod Results
 pub mod Rows
 pub mod Starting
 pub mod Standings
+pub mod Tally
 pub mod Volumes

@@ -1,22 +1,21 @@
 -- The ports of a drive, started one after another.
-use Rattle.std.proofs.Common.{◌≡◌, ◌<◌, ◌≤◌, ℕ, zero, suc, ◌+◌, ◌-◌, List, [], ◌∷◌, ◌++◌, All, length, map, take, get_or, None, refl, sym, ◌∙◌, ap, subst, arith, append_assoc, length-append}
+use Rattle.std.proofs.Common.{◌≡◌, ◌<◌, ◌≤◌, ℕ, suc, ◌+◌, ◌-◌, List, [], ◌∷◌, ◌++◌, All, length, map, take, get_or, None, refl, sym, ◌∙◌, ap, subst, arith, append_assoc, length-append}
 use Rattle.std.specs.List.{remove}
 use Rattle.std.proofs.lemmas.List.{get_or-append_right, map_push, take_at}
 use Rattle.std.proofs.lemmas.List.Elements.{All-push}
 use Rattle.mq_blocks.specs.Drive.{FuseName, PortImage, PortState}
 use Rattle.mq_blocks.specs.Geometry.{queues_of}
 use Rattle.mq_blocks.specs.declared.geometry.Geometry.{Geometry}
-use Rattle.mq_drive.specs.Emu.{drawn_by, emu_faults, emu_state}
+use Rattle.mq_drive.specs.Emu.{emu_state}
 use Rattle.mq_drive.specs.Start.{IsImageOf, start_of}
 use Rattle.mq_drive.specs.declared.emu.EmuPort.{EmuPort}
 use Rattle.mq_drive.specs.declared.fuse.FuseSeat.{FuseSeat}
 use Rattle.mq_drive.specs.declared.port.Ports.{Ports}
 use Rattle.mq_drive.specs.declared.role.Role.TheVariants.{Queue, Root}
 use Rattle.mq_image.specs.Drives.{IsDrive}
-use Rattle.mq_image.specs.File.{DriveImage, no_port, queue_ports, root_port}
+use Rattle.mq_image.specs.File.{DriveImage, no_port}
 use Rattle.mq_images.specs.Starts.{AreFreshSeats, AreStarted, IsFreshPort, IsFreshSeat}
 use Rattle.mq_images.specs.Views.{starts_from}
-use Rattle.mq_recover.specs.Drives.{DriveState}
 
 -- the first of a list, as `remove` gives it
 pub head-of : {A : Type 0} (xs : List A) (x : A) → 0 < length xs → x ≡ get_or xs 0 x → xs ≡ x ∷ remove xs 0

@@ -1,19 +1,17 @@
 -- What stands on an image does not depend on the drive that starts from it.
-use Rattle.std.proofs.Common.{◌≡◌, ◌<◌, ◌≤◌, ◌⊎◌, inl, inr, ℕ, ◌+◌, ◌*◌, List, length, Option, Some, None, refl, sym, ◌∙◌, ap, subst, arith}
-use Rattle.mq_blocks.specs.Blocks.{block_at}
+use Rattle.std.proofs.Common.{◌≡◌, ◌⊎◌, inl, inr, ℕ, List, refl, sym, ◌∙◌, ap, subst}
 use Rattle.mq_blocks.specs.Descriptor.{Descriptor}
 use Rattle.mq_blocks.specs.Drive.{FuseName}
-use Rattle.mq_blocks.specs.Geometry.{homes_of}
 use Rattle.mq_blocks.specs.Journal.{AreWhole, Shown, stands}
 use Rattle.mq_blocks.specs.declared.geometry.Geometry.{Geometry}
 use Rattle.mq_image.specs.File.{DriveImage}
-use Rattle.mq_images.specs.Standing.{AreStanding, IsStandingOf, Reads, RefusesDrive}
+use Rattle.mq_images.specs.Standing.{IsStandingOf, Reads, RefusesDrive}
 use Rattle.mq_images.specs.Views.{drive_from, view_of}
 use Rattle.mq_images.proofs.Starting.{started-view}
-use Rattle.mq_recover.specs.Drives.{DriveState, view_over}
+use Rattle.mq_recover.specs.Drives.{DriveState}
 use Rattle.mq_recover.specs.Recovery.{IsRead}
 use Rattle.mq_recover.specs.Refusals.{IsReadableImage, RefusesImage}
-use Rattle.mq_recover.specs.Standing.{IsStanding, StandsIn}
+use Rattle.mq_recover.specs.Standing.{StandsIn}
 use Rattle.mq_recover.specs.declared.refusal.ImageFault.{ImageFault}
 use Rattle.mq_recover.specs.declared.refusal.ImageFault.TheVariants.{OutOfMemory}
 use Rattle.mq_recover.specs.declared.standing.Standing.{Standing}

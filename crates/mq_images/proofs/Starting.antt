@@ -1,8 +1,8 @@
 -- The drive that starts from an image: its ports in a row, and what they show.
-use Rattle.std.proofs.Common.{◌≡◌, ◌<◌, ◌≤◌, ℕ, zero, suc, ◌+◌, List, [], ◌∷◌, length, map, take, get_or, None, refl, sym, ◌∙◌, ap, subst, arith}
+use Rattle.std.proofs.Common.{◌≡◌, ◌<◌, ℕ, zero, suc, ◌+◌, List, [], ◌∷◌, length, map, get_or, None, refl, sym, ◌∙◌, ap, subst, arith}
 use Rattle.std.proofs.lemmas.List.{length-take-le, get_or-take}
-use Rattle.mq_blocks.specs.Drive.{FuseName, PortImage, PortState, image_of}
-use Rattle.mq_blocks.specs.Journal.{Shown, image_at, shown}
+use Rattle.mq_blocks.specs.Drive.{FuseName, PortImage, image_of}
+use Rattle.mq_blocks.specs.Journal.{image_at, shown}
 use Rattle.mq_blocks.specs.declared.geometry.Geometry.{Geometry}
 use Rattle.mq_drive.specs.Start.{IsImageOf, start_of}
 use Rattle.mq_drive.specs.declared.role.Role.TheVariants.{Queue, Root}
@@ -14,11 +14,11 @@ use Rattle.mq_ledger.specs.State.{port_at}
 use Rattle.mq_nvme.specs.Says.{says}
 use Rattle.mq_recover.specs.Drives.{DriveState, IsQuiescentDrive, IsQuiescentPort, view_over}
 
-start-length : (g : Geometry) (fuse : FuseName) (n : ℕ) (is : List PortImage) → length (starts_from g fuse n is) ≡ length is
+pub start-length : (g : Geometry) (fuse : FuseName) (n : ℕ) (is : List PortImage) → length (starts_from g fuse n is) ≡ length is
 start-length g fuse n [] = refl
 start-length g fuse n (i ∷ is) = ap suc (start-length g fuse (n + 1) is)
 
-start-at : (g : Geometry) (fuse : FuseName) (n : ℕ) (is : List PortImage) (q : ℕ) → q < length is → port_at (starts_from g fuse n is) q ≡ start_of g (Queue (n + q)) (image_at is q) fuse None
+pub start-at : (g : Geometry) (fuse : FuseName) (n : ℕ) (is : List PortImage) (q : ℕ) → q < length is → port_at (starts_from g fuse n is) q ≡ start_of g (Queue (n + q)) (image_at is q) fuse None
 start-at g fuse n [] q low = absurd (omega arith)
 start-at g fuse n (i ∷ is) zero low = ap (λ (k : ℕ). start_of g (Queue k) i fuse None) (let e : n ≡ n + 0 = omega arith in e)
 start-at g fuse n (i ∷ is) (suc q) low =
@@ -32,10 +32,10 @@ start-images g fuse n (i ∷ is) = ap (λ (l : List PortImage). i ∷ l) (start-
 pub start-view : (fuse : FuseName) (x : DriveImage) → view_over x.geometry (drive_from fuse x) ≡ view_of x
 start-view fuse x = ap (λ (l : List PortImage). shown says x.geometry l (root_port x)) (start-images x.geometry fuse 0 (queue_ports x))
 
-queues-count : (x : DriveImage) → IsDrive x → length (queue_ports x) ≡ x.geometry.queues
+pub queues-count : (x : DriveImage) → IsDrive x → length (queue_ports x) ≡ x.geometry.queues
 queues-count x drive = let few = drive.ports in length-take-le x.geometry.queues x.ports (omega arith)
 
-queue-in : (x : DriveImage) (q : ℕ) → q < x.geometry.queues → image_at (queue_ports x) q ≡ get_or x.ports q no_port
+pub queue-in : (x : DriveImage) (q : ℕ) → q < x.geometry.queues → image_at (queue_ports x) q ≡ get_or x.ports q no_port
 queue-in x q low = get_or-take x.geometry.queues x.ports q no_port low
 
 -- and each of its ports has one image

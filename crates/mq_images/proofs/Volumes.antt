@@ -1,5 +1,5 @@
 -- The volume that stands on an image.
-use Rattle.std.proofs.Common.{◌≡◌, ◌≢◌, ◌<◌, ◌≤◌, ◌⊎◌, inl, inr, ℕ, ◌+◌, ◌-◌, ◌*◌, ◌/◌, ◌%◌, Bool, List, length, Option, Some, None, refl, sym, ◌∙◌, ap, subst, arith}
+use Rattle.std.proofs.Common.{◌≡◌, ◌≢◌, ◌<◌, ◌≤◌, ◌⊎◌, inl, inr, ℕ, ◌-◌, ◌/◌, ◌%◌, Bool, List, Option, Some, None, refl, sym, ◌∙◌, ap, subst, arith}
 use Rattle.std.specs.Prelude.{if◌then◌else◌, nat_eq}
 use Rattle.std.proofs.lemmas.Bool.{cases_lt, lt-ltb, le-ltb}
 use Rattle.std.proofs.lemmas.Nat.{div_below}
@@ -10,7 +10,7 @@ use Rattle.mq_blocks.specs.Machine.{Map}
 use Rattle.mq_blocks.specs.declared.geometry.Geometry.{Geometry}
 use Rattle.mq_blocks.specs.Journal.{stands}
 use Rattle.mq_image.specs.File.{DriveImage}
-use Rattle.mq_images.specs.Standing.{AreStanding, IsStandingOf, Reads, RefusesDrive, RefusesVolume, StandsFor, not_mounted, not_readable, wanting}
+use Rattle.mq_images.specs.Standing.{IsStandingOf, RefusesDrive, RefusesVolume, StandsFor, not_mounted, not_readable, wanting}
 use Rattle.mq_images.specs.Views.{view_of}
 use Rattle.mq_images.specs.declared.refusal.StandingRefusal.{StandingRefusal}
 use Rattle.mq_images.specs.declared.refusal.StandingRefusal.TheVariants as standing

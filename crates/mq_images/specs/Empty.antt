@@ -1,7 +1,7 @@
 -- The image of a fresh drive that holds the empty file system.
 use Rattle.std.specs.Prelude.{◌≡◌, ◌<◌, ◌≤◌, ℕ, List, [], length, None, slice_index_or}
 use Rattle.mq_blocks.specs.Blocks.{zeros}
-use Rattle.mq_blocks.specs.Drive.{PortImage, depth}
+use Rattle.mq_blocks.specs.Drive.{PortImage}
 use Rattle.mq_blocks.specs.Geometry.{area_of, homes_of, queues_of}
 use Rattle.mq_blocks.specs.declared.geometry.Geometry.{Geometry}
 use Rattle.mq_drive.specs.Start.{IsImageOf}

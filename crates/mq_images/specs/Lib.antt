@@ -1,5 +1,7 @@
+pub mod Cuts
 pub mod Dump
 pub mod Empty
+pub mod Recovering
 pub mod Standing
 pub mod Starts
 pub mod Views

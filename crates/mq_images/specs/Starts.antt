@@ -1,5 +1,5 @@
 -- The ports of a drive that starts from an image.
-use Rattle.std.specs.Prelude.{◌≡◌, ℕ, ◌+◌, List, [], All, length}
+use Rattle.std.specs.Prelude.{◌≡◌, ℕ, List, [], All, length}
 use Rattle.mq_blocks.specs.Drive.{FuseName}
 use Rattle.mq_drive.specs.Emu.{drawn_by, emu_faults, emu_state}
 use Rattle.mq_drive.specs.Seats.{fuse_of, tickets_of}

@@ -1,4 +1,4 @@
-// The bytes of an image on which one transaction stands that is not yet at home.
+// The bytes of images on which transactions stand that are not yet at home.
 use std::alloc::{AllocError, Global};
 
 // What stands at an offset.
@@ -52,9 +52,11 @@ const SUPER: [Part<'static>; 7] = [
     (28, &[128, 7]),
 ];
 
-// A write of transaction 1 to a block, in a slot: the slot, 16 times it, the block, and the kind of the request.
+// A write of a transaction to a block, in a slot: the transaction, the slot, 16 times it, the block, and the kind of the
+// request.
 fn put_entry(
     file: &mut Vec<u8>,
+    number: u8,
     slot: u8,
     buffer: u8,
     lba: [u8; 2],
@@ -64,7 +66,7 @@ fn put_entry(
         (0, &[1]),
         (2, &[slot]),
         (4, &[1]),
-        (8, &[1]),
+        (8, &[number]),
         (25, &[buffer]),
         (40, &lba),
         (50, &[kind, 64]),
@@ -75,13 +77,13 @@ fn put_entry(
 // The ring of queue 0: the five copies, the block that was written directly, and the descriptor.
 fn put_ring(file: &mut Vec<u8>) -> Result<(), AllocError> {
     put_parts(file, &[(0, &[7]), (8, &[7])], 16)?;
-    put_entry(file, 0, 0, [0, 0], 1)?;
-    put_entry(file, 1, 16, [1, 0], 1)?;
-    put_entry(file, 2, 32, [2, 0], 1)?;
-    put_entry(file, 3, 48, [3, 0], 1)?;
-    put_entry(file, 4, 64, [4, 0], 1)?;
-    put_entry(file, 5, 80, [66, 8], 1)?;
-    put_entry(file, 6, 96, [5, 0], 2)?;
+    put_entry(file, 1, 0, 0, [0, 0], 1)?;
+    put_entry(file, 1, 1, 16, [1, 0], 1)?;
+    put_entry(file, 1, 2, 32, [2, 0], 1)?;
+    put_entry(file, 1, 3, 48, [3, 0], 1)?;
+    put_entry(file, 1, 4, 64, [4, 0], 1)?;
+    put_entry(file, 1, 5, 80, [66, 8], 1)?;
+    put_entry(file, 1, 6, 96, [5, 0], 2)?;
     put_parts(file, &[], 1017 * 64)
 }
 
@@ -116,6 +118,31 @@ fn put_journal(file: &mut Vec<u8>) -> Result<(), AllocError> {
     put_record(file, [5, 0, 0, 0], &descriptor)
 }
 
+// The ring of queue 1: a copy and a descriptor of a transaction of this number, and behind the head a request of
+// transaction 3.
+fn put_second_ring(file: &mut Vec<u8>, number: u8) -> Result<(), AllocError> {
+    put_parts(file, &[(0, &[3]), (8, &[2])], 16)?;
+    put_entry(file, number, 0, 0, [0, 4], 1)?;
+    put_entry(file, number, 1, 16, [1, 4], 2)?;
+    put_entry(file, 3, 2, 32, [2, 4], 2)?;
+    put_parts(file, &[], 1021 * 64)
+}
+
+// The copy of home block 65, in which the file has another name, and the descriptor.
+fn put_second_journal(file: &mut Vec<u8>, number: u8) -> Result<(), AllocError> {
+    put_record(file, [0, 4, 0, 0], &[(0, &[2, 0, 0, 0, 1, 1]), (16, b"g")])?;
+    let descriptor: [Part<'_>; 7] = [
+        (0, b"MQFSDSC1"),
+        (8, &[1]),
+        (12, &[1]),
+        (16, &[number]),
+        (24, &[1]),
+        (48, &[1]),
+        (56, &[65]),
+    ];
+    put_record(file, [1, 4, 0, 0], &descriptor)
+}
+
 // The empty file system at home.
 fn put_empty(file: &mut Vec<u8>) -> Result<(), AllocError> {
     put_record(file, [0, 8, 0, 0], &SUPER)?;
@@ -142,6 +169,20 @@ pub fn journal_image(alloc: Global) -> Result<Vec<u8>, AllocError> {
     put_parts(&mut file, &[], 65552)?;
     file.extend_from_slice(&[10, 0, 0, 0])?;
     put_journal(&mut file)?;
+    put_empty(&mut file)?;
+    put_record(&mut file, [66, 8, 0, 0], &[(0, b"hi")])?;
+    Ok(file)
+}
+
+// The same with a transaction of this number in the journal of queue 1. As number 2 it renames the file to `/a/g`.
+pub fn two_queue_image(alloc: Global, number: u8) -> Result<Vec<u8>, AllocError> {
+    let mut file = Vec::new(alloc);
+    put_parts(&mut file, &HEAD, 40)?;
+    put_ring(&mut file)?;
+    put_second_ring(&mut file, number)?;
+    file.extend_from_slice(&[12, 0, 0, 0])?;
+    put_journal(&mut file)?;
+    put_second_journal(&mut file, number)?;
     put_empty(&mut file)?;
     put_record(&mut file, [66, 8, 0, 0], &[(0, b"hi")])?;
     Ok(file)

@@ -1,5 +1,8 @@
 // Calls of the commands over files and an output in memory.
-use mq_commands::{Numbers, cat, dump, format, ls};
+ghost use Rattle.std.specs.Prelude.{◌<◌, ◌^◌};
+ghost use Rattle.std.specs.Option.{ForSome};
+
+use mq_commands::{Numbers, cat, dump, format, ls, recover};
 use mq_outside::{MemFiles, MemSink};
 use mq_tree::{Name, Path};
 use std::alloc::{AllocError, Global};
@@ -11,6 +14,8 @@ pub enum Call<'a> {
     Ls,
     Cat(&'a [&'a [u8]]),
     Dump,
+    // After how many events the power goes off, and what chooses what that leaves.
+    Recover(Option<u32>, u64),
 }
 
 // How a call ended, what it said, and what `d` holds then.
@@ -69,6 +74,15 @@ fn files_of(alloc: Global, held: Option<&[u8]>, fail: &[u64]) -> Result<MemFiles
     Ok(MemFiles::new(alloc, names, Vec::from_slice(alloc, fail)?))
 }
 
+fn wide(cut: Option<u32>) -> Option<u64>
+    ensures { ForSome result (λ k. k < 2 ^ 32) }
+{
+    match cut {
+        Some(events) => Some(u64::from(events)),
+        None => None,
+    }
+}
+
 fn status_of(
     alloc: Global,
     call: Call<'_>,
@@ -88,6 +102,7 @@ fn status_of(
         Call::Ls => ls(alloc, "d", files, out),
         Call::Cat(names) => cat(alloc, "d", &path_of(alloc, names)?, files, out),
         Call::Dump => dump(alloc, "d", files, out),
+        Call::Recover(cut, pick) => recover(alloc, "d", wide(cut), pick, files, out),
     })
 }
 

@@ -10,3 +10,5 @@ mod calls;
 mod hostile;
 #[cfg(test)]
 mod outcomes;
+#[cfg(test)]
+mod recoveries;

@@ -1,4 +1,4 @@
-use Rattle.std.proofs.Common.{◌≡◌, ◌≢◌, ◌⊎◌, ⊎_elim}
+use Rattle.std.proofs.Common.{◌≢◌, ⊎_elim}
 use Rattle.mq_commands.specs.Commands.{Dumps, dumped, not_dumped}
 use Rattle.mq_commands.specs.Lines.{drive_line}
 use Rattle.mq_commands.specs.declared.answer.Answer.{Answer}

@@ -1,4 +1,4 @@
-use Rattle.std.proofs.Common.{◌≡◌, List, ℕ, refl, ◌∙◌}
+use Rattle.std.proofs.Common.{refl, ◌∙◌}
 use Rattle.mq_commands.specs.Commands.{wants_memory}
 use Rattle.mq_ending.specs.Ending.{memory_line}
 use Rattle.mq_commands.proofs.Exact.{formatted-where, no-geometry-where}
@@ -12,8 +12,8 @@ returns-in-Err-clause-ends g c =
 pub returns-in-Ok-empty_file-clause-ends : goal.returns-in-Ok-empty_file-clause-ends
 returns-in-Ok-empty_file-clause-ends g c =
     let made = c.in-Ok-empty_file.ensures in
-    formats c.args.numbers c.args.name.now c.deref.result.now c.in-Ok.geometry made.0 (g.F.Files.state c.args.files.now) (g.F.Files.state c.save_new.new.files) (g.K.Sink.state c.args.out.now) (g.K.Sink.state c.save_new.new.out) c.save_new.result
-    c.in-Ok.ensures.ok made.1 (c.deref.ensures.value ∙ made.2) c.save_new.ensures
+    formats c.args.numbers c.args.name.now c.deref.result.now c.in-Ok.geometry made.0 (g.F.Files.state c.args.files.now) (g.F.Files.state c.save_and_say.new.files) (g.K.Sink.state c.args.out.now) (g.K.Sink.state c.save_and_say.new.out) c.save_and_say.result
+    c.in-Ok.ensures.ok made.1 (c.deref.ensures.value ∙ made.2) c.save_and_say.ensures
 
 pub returns-in-Err-empty_file-clause-ends : goal.returns-in-Err-empty_file-clause-ends
 returns-in-Err-empty_file-clause-ends g c = (6, memory_line, wants_memory refl, c.say_memory.ensures)
@@ -28,11 +28,11 @@ returns-in-Err-clause-refused_where g c = λ e refuses.
 
 pub returns-in-Ok-empty_file-clause-done_where : goal.returns-in-Ok-empty_file-clause-done_where
 returns-in-Ok-empty_file-clause-done_where g c = λ h are.
-    formatted-where c.args.numbers c.args.name.now h (g.F.Files.state c.args.files.now) (g.F.Files.state c.save_new.new.files) (g.K.Sink.state c.args.out.now) (g.K.Sink.state c.save_new.new.out) c.save_new.result (returns-in-Ok-empty_file-clause-ends g c) are
+    formatted-where c.args.numbers c.args.name.now h (g.F.Files.state c.args.files.now) (g.F.Files.state c.save_and_say.new.files) (g.K.Sink.state c.args.out.now) (g.K.Sink.state c.save_and_say.new.out) c.save_and_say.result (returns-in-Ok-empty_file-clause-ends g c) are
 
 pub returns-in-Ok-empty_file-clause-refused_where : goal.returns-in-Ok-empty_file-clause-refused_where
 returns-in-Ok-empty_file-clause-refused_where g c = λ e refuses.
-    no-geometry-where c.args.numbers c.args.name.now e (g.F.Files.state c.args.files.now) (g.F.Files.state c.save_new.new.files) (g.K.Sink.state c.args.out.now) (g.K.Sink.state c.save_new.new.out) c.save_new.result (returns-in-Ok-empty_file-clause-ends g c) refuses
+    no-geometry-where c.args.numbers c.args.name.now e (g.F.Files.state c.args.files.now) (g.F.Files.state c.save_and_say.new.files) (g.K.Sink.state c.args.out.now) (g.K.Sink.state c.save_and_say.new.out) c.save_and_say.result (returns-in-Ok-empty_file-clause-ends g c) refuses
 
 pub returns-in-Err-empty_file-clause-done_where : goal.returns-in-Err-empty_file-clause-done_where
 returns-in-Err-empty_file-clause-done_where g c = λ h are.

@@ -1,4 +1,4 @@
-use Rattle.std.proofs.Common.{◌≡◌, ◌≢◌}
+use Rattle.std.proofs.Common.{◌≢◌}
 use Rattle.mq_commands.specs.Commands.{Lists, SaysOfImage, is_image}
 use Rattle.mq_commands.specs.Lines.{file_line}
 use Rattle.mq_commands.specs.declared.answer.Answer.{Answer}

@@ -1,4 +1,4 @@
-use Rattle.std.proofs.Common.{◌≡◌, ◌≢◌, refl}
+use Rattle.std.proofs.Common.{◌≢◌, refl}
 use Rattle.mq_commands.specs.Commands.{Lists, listed, not_listed}
 use Rattle.mq_commands.specs.Lines.{volume_line}
 use Rattle.mq_commands.specs.declared.answer.Answer.{Answer}

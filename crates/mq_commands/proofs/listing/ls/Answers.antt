@@ -1,4 +1,4 @@
-use Rattle.std.proofs.Common.{◌≡◌, List, ℕ, sym, subst}
+use Rattle.std.proofs.Common.{List, ℕ, sym, subst}
 use Rattle.mq_commands.specs.Commands.{Lists, SaysOfImage}
 use Rattle.mq_commands.specs.declared.answer.Answer.{Answer}
 use Rattle.mq_ending.specs.Ending.{IsLoaded}

@@ -1,4 +1,4 @@
-use Rattle.std.proofs.Common.{◌≡◌, ◌≢◌, refl}
+use Rattle.std.proofs.Common.{◌≢◌, refl}
 use Rattle.mq_commands.specs.Commands.{ShowsFile, not_shown}
 use Rattle.mq_commands.specs.Lines.{path_line, volume_line}
 use Rattle.mq_commands.specs.declared.answer.Answer.{Answer}

@@ -1,4 +1,3 @@
-use Rattle.std.proofs.Common.{◌≡◌}
 use Rattle.mq_recover.specs.Drives.{drive_of, view_over}
 use Rattle.mq_images.proofs.Chains.{queues-none, queues-put}
 use Rattle.mq_images.proofs.dump.put_queues.Goals as goal

@@ -1,9 +1,8 @@
-use Rattle.std.proofs.Common.{◌≡◌, ◌⊎◌, ℕ, List, sym, ◌∙◌, ap, subst, refl}
-use Rattle.mq_blocks.specs.Drive.{PortState, IsQuiescent}
+use Rattle.std.proofs.Common.{subst, refl}
+use Rattle.mq_blocks.specs.Drive.{IsQuiescent}
 use Rattle.mq_drive.specs.Start.{IsPortOf}
 use Rattle.mq_drive.specs.declared.role.Role.TheVariants.{Queue}
 use Rattle.mq_recover.specs.Drives.{drive_of}
-use Rattle.mq_recover.specs.declared.chain.Chain.{Chain}
 use Rattle.mq_recover.proofs.QueueReads.{port-own}
 use Rattle.mq_images.proofs.Chains.{base-own, chain-memory, chain-own}
 use Rattle.mq_images.proofs.dump.readable_chain.Goals as goal

@@ -1,4 +1,4 @@
-use Rattle.std.proofs.Common.{◌≡◌, ◌+◌, length, refl, ap, arith}
+use Rattle.std.proofs.Common.{◌≡◌, length, refl, ap, arith}
 use Rattle.mq_blocks.specs.Drive.{PortImage}
 use Rattle.mq_blocks.specs.Geometry.{meta_of}
 use Rattle.mq_images.proofs.Blank.{formatted}

@@ -1,8 +1,7 @@
-use Rattle.std.proofs.Common.{◌≡◌, ◌<◌, ◌≤◌, ◌+◌, List, sym, ap, subst, arith}
+use Rattle.std.proofs.Common.{◌≡◌, ◌<◌, ◌+◌, List, sym, ap, subst, arith}
 use Rattle.std.specs.List.{remove}
 use Rattle.mq_blocks.specs.Drive.{PortImage}
 use Rattle.mq_blocks.specs.Geometry.{queues_of}
-use Rattle.mq_blocks.specs.declared.geometry.Geometry.{Geometry}
 use Rattle.mq_drive.specs.Seats.{name_of}
 use Rattle.mq_drive.specs.declared.fuse.FuseSeat.{FuseSeat}
 use Rattle.mq_image.specs.File.{DriveImage}

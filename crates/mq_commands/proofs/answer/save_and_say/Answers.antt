@@ -1,14 +1,13 @@
-use Rattle.std.proofs.Common.{◌≡◌, subst}
-use Rattle.std.specs.Prelude.{codes}
+use Rattle.std.proofs.Common.{subst}
 use Rattle.mq_commands.specs.Commands.{saved, unsaved}
 use Rattle.mq_ending.specs.Ending.{EndsWith}
 use Rattle.mq_outside.specs.Outside.{SinkState}
-use Rattle.mq_commands.proofs.formatting.save_new.Goals as goal
+use Rattle.mq_commands.proofs.answer.save_and_say.Goals as goal
 
 pub returns-in-Ok : goal.returns-in-Ok
 returns-in-Ok g c =
     let sink = g.K.Sink.state in
-    (0, codes "formatted\n", saved c.in-Ok.ensures.ok, subst (λ (s : SinkState). EndsWith 0 (codes "formatted\n") c.say.result s (sink c.say.new.out)) c.in-Ok.ensures.silent c.say.ensures)
+    (0, c.args.text.now, saved c.in-Ok.ensures.ok, subst (λ (s : SinkState). EndsWith 0 c.args.text.now c.say.result s (sink c.say.new.out)) c.in-Ok.ensures.silent c.say.ensures)
 
 pub returns-in-Err : goal.returns-in-Err
 returns-in-Err g c =

@@ -1,0 +1,19 @@
+use Rattle.std.proofs.Common.{ap}
+use Rattle.std.proofs.lemmas.Result.{err_from_is_err_and}
+use Rattle.mq_drive.specs.Seats.{name_of}
+use Rattle.mq_image.specs.File.{DriveImage}
+use Rattle.mq_images.proofs.Recoverings.{answers}
+use Rattle.mq_images.proofs.recovery.recover_image.Goals as goal
+
+pub returns-in_err-ran-clause-complete : goal.returns-in_err-ran-clause-complete
+returns-in_err-ran-clause-complete c = λ ds top read.
+    let p = err_from_is_err_and c.from_residual-in_err-ran.result c.from_residual-in_err-ran.ensures.1 in
+    rw (p.1, p.2) (c.in_err-ran.ensures.complete ds top read)
+
+pub returns-clause-ok : goal.returns-clause-ok
+returns-clause-ok c =
+    let ran = c.in_ok-ran.ran in
+    let left = c.in_ok-ran.left in
+    let close = c.close-events.ensures in
+    answers c.args.image c.args.cut (name_of c.in_ok-fuse.fuse) ran.found left.images.items left.seats.items c.close-events.result c.in_ok-fuse.ensures.fuse.0 close.happened close.most close.off c.image.inside.geometry ran.whole c.cut_after.result
+    (ap (λ (x : DriveImage). x.geometry) c.image.view_is) c.cut_after.ensures c.in_ok-ran.ensures.ok
