@@ -17,6 +17,7 @@ mod words;
 pub use generate::workload;
 pub use group::{End, Group, Script};
 pub use laws::printed_scripts_are_read;
+pub use path::read_path;
 pub use print::print_script;
 pub use read::read_script;
-pub use refusal::{ScriptCause, ScriptRefusal};
+pub use refusal::{LineRefusal, ScriptCause, ScriptRefusal};

@@ -103,3 +103,20 @@ pub fn words_end(
     let found = outcome_with(alloc, &words, text.as_bytes(), NOTHING_FAILS)?;
     Ok(found.is(status, output.as_bytes()))
 }
+
+// The words of a call, and how it has to end.
+pub type Step<'a> = (&'a str, u8, &'a str);
+
+// Whether calls one after another over the same files end so, where `t` holds this text.
+pub fn follows(alloc: Global, text: &str, steps: &[Step<'_>]) -> Result<bool, AllocError> {
+    let mut files = file_t(alloc, text.as_bytes(), &[])?;
+    for (line, status, output) in steps {
+        let words = words_in(alloc, line)?;
+        let mut out = MemSink::new(alloc, Vec::new(alloc));
+        let found = mqfs(alloc, &words, &mut files, &mut out);
+        if found != *status || out.written() != output.as_bytes() {
+            return Ok(false);
+        }
+    }
+    Ok(true)
+}

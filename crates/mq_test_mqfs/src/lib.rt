@@ -11,11 +11,15 @@ mod drives;
 #[cfg(test)]
 mod generated;
 #[cfg(test)]
+mod images;
+#[cfg(test)]
 mod outcomes;
 mod ports;
 #[cfg(test)]
 mod refusals;
 #[cfg(test)]
 mod standing;
+#[cfg(test)]
+mod words;
 
 pub use ports::let_go;

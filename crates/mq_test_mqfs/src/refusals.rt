@@ -5,34 +5,53 @@ use std::alloc::AllocError;
 const USAGE: &str = "usage: mqfs blocks|format|run|recover|ls|cat|gen|dump\n";
 
 // Words that are no command, also where `t` holds a text that is read.
-const NO_COMMAND: [&str; 26] = [
+const NO_COMMAND: [&str; 43] = [
     "",
     "blocks",
     "blocks t t",
     "block t",
     "Blocks t",
     "t blocks",
-    // options stand once, in order, and with a number
+    "help",
+    "-h",
+    "run d t",
+    "gen 1 1 1",
+    // options stand once, with a value that does not begin with a hyphen
     "blocks t --cut 1 --cut 1",
+    "blocks t --cut=1 --cut=1",
     "blocks t --pick 1 --pick 1",
-    "blocks t --pick 1 --cut 1",
+    "blocks t --save d --save e",
     "blocks t --cut 1 --Pick 1",
     "blocks t --cut --pick 1 1",
-    "blocks t --again 1 --again 1",
-    "blocks t --again 1 --cut 1",
-    "blocks t --again 1 --pick 1",
     "blocks t --cut",
-    "blocks t --pick",
+    "blocks t --cut=",
+    "blocks t --cut -1",
+    "blocks t --cut -- 1",
     "blocks t --cut 1 --pick",
     "blocks t --cut 1 1",
-    "blocks t --cut=1",
-    "blocks t --again",
-    "blocks t --cut 1 --again",
-    "blocks t --again 1 --seed 1",
+    "blocks t --save",
+    "blocks t --save -d",
     "blocks t --seed 1",
+    "blocks t -c 1",
+    "blocks -t",
     "blocks --cut 1",
-    "blocks --cut 1 t",
-    "blocks t --cut 1 --pick 1 t",
+    "blocks -- t --cut 1",
+    // numbers of a geometry are below 2^32
+    "format d 2 1024 64",
+    "format d 2 1024 64 256 1",
+    "format d 02 1024 64 256",
+    "format d +2 1024 64 256",
+    "format d 4294967296 1024 64 256",
+    "format d 2 1024 64 256 --cut 1",
+    "ls",
+    "ls d d",
+    "ls --cut 1 d",
+    // a path begins with a slash
+    "cat d",
+    "cat d a",
+    "cat d /a /b",
+    "dump",
+    "dump d --pick 1",
 ];
 
 #[test]
@@ -104,16 +123,10 @@ fn other_texts_are_refused(rt: HostRuntime) -> Result<(), AllocError> {
     Ok(())
 }
 
-// Names that no file has.
 #[test]
-fn a_name_may_be_any_word(rt: HostRuntime) -> Result<(), AllocError> {
-    assert!(rt; words_end(rt.alloc(), &["blocks", ""], "", 4, "fault load \n")?);
-    assert!(rt; words_end(rt.alloc(), &["blocks", "a b"], "", 4, "fault load a b\n")?);
-    for (line, output) in [
-        ("blocks --cut", "fault load --cut\n"),
-        ("blocks --pick --cut 1", "fault load --pick\n"),
-    ] {
-        assert!(rt; ends(rt.alloc(), line, "", 4, output)?, "{line}");
+fn a_path_of_other_bytes(rt: HostRuntime) -> Result<(), AllocError> {
+    for path in ["", "/a b", "/\u{7f}", "/\u{e9}"] {
+        assert!(rt; words_end(rt.alloc(), &["cat", "d", path], "", 1, USAGE)?);
     }
     Ok(())
 }

@@ -134,6 +134,5 @@ failed_cause {A} r e status old new cause is failed =
 
 -- ---- what is printed
 
-pub run_output : (lines : Lines) (cut : Option ℕ) (p prefix : ℕ) (text : List ℕ) (live : List (ℕ × ℕ)) → IsPrefixAt lines cut p → prefix ≡ p → text ≡ printed prefix live → live ≡ live_from (map_after lines p) 0 named
-    → (x : ℕ) × IsPrefixAt lines cut x × (text ≡ output_of lines x)
-run_output lines cut p prefix text live at same is live_is = (p, at, is ∙ (λ i. printed (same i) (live_is i)))
+pub run_output : (lines : Lines) (p prefix : ℕ) (text : List ℕ) (live : List (ℕ × ℕ)) → prefix ≡ p → text ≡ printed prefix live → live ≡ live_from (map_after lines p) 0 named → text ≡ output_of lines p
+run_output lines p prefix text live same is live_is = is ∙ (λ i. printed (same i) (live_is i))

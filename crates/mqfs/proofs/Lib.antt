@@ -1,19 +1,22 @@
-mod Programs
 pub mod CutTexts
 pub mod Cutting
+pub mod Deciding
 pub mod Drives
 pub mod Ended
 pub mod Ending
+pub mod Endings
 pub mod Events
 pub mod Exits
 pub mod Fills
 pub mod JournalItems
 pub mod JournalKeeps
 pub mod JournalShows
+pub mod Lefts
 pub mod Lines
 pub mod Lists
 pub mod LiveBlocks
 pub mod Restarts
 pub mod RungEntries
+pub mod Running
 pub mod TextSteps
-pub mod Words
+pub mod Told

@@ -1,157 +1,87 @@
--- What the words of a command ask, what is said of it, and with which status it ends.
-use Rattle.std.specs.Prelude.{◌≡◌, ◌<◌, ◌≤◌, ◌⊎◌, ℕ, ◌+◌, ◌^◌, List, [], ◌∷◌, ◌++◌, Option, Some, None, IfSome, nat_eq, if◌then◌else◌, codes}
-use Rattle.mqfs.specs.Blocks.{IsBlockText, output_of}
-use Rattle.mqfs.specs.Cuts.{IsPrefixAt}
-use Rattle.mq_text.specs.Refusals.{RefusesText, cause_name}
-use Rattle.mq_text.specs.Text.{number_text}
-use Rattle.mq_outside.specs.Outside.{FilesState, SinkState, Holds, HoldsOver, Rose, appended, AppendsPrefix, count_end, load_limit}
-use Rattle.mqfs.specs.declared.program.words.Options.{Options}
+-- What the program says to words, and what its status tells.
+use Rattle.std.specs.Prelude.{◌≡◌, ◌⊎◌, ℕ, List, Option, Some, None, codes, option_and_then}
+use Rattle.mq_ending.specs.Ending.{TakesOver, memory_line}
+use Rattle.mq_outside.specs.Outside.{FilesState, Holds, HoldsOver, OthersSame, SinkState, appended}
+use Rattle.mq_text.specs.Refusals.{RefusesText}
 use Rattle.mq_text.specs.declared.item.BlockItem.{BlockItem}
 use Rattle.mq_text.specs.declared.refusal.BlockTextCause.{BlockTextCause}
-use Rattle.mq_text.specs.declared.refusal.BlockTextRefusal.{BlockTextRefusal}
-use Rattle.mq_text.specs.declared.refusal.BlockTextRefusal.TheVariants.{At, OutOfMemory}
-
--- the words after the program's name
-abbrev pub Words : Type 0
-Words = List (List ℕ)
-
--- an option and its number, where it is asked
-abbrev pub option_words : List ℕ → Option ℕ → Words
-option_words option None = []
-option_words option (Some n) = option ∷ number_text n ∷ []
-
--- the options `--cut K`, `--pick S` and `--again J`, each at most once and in this order
-abbrev pub options_of : Options → Words
-options_of o = option_words (codes "--cut") o.cut ++ (option_words (codes "--pick") o.pick ++ option_words (codes "--again") o.again)
-
--- their numbers are below 2^63
-abbrev pub AreSmall : Options → Type 0
-AreSmall o = IfSome o.cut (λ n. n < 2 ^ 63) × IfSome o.pick (λ n. n < 2 ^ 63) × IfSome o.again (λ n. n < 2 ^ 63)
-
--- the words are these options
-abbrev pub AreOptions : Words → Options → Type 0
-AreOptions words o = (words ≡ options_of o) × AreSmall o
-
--- the words are `blocks`, this name and these options
-abbrev pub AreBlocks : Words → List ℕ → Options → Type 0
-AreBlocks words name o = (words ≡ codes "blocks" ∷ name ∷ options_of o) × AreSmall o
+use Rattle.mq_words.specs.Asked.{Asked, Words, asked_of, blocks, cat, dump, format, help, ls, version}
+use Rattle.mq_words.specs.declared.command.BlocksOptions.{BlocksOptions}
+use Rattle.mqfs.specs.Blocks.{IsBlockText, output_of, refused_line}
+use Rattle.mqfs.specs.Cuts.{IsPrefixAt}
+use Rattle.mqfs.specs.Left.{IsLeft, SavesLeft}
+use Rattle.mqfs.specs.Says.{Says}
 
 -- the words are no command
 abbrev pub AreUnknown : Words → Type 0
-AreUnknown words = (name : List ℕ) (o : Options) → AreBlocks words name o → ⊥
-
--- ---- the lines that are no output
+AreUnknown words = asked_of words ≡ None
 
 abbrev pub usage_line : List ℕ
 usage_line = codes "usage: mqfs blocks|format|run|recover|ls|cat|gen|dump\n"
 
--- as `blocks line 1: Block`
-abbrev pub refused_line : ℕ → BlockTextCause → List ℕ
-refused_line line cause = codes "blocks line " ++ (number_text line ++ (codes ": " ++ (cause_name cause ++ 10 ∷ [])))
-
-abbrev pub memory_line : List ℕ
-memory_line = codes "memory\n"
-
--- a word and a name, as `fault load t`
-abbrev pub named_line : List ℕ → List ℕ → List ℕ
-named_line first name = first ++ (name ++ 10 ∷ [])
-
-abbrev pub fault_line : List ℕ → List ℕ
-fault_line name = named_line (codes "fault load ") name
-
-abbrev pub too_long_line : List ℕ → List ℕ
-too_long_line name = named_line (codes "too long ") name
-
--- ---- what a command comes to
-
--- the loads took at most what one load gives
-abbrev pub TakesWithin : ℕ → ℕ → Type 0
-TakesWithin old new = (old ≤ new) × (new ≤ old + load_limit)
-
--- the loads took more than what one load gives, or the count stands at its end
-abbrev pub TakesOver : ℕ → ℕ → Type 0
-TakesOver old new = (old + load_limit < new) ⊎ (new ≡ count_end)
-
--- what there is to say
-pub data Said : Type 0 where
-  usage : Said
-  output : List (List BlockItem) → ℕ → Said
-  refused : ℕ → BlockTextCause → Said
-  fault : Said
-  too_long : Said
-  memory : Said
-
-abbrev pub status_of : Said → ℕ
-status_of usage = 1
-status_of (output lines p) = 0
-status_of (refused line cause) = 2
-status_of fault = 4
-status_of too_long = 4
-status_of memory = 6
-
-abbrev pub text_of : List ℕ → Said → List ℕ
-text_of name usage = usage_line
-text_of name (output lines p) = output_of lines p
-text_of name (refused line cause) = refused_line line cause
-text_of name fault = fault_line name
-text_of name too_long = too_long_line name
-text_of name memory = memory_line
-
--- what is said of `blocks NAME` with a cut, by what the files show before and after
-abbrev pub IsSaidOf : Said → (name : List ℕ) → (cut : Option ℕ) → (old new : FilesState) → Type 0
-IsSaidOf usage name cut old new = ⊥
-IsSaidOf (output lines p) name cut old new =
-    (bytes : List ℕ) × Holds old.contents name bytes × IsBlockText bytes lines × IsPrefixAt lines cut p × (new.faults ≡ old.faults) × TakesWithin old.taken new.taken
-IsSaidOf (refused line cause) name cut old new =
-    (bytes : List ℕ) × Holds old.contents name bytes × RefusesText bytes line cause × (new.faults ≡ old.faults) × TakesWithin old.taken new.taken
-IsSaidOf fault name cut old new = Rose old.faults new.faults
-IsSaidOf too_long name cut old new = HoldsOver old.contents name × (new.faults ≡ old.faults) × TakesOver old.taken new.taken
-IsSaidOf memory name cut old new = new.faults ≡ old.faults
-
--- A text was to be said with a status. It was, or the sink failed, or memory was wanting, which
--- doesn't go before 4.
-abbrev pub EndsWith : (status : ℕ) (text : List ℕ) (result : ℕ) (old new : SinkState) → Type 0
-EndsWith status text result old new =
-    ((result ≡ status) × (new.contents ≡ appended old.contents text) × (new.faults ≡ old.faults))
-    ⊎ (((result ≡ 4) × AppendsPrefix old.contents new.contents text × Rose old.faults new.faults)
-    ⊎ ((result ≡ if nat_eq status 4 then 4 else 6) × AppendsPrefix old.contents new.contents text × (new.faults ≡ old.faults)))
-
--- what is said of a block text that is not read
-abbrev pub refusal_said : BlockTextRefusal → Said
-refusal_said (At line cause) = refused line cause
-refusal_said OutOfMemory = memory
-
--- what there is to say to the words, and with which status, by what the files show before and after
-abbrev pub IsToSay : Words → (old new : FilesState) → (status : ℕ) → List ℕ → Type 0
-IsToSay words old new status text =
-    (AreUnknown words × (status ≡ 1) × (text ≡ usage_line) × (new.faults ≡ old.faults) × (new.taken ≡ old.taken))
-    ⊎ ((name : List ℕ) × (options : Options) × (said : Said)
-    × AreBlocks words name options × IsSaidOf said name options.cut old new × (status ≡ status_of said) × (text ≡ text_of name said))
+-- What there is to say to the words, and with which status: the usage line, what there is to say of what they ask, or
+-- that memory was wanting to read them.
+pub data IsToSay (words : Words) (old new : FilesState) : (status : ℕ) → (text : List ℕ) → Type 0 where
+  no_command : AreUnknown words → new ≡ old → IsToSay words old new 1 usage_line
+  of_command : {status : ℕ} {text : List ℕ} (a : Asked) → asked_of words ≡ Some a → Says a old new status text → IsToSay words old new status text
+  no_memory : new ≡ old → IsToSay words old new 6 memory_line
 
 -- ---- what each status tells
 
 -- the status is one of these
 abbrev pub IsStatus : ℕ → Type 0
-IsStatus s = (s ≡ 0) ⊎ ((s ≡ 1) ⊎ ((s ≡ 2) ⊎ ((s ≡ 4) ⊎ (s ≡ 6))))
+IsStatus s = (s ≡ 0) ⊎ ((s ≡ 1) ⊎ ((s ≡ 2) ⊎ ((s ≡ 3) ⊎ ((s ≡ 4) ⊎ (s ≡ 6)))))
 
--- the status is this one, or a fault or want of memory went before it
-abbrev pub IsUnlessWanting : ℕ → ℕ → Type 0
-IsUnlessWanting s result = (result ≡ s) ⊎ ((result ≡ 4) ⊎ (result ≡ 6))
+-- what there was to say with this status was said whole
+abbrev pub IsSaid : Words → (files new_files : FilesState) → (old new : SinkState) → (status : ℕ) → Type 0
+IsSaid words files new_files old new status = (text : List ℕ) × IsToSay words files new_files status text × (new.contents ≡ appended old.contents text)
 
--- The words are `blocks`, a name that holds a block text, and options. What was said is the output
--- of the lines that stand after the cut.
-abbrev pub IsDone : Words → FilesState → (old new : SinkState) → Type 0
-IsDone words files old new =
-    (name : List ℕ) × (options : Options) × (bytes : List ℕ) × (lines : List (List BlockItem)) × (p : ℕ)
-    × AreBlocks words name options × Holds files.contents name bytes × IsBlockText bytes lines × IsPrefixAt lines options.cut p × (new.contents ≡ appended old.contents (output_of lines p))
+-- The file held a block text. What was said is the output of the lines that stand after the cut, and the image that the
+-- plug left is saved where a name for it is given.
+abbrev pub IsDone : (file : List ℕ) → BlocksOptions → (save : Option (List ℕ)) → (files new_files : FilesState) → (old new : SinkState) → Type 0
+IsDone file options save files new_files old new =
+    (bytes : List ℕ) × (lines : List (List BlockItem)) × (p : ℕ) × (loaded : FilesState)
+    × Holds files.contents file bytes × (loaded.contents ≡ files.contents) × IsBlockText bytes lines × IsPrefixAt lines options.cut p
+    × SavesLeft save lines options.cut p loaded new_files × (new.contents ≡ appended old.contents (output_of lines p))
 
--- The words are `blocks`, a name that holds bytes that are refused, and options. The line of that
--- was said.
-abbrev pub IsRefusedText : Words → FilesState → (old new : SinkState) → Type 0
+-- The words are those of `blocks`, and the file holds bytes that are refused. The line of that was said.
+abbrev pub IsRefusedText : Words → (files : FilesState) → (old new : SinkState) → Type 0
 IsRefusedText words files old new =
-    (name : List ℕ) × (options : Options) × (bytes : List ℕ) × (line : ℕ) × (cause : BlockTextCause)
-    × AreBlocks words name options × Holds files.contents name bytes × RefusesText bytes line cause × (new.contents ≡ appended old.contents (refused_line line cause))
+    (file : List ℕ) × (options : BlocksOptions) × (save : Option (List ℕ)) × (bytes : List ℕ) × (line : ℕ) × (cause : BlockTextCause)
+    × (asked_of words ≡ Some (blocks file options save)) × Holds files.contents file bytes × RefusesText bytes line cause × (new.contents ≡ appended old.contents (refused_line line cause))
 
--- the words are `blocks`, a name that holds more bytes than one load gives, and options
+-- the name that is loaded
+abbrev pub loaded_name : Asked → Option (List ℕ)
+loaded_name (blocks file options save) = Some file
+loaded_name (format image queues area meta zone) = None
+loaded_name (ls image) = Some image
+loaded_name (cat image path) = Some image
+loaded_name (dump image) = Some image
+loaded_name (help topic) = None
+loaded_name version = None
+
+-- the name that is saved
+abbrev pub saved_name : Asked → Option (List ℕ)
+saved_name (blocks file options save) = save
+saved_name (format image queues area meta zone) = Some image
+saved_name (ls image) = None
+saved_name (cat image path) = None
+saved_name (dump image) = None
+saved_name (help topic) = None
+saved_name version = None
+
+-- the name that is loaded holds more bytes than one load gives
+abbrev pub HoldsTooMuch : Option (List ℕ) → (old new : FilesState) → Type 0
+HoldsTooMuch None old new = ⊥
+HoldsTooMuch (Some name) old new = HoldsOver old.contents name × TakesOver old.taken new.taken
+
 abbrev pub IsTooLong : Words → (old new : FilesState) → Type 0
-IsTooLong words old new = (name : List ℕ) × (options : Options) × AreBlocks words name options × HoldsOver old.contents name × TakesOver old.taken new.taken
+IsTooLong words old new = HoldsTooMuch (option_and_then loaded_name (asked_of words)) old new
+
+-- no name changes but the one that is saved
+abbrev pub KeepsOthers : Option (List ℕ) → (old new : FilesState) → Type 0
+KeepsOthers None old new = new.contents ≡ old.contents
+KeepsOthers (Some name) old new = OthersSame old.contents new.contents name
+
+abbrev pub KeepsNames : Words → (old new : FilesState) → Type 0
+KeepsNames words old new = KeepsOthers (option_and_then saved_name (asked_of words)) old new

@@ -1,5 +1,5 @@
 // A block text is run: committed on a fresh drive, cut from power, recovered, and printed.
-ghost use Rattle.std.specs.Prelude.{◌≡◌, ◌<◌, ◌≤◌, ◌+◌, ℕ, List, [], ◌∷◌, length, ◌^◌, IfErr, IfOk, IfSome, OnOk, MatchResult, Some, None, is_some, slice_get, slice_index_or};
+ghost use Rattle.std.specs.Prelude.{◌≡◌, ◌<◌, ◌≤◌, ◌+◌, ℕ, List, [], ◌∷◌, length, ◌^◌, false, true, IfErr, IfOk, IfSome, OnOk, MatchResult, Some, None, is_some, slice_get, slice_index_or};
 ghost use Rattle.std.specs.Option.{ForSome};
 ghost use Rattle.mq_blocks.specs.Drive.{PortImage as CutImage};
 ghost use Rattle.mq_blocks.specs.Geometry.{homes_of, queues_of};
@@ -21,6 +21,9 @@ ghost use Rattle.mqfs.specs.Cuts.{IsPrefixAt, StandsUnder, events_under, rung_af
 ghost use Rattle.mq_text.specs.declared.refusal.BlockTextCause.{BlockTextCause};
 ghost use Rattle.mq_text.specs.Refusals.{IsRefusal, IsRefused, RefusesText};
 ghost use Rattle.mqfs.specs.Live.{HoldsMap};
+ghost use Rattle.mqfs.specs.Left.{IsFile, KeepsLeft, drive_image};
+ghost use Rattle.mq_words.specs.Asked.{AreSmall};
+ghost use Rattle.mq_image.specs.File.{image_bytes};
 
 use crate::commit::{TextRefusal, commit_text};
 use crate::live::{live_blocks, live_marks};
@@ -28,8 +31,10 @@ use crate::power::power_of_two;
 use crate::restart::{recover_first, recover_images, restarted};
 use mq_blocks::{Block, Geometry, OutOfMemory, QueueNo, RING_DEPTH};
 use mq_drive::{Fuse, FuseSeat, PortImage, Ports, Role};
+use mq_image::{DriveImage, write_image};
 use mq_nvme::Entry;
 use mq_text::{BlockItem, BlockText, BlockTextRefusal, print_blocks, read_block_text};
+use mq_words::BlocksOptions;
 use std::alloc::Global;
 
 /// The geometry of block texts: one queue with the smallest journal area, and 256 home blocks.
@@ -160,50 +165,109 @@ fn commit_fresh(
     Ok((queue.0, root.0))
 }
 
+/// What `mqfs blocks` makes of a text.
+#[derive(Drop)]
+pub struct TextRun {
+    /// What is printed.
+    pub output: Vec<u8>,
+    /// The file of the image that the plug left, where it is wanted.
+    pub left: Option<Vec<u8>>,
+}
+
+// The file of the image that a queue's port and the root's are, and the two.
+fn file_of(
+    alloc: Global,
+    geometry: Geometry,
+    images: (PortImage, PortImage),
+) -> Result<((PortImage, PortImage), Vec<u8>), OutOfMemory>
+    requires one { queues_of geometry ≡ 1 }
+    requires queue { IsImageOf geometry (Queue 0) images.0 }
+    requires root { IsImageOf geometry Root images.1 }
+    ensures same { IfOk result (λ r. r.0 ≡ images) }
+    ensures file { IfOk result (λ r. r.1.items ≡ image_bytes (drive_image geometry images.0 images.1)) }
+{
+    let mut ports = Vec::with_capacity(alloc, 2)?;
+    ports.push(images.0)?;
+    ports.push(images.1)?;
+    let image = DriveImage { geometry, ports };
+    let file = write_image(alloc, &image)?;
+    let DriveImage { mut ports, .. } = image;
+    let queue = ports.remove(0);
+    let root = ports.remove(0);
+    Ok(((queue, root), file))
+}
+
+// The same where the file is wanted.
+fn left_of(
+    alloc: Global,
+    geometry: Geometry,
+    images: (PortImage, PortImage),
+    wanted: bool,
+) -> Result<((PortImage, PortImage), Option<Vec<u8>>), OutOfMemory>
+    requires one { queues_of geometry ≡ 1 }
+    requires queue { IsImageOf geometry (Queue 0) images.0 }
+    requires root { IsImageOf geometry Root images.1 }
+    ensures same { IfOk result (λ r. r.0 ≡ images) }
+    ensures none { wanted ≡ false → IfOk result (λ r. r.1 ≡ None) }
+    ensures some { wanted ≡ true
+        → IfOk result (λ r. IsFile (image_bytes (drive_image geometry images.0 images.1)) r.1) }
+{
+    if !wanted {
+        return Ok((images, None));
+    }
+    let (images, file) = file_of(alloc, geometry, images)?;
+    Ok((images, Some(file)))
+}
+
 /// Commits a text on a fresh drive, pulls the plug after so many events or at the end, recovers, and
 /// prints what stands. A first recovery is itself cut, where it is told after how many events. What
-/// the cuts leave of what is uncertain follows from `pick`.
+/// the cuts leave of what is uncertain follows from `pick`. The image that the plug left is kept as
+/// a file, where it is wanted.
 fn run_text(
     alloc: Global,
     text: &BlockText,
     cut: Option<u64>,
     pick: u64,
     again: Option<u64>,
-) -> Result<Vec<u8>, OutOfMemory>
+    wanted: bool,
+) -> Result<TextRun, OutOfMemory>
     requires good { IsGoodText text.now }
     requires cut { IfSome cut (λ k. k < 2 ^ 63) }
     requires again { IfSome again (λ k. k < 2 ^ 63) }
-    ensures { IfOk result (λ v. (p : ℕ) × IsPrefixAt text.now cut p × (v.items ≡ output_of text.now p)) }
+    ensures { IfOk result (λ r. (p : ℕ)
+        × IsPrefixAt text.now cut p
+        × (r.output.items ≡ output_of text.now p)
+        × KeepsLeft wanted text.now cut p r.left) }
 {
     let geometry = text_geometry();
     let images = commit_fresh(alloc, geometry, text, cut, pick)?;
-    let (noted, images) = recover_first(alloc, geometry, images, again, pick)?;
+    let (kept, left) = left_of(alloc, geometry, images, wanted)?;
+    let (noted, images) = recover_first(alloc, geometry, kept, again, pick)?;
     let (fuse, queue_seat, root_seat) = power_of_two(alloc, None)?;
     let seats = (queue_seat, root_seat);
     let (found, ports) = recover_images(alloc, &fuse, seats, geometry, images, pick)?;
     let prefix = noted.unwrap_or(found);
     let marks = live_marks(alloc, text, prefix)?;
     let live = live_blocks(alloc, geometry, &ports, &marks)?;
-    print_blocks(alloc, prefix, &live)
+    let output = print_blocks(alloc, prefix, &live)?;
+    Ok(TextRun { output, left })
 }
 
-/// What `mqfs blocks` prints of the bytes of a block text, where the power goes off after so many
-/// events, and again after so many of a first recovery. What the cuts then leave of what is uncertain
-/// follows from `pick`.
-pub fn blocks_output(
+/// What `mqfs blocks` makes of the bytes of a block text, with the file of the image that the plug
+/// left, where it is wanted.
+pub fn run_bytes(
     alloc: Global,
     bytes: &[u8],
-    cut: Option<u64>,
-    pick: u64,
-    again: Option<u64>,
-) -> Result<Vec<u8>, BlockTextRefusal>
-    requires cut { IfSome cut (λ k. k < 2 ^ 63) }
-    requires again { IfSome again (λ k. k < 2 ^ 63) }
-    ensures ok { IfOk result (λ v. (lines : List (List BlockItem))
+    options: BlocksOptions,
+    wanted: bool,
+) -> Result<TextRun, BlockTextRefusal>
+    requires small { AreSmall options }
+    ensures ok { IfOk result (λ r. (lines : List (List BlockItem))
         × (p : ℕ)
         × IsBlockText bytes.now lines
-        × IsPrefixAt lines cut p
-        × (v.items ≡ output_of lines p)) }
+        × IsPrefixAt lines options.cut p
+        × (r.output.items ≡ output_of lines p)
+        × KeepsLeft wanted lines options.cut p r.left) }
     ensures refused { IfErr result (IsRefused (RefusesText bytes.now)) }
     ensures exact { (line : ℕ) (cause : BlockTextCause)
         → RefusesText bytes.now line cause
@@ -213,5 +277,6 @@ pub fn blocks_output(
         → MatchResult result (λ _. Unit {0}) (λ e. e ≡ BlockTextRefusal.OutOfMemory) }
 {
     let text = read_block_text(alloc, bytes)?;
-    Ok(run_text(alloc, &text, cut, pick, again)?)
+    let pick = options.pick.unwrap_or(0);
+    Ok(run_text(alloc, &text, options.cut, pick, options.again, wanted)?)
 }

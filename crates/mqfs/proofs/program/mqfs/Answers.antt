@@ -1,21 +1,39 @@
 use Rattle.std.proofs.Common.{map}
 use Rattle.std.specs.String.{string_bytes}
-use Rattle.mqfs.proofs.Programs.{unless_wanting, done_where, refused_where, refused_tells}
+use Rattle.mqfs.proofs.Endings.{contents_told, done_told, fault_told, names_told, refused_told, said_told, same_told, status_told, takes_told, usage_told, usage-where}
 use Rattle.mqfs.proofs.program.mqfs.Goals as goal
 
-pub returns-clause-done_where : goal.returns-clause-done_where
-returns-clause-done_where g c = λ held name options bytes lines are tells holds is.
-    let ends = c.run.ensures.ends in
-    done_where (map string_bytes c.args.words.now) (g.F.Files.state c.args.files.now) (g.F.Files.state c.run.new.files) ends.0 ends.1 c.run.result ends.2
-    (unless_wanting ends.0 ends.1 c.run.result (g.K.Sink.state c.args.out.now) (g.K.Sink.state c.run.new.out) ends.3) held name options bytes are tells holds lines is
+pub returns-clause-status : goal.returns-clause-status
+returns-clause-status g c = status_told (map string_bytes c.args.words.now) (g.F.Files.state c.args.files.now) (g.F.Files.state c.read_and_run.new.files) c.read_and_run.ensures.ends.0 c.read_and_run.ensures.ends.1 c.read_and_run.result (g.K.Sink.state c.args.out.now) (g.K.Sink.state c.read_and_run.new.out) c.read_and_run.ensures.ends.2 c.read_and_run.ensures.ends.3
 
-pub returns-clause-refused_where : goal.returns-clause-refused_where
-returns-clause-refused_where g c = λ held name options bytes line cause are tells holds is.
-    let ends = c.run.ensures.ends in
-    refused_where (map string_bytes c.args.words.now) (g.F.Files.state c.args.files.now) (g.F.Files.state c.run.new.files) ends.0 ends.1 c.run.result ends.2
-    (unless_wanting ends.0 ends.1 c.run.result (g.K.Sink.state c.args.out.now) (g.K.Sink.state c.run.new.out) ends.3) held name options bytes are tells holds line cause is
+pub returns-clause-said : goal.returns-clause-said
+returns-clause-said g c = said_told (map string_bytes c.args.words.now) (g.F.Files.state c.args.files.now) (g.F.Files.state c.read_and_run.new.files) c.read_and_run.ensures.ends.0 c.read_and_run.ensures.ends.1 c.read_and_run.result (g.K.Sink.state c.args.out.now) (g.K.Sink.state c.read_and_run.new.out) c.read_and_run.ensures.ends.2 c.read_and_run.ensures.ends.3
+
+pub returns-clause-usage : goal.returns-clause-usage
+returns-clause-usage g c = usage_told (map string_bytes c.args.words.now) (g.F.Files.state c.args.files.now) (g.F.Files.state c.read_and_run.new.files) c.read_and_run.ensures.ends.0 c.read_and_run.ensures.ends.1 c.read_and_run.result (g.K.Sink.state c.args.out.now) (g.K.Sink.state c.read_and_run.new.out) c.read_and_run.ensures.ends.2 c.read_and_run.ensures.ends.3
+
+pub returns-clause-usage_where : goal.returns-clause-usage_where
+returns-clause-usage_where g c = usage-where (map string_bytes c.args.words.now) (g.F.Files.state c.args.files.now) (g.F.Files.state c.read_and_run.new.files) c.read_and_run.ensures.ends.0 c.read_and_run.ensures.ends.1 c.read_and_run.result (g.K.Sink.state c.args.out.now) (g.K.Sink.state c.read_and_run.new.out) c.read_and_run.ensures.ends.2 c.read_and_run.ensures.ends.3
 
 pub returns-clause-refused : goal.returns-clause-refused
-returns-clause-refused g c =
-    let ends = c.run.ensures.ends in
-    refused_tells (map string_bytes c.args.words.now) (g.F.Files.state c.args.files.now) (g.F.Files.state c.run.new.files) ends.0 ends.1 c.run.result (g.K.Sink.state c.args.out.now) (g.K.Sink.state c.run.new.out) ends.2 ends.3
+returns-clause-refused g c = refused_told (map string_bytes c.args.words.now) (g.F.Files.state c.args.files.now) (g.F.Files.state c.read_and_run.new.files) c.read_and_run.ensures.ends.0 c.read_and_run.ensures.ends.1 c.read_and_run.result (g.K.Sink.state c.args.out.now) (g.K.Sink.state c.read_and_run.new.out) c.read_and_run.ensures.ends.2 c.read_and_run.ensures.ends.3
+
+pub returns-clause-fault : goal.returns-clause-fault
+returns-clause-fault g c = fault_told (map string_bytes c.args.words.now) (g.F.Files.state c.args.files.now) (g.F.Files.state c.read_and_run.new.files) c.read_and_run.ensures.ends.0 c.read_and_run.ensures.ends.1 c.read_and_run.result (g.K.Sink.state c.args.out.now) (g.K.Sink.state c.read_and_run.new.out) c.read_and_run.ensures.ends.2 c.read_and_run.ensures.ends.3
+
+pub returns-clause-fault_where : goal.returns-clause-fault_where
+returns-clause-fault_where g c = same_told (map string_bytes c.args.words.now) (g.F.Files.state c.args.files.now) (g.F.Files.state c.read_and_run.new.files) c.read_and_run.ensures.ends.0 c.read_and_run.ensures.ends.1 c.read_and_run.result (g.K.Sink.state c.args.out.now) (g.K.Sink.state c.read_and_run.new.out) c.read_and_run.ensures.ends.2 c.read_and_run.ensures.ends.3
+
+pub returns-clause-takes : goal.returns-clause-takes
+returns-clause-takes g c = takes_told (map string_bytes c.args.words.now) (g.F.Files.state c.args.files.now) (g.F.Files.state c.read_and_run.new.files) c.read_and_run.ensures.ends.0 c.read_and_run.ensures.ends.1 c.read_and_run.result (g.K.Sink.state c.args.out.now) (g.K.Sink.state c.read_and_run.new.out) c.read_and_run.ensures.ends.2 c.read_and_run.ensures.ends.3
+
+pub returns-clause-names : goal.returns-clause-names
+returns-clause-names g c = names_told (map string_bytes c.args.words.now) (g.F.Files.state c.args.files.now) (g.F.Files.state c.read_and_run.new.files) c.read_and_run.ensures.ends.0 c.read_and_run.ensures.ends.1 c.read_and_run.result (g.K.Sink.state c.args.out.now) (g.K.Sink.state c.read_and_run.new.out) c.read_and_run.ensures.ends.2 c.read_and_run.ensures.ends.3
+
+pub returns-clause-contents : goal.returns-clause-contents
+returns-clause-contents g c = contents_told (map string_bytes c.args.words.now) (g.F.Files.state c.args.files.now) (g.F.Files.state c.read_and_run.new.files) c.read_and_run.ensures.ends.0 c.read_and_run.ensures.ends.1 c.read_and_run.result (g.K.Sink.state c.args.out.now) (g.K.Sink.state c.read_and_run.new.out) c.read_and_run.ensures.ends.2 c.read_and_run.ensures.ends.3
+
+pub returns-clause-done : goal.returns-clause-done
+returns-clause-done g c = λ file options save asks zero.
+    done_told file options save (g.F.Files.state c.args.files.now) (g.F.Files.state c.read_and_run.new.files) (g.K.Sink.state c.args.out.now) (g.K.Sink.state c.read_and_run.new.out) (map string_bytes c.args.words.now) c.read_and_run.ensures.ends.0 c.read_and_run.ensures.ends.1 c.read_and_run.result
+    asks c.read_and_run.ensures.ends.2 c.read_and_run.ensures.ends.3 zero

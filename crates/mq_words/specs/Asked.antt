@@ -1,0 +1,133 @@
+-- What words ask: exactly one thing, or nothing.
+use Rattle.std.specs.Prelude.{ℕ, ◌<◌, ◌^◌, IfSome, ◌==◌, ◌&&◌, ◌||◌, Bool, true, false, List, [], ◌∷◌, length, Option, Some, None, option_and_then, option_map, codes, bytes_eq, nat_lt, nat_le, if◌then◌else◌}
+use Rattle.std.specs.List.{list_all}
+use Rattle.clap.specs.Words.{Row, Text, fault_of, first_of, matches_of}
+use Rattle.mq_script.specs.Words.{number_in, path_in}
+use Rattle.mq_tree.specs.Volume.{Path}
+use Rattle.mq_words.specs.Syntax.{app_for, verb_of}
+use Rattle.mq_words.specs.declared.command.BlocksOptions.{BlocksOptions}
+use Rattle.mq_words.specs.declared.command.Command.{Command}
+use Rattle.mq_words.specs.declared.command.Command.TheVariants as command
+use Rattle.mq_words.specs.declared.verb.Verb.{Verb}
+use Rattle.mq_words.specs.declared.verb.Verb.TheVariants as verb
+
+-- the words after the program's name
+abbrev pub Words : Type 0
+Words = List Text
+
+-- what words ask
+pub data Asked : Type 0 where
+  blocks : (file : Text) → BlocksOptions → (save : Option Text) → Asked
+  format : (image : Text) → (queues area meta zone : ℕ) → Asked
+  ls : (image : Text) → Asked
+  cat : (image : Text) → Path → Asked
+  dump : (image : Text) → Asked
+  help : Option Verb → Asked
+  version : Asked
+
+-- ---- numbers and paths
+
+-- the numbers of options are below this one
+abbrev pub number_end : ℕ
+number_end = 2 ^ 63
+
+-- the numbers of a geometry are below this one
+abbrev pub word_end : ℕ
+word_end = 2 ^ 32
+
+abbrev pub below : (limit n : ℕ) → Option ℕ
+below limit n = if nat_lt n limit then Some n else None
+
+-- a number below a limit, in decimal digits without a leading zero
+abbrev pub number_within : ℕ → Text → Option ℕ
+number_within limit text = option_and_then (below limit) (number_in text)
+
+-- the number of an option, where the option is given
+abbrev pub number_option : Option Text → Option (Option ℕ)
+number_option None = Some None
+number_option (Some text) = option_map Some (number_within number_end text)
+
+-- a visible character of ASCII
+abbrev pub is_visible : ℕ → Bool
+is_visible b = nat_le 33 b && nat_le b 126
+
+-- a path begins with `/`, and has visible characters alone
+abbrev pub path_within : Text → Option Path
+path_within text = if list_all is_visible text then path_in text else None
+
+-- ---- what the values of a command ask
+
+abbrev pub blocks_by : Option Text → (cut pick again : Option (Option ℕ)) → (save : Option Text) → Option Asked
+blocks_by (Some file) (Some cut) (Some pick) (Some again) save = Some (blocks file (record { cut = cut; pick = pick; again = again }) save)
+blocks_by _ _ _ _ _ = None
+
+abbrev pub format_by : Option Text → (queues area meta zone : Option ℕ) → Option Asked
+format_by (Some image) (Some queues) (Some area) (Some meta) (Some zone) = Some (format image queues area meta zone)
+format_by _ _ _ _ _ = None
+
+abbrev pub cat_by : Option Text → Option Path → Option Asked
+cat_by (Some image) (Some path) = Some (cat image path)
+cat_by _ _ = None
+
+-- the number of a name that is found
+abbrev pub word_in : Option Text → Option ℕ
+word_in word = option_and_then (number_within word_end) word
+
+-- what is found of a command asks
+abbrev pub asked_by : Verb → List Row → Option Asked
+asked_by verb.Blocks rows = blocks_by (first_of (codes "file") rows)
+    (number_option (first_of (codes "cut") rows)) (number_option (first_of (codes "pick") rows)) (number_option (first_of (codes "again") rows))
+    (first_of (codes "save") rows)
+asked_by verb.Format rows = format_by (first_of (codes "image") rows)
+    (word_in (first_of (codes "queues") rows)) (word_in (first_of (codes "area") rows)) (word_in (first_of (codes "meta") rows)) (word_in (first_of (codes "zone") rows))
+asked_by verb.Ls rows = option_map ls (first_of (codes "image") rows)
+asked_by verb.Cat rows = cat_by (first_of (codes "image") rows) (option_and_then path_within (first_of (codes "path") rows))
+asked_by verb.Dump rows = option_map dump (first_of (codes "image") rows)
+
+-- ---- what words ask
+
+-- one of the words is `--help`, and stands before any `--`
+abbrev pub wants_help : Words → Bool
+wants_help [] = false
+wants_help (word ∷ words) =
+    if bytes_eq word (codes "--") then false
+    else if bytes_eq word (codes "--help") then true
+    else wants_help words
+
+abbrev pub is_empty : {A : Type 0} → List A → Bool
+is_empty [] = true
+is_empty (x ∷ xs) = false
+
+-- The words of a command, its name the first, ask what `clap` finds in them, where `clap` finds no fault.
+unfoldable pub found_in : Verb → Words → Option Asked
+found_in verb words = if is_empty (fault_of (app_for verb) words) then asked_by verb (matches_of (app_for verb) words) else None
+
+abbrev pub asked_after : Option Verb → (word : Text) → (words : Words) → Option Asked
+asked_after None word words =
+    if bytes_eq word (codes "--help") then Some (help None)
+    else if bytes_eq word (codes "--version") then Some version
+    else None
+asked_after (Some verb) word words = if wants_help words then Some (help (Some verb)) else found_in verb (word ∷ words)
+
+-- what the words ask
+abbrev pub asked_of : Words → Option Asked
+asked_of [] = None
+asked_of (word ∷ words) = asked_after (verb_of word) word words
+
+-- the same as a command
+abbrev pub asked : Command → Asked
+asked (command.Blocks file options save) = blocks file.now options (option_map (λ s. s.now) save)
+asked (command.Format image queues area meta zone) = format image.now queues area meta zone
+asked (command.Ls image) = ls image.now
+asked (command.Cat image path) = cat image.now path
+asked (command.Dump image) = dump image.now
+asked (command.Help verb) = help verb
+asked command.Version = version
+
+-- the numbers of the options are below their limit
+abbrev pub AreSmall : BlocksOptions → Type 0
+AreSmall o = IfSome o.cut (λ n. n < number_end) × IfSome o.pick (λ n. n < number_end) × IfSome o.again (λ n. n < number_end)
+
+abbrev pub HasSmallNumbers : Command → Type 0
+HasSmallNumbers (command.Blocks file options save) = AreSmall options
+HasSmallNumbers _ = Unit {0}

@@ -1,0 +1,64 @@
+-- What the program says of itself and of each command.
+use Rattle.std.specs.Prelude.{ℕ, List, ◌++◌, Option, Some, None, codes}
+use Rattle.mq_words.specs.declared.verb.Verb.{Verb}
+use Rattle.mq_words.specs.declared.verb.Verb.TheVariants as verb
+
+unfoldable pub program_help : List ℕ
+program_help =
+    codes "mqfs runs a crash-consistent journal on an emulated drive.\n\n"
+    ++ (codes "  mqfs blocks FILE [--cut K] [--pick S] [--again J] [--save NAME]\n"
+    ++ (codes "  mqfs format IMAGE QUEUES AREA META ZONE\n"
+    ++ (codes "  mqfs ls IMAGE\n"
+    ++ (codes "  mqfs cat IMAGE PATH\n"
+    ++ (codes "  mqfs dump IMAGE\n\n"
+    ++ (codes "mqfs COMMAND --help says more of a command.\n"))))))
+
+unfoldable pub blocks_help : List ℕ
+blocks_help =
+    codes "mqfs blocks FILE [--cut K] [--pick S] [--again J] [--save NAME]\n\n"
+    ++ (codes "Commits each line of the block text FILE as a transaction on a fresh drive,\n"
+    ++ (codes "cuts the power, recovers, and prints what stands.\n\n"
+    ++ (codes "  --cut K      the power goes off after K events, else at the end\n"
+    ++ (codes "  --pick S     chooses what a cut leaves of what is not certain, else 0\n"
+    ++ (codes "  --again J    a first recovery is cut after J events\n"
+    ++ (codes "  --save NAME  saves the image that the cut left, before the recovery\n\n"
+    ++ (codes "Example: mqfs blocks examples/frees.txt --cut 10\n")))))))
+
+unfoldable pub format_help : List ℕ
+format_help =
+    codes "mqfs format IMAGE QUEUES AREA META ZONE\n\n"
+    ++ (codes "Saves as IMAGE a fresh drive with an empty file system. The numbers are the\n"
+    ++ (codes "queues, the blocks of each queue's journal area, the blocks of metadata, and\n"
+    ++ (codes "the blocks of each queue's zone of data.\n\n"
+    ++ (codes "Example: mqfs format d 2 1024 64 256\n"))))
+
+unfoldable pub ls_help : List ℕ
+ls_help =
+    codes "mqfs ls IMAGE\n\n"
+    ++ (codes "Prints the tree of files that stands on IMAGE. Nothing is saved.\n\n"
+    ++ (codes "Example: mqfs ls d\n"))
+
+unfoldable pub cat_help : List ℕ
+cat_help =
+    codes "mqfs cat IMAGE PATH\n\n"
+    ++ (codes "Prints the bytes of the file at PATH of the tree that stands on IMAGE. PATH\n"
+    ++ (codes "begins with a slash. Nothing is saved.\n\n"
+    ++ (codes "Example: mqfs cat d /a/f\n")))
+
+unfoldable pub dump_help : List ℕ
+dump_help =
+    codes "mqfs dump IMAGE\n\n"
+    ++ (codes "Prints the words and the chains of transactions of IMAGE, and how many of them\n"
+    ++ (codes "stand. Nothing is saved.\n\n"
+    ++ (codes "Example: mqfs dump d\n")))
+
+abbrev pub help_text : Option Verb → List ℕ
+help_text None = program_help
+help_text (Some verb.Blocks) = blocks_help
+help_text (Some verb.Format) = format_help
+help_text (Some verb.Ls) = ls_help
+help_text (Some verb.Cat) = cat_help
+help_text (Some verb.Dump) = dump_help
+
+abbrev pub version_line : List ℕ
+version_line = codes "mqfs 0.1.0\n"

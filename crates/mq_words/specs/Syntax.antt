@@ -1,0 +1,61 @@
+-- The commands by name, and the words of each as `clap` has them.
+use Rattle.std.specs.Prelude.{ℕ, true, List, [], ◌∷◌, ◌++◌, map, Option, Some, None, codes, bytes_eq, if◌then◌else◌}
+use Rattle.clap.specs.Words.{App, Rule, Text, new_rule}
+use Rattle.clap.specs.Simple.{new_shape}
+use Rattle.clap.specs.declared.builder.action.ArgAction.TheVariants as action
+use Rattle.mq_words.specs.declared.verb.Verb.{Verb}
+use Rattle.mq_words.specs.declared.verb.Verb.TheVariants.{Blocks, Format, Ls, Cat, Dump}
+
+-- ---- the commands by name
+
+abbrev pub verb_text : Verb → Text
+verb_text Blocks = codes "blocks"
+verb_text Format = codes "format"
+verb_text Ls = codes "ls"
+verb_text Cat = codes "cat"
+verb_text Dump = codes "dump"
+
+abbrev pub verb_of : Text → Option Verb
+verb_of word =
+    if bytes_eq word (codes "blocks") then Some Blocks
+    else if bytes_eq word (codes "format") then Some Format
+    else if bytes_eq word (codes "ls") then Some Ls
+    else if bytes_eq word (codes "cat") then Some Cat
+    else if bytes_eq word (codes "dump") then Some Dump
+    else None
+
+-- ---- their words
+
+-- the names that a command wants, in order
+abbrev pub names_for : Verb → List Text
+names_for Blocks = codes "file" ∷ []
+names_for Format = codes "image" ∷ codes "queues" ∷ codes "area" ∷ codes "meta" ∷ codes "zone" ∷ []
+names_for Ls = codes "image" ∷ []
+names_for Cat = codes "image" ∷ codes "path" ∷ []
+names_for Dump = codes "image" ∷ []
+
+-- the options that it takes, each with a value
+abbrev pub options_for : Verb → List Text
+options_for Blocks = codes "cut" ∷ codes "pick" ∷ codes "again" ∷ codes "save" ∷ []
+options_for Format = []
+options_for Ls = []
+options_for Cat = []
+options_for Dump = []
+
+-- a name, which has to stand
+abbrev pub name_rule : Text → Rule
+name_rule id = record (new_rule id) { action = Some action.Set; required = true }
+
+-- an option `--id` with one value
+abbrev pub option_rule : Text → Rule
+option_rule id = record (new_rule id) { long = Some id; action = Some action.Set }
+
+-- a command of these names and options, without a help of its own
+abbrev pub app_with : (name : Text) (names options : List Text) → App
+app_with name names options = record {
+  top = record (new_shape name) { disable_help_flag = true; rules = map name_rule names ++ map option_rule options };
+  subs = [];
+}
+
+unfoldable pub app_for : Verb → App
+app_for verb = app_with (verb_text verb) (names_for verb) (options_for verb)

@@ -1,0 +1,45 @@
+// What words ask.
+use crate::verb::Verb;
+use mq_tree::Path;
+
+/// The numbers of the options of `blocks`.
+#[derive(Clone, Copy)]
+pub struct BlocksOptions {
+    /// After how many events the power goes off.
+    pub cut: Option<u64>,
+    /// Where the draws of what is uncertain at the cut come from.
+    pub pick: Option<u64>,
+    /// After how many events of a first recovery the power goes off again.
+    pub again: Option<u64>,
+}
+
+/// What words ask.
+#[derive(Drop)]
+pub enum Command<'a> {
+    Blocks {
+        file: &'a str,
+        options: BlocksOptions,
+        /// The name under which the image is saved that the plug left.
+        save: Option<&'a str>,
+    },
+    Format {
+        image: &'a str,
+        queues: u32,
+        area: u32,
+        meta: u32,
+        zone: u32,
+    },
+    Ls {
+        image: &'a str,
+    },
+    Cat {
+        image: &'a str,
+        path: Path,
+    },
+    Dump {
+        image: &'a str,
+    },
+    /// Help on a command, or on the program.
+    Help(Option<Verb>),
+    Version,
+}

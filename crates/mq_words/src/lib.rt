@@ -1,0 +1,19 @@
+//! The words of the program: which command they ask, with its names, numbers and options.
+#![tactic(auto)]
+
+mod command;
+mod help;
+mod help_text;
+mod numbers;
+mod parse;
+mod path;
+mod read;
+mod refusal;
+mod syntax;
+mod verb;
+
+pub use command::{BlocksOptions, Command};
+pub use help_text::{help_on, version_line};
+pub use read::read_command;
+pub use refusal::WordsRefusal;
+pub use verb::Verb;

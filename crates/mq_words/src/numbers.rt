@@ -1,0 +1,51 @@
+// The numbers of words.
+ghost use Rattle.std.specs.Prelude.{◌≡◌, ◌≤◌, ◌<◌, ◌^◌, None, Some, IfOk, IfSome, MatchResult, option_map};
+ghost use Rattle.mq_words.specs.Asked.{number_end, number_option, number_within, word_end, word_in};
+
+use crate::refusal::WordsRefusal;
+use mq_text::read_number;
+
+/// The numbers of options are below this one.
+const NUMBER_END: u64 = 1 << 63;
+
+/// The numbers of a geometry are below this one.
+const WORD_END: u64 = 1 << 32;
+
+/// The number of a word, below a limit.
+fn number_below(limit: u64, word: &str) -> Option<u64>
+    ensures { result ≡ number_within limit word.now }
+{
+    match read_number(word.as_bytes()) {
+        Some(value) if value < limit => Some(value),
+        _ => None,
+    }
+}
+
+/// The number of an option, where the option is given.
+pub fn optional_number(word: Option<&str>) -> Result<Option<u64>, WordsRefusal>
+    ensures small { IfOk result (λ o. IfSome o (λ n. n < number_end)) }
+    ensures reads { MatchResult result (λ n. number_option (option_map (λ s. s.now) word.entry) ≡ Some n)
+        (λ e. (e ≡ WordsRefusal.Unknown) × (number_option (option_map (λ s. s.now) word.entry) ≡ None)) }
+{
+    match word {
+        None => Ok(None),
+        Some(word) => match number_below(NUMBER_END, word) {
+            Some(value) => Ok(Some(value)),
+            None => Err(WordsRefusal::Unknown),
+        },
+    }
+}
+
+/// The number of a name of a geometry.
+pub fn geometry_word(word: Option<&str>) -> Result<u32, WordsRefusal>
+    ensures { MatchResult result (λ n. word_in (option_map (λ s. s.now) word.entry) ≡ Some n)
+        (λ e. (e ≡ WordsRefusal.Unknown) × (word_in (option_map (λ s. s.now) word.entry) ≡ None)) }
+{
+    let Some(word) = word else {
+        return Err(WordsRefusal::Unknown);
+    };
+    match number_below(WORD_END, word) {
+        Some(value) => Ok(value as u32),
+        None => Err(WordsRefusal::Unknown),
+    }
+}

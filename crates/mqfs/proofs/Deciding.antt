@@ -1,0 +1,111 @@
+-- What the files hold decides the status of each command.
+use Rattle.std.proofs.Common.{◌≡◌, ◌⊎◌, inl, inr, ℕ, List, Option, Some, None, Ok, Err, refl, sym, ◌∙◌, subst, arith}
+use Rattle.mq_blocks.specs.Descriptor.{Descriptor}
+use Rattle.mq_blocks.specs.Journal.{AreWhole}
+use Rattle.mq_blocks.specs.declared.geometry.Geometry.{Geometry}
+use Rattle.mq_blocks.specs.declared.geometry.GeometryRefusal.{GeometryRefusal}
+use Rattle.mq_commands.specs.Commands.{RefusesNumbers, numbers_of}
+use Rattle.mq_commands.specs.declared.formatting.Numbers.{Numbers}
+use Rattle.mq_ending.specs.Ending.{IsNotLoaded, IsNotSaved, IsUnlessWanting, load_failed, load_memory, load_too_long, save_failed, save_memory}
+use Rattle.mq_image.specs.Drives.{IsRead}
+use Rattle.mq_image.specs.Faults.{HasFault}
+use Rattle.mq_image.specs.File.{DriveImage}
+use Rattle.mq_image.specs.declared.fault.FileFault.{FileFault}
+use Rattle.mq_images.specs.Standing.{RefusesDrive, StandsFor}
+use Rattle.mq_images.specs.Views.{view_of}
+use Rattle.mq_outside.specs.Outside.{FilesState, Held, Holds, Tells}
+use Rattle.mq_recover.specs.declared.refusal.ImageFault.{ImageFault}
+use Rattle.mq_text.specs.Refusals.{RefusesText}
+use Rattle.mq_text.specs.declared.item.BlockItem.{BlockItem}
+use Rattle.mq_text.specs.declared.refusal.BlockTextCause.{BlockTextCause}
+use Rattle.mq_text.proofs.TextWhole.{good_or_refused}
+use Rattle.mq_tree.specs.Trees.{ReadsAs}
+use Rattle.mq_tree.specs.Volume.{Path, Volume}
+use Rattle.mq_tree.specs.declared.request.Fault.{Fault}
+use Rattle.mq_words.specs.declared.command.BlocksOptions.{BlocksOptions}
+use Rattle.mqfs.specs.Blocks.{IsBlockText}
+use Rattle.mqfs.specs.Decided.{ChainsDecide, FileDecides, ImageDecides, NumbersDecide, TextDecides, TreeDecides, bad_numbers, bad_text, good_numbers, good_text, has_chains, has_file, has_no_file, has_tree, no_chains, no_image, no_tree, no_volume, unreadable}
+use Rattle.mqfs.specs.Says.{SaysOfBlocks, printed, refused}
+use Rattle.mqfs.specs.Says as blocks_says
+
+-- ---- `format`
+
+pub numbers_decided : (n : Numbers) (result : ℕ) → ((g : Geometry) → numbers_of g ≡ n → IsUnlessWanting 0 result) → ((e : GeometryRefusal) → RefusesNumbers n e → IsUnlessWanting 3 result)
+    → (status : ℕ) → NumbersDecide n status → IsUnlessWanting status result
+numbers_decided n result done bad _ (good_numbers g are) = done g are
+numbers_decided n result done bad _ (bad_numbers e refuses) = bad e refuses
+
+-- ---- the commands that load an image
+
+module _ (image : List ℕ) (held : Option Held) (result : ℕ)
+    (faulty : (bytes : List ℕ) (e : FileFault) → Tells held image (Some bytes) → HasFault bytes (Some e) → IsUnlessWanting 3 result)
+    (unread : (bytes : List ℕ) (x : DriveImage) (e : ImageFault) → Tells held image (Some bytes) → IsRead x bytes → RefusesDrive x e → IsUnlessWanting 3 result) where
+  image_decided : (status : ℕ) → ImageDecides image held status → IsUnlessWanting status result
+  image_decided _ (no_image bytes e tells has) = faulty bytes e tells has
+  image_decided _ (unreadable bytes x e tells read refuses) = unread bytes x e tells read refuses
+
+  pub tree_decided : ((bytes : List ℕ) (x : DriveImage) (v : Volume) → Tells held image (Some bytes) → IsRead x bytes → StandsFor x v → IsUnlessWanting 0 result)
+      → (status : ℕ) → TreeDecides image held status → IsUnlessWanting status result
+  tree_decided done _ (has_tree bytes x v tells read for) = done bytes x v tells read for
+  tree_decided done status (no_tree image) = image_decided status image
+
+  pub chains_decided : ((bytes : List ℕ) (x : DriveImage) (chains : ℕ → List Descriptor) → Tells held image (Some bytes) → IsRead x bytes → AreWhole x.geometry (view_of x) chains → IsUnlessWanting 0 result)
+      → (status : ℕ) → ChainsDecide image held status → IsUnlessWanting status result
+  chains_decided done _ (has_chains bytes x chains tells read whole) = done bytes x chains tells read whole
+  chains_decided done status (no_chains image) = image_decided status image
+
+  pub file_decided : (path : Path) → ((bytes : List ℕ) (x : DriveImage) (v : Volume) (content : List ℕ) → Tells held image (Some bytes) → IsRead x bytes → StandsFor x v → ReadsAs v path (Ok content) → IsUnlessWanting 0 result)
+      → ((bytes : List ℕ) (x : DriveImage) (v : Volume) (fault : Fault) → Tells held image (Some bytes) → IsRead x bytes → StandsFor x v → ReadsAs v path (Err fault) → IsUnlessWanting 3 result)
+      → (status : ℕ) → FileDecides image path held status → IsUnlessWanting status result
+  file_decided path done none _ (has_file bytes x v content tells read for reads) = done bytes x v content tells read for reads
+  file_decided path done none _ (has_no_file bytes x v fault tells read for reads) = none bytes x v fault tells read for reads
+  file_decided path done none status (no_volume image) = image_decided status image
+
+-- ---- `blocks`
+
+still_fault : (wanted result : ℕ) → IsUnlessWanting 4 result → IsUnlessWanting wanted result
+still_fault wanted result (inl e) = inr (inl e)
+still_fault wanted result (inr e) = inr e
+
+still_memory : (wanted result : ℕ) → IsUnlessWanting 6 result → IsUnlessWanting wanted result
+still_memory wanted result (inl e) = inr (inr e)
+still_memory wanted result (inr e) = inr e
+
+still_unloaded : (wanted result : ℕ) (file : List ℕ) (old new : FilesState) (status : ℕ) (text : List ℕ) → IsNotLoaded file old new status text → IsUnlessWanting status result → IsUnlessWanting wanted result
+still_unloaded wanted result file old new _ _ (load_failed same rose) ends = still_fault wanted result ends
+still_unloaded wanted result file old new _ _ (load_too_long same over faults takes) ends = still_fault wanted result ends
+still_unloaded wanted result file old new _ _ (load_memory same faults) ends = still_memory wanted result ends
+
+still_unsaved : (wanted result : ℕ) (name : List ℕ) (old new : FilesState) (status : ℕ) (text : List ℕ) → IsNotSaved name old new status text → IsUnlessWanting status result → IsUnlessWanting wanted result
+still_unsaved wanted result name old new _ _ (save_failed other rose taken) ends = still_fault wanted result ends
+still_unsaved wanted result name old new _ _ (save_memory same faults taken) ends = still_memory wanted result ends
+
+-- a name holds one text
+one_held : (held : Option Held) (name bytes other : List ℕ) → Tells held name (Some bytes) → Holds held name other → bytes ≡ other
+one_held None name bytes other tells holds = absurd tells
+one_held (Some held) name bytes other tells holds = let same : ◌≡◌ {A = Option (List ℕ)} (Some bytes) (Some other) = sym tells ∙ holds in cc
+
+module _ (file : List ℕ) (options : BlocksOptions) (save : Option (List ℕ)) (old new : FilesState) (result : ℕ) where
+  good_decided : (bytes : List ℕ) (lines : List (List BlockItem)) → Tells old.contents file (Some bytes) → IsBlockText bytes lines → (status : ℕ) (text : List ℕ) → SaysOfBlocks file options save old new status text → IsUnlessWanting status result → IsUnlessWanting 0 result
+  good_decided bytes lines tells is _ _ (printed others rows p mid load good at saves) ends = ends
+  good_decided bytes lines tells is _ _ (refused others line cause load refuses) ends =
+      let same : bytes ≡ others = one_held old.contents file bytes others tells load.holds in
+      absurd (good_or_refused bytes lines line cause is.spelled is.good (subst (λ (l : List ℕ). RefusesText l line cause) (sym same) refuses))
+  good_decided bytes lines tells is status text (blocks_says.not_loaded not) ends = still_unloaded 0 result file old new status text not ends
+  good_decided bytes lines tells is status text (blocks_says.not_saved others rows name mid asks load good not) ends = still_unsaved 0 result name mid new status text not ends
+  good_decided bytes lines tells is _ _ (blocks_says.wants_memory same faults) ends = still_memory 0 result ends
+
+  bad_decided : (bytes : List ℕ) (line : ℕ) (cause : BlockTextCause) → Tells old.contents file (Some bytes) → RefusesText bytes line cause → (status : ℕ) (text : List ℕ) → SaysOfBlocks file options save old new status text → IsUnlessWanting status result → IsUnlessWanting 2 result
+  bad_decided bytes line cause tells bad _ _ (printed others rows p mid load good at saves) ends =
+      let same : bytes ≡ others = one_held old.contents file bytes others tells load.holds in
+      absurd (good_or_refused others rows line cause good.spelled good.good (subst (λ (l : List ℕ). RefusesText l line cause) same bad))
+  bad_decided bytes line cause tells bad _ _ (refused others l c load refuses) ends = ends
+  bad_decided bytes line cause tells bad status text (blocks_says.not_loaded not) ends = still_unloaded 2 result file old new status text not ends
+  bad_decided bytes line cause tells bad status text (blocks_says.not_saved others rows name mid asks load good not) ends =
+      let same : bytes ≡ others = one_held old.contents file bytes others tells load.holds in
+      absurd (good_or_refused others rows line cause good.spelled good.good (subst (λ (l : List ℕ). RefusesText l line cause) same bad))
+  bad_decided bytes line cause tells bad _ _ (blocks_says.wants_memory same faults) ends = still_memory 2 result ends
+
+  pub text_decided : (status : ℕ) (text : List ℕ) → SaysOfBlocks file options save old new status text → IsUnlessWanting status result → (wanted : ℕ) → TextDecides file old.contents wanted → IsUnlessWanting wanted result
+  text_decided status text says ends _ (good_text bytes lines tells is) = good_decided bytes lines tells is status text says ends
+  text_decided status text says ends _ (bad_text bytes line cause tells bad) = bad_decided bytes line cause tells bad status text says ends

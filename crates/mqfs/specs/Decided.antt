@@ -1,0 +1,66 @@
+-- Which status what is asked ends with, by what the files hold, where nothing fails and memory is not wanting: one
+-- definition for each command.
+use Rattle.std.specs.Prelude.{◌≡◌, ℕ, List, Option, Some, Ok, Err}
+use Rattle.mq_blocks.specs.Descriptor.{Descriptor}
+use Rattle.mq_blocks.specs.Journal.{AreWhole}
+use Rattle.mq_blocks.specs.declared.geometry.Geometry.{Geometry}
+use Rattle.mq_blocks.specs.declared.geometry.GeometryRefusal.{GeometryRefusal}
+use Rattle.mq_commands.specs.Commands.{RefusesNumbers, numbers_of}
+use Rattle.mq_commands.specs.declared.formatting.Numbers.{Numbers}
+use Rattle.mq_image.specs.Drives.{IsRead}
+use Rattle.mq_image.specs.Faults.{HasFault}
+use Rattle.mq_image.specs.File.{DriveImage}
+use Rattle.mq_image.specs.declared.fault.FileFault.{FileFault}
+use Rattle.mq_images.specs.Standing.{RefusesDrive, StandsFor}
+use Rattle.mq_images.specs.Views.{view_of}
+use Rattle.mq_outside.specs.Outside.{Held, Tells}
+use Rattle.mq_recover.specs.declared.refusal.ImageFault.{ImageFault}
+use Rattle.mq_text.specs.Refusals.{RefusesText}
+use Rattle.mq_text.specs.declared.item.BlockItem.{BlockItem}
+use Rattle.mq_text.specs.declared.refusal.BlockTextCause.{BlockTextCause}
+use Rattle.mq_tree.specs.Trees.{ReadsAs}
+use Rattle.mq_tree.specs.Volume.{Path, Volume}
+use Rattle.mq_tree.specs.declared.request.Fault.{Fault}
+use Rattle.mq_words.specs.Asked.{Asked, blocks, cat, dump, format, help, ls, version}
+use Rattle.mqfs.specs.Blocks.{IsBlockText}
+use Rattle.mqfs.specs.Says.{numbers}
+
+-- `blocks`: the file holds a text, or bytes that are refused
+pub data TextDecides (file : List ℕ) (held : Option Held) : ℕ → Type 0 where
+  good_text : (bytes : List ℕ) (lines : List (List BlockItem)) → Tells held file (Some bytes) → IsBlockText bytes lines → TextDecides file held 0
+  bad_text : (bytes : List ℕ) (line : ℕ) (cause : BlockTextCause) → Tells held file (Some bytes) → RefusesText bytes line cause → TextDecides file held 2
+
+-- `format`: the numbers are a geometry, or one is out of its range
+pub data NumbersDecide (n : Numbers) : ℕ → Type 0 where
+  good_numbers : (g : Geometry) → numbers_of g ≡ n → NumbersDecide n 0
+  bad_numbers : (e : GeometryRefusal) → RefusesNumbers n e → NumbersDecide n 3
+
+-- the file is no image, or the image is not readable
+pub data ImageDecides (image : List ℕ) (held : Option Held) : ℕ → Type 0 where
+  no_image : (bytes : List ℕ) (e : FileFault) → Tells held image (Some bytes) → HasFault bytes (Some e) → ImageDecides image held 3
+  unreadable : (bytes : List ℕ) (x : DriveImage) (e : ImageFault) → Tells held image (Some bytes) → IsRead x bytes → RefusesDrive x e → ImageDecides image held 3
+
+-- `ls`: a volume stands on the image
+pub data TreeDecides (image : List ℕ) (held : Option Held) : ℕ → Type 0 where
+  has_tree : (bytes : List ℕ) (x : DriveImage) (v : Volume) → Tells held image (Some bytes) → IsRead x bytes → StandsFor x v → TreeDecides image held 0
+  no_tree : {status : ℕ} → ImageDecides image held status → TreeDecides image held status
+
+-- `cat`: the volume has a file at the path, or none
+pub data FileDecides (image : List ℕ) (path : Path) (held : Option Held) : ℕ → Type 0 where
+  has_file : (bytes : List ℕ) (x : DriveImage) (v : Volume) (content : List ℕ) → Tells held image (Some bytes) → IsRead x bytes → StandsFor x v → ReadsAs v path (Ok content) → FileDecides image path held 0
+  has_no_file : (bytes : List ℕ) (x : DriveImage) (v : Volume) (fault : Fault) → Tells held image (Some bytes) → IsRead x bytes → StandsFor x v → ReadsAs v path (Err fault) → FileDecides image path held 3
+  no_volume : {status : ℕ} → ImageDecides image held status → FileDecides image path held status
+
+-- `dump`: the chains of the image are whole
+pub data ChainsDecide (image : List ℕ) (held : Option Held) : ℕ → Type 0 where
+  has_chains : (bytes : List ℕ) (x : DriveImage) (chains : ℕ → List Descriptor) → Tells held image (Some bytes) → IsRead x bytes → AreWhole x.geometry (view_of x) chains → ChainsDecide image held 0
+  no_chains : {status : ℕ} → ImageDecides image held status → ChainsDecide image held status
+
+abbrev pub Decides : Asked → Option Held → (status : ℕ) → Type 0
+Decides (blocks file options save) held status = TextDecides file held status
+Decides (format image queues area meta zone) held status = NumbersDecide (numbers queues area meta zone) status
+Decides (ls image) held status = TreeDecides image held status
+Decides (cat image path) held status = FileDecides image path held status
+Decides (dump image) held status = ChainsDecide image held status
+Decides (help topic) held status = status ≡ 0
+Decides version held status = status ≡ 0
