@@ -119,7 +119,7 @@ making-verdict : (g : Geometry) (q : ℕ) (v : Volume) (t : Bool) (path : Path) 
 making-verdict g q v true path good = ap (λ (b : Bool). cond b (make g q v (Dir []) (target v (way path))) (refused BadName)) good
 making-verdict g q v false path good = ap (λ (b : Bool). cond b (make g q v (File []) (target v (way path))) (refused BadName)) good
 
-making-step : (g : Geometry) (q : ℕ) (v : Volume) (t : Bool) (path : Path) → list_all is_name path ≡ true → step g q v (make_request t path) ≡ carried_out g v (make g q v (empty_body t) (target v (way path)))
+pub making-step : (g : Geometry) (q : ℕ) (v : Volume) (t : Bool) (path : Path) → list_all is_name path ≡ true → step g q v (make_request t path) ≡ carried_out g v (make g q v (empty_body t) (target v (way path)))
 unfolding step
 making-step g q v t path good = ap (λ (x : Verdict). carried_out g v x) (making-verdict g q v t path good)
 

@@ -1,20 +1,19 @@
 -- Files and directories that are made: the inode, and then its name.
-use Rattle.std.proofs.Common.{◌≡◌, ◌≢◌, ℕ, ◌<◌, ◌≤◌, List, [], ◌∷◌, ◌++◌, length, false, sym, ap, subst, ◌∙◌, arith}
+use Rattle.std.proofs.Common.{◌≡◌, ◌≢◌, ℕ, ◌<◌, List, [], ◌∷◌, length, false, sym, ap, subst, ◌∙◌, arith}
 use Rattle.std.specs.Prelude.{Option, None}
 use Rattle.std.specs.List.{All, Contains}
 use Rattle.std.proofs.lemmas.List.Elements.{All-contains, Contains-append_left, Contains-get_or, Contains-push}
-use Rattle.mq_blocks.specs.Geometry.{queues_of}
 use Rattle.mq_blocks.specs.declared.geometry.Geometry.{Geometry}
-use Rattle.mq_exec.specs.Plans.{HoldsMake, PlansMake, made_entry}
+use Rattle.mq_exec.specs.Plans.{HoldsMake, IsSeen, PlansMake, made_entry, wanted}
 use Rattle.mq_exec.specs.declared.make.Creation.{Creation}
 use Rattle.mq_exec.proofs.Linkable.{IsLinkable, link-kept, link-same, takeables}
 use Rattle.mq_inodes.specs.Changes.{AreOthers}
 use Rattle.mq_inodes.specs.Dirs.{AreDirsAt, slots_at}
-use Rattle.mq_inodes.specs.Edits.{Becomes, Carries, IsOver}
+use Rattle.mq_inodes.specs.Edits.{Carries, IsOver}
 use Rattle.mq_inodes.specs.Fits.{Agrees}
-use Rattle.mq_inodes.specs.Opened.{HoldsPointers, MayLink}
-use Rattle.mq_inodes.specs.Pages.{IsHeld, Pages, pages_of}
-use Rattle.mq_inodes.specs.Picks.{ArePicked, IsMarkable}
+use Rattle.mq_inodes.specs.Opened.{IsTakeable, MayLink}
+use Rattle.mq_inodes.specs.Pages.{Pages, pages_of}
+use Rattle.mq_inodes.specs.Unseen.{AreFree}
 use Rattle.mq_inodes.specs.Bare.{with_inode}
 use Rattle.mq_inodes.specs.declared.opened.Opened.{Opened}
 use Rattle.mq_inodes.specs.declared.working.Working.{Working}
@@ -23,7 +22,7 @@ use Rattle.mq_inodes.proofs.Held.{meta-held}
 use Rattle.mq_inodes.proofs.LocalFrame.{taken-same}
 use Rattle.mq_inodes.proofs.LocalInodes.{bare}
 use Rattle.mq_inodes.proofs.LocalVolumes.{free-bare}
-use Rattle.mq_layout.specs.Places.{inode_bitmap, inode_block, inodes_of}
+use Rattle.mq_layout.specs.Places.{inode_block, inodes_of}
 use Rattle.mq_layout.specs.Slots.{Entry}
 use Rattle.mq_tree.specs.Requests.{unused}
 use Rattle.mq_tree.specs.Sound.{IsSound}
@@ -53,36 +52,33 @@ made-link g q v i y o entry picks sound low free h =
 
 -- ---- pages
 
-pub holds-make : (g : Geometry) (q : ℕ) (pages : Pages) (v : Volume) (m : Creation) (d need : ℕ) (known : List ℕ) → Agrees g pages v → q < queues_of g → m.directory.number ≡ d → AreDirsAt pages m.directory.blocks.items → length m.directory.blocks.items ≤ 1036 → IsHeld pages (inode_block g d)
-    → HoldsPointers pages m.directory → IsHeld pages (inode_bitmap g) → m.inode < inodes_of g → ArePicked g q v need m.picks.items → All (IsMarkable g pages) m.picks.items → known ≡ m.picks.items ++ inode_block g m.inode ∷ [] → All (λ b. pages b ≢ None) known → m.unused ≡ unused 0 (slots_at pages m.directory.blocks.items) → HoldsMake g pages m
-holds-make g q pages v m d need known agrees low same dirs few table pointers marks inode picked markable e all slot = record {
-  dirs = dirs;
-  few = few;
-  table = subst (λ (x : ℕ). IsHeld pages (inode_block g x)) (sym same) table;
-  pointers = pointers;
-  picks = takeables g q pages v need m.picks.items agrees.fits low picked markable (λ k x l. every _ (Contains-append_left m.picks.items (inode_block g m.inode ∷ []) _ (Contains-get_or m.picks.items k x l)));
-  marks = marks;
-  inode = meta-held g pages v (inode_block g m.inode) agrees.fits (omega arith) (every _ (Contains-push m.picks.items (inode_block g m.inode)));
-  slot = slot;
+-- what is known of the blocks that are looked at last
+pub seen-make : (g : Geometry) (q : ℕ) (pages : Pages) (v : Volume) (y : Body) (path : Path) (m : Creation) (known : List ℕ) → Agrees g pages v → PlansMake g q v y path m → HoldsMake g pages m → known ≡ wanted g m → All (λ b. pages b ≢ None) known → IsSeen g pages m
+seen-make g q pages v y path m known agrees plan holds e all = record {
+  picks = λ k x l. (takes k x l).free;
+  inode = meta-held g pages v (inode_block g m.inode) agrees.fits (let low = plan.low in omega arith) (every _ (Contains-push m.picks.items (inode_block g m.inode)));
 }
   where
-    every : (b : ℕ) → Contains (m.picks.items ++ inode_block g m.inode ∷ []) b → pages b ≢ None
+    every : (b : ℕ) → Contains (wanted g m) b → pages b ≢ None
     every b c = All-contains (λ x. pages x ≢ None) known b all (subst (λ (bs : List ℕ). Contains bs b) (sym e) c)
 
-pub made-linkable : (g : Geometry) (q : ℕ) (v : Volume) (y : Body) (path : Path) (m : Creation) (old new : Working) → Agrees g (pages_of old) v → PlansMake g q v y path m → HoldsMake g (pages_of old) m → IsOver old new → Becomes g v (with_inode v m.inode y) old new
+    takes : All (IsTakeable g pages) m.picks.items
+    takes = takeables g q pages v _ m.picks.items agrees.fits plan.link.queue plan.link.picked holds.picks (λ k x l. every _ (Contains-append_left m.picks.items (inode_block g m.inode ∷ []) _ (Contains-get_or m.picks.items k x l)))
+
+pub made-linkable : (g : Geometry) (q : ℕ) (v : Volume) (y : Body) (path : Path) (m : Creation) (old new : Working) → Agrees g (pages_of old) v → PlansMake g q v y path m → HoldsMake g (pages_of old) m → AreFree (pages_of old) m.picks.items → IsOver old new → Carries g (pages_of new) (with_inode v m.inode y)
     → IsLinkable g m.directory m.picks.items (pages_of new)
-made-linkable g q v y path m old new agrees plan holds over becomes =
-    link-kept g q (with_inode v m.inode y) m.directory (made_entry path m) m.picks.items old new becomes.carries over (made-link g q v m.inode y m.directory _ m.picks.items agrees.sound plan.low plan.free plan.link)
-    (record { dirs = holds.dirs; takes = holds.picks; table = holds.table; pointers = holds.pointers })
+made-linkable g q v y path m old new agrees plan holds free over carries =
+    link-kept g q (with_inode v m.inode y) m.directory (made_entry path m) m.picks.items old new carries over (made-link g q v m.inode y m.directory _ m.picks.items agrees.sound plan.low plan.free plan.link)
+    (record { dirs = holds.dirs; takes = λ k x l. record { marks = holds.picks k x l; free = free k x l }; table = holds.table; pointers = holds.pointers })
 
 -- the slots of the directory stay
-pub made-slots : (g : Geometry) (q : ℕ) (v : Volume) (y : Body) (path : Path) (m : Creation) (old new : Working) → Agrees g (pages_of old) v → Carries g (pages_of old) v → PlansMake g q v y path m → HoldsMake g (pages_of old) m → AreDirsAt (pages_of new) m.directory.blocks.items → Becomes g v (with_inode v m.inode y) old new
+pub made-slots : (g : Geometry) (q : ℕ) (v : Volume) (y : Body) (path : Path) (m : Creation) (old new : Working) → Agrees g (pages_of old) v → Carries g (pages_of old) v → PlansMake g q v y path m → HoldsMake g (pages_of old) m → AreDirsAt (pages_of new) m.directory.blocks.items → Carries g (pages_of new) (with_inode v m.inode y)
     → m.unused ≡ unused 0 (slots_at (pages_of new) m.directory.blocks.items)
-made-slots g q v y path m old new agrees carries plan holds dirs becomes =
+made-slots g q v y path m old new agrees carries plan holds dirs now =
     let l = plan.link in
     let o = m.directory in
     let w = with_inode v m.inode y in
     let e : node w o.number ≡ node v o.number = node-other v m.inode o.number (bare y) (free-not-dir v o.number m.inode l.slots l.is plan.free) in
     let before : l.slots ≡ slots_at (pages_of old) o.blocks.items = carried-slots g (pages_of old) v o.number l.slots o.blocks.items carries l.is l.opened.blocks l.size (λ k x i. (holds.dirs k x i).held) in
-    let after : l.slots ≡ slots_at (pages_of new) o.blocks.items = carried-slots g (pages_of new) w o.number l.slots o.blocks.items becomes.carries (ap (λ (n : Node). n.body) e ∙ l.is) (l.opened.blocks ∙ ap (λ (n : Node). n.blocks) (sym e)) l.size (λ k x i. (dirs k x i).held) in
+    let after : l.slots ≡ slots_at (pages_of new) o.blocks.items = carried-slots g (pages_of new) w o.number l.slots o.blocks.items now (ap (λ (n : Node). n.body) e ∙ l.is) (l.opened.blocks ∙ ap (λ (n : Node). n.blocks) (sym e)) l.size (λ k x i. (dirs k x i).held) in
     holds.slot ∙ ap (λ (s : List (Option Entry)). unused 0 s) (sym before ∙ after)

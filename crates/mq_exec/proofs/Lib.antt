@@ -14,6 +14,7 @@ pub mod LocalBytes
 pub mod LocalMoves
 pub mod Longer
 pub mod Looking
+pub mod LookingAhead
 pub mod Naming
 pub mod NewNames
 pub mod Overwriting
@@ -32,4 +33,5 @@ pub mod Stepping
 pub mod Taking
 pub mod Targets
 pub mod TruncateLooks
+pub mod Unseen
 pub mod Writing

@@ -1,13 +1,21 @@
 -- Each block at which a request looks is a home block.
-use Rattle.std.proofs.Common.{◌≡◌, ◌≢◌, ℕ, ◌+◌, ◌-◌, ◌<◌, inl, inr, List, [], ◌∷◌, length, true, sym, subst, ◌∙◌, arith, drop, get_or}
+use Rattle.std.proofs.Common.{◌≡◌, ◌≢◌, ℕ, ◌+◌, ◌-◌, ◌<◌, ◌≤◌, inl, inr, List, [], ◌∷◌, ◌++◌, length, true, sym, subst, ◌∙◌, arith, drop, get_or}
+use Rattle.std.specs.List.{All}
 use Rattle.std.proofs.Math.Nat.{div-le_self}
+use Rattle.std.proofs.lemmas.List.{length-append}
+use Rattle.std.proofs.lemmas.List.Elements.{All-append}
 use Rattle.std.proofs.lemmas.Bool.{cases_Bool}
 use Rattle.mq_blocks.specs.Geometry.{homes_of, meta_of, queues_of, zone_size}
 use Rattle.mq_blocks.specs.declared.geometry.Geometry.{Geometry}
-use Rattle.mq_exec.proofs.Running.{IsRun, IsRunTo, cut-next, run-agrees, run-geometry}
-use Rattle.mq_inodes.specs.Fits.{Agrees}
-use Rattle.mq_inodes.specs.MissingPages.{OfEach}
+use Rattle.mq_exec.specs.Ahead.{IsLacked}
+use Rattle.mq_exec.specs.Outcomes.{Answers, NeedsOf}
+use Rattle.mq_exec.specs.declared.outcome.Outcome.{Outcome as Stops}
+use Rattle.mq_exec.proofs.Running.{IsRun, IsRunTo, cut-next, run-agrees, run-geometry, run-lacks, run-looks}
+use Rattle.mq_inodes.specs.Fits.{Agrees, IsPossible}
+use Rattle.mq_inodes.specs.MissingPages.{IsNeed, MissingPages, OfEach}
 use Rattle.mq_inodes.specs.Pages.{Pages, pages_of}
+use Rattle.mq_inodes.specs.declared.lack.Missing.{Missing}
+use Rattle.mq_inodes.specs.declared.lack.Missing.TheVariants.{Need as NeedOf, OutOfMemory as Wanting}
 use Rattle.mq_inodes.specs.declared.working.Working.{Working}
 use Rattle.mq_inodes.proofs.LocalFrame.{has-use}
 use Rattle.mq_layout.specs.Places.{inode_block, inodes_of}
@@ -49,7 +57,7 @@ takes-home g v w i s t takes = elim (cases_Bool (is_used (body v i))) [
   ]
 ]
 
-look-low : (g : Geometry) (q : ℕ) (v : Volume) (r : Request) (b : ℕ) → IsSound g v → q < queues_of g → HasBytes r → LooksAt g q v r b → b < homes_of g
+pub look-low : (g : Geometry) (q : ℕ) (v : Volume) (r : Request) (b : ℕ) → IsSound g v → q < queues_of g → HasBytes r → LooksAt g q v r b → b < homes_of g
 look-low g q v r b s low fine (inode i leads e) = subst (λ (n : ℕ). n < homes_of g) (sym e) (used-home g v i s (leads-in v (sound-tree g v s) (paths_of r) i leads))
 look-low g q v r b s low fine (directory i slots leads is has) = let u = has-use v i b has in (s.zones u.0 b u.2).1
 look-low g q v r b s low fine (pointers i text works kept e) = (s.zones (Pointers i) b e).1
@@ -80,3 +88,22 @@ run-low g q held start now whole k r so_far b e low fine l at h looks v agrees =
     let t : IsRunTo g q v start now whole (r ∷ drop (k + 1) whole) so_far = subst (λ (rs : List Request). IsRunTo g q v start now whole rs so_far) (cut-next whole k r l at) (h.runs v agrees) in
     let each : (u : Volume) → Agrees g (pages_of now) u → Looks g q u r b = subst (λ (x : Geometry). (u : Volume) → Agrees x (pages_of now) u → Looks x q u r b) shape looks in
     look-low g q t.volume r b t.sound low fine (each t.volume (run-agrees g q v start now whole (r ∷ drop (k + 1) whole) so_far t)).looks
+
+-- what a request of a group lacks
+pub run-lacked : (g : Geometry) (q : ℕ) (held : Pages) (start now : Working) (whole : List Request) (k : ℕ) (r : Request) (so_far : List Reply) (blocks : List ℕ) → start.geometry ≡ g → q < queues_of g → HasBytes r → k < length whole → r ≡ get_or whole k r → ((b : ℕ) → pages_of start b ≡ held b) → IsPossible g held
+    → IsRun g q held start now whole (drop k whole) so_far → IsNeed (pages_of now) (λ b. OfEach now (λ v. Looks now.geometry q v r b)) blocks → All (IsLacked g q held whole) blocks
+run-lacked g q held start now whole k r so_far blocks e low fine l at pages possible h need i d inside =
+    let looks = need.looked i d inside in
+    record {
+      absent = sym (pages _) ∙ h.over.known _ (need.absent i d inside);
+      home = run-low g q held start now whole k r so_far _ e low fine l at h looks possible.0 possible.1;
+      looks = run-looks g q held start now whole k r so_far _ e l at h looks;
+    }
+
+pub run-stops : (g : Geometry) (q : ℕ) (held : Pages) (start now : Working) (whole : List Request) (k : ℕ) (r : Request) (so_far : List Reply) (lack : Missing) (ahead : List ℕ) (outcome : Stops) → start.geometry ≡ g → q < queues_of g → HasBytes r → k < length whole → r ≡ get_or whole k r → ((b : ℕ) → pages_of start b ≡ held b) → IsPossible g held
+    → IsRun g q held start now whole (drop k whole) so_far → MissingPages (pages_of now) (λ b. OfEach now (λ v. Looks now.geometry q v r b)) lack → All (IsLacked g q held whole) ahead → NeedsOf lack ahead outcome → Answers g q held whole outcome
+run-stops g q held start now whole k r so_far (NeedOf blocks) ahead outcome e low fine l at pages possible h need more is =
+    let first = run-lacked g q held start now whole k r so_far blocks.items e low fine l at pages possible h need in
+    let some : 1 ≤ length (blocks.items ++ ahead) = (let n = length-append blocks.items ahead in let s = need.some in omega arith) in
+    run-lacks g q held whole (blocks.items ++ ahead) outcome some (All-append (IsLacked g q held whole) blocks.items ahead first more) is
+run-stops g q held start now whole k r so_far Wanting ahead outcome e low fine l at pages possible h need more is = absurd is

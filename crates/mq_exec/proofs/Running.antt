@@ -1,23 +1,23 @@
 -- A group of requests, one after another: each volume becomes the next, and the pages with it.
 use Rattle.std.proofs.Common.{get_or, ◌≡◌, ℕ, suc, ◌+◌, ◌<◌, ◌≤◌, List, [], ◌∷◌, ◌++◌, length, drop, refl, sym, ap, subst, ◌∙◌, arith, append_assoc, drop-cons, inl, inr}
+use Rattle.std.specs.List.{All}
 use Rattle.std.specs.Prelude.{None}
 use Rattle.std.proofs.lemmas.List.{append-nil, drop_all}
 use Rattle.std.proofs.lemmas.List.Elements.{All-contains, All-contains_itself}
-use Rattle.mq_blocks.specs.Geometry.{homes_of, queues_of}
+use Rattle.mq_blocks.specs.Geometry.{queues_of}
 use Rattle.mq_blocks.specs.declared.geometry.Geometry.{Geometry}
-use Rattle.mq_exec.specs.Outcomes.{Answers, AreEachOnce, NeedsOf}
+use Rattle.mq_exec.specs.Ahead.{IsLacked}
+use Rattle.mq_exec.specs.Outcomes.{Answers, AreEachOnce, NamesThem}
 use Rattle.mq_exec.specs.Plans.{ComesTo}
 use Rattle.mq_exec.specs.declared.outcome.Outcome.{Outcome as Stops}
 use Rattle.mq_exec.specs.declared.outcome.Outcome.TheVariants.{Done, Need}
 use Rattle.mq_inodes.specs.Edits.{Becomes, IsOver}
 use Rattle.mq_inodes.specs.Fits.{Agrees, IsPossible}
-use Rattle.mq_inodes.specs.MissingPages.{HasVolume, IsNeed, MissingPages, OfEach}
+use Rattle.mq_inodes.specs.MissingPages.{HasVolume, IsNeed, OfEach}
 use Rattle.mq_inodes.specs.Pages.{Pages, pages_of}
-use Rattle.mq_inodes.specs.declared.lack.Missing.{Missing}
-use Rattle.mq_inodes.specs.declared.lack.Missing.TheVariants.{Need as NeedOf, OutOfMemory as Wanting}
 use Rattle.mq_inodes.specs.declared.working.Working.{Working}
 use Rattle.mq_inodes.proofs.Becoming.{becomes-self, becomes-then, carries-sound, over-self, over-then}
-use Rattle.mq_inodes.proofs.Lacking.{agrees-alike, need-weaker}
+use Rattle.mq_inodes.proofs.Lacking.{agrees-alike}
 use Rattle.mq_tree.specs.Kept.{HasBytes}
 use Rattle.mq_tree.specs.Looks.{GroupLooks, Looks}
 use Rattle.mq_tree.specs.Requests.{after_group, replies, step, verdict}
@@ -77,7 +77,7 @@ step-reply : (g : Geometry) (q : ℕ) (v : Volume) (r : Request) (reply : Reply)
 unfolding step
 step-reply g q v r reply old new c = c.reply_is
 
-step-becomes : (g : Geometry) (q : ℕ) (v : Volume) (r : Request) (reply : Reply) (old new : Working) → ComesTo g v (verdict g q v r) reply old new → Becomes g v (step g q v r).next old new
+pub step-becomes : (g : Geometry) (q : ℕ) (v : Volume) (r : Request) (reply : Reply) (old new : Working) → ComesTo g v (verdict g q v r) reply old new → Becomes g v (step g q v r).next old new
 unfolding step
 step-becomes g q v r reply old new c = c.becomes
 
@@ -130,15 +130,14 @@ named-needs pages looks lacked named n h = record {
   looked = λ k d l. All-contains looks lacked (get_or named k d) h.looked (n.only _ (All-contains_itself named k d l));
 }
 
-pub run-lacks : (g : Geometry) (q : ℕ) (held pages : Pages) (requests : List Request) (lack : Missing) (outcome : Stops) (P : ℕ → Type 0) → ((b : ℕ) → pages b ≡ None → held b ≡ None) → ((b : ℕ) → P b → (v : Volume) → Agrees g held v → GroupLooks g q v requests b) → ((b : ℕ) → P b → b < homes_of g) → MissingPages pages P lack
-    → NeedsOf lack outcome → Answers g q held requests outcome
-run-lacks g q held pages requests (NeedOf blocks) (Done done) P absent f home h is = absurd is
-run-lacks g q held pages requests (NeedOf blocks) (Need named) P absent f home h is = record {
-  need = named-needs held (λ b. (v : Volume) → Agrees g held v → GroupLooks g q v requests b) blocks.items named.items is (need-weaker pages held P (λ b. (v : Volume) → Agrees g held v → GroupLooks g q v requests b) blocks.items absent f h);
-  rise = is.rise;
-  homes = λ k d l. home (get_or named.items k d) (All-contains P blocks.items (get_or named.items k d) h.looked (is.only _ (All-contains_itself named.items k d l)));
-}
-run-lacks g q held pages requests Wanting outcome P absent f home h is = absurd is
+pub run-lacks : (g : Geometry) (q : ℕ) (held : Pages) (requests : List Request) (lacked : List ℕ) (outcome : Stops) → 1 ≤ length lacked → All (IsLacked g q held requests) lacked → NamesThem lacked outcome → Answers g q held requests outcome
+run-lacks g q held requests lacked (Done done) some all is = absurd is
+run-lacks g q held requests lacked (Need named) some all is =
+    record {
+      need = named-needs held (λ b. (v : Volume) → Agrees g held v → GroupLooks g q v requests b) lacked named.items is (record { some = some; absent = λ k d l. (all k d l).absent; looked = λ k d l. (all k d l).looks });
+      rise = is.rise;
+      homes = λ k d l. (All-contains (IsLacked g q held requests) lacked (get_or named.items k d) all (is.only _ (All-contains_itself named.items k d l))).home;
+    }
 
 -- ---- at the end
 

@@ -1,3 +1,4 @@
+pub mod Ahead
 pub mod Cuts
 pub mod Longer
 pub mod Moves

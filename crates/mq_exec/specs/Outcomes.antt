@@ -1,5 +1,5 @@
 -- What a group of requests does on pages of which some are absent.
-use Rattle.std.specs.Prelude.{◌≡◌, ◌≢◌, ◌<◌, ℕ, List, None}
+use Rattle.std.specs.Prelude.{◌≡◌, ◌≢◌, ◌<◌, ℕ, List, ◌++◌, None}
 use Rattle.std.specs.List.{All, AllPairs, Contains}
 use Rattle.mq_blocks.specs.Geometry.{homes_of}
 use Rattle.mq_blocks.specs.declared.geometry.Geometry.{Geometry}
@@ -50,8 +50,12 @@ pub record AreEachOnce (lacked named : List ℕ) : Type 0 where
   pub all : (b : ℕ) → Contains lacked b → Contains named b
   pub only : (b : ℕ) → Contains named b → Contains lacked b
 
--- the outcome where something is lacked
-abbrev pub NeedsOf : Missing → Outcome → Type 0
-NeedsOf (NeedOf blocks) (Done done) = ⊥
-NeedsOf (NeedOf blocks) (Need named) = AreEachOnce blocks.items named.items
-NeedsOf Wanting outcome = ⊥
+-- the outcome where these blocks are lacked
+abbrev pub NamesThem : (lacked : List ℕ) → Outcome → Type 0
+NamesThem lacked (Done done) = ⊥
+NamesThem lacked (Need named) = AreEachOnce lacked named.items
+
+-- and where something is lacked, and blocks beside it
+abbrev pub NeedsOf : Missing → (ahead : List ℕ) → Outcome → Type 0
+NeedsOf (NeedOf blocks) ahead outcome = NamesThem (blocks.items ++ ahead) outcome
+NeedsOf Wanting ahead outcome = ⊥

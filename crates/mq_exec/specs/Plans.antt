@@ -1,5 +1,5 @@
 -- Requests that change, once it is known what they come to.
-use Rattle.std.specs.Prelude.{◌≡◌, ◌≢◌, ◌<◌, ◌≤◌, ◌-◌, ℕ, Bool, true, false, List, length, slice_index, Option, Some, None, if◌then◌else◌, nat_eq, nat_le}
+use Rattle.std.specs.Prelude.{◌≡◌, ◌≢◌, ◌<◌, ◌≤◌, ◌-◌, ℕ, Bool, true, false, List, [], ◌∷◌, ◌++◌, length, slice_index, Option, Some, None, if◌then◌else◌, nat_eq, nat_le}
 use Rattle.std.specs.List.{All}
 use Rattle.mq_blocks.specs.declared.geometry.Geometry.{Geometry}
 use Rattle.mq_exec.specs.declared.make.Creation.{Creation}
@@ -13,6 +13,8 @@ use Rattle.mq_inodes.specs.Edits.{Becomes}
 use Rattle.mq_inodes.specs.Opened.{HoldsPointers, IsOpened, IsReleasable, IsTakeable, MayGrow, MayLink, MayUnlink}
 use Rattle.mq_inodes.specs.Pages.{IsHeld, Pages}
 use Rattle.mq_inodes.specs.Files.{IsFileOf}
+use Rattle.mq_inodes.specs.Picks.{IsMarkable}
+use Rattle.mq_inodes.specs.Unseen.{AreFree}
 use Rattle.mq_inodes.specs.Walks.{last_of}
 use Rattle.mq_inodes.specs.declared.opened.Opened.{Opened}
 use Rattle.mq_inodes.specs.declared.working.Working.{Working}
@@ -63,10 +65,18 @@ pub record HoldsMake (g : Geometry) (pages : Pages) (m : Creation) : Type 0 wher
   pub few : length m.directory.blocks.items ≤ 1036
   pub table : IsHeld pages (inode_block g m.directory.number)
   pub pointers : HoldsPointers pages m.directory
-  pub picks : All (IsTakeable g pages) m.picks.items
+  pub picks : All (IsMarkable g pages) m.picks.items
   pub marks : IsHeld pages (inode_bitmap g)
-  pub inode : IsHeld pages (inode_block g m.inode)
   pub slot : m.unused ≡ unused 0 (slots_at pages m.directory.blocks.items)
+
+-- the blocks that are looked at last: those that are taken, and that of the inode
+abbrev pub wanted : Geometry → Creation → List ℕ
+wanted g m = m.picks.items ++ inode_block g m.inode ∷ []
+
+-- they are known
+pub record IsSeen (g : Geometry) (pages : Pages) (m : Creation) : Type 0 where
+  pub picks : AreFree pages m.picks.items
+  pub inode : IsHeld pages (inode_block g m.inode)
 
 -- ---- removing
 

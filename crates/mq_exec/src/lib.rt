@@ -2,6 +2,7 @@
 //! pages they lack. Requests and replies are copied here, too.
 #![tactic(auto)]
 
+mod ahead;
 mod answer;
 mod change;
 mod copies;

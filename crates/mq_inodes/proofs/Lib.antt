@@ -34,6 +34,7 @@ pub mod LocalUses
 pub mod LocalVolumes
 pub mod Marking
 pub mod Nodes
+pub mod Noting
 pub mod Opening
 pub mod Padded
 pub mod Picking
@@ -45,5 +46,6 @@ pub mod SlotNumbers
 pub mod Sorting
 pub mod Sound
 pub mod Unchanged
+pub mod UnseenInodes
 pub mod Walking
 pub mod Zones

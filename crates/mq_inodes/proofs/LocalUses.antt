@@ -1,5 +1,5 @@
 -- The uses of a volume where one inode changes, and how it changes.
-use Rattle.std.proofs.Common.{◌≡◌, ◌≢◌, ℕ, ◌<◌, ◌≤◌, ◌⊎◌, inl, inr, List, false, sym, ap, subst, ◌∙◌}
+use Rattle.std.proofs.Common.{◌≡◌, ℕ, ◌<◌, ◌≤◌, ◌⊎◌, inl, inr, List, false, sym, ap, subst, ◌∙◌}
 use Rattle.std.specs.Prelude.{Some, ◌↔◌, slice_get}
 use Rattle.std.proofs.lemmas.Bool.{cases_Bool, cases_eq, false_from_ne_true, true≢false}
 use Rattle.mq_blocks.specs.Geometry.{homes_of, meta_of, queues_of, zone_size}

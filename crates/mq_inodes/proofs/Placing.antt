@@ -10,7 +10,7 @@ use Rattle.mq_inodes.specs.declared.opened.Opened.{Opened}
 use Rattle.mq_inodes.specs.declared.walk.Place.TheVariants.{In}
 use Rattle.mq_inodes.specs.declared.working.Working.{Working}
 use Rattle.mq_layout.specs.Places.{inode_block}
-use Rattle.mq_tree.specs.Requests.{Target, In as AtName, target, target_in, unused, walk}
+use Rattle.mq_tree.specs.Requests.{In as AtName, target, target_in, unused, walk}
 use Rattle.mq_tree.specs.Volume.{Body, Dir, Volume, Way, body, find, slots_of}
 use Rattle.mq_tree.specs.declared.request.Fault.{Fault}
 

@@ -11,4 +11,5 @@ pub mod Opened
 pub mod Pages
 pub mod Picks
 pub mod Released
+pub mod Unseen
 pub mod Walks

@@ -17,6 +17,7 @@ mod opened;
 mod release;
 mod slots;
 mod space;
+mod unseen;
 mod walk;
 mod working;
 

@@ -267,3 +267,19 @@ fn each_fault_and_each_reply_is_given(rt: HostRuntime) -> Result<(), OutOfMemory
     assert!(rt; found.ends_with(b"OOOOOOOOOOOOOOOOOOOOOOOOOOOOm"));
     Ok(())
 }
+
+/// Three blocks and a second block of inodes are asked for together, behind the block of the root's inode and
+/// two bitmaps.
+#[test]
+fn a_long_group_asks_for_what_it_makes_at_once(rt: HostRuntime) -> Result<(), OutOfMemory> {
+    let alloc = rt.alloc();
+    let geometry = large().expect(&rt, "a geometry");
+    let blocks = empty_blocks(alloc, geometry)?;
+    let mut requests = Vec::new(alloc);
+    for name in b'0'..b'Z' {
+        requests.push(request(alloc, &Ask::Create(&[name]))?)?;
+    }
+    let found = come_to(alloc, geometry, &blocks, false, &requests)?;
+    assert!(rt; found.is_some_and(|(_, rounds)| rounds == 4));
+    Ok(())
+}

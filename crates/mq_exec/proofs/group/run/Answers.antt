@@ -1,14 +1,12 @@
 use Rattle.std.proofs.lemmas.Result.{IfOk-weaker}
 use Rattle.mq_exec.specs.Outcomes.{Answers, NeedsOf}
-use Rattle.mq_inodes.specs.MissingPages.{OfEach}
-use Rattle.mq_inodes.specs.Pages.{changed_of, held_pages, pages_of, view_of}
+use Rattle.mq_inodes.specs.Pages.{changed_of, held_pages, view_of}
 use Rattle.std.proofs.Common.{◌≡◌, ℕ, sym, ◌∙◌}
 use Rattle.std.specs.Prelude.{None}
 use Rattle.mq_exec.proofs.Leading.{run-moves}
-use Rattle.mq_exec.proofs.Running.{run-lacks, run-looks, run-more, run-none, run-possible, run-replies}
-use Rattle.mq_exec.proofs.Looking.{run-low}
+use Rattle.mq_exec.proofs.Running.{run-more, run-none, run-possible, run-replies}
+use Rattle.mq_exec.proofs.Looking.{run-stops}
 use Rattle.mq_exec.proofs.Resting.{differs-freed, differs-rest, differs-written, over-known, run-leads}
-use Rattle.mq_tree.specs.Looks.{Looks}
 use Rattle.mq_tree.specs.Requests.{after_group}
 use Rattle.mq_exec.proofs.group.run.Goals as goal
 
@@ -21,15 +19,13 @@ step-requires-clause-possible c =
 
 pub returns-in-Err : goal.returns-in-Err
 returns-in-Err c =
+    let g = c.args.geometry in
+    let q = c.args.queue in
     let held = held_pages c.args.view.now.held.now.cells in
-    let now = c.loop-request.working in
-    let r = c.request-item.result in
-    IfOk-weaker c.stopped.result (NeedsOf c.in-Err.lack) (λ outcome. Answers c.args.geometry c.args.queue held c.args.requests.now outcome)
-    (λ outcome is. run-lacks c.args.geometry c.args.queue held (pages_of now) c.args.requests.now c.in-Err.lack outcome (λ b. OfEach now (λ v. Looks now.geometry c.args.queue v r b))
-    (λ b none. sym (c.new-working.ensures.pages b) ∙ c.loop-request.invariant.over.known b none)
-    (λ b looks. run-looks c.args.geometry c.args.queue held c.new-working.result now c.args.requests.now c.loop-request.request-index r c.loop-request.replies.items b c.new-working.ensures.geometry c.loop-request-test.true c.request-item.is c.loop-request.invariant looks)
-    (λ b looks. run-low c.args.geometry c.args.queue held c.new-working.result now c.args.requests.now c.loop-request.request-index r c.loop-request.replies.items b c.new-working.ensures.geometry c.requires.queue c.look_at_bytes.ensures c.loop-request-test.true c.request-item.is c.loop-request.invariant looks c.requires.possible.0 c.requires.possible.1)
-    c.in-Err.ensures.lack is) c.stopped.ensures
+    let ahead = c.in_ok-ahead-in-Err.ahead.items in
+    IfOk-weaker c.stopped.result (NeedsOf c.in-Err.lack ahead) (λ outcome. Answers g q held c.args.requests.now outcome)
+    (λ outcome is. run-stops g q held c.new-working.result c.loop-request.working c.args.requests.now c.loop-request.request-index c.request-item.result c.loop-request.replies.items c.in-Err.lack ahead outcome c.new-working.ensures.geometry c.requires.queue c.look_at_bytes.ensures
+    c.loop-request-test.true c.request-item.is c.new-working.ensures.pages c.requires.possible c.loop-request.invariant c.in-Err.ensures.lack c.in_ok-ahead-in-Err.ensures is) c.stopped.ensures
 
 pub loop-request-preserved : goal.loop-request-preserved
 loop-request-preserved c =

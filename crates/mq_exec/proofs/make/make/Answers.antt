@@ -30,4 +30,4 @@ pub returns-clause-ok : goal.returns-clause-ok
 returns-clause-ok c v agrees =
     let g = c.args.working.now.geometry in
     let plan = (rw c.in-Ok.is at c.in_ok-planned.ensures.ok v agrees) c.args.is_directory in
-    comes-carried g v (make_of g c.args.queue v (empty_body c.args.is_directory) (target_of v (way c.args.path.now))) _ c.args.working.now c.carry_make.new.working plan.carried (c.in_ok-carry_make.ensures.made c.args.queue v agrees plan)
+    comes-carried g v (make_of g c.args.queue v (empty_body c.args.is_directory) (target_of v (way c.args.path.now))) _ c.args.working.now c.carry_make.new.working plan.carried (c.in_ok-carry_make.ensures.made (rw c.in-Ok.is at c.in_ok-planned.ensures.seen).inode c.args.queue v agrees plan)

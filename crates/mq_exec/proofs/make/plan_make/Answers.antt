@@ -1,119 +1,40 @@
-use Rattle.std.proofs.Common.{◌≡◌, ◌<◌, Bool, ℕ, List, refl, sym, ap, subst, ◌∙◌, ◌∷◌, ◌++◌, [], length}
-use Rattle.std.specs.Prelude.{Option}
+use Rattle.std.proofs.Common.{◌≡◌, Bool, ℕ, List, false, subst, ◌∙◌}
 use Rattle.std.specs.List.{Contains}
 use Rattle.std.proofs.lemmas.Result.{err_from_is_err_and}
-use Rattle.mq_exec.specs.Plans.{make_request}
-use Rattle.mq_exec.specs.declared.make.Creation.{Creation}
-use Rattle.mq_exec.proofs.Creations.{holds-make}
-use Rattle.mq_exec.proofs.CreationPlans.{free-is, make-few, make-marks, make-past, make-searched, make-wanted, need-at, planned, plans-make, ready}
-use Rattle.mq_exec.proofs.NewNames.{held-place, new-placed}
-use Rattle.mq_inodes.specs.Dirs.{slots_at}
+use Rattle.mq_exec.specs.Plans.{make_request, wanted}
+use Rattle.mq_exec.proofs.Creations.{seen-make}
+use Rattle.mq_inodes.specs.Bare.{empty_body}
 use Rattle.mq_inodes.specs.MissingPages.{OfEach}
 use Rattle.mq_inodes.specs.Pages.{pages_of}
-use Rattle.mq_inodes.specs.Picks.{IsSearched}
-use Rattle.mq_inodes.specs.Bare.{empty_body}
-use Rattle.mq_inodes.specs.Walks.{LeadsPast}
-use Rattle.mq_inodes.proofs.Lacking.{lacks-each, lacks-weaker}
-use Rattle.mq_layout.specs.Places.{inode_bitmap, inode_block}
-use Rattle.mq_tree.specs.Free.{free_blocks}
+use Rattle.mq_inodes.proofs.Lacking.{lacks-weaker}
 use Rattle.mq_tree.specs.Looks.{LooksAt}
-use Rattle.mq_tree.specs.Requests.{entry_needs, unused}
-use Rattle.mq_tree.specs.Volume.{way}
 use Rattle.mq_exec.proofs.make.plan_make.Goals as goal
 
-pub returns-in_err-directory-clause-lack : goal.returns-in_err-directory-clause-lack
-returns-in_err-directory-clause-lack c =
-    let g = c.args.working.now.geometry in
-    let p = err_from_is_err_and c.from_residual.result c.from_residual.ensures.1 in
-    rw (p.1, p.2) (lacks-each c.args.working.now (λ v b. LeadsPast g v (way c.args.path.now) b) (λ v b. (t : Bool) → LooksAt g c.args.queue v (make_request t c.args.path.now) b) c.in_err-directory.field-0.0
-    (λ v b agrees h t. make-past g c.args.queue v t c.args.path.now b h) c.in_err-directory.ensures.lack)
-
-pub returns-in_err-inode-clause-lack : goal.returns-in_err-inode-clause-lack
-returns-in_err-inode-clause-lack c =
-    let g = c.args.working.now.geometry in
-    let w = way c.args.path.now in
-    let o = c.in-In-default-None-default.directory in
-    let pages = pages_of c.args.working.now in
-    let held = held-place c.args.working.now c.in_ok-directory.field-0 o c.in-In-default-None-default.found c.in-In-default-None-default.unused c.in-In-default-None-default.is c.in_ok-directory.ensures.holds in
-    let p = err_from_is_err_and c.from_residual-in_err-inode.result c.from_residual-in_err-inode.ensures.1 in
-    rw (p.1, p.2) (lacks-each c.args.working.now (λ v b. b ≡ inode_bitmap g) (λ v b. (t : Bool) → LooksAt g c.args.queue v (make_request t c.args.path.now) b) c.in_err-inode.field-0.0
-    (λ v b agrees h t.
-    let n = new-placed g v w c.in_ok-directory.field-0 o c.in-In-default-None-default.found c.in-In-default-None-default.unused agrees.sound c.in-In-default-None-default.is c.in-In-default-None-default.found-is (c.in_ok-directory.ensures.ok v agrees) in
-    make-marks g c.args.queue v t c.args.path.now o.number b agrees.sound (ready pages v c.args.path.now o o.number c.deref.result.now c.is_full.result n refl (held.directory.slots v agrees) c.deref.ensures.value c.is_full.ensures c.if-is_full.false c.requires.names) h) c.in_err-inode.ensures.lack)
-
-pub returns-in_err-picks-clause-lack : goal.returns-in_err-picks-clause-lack
-returns-in_err-picks-clause-lack c =
-    let g = c.args.working.now.geometry in
-    let w = way c.args.path.now in
-    let o = c.in-In-default-None-default.directory in
-    let pages = pages_of c.args.working.now in
-    let held = held-place c.args.working.now c.in_ok-directory.field-0 o c.in-In-default-None-default.found c.in-In-default-None-default.unused c.in-In-default-None-default.is c.in_ok-directory.ensures.holds in
-    let p = err_from_is_err_and c.from_residual-in_err-picks.result c.from_residual-in_err-picks.ensures.1 in
-    let need = c.name_need-need.ensures ∙ ap (λ (bs : List ℕ). entry_needs (length bs) c.in-In-default-None-default.unused) c.deref-2.ensures.value ∙ ap (λ (u : Option ℕ). entry_needs (length o.blocks.items) u) (held.slot c.in-In-default-None-default.found-is) in
-    rw (p.1, p.2) (lacks-each c.args.working.now (λ v b. IsSearched g c.args.queue v c.name_need-need.result b) (λ v b. (t : Bool) → LooksAt g c.args.queue v (make_request t c.args.path.now) b) c.in_err-picks.field-0.0
-    (λ v b agrees h t.
-    let n = new-placed g v w c.in_ok-directory.field-0 o c.in-In-default-None-default.found c.in-In-default-None-default.unused agrees.sound c.in-In-default-None-default.is c.in-In-default-None-default.found-is (c.in_ok-directory.ensures.ok v agrees) in
-    let r = ready pages v c.args.path.now o o.number c.deref.result.now c.is_full.result n refl (held.directory.slots v agrees) c.deref.ensures.value c.is_full.ensures c.if-is_full.false c.requires.names in
-    make-searched g c.args.queue v t c.args.path.now o.number c.in-Some.inode c.name_need-need.result b r (sym (c.in_ok-inode.ensures.ok v agrees) ∙ c.in-Some.is)
-    (need-at g pages v o o.number c.name_need-need.result (held.directory.opened v agrees) refl (held.directory.slots v agrees) need) h) c.in_err-picks.ensures.lack)
-
-pub returns-in_default-2-clause-ok : goal.returns-in_default-2-clause-ok
-returns-in_default-2-clause-ok c v agrees t =
-    let g = c.args.working.now.geometry in
-    let w = way c.args.path.now in
-    let o = c.in-In-default-None-default.directory in
-    let pages = pages_of c.args.working.now in
-    let held = held-place c.args.working.now c.in_ok-directory.field-0 o c.in-In-default-None-default.found c.in-In-default-None-default.unused c.in-In-default-None-default.is c.in_ok-directory.ensures.holds in
-    let need = c.name_need-need.ensures ∙ ap (λ (bs : List ℕ). entry_needs (length bs) c.in-In-default-None-default.unused) c.deref-2.ensures.value ∙ ap (λ (u : Option ℕ). entry_needs (length o.blocks.items) u) (held.slot c.in-In-default-None-default.found-is) in
-    let n = new-placed g v w c.in_ok-directory.field-0 o c.in-In-default-None-default.found c.in-In-default-None-default.unused agrees.sound c.in-In-default-None-default.is c.in-In-default-None-default.found-is (c.in_ok-directory.ensures.ok v agrees) in
-    let r = ready pages v c.args.path.now o o.number c.deref.result.now c.is_full.result n refl (held.directory.slots v agrees) c.deref.ensures.value c.is_full.ensures c.if-is_full.false c.requires.names in
-    let same = need-at g pages v o o.number c.name_need-need.result (held.directory.opened v agrees) refl (held.directory.slots v agrees) need in
-    make-few g c.args.queue v (empty_body t) c.args.path.now o.number c.in-Some.inode r (sym (c.in_ok-inode.ensures.ok v agrees) ∙ c.in-Some.is) (let few = rw c.in_default-2.is at c.in_ok-picks.ensures.ok v agrees in subst (λ (k : ℕ). free_blocks g v < k) same few)
-
-pub inode_block-requires : goal.inode_block-requires
-inode_block-requires c =
+pub wanted-requires : goal.wanted-requires
+wanted-requires c =
     let p = c.requires.possible in
-    (free-is c.args.working.now.geometry p.0 c.in-Some.inode p.1.sound (sym (c.in_ok-inode.ensures.ok p.0 p.1) ∙ c.in-Some.is)).0
+    let plan = (rw c.in-Ok.is at c.in_ok-creation.ensures.ok) p.0 p.1 false in
+    plan.low
 
 pub returns-in_err-look_for_all-clause-lack : goal.returns-in_err-look_for_all-clause-lack
 returns-in_err-look_for_all-clause-lack c =
-    let g = c.args.working.now.geometry in
-    let w = way c.args.path.now in
-    let o = c.in-In-default-None-default.directory in
-    let pages = pages_of c.args.working.now in
-    let held = held-place c.args.working.now c.in_ok-directory.field-0 o c.in-In-default-None-default.found c.in-In-default-None-default.unused c.in-In-default-None-default.is c.in_ok-directory.ensures.holds in
+    let w = c.args.working.now in
     let p = err_from_is_err_and c.from_residual-in_err-look_for_all.result c.from_residual-in_err-look_for_all.ensures.1 in
-    let need = c.name_need-need.ensures ∙ ap (λ (bs : List ℕ). entry_needs (length bs) c.in-In-default-None-default.unused) c.deref-2.ensures.value ∙ ap (λ (u : Option ℕ). entry_needs (length o.blocks.items) u) (held.slot c.in-In-default-None-default.found-is) in
-    let wanted : c.deref-4.result.now ≡ c.in-Some-2.picks.items ++ inode_block g c.in-Some.inode ∷ [] = c.deref-4.ensures.value ∙ c.in_ok-push.ensures.items ∙ ap (λ (bs : List ℕ). bs ++ c.inode_block.result ∷ []) (c.in_ok-wanted.ensures.items ∙ c.deref-3.ensures.value) ∙ ap (λ (x : ℕ). c.in-Some-2.picks.items ++ x ∷ []) c.inode_block.ensures.is in
-    rw (p.1, p.2) (lacks-weaker pages (Contains c.deref-4.result.now) (λ b. OfEach c.args.working.now (λ v. (t : Bool) → LooksAt g c.args.queue v (make_request t c.args.path.now) b)) c.in_err-look_for_all.field-0.0
-    (λ b h v agrees t.
-    let n = new-placed g v w c.in_ok-directory.field-0 o c.in-In-default-None-default.found c.in-In-default-None-default.unused agrees.sound c.in-In-default-None-default.is c.in-In-default-None-default.found-is (c.in_ok-directory.ensures.ok v agrees) in
-    let r = ready pages v c.args.path.now o o.number c.deref.result.now c.is_full.result n refl (held.directory.slots v agrees) c.deref.ensures.value c.is_full.ensures c.if-is_full.false c.requires.names in
-    let plan = planned g c.args.queue pages v c.args.path.now (record { directory = o; inode = c.in-Some.inode; picks = c.in-Some-2.picks; unused = c.in-In-default-None-default.unused }) o.number c.name_need-need.result c.in_ok-inode.field-0 agrees.sound c.requires.queue r refl
-    (held.directory.opened v agrees) (held.directory.slots v agrees) (c.in_ok-inode.ensures.ok v agrees) c.in-Some.is need (rw c.in-Some-2.is at c.in_ok-picks.ensures.ok v agrees) in
-    make-wanted g c.args.queue v t c.args.path.now o c.in-Some.inode c.in-Some-2.picks.items b agrees.sound r plan.first plan.link (subst (λ (bs : List ℕ). Contains bs b) wanted h)) c.in_err-look_for_all.ensures.lack)
+    let wants = rw c.in-Ok.is at c.in_ok-creation.ensures.wanted in
+    let all : c.deref.result.now ≡ wanted w.geometry c.in-Ok.creation = c.deref.ensures.value ∙ c.in_ok-wanted.ensures in
+    rw (p.1, p.2) (lacks-weaker (pages_of w) (Contains c.deref.result.now) (λ b. OfEach w (λ v. (t : Bool) → LooksAt w.geometry c.args.queue v (make_request t c.args.path.now) b)) c.in_err-look_for_all.field-0.0
+    (λ b h v agrees. wants v agrees b (subst (λ (bs : List ℕ). Contains bs b) all h)) c.in_err-look_for_all.ensures.lack)
+
+pub returns-clause-seen : goal.returns-clause-seen
+returns-clause-seen c =
+    let w = c.args.working.now in
+    let p = c.requires.possible in
+    let plan = (rw c.in-Ok.is at c.in_ok-creation.ensures.ok) p.0 p.1 false in
+    let holds = rw c.in-Ok.is at c.in_ok-creation.ensures.pages in
+    seen-make w.geometry c.args.queue (pages_of w) p.0 (empty_body false) c.args.path.now c.in-Ok.creation c.deref.result.now p.1 plan holds (c.deref.ensures.value ∙ c.in_ok-wanted.ensures) c.in_ok-look_for_all.ensures.ok
+
+pub returns-in-Err-clause-ok : goal.returns-in-Err-clause-ok
+returns-in-Err-clause-ok c = rw c.in-Err.is at c.in_ok-creation.ensures.ok
 
 pub returns-clause-ok : goal.returns-clause-ok
-returns-clause-ok c v agrees t =
-    let g = c.args.working.now.geometry in
-    let w = way c.args.path.now in
-    let o = c.in-In-default-None-default.directory in
-    let pages = pages_of c.args.working.now in
-    let held = held-place c.args.working.now c.in_ok-directory.field-0 o c.in-In-default-None-default.found c.in-In-default-None-default.unused c.in-In-default-None-default.is c.in_ok-directory.ensures.holds in
-    let need = c.name_need-need.ensures ∙ ap (λ (bs : List ℕ). entry_needs (length bs) c.in-In-default-None-default.unused) c.deref-2.ensures.value ∙ ap (λ (u : Option ℕ). entry_needs (length o.blocks.items) u) (held.slot c.in-In-default-None-default.found-is) in
-    let n = new-placed g v w c.in_ok-directory.field-0 o c.in-In-default-None-default.found c.in-In-default-None-default.unused agrees.sound c.in-In-default-None-default.is c.in-In-default-None-default.found-is (c.in_ok-directory.ensures.ok v agrees) in
-    let r = ready pages v c.args.path.now o o.number c.deref.result.now c.is_full.result n refl (held.directory.slots v agrees) c.deref.ensures.value c.is_full.ensures c.if-is_full.false c.requires.names in
-    let m : Creation = record { directory = o; inode = c.in-Some.inode; picks = c.in-Some-2.picks; unused = c.in-In-default-None-default.unused } in
-    plans-make g c.args.queue v t c.args.path.now m agrees.sound (planned g c.args.queue pages v c.args.path.now m o.number c.name_need-need.result c.in_ok-inode.field-0 agrees.sound c.requires.queue r refl
-    (held.directory.opened v agrees) (held.directory.slots v agrees) (c.in_ok-inode.ensures.ok v agrees) c.in-Some.is need (rw c.in-Some-2.is at c.in_ok-picks.ensures.ok v agrees))
-
-pub returns-clause-pages : goal.returns-clause-pages
-returns-clause-pages c =
-    let g = c.args.working.now.geometry in
-    let o = c.in-In-default-None-default.directory in
-    let pages = pages_of c.args.working.now in
-    let held = held-place c.args.working.now c.in_ok-directory.field-0 o c.in-In-default-None-default.found c.in-In-default-None-default.unused c.in-In-default-None-default.is c.in_ok-directory.ensures.holds in
-    let p = c.requires.possible in
-    let wanted : c.deref-4.result.now ≡ c.in-Some-2.picks.items ++ inode_block g c.in-Some.inode ∷ [] = c.deref-4.ensures.value ∙ c.in_ok-push.ensures.items ∙ ap (λ (bs : List ℕ). bs ++ c.inode_block.result ∷ []) (c.in_ok-wanted.ensures.items ∙ c.deref-3.ensures.value) ∙ ap (λ (x : ℕ). c.in-Some-2.picks.items ++ x ∷ []) c.inode_block.ensures.is in
-    holds-make g c.args.queue pages p.0 (record { directory = o; inode = c.in-Some.inode; picks = c.in-Some-2.picks; unused = c.in-In-default-None-default.unused }) o.number c.name_need-need.result c.deref-4.result.now p.1 c.requires.queue refl held.directory.dirs held.directory.few held.directory.table held.directory.pointers
-    c.in_ok-inode.ensures.held (free-is g p.0 c.in-Some.inode p.1.sound (sym (c.in_ok-inode.ensures.ok p.0 p.1) ∙ c.in-Some.is)).0 (rw c.in-Some-2.is at c.in_ok-picks.ensures.ok p.0 p.1) (rw c.in-Some-2.is at c.in_ok-picks.ensures.marks) wanted c.in_ok-look_for_all.ensures.ok (held.slot c.in-In-default-None-default.found-is)
+returns-clause-ok c = rw c.in-Ok.is at c.in_ok-creation.ensures.ok

@@ -1,4 +1,4 @@
-use Rattle.std.proofs.Common.{◌≡◌, List, ℕ, ap, ◌∙◌}
+use Rattle.std.proofs.Common.{List, ℕ, ap, ◌∙◌}
 use Rattle.mq_inodes.specs.Dirs.{slots_at}
 use Rattle.mq_inodes.specs.Pages.{pages_of}
 use Rattle.mq_tree.specs.Requests.{unused}

@@ -1,12 +1,9 @@
-use Rattle.std.proofs.Common.{ℕ, ◌≡◌, ◌-◌, ◌/◌, List, length, get_or, sym, ap, ◌∙◌, arith}
-use Rattle.std.specs.Prelude.{Option, Some, None}
-use Rattle.mq_inodes.specs.Dirs.{slots_at}
-use Rattle.mq_inodes.specs.Pages.{Pages, pages_of}
+use Rattle.std.proofs.Common.{ℕ, ◌≡◌, ◌-◌, ◌/◌, length, get_or, sym, ap, ◌∙◌, arith}
+use Rattle.mq_inodes.specs.Pages.{pages_of}
 use Rattle.mq_inodes.proofs.Linking.{name-linked, on_ok-both}
 use Rattle.mq_inodes.proofs.LinkedGrown.{blank-held, full-blank, full-linked, full-slots, may-grow}
 use Rattle.mq_inodes.proofs.SlotNumbers.{unused-inside}
 use Rattle.mq_inodes.proofs.working.Working.link_name_at.Goals as goal
-use Rattle.mq_tree.specs.Requests.{unused}
 
 pub index-requires : goal.index-requires
 index-requires c =
