@@ -22,7 +22,7 @@ const FORMATTED: [Step<'static>; 8] = [
     ("cat d /", 3, "path IsDir\n"),
     ("cat d /a", 3, "path NotFound\n"),
     ("dump d", 0, EMPTY_DUMP),
-    ("ls t", 3, "image Short 131148 18\n"),
+    ("ls t", 3, "image Short 40 18\n"),
 ];
 
 #[test]
