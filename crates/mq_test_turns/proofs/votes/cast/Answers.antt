@@ -1,5 +1,6 @@
 use Rattle.std.proofs.Common.{rules, arith, ◌≡◌, ◌≤◌, ◌+◌, ◌∙◌, ap, sym, refl, suc, ℕ, ◌∷◌}
 use Rattle.mq_turns.specs.AtDesk.{view, start_of}
+use Rattle.mq_test_turns.proofs.Fronts.{front_kept}
 use Rattle.mq_test_turns.proofs.Counting.{OnSide, side_taken, side_same, side_cleared, side_covers, side_drawn, side_stands}
 use Rattle.mq_test_turns.proofs.votes.cast.Goals as goal
 
@@ -26,12 +27,12 @@ give_back-requires-clause-stands g c = λ K sees.
     let e = side_drawn (λ e. e.queue) (λ e. e.session) (λ e. e.group) (λ q. g.P.Port.state q.port) (start_of c.args.desk.now) c.args.entry.now.queue (view c.clear.new.chair) (view c.draw-number.new.chair) c.in-Side.side d c.args.entry.now (record { port = c.bump.new.self }) drew.0 drew.3 drew.1 refl c.bump.ensures in
     let after = c.look-after.ensures.looked in
     let f = side_same (λ e. e.queue) (λ e. e.session) (λ e. e.group) (λ q. g.P.Port.state q.port) (start_of c.args.desk.now) c.args.entry.now.queue (view c.draw-number.new.chair) (view c.look-after.new.chair) (record { port = c.bump.new.self }) (ap (λ v. v.opening) after.1) (ap (λ v. v.held) after.1) e in
-    let one = c.front-undone.ensures.front.sweep.is in
-    let h = side_same (λ e. e.queue) (λ e. e.session) (λ e. e.group) (λ q. g.P.Port.state q.port) (start_of c.args.desk.now) c.args.entry.now.queue (view c.look-after.new.chair) (view c.front-undone.new.chair) (record { port = c.bump.new.self }) (ap (λ v. v.opening) one) (ap (λ v. v.held) one) f in
+    let one = front_kept c.front-undone.ensures.front in
+    let h = side_same (λ e. e.queue) (λ e. e.session) (λ e. e.group) (λ q. g.P.Port.state q.port) (start_of c.args.desk.now) c.args.entry.now.queue (view c.look-after.new.chair) (view c.front-undone.new.chair) (record { port = c.bump.new.self }) one.0 one.1 f in
     let again = c.clear-2.ensures.cleared in
     let i = side_cleared (λ e. e.queue) (λ e. e.session) (λ e. e.group) (λ q. g.P.Port.state q.port) (start_of c.args.desk.now) c.args.entry.now.queue (view c.front-undone.new.chair) (view c.clear-2.new.chair) (record { port = c.bump.new.self }) h 18446744073709551615 again.0 again.2 again.1 in
-    let two = c.front-done.ensures.front.sweep.is in
-    let j = side_same (λ e. e.queue) (λ e. e.session) (λ e. e.group) (λ q. g.P.Port.state q.port) (start_of c.args.desk.now) c.args.entry.now.queue (view c.clear-2.new.chair) (view c.front-done.new.chair) (record { port = c.bump.new.self }) (ap (λ v. v.opening) two) (ap (λ v. v.held) two) i in
+    let two = front_kept c.front-done.ensures.front in
+    let j = side_same (λ e. e.queue) (λ e. e.session) (λ e. e.group) (λ q. g.P.Port.state q.port) (start_of c.args.desk.now) c.args.entry.now.queue (view c.clear-2.new.chair) (view c.front-done.new.chair) (record { port = c.bump.new.self }) two.0 two.1 i in
     side_stands (λ e. e.queue) (λ e. e.session) (λ e. e.group) (λ q. g.P.Port.state q.port) (start_of c.args.desk.now) c.args.entry.now.queue (view c.front-done.new.chair) (view c.front-done.new.chair) (record { port = c.bump.new.self }) j ℕ K sees
 
 -- the fields of the view that only the draw changes
@@ -42,13 +43,13 @@ returns-clause-drew g c =
     let low = c.clear.ensures.cleared.1 in
     let drew = c.draw-number.ensures.drew in
     let after = c.look-after.ensures.looked.1 in
-    let one = c.front-undone.ensures.front.sweep.is in
+    let one = front_kept c.front-undone.ensures.front in
     let high = c.clear-2.ensures.cleared.1 in
-    let two = c.front-done.ensures.front.sweep.is in
+    let two = front_kept c.front-done.ensures.front in
     let back = c.give_back.ensures.gave in
     let before : (view c.clear.new.chair).drawn ≡ (view c.args.chair.now).drawn = ap (λ v. v.drawn) low ∙ (ap (λ v. v.drawn) look ∙ ap (λ v. v.drawn) took) in
-    let later : (view c.give_back.new.chair).drawn ≡ (view c.draw-number.new.chair).drawn = ap (λ v. v.drawn) back ∙ (ap (λ v. v.drawn) two ∙ (ap (λ v. v.drawn) high ∙ (ap (λ v. v.drawn) one ∙ ap (λ v. v.drawn) after))) in (
+    let later : (view c.give_back.new.chair).drawn ≡ (view c.draw-number.new.chair).drawn = ap (λ v. v.drawn) back ∙ (two.2 ∙ (ap (λ v. v.drawn) high ∙ (one.2 ∙ ap (λ v. v.drawn) after))) in (
       later ∙ (ap (λ v. v.drawn) drew.1 ∙ (λ i. (sym drew.2 i, c.args.entry.now) ∷ before i)),
-      ap (λ v. v.read) back ∙ (ap (λ v. v.read) two ∙ (ap (λ v. v.read) high ∙ (ap (λ v. v.read) one ∙ (ap (λ v. v.read) after ∙ (ap (λ v. v.read) drew.1 ∙ (ap (λ v. v.read) low ∙ (ap (λ v. v.read) look ∙ ap (λ v. v.read) took))))))),
-      ap (λ v. v.session) back ∙ (ap (λ v. v.session) two ∙ (ap (λ v. v.session) high ∙ (ap (λ v. v.session) one ∙ (ap (λ v. v.session) after ∙ (ap (λ v. v.session) drew.1 ∙ (ap (λ v. v.session) low ∙ (ap (λ v. v.session) look ∙ ap (λ v. v.session) took))))))),
+      ap (λ v. v.read) back ∙ (two.3 ∙ (ap (λ v. v.read) high ∙ (one.3 ∙ (ap (λ v. v.read) after ∙ (ap (λ v. v.read) drew.1 ∙ (ap (λ v. v.read) low ∙ (ap (λ v. v.read) look ∙ ap (λ v. v.read) took))))))),
+      ap (λ v. v.session) back ∙ (two.4 ∙ (ap (λ v. v.session) high ∙ (one.4 ∙ (ap (λ v. v.session) after ∙ (ap (λ v. v.session) drew.1 ∙ (ap (λ v. v.session) low ∙ (ap (λ v. v.session) look ∙ ap (λ v. v.session) took))))))),
     )
