@@ -6,7 +6,7 @@ use Rattle.clap.specs.Words.{App, IsAmong, Kinds, Rule, Text, is_simple, is_simp
 use Rattle.clap.specs.declared.error.kind.ErrorKind.{ErrorKind}
 use Rattle.mq_words.specs.Syntax.{app_for, app_with, name_rule, option_rule}
 use Rattle.mq_words.specs.declared.verb.Verb.{Verb}
-use Rattle.mq_words.specs.declared.verb.Verb.TheVariants.{Blocks, Format, Ls, Cat, Dump}
+use Rattle.mq_words.specs.declared.verb.Verb.TheVariants.{Blocks, Format, Recover, Ls, Cat, Dump}
 
 -- one name more
 pub name_more : (verb : Text) (names : List Text) (name : Text) → with_rule (app_with verb names []) (name_rule name) ≡ app_with verb (names ++ name ∷ []) []
@@ -31,6 +31,7 @@ pub simple_and_free : (v : Verb) → is_simple_and_free (app_for v) ≡ true
 unfolding app_for
 simple_and_free Blocks = refl
 simple_and_free Format = refl
+simple_and_free Recover = refl
 simple_and_free Ls = refl
 simple_and_free Cat = refl
 simple_and_free Dump = refl
@@ -39,6 +40,7 @@ pub simple : (v : Verb) → is_simple (app_for v) ≡ true
 unfolding app_for
 simple Blocks = refl
 simple Format = refl
+simple Recover = refl
 simple Ls = refl
 simple Cat = refl
 simple Dump = refl

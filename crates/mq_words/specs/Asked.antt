@@ -19,6 +19,7 @@ Words = List Text
 pub data Asked : Type 0 where
   blocks : (file : Text) → BlocksOptions → (save : Option Text) → Asked
   format : (image : Text) → (queues area meta zone : ℕ) → Asked
+  recover : (image : Text) → (cut pick : Option ℕ) → Asked
   ls : (image : Text) → Asked
   cat : (image : Text) → Path → Asked
   dump : (image : Text) → Asked
@@ -65,6 +66,10 @@ abbrev pub format_by : Option Text → (queues area meta zone : Option ℕ) → 
 format_by (Some image) (Some queues) (Some area) (Some meta) (Some zone) = Some (format image queues area meta zone)
 format_by _ _ _ _ _ = None
 
+abbrev pub recover_by : Option Text → (cut pick : Option (Option ℕ)) → Option Asked
+recover_by (Some image) (Some cut) (Some pick) = Some (recover image cut pick)
+recover_by _ _ _ = None
+
 abbrev pub cat_by : Option Text → Option Path → Option Asked
 cat_by (Some image) (Some path) = Some (cat image path)
 cat_by _ _ = None
@@ -80,6 +85,8 @@ asked_by verb.Blocks rows = blocks_by (first_of (codes "file") rows)
     (first_of (codes "save") rows)
 asked_by verb.Format rows = format_by (first_of (codes "image") rows)
     (word_in (first_of (codes "queues") rows)) (word_in (first_of (codes "area") rows)) (word_in (first_of (codes "meta") rows)) (word_in (first_of (codes "zone") rows))
+asked_by verb.Recover rows = recover_by (first_of (codes "image") rows)
+    (number_option (first_of (codes "cut") rows)) (number_option (first_of (codes "pick") rows))
 asked_by verb.Ls rows = option_map ls (first_of (codes "image") rows)
 asked_by verb.Cat rows = cat_by (first_of (codes "image") rows) (option_and_then path_within (first_of (codes "path") rows))
 asked_by verb.Dump rows = option_map dump (first_of (codes "image") rows)
@@ -118,6 +125,7 @@ asked_of (word ∷ words) = asked_after (verb_of word) word words
 abbrev pub asked : Command → Asked
 asked (command.Blocks file options save) = blocks file.now options (option_map (λ s. s.now) save)
 asked (command.Format image queues area meta zone) = format image.now queues area meta zone
+asked (command.Recover image cut pick) = recover image.now cut pick
 asked (command.Ls image) = ls image.now
 asked (command.Cat image path) = cat image.now path
 asked (command.Dump image) = dump image.now
@@ -130,4 +138,5 @@ AreSmall o = IfSome o.cut (λ n. n < number_end) × IfSome o.pick (λ n. n < num
 
 abbrev pub HasSmallNumbers : Command → Type 0
 HasSmallNumbers (command.Blocks file options save) = AreSmall options
+HasSmallNumbers (command.Recover image cut pick) = IfSome cut (λ n. n < number_end) × IfSome pick (λ n. n < number_end)
 HasSmallNumbers _ = Unit {0}

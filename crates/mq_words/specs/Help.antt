@@ -8,10 +8,11 @@ program_help =
     codes "mqfs runs a crash-consistent journal on an emulated drive.\n\n"
     ++ (codes "  mqfs blocks FILE [--cut K] [--pick S] [--again J] [--save NAME]\n"
     ++ (codes "  mqfs format IMAGE QUEUES AREA META ZONE\n"
+    ++ (codes "  mqfs recover IMAGE [--cut K] [--pick S]\n"
     ++ (codes "  mqfs ls IMAGE\n"
     ++ (codes "  mqfs cat IMAGE PATH\n"
     ++ (codes "  mqfs dump IMAGE\n\n"
-    ++ (codes "mqfs COMMAND --help says more of a command.\n"))))))
+    ++ (codes "mqfs COMMAND --help says more of a command.\n")))))))
 
 unfoldable pub blocks_help : List ℕ
 blocks_help =
@@ -31,6 +32,15 @@ format_help =
     ++ (codes "queues, the blocks of each queue's journal area, the blocks of metadata, and\n"
     ++ (codes "the blocks of each queue's zone of data.\n\n"
     ++ (codes "Example: mqfs format d 2 1024 64 256\n"))))
+
+unfoldable pub recover_help : List ℕ
+recover_help =
+    codes "mqfs recover IMAGE [--cut K] [--pick S]\n\n"
+    ++ (codes "Recovers the drive of IMAGE, saves what that left as IMAGE, and prints how many\n"
+    ++ (codes "transactions stood on it and its base.\n\n"
+    ++ (codes "  --cut K      the power goes off after K events of the recovery, if it has more\n"
+    ++ (codes "  --pick S     chooses what a cut leaves of what is not certain, else 0\n\n"
+    ++ (codes "Example: mqfs recover d --cut 3\n")))))
 
 unfoldable pub ls_help : List ℕ
 ls_help =
@@ -56,6 +66,7 @@ abbrev pub help_text : Option Verb → List ℕ
 help_text None = program_help
 help_text (Some verb.Blocks) = blocks_help
 help_text (Some verb.Format) = format_help
+help_text (Some verb.Recover) = recover_help
 help_text (Some verb.Ls) = ls_help
 help_text (Some verb.Cat) = cat_help
 help_text (Some verb.Dump) = dump_help

@@ -4,13 +4,14 @@ use Rattle.clap.specs.Words.{App, Rule, Text, new_rule}
 use Rattle.clap.specs.Simple.{new_shape}
 use Rattle.clap.specs.declared.builder.action.ArgAction.TheVariants as action
 use Rattle.mq_words.specs.declared.verb.Verb.{Verb}
-use Rattle.mq_words.specs.declared.verb.Verb.TheVariants.{Blocks, Format, Ls, Cat, Dump}
+use Rattle.mq_words.specs.declared.verb.Verb.TheVariants.{Blocks, Format, Recover, Ls, Cat, Dump}
 
 -- ---- the commands by name
 
 abbrev pub verb_text : Verb → Text
 verb_text Blocks = codes "blocks"
 verb_text Format = codes "format"
+verb_text Recover = codes "recover"
 verb_text Ls = codes "ls"
 verb_text Cat = codes "cat"
 verb_text Dump = codes "dump"
@@ -19,6 +20,7 @@ abbrev pub verb_of : Text → Option Verb
 verb_of word =
     if bytes_eq word (codes "blocks") then Some Blocks
     else if bytes_eq word (codes "format") then Some Format
+    else if bytes_eq word (codes "recover") then Some Recover
     else if bytes_eq word (codes "ls") then Some Ls
     else if bytes_eq word (codes "cat") then Some Cat
     else if bytes_eq word (codes "dump") then Some Dump
@@ -30,6 +32,7 @@ verb_of word =
 abbrev pub names_for : Verb → List Text
 names_for Blocks = codes "file" ∷ []
 names_for Format = codes "image" ∷ codes "queues" ∷ codes "area" ∷ codes "meta" ∷ codes "zone" ∷ []
+names_for Recover = codes "image" ∷ []
 names_for Ls = codes "image" ∷ []
 names_for Cat = codes "image" ∷ codes "path" ∷ []
 names_for Dump = codes "image" ∷ []
@@ -38,6 +41,7 @@ names_for Dump = codes "image" ∷ []
 abbrev pub options_for : Verb → List Text
 options_for Blocks = codes "cut" ∷ codes "pick" ∷ codes "again" ∷ codes "save" ∷ []
 options_for Format = []
+options_for Recover = codes "cut" ∷ codes "pick" ∷ []
 options_for Ls = []
 options_for Cat = []
 options_for Dump = []

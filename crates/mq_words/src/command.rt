@@ -29,6 +29,13 @@ pub enum Command<'a> {
         meta: u32,
         zone: u32,
     },
+    Recover {
+        image: &'a str,
+        /// After how many events the power goes off.
+        cut: Option<u64>,
+        /// Where the draws of what is uncertain at the cut come from.
+        pick: Option<u64>,
+    },
     Ls {
         image: &'a str,
     },

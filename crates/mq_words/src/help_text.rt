@@ -1,6 +1,6 @@
 // What the program says of itself and of each command.
 ghost use Rattle.std.specs.Prelude.{◌≡◌};
-ghost use Rattle.mq_words.specs.Help.{blocks_help, cat_help, dump_help, format_help, help_text, ls_help, program_help, version_line as version_text};
+ghost use Rattle.mq_words.specs.Help.{blocks_help, cat_help, dump_help, format_help, help_text, ls_help, program_help, recover_help, version_line as version_text};
 
 use crate::verb::Verb;
 
@@ -12,6 +12,7 @@ fn program_text() -> &'static str
 
   mqfs blocks FILE [--cut K] [--pick S] [--again J] [--save NAME]
   mqfs format IMAGE QUEUES AREA META ZONE
+  mqfs recover IMAGE [--cut K] [--pick S]
   mqfs ls IMAGE
   mqfs cat IMAGE PATH
   mqfs dump IMAGE
@@ -49,6 +50,22 @@ queues, the blocks of each queue's journal area, the blocks of metadata, and
 the blocks of each queue's zone of data.
 
 Example: mqfs format d 2 1024 64 256
+"
+}
+
+#[tactic(auto, unfolding(crate::specs::Help::recover_help))]
+fn recover_text() -> &'static str
+    ensures { result.now ≡ recover_help }
+{
+    "mqfs recover IMAGE [--cut K] [--pick S]
+
+Recovers the drive of IMAGE, saves what that left as IMAGE, and prints how many
+transactions stood on it and its base.
+
+  --cut K      the power goes off after K events of the recovery, if it has more
+  --pick S     chooses what a cut leaves of what is not certain, else 0
+
+Example: mqfs recover d --cut 3
 "
 }
 
@@ -98,6 +115,7 @@ pub fn help_on(topic: Option<Verb>) -> &'static str
         None => program_text(),
         Some(Verb::Blocks) => blocks_text(),
         Some(Verb::Format) => format_text(),
+        Some(Verb::Recover) => recover_text(),
         Some(Verb::Ls) => ls_text(),
         Some(Verb::Cat) => cat_text(),
         Some(Verb::Dump) => dump_text(),

@@ -92,6 +92,19 @@ fn format<'a>(matches: &ArgMatches<'a>) -> Result<Command<'a>, WordsRefusal>
     })
 }
 
+// What is found of `recover` asks.
+fn recover<'a>(matches: &ArgMatches<'a>) -> Result<Command<'a>, WordsRefusal>
+    ensures asks { MatchResult result (λ c. asked_by verb.Recover (rows_of (found_of matches.now)) ≡ Some (asked c))
+        (λ e. (e ≡ WordsRefusal.Unknown)
+        × (asked_by verb.Recover (rows_of (found_of matches.now)) ≡ None)) }
+    ensures small { IfOk result HasSmallNumbers }
+{
+    let image = name(matches, "image")?;
+    let cut = number(matches, "cut")?;
+    let pick = number(matches, "pick")?;
+    Ok(Command::Recover { image, cut, pick })
+}
+
 // What is found of `cat` asks.
 fn cat<'a>(alloc: Global, matches: &ArgMatches<'a>) -> Result<Command<'a>, WordsRefusal>
     ensures asks { MatchResult result (λ c. asked_by verb.Cat (rows_of (found_of matches.now)) ≡ Some (asked c))
@@ -121,6 +134,7 @@ fn command_of<'a>(
     match verb {
         Verb::Blocks => blocks(matches),
         Verb::Format => format(matches),
+        Verb::Recover => recover(matches),
         Verb::Ls => {
             let image = name(matches, "image")?;
             Ok(Command::Ls { image })

@@ -11,6 +11,7 @@ pub fn names<'a>(verb: Verb) -> &'a [&'a str]
     match verb {
         Verb::Blocks => &["file"],
         Verb::Format => &["image", "queues", "area", "meta", "zone"],
+        Verb::Recover => &["image"],
         Verb::Ls => &["image"],
         Verb::Cat => &["image", "path"],
         Verb::Dump => &["image"],
@@ -23,6 +24,7 @@ pub fn options<'a>(verb: Verb) -> &'a [&'a str]
 {
     match verb {
         Verb::Blocks => &["cut", "pick", "again", "save"],
+        Verb::Recover => &["cut", "pick"],
         Verb::Format | Verb::Ls | Verb::Cat | Verb::Dump => &[],
     }
 }

@@ -7,6 +7,7 @@ ghost use Rattle.mq_words.specs.Syntax.{verb_of, verb_text};
 pub enum Verb {
     Blocks,
     Format,
+    Recover,
     Ls,
     Cat,
     Dump,
@@ -20,6 +21,7 @@ impl Verb {
         match self {
             Verb::Blocks => "blocks",
             Verb::Format => "format",
+            Verb::Recover => "recover",
             Verb::Ls => "ls",
             Verb::Cat => "cat",
             Verb::Dump => "dump",
@@ -34,6 +36,7 @@ pub fn read_verb(word: &str) -> Option<Verb>
     match word {
         "blocks" => Some(Verb::Blocks),
         "format" => Some(Verb::Format),
+        "recover" => Some(Verb::Recover),
         "ls" => Some(Verb::Ls),
         "cat" => Some(Verb::Cat),
         "dump" => Some(Verb::Dump),
