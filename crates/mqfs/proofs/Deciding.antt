@@ -1,5 +1,5 @@
 -- What the files hold decides the status of each command.
-use Rattle.std.proofs.Common.{◌≡◌, ◌⊎◌, inl, inr, ℕ, List, Option, Some, None, Ok, Err, refl, sym, ◌∙◌, subst, arith}
+use Rattle.std.proofs.Common.{◌≡◌, inl, inr, ℕ, List, Option, Some, None, Ok, Err, sym, ◌∙◌, subst}
 use Rattle.mq_blocks.specs.Descriptor.{Descriptor}
 use Rattle.mq_blocks.specs.Journal.{AreWhole}
 use Rattle.mq_blocks.specs.declared.geometry.Geometry.{Geometry}
@@ -11,7 +11,7 @@ use Rattle.mq_image.specs.Drives.{IsRead}
 use Rattle.mq_image.specs.Faults.{HasFault}
 use Rattle.mq_image.specs.File.{DriveImage}
 use Rattle.mq_image.specs.declared.fault.FileFault.{FileFault}
-use Rattle.mq_images.specs.Standing.{RefusesDrive, StandsFor}
+use Rattle.mq_images.specs.Standing.{Reads, RefusesDrive, StandsFor}
 use Rattle.mq_images.specs.Views.{view_of}
 use Rattle.mq_outside.specs.Outside.{FilesState, Held, Holds, Tells}
 use Rattle.mq_recover.specs.declared.refusal.ImageFault.{ImageFault}
@@ -24,7 +24,7 @@ use Rattle.mq_tree.specs.Volume.{Path, Volume}
 use Rattle.mq_tree.specs.declared.request.Fault.{Fault}
 use Rattle.mq_words.specs.declared.command.BlocksOptions.{BlocksOptions}
 use Rattle.mqfs.specs.Blocks.{IsBlockText}
-use Rattle.mqfs.specs.Decided.{ChainsDecide, FileDecides, ImageDecides, NumbersDecide, TextDecides, TreeDecides, bad_numbers, bad_text, good_numbers, good_text, has_chains, has_file, has_no_file, has_tree, no_chains, no_image, no_tree, no_volume, unreadable}
+use Rattle.mqfs.specs.Decided.{ChainsDecide, FileDecides, ImageDecides, NumbersDecide, RecoveryDecides, TextDecides, TreeDecides, bad_numbers, bad_text, good_numbers, good_text, has_chains, has_file, has_no_file, has_standing, has_tree, no_chains, no_image, no_standing, no_tree, no_volume, unreadable}
 use Rattle.mqfs.specs.Says.{SaysOfBlocks, printed, refused}
 use Rattle.mqfs.specs.Says as blocks_says
 
@@ -43,6 +43,11 @@ module _ (image : List ℕ) (held : Option Held) (result : ℕ)
   image_decided : (status : ℕ) → ImageDecides image held status → IsUnlessWanting status result
   image_decided _ (no_image bytes e tells has) = faulty bytes e tells has
   image_decided _ (unreadable bytes x e tells read refuses) = unread bytes x e tells read refuses
+
+  pub recovery_decided : ((bytes : List ℕ) (x : DriveImage) (ds : List Descriptor) (top : ℕ) → Tells held image (Some bytes) → IsRead x bytes → Reads x ds top → IsUnlessWanting 0 result)
+      → (status : ℕ) → RecoveryDecides image held status → IsUnlessWanting status result
+  recovery_decided done _ (has_standing bytes x ds top tells read reads) = done bytes x ds top tells read reads
+  recovery_decided done status (no_standing image) = image_decided status image
 
   pub tree_decided : ((bytes : List ℕ) (x : DriveImage) (v : Volume) → Tells held image (Some bytes) → IsRead x bytes → StandsFor x v → IsUnlessWanting 0 result)
       → (status : ℕ) → TreeDecides image held status → IsUnlessWanting status result

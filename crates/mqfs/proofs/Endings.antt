@@ -1,5 +1,5 @@
 -- What the status of the program tells, by what there was to say and how that ended.
-use Rattle.std.proofs.Common.{◌≡◌, ◌≢◌, ◌⊎◌, inl, inr, ℕ, Bool, cond, List, Option, Some, None, true, false, refl, sym, ◌∙◌, ap, subst, arith}
+use Rattle.std.proofs.Common.{◌≡◌, ◌≢◌, ◌⊎◌, inl, inr, ℕ, Bool, cond, List, Option, Some, None, true, false, sym, ◌∙◌, ap, subst, arith}
 use Rattle.std.specs.Prelude.{nat_eq}
 use Rattle.mq_ending.specs.Ending.{EndsWith, IsUnlessWanting, TakesWithin}
 use Rattle.mq_ending.proofs.Pieces.{unless_wanting}
@@ -7,12 +7,11 @@ use Rattle.mq_outside.specs.Outside.{FilesState, Rose, SinkState, appended}
 use Rattle.mq_words.specs.Asked.{Asked, Words, asked_of, blocks}
 use Rattle.mq_words.specs.declared.command.BlocksOptions.{BlocksOptions}
 use Rattle.mq_ending.specs.Ending.{IsNotLoaded, IsNotSaved, load_failed, load_memory, load_too_long, save_failed, save_memory}
-use Rattle.mqfs.specs.Blocks.{refused_line}
 use Rattle.mqfs.specs.Decided.{Decides}
 use Rattle.mqfs.specs.Program.{AreUnknown, IsDone, IsRefusedText, IsSaid, IsStatus, IsToSay, IsTooLong, KeepsNames, no_command, no_memory, of_command, usage_line}
 use Rattle.mqfs.specs.Says.{Says, SaysOfBlocks, printed, refused}
 use Rattle.mqfs.specs.Says as blocks_says
-use Rattle.mqfs.proofs.Told.{SaysWords, Told, told_words}
+use Rattle.mqfs.proofs.Told.{SaysWords, told_words}
 
 -- where the output wants memory, the status is 4 only where it was
 wanting_four : (status result : ℕ) → IsStatus status → result ≡ cond (nat_eq status 4) 4 6 → result ≡ 4 → status ≡ 4

@@ -1,5 +1,5 @@
 -- A whole transaction.
-use Rattle.std.proofs.Common.{◌≡◌, ℕ, suc, ◌+◌, [], ◌∷◌, ◌++◌, length, refl, sym, ◌∙◌, ap, subst}
+use Rattle.std.proofs.Common.{◌≡◌, ℕ, ◌+◌, [], ◌∷◌, ◌++◌, length, sym, ◌∙◌, ap, subst}
 use Rattle.mq_blocks.specs.Drive.{PortState, IsQuiescent, index_of, staged_end, after_flush, after_ring}
 use Rattle.mq_pmr.specs.Runs.{Items, commands_of, after_some}
 use Rattle.mqfs.specs.Runs.{IsApart, AreApart, IsNewIn, AreDistinct}

@@ -1,9 +1,8 @@
 -- What `blocks` says of a file that was loaded.
-use Rattle.std.proofs.Common.{◌≡◌, ◌⊎◌, inl, inr, ℕ, Bool, true, false, List, Option, Some, None, refl, sym, ◌∙◌, ap, subst}
+use Rattle.std.proofs.Common.{◌≡◌, ◌⊎◌, inl, inr, ℕ, Bool, List, Option, Some, None, refl, sym, ◌∙◌, subst}
 use Rattle.std.specs.Prelude.{is_some, option_map}
 use Rattle.std.specs.declared.vec.Vec.{Vec}
 use Rattle.mq_ending.specs.Ending.{EndsWith, IsLoaded, IsSaved, memory_line}
-use Rattle.mq_image.specs.File.{image_bytes}
 use Rattle.mq_outside.specs.Outside.{FilesState, SinkState}
 use Rattle.mq_text.specs.Refusals.{IsRefused, RefusesText}
 use Rattle.mq_text.specs.declared.item.BlockItem.{BlockItem}

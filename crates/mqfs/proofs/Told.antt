@@ -1,15 +1,17 @@
 -- What a text that there was to say tells of the files.
-use Rattle.std.proofs.Common.{◌≡◌, ◌≢◌, ◌≤◌, ◌⊎◌, inl, inr, ℕ, ◌+◌, Bool, cond, List, Option, Some, None, refl, sym, ◌∙◌, ap, subst, arith}
+use Rattle.std.proofs.Common.{◌≡◌, ◌≢◌, ◌≤◌, ◌⊎◌, inl, inr, ℕ, Bool, cond, List, Option, Some, None, refl, sym, ◌∙◌, ap, subst, arith}
 use Rattle.std.specs.Prelude.{option_and_then}
 use Rattle.mq_commands.specs.Commands.{Dumps, Formats, Lists, SaysOfImage, ShowsFile, dumped, formatted, is_image, listed, no_file, no_geometry, no_image, not_dumped, not_listed, not_saved, not_shown, shown, wants_memory}
+use Rattle.mq_commands.specs.Recovers.{Recovers, RefusesRecovery, not_recovered, recovered, unsaved}
+use Rattle.mq_commands.specs.Recovers as recovers
 use Rattle.mq_commands.specs.declared.formatting.Numbers.{Numbers}
-use Rattle.mq_ending.specs.Ending.{IsLoaded, IsNotLoaded, IsNotSaved, IsSaved, SaysOf, TakesOver, TakesWithin, load_failed, load_memory, load_too_long, loaded, not_loaded, save_failed, save_memory, wanting}
+use Rattle.mq_ending.specs.Ending.{IsLoaded, IsNotLoaded, IsNotSaved, IsSaved, SaysOf, TakesWithin, load_failed, load_memory, load_too_long, loaded, not_loaded, save_failed, save_memory, wanting}
 use Rattle.mq_image.specs.File.{DriveImage}
-use Rattle.mq_outside.specs.Outside.{FilesState, Held, Holds, HoldsOver, OthersSame, Rose, load_limit, put_name}
+use Rattle.mq_outside.specs.Outside.{FilesState, Held, Holds, OthersSame, Rose, put_name}
 use Rattle.mq_text.specs.Refusals.{RefusesText}
 use Rattle.mq_text.specs.declared.refusal.BlockTextCause.{BlockTextCause}
 use Rattle.mq_tree.specs.Volume.{Path}
-use Rattle.mq_words.specs.Asked.{Asked, Words, asked_of, blocks, cat, dump, format, help, ls, version}
+use Rattle.mq_words.specs.Asked.{Asked, Words, asked_of, blocks, cat, dump, format, help, ls, recover, version}
 use Rattle.mq_words.specs.declared.command.BlocksOptions.{BlocksOptions}
 use Rattle.mqfs.specs.Blocks.{refused_line}
 use Rattle.mqfs.specs.Left.{SavesLeft}
@@ -91,13 +93,13 @@ told_not_loaded saves name old new _ _ (load_memory same faults) = memory saves 
 -- ---- the commands on images
 
 told_image : (Of : List ℕ → ℕ → List ℕ → Type 0) → ((bytes : List ℕ) (status : ℕ) (text : List ℕ) → Of bytes status text → (status ≡ 0) ⊎ (status ≡ 3))
-    → (name : List ℕ) (old new : FilesState) (status : ℕ) (text : List ℕ) → SaysOf Of name old new status text → Told None (Some name) Nothing Nothing old new status
-told_image Of each name old new status text (loaded bytes load of) = elim (each bytes status text of) [
-  | inl zero ↦ subst (Told None (Some name) Nothing Nothing old new) (sym zero) (done None (Some name) old new load.contents load.faults load.takes)
-  | inr three ↦ subst (Told None (Some name) Nothing Nothing old new) (sym three) (image None (Some name) old new load.contents load.faults load.takes)
+    → (saves : Option (List ℕ)) (name : List ℕ) (old new : FilesState) (status : ℕ) (text : List ℕ) → SaysOf Of name old new status text → Told saves (Some name) Nothing Nothing old new status
+told_image Of each saves name old new status text (loaded bytes load of) = elim (each bytes status text of) [
+  | inl zero ↦ subst (Told saves (Some name) Nothing Nothing old new) (sym zero) (done saves (Some name) old new load.contents load.faults load.takes)
+  | inr three ↦ subst (Told saves (Some name) Nothing Nothing old new) (sym three) (image saves (Some name) old new load.contents load.faults load.takes)
 ]
-told_image Of each name old new status text (not_loaded not) = told_not_loaded None name old new status text not
-told_image Of each name old new status text (wanting same faults six line) = subst (Told None (Some name) Nothing Nothing old new) (sym six) (memory None (Some name) old new same faults)
+told_image Of each saves name old new status text (not_loaded not) = told_not_loaded saves name old new status text not
+told_image Of each saves name old new status text (wanting same faults six line) = subst (Told saves (Some name) Nothing Nothing old new) (sym six) (memory saves (Some name) old new (keeps saves old new same) faults)
 
 statuses : (Of : DriveImage → ℕ → List ℕ → Type 0) → ((x : DriveImage) (status : ℕ) (text : List ℕ) → Of x status text → (status ≡ 0) ⊎ (status ≡ 3))
     → (bytes : List ℕ) (status : ℕ) (text : List ℕ) → SaysOfImage Of bytes status text → (status ≡ 0) ⊎ (status ≡ 3)
@@ -146,6 +148,16 @@ told_format n name old new _ _ (no_geometry e refuses same) = image (Some name) 
 told_format n name old new status text (not_saved not) = told_not_saved None name old old new status text refl refl not
 told_format n name old new _ _ (wants_memory same) = memory (Some name) None old new (keeps (Some name) old new (ap (λ (f : FilesState). f.contents) same)) (ap (λ (f : FilesState). f.faults) same)
 
+-- ---- `recover`
+
+unrecovered : (x : DriveImage) (status : ℕ) (text : List ℕ) → RefusesRecovery x status text → (status ≡ 0) ⊎ (status ≡ 3)
+unrecovered x _ _ (not_recovered e unread) = inr refl
+
+told_recover : (cut : Option ℕ) (name : List ℕ) (old new : FilesState) (status : ℕ) (text : List ℕ) → Recovers cut name old new status text → Told (Some name) (Some name) Nothing Nothing old new status
+told_recover cut name old new _ _ (recovered bytes x r mid load read of save) = told_saved (Some name) name _ old mid new load.contents load.faults load.takes save
+told_recover cut name old new status text (recovers.refused says) = told_image (SaysOfImage RefusesRecovery) (statuses RefusesRecovery unrecovered) (Some name) name old new status text says
+told_recover cut name old new status text (unsaved bytes mid load not) = told_not_saved (Some name) name old mid new status text load.contents load.faults not
+
 -- ---- `blocks`
 
 -- the file holds bytes that are refused, and this is their line
@@ -186,6 +198,7 @@ told_only line old new _ _ (said same) = done None None old new (ap (λ (f : Fil
 abbrev BadOf : Asked → (old : FilesState) → (text : List ℕ) → Type 0
 BadOf (blocks file options save) old text = BadText file old text
 BadOf (format image queues area meta zone) old text = Nothing
+BadOf (recover image cut pick) old text = Nothing
 BadOf (ls image) old text = Nothing
 BadOf (cat image path) old text = Nothing
 BadOf (dump image) old text = Nothing
@@ -195,9 +208,10 @@ BadOf version old text = Nothing
 told : (a : Asked) (old new : FilesState) (status : ℕ) (text : List ℕ) → Says a old new status text → Told (saved_name a) (loaded_name a) Nothing (BadOf a old text) old new status
 told (blocks file options save) old new status text says = told_blocks file options save old new status text says
 told (format image queues area meta zone) old new status text says = told_format (numbers queues area meta zone) image old new status text says
-told (ls image) old new status text says = told_image (SaysOfImage Lists) (statuses Lists lists) image old new status text says
-told (cat image path) old new status text says = told_image (SaysOfImage (ShowsFile path)) (statuses (ShowsFile path) (shows path)) image old new status text says
-told (dump image) old new status text says = told_image (SaysOfImage Dumps) (statuses Dumps dumps) image old new status text says
+told (recover image cut pick) old new status text says = told_recover cut image old new status text says
+told (ls image) old new status text says = told_image (SaysOfImage Lists) (statuses Lists lists) None image old new status text says
+told (cat image path) old new status text says = told_image (SaysOfImage (ShowsFile path)) (statuses (ShowsFile path) (shows path)) None image old new status text says
+told (dump image) old new status text says = told_image (SaysOfImage Dumps) (statuses Dumps dumps) None image old new status text says
 told (help topic) old new status text says = told_only _ old new status text says
 told version old new status text says = told_only _ old new status text says
 
@@ -218,6 +232,7 @@ SaysWords words old new status text = Told (option_and_then saved_name (asked_of
 bad_words : (words : Words) (a : Asked) (old : FilesState) (text : List ℕ) → asked_of words ≡ Some a → BadOf a old text → BadWords words old text
 bad_words words (blocks file options save) old text is bad = (file, options, save, bad.0, bad.1, bad.2, is, bad.3, bad.4, bad.5)
 bad_words words (format image queues area meta zone) old text is bad = absurd bad
+bad_words words (recover image cut pick) old text is bad = absurd bad
 bad_words words (ls image) old text is bad = absurd bad
 bad_words words (cat image path) old text is bad = absurd bad
 bad_words words (dump image) old text is bad = absurd bad

@@ -11,7 +11,7 @@ use Rattle.mq_image.specs.Drives.{IsRead}
 use Rattle.mq_image.specs.Faults.{HasFault}
 use Rattle.mq_image.specs.File.{DriveImage}
 use Rattle.mq_image.specs.declared.fault.FileFault.{FileFault}
-use Rattle.mq_images.specs.Standing.{RefusesDrive, StandsFor}
+use Rattle.mq_images.specs.Standing.{Reads, RefusesDrive, StandsFor}
 use Rattle.mq_images.specs.Views.{view_of}
 use Rattle.mq_outside.specs.Outside.{Held, Tells}
 use Rattle.mq_recover.specs.declared.refusal.ImageFault.{ImageFault}
@@ -21,7 +21,7 @@ use Rattle.mq_text.specs.declared.refusal.BlockTextCause.{BlockTextCause}
 use Rattle.mq_tree.specs.Trees.{ReadsAs}
 use Rattle.mq_tree.specs.Volume.{Path, Volume}
 use Rattle.mq_tree.specs.declared.request.Fault.{Fault}
-use Rattle.mq_words.specs.Asked.{Asked, blocks, cat, dump, format, help, ls, version}
+use Rattle.mq_words.specs.Asked.{Asked, blocks, cat, dump, format, help, ls, recover, version}
 use Rattle.mqfs.specs.Blocks.{IsBlockText}
 use Rattle.mqfs.specs.Says.{numbers}
 
@@ -39,6 +39,11 @@ pub data NumbersDecide (n : Numbers) : ℕ → Type 0 where
 pub data ImageDecides (image : List ℕ) (held : Option Held) : ℕ → Type 0 where
   no_image : (bytes : List ℕ) (e : FileFault) → Tells held image (Some bytes) → HasFault bytes (Some e) → ImageDecides image held 3
   unreadable : (bytes : List ℕ) (x : DriveImage) (e : ImageFault) → Tells held image (Some bytes) → IsRead x bytes → RefusesDrive x e → ImageDecides image held 3
+
+-- `recover`: the image is readable
+pub data RecoveryDecides (image : List ℕ) (held : Option Held) : ℕ → Type 0 where
+  has_standing : (bytes : List ℕ) (x : DriveImage) (ds : List Descriptor) (top : ℕ) → Tells held image (Some bytes) → IsRead x bytes → Reads x ds top → RecoveryDecides image held 0
+  no_standing : {status : ℕ} → ImageDecides image held status → RecoveryDecides image held status
 
 -- `ls`: a volume stands on the image
 pub data TreeDecides (image : List ℕ) (held : Option Held) : ℕ → Type 0 where
@@ -59,6 +64,7 @@ pub data ChainsDecide (image : List ℕ) (held : Option Held) : ℕ → Type 0 w
 abbrev pub Decides : Asked → Option Held → (status : ℕ) → Type 0
 Decides (blocks file options save) held status = TextDecides file held status
 Decides (format image queues area meta zone) held status = NumbersDecide (numbers queues area meta zone) status
+Decides (recover image cut pick) held status = RecoveryDecides image held status
 Decides (ls image) held status = TreeDecides image held status
 Decides (cat image path) held status = FileDecides image path held status
 Decides (dump image) held status = ChainsDecide image held status

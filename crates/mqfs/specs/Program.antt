@@ -5,11 +5,11 @@ use Rattle.mq_outside.specs.Outside.{FilesState, Holds, HoldsOver, OthersSame, S
 use Rattle.mq_text.specs.Refusals.{RefusesText}
 use Rattle.mq_text.specs.declared.item.BlockItem.{BlockItem}
 use Rattle.mq_text.specs.declared.refusal.BlockTextCause.{BlockTextCause}
-use Rattle.mq_words.specs.Asked.{Asked, Words, asked_of, blocks, cat, dump, format, help, ls, version}
+use Rattle.mq_words.specs.Asked.{Asked, Words, asked_of, blocks, cat, dump, format, help, ls, recover, version}
 use Rattle.mq_words.specs.declared.command.BlocksOptions.{BlocksOptions}
 use Rattle.mqfs.specs.Blocks.{IsBlockText, output_of, refused_line}
 use Rattle.mqfs.specs.Cuts.{IsPrefixAt}
-use Rattle.mqfs.specs.Left.{IsLeft, SavesLeft}
+use Rattle.mqfs.specs.Left.{SavesLeft}
 use Rattle.mqfs.specs.Says.{Says}
 
 -- the words are no command
@@ -54,6 +54,7 @@ IsRefusedText words files old new =
 abbrev pub loaded_name : Asked → Option (List ℕ)
 loaded_name (blocks file options save) = Some file
 loaded_name (format image queues area meta zone) = None
+loaded_name (recover image cut pick) = Some image
 loaded_name (ls image) = Some image
 loaded_name (cat image path) = Some image
 loaded_name (dump image) = Some image
@@ -64,6 +65,7 @@ loaded_name version = None
 abbrev pub saved_name : Asked → Option (List ℕ)
 saved_name (blocks file options save) = save
 saved_name (format image queues area meta zone) = Some image
+saved_name (recover image cut pick) = Some image
 saved_name (ls image) = None
 saved_name (cat image path) = None
 saved_name (dump image) = None

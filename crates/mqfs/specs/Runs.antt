@@ -1,6 +1,6 @@
 -- What runs of calls make of a queue's port.
-use Rattle.std.specs.Prelude.{◌≢◌, ℕ, ◌+◌, ◌%◌, zero, suc, Bool, true, false, List, [], ◌∷◌, ◌++◌, length, Option, Some, slice_set}
-use Rattle.mq_blocks.specs.Drive.{PortState, Owns, counted, depth, index_of, staged_end, after_flush, after_ring, after_store_head}
+use Rattle.std.specs.Prelude.{◌≢◌, ℕ, ◌+◌, Bool, true, List, [], ◌∷◌, length, Option, Some, slice_set}
+use Rattle.mq_blocks.specs.Drive.{PortState, counted, index_of, staged_end, after_flush, after_ring, after_store_head}
 use Rattle.mq_blocks.specs.declared.command.Command.{Command}
 use Rattle.mq_pmr.specs.Runs.{Items, after_some}
 

@@ -1,13 +1,14 @@
 -- What there is to say of what words ask, and with which status: one definition for each command.
-use Rattle.std.specs.Prelude.{◌≡◌, ℕ, List, Option, Some, None}
+use Rattle.std.specs.Prelude.{◌≡◌, ℕ, List, Option, Some}
 use Rattle.mq_commands.specs.Commands.{Dumps, Formats, Lists, SaysOfImage, ShowsFile}
+use Rattle.mq_commands.specs.Recovers.{Recovers}
 use Rattle.mq_commands.specs.declared.formatting.Numbers.{Numbers}
 use Rattle.mq_ending.specs.Ending.{IsLoaded, IsNotLoaded, IsNotSaved, SaysOf, memory_line}
 use Rattle.mq_outside.specs.Outside.{FilesState}
 use Rattle.mq_text.specs.Refusals.{RefusesText}
 use Rattle.mq_text.specs.declared.item.BlockItem.{BlockItem}
 use Rattle.mq_text.specs.declared.refusal.BlockTextCause.{BlockTextCause}
-use Rattle.mq_words.specs.Asked.{Asked, blocks, cat, dump, format, help, ls, version}
+use Rattle.mq_words.specs.Asked.{Asked, blocks, cat, dump, format, help, ls, recover, version}
 use Rattle.mq_words.specs.declared.command.BlocksOptions.{BlocksOptions}
 use Rattle.mqfs.specs.Blocks.{IsBlockText, output_of, refused_line}
 use Rattle.mqfs.specs.Cuts.{IsPrefixAt}
@@ -35,6 +36,7 @@ numbers queues area meta zone = record { queues = queues; area = area; meta = me
 abbrev pub Says : Asked → (old new : FilesState) → (status : ℕ) → (text : List ℕ) → Type 0
 Says (blocks file options save) old new status text = SaysOfBlocks file options save old new status text
 Says (format image queues area meta zone) old new status text = Formats (numbers queues area meta zone) image old new status text
+Says (recover image cut pick) old new status text = Recovers cut image old new status text
 Says (ls image) old new status text = SaysOf (SaysOfImage Lists) image old new status text
 Says (cat image path) old new status text = SaysOf (SaysOfImage (ShowsFile path)) image old new status text
 Says (dump image) old new status text = SaysOf (SaysOfImage Dumps) image old new status text

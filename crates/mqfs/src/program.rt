@@ -14,6 +14,7 @@ mod dump;
 mod format;
 mod help;
 mod ls;
+mod recover;
 mod text;
 
 use self::cat::run_cat;
@@ -21,6 +22,7 @@ use self::dump::run_dump;
 use self::format::run_format;
 use self::help::{say_help, say_version};
 use self::ls::run_ls;
+use self::recover::run_recover;
 use self::text::run_blocks;
 use mq_commands::Numbers;
 use mq_ending::{USAGE, say, say_memory};
@@ -63,6 +65,7 @@ fn run<F: Files, K: Sink>(alloc: Global, command: Command, files: &mut F, out: &
             };
             run_format(alloc, image, numbers, files, out)
         }
+        Command::Recover { image, cut, pick } => run_recover(alloc, image, cut, pick, files, out),
         Command::Ls { image } => run_ls(alloc, image, files, out),
         Command::Cat { image, path } => run_cat(alloc, image, &path, files, out),
         Command::Dump { image } => run_dump(alloc, image, files, out),

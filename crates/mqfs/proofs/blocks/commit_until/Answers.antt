@@ -1,4 +1,4 @@
-use Rattle.std.proofs.Common.{◌≡◌, ℕ, ◌+◌, List, [], Some, None, refl, sym, ◌∙◌, ap, subst, length, arith}
+use Rattle.std.proofs.Common.{◌≡◌, ℕ, ◌+◌, List, None, sym, ◌∙◌, ap, subst, length, arith}
 use Rattle.mq_blocks.specs.Drive.{FuseName, PortState, PortImage, counted}
 use Rattle.mq_drive.specs.Emu.{emu_state, emu_faults, drawn_by}
 use Rattle.mq_drive.specs.Roles.{role_of}

@@ -1,8 +1,6 @@
 use Rattle.std.proofs.Common.{◌≡◌, List, [], ◌∷◌, ◌++◌, sym, ◌∙◌, ap, subst}
 use Rattle.mq_blocks.specs.Drive.{PortImage}
 use Rattle.mq_image.specs.Drives.{IsDrive}
-use Rattle.mq_image.specs.File.{DriveImage, image_bytes}
-use Rattle.mqfs.specs.Left.{drive_image}
 use Rattle.mqfs.proofs.Lefts.{left_drive}
 use Rattle.mqfs.proofs.blocks.file_of.Goals as goal
 

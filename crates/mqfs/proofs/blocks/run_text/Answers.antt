@@ -1,5 +1,5 @@
 use Rattle.mq_recover.specs.Drives.{drive_of}
-use Rattle.std.proofs.Common.{◌≡◌, ◌<◌, ◌≤◌, ℕ, List, length, refl, sym, ◌∙◌, ap, subst, arith}
+use Rattle.std.proofs.Common.{◌≡◌, ◌<◌, ℕ, sym, ◌∙◌, ap, subst, arith}
 use Rattle.std.specs.Option.{unwrap_or}
 use Rattle.mq_blocks.specs.Drive.{PortImage}
 use Rattle.mq_blocks.specs.Geometry.{homes_of}
@@ -7,8 +7,8 @@ use Rattle.mq_drive.specs.Emu.{emu_state}
 use Rattle.mq_drive.specs.Start.{IsImageOf}
 use Rattle.mq_drive.specs.declared.role.Role.TheVariants.{Queue, Root}
 use Rattle.mqfs.specs.Commits.{ShowsMap}
-use Rattle.mqfs.specs.Left.{IsLeft, KeepsLeft, drive_image}
-use Rattle.mqfs.specs.Lines.{map_after, live_from, named}
+use Rattle.mqfs.specs.Left.{IsLeft, drive_image}
+use Rattle.mqfs.specs.Lines.{map_after}
 use Rattle.mqfs.specs.Live.{AreMarks, HoldsMap}
 use Rattle.mqfs.specs.Restart.{cut_view}
 use Rattle.mqfs.proofs.CutTexts.{prefix_within, run_output}

@@ -1,4 +1,4 @@
-use Rattle.std.proofs.Common.{rules, ◌≡◌, ◌<◌, length, vec_len, refl, ◌∙◌, ap, arith}
+use Rattle.std.proofs.Common.{rules, ◌≡◌, length, vec_len, refl, ◌∙◌, ap, arith}
 use Rattle.std.proofs.lemmas.Result.{err_from_is_err_and}
 use Rattle.mq_drive.specs.declared.role.Role.TheVariants.{Queue}
 use Rattle.mq_pmr.specs.Runs.{Items}

@@ -1,6 +1,5 @@
-use Rattle.std.proofs.Common.{◌≡◌, ◌<◌, ◌≤◌, ℕ, length, sym, ap, subst, arith, rules, vec_len}
-use Rattle.mq_blocks.specs.Drive.{PortState, counted}
-use Rattle.mqfs.specs.Cuts.{QueueShows, events_of}
+use Rattle.std.proofs.Common.{◌≡◌, ◌<◌, ◌≤◌, length, sym, ap, subst, arith, rules}
+use Rattle.mq_blocks.specs.Drive.{PortState}
 use Rattle.mqfs.proofs.TextSteps.{Lines, none_yet, finished, stopped_between, places_many, IsStopped}
 use Rattle.mqfs.proofs.commit.commit_through.Goals as goal
 

@@ -1,4 +1,4 @@
-use Rattle.std.proofs.Common.{◌≡◌, ◌≢◌, ◌<◌, ◌≤◌, ⊎_elim, ℕ, ◌+◌, ◌*◌, [], ◌∷◌, ◌++◌, List, length, refl, sym, ◌∙◌, ap, subst, arith, rules, Bool, true, false, cond}
+use Rattle.std.proofs.Common.{◌≡◌, ◌≢◌, ◌<◌, ◌≤◌, ⊎_elim, ℕ, ◌+◌, ◌*◌, [], ◌∷◌, ◌++◌, List, length, refl, ◌∙◌, ap, arith, Bool, true, false, cond}
 use Rattle.std.specs.Prelude.{◌&&◌, nat_eq}
 use Rattle.std.proofs.lemmas.Bool.Decides.{nat_tests}
 use Rattle.mq_pmr.specs.Queue.{after_head}
@@ -10,9 +10,8 @@ use Rattle.mq_blocks.specs.Drive.{PortState, IsQuiescent, staged_end, after_flus
 use Rattle.mq_pmr.specs.Runs.{Items, after_some}
 use Rattle.mqfs.specs.Cuts.{IsCut}
 use Rattle.mqfs.specs.Runs.{after_all, after_line}
-use Rattle.mqfs.proofs.Cutting.{start}
 use Rattle.mqfs.proofs.Exits.{cut_staging, cut_flushed, cut_ended, cut_all, cut_stored, stored_past}
-use Rattle.mqfs.proofs.Lines.{staged_all, apart_posted}
+use Rattle.mqfs.proofs.Lines.{apart_posted}
 use Rattle.mqfs.proofs.line.commit_line.Goals as goal
 
 pub complete_all-requires : goal.complete_all-requires

@@ -3,6 +3,9 @@ use Rattle.mq_words.specs.Help.{help_text, version_line}
 use Rattle.mqfs.specs.Says.{said}
 use Rattle.mqfs.proofs.program.run.Goals as goal
 
+pub returns-in-Recover-clause-ends : goal.returns-in-Recover-clause-ends
+returns-in-Recover-clause-ends g c = rw c.in-Recover.is c.run_recover.ensures.ends
+
 pub returns-in-Ls-clause-ends : goal.returns-in-Ls-clause-ends
 returns-in-Ls-clause-ends g c = rw c.in-Ls.is c.run_ls.ensures.ends
 

@@ -1,11 +1,9 @@
-use Rattle.std.proofs.Common.{◌≡◌, ◌∙◌, ap, subst, length, List, ℕ}
-use Rattle.mq_blocks.specs.Descriptor.{Descriptor}
+use Rattle.std.proofs.Common.{◌∙◌, ap}
 use Rattle.mq_blocks.specs.Journal.{stands}
-use Rattle.mq_drive.specs.Emu.{emu_state, emu_faults}
+use Rattle.mq_drive.specs.Emu.{emu_state}
 use Rattle.mq_drive.specs.Seats.{name_of}
-use Rattle.mq_recover.specs.Drives.{DriveFaults, states, faults_of, view_over, drive_of}
-use Rattle.mq_recover.specs.RecoverCauses.{HasDriveCause}
-use Rattle.mqfs.proofs.Restarts.{IsAnswered, answered, one_port, only_memory, recovered_home, recovered_prefix, started_reaches, started_still, started_view}
+use Rattle.mq_recover.specs.Drives.{drive_of}
+use Rattle.mqfs.proofs.Restarts.{IsAnswered, answered, only_memory, recovered_home, recovered_prefix, started_reaches, started_still, started_view}
 use Rattle.mqfs.proofs.restart.recover_images.Goals as goal
 
 pub recover-requires : goal.recover-requires

@@ -1,16 +1,13 @@
-use Rattle.std.proofs.Common.{◌≡◌, ◌<◌, ◌∙◌, ap, arith, subst, sym, length, List, ℕ}
+use Rattle.std.proofs.Common.{◌≡◌, ap, arith, subst, sym}
 use Rattle.mq_blocks.specs.Drive.{PortState, IsImage}
 use Rattle.mq_drive.specs.Roles.{role_of}
 use Rattle.mq_drive.specs.Start.{IsPortOf, IsImageOf}
 use Rattle.mq_drive.specs.declared.role.Role.{Role}
 use Rattle.mq_drive.specs.declared.role.Role.TheVariants.{Queue, Root}
-use Rattle.mq_blocks.specs.Descriptor.{Descriptor}
-use Rattle.mq_blocks.specs.Journal.{stands}
-use Rattle.mq_drive.specs.Emu.{emu_state, emu_faults}
+use Rattle.mq_drive.specs.Emu.{emu_state}
 use Rattle.mq_drive.specs.Seats.{name_of}
-use Rattle.mq_recover.specs.Drives.{DriveFaults, states, faults_of, view_over, drive_of}
-use Rattle.mq_recover.specs.RecoverCauses.{HasDriveCause}
-use Rattle.mqfs.proofs.Restarts.{IsAnswered, answered, IsLeft, first_state, image_memory, left, left_of, none_failed, one_port, started_reaches, started_still}
+use Rattle.mq_recover.specs.Drives.{states, drive_of}
+use Rattle.mqfs.proofs.Restarts.{IsAnswered, answered, IsLeft, first_state, image_memory, left, left_of, none_failed, started_reaches, started_still}
 use Rattle.mqfs.proofs.restart.recover_until.Goals as goal
 
 pub read_prefix-requires-clause-still : goal.read_prefix-requires-clause-still

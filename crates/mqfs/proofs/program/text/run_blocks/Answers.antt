@@ -1,5 +1,5 @@
-use Rattle.std.proofs.Common.{◌≡◌, List, ℕ, Bor, sym, ◌∙◌, subst}
-use Rattle.std.specs.Prelude.{is_some, option_map}
+use Rattle.std.proofs.Common.{List, ℕ, Bor, sym, ◌∙◌, subst}
+use Rattle.std.specs.Prelude.{option_map}
 use Rattle.mq_ending.specs.Ending.{IsLoaded}
 use Rattle.mq_ending.proofs.Pieces.{unless_wanting}
 use Rattle.mqfs.specs.Says as says

@@ -1,0 +1,31 @@
+// `recover`: an image, recovered and saved.
+ghost use Rattle.std.specs.Prelude.{◌<◌, ℕ, List, IfSome};
+ghost use Rattle.mq_commands.specs.Recovers.{Recovers};
+ghost use Rattle.mq_ending.specs.Ending.{EndsWith, IsUnlessWanting};
+ghost use Rattle.mq_words.specs.Asked.{number_end};
+ghost use Rattle.mqfs.specs.Decided.{RecoveryDecides};
+
+use mq_commands::recover;
+use mq_outside::{Files, Sink};
+use std::alloc::Global;
+
+/// Runs `recover IMAGE` with its options. Draws come from 0 where no pick is given.
+pub fn run_recover<F: Files, K: Sink>(
+    alloc: Global,
+    image: &str,
+    cut: Option<u64>,
+    pick: Option<u64>,
+    files: &mut F,
+    out: &mut K,
+) -> u8
+    requires small { IfSome cut (λ n. n < number_end) }
+    ensures ends { (status : ℕ)
+        × (text : List ℕ)
+        × Recovers cut image.now (F.state files.old) (F.state files.new) status text
+        × EndsWith status text result (K.state out.old) (K.state out.new) }
+    ensures decided { (status : ℕ)
+        → RecoveryDecides image.now (F.state files.old).contents status
+        → IsUnlessWanting status result }
+{
+    recover(alloc, image, cut, pick.unwrap_or(0), files, out)
+}
