@@ -12,7 +12,7 @@ use Rattle.mq_turns.specs.Lists.{Each, times}
 use Rattle.mq_turns.specs.Meaning.{Meaning}
 use Rattle.mq_turns.specs.declared.rule.Known.{Known}
 use Rattle.mq_turns.specs.declared.rule.Opening.{Opening}
-use Rattle.mq_turns.specs.declared.rule.View.{View}
+use Rattle.mq_turns.specs.declared.rule.ChairView.{ChairView}
 use Rattle.mq_turns.proofs.Each.{each_map, each_without, times_append}
 use Rattle.mq_calls.specs.Pages.{AddsCells, HoldsOnlyPages, HoldsPage, HoldsPages, TakesPages, blocks_of, giving_pages, taking_pages, without_each}
 use Rattle.mq_calls.specs.Wanted.{AreTogether, AreWanted, HoldsWanted, IsSameSession}
@@ -56,29 +56,29 @@ room-alone homes blocks w = let few = rising-few 0 homes blocks w.rise (λ k d l
 module _ {Q R E : Type 0} where
   -- ---- what stays of a session
 
-  pub same-at-once : (v : View PageCell Q R E) → IsSameSession v v
+  pub same-at-once : (v : ChairView PageCell Q R E) → IsSameSession v v
   same-at-once v = refl
 
-  pub same-then : (a b c : View PageCell Q R E) → IsSameSession a b → IsSameSession b c → IsSameSession a c
-  same-then a b c first second = second ∙ ap (λ (x : View PageCell Q R E). record x { seen = c.seen; hand = c.hand; held = c.held }) first
+  pub same-then : (a b c : ChairView PageCell Q R E) → IsSameSession a b → IsSameSession b c → IsSameSession a c
+  same-then a b c first second = second ∙ ap (λ (x : ChairView PageCell Q R E). record x { seen = c.seen; hand = c.hand; held = c.held }) first
 
-  pub same-taken : (v w : View PageCell Q R E) (taken : List (ℕ × Known PageCell Q R E)) → w ≡ taking_pages taken v → IsSameSession v w
-  same-taken v w taken is = subst (λ (x : View PageCell Q R E). IsSameSession v x) (sym is) refl
+  pub same-taken : (v w : ChairView PageCell Q R E) (taken : List (ℕ × Known PageCell Q R E)) → w ≡ taking_pages taken v → IsSameSession v w
+  same-taken v w taken is = subst (λ (x : ChairView PageCell Q R E). IsSameSession v x) (sym is) refl
 
-  pub same-given : (v w : View PageCell Q R E) (blocks : List ℕ) → w ≡ giving_pages blocks v → IsSameSession v w
-  same-given v w blocks is = subst (λ (x : View PageCell Q R E). IsSameSession v x) (sym is) refl
+  pub same-given : (v w : ChairView PageCell Q R E) (blocks : List ℕ) → w ≡ giving_pages blocks v → IsSameSession v w
+  same-given v w blocks is = subst (λ (x : ChairView PageCell Q R E). IsSameSession v x) (sym is) refl
 
 module _ {Q R E : Type 0} (μ : Meaning PageCell Q R E) where
   -- ---- what is held
 
   -- a block above all wanted ones is above all that is held
-  pub held-low : (o : Opening PageCell Q R) (wanted : List ℕ) (cells : Cells) (v : View PageCell Q R E) (b : ℕ) → HoldsWanted μ o wanted cells v → All (λ a. a < b) wanted → Each (λ h. h.0 < b) v.held
+  pub held-low : (o : Opening PageCell Q R) (wanted : List ℕ) (cells : Cells) (v : ChairView PageCell Q R E) (b : ℕ) → HoldsWanted μ o wanted cells v → All (λ a. a < b) wanted → Each (λ h. h.0 < b) v.held
   held-low o wanted cells v b h low = held-all (λ k. k < b) v.held v.held (λ k some. All-contains (λ a. a < b) wanted k low ((h.blocks k).1 (times-contains k cells (let e = h.pages.only k in omega arith)))) (λ k. omega arith)
 
-  pub held-low-all : (o : Opening PageCell Q R) (wanted blocks : List ℕ) (cells : Cells) (v : View PageCell Q R E) → HoldsWanted μ o wanted cells v → All (λ b. All (λ a. a < b) wanted) blocks → All (λ b. Each (λ h. h.0 < b) v.held) blocks
+  pub held-low-all : (o : Opening PageCell Q R) (wanted blocks : List ℕ) (cells : Cells) (v : ChairView PageCell Q R E) → HoldsWanted μ o wanted cells v → All (λ b. All (λ a. a < b) wanted) blocks → All (λ b. Each (λ h. h.0 < b) v.held) blocks
   held-low-all o wanted blocks cells v h low k d l = held-low o wanted cells v (get_or blocks k d) h (low k d l)
 
-  pub more-held : (o : Opening PageCell Q R) (old more new : List ℕ) (before cells : Cells) (v w : View PageCell Q R E) → HoldsWanted μ o old before v → TakesPages μ more v w → HoldsPages μ o cells w → AddsCells more before cells → AreTogether old more new → HoldsWanted μ o new cells w
+  pub more-held : (o : Opening PageCell Q R) (old more new : List ℕ) (before cells : Cells) (v w : ChairView PageCell Q R E) → HoldsWanted μ o old before v → TakesPages μ more v w → HoldsPages μ o cells w → AddsCells more before cells → AreTogether old more new → HoldsWanted μ o new cells w
   more-held o old more new before cells v w h took pages adds t = record {
     pages = record { pages = pages; only = only };
     blocks = λ b. (λ c. subst (λ (xs : List ℕ). Contains xs b) (sym are) (into b (t.only b c)), λ c. back b (Contains-append_cases (blocks_of before) more b (subst (λ (xs : List ℕ). Contains xs b) are c)));
@@ -98,7 +98,7 @@ module _ {Q R E : Type 0} (μ : Meaning PageCell Q R E) where
 
       only : (k : ℕ) → times k w.held ≡ times k cells
       only k =
-          let held : times k w.held ≡ times k (took.taken ++ v.held) = ap (λ (x : View PageCell Q R E). times k x.held) took.is in
+          let held : times k w.held ≡ times k (took.taken ++ v.held) = ap (λ (x : ChairView PageCell Q R E). times k x.held) took.is in
           let parts = times_append k took.taken v.held in
           let fresh = times-taken k took.taken adds.added more took.slots adds.blocks_are in
           let all : times k cells ≡ times k (before ++ adds.added) = ap (times k) adds.is in
@@ -108,11 +108,11 @@ module _ {Q R E : Type 0} (μ : Meaning PageCell Q R E) where
 
   -- ---- room
 
-  pub cells-below : (o : Opening PageCell Q R) (cells : Cells) (v : View PageCell Q R E) → HoldsPages μ o cells v → Each (λ c. c.0 < length o.pages) cells
+  pub cells-below : (o : Opening PageCell Q R) (cells : Cells) (v : ChairView PageCell Q R E) → HoldsPages μ o cells v → Each (λ c. c.0 < length o.pages) cells
   cells-below o cells v h = each_map (λ x. HoldsPage μ o v x.0 x.1) (λ x. x.0 < length o.pages) (λ x p. p.turn) cells h.each
 
   -- blocks above all that is held fit beside it
-  pub room-above : (o : Opening PageCell Q R) (blocks : List ℕ) (cells : Cells) (v : View PageCell Q R E) → HoldsPages μ o cells v → AreWanted (length o.pages) blocks → All (λ b. Each (λ h. h.0 < b) v.held) blocks → length cells + length blocks ≤ length o.pages
+  pub room-above : (o : Opening PageCell Q R) (blocks : List ℕ) (cells : Cells) (v : ChairView PageCell Q R E) → HoldsPages μ o cells v → AreWanted (length o.pages) blocks → All (λ b. Each (λ h. h.0 < b) v.held) blocks → length cells + length blocks ≤ length o.pages
   room-above o [] cells v h w above = let few = cells-few 0 (length o.pages) cells h.rising (each-zero cells) (cells-below o cells v h) (omega arith) in omega arith
   room-above o (b ∷ bs) cells v h w above =
       let low = above 0 b (omega arith) in
@@ -127,7 +127,7 @@ module _ {Q R E : Type 0} (μ : Meaning PageCell Q R E) where
   each-without_each F [] l all = all
   each-without_each F (k ∷ ks) l all = each_without F k (without_each ks l) (each-without_each F ks l all)
 
-  pub sees-given : (blocks : List ℕ) (K : Known PageCell Q R E) (v : View PageCell Q R E) → Sees μ v K → Sees μ (giving_pages blocks v) K
+  pub sees-given : (blocks : List ℕ) (K : Known PageCell Q R E) (v : ChairView PageCell Q R E) → Sees μ v K → Sees μ (giving_pages blocks v) K
   sees-given blocks K v s = record {
     opening = s.opening;
     ok = s.ok;
@@ -142,8 +142,8 @@ module _ {Q R E : Type 0} (μ : Meaning PageCell Q R E) where
   none-rises : IsRising []
   none-rises = λ i j d lt l. absurd (omega arith)
 
-  pub nothing-held : (o : Opening PageCell Q R) (wanted : List ℕ) (before cells : Cells) (v w : View PageCell Q R E) → HoldsWanted μ o wanted before v → cells ≡ [] → w ≡ giving_pages (blocks_of before) v → HoldsWanted μ o [] cells w
-  nothing-held o wanted before cells v w h none is = subst (λ (cs : Cells). HoldsWanted μ o [] cs w) (sym none) (subst (λ (x : View PageCell Q R E). HoldsWanted μ o [] [] x) (sym is) (record {
+  pub nothing-held : (o : Opening PageCell Q R) (wanted : List ℕ) (before cells : Cells) (v w : ChairView PageCell Q R E) → HoldsWanted μ o wanted before v → cells ≡ [] → w ≡ giving_pages (blocks_of before) v → HoldsWanted μ o [] cells w
+  nothing-held o wanted before cells v w h none is = subst (λ (cs : Cells). HoldsWanted μ o [] cs w) (sym none) (subst (λ (x : ChairView PageCell Q R E). HoldsWanted μ o [] [] x) (sym is) (record {
     pages = record {
       pages = record { rising = none-rises; each = tt };
       only = all-given before v.held h.pages.only;
@@ -153,8 +153,8 @@ module _ {Q R E : Type 0} (μ : Meaning PageCell Q R E) where
   }))
 
   -- a look, with nothing held
-  pub looked-none : (o : Opening PageCell Q R) (cells : Cells) (v w : View PageCell Q R E) (K : Known PageCell Q R E) → v.held ≡ [] → cells ≡ [] → w ≡ after_look None K v → Sees μ v K → HoldsWanted μ o [] cells w
-  looked-none o cells v w K none empty is s = subst (λ (cs : Cells). HoldsWanted μ o [] cs w) (sym empty) (subst (λ (x : View PageCell Q R E). HoldsWanted μ o [] [] x) (sym is) (record {
+  pub looked-none : (o : Opening PageCell Q R) (cells : Cells) (v w : ChairView PageCell Q R E) (K : Known PageCell Q R E) → v.held ≡ [] → cells ≡ [] → w ≡ after_look None K v → Sees μ v K → HoldsWanted μ o [] cells w
+  looked-none o cells v w K none empty is s = subst (λ (cs : Cells). HoldsWanted μ o [] cs w) (sym empty) (subst (λ (x : ChairView PageCell Q R E). HoldsWanted μ o [] [] x) (sym is) (record {
     pages = record {
       pages = record { rising = none-rises; each = tt };
       only = λ k. ap (times k) none;
@@ -163,5 +163,5 @@ module _ {Q R E : Type 0} (μ : Meaning PageCell Q R E) where
     seen = (K, record { opening = s.opening; ok = s.ok; few = s.few; held = s.held; seen = omega arith; drew = s.drew; marked = s.marked; reader = s.reader });
   }))
 
-  pub held-none : (o : Opening PageCell Q R) (cells : Cells) (v : View PageCell Q R E) → HoldsOnlyPages μ o cells v → cells ≡ [] → v.held ≡ []
+  pub held-none : (o : Opening PageCell Q R) (cells : Cells) (v : ChairView PageCell Q R E) → HoldsOnlyPages μ o cells v → cells ≡ [] → v.held ≡ []
   held-none o cells v h none = none-held v.held (λ k. h.only k ∙ ap (times k) none)

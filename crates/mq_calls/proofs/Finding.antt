@@ -28,7 +28,7 @@ use Rattle.mq_tree.specs.declared.request.Request.{Request}
 use Rattle.mq_turns.specs.Desk.{Sees}
 use Rattle.mq_turns.specs.Meaning.{Meaning}
 use Rattle.mq_turns.specs.declared.rule.Opening.{Opening}
-use Rattle.mq_turns.specs.declared.rule.View.{View}
+use Rattle.mq_turns.specs.declared.rule.ChairView.{ChairView}
 use Rattle.mq_turns.proofs.Seen.{opening_seen}
 use Rattle.mq_calls.specs.Pages.{HoldsPages, IsSeen}
 use Rattle.mq_calls.specs.Runs
@@ -58,7 +58,7 @@ module _ {P : Type 0} {G : Ghosts P} (state : P → PortState) (faults : P → L
   abbrev μ : Meaning PageCell (QueueSide P FileEntry G) (Root P G) FileEntry
   μ = Runs.files state faults
 
-  module _ (g : Geometry) (o : Opening PageCell (QueueSide P FileEntry G) (Root P G)) (cells : Cells) (v : View PageCell (QueueSide P FileEntry G) (Root P G) FileEntry) (opening : v.opening ≡ Some o) (shape : shape_of V file_group o ≡ g) (held : HoldsPages μ o cells v) where
+  module _ (g : Geometry) (o : Opening PageCell (QueueSide P FileEntry G) (Root P G)) (cells : Cells) (v : ChairView PageCell (QueueSide P FileEntry G) (Root P G) FileEntry) (opening : v.opening ≡ Some o) (shape : shape_of V file_group o ≡ g) (held : HoldsPages μ o cells v) where
     shape-is : (K : Desk V file_group) → Sees μ v K → geometry_of V file_group K ≡ g
     shape-is K s = ap (shape_of V file_group) (opening_seen μ o K v opening s) ∙ shape
 

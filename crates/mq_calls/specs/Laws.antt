@@ -12,14 +12,14 @@ use Rattle.mq_turns.specs.Desk.{Sees, refreshed}
 use Rattle.mq_turns.specs.Meaning.{Meaning}
 use Rattle.mq_turns.specs.declared.rule.Known.{Known}
 use Rattle.mq_turns.specs.declared.rule.Opening.{Opening}
-use Rattle.mq_turns.specs.declared.rule.View.{View}
+use Rattle.mq_turns.specs.declared.rule.ChairView.{ChairView}
 use Rattle.mq_calls.specs.Pages.{HoldsPages, IsAfterStep, blocks_of}
 
 module _ {Q R E : Type 0} (μ : Meaning PageCell Q R E) where
   -- whatever is known by now, each cell is what the machine says of its page
   abbrev pub CellsAreCurrent : Type 0
   CellsAreCurrent =
-      (o : Opening PageCell Q R) (cells : Cells) (v : View PageCell Q R E) (K : Known PageCell Q R E) (b : ℕ) (c : PageCell)
+      (o : Opening PageCell Q R) (cells : Cells) (v : ChairView PageCell Q R E) (K : Known PageCell Q R E) (b : ℕ) (c : PageCell)
       → v.opening ≡ Some o
       → HoldsPages μ o cells v
       → Sees μ v K
@@ -29,7 +29,7 @@ module _ {Q R E : Type 0} (μ : Meaning PageCell Q R E) where
   -- the pages stay held while the session takes a turn with another slot
   abbrev pub PagesStayAtTake : Type 0
   PagesStayAtTake =
-      (o : Opening PageCell Q R) (cells : Cells) (v : View PageCell Q R E) (k : ℕ) (K : Known PageCell Q R E)
+      (o : Opening PageCell Q R) (cells : Cells) (v : ChairView PageCell Q R E) (k : ℕ) (K : Known PageCell Q R E)
       → All (λ b. b ≢ k) (blocks_of cells)
       → HoldsPages μ o cells v
       → HoldsPages μ o cells (holding k K v)
@@ -37,7 +37,7 @@ module _ {Q R E : Type 0} (μ : Meaning PageCell Q R E) where
   -- and when it gives one back
   abbrev pub PagesStayAtGiveBack : Type 0
   PagesStayAtGiveBack =
-      (o : Opening PageCell Q R) (cells : Cells) (v : View PageCell Q R E) (k : ℕ)
+      (o : Opening PageCell Q R) (cells : Cells) (v : ChairView PageCell Q R E) (k : ℕ)
       → All (λ b. b ≢ k) (blocks_of cells)
       → HoldsPages μ o cells v
       → HoldsPages μ o cells (giving k v)
@@ -45,7 +45,7 @@ module _ {Q R E : Type 0} (μ : Meaning PageCell Q R E) where
   -- and at a step of its own that is about other turns, which it then knows of anew
   abbrev pub PagesStayAtStep : Type 0
   PagesStayAtStep =
-      (o : Opening PageCell Q R) (cells : Cells) (v w : View PageCell Q R E) (about : ℕ → Bool) (L : Known PageCell Q R E)
+      (o : Opening PageCell Q R) (cells : Cells) (v w : ChairView PageCell Q R E) (about : ℕ → Bool) (L : Known PageCell Q R E)
       → All (λ b. about b ≡ false) (blocks_of cells)
       → w.held ≡ refreshed about L v.held
       → HoldsPages μ o cells v
@@ -54,7 +54,7 @@ module _ {Q R E : Type 0} (μ : Meaning PageCell Q R E) where
   -- a step that is about some of them, as a draw is, gives them the cells that the machine then has for them
   abbrev pub PagesFollowStep : Type 0
   PagesFollowStep =
-      (o : Opening PageCell Q R) (cells new : Cells) (v w : View PageCell Q R E) (about : ℕ → Bool) (L : Known PageCell Q R E)
+      (o : Opening PageCell Q R) (cells new : Cells) (v w : ChairView PageCell Q R E) (about : ℕ → Bool) (L : Known PageCell Q R E)
       → AllZip (IsAfterStep μ about L) cells new
       → w.held ≡ refreshed about L v.held
       → HoldsPages μ o cells v

@@ -7,7 +7,7 @@ use Rattle.mq_turns.specs.Lists.{Each, times, without}
 use Rattle.mq_turns.specs.Meaning.{Meaning}
 use Rattle.mq_turns.specs.declared.rule.Known.{Known}
 use Rattle.mq_turns.specs.declared.rule.Opening.{Opening}
-use Rattle.mq_turns.specs.declared.rule.View.{View}
+use Rattle.mq_turns.specs.declared.rule.ChairView.{ChairView}
 use Rattle.mq_turns.specs.declared.turn.Turn.TheVariants.{Page}
 
 -- the blocks of cells, in their order
@@ -28,27 +28,27 @@ module _ {A : Type 0} where
 
 module _ {Q R E : Type 0} where
   -- the session takes turns of pages, the last taken first, and gives these pages back
-  abbrev pub taking_pages : List (ℕ × Known PageCell Q R E) → View PageCell Q R E → View PageCell Q R E
+  abbrev pub taking_pages : List (ℕ × Known PageCell Q R E) → ChairView PageCell Q R E → ChairView PageCell Q R E
   taking_pages taken v = record v { hand = 0; held = taken ++ v.held }
 
-  abbrev pub giving_pages : List ℕ → View PageCell Q R E → View PageCell Q R E
+  abbrev pub giving_pages : List ℕ → ChairView PageCell Q R E → ChairView PageCell Q R E
   giving_pages blocks v = record v { hand = 0; held = without_each blocks v.held }
 
 module _ {Q R E : Type 0} (μ : Meaning PageCell Q R E) where
   -- The session holds the turn of the block's page, and the cell is what the machine says of the page by what the
   -- session knows of that turn.
-  pub record HoldsPage (o : Opening PageCell Q R) (v : View PageCell Q R E) (b : ℕ) (c : PageCell) : Type 0 where
+  pub record HoldsPage (o : Opening PageCell Q R) (v : ChairView PageCell Q R E) (b : ℕ) (c : PageCell) : Type 0 where
     pub turn : IsTurn o (Page b)
     pub holds : 0 < times b v.held
     pub is : Each (λ h. h.0 ≡ b → μ.page b h.1 c) v.held
 
   -- It holds the page of each of these cells. The cells stand by rising block.
-  pub record HoldsPages (o : Opening PageCell Q R) (cells : Cells) (v : View PageCell Q R E) : Type 0 where
+  pub record HoldsPages (o : Opening PageCell Q R) (cells : Cells) (v : ChairView PageCell Q R E) : Type 0 where
     pub rising : IsRising cells
     pub each : Each (λ x. HoldsPage o v x.0 x.1) cells
 
   -- And it holds no other turn.
-  pub record HoldsOnlyPages (o : Opening PageCell Q R) (cells : Cells) (v : View PageCell Q R E) : Type 0 where
+  pub record HoldsOnlyPages (o : Opening PageCell Q R) (cells : Cells) (v : ChairView PageCell Q R E) : Type 0 where
     pub pages : HoldsPages o cells v
     pub only : (k : ℕ) → times k v.held ≡ times k cells
 
@@ -60,11 +60,11 @@ module _ {Q R E : Type 0} (μ : Meaning PageCell Q R E) where
     pub about_others : about old.0 ≡ false → new.1 ≡ old.1
 
   -- something may be known by now
-  abbrev pub IsSeen : View PageCell Q R E → Type 0
+  abbrev pub IsSeen : ChairView PageCell Q R E → Type 0
   IsSeen v = (K : Known PageCell Q R E) × Sees μ v K
 
   -- The session has taken the pages of these blocks, in their order. Nothing else of it changes.
-  pub record TakesPages (blocks : List ℕ) (old new : View PageCell Q R E) : Type 0 where
+  pub record TakesPages (blocks : List ℕ) (old new : ChairView PageCell Q R E) : Type 0 where
     pub taken : List (ℕ × Known PageCell Q R E)
     pub slots : map (λ h. h.0) taken ≡ reverse blocks
     pub is : new ≡ taking_pages taken old

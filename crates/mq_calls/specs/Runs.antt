@@ -22,7 +22,7 @@ use Rattle.mq_tree.specs.declared.request.Request.{Request}
 use Rattle.mq_turns.specs.Desk.{Sees}
 use Rattle.mq_turns.specs.Meaning.{Meaning}
 use Rattle.mq_turns.specs.declared.rule.Opening.{Opening}
-use Rattle.mq_turns.specs.declared.rule.View.{View}
+use Rattle.mq_turns.specs.declared.rule.ChairView.{ChairView}
 
 module _ {P : Type 0} {G : Ghosts P} (state : P → PortState) (faults : P → List Fault) where
   -- what the sides and the root show, and what the values and the groups mean
@@ -38,6 +38,6 @@ module _ {P : Type 0} {G : Ghosts P} (state : P → PortState) (faults : P → L
 
   -- The page of each block that the group changes is held, and whatever is known by now, the group is done so on the map
   -- at the newest number.
-  pub record IsDoneOnHeld (session : ℕ) (requests : List Request) (cells : Cells) (v : View PageCell (QueueSide P FileEntry G) (Root P G) FileEntry) (done : Done) : Type 0 where
+  pub record IsDoneOnHeld (session : ℕ) (requests : List Request) (cells : Cells) (v : ChairView PageCell (QueueSide P FileEntry G) (Root P G) FileEntry) (done : Done) : Type 0 where
     pub known : AreKnown (held_pages cells) done
     pub does : (K : Desk file_values file_group) → Sees files v K → DoneOn (geometry_of file_values file_group K) session (map_now file_values file_group K) requests done

@@ -5,7 +5,7 @@ use Rattle.mq_pages.specs.Held.{Cells}
 use Rattle.mq_pages.specs.declared.page.PageCell.{PageCell}
 use Rattle.mq_turns.specs.Meaning.{Meaning}
 use Rattle.mq_turns.specs.declared.rule.Opening.{Opening}
-use Rattle.mq_turns.specs.declared.rule.View.{View}
+use Rattle.mq_turns.specs.declared.rule.ChairView.{ChairView}
 use Rattle.mq_calls.specs.Pages.{HoldsOnlyPages, IsSeen, blocks_of}
 
 -- home blocks of so many, by rising number
@@ -26,12 +26,12 @@ pub record AreTogether (blocks others both : List ℕ) : Type 0 where
 
 module _ {Q R E : Type 0} where
   -- Nothing of the session changes but the turns that it holds, and the greatest number that it knows of.
-  abbrev pub IsSameSession : (old new : View PageCell Q R E) → Type 0
+  abbrev pub IsSameSession : (old new : ChairView PageCell Q R E) → Type 0
   IsSameSession old new = new ≡ record old { seen = new.seen; hand = new.hand; held = new.held }
 
 module _ {Q R E : Type 0} (μ : Meaning PageCell Q R E) where
   -- The session holds just the pages of the wanted blocks, and something may be known by now.
-  pub record HoldsWanted (o : Opening PageCell Q R) (wanted : List ℕ) (cells : Cells) (v : View PageCell Q R E) : Type 0 where
+  pub record HoldsWanted (o : Opening PageCell Q R) (wanted : List ℕ) (cells : Cells) (v : ChairView PageCell Q R E) : Type 0 where
     pub pages : HoldsOnlyPages μ o cells v
     pub blocks : HaveSame wanted (blocks_of cells)
     pub seen : IsSeen μ v

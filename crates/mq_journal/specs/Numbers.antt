@@ -30,7 +30,7 @@ use Rattle.mq_turns.specs.declared.rule.Notice.TheVariants as notice
 use Rattle.mq_turns.specs.declared.rule.Opening.{Opening}
 use Rattle.mq_turns.specs.declared.rule.Reading.{Reading}
 use Rattle.mq_turns.specs.declared.rule.Report.{Report}
-use Rattle.mq_turns.specs.declared.rule.View.{View}
+use Rattle.mq_turns.specs.declared.rule.ChairView.{ChairView}
 use Rattle.mq_turns.specs.declared.turn.Turn.{Turn}
 use Rattle.mq_turns.specs.declared.turn.Turn.TheVariants.{Side}
 use Rattle.mq_journal.specs.Machine.{journal}
@@ -44,7 +44,7 @@ abbrev pub Shared : (P E : Type 0) → Ghosts P → Type 0
 Shared P E G = Known PageCell (QueueSide P E G) (Root P G) E
 
 abbrev pub Seat : (P E : Type 0) → Ghosts P → Type 0
-Seat P E G = View PageCell (QueueSide P E G) (Root P G) E
+Seat P E G = ChairView PageCell (QueueSide P E G) (Root P G) E
 
 -- a report of the port of a queue's side
 abbrev pub reported : ℕ → Report → Charge

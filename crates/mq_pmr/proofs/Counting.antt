@@ -11,7 +11,7 @@ use Rattle.mq_blocks.specs.declared.command.Command.{Command}
 use Rattle.mq_pmr.specs.Queue.{times, AreNamed}
 use Rattle.mq_pmr.specs.Rungs.{are_from}
 use Rattle.mq_pmr.specs.Slots.{tx_in, blank}
-use Rattle.mq_pmr.specs.declared.slots.Slot.{Slot}
+use Rattle.mq_pmr.specs.declared.slots.SlotRecord.{SlotRecord}
 
 -- whether one command stands at a count, as a number
 pub at_count : ℕ → Command → ℕ
@@ -78,22 +78,22 @@ are_from-no low n (c ∷ cs) less some = elim (cases_eq c.count n) [
 
 -- ---- the transactions that the slots name
 
-pub named_set : (slots : List Slot) (k : ℕ) (v : Slot) (cs : List Command) → ((n : ℕ) → 0 < times n cs → n % depth ≢ k) → AreNamed slots cs → AreNamed (set slots k v) cs
+pub named_set : (slots : List SlotRecord) (k : ℕ) (v : SlotRecord) (cs : List Command) → ((n : ℕ) → 0 < times n cs → n % depth ≢ k) → AreNamed slots cs → AreNamed (set slots k v) cs
 named_set slots k v [] other named = λ i d less. absurd (omega (arith, less))
 named_set slots k v (c ∷ cs) other named =
     let here : c.count % depth ≢ k = other c.count (omega (arith, times-cons c.count c cs, at_count-here c.count c refl)) in
     let kept : tx_in (set slots k v) (c.count % depth) ≡ c.tx =
-    ap (λ (s : Slot). s.tx) (get_or-set_other slots k (c.count % depth) v blank here) ∙ named 0 c (omega arith) in
+    ap (λ (s : SlotRecord). s.tx) (get_or-set_other slots k (c.count % depth) v blank here) ∙ named 0 c (omega arith) in
     All-cons (λ d. tx_in (set slots k v) (d.count % depth) ≡ d.tx) c cs kept
     (named_set slots k v cs (λ n some. other n (omega (arith, times-cons n c cs, some)))
     (All-rest (λ d. tx_in slots (d.count % depth) ≡ d.tx) c cs (c ∷ cs) refl named))
 
-pub tx_kept : (slots : List Slot) (k j : ℕ) (v : Slot) → k < length slots → v.tx ≡ tx_in slots k → tx_in (set slots k v) j ≡ tx_in slots j
+pub tx_kept : (slots : List SlotRecord) (k j : ℕ) (v : SlotRecord) → k < length slots → v.tx ≡ tx_in slots k → tx_in (set slots k v) j ≡ tx_in slots j
 tx_kept slots k j v within same = elim (cases_eq j k) [
   | inl here ↦
-      ap (λ (n : ℕ). tx_in (set slots k v) n) here ∙ ap (λ (s : Slot). s.tx) (get_or-set_same slots k v blank within) ∙ same ∙ ap (tx_in slots) (sym here)
-  | inr other ↦ ap (λ (s : Slot). s.tx) (get_or-set_other slots k j v blank other)
+      ap (λ (n : ℕ). tx_in (set slots k v) n) here ∙ ap (λ (s : SlotRecord). s.tx) (get_or-set_same slots k v blank within) ∙ same ∙ ap (tx_in slots) (sym here)
+  | inr other ↦ ap (λ (s : SlotRecord). s.tx) (get_or-set_other slots k j v blank other)
 ]
 
-pub named_same : (slots : List Slot) (k : ℕ) (v : Slot) (cs : List Command) → k < length slots → v.tx ≡ tx_in slots k → AreNamed slots cs → AreNamed (set slots k v) cs
+pub named_same : (slots : List SlotRecord) (k : ℕ) (v : SlotRecord) (cs : List Command) → k < length slots → v.tx ≡ tx_in slots k → AreNamed slots cs → AreNamed (set slots k v) cs
 named_same slots k v cs within same named = λ i d less. tx_kept slots k _ v within same ∙ named i d less

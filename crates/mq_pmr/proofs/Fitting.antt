@@ -18,7 +18,7 @@ use Rattle.mq_pmr.specs.Queue.{Fits, Kept, times, waiting, one_unless, AreNamed}
 use Rattle.mq_pmr.specs.Rungs.{AreEnds, TellsDone, is_clear, are_from}
 use Rattle.mq_pmr.specs.Slots.{AllDone, done_at, tx_in, blank}
 use Rattle.mq_pmr.specs.declared.rungs.Rung.{Rung}
-use Rattle.mq_pmr.specs.declared.slots.Slot.{Slot}
+use Rattle.mq_pmr.specs.declared.slots.SlotRecord.{SlotRecord}
 use Rattle.mq_pmr.proofs.Counting.{at_count, at_count-here, at_count-other, times-append, times-one, times-remove, times-at, from_none, are_from-yes, are_from-no, named_set, named_same}
 
 -- counts that are less than a ring apart have different slots
@@ -32,11 +32,11 @@ other_slots low m n m_low n_low m_high n_high other same = elim (cases_lt m n) [
   | inr more ↦ apart_slots n m (omega (arith, more, other)) (omega (arith, n_low, m_high)) (sym same)
 ]
 
-done-other : (slots : List Slot) (m n : ℕ) (v : Slot) → n % depth ≢ m % depth → done_at (set slots (m % depth) v) n ≡ done_at slots n
-done-other slots m n v other = ap (λ (s : Slot). s.done) (get_or-set_other slots (m % depth) (n % depth) v blank other)
+done-other : (slots : List SlotRecord) (m n : ℕ) (v : SlotRecord) → n % depth ≢ m % depth → done_at (set slots (m % depth) v) n ≡ done_at slots n
+done-other slots m n v other = ap (λ (s : SlotRecord). s.done) (get_or-set_other slots (m % depth) (n % depth) v blank other)
 
-done-same : (slots : List Slot) (m : ℕ) (v : Slot) → length slots ≡ depth → done_at (set slots (m % depth) v) m ≡ v.done
-done-same slots m v ring = ap (λ (s : Slot). s.done) (get_or-set_same slots (m % depth) v blank (omega (arith, ring)))
+done-same : (slots : List SlotRecord) (m : ℕ) (v : SlotRecord) → length slots ≡ depth → done_at (set slots (m % depth) v) m ≡ v.done
+done-same slots m v ring = ap (λ (s : SlotRecord). s.done) (get_or-set_same slots (m % depth) v blank (omega (arith, ring)))
 
 -- a command that waits stands between the passed and the staged end
 pub where_waiting : (s : PortState) (k : Kept) (n : ℕ) → Fits s k → 0 < waiting s n → (k.passed ≤ n) × (n < k.end)
@@ -51,7 +51,7 @@ pub fits_staged : (s : PortState) (k : Kept) (entry : List ℕ) (tx lba : ℕ) (
     → Fits (after_stage s entry tx lba block) (record k { slots = set k.slots (k.end % depth) (record { tx = tx; done = false }); end = k.end + 1; staged = whole })
 fits_staged s k entry tx lba block whole fits room =
     let c : Command = record { count = staged_end s; tx = tx; lba = lba; block = block } in
-    let v : Slot = record { tx = tx; done = false } in
+    let v : SlotRecord = record { tx = tx; done = false } in
     let t : PortState = after_stage s entry tx lba block in
     let at : k.end ≡ staged_end s = fits.end in
     let count : c.count ≡ k.end = sym at in
@@ -65,7 +65,7 @@ fits_staged s k entry tx lba block whole fits room =
     (λ n some. let here = where_waiting s k n fits (omega (arith, some, few n)) in apart n here.0 here.1) named in
     let named : tx_in (set k.slots (k.end % depth) v) (c.count % depth) ≡ tx =
     ap (λ (m : ℕ). tx_in (set k.slots (k.end % depth) v) (m % depth)) count
-    ∙ ap (λ (x : Slot). x.tx) (get_or-set_same k.slots (k.end % depth) v blank (omega (arith, fits.ring))) in
+    ∙ ap (λ (x : SlotRecord). x.tx) (get_or-set_same k.slots (k.end % depth) v blank (omega (arith, fits.ring))) in
     record {
       queue = fits.queue;
       ring = length-set k.slots (k.end % depth) v ∙ fits.ring;
@@ -154,7 +154,7 @@ is_posted s k i c fits is =
       tx = all_at (λ d. tx_in k.slots (d.count % depth) ≡ d.tx) s.posted i c is fits.named_posted;
     }
 
-pub fits_done : (s : PortState) (k : Kept) (i : ℕ) (c : Command) (slot : ℕ) (v : Slot) → Fits s k → slice_get s.posted i ≡ Some c → slot ≡ c.count % depth
+pub fits_done : (s : PortState) (k : Kept) (i : ℕ) (c : Command) (slot : ℕ) (v : SlotRecord) → Fits s k → slice_get s.posted i ≡ Some c → slot ≡ c.count % depth
     → v ≡ record { tx = tx_in k.slots slot; done = true }
     → Fits (after_done s i c) (record k { slots = set k.slots slot v })
 fits_done s k i c slot v fits is slot_is v_is =
@@ -163,8 +163,8 @@ fits_done s k i c slot v fits is slot_is v_is =
     let near : k.end ≤ k.passed + usable_depth = omega (arith, fits.room, fits.heads, fits.stored, fits.done) in
     let moved : (n : ℕ) → waiting s n ≡ waiting t n + at_count n c = λ n. omega (arith, times-remove n i s.posted c is) in
     let in_ring : slot < length k.slots = omega (arith, fits.ring, slot_is) in
-    let tx : v.tx ≡ tx_in k.slots slot = ap (λ (x : Slot). x.tx) v_is in
-    let done : v.done ≡ true = ap (λ (x : Slot). x.done) v_is in
+    let tx : v.tx ≡ tx_in k.slots slot = ap (λ (x : SlotRecord). x.tx) v_is in
+    let done : v.done ≡ true = ap (λ (x : SlotRecord). x.done) v_is in
     let at : (n : ℕ) → done_at (set k.slots slot v) n ≡ done_at (set k.slots (c.count % depth) v) n = λ n. ap (λ (m : ℕ). done_at (set k.slots m v) n) slot_is in
     record {
       queue = fits.queue;

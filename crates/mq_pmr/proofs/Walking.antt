@@ -4,10 +4,10 @@ use Rattle.std.proofs.lemmas.Bool.{cases_lt}
 use Rattle.mq_pmr.specs.Rungs.{AreEnds, TellsDone, Walks, last_leading, left_after}
 use Rattle.mq_pmr.specs.Slots.{AllDone, done_at}
 use Rattle.mq_pmr.specs.declared.rungs.Rung.{Rung}
-use Rattle.mq_pmr.specs.declared.slots.Slot.{Slot}
+use Rattle.mq_pmr.specs.declared.slots.SlotRecord.{SlotRecord}
 
 -- some of them are passed, and what is left leads on to the same
-pub record Onward (slots : List Slot) (limit from : ℕ) (last : Rung) (ts : List Rung) (to : ℕ) (new : Rung) (left : List Rung) : Type 0 where
+pub record Onward (slots : List SlotRecord) (limit from : ℕ) (last : Rung) (ts : List Rung) (to : ℕ) (new : Rung) (left : List Rung) : Type 0 where
   pub up : from ≤ to
   pub all : AllDone slots from to
   pub high : to ≤ limit
@@ -17,7 +17,7 @@ pub record Onward (slots : List Slot) (limit from : ℕ) (last : Rung) (ts : Lis
   pub leads : (passes : ℕ → Bool) → TellsDone passes limit slots from → last_leading passes new left ≡ last_leading passes last ts
   pub leaves : (passes : ℕ → Bool) → TellsDone passes limit slots from → left_after passes left ≡ left_after passes ts
 
-pub onward-start : (slots : List Slot) (limit from : ℕ) (last : Rung) (ts : List Rung) → AreEnds last.end limit ts → last.end ≤ from → from ≤ limit → Onward slots limit from last ts from last ts
+pub onward-start : (slots : List SlotRecord) (limit from : ℕ) (last : Rung) (ts : List Rung) → AreEnds last.end limit ts → last.end ≤ from → from ≤ limit → Onward slots limit from last ts from last ts
 onward-start slots limit from last ts ends low high = record {
   up = omega arith;
   all = λ n least less. absurd (omega (arith, least, less));
@@ -29,7 +29,7 @@ onward-start slots limit from last ts ends low high = record {
   leaves = λ passes tells. refl;
 }
 
-pub all_joined : (slots : List Slot) (from mid to : ℕ) → AllDone slots from mid → AllDone slots mid to → AllDone slots from to
+pub all_joined : (slots : List SlotRecord) (from mid to : ℕ) → AllDone slots from mid → AllDone slots mid to → AllDone slots from to
 all_joined slots from mid to first second n least less = elim (cases_lt n mid) [
   | inl below ↦ first n least below
   | inr above ↦ second n above less
@@ -43,7 +43,7 @@ pub first_end : (low limit : ℕ) (next : Rung) (rest all : List Rung) → all �
 first_end low limit next rest all is ends = ends_high next.end limit rest (subst (AreEnds low limit) is ends).1
 
 -- the next one is passed too
-pub onward_next : (slots : List Slot) (limit from : ℕ) (last : Rung) (ts : List Rung) (to more : ℕ) (new next : Rung) (left rest : List Rung)
+pub onward_next : (slots : List SlotRecord) (limit from : ℕ) (last : Rung) (ts : List Rung) (to more : ℕ) (new next : Rung) (left rest : List Rung)
     → Onward slots limit from last ts to new left → left ≡ next ∷ rest → to ≤ more → AllDone slots to more → more ≤ limit → next.end ≤ more
     → Onward slots limit from last ts more next rest
 onward_next slots limit from last ts to more new next left rest on is up all high end =
@@ -67,7 +67,7 @@ onward_next slots limit from last ts to more new next left rest on is up all hig
     }
 
 -- none is left
-pub onward_none : (slots : List Slot) (limit from : ℕ) (last : Rung) (ts : List Rung) (to : ℕ) (new : Rung) (left : List Rung)
+pub onward_none : (slots : List SlotRecord) (limit from : ℕ) (last : Rung) (ts : List Rung) (to : ℕ) (new : Rung) (left : List Rung)
     → Onward slots limit from last ts to new left → left ≡ [] → Walks slots limit from last ts to new left
 onward_none slots limit from last ts to new left on none = record {
   up = on.up;
@@ -81,7 +81,7 @@ onward_none slots limit from last ts to new left on none = record {
 }
 
 -- an entry of the next one is not done
-pub onward_stops : (slots : List Slot) (limit from : ℕ) (last : Rung) (ts : List Rung) (to more : ℕ) (new next : Rung) (left rest : List Rung)
+pub onward_stops : (slots : List SlotRecord) (limit from : ℕ) (last : Rung) (ts : List Rung) (to more : ℕ) (new next : Rung) (left rest : List Rung)
     → Onward slots limit from last ts to new left → left ≡ next ∷ rest → to ≤ more → AllDone slots to more → more ≤ limit → more < next.end → done_at slots more ≡ false
     → Walks slots limit from last ts more new left
 onward_stops slots limit from last ts to more new next left rest on is up all high short left_open =

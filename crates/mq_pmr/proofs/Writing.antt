@@ -16,7 +16,7 @@ use Rattle.mq_drive.proofs.Commands.{all_remove, all_at}
 use Rattle.mq_pmr.specs.Queue.{Fits, Kept, times, waiting}
 use Rattle.mq_pmr.specs.Slots.{tx_in, blank}
 use Rattle.mq_pmr.specs.Written.{bytes_at, IsWriteOf, AreHeld, IsWritten}
-use Rattle.mq_pmr.specs.declared.slots.Slot.{Slot}
+use Rattle.mq_pmr.specs.declared.slots.SlotRecord.{SlotRecord}
 use Rattle.mq_pmr.proofs.Counting.{at_count-here, times-cons, tx_kept}
 use Rattle.mq_pmr.proofs.Fitting.{where_waiting, other_slots}
 
@@ -55,7 +55,7 @@ pub written_staged : (s : PortState) (k : Kept) (entry : List ℕ) (tx lba : ℕ
     → IsWritten (after_stage s entry tx lba block) (set k.slots (k.end % depth) (record { tx = tx; done = false })) k.done.end (k.end + 1)
 written_staged s k entry tx lba block fits room new w =
     let c : Command = record { count = staged_end s; tx = tx; lba = lba; block = block } in
-    let v : Slot = record { tx = tx; done = false } in
+    let v : SlotRecord = record { tx = tx; done = false } in
     let to : List (List ℕ) = set s.staged (staged_end s % depth) entry in
     let at : k.end ≡ staged_end s = fits.end in
     let low : k.done.end ≤ k.end = omega (arith, at, fits.done, fits.passed) in
@@ -67,13 +67,13 @@ written_staged s k entry tx lba block fits room new w =
     let kept : (cs : List Command) → ((n : ℕ) → times n cs ≤ waiting s n) → AreHeld s.staged cs → AreHeld to cs = λ cs few held.
     held_set s.staged (staged_end s % depth) entry cs
     (λ n some. let here = where_waiting s k n fits (omega (arith, some, few n)) in away n (let up = here.0 in omega (arith, up, fits.done)) here.1) held in
-    let names : List Slot = set k.slots (k.end % depth) v in
+    let names : List SlotRecord = set k.slots (k.end % depth) v in
     record {
       entries = λ n least less. elim (cases_eq n k.end) [
         | inl here ↦
             let named : tx_in names (n % depth) ≡ tx =
             ap (λ (m : ℕ). tx_in names (m % depth)) here
-            ∙ ap (λ (x : Slot). x.tx) (get_or-set_same k.slots (k.end % depth) v blank (omega (arith, fits.ring))) in
+            ∙ ap (λ (x : SlotRecord). x.tx) (get_or-set_same k.slots (k.end % depth) v blank (omega (arith, fits.ring))) in
             let own : IsWriteOf (bytes_at to (staged_end s)) tx (staged_end s % depth) (lba_of (bytes_at to (staged_end s))) = own_lba (bytes_at to (staged_end s)) tx (staged_end s % depth) lba new in
             let there : IsWriteOf (bytes_at to n) tx (n % depth) (lba_of (bytes_at to n)) =
             subst (λ (m : ℕ). IsWriteOf (bytes_at to m) tx (m % depth) (lba_of (bytes_at to m))) (sym (here ∙ at)) own in
@@ -81,7 +81,7 @@ written_staged s k entry tx lba block fits room new w =
         | inr other ↦
             let under : n < k.end = omega (arith, other, less) in
             let same : tx_in names (n % depth) ≡ tx_in k.slots (n % depth) =
-            ap (λ (x : Slot). x.tx) (get_or-set_other k.slots (k.end % depth) (n % depth) v blank (apart n least under)) in
+            ap (λ (x : SlotRecord). x.tx) (get_or-set_other k.slots (k.end % depth) (n % depth) v blank (apart n least under)) in
             let bytes : bytes_at to n ≡ bytes_at s.staged n = other_bytes s.staged (staged_end s % depth) entry n (away n least under) in
             subst (λ (b : List ℕ). IsWriteOf b (tx_in names (n % depth)) (n % depth) (lba_of b)) (sym bytes)
             (subst (λ (x : ℕ). IsWriteOf (bytes_at s.staged n) x (n % depth) (lba_of (bytes_at s.staged n))) (sym same) (w.entries n least under))
@@ -93,7 +93,7 @@ written_staged s k entry tx lba block fits room new w =
       failed = kept s.failed (λ n. omega arith) w.failed;
     }
 
-pub written_rung : (s : PortState) (slots : List Slot) (from to : ℕ) → IsWritten s slots from to → IsWritten (after_ring s) slots from to
+pub written_rung : (s : PortState) (slots : List SlotRecord) (from to : ℕ) → IsWritten s slots from to → IsWritten (after_ring s) slots from to
 written_rung s slots from to w = record {
   entries = w.entries;
   pending = λ i d less. absurd (omega (arith, less));
@@ -101,18 +101,18 @@ written_rung s slots from to w = record {
   failed = w.failed;
 }
 
-pub written_done : (s : PortState) (slots : List Slot) (from to i : ℕ) (c : Command) (slot : ℕ) (v : Slot) → slot < length slots → v ≡ record { tx = tx_in slots slot; done = true }
+pub written_done : (s : PortState) (slots : List SlotRecord) (from to i : ℕ) (c : Command) (slot : ℕ) (v : SlotRecord) → slot < length slots → v ≡ record { tx = tx_in slots slot; done = true }
     → IsWritten s slots from to → IsWritten (after_done s i c) (set slots slot v) from to
 written_done s slots from to i c slot v within v_is w = record {
   entries = λ n least less.
       subst (λ (x : ℕ). IsWriteOf (bytes_at s.staged n) x (n % depth) (lba_of (bytes_at s.staged n)))
-      (sym (tx_kept slots slot (n % depth) v within (ap (λ (x : Slot). x.tx) v_is))) (w.entries n least less);
+      (sym (tx_kept slots slot (n % depth) v within (ap (λ (x : SlotRecord). x.tx) v_is))) (w.entries n least less);
   pending = w.pending;
   posted = all_remove (Held s.staged) i s.posted w.posted;
   failed = w.failed;
 }
 
-pub written_failed : (s : PortState) (slots : List Slot) (from to i : ℕ) (c : Command) → slice_get s.posted i ≡ Some c → IsWritten s slots from to → IsWritten (after_failed s i c) slots from to
+pub written_failed : (s : PortState) (slots : List SlotRecord) (from to i : ℕ) (c : Command) → slice_get s.posted i ≡ Some c → IsWritten s slots from to → IsWritten (after_failed s i c) slots from to
 written_failed s slots from to i c is w = record {
   entries = w.entries;
   pending = w.pending;
@@ -122,7 +122,7 @@ written_failed s slots from to i c is w = record {
 }
 
 -- fewer counts are looked at
-pub written_passed : (s : PortState) (slots : List Slot) (from more to : ℕ) → from ≤ more → IsWritten s slots from to → IsWritten s slots more to
+pub written_passed : (s : PortState) (slots : List SlotRecord) (from more to : ℕ) → from ≤ more → IsWritten s slots from to → IsWritten s slots more to
 written_passed s slots from more to up w =
     record { entries = λ n least less. w.entries n (omega (arith, up, least)) less; pending = w.pending; posted = w.posted; failed = w.failed }
 
@@ -133,7 +133,7 @@ pub record SameRing (s new : PortState) : Type 0 where
   pub posted : new.posted ≡ s.posted
   pub failed : new.failed ≡ s.failed
 
-pub written_same : (s new : PortState) (slots : List Slot) (from to : ℕ) → SameRing s new → IsWritten s slots from to → IsWritten new slots from to
+pub written_same : (s new : PortState) (slots : List SlotRecord) (from to : ℕ) → SameRing s new → IsWritten s slots from to → IsWritten new slots from to
 written_same s new slots from to same w = record {
   entries = λ n least less. subst (λ (l : List (List ℕ)). IsWriteOf (bytes_at l n) (tx_in slots (n % depth)) (n % depth) (lba_of (bytes_at l n))) (sym same.staged) (w.entries n least less);
   pending = moved new.pending s.pending same.pending w.pending;
@@ -147,7 +147,7 @@ written_same s new slots from to same w = record {
 ring_like : (s new t : PortState) → new ≡ t → SameRing s t → SameRing s new
 ring_like s new t is same = subst (SameRing s) (sym is) same
 
-pub home_written : (s new : PortState) (faults more : List Fault) (lba : ℕ) (block : List ℕ) (r : Result HomeStep Off) (slots : List Slot) (from to : ℕ) → HomeGives s faults lba block r new more → IsWritten s slots from to → IsWritten new slots from to
+pub home_written : (s new : PortState) (faults more : List Fault) (lba : ℕ) (block : List ℕ) (r : Result HomeStep Off) (slots : List SlotRecord) (from to : ℕ) → HomeGives s faults lba block r new more → IsWritten s slots from to → IsWritten new slots from to
 home_written s new faults more lba block r slots from to gives w = written_same s new slots from to (same r gives) w
   where
     same : (r : Result HomeStep Off) → HomeGives s faults lba block r new more → SameRing s new

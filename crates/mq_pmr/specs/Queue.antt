@@ -7,11 +7,11 @@ use Rattle.mq_drive.specs.Start.{IsPortOf}
 use Rattle.mq_drive.specs.declared.role.Role.TheVariants.{Queue}
 use Rattle.mq_pmr.specs.Slots.{done_at, tx_in}
 use Rattle.mq_pmr.specs.declared.rungs.Rung.{Rung}
-use Rattle.mq_pmr.specs.declared.slots.Slot.{Slot}
+use Rattle.mq_pmr.specs.declared.slots.SlotRecord.{SlotRecord}
 
 -- what a queue keeps beside its port
 pub record Kept : Type 0 where
-  pub slots : List Slot
+  pub slots : List SlotRecord
   pub end : ℕ
   pub head : ℕ
   pub stored_head : ℕ
@@ -34,7 +34,7 @@ one_unless true = 0
 one_unless false = 1
 
 -- the slots of these commands have the numbers of their transactions
-abbrev pub AreNamed : List Slot → List Command → Type 0
+abbrev pub AreNamed : List SlotRecord → List Command → Type 0
 AreNamed slots cs = All (λ c. tx_in slots (c.count % depth) ≡ c.tx) cs
 
 pub record Fits (s : PortState) (k : Kept) : Type 0 where

@@ -5,7 +5,7 @@ use Rattle.mq_blocks.specs.Drive.{PortState}
 use Rattle.mq_blocks.specs.declared.command.Command.{Command}
 use Rattle.mq_pmr.specs.Slots.{AllDone, done_at}
 use Rattle.mq_pmr.specs.declared.rungs.Rung.{Rung}
-use Rattle.mq_pmr.specs.declared.slots.Slot.{Slot}
+use Rattle.mq_pmr.specs.declared.slots.SlotRecord.{SlotRecord}
 
 -- their ends rise from one count up to another
 abbrev pub AreEnds : ℕ → ℕ → List Rung → Type 0
@@ -41,12 +41,12 @@ left_after passes [] = []
 left_after passes (t ∷ ts) = if passes t.end then left_after passes ts else t ∷ ts
 
 -- The test of an end below a limit tells whether all entries from a count up to that end are done.
-pub record TellsDone (passes : ℕ → Bool) (limit : ℕ) (slots : List Slot) (from : ℕ) : Type 0 where
+pub record TellsDone (passes : ℕ → Bool) (limit : ℕ) (slots : List SlotRecord) (from : ℕ) : Type 0 where
   pub yes : (end : ℕ) → end ≤ limit → AllDone slots from end → passes end ≡ true
   pub no : (end n : ℕ) → end ≤ limit → from ≤ n → n < end → done_at slots n ≡ false → passes end ≡ false
 
 -- From a count and transactions up to a limit, those that lead and are done are passed.
-pub record Walks (slots : List Slot) (limit from : ℕ) (last : Rung) (ts : List Rung) (to : ℕ) (new : Rung) (left : List Rung) : Type 0 where
+pub record Walks (slots : List SlotRecord) (limit from : ℕ) (last : Rung) (ts : List Rung) (to : ℕ) (new : Rung) (left : List Rung) : Type 0 where
   pub up : from ≤ to
   pub all : AllDone slots from to
   pub high : to ≤ limit

@@ -4,7 +4,7 @@ use Rattle.mq_blocks.specs.Drive.{PortState, depth}
 use Rattle.mq_blocks.specs.declared.command.Command.{Command}
 use Rattle.mq_nvme.specs.Entry.{entry_of, lba_of, is_commit}
 use Rattle.mq_pmr.specs.Slots.{tx_in}
-use Rattle.mq_pmr.specs.declared.slots.Slot.{Slot}
+use Rattle.mq_pmr.specs.declared.slots.SlotRecord.{SlotRecord}
 
 -- the bytes in the slot of a count
 abbrev pub bytes_at : List (List ℕ) → ℕ → List ℕ
@@ -20,7 +20,7 @@ AreHeld slots cs = All (λ c. IsWriteOf (bytes_at slots c.count) c.tx (c.count %
 
 -- What was rung and isn't passed, and what waits, stands in the slots: at each count from the end of what is
 -- done up to the staged end the entry of a write, and of each command that has not ended with success its own.
-pub record IsWritten (s : PortState) (slots : List Slot) (from to : ℕ) : Type 0 where
+pub record IsWritten (s : PortState) (slots : List SlotRecord) (from to : ℕ) : Type 0 where
   pub entries : (n : ℕ) → from ≤ n → n < to → IsWriteOf (bytes_at s.staged n) (tx_in slots (n % depth)) (n % depth) (lba_of (bytes_at s.staged n))
   pub pending : AreHeld s.staged s.pending
   pub posted : AreHeld s.staged s.posted

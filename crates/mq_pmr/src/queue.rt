@@ -17,7 +17,7 @@ ghost use Rattle.mq_pmr.specs.Written.{IsWritten};
 
 use crate::Took;
 use crate::rungs::Rung;
-use crate::slots::Slot;
+use crate::slots::SlotRecord;
 use crate::walk::{add_rung, note_done, note_staged, pass_done, tx_of_slot};
 use mq_blocks::{Block, Geometry, Lba, OutOfMemory, QueueNo, RING_DEPTH, TxNo, USABLE_DEPTH};
 use mq_drive::{HomeStep, Off, Port, Step};
@@ -35,7 +35,7 @@ pub struct PmrQueue<P: Port> {
     opened: Snapshot<P>,
     geometry: Geometry,
     queue: QueueNo,
-    slots: Vec<Slot>,
+    slots: Vec<SlotRecord>,
     // the count of the next entry
     end: u64,
     // the head, as last flushed and as last stored
@@ -430,10 +430,10 @@ fn tx_if(tx: u64, commit: bool) -> Option<u64>
 }
 
 // The records of a queue before anything is staged.
-fn records(alloc: Global) -> Result<(Vec<Slot>, VecDeque<Rung>), OutOfMemory>
+fn records(alloc: Global) -> Result<(Vec<SlotRecord>, VecDeque<Rung>), OutOfMemory>
     ensures { IfOk result (λ r. (length r.0.items ≡ depth) × (r.1.items ≡ []) × (usable_depth ≤ deque_capacity r.1)) }
 {
-    let slots = vec![in alloc; Slot { tx: 0, done: false }; RING_DEPTH as usize]?;
+    let slots = vec![in alloc; SlotRecord { tx: 0, done: false }; RING_DEPTH as usize]?;
     let rung = VecDeque::with_capacity(alloc, USABLE_DEPTH as usize)?;
     Ok((slots, rung))
 }

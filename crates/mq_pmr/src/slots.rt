@@ -4,7 +4,7 @@ ghost use Rattle.std.specs.Prelude.{◌≡◌, ◌<◌, ◌≤◌, ◌+◌, ◌%
 /// What is noted of the entry that was last staged in a slot: the number of its transaction, and
 /// whether its command has ended with success.
 #[derive(Clone, Copy)]
-pub struct Slot {
+pub struct SlotRecord {
     pub tx: u64,
     pub done: bool,
 }

@@ -7,31 +7,31 @@ ghost use Rattle.mq_pmr.specs.Slots.{tx_in, done_at, AllDone};
 ghost use Rattle.mq_pmr.specs.Rungs.{AreEnds, Walks};
 
 use crate::rungs::Rung;
-use crate::slots::Slot;
+use crate::slots::SlotRecord;
 use mq_blocks::RING_DEPTH;
 use std::collections::VecDeque;
 
 /// The entry at a count was staged.
-pub fn note_staged(slots: &mut Vec<Slot>, at: u64, tx: u64)
+pub fn note_staged(slots: &mut Vec<SlotRecord>, at: u64, tx: u64)
     requires { length slots.old.items ≡ depth }
     ensures { slots.new.items ≡ slice_set slots.old.items (at % depth) (record { tx = tx; done = false }) }
 {
-    slots[(at % RING_DEPTH as u64) as usize] = Slot { tx, done: false };
+    slots[(at % RING_DEPTH as u64) as usize] = SlotRecord { tx, done: false };
 }
 
 /// The command in a slot has ended with success.
-pub fn note_done(slots: &mut Vec<Slot>, slot: usize)
+pub fn note_done(slots: &mut Vec<SlotRecord>, slot: usize)
     requires ring { length slots.old.items ≡ depth }
     requires slot { slot < depth }
     ensures { slots.new.items ≡ slice_set slots.old.items slot
         (record { tx = tx_in slots.old.items slot; done = true }) }
 {
     let tx = slots[slot].tx;
-    slots[slot] = Slot { tx, done: true };
+    slots[slot] = SlotRecord { tx, done: true };
 }
 
 /// The number of the transaction whose entry is in a slot.
-pub fn tx_of_slot(slots: &Vec<Slot>, slot: usize) -> u64
+pub fn tx_of_slot(slots: &Vec<SlotRecord>, slot: usize) -> u64
     requires ring { length slots.now.items ≡ depth }
     requires slot { slot < depth }
     ensures { result ≡ tx_in slots.now.items slot }
@@ -52,7 +52,7 @@ pub fn add_rung(rung: &mut VecDeque<Rung>, next: Rung)
 }
 
 /// Passes the done entries up to a count, and answers whether all of them are done.
-pub fn pass_to(slots: &Vec<Slot>, passed: &mut u64, end: u64) -> bool
+pub fn pass_to(slots: &Vec<SlotRecord>, passed: &mut u64, end: u64) -> bool
     requires { length slots.now.items ≡ depth }
     ensures up { passed.old ≤ passed.new }
     ensures all { AllDone slots.now.items passed.old passed.new }
@@ -70,7 +70,12 @@ pub fn pass_to(slots: &Vec<Slot>, passed: &mut u64, end: u64) -> bool
 }
 
 /// Passes the transactions that lead and are done, and notes the last of them.
-pub fn pass_done(slots: &Vec<Slot>, passed: &mut u64, done: &mut Rung, rung: &mut VecDeque<Rung>)
+pub fn pass_done(
+    slots: &Vec<SlotRecord>,
+    passed: &mut u64,
+    done: &mut Rung,
+    rung: &mut VecDeque<Rung>,
+)
     requires { length slots.now.items ≡ depth }
     ensures capacity { deque_capacity rung.old ≤ deque_capacity rung.new }
     ensures walk { (limit : ℕ)

@@ -13,7 +13,7 @@ use Rattle.mq_turns.specs.Desk.{IsTurn, slot_of, turn_at, refreshed, Stay, Sees,
 use Rattle.mq_test_turns.specs.Counting.{votes, Counted, counted_along, counting}
 use Rattle.mq_turns.specs.declared.rule.Opening.{Opening}
 use Rattle.mq_turns.specs.declared.rule.Known.{Known}
-use Rattle.mq_turns.specs.declared.rule.View.{View}
+use Rattle.mq_turns.specs.declared.rule.ChairView.{ChairView}
 use Rattle.mq_turns.specs.declared.turn.Turn.{Turn}
 use Rattle.mq_turns.specs.declared.turn.Turn.TheVariants.{Page, Side, Root}
 use Rattle.mq_turns.specs.declared.turn.Item.TheVariants as item
@@ -30,16 +30,16 @@ module _ {E Q : Type 0} (queue session group : E → ℕ) (state : Q → ℕ) (o
   μ = counting queue session group state
 
   -- the chair holds the side of the queue alone, and the side is what the chair knows of it
-  pub record OnSide (q : ℕ) (v : View ℕ Q ℕ E) (x : Q) : Type 0 where
+  pub record OnSide (q : ℕ) (v : ChairView ℕ Q ℕ E) (x : Q) : Type 0 where
     pub known : Known ℕ Q ℕ E
     pub turn : q < length o.sides
     pub opening : v.opening ≡ Some o
     pub held : v.held ≡ (slot_of o (Side q), known) ∷ []
     pub counted : Counted queue state q known x
 
-  module _ (q : ℕ) (v w : View ℕ Q ℕ E) (x : Q) where
+  module _ (q : ℕ) (v w : ChairView ℕ Q ℕ E) (x : Q) where
     pub side_taken : (K : Known ℕ Q ℕ E) → q < length o.sides → w.opening ≡ Some o → w ≡ holding (slot_of o (Side q)) K v → v.held ≡ [] → Counted queue state q K x → OnSide q w x
-    side_taken K lt opening is idle counted = record { known = K; turn = lt; opening = opening; held = ap (λ (u : View ℕ Q ℕ E). u.held) is ∙ ap (λ l. (slot_of o (Side q), K) ∷ l) idle; counted = counted }
+    side_taken K lt opening is idle counted = record { known = K; turn = lt; opening = opening; held = ap (λ (u : ChairView ℕ Q ℕ E). u.held) is ∙ ap (λ l. (slot_of o (Side q), K) ∷ l) idle; counted = counted }
 
     pub side_same : w.opening ≡ v.opening → w.held ≡ v.held → OnSide q v x → OnSide q w x
     side_same opening held s = record { known = s.known; turn = s.turn; opening = opening ∙ s.opening; held = held ∙ s.held; counted = s.counted }
@@ -70,8 +70,8 @@ module _ {E Q : Type 0} (queue session group : E → ℕ) (state : Q → ℕ) (o
       side_cleared low L sees is = record {
         known = claimed (claim_of q low (newest L)) L;
         turn = s.turn;
-        opening = ap (λ (u : View ℕ Q ℕ E). u.opening) is ∙ s.opening;
-        held = renews (same_turn (Side q)) (claimed (claim_of q low (newest L)) L) (eq-eqb q q refl) (opening_seen μ o L v s.opening sees) (ap (λ (u : View ℕ Q ℕ E). u.held) is);
+        opening = ap (λ (u : ChairView ℕ Q ℕ E). u.opening) is ∙ s.opening;
+        held = renews (same_turn (Side q)) (claimed (claim_of q low (newest L)) L) (eq-eqb q q refl) (opening_seen μ o L v s.opening sees) (ap (λ (u : ChairView ℕ Q ℕ E). u.held) is);
         counted = now L sees;
       }
 
@@ -84,13 +84,13 @@ module _ {E Q : Type 0} (queue session group : E → ℕ) (state : Q → ℕ) (o
           record {
             known = drawn e L;
             turn = s.turn;
-            opening = ap (λ (u : View ℕ Q ℕ E). u.opening) is ∙ s.opening;
-            held = renews (λ t. μ.touches L.log e t) (drawn e L) (eq-eqb (queue e) q own) (opening_seen μ o L v s.opening sees) (ap (λ (u : View ℕ Q ℕ E). u.held) is);
+            opening = ap (λ (u : ChairView ℕ Q ℕ E). u.opening) is ∙ s.opening;
+            held = renews (λ t. μ.touches L.log e t) (drawn e L) (eq-eqb (queue e) q own) (opening_seen μ o L v s.opening sees) (ap (λ (u : ChairView ℕ Q ℕ E). u.held) is);
             counted = ap (λ m. m % 18446744073709551616) bumped ∙ (mod-mod (state x + 1) 18446744073709551616 ∙ (sym (mod-add-mod (state x) 18446744073709551616 1) ∙ (ap (λ m. (m + 1) % 18446744073709551616) (now L sees) ∙ (mod-add-mod (a + n) 18446744073709551616 1 ∙ ap (λ m. m % 18446744073709551616) sum))));
           }
 
       -- a vote on the queue may be drawn, where the chair has just stored a mark that is low enough
-      pub side_covers : (e : E) (u : View ℕ Q ℕ E) (low : ℕ) (L : Known ℕ Q ℕ E) → Sees μ u L → v ≡ after_clear q low L u → s.known ≡ claimed (claim_of q low (newest L)) L → low ≤ suc v.seen → queue e ≡ q → Covers μ e v
+      pub side_covers : (e : E) (u : ChairView ℕ Q ℕ E) (low : ℕ) (L : Known ℕ Q ℕ E) → Sees μ u L → v ≡ after_clear q low L u → s.known ≡ claimed (claim_of q low (newest L)) L → low ≤ suc v.seen → queue e ≡ q → Covers μ e v
       side_covers e u low L seen is known le own = record { held = holds; may = λ K sees few. tt; mark = marks }
         where
           holds : (K : Known ℕ Q ℕ E) → Sees μ v K → (t : Turn) → IsTurn K.opening t → μ.touches K.log e t ≡ true → 0 < times (slot_of K.opening t) v.held
@@ -118,11 +118,11 @@ module _ {E Q : Type 0} (queue session group : E → ℕ) (state : Q → ℕ) (o
     root = root;
   }
 
-  pub follows_fresh : (e : E) (i : ℕ) (v : View ℕ Q ℕ E) → v ≡ fresh o i → session e ≡ i → Follows (counting queue session group state) e v
-  follows_fresh e i v is own = let F : View ℕ Q ℕ E → Type 0 = λ u. Follows (counting queue session group state) e u in subst F (sym is) record { session = own; drawn = tt; read = tt }
+  pub follows_fresh : (e : E) (i : ℕ) (v : ChairView ℕ Q ℕ E) → v ≡ fresh o i → session e ≡ i → Follows (counting queue session group state) e v
+  follows_fresh e i v is own = let F : ChairView ℕ Q ℕ E → Type 0 = λ u. Follows (counting queue session group state) e u in subst F (sym is) record { session = own; drawn = tt; read = tt }
 
 -- the root of a chair that holds it alone
-module _ {E Q : Type 0} (queue session group : E → ℕ) (state : Q → ℕ) (o : Opening ℕ Q ℕ) (v : View ℕ Q ℕ E) (K0 : Known ℕ Q ℕ E) (opening : v.opening ≡ Some o) (held : v.held ≡ (slot_of o Root, K0) ∷ []) where
+module _ {E Q : Type 0} (queue session group : E → ℕ) (state : Q → ℕ) (o : Opening ℕ Q ℕ) (v : ChairView ℕ Q ℕ E) (K0 : Known ℕ Q ℕ E) (opening : v.opening ≡ Some o) (held : v.held ≡ (slot_of o Root, K0) ∷ []) where
   abbrev ν : Rattle.mq_turns.specs.Meaning.Meaning ℕ Q ℕ E
   ν = counting queue session group state
 
@@ -135,9 +135,9 @@ module _ {E Q : Type 0} (queue session group : E → ℕ) (state : Q → ℕ) (o
       (subst (λ t. Stay ν t K0 K) (turn_seen ν o K v Root opening sees tt) all.0.1).word refl
 
   -- after a raise
-  pub root_raised : (M : Type 0) (base : ℕ) (L K : Known ℕ Q ℕ E) (w : View ℕ Q ℕ E) → w ≡ after_raise base L v → Sees ν v L → Sees ν w K → Stands {M = M} ν Root K (item.Root base)
+  pub root_raised : (M : Type 0) (base : ℕ) (L K : Known ℕ Q ℕ E) (w : ChairView ℕ Q ℕ E) → w ≡ after_raise base L v → Sees ν v L → Sees ν w K → Stands {M = M} ν Root K (item.Root base)
   root_raised M base L K w is sees seen =
       let now : (raised base L).opening ≡ o = opening_seen ν o L v opening sees in
       let about : same_turn Root (turn_at (raised base L).opening (slot_of o Root)) ≡ true = ap (λ p. same_turn Root (turn_at p (slot_of o Root))) now ∙ ap (same_turn Root) (turn_at_slot o Root tt) in
       stands_renewed {M = M} ν (λ k. same_turn Root (turn_at (raised base L).opening k)) (raised base L) K v w Root (slot_of o Root) (item.Root base)
-      (ap (λ (u : View ℕ Q ℕ E). u.held) is) about root_held (turn_seen ν o K w Root (ap (λ (u : View ℕ Q ℕ E). u.opening) is ∙ opening) seen tt) seen refl
+      (ap (λ (u : ChairView ℕ Q ℕ E). u.held) is) about root_held (turn_seen ν o K w Root (ap (λ (u : ChairView ℕ Q ℕ E). u.opening) is ∙ opening) seen tt) seen refl

@@ -11,7 +11,7 @@ use Rattle.mq_tree.specs.Counts.{IsCountable, counts_in, counts_of, counts_of_vo
 use Rattle.mq_tree.specs.Sound.{IsBody, IsSound}
 use Rattle.mq_tree.specs.Trees.{IsAlike, body_kept, kept}
 use Rattle.mq_tree.specs.Volume.{Body, Free, File, Dir, Node, Volume, body, thing}
-use Rattle.mq_tree.specs.declared.contents.Content.{Content}
+use Rattle.mq_tree.specs.declared.contents.InodeContent.{InodeContent}
 use Rattle.mq_tree.specs.declared.counts.TreeCounts.{TreeCounts}
 use Rattle.mq_tree.proofs.Alike.{same-on}
 
@@ -81,34 +81,34 @@ alike-countable v w alike c =
 -- ---- what is kept
 
 -- a number of each of these contents, over all of them
-abbrev pub sum_in : (Body → ℕ) → List Content → ℕ
+abbrev pub sum_in : (Body → ℕ) → List InodeContent → ℕ
 sum_in f cs = sum_by (λ c. f (body_kept c)) cs
 
-sum-kept : (f : Body → ℕ) (cs : List Content) → sum_in f cs ≡ sum_of f (kept cs)
+sum-kept : (f : Body → ℕ) (cs : List InodeContent) → sum_in f cs ≡ sum_of f (kept cs)
 sum-kept f [] = refl
 sum-kept f (c ∷ cs) =
-    let left = sum_by-cons (λ (d : Content). f (body_kept d)) c cs in
+    let left = sum_by-cons (λ (d : InodeContent). f (body_kept d)) c cs in
     let right = sum_by-cons (λ (k : Node). f k.body) (record { body = body_kept c; blocks = []; indirect = None }) (kept cs) in
     let rest = sum-kept f cs in
     omega (arith, left, right, rest)
 
 -- the sum of the first contents and one more is below the limit of the whole
-pub more-below : (f : Body → ℕ) (limit : ℕ) (cs : List Content) (i sum more : ℕ) (c : Content) → sum_of f (kept cs) < limit → i < length cs → c ≡ get_or cs i c → sum ≡ sum_in f (take i cs) → more ≡ f (body_kept c) → sum + more < limit
+pub more-below : (f : Body → ℕ) (limit : ℕ) (cs : List InodeContent) (i sum more : ℕ) (c : InodeContent) → sum_of f (kept cs) < limit → i < length cs → c ≡ get_or cs i c → sum ≡ sum_in f (take i cs) → more ≡ f (body_kept c) → sum + more < limit
 more-below f limit cs i sum more c below low is so one =
-    let g : Content → ℕ = λ d. f (body_kept d) in
+    let g : InodeContent → ℕ = λ d. f (body_kept d) in
     let le = sum_by_more_le g cs i c low in
     let here : g c ≡ g (get_or cs i c) = ap g is in
     let whole = sum-kept f cs in
     omega (arith, below, le, here, whole, so, one)
 
-pub sum-more : (f : Body → ℕ) (cs : List Content) (i sum more : ℕ) (c : Content) → i < length cs → c ≡ get_or cs i c → sum ≡ sum_in f (take i cs) → more ≡ f (body_kept c) → sum + more ≡ sum_in f (take (i + 1) cs)
+pub sum-more : (f : Body → ℕ) (cs : List InodeContent) (i sum more : ℕ) (c : InodeContent) → i < length cs → c ≡ get_or cs i c → sum ≡ sum_in f (take i cs) → more ≡ f (body_kept c) → sum + more ≡ sum_in f (take (i + 1) cs)
 sum-more f cs i sum more c low is so one =
-    let g : Content → ℕ = λ d. f (body_kept d) in
+    let g : InodeContent → ℕ = λ d. f (body_kept d) in
     let next = sum_by_more g cs i c low in
     let here : g c ≡ g (get_or cs i c) = ap g is in
     omega (arith, next, here, so, one)
 
-pub sum-whole : (f : Body → ℕ) (cs : List Content) (i sum : ℕ) → (i < length cs → ⊥) → i ≤ length cs → sum ≡ sum_in f (take i cs) → sum ≡ sum_of f (kept cs)
+pub sum-whole : (f : Body → ℕ) (cs : List InodeContent) (i sum : ℕ) → (i < length cs → ⊥) → i ≤ length cs → sum ≡ sum_in f (take i cs) → sum ≡ sum_of f (kept cs)
 sum-whole f cs i sum past end so =
     let all : i ≡ length cs = omega arith in
     so ∙ ap (λ (k : ℕ). sum_in f (take k cs)) all ∙ ap (sum_in f) (take-length cs) ∙ sum-kept f cs

@@ -13,7 +13,7 @@ use Rattle.mq_tree.specs.Decoded.{Stored, body_of, byte_of, count_of, pointer_to
 use Rattle.mq_tree.specs.Directories.{AreSameNames, IsOnce}
 use Rattle.mq_tree.specs.Trees.{IsAlike, IsSameBody, body_kept, kept}
 use Rattle.mq_tree.specs.Volume.{Free, File, Dir, Node, Volume, Way, Path, body, find, inode_at, slots_of, thing, tree, way}
-use Rattle.mq_tree.specs.declared.contents.Content.{Content}
+use Rattle.mq_tree.specs.declared.contents.InodeContent.{InodeContent}
 use Rattle.mq_tree.proofs.Decoding.{body-dir, body-file, body-free, body-in, length-volume, node-past}
 
 -- ---- bytes
@@ -71,47 +71,47 @@ content-free s n few one two = let zero : n.kind ≡ 0 = omega arith in subst (�
 
 -- ---- all inodes
 
-pub record KeptBelow (g : Geometry) (s : Stored) (i : ℕ) (cs : List Content) : Type 0 where
+pub record KeptBelow (g : Geometry) (s : Stored) (i : ℕ) (cs : List InodeContent) : Type 0 where
   pub size : length cs ≡ i
   pub same : (j : ℕ) → j < i → IsSameBody (body (kept cs) j) (body_of s (the_inode g s j))
   pub once : (j : ℕ) → j < i → IsOnce s (the_inode g s j)
 
-pub kept-start : (g : Geometry) (s : Stored) (cs : List Content) → cs ≡ [] → KeptBelow g s 0 cs
+pub kept-start : (g : Geometry) (s : Stored) (cs : List InodeContent) → cs ≡ [] → KeptBelow g s 0 cs
 kept-start g s cs e = record { size = ap length e; same = λ j low. absurd (omega arith); once = λ j low. absurd (omega arith) }
 
-kept-push : (cs : List Content) (c : Content) (j : ℕ) → j < length cs → body (kept (cs ++ c ∷ [])) j ≡ body (kept cs) j
+kept-push : (cs : List InodeContent) (c : InodeContent) (j : ℕ) → j < length cs → body (kept (cs ++ c ∷ [])) j ≡ body (kept cs) j
 kept-push [] c j low = absurd (omega arith)
 kept-push (d ∷ cs) c zero low = refl
 kept-push (d ∷ cs) c (suc j) low = kept-push cs c j (omega arith)
 
-pub length-kept : (cs : List Content) → length (kept cs) ≡ length cs
+pub length-kept : (cs : List InodeContent) → length (kept cs) ≡ length cs
 length-kept [] = refl
 length-kept (c ∷ cs) = ap suc (length-kept cs)
 
-kept-last : (cs : List Content) (c : Content) → body (kept (cs ++ c ∷ [])) (length cs) ≡ body_kept c
+kept-last : (cs : List InodeContent) (c : InodeContent) → body (kept (cs ++ c ∷ [])) (length cs) ≡ body_kept c
 kept-last [] c = refl
 kept-last (d ∷ cs) c = kept-last cs c
 
-pub kept-past : (cs : List Content) (j : ℕ) → length cs ≤ j → body (kept cs) j ≡ Free
+pub kept-past : (cs : List InodeContent) (j : ℕ) → length cs ≤ j → body (kept cs) j ≡ Free
 kept-past [] j past = refl
 kept-past (d ∷ cs) zero past = absurd (omega arith)
 kept-past (d ∷ cs) (suc j) past = kept-past cs j (omega arith)
 
-pub kept-more : (g : Geometry) (s : Stored) (i : ℕ) (cs more : List Content) (n : Inode) (c : Content) → KeptBelow g s i cs → n ≡ the_inode g s i → IsSameBody (body_kept c) (body_of s n) → IsOnce s n → more ≡ cs ++ c ∷ [] → KeptBelow g s (i + 1) more
+pub kept-more : (g : Geometry) (s : Stored) (i : ℕ) (cs more : List InodeContent) (n : Inode) (c : InodeContent) → KeptBelow g s i cs → n ≡ the_inode g s i → IsSameBody (body_kept c) (body_of s n) → IsOnce s n → more ≡ cs ++ c ∷ [] → KeptBelow g s (i + 1) more
 kept-more g s i cs more n c k e same once now = record {
   once = below_more (λ j. IsOnce s (the_inode g s j)) i k.once (subst (IsOnce s) e once);
   size = ap length now ∙ length_push cs c ∙ (let z = k.size in omega arith);
   same = λ j low. elim (cases_eq j i) [
     | inl y ↦
-        let at : body (kept more) j ≡ body_kept c = ap (λ (xs : List Content). body (kept xs) j) now ∙ ap (λ (m : ℕ). body (kept (cs ++ c ∷ [])) m) (y ∙ sym k.size) ∙ kept-last cs c in
+        let at : body (kept more) j ≡ body_kept c = ap (λ (xs : List InodeContent). body (kept xs) j) now ∙ ap (λ (m : ℕ). body (kept (cs ++ c ∷ [])) m) (y ∙ sym k.size) ∙ kept-last cs c in
         subst (λ b. IsSameBody b (body_of s (the_inode g s j))) (sym at) (subst (λ m. IsSameBody (body_kept c) (body_of s m)) (e ∙ ap (the_inode g s) (sym y)) same)
     | inr o ↦
-        let at : body (kept more) j ≡ body (kept cs) j = ap (λ (xs : List Content). body (kept xs) j) now ∙ kept-push cs c j (let z = k.size in omega arith) in
+        let at : body (kept more) j ≡ body (kept cs) j = ap (λ (xs : List InodeContent). body (kept xs) j) now ∙ kept-push cs c j (let z = k.size in omega arith) in
         subst (λ b. IsSameBody b (body_of s (the_inode g s j))) (sym at) (k.same j (omega arith))
   ];
 }
 
-pub kept-all : (g : Geometry) (s : Stored) (i : ℕ) (cs : List Content) → KeptBelow g s i cs → i ≡ inodes_of g → IsAlike (kept cs) (volume_in g s)
+pub kept-all : (g : Geometry) (s : Stored) (i : ℕ) (cs : List InodeContent) → KeptBelow g s i cs → i ≡ inodes_of g → IsAlike (kept cs) (volume_in g s)
 kept-all g s i cs k e = record {
   count = length-kept cs ∙ k.size ∙ e ∙ sym (length-volume g s);
   each = λ j. elim (cases_lt j (inodes_of g)) [

@@ -8,17 +8,17 @@ use Rattle.mq_layout.specs.Names.{is_name}
 use Rattle.mq_tree.specs.Requests.{In, Lost, Root, Says, Target, asks, enter, go_on, into_dir, read_in, target, target_in, walk}
 use Rattle.mq_tree.specs.Trees.{ReadsAs, body_kept, file_in, found_in, kept, read_answer}
 use Rattle.mq_tree.specs.Volume.{Body, Free, File, Dir, Path, Volume, Way, body, find, slots_of, way}
-use Rattle.mq_tree.specs.declared.contents.Content.{Content}
+use Rattle.mq_tree.specs.declared.contents.InodeContent.{InodeContent}
 use Rattle.mq_tree.specs.declared.request.Fault.{Fault}
 use Rattle.mq_tree.specs.declared.request.Fault.TheVariants.{BadName, NotFound}
 use Rattle.mq_tree.proofs.Keeping.{kept-past}
 
-kept-at : (cs : List Content) (i : ℕ) (d : Content) → i < length cs → body (kept cs) i ≡ body_kept (get_or cs i d)
+kept-at : (cs : List InodeContent) (i : ℕ) (d : InodeContent) → i < length cs → body (kept cs) i ≡ body_kept (get_or cs i d)
 kept-at [] i d low = absurd (omega arith)
 kept-at (c ∷ cs) zero d low = refl
 kept-at (c ∷ cs) (suc i) d low = kept-at cs i d (omega arith)
 
-pub content-at : (cs : List Content) (v : Volume) (i : ℕ) (r : Option (Bor Content)) → kept cs ≡ v → IsGetResult cs i i r → MatchOption r (body v i ≡ Free) (λ c. body v i ≡ body_kept c.now)
+pub content-at : (cs : List InodeContent) (v : Volume) (i : ℕ) (r : Option (Bor InodeContent)) → kept cs ≡ v → IsGetResult cs i i r → MatchOption r (body v i ≡ Free) (λ c. body v i ≡ body_kept c.now)
 content-at cs v i None e h = ap (λ (w : Volume). body w i) (sym e) ∙ kept-past cs i h.3
 content-at cs v i (Some c) e h = ap (λ (w : Volume). body w i) (sym e) ∙ kept-at cs i c.now h.3.0 ∙ ap body_kept (sym (h.3.1 c.now))
 

@@ -4,20 +4,20 @@ use Rattle.mq_blocks.specs.declared.geometry.Geometry.{Geometry}
 use Rattle.mq_tree.specs.Directories.{AreSameNames}
 use Rattle.mq_tree.specs.Requests.{Says, Verdict, refused, verdict}
 use Rattle.mq_tree.specs.Volume.{Body, Free, File, Dir, Path, Volume, body, slots_of, thing}
-use Rattle.mq_tree.specs.declared.contents.Content.{Content}
-use Rattle.mq_tree.specs.declared.contents.Content.TheVariants.{Free as NoContent, File as Bytes, Dir as Names}
+use Rattle.mq_tree.specs.declared.contents.InodeContent.{InodeContent}
+use Rattle.mq_tree.specs.declared.contents.InodeContent.TheVariants.{Free as NoContent, File as Bytes, Dir as Names}
 use Rattle.mq_tree.specs.declared.request.Fault.{Fault}
 use Rattle.mq_tree.specs.declared.request.Fault.TheVariants.{IsDir, NotFound}
 use Rattle.mq_tree.specs.declared.request.Reply.TheVariants.{Data}
 use Rattle.mq_tree.specs.declared.request.Request.TheVariants.{Read}
 
-abbrev pub body_kept : Content → Body
+abbrev pub body_kept : InodeContent → Body
 body_kept NoContent = Free
 body_kept (Bytes bytes) = File bytes
 body_kept (Names names) = Dir names
 
 -- the volume of what is kept, whose directories have a slot for each name, in rising order
-abbrev pub kept : List Content → Volume
+abbrev pub kept : List InodeContent → Volume
 kept [] = []
 kept (c ∷ cs) = record { body = body_kept c; blocks = []; indirect = None } ∷ kept cs
 

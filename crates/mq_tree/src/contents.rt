@@ -23,7 +23,7 @@ use std::alloc::Global;
 
 /// What an inode is.
 #[derive(Drop)]
-pub enum Content {
+pub enum InodeContent {
     Free,
     File(Bytes),
     Dir(Directory),
@@ -56,7 +56,7 @@ fn read_content(
     blocks: &[Option<Block>],
     zero: &Block,
     inode: &Inode,
-) -> Result<Content, MountRefusal>
+) -> Result<InodeContent, MountRefusal>
     requires zero { zero.now ≡ zeros }
     requires form { IsInode inode.now }
     requires dir { AreDirBlocks blocks.now inode.now }
@@ -66,13 +66,13 @@ fn read_content(
 {
     if inode.kind == FILE {
         let bytes = read_file(alloc, blocks, zero, inode)?;
-        return Ok(Content::File(Bytes(bytes)));
+        return Ok(InodeContent::File(Bytes(bytes)));
     }
     if inode.kind == DIRECTORY {
         let names = read_directory(alloc, blocks, zero, inode)?;
-        return Ok(Content::Dir(names));
+        return Ok(InodeContent::Dir(names));
     }
-    Ok(Content::Free)
+    Ok(InodeContent::Free)
 }
 
 /// What all inodes are, by number, where no name stands twice in a directory.
@@ -82,7 +82,7 @@ pub fn read_contents(
     blocks: &[Option<Block>],
     zero: &Block,
     inodes: &[Inode],
-) -> Result<Vec<Content>, MountRefusal>
+) -> Result<Vec<InodeContent>, MountRefusal>
     requires zero { zero.now ≡ zeros }
     requires inodes { inodes.now ≡ inodes_in geometry blocks.now }
     requires table { IsTable geometry blocks.now }

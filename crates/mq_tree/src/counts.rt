@@ -3,7 +3,7 @@ ghost use Rattle.std.specs.Prelude.{◌≡◌};
 ghost use Rattle.mq_tree.specs.Counts.{IsCountable, counts_in, counts_of, counts_of_volume};
 ghost use Rattle.mq_tree.specs.Trees.{body_kept, kept};
 
-use crate::contents::Content;
+use crate::contents::InodeContent;
 use crate::tree::Tree;
 
 /// How many directories and files there are, and how many bytes all files have together.
@@ -16,7 +16,7 @@ pub struct TreeCounts {
 }
 
 /// The counts of one inode, where the root counts as a directory.
-fn counts_of_one(content: &Content) -> TreeCounts
+fn counts_of_one(content: &InodeContent) -> TreeCounts
     ensures { result ≡ counts_of (body_kept content.now) }
 {
     let mut counts = TreeCounts {
@@ -25,18 +25,18 @@ fn counts_of_one(content: &Content) -> TreeCounts
         bytes: 0,
     };
     match content {
-        Content::Free => {}
-        Content::File(bytes) => {
+        InodeContent::Free => {}
+        InodeContent::File(bytes) => {
             counts.files = 1;
             counts.bytes = bytes.0.len() as u64;
         }
-        Content::Dir(_) => counts.directories = 1,
+        InodeContent::Dir(_) => counts.directories = 1,
     }
     counts
 }
 
 /// The counts of all inodes together.
-fn counts_of_all(contents: &[Content]) -> TreeCounts
+fn counts_of_all(contents: &[InodeContent]) -> TreeCounts
     requires { IsCountable (kept contents.now) }
     ensures { result ≡ counts_of_volume (kept contents.now) }
 {
@@ -60,7 +60,7 @@ impl Tree {
         ensures { result ≡ counts_in self.now }
     {
         let mut counts = counts_of_all(self.contents());
-        if let Some(Content::Dir(_)) = self.content(0) {
+        if let Some(InodeContent::Dir(_)) = self.content(0) {
             counts.directories -= 1;
         }
         counts

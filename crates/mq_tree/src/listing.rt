@@ -3,7 +3,7 @@ ghost use Rattle.std.specs.Prelude.{◌≡◌, ◌≤◌, ◌++◌, ℕ, IfOk, L
 ghost use Rattle.mq_tree.specs.ListText.{AreIn, IsIn, entries_in, head_of, item_in, items_of, line_of, list_text, path_of, todo_in};
 ghost use Rattle.mq_tree.specs.Volume.{body, slots_of};
 
-use crate::contents::Content;
+use crate::contents::InodeContent;
 use crate::slots::Link;
 use crate::tree::Tree;
 use itoa::Buffer;
@@ -35,13 +35,13 @@ impl Tree {
         ensures { OnOk result (text.new.items ≡ text.old.items ++ head_of (body self.now inode)) }
     {
         match self.content(inode) {
-            Some(Content::File(bytes)) => {
+            Some(InodeContent::File(bytes)) => {
                 let mut size = Buffer::new();
                 text.extend_from_slice(b"f ")?;
                 text.extend_from_slice(size.format(bytes.0.len()).as_bytes())?;
                 text.extend_from_slice(b" ")?;
             }
-            Some(Content::Dir(_)) => text.extend_from_slice(b"d ")?,
+            Some(InodeContent::Dir(_)) => text.extend_from_slice(b"d ")?,
             _ => {}
         }
         Ok(())
@@ -65,7 +65,7 @@ impl Tree {
             → AreIn text todo.old.items
             → AreIn text todo.new.items) }
     {
-        if let Some(Content::Dir(names)) = self.content(inode) {
+        if let Some(InodeContent::Dir(names)) = self.content(inode) {
             let links = names.links(alloc)?;
             for k in 0..links.len() {
                 let link = links[links.len() - 1 - k];

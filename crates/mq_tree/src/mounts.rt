@@ -13,7 +13,7 @@ ghost use Rattle.mq_tree.specs.Volume.{Things, Volume, tree};
 
 use crate::bitmap_check::check_marks;
 use crate::claims::claim_blocks;
-use crate::contents::{Content, read_contents};
+use crate::contents::{InodeContent, read_contents};
 use crate::corrupt::MountRefusal;
 use crate::dirs::check_dirs;
 use crate::file_tails::check_ends;
@@ -32,7 +32,7 @@ fn read_volume(
     geometry: Geometry,
     blocks: &[Option<Block>],
     zero: &Block,
-) -> Result<Vec<Content>, MountRefusal>
+) -> Result<Vec<InodeContent>, MountRefusal>
     requires { zero.now ≡ zeros }
     ensures pages { ArePages blocks.now }
     ensures alike { IfOk result (λ found. IsAlike (kept found.items) (volume_in geometry blocks.now)) }

@@ -8,7 +8,7 @@ ghost use Rattle.mq_tree.specs.Requests.{into_dir, walk};
 ghost use Rattle.mq_tree.specs.Trees.{ReadsAs, body_kept, file_in, found_in, kept};
 ghost use Rattle.mq_tree.specs.Volume.{Free, body, find, slots_of, way};
 
-use crate::contents::Content;
+use crate::contents::InodeContent;
 use crate::path::{Name, Path};
 use crate::request::Fault;
 use mq_layout::is_good_name;
@@ -17,7 +17,7 @@ use std::marker::Model;
 /// The tree of a file system: its directories, and the bytes of its files.
 #[derive(Drop)]
 pub struct Tree {
-    contents: Vec<Content>,
+    contents: Vec<InodeContent>,
 }
 
 impl Model for Tree {
@@ -33,7 +33,7 @@ impl Model for Tree {
 }
 
 impl Tree {
-    pub(crate) fn new(contents: Vec<Content>) -> Tree
+    pub(crate) fn new(contents: Vec<InodeContent>) -> Tree
         requires { IsCountable (kept contents.items) }
         ensures { result ≡ kept contents.items }
     {
@@ -41,7 +41,7 @@ impl Tree {
     }
 
     /// What the inodes are, by number.
-    pub(crate) fn contents(&self) -> &[Content]
+    pub(crate) fn contents(&self) -> &[InodeContent]
         ensures is { kept result.now ≡ self.now }
         ensures countable { IsCountable (kept result.now) }
     {
@@ -56,7 +56,7 @@ impl Tree {
     }
 
     /// What the inode in this place of the list is, where there is one.
-    fn content_at(&self, place: usize) -> Option<&Content>
+    fn content_at(&self, place: usize) -> Option<&InodeContent>
         ensures { MatchOption result (body self.now place ≡ Free)
             (λ content. body self.now place ≡ body_kept content.now) }
     {
@@ -64,7 +64,7 @@ impl Tree {
     }
 
     /// What an inode is, where there is one of this number.
-    pub(crate) fn content(&self, inode: u32) -> Option<&Content>
+    pub(crate) fn content(&self, inode: u32) -> Option<&InodeContent>
         ensures { MatchOption result (body self.now inode ≡ Free)
             (λ content. body self.now inode ≡ body_kept content.now) }
     {
@@ -76,7 +76,7 @@ impl Tree {
         ensures { result ≡ name_count (body self.now place) }
     {
         match self.content_at(place) {
-            Some(Content::Dir(names)) => names.len(),
+            Some(InodeContent::Dir(names)) => names.len(),
             _ => 0,
         }
     }
@@ -86,7 +86,7 @@ impl Tree {
         ensures { result ≡ found_in (find name.now (slots_of (body self.now directory))) }
     {
         match self.content(directory) {
-            Some(Content::Dir(names)) => names.get(&name.0).ok_or(Fault::NotFound),
+            Some(InodeContent::Dir(names)) => names.get(&name.0).ok_or(Fault::NotFound),
             _ => Err(Fault::NotFound),
         }
     }
@@ -96,8 +96,8 @@ impl Tree {
         ensures { result ≡ into_dir inode (body self.now inode) }
     {
         match self.content(inode) {
-            Some(Content::Dir(_)) => Ok(inode),
-            Some(Content::File(_)) => Err(Fault::NotDir),
+            Some(InodeContent::Dir(_)) => Ok(inode),
+            Some(InodeContent::File(_)) => Err(Fault::NotDir),
             _ => Err(Fault::NotFound),
         }
     }
@@ -120,8 +120,8 @@ impl Tree {
             (λ fault. file_in (body self.now inode) ≡ Err fault) }
     {
         match self.content(inode) {
-            Some(Content::File(bytes)) => Ok(&bytes.0),
-            Some(Content::Dir(_)) => Err(Fault::IsDir),
+            Some(InodeContent::File(bytes)) => Ok(&bytes.0),
+            Some(InodeContent::Dir(_)) => Err(Fault::IsDir),
             _ => Err(Fault::NotFound),
         }
     }

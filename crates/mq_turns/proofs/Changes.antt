@@ -9,7 +9,7 @@ use Rattle.mq_turns.specs.Desk.{slots, IsTurn, slot_of, turn_at, refreshed, Now,
 use Rattle.mq_turns.specs.Words.{same_turn}
 use Rattle.mq_turns.specs.declared.rule.Opening.{Opening}
 use Rattle.mq_turns.specs.declared.rule.Known.{Known}
-use Rattle.mq_turns.specs.declared.rule.View.{View}
+use Rattle.mq_turns.specs.declared.rule.ChairView.{ChairView}
 use Rattle.mq_turns.specs.declared.turn.Turn.{Turn}
 use Rattle.mq_turns.specs.declared.turn.Turn.TheVariants.{Page, Side, Root}
 use Rattle.mq_turns.proofs.Numbers.{numbers_change}
@@ -38,14 +38,14 @@ turn_is Root Root e = refl
 
 module _ {P Q R E : Type 0} (μ : Meaning P Q R E) (o : Opening P Q R) where
   -- the chair holds each turn of the desk that the step is about
-  abbrev pub HoldsAll : (Turn → Bool) → View P Q R E → Type 0
+  abbrev pub HoldsAll : (Turn → Bool) → ChairView P Q R E → Type 0
   HoldsAll about v = (t : Turn) → IsTurn o t → about t ≡ true → 0 < times (slot_of o t) v.held
 
   abbrev pub slots_about : (Turn → Bool) → ℕ → Bool
   slots_about about k = about (turn_at o k)
 
   -- what is known grows by a step that is about some turns
-  pub change_by : (about : Turn → Bool) (count : ℕ) (K L : Known P Q R E) (v : View P Q R E) → count ≡ slots o → μ.ok L → ((t : Turn) → about t ≡ false → Stay μ t K L) → HoldsAll about v → Change μ (turn_at o) count (slots_about about) K L v
+  pub change_by : (about : Turn → Bool) (count : ℕ) (K L : Known P Q R E) (v : ChairView P Q R E) → count ≡ slots o → μ.ok L → ((t : Turn) → about t ≡ false → Stay μ t K L) → HoldsAll about v → Change μ (turn_at o) count (slots_about about) K L v
   change_by about count K L v deep ok stays holds = record {
     ok = ok;
     stays = λ k apart. stays (turn_at o k) apart;
@@ -53,12 +53,12 @@ module _ {P Q R E : Type 0} (μ : Meaning P Q R E) (o : Opening P Q R) where
   }
 
   -- the chair holds the turn, and the step is about it alone
-  pub holds_one : (t : Turn) (v : View P Q R E) → 0 < times (slot_of o t) v.held → HoldsAll (same_turn t) v
+  pub holds_one : (t : Turn) (v : ChairView P Q R E) → 0 < times (slot_of o t) v.held → HoldsAll (same_turn t) v
   holds_one t v mine u lt is = subst (λ w. 0 < times (slot_of o w) v.held) (turn_is t u is) mine
 
 module _ {M P Q R E : Type 0} (μ : Meaning P Q R E) (o : Opening P Q R) (chairs : ℕ) where
   -- a step on a word that is no turn's and not the counter, by a chair that holds what it is about: the rule holds by what is known then
-  pub changes : (about : Turn → Bool) (K L : Known P Q R E) (s : Now M P Q R E) (id : ℕ) (v w : View P Q R E) (words' : List ℕ) → K.opening ≡ o → Turns μ (turn_at o) K s → Numbers μ chairs K s → Words μ K s → get_elem? s.views id ≡ some v
+  pub changes : (about : Turn → Bool) (K L : Known P Q R E) (s : Now M P Q R E) (id : ℕ) (v w : ChairView P Q R E) (words' : List ℕ) → K.opening ≡ o → Turns μ (turn_at o) K s → Numbers μ chairs K s → Words μ K s → get_elem? s.views id ≡ some v
       → length s.homes ≡ slots o → μ.ok L → ((t : Turn) → about t ≡ false → Stay μ t K L) → HoldsAll μ K.opening about v → L.log ≡ K.log
       → length words' ≡ length s.words → ((k : ℕ) → k ≤ length s.homes → get_or words' k 0 ≡ get_or s.words k 0) → Told μ K L s v w words'
       → w.parts ≡ v.parts → w.opening ≡ v.opening → w.session ≡ v.session → w.hand ≡ v.hand → w.seen ≡ v.seen → w.drawn ≡ v.drawn → w.read ≡ v.read → w.held ≡ refreshed (slots_about μ L.opening about) L v.held

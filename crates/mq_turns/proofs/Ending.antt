@@ -18,7 +18,7 @@ use Rattle.mq_turns.specs.Chairs.{Ended}
 use Rattle.mq_turns.specs.Closing.{HasPages, HasSides, HasRoot, ArePages, AreSides, IsRoot}
 use Rattle.mq_turns.specs.declared.rule.Opening.{Opening}
 use Rattle.mq_turns.specs.declared.rule.Known.{Known}
-use Rattle.mq_turns.specs.declared.rule.View.{View}
+use Rattle.mq_turns.specs.declared.rule.ChairView.{ChairView}
 use Rattle.mq_turns.specs.declared.turn.Turn.{Turn}
 use Rattle.mq_turns.specs.declared.turn.Turn.TheVariants.{Page, Side, Root}
 use Rattle.mq_turns.specs.declared.turn.Item.{Item}
@@ -30,15 +30,15 @@ use Rattle.mq_turns.proofs.Slots.{page_at, side_at, root_at}
 
 -- ---- lists of chairs
 
-pub drawn_last : {P Q R E : Type 0} (vs : List (View P Q R E)) (v : View P Q R E) → drawn_of (vs ++ v ∷ []) ≡ v.drawn ++ drawn_of vs
+pub drawn_last : {P Q R E : Type 0} (vs : List (ChairView P Q R E)) (v : ChairView P Q R E) → drawn_of (vs ++ v ∷ []) ≡ v.drawn ++ drawn_of vs
 drawn_last [] v = sym (append-nil v.drawn)
 drawn_last (u ∷ rest) v = ap (λ l. l ++ u.drawn) (drawn_last rest v) ∙ append_assoc v.drawn (drawn_of rest) u.drawn
 
-pub read_last : {P Q R E : Type 0} (vs : List (View P Q R E)) (v : View P Q R E) → read_of (vs ++ v ∷ []) ≡ v.read ++ read_of vs
+pub read_last : {P Q R E : Type 0} (vs : List (ChairView P Q R E)) (v : ChairView P Q R E) → read_of (vs ++ v ∷ []) ≡ v.read ++ read_of vs
 read_last [] v = sym (append-nil v.read)
 read_last (u ∷ rest) v = ap (λ l. l ++ u.read) (read_last rest v) ∙ append_assoc v.read (read_of rest) u.read
 
-pub charged_last : {P Q R E : Type 0} (vs : List (View P Q R E)) (v : View P Q R E) → charged_of (vs ++ v ∷ []) ≡ v.reading.charged ++ charged_of vs
+pub charged_last : {P Q R E : Type 0} (vs : List (ChairView P Q R E)) (v : ChairView P Q R E) → charged_of (vs ++ v ∷ []) ≡ v.reading.charged ++ charged_of vs
 charged_last [] v = sym (append-nil v.reading.charged)
 charged_last (u ∷ rest) v = ap (λ l. l ++ u.reading.charged) (charged_last rest v) ∙ append_assoc v.reading.charged (charged_of rest) u.reading.charged
 
@@ -55,7 +55,7 @@ pub all_last : {X : Type 0} (F : X → Type 0) (ys xs : List X) (x : X) → ys �
 all_last F ys xs x e h = let a : All F (xs ++ x ∷ []) = subst (All F) e h in let len = length-append xs (x ∷ []) in
     (subst F (idx_last xs x x) (a (length xs) x (omega arith)), (λ k d lt. subst F (idx_front xs (x ∷ []) k d lt) (a k d (omega arith))))
 
-module _ {X P Q R E : Type 0} (f : X → View P Q R E) where
+module _ {X P Q R E : Type 0} (f : X → ChairView P Q R E) where
   map_last : (ys xs : List X) (x : X) → ys ≡ xs ++ x ∷ [] → map f ys ≡ map f xs ++ f x ∷ []
   map_last ys xs x e = ap (map f) e ∙ map-append f xs (x ∷ [])
 
@@ -72,7 +72,7 @@ module _ {X P Q R E : Type 0} (f : X → View P Q R E) where
   charged_moves ys xs x l e = append_assoc l (f x).reading.charged (charged_of (map f xs)) ∙ ap (λ z. l ++ z) (sym (ap charged_of (map_last ys xs x e) ∙ charged_last (map f xs) (f x)))
 
   -- what holds of each view but the last, and of the last
-  pub each_last : (F : View P Q R E → Type 0) (ys xs : List X) (x : X) → ys ≡ xs ++ x ∷ [] → F (f x) → Each F (map f xs) → Each F (map f ys)
+  pub each_last : (F : ChairView P Q R E → Type 0) (ys xs : List X) (x : X) → ys ≡ xs ++ x ∷ [] → F (f x) → Each F (map f xs) → Each F (map f ys)
   each_last F ys xs x e last all = subst (Each F) (sym (map_last ys xs x e)) (each_append F (map f xs) (f x ∷ []) all (last, tt))
 
   pub parts_of : ((x : X) → (f x).parts ≡ 1) → (xs : List X) → total (λ v. v.parts) (map f xs) ≡ length xs
@@ -94,7 +94,7 @@ found l k x o y e f n = let p : Some x ≡ o = some-injective _ _ (sym e ∙ f) 
 
 module _ {M P Q R E : Type 0} (μ : Meaning P Q R E) (o : Opening P Q R) (chairs : ℕ) where
   -- where one view stands for all chairs and holds nothing, every value is at home and is what the history says
-  pub record Home (v : View P Q R E) (ws : List ℕ) (xs : List (Option (Item M P Q R E))) : Type 0 where
+  pub record Home (v : ChairView P Q R E) (ws : List ℕ) (xs : List (Option (Item M P Q R E))) : Type 0 where
     pub known : Known P Q R E
     pub opening : known.opening ≡ o
     pub ok : μ.ok known
@@ -107,16 +107,16 @@ module _ {M P Q R E : Type 0} (μ : Meaning P Q R E) (o : Opening P Q R) (chairs
     pub reader : Reader μ known v.reading
     pub charges : (f : Charge → Bool) → tally f v.reading.charged ≡ tally f known.charges
 
-  pub ends : (id : ℕ) (v : View P Q R E) (ws : List ℕ) (xs : List (Option (Item M P Q R E))) → Final (Seen (Ruled μ o chairs) id v) ws xs → v.parts ≡ chairs → v.held ≡ [] → Home v ws xs
+  pub ends : (id : ℕ) (v : ChairView P Q R E) (ws : List ℕ) (xs : List (Option (Item M P Q R E))) → Final (Seen (Ruled μ o chairs) id v) ws xs → v.parts ≡ chairs → v.held ≡ [] → Home v ws xs
   ends id v ws xs (s, seen, words, deep, home) all none_held =
       let rk = seen.0 in
       let r = rk.2 in
       let n = rk.3 in
       let at = seen.1 in
       let sides : length rk.0.opening.sides ≡ length o.sides = ap (λ p. length p.sides) rk.1 in
-      let none_else : (j : ℕ) (u : View P Q R E) → j ≢ id → get_elem? s.views j ≡ some u → u.parts ≡ 0 = λ j u ne t. (let two = total_two (λ x. x.parts) s.views id j v u at t ne in let w = n.whole in omega arith) in
+      let none_else : (j : ℕ) (u : ChairView P Q R E) → j ≢ id → get_elem? s.views j ≡ some u → u.parts ≡ 0 = λ j u ne t. (let two = total_two (λ x. x.parts) s.views id j v u at t ne in let w = n.whole in omega arith) in
       let all_free : (k : ℕ) → holders k s.views ≡ 0 = λ k. total_zero (λ u. times k u.held) s.views (λ j u t. dite (ℕ_discrete j id)
-      (λ e. let same : v ≡ u = some-injective v u (sym at ∙ (ap (get_elem? s.views) (sym e) ∙ t)) in ap (λ (z : View P Q R E). times k z.held) (sym same) ∙ ap (times k) none_held)
+      (λ e. let same : v ≡ u = some-injective v u (sym at ∙ (ap (get_elem? s.views) (sym e) ∙ t)) in ap (λ (z : ChairView P Q R E). times k z.held) (sym same) ∙ ap (times k) none_held)
       (λ ne. ap (times k) ((r.each_chair j u t).idle (none_else j u ne t)))) in record {
         known = rk.0;
         opening = rk.1;
@@ -157,7 +157,7 @@ module _ {M P Q R E : Type 0} (μ : Meaning P Q R E) (o : Opening P Q R) (chairs
   stands_at : (t : Turn) (k : ℕ) (K : Known P Q R E) (x : Item M P Q R E) → turn_at o k ≡ t → Stands μ (turn_at o k) K x → Stands μ t K x
   stands_at t k K x e s = subst (λ u. Stands μ u K x) e s
 
-  module _ (v : View P Q R E) (ws : List ℕ) (xs : List (Option (Item M P Q R E))) (h : Home v ws xs) (deep : length xs ≡ slots o) where
+  module _ (v : ChairView P Q R E) (ws : List ℕ) (xs : List (Option (Item M P Q R E))) (h : Home v ws xs) (deep : length xs ≡ slots o) where
     pub has_pages : HasPages (length o.pages) xs
     has_pages k lt = let x = h.home k (omega arith) in let p = page_under k h.known x.0 (stands_at (Page k) k h.known x.0 (page_at o k lt) x.2) in (p.0, x.1 ∙ ap (λ y. some (Some y)) p.1)
 
@@ -174,7 +174,7 @@ module _ {M P Q R E : Type 0} (μ : Meaning P Q R E) (o : Opening P Q R) (chairs
         let one : y.0 ≡ x = cc in
         stands_at t k h.known x e (subst (Stands μ (turn_at o k) h.known) one y.2)
 
-    pub ended : (views : List (View P Q R E)) (pages : List P) (sides : List Q) (root : R) (count next base : ℕ) → count ≡ length xs → get_elem? ws count ≡ some next → get_elem? ws (suc (count + length o.sides)) ≡ some base
+    pub ended : (views : List (ChairView P Q R E)) (pages : List P) (sides : List Q) (root : R) (count next base : ℕ) → count ≡ length xs → get_elem? ws count ≡ some next → get_elem? ws (suc (count + length o.sides)) ≡ some base
         → length pages ≡ length o.pages → ArePages xs pages → length sides ≡ length o.sides → AreSides (length o.pages) xs sides → IsRoot (length o.pages + length o.sides) xs root
         → v.drawn ≡ drawn_of views → v.read ≡ read_of views → Each (IsInOrder μ) views → v.reading.charged ≡ charged_of views → Each (λ u. u.reading.done ≤ v.reading.done) views → Ended μ o views pages sides root next base
     ended views pages sides root count next base len at base_at all_pages are_pages all_sides are_sides is_root drew read ordered charged done =

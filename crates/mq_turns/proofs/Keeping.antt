@@ -13,7 +13,7 @@ use Rattle.mq_turns.specs.Lists.{Each, times, without}
 use Rattle.mq_turns.specs.Desk.{slots, IsTurn, slot_of, turn_at, holders, Sat, Now, Stay, Sees, Covers, MayRead, Follows, IsInOrder, Below, allotment, after_draw, after_look, Turns, Numbers, Words, Ruled, Stands, taken, settled, reached, freed, drew_one, looked}
 use Rattle.mq_turns.specs.declared.rule.Opening.{Opening}
 use Rattle.mq_turns.specs.declared.rule.Known.{Known}
-use Rattle.mq_turns.specs.declared.rule.View.{View}
+use Rattle.mq_turns.specs.declared.rule.ChairView.{ChairView}
 use Rattle.mq_turns.specs.declared.turn.Turn.{Turn}
 use Rattle.mq_turns.specs.declared.turn.Item.{Item}
 use Rattle.mq_turns.proofs.Each.{each_map}
@@ -39,7 +39,7 @@ module _ {M P Q R E : Type 0} (μ : Meaning P Q R E) (o : Opening P Q R) (chairs
   at_hand T me c e t = let F : List (ℕ × Option (Item M P Q R E)) → Type 0 = λ cs. T (me.0, cs) in subst F (sym e) t
 
   -- what the rule tells a chair
-  pub sees : (K : Known P Q R E) (s : Now M P Q R E) (id : ℕ) (v : View P Q R E) → K.opening ≡ o → Turns μ (turn_at o) K s → Numbers μ chairs K s → Words μ K s → get_elem? s.views id ≡ some v → 0 < v.parts → Sees μ v K
+  pub sees : (K : Known P Q R E) (s : Now M P Q R E) (id : ℕ) (v : ChairView P Q R E) → K.opening ≡ o → Turns μ (turn_at o) K s → Numbers μ chairs K s → Words μ K s → get_elem? s.views id ≡ some v → 0 < v.parts → Sees μ v K
   sees K s id v is r n x at live =
       let c = r.each_chair id v at in
       let d = n.each_chair id v at in
@@ -62,13 +62,13 @@ module _ {M P Q R E : Type 0} (μ : Meaning P Q R E) (o : Opening P Q R) (chairs
       let K : Known P Q R E = rk.0 in
       let r = rk.2 in
       let n = rk.3 in
-      let v : View P Q R E = me.0 in
+      let v : ChairView P Q R E = me.0 in
       let t = r.each_turn k (omega arith) in
       dite (ℕ_discrete (get_or s.words k 0) 0)
       (λ free.
       let none_holds : holders k s.views ≡ 0 = sym t.word ∙ free in
       let x = t.home none_holds in
-      let w : View P Q R E = record v { hand = suc k; held = (k, K) ∷ v.held } in
+      let w : ChairView P Q R E = record v { hand = suc k; held = (k, K) ∷ v.held } in
       let G : Opening P Q R → Type 0 = λ p. Stands μ (turn_at p k) K x.0 in (
         w,
         takes k (Some x.0),
@@ -88,7 +88,7 @@ module _ {M P Q R E : Type 0} (μ : Meaning P Q R E) (o : Opening P Q R) (chairs
         v,
         keeps,
         tt,
-        subst (λ (z : List ℕ × List (View P Q R E)). Rule record { words = z.0; homes = s.homes; views = z.1 }) (λ i. (sym same i, sym (set_again s.views id v at) i)) rk,
+        subst (λ (z : List ℕ × List (ChairView P Q R E)). Rule record { words = z.0; homes = s.homes; views = z.1 }) (λ i. (sym same i, sym (set_again s.views id v at) i)) rk,
         ((λ z. absurd (taken_already z)), (λ _. refl)),
       ))
 
@@ -97,8 +97,8 @@ module _ {M P Q R E : Type 0} (μ : Meaning P Q R E) (o : Opening P Q R) (chairs
       → Allows Rule deep id me k (λ n. n) (settled (step deep k 0 0 none) me)
   settles deep id me k lt hand bare = at_hand (λ z. Allows Rule deep id z k (λ n. n) (settled (step deep k 0 0 none) z)) me ((k, None) ∷ []) bare (λ s rk len at fits.
       let K : Known P Q R E = rk.0 in
-      let v : View P Q R E = me.0 in
-      let w : View P Q R E = record v { hand = 0 } in
+      let v : ChairView P Q R E = me.0 in
+      let w : ChairView P Q R E = record v { hand = 0 } in
       let homes' : Homes M P Q R E = set s.homes k (some None) in (
         w,
         gives,
@@ -118,8 +118,8 @@ module _ {M P Q R E : Type 0} (μ : Meaning P Q R E) (o : Opening P Q R) (chairs
       → Allows Rule deep id me k (λ n. n) (reached (step deep k 0 0 none) me)
   reaches deep id me k lt hand mine bare = at_hand (λ z. Allows Rule deep id z k (λ n. n) (reached (step deep k 0 0 none) z)) me [] bare (λ s rk len at fits.
       let K : Known P Q R E = rk.0 in
-      let v : View P Q R E = me.0 in
-      let w : View P Q R E = record v { hand = suc k } in
+      let v : ChairView P Q R E = me.0 in
+      let w : ChairView P Q R E = record v { hand = suc k } in
       let homes' : Homes M P Q R E = set s.homes k none in (
         w,
         takes k None,
@@ -139,8 +139,8 @@ module _ {M P Q R E : Type 0} (μ : Meaning P Q R E) (o : Opening P Q R) (chairs
       → me.1 ≡ (k, Some x) ∷ [] → Allows Rule deep id me k (λ _. 0) (λ _. freed (step deep k 0 0 none) me 0)
   frees_turn deep id me k x lt hand live stands bare = at_hand (λ z. Allows Rule deep id z k (λ _. 0) (λ _. freed (step deep k 0 0 none) z 0)) me ((k, Some x) ∷ []) bare (λ s rk len at fits.
       let K : Known P Q R E = rk.0 in
-      let v : View P Q R E = me.0 in
-      let w : View P Q R E = record v { hand = 0; held = without k v.held } in
+      let v : ChairView P Q R E = me.0 in
+      let w : ChairView P Q R E = record v { hand = 0; held = without k v.held } in
       let homes' : Homes M P Q R E = set s.homes k (some (Some x)) in (
         w,
         gives,
@@ -160,11 +160,11 @@ module _ {M P Q R E : Type 0} (μ : Meaning P Q R E) (o : Opening P Q R) (chairs
       → Allows Rule deep id me word (λ n. n) (looked μ e (step deep word 0 0 none) me)
   looks deep id me word e is live may s rk len at fits =
       let K : Known P Q R E = rk.0 in
-      let v : View P Q R E = me.0 in
+      let v : ChairView P Q R E = me.0 in
       let r = rk.2 in
       let n = rk.3 in
       let seen = sees K s id v rk.1 r n rk.4 at live in
-      let w : View P Q R E = after_look e K v in
+      let w : ChairView P Q R E = after_look e K v in
       let now : get_or s.words word 0 ≡ newest K = ap (λ i. get_or s.words i 0) (is ∙ sym len) ∙ n.counter in
       let d = n.each_chair id v at in
       let below = below_newest μ (allotment chairs) K v d in
@@ -182,15 +182,15 @@ module _ {M P Q R E : Type 0} (μ : Meaning P Q R E) (o : Opening P Q R) (chairs
         ((K, refl, sym now, seen), subst (λ i. Below i v) (sym now) below, order),
       )
     where
-      same : {A : Type 0} (f : View P Q R E → A) (e : Option E) (K : Known P Q R E) (v : View P Q R E) → f (after_look None K v) ≡ f v → ((d : E) → f (after_look (Some d) K v) ≡ f v) → f (after_look e K v) ≡ f v
+      same : {A : Type 0} (f : ChairView P Q R E → A) (e : Option E) (K : Known P Q R E) (v : ChairView P Q R E) → f (after_look None K v) ≡ f v → ((d : E) → f (after_look (Some d) K v) ≡ f v) → f (after_look e K v) ≡ f v
       same f None K v a b = a
       same f (Some d) K v a b = b d
 
-      same_seen : (e : Option E) (K : Known P Q R E) (v : View P Q R E) → (after_look e K v).seen ≡ newest K
+      same_seen : (e : Option E) (K : Known P Q R E) (v : ChairView P Q R E) → (after_look e K v).seen ≡ newest K
       same_seen None K v = refl
       same_seen (Some d) K v = refl
 
-      reads : (e : Option E) (K : Known P Q R E) (v : View P Q R E) → Sees μ v K → ((d : E) → e ≡ Some d → MayRead μ d v) → Each (λ r. μ.ok r.1 × Rattle.mq_turns.specs.Meaning.Grows r.1 K × μ.fits r.0 r.1) v.read
+      reads : (e : Option E) (K : Known P Q R E) (v : ChairView P Q R E) → Sees μ v K → ((d : E) → e ≡ Some d → MayRead μ d v) → Each (λ r. μ.ok r.1 × Rattle.mq_turns.specs.Meaning.Grows r.1 K × μ.fits r.0 r.1) v.read
           → Each (λ r. μ.ok r.1 × Rattle.mq_turns.specs.Meaning.Grows r.1 K × μ.fits r.0 r.1) (after_look e K v).read
       reads None K v seen may old = old
       reads (Some d) K v seen may old = ((seen.ok, grows_now K, may d refl K seen), old)
@@ -203,8 +203,8 @@ module _ {M P Q R E : Type 0} (μ : Meaning P Q R E) (o : Opening P Q R) (chairs
       let L : Known P Q R E = drawn e K in
       let r = rk.2 in
       let n = rk.3 in
-      let v : View P Q R E = me.0 in
-      let w : View P Q R E = after_draw μ e K v in
+      let v : ChairView P Q R E = me.0 in
+      let w : ChairView P Q R E = after_draw μ e K v in
       let live : 0 < v.parts = some_parts v.parts (length v.drawn) room in
       let seen = sees K s id v rk.1 r n rk.4 at live in
       let at_end : word ≡ length s.homes = is ∙ sym len in
@@ -259,7 +259,7 @@ module _ {M P Q R E : Type 0} (μ : Meaning P Q R E) (o : Opening P Q R) (chairs
   looks_told deep id me word f (Some a) t is live may told = looks deep id me word t is live (λ d e. told_one t (f a) d (λ b. MayRead μ b me.0 × Follows μ b me.0) told e may)
 
   -- what is said by slots, said by turns
-  pub stands_turn : (K : Known P Q R E) (v : View P Q R E) (t : Turn) (k : ℕ) (x : Item M P Q R E) → v.opening ≡ Some o → Sees μ v K → IsTurn o t → k ≡ slot_of o t → Stands μ (turn_at K.opening k) K x → Stands μ t K x
+  pub stands_turn : (K : Known P Q R E) (v : ChairView P Q R E) (t : Turn) (k : ℕ) (x : Item M P Q R E) → v.opening ≡ Some o → Sees μ v K → IsTurn o t → k ≡ slot_of o t → Stands μ (turn_at K.opening k) K x → Stands μ t K x
   stands_turn K v t k x is seen mine slot stands =
       let same : K.opening ≡ o = some_same (sym seen.opening ∙ is) in
       let turn : turn_at K.opening k ≡ t = (λ i. turn_at (same i) (slot i)) ∙ turn_at_slot o t mine in

@@ -15,7 +15,7 @@ use Rattle.mq_turns.specs.Opened.{AreOpenWords}
 use Rattle.mq_turns.specs.Chairs.{Starts}
 use Rattle.mq_turns.specs.declared.rule.Opening.{Opening}
 use Rattle.mq_turns.specs.declared.rule.Known.{Known}
-use Rattle.mq_turns.specs.declared.rule.View.{View}
+use Rattle.mq_turns.specs.declared.rule.ChairView.{ChairView}
 use Rattle.mq_turns.specs.declared.turn.Turn.{Turn}
 use Rattle.mq_turns.specs.declared.turn.Turn.TheVariants.{Page, Side, Root}
 use Rattle.mq_turns.specs.declared.turn.Item.{Item}
@@ -83,20 +83,20 @@ module _ {P Q R : Type 0} (E : Type 0) (o : Opening P Q R) where
       ap F (ne_eqb j k (λ e. omega arith)) ∙ ap (λ l. (j, opened o) ∷ l) (gone (suc j) n k (omega arith))
 
   -- the last slot is laid
-  pub laid_holds : (parts i n k : ℕ) (v : View P Q R E) → v ≡ laying o parts i n → n ≡ suc k → 0 < times k v.held
-  laid_holds parts i n k v e is = let z = inside 0 n k (omega arith) (omega arith) in let y : times k v.held ≡ times k (Laid 0 n) = ap (λ (u : View P Q R E). times k u.held) e in omega arith
+  pub laid_holds : (parts i n k : ℕ) (v : ChairView P Q R E) → v ≡ laying o parts i n → n ≡ suc k → 0 < times k v.held
+  laid_holds parts i n k v e is = let z = inside 0 n k (omega arith) (omega arith) in let y : times k v.held ≡ times k (Laid 0 n) = ap (λ (u : ChairView P Q R E). times k u.held) e in omega arith
 
-  pub laid : (parts i n k : ℕ) (v : View P Q R E) → v ≡ laying o parts i n → n ≡ suc k → record v { hand = 0; held = without k v.held } ≡ laying o parts i k
+  pub laid : (parts i n k : ℕ) (v : ChairView P Q R E) → v ≡ laying o parts i n → n ≡ suc k → record v { hand = 0; held = without k v.held } ≡ laying o parts i k
   laid parts i n k v e is =
-      let F : View P Q R E → View P Q R E = λ u. record u { hand = 0; held = without k u.held } in
-      let G : List (ℕ × Known P Q R E) → View P Q R E = λ h. record (laying o parts i 0) { held = h } in
+      let F : ChairView P Q R E → ChairView P Q R E = λ u. record u { hand = 0; held = without k u.held } in
+      let G : List (ℕ × Known P Q R E) → ChairView P Q R E = λ h. record (laying o parts i 0) { held = h } in
       ap F (e ∙ ap (laying o parts i) is) ∙ ap G (gone 0 k k (omega arith))
 
   -- a chair is set apart
-  pub set_apart : (p i : ℕ) (v : View P Q R E) → v ≡ laying o p i 0 → others v ≡ laying o (p - 1) (suc i) 0
+  pub set_apart : (p i : ℕ) (v : ChairView P Q R E) → v ≡ laying o p i 0 → others v ≡ laying o (p - 1) (suc i) 0
   set_apart p i v e = ap others e
 
-  pub is_seated : (p i : ℕ) (v : View P Q R E) → v ≡ laying o p i 0 → seated v ≡ fresh o i
+  pub is_seated : (p i : ℕ) (v : ChairView P Q R E) → v ≡ laying o p i 0 → seated v ≡ fresh o i
   is_seated p i v e = ap seated e
 
 all_vacant : {A : Type 0} (n i : ℕ) (a : A) → i < n → get_elem? (map some (replicate n a)) i ≡ some (some a)
@@ -110,11 +110,11 @@ module _ {M P Q R E : Type 0} (μ : Meaning P Q R E) (o : Opening P Q R) where
   all_stand t k j (suc n) x s = ((λ _. s), all_stand t k (suc j) n x s)
 
   -- a value of the opening stands under its slot, for the view that lays
-  pub laid_stands : (parts i n k : ℕ) (t : Turn) (v : View P Q R E) (x : Item M P Q R E) → v ≡ laying o parts i n → n ≡ suc k → turn_at o k ≡ t → Stands μ t (opened o) x → (K : Known P Q R E) → Sees μ v K → Stands μ (turn_at o k) K x
+  pub laid_stands : (parts i n k : ℕ) (t : Turn) (v : ChairView P Q R E) (x : Item M P Q R E) → v ≡ laying o parts i n → n ≡ suc k → turn_at o k ≡ t → Stands μ t (opened o) x → (K : Known P Q R E) → Sees μ v K → Stands μ (turn_at o k) K x
   laid_stands parts i n k t v x e last is s K seen =
-      let held : v.held ≡ Laid E o 0 n = ap (λ (u : View P Q R E). u.held) e in
+      let held : v.held ≡ Laid E o 0 n = ap (λ (u : ChairView P Q R E). u.held) e in
       let F : List (ℕ × Known P Q R E) → Type 0 = λ l. Each (λ h. h.0 ≡ k → Stands μ (turn_at o k) h.1 x) l in
-      let now : K.opening ≡ o = opening_seen μ o K v (ap (λ (u : View P Q R E). u.opening) e) seen in
+      let now : K.opening ≡ o = opening_seen μ o K v (ap (λ (u : ChairView P Q R E). u.opening) e) seen in
       stands_seen μ K v (turn_at o k) k x seen (laid_holds E o parts i n k v e last) (ap (λ p. turn_at p k) now)
       (subst F (sym held) (all_stand (turn_at o k) k 0 n x (subst (λ u. Stands μ u (opened o) x) (sym is) s)))
 
@@ -141,7 +141,7 @@ module _ {M P Q R E : Type 0} (μ : Meaning P Q R E) (o : Opening P Q R) (chairs
       → Ruled {M = M} μ o chairs (opening words (replicate count None) (first_view o chairs))
   opens words count is ws small some_chair starts =
       let wide = ws.wide in
-      let v : View P Q R E = first_view o chairs in
+      let v : ChairView P Q R E = first_view o chairs in
       let deep : length (vacant count) ≡ count = length-map (replicate count None) (λ (x : Option (Item M P Q R E)). some x) ∙ length-replicate count None in
       let in_all : (k : ℕ) → k < count → times k v.held ≡ 1 = λ k lt. inside E o 0 (slots o) k (omega arith) (omega arith) in (
         opened o,
@@ -180,6 +180,6 @@ module _ {M P Q R E : Type 0} (μ : Meaning P Q R E) (o : Opening P Q R) (chairs
         },
       )
     where
-      only : (v : View P Q R E) (j : ℕ) (u : View P Q R E) → get_elem? (v ∷ []) j ≡ some u → (T : View P Q R E → Type 0) → T v → T u
+      only : (v : ChairView P Q R E) (j : ℕ) (u : ChairView P Q R E) → get_elem? (v ∷ []) j ≡ some u → (T : ChairView P Q R E → Type 0) → T v → T u
       only v zero u e T t = subst T (some-injective v u e) t
       only v (suc j) u e T t = absurd (some-ne-none u (sym e))

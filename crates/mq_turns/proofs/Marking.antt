@@ -17,7 +17,7 @@ use Rattle.mq_turns.specs.declared.rule.Charge.{Charge}
 use Rattle.mq_turns.specs.declared.rule.Opening.{Opening}
 use Rattle.mq_turns.specs.declared.rule.Known.{Known}
 use Rattle.mq_turns.specs.declared.rule.Reading.{Reading}
-use Rattle.mq_turns.specs.declared.rule.View.{View}
+use Rattle.mq_turns.specs.declared.rule.ChairView.{ChairView}
 use Rattle.mq_turns.specs.declared.rule.Notice.{Notice}
 use Rattle.mq_turns.specs.declared.rule.Answer.TheVariants.{Base, Front}
 use Rattle.mq_turns.specs.declared.rule.Notice.TheVariants as notice
@@ -40,7 +40,7 @@ shown_charged queues q n r = elim (cases_Bool (eqb q 0)) [
   ]
 ]
 
-queues_seen : {P Q R E : Type 0} (μ : Meaning P Q R E) (K : Known P Q R E) (v : View P Q R E) → Sees μ v K → queues_of v.opening ≡ length K.opening.sides
+queues_seen : {P Q R E : Type 0} (μ : Meaning P Q R E) (K : Known P Q R E) (v : ChairView P Q R E) → Sees μ v K → queues_of v.opening ≡ length K.opening.sides
 queues_seen μ K v s = ap queues_of s.opening
 
 module _ {M P Q R E : Type 0} (μ : Meaning P Q R E) (o : Opening P Q R) (chairs : ℕ) where
@@ -48,10 +48,10 @@ module _ {M P Q R E : Type 0} (μ : Meaning P Q R E) (o : Opening P Q R) (chairs
   Rule = Ruled μ o chairs
 
   -- a word is read that is no turn's
-  rereads : (K : Known P Q R E) (s : Now M P Q R E) (id : ℕ) (v : View P Q R E) (r : Reading P Q R E) (word : ℕ) → K.opening ≡ o → Turns μ (turn_at o) K s → Numbers μ chairs K s → Words μ K s → get_elem? s.views id ≡ some v
+  rereads : (K : Known P Q R E) (s : Now M P Q R E) (id : ℕ) (v : ChairView P Q R E) (r : Reading P Q R E) (word : ℕ) → K.opening ≡ o → Turns μ (turn_at o) K s → Numbers μ chairs K s → Words μ K s → get_elem? s.views id ≡ some v
       → 0 < v.parts → r.charged ≡ v.reading.charged → Reader μ K r → Rule record { words = set s.words word (get_or s.words word 0); homes = s.homes; views = set s.views id (record v { reading = r }) }
   rereads K s id v r word is t n x at live same reader =
-      let w : View P Q R E = record v { reading = r } in
+      let w : ChairView P Q R E = record v { reading = r } in
       subst (λ (ws : List ℕ). Rule record { words = ws; homes = s.homes; views = set s.views id w }) (sym (set-get_or s.words word 0)) (
         K,
         is,
@@ -64,7 +64,7 @@ module _ {M P Q R E : Type 0} (μ : Meaning P Q R E) (o : Opening P Q R) (chairs
   pub peeks : (deep id : ℕ) (me : Sat M P Q R E) (word : ℕ) → deep < word → word < suc (deep + length o.sides) → 0 < me.0.parts → Allows Rule deep id me word (λ n. n) (peeked μ (step deep word 0 0 none) me)
   peeks deep id me word lo hi live s rk len at fits =
       let K : Known P Q R E = rk.0 in
-      let v : View P Q R E = me.0 in
+      let v : ChairView P Q R E = me.0 in
       let q : ℕ = word - suc deep in
       let m : ℕ = get_or s.words word 0 in
       let seen = sees μ o chairs K s id v rk.1 rk.2 rk.3 rk.4 at live in
@@ -86,7 +86,7 @@ module _ {M P Q R E : Type 0} (μ : Meaning P Q R E) (o : Opening P Q R) (chairs
   pub reads_base : (deep id : ℕ) (me : Sat M P Q R E) (word : ℕ) → word ≡ suc (deep + length o.sides) → 0 < me.0.parts → Allows Rule deep id me word (λ n. n) (based μ (step deep word 0 0 none) me)
   reads_base deep id me word is live s rk len at fits =
       let K : Known P Q R E = rk.0 in
-      let v : View P Q R E = me.0 in
+      let v : ChairView P Q R E = me.0 in
       let m : ℕ = get_or s.words word 0 in
       let d = rk.4.each_chair id v at in
       let sides : length K.opening.sides ≡ length o.sides = ap (λ p. length p.sides) rk.1 in
@@ -104,7 +104,7 @@ module _ {M P Q R E : Type 0} (μ : Meaning P Q R E) (o : Opening P Q R) (chairs
       → Allows Rule deep id me word (λ _. low) (λ _. cleared μ (step deep word low 0 none) me low)
   clears deep id me word low count_is lo hi live positive mine may s rk len at fits =
       let K : Known P Q R E = rk.0 in
-      let v : View P Q R E = me.0 in
+      let v : ChairView P Q R E = me.0 in
       let q : ℕ = word - suc deep in
       let c : Claim = claim_of q low (newest K) in
       let L : Known P Q R E = claimed c K in
@@ -115,7 +115,7 @@ module _ {M P Q R E : Type 0} (μ : Meaning P Q R E) (o : Opening P Q R) (chairs
       let words' : List ℕ = set s.words word low in
       let n : ℕ = min (low - 1) (newest K) in
       let marked = marked_claimed μ q low K rk.4.marked positive in
-      let w : View P Q R E = after_clear q low K v in (
+      let w : ChairView P Q R E = after_clear q low K v in (
         w,
         keeps,
         tt,
@@ -144,7 +144,7 @@ module _ {M P Q R E : Type 0} (μ : Meaning P Q R E) (o : Opening P Q R) (chairs
       → Allows Rule deep id me word (λ _. base) (λ _. raised_to μ (step deep word base 0 none) me base)
   raises deep id me word base count_is is live mine may s rk len at fits =
       let K : Known P Q R E = rk.0 in
-      let v : View P Q R E = me.0 in
+      let v : ChairView P Q R E = me.0 in
       let L : Known P Q R E = raised base K in
       let seen = sees μ o chairs K s id v rk.1 rk.2 rk.3 rk.4 at live in
       let up = (may K seen).0 in
@@ -154,7 +154,7 @@ module _ {M P Q R E : Type 0} (μ : Meaning P Q R E) (o : Opening P Q R) (chairs
       let words' : List ℕ = set s.words word base in
       let k = rk.4.marked in
       let d = reader_grows μ K L v.reading (grows_raised base K up) (rk.4.each_chair id v at) in
-      let w : View P Q R E = after_raise base K v in (
+      let w : ChairView P Q R E = after_raise base K v in (
         w,
         keeps,
         tt,
@@ -176,7 +176,7 @@ module _ {M P Q R E : Type 0} (μ : Meaning P Q R E) (o : Opening P Q R) (chairs
       )
 
   -- a load of the counter, at which the chair makes something known of turns that it holds
-  makes_known : (about : Turn → Bool) (K L : Known P Q R E) (s : Now M P Q R E) (id : ℕ) (v w : View P Q R E) (word : ℕ) → K.opening ≡ o → Turns μ (turn_at o) K s → Numbers μ chairs K s → Words μ K s → get_elem? s.views id ≡ some v
+  makes_known : (about : Turn → Bool) (K L : Known P Q R E) (s : Now M P Q R E) (id : ℕ) (v w : ChairView P Q R E) (word : ℕ) → K.opening ≡ o → Turns μ (turn_at o) K s → Numbers μ chairs K s → Words μ K s → get_elem? s.views id ≡ some v
       → 0 < v.parts → length s.homes ≡ slots o → μ.ok L → ((t : Turn) → about t ≡ false → Stay μ t K L) → ((t : Turn) → IsTurn K.opening t → about t ≡ true → 0 < times (slot_of K.opening t) v.held) → Rattle.mq_turns.specs.Meaning.Grows K L → L.log ≡ K.log → L.claims ≡ K.claims → L.word ≡ K.word → Marked μ L
       → ((f : Charge → Bool) → charges_in f w + tally f K.charges ≡ charges_in f v + tally f L.charges) → Reader μ L w.reading
       → w.parts ≡ v.parts → w.opening ≡ v.opening → w.session ≡ v.session → w.hand ≡ v.hand → w.seen ≡ v.seen → w.drawn ≡ v.drawn → w.read ≡ v.read → w.held ≡ Rattle.mq_turns.specs.Desk.refreshed (λ k. about (turn_at L.opening k)) L v.held
@@ -200,12 +200,12 @@ module _ {M P Q R E : Type 0} (μ : Meaning P Q R E) (o : Opening P Q R) (chairs
   pub notes_it : (deep id : ℕ) (me : Sat M P Q R E) (word : ℕ) (x : Notice P) → deep ≡ slots o → 0 < me.0.parts → MayNote μ x me.0 → Allows Rule deep id me word (λ n. n) (noticed μ x (step deep word 0 0 none) me)
   notes_it deep id me word (notice.Home b n) count_is live may s rk len at fits =
       let K : Known P Q R E = rk.0 in
-      let v : View P Q R E = me.0 in
+      let v : ChairView P Q R E = me.0 in
       let h : ℕ × ℕ = (b, n) in
       let seen = sees μ o chairs K s id v rk.1 rk.2 rk.3 rk.4 at live in
       let g = grows_written h K in
       let k = rk.4.marked in
-      let w : View P Q R E = after_notice μ (notice.Home b n) K v in (
+      let w : ChairView P Q R E = after_notice μ (notice.Home b n) K v in (
         w,
         keeps,
         tt,
@@ -217,7 +217,7 @@ module _ {M P Q R E : Type 0} (μ : Meaning P Q R E) (o : Opening P Q R) (chairs
       )
   notes_it deep id me word (notice.Page b p) count_is live may s rk len at fits =
       let K : Known P Q R E = rk.0 in
-      let v : View P Q R E = me.0 in
+      let v : ChairView P Q R E = me.0 in
       let seen = sees μ o chairs K s id v rk.1 rk.2 rk.3 rk.4 at live in
       let d = rk.4.each_chair id v at in (
         after_notice μ (notice.Page b p) K v,
@@ -228,7 +228,7 @@ module _ {M P Q R E : Type 0} (μ : Meaning P Q R E) (o : Opening P Q R) (chairs
       )
   notes_it deep id me word (notice.Front n) count_is live may s rk len at fits =
       let K : Known P Q R E = rk.0 in
-      let v : View P Q R E = me.0 in
+      let v : ChairView P Q R E = me.0 in
       let seen = sees μ o chairs K s id v rk.1 rk.2 rk.3 rk.4 at live in
       let d = rk.4.each_chair id v at in (
         after_notice μ (notice.Front n) K v,
@@ -239,12 +239,12 @@ module _ {M P Q R E : Type 0} (μ : Meaning P Q R E) (o : Opening P Q R) (chairs
       )
   notes_it deep id me word (notice.Charge c) count_is live may s rk len at fits =
       let K : Known P Q R E = rk.0 in
-      let v : View P Q R E = me.0 in
+      let v : ChairView P Q R E = me.0 in
       let seen = sees μ o chairs K s id v rk.1 rk.2 rk.3 rk.4 at live in
       let g = grows_charged c K in
       let k = rk.4.marked in
       let d = reader_grows μ K (charged c K) v.reading g (rk.4.each_chair id v at) in
-      let w : View P Q R E = after_notice μ (notice.Charge c) K v in (
+      let w : ChairView P Q R E = after_notice μ (notice.Charge c) K v in (
         w,
         keeps,
         tt,

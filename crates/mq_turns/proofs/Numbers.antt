@@ -11,7 +11,7 @@ use Rattle.mq_blocks.specs.Totals.{total}
 use Rattle.mq_turns.specs.Lists.{Each, tick, times}
 use Rattle.mq_turns.specs.Desk.{Now, Drawer, Numbers, allotment, Below, Follows, IsInOrder, last_of}
 use Rattle.mq_turns.specs.declared.rule.Known.{Known}
-use Rattle.mq_turns.specs.declared.rule.View.{View}
+use Rattle.mq_turns.specs.declared.rule.ChairView.{ChairView}
 use Rattle.mq_blocks.proofs.Totals.{total_set, total_same, total_le, total_gap, total_scaled, total_append, total_pair, total_zero}
 use Rattle.mq_turns.proofs.Each.{each_map, hit, miss, times_none}
 use Rattle.mq_turns.proofs.Growth.{at_bounds, grows_on, grows_drawn, newest_grows, at_grows}
@@ -19,11 +19,11 @@ use Rattle.mq_turns.proofs.Order.{order_same, order_draw}
 use Rattle.mq_turns.proofs.Turns.{Homes, chairs_stay}
 
 -- where a chair has room, fewer are drawn than all chairs may draw
-drawn_count : {P Q R E : Type 0} (most : ℕ) (vs : List (View P Q R E)) (id : ℕ) (v : View P Q R E) → get_elem? vs id ≡ some v → ((j : ℕ) (u : View P Q R E) → get_elem? vs j ≡ some u → length u.drawn ≤ u.parts * most) → length v.drawn < v.parts * most
+drawn_count : {P Q R E : Type 0} (most : ℕ) (vs : List (ChairView P Q R E)) (id : ℕ) (v : ChairView P Q R E) → get_elem? vs id ≡ some v → ((j : ℕ) (u : ChairView P Q R E) → get_elem? vs j ≡ some u → length u.drawn ≤ u.parts * most) → length v.drawn < v.parts * most
     → total (λ u. length u.drawn) vs < total (λ u. u.parts) vs * most
 drawn_count {P} {Q} {R} {E} most vs id v at few room =
     let gap = total_gap (λ u. length u.drawn) (λ u. u.parts * most) vs id v at few in
-    let scaled = total_scaled (λ (u : View P Q R E). u.parts) most vs in omega arith
+    let scaled = total_scaled (λ (u : ChairView P Q R E). u.parts) most vs in omega arith
 
 pub last_of_le : {E : Type 0} (n m : ℕ) (ds : List (ℕ × E)) → n ≤ m → Each (λ d. d.0 ≤ m) ds → last_of n ds ≤ m
 last_of_le n m [] lt e = lt
@@ -43,10 +43,10 @@ module _ {P Q R E : Type 0} (μ : Meaning P Q R E) where
   pub drawns_below : (K : Known P Q R E) (ds : List (ℕ × E)) → Each (λ d. IsAt K.opening.base K.log d.0 d.1) ds → Each (λ d. d.0 ≤ newest K) ds
   drawns_below K ds = each_map _ _ (λ d a. (at_bounds K.opening.base K.log d.0 d.1 a).1) ds
 
-  pub below_newest : (most : ℕ) (K : Known P Q R E) (v : View P Q R E) → Drawer μ most K v → Below (newest K) v
+  pub below_newest : (most : ℕ) (K : Known P Q R E) (v : ChairView P Q R E) → Drawer μ most K v → Below (newest K) v
   below_newest most K v d = (d.seen, drawns_below K v.drawn d.drew)
 
-  pub drawer_grows : (most : ℕ) (K L : Known P Q R E) (v : View P Q R E) → Grows K L → Drawer μ most K v → Drawer μ most L v
+  pub drawer_grows : (most : ℕ) (K L : Known P Q R E) (v : ChairView P Q R E) → Grows K L → Drawer μ most K v → Drawer μ most L v
   drawer_grows most K L v g d = record {
     few = d.few;
     opening = λ n. d.opening n ∙ ap Some (sym g.opening);
@@ -58,7 +58,7 @@ module _ {P Q R E : Type 0} (μ : Meaning P Q R E) where
 
 module _ {M P Q R E : Type 0} (μ : Meaning P Q R E) where
   -- a step that is not about numbers
-  pub numbers_stay : (chairs : ℕ) (K : Known P Q R E) (s : Now M P Q R E) (id : ℕ) (v w : View P Q R E) (words' : List ℕ) (homes' : Homes M P Q R E) → Numbers μ chairs K s → get_elem? s.views id ≡ some v
+  pub numbers_stay : (chairs : ℕ) (K : Known P Q R E) (s : Now M P Q R E) (id : ℕ) (v w : ChairView P Q R E) (words' : List ℕ) (homes' : Homes M P Q R E) → Numbers μ chairs K s → get_elem? s.views id ≡ some v
       → length homes' ≡ length s.homes → get_or words' (length s.homes) 0 ≡ get_or s.words (length s.homes) 0
       → w.parts ≡ v.parts → w.opening ≡ v.opening → w.session ≡ v.session → w.seen ≡ v.seen → w.drawn ≡ v.drawn → w.read ≡ v.read
       → Numbers μ chairs K record { words = words'; homes = homes'; views = set s.views id w }
@@ -82,7 +82,7 @@ module _ {M P Q R E : Type 0} (μ : Meaning P Q R E) where
       }
 
   -- the counter is read
-  pub numbers_look : (chairs : ℕ) (K : Known P Q R E) (s : Now M P Q R E) (id : ℕ) (v w : View P Q R E) (words' : List ℕ) → Numbers μ chairs K s → get_elem? s.views id ≡ some v
+  pub numbers_look : (chairs : ℕ) (K : Known P Q R E) (s : Now M P Q R E) (id : ℕ) (v w : ChairView P Q R E) (words' : List ℕ) → Numbers μ chairs K s → get_elem? s.views id ≡ some v
       → get_or words' (length s.homes) 0 ≡ get_or s.words (length s.homes) 0
       → w.parts ≡ v.parts → w.opening ≡ v.opening → w.seen ≡ newest K → w.drawn ≡ v.drawn → Each (λ r. μ.ok r.1 × Grows r.1 K × μ.fits r.0 r.1) w.read → (v.parts ≡ 1 → IsInOrder μ w)
       → Numbers μ chairs K record { words = words'; homes = s.homes; views = set s.views id w }
@@ -106,7 +106,7 @@ module _ {M P Q R E : Type 0} (μ : Meaning P Q R E) where
       }
 
   -- there are fewer numbers than all chairs may draw
-  pub room_left : (chairs : ℕ) (K : Known P Q R E) (s : Now M P Q R E) (id : ℕ) (v : View P Q R E) → Numbers μ chairs K s → get_elem? s.views id ≡ some v → length v.drawn < v.parts * allotment chairs → newest K < 9223372036854775808
+  pub room_left : (chairs : ℕ) (K : Known P Q R E) (s : Now M P Q R E) (id : ℕ) (v : ChairView P Q R E) → Numbers μ chairs K s → get_elem? s.views id ≡ some v → length v.drawn < v.parts * allotment chairs → newest K < 9223372036854775808
   room_left chairs K s id v r at room =
       let a = drawn_count (allotment chairs) s.views id v at (λ j u o. (r.each_chair j u o).few) room in
       let b : total (λ u. u.parts) s.views * allotment chairs ≡ chairs * allotment chairs = ap (λ n. n * allotment chairs) r.whole in
@@ -117,13 +117,13 @@ module _ {M P Q R E : Type 0} (μ : Meaning P Q R E) where
   pub newest_few : (chairs : ℕ) (K : Known P Q R E) (s : Now M P Q R E) → Numbers μ chairs K s → newest K ≤ 9223372036854775808
   newest_few chairs K s r =
       let a = total_le (λ u. length u.drawn) (λ u. u.parts * allotment chairs) s.views (λ j u o. (r.each_chair j u o).few) in
-      let scaled = total_scaled (λ (u : View P Q R E). u.parts) (allotment chairs) s.views in
+      let scaled = total_scaled (λ (u : ChairView P Q R E). u.parts) (allotment chairs) s.views in
       let b : total (λ u. u.parts) s.views * allotment chairs ≡ chairs * allotment chairs = ap (λ n. n * allotment chairs) r.whole in
       let c : chairs * allotment chairs ≤ 4611686018427387904 = mul-div-le 4611686018427387904 chairs in
       let d = r.counted in let e = r.bounds.0 in omega arith
 
   -- a step by which L is known, and no number was drawn
-  pub numbers_change : (chairs : ℕ) (K L : Known P Q R E) (s : Now M P Q R E) (id : ℕ) (v w : View P Q R E) (words' : List ℕ) → Numbers μ chairs K s → get_elem? s.views id ≡ some v → Grows K L → L.log ≡ K.log
+  pub numbers_change : (chairs : ℕ) (K L : Known P Q R E) (s : Now M P Q R E) (id : ℕ) (v w : ChairView P Q R E) (words' : List ℕ) → Numbers μ chairs K s → get_elem? s.views id ≡ some v → Grows K L → L.log ≡ K.log
       → get_or words' (length s.homes) 0 ≡ get_or s.words (length s.homes) 0
       → w.parts ≡ v.parts → w.opening ≡ v.opening → w.session ≡ v.session → w.seen ≡ v.seen → w.drawn ≡ v.drawn → w.read ≡ v.read
       → Numbers μ chairs L record { words = words'; homes = s.homes; views = set s.views id w }
@@ -141,7 +141,7 @@ module _ {M P Q R E : Type 0} (μ : Meaning P Q R E) where
       }
 
   -- a number is drawn
-  pub numbers_draw : (chairs : ℕ) (e : E) (K : Known P Q R E) (s : Now M P Q R E) (id : ℕ) (v w : View P Q R E) (words' : List ℕ) → Numbers μ chairs K s → get_elem? s.views id ≡ some v
+  pub numbers_draw : (chairs : ℕ) (e : E) (K : Known P Q R E) (s : Now M P Q R E) (id : ℕ) (v w : ChairView P Q R E) (words' : List ℕ) → Numbers μ chairs K s → get_elem? s.views id ≡ some v
       → Follows μ e v → length v.drawn < v.parts * allotment chairs → get_or words' (length s.homes) 0 ≡ suc (newest K)
       → w.parts ≡ v.parts → w.opening ≡ v.opening → w.session ≡ v.session → w.seen ≡ suc (newest K) → w.drawn ≡ (suc (newest K), e) ∷ v.drawn → w.read ≡ v.read
       → Numbers μ chairs (drawn e K) record { words = words'; homes = s.homes; views = set s.views id w }
@@ -176,13 +176,13 @@ module _ {M P Q R E : Type 0} (μ : Meaning P Q R E) where
       }
 
   -- a view is cut in two
-  pub numbers_split : (chairs : ℕ) (K : Known P Q R E) (s : Now M P Q R E) (id : ℕ) (v w o : View P Q R E) → Numbers μ chairs K s → get_elem? s.views id ≡ some v
+  pub numbers_split : (chairs : ℕ) (K : Known P Q R E) (s : Now M P Q R E) (id : ℕ) (v w o : ChairView P Q R E) → Numbers μ chairs K s → get_elem? s.views id ≡ some v
       → w.parts + o.parts ≡ v.parts → w.drawn ≡ v.drawn → o.drawn ≡ [] → (Drawer μ (allotment chairs) K v → Drawer μ (allotment chairs) K w × Drawer μ (allotment chairs) K o)
       → Numbers μ chairs K record { words = s.words; homes = s.homes; views = set s.views id w ++ o ∷ [] }
   numbers_split chairs K s id v w o r at parts drew none_drawn both =
-      let vs : List (View P Q R E) = set s.views id w in
+      let vs : List (ChairView P Q R E) = set s.views id w in
       let c = both (r.each_chair id v at) in
-      let more : (f : View P Q R E → ℕ) → f w + f o ≡ f v → total f (vs ++ o ∷ []) ≡ total f s.views = λ f h. (let x = total_append f vs (o ∷ []) in let y = total_set f s.views id v w at in omega arith) in
+      let more : (f : ChairView P Q R E → ℕ) → f w + f o ≡ f v → total f (vs ++ o ∷ []) ≡ total f s.views = λ f h. (let x = total_append f vs (o ∷ []) in let y = total_set f s.views id v w at in omega arith) in
       record {
         counter = r.counter;
         whole = more (λ u. u.parts) parts ∙ r.whole;
@@ -196,15 +196,15 @@ module _ {M P Q R E : Type 0} (μ : Meaning P Q R E) where
       }
 
   -- a view takes in another's
-  pub numbers_join : (chairs : ℕ) (K : Known P Q R E) (s : Now M P Q R E) (id : ℕ) (v : View P Q R E) (other : ℕ) (w b z : View P Q R E) → Numbers μ chairs K s → get_elem? s.views id ≡ some v
+  pub numbers_join : (chairs : ℕ) (K : Known P Q R E) (s : Now M P Q R E) (id : ℕ) (v : ChairView P Q R E) (other : ℕ) (w b z : ChairView P Q R E) → Numbers μ chairs K s → get_elem? s.views id ≡ some v
       → other ≢ id → get_elem? (set s.views id b) other ≡ some w → b.parts + z.parts ≡ v.parts + w.parts → length b.drawn ≡ length v.drawn + length w.drawn → ((k : ℕ) → times k b.drawn ≡ times k v.drawn + times k w.drawn) → z.drawn ≡ []
       → (Drawer μ (allotment chairs) K v → Drawer μ (allotment chairs) K w → Drawer μ (allotment chairs) K b × Drawer μ (allotment chairs) K z)
       → Numbers μ chairs K record { words = s.words; homes = s.homes; views = set (set s.views id b) other z }
   numbers_join chairs K s id v other w b z r at apart there parts drew each_drawn none_drawn both =
-      let vs : List (View P Q R E) = set (set s.views id b) other z in
+      let vs : List (ChairView P Q R E) = set (set s.views id b) other z in
       let was : get_elem? s.views other ≡ some w = sym (set_else s.views id other b apart) ∙ there in
       let c = both (r.each_chair id v at) (r.each_chair other w was) in
-      let same : (f : View P Q R E → ℕ) → f b + f z ≡ f v + f w → total f vs ≡ total f s.views = λ f h. total_pair f s.views id other v b w z at there h in
+      let same : (f : ChairView P Q R E → ℕ) → f b + f z ≡ f v + f w → total f vs ≡ total f s.views = λ f h. total_pair f s.views id other v b w z at there h in
       record {
         counter = r.counter;
         whole = same (λ u. u.parts) parts ∙ r.whole;

@@ -10,13 +10,13 @@ use Rattle.mq_turns.specs.Desk.{Now, Words}
 use Rattle.mq_turns.specs.declared.rule.Charge.{Charge}
 use Rattle.mq_turns.specs.declared.rule.Known.{Known}
 use Rattle.mq_turns.specs.declared.rule.Reading.{Reading}
-use Rattle.mq_turns.specs.declared.rule.View.{View}
+use Rattle.mq_turns.specs.declared.rule.ChairView.{ChairView}
 use Rattle.mq_blocks.proofs.Totals.{total_set, total_append, total_pair}
 use Rattle.mq_turns.proofs.Growth.{grows_now}
 use Rattle.mq_turns.proofs.Claims.{reader_grows}
 use Rattle.mq_turns.proofs.Turns.{Homes, chairs_stay}
 
-abbrev pub charges_in : {P Q R E : Type 0} → (Charge → Bool) → View P Q R E → ℕ
+abbrev pub charges_in : {P Q R E : Type 0} → (Charge → Bool) → ChairView P Q R E → ℕ
 charges_in f v = tally f v.reading.charged
 
 pub tally_append : {A : Type 0} (f : A → Bool) (xs ys : List A) → tally f (xs ++ ys) ≡ tally f xs + tally f ys
@@ -24,12 +24,12 @@ tally_append f [] ys = omega arith
 tally_append f (x ∷ xs) ys = let ih = tally_append f xs ys in omega arith
 
 -- what stands for no chair has charged nothing
-abbrev pub Idle : {P Q R E : Type 0} → View P Q R E → Type 0
+abbrev pub Idle : {P Q R E : Type 0} → ChairView P Q R E → Type 0
 Idle u = u.parts ≡ 0 → u.reading.charged ≡ []
 
 module _ {M P Q R E : Type 0} (μ : Meaning P Q R E) where
   -- the words and the chair's reading by what is known after a step
-  pub record Told (K L : Known P Q R E) (s : Now M P Q R E) (v w : View P Q R E) (words' : List ℕ) : Type 0 where
+  pub record Told (K L : Known P Q R E) (s : Now M P Q R E) (v w : ChairView P Q R E) (words' : List ℕ) : Type 0 where
     pub grows : Grows K L
     pub marked : Marked μ L
     pub marks : (q : ℕ) → q < length K.opening.sides → get_or words' (suc (length s.homes + q)) 0 ≡ mark_of q L.claims
@@ -38,7 +38,7 @@ module _ {M P Q R E : Type 0} (μ : Meaning P Q R E) where
     pub reader : Reader μ L w.reading
     pub idle : w.parts ≡ 0 → w.reading.charged ≡ []
 
-  pub words_step : (K L : Known P Q R E) (s : Now M P Q R E) (id : ℕ) (v w : View P Q R E) (words' : List ℕ) (homes' : Homes M P Q R E) → Words μ K s → get_elem? s.views id ≡ some v
+  pub words_step : (K L : Known P Q R E) (s : Now M P Q R E) (id : ℕ) (v w : ChairView P Q R E) (words' : List ℕ) (homes' : Homes M P Q R E) → Words μ K s → get_elem? s.views id ≡ some v
       → length words' ≡ length s.words → length homes' ≡ length s.homes → Told K L s v w words' → Words μ L record { words = words'; homes = homes'; views = set s.views id w }
   words_step K L s id v w words' homes' r at wide deep t =
       let sides : length L.opening.sides ≡ length K.opening.sides = ap (λ o. length o.sides) t.grows.opening in
@@ -53,7 +53,7 @@ module _ {M P Q R E : Type 0} (μ : Meaning P Q R E) where
       }
 
   -- a step on a turn's word or the counter, at which nothing is read or noted, but an entry may be drawn
-  pub words_stay : (K L : Known P Q R E) (s : Now M P Q R E) (id : ℕ) (v w : View P Q R E) (words' : List ℕ) (homes' : Homes M P Q R E) → Words μ K s → get_elem? s.views id ≡ some v
+  pub words_stay : (K L : Known P Q R E) (s : Now M P Q R E) (id : ℕ) (v w : ChairView P Q R E) (words' : List ℕ) (homes' : Homes M P Q R E) → Words μ K s → get_elem? s.views id ≡ some v
       → length words' ≡ length s.words → length homes' ≡ length s.homes → ((k : ℕ) → length s.homes < k → get_or words' k 0 ≡ get_or s.words k 0) → w.parts ≡ v.parts → w.reading ≡ v.reading
       → Grows K L → Marked μ L → L.claims ≡ K.claims → L.word ≡ K.word → L.charges ≡ K.charges → Words μ L record { words = words'; homes = homes'; views = set s.views id w }
   words_stay K L s id v w words' homes' r at wide deep far parts same g marked claims word charges = words_step K L s id v w words' homes' r at wide deep record {
@@ -67,17 +67,17 @@ module _ {M P Q R E : Type 0} (μ : Meaning P Q R E) where
   }
 
   -- nothing becomes known
-  pub words_same : (K : Known P Q R E) (s : Now M P Q R E) (id : ℕ) (v w : View P Q R E) (words' : List ℕ) (homes' : Homes M P Q R E) → Words μ K s → get_elem? s.views id ≡ some v
+  pub words_same : (K : Known P Q R E) (s : Now M P Q R E) (id : ℕ) (v w : ChairView P Q R E) (words' : List ℕ) (homes' : Homes M P Q R E) → Words μ K s → get_elem? s.views id ≡ some v
       → length words' ≡ length s.words → length homes' ≡ length s.homes → ((k : ℕ) → length s.homes < k → get_or words' k 0 ≡ get_or s.words k 0) → w.parts ≡ v.parts → w.reading ≡ v.reading
       → Words μ K record { words = words'; homes = homes'; views = set s.views id w }
   words_same K s id v w words' homes' r at wide deep far parts same = words_stay K K s id v w words' homes' r at wide deep far parts same (grows_now K) r.marked refl refl refl
 
   -- a view is cut in two, and the new one has no charges
-  pub words_split : (K : Known P Q R E) (s : Now M P Q R E) (id : ℕ) (v w o : View P Q R E) → Words μ K s → get_elem? s.views id ≡ some v
+  pub words_split : (K : Known P Q R E) (s : Now M P Q R E) (id : ℕ) (v w o : ChairView P Q R E) → Words μ K s → get_elem? s.views id ≡ some v
       → w.reading.charged ≡ v.reading.charged → (w.parts ≡ 0 → w.reading.charged ≡ []) → o.reading.charged ≡ [] → (Reader μ K v.reading → Reader μ K w.reading × Reader μ K o.reading)
       → Words μ K record { words = s.words; homes = s.homes; views = set s.views id w ++ o ∷ [] }
   words_split K s id v w o r at same idle none both =
-      let vs : List (View P Q R E) = set s.views id w in
+      let vs : List (ChairView P Q R E) = set s.views id w in
       let c = both (r.each_chair id v at) in
       record {
         wide = r.wide;
@@ -100,7 +100,7 @@ module _ {M P Q R E : Type 0} (μ : Meaning P Q R E) where
       }
 
   -- a view takes in another's, which is blank then
-  pub words_join : (K : Known P Q R E) (s : Now M P Q R E) (id : ℕ) (v : View P Q R E) (other : ℕ) (w b z : View P Q R E) → Words μ K s → get_elem? s.views id ≡ some v
+  pub words_join : (K : Known P Q R E) (s : Now M P Q R E) (id : ℕ) (v : ChairView P Q R E) (other : ℕ) (w b z : ChairView P Q R E) → Words μ K s → get_elem? s.views id ≡ some v
       → other ≢ id → get_elem? (set s.views id b) other ≡ some w → ((f : Charge → Bool) → charges_in f b + charges_in f z ≡ charges_in f v + charges_in f w)
       → (b.parts ≡ 0 → b.reading.charged ≡ []) → z.reading.charged ≡ [] → (Reader μ K v.reading → Reader μ K w.reading → Reader μ K b.reading × Reader μ K z.reading)
       → Words μ K record { words = s.words; homes = s.homes; views = set (set s.views id b) other z }

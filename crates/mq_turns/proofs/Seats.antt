@@ -6,7 +6,7 @@ use Rattle.mq_turns.specs.Lists.{Each, times, tally}
 use Rattle.mq_turns.specs.Desk.{turn_at, allotment, Now, Below, blank, others, seated, noted, heard, joined, Drawer, Ruled}
 use Rattle.mq_turns.specs.declared.rule.Opening.{Opening}
 use Rattle.mq_turns.specs.declared.rule.Known.{Known}
-use Rattle.mq_turns.specs.declared.rule.View.{View}
+use Rattle.mq_turns.specs.declared.rule.ChairView.{ChairView}
 use Rattle.mq_turns.proofs.Each.{each_append, times_append}
 use Rattle.mq_turns.proofs.Order.{order_none, order_same}
 use Rattle.mq_turns.proofs.Turns.{turns_split, turns_join}
@@ -15,12 +15,12 @@ use Rattle.mq_turns.proofs.Readings.{words_split, words_join, tally_append}
 use Rattle.mq_turns.proofs.Numbers.{numbers_split, numbers_join, drawns_below, last_of_le, last_of_bounds}
 
 -- what a chair that heard a note had seen, and what the note was of
-pub told : {P Q R E : Type 0} (n : ℕ) (v f : View P Q R E) → Below n (heard v (noted f)) → Below n f × Below n v
+pub told : {P Q R E : Type 0} (n : ℕ) (v f : ChairView P Q R E) → Below n (heard v (noted f)) → Below n f × Below n v
 told n v f b = let x = b.0 in (last_of_bounds f.seen n f.drawn (omega arith), (omega arith, b.1))
 
 module _ {P Q R E : Type 0} (μ : Meaning P Q R E) where
   -- a view that knows a number alone
-  knows_none : (most : ℕ) (K : Known P Q R E) (v : View P Q R E) → v.parts ≡ 0 → v.seen ≤ newest K → v.drawn ≡ [] → v.read ≡ [] → Drawer μ most K v
+  knows_none : (most : ℕ) (K : Known P Q R E) (v : ChairView P Q R E) → v.parts ≡ 0 → v.seen ≤ newest K → v.drawn ≡ [] → v.read ≡ [] → Drawer μ most K v
   knows_none most K v parts seen drew read = record {
     few = let a : length v.drawn ≡ 0 = ap length drew in omega arith;
     opening = λ n. absurd (n parts);
@@ -35,7 +35,7 @@ module _ {M P Q R E : Type 0} (μ : Meaning P Q R E) (o : Opening P Q R) (chairs
   Rule = Ruled μ o chairs
 
   -- a note of what a chair saw and drew
-  pub notes : (id : ℕ) (v : View P Q R E) → Splits Rule id v v (noted v)
+  pub notes : (id : ℕ) (v : ChairView P Q R E) → Splits Rule id v v (noted v)
   notes id v s rk at =
       let K : Known P Q R E = rk.0 in (
         K,
@@ -46,7 +46,7 @@ module _ {M P Q R E : Type 0} (μ : Meaning P Q R E) (o : Opening P Q R) (chairs
       )
 
   -- a chair is set apart, while nothing is held or drawn
-  pub seats : (id : ℕ) (v : View P Q R E) → 0 < v.parts → v.held ≡ [] → v.drawn ≡ [] → v.read ≡ [] → v.reading.charged ≡ [] → Splits Rule id v (others v) (seated v)
+  pub seats : (id : ℕ) (v : ChairView P Q R E) → 0 < v.parts → v.held ≡ [] → v.drawn ≡ [] → v.read ≡ [] → v.reading.charged ≡ [] → Splits Rule id v (others v) (seated v)
   seats id v live none_held none_drawn none_read none_charged s rk at =
       let K : Known P Q R E = rk.0 in
       let none_yet : length v.drawn ≡ 0 = ap length none_drawn in (
@@ -61,7 +61,7 @@ module _ {M P Q R E : Type 0} (μ : Meaning P Q R E) (o : Opening P Q R) (chairs
       )
 
   -- a chair hears a note
-  pub hears_note : (id : ℕ) (v : View P Q R E) (other : ℕ) (w f : View P Q R E) → w ≡ noted f → Joins Rule id v other w (heard v w) blank
+  pub hears_note : (id : ℕ) (v : ChairView P Q R E) (other : ℕ) (w f : ChairView P Q R E) → w ≡ noted f → Joins Rule id v other w (heard v w) blank
   hears_note id v other w f is s rk at apart there =
       let K : Known P Q R E = rk.0 in
       let parts : w.parts ≡ 0 = ap (λ u. u.parts) is in
@@ -78,7 +78,7 @@ module _ {M P Q R E : Type 0} (μ : Meaning P Q R E) (o : Opening P Q R) (chairs
       )
 
   -- two chairs, of which the second holds nothing, are one
-  pub glues : (id : ℕ) (v : View P Q R E) (other : ℕ) (w : View P Q R E) → 0 < v.parts → w.parts ≡ 1 → w.held ≡ [] → w.hand ≡ 0 → Joins Rule id v other w (joined v w) blank
+  pub glues : (id : ℕ) (v : ChairView P Q R E) (other : ℕ) (w : ChairView P Q R E) → 0 < v.parts → w.parts ≡ 1 → w.held ≡ [] → w.hand ≡ 0 → Joins Rule id v other w (joined v w) blank
   glues id v other w live one none_held no_hand s rk at apart there =
       let K : Known P Q R E = rk.0 in
       let l = length-append v.drawn w.drawn in (

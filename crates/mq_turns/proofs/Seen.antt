@@ -10,7 +10,7 @@ use Rattle.mq_turns.specs.Chairs.{holding}
 use Rattle.mq_turns.specs.Desk.{IsTurn, slot_of, turn_at, refreshed, after_look, Stay, Sees, Stands}
 use Rattle.mq_turns.specs.declared.rule.Opening.{Opening}
 use Rattle.mq_turns.specs.declared.rule.Known.{Known}
-use Rattle.mq_turns.specs.declared.rule.View.{View}
+use Rattle.mq_turns.specs.declared.rule.ChairView.{ChairView}
 use Rattle.mq_turns.specs.declared.turn.Turn.{Turn}
 use Rattle.mq_turns.specs.declared.turn.Turn.TheVariants.{Side}
 use Rattle.mq_turns.specs.declared.turn.Item.{Item}
@@ -24,25 +24,25 @@ some_same e = cc
 
 module _ {P Q R E : Type 0} (μ : Meaning P Q R E) where
   -- what is seen with one turn more was to be seen before, and what is known of that turn
-  pub sees_before : (k : ℕ) (K1 K : Known P Q R E) (v : View P Q R E) → Sees μ (holding k K1 v) K → Sees μ v K
+  pub sees_before : (k : ℕ) (K1 K : Known P Q R E) (v : ChairView P Q R E) → Sees μ (holding k K1 v) K → Sees μ v K
   sees_before k K1 K v s = record { opening = s.opening; ok = s.ok; few = s.few; held = s.held.1; seen = s.seen; drew = s.drew; marked = s.marked; reader = s.reader }
 
-  pub sees_taken : (k : ℕ) (K1 K : Known P Q R E) (v : View P Q R E) → Sees μ (holding k K1 v) K → μ.ok K1 × Stay μ (turn_at K.opening k) K1 K
+  pub sees_taken : (k : ℕ) (K1 K : Known P Q R E) (v : ChairView P Q R E) → Sees μ (holding k K1 v) K → μ.ok K1 × Stay μ (turn_at K.opening k) K1 K
   sees_taken k K1 K v s = s.held.0
 
   -- what a chair has in hand is nothing that it sees
-  pub sees_hand : (n : ℕ) (K : Known P Q R E) (v : View P Q R E) → Sees μ (record v { hand = n }) K → Sees μ v K
+  pub sees_hand : (n : ℕ) (K : Known P Q R E) (v : ChairView P Q R E) → Sees μ (record v { hand = n }) K → Sees μ v K
   sees_hand n K v s = record { opening = s.opening; ok = s.ok; few = s.few; held = s.held; seen = s.seen; drew = s.drew; marked = s.marked; reader = s.reader }
 
   -- what is seen after a look was to be seen before
-  pub sees_look : (K1 K : Known P Q R E) (v : View P Q R E) → Sees μ v K1 → Sees μ (after_look None K1 v) K → Sees μ v K
+  pub sees_look : (K1 K : Known P Q R E) (v : ChairView P Q R E) → Sees μ v K1 → Sees μ (after_look None K1 v) K → Sees μ v K
   sees_look K1 K v before s = record { opening = s.opening; ok = s.ok; few = s.few; held = s.held; seen = let a = before.seen in let b = s.seen in omega arith; drew = s.drew; marked = s.marked; reader = s.reader }
 
-  pub opening_seen : (o : Opening P Q R) (K : Known P Q R E) (v : View P Q R E) → v.opening ≡ Some o → Sees μ v K → K.opening ≡ o
+  pub opening_seen : (o : Opening P Q R) (K : Known P Q R E) (v : ChairView P Q R E) → v.opening ≡ Some o → Sees μ v K → K.opening ≡ o
   opening_seen o K v is s = some_same (sym s.opening ∙ is)
 
   -- the turn of a slot is what it was at the opening
-  pub turn_seen : (o : Opening P Q R) (K : Known P Q R E) (v : View P Q R E) (t : Turn) → v.opening ≡ Some o → Sees μ v K → IsTurn o t → turn_at K.opening (slot_of o t) ≡ t
+  pub turn_seen : (o : Opening P Q R) (K : Known P Q R E) (v : ChairView P Q R E) (t : Turn) → v.opening ≡ Some o → Sees μ v K → IsTurn o t → turn_at K.opening (slot_of o t) ≡ t
   turn_seen o K v t is s mine = ap (λ p. turn_at p (slot_of o t)) (opening_seen o K v is s) ∙ turn_at_slot o t mine
 
   -- of a turn that the chair holds, all that it says at each entry for the slot
@@ -61,7 +61,7 @@ module _ {P Q R E : Type 0} (μ : Meaning P Q R E) where
   times_renewed touched L k (h ∷ hs) = let ih = times_renewed touched L k hs in omega arith
 
   -- after a step of its own that is about a turn which it holds, the chair knows that turn by it
-  pub stay_renewed : (touched : ℕ → Bool) (L K : Known P Q R E) (v w : View P Q R E) (t : Turn) (k : ℕ) → w.held ≡ refreshed touched L v.held → touched k ≡ true → 0 < times k v.held → turn_at K.opening k ≡ t → Sees μ w K → μ.ok L × Stay μ t L K
+  pub stay_renewed : (touched : ℕ → Bool) (L K : Known P Q R E) (v w : ChairView P Q R E) (t : Turn) (k : ℕ) → w.held ≡ refreshed touched L v.held → touched k ≡ true → 0 < times k v.held → turn_at K.opening k ≡ t → Sees μ w K → μ.ok L × Stay μ t L K
   stay_renewed touched L K v w t k held about mine is s =
       held_seen k (λ N. N ≡ L) (μ.ok L × Stay μ t L K) (refreshed touched L v.held) (λ j N. μ.ok N × Stay μ (turn_at K.opening j) N K)
       (let z = times_renewed touched L k v.held in omega arith)
@@ -86,15 +86,15 @@ module _ {P Q R E : Type 0} (μ : Meaning P Q R E) where
 
 module _ {M P Q R E : Type 0} (μ : Meaning P Q R E) where
   -- what stands by what the chair knew of the turn stands by what is known now
-  pub stands_seen : (K : Known P Q R E) (v : View P Q R E) (t : Turn) (k : ℕ) (x : Item M P Q R E) → Sees μ v K → 0 < times k v.held → turn_at K.opening k ≡ t → Each (λ h. h.0 ≡ k → Stands μ t h.1 x) v.held → Stands μ t K x
+  pub stands_seen : (K : Known P Q R E) (v : ChairView P Q R E) (t : Turn) (k : ℕ) (x : Item M P Q R E) → Sees μ v K → 0 < times k v.held → turn_at K.opening k ≡ t → Each (λ h. h.0 ≡ k → Stands μ t h.1 x) v.held → Stands μ t K x
   stands_seen K v t k x s mine is stands =
       held_seen μ k (λ N. Stands μ t N x) (Stands μ t K x) v.held (λ j N. μ.ok N × Stay μ (turn_at K.opening j) N K) mine stands s.held
       (λ N a b. along μ (turn_at K.opening) t N K x (subst (λ u. Stay μ u N K) is a.1) a.0 s.ok b)
 
   -- what stands after a step of the chair's own stands by what is known now
-  pub stands_renewed : (touched : ℕ → Bool) (L K : Known P Q R E) (v w : View P Q R E) (t : Turn) (k : ℕ) (x : Item M P Q R E) → w.held ≡ refreshed touched L v.held → touched k ≡ true → 0 < times k v.held → turn_at K.opening k ≡ t → Sees μ w K → Stands μ t L x → Stands μ t K x
+  pub stands_renewed : (touched : ℕ → Bool) (L K : Known P Q R E) (v w : ChairView P Q R E) (t : Turn) (k : ℕ) (x : Item M P Q R E) → w.held ≡ refreshed touched L v.held → touched k ≡ true → 0 < times k v.held → turn_at K.opening k ≡ t → Sees μ w K → Stands μ t L x → Stands μ t K x
   stands_renewed touched L K v w t k x held about mine is s b = let a = stay_renewed μ touched L K v w t k held about mine is s in along μ (turn_at K.opening) t L K x a.1 a.0 s.ok b
 
   -- the same, where the desk's opening is known
-  pub stands_held : (o : Opening P Q R) (t : Turn) (v : View P Q R E) (x : Item M P Q R E) → v.opening ≡ Some o → IsTurn o t → 0 < times (slot_of o t) v.held → Each (λ h. h.0 ≡ slot_of o t → Stands μ t h.1 x) v.held → (K : Known P Q R E) → Sees μ v K → Stands μ t K x
+  pub stands_held : (o : Opening P Q R) (t : Turn) (v : ChairView P Q R E) (x : Item M P Q R E) → v.opening ≡ Some o → IsTurn o t → 0 < times (slot_of o t) v.held → Each (λ h. h.0 ≡ slot_of o t → Stands μ t h.1 x) v.held → (K : Known P Q R E) → Sees μ v K → Stands μ t K x
   stands_held o t v x opening mine some_held stands K s = stands_seen K v t (slot_of o t) x s some_held (turn_seen μ o K v t opening s mine) stands

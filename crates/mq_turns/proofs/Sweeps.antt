@@ -12,7 +12,7 @@ use Rattle.mq_turns.specs.declared.rule.Notice.TheVariants as notice
 use Rattle.mq_turns.specs.declared.rule.Opening.{Opening}
 use Rattle.mq_turns.specs.declared.rule.Known.{Known}
 use Rattle.mq_turns.specs.declared.rule.Reading.{Reading}
-use Rattle.mq_turns.specs.declared.rule.View.{View}
+use Rattle.mq_turns.specs.declared.rule.ChairView.{ChairView}
 use Rattle.mq_turns.proofs.Seen.{opening_seen}
 
 module _ {P Q R E : Type 0} where
@@ -46,7 +46,7 @@ least_le n (m ∷ ms) = let ih = least_le n ms in omega arith
 
 module _ {P Q R E : Type 0} (μ : Meaning P Q R E) where
   -- the counter is read
-  pub sweep_begins : (queues n : ℕ) (v w : View P Q R E) → w ≡ record v { seen = n } → (K : Known P Q R E) × (newest K ≡ n) × Sees μ v K → Below n v → Sweeping μ queues 0 n v w
+  pub sweep_begins : (queues n : ℕ) (v w : ChairView P Q R E) → w ≡ record v { seen = n } → (K : Known P Q R E) × (newest K ≡ n) × Sees μ v K → Below n v → Sweeping μ queues 0 n v w
   sweep_begins queues n v w is known below = record {
     counter = n;
     marks = [];
@@ -61,7 +61,7 @@ module _ {P Q R E : Type 0} (μ : Meaning P Q R E) where
   }
 
   -- all queues are passed
-  pub passed_done : (o : Opening P Q R) (n : ℕ) (v : View P Q R E) → v.opening ≡ Some o → HasPassed (length o.sides) (length o.sides) n v.reading → (K : Known P Q R E) → Sees μ v K → DoneTo μ n K
+  pub passed_done : (o : Opening P Q R) (n : ℕ) (v : ChairView P Q R E) → v.opening ≡ Some o → HasPassed (length o.sides) (length o.sides) n v.reading → (K : Known P Q R E) → Sees μ v K → DoneTo μ n K
   passed_done o n v start z K s m e at le =
       let own = s.marked.own m e at in
       let same : K.opening ≡ o = opening_seen μ o K v start s in
@@ -70,7 +70,7 @@ module _ {P Q R E : Type 0} (μ : Meaning P Q R E) where
       s.reader.done m e at (omega arith)
 
   -- what the chair sees at a mark is to be seen by what it was before, but for its sweep
-  before_sweep : (queues q low : ℕ) (K : Known P Q R E) (v w : View P Q R E) → Sees μ w K → (z : Sweeping μ queues q low v w) → Sees μ (after_count z.counter v) K
+  before_sweep : (queues q low : ℕ) (K : Known P Q R E) (v w : ChairView P Q R E) → Sees μ w K → (z : Sweeping μ queues q low v w) → Sees μ (after_count z.counter v) K
   before_sweep queues q low K v w sees z =
       let s : Sees μ (record v { seen = z.counter; reading = z.reading }) K = subst (λ u. Sees μ u K) z.is sees in
       let r : Reader μ K z.reading = s.reader in
@@ -96,11 +96,11 @@ module _ {P Q R E : Type 0} (μ : Meaning P Q R E) where
       }
 
   -- one mark more is read
-  pub sweep_next : (o : Opening P Q R) (q low mark : ℕ) (K : Known P Q R E) (v w x : View P Q R E) → v.opening ≡ Some o → x ≡ after_peek q mark K w → mark_of q K.claims ≡ mark → Sees μ w K → Sweeping μ (length o.sides) q low v w
+  pub sweep_next : (o : Opening P Q R) (q low mark : ℕ) (K : Known P Q R E) (v w x : ChairView P Q R E) → v.opening ≡ Some o → x ≡ after_peek q mark K w → mark_of q K.claims ≡ mark → Sees μ w K → Sweeping μ (length o.sides) q low v w
       → Sweeping μ (length o.sides) (suc q) (min low (mark - 1)) v x
   sweep_next o q low mark K v w x start is read s z =
       let r : Reading P Q R E = z.reading in
-      let high : z.counter ≤ newest K = let a = s.seen in let b = ap (λ (u : View P Q R E). u.seen) z.is in omega arith in
+      let high : z.counter ≤ newest K = let a = s.seen in let b = ap (λ (u : ChairView P Q R E). u.seen) z.is in omega arith in
       let least = z.low_is in
       let le = least_le z.counter z.marks in
       let p = shows_next (length o.sides) q low (mark - 1) (newest K) r (omega arith) z.passes.passed in
@@ -121,14 +121,14 @@ module _ {P Q R E : Type 0} (μ : Meaning P Q R E) where
       }
 
   -- all marks are read
-  pub sweep_ends : (o : Opening P Q R) (low : ℕ) (v w : View P Q R E) → v.opening ≡ Some o → Sweeping μ (length o.sides) (length o.sides) low v w → AfterMarks μ o low v w
+  pub sweep_ends : (o : Opening P Q R) (low : ℕ) (v w : ChairView P Q R E) → v.opening ≡ Some o → Sweeping μ (length o.sides) (length o.sides) low v w → AfterMarks μ o low v w
   sweep_ends o low v w start z = record {
     sweep = z;
-    done = passed_done o low w (ap (λ (u : View P Q R E). u.opening) z.is ∙ start) (subst (λ (u : View P Q R E). HasPassed (length o.sides) (length o.sides) low u.reading) (sym z.is) z.passes);
+    done = passed_done o low w (ap (λ (u : ChairView P Q R E). u.opening) z.is ∙ start) (subst (λ (u : ChairView P Q R E). HasPassed (length o.sides) (length o.sides) low u.reading) (sym z.is) z.passes);
   }
 
   -- what is seen once the front is kept was to be seen before
-  before_kept : (n : ℕ) (K : Known P Q R E) (v : View P Q R E) → Sees μ (record v { reading = record v.reading { answers = Front n ∷ v.reading.answers } }) K → Sees μ v K
+  before_kept : (n : ℕ) (K : Known P Q R E) (v : ChairView P Q R E) → Sees μ (record v { reading = record v.reading { answers = Front n ∷ v.reading.answers } }) K → Sees μ v K
   before_kept n K v s = record {
     opening = s.opening;
     ok = s.ok;
@@ -141,22 +141,22 @@ module _ {P Q R E : Type 0} (μ : Meaning P Q R E) where
   }
 
   -- the front is kept
-  pub keeps_front : (o : Opening P Q R) (front : ℕ) (v w x : View P Q R E) (K : Known P Q R E) → AfterMarks μ o front v w → x ≡ after_notice μ (notice.Front front) K w → AfterFront μ o front v x
+  pub keeps_front : (o : Opening P Q R) (front : ℕ) (v w x : ChairView P Q R E) (K : Known P Q R E) → AfterMarks μ o front v w → x ≡ after_notice μ (notice.Front front) K w → AfterFront μ o front v x
   keeps_front o front v w x K marks is = record {
     swept = w;
     marks = marks;
     is = is;
-    done = λ L sees. marks.done L (before_kept front L w (subst (λ (u : View P Q R E). Sees μ u L) is sees));
+    done = λ L sees. marks.done L (before_kept front L w (subst (λ (u : ChairView P Q R E). Sees μ u L) is sees));
   }
 
   -- one queue more is cleared, with a mark above n, by a chair that has seen n
-  pub clear_passes : (o : Opening P Q R) (q low n : ℕ) (K : Known P Q R E) (v w : View P Q R E) → v.opening ≡ Some o → w ≡ after_clear q low K v → Sees μ v K → n < low → n ≤ v.seen → HasPassed (length o.sides) q n v.reading
+  pub clear_passes : (o : Opening P Q R) (q low n : ℕ) (K : Known P Q R E) (v w : ChairView P Q R E) → v.opening ≡ Some o → w ≡ after_clear q low K v → Sees μ v K → n < low → n ≤ v.seen → HasPassed (length o.sides) q n v.reading
       → HasPassed (length o.sides) (suc q) n w.reading
   clear_passes o q low n K v w start is s above high z =
       let last = s.seen in
       let p = shows_next (length o.sides) q n (low - 1) (newest K) v.reading (omega arith) z.passed in
       let most = p.low_is in
-      subst (HasPassed (length o.sides) (suc q) n) (sym (ap (λ (u : View P Q R E). u.reading) is ∙ ap (λ c. shown (queues_of c) q (min (low - 1) (newest K)) v.reading) start)) record {
+      subst (HasPassed (length o.sides) (suc q) n) (sym (ap (λ (u : ChairView P Q R E). u.reading) is ∙ ap (λ c. shown (queues_of c) q (min (low - 1) (newest K)) v.reading) start)) record {
         passed = λ lt. (p.swept, omega arith);
         ended = λ lt all. let e = p.ended all in omega arith;
       }

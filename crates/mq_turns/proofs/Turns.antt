@@ -12,7 +12,7 @@ use Rattle.mq_blocks.specs.Totals.{total}
 use Rattle.mq_turns.specs.Lists.{Each, tick, times, without}
 use Rattle.mq_turns.specs.Desk.{hand_at, holders, hands, Now, refreshed, Stay, Holder, Turned, Turns, Stands}
 use Rattle.mq_turns.specs.declared.rule.Known.{Known}
-use Rattle.mq_turns.specs.declared.rule.View.{View}
+use Rattle.mq_turns.specs.declared.rule.ChairView.{ChairView}
 use Rattle.mq_turns.specs.declared.turn.Turn.{Turn}
 use Rattle.mq_turns.specs.declared.turn.Turn.TheVariants.{Page, Side, Root}
 use Rattle.mq_turns.specs.declared.turn.Item.{Item}
@@ -26,17 +26,17 @@ Homes M P Q R E = List (maybe.Option (Option (Item M P Q R E)))
 
 module _ {P Q R E : Type 0} where
   -- what holds of the view that a step changed, and of the others
-  pub chairs_stay : (F : View P Q R E → Type 0) (vs : List (View P Q R E)) (id : ℕ) (w : View P Q R E) → F w → ((j : ℕ) (u : View P Q R E) → j ≢ id → get_elem? vs j ≡ some u → F u)
-      → (j : ℕ) (u : View P Q R E) → get_elem? (set vs id w) j ≡ some u → F u
+  pub chairs_stay : (F : ChairView P Q R E → Type 0) (vs : List (ChairView P Q R E)) (id : ℕ) (w : ChairView P Q R E) → F w → ((j : ℕ) (u : ChairView P Q R E) → j ≢ id → get_elem? vs j ≡ some u → F u)
+      → (j : ℕ) (u : ChairView P Q R E) → get_elem? (set vs id w) j ≡ some u → F u
   chairs_stay F vs id w mine others j u e = ⊎_elim (λ (t : (j ≡ id) × (w ≡ u)). subst F t.1 mine) (λ (t : (j ≢ id) × (get_elem? vs j ≡ some u)). others j u t.0 t.1) (at_set vs id j w u e)
 
-  same_single : (vs : List (View P Q R E)) (id : ℕ) (v w : View P Q R E) (k : ℕ) → get_elem? vs id ≡ some v → times k w.held ≡ times k v.held → holders k vs ≤ 1 → holders k (set vs id w) ≤ 1
+  same_single : (vs : List (ChairView P Q R E)) (id : ℕ) (v w : ChairView P Q R E) (k : ℕ) → get_elem? vs id ≡ some v → times k w.held ≡ times k v.held → holders k vs ≤ 1 → holders k (set vs id w) ≤ 1
   same_single vs id v w k at held one = let h = total_same (λ u. times k u.held) vs id v w at held in omega arith
 
-  count_after : (vs : List (View P Q R E)) (id : ℕ) (v w : View P Q R E) (k : ℕ) → get_elem? vs id ≡ some v → holders k (set vs id w) + times k v.held ≡ holders k vs + times k w.held
+  count_after : (vs : List (ChairView P Q R E)) (id : ℕ) (v w : ChairView P Q R E) (k : ℕ) → get_elem? vs id ≡ some v → holders k (set vs id w) + times k v.held ≡ holders k vs + times k w.held
   count_after vs id v w k at = total_set (λ u. times k u.held) vs id v w at
 
-  in_hand_is_held : (k : ℕ) (u : View P Q R E) → ((j : ℕ) → u.hand ≡ suc j → 0 < times j u.held) → hand_at k u ≤ times k u.held
+  in_hand_is_held : (k : ℕ) (u : ChairView P Q R E) → ((j : ℕ) → u.hand ≡ suc j → 0 < times j u.held) → hand_at k u ≤ times k u.held
   in_hand_is_held k u h = dite (ℕ_discrete u.hand (suc k)) (λ e. let o = hit u.hand (suc k) e in let p = h k e in omega arith) (λ ne. let o = miss u.hand (suc k) ne in omega arith)
 
   pub times_refreshed : (touched : ℕ → Bool) (L : Known P Q R E) (k : ℕ) (l : List (ℕ × Known P Q R E)) → times k (refreshed touched L l) ≡ times k l
@@ -45,7 +45,7 @@ module _ {P Q R E : Type 0} where
 
 module _ {P Q R E : Type 0} (μ : Meaning P Q R E) (turn : ℕ → Turn) where
   -- a step from K to L by a chair that holds each turn that it is about
-  pub record Change (slots : ℕ) (touched : ℕ → Bool) (K L : Known P Q R E) (v : View P Q R E) : Type 0 where
+  pub record Change (slots : ℕ) (touched : ℕ → Bool) (K L : Known P Q R E) (v : ChairView P Q R E) : Type 0 where
     pub ok : μ.ok L
     pub stays : (k : ℕ) → touched k ≡ false → Stay μ (turn k) K L
     pub mine : (k : ℕ) → k < slots → touched k ≡ true → 0 < times k v.held
@@ -63,7 +63,7 @@ module _ {P Q R E : Type 0} (μ : Meaning P Q R E) (turn : ℕ → Turn) where
     held_refreshed slots touched K L ok stays hs a.1,
   )
 
-  pub holds_none : (slots : ℕ) (K : Known P Q R E) (v : View P Q R E) → v.hand ≡ 0 → v.held ≡ [] → Holder μ turn slots K v
+  pub holds_none : (slots : ℕ) (K : Known P Q R E) (v : ChairView P Q R E) → v.hand ≡ 0 → v.held ≡ [] → Holder μ turn slots K v
   holds_none slots K v hand held = record { idle = λ z. held; hand = λ k e. absurd (omega arith); held = subst (Each (Kept slots K)) (sym held) tt }
 
   held_others : (slots : ℕ) (K L : Known P Q R E) (l : List (ℕ × Known P Q R E)) → ((k : ℕ) → k < slots → 0 < times k l → Stay μ (turn k) K L) → Each (Kept slots K) l → Each (Kept slots L) l
@@ -87,7 +87,7 @@ module _ {M P Q R E : Type 0} (μ : Meaning P Q R E) (turn : ℕ → Turn) where
   along Root K L (item.Root r) s a b' h = μ.root_along K L r s a b' h
 
   -- a turn that neither the step nor the view that changes names
-  turn_stays : (K L : Known P Q R E) (s : Now M P Q R E) (words' : List ℕ) (homes' : Homes M P Q R E) (id : ℕ) (v w : View P Q R E) (k : ℕ)
+  turn_stays : (K L : Known P Q R E) (s : Now M P Q R E) (words' : List ℕ) (homes' : Homes M P Q R E) (id : ℕ) (v w : ChairView P Q R E) (k : ℕ)
       → get_elem? s.views id ≡ some v → get_or words' k 0 ≡ get_or s.words k 0 → get_elem? homes' k ≡ get_elem? s.homes k
       → times k w.held ≡ times k v.held → hand_at k w ≡ hand_at k v → (holders k s.views ≡ 0 → (x : Item M P Q R E) → Stands μ (turn k) K x → Stands μ (turn k) L x)
       → Turned μ turn K s k → Turned μ turn L record { words = words'; homes = homes'; views = set s.views id w } k
@@ -101,7 +101,7 @@ module _ {M P Q R E : Type 0} (μ : Meaning P Q R E) (turn : ℕ → Turn) where
       }
 
   -- nothing became known
-  moved : (K : Known P Q R E) (s : Now M P Q R E) (r : Turns μ turn K s) (id : ℕ) (w : View P Q R E) (words' : List ℕ) (homes' : Homes M P Q R E)
+  moved : (K : Known P Q R E) (s : Now M P Q R E) (r : Turns μ turn K s) (id : ℕ) (w : ChairView P Q R E) (words' : List ℕ) (homes' : Homes M P Q R E)
       → length words' ≡ length s.words → length homes' ≡ length s.homes → ((k : ℕ) → holders k (set s.views id w) ≤ 1) → Holder μ turn (length s.homes) K w
       → ((k : ℕ) → k < length s.homes → Turned μ turn K record { words = words'; homes = homes'; views = set s.views id w } k)
       → Turns μ turn K record { words = words'; homes = homes'; views = set s.views id w }
@@ -110,12 +110,12 @@ module _ {M P Q R E : Type 0} (μ : Meaning P Q R E) (turn : ℕ → Turn) where
     ok = r.ok;
     single = single;
     each_turn = λ k l. turns k (omega arith);
-    each_chair = let F : ℕ → Type 0 = λ n. (j : ℕ) (u : View P Q R E) → get_elem? (set s.views id w) j ≡ some u → Holder μ turn n K u in
+    each_chair = let F : ℕ → Type 0 = λ n. (j : ℕ) (u : ChairView P Q R E) → get_elem? (set s.views id w) j ≡ some u → Holder μ turn n K u in
         subst F (sym deep) (chairs_stay (Holder μ turn (length s.homes) K) s.views id w chair (λ j u _ e. r.each_chair j u e));
   }
 
   -- a step on a word that is no turn's, by which nothing becomes known
-  pub turns_look : (K : Known P Q R E) (s : Now M P Q R E) (id : ℕ) (v w : View P Q R E) (words' : List ℕ) → Turns μ turn K s → get_elem? s.views id ≡ some v
+  pub turns_look : (K : Known P Q R E) (s : Now M P Q R E) (id : ℕ) (v w : ChairView P Q R E) (words' : List ℕ) → Turns μ turn K s → get_elem? s.views id ≡ some v
       → w.parts ≡ v.parts → w.hand ≡ v.hand → w.held ≡ v.held → length words' ≡ length s.words → ((k : ℕ) → k < length s.homes → get_or words' k 0 ≡ get_or s.words k 0)
       → Turns μ turn K record { words = words'; homes = s.homes; views = set s.views id w }
   turns_look K s id v w words' r at parts hand held wide word =
@@ -131,7 +131,7 @@ module _ {M P Q R E : Type 0} (μ : Meaning P Q R E) (turn : ℕ → Turn) where
       (λ k l. turn_stays K K s words' s.homes id v w k at (word k l) refl (same k) (ap (λ h. tick h (suc k)) hand) (λ _ x h. h) (r.each_turn k l))
 
   -- a step on a word that is no turn's, by which L is known
-  pub turns_change : (touched : ℕ → Bool) (K L : Known P Q R E) (s : Now M P Q R E) (id : ℕ) (v w : View P Q R E) (words' : List ℕ) → Turns μ turn K s → get_elem? s.views id ≡ some v
+  pub turns_change : (touched : ℕ → Bool) (K L : Known P Q R E) (s : Now M P Q R E) (id : ℕ) (v w : ChairView P Q R E) (words' : List ℕ) → Turns μ turn K s → get_elem? s.views id ≡ some v
       → Change μ turn (length s.homes) touched K L v → w.parts ≡ v.parts → w.hand ≡ v.hand → w.held ≡ refreshed touched L v.held
       → length words' ≡ length s.words → ((k : ℕ) → k < length s.homes → get_or words' k 0 ≡ get_or s.words k 0)
       → Turns μ turn L record { words = words'; homes = s.homes; views = set s.views id w }
@@ -166,7 +166,7 @@ module _ {M P Q R E : Type 0} (μ : Meaning P Q R E) (turn : ℕ → Turn) where
       }
 
   -- a turn that is free is taken, with its slot
-  pub turns_take : (K : Known P Q R E) (s : Now M P Q R E) (id k : ℕ) (v w : View P Q R E) → Turns μ turn K s → get_elem? s.views id ≡ some v → k < length s.homes → holders k s.views ≡ 0
+  pub turns_take : (K : Known P Q R E) (s : Now M P Q R E) (id k : ℕ) (v w : ChairView P Q R E) → Turns μ turn K s → get_elem? s.views id ≡ some v → k < length s.homes → holders k s.views ≡ 0
       → 0 < v.parts → v.hand ≡ 0 → w.parts ≡ v.parts → w.hand ≡ suc k → w.held ≡ (k, K) ∷ v.held
       → Turns μ turn K record { words = set s.words k 1; homes = set s.homes k none; views = set s.views id w }
   turns_take K s id k v w r at lt free live empty parts hand held =
@@ -200,7 +200,7 @@ module _ {M P Q R E : Type 0} (μ : Meaning P Q R E) (turn : ℕ → Turn) where
       (miss w.hand (suc j) (λ e. ne (omega arith)) ∙ sym (miss v.hand (suc j) (λ e. omega arith))) (λ _ y h. h) (r.each_turn j l)))
 
   -- the slot that was emptied goes home
-  pub turns_settle : (K : Known P Q R E) (s : Now M P Q R E) (id k : ℕ) (v w : View P Q R E) → Turns μ turn K s → get_elem? s.views id ≡ some v → k < length s.homes
+  pub turns_settle : (K : Known P Q R E) (s : Now M P Q R E) (id k : ℕ) (v w : ChairView P Q R E) → Turns μ turn K s → get_elem? s.views id ≡ some v → k < length s.homes
       → v.hand ≡ suc k → w.parts ≡ v.parts → w.hand ≡ 0 → w.held ≡ v.held
       → Turns μ turn K record { words = s.words; homes = set s.homes k (some None); views = set s.views id w }
   turns_settle K s id k v w r at lt was parts hand held =
@@ -224,7 +224,7 @@ module _ {M P Q R E : Type 0} (μ : Meaning P Q R E) (turn : ℕ → Turn) where
       (miss w.hand (suc j) (λ e. omega arith) ∙ sym (miss v.hand (suc j) (λ e. ne (omega arith)))) (λ _ y h. h) (r.each_turn j l)))
 
   -- the empty slot is at home where its holder has not got it in hand
-  pub away_empty : (K : Known P Q R E) (s : Now M P Q R E) (id k : ℕ) (v : View P Q R E) → Turns μ turn K s → get_elem? s.views id ≡ some v → k < length s.homes → v.hand ≡ 0 → 0 < times k v.held
+  pub away_empty : (K : Known P Q R E) (s : Now M P Q R E) (id k : ℕ) (v : ChairView P Q R E) → Turns μ turn K s → get_elem? s.views id ≡ some v → k < length s.homes → v.hand ≡ 0 → 0 < times k v.held
       → get_elem? s.homes k ≡ some (some None)
   away_empty K s id k v r at lt hand mine =
       let t = r.each_turn k lt in
@@ -235,7 +235,7 @@ module _ {M P Q R E : Type 0} (μ : Meaning P Q R E) (turn : ℕ → Turn) where
       t.away (omega arith) (omega arith)
 
   -- the empty slot comes into hand
-  pub turns_reach : (K : Known P Q R E) (s : Now M P Q R E) (id k : ℕ) (v w : View P Q R E) → Turns μ turn K s → get_elem? s.views id ≡ some v → k < length s.homes
+  pub turns_reach : (K : Known P Q R E) (s : Now M P Q R E) (id k : ℕ) (v w : ChairView P Q R E) → Turns μ turn K s → get_elem? s.views id ≡ some v → k < length s.homes
       → v.hand ≡ 0 → 0 < times k v.held → w.parts ≡ v.parts → w.hand ≡ suc k → w.held ≡ v.held
       → Turns μ turn K record { words = s.words; homes = set s.homes k none; views = set s.views id w }
   turns_reach K s id k v w r at lt was mine parts hand held =
@@ -266,7 +266,7 @@ module _ {M P Q R E : Type 0} (μ : Meaning P Q R E) (turn : ℕ → Turn) where
       (miss w.hand (suc j) (λ e. ne (omega arith)) ∙ sym (miss v.hand (suc j) (λ e. omega arith))) (λ _ y h. h) (r.each_turn j l)))
 
   -- the slot in hand goes home with a value that stands, and the turn is free
-  pub turns_free : (K : Known P Q R E) (s : Now M P Q R E) (id k : ℕ) (v w : View P Q R E) (x : Item M P Q R E) → Turns μ turn K s → get_elem? s.views id ≡ some v → k < length s.homes
+  pub turns_free : (K : Known P Q R E) (s : Now M P Q R E) (id k : ℕ) (v w : ChairView P Q R E) (x : Item M P Q R E) → Turns μ turn K s → get_elem? s.views id ≡ some v → k < length s.homes
       → v.hand ≡ suc k → Stands μ (turn k) K x → w.parts ≡ v.parts → w.hand ≡ 0 → w.held ≡ without k v.held
       → Turns μ turn K record { words = set s.words k 0; homes = set s.homes k (some (Some x)); views = set s.views id w }
   turns_free K s id k v w x r at lt was stands parts hand held =
@@ -298,13 +298,13 @@ module _ {M P Q R E : Type 0} (μ : Meaning P Q R E) (turn : ℕ → Turn) where
       (miss w.hand (suc j) (λ e. omega arith) ∙ sym (miss v.hand (suc j) (λ e. ne (omega arith)))) (λ _ y h. h) (r.each_turn j l)))
 
   -- a view is cut in two, and the new one holds nothing
-  pub turns_split : (K : Known P Q R E) (s : Now M P Q R E) (id : ℕ) (v w o : View P Q R E) → Turns μ turn K s → get_elem? s.views id ≡ some v
+  pub turns_split : (K : Known P Q R E) (s : Now M P Q R E) (id : ℕ) (v w o : ChairView P Q R E) → Turns μ turn K s → get_elem? s.views id ≡ some v
       → w.hand ≡ v.hand → w.held ≡ v.held → (w.parts ≡ 0 → v.held ≡ []) → o.hand ≡ 0 → o.held ≡ []
       → Turns μ turn K record { words = s.words; homes = s.homes; views = set s.views id w ++ o ∷ [] }
   turns_split K s id v w o r at hand held idle no_hand none_held =
-      let vs : List (View P Q R E) = set s.views id w in
+      let vs : List (ChairView P Q R E) = set s.views id w in
       let c = r.each_chair id v at in
-      let more : (f : View P Q R E → ℕ) → f w + f o ≡ f v → total f (vs ++ o ∷ []) ≡ total f s.views = λ f h. (let x = total_append f vs (o ∷ []) in let y = total_set f s.views id v w at in omega arith) in
+      let more : (f : ChairView P Q R E → ℕ) → f w + f o ≡ f v → total f (vs ++ o ∷ []) ≡ total f s.views = λ f h. (let x = total_append f vs (o ∷ []) in let y = total_set f s.views id v w at in omega arith) in
       let same : (k : ℕ) → times k w.held ≡ times k v.held = λ k. ap (times k) held in
       let holders_same : (k : ℕ) → holders k (vs ++ o ∷ []) ≡ holders k s.views = λ k. more (λ u. times k u.held) (let x = same k in let y : times k o.held ≡ 0 = ap (times k) none_held in omega arith) in
       let hands_same : (k : ℕ) → hands k (vs ++ o ∷ []) ≡ hands k s.views = λ k. more (hand_at k) (let x : hand_at k w ≡ hand_at k v = ap (λ h. tick h (suc k)) hand in let y : hand_at k o ≡ 0 = miss o.hand (suc k) (λ e. omega arith) in omega arith) in
@@ -326,13 +326,13 @@ module _ {M P Q R E : Type 0} (μ : Meaning P Q R E) (turn : ℕ → Turn) where
       turned_along k h g t = record { word = t.word ∙ sym h; home = λ z. t.home (sym h ∙ z); away = λ y z. t.away (sym h ∙ y) (sym g ∙ z) }
 
   -- a view takes in another's, which holds nothing
-  pub turns_join : (K : Known P Q R E) (s : Now M P Q R E) (id : ℕ) (v : View P Q R E) (other : ℕ) (w b z : View P Q R E) → Turns μ turn K s → get_elem? s.views id ≡ some v
+  pub turns_join : (K : Known P Q R E) (s : Now M P Q R E) (id : ℕ) (v : ChairView P Q R E) (other : ℕ) (w b z : ChairView P Q R E) → Turns μ turn K s → get_elem? s.views id ≡ some v
       → other ≢ id → get_elem? (set s.views id b) other ≡ some w → w.hand ≡ 0 → w.held ≡ [] → b.hand ≡ v.hand → b.held ≡ v.held → (b.parts ≡ 0 → v.parts ≡ 0) → z.hand ≡ 0 → z.held ≡ []
       → Turns μ turn K record { words = s.words; homes = s.homes; views = set (set s.views id b) other z }
   turns_join K s id v other w b z r at apart there no_hand none_held hand held idle z_hand z_held =
-      let vs : List (View P Q R E) = set (set s.views id b) other z in
+      let vs : List (ChairView P Q R E) = set (set s.views id b) other z in
       let c = r.each_chair id v at in
-      let same : (f : View P Q R E → ℕ) → f b + f z ≡ f v + f w → total f vs ≡ total f s.views = λ f h. total_pair f s.views id other v b w z at there h in
+      let same : (f : ChairView P Q R E → ℕ) → f b + f z ≡ f v + f w → total f vs ≡ total f s.views = λ f h. total_pair f s.views id other v b w z at there h in
       let same_held : (k : ℕ) → times k b.held ≡ times k v.held = λ k. ap (times k) held in
       let holders_same : (k : ℕ) → holders k vs ≡ holders k s.views = λ k. same (λ u. times k u.held)
       (let x = same_held k in let y : times k w.held ≡ 0 = ap (times k) none_held in let u : times k z.held ≡ 0 = ap (times k) z_held in omega arith) in

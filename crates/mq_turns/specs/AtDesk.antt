@@ -2,13 +2,13 @@
 use Rattle.std.specs.Prelude.{◌≡◌, ℕ, Some}
 use Rattle.mq_turns.specs.Desk.{opening_of}
 use Rattle.mq_turns.specs.declared.rule.Opening.{Opening}
-use Rattle.mq_turns.specs.declared.rule.View.{View}
+use Rattle.mq_turns.specs.declared.rule.ChairView.{ChairView}
 use Rattle.mq_turns.specs.declared.machine.Machine.{Ghosts}
 use Rattle.mq_turns.specs.declared.desk.Desk.{Desk}
 use Rattle.mq_turns.specs.declared.desk.Chair.{Chair}
 
 module _ {M P Q R E : Type 0} where
-  abbrev pub view : {g : Ghosts M P Q R E} → Chair M P Q R E g → View P Q R E
+  abbrev pub view : {g : Ghosts M P Q R E} → Chair M P Q R E g → ChairView P Q R E
   view c = c.place.me.0
 
   -- the values that the desk was opened with

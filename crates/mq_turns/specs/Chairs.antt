@@ -7,14 +7,14 @@ use Rattle.mq_turns.specs.Desk.{drawn_of, read_of, charged_of, IsInOrder}
 use Rattle.mq_turns.specs.declared.rule.Charge.{Charge}
 use Rattle.mq_turns.specs.declared.rule.Opening.{Opening}
 use Rattle.mq_turns.specs.declared.rule.Known.{Known}
-use Rattle.mq_turns.specs.declared.rule.View.{View}
+use Rattle.mq_turns.specs.declared.rule.ChairView.{ChairView}
 
 module _ {P Q R E : Type 0} where
   -- the chair takes the turn of the slot k, and gives it back
-  abbrev pub holding : ℕ → Known P Q R E → View P Q R E → View P Q R E
+  abbrev pub holding : ℕ → Known P Q R E → ChairView P Q R E → ChairView P Q R E
   holding k K v = record v { hand = 0; held = (k, K) ∷ v.held }
 
-  abbrev pub giving : ℕ → View P Q R E → View P Q R E
+  abbrev pub giving : ℕ → ChairView P Q R E → ChairView P Q R E
   giving k v = record v { hand = 0; held = without k v.held }
 
 module _ {P Q R E : Type 0} (μ : Meaning P Q R E) where
@@ -27,7 +27,7 @@ module _ {P Q R E : Type 0} (μ : Meaning P Q R E) where
 
   -- What a desk that has ended shows: there is one history, which is legal. The values are what it says, each number is one
   -- draw of a chair, what the chairs read was the machine's at its number, and along each chair's groups the numbers are in order.
-  pub record Ended (o : Opening P Q R) (views : List (View P Q R E)) (pages : List P) (sides : List Q) (root : R) (next base : ℕ) : Type 0 where
+  pub record Ended (o : Opening P Q R) (views : List (ChairView P Q R E)) (pages : List P) (sides : List Q) (root : R) (next base : ℕ) : Type 0 where
     pub known : Known P Q R E
     pub opening : known.opening ≡ o
     pub ok : μ.ok known

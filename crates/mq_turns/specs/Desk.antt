@@ -12,7 +12,7 @@ use Rattle.mq_turns.specs.Marks.{mark_of, unread, read_first, read_both, Marked,
 use Rattle.mq_turns.specs.declared.rule.Charge.{Charge}
 use Rattle.mq_turns.specs.declared.rule.Opening.{Opening}
 use Rattle.mq_turns.specs.declared.rule.Known.{Known}
-use Rattle.mq_turns.specs.declared.rule.View.{View}
+use Rattle.mq_turns.specs.declared.rule.ChairView.{ChairView}
 use Rattle.mq_turns.specs.declared.rule.Start.{Start}
 use Rattle.mq_turns.specs.declared.turn.Turn.{Turn}
 use Rattle.mq_turns.specs.declared.turn.Turn.TheVariants.{Page, Side, Root}
@@ -51,26 +51,26 @@ abbrev pub allotment : ℕ → ℕ
 allotment chairs = 4611686018427387904 / chairs
 
 module _ {P Q R E : Type 0} where
-  abbrev pub hand_at : ℕ → View P Q R E → ℕ
+  abbrev pub hand_at : ℕ → ChairView P Q R E → ℕ
   hand_at k v = tick v.hand (suc k)
 
   -- how many chairs hold the turn of the slot k, and how many have the slot in hand
-  abbrev pub holders : ℕ → List (View P Q R E) → ℕ
+  abbrev pub holders : ℕ → List (ChairView P Q R E) → ℕ
   holders k vs = total (λ v. times k v.held) vs
 
-  abbrev pub hands : ℕ → List (View P Q R E) → ℕ
+  abbrev pub hands : ℕ → List (ChairView P Q R E) → ℕ
   hands k vs = total (hand_at k) vs
 
   -- the chair had seen and drawn nothing above n
-  abbrev pub Below : ℕ → View P Q R E → Type 0
+  abbrev pub Below : ℕ → ChairView P Q R E → Type 0
   Below n v = (v.seen ≤ n) × Each (λ d. d.0 ≤ n) v.drawn
 
   -- a view that knows and holds nothing
-  abbrev pub blank : View P Q R E
+  abbrev pub blank : ChairView P Q R E
   blank = record { parts = 0; opening = None; session = 0; seen = 0; hand = 0; held = []; drawn = []; read = []; reading = unread }
 
   -- a new chair
-  abbrev pub fresh : Opening P Q R → ℕ → View P Q R E
+  abbrev pub fresh : Opening P Q R → ℕ → ChairView P Q R E
   fresh o i = record blank { parts = 1; opening = Some o; session = i; seen = o.base; reading = read_first o.base }
 
   -- the slots from j on, n of them, all held since the desk was opened
@@ -79,41 +79,41 @@ module _ {P Q R E : Type 0} where
   slots_from o j (suc n) = (j, opened o) ∷ slots_from o (suc j) n
 
   -- the view that stands for all chairs from the i-th on, and holds the first n slots
-  abbrev pub laying : Opening P Q R → ℕ → ℕ → ℕ → View P Q R E
+  abbrev pub laying : Opening P Q R → ℕ → ℕ → ℕ → ChairView P Q R E
   laying o parts i n = record blank { parts = parts; opening = Some o; session = i; seen = o.base; held = slots_from o 0 n; reading = read_first o.base }
 
   -- at first one view holds all turns
-  abbrev pub first_view : Opening P Q R → ℕ → View P Q R E
+  abbrev pub first_view : Opening P Q R → ℕ → ChairView P Q R E
   first_view o chairs = laying o chairs 0 (slots o)
 
   -- one chair is set apart from the others
-  abbrev pub others : View P Q R E → View P Q R E
+  abbrev pub others : ChairView P Q R E → ChairView P Q R E
   others v = record v { parts = v.parts - 1; session = suc v.session }
 
-  abbrev pub seated : View P Q R E → View P Q R E
+  abbrev pub seated : ChairView P Q R E → ChairView P Q R E
   seated v = record blank { parts = 1; opening = v.opening; session = v.session; seen = v.seen; reading = v.reading }
 
   -- a note of what the chair saw and drew, for another
-  abbrev pub noted : View P Q R E → View P Q R E
+  abbrev pub noted : ChairView P Q R E → ChairView P Q R E
   noted v = record blank { seen = last_of v.seen v.drawn }
 
-  abbrev pub heard : View P Q R E → View P Q R E → View P Q R E
+  abbrev pub heard : ChairView P Q R E → ChairView P Q R E → ChairView P Q R E
   heard v w = record v { seen = max v.seen w.seen }
 
   -- two chairs are one
-  abbrev pub joined : View P Q R E → View P Q R E → View P Q R E
+  abbrev pub joined : ChairView P Q R E → ChairView P Q R E → ChairView P Q R E
   joined v w = record v { parts = v.parts + w.parts; seen = max v.seen w.seen; drawn = v.drawn ++ w.drawn; read = v.read ++ w.read; reading = read_both v.reading w.reading }
 
   -- what the chairs drew and read, the last chair's first
-  abbrev pub drawn_of : List (View P Q R E) → List (ℕ × E)
+  abbrev pub drawn_of : List (ChairView P Q R E) → List (ℕ × E)
   drawn_of [] = []
   drawn_of (v ∷ vs) = drawn_of vs ++ v.drawn
 
-  abbrev pub read_of : List (View P Q R E) → List (E × Known P Q R E)
+  abbrev pub read_of : List (ChairView P Q R E) → List (E × Known P Q R E)
   read_of [] = []
   read_of (v ∷ vs) = read_of vs ++ v.read
 
-  abbrev pub charged_of : List (View P Q R E) → List Charge
+  abbrev pub charged_of : List (ChairView P Q R E) → List Charge
   charged_of [] = []
   charged_of (v ∷ vs) = charged_of vs ++ v.reading.charged
 
@@ -123,18 +123,18 @@ module _ {P Q R E : Type 0} where
   refreshed touched L (h ∷ hs) = (h.0, cond (touched h.0) L h.1) ∷ refreshed touched L hs
 
   -- a look, at which the entry was read, if there is one
-  abbrev pub after_look : Option E → Known P Q R E → View P Q R E → View P Q R E
+  abbrev pub after_look : Option E → Known P Q R E → ChairView P Q R E → ChairView P Q R E
   after_look None K v = record v { seen = newest K }
   after_look (Some e) K v = record v { seen = newest K; read = (e, K) ∷ v.read }
 
 abbrev pub Sat : Type 0 → Type 0 → Type 0 → Type 0 → Type 0 → Type 0
-Sat M P Q R E = Me (Option (Item M P Q R E)) (View P Q R E)
+Sat M P Q R E = Me (Option (Item M P Q R E)) (ChairView P Q R E)
 
 abbrev pub At : Type 0 → Type 0 → Type 0 → Type 0 → Type 0 → Type 0
 At M P Q R E = Step (Option (Item M P Q R E))
 
 abbrev pub Now : Type 0 → Type 0 → Type 0 → Type 0 → Type 0 → Type 0
-Now M P Q R E = State (Option (Item M P Q R E)) (View P Q R E)
+Now M P Q R E = State (Option (Item M P Q R E)) (ChairView P Q R E)
 
 -- ---- what is known, seen from one chair
 
@@ -143,7 +143,7 @@ module _ {P Q R E : Type 0} (μ : Meaning P Q R E) where
   Stay = Stays μ.touches μ.lies
 
   -- what a chair can tell of all that is known by now, whatever the others did
-  pub record Sees (v : View P Q R E) (K : Known P Q R E) : Type 0 where
+  pub record Sees (v : ChairView P Q R E) (K : Known P Q R E) : Type 0 where
     pub opening : v.opening ≡ Some K.opening
     pub ok : μ.ok K
     pub few : newest K ≤ 9223372036854775808
@@ -155,17 +155,17 @@ module _ {P Q R E : Type 0} (μ : Meaning P Q R E) where
 
   -- what a draw asks: whatever is known by now, the chair holds all that the entry changes, the entry may be drawn, and the
   -- queue's mark is not above its number
-  pub record Covers (e : E) (v : View P Q R E) : Type 0 where
+  pub record Covers (e : E) (v : ChairView P Q R E) : Type 0 where
     pub held : (K : Known P Q R E) → Sees v K → (t : Turn) → IsTurn K.opening t → μ.touches K.log e t ≡ true → 0 < times (slot_of K.opening t) v.held
     pub may : (K : Known P Q R E) → Sees v K → newest K < 9223372036854775808 → μ.may e K
     pub mark : (K : Known P Q R E) → Sees v K → mark_of (μ.queue e) K.claims ≤ suc (newest K)
 
   -- what an entry asks that is read and not drawn
-  abbrev pub MayRead : E → View P Q R E → Type 0
+  abbrev pub MayRead : E → ChairView P Q R E → Type 0
   MayRead e v = (K : Known P Q R E) → Sees v K → μ.fits e K
 
   -- the entry is of the chair's session, and comes after all that the chair drew and read
-  pub record Follows (e : E) (v : View P Q R E) : Type 0 where
+  pub record Follows (e : E) (v : ChairView P Q R E) : Type 0 where
     pub session : μ.session e ≡ v.session
     pub drawn : Each (λ d. μ.group d.1 < μ.group e) v.drawn
     pub read : Each (λ r. μ.group r.0 < μ.group e) v.read
@@ -194,10 +194,10 @@ module _ {P Q R E : Type 0} (μ : Meaning P Q R E) where
     pub both : Each (λ d. Each (λ r. DrawAfterRead d r ⊎ ReadAfterDraw r d) read) drew
 
   -- what a view has drawn and read is in order
-  abbrev pub IsInOrder : View P Q R E → Type 0
+  abbrev pub IsInOrder : ChairView P Q R E → Type 0
   IsInOrder v = InOrder v.session v.drawn v.read
 
-  abbrev pub after_draw : E → Known P Q R E → View P Q R E → View P Q R E
+  abbrev pub after_draw : E → Known P Q R E → ChairView P Q R E → ChairView P Q R E
   after_draw e K v = record v {
     seen = suc (newest K);
     held = refreshed (λ k. μ.touches K.log e (turn_at K.opening k)) (drawn e K) v.held;
@@ -208,13 +208,13 @@ module _ {P Q R E : Type 0} (μ : Meaning P Q R E) where
 
 module _ {P Q R E : Type 0} (μ : Meaning P Q R E) where
   -- a view, as far as turns go: what it holds is what was known then, but for what others can't touch
-  pub record Holder (turn : ℕ → Turn) (slots : ℕ) (K : Known P Q R E) (v : View P Q R E) : Type 0 where
+  pub record Holder (turn : ℕ → Turn) (slots : ℕ) (K : Known P Q R E) (v : ChairView P Q R E) : Type 0 where
     pub idle : v.parts ≡ 0 → v.held ≡ []
     pub hand : (k : ℕ) → v.hand ≡ suc k → 0 < times k v.held
     pub held : Each (λ h. (h.0 < slots) × μ.ok h.1 × Stay μ (turn h.0) h.1 K) v.held
 
   -- a view, as far as numbers go
-  pub record Drawer (most : ℕ) (K : Known P Q R E) (v : View P Q R E) : Type 0 where
+  pub record Drawer (most : ℕ) (K : Known P Q R E) (v : ChairView P Q R E) : Type 0 where
     pub few : length v.drawn ≤ v.parts * most
     pub opening : v.parts ≢ 0 → v.opening ≡ Some K.opening
     pub seen : v.seen ≤ newest K
@@ -249,7 +249,7 @@ module _ {M P Q R E : Type 0} (μ : Meaning P Q R E) where
       pub ok : μ.ok K
       pub single : (k : ℕ) → holders k s.views ≤ 1
       pub each_turn : (k : ℕ) → k < length s.homes → Turned K s k
-      pub each_chair : (j : ℕ) (v : View P Q R E) → get_elem? s.views j ≡ some v → Holder μ turn (length s.homes) K v
+      pub each_chair : (j : ℕ) (v : ChairView P Q R E) → get_elem? s.views j ≡ some v → Holder μ turn (length s.homes) K v
 
   -- numbers: the counter is the newest number, and each number was drawn by one chair
   pub record Numbers (chairs : ℕ) (K : Known P Q R E) (s : Now M P Q R E) : Type 0 where
@@ -258,7 +258,7 @@ module _ {M P Q R E : Type 0} (μ : Meaning P Q R E) where
     pub counted : total (λ v. length v.drawn) s.views ≡ length K.log
     pub once : (n : ℕ) → K.opening.base < n → n ≤ newest K → total (λ v. times n v.drawn) s.views ≡ 1
     pub bounds : (K.opening.base ≤ 4611686018427387904) × (0 < chairs)
-    pub each_chair : (j : ℕ) (v : View P Q R E) → get_elem? s.views j ≡ some v → Drawer μ (allotment chairs) K v
+    pub each_chair : (j : ℕ) (v : ChairView P Q R E) → get_elem? s.views j ≡ some v → Drawer μ (allotment chairs) K v
 
   -- the other words: the queues' marks and the base; what the chairs read of them, and each charge stands in one view
   pub record Words (K : Known P Q R E) (s : Now M P Q R E) : Type 0 where
@@ -267,8 +267,8 @@ module _ {M P Q R E : Type 0} (μ : Meaning P Q R E) where
     pub base : slice_index s.words (suc (length s.homes + length K.opening.sides)) ≡ K.word
     pub marked : Marked μ K
     pub charges : (f : Charge → Bool) → total (λ v. tally f v.reading.charged) s.views ≡ tally f K.charges
-    pub each_chair : (j : ℕ) (v : View P Q R E) → get_elem? s.views j ≡ some v → Reader μ K v.reading
-    pub idle : (j : ℕ) (v : View P Q R E) → get_elem? s.views j ≡ some v → v.parts ≡ 0 → v.reading.charged ≡ []
+    pub each_chair : (j : ℕ) (v : ChairView P Q R E) → get_elem? s.views j ≡ some v → Reader μ K v.reading
+    pub idle : (j : ℕ) (v : ChairView P Q R E) → get_elem? s.views j ≡ some v → v.parts ≡ 0 → v.reading.charged ≡ []
 
   -- all that is known together, with what each layer of the rule says of it
   abbrev pub Ruled : Opening P Q R → ℕ → Now M P Q R E → Type 0

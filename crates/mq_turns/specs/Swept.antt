@@ -7,7 +7,7 @@ use Rattle.mq_turns.specs.declared.rule.Answer.TheVariants.{Front}
 use Rattle.mq_turns.specs.declared.rule.Opening.{Opening}
 use Rattle.mq_turns.specs.declared.rule.Known.{Known}
 use Rattle.mq_turns.specs.declared.rule.Reading.{Reading}
-use Rattle.mq_turns.specs.declared.rule.View.{View}
+use Rattle.mq_turns.specs.declared.rule.ChairView.{ChairView}
 
 -- the least of n and of the numbers just below the marks
 abbrev pub least_below : ℕ → List ℕ → ℕ
@@ -16,7 +16,7 @@ least_below n (m ∷ ms) = min (least_below n ms) (m - 1)
 
 module _ {P Q R E : Type 0} where
   -- the chair after a read of the counter, but for its sweep over the marks
-  abbrev pub after_count : ℕ → View P Q R E → View P Q R E
+  abbrev pub after_count : ℕ → ChairView P Q R E → ChairView P Q R E
   after_count n v = record v { seen = n; reading = record v.reading { swept = 0; low = 0 } }
 
   -- a sweep over so many queues has passed the first q of them, whose numbers up to n are done; behind the last queue all numbers
@@ -27,13 +27,13 @@ module _ {P Q R E : Type 0} where
 
 module _ {P Q R E : Type 0} (μ : Meaning P Q R E) where
   -- these are marks of the first queues, the last one's first, as each was at some time after the chair had read n
-  abbrev pub AreMarks : ℕ → View P Q R E → List ℕ → Type 0
+  abbrev pub AreMarks : ℕ → ChairView P Q R E → List ℕ → Type 0
   AreMarks n v [] = Unit {0}
   AreMarks n v (m ∷ ms) = ((K : Known P Q R E) × (mark_of (length ms) K.claims ≡ m) × Sees μ (after_count n v) K) × AreMarks n v ms
 
   -- The chair has read the counter, and then the marks of the first q of so many queues. `low` is the least of the counter and
   -- the numbers just below these marks, and all numbers of these queues up to it are done. Nothing else has changed.
-  pub record Sweeping (queues q low : ℕ) (v w : View P Q R E) : Type 0 where
+  pub record Sweeping (queues q low : ℕ) (v w : ChairView P Q R E) : Type 0 where
     pub counter : ℕ
     pub marks : List ℕ
     pub reading : Reading P Q R E
@@ -47,13 +47,13 @@ module _ {P Q R E : Type 0} (μ : Meaning P Q R E) where
 
   -- The chair has read the counter and then each mark. The front is the least of the counter and the numbers just below the
   -- marks, and the chair knows that all numbers up to it are done. Nothing else has changed.
-  pub record AfterMarks (o : Opening P Q R) (front : ℕ) (v w : View P Q R E) : Type 0 where
+  pub record AfterMarks (o : Opening P Q R) (front : ℕ) (v w : ChairView P Q R E) : Type 0 where
     pub sweep : Sweeping (length o.sides) (length o.sides) front v w
     pub done : (K : Known P Q R E) → Sees μ w K → DoneTo μ front K
 
   -- So it has, and keeps the front as its newest answer.
-  pub record AfterFront (o : Opening P Q R) (front : ℕ) (v w : View P Q R E) : Type 0 where
-    pub swept : View P Q R E
+  pub record AfterFront (o : Opening P Q R) (front : ℕ) (v w : ChairView P Q R E) : Type 0 where
+    pub swept : ChairView P Q R E
     pub marks : AfterMarks o front v swept
     pub is : w ≡ record swept { reading = record swept.reading { answers = Front front ∷ swept.reading.answers } }
     pub done : (K : Known P Q R E) → Sees μ w K → DoneTo μ front K

@@ -6,7 +6,7 @@ use Rattle.mq_turns.specs.Marks.{mark_of, claim_of, queues_of, shown, DoneTo}
 use Rattle.mq_turns.specs.Desk.{IsTurn, slot_of, turn_at, refreshed, Sat, At, Sees}
 use Rattle.mq_turns.specs.declared.rule.Answer.TheVariants.{Front, Base}
 use Rattle.mq_turns.specs.declared.rule.Known.{Known}
-use Rattle.mq_turns.specs.declared.rule.View.{View}
+use Rattle.mq_turns.specs.declared.rule.ChairView.{ChairView}
 use Rattle.mq_turns.specs.declared.rule.Notice.{Notice}
 use Rattle.mq_turns.specs.declared.rule.Notice.TheVariants as notice
 use Rattle.mq_turns.specs.declared.turn.Turn.{Turn}
@@ -25,28 +25,28 @@ same_turn Root Root = true
 
 module _ {P Q R E : Type 0} where
   -- the turns that a step is about are known of anew
-  abbrev pub renewed : (Turn → Bool) → Known P Q R E → View P Q R E → View P Q R E
+  abbrev pub renewed : (Turn → Bool) → Known P Q R E → ChairView P Q R E → ChairView P Q R E
   renewed about L v = record v { held = refreshed (λ k. about (turn_at L.opening k)) L v.held }
 
   -- the mark of the queue is read; stored; the base is read; stored
-  abbrev pub after_peek : ℕ → ℕ → Known P Q R E → View P Q R E → View P Q R E
+  abbrev pub after_peek : ℕ → ℕ → Known P Q R E → ChairView P Q R E → ChairView P Q R E
   after_peek q mark K v = record v { reading = shown (queues_of v.opening) q (min (mark - 1) (newest K)) v.reading }
 
-  abbrev pub after_clear : ℕ → ℕ → Known P Q R E → View P Q R E → View P Q R E
+  abbrev pub after_clear : ℕ → ℕ → Known P Q R E → ChairView P Q R E → ChairView P Q R E
   after_clear q low K v = record (renewed (same_turn (Side q)) (claimed (claim_of q low (newest K)) K) v) { reading = shown (queues_of v.opening) q (min (low - 1) (newest K)) v.reading }
 
-  abbrev pub after_base : ℕ → View P Q R E → View P Q R E
+  abbrev pub after_base : ℕ → ChairView P Q R E → ChairView P Q R E
   after_base b v = record v { reading = record v.reading { base = b; answers = Base b ∷ v.reading.answers } }
 
-  abbrev pub after_raise : ℕ → Known P Q R E → View P Q R E → View P Q R E
+  abbrev pub after_raise : ℕ → Known P Q R E → ChairView P Q R E → ChairView P Q R E
   after_raise b K v = record (renewed (same_turn Root) (raised b K) v) { reading = record v.reading { base = b } }
 
 module _ {P Q R E : Type 0} (μ : Meaning P Q R E) where
   -- what a store of a mark asks, of the numbers below it; and a store of the base
-  abbrev pub MayClear : ℕ → ℕ → View P Q R E → Type 0
+  abbrev pub MayClear : ℕ → ℕ → ChairView P Q R E → Type 0
   MayClear q low v = (K : Known P Q R E) → Sees μ v K → μ.ok (claimed (claim_of q low (newest K)) K)
 
-  abbrev pub MayRaise : ℕ → View P Q R E → Type 0
+  abbrev pub MayRaise : ℕ → ChairView P Q R E → Type 0
   MayRaise b v = (K : Known P Q R E) → Sees μ v K → (K.word ≤ b) × μ.ok (raised b K)
 
   -- what is known once a notice is given, and what it is about
@@ -62,14 +62,14 @@ module _ {P Q R E : Type 0} (μ : Meaning P Q R E) where
   is_about (notice.Charge c) K t = same_turn c.port t
   is_about (notice.Front n) K t = false
 
-  abbrev pub after_notice : Notice P → Known P Q R E → View P Q R E → View P Q R E
+  abbrev pub after_notice : Notice P → Known P Q R E → ChairView P Q R E → ChairView P Q R E
   after_notice (notice.Home b n) K v = renewed (is_about (notice.Home b n) K) (written (b, n) K) v
   after_notice (notice.Page b p) K v = record v { reading = record v.reading { pages = (b, p, K) ∷ v.reading.pages } }
   after_notice (notice.Charge c) K v = record (renewed (is_about (notice.Charge c) K) (charged c K) v) { reading = record v.reading { charged = c ∷ v.reading.charged } }
   after_notice (notice.Front n) K v = record v { reading = record v.reading { answers = Front n ∷ v.reading.answers } }
 
   -- what a notice asks: the chair holds what it is about, and it fits all that is known
-  abbrev pub MayNote : Notice P → View P Q R E → Type 0
+  abbrev pub MayNote : Notice P → ChairView P Q R E → Type 0
   MayNote (notice.Home b n) v = (K : Known P Q R E) → Sees μ v K → μ.ok (written (b, n) K) × ((t : Turn) → IsTurn K.opening t → μ.lies K.opening (b, n) t ≡ true → 0 < times (slot_of K.opening t) v.held)
   MayNote (notice.Page b p) v = (K : Known P Q R E) → Sees μ v K → μ.page b K p
   MayNote (notice.Charge c) v = (K : Known P Q R E) → Sees μ v K → μ.ok (charged c K) × (0 < times (slot_of K.opening c.port) v.held)

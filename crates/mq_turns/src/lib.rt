@@ -19,6 +19,6 @@ pub use close::Parts;
 pub use desk::{Chair, Desk};
 pub use machine::Machine;
 pub use rule::{
-    Answer, Charge, Claim, Known, Knows, Law, Notice, Opening, Reading, Report, Start, View,
+    Answer, ChairView, Charge, Claim, Known, Knows, Law, Notice, Opening, Reading, Report, Start,
 };
 pub use turn::{Item, Turn};

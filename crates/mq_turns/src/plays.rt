@@ -5,7 +5,7 @@ ghost use Rattle.mq_turns.specs.Words.{peeked, cleared, based, raised_to, notice
 ghost use Rattle.mq_turns.specs.declared.rule.Notice.{Notice};
 
 use crate::machine::Machine;
-use crate::rule::{Knows, Notice, View};
+use crate::rule::{ChairView, Knows, Notice};
 use crate::turn::Item;
 use atomic_table::{Join, Play, Split};
 use std::marker::{Brand, PhantomData};
@@ -124,7 +124,7 @@ impl<M: Machine, N: Notifies<M::Page>> Play<Option<Item<M>>, Knows<M>> for Notif
 /// A chair is set apart.
 pub(crate) struct Cut;
 
-impl<P, Q, R, E> Split<View<P, Q, R, E>> for Cut {
+impl<P, Q, R, E> Split<ChairView<P, Q, R, E>> for Cut {
     ghost left = { others };
 
     ghost right = { seated };
@@ -133,13 +133,13 @@ impl<P, Q, R, E> Split<View<P, Q, R, E>> for Cut {
 /// A note of what a chair saw and drew, and a chair that hears it.
 pub(crate) struct Note;
 
-impl<P, Q, R, E> Split<View<P, Q, R, E>> for Note {
+impl<P, Q, R, E> Split<ChairView<P, Q, R, E>> for Note {
     ghost left = { λ v. v };
 
     ghost right = { noted };
 }
 
-impl<P, Q, R, E> Join<View<P, Q, R, E>> for Note {
+impl<P, Q, R, E> Join<ChairView<P, Q, R, E>> for Note {
     ghost both = { heard };
 
     ghost spent = { blank };
@@ -148,7 +148,7 @@ impl<P, Q, R, E> Join<View<P, Q, R, E>> for Note {
 /// Two chairs become one.
 pub(crate) struct Glue;
 
-impl<P, Q, R, E> Join<View<P, Q, R, E>> for Glue {
+impl<P, Q, R, E> Join<ChairView<P, Q, R, E>> for Glue {
     ghost both = { joined };
 
     ghost spent = { blank };

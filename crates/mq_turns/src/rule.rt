@@ -101,7 +101,7 @@ pub struct Reading<P, Q, R, E> {
 }
 
 /// What a chair knows. Proofs alone have one.
-pub struct View<P, Q, R, E> {
+pub struct ChairView<P, Q, R, E> {
     /// How many chairs it stands for: 1, and none for a note.
     pub parts: u64,
     /// How its desk was opened; none where it stands for no chair.
@@ -136,7 +136,7 @@ pub struct Law<M> {
     machine: PhantomData<M>,
 }
 
-pub type Knows<M> = View<
+pub type Knows<M> = ChairView<
     <M as Machine>::Page,
     <M as Machine>::Side,
     <M as Machine>::Root,

@@ -114,10 +114,8 @@ fn cat<'a>(alloc: Global, matches: &ArgMatches<'a>) -> Result<Command<'a>, Words
 {
     let image = name(matches, "image")?;
     let word = name(matches, "path")?;
-    match path_of(alloc, word) {
-        Ok(path) => Ok(Command::Cat { image, path }),
-        Err(refusal) => Err(refusal),
-    }
+    let path = path_of(alloc, word)?;
+    Ok(Command::Cat { image, path })
 }
 
 // What is found of a command asks.

@@ -9,10 +9,10 @@ use Rattle.mq_text.specs.Refusals.{RefusesText}
 use Rattle.mq_text.specs.declared.item.BlockItem.{BlockItem}
 use Rattle.mq_text.specs.declared.refusal.BlockTextCause.{BlockTextCause}
 use Rattle.mq_words.specs.Asked.{Asked, blocks, cat, dump, format, help, ls, recover, version}
+use Rattle.mq_words.specs.Help.{help_text, version_line}
 use Rattle.mq_words.specs.declared.command.BlocksOptions.{BlocksOptions}
 use Rattle.mqfs.specs.Blocks.{IsBlockText, output_of, refused_line}
 use Rattle.mqfs.specs.Cuts.{IsPrefixAt}
-use Rattle.mq_words.specs.Help.{help_text, version_line}
 use Rattle.mqfs.specs.Left.{SavesLeft}
 
 -- `blocks`: The file holds a text, and the output is that of the lines that stand after the cut; the image that the plug

@@ -5,7 +5,7 @@ use Rattle.mq_drive.specs.Steps.{Gains, CommandError}
 use Rattle.mq_nvme.specs.Completion.{status_of}
 use Rattle.mq_pmr.specs.Queue.{Fits, Kept}
 use Rattle.mq_pmr.specs.Slots.{tx_in}
-use Rattle.mq_pmr.specs.declared.slots.Slot.{Slot}
+use Rattle.mq_pmr.specs.declared.slots.SlotRecord.{SlotRecord}
 use Rattle.mq_pmr.proofs.Completing.{slot_is, slot_low}
 use Rattle.mq_pmr.proofs.Fitting.{fits_done, fits_failed, is_posted, ends-along}
 use Rattle.mq_pmr.proofs.Holding.{held_as}
@@ -74,12 +74,12 @@ invariant_of-self-in-Done g c =
     let ring = held_as (g.P.Port.state q.opened.value) old new (after_done old ends.at ends.command) q.done q.rung.items q.staged now.0 (q.whole, q.held) in
     record {
       fits = subst (λ (s : PortState). Fits s (record kept { slots = c.note_done.new.slots.items })) (sym now.0)
-          (subst (λ (l : List Slot). Fits (after_done old ends.at ends.command) (record kept { slots = l })) (sym slots)
+          (subst (λ (l : List SlotRecord). Fits (after_done old ends.at ends.command) (record kept { slots = l })) (sym slots)
           (fits_done old kept ends.at ends.command c.get-slot.result _ q.fits ends.posted slot refl));
       ends = ends-along old new q.done.end q.rung.items (ap (λ (s : PortState). s.doorbell) now.0) q.ends;
       own = step_ring q.geometry q.queue old new (g.P.Port.faults q.port) (g.P.Port.faults c.step.new.self) (Ok (Done c.in-Done.completion)) ends q.own;
       written = subst (λ (s : PortState). IsWritten s c.note_done.new.slots.items q.done.end q.end) (sym now.0)
-          (subst (λ (l : List Slot). IsWritten (after_done old ends.at ends.command) l q.done.end q.end) (sym slots)
+          (subst (λ (l : List SlotRecord). IsWritten (after_done old ends.at ends.command) l q.done.end q.end) (sym slots)
           (written_done old q.slots.items q.done.end q.end ends.at ends.command c.get-slot.result _ (let low = slot_low c.get-slot.result ends.command.count slot in let ring = q.fits.ring in omega (arith, low, ring)) refl q.written));
       whole = ring.0;
       held = ring.1;

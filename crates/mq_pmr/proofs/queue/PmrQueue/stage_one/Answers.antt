@@ -5,7 +5,7 @@ use Rattle.mq_nvme.specs.Entry.{entry_of, tx_of, lba_of}
 use Rattle.mq_nvme.specs.declared.write.WriteReq.{WriteReq}
 use Rattle.mq_nvme.proofs.Entries.{tx_of-entry, lba_of-entry}
 use Rattle.mq_pmr.specs.Queue.{Fits, Kept}
-use Rattle.mq_pmr.specs.declared.slots.Slot.{Slot}
+use Rattle.mq_pmr.specs.declared.slots.SlotRecord.{SlotRecord}
 use Rattle.mq_pmr.proofs.Fitting.{fits_staged, ends-along}
 use Rattle.mq_pmr.proofs.Holding.{Stages, held_stage, of_stage}
 use Rattle.mq_pmr.proofs.Owning.{stage_ring}
@@ -41,11 +41,11 @@ invariant_of-self-2 g c =
     let held = held_stage opened old kept c.write_of-entry.result c.args.tx (lba_of c.write_of-entry.result) c.args.block c.args.commit stages q.held in
     record {
       fits = subst (λ (s : PortState). Fits s (record kept { slots = c.note_staged.new.slots.items; end = q.end + 1; staged = c.tx_if-self.result })) (sym named)
-          (subst (λ (l : List Slot). Fits (after_stage old c.write_of-entry.result c.args.tx (lba_of c.write_of-entry.result) c.args.block) (record kept { slots = l; end = q.end + 1; staged = c.tx_if-self.result })) (sym slots) fits);
+          (subst (λ (l : List SlotRecord). Fits (after_stage old c.write_of-entry.result c.args.tx (lba_of c.write_of-entry.result) c.args.block) (record kept { slots = l; end = q.end + 1; staged = c.tx_if-self.result })) (sym slots) fits);
       ends = ends-along old new q.done.end q.rung.items (ap (λ (s : PortState). s.doorbell) moved) q.ends;
       own = stage_ring q.geometry q.queue old new _ _ _ _ moved q.own;
       written = subst (λ (s : PortState). IsWritten s c.note_staged.new.slots.items q.done.end (q.end + 1)) (sym named)
-          (subst (λ (l : List Slot). IsWritten (after_stage old c.write_of-entry.result c.args.tx (lba_of c.write_of-entry.result) c.args.block) l q.done.end (q.end + 1)) (sym slots) written);
+          (subst (λ (l : List SlotRecord). IsWritten (after_stage old c.write_of-entry.result c.args.tx (lba_of c.write_of-entry.result) c.args.block) l q.done.end (q.end + 1)) (sym slots) written);
       whole = subst (λ (s : PortState). AreWhole s.flushed q.done.end q.rung.items) (sym named) q.whole;
       held = subst (λ (s : PortState). IsHeld opened s q.done q.rung.items c.tx_if-self.result) (sym named)
           (subst (IsHeld opened (after_stage old c.write_of-entry.result c.args.tx (lba_of c.write_of-entry.result) c.args.block) q.done q.rung.items) (sym c.tx_if-self.ensures) held);

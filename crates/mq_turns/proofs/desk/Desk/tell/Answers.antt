@@ -1,6 +1,6 @@
 use Rattle.std.proofs.Common.{rules, arith, ap, ◌∙◌, subst}
 use Rattle.mq_turns.specs.Desk.{Below, heard}
-use Rattle.mq_turns.specs.declared.rule.View.{View}
+use Rattle.mq_turns.specs.declared.rule.ChairView.{ChairView}
 use Rattle.mq_turns.proofs.Seats.{notes, hears_note, told}
 use Rattle.mq_turns.proofs.desk.Desk.tell.Goals as goal
 
@@ -14,4 +14,4 @@ pub returns-clause-to : goal.returns-clause-to
 returns-clause-to g c =
     let e = ap (λ m. m.0) c.join_seat.ensures.2 ∙ ap (heard c.args.to.now.place.me.0) (ap (λ m. m.0) c.split_seat-note.ensures.4) in
     let b = told c.count.result c.args.to.now.place.me.0 c.args.from.now.place.me.0 (subst (Below c.count.result) e c.count.ensures.below) in
-    (c.count.result, ap (λ m. m.0) c.count.ensures.counted ∙ ap (λ (v : View _ _ _ _). record v { seen = c.count.result }) e, b.0, b.1)
+    (c.count.result, ap (λ m. m.0) c.count.ensures.counted ∙ ap (λ (v : ChairView _ _ _ _). record v { seen = c.count.result }) e, b.0, b.1)
