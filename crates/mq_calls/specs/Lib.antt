@@ -1,4 +1,5 @@
 pub mod Pages
 pub mod Wanted
 pub mod Runs
+pub mod Sessions
 pub mod Laws

@@ -1,0 +1,37 @@
+// What the calls of a session answer.
+use mq_blocks::{QueueNo, TxNo};
+use mq_side::Cause;
+use mq_tree::Reply;
+
+/// A group that was done.
+#[derive(Drop)]
+pub struct Answer {
+    /// The number of its transaction, or the number at which it was read.
+    pub at: TxNo,
+    /// It drew that number: it changed something.
+    pub drew: bool,
+    /// What was answered to its requests, in their order.
+    pub replies: Vec<Reply>,
+}
+
+/// Why a group was refused.
+#[derive(Clone, Copy, Debug, PartialEq, Eq)]
+pub struct Refusal {
+    pub cause: CallCause,
+    /// The number that the group had drawn. Its transaction may or may not survive a power cut.
+    pub drawn: Option<TxNo>,
+}
+
+/// What a refusal comes from.
+#[derive(Clone, Copy, Debug, PartialEq, Eq)]
+pub enum CallCause {
+    OutOfMemory,
+    /// The group writes more blocks than one transaction may.
+    TooLarge { count: u32, limit: u32 },
+    /// A request of a group that only reads would change something: the first that does, counted from 0.
+    Changes { index: u32 },
+    /// The journal area of the queue has no room for the group until a checkpoint.
+    AreaFull { queue: QueueNo },
+    /// A port refused.
+    Drive(Cause),
+}

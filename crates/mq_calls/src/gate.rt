@@ -1,0 +1,23 @@
+// Points of a call at which its caller may wait.
+
+/// A point that a call has come to. The session holds no turn there.
+#[derive(Clone, Copy, Debug, PartialEq, Eq)]
+pub enum Point {
+    /// The commit was rung, and all turns are given back.
+    Rung,
+    /// The call is about to answer, a refusal too.
+    Answered,
+}
+
+/// What a call passes on its way. A test can hold a session there; it can't change what the call does.
+pub trait Gate {
+    fn pass(&self, session: u32, point: Point);
+}
+
+/// A gate that is always open.
+#[derive(Clone, Copy, Debug, PartialEq, Eq)]
+pub struct Open;
+
+impl Gate for Open {
+    fn pass(&self, _session: u32, _point: Point) {}
+}

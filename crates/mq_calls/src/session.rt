@@ -1,0 +1,37 @@
+// A file system on a desk, and its sessions.
+ghost use Rattle.std.specs.Prelude.{◌≡◌, ◌≤◌, length};
+ghost use Rattle.mq_blocks.specs.Geometry.{homes_of, queues_of};
+ghost use Rattle.mq_turns.specs.AtDesk.{chairs_of, start_of};
+ghost use Rattle.mq_calls.specs.Runs.{geometry_at};
+
+use crate::machine::FileMachine;
+use mq_blocks::{BlockNo, Geometry, QueueNo};
+use mq_drive::Port;
+use mq_pages::Held;
+use mq_revoke::Placement;
+use mq_turns::{Chair, Desk};
+
+/// A file system over the ports of a drive. Threads share it by `&`, each with a session of its own.
+#[derive(Drop)]
+pub struct Mqfs<P: Port + Drop> {
+    pub(crate) desk: Desk<FileMachine<P>>,
+    pub(crate) geometry: Geometry,
+    ghost shape: { geometry_at P.state P.faults (start_of desk) ≡ geometry },
+    ghost pages: { length (start_of desk).pages ≡ homes_of geometry },
+    ghost sides: { length (start_of desk).sides ≡ queues_of geometry },
+    ghost chairs: { chairs_of desk ≤ queues_of geometry },
+}
+
+/// One user of a file system, whose groups run one after another. It commits on a queue of its own.
+#[derive(Drop)]
+pub struct Session<P: Port + Drop> {
+    pub(crate) chair: Chair<FileMachine<P>>,
+    // the queue has the session's number
+    pub(crate) queue: QueueNo,
+    // how many calls were made
+    pub(crate) calls: u64,
+    // room for what a call takes, reserved once
+    pub(crate) wanted: Vec<BlockNo>,
+    pub(crate) held: Held,
+    pub(crate) plan: Placement,
+}
