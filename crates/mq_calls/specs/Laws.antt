@@ -1,7 +1,14 @@
 -- What holds of the pages that a session holds, in one statement each.
 use Rattle.std.specs.Prelude.{◌≡◌, ◌≢◌, ℕ, Bool, false, List, Option, Some}
 use Rattle.std.specs.List.{All, AllZip}
+use Rattle.mq_blocks.specs.Drive.{PortState}
+use Rattle.mq_blocks.specs.declared.geometry.Geometry.{Geometry}
+use Rattle.mq_drive.specs.Steps.{Fault}
+use Rattle.mq_drive.specs.declared.port.Port.{Ghosts}
+use Rattle.mq_exec.specs.declared.outcome.Done.{Done}
+use Rattle.mq_files.specs.declared.entry.FileEntry.{FileEntry}
 use Rattle.mq_inodes.specs.Pages.{held_pages}
+use Rattle.mq_journal.specs.Numbers.{Seat, Start}
 use Rattle.mq_pages.specs.Held.{Cells, cell_of}
 use Rattle.mq_pages.specs.declared.page.PageCell.{PageCell}
 use Rattle.mq_rules.specs.Groups.{Group}
@@ -13,7 +20,9 @@ use Rattle.mq_turns.specs.Meaning.{Meaning}
 use Rattle.mq_turns.specs.declared.rule.Known.{Known}
 use Rattle.mq_turns.specs.declared.rule.Opening.{Opening}
 use Rattle.mq_turns.specs.declared.rule.ChairView.{ChairView}
+use Rattle.mq_tree.specs.declared.request.Request.{Request}
 use Rattle.mq_calls.specs.Pages.{HoldsPages, IsAfterStep, blocks_of}
+use Rattle.mq_calls.specs.Runs.{IsDoneOnCells, IsDoneOnHeld, files, geometry_at}
 
 module _ {Q R E : Type 0} (μ : Meaning PageCell Q R E) where
   -- whatever is known by now, each cell is what the machine says of its page
@@ -69,3 +78,15 @@ module _ {Q R E : Type 0} (values : Values Q R E) (group : Group E) where
       → (b : ℕ) (page : Option (List ℕ))
       → held_pages cells b ≡ Some page
       → map_now values group K b ≡ page
+
+module _ {P : Type 0} {G : Ghosts P} (state : P → PortState) (faults : P → List Fault) (o : Start P FileEntry G) where
+  -- where the session holds the pages, a group that is done on them is done on the map at the newest number, whatever is
+  -- known by now
+  abbrev pub DoneGroupsStand : Type 0
+  DoneGroupsStand =
+      (g : Geometry) (cells : Cells) (v : Seat P FileEntry G) (session : ℕ) (requests : List Request) (done : Done)
+      → v.opening ≡ Some o
+      → geometry_at state faults o ≡ g
+      → HoldsPages (files state faults) o cells v
+      → IsDoneOnCells g session requests cells done
+      → IsDoneOnHeld state faults session requests cells v done

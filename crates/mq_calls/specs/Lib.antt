@@ -2,4 +2,8 @@ pub mod Pages
 pub mod Wanted
 pub mod Runs
 pub mod Sessions
+pub mod Acts
+pub mod Calling
+pub mod Committing
+pub mod Preparing
 pub mod Laws

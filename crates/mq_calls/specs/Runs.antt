@@ -4,8 +4,9 @@ use Rattle.mq_blocks.specs.Drive.{PortState}
 use Rattle.mq_blocks.specs.declared.geometry.Geometry.{Geometry}
 use Rattle.mq_drive.specs.Steps.{Fault}
 use Rattle.mq_drive.specs.declared.port.Port.{Ghosts}
-use Rattle.mq_exec.specs.Outcomes.{AreKnown}
+use Rattle.mq_exec.specs.Outcomes.{AreKnown, Answers}
 use Rattle.mq_exec.specs.declared.outcome.Done.{Done}
+use Rattle.mq_exec.specs.declared.outcome.Outcome.TheVariants.{Done as IsDone}
 use Rattle.mq_files.specs.Group.{file_group}
 use Rattle.mq_files.specs.Plans.{DoneOn}
 use Rattle.mq_files.specs.declared.entry.FileEntry.{FileEntry}
@@ -23,6 +24,11 @@ use Rattle.mq_turns.specs.Desk.{Sees}
 use Rattle.mq_turns.specs.Meaning.{Meaning}
 use Rattle.mq_turns.specs.declared.rule.Opening.{Opening}
 use Rattle.mq_turns.specs.declared.rule.ChairView.{ChairView}
+
+-- The group is done so on each volume of which the pages in these cells may be a part. The page of each block that it
+-- changes is among them.
+abbrev pub IsDoneOnCells : Geometry → (session : ℕ) → List Request → Cells → Done → Type 0
+IsDoneOnCells g session requests cells done = Answers g session (held_pages cells) requests (IsDone done)
 
 module _ {P : Type 0} {G : Ghosts P} (state : P → PortState) (faults : P → List Fault) where
   -- what the sides and the root show, and what the values and the groups mean

@@ -1,10 +1,13 @@
 // What holds of the pages that a session holds.
-ghost use Rattle.mq_calls.specs.Laws.{CellsAreCurrent, PagesAreOfTheMap};
+ghost use Rattle.mq_calls.specs.Laws.{CellsAreCurrent, DoneGroupsStand, PagesAreOfTheMap};
+ghost use Rattle.mq_turns.specs.AtDesk.{start_of};
 ghost use Rattle.mq_calls.specs.Laws.{PagesFollowStep, PagesStayAtGiveBack, PagesStayAtStep, PagesStayAtTake};
 
+use crate::machine::FileMachine;
+use mq_drive::Port;
 use mq_pages::PageCell;
 use mq_rules::JournalValues;
-use mq_turns::Machine;
+use mq_turns::{Desk, Machine};
 
 /// By whatever may be known by now, each cell that a session holds is what the machine says of its page.
 pub fn held_pages_are_current<M: Machine<Page = PageCell>>()
@@ -25,3 +28,11 @@ pub fn held_pages_stay<M: Machine<Page = PageCell>>()
     ensures step { PagesStayAtStep M.meaning }
     ensures follow { PagesFollowStep M.meaning }
 {}
+
+/// A group that is done on the pages that a session holds is done on the map at the newest number, whatever
+/// is drawn meanwhile.
+pub fn a_done_group_stands<P: Port + Drop>(desk: &Desk<FileMachine<P>>)
+    ensures { DoneGroupsStand P.state P.faults (start_of desk.now) }
+{
+    let _ = desk;
+}

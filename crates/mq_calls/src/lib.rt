@@ -3,17 +3,21 @@
 #![tactic(auto)]
 
 mod answers;
+mod asked;
 mod gate;
 mod laws;
 mod machine;
 mod pages;
+mod reading;
 mod rounds;
 mod session;
 mod wanted;
 
 pub use answers::{Answer, CallCause, Refusal};
 pub use gate::{Gate, Open, Point};
-pub use laws::{current_pages_are_of_the_map, held_pages_are_current, held_pages_stay};
+pub use laws::{
+    a_done_group_stands, current_pages_are_of_the_map, held_pages_are_current, held_pages_stay,
+};
 pub use machine::{FileGroups, FileMachine};
 pub use pages::{give_back_pages, take_pages};
 pub use rounds::run_held;

@@ -4,7 +4,7 @@ ghost use Rattle.std.specs.List.{Contains};
 ghost use Rattle.mq_blocks.specs.Geometry.{homes_of, queues_of};
 ghost use Rattle.mq_turns.specs.AtDesk.{AtDesk, view, start_of};
 ghost use Rattle.mq_calls.specs.Pages.{HoldsOnlyPages, blocks_of};
-ghost use Rattle.mq_calls.specs.Runs.{IsDoneOnHeld, files, geometry_at};
+ghost use Rattle.mq_calls.specs.Runs.{IsDoneOnCells, files, geometry_at};
 ghost use Rattle.mq_calls.specs.Wanted.{AreWanted, HaveSame, HoldsWanted, IsSameSession};
 
 use crate::machine::FileMachine;
@@ -47,7 +47,7 @@ fn run_in_rounds<P: Port + Drop, R: Wait>(
     ensures holds { HoldsWanted (files P.state P.faults) (start_of desk.now) wanted.new.items
         held.new.cells (view chair.new) }
     ensures done { IfOk result (λ done.
-        IsDoneOnHeld P.state P.faults queue requests.now held.new.cells (view chair.new) done) }
+        IsDoneOnCells geometry queue requests.now held.new.cells done) }
     ensures same { IsSameSession (view chair.old) (view chair.new) }
     ensures room { held.new.room ≡ held.old.room }
 {
@@ -61,8 +61,8 @@ fn run_in_rounds<P: Port + Drop, R: Wait>(
 
 /// What a group of requests of a session comes to. It begins with the pages of the wanted blocks, and takes
 /// those that the group lacks; their blocks are wanted from then on. The chair then holds just the pages of
-/// the wanted blocks. What the group comes to stands for whatever is drawn meanwhile, since nobody else
-/// changes these pages. Out of memory leaves the chair with no turn.
+/// the wanted blocks. What the group comes to is decided by these pages alone, and nobody else changes them:
+/// so it stands for whatever is drawn meanwhile. Out of memory leaves the chair with no turn.
 pub fn run_held<P: Port + Drop, R: Wait>(
     rt: &R,
     alloc: Global,
@@ -88,7 +88,7 @@ pub fn run_held<P: Port + Drop, R: Wait>(
         (HoldsOnlyPages (files P.state P.faults) (start_of desk.now) held.new.cells (view chair.new)) }
     ensures blocks { OnOk result (HaveSame wanted.new.items (blocks_of held.new.cells)) }
     ensures done { IfOk result (λ done.
-        IsDoneOnHeld P.state P.faults queue requests.now held.new.cells (view chair.new) done) }
+        IsDoneOnCells geometry queue requests.now held.new.cells done) }
     ensures idle { OnErr result (((view chair.new).held ≡ []) × (held.new.cells ≡ [])) }
     ensures same { IsSameSession (view chair.old) (view chair.new) }
     ensures room { held.new.room ≡ held.old.room }

@@ -9,7 +9,7 @@ use Rattle.mq_inodes.specs.Pages.{held_pages}
 use Rattle.mq_pages.specs.Held.{HeldCells}
 use Rattle.mq_turns.specs.AtDesk.{start_of, view}
 use Rattle.mq_calls.specs.Wanted.{AreTogether}
-use Rattle.mq_calls.proofs.Finding.{done-now, possible-now}
+use Rattle.mq_calls.proofs.Finding.{possible-now}
 use Rattle.mq_calls.proofs.Missing.{round-smaller}
 use Rattle.mq_calls.proofs.rounds.run_in_rounds.Goals as goal
 
@@ -21,10 +21,8 @@ run-requires-clause-possible g c =
 
 pub returns-in-Done-clause-done : goal.returns-in-Done-clause-done
 returns-in-Done-clause-done g c =
-    let i = c.rounds.invariant in
     let ran : Answers c.args.geometry c.args.queue (held_pages c.new.result.held.now.cells) c.args.requests.now (Done c.in-Done.done) = rw c.in-Done.is at c.in_ok-done.ensures in
-    let answers = subst (λ (h : HeldCells). Answers c.args.geometry c.args.queue (held_pages h.cells) c.args.requests.now (Done c.in-Done.done)) c.new.ensures ran in
-    done-now g.P.Port.state g.P.Port.faults c.args.geometry (start_of c.args.desk.now) c.rounds.held.cells (view c.rounds.chair) i.at.1 c.requires.geometry i.holds.pages.pages c.args.queue c.args.requests.now c.in-Done.done answers
+    subst (λ (h : HeldCells). Answers c.args.geometry c.args.queue (held_pages h.cells) c.args.requests.now (Done c.in-Done.done)) c.new.ensures ran
 
 pub returns-in_err-take_more-in-Need-clause-keeps : goal.returns-in_err-take_more-in-Need-clause-keeps
 returns-in_err-take_more-in-Need-clause-keeps g c = λ b h. subst (λ (xs : List ℕ). Contains xs b) (sym c.in_err-take_more-in-Need.ensures.err) (c.rounds.invariant.keeps b h)

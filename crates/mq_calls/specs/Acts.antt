@@ -1,0 +1,136 @@
+-- What the calls of a session do, and what they leave of what the session knows.
+use Rattle.std.specs.Prelude.{◌≡◌, ◌<◌, ◌≤◌, ℕ, Bool, true, false, List, [], ◌∷◌, length, Option, Some, None, Err}
+use Rattle.mq_blocks.specs.Drive.{PortState}
+use Rattle.mq_blocks.specs.Geometry.{write_limit}
+use Rattle.mq_blocks.specs.declared.geometry.Geometry.{Geometry}
+use Rattle.mq_drive.specs.Steps.{Fault}
+use Rattle.mq_drive.specs.declared.port.Port.{Ghosts}
+use Rattle.mq_files.specs.Entries.{freed_by, written_by}
+use Rattle.mq_files.specs.Group.{file_group}
+use Rattle.mq_files.specs.declared.entry.FileEntry.{FileEntry}
+use Rattle.mq_journal.specs.Draining.{report_of}
+use Rattle.mq_journal.specs.Numbers.{Seat, Shared, WasCut, reported}
+use Rattle.mq_rules.specs.Rule.{IsSide}
+use Rattle.mq_side.specs.Commits.{NumberedCommit}
+use Rattle.mq_side.specs.Drained.{DrainCause, Drains}
+use Rattle.mq_side.specs.Side.{side_state}
+use Rattle.mq_side.specs.declared.answers.Cause.{Cause}
+use Rattle.mq_side.specs.declared.answers.Cause.TheVariants.{Stopped}
+use Rattle.mq_side.specs.declared.answers.Cause.TheVariants as cause
+use Rattle.mq_side.specs.declared.answers.Why.{Why}
+use Rattle.mq_side.specs.declared.side.QueueSide.{QueueSide}
+use Rattle.mq_tree.specs.declared.request.Reply.{Reply}
+use Rattle.mq_tree.specs.declared.request.Request.{Request}
+use Rattle.mq_turns.specs.Meaning.{newest}
+use Rattle.mq_turns.specs.declared.rule.Answer.TheVariants.{Base, Front}
+use Rattle.mq_turns.specs.declared.rule.Report.{Report}
+use Rattle.mq_turns.specs.declared.rule.Report.TheVariants as report
+use Rattle.mq_calls.specs.Runs.{file_values}
+use Rattle.mq_calls.specs.declared.answers.CallCause.{CallCause}
+use Rattle.mq_calls.specs.declared.answers.CallCause.TheVariants as refused
+
+-- A call of a session: the session's number, how many calls it made before, whether the caller waits until the group is
+-- done, and what is asked.
+pub record Call : Type 0 where
+  pub session : ℕ
+  pub count : ℕ
+  pub durable : Bool
+  pub requests : List Request
+
+-- the entry is of this call, with these replies
+pub record IsOfCall (c : Call) (replies : List Reply) (e : FileEntry) : Type 0 where
+  pub session : e.session ≡ c.session
+  pub call : e.call ≡ c.count
+  pub durable : e.durable ≡ c.durable
+  pub requests : e.requests ≡ c.requests
+  pub replies_are : e.replies ≡ replies
+
+module _ {P : Type 0} {G : Ghosts P} where
+  -- ---- a group that was done
+
+  -- The session drew its group's entry at this number, which is above all that it had seen. The group was placed by the
+  -- front and by the base that the call was answered, and this alone was reported.
+  pub record Commits (c : Call) (replies : List Reply) (at : ℕ) (r : Report) (old new : Seat P FileEntry G) : Type 0 where
+    pub entry : FileEntry
+    pub is : IsOfCall c replies entry
+    pub drawn : new.drawn ≡ (at, entry) ∷ old.drawn
+    pub read : new.read ≡ old.read
+    pub above : old.seen < at
+    pub answers : new.reading.answers ≡ Base entry.reads.base ∷ Front entry.reads.front ∷ old.reading.answers
+    pub charged : new.reading.charged ≡ reported c.session r ∷ old.reading.charged
+
+  -- The session read its group's entry at this number, the newest at that moment and not below any that it had seen.
+  -- Nothing was reported.
+  pub record Reads (c : Call) (replies : List Reply) (at : ℕ) (e : FileEntry) (old new : Seat P FileEntry G) : Type 0 where
+    pub is : IsOfCall c replies e
+    pub known : Shared P FileEntry G
+    pub number : newest known ≡ at
+    pub drawn : new.drawn ≡ old.drawn
+    pub read : new.read ≡ (e, known) ∷ old.read
+    pub above : old.seen ≤ at
+    pub answers : new.reading.answers ≡ old.reading.answers
+    pub charged : new.reading.charged ≡ old.reading.charged
+
+  -- It read a group that neither writes nor frees.
+  pub record ReadsOnly (c : Call) (replies : List Reply) (at : ℕ) (old new : Seat P FileEntry G) : Type 0 where
+    pub entry : FileEntry
+    pub reads : Reads c replies at entry old new
+    pub writes : written_by entry ≡ []
+    pub frees : freed_by entry ≡ []
+
+  -- The group is a commit in the history at the number, and rung; or it is a read there.
+  abbrev pub Acts : Call → (at : ℕ) → (drew : Bool) → List Reply → Seat P FileEntry G → Seat P FileEntry G → Type 0
+  Acts c at true replies old new = Commits c replies at (report.Sent at) old new
+  Acts c at false replies old new = ReadsOnly c replies at old new
+
+  -- ---- a group that was refused
+
+  -- The session drew and read nothing.
+  pub record Rests (old new : Seat P FileEntry G) : Type 0 where
+    pub drawn : new.drawn ≡ old.drawn
+    pub read : new.read ≡ old.read
+
+  -- And it reported nothing.
+  pub record KeepsAll (old new : Seat P FileEntry G) : Type 0 where
+    pub rests : Rests old new
+    pub charged : new.reading.charged ≡ old.reading.charged
+
+  -- It read a group that writes more blocks than a transaction may.
+  pub record IsTooLarge (g : Geometry) (c : Call) (count limit : ℕ) (old new : Seat P FileEntry G) : Type 0 where
+    pub replies : List Reply
+    pub at : ℕ
+    pub entry : FileEntry
+    pub reads : Reads c replies at entry old new
+    pub limit_is : limit ≡ write_limit g
+    pub count_is : count ≡ length (written_by entry)
+    pub above : limit < count
+
+module _ {P : Type 0} {G : Ghosts P} (state : P → PortState) (faults : P → List Fault) where
+  -- A side that the session held is what is known to lie there; it had kept the failure that is named, or its drain
+  -- came to this refusal.
+  pub data IsCaused (q : ℕ) : Cause → Type 0 where
+    kept : {tx : ℕ} {why : Why} (K : Shared P FileEntry G) (s : QueueSide P FileEntry G) → IsSide (file_values state faults) file_group q K s → s.kept ≡ Some (tx, why) → IsCaused q (Stopped tx why)
+    drained : {c : Cause} (K : Shared P FileEntry G) (s after : QueueSide P FileEntry G) → IsSide (file_values state faults) file_group q K s → Drains (side_state state faults s) (Err c) (side_state state faults after) → DrainCause {A = ℕ} (Err c) (faults s.pmr.port) (faults after.pmr.port) → IsCaused q c
+
+  -- A port's refusal before the group drew a number. It is charged to the port of the queue, and nothing else is.
+  pub record Refuses (q : ℕ) (c : Cause) (old new : Seat P FileEntry G) : Type 0 where
+    pub rests : Rests old new
+    pub charged : new.reading.charged ≡ reported q (report_of c) ∷ old.reading.charged
+    pub caused : IsCaused q c
+
+  -- Its send was cut: the group is drawn, and its transaction may or may not survive.
+  pub record IsCut (c : Call) (at : ℕ) (old new : Seat P FileEntry G) : Type 0 where
+    pub replies : List Reply
+    pub commits : Commits c replies at report.Off old new
+    pub side : QueueSide P FileEntry G
+    pub numbered : NumberedCommit
+    pub number : numbered.number ≡ at
+    pub cut : WasCut state faults file_group side numbered
+
+  -- Why `fatomic` refuses a group, with the number that the group had drawn, and what that leaves.
+  pub data IsRefused (g : Geometry) (c : Call) (old new : Seat P FileEntry G) : CallCause → Option ℕ → Type 0 where
+    memory : KeepsAll old new → IsRefused g c old new refused.OutOfMemory None
+    too_large : {count limit : ℕ} → IsTooLarge g c count limit old new → IsRefused g c old new (refused.TooLarge count limit) None
+    area_full : KeepsAll old new → IsRefused g c old new (refused.AreaFull c.session) None
+    before : {why : Cause} → Refuses c.session why old new → IsRefused g c old new (refused.Drive why) None
+    cut : {at : ℕ} → IsCut c at old new → IsRefused g c old new (refused.Drive cause.Off) (Some at)

@@ -1,0 +1,106 @@
+-- A group that is about to be drawn: its pages and the side of its queue are held, its blocks are placed, and its commit is
+-- prepared.
+use Rattle.std.specs.Prelude.{◌≡◌, ◌<◌, ◌≤◌, ◌+◌, ℕ, List, [], ◌∷◌, map, None, vec_len, vec_capacity}
+use Rattle.mq_blocks.specs.Drive.{PortState}
+use Rattle.mq_blocks.specs.Geometry.{area_of, homes_of}
+use Rattle.mq_blocks.specs.declared.geometry.Geometry.{Geometry}
+use Rattle.mq_drive.specs.Steps.{Fault}
+use Rattle.mq_drive.specs.declared.port.Port.{Ghosts}
+use Rattle.mq_exec.specs.declared.outcome.Done.{Done}
+use Rattle.mq_files.specs.Entries.{tx_of}
+use Rattle.mq_files.specs.Group.{file_group}
+use Rattle.mq_files.specs.Laws.{blocks_in}
+use Rattle.mq_files.specs.Plans.{planned_with}
+use Rattle.mq_files.specs.declared.entry.FileEntry.{FileEntry}
+use Rattle.mq_files.specs.declared.entry.Reads.{Reads as WordsRead}
+use Rattle.mq_journal.specs.Draining.{report_of}
+use Rattle.mq_journal.specs.Numbers.{HasPlace, HoldsSide, MayCome, Seat, ShowsReport, Start, WasCut, reported}
+use Rattle.mq_pages.specs.Held.{Cells}
+use Rattle.mq_pages.specs.declared.page.Write.{Write}
+use Rattle.mq_revoke.specs.Guard.{placed_of}
+use Rattle.mq_revoke.specs.Placed.{Placed}
+use Rattle.mq_revoke.specs.Placing.{IsPlacement}
+use Rattle.mq_side.specs.Commits.{Commit, IsPlanOf, NumberedCommit, commit_of_tx}
+use Rattle.mq_side.specs.Stored.{FitIs, rows_of}
+use Rattle.mq_side.specs.declared.answers.Fit.TheVariants.{Area}
+use Rattle.mq_side.specs.declared.side.QueueSide.{QueueSide}
+use Rattle.mq_turns.specs.Desk.{Follows, slot_of}
+use Rattle.mq_turns.specs.Lists.{tick, times}
+use Rattle.mq_turns.specs.declared.rule.Answer.TheVariants.{Base, Front}
+use Rattle.mq_turns.specs.declared.rule.Charge.{Charge}
+use Rattle.mq_turns.specs.declared.turn.Turn.TheVariants.{Side}
+use Rattle.mq_calls.specs.Acts.{Call, IsCaused}
+use Rattle.mq_calls.specs.Calling.{IsEntryFor}
+use Rattle.mq_calls.specs.Pages.{HoldsPages, IsSeen}
+use Rattle.mq_calls.specs.Runs.{files}
+use Rattle.mq_calls.specs.declared.committing.Lack.{Lack}
+use Rattle.mq_calls.specs.declared.committing.Lack.TheVariants as lack
+use Rattle.mq_calls.specs.declared.committing.Ready.{Ready}
+
+-- the blocks that a group writes are placed by what was read, on the pages in these cells
+abbrev pub IsPlacedOn : Geometry → (queue : ℕ) → WordsRead → Cells → List Write → Placed → Type 0
+IsPlacedOn g queue reads cells writes plan = IsPlacement g queue reads.front reads.base (map (planned_with cells) writes) plan
+
+module _ {P : Type 0} {G : Ghosts P} where
+  -- The session has read words and nothing more: what it holds, drew, read and reported is as before.
+  pub record ReadsWords (old new : Seat P FileEntry G) : Type 0 where
+    pub parts : new.parts ≡ old.parts
+    pub opening : new.opening ≡ old.opening
+    pub session : new.session ≡ old.session
+    pub held : new.held ≡ old.held
+    pub drawn : new.drawn ≡ old.drawn
+    pub read : new.read ≡ old.read
+    pub seen : old.seen ≤ new.seen
+    pub charged : new.reading.charged ≡ old.reading.charged
+
+  -- It has read a front and a base, in this order, and both hold from then on.
+  pub record HasRead (reads : WordsRead) (old new : Seat P FileEntry G) : Type 0 where
+    pub words : ReadsWords old new
+    pub answers : new.reading.answers ≡ Base reads.base ∷ Front reads.front ∷ old.reading.answers
+    pub front : reads.front ≤ new.reading.done
+    pub base : reads.base ≤ new.reading.base
+
+  -- It holds no turn, and else this alone has changed: what it reported.
+  pub record Leaves (reports : List Charge) (old new : Seat P FileEntry G) : Type 0 where
+    pub parts : new.parts ≡ old.parts
+    pub opening : new.opening ≡ old.opening
+    pub session : new.session ≡ old.session
+    pub held : new.held ≡ []
+    pub drawn : new.drawn ≡ old.drawn
+    pub read : new.read ≡ old.read
+    pub charged : new.reading.charged ≡ reports
+
+module _ {P : Type 0} {G : Ghosts P} (state : P → PortState) (faults : P → List Fault) where
+  -- It holds the pages of these cells and the side of its queue, and no other turn; and something may be known by now.
+  pub record HoldsCommit (o : Start P FileEntry G) (q : ℕ) (cells : Cells) (s : QueueSide P FileEntry G) (v : Seat P FileEntry G) : Type 0 where
+    pub pages : HoldsPages (files state faults) o cells v
+    pub side : HoldsSide state faults file_group o q s v
+    pub only : (k : ℕ) → times k v.held ≡ times k cells + tick (slot_of o (Side q)) k
+    pub seen : IsSeen (files state faults) v
+
+  -- The commit is prepared, and the entry of the group may be drawn.
+  pub record IsPrepared (o : Start P FileEntry G) (c : Call) (done : Done) (plan : Placed) (old : Seat P FileEntry G) (s : QueueSide P FileEntry G) (v : Seat P FileEntry G) (ready : Ready) : Type 0 where
+    pub is : IsEntryFor c done ready.entry
+    pub placed : ready.entry.placed ≡ plan
+    pub answers : v.reading.answers ≡ Base ready.entry.reads.base ∷ Front ready.entry.reads.front ∷ old.reading.answers
+    pub plan_is : (homes : ℕ) × IsPlanOf homes (blocks_in done.writes.items) plan
+    pub may : MayCome state faults file_group o c.session ready.entry v
+    pub follows : Follows (files state faults) ready.entry v
+    pub tells : ready.prepared ≡ commit_of_tx (tx_of ready.entry)
+    pub place : HasPlace state faults file_group s v (placed_of (tx_of ready.entry))
+    pub reserved : vec_len s.stored < vec_capacity s.stored
+    pub none : s.kept ≡ None
+
+  -- Why it is not, and what stands behind that: the plan of the call does not fit the journal area of the queue; or the
+  -- side shows what will be reported of its port, and had come to it in hand.
+  abbrev pub IsLacking : Start P FileEntry G → (queue : ℕ) → QueueSide P FileEntry G → Seat P FileEntry G → Lack → Type 0
+  IsLacking o q s v lack.Memory = Unit {0}
+  IsLacking o q s v lack.Area =
+      (base : ℕ) × (plan : Placed) × FitIs (area_of s.pmr.geometry) base (rows_of s.stored.items) (state s.pmr.port) plan Area
+  IsLacking o q s v (lack.Drive cause) = ShowsReport state faults file_group q (report_of cause) s v × IsCaused state faults q cause
+
+-- what is reported where a group is not drawn for this
+abbrev pub reports_for : ℕ → Lack → List Charge → List Charge
+reports_for q lack.Memory charged = charged
+reports_for q lack.Area charged = charged
+reports_for q (lack.Drive cause) charged = reported q (report_of cause) ∷ charged

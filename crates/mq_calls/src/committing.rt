@@ -1,0 +1,32 @@
+// What keeps a group from being drawn, or what it is drawn with.
+use mq_blocks::OutOfMemory;
+use mq_files::FileEntry;
+use mq_side::{Cause, Prepared};
+
+/// What keeps a group from being drawn.
+#[derive(Drop)]
+pub(crate) enum Lack {
+    Memory,
+    /// The journal area has no room for it.
+    Area,
+    /// The port of its queue refused.
+    Drive(Cause),
+}
+
+impl From<OutOfMemory> for Lack {
+    ghost use Rattle.std.specs.Prelude.{◌≡◌};
+    ghost use Rattle.mq_calls.specs.declared.committing.Lack.TheVariants as lack;
+
+    ghost from_gives = { λ _ e. e ≡ lack.Memory };
+
+    fn from(_: OutOfMemory) -> Self {
+        Lack::Memory
+    }
+}
+
+/// A group that may be drawn: its commit with all the memory that it takes, and its entry.
+#[derive(Drop)]
+pub(crate) struct Ready {
+    pub(crate) prepared: Prepared,
+    pub(crate) entry: FileEntry,
+}
