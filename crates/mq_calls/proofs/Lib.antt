@@ -5,3 +5,5 @@ pub mod Counting
 pub mod Asking
 pub mod Finding
 pub mod Missing
+pub mod Committing
+pub mod Drawable

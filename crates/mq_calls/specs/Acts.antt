@@ -48,14 +48,15 @@ pub record IsOfCall (c : Call) (replies : List Reply) (e : FileEntry) : Type 0 w
 module _ {P : Type 0} {G : Ghosts P} where
   -- ---- a group that was done
 
-  -- The session drew its group's entry at this number, which is above all that it had seen. The group was placed by the
-  -- front and by the base that the call was answered, and this alone was reported.
-  pub record Commits (c : Call) (replies : List Reply) (at : ℕ) (r : Report) (old new : Seat P FileEntry G) : Type 0 where
+  -- The session drew its group's entry at this number, which is above all that it had seen. The group writes no more than
+  -- a transaction may; it was placed by the front and by the base that the call was answered; and this alone was reported.
+  pub record Commits (g : Geometry) (c : Call) (replies : List Reply) (at : ℕ) (r : Report) (old new : Seat P FileEntry G) : Type 0 where
     pub entry : FileEntry
     pub is : IsOfCall c replies entry
     pub drawn : new.drawn ≡ (at, entry) ∷ old.drawn
     pub read : new.read ≡ old.read
     pub above : old.seen < at
+    pub few : length (written_by entry) ≤ write_limit g
     pub answers : new.reading.answers ≡ Base entry.reads.base ∷ Front entry.reads.front ∷ old.reading.answers
     pub charged : new.reading.charged ≡ reported c.session r ∷ old.reading.charged
 
@@ -79,9 +80,9 @@ module _ {P : Type 0} {G : Ghosts P} where
     pub frees : freed_by entry ≡ []
 
   -- The group is a commit in the history at the number, and rung; or it is a read there.
-  abbrev pub Acts : Call → (at : ℕ) → (drew : Bool) → List Reply → Seat P FileEntry G → Seat P FileEntry G → Type 0
-  Acts c at true replies old new = Commits c replies at (report.Sent at) old new
-  Acts c at false replies old new = ReadsOnly c replies at old new
+  abbrev pub Acts : Geometry → Call → (at : ℕ) → (drew : Bool) → List Reply → Seat P FileEntry G → Seat P FileEntry G → Type 0
+  Acts g c at true replies old new = Commits g c replies at (report.Sent at) old new
+  Acts g c at false replies old new = ReadsOnly c replies at old new
 
   -- ---- a group that was refused
 
@@ -118,14 +119,18 @@ module _ {P : Type 0} {G : Ghosts P} (state : P → PortState) (faults : P → L
     pub charged : new.reading.charged ≡ reported q (report_of c) ∷ old.reading.charged
     pub caused : IsCaused q c
 
-  -- Its send was cut: the group is drawn, and its transaction may or may not survive.
-  pub record IsCut (c : Call) (at : ℕ) (old new : Seat P FileEntry G) : Type 0 where
-    pub replies : List Reply
-    pub commits : Commits c replies at report.Off old new
+  -- the send of the number was cut on a side, whose port gained an `Off` by it
+  pub record WasCutAt (at : ℕ) : Type 0 where
     pub side : QueueSide P FileEntry G
     pub numbered : NumberedCommit
     pub number : numbered.number ≡ at
     pub cut : WasCut state faults file_group side numbered
+
+  -- Its send was cut: the group is drawn, and its transaction may or may not survive.
+  pub record IsCut (g : Geometry) (c : Call) (at : ℕ) (old new : Seat P FileEntry G) : Type 0 where
+    pub replies : List Reply
+    pub commits : Commits g c replies at report.Off old new
+    pub cut : WasCutAt at
 
   -- Why `fatomic` refuses a group, with the number that the group had drawn, and what that leaves.
   pub data IsRefused (g : Geometry) (c : Call) (old new : Seat P FileEntry G) : CallCause → Option ℕ → Type 0 where
@@ -133,4 +138,4 @@ module _ {P : Type 0} {G : Ghosts P} (state : P → PortState) (faults : P → L
     too_large : {count limit : ℕ} → IsTooLarge g c count limit old new → IsRefused g c old new (refused.TooLarge count limit) None
     area_full : KeepsAll old new → IsRefused g c old new (refused.AreaFull c.session) None
     before : {why : Cause} → Refuses c.session why old new → IsRefused g c old new (refused.Drive why) None
-    cut : {at : ℕ} → IsCut c at old new → IsRefused g c old new (refused.Drive cause.Off) (Some at)
+    cut : {at : ℕ} → IsCut g c at old new → IsRefused g c old new (refused.Drive cause.Off) (Some at)

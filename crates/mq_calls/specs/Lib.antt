@@ -6,4 +6,6 @@ pub mod Acts
 pub mod Calling
 pub mod Committing
 pub mod Preparing
+pub mod Drawing
+pub mod Synchronizing
 pub mod Laws

@@ -11,6 +11,10 @@ use mq_pages::Held;
 use mq_revoke::Placement;
 use mq_turns::{Chair, Desk};
 
+/// How many calls a session may make. Each may draw a number, and the numbers of all sessions stay below
+/// 2^63. A session that has made so many answers out of memory.
+pub const CALL_LIMIT: u64 = 1 << 57;
+
 /// A file system over the ports of a drive. Threads share it by `&`, each with a session of its own.
 #[derive(Drop)]
 pub struct Mqfs<P: Port + Drop> {
