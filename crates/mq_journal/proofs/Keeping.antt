@@ -57,7 +57,7 @@ module _ {P E : Type 0} {G : Ghosts P} (state : P → PortState) (faults : P →
     has = each_without _ k v.held h.has;
   }
 
-  numbered_stays_all : (o : Start P E G) (q : ℕ) (s : QueueSide P E G) (n : NumberedCommit) (ks : List ℕ) (v w : Seat P E G) → Each (λ k. k ≢ slot_of o (Side q)) ks → w.held ≡ without_each ks v.held → HoldsNumbered state faults group o q s n v → HoldsNumbered state faults group o q s n w
+  pub numbered_stays_all : (o : Start P E G) (q : ℕ) (s : QueueSide P E G) (n : NumberedCommit) (ks : List ℕ) (v w : Seat P E G) → Each (λ k. k ≢ slot_of o (Side q)) ks → w.held ≡ without_each ks v.held → HoldsNumbered state faults group o q s n v → HoldsNumbered state faults group o q s n w
   numbered_stays_all o q s n ks v w others left h = record {
     turn = h.turn;
     holds = let a = h.holds in let b = times_without_each ks (slot_of o (Side q)) v.held others in subst (λ l. 0 < times (slot_of o (Side q)) l) (sym left) (omega arith);
@@ -65,7 +65,7 @@ module _ {P E : Type 0} {G : Ghosts P} (state : P → PortState) (faults : P →
   }
 
   pub sends_outlive_rest : (s : QueueSide P E G) → SendsOutliveRest state faults group s
-  sends_outlive_rest s o q e n ks old new v draws others left = numbered_stays_all o q s n ks new v others left draws.side
+  sends_outlive_rest s o q e n ks old new w draws others left = numbered_stays_all o q s n ks new w others left draws.side
 
   pub stays_at_reads : (s : QueueSide P E G) → SidesStayAtReads state faults group s
   stays_at_reads s o q v w same h = record {

@@ -21,10 +21,10 @@ pub record SameSide {P E : Type 0} {G : Ghosts P} (old new : QueueSide P E G) : 
   pub geometry : new.pmr.geometry ≡ old.pmr.geometry
   pub stored : new.stored ≡ old.stored
 
--- a drain's answer, which does not say how far the queue is done
-abbrev pub unnumbered : Result ℕ Cause → Result (Unit {0}) Cause
-unnumbered (Ok done) = Ok tt
-unnumbered (Err cause) = Err cause
+-- what is answered of a drain: how far the queue is done is not told
+abbrev pub drain_answer : Result ℕ Cause → Result (Unit {0}) Cause
+drain_answer (Ok done) = Ok tt
+drain_answer (Err cause) = Err cause
 
 module _ {P E : Type 0} {G : Ghosts P} (state : P → PortState) (faults : P → List Fault) (group : Group E) where
   -- The session has taken the side's turn: by what was known then, the side is what the rule says. Nothing else of the
@@ -41,4 +41,4 @@ module _ {P E : Type 0} {G : Ghosts P} (state : P → PortState) (faults : P →
     pub result : Result ℕ Cause
     pub drains : Drains (side_state state faults old) result (side_state state faults new)
     pub cause : DrainCause result (faults old.pmr.port) (faults new.pmr.port)
-    pub is : answer ≡ unnumbered result
+    pub is : answer ≡ drain_answer result

@@ -93,8 +93,8 @@ module _ {P E : Type 0} {G : Ghosts P} (state : P → PortState) (faults : P →
   -- what is held.
   abbrev pub SendsOutliveRest : Type 0
   SendsOutliveRest =
-      (o : Start P E G) (q : ℕ) (e : E) (n : NumberedCommit) (ks : List ℕ) (old new v : Seat P E G)
+      (o : Start P E G) (q : ℕ) (e : E) (n : NumberedCommit) (ks : List ℕ) (old new w : Seat P E G)
       → Draws state faults group o q e old new s n
       → Each (λ k. k ≢ slot_of o (Side q)) ks
-      → v.held ≡ without_each ks new.held
-      → HoldsNumbered state faults group o q s n v
+      → w.held ≡ without_each ks new.held
+      → HoldsNumbered state faults group o q s n w

@@ -17,8 +17,8 @@ use mq_side::{Cause, QueueSide};
 use mq_turns::{Chair, Desk, Item, Turn};
 use std::sync::Wait;
 
-/// Waits until the side of the queue is free, and takes it. The side of a queue comes after all pages, and
-/// after the sides of the queues before it, so that no two sessions wait for each other.
+/// Waits until the side of the queue is free, and takes it. Turns are taken in rising order of their slots:
+/// the slot of a side comes after those of all pages, and of the sides of the queues before it.
 pub fn take_side<R: Wait, P: Port + Drop, G: Groups>(
     rt: &R,
     desk: &Desk<JournalMachine<P, G>>,
@@ -63,8 +63,8 @@ pub fn give_back_side<P: Port + Drop, G: Groups>(
 }
 
 /// Completes until nothing is posted, and stores and flushes the head past all that is done. The side stays
-/// in hand, and the session makes no step on the desk: the queue's mark is not stored, and a refusal is not
-/// reported. After `Off` the call may be made again.
+/// in hand, and the session makes no step on the desk, which with the chair is there for the contract alone:
+/// the queue's mark is not stored, and a refusal is not reported. After `Off` the call may be made again.
 pub fn drain_held<P: Port + Drop, G: Groups>(
     desk: &Desk<JournalMachine<P, G>>,
     chair: &Chair<JournalMachine<P, G>>,
@@ -82,7 +82,8 @@ pub fn drain_held<P: Port + Drop, G: Groups>(
     ensures shows { IfErr result (λ c. ShowsReport P.state P.faults G.group side.old.pmr.queue
         (report_of c) side.new (view chair.now)) }
 {
-    let _ = (desk, chair);
+    let _ = desk;
+    let _ = chair;
     match side.drain() {
         Ok(_) => Ok(()),
         Err(cause) => Err(cause),
