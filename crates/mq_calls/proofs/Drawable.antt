@@ -53,7 +53,7 @@ use Rattle.mq_calls.specs.Committing.{HoldsCommit, IsPlacedOn}
 use Rattle.mq_calls.specs.Pages.{HoldsPage, HoldsPages}
 use Rattle.mq_calls.specs.Runs.{IsDoneOnCells, IsDoneOnHeld, file_values, files, geometry_at}
 use Rattle.mq_calls.specs.Sessions.{HasCalled}
-use Rattle.mq_calls.proofs.Committing.{side-apart}
+use Rattle.mq_calls.proofs.InHand.{side-apart}
 use Rattle.mq_calls.proofs.Finding.{done-now}
 use Rattle.mq_calls.proofs.Holding.{cells-now, pages-kept-all}
 use Rattle.mq_calls.proofs.Lists.{each-cell}

@@ -5,5 +5,6 @@ pub mod Counting
 pub mod Asking
 pub mod Finding
 pub mod Missing
-pub mod Committing
+pub mod InHand
 pub mod Drawable
+pub mod Acting

@@ -107,20 +107,27 @@ module _ {P : Type 0} {G : Ghosts P} where
     pub above : limit < count
 
 module _ {P : Type 0} {G : Ghosts P} (state : P → PortState) (faults : P → List Fault) where
-  -- A side that the session held is what is known to lie there; it had kept the failure that is named, or its drain
-  -- came to this refusal.
-  pub data IsCaused (q : ℕ) : Cause → Type 0 where
-    kept : {tx : ℕ} {why : Why} (K : Shared P FileEntry G) (s : QueueSide P FileEntry G) → IsSide (file_values state faults) file_group q K s → s.kept ≡ Some (tx, why) → IsCaused q (Stopped tx why)
-    drained : {c : Cause} (K : Shared P FileEntry G) (s after : QueueSide P FileEntry G) → IsSide (file_values state faults) file_group q K s → Drains (side_state state faults s) (Err c) (side_state state faults after) → DrainCause {A = ℕ} (Err c) (faults s.pmr.port) (faults after.pmr.port) → IsCaused q c
+  -- This was known on the session's desk, when all that the session had seen was.
+  pub record IsKnownFrom (v : Seat P FileEntry G) (K : Shared P FileEntry G) : Type 0 where
+    pub opening : v.opening ≡ Some K.opening
+    pub seen : v.seen ≤ newest K
+
+  -- By what was known since then, a side that the session held is what lies there; it had kept the failure that is named,
+  -- or its drain came to this refusal.
+  pub data IsCaused (v : Seat P FileEntry G) (q : ℕ) : Cause → Type 0 where
+    kept : {tx : ℕ} {why : Why} (K : Shared P FileEntry G) (s : QueueSide P FileEntry G) → IsKnownFrom v K → IsSide (file_values state faults) file_group q K s → s.kept ≡ Some (tx, why) → IsCaused v q (Stopped tx why)
+    drained : {c : Cause} (K : Shared P FileEntry G) (s after : QueueSide P FileEntry G) → IsKnownFrom v K → IsSide (file_values state faults) file_group q K s → Drains (side_state state faults s) (Err c) (side_state state faults after) → DrainCause (Err c) (faults s.pmr.port) (faults after.pmr.port) → IsCaused v q c
 
   -- A port's refusal before the group drew a number. It is charged to the port of the queue, and nothing else is.
   pub record Refuses (q : ℕ) (c : Cause) (old new : Seat P FileEntry G) : Type 0 where
     pub rests : Rests old new
     pub charged : new.reading.charged ≡ reported q (report_of c) ∷ old.reading.charged
-    pub caused : IsCaused q c
+    pub caused : IsCaused old q c
 
-  -- the send of the number was cut on a side, whose port gained an `Off` by it
-  pub record WasCutAt (at : ℕ) : Type 0 where
+  -- The send of the number, which is above all that the session had seen, was cut on a side, whose port gained an `Off`
+  -- by it.
+  pub record WasCutAt (v : Seat P FileEntry G) (at : ℕ) : Type 0 where
+    pub above : v.seen < at
     pub side : QueueSide P FileEntry G
     pub numbered : NumberedCommit
     pub number : numbered.number ≡ at
@@ -130,7 +137,7 @@ module _ {P : Type 0} {G : Ghosts P} (state : P → PortState) (faults : P → L
   pub record IsCut (g : Geometry) (c : Call) (at : ℕ) (old new : Seat P FileEntry G) : Type 0 where
     pub replies : List Reply
     pub commits : Commits g c replies at report.Off old new
-    pub cut : WasCutAt at
+    pub cut : WasCutAt old at
 
   -- Why `fatomic` refuses a group, with the number that the group had drawn, and what that leaves.
   pub data IsRefused (g : Geometry) (c : Call) (old new : Seat P FileEntry G) : CallCause → Option ℕ → Type 0 where

@@ -99,7 +99,7 @@ module _ {P : Type 0} {G : Ghosts P} (state : P → PortState) (faults : P → L
   IsLacking o q s v lack.Memory = Unit {0}
   IsLacking o q s v lack.Area =
       (base : ℕ) × (plan : Placed) × FitIs (area_of s.pmr.geometry) base (rows_of s.stored.items) (state s.pmr.port) plan Area
-  IsLacking o q s v (lack.Drive cause) = ShowsReport state faults file_group q (report_of cause) s v × IsCaused state faults q cause
+  IsLacking o q s v (lack.Drive cause) = ShowsReport state faults file_group q (report_of cause) s v × IsCaused state faults v q cause
 
 -- what is answered where a group is not drawn for this
 abbrev pub refusal_for : ℕ → Lack → Refusal

@@ -4,10 +4,12 @@
 
 mod answers;
 mod asked;
+mod committing;
 mod gate;
 mod laws;
 mod machine;
 mod pages;
+mod preparing;
 mod reading;
 mod rounds;
 mod session;
