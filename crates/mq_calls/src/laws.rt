@@ -1,9 +1,13 @@
 // What holds of the pages that a session holds.
 ghost use Rattle.mq_calls.specs.Laws.{CellsAreCurrent, PagesAreOfTheMap};
 ghost use Rattle.mq_calls.specs.Laws.{PagesFollowStep, PagesStayAtGiveBack, PagesStayAtStep, PagesStayAtTake};
+ghost use Rattle.mq_calls.specs.Laws.{DrawnPagesAreHeld, NoPageIsLeft};
 
+use mq_drive::Port;
+use mq_journal::Groups;
 use mq_pages::PageCell;
 use mq_rules::JournalValues;
+use mq_side::QueueSide;
 use mq_turns::Machine;
 
 /// By whatever may be known by now, each cell that a session holds is what the machine says of its page.
@@ -24,4 +28,17 @@ pub fn held_pages_stay<M: Machine<Page = PageCell>>()
     ensures give_back { PagesStayAtGiveBack M.meaning }
     ensures step { PagesStayAtStep M.meaning }
     ensures follow { PagesFollowStep M.meaning }
+{}
+
+/// The pages that a session holds when it draws a number on a side stay held: by what it then knows, each
+/// cell is what the transaction of its group made of it. A page that the group leaves alone keeps its cell.
+pub fn drawn_pages_are_held<P: Port + Drop, G: Groups>(side: &QueueSide<P, G::Entry>)
+    ensures { DrawnPagesAreHeld P.state P.faults G.group side.now }
+{
+    let _ = side;
+}
+
+/// A session that gives back its pages, and the one other turn that it holds, then holds nothing.
+pub fn no_page_is_left<M: Machine<Page = PageCell>>()
+    ensures { NoPageIsLeft M.meaning }
 {}

@@ -5,6 +5,7 @@
 mod answers;
 mod gate;
 mod laws;
+mod leaving;
 mod machine;
 mod pages;
 mod rounds;
@@ -13,7 +14,10 @@ mod wanted;
 
 pub use answers::{Answer, CallCause, Refusal};
 pub use gate::{Gate, Open, Point};
-pub use laws::{current_pages_are_of_the_map, held_pages_are_current, held_pages_stay};
+pub use laws::{
+    current_pages_are_of_the_map, drawn_pages_are_held, held_pages_are_current, held_pages_stay,
+    no_page_is_left,
+};
 pub use machine::{FileGroups, FileMachine};
 pub use pages::{give_back_pages, take_pages};
 pub use rounds::run_held;
