@@ -11,13 +11,17 @@ use Rattle.mq_blocks.specs.Journal.{is_among}
 use Rattle.mq_blocks.specs.Machine.{after, or_kept, write_of}
 use Rattle.mq_drive.specs.Steps.{Fault}
 use Rattle.mq_drive.specs.declared.port.Port.{Ghosts}
-use Rattle.mq_files.specs.Entries.{tx_by}
+use Rattle.mq_exec.specs.declared.outcome.Done.{Done}
+use Rattle.mq_files.specs.Entries.{tx_by, tx_of}
 use Rattle.mq_files.specs.Laws.{blocks_in}
 use Rattle.mq_files.specs.Pages.{LeavesBelow}
+use Rattle.mq_files.specs.Plans.{IsEntryOf}
+use Rattle.mq_files.specs.declared.entry.FileEntry.{FileEntry}
 use Rattle.mq_files.proofs.Settled.{stays_below}
 use Rattle.mq_inodes.specs.Pages.{held_pages, page_in}
 use Rattle.mq_journal.specs.Numbers
-use Rattle.mq_journal.specs.Numbers.{Draws, Seat, Shared, Start}
+use Rattle.mq_journal.specs.Numbers.{Draws, HoldsNumbered, Seat, Shared, Start}
+use Rattle.mq_journal.proofs.Keeping.{numbered_stays}
 use Rattle.mq_ledger.specs.History.{changes}
 use Rattle.mq_ledger.specs.declared.tx.Tx.{Tx}
 use Rattle.mq_ledger.proofs.Values.{write_of-append}
@@ -33,12 +37,12 @@ use Rattle.mq_rules.proofs.Drawing.{page_drawn}
 use Rattle.mq_side.specs.Commits.{NumberedCommit}
 use Rattle.mq_side.specs.declared.root.Root.{Root}
 use Rattle.mq_side.specs.declared.side.QueueSide.{QueueSide}
+use Rattle.mq_tree.specs.declared.request.Request.{Request}
 use Rattle.mq_tree.proofs.Members.{cons-cases, cons-here, cons-there, none-contained}
 use Rattle.mq_turns.specs.Chairs.{giving}
 use Rattle.mq_turns.specs.Desk.{slot_of, turn_at}
 use Rattle.mq_turns.specs.Lists.{Each, tick, times, without}
 use Rattle.mq_turns.specs.Meaning.{Meaning, drawn, newest}
-use Rattle.mq_turns.specs.declared.rule.Known.{Known}
 use Rattle.mq_turns.specs.declared.rule.Opening.{Opening}
 use Rattle.mq_turns.specs.declared.rule.ChairView.{ChairView}
 use Rattle.mq_turns.specs.declared.turn.Item.TheVariants as item
@@ -165,6 +169,15 @@ module _ {P E : Type 0} {G : Ghosts P} (state : P → PortState) (faults : P →
         let apart : Each (λ x. x.0 ≢ slot_of o (Side q)) cells = each_map (λ x. HoldsPage μ o old x.0 x.1) (λ x. x.0 ≢ slot_of o (Side q)) (λ x p same. let mine = p.turn in omega arith) cells h.each in
         let kept = pages-kept-all μ o cells old (slot_of o (Side q)) (all-blocks (λ b. b ≢ slot_of o (Side q)) cells apart) h in
         pages-after μ o cells (cells_after t cells) old new about (drawn e K) (each-drawn cells kept.each) draws.held h
+
+  -- a side on which a number was drawn stays held while pages are given back
+  pub numbered-left : (o : Start P E G) (q : ℕ) (s : QueueSide P E G) (n : NumberedCommit) (v : Seat P E G) (cells : Cells) → Each (λ x. x.0 < length o.pages) cells → HoldsNumbered state faults group o q s n v → HoldsNumbered state faults group o q s n (giving_pages (blocks_of cells) v)
+  numbered-left o q s n v [] low h = record { turn = h.turn; holds = h.holds; has = h.has }
+  numbered-left o q s n v (x ∷ xs) low h = numbered_stays state faults group s o q x.0 n (giving_pages (blocks_of xs) v) (λ same. let a = low.0 in omega arith) (numbered-left o q s n v xs low.1 h)
+
+-- what the transaction of an entry makes of cells, by what the entry was made of
+pub entry-leaves : (number session : ℕ) (requests : List Request) (done : Done) (plan : Placed) (e : FileEntry) (cells : Cells) → IsEntryOf session requests done e → e.placed ≡ plan → cells_after (numbered number (tx_of e)) cells ≡ cells_after (tx_by number 0 plan done.writes.items done.frees.items) cells
+entry-leaves number session requests done plan e cells is placed = λ i. cells_after (tx_by number 0 (placed i) (is.writes_are i) (is.frees_are i)) cells
 
 -- ---- writes by rising block
 

@@ -13,13 +13,13 @@ loop-block-init g c = record {
 }
 
 pub page_after-cell-requires-clause-writes : goal.page_after-cell-requires-clause-writes
-page_after-cell-requires-clause-writes g c = left-rises (files g.P.Port.state g.P.Port.faults) (start_of c.args.desk.now) c.args.number c.args.plan.now c.args.frees.now _ _ _ _ _ _ _ _ _ c.loop-block.invariant.left c.in-Some.ensures.last
+page_after-cell-requires-clause-writes g c = left-rises _ _ _ _ _ _ _ _ _ _ _ _ _ _ c.loop-block.invariant.left c.in-Some.ensures.last
 
 pub give_back-requires-clause-turn : goal.give_back-requires-clause-turn
-give_back-requires-clause-turn g c = (left-last (files g.P.Port.state g.P.Port.faults) (start_of c.args.desk.now) c.args.number c.args.plan.now c.args.frees.now _ _ _ _ _ _ _ _ _ c.loop-block.invariant.left c.in-Some.ensures.last).page.turn
+give_back-requires-clause-turn g c = (left-last _ _ _ _ _ _ _ _ _ _ _ _ _ _ c.loop-block.invariant.left c.in-Some.ensures.last).page.turn
 
 pub give_back-requires-clause-holds : goal.give_back-requires-clause-holds
-give_back-requires-clause-holds g c = (left-last (files g.P.Port.state g.P.Port.faults) (start_of c.args.desk.now) c.args.number c.args.plan.now c.args.frees.now _ _ _ _ _ _ _ _ _ c.loop-block.invariant.left c.in-Some.ensures.last).page.holds
+give_back-requires-clause-holds g c = (left-last _ _ _ _ _ _ _ _ _ _ _ _ _ _ c.loop-block.invariant.left c.in-Some.ensures.last).page.holds
 
 pub give_back-requires-clause-stands : goal.give_back-requires-clause-stands
 give_back-requires-clause-stands g c = λ K sees.
@@ -29,7 +29,7 @@ give_back-requires-clause-stands g c = λ K sees.
 pub loop-block-preserved : goal.loop-block-preserved
 loop-block-preserved g c = record {
   at = c.give_back.ensures.at;
-  left = left-more (files g.P.Port.state g.P.Port.faults) (start_of c.args.desk.now) c.args.number c.args.plan.now c.args.frees.now (view c.args.chair.now) (view c.loop-block.chair) _ _ _ _ _ _ _ c.loop-block.invariant.left c.in-Some.ensures.last (view c.give_back.new.chair) c.page_after-cell.new.writes.items c.give_back.ensures.gave c.page_after-cell.ensures.left;
+  left = left-more _ _ _ _ _ (view c.args.chair.now) (view c.loop-block.chair) _ _ _ _ _ _ _ c.loop-block.invariant.left c.in-Some.ensures.last (view c.give_back.new.chair) c.page_after-cell.new.writes.items c.give_back.ensures.gave c.page_after-cell.ensures.left;
   room = c.in-Some.ensures.room ∙ c.loop-block.invariant.room;
 }
 
