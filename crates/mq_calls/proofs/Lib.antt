@@ -8,3 +8,4 @@ pub mod Missing
 pub mod InHand
 pub mod Drawable
 pub mod Acting
+pub mod AfterDraw

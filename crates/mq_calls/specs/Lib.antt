@@ -8,4 +8,5 @@ pub mod Committing
 pub mod Preparing
 pub mod Drawing
 pub mod Synchronizing
+pub mod Leaving
 pub mod Laws

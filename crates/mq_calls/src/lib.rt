@@ -7,6 +7,7 @@ mod asked;
 mod committing;
 mod gate;
 mod laws;
+mod leaving;
 mod machine;
 mod pages;
 mod preparing;
@@ -19,6 +20,8 @@ pub use answers::{Answer, CallCause, Refusal};
 pub use gate::{Gate, Open, Point};
 pub use laws::{
     a_done_group_stands, current_pages_are_of_the_map, held_pages_are_current, held_pages_stay,
+    current_pages_are_of_the_map, drawn_pages_are_held, held_pages_are_current, held_pages_stay,
+    no_page_is_left,
 };
 pub use machine::{FileGroups, FileMachine};
 pub use pages::{give_back_pages, take_pages};
