@@ -5,3 +5,4 @@ pub mod Counting
 pub mod Asking
 pub mod Finding
 pub mod Missing
+pub mod Drains

@@ -9,6 +9,7 @@ mod machine;
 mod pages;
 mod rounds;
 mod session;
+mod sweeping;
 mod wanted;
 
 pub use answers::{Answer, CallCause, Refusal};
