@@ -37,15 +37,12 @@ names at c (Err (cause.FailedHome block status)) e = let k : c ≡ cause.FailedH
 names at c (Err (cause.Stopped tx why)) e = let l = low at tx (cause.Stopped tx why) c _ e refl in subst (NamesUpto at) (sym l.0) l.1
 
 module _ {P E : Type 0} {G : Ghosts P} (state : P → PortState) (faults : P → List Fault) (group : Group E) where
-  abbrev Read : Type 0
-  Read = Reading PageCell (QueueSide P E G) (Root P G) E
-
   -- ---- what changes
 
-  changed : (u w : Seat P E G) (h : ℕ) (r : Read) → w ≡ record u { hand = h; reading = r } → w ≡ record u { hand = h; reading = w.reading }
+  changed : (u w : Seat P E G) (h : ℕ) (r : Reading PageCell (QueueSide P E G) (Root P G) E) → w ≡ record u { hand = h; reading = r } → w ≡ record u { hand = h; reading = w.reading }
   changed u w h r is = subst (λ (z : Seat P E G). z ≡ record u { hand = h; reading = z.reading }) (sym is) refl
 
-  changed-both : (u w : Seat P E G) (h : ℕ) (r : Read) → w ≡ record u { hand = h; reading = r } → w ≡ record u { hand = w.hand; reading = w.reading }
+  changed-both : (u w : Seat P E G) (h : ℕ) (r : Reading PageCell (QueueSide P E G) (Root P G) E) → w ≡ record u { hand = h; reading = r } → w ≡ record u { hand = w.hand; reading = w.reading }
   changed-both u w h r is = subst (λ (z : Seat P E G). z ≡ record u { hand = z.hand; reading = z.reading }) (sym is) refl
 
   along : (v u w : Seat P E G) (n : ℕ) → u ≡ record v { hand = u.hand; reading = u.reading } → w ≡ record u { hand = n; reading = w.reading } → w ≡ record v { hand = n; reading = w.reading }
