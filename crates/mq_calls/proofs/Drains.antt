@@ -1,5 +1,5 @@
 -- The sides of the queues are drained one after another.
-use Rattle.std.proofs.Common.{◌≡◌, ℕ, suc, ◌+◌, ◌-◌, ◌<◌, ◌≤◌, min, nat_le, Bool, List, [], ◌∷◌, length, sym, refl, ap, subst, ◌∙◌, inl, inr, arith, if◌then◌else◌}
+use Rattle.std.proofs.Common.{◌≡◌, ℕ, suc, ◌+◌, ◌-◌, ◌<◌, ◌≤◌, min, nat_le, List, [], ◌∷◌, length, sym, refl, ap, subst, ◌∙◌, inl, inr, arith, if◌then◌else◌}
 use Rattle.std.specs.Prelude.{Some, Result, Ok, Err}
 use Rattle.std.proofs.lemmas.Bool.{cases_Bool, leb-true}
 use Rattle.mq_blocks.specs.Drive.{PortState}
