@@ -9,3 +9,4 @@ pub mod InHand
 pub mod Drawable
 pub mod Acting
 pub mod AfterDraw
+pub mod Drains

@@ -9,4 +9,5 @@ pub mod Preparing
 pub mod Drawing
 pub mod Synchronizing
 pub mod Leaving
+pub mod Sweeping
 pub mod Laws

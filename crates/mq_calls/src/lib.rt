@@ -14,6 +14,7 @@ mod preparing;
 mod reading;
 mod rounds;
 mod session;
+mod sweeping;
 mod wanted;
 
 pub use answers::{Answer, CallCause, Refusal};
