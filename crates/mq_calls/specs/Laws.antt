@@ -8,10 +8,6 @@ use Rattle.mq_drive.specs.declared.port.Port.{Ghosts}
 use Rattle.mq_exec.specs.declared.outcome.Done.{Done}
 use Rattle.mq_files.specs.declared.entry.FileEntry.{FileEntry}
 use Rattle.mq_inodes.specs.Pages.{held_pages}
-use Rattle.mq_journal.specs.Numbers.{Seat, Start}
-use Rattle.mq_drive.specs.Steps.{Fault}
-use Rattle.mq_drive.specs.declared.port.Port.{Ghosts}
-use Rattle.mq_inodes.specs.Pages.{held_pages}
 use Rattle.mq_journal.specs.Machine.{journal}
 use Rattle.mq_journal.specs.Numbers.{Draws, Seat, Start}
 use Rattle.mq_pages.specs.Held.{Cells, cell_of}
@@ -29,10 +25,9 @@ use Rattle.mq_turns.specs.declared.rule.Known.{Known}
 use Rattle.mq_turns.specs.declared.rule.Opening.{Opening}
 use Rattle.mq_turns.specs.declared.rule.ChairView.{ChairView}
 use Rattle.mq_tree.specs.declared.request.Request.{Request}
-use Rattle.mq_calls.specs.Pages.{HoldsPages, IsAfterStep, blocks_of}
-use Rattle.mq_calls.specs.Runs.{IsDoneOnCells, IsDoneOnHeld, files, geometry_at}
 use Rattle.mq_calls.specs.Leaving.{cells_after}
 use Rattle.mq_calls.specs.Pages.{HoldsPages, IsAfterStep, blocks_of, giving_pages}
+use Rattle.mq_calls.specs.Runs.{IsDoneOnCells, IsDoneOnHeld, files, geometry_at}
 
 module _ {Q R E : Type 0} (μ : Meaning PageCell Q R E) where
   -- whatever is known by now, each cell is what the machine says of its page
@@ -107,6 +102,7 @@ module _ {P : Type 0} {G : Ghosts P} (state : P → PortState) (faults : P → L
       → HoldsPages (files state faults) o cells v
       → IsDoneOnCells g session requests cells done
       → IsDoneOnHeld state faults session requests cells v done
+
 module _ {P E : Type 0} {G : Ghosts P} (state : P → PortState) (faults : P → List Fault) (group : Group E) (s : QueueSide P E G) where
   -- Pages that a session holds when it draws a number stay held, each with the cell that the transaction of the entry makes
   -- of its own.

@@ -6,15 +6,11 @@ ghost use Rattle.mq_calls.specs.Laws.{DrawnPagesAreHeld, NoPageIsLeft};
 
 use crate::machine::FileMachine;
 use mq_drive::Port;
-use mq_pages::PageCell;
-use mq_rules::JournalValues;
-use mq_turns::{Desk, Machine};
-use mq_drive::Port;
 use mq_journal::Groups;
 use mq_pages::PageCell;
 use mq_rules::JournalValues;
 use mq_side::QueueSide;
-use mq_turns::Machine;
+use mq_turns::{Desk, Machine};
 
 /// By whatever may be known by now, each cell that a session holds is what the machine says of its page.
 pub fn held_pages_are_current<M: Machine<Page = PageCell>>()
@@ -43,6 +39,7 @@ pub fn a_done_group_stands<P: Port + Drop>(desk: &Desk<FileMachine<P>>)
 {
     let _ = desk;
 }
+
 /// The pages that a session holds when it draws a number on a side stay held: by what it then knows, each
 /// cell is what the transaction of its group made of it. A page that the group leaves alone keeps its cell.
 pub fn drawn_pages_are_held<P: Port + Drop, G: Groups>(side: &QueueSide<P, G::Entry>)

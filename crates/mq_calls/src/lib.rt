@@ -5,6 +5,7 @@
 mod answers;
 mod asked;
 mod committing;
+mod drawing;
 mod gate;
 mod laws;
 mod leaving;
@@ -20,11 +21,10 @@ mod wanted;
 pub use answers::{Answer, CallCause, Refusal};
 pub use gate::{Gate, Open, Point};
 pub use laws::{
-    a_done_group_stands, current_pages_are_of_the_map, held_pages_are_current, held_pages_stay,
-    current_pages_are_of_the_map, drawn_pages_are_held, held_pages_are_current, held_pages_stay,
-    no_page_is_left,
+    a_done_group_stands, current_pages_are_of_the_map, drawn_pages_are_held,
+    held_pages_are_current, held_pages_stay, no_page_is_left,
 };
-pub use machine::{FileGroups, FileMachine};
+pub use machine::{FileGroups, FileMachine, Shaped};
 pub use pages::{give_back_pages, take_pages};
 pub use rounds::run_held;
-pub use session::{Mqfs, Session};
+pub use session::{FileSystem, Mqfs, Session, User};
