@@ -1,5 +1,5 @@
 -- A group that is prepared on the pages and the side that its session holds may be drawn.
-use Rattle.std.proofs.Common.{◌≡◌, ◌≢◌, ◌⊎◌, ℕ, suc, ◌+◌, ◌<◌, ◌≤◌, ◌^◌, Bool, true, false, List, [], ◌∷◌, length, map, nat_eq, Option, inl, inr, refl, sym, ap, subst, ◌∙◌, arith, Some}
+use Rattle.std.proofs.Common.{◌≡◌, ◌≢◌, ◌⊎◌, ℕ, suc, ◌+◌, ◌<◌, ◌≤◌, ◌^◌, Bool, true, false, List, [], ◌∷◌, ◌++◌, length, map, nat_eq, Option, inl, inr, refl, sym, ap, subst, ◌∙◌, arith, Some}
 use Rattle.std.specs.Prelude.{None}
 use Rattle.std.proofs.lemmas.Bool.{eqb-true, false≢true}
 use Rattle.std.specs.List.{Contains}
@@ -15,11 +15,12 @@ use Rattle.mq_drive.specs.declared.port.Port.{Ghosts}
 use Rattle.mq_exec.specs.declared.outcome.Done.{Done}
 use Rattle.mq_files.specs.Entries.{Changes, freed_by, tx_of, written_by}
 use Rattle.mq_files.specs.Group.{file_group}
-use Rattle.mq_files.specs.Laws.{DoneGroupsMay, blocks_in}
+use Rattle.mq_files.specs.Laws.{DoneGroupsMay, DoneGroupsMayBeDrawn, blocks_in}
 use Rattle.mq_files.specs.Plans.{DoneOn, IsEntryOf, IsPlaced, IsPlanned, is_data, planned_by, planned_by_cell, planned_with}
 use Rattle.mq_files.specs.declared.entry.FileEntry.{FileEntry}
-use Rattle.mq_files.proofs.Doing.{done_planned, done_rises, tells_plan}
-use Rattle.mq_files.proofs.Ruling.{tells_plans}
+use Rattle.mq_files.specs.declared.entry.Reads.{Reads as WordsRead}
+use Rattle.mq_files.proofs.Doing.{done_planned, done_rises, tells_commit, tells_plan}
+use Rattle.mq_files.proofs.Ruling.{may, tells_plans}
 use Rattle.mq_files.proofs.Written.{only}
 use Rattle.mq_inodes.specs.Pages.{held_pages, page_in}
 use Rattle.mq_journal.specs.Numbers.{HasPlace, MayCome, Seat, Shared, Start}
@@ -35,7 +36,7 @@ use Rattle.mq_revoke.specs.declared.placement.Planned.{Planned}
 use Rattle.mq_rules.specs.Rule.{IsPage, May, core_of, geometry_of, history_of, map_now, start_of, touches}
 use Rattle.mq_rules.specs.Values.{Values}
 use Rattle.mq_rules.proofs.Settled.{front_claimed}
-use Rattle.mq_side.specs.Commits.{IsPlanOf}
+use Rattle.mq_side.specs.Commits.{IsPlanOf, written_in}
 use Rattle.mq_side.specs.Stored.{FitIs, IsBounded, rows_of}
 use Rattle.mq_side.specs.declared.answers.Fit.TheVariants.{Yes}
 use Rattle.mq_side.specs.declared.root.Root.{Root}
@@ -45,14 +46,18 @@ use Rattle.mq_turns.specs.Chairs.{giving}
 use Rattle.mq_turns.specs.Desk.{Follows, IsTurn, Sees, slot_of}
 use Rattle.mq_turns.specs.Lists.{Each, times}
 use Rattle.mq_turns.specs.Meaning.{Meaning, newest}
+use Rattle.mq_turns.specs.declared.rule.Answer.TheVariants.{Base, Front}
 use Rattle.mq_turns.specs.declared.turn.Turn.{Turn}
 use Rattle.mq_turns.specs.declared.turn.Turn.TheVariants.{Page, Root as RootTurn, Side}
 use Rattle.mq_turns.proofs.Each.{each_without}
 use Rattle.mq_turns.proofs.Seen.{opening_seen}
-use Rattle.mq_calls.specs.Committing.{HoldsCommit, IsPlacedOn}
+use Rattle.mq_calls.specs.Acts.{Call}
+use Rattle.mq_calls.specs.Committing.{HasRead, HoldsCommit, IsPlacedOn, IsPrepared}
 use Rattle.mq_calls.specs.Pages.{HoldsPage, HoldsPages}
+use Rattle.mq_calls.specs.Preparing.{IsEntryReady}
 use Rattle.mq_calls.specs.Runs.{IsDoneOnCells, IsDoneOnHeld, file_values, files, geometry_at}
 use Rattle.mq_calls.specs.Sessions.{HasCalled}
+use Rattle.mq_calls.specs.declared.committing.Ready.{Ready}
 use Rattle.mq_calls.proofs.InHand.{side-apart}
 use Rattle.mq_calls.proofs.Finding.{done-now}
 use Rattle.mq_calls.proofs.Holding.{cells-now, pages-kept-all}
@@ -63,11 +68,11 @@ write-cases {A} None = inl refl
 write-cases {A} (Some x) = inr (x, refl)
 
 -- the planned writes are of the same blocks
-planned-block : (block : ℕ) (data : Bool) (o : Option PageCell) → (planned_by_cell block data o).block ≡ block
-planned-block block data None = refl
-planned-block block data (Some c) = refl
+planned-block : (block : ℕ) (of_file : Bool) (o : Option PageCell) → (planned_by_cell block of_file o).block ≡ block
+planned-block block of_file None = refl
+planned-block block of_file (Some c) = refl
 
-blocks-planned : (cells : Cells) (ws : List Write) → map (λ p. p.block) (map (planned_with cells) ws) ≡ blocks_in ws
+pub blocks-planned : (cells : Cells) (ws : List Write) → map (λ p. p.block) (map (planned_with cells) ws) ≡ blocks_in ws
 blocks-planned cells [] = refl
 blocks-planned cells (w ∷ ws) =
     let one : (planned_with cells w).block ≡ w.block = planned-block w.block (is_data w.kind) (cell_of cells w.block) in
@@ -82,14 +87,14 @@ known-cell (Some c) some = (c, refl)
 
 -- the page of each block that the group changes is held
 changed-known : (homes : ℕ) (cells : Cells) (e : FileEntry) (b : ℕ) → IsPlanOf homes (blocks_in (written_by e)) e.placed → ((w : Write) → Contains (written_by e) w → held_pages cells w.block ≢ None) → ((x : ℕ) → Contains (freed_by e) x → held_pages cells x ≢ None) → changes (tx_of e) b ≡ true → held_pages cells b ≢ None
-changed-known homes cells e b plan written freed change = elim (write-cases _) [
+changed-known homes cells e b plan written freed change = elim (write-cases (write_of (written_in e.placed.logged (written_by e) ++ written_in e.placed.direct (written_by e)) b)) [
   | inl none ↦ freed b (among-contains (freed_by e) b (rw none at change))
   | inr some ↦
       let w = only homes (written_by e) e.placed plan b some.0 some.1 in
       subst (λ (x : ℕ). held_pages cells x ≢ None) w.2 (written w.0 w.1)
 ]
 
-module _ {P : Type 0} {G : Ghosts P} (state : P → PortState) (faults : P → List Fault) (o : Start P FileEntry G) (g : Geometry) (q : ℕ) (cells : Cells) (s : QueueSide P FileEntry G) (v : Seat P FileEntry G) (requests : List Request) (done : Done) (plan : Placed) (e : FileEntry) where
+module _ {P : Type 0} {G : Ghosts P} (state : P → PortState) (faults : P → List Fault) (o : Start P FileEntry G) (g : Geometry) (q : ℕ) (cells : Cells) (s : QueueSide P FileEntry G) (v : Seat P FileEntry G) (requests : List Request) (done : Done) where
   abbrev V : Values (QueueSide P FileEntry G) (Root P G) FileEntry
   V = file_values state faults
 
@@ -131,14 +136,14 @@ module _ {P : Type 0} {G : Ghosts P} (state : P → PortState) (faults : P → L
         subst (λ (x : Geometry). AreRising 0 (homes_of x) (blocks_in done.writes.items)) (shape-seen K sees) rise
 
     -- a placement of it on these pages is a plan
-    pub plan-of : (front base : ℕ) → IsPlacement g q front base (map (planned_with cells) done.writes.items) plan → IsPlanOf (homes_of g) (blocks_in done.writes.items) plan
-    plan-of front base placement =
+    pub plan-of : (plan : Placed) (front base : ℕ) → IsPlacement g q front base (map (planned_with cells) done.writes.items) plan → IsPlanOf (homes_of g) (blocks_in done.writes.items) plan
+    plan-of plan front base placement =
         let K = holds.seen.0 in
         let sees = seen-rest K holds.seen.1 in
         let d : DoneOn g q (map_now V file_group K) requests done = subst (λ (x : Geometry). DoneOn x q (map_now V file_group K) requests done) (shape-seen K sees) (stands.does K sees) in
         done_planned g q front base (map_now V file_group K) requests done (map (planned_with cells) done.writes.items) plan d (blocks-planned cells done.writes.items) placement
 
-    module _ (queue : q < queues_of g) (is : IsEntryOf q requests done e) (placed : e.placed ≡ plan) (few : length done.writes.items ≤ write_limit g) (front : e.reads.front ≤ v.reading.done) (base : e.reads.base ≤ v.reading.base) (placement : IsPlacement g q e.reads.front e.reads.base (map (planned_with cells) done.writes.items) plan) where
+    module _ (plan : Placed) (e : FileEntry) (queue : q < queues_of g) (is : IsEntryOf q requests done e) (placed : e.placed ≡ plan) (few : length done.writes.items ≤ write_limit g) (front : e.reads.front ≤ v.reading.done) (base : e.reads.base ≤ v.reading.base) (placement : IsPlacement g q e.reads.front e.reads.base (map (planned_with cells) done.writes.items) plan) where
       known : (w : Write) → Contains done.writes.items w → (c : PageCell) × (cell_of cells w.block ≡ Some c)
       known w has = known-cell (cell_of cells w.block) (on.0.written w has)
 
@@ -171,7 +176,7 @@ module _ {P : Type 0} {G : Ghosts P} (state : P → PortState) (faults : P → L
 
       plan-is : IsPlanOf (homes_of g) (blocks_in (written_by e)) e.placed
       plan-is =
-          let p = plan-of e.reads.front e.reads.base placement in
+          let p = plan-of plan e.reads.front e.reads.base placement in
           subst (λ (ws : List Write). IsPlanOf (homes_of g) (blocks_in ws) e.placed) (sym is.writes_are) (subst (λ (x : Placed). IsPlanOf (homes_of g) (blocks_in done.writes.items) x) (sym placed) p)
 
       page-held : (b : ℕ) → changes (tx_of e) b ≡ true → 0 < times b v.held
@@ -189,17 +194,17 @@ module _ {P : Type 0} {G : Ghosts P} (state : P → PortState) (faults : P → L
           subst (λ (x : Start P FileEntry G). 0 < times (slot_of x (Side r)) v.held) (sym (opening_seen μ o K rest opening sees)) here
       turn-held K sees RootTurn mine change = absurd (false≢true change)
 
-      pub may-come : DoneGroupsMay V → Changes done.writes.items done.frees.items → MayCome state faults file_group o q e v
-      may-come law change = record { holds = turn-held; may = may-draw law change }
+      pub may-come : DoneGroupsMayBeDrawn → Changes done.writes.items done.frees.items → MayCome state faults file_group o q e v
+      may-come law change = record { holds = turn-held; may = may-draw (may V law) change }
 
-      pub has-place : FitIs (area_of s.pmr.geometry) e.reads.base (rows_of s.stored.items) (state s.pmr.port) plan Yes → IsBounded (rows_of s.stored.items) (state s.pmr.port) plan → HasPlace state faults file_group s v (placed_of (tx_of e))
-      has-place fits bounds =
-          let same : plan ≡ placed_of (tx_of e) = sym (tells_plan q (homes_of g) requests done plan e is placed (plan-of e.reads.front e.reads.base placement)) in
+      pub has-place : (w : QueueSide P FileEntry G) → FitIs (area_of w.pmr.geometry) e.reads.base (rows_of w.stored.items) (state w.pmr.port) plan Yes → IsBounded (rows_of w.stored.items) (state w.pmr.port) plan → HasPlace state faults file_group w v (placed_of (tx_of e))
+      has-place w fits bounds =
+          let same : plan ≡ placed_of (tx_of e) = sym (tells_plan q (homes_of g) requests done plan e is placed (plan-of plan e.reads.front e.reads.base placement)) in
           record {
             base = e.reads.base;
             read = base;
-            fits = subst (λ (p : Placed). FitIs (area_of s.pmr.geometry) e.reads.base (rows_of s.stored.items) (state s.pmr.port) p Yes) same fits;
-            bounds = subst (λ (p : Placed). IsBounded (rows_of s.stored.items) (state s.pmr.port) p) same bounds;
+            fits = subst (λ (p : Placed). FitIs (area_of w.pmr.geometry) e.reads.base (rows_of w.stored.items) (state w.pmr.port) p Yes) same fits;
+            bounds = subst (λ (p : Placed). IsBounded (rows_of w.stored.items) (state w.pmr.port) p) same bounds;
           }
 
 -- ---- the next call
@@ -211,3 +216,40 @@ module _ {P : Type 0} {G : Ghosts P} (state : P → PortState) (faults : P → L
     drawn = subst (λ (n : ℕ). Each (λ d. d.1.call < n) v.drawn) (sym count) called.drawn;
     read = subst (λ (n : ℕ). Each (λ r. r.0.call < n) v.read) (sym count) called.read;
   }
+
+  -- what was called before stays so while words are read
+  pub called-on : (calls : ℕ) (old new : Seat P FileEntry G) → new.drawn ≡ old.drawn → new.read ≡ old.read → HasCalled calls old → HasCalled calls new
+  called-on calls old new drawn read called = record {
+    drawn = subst (Each (λ d. d.1.call < calls)) (sym drawn) called.drawn;
+    read = subst (Each (λ r. r.0.call < calls)) (sym read) called.read;
+    few = (let l = called.few in let e = ap length drawn in omega arith);
+  }
+
+  -- what fits a side fits it once a commit is prepared on it
+  pub fits-still : (s w : QueueSide P FileEntry G) (base : ℕ) (plan : Placed) → w.pmr ≡ s.pmr → w.stored.items ≡ s.stored.items → FitIs (area_of s.pmr.geometry) base (rows_of s.stored.items) (state s.pmr.port) plan Yes → FitIs (area_of w.pmr.geometry) base (rows_of w.stored.items) (state w.pmr.port) plan Yes
+  fits-still s w base plan pmr stored fits =
+      subst (λ ds. FitIs (area_of w.pmr.geometry) base (rows_of ds) (state w.pmr.port) plan Yes) (sym stored)
+      (subst (λ p. FitIs (area_of p.geometry) base (rows_of s.stored.items) (state p.port) plan Yes) (sym pmr) fits)
+
+  -- ---- a group that is prepared
+
+  pub is-prepared : (o : Start P FileEntry G) (g : Geometry) (c : Call) (done : Done) (plan : Placed) (reads : WordsRead) (cells : Cells) (old v : Seat P FileEntry G) (s w : QueueSide P FileEntry G) (ready : Ready) → DoneGroupsMayBeDrawn → v.opening ≡ Some o → geometry_at state faults o ≡ g → w.pmr.geometry ≡ g → HoldsCommit state faults o c.session cells s v → IsDoneOnCells g c.session c.requests cells done → c.session < queues_of g → v.session ≡ c.session → HasCalled c.count v → length done.writes.items ≤ write_limit g → Changes done.writes.items done.frees.items → HasRead reads old v → IsPlacedOn g c.session reads cells done.writes.items plan → FitIs (area_of w.pmr.geometry) reads.base (rows_of w.stored.items) (state w.pmr.port) plan Yes → w.kept ≡ None → IsEntryReady state c done plan reads w ready → IsPrepared state faults o c done plan old w v ready
+  is-prepared o g c done plan reads cells old v s w ready law opening shape drive holds on queue own called few change read placement fits none er =
+      let e = ready.entry in
+      let is = er.is.is in
+      let front : e.reads.front ≤ v.reading.done = subst (λ (r : WordsRead). r.front ≤ v.reading.done) (sym er.reads_are) read.front in
+      let base : e.reads.base ≤ v.reading.base = subst (λ (r : WordsRead). r.base ≤ v.reading.base) (sym er.reads_are) read.base in
+      let placed : IsPlacement g c.session e.reads.front e.reads.base (map (planned_with cells) done.writes.items) plan = subst (λ (r : WordsRead). IsPlacement g c.session r.front r.base (map (planned_with cells) done.writes.items) plan) (sym er.reads_are) placement in
+      let fit : FitIs (area_of w.pmr.geometry) e.reads.base (rows_of w.stored.items) (state w.pmr.port) plan Yes = subst (λ (r : WordsRead). FitIs (area_of w.pmr.geometry) r.base (rows_of w.stored.items) (state w.pmr.port) plan Yes) (sym er.reads_are) fits in
+      record {
+        is = er.is;
+        placed = er.placed;
+        answers = read.answers ∙ ap (λ (r : WordsRead). Base r.base ∷ Front r.front ∷ old.reading.answers) (sym er.reads_are);
+        plan_is = (homes_of g, plan-of state faults o g c.session cells s v c.requests done opening shape holds on plan e.reads.front e.reads.base placed);
+        may = may-come state faults o g c.session cells s v c.requests done opening shape holds on plan e queue is er.placed few front base placed law change;
+        follows = follows-call c.count e v (is.session_is ∙ sym own) er.is.call called;
+        tells = er.prepared ∙ sym (tells_commit c.session c.requests done plan e is er.placed);
+        place = has-place state faults o g c.session cells s v c.requests done opening shape holds on plan e queue is er.placed few front base placed w fit er.bounds;
+        reserved = er.reserved;
+        none = none;
+      }

@@ -10,3 +10,4 @@ pub mod Drawable
 pub mod Acting
 pub mod AfterDraw
 pub mod Drains
+pub mod Causes

@@ -1,5 +1,5 @@
 -- The steps by which a group is prepared on the side of its queue.
-use Rattle.std.specs.Prelude.{◌≡◌, ◌<◌, ℕ, List, vec_len, vec_capacity}
+use Rattle.std.specs.Prelude.{◌≡◌, ◌<◌, ℕ, List, Option, Some, None, vec_len, vec_capacity}
 use Rattle.mq_blocks.specs.Drive.{PortState}
 use Rattle.mq_drive.specs.Steps.{Fault}
 use Rattle.mq_drive.specs.declared.port.Port.{Ghosts}
@@ -11,10 +11,18 @@ use Rattle.mq_journal.specs.Numbers.{HoldsSide, Seat, Start}
 use Rattle.mq_revoke.specs.Placed.{Placed}
 use Rattle.mq_side.specs.Commits.{commit_by}
 use Rattle.mq_side.specs.Stored.{IsBounded, rows_of}
+use Rattle.mq_side.specs.declared.answers.Cause.{Cause}
+use Rattle.mq_side.specs.declared.answers.Cause.TheVariants.{Stopped}
+use Rattle.mq_side.specs.declared.answers.Why.{Why}
 use Rattle.mq_side.specs.declared.side.QueueSide.{QueueSide}
 use Rattle.mq_calls.specs.Acts.{Call}
 use Rattle.mq_calls.specs.Calling.{IsEntryFor}
 use Rattle.mq_calls.specs.declared.committing.Ready.{Ready}
+
+-- the refusal for a failure that is kept
+abbrev pub cause_kept : Option (ℕ × Why) → Option Cause
+cause_kept None = None
+cause_kept (Some (tx, why)) = Some (Stopped tx why)
 
 module _ {P : Type 0} {G : Ghosts P} where
   -- it is the side of the same queue of the same drive, and stores the same entries

@@ -13,7 +13,7 @@ ghost use Rattle.mq_turns.specs.AtDesk.{AtDesk, start_of, view};
 ghost use Rattle.mq_calls.specs.Calling.{IsAsking, IsEntryFor, call_of};
 ghost use Rattle.mq_calls.specs.Committing.{HasRead, HoldsCommit, IsLacking, IsPlacedOn, IsPrepared, ReadsWords};
 ghost use Rattle.mq_calls.specs.Pages.{IsSeen};
-ghost use Rattle.mq_calls.specs.Preparing.{IsEntryReady, IsSideOf, KeepsSide};
+ghost use Rattle.mq_calls.specs.Preparing.{IsEntryReady, IsSideOf, KeepsSide, cause_kept};
 ghost use Rattle.mq_calls.specs.Runs.{IsDoneOnCells, files, geometry_at};
 ghost use Rattle.mq_calls.specs.declared.committing.Lack.TheVariants as lack;
 
@@ -23,7 +23,7 @@ use crate::machine::FileMachine;
 use mq_blocks::{Geometry, OutOfMemory, QueueNo, TxNo};
 use mq_drive::Port;
 use mq_exec::Done;
-use mq_files::{FileEntry, Reads, plan_writes};
+use mq_files::{FileEntry, Reads, a_done_group_may_be_drawn, plan_writes};
 use mq_journal::drain_held;
 use mq_pages::{Held, Write};
 use mq_revoke::{Placement, plan};
@@ -31,12 +31,21 @@ use mq_side::{Cause, Fit, QueueSide};
 use mq_turns::{Chair, Desk};
 use std::alloc::Global;
 
+// The refusal of a side that keeps a failure.
+fn kept_cause<P: Port>(side: &QueueSide<P, FileEntry>) -> Option<Cause>
+    ensures { result ≡ cause_kept side.now.kept }
+{
+    let (tx, why) = side.kept()?;
+    Some(Cause::Stopped { tx, why })
+}
+
 // Reads a front, and then the base.
 fn read_words<P: Port + Drop>(
     desk: &Desk<FileMachine<P>>,
     chair: &mut Chair<FileMachine<P>>,
 ) -> Reads
     requires at { AtDesk desk.now chair.old }
+    requires some { 0 < length (start_of desk.now).sides }
     ensures at { AtDesk desk.now chair.new }
     ensures read { HasRead result (view chair.old) (view chair.new) }
     ensures seen { IsSeen (files P.state P.faults) (view chair.new) }
@@ -165,19 +174,14 @@ pub(crate) fn make_ready<P: Port + Drop>(
     ensures lacks { IfErr result (IsLacking P.state P.faults (start_of desk.now) asked.now.queue
         side.new (view chair.new)) }
 {
-    if let Some((tx, why)) = side.kept() {
-        return Err(Lack::Drive(Cause::Stopped { tx, why }));
+    if let Some(cause) = kept_cause(side) {
+        return Err(Lack::Drive(cause));
     }
-    let reads = read_words(desk, chair);
-    place(
-        alloc,
-        side.geometry(),
-        asked.queue,
-        held,
-        &done.writes,
-        reads,
-        into,
-    )?;
-    make_room(desk, chair, side, into, reads.base)?;
-    prepare(alloc, side, asked, done, into, reads)
+    a_done_group_may_be_drawn();
+    let Reads { front, base } = read_words(desk, chair);
+    let geometry = side.geometry();
+    let reads = Reads { front, base };
+    place(alloc, geometry, asked.queue, held, &done.writes, reads, into)?;
+    make_room(desk, chair, side, into, base)?;
+    prepare(alloc, side, asked, done, into, Reads { front, base })
 }

@@ -1,0 +1,97 @@
+use Rattle.std.proofs.Common.{◌≡◌, ◌∙◌, ℕ, List, sym, ap, subst}
+use Rattle.std.proofs.lemmas.Result.{IfOk-weaker}
+use Rattle.mq_blocks.specs.Descriptor.{AreRising}
+use Rattle.mq_blocks.specs.Geometry.{area_of, homes_of}
+use Rattle.mq_blocks.specs.declared.geometry.Geometry.{Geometry}
+use Rattle.mq_files.specs.Group.{file_group}
+use Rattle.mq_files.specs.Laws.{blocks_in}
+use Rattle.mq_journal.specs.Numbers.{HoldsSide}
+use Rattle.mq_pages.specs.declared.page.Write.{Write}
+use Rattle.mq_side.specs.Commits.{IsPlanOf}
+use Rattle.mq_turns.specs.AtDesk.{start_of, view}
+use Rattle.mq_calls.specs.Calling.{call_of}
+use Rattle.mq_calls.specs.Committing.{IsPlacedOn, IsPrepared}
+use Rattle.mq_calls.specs.Preparing.{IsEntryReady}
+use Rattle.mq_calls.proofs.Causes.{kept-refused}
+use Rattle.mq_calls.proofs.Drawable.{called-on, fits-still, is-prepared, plan-of, writes-rise}
+use Rattle.mq_calls.proofs.InHand.{commit-prepared, commit-read, commit-side}
+use Rattle.mq_calls.proofs.preparing.make_ready.Goals as goal
+
+pub returns-in-Some-clause-lacks : goal.returns-in-Some-clause-lacks
+returns-in-Some-clause-lacks g c =
+    let st = g.P.Port.state in
+    let fs = g.P.Port.faults in
+    let o = start_of c.args.desk.now in
+    kept-refused st fs o c.args.asked.now.queue (view c.args.chair.now) c.requires.at.1 c.args.side.now c.in-Some.cause c.requires.holds.seen c.requires.holds.side (sym c.kept_cause.ensures ∙ c.in-Some.is)
+
+pub place-requires-clause-rise : goal.place-requires-clause-rise
+place-requires-clause-rise g c =
+    let r = writes-rise g.P.Port.state g.P.Port.faults (start_of c.args.desk.now) c.args.side.now.pmr.geometry c.args.asked.now.queue c.args.held.now.cells c.args.side.now (view c.args.chair.now) c.args.asked.now.requests.now c.args.done.now c.requires.at.1 c.requires.geometry c.requires.holds c.requires.done in
+    subst (λ (ws : List Write). AreRising 0 (homes_of c.geometry-geometry.result) (blocks_in ws)) (sym c.deref.ensures.value)
+    (subst (λ (x : Geometry). AreRising 0 (homes_of x) (blocks_in c.args.done.now.writes.items)) (sym c.geometry-geometry.ensures) r)
+
+pub returns-in_err-place-clause-holds : goal.returns-in_err-place-clause-holds
+returns-in_err-place-clause-holds g c =
+    commit-read g.P.Port.state g.P.Port.faults (start_of c.args.desk.now) c.args.asked.now.queue c.args.held.now.cells c.args.side.now (view c.args.chair.now) (view c.read_words-front.new.chair) c.read_words-front.ensures.read.words.held c.read_words-front.ensures.seen c.requires.holds
+
+pub returns-in_err-make_room-clause-holds : goal.returns-in_err-make_room-clause-holds
+returns-in_err-make_room-clause-holds g c =
+    let st = g.P.Port.state in
+    let fs = g.P.Port.faults in
+    let o = start_of c.args.desk.now in
+    let v = view c.read_words-front.new.chair in
+    let own = c.make_room.ensures.keeps.queue ∙ c.requires.queue in
+    let side = subst (λ (n : ℕ). HoldsSide st fs file_group o n c.make_room.new.side v) own c.make_room.ensures.side in
+    commit-side st fs o c.args.asked.now.queue c.args.held.now.cells c.args.side.now c.make_room.new.side v side
+    (commit-read st fs o c.args.asked.now.queue c.args.held.now.cells c.args.side.now (view c.args.chair.now) v c.read_words-front.ensures.read.words.held c.read_words-front.ensures.seen c.requires.holds)
+
+pub prepare-requires-clause-plan : goal.prepare-requires-clause-plan
+prepare-requires-clause-plan g c =
+    let cells = c.args.held.now.cells in
+    let q = c.args.asked.now.queue in
+    let drive = c.geometry-geometry.ensures in
+    let on = subst (λ (ws : List Write). IsPlacedOn c.geometry-geometry.result q c.read_words-front.result cells ws c.place.new.into) c.deref.ensures.value c.in_ok-place.ensures.placed in
+    let here = subst (λ (x : Geometry). IsPlacedOn x q c.read_words-front.result cells c.args.done.now.writes.items c.place.new.into) drive on in
+    let p = plan-of g.P.Port.state g.P.Port.faults (start_of c.args.desk.now) c.args.side.now.pmr.geometry q cells c.args.side.now (view c.args.chair.now) c.args.asked.now.requests.now c.args.done.now c.requires.at.1 c.requires.geometry c.requires.holds c.requires.done c.place.new.into c.read_words-front.result.front c.read_words-front.result.base here in
+    subst (λ (x : Geometry). IsPlanOf (homes_of x) (blocks_in c.args.done.now.writes.items) c.place.new.into) (sym c.make_room.ensures.keeps.geometry) p
+
+pub returns-clause-holds : goal.returns-clause-holds
+returns-clause-holds g c =
+    let st = g.P.Port.state in
+    let fs = g.P.Port.faults in
+    let o = start_of c.args.desk.now in
+    let v = view c.read_words-front.new.chair in
+    let own = c.make_room.ensures.keeps.queue ∙ c.requires.queue in
+    let side = subst (λ (n : ℕ). HoldsSide st fs file_group o n c.make_room.new.side v) own c.make_room.ensures.side in
+    let h = commit-side st fs o c.args.asked.now.queue c.args.held.now.cells c.args.side.now c.make_room.new.side v side
+    (commit-read st fs o c.args.asked.now.queue c.args.held.now.cells c.args.side.now (view c.args.chair.now) v c.read_words-front.ensures.read.words.held c.read_words-front.ensures.seen c.requires.holds) in
+    let p = c.prepare.ensures in
+    commit-prepared st fs o c.args.asked.now.queue c.args.held.now.cells c.make_room.new.side c.prepare.new.side v (record { pmr = p.port; stored = p.keeps.stored; done = p.done; kept = p.kept }) h
+
+pub returns-clause-ready : goal.returns-clause-ready
+returns-clause-ready g c =
+    let st = g.P.Port.state in
+    let fs = g.P.Port.faults in
+    let o = start_of c.args.desk.now in
+    let q = c.args.asked.now.queue in
+    let cells = c.args.held.now.cells in
+    let old = view c.args.chair.now in
+    let v = view c.read_words-front.new.chair in
+    let s = c.args.side.now in
+    let w = c.prepare.new.side in
+    let reads = c.read_words-front.result in
+    let plan = c.place.new.into in
+    let words = c.read_words-front.ensures.read.words in
+    let p = c.prepare.ensures in
+    let drive = p.keeps.geometry ∙ c.make_room.ensures.keeps.geometry in
+    let opening = words.opening ∙ c.requires.at.1 in
+    let holds = commit-read st fs o q cells s old v words.held c.read_words-front.ensures.seen c.requires.holds in
+    let own = words.session ∙ c.requires.asks.own in
+    let called = called-on st fs c.args.asked.now.calls old v words.drawn words.read c.requires.asks.called in
+    let on = subst (λ (ws : List Write). IsPlacedOn c.geometry-geometry.result q reads cells ws plan) c.deref.ensures.value c.in_ok-place.ensures.placed in
+    let here = subst (λ (x : Geometry). IsPlacedOn x q reads cells c.args.done.now.writes.items plan) c.geometry-geometry.ensures on in
+    let fit = fits-still st fs c.make_room.new.side w reads.base plan p.port p.keeps.stored c.in_ok-make_room.ensures.fits in
+    let none = p.kept ∙ c.in_ok-make_room.ensures.none in
+    IfOk-weaker c.prepare.result (IsEntryReady st (call_of c.args.asked.now) c.args.done.now plan reads w) (IsPrepared st fs o (call_of c.args.asked.now) c.args.done.now plan old w v)
+    (λ ready er. is-prepared st fs o s.pmr.geometry (call_of c.args.asked.now) c.args.done.now plan reads cells old v s w ready c.a_done_group_may_be_drawn.ensures opening c.requires.geometry drive holds c.requires.done c.requires.asks.queue own called c.requires.few c.requires.changes c.read_words-front.ensures.read here fit none er)
+    p.ready
