@@ -2,6 +2,9 @@ pub mod Lists
 pub mod Holding
 pub mod Taking
 pub mod Counting
-pub mod Asking
+pub mod Further
 pub mod Finding
 pub mod Missing
+pub mod Unchanged
+pub mod NotDrawn
+pub mod Between

@@ -105,18 +105,19 @@ module _ {P : Type 0} {G : Ghosts P} where
     pub count_is : count ≡ length (written_by entry)
     pub above : limit < count
 
-module _ {P : Type 0} {G : Ghosts P} (state : P → PortState) (faults : P → List Fault) where
+module _ {P : Type 0} (G : Ghosts P) (state : P → PortState) (faults : P → List Fault) where
   -- A side that the session held is what is known to lie there; it had kept the failure that is named, or its drain
   -- came to this refusal.
   pub data IsCaused (q : ℕ) : Cause → Type 0 where
     kept : {tx : ℕ} {why : Why} (K : Shared P FileEntry G) (s : QueueSide P FileEntry G) → IsSide (file_values state faults) file_group q K s → s.kept ≡ Some (tx, why) → IsCaused q (Stopped tx why)
-    drained : {c : Cause} (K : Shared P FileEntry G) (s after : QueueSide P FileEntry G) → IsSide (file_values state faults) file_group q K s → Drains (side_state state faults s) (Err c) (side_state state faults after) → DrainCause {A = ℕ} (Err c) (faults s.pmr.port) (faults after.pmr.port) → IsCaused q c
+    drained : {c : Cause} (K : Shared P FileEntry G) (s after : QueueSide P FileEntry G) → IsSide (file_values state faults) file_group q K s → Drains (side_state state faults s) (Err c) (side_state state faults after) → DrainCause (Err c) (faults s.pmr.port) (faults after.pmr.port) → IsCaused q c
 
+module _ {P : Type 0} {G : Ghosts P} (state : P → PortState) (faults : P → List Fault) where
   -- A port's refusal before the group drew a number. It is charged to the port of the queue, and nothing else is.
   pub record Refuses (q : ℕ) (c : Cause) (old new : Seat P FileEntry G) : Type 0 where
     pub rests : Rests old new
     pub charged : new.reading.charged ≡ reported q (report_of c) ∷ old.reading.charged
-    pub caused : IsCaused q c
+    pub caused : IsCaused G state faults q c
 
   -- Its send was cut: the group is drawn, and its transaction may or may not survive.
   pub record IsCut (c : Call) (at : ℕ) (old new : Seat P FileEntry G) : Type 0 where

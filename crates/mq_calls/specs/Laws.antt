@@ -1,11 +1,13 @@
 -- What holds of the pages that a session holds, in one statement each.
-use Rattle.std.specs.Prelude.{◌≡◌, ◌≢◌, ℕ, Bool, false, List, Option, Some}
+use Rattle.std.specs.Prelude.{◌≡◌, ◌≢◌, ℕ, Bool, false, List, [], Option, Some}
 use Rattle.std.specs.List.{All, AllZip}
 use Rattle.mq_blocks.specs.Drive.{PortState}
+use Rattle.mq_blocks.specs.Machine.{Map}
 use Rattle.mq_blocks.specs.declared.geometry.Geometry.{Geometry}
 use Rattle.mq_drive.specs.Steps.{Fault}
 use Rattle.mq_drive.specs.declared.port.Port.{Ghosts}
 use Rattle.mq_exec.specs.declared.outcome.Done.{Done}
+use Rattle.mq_files.specs.Plans.{DoneOn}
 use Rattle.mq_files.specs.declared.entry.FileEntry.{FileEntry}
 use Rattle.mq_inodes.specs.Pages.{held_pages}
 use Rattle.mq_journal.specs.Numbers.{Seat, Start}
@@ -14,13 +16,14 @@ use Rattle.mq_pages.specs.declared.page.PageCell.{PageCell}
 use Rattle.mq_rules.specs.Groups.{Group}
 use Rattle.mq_rules.specs.Rule.{Desk, IsPage, map_now}
 use Rattle.mq_rules.specs.Values.{Values}
+use Rattle.mq_tree.specs.Requests.{is_change}
+use Rattle.mq_tree.specs.declared.request.Request.{Request}
 use Rattle.mq_turns.specs.Chairs.{giving, holding}
 use Rattle.mq_turns.specs.Desk.{Sees, refreshed}
 use Rattle.mq_turns.specs.Meaning.{Meaning}
 use Rattle.mq_turns.specs.declared.rule.Known.{Known}
 use Rattle.mq_turns.specs.declared.rule.Opening.{Opening}
 use Rattle.mq_turns.specs.declared.rule.ChairView.{ChairView}
-use Rattle.mq_tree.specs.declared.request.Request.{Request}
 use Rattle.mq_calls.specs.Pages.{HoldsPages, IsAfterStep, blocks_of}
 use Rattle.mq_calls.specs.Runs.{IsDoneOnCells, IsDoneOnHeld, files, geometry_at}
 
@@ -90,3 +93,11 @@ module _ {P : Type 0} {G : Ghosts P} (state : P → PortState) (faults : P → L
       → HoldsPages (files state faults) o cells v
       → IsDoneOnCells g session requests cells done
       → IsDoneOnHeld state faults session requests cells v done
+
+-- what a group of requests that only read comes to on the volume of a map
+abbrev pub ReadingGroupsChangeNothing : Type 0
+ReadingGroupsChangeNothing =
+    (g : Geometry) (session : ℕ) (m : Map) (requests : List Request) (done : Done)
+    → All (λ r. is_change r ≡ false) requests
+    → DoneOn g session m requests done
+    → (done.writes.items ≡ []) × (done.frees.items ≡ [])

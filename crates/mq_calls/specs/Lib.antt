@@ -6,4 +6,5 @@ pub mod Acts
 pub mod Calling
 pub mod Committing
 pub mod Preparing
+pub mod Asking
 pub mod Laws

@@ -2,6 +2,7 @@
 ghost use Rattle.mq_calls.specs.Laws.{CellsAreCurrent, DoneGroupsStand, PagesAreOfTheMap};
 ghost use Rattle.mq_turns.specs.AtDesk.{start_of};
 ghost use Rattle.mq_calls.specs.Laws.{PagesFollowStep, PagesStayAtGiveBack, PagesStayAtStep, PagesStayAtTake};
+ghost use Rattle.mq_calls.specs.Laws.{ReadingGroupsChangeNothing};
 
 use crate::machine::FileMachine;
 use mq_drive::Port;
@@ -36,3 +37,8 @@ pub fn a_done_group_stands<P: Port + Drop>(desk: &Desk<FileMachine<P>>)
 {
     let _ = desk;
 }
+
+/// A group of requests of which none may change the tree writes nothing and frees nothing.
+pub fn a_reading_group_changes_nothing()
+    ensures { ReadingGroupsChangeNothing }
+{}

@@ -4,6 +4,7 @@
 
 mod answers;
 mod asked;
+mod asking;
 mod gate;
 mod laws;
 mod machine;
@@ -16,7 +17,8 @@ mod wanted;
 pub use answers::{Answer, CallCause, Refusal};
 pub use gate::{Gate, Open, Point};
 pub use laws::{
-    a_done_group_stands, current_pages_are_of_the_map, held_pages_are_current, held_pages_stay,
+    a_done_group_stands, a_reading_group_changes_nothing, current_pages_are_of_the_map,
+    held_pages_are_current, held_pages_stay,
 };
 pub use machine::{FileGroups, FileMachine};
 pub use pages::{give_back_pages, take_pages};
