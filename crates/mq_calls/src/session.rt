@@ -9,7 +9,7 @@ use mq_blocks::{BlockNo, Geometry, QueueNo};
 use mq_drive::Port;
 use mq_pages::Held;
 use mq_revoke::Placement;
-use mq_turns::{Chair, Desk, Machine};
+use mq_turns::{Chair, Desk};
 
 /// How many calls a session may make. Each may draw a number, and the numbers of all sessions stay below
 /// 2^63. A session that has made so many answers out of memory.
@@ -28,10 +28,7 @@ pub struct Mqfs<P: Port + Drop> {
 
 /// One user of a file system, whose groups run one after another. It commits on a queue of its own.
 #[derive(Drop)]
-pub struct Session<P: Port + Drop>
-where
-    FileMachine<P>: Machine,
-{
+pub struct Session<P: Port + Drop> {
     pub(crate) chair: Chair<FileMachine<P>>,
     // the queue has the session's number
     pub(crate) queue: QueueNo,
