@@ -20,7 +20,7 @@ pub use laws::{
     a_done_group_stands, a_reading_group_changes_nothing, current_pages_are_of_the_map,
     held_pages_are_current, held_pages_stay,
 };
-pub use machine::{FileGroups, FileMachine};
+pub use machine::{FileGroups, FileMachine, Shaped};
 pub use pages::{give_back_pages, take_pages};
 pub use rounds::run_held;
-pub use session::{Mqfs, Session};
+pub use session::{FileSystem, Mqfs, Session, User};
