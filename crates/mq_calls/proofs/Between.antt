@@ -1,6 +1,6 @@
 -- A session between two calls.
 use Rattle.std.proofs.Common.{◌≡◌, ℕ, ◌+◌, ◌<◌, ◌≤◌, List, [], ◌∷◌, length, refl, sym, ap, subst, ◌∙◌, arith}
-use Rattle.mq_blocks.specs.Geometry.{homes_of, queues_of}
+use Rattle.mq_blocks.specs.Geometry.{homes_of}
 use Rattle.mq_blocks.specs.declared.geometry.Geometry.{Geometry}
 use Rattle.mq_drive.specs.declared.port.Port.{Ghosts}
 use Rattle.mq_exec.specs.declared.outcome.Done.{Done}
@@ -9,16 +9,16 @@ use Rattle.mq_journal.specs.Numbers.{Seat, Shared}
 use Rattle.mq_pages.specs.Held.{HeldCells}
 use Rattle.mq_turns.specs.Lists.{Each}
 use Rattle.mq_turns.proofs.Each.{each_map}
-use Rattle.mq_calls.specs.Acts.{Call, IsOfCall, KeepsAll, ReadsOnly}
-use Rattle.mq_calls.specs.Calling.{IsEntryFor, IsReadOf}
+use Rattle.mq_calls.specs.Acts.{Call, KeepsAll, ReadsOnly}
+use Rattle.mq_calls.specs.Calling.{IsReadOf}
 use Rattle.mq_calls.specs.Sessions.{HasCalled, IsReady}
 use Rattle.mq_calls.specs.Wanted.{IsSameSession}
 
+drawn-more : (n : ℕ) (l : List (ℕ × FileEntry)) → Each (λ d. d.1.call < n) l → Each (λ d. d.1.call < n + 1) l
+drawn-more n l low = each_map (λ d. d.1.call < n) (λ d. d.1.call < n + 1) (λ d lt. omega arith) l low
+
 module _ {P : Type 0} {G : Ghosts P} where
   -- ---- one call more
-
-  drawn-more : (n : ℕ) (l : List (ℕ × FileEntry)) → Each (λ d. d.1.call < n) l → Each (λ d. d.1.call < n + 1) l
-  drawn-more n l low = each_map (λ d. d.1.call < n) (λ d. d.1.call < n + 1) (λ d lt. omega arith) l low
 
   read-more : (n : ℕ) (l : List (FileEntry × Shared P FileEntry G)) → Each (λ r. r.0.call < n) l → Each (λ r. r.0.call < n + 1) l
   read-more n l low = each_map (λ r. r.0.call < n) (λ r. r.0.call < n + 1) (λ r lt. omega arith) l low
@@ -69,6 +69,9 @@ module _ {P : Type 0} {G : Ghosts P} where
       this = let e = read.is.call in omega arith
 
   -- ---- what a call leaves
+
+  pub keeps-at-once : (v : Seat P FileEntry G) → KeepsAll v v
+  keeps-at-once v = record { rests = record { drawn = refl; read = refl }; charged = refl }
 
   pub keeps-all : (v w : Seat P FileEntry G) → IsSameSession v w → KeepsAll v w
   keeps-all v w same = record {

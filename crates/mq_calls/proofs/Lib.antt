@@ -8,3 +8,4 @@ pub mod Missing
 pub mod Unchanged
 pub mod NotDrawn
 pub mod Between
+pub mod FirstChange

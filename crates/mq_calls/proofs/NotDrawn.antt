@@ -1,6 +1,7 @@
 -- A group that is read and not drawn.
-use Rattle.std.proofs.Common.{◌≡◌, ℕ, ◌<◌, ◌≤◌, List, [], ◌∷◌, refl, sym, ap, subst, ◌∙◌}
-use Rattle.std.specs.Prelude.{Some}
+use Rattle.std.proofs.Common.{◌≡◌, ℕ, ◌<◌, List, [], ◌∷◌, refl, sym, ap, subst, ◌∙◌}
+use Rattle.std.specs.Prelude.{Some, false}
+use Rattle.std.specs.List.{All}
 use Rattle.mq_blocks.specs.Drive.{PortState}
 use Rattle.mq_blocks.specs.Geometry.{queues_of}
 use Rattle.mq_blocks.specs.declared.geometry.Geometry.{Geometry}
@@ -16,6 +17,7 @@ use Rattle.mq_journal.specs.Numbers.{Seat, Start}
 use Rattle.mq_pages.specs.Held.{Cells}
 use Rattle.mq_pages.specs.declared.page.PageCell.{PageCell}
 use Rattle.mq_rules.specs.Rule.{geometry_of, map_now}
+use Rattle.mq_tree.specs.Requests.{is_change}
 use Rattle.mq_tree.specs.declared.request.Request.{Request}
 use Rattle.mq_turns.specs.Desk.{Follows, MayRead, after_look}
 use Rattle.mq_turns.specs.Lists.{Each, times}
@@ -25,12 +27,13 @@ use Rattle.mq_turns.specs.declared.rule.Known.{Known}
 use Rattle.mq_turns.specs.declared.rule.Opening.{Opening}
 use Rattle.mq_turns.proofs.Each.{each_map}
 use Rattle.mq_calls.specs.Calling.{IsAsking, IsEntryFor, call_of}
-use Rattle.mq_calls.specs.Pages.{HoldsOnlyPages, HoldsPage, HoldsPages, blocks_of, giving_pages, without_each}
+use Rattle.mq_calls.specs.Pages.{HoldsOnlyPages, HoldsPage, HoldsPages, IsSeen, blocks_of, giving_pages, without_each}
 use Rattle.mq_calls.specs.Runs.{IsDoneOnCells, file_values, files, geometry_at}
 use Rattle.mq_calls.specs.declared.asked.Asked.{Asked}
 use Rattle.mq_calls.proofs.Counting.{all-given}
-use Rattle.mq_calls.proofs.Finding.{done-now, shape-is}
+use Rattle.mq_calls.proofs.Finding.{done-now, possible-now, shape-is}
 use Rattle.mq_calls.proofs.Lists.{none-held}
+use Rattle.mq_calls.proofs.Unchanged.{nothing-changes}
 
 module _ {Q R E : Type 0} (μ : Meaning PageCell Q R E) where
   -- pages stay held where what is held stays
@@ -85,3 +88,9 @@ module _ {P : Type 0} {G : Ghosts P} (state : P → PortState) (faults : P → L
     where
       below : (n : ℕ) → n < a.calls → n < e.call
       below n low = subst (λ (m : ℕ). n < m) (sym is.call) low
+
+  -- where no request of the group may change the tree, it writes and frees nothing
+  pub reads-nothing : (g : Geometry) (o : Start P FileEntry G) (q : ℕ) (requests : List Request) (cells : Cells) (v : Seat P FileEntry G) (done : Done) → v.opening ≡ Some o → geometry_at state faults o ≡ g → HoldsPages (files state faults) o cells v → IsSeen (files state faults) v → IsDoneOnCells g q requests cells done → All (λ r. is_change r ≡ false) requests → (done.writes.items ≡ []) × (done.frees.items ≡ [])
+  reads-nothing g o q requests cells v done opening shape held seen answers reads =
+      let possible = possible-now state faults g o cells v opening shape held seen in
+      nothing-changes g q possible.0 requests done reads (answers.1 possible.0 possible.1)

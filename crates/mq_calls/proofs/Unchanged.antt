@@ -1,5 +1,5 @@
 -- A group of requests of which none changes anything.
-use Rattle.std.proofs.Common.{◌≡◌, ℕ, suc, ◌<◌, false, List, [], ◌∷◌, length, refl, sym, ap, subst, ◌∙◌, arith}
+use Rattle.std.proofs.Common.{◌≡◌, ℕ, suc, false, List, [], ◌∷◌, refl, sym, ap, subst, ◌∙◌, arith}
 use Rattle.std.specs.List.{All, Contains}
 use Rattle.std.proofs.lemmas.Bool.{false≢true}
 use Rattle.mq_blocks.specs.declared.geometry.Geometry.{Geometry}
@@ -7,7 +7,7 @@ use Rattle.mq_exec.specs.Moves.{Moves}
 use Rattle.mq_exec.specs.Outcomes.{IsDone}
 use Rattle.mq_exec.specs.declared.outcome.Done.{Done}
 use Rattle.mq_pages.specs.declared.page.Write.{Write}
-use Rattle.mq_tree.specs.Requests.{after_group, is_change, step}
+use Rattle.mq_tree.specs.Requests.{after_group, is_change}
 use Rattle.mq_tree.specs.Volume.{Volume}
 use Rattle.mq_tree.specs.declared.request.Request.{Request}
 use Rattle.mq_tree.proofs.KeepSteps.{reading-same}
