@@ -12,7 +12,7 @@ use mq_turns::{Chair, Desk, Machine};
 
 /// How many calls a session may make. Each may draw a number, and the numbers of all sessions stay below
 /// 2^63. A session that has made so many answers out of memory.
-pub const CALL_LIMIT: u64 = 1 << 57;
+pub(crate) const CALL_LIMIT: u64 = 1 << 57;
 
 /// A file system over the ports of a drive. Threads share it by `&`, each with a session of its own.
 pub type Mqfs<P> = FileSystem<FileMachine<P>>;
