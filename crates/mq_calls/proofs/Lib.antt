@@ -9,3 +9,8 @@ pub mod Unchanged
 pub mod NotDrawn
 pub mod Between
 pub mod FirstChange
+pub mod InHand
+pub mod Drawable
+pub mod Acting
+pub mod AfterDraw
+pub mod Drains

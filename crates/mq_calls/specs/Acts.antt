@@ -48,14 +48,15 @@ pub record IsOfCall (c : Call) (replies : List Reply) (e : FileEntry) : Type 0 w
 module _ {P : Type 0} {G : Ghosts P} where
   -- ---- a group that was done
 
-  -- The session drew its group's entry at this number, which is above all that it had seen. The group was placed by the
-  -- front and by the base that the call was answered, and this alone was reported.
-  pub record Commits (c : Call) (replies : List Reply) (at : ℕ) (r : Report) (old new : Seat P FileEntry G) : Type 0 where
+  -- The session drew its group's entry at this number, which is above all that it had seen. The group writes no more than
+  -- a transaction may; it was placed by the front and by the base that the call was answered; and this alone was reported.
+  pub record Commits (g : Geometry) (c : Call) (replies : List Reply) (at : ℕ) (r : Report) (old new : Seat P FileEntry G) : Type 0 where
     pub entry : FileEntry
     pub is : IsOfCall c replies entry
     pub drawn : new.drawn ≡ (at, entry) ∷ old.drawn
     pub read : new.read ≡ old.read
     pub above : old.seen < at
+    pub few : length (written_by entry) ≤ write_limit g
     pub answers : new.reading.answers ≡ Base entry.reads.base ∷ Front entry.reads.front ∷ old.reading.answers
     pub charged : new.reading.charged ≡ reported c.session r ∷ old.reading.charged
 
@@ -79,9 +80,9 @@ module _ {P : Type 0} {G : Ghosts P} where
     pub frees : freed_by entry ≡ []
 
   -- The group is a commit in the history at the number, and rung; or it is a read there.
-  abbrev pub Acts : Call → (at : ℕ) → (drew : Bool) → List Reply → Seat P FileEntry G → Seat P FileEntry G → Type 0
-  Acts c at true replies old new = Commits c replies at (report.Sent at) old new
-  Acts c at false replies old new = ReadsOnly c replies at old new
+  abbrev pub Acts : Geometry → Call → (at : ℕ) → (drew : Bool) → List Reply → Seat P FileEntry G → Seat P FileEntry G → Type 0
+  Acts g c at true replies old new = Commits g c replies at (report.Sent at) old new
+  Acts g c at false replies old new = ReadsOnly c replies at old new
 
   -- ---- a group that was refused
 
@@ -105,28 +106,38 @@ module _ {P : Type 0} {G : Ghosts P} where
     pub count_is : count ≡ length (written_by entry)
     pub above : limit < count
 
-module _ {P : Type 0} (G : Ghosts P) (state : P → PortState) (faults : P → List Fault) where
-  -- A side that the session held is what is known to lie there; it had kept the failure that is named, or its drain
-  -- came to this refusal.
-  pub data IsCaused (q : ℕ) : Cause → Type 0 where
-    kept : {tx : ℕ} {why : Why} (K : Shared P FileEntry G) (s : QueueSide P FileEntry G) → IsSide (file_values state faults) file_group q K s → s.kept ≡ Some (tx, why) → IsCaused q (Stopped tx why)
-    drained : {c : Cause} (K : Shared P FileEntry G) (s after : QueueSide P FileEntry G) → IsSide (file_values state faults) file_group q K s → Drains (side_state state faults s) (Err c) (side_state state faults after) → DrainCause (Err c) (faults s.pmr.port) (faults after.pmr.port) → IsCaused q c
-
 module _ {P : Type 0} {G : Ghosts P} (state : P → PortState) (faults : P → List Fault) where
+  -- This was known on the session's desk, when all that the session had seen was.
+  pub record IsKnownFrom (v : Seat P FileEntry G) (K : Shared P FileEntry G) : Type 0 where
+    pub opening : v.opening ≡ Some K.opening
+    pub seen : v.seen ≤ newest K
+
+  -- By what was known since then, a side that the session held is what lies there; it had kept the failure that is named,
+  -- or its drain came to this refusal.
+  pub data IsCaused (v : Seat P FileEntry G) (q : ℕ) : Cause → Type 0 where
+    kept : {tx : ℕ} {why : Why} (K : Shared P FileEntry G) (s : QueueSide P FileEntry G) → IsKnownFrom v K → IsSide (file_values state faults) file_group q K s → s.kept ≡ Some (tx, why) → IsCaused v q (Stopped tx why)
+    drained : {c : Cause} (K : Shared P FileEntry G) (s after : QueueSide P FileEntry G) → IsKnownFrom v K → IsSide (file_values state faults) file_group q K s → Drains (side_state state faults s) (Err c) (side_state state faults after) → DrainCause (Err c) (faults s.pmr.port) (faults after.pmr.port) → IsCaused v q c
+
   -- A port's refusal before the group drew a number. It is charged to the port of the queue, and nothing else is.
   pub record Refuses (q : ℕ) (c : Cause) (old new : Seat P FileEntry G) : Type 0 where
     pub rests : Rests old new
     pub charged : new.reading.charged ≡ reported q (report_of c) ∷ old.reading.charged
-    pub caused : IsCaused G state faults q c
+    pub caused : IsCaused old q c
 
-  -- Its send was cut: the group is drawn, and its transaction may or may not survive.
-  pub record IsCut (c : Call) (at : ℕ) (old new : Seat P FileEntry G) : Type 0 where
-    pub replies : List Reply
-    pub commits : Commits c replies at report.Off old new
+  -- The send of the number, which is above all that the session had seen, was cut on a side, whose port gained an `Off`
+  -- by it.
+  pub record WasCutAt (v : Seat P FileEntry G) (at : ℕ) : Type 0 where
+    pub above : v.seen < at
     pub side : QueueSide P FileEntry G
     pub numbered : NumberedCommit
     pub number : numbered.number ≡ at
     pub cut : WasCut state faults file_group side numbered
+
+  -- Its send was cut: the group is drawn, and its transaction may or may not survive.
+  pub record IsCut (g : Geometry) (c : Call) (at : ℕ) (old new : Seat P FileEntry G) : Type 0 where
+    pub replies : List Reply
+    pub commits : Commits g c replies at report.Off old new
+    pub cut : WasCutAt old at
 
   -- Why `fatomic` refuses a group, with the number that the group had drawn, and what that leaves.
   pub data IsRefused (g : Geometry) (c : Call) (old new : Seat P FileEntry G) : CallCause → Option ℕ → Type 0 where
@@ -134,4 +145,4 @@ module _ {P : Type 0} {G : Ghosts P} (state : P → PortState) (faults : P → L
     too_large : {count limit : ℕ} → IsTooLarge g c count limit old new → IsRefused g c old new (refused.TooLarge count limit) None
     area_full : KeepsAll old new → IsRefused g c old new (refused.AreaFull c.session) None
     before : {why : Cause} → Refuses c.session why old new → IsRefused g c old new (refused.Drive why) None
-    cut : {at : ℕ} → IsCut c at old new → IsRefused g c old new (refused.Drive cause.Off) (Some at)
+    cut : {at : ℕ} → IsCut g c at old new → IsRefused g c old new (refused.Drive cause.Off) (Some at)

@@ -1,19 +1,28 @@
 -- A call under way: what it asks of its session, and what it does with the session's turns.
 use Rattle.std.specs.Prelude.{◌≡◌, ◌<◌, ◌≤◌, ◌+◌, ℕ, Bool, List, [], ◌∷◌}
+use Rattle.mq_blocks.specs.Drive.{PortState}
 use Rattle.mq_blocks.specs.Geometry.{queues_of}
 use Rattle.mq_blocks.specs.declared.geometry.Geometry.{Geometry}
+use Rattle.mq_drive.specs.Steps.{Fault}
 use Rattle.mq_drive.specs.declared.port.Port.{Ghosts}
 use Rattle.mq_exec.specs.declared.outcome.Done.{Done}
 use Rattle.mq_files.specs.Plans.{IsEntryOf}
 use Rattle.mq_files.specs.declared.entry.FileEntry.{FileEntry}
-use Rattle.mq_journal.specs.Numbers.{Seat, Shared}
+use Rattle.mq_journal.specs.Numbers.{Seat, Shared, Start}
+use Rattle.mq_pages.specs.Held.{HeldCells}
+use Rattle.mq_tree.specs.declared.request.Request.{Request}
 use Rattle.mq_turns.specs.Meaning.{newest}
 use Rattle.mq_calls.specs.Acts.{Call}
+use Rattle.mq_calls.specs.Pages.{HoldsOnlyPages}
+use Rattle.mq_calls.specs.Runs.{IsDoneOnCells, files}
 use Rattle.mq_calls.specs.Sessions.{HasCalled}
 use Rattle.mq_calls.specs.declared.asked.Asked.{Asked}
 
+abbrev pub call_by : (session calls : ℕ) → (durable : Bool) → List Request → Call
+call_by session calls durable requests = record { session = session; count = calls; durable = durable; requests = requests }
+
 abbrev pub call_of : Asked → Call
-call_of a = record { session = a.queue; count = a.calls; durable = a.durable; requests = a.requests.now }
+call_of a = call_by a.queue a.calls a.durable a.requests.now
 
 -- the entry is of this call and of what its group came to
 pub record IsEntryFor (c : Call) (done : Done) (e : FileEntry) : Type 0 where
@@ -27,6 +36,21 @@ module _ {P : Type 0} {G : Ghosts P} where
     pub queue : a.queue < queues_of g
     pub own : v.session ≡ a.queue
     pub called : HasCalled a.calls v
+
+  -- It holds the pages on which the call's group is done, and no other turn.
+  pub record IsHolding (state : P → PortState) (faults : P → List Fault) (o : Start P FileEntry G) (g : Geometry) (a : Asked) (cells : HeldCells) (v : Seat P FileEntry G) (done : Done) : Type 0 where
+    pub asks : IsAsking g a v
+    pub pages : HoldsOnlyPages (files state faults) o cells.cells v
+    pub done_on : IsDoneOnCells g a.queue a.requests.now cells.cells done
+
+  -- It is the same session, and holds no turn and no cell any more.
+  pub record HasLeft (before after : HeldCells) (old new : Seat P FileEntry G) : Type 0 where
+    pub parts : new.parts ≡ old.parts
+    pub opening : new.opening ≡ old.opening
+    pub session : new.session ≡ old.session
+    pub held : new.held ≡ []
+    pub none : after.cells ≡ []
+    pub room : after.room ≡ before.room
 
   -- The session has read the entry at the number, the newest then, and holds no turn any more. Nothing else of it has
   -- changed.

@@ -33,6 +33,8 @@ use Rattle.mq_calls.specs.Acts.{Call, IsCaused}
 use Rattle.mq_calls.specs.Calling.{IsEntryFor}
 use Rattle.mq_calls.specs.Pages.{HoldsPages, IsSeen}
 use Rattle.mq_calls.specs.Runs.{files}
+use Rattle.mq_calls.specs.declared.answers.CallCause.TheVariants.{AreaFull, Drive, OutOfMemory}
+use Rattle.mq_calls.specs.declared.answers.Refusal.{Refusal}
 use Rattle.mq_calls.specs.declared.committing.Lack.{Lack}
 use Rattle.mq_calls.specs.declared.committing.Lack.TheVariants as lack
 use Rattle.mq_calls.specs.declared.committing.Ready.{Ready}
@@ -97,7 +99,13 @@ module _ {P : Type 0} {G : Ghosts P} (state : P → PortState) (faults : P → L
   IsLacking o q s v lack.Memory = Unit {0}
   IsLacking o q s v lack.Area =
       (base : ℕ) × (plan : Placed) × FitIs (area_of s.pmr.geometry) base (rows_of s.stored.items) (state s.pmr.port) plan Area
-  IsLacking o q s v (lack.Drive cause) = ShowsReport state faults file_group q (report_of cause) s v × IsCaused state faults q cause
+  IsLacking o q s v (lack.Drive cause) = ShowsReport state faults file_group q (report_of cause) s v × IsCaused state faults v q cause
+
+-- what is answered where a group is not drawn for this
+abbrev pub refusal_for : ℕ → Lack → Refusal
+refusal_for q lack.Memory = record { cause = OutOfMemory; drawn = None }
+refusal_for q lack.Area = record { cause = AreaFull q; drawn = None }
+refusal_for q (lack.Drive cause) = record { cause = Drive cause; drawn = None }
 
 -- what is reported where a group is not drawn for this
 abbrev pub reports_for : ℕ → Lack → List Charge → List Charge

@@ -1,5 +1,5 @@
 -- What holds of the pages that a session holds, in one statement each.
-use Rattle.std.specs.Prelude.{◌≡◌, ◌≢◌, ℕ, Bool, false, List, [], Option, Some}
+use Rattle.std.specs.Prelude.{◌≡◌, ◌≢◌, ◌+◌, ℕ, Bool, false, List, [], Option, Some}
 use Rattle.std.specs.List.{All, AllZip}
 use Rattle.mq_blocks.specs.Drive.{PortState}
 use Rattle.mq_blocks.specs.Machine.{Map}
@@ -10,21 +10,26 @@ use Rattle.mq_exec.specs.declared.outcome.Done.{Done}
 use Rattle.mq_files.specs.Plans.{DoneOn}
 use Rattle.mq_files.specs.declared.entry.FileEntry.{FileEntry}
 use Rattle.mq_inodes.specs.Pages.{held_pages}
-use Rattle.mq_journal.specs.Numbers.{Seat, Start}
+use Rattle.mq_journal.specs.Machine.{journal}
+use Rattle.mq_journal.specs.Numbers.{Draws, Seat, Start}
 use Rattle.mq_pages.specs.Held.{Cells, cell_of}
 use Rattle.mq_pages.specs.declared.page.PageCell.{PageCell}
 use Rattle.mq_rules.specs.Groups.{Group}
-use Rattle.mq_rules.specs.Rule.{Desk, IsPage, map_now}
+use Rattle.mq_rules.specs.Rule.{Desk, IsPage, map_now, numbered}
 use Rattle.mq_rules.specs.Values.{Values}
+use Rattle.mq_side.specs.Commits.{NumberedCommit}
+use Rattle.mq_side.specs.declared.side.QueueSide.{QueueSide}
 use Rattle.mq_tree.specs.Requests.{is_change}
 use Rattle.mq_tree.specs.declared.request.Request.{Request}
 use Rattle.mq_turns.specs.Chairs.{giving, holding}
 use Rattle.mq_turns.specs.Desk.{Sees, refreshed}
+use Rattle.mq_turns.specs.Lists.{tick, times}
 use Rattle.mq_turns.specs.Meaning.{Meaning}
 use Rattle.mq_turns.specs.declared.rule.Known.{Known}
 use Rattle.mq_turns.specs.declared.rule.Opening.{Opening}
 use Rattle.mq_turns.specs.declared.rule.ChairView.{ChairView}
-use Rattle.mq_calls.specs.Pages.{HoldsPages, IsAfterStep, blocks_of}
+use Rattle.mq_calls.specs.Leaving.{cells_after}
+use Rattle.mq_calls.specs.Pages.{HoldsPages, IsAfterStep, blocks_of, giving_pages}
 use Rattle.mq_calls.specs.Runs.{IsDoneOnCells, IsDoneOnHeld, files, geometry_at}
 
 module _ {Q R E : Type 0} (μ : Meaning PageCell Q R E) where
@@ -72,6 +77,13 @@ module _ {Q R E : Type 0} (μ : Meaning PageCell Q R E) where
       → HoldsPages μ o cells v
       → HoldsPages μ o new w
 
+  -- A session that holds just these pages and one other turn holds nothing once it has given all of them back.
+  abbrev pub NoPageIsLeft : Type 0
+  NoPageIsLeft =
+      (cells : Cells) (v : ChairView PageCell Q R E) (slot : ℕ)
+      → ((k : ℕ) → times k v.held ≡ times k cells + tick slot k)
+      → (giving slot (giving_pages (blocks_of cells) v)).held ≡ []
+
 module _ {Q R E : Type 0} (values : Values Q R E) (group : Group E) where
   -- what such cells hold is what the map at the newest number says
   abbrev pub PagesAreOfTheMap : Type 0
@@ -101,3 +113,14 @@ ReadingGroupsChangeNothing =
     → All (λ r. is_change r ≡ false) requests
     → DoneOn g session m requests done
     → (done.writes.items ≡ []) × (done.frees.items ≡ [])
+
+module _ {P E : Type 0} {G : Ghosts P} (state : P → PortState) (faults : P → List Fault) (group : Group E) (s : QueueSide P E G) where
+  -- Pages that a session holds when it draws a number stay held, each with the cell that the transaction of the entry makes
+  -- of its own.
+  abbrev pub DrawnPagesAreHeld : Type 0
+  DrawnPagesAreHeld =
+      (o : Start P E G) (q : ℕ) (e : E) (old new : Seat P E G) (n : NumberedCommit) (cells : Cells)
+      → old.opening ≡ Some o
+      → Draws state faults group o q e old new s n
+      → HoldsPages (journal state faults group) o cells old
+      → HoldsPages (journal state faults group) o (cells_after (numbered n.number (group.tx e)) cells) new

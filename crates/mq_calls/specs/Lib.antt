@@ -7,4 +7,8 @@ pub mod Calling
 pub mod Committing
 pub mod Preparing
 pub mod Asking
+pub mod Drawing
+pub mod Synchronizing
+pub mod Leaving
+pub mod Sweeping
 pub mod Laws

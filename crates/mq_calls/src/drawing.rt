@@ -1,30 +1,32 @@
 // A group that is prepared is drawn and sent; or it is refused.
-ghost use Rattle.std.specs.Prelude.{◌≡◌, ◌<◌, ◌≤◌, ◌+◌, ◌∷◌, [], IfErr, IfOk, OnErr, OnOk, length};
-ghost use Rattle.mq_blocks.specs.Geometry.{homes_of, queues_of, write_limit};
+ghost use Rattle.std.specs.Prelude.{◌≡◌, ◌<◌, ◌≤◌, [], IfErr, IfOk, OnErr, length};
+ghost use Rattle.mq_blocks.specs.Geometry.{homes_of, write_limit};
 ghost use Rattle.mq_files.specs.Entries.{Changes};
 ghost use Rattle.mq_turns.specs.AtDesk.{AtDesk, chairs_of, start_of, view};
 ghost use Rattle.mq_turns.specs.Desk.{allotment};
 ghost use Rattle.mq_turns.specs.declared.rule.Report.TheVariants as report;
+ghost use Rattle.mq_calls.specs.Acts.{IsRefused, WasCutAt};
 ghost use Rattle.mq_calls.specs.Calling.{IsAsking, call_of};
-ghost use Rattle.mq_calls.specs.Committing.{HoldsCommit, IsLacking, IsPrepared, Leaves, reports_for};
-ghost use Rattle.mq_calls.specs.Drawing.{Draws, IsCutBy, IsNotDrawn};
+ghost use Rattle.mq_calls.specs.Committing.{HoldsCommit, IsLacking, IsPrepared, Leaves, refusal_for, reports_for};
+ghost use Rattle.mq_calls.specs.Drawing.{HasDrawn, IsCommitted, SameSeat};
 ghost use Rattle.mq_calls.specs.Pages.{HoldsOnlyPages, IsSeen};
 ghost use Rattle.mq_calls.specs.Runs.{IsDoneOnCells, files, geometry_at};
 
+use crate::answers::{CallCause, Refusal};
 use crate::asked::Asked;
 use crate::committing::{Lack, Ready};
 use crate::leaving::give_drawn_pages;
 use crate::machine::FileMachine;
 use crate::pages::give_back_pages;
 use crate::preparing::make_ready;
-use mq_blocks::TxNo;
+use mq_blocks::{Geometry, QueueNo, TxNo};
 use mq_drive::Port;
 use mq_exec::Done;
 use mq_files::FileEntry;
-use mq_journal::{give_back_side, number, report_cause, send, take_side};
+use mq_journal::{give_back_side, number, report_of, report_side, send, take_side};
 use mq_pages::Held;
 use mq_revoke::Placement;
-use mq_side::QueueSide;
+use mq_side::{Cause, QueueSide};
 use mq_turns::{Chair, Desk};
 use std::alloc::Global;
 use std::sync::Wait;
@@ -36,10 +38,29 @@ fn draw_group<P: Port + Drop>(
     chair: &mut Chair<FileMachine<P>>,
     mut side: QueueSide<P, FileEntry>,
     held: &mut Held,
+    asked: &Asked,
     plan: &Placement,
     done: &mut Done,
     ready: Ready,
-) -> Result<TxNo, TxNo> {
+) -> Result<TxNo, TxNo>
+    requires at { AtDesk desk.now chair.old }
+    requires geometry { geometry_at P.state P.faults (start_of desk.now) ≡ side.pmr.geometry }
+    requires queue { side.pmr.queue ≡ asked.now.queue }
+    requires holds { HoldsCommit P.state P.faults (start_of desk.now) asked.now.queue held.old.cells
+        side (view chair.old) }
+    requires done { IsDoneOnCells side.pmr.geometry asked.now.queue asked.now.requests.now held.old.cells done.old }
+    requires ready { (before : _) × IsPrepared P.state P.faults (start_of desk.now) (call_of asked.now) done.old
+        plan.now before side (view chair.old) ready }
+    requires room { length (view chair.old).drawn < allotment (chairs_of desk.now) }
+    ensures at { AtDesk desk.now chair.new }
+    ensures sent { IfOk result (λ at. HasDrawn ready.entry asked.now.queue at (report.Sent at)
+        (view chair.old) (view chair.new)) }
+    ensures cut { IfErr result (λ at. HasDrawn ready.entry asked.now.queue at report.Off
+        (view chair.old) (view chair.new) × WasCutAt P.state P.faults (view chair.old) at) }
+    ensures cells { held.new.cells ≡ [] }
+    ensures room { held.new.room ≡ held.old.room }
+    ensures replies { done.new.replies ≡ done.old.replies }
+{
     let Ready { prepared, entry } = ready;
     let numbered = number(desk, chair, &mut side, prepared, entry);
     let at = numbered.number();
@@ -57,10 +78,83 @@ fn give_up<P: Port + Drop>(
     side: QueueSide<P, FileEntry>,
     held: &mut Held,
     lack: &Lack,
-) {
+)
+    requires at { AtDesk desk.now chair.old }
+    requires holds { HoldsCommit P.state P.faults (start_of desk.now) side.pmr.queue held.old.cells
+        side (view chair.old) }
+    requires lacks { IsLacking P.state P.faults (start_of desk.now) side.pmr.queue side (view chair.old) lack.now }
+    ensures at { AtDesk desk.now chair.new }
+    ensures leaves { Leaves (reports_for side.pmr.queue lack.now (view chair.old).reading.charged)
+        (view chair.old) (view chair.new) }
+    ensures cells { held.new.cells ≡ [] }
+    ensures room { held.new.room ≡ held.old.room }
+{
     match lack {
-        Lack::Drive(cause) => report_cause(desk, chair, side, cause),
-        Lack::Memory | Lack::Area => give_back_side(desk, chair, side),
+        Lack::Drive(cause) => report_side(desk, chair, side, report_of(cause)),
+        Lack::Memory => give_back_side(desk, chair, side),
+        Lack::Area => give_back_side(desk, chair, side),
     }
     give_back_pages(desk, chair, held);
+}
+
+// The refusal of a group that is not drawn.
+fn refusal_of(lack: Lack, queue: QueueNo) -> Refusal
+    ensures { result ≡ refusal_for queue lack }
+{
+    let cause = match lack {
+        Lack::Memory => CallCause::OutOfMemory,
+        Lack::Area => CallCause::AreaFull { queue },
+        Lack::Drive(cause) => CallCause::Drive(cause),
+    };
+    Refusal { cause, drawn: None }
+}
+
+/// Draws and sends a group that changes something. The session holds the group's pages; it takes the side
+/// of its queue, and gives all back. The error tells why, and which number was drawn.
+pub(crate) fn commit<P: Port + Drop, R: Wait>(
+    rt: &R,
+    alloc: Global,
+    desk: &Desk<FileMachine<P>>,
+    chair: &mut Chair<FileMachine<P>>,
+    geometry: Geometry,
+    asked: &Asked,
+    held: &mut Held,
+    done: &mut Done,
+    into: &mut Placement,
+) -> Result<TxNo, Refusal>
+    requires at { AtDesk desk.now chair.old }
+    requires geometry { geometry_at P.state P.faults (start_of desk.now) ≡ geometry }
+    requires pages { length (start_of desk.now).pages ≡ homes_of geometry }
+    requires sides { length (start_of desk.now).sides ≡ queues_of geometry }
+    requires asks { IsAsking geometry asked.now (view chair.old) }
+    requires holds { HoldsOnlyPages (files P.state P.faults) (start_of desk.now) held.old.cells (view chair.old) }
+    requires done { IsDoneOnCells geometry asked.now.queue asked.now.requests.now held.old.cells done.old }
+    requires changes { Changes done.old.writes.items done.old.frees.items }
+    requires few { length done.old.writes.items ≤ write_limit geometry }
+    requires room { length (view chair.old).drawn < allotment (chairs_of desk.now) }
+    ensures at { AtDesk desk.now chair.new }
+    ensures seat { SameSeat (view chair.old) (view chair.new) }
+    ensures idle { (view chair.new).held ≡ [] }
+    ensures committed { IfOk result (λ at. IsCommitted geometry (call_of asked.now) done.old.replies.items at
+        (view chair.old) (view chair.new)) }
+    ensures refused { IfErr result (λ r. IsRefused P.state P.faults geometry (call_of asked.now)
+        (view chair.old) (view chair.new) r.cause r.drawn) }
+    ensures cells { held.new.cells ≡ [] }
+    ensures room { held.new.room ≡ held.old.room }
+    ensures replies { done.new.replies ≡ done.old.replies }
+{
+    let mut side = take_side(rt, desk, chair, asked.queue);
+    match make_ready(alloc, desk, chair, &mut side, asked, held, done, into) {
+        Ok(ready) => match draw_group(desk, chair, side, held, asked, into, done, ready) {
+            Ok(at) => Ok(at),
+            Err(at) => Err(Refusal {
+                cause: CallCause::Drive(Cause::Off),
+                drawn: Some(at),
+            }),
+        },
+        Err(lack) => {
+            give_up(desk, chair, side, held, &lack);
+            Err(refusal_of(lack, asked.queue))
+        }
+    }
 }

@@ -3,11 +3,14 @@ ghost use Rattle.mq_calls.specs.Laws.{CellsAreCurrent, DoneGroupsStand, PagesAre
 ghost use Rattle.mq_turns.specs.AtDesk.{start_of};
 ghost use Rattle.mq_calls.specs.Laws.{PagesFollowStep, PagesStayAtGiveBack, PagesStayAtStep, PagesStayAtTake};
 ghost use Rattle.mq_calls.specs.Laws.{ReadingGroupsChangeNothing};
+ghost use Rattle.mq_calls.specs.Laws.{DrawnPagesAreHeld, NoPageIsLeft};
 
 use crate::machine::FileMachine;
 use mq_drive::Port;
+use mq_journal::Groups;
 use mq_pages::PageCell;
 use mq_rules::JournalValues;
+use mq_side::QueueSide;
 use mq_turns::{Desk, Machine};
 
 /// By whatever may be known by now, each cell that a session holds is what the machine says of its page.
@@ -41,4 +44,17 @@ pub fn a_done_group_stands<P: Port + Drop>(desk: &Desk<FileMachine<P>>)
 /// A group of requests of which none may change the tree writes nothing and frees nothing.
 pub fn a_reading_group_changes_nothing()
     ensures { ReadingGroupsChangeNothing }
+{}
+
+/// The pages that a session holds when it draws a number on a side stay held: by what it then knows, each
+/// cell is what the transaction of its group made of it. A page that the group leaves alone keeps its cell.
+pub fn drawn_pages_are_held<P: Port + Drop, G: Groups>(side: &QueueSide<P, G::Entry>)
+    ensures { DrawnPagesAreHeld P.state P.faults G.group side.now }
+{
+    let _ = side;
+}
+
+/// A session that gives back its pages, and the one other turn that it holds, then holds nothing.
+pub fn no_page_is_left<M: Machine<Page = PageCell>>()
+    ensures { NoPageIsLeft M.meaning }
 {}

@@ -13,7 +13,7 @@ ghost use Rattle.mq_turns.specs.AtDesk.{AtDesk, start_of, view};
 ghost use Rattle.mq_calls.specs.Calling.{IsAsking, IsEntryFor, call_of};
 ghost use Rattle.mq_calls.specs.Committing.{HasRead, HoldsCommit, IsLacking, IsPlacedOn, IsPrepared, ReadsWords};
 ghost use Rattle.mq_calls.specs.Pages.{IsSeen};
-ghost use Rattle.mq_calls.specs.Preparing.{HasRoomOn, IsEntryReady, IsSideOf, KeepsSide};
+ghost use Rattle.mq_calls.specs.Preparing.{IsEntryReady, IsSideOf, KeepsSide};
 ghost use Rattle.mq_calls.specs.Runs.{IsDoneOnCells, files, geometry_at};
 ghost use Rattle.mq_calls.specs.declared.committing.Lack.TheVariants as lack;
 

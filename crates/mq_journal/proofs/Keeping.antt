@@ -1,5 +1,5 @@
 -- What a session knows of a side that it holds, from step to step.
-use Rattle.std.proofs.Common.{◌≡◌, ℕ, ◌<◌, List, sym, ap, subst, ◌∙◌, arith}
+use Rattle.std.proofs.Common.{◌≡◌, ◌≢◌, ℕ, ◌<◌, List, [], ◌∷◌, refl, sym, ap, subst, ◌∙◌, arith}
 use Rattle.mq_blocks.specs.Drive.{PortState}
 use Rattle.mq_drive.specs.Steps.{Fault}
 use Rattle.mq_drive.specs.declared.port.Port.{Ghosts}
@@ -9,6 +9,7 @@ use Rattle.mq_rules.specs.Groups.{Group}
 use Rattle.mq_rules.specs.Rule
 use Rattle.mq_rules.specs.Rule.{IsSide}
 use Rattle.mq_rules.specs.Values.{Values}
+use Rattle.mq_side.specs.Commits.{NumberedCommit}
 use Rattle.mq_side.specs.Side.{SideState, side_state}
 use Rattle.mq_side.specs.Stored.{AreStored}
 use Rattle.mq_side.specs.declared.root.Root.{Root}
@@ -17,10 +18,23 @@ use Rattle.mq_turns.specs.Desk.{slot_of}
 use Rattle.mq_turns.specs.Lists.{Each, times}
 use Rattle.mq_turns.specs.declared.turn.Turn.TheVariants.{Side}
 use Rattle.mq_turns.proofs.Each.{each_map, each_without, times_without_other}
-use Rattle.mq_journal.specs.Laws.{HaveSameParts, NumberedSidesStay, PreparedSidesStay, SidesStayAtGiveBack, SidesStayAtReads, SidesStayAtTake}
+use Rattle.mq_journal.specs.Laws.{HaveSameParts, NumberedSidesStay, PreparedSidesStay, SendsOutliveRest, SidesStayAtGiveBack, SidesStayAtReads, SidesStayAtTake, without_each}
 use Rattle.mq_journal.specs.Numbers
-use Rattle.mq_journal.specs.Numbers.{Shared}
+use Rattle.mq_journal.specs.Numbers.{HasNumbered, HoldsNumbered, Seat, Shared, Start}
 use Rattle.mq_journal.specs.Values.{IsRecord, IsWhole, ShowsAll, entries_in}
+
+-- ---- slots that are given back
+
+module _ {A : Type 0} where
+  pub times_without_each : (ks : List ℕ) (k : ℕ) (l : List (ℕ × A)) → Each (λ j. j ≢ k) ks → times k (without_each ks l) ≡ times k l
+  times_without_each [] k l apart = refl
+  times_without_each (j ∷ js) k l apart = times_without_other j k (without_each js l) (λ e. apart.0 (sym e)) ∙ times_without_each js k l apart.1
+
+  pub each_without_each : (F : ℕ × A → Type 0) (ks : List ℕ) (l : List (ℕ × A)) → Each F l → Each F (without_each ks l)
+  each_without_each F [] l all = all
+  each_without_each F (k ∷ ks) l all = each_without F k (without_each ks l) (each_without_each F ks l all)
+
+-- ---- sides
 
 module _ {P E : Type 0} {G : Ghosts P} (state : P → PortState) (faults : P → List Fault) (group : Group E) where
   abbrev values : Values (QueueSide P E G) (Root P G) E
@@ -42,6 +56,16 @@ module _ {P E : Type 0} {G : Ghosts P} (state : P → PortState) (faults : P →
     holds = let a = h.holds in let b = times_without_other k (slot_of o (Side q)) v.held (λ e. other (sym e)) in omega arith;
     has = each_without _ k v.held h.has;
   }
+
+  pub numbered_stays_all : (o : Start P E G) (q : ℕ) (s : QueueSide P E G) (n : NumberedCommit) (ks : List ℕ) (v w : Seat P E G) → Each (λ k. k ≢ slot_of o (Side q)) ks → w.held ≡ without_each ks v.held → HoldsNumbered state faults group o q s n v → HoldsNumbered state faults group o q s n w
+  numbered_stays_all o q s n ks v w others left h = record {
+    turn = h.turn;
+    holds = let a = h.holds in let b = times_without_each ks (slot_of o (Side q)) v.held others in subst (λ l. 0 < times (slot_of o (Side q)) l) (sym left) (omega arith);
+    has = subst (Each (λ (x : ℕ × Shared P E G). x.0 ≡ slot_of o (Side q) → HasNumbered state faults group q x.1 s n)) (sym left) (each_without_each _ ks v.held h.has);
+  }
+
+  pub sends_outlive_rest : (s : QueueSide P E G) → SendsOutliveRest state faults group s
+  sends_outlive_rest s o q e n ks old new w draws others left = numbered_stays_all o q s n ks new w others left draws.side
 
   pub stays_at_reads : (s : QueueSide P E G) → SidesStayAtReads state faults group s
   stays_at_reads s o q v w same h = record {

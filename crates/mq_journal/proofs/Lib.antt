@@ -9,3 +9,4 @@ pub mod Reports
 pub mod AfterDrain
 pub mod Refusing
 pub mod Keeping
+pub mod InHand

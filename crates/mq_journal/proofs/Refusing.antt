@@ -105,10 +105,10 @@ answered at (cause.Stopped tx w) e = rw (lesser at tx e) refl
 
 -- ---- a transaction whose send was cut
 
-some_none : {A : Type 0} {x : A} → Some x ≡ None → ⊥
+pub some_none : {A : Type 0} {x : A} → Some x ≡ None → ⊥
 some_none e = cc
 
-unrung_of : (from : ℕ) (ts : List Tx) (d n : ℕ) → NewestBegins from ts d n → IsUnrung from ts d n
+pub unrung_of : (from : ℕ) (ts : List Tx) (d n : ℕ) → NewestBegins from ts d n → IsUnrung from ts d n
 unrung_of from [] d n begins = absurd begins
 unrung_of from (t ∷ ts) d n begins = record { t = t; ts = ts; at = inl (refl, refl); number = sym begins.0; above = let e = begins.1 in omega arith }
 

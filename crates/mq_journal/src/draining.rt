@@ -8,7 +8,7 @@ ghost use Rattle.mq_journal.specs.Draining.{IsAnswered, IsPassed, Refuses, Shows
 ghost use Rattle.mq_journal.specs.Numbers.{HoldsSide, IsReported, IsSeen, ShowsReport};
 
 use crate::machine::{Groups, JournalMachine};
-use crate::reporting::report;
+use crate::reporting::report_side;
 use mq_blocks::{QueueNo, TxNo};
 use mq_drive::Port;
 use mq_side::{Cause, QueueSide, Why};
@@ -25,8 +25,8 @@ fn status_of(why: Why) -> Option<u16>
     }
 }
 
-// A refusal, as it is reported of the port.
-fn report_of(cause: &Cause) -> Report
+/// A refusal, as it is reported of the port.
+pub fn report_of(cause: &Cause) -> Report
     ensures { result ≡ report_of cause.now }
 {
     match *cause {
@@ -109,7 +109,7 @@ fn stop<P: Port + Drop, G: Groups>(
             Ok(())
         }
         None => {
-            report(desk, chair, side, report_of(&cause));
+            report_side(desk, chair, side, report_of(&cause));
             Err(cause)
         }
     }

@@ -3,14 +3,19 @@
 #![tactic(auto)]
 
 mod draining;
+mod held;
 mod laws;
 mod machine;
 mod numbers;
 mod reporting;
 mod sending;
 
-pub use draining::drain;
-pub use laws::a_held_side_stays;
+pub use draining::{drain, report_of};
+pub use held::{drain_held, give_back_side, take_side};
+pub use laws::{
+    a_held_side_is_current, a_held_side_stays, a_kept_failure_is_shown, a_send_outlives_the_rest,
+};
 pub use machine::{Groups, JournalMachine};
 pub use numbers::number;
+pub use reporting::report_side;
 pub use sending::send;

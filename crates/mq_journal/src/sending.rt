@@ -5,7 +5,7 @@ ghost use Rattle.mq_turns.specs.declared.rule.Report.TheVariants as report;
 ghost use Rattle.mq_journal.specs.Numbers.{HoldsNumbered, IsReported, MaySend, WasCut};
 
 use crate::machine::{Groups, JournalMachine};
-use crate::reporting::report;
+use crate::reporting::report_side;
 use mq_blocks::TxNo;
 use mq_drive::{Off, Port};
 use mq_side::{Numbered, QueueSide};
@@ -35,11 +35,11 @@ pub fn send<P: Port + Drop, G: Groups>(
 {
     match side.send(numbered) {
         Ok(tx) => {
-            report(desk, chair, side, Report::Sent(tx));
+            report_side(desk, chair, side, Report::Sent(tx));
             Ok(tx)
         }
         Err(off) => {
-            report(desk, chair, side, Report::Off);
+            report_side(desk, chair, side, Report::Off);
             Err(off)
         }
     }

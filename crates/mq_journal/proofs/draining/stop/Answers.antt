@@ -11,8 +11,8 @@ use Rattle.mq_journal.proofs.draining.stop.Goals as goal
 pub pass-requires-clause-shows : goal.pass-requires-clause-shows
 pass-requires-clause-shows g c = c.requires.below c.tx.inside.0 (sym c.named_above.ensures ∙ c.in-Some.is ∙ ap Some (sym c.tx.view_is))
 
-pub report-requires-clause-shows : goal.report-requires-clause-shows
-report-requires-clause-shows g c = λ K sees. subst (λ r. IsSide (values g.P.Port.state g.P.Port.faults g.G.Groups.group) g.G.Groups.group c.args.side.pmr.queue (charged (reported c.args.side.pmr.queue r) K) c.args.side) (sym c.report_of.ensures) (c.requires.shows (sym c.named_above.ensures ∙ c.in-None.is) K sees)
+pub report_side-requires-clause-shows : goal.report_side-requires-clause-shows
+report_side-requires-clause-shows g c = λ K sees. subst (λ r. IsSide (values g.P.Port.state g.P.Port.faults g.G.Groups.group) g.G.Groups.group c.args.side.pmr.queue (charged (reported c.args.side.pmr.queue r) K) c.args.side) (sym c.report_of.ensures) (c.requires.shows (sym c.named_above.ensures ∙ c.in-None.is) K sees)
 
 pub returns-in-Some-clause-low : goal.returns-in-Some-clause-low
 returns-in-Some-clause-low g c =

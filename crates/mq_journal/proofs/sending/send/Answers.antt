@@ -26,8 +26,8 @@ send-requires-clause-none g c =
     let some = held_some (λ K. HasNumbered g.P.Port.state g.P.Port.faults g.G.Groups.group s.pmr.queue K s c.args.numbered) (slot_of (start_of c.args.desk.now) (Side s.pmr.queue)) v.held c.requires.side.holds c.requires.side.has in
     some.1.says.ready.none
 
-pub report-requires-clause-shows : goal.report-requires-clause-shows
-report-requires-clause-shows g c = λ K sees.
+pub report_side-requires-clause-shows : goal.report_side-requires-clause-shows
+report_side-requires-clause-shows g c = λ K sees.
     let state = g.P.Port.state in
     let faults = g.P.Port.faults in
     let group = g.G.Groups.group in
@@ -43,8 +43,8 @@ report-requires-clause-shows g c = λ K sees.
     let known = side_reported state faults group q K s u (report.Sent n.number) is shows has.charged backed in
     subst (λ (z : ℕ × ℕ). IsSide (values state faults group) group z.0 (charged (record { port = Side z.0; report = report.Sent z.1 }) K) u) (λ i. (sym e.own.1 i, sym e.answer i)) known
 
-pub report-requires-in-Err-clause-shows : goal.report-requires-in-Err-clause-shows
-report-requires-in-Err-clause-shows g c = λ K sees.
+pub report_side-requires-in-Err-clause-shows : goal.report_side-requires-in-Err-clause-shows
+report_side-requires-in-Err-clause-shows g c = λ K sees.
     let state = g.P.Port.state in
     let faults = g.P.Port.faults in
     let group = g.G.Groups.group in

@@ -14,7 +14,7 @@ use Rattle.mq_turns.specs.declared.turn.Turn.TheVariants.{Root, Side}
 use Rattle.mq_turns.proofs.Seen.{opening_seen, stands_renewed, times_renewed}
 use Rattle.mq_turns.proofs.Slots.{turn_at_slot}
 use Rattle.mq_journal.specs.Numbers.{Start, machine, reported, values}
-use Rattle.mq_journal.proofs.reporting.report.Goals as goal
+use Rattle.mq_journal.proofs.reporting.report_side.Goals as goal
 
 pub charge-requires-clause-may : goal.charge-requires-clause-may
 charge-requires-clause-may g c = λ K sees.

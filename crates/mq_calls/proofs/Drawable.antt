@@ -1,0 +1,213 @@
+-- A group that is prepared on the pages and the side that its session holds may be drawn.
+use Rattle.std.proofs.Common.{◌≡◌, ◌≢◌, ◌⊎◌, ℕ, suc, ◌+◌, ◌<◌, ◌≤◌, ◌^◌, Bool, true, false, List, [], ◌∷◌, length, map, nat_eq, Option, inl, inr, refl, sym, ap, subst, ◌∙◌, arith, Some}
+use Rattle.std.specs.Prelude.{None}
+use Rattle.std.proofs.lemmas.Bool.{eqb-true, false≢true}
+use Rattle.std.specs.List.{Contains}
+use Rattle.mq_blocks.specs.Drive.{PortState}
+use Rattle.mq_blocks.specs.Geometry.{area_of, homes_of, queues_of, write_limit}
+use Rattle.mq_blocks.specs.Descriptor.{AreRising}
+use Rattle.mq_blocks.specs.Journal.{is_among, number_limit}
+use Rattle.mq_blocks.specs.Machine.{write_of}
+use Rattle.mq_blocks.specs.declared.geometry.Geometry.{Geometry}
+use Rattle.mq_blocks.proofs.Among.{among-contains}
+use Rattle.mq_drive.specs.Steps.{Fault}
+use Rattle.mq_drive.specs.declared.port.Port.{Ghosts}
+use Rattle.mq_exec.specs.declared.outcome.Done.{Done}
+use Rattle.mq_files.specs.Entries.{Changes, freed_by, tx_of, written_by}
+use Rattle.mq_files.specs.Group.{file_group}
+use Rattle.mq_files.specs.Laws.{DoneGroupsMay, blocks_in}
+use Rattle.mq_files.specs.Plans.{DoneOn, IsEntryOf, IsPlaced, IsPlanned, is_data, planned_by, planned_by_cell, planned_with}
+use Rattle.mq_files.specs.declared.entry.FileEntry.{FileEntry}
+use Rattle.mq_files.proofs.Doing.{done_planned, done_rises, tells_plan}
+use Rattle.mq_files.proofs.Ruling.{tells_plans}
+use Rattle.mq_files.proofs.Written.{only}
+use Rattle.mq_inodes.specs.Pages.{held_pages, page_in}
+use Rattle.mq_journal.specs.Numbers.{HasPlace, MayCome, Seat, Shared, Start}
+use Rattle.mq_ledger.specs.History.{changes}
+use Rattle.mq_ledger.specs.declared.tx.Tx.{Tx}
+use Rattle.mq_pages.specs.Held.{Cells, cell_of}
+use Rattle.mq_pages.specs.declared.page.PageCell.{PageCell}
+use Rattle.mq_pages.specs.declared.page.Write.{Write}
+use Rattle.mq_revoke.specs.Guard.{placed_of}
+use Rattle.mq_revoke.specs.Placed.{Placed}
+use Rattle.mq_revoke.specs.Placing.{IsPlacement}
+use Rattle.mq_revoke.specs.declared.placement.Planned.{Planned}
+use Rattle.mq_rules.specs.Rule.{IsPage, May, core_of, geometry_of, history_of, map_now, start_of, touches}
+use Rattle.mq_rules.specs.Values.{Values}
+use Rattle.mq_rules.proofs.Settled.{front_claimed}
+use Rattle.mq_side.specs.Commits.{IsPlanOf}
+use Rattle.mq_side.specs.Stored.{FitIs, IsBounded, rows_of}
+use Rattle.mq_side.specs.declared.answers.Fit.TheVariants.{Yes}
+use Rattle.mq_side.specs.declared.root.Root.{Root}
+use Rattle.mq_side.specs.declared.side.QueueSide.{QueueSide}
+use Rattle.mq_tree.specs.declared.request.Request.{Request}
+use Rattle.mq_turns.specs.Chairs.{giving}
+use Rattle.mq_turns.specs.Desk.{Follows, IsTurn, Sees, slot_of}
+use Rattle.mq_turns.specs.Lists.{Each, times}
+use Rattle.mq_turns.specs.Meaning.{Meaning, newest}
+use Rattle.mq_turns.specs.declared.turn.Turn.{Turn}
+use Rattle.mq_turns.specs.declared.turn.Turn.TheVariants.{Page, Root as RootTurn, Side}
+use Rattle.mq_turns.proofs.Each.{each_without}
+use Rattle.mq_turns.proofs.Seen.{opening_seen}
+use Rattle.mq_calls.specs.Committing.{HoldsCommit, IsPlacedOn}
+use Rattle.mq_calls.specs.Pages.{HoldsPage, HoldsPages}
+use Rattle.mq_calls.specs.Runs.{IsDoneOnCells, IsDoneOnHeld, file_values, files, geometry_at}
+use Rattle.mq_calls.specs.Sessions.{HasCalled}
+use Rattle.mq_calls.proofs.InHand.{side-apart}
+use Rattle.mq_calls.proofs.Finding.{done-now}
+use Rattle.mq_calls.proofs.Holding.{cells-now, pages-kept-all}
+use Rattle.mq_calls.proofs.Lists.{each-cell}
+
+write-cases : {A : Type 0} (o : Option A) → (o ≡ None) ⊎ ((x : A) × (o ≡ Some x))
+write-cases {A} None = inl refl
+write-cases {A} (Some x) = inr (x, refl)
+
+-- the planned writes are of the same blocks
+planned-block : (block : ℕ) (data : Bool) (o : Option PageCell) → (planned_by_cell block data o).block ≡ block
+planned-block block data None = refl
+planned-block block data (Some c) = refl
+
+blocks-planned : (cells : Cells) (ws : List Write) → map (λ p. p.block) (map (planned_with cells) ws) ≡ blocks_in ws
+blocks-planned cells [] = refl
+blocks-planned cells (w ∷ ws) =
+    let one : (planned_with cells w).block ≡ w.block = planned-block w.block (is_data w.kind) (cell_of cells w.block) in
+    let more = blocks-planned cells ws in
+    λ i. one i ∷ more i
+
+-- ---- cells that are known
+
+known-cell : (o : Option PageCell) → page_in o ≢ None → (c : PageCell) × (o ≡ Some c)
+known-cell None some = absurd (some refl)
+known-cell (Some c) some = (c, refl)
+
+-- the page of each block that the group changes is held
+changed-known : (homes : ℕ) (cells : Cells) (e : FileEntry) (b : ℕ) → IsPlanOf homes (blocks_in (written_by e)) e.placed → ((w : Write) → Contains (written_by e) w → held_pages cells w.block ≢ None) → ((x : ℕ) → Contains (freed_by e) x → held_pages cells x ≢ None) → changes (tx_of e) b ≡ true → held_pages cells b ≢ None
+changed-known homes cells e b plan written freed change = elim (write-cases _) [
+  | inl none ↦ freed b (among-contains (freed_by e) b (rw none at change))
+  | inr some ↦
+      let w = only homes (written_by e) e.placed plan b some.0 some.1 in
+      subst (λ (x : ℕ). held_pages cells x ≢ None) w.2 (written w.0 w.1)
+]
+
+module _ {P : Type 0} {G : Ghosts P} (state : P → PortState) (faults : P → List Fault) (o : Start P FileEntry G) (g : Geometry) (q : ℕ) (cells : Cells) (s : QueueSide P FileEntry G) (v : Seat P FileEntry G) (requests : List Request) (done : Done) (plan : Placed) (e : FileEntry) where
+  abbrev V : Values (QueueSide P FileEntry G) (Root P G) FileEntry
+  V = file_values state faults
+
+  abbrev μ : Meaning PageCell (QueueSide P FileEntry G) (Root P G) FileEntry
+  μ = files state faults
+
+  -- what the session knows but for its side
+  abbrev rest : Seat P FileEntry G
+  rest = giving (slot_of o (Side q)) v
+
+  module _ (opening : v.opening ≡ Some o) (shape : geometry_at state faults o ≡ g) (holds : HoldsCommit state faults o q cells s v) (on : IsDoneOnCells g q requests cells done) where
+    pages-rest : HoldsPages μ o cells rest
+    pages-rest = pages-kept-all μ o cells v (slot_of o (Side q)) (side-apart μ o q cells v holds.pages) holds.pages
+
+    stands : IsDoneOnHeld state faults q requests cells rest done
+    stands = done-now state faults g o cells rest opening shape pages-rest q requests done on
+
+    shape-seen : (K : Shared P FileEntry G) → Sees μ rest K → geometry_of V file_group K ≡ g
+    shape-seen K sees = ap (geometry_at state faults) (opening_seen μ o K rest opening sees) ∙ shape
+
+    seen-rest : (K : Shared P FileEntry G) → Sees μ v K → Sees μ rest K
+    seen-rest K sees = record {
+      opening = sees.opening;
+      ok = sees.ok;
+      few = sees.few;
+      held = each_without _ (slot_of o (Side q)) v.held sees.held;
+      seen = sees.seen;
+      drew = sees.drew;
+      marked = sees.marked;
+      reader = sees.reader;
+    }
+
+    -- what the group writes rises
+    pub writes-rise : AreRising 0 (homes_of g) (blocks_in done.writes.items)
+    writes-rise =
+        let K = holds.seen.0 in
+        let sees = seen-rest K holds.seen.1 in
+        let rise = done_rises (geometry_of V file_group K) q (map_now V file_group K) requests done (stands.does K sees) in
+        subst (λ (x : Geometry). AreRising 0 (homes_of x) (blocks_in done.writes.items)) (shape-seen K sees) rise
+
+    -- a placement of it on these pages is a plan
+    pub plan-of : (front base : ℕ) → IsPlacement g q front base (map (planned_with cells) done.writes.items) plan → IsPlanOf (homes_of g) (blocks_in done.writes.items) plan
+    plan-of front base placement =
+        let K = holds.seen.0 in
+        let sees = seen-rest K holds.seen.1 in
+        let d : DoneOn g q (map_now V file_group K) requests done = subst (λ (x : Geometry). DoneOn x q (map_now V file_group K) requests done) (shape-seen K sees) (stands.does K sees) in
+        done_planned g q front base (map_now V file_group K) requests done (map (planned_with cells) done.writes.items) plan d (blocks-planned cells done.writes.items) placement
+
+    module _ (queue : q < queues_of g) (is : IsEntryOf q requests done e) (placed : e.placed ≡ plan) (few : length done.writes.items ≤ write_limit g) (front : e.reads.front ≤ v.reading.done) (base : e.reads.base ≤ v.reading.base) (placement : IsPlacement g q e.reads.front e.reads.base (map (planned_with cells) done.writes.items) plan) where
+      known : (w : Write) → Contains done.writes.items w → (c : PageCell) × (cell_of cells w.block ≡ Some c)
+      known w has = known-cell (cell_of cells w.block) (on.0.written w has)
+
+      -- what the rule of placing asks is what the history says
+      told : (K : Shared P FileEntry G) → Sees μ rest K → map (planned_with cells) done.writes.items ≡ map (planned_by (start_of V file_group K.opening) K.opening.base (history_of V file_group K)) done.writes.items
+      told K sees = tells_plans V K cells done.writes.items (λ b c at. cells-now μ o cells rest K b c opening pages-rest sees at) known
+
+      placed-by : (K : Shared P FileEntry G) → Sees μ rest K → IsPlaced (geometry_of V file_group K) (start_of V file_group K.opening) K.opening.base (history_of V file_group K) e
+      placed-by K sees =
+          let writes = subst (λ (ps : List Planned). IsPlacement g q e.reads.front e.reads.base ps plan) (told K sees) placement in
+          let own = subst (λ (ws : List Write). IsPlacement g q e.reads.front e.reads.base (map (planned_by (start_of V file_group K.opening) K.opening.base (history_of V file_group K)) ws) plan) (sym is.writes_are) writes in
+          let by = subst (λ (p : Placed). IsPlacement g q e.reads.front e.reads.base (map (planned_by (start_of V file_group K.opening) K.opening.base (history_of V file_group K)) (written_by e)) p) (sym placed) own in
+          let of = subst (λ (n : ℕ). IsPlacement g n e.reads.front e.reads.base (map (planned_by (start_of V file_group K.opening) K.opening.base (history_of V file_group K)) (written_by e)) e.placed) (sym is.session_is) by in
+          subst (λ (x : Geometry). IsPlacement x e.session e.reads.front e.reads.base (map (planned_by (start_of V file_group K.opening) K.opening.base (history_of V file_group K)) (written_by e)) e.placed) (sym (shape-seen K sees)) of
+
+      planned : (K : Shared P FileEntry G) → Sees μ rest K → IsPlanned (core_of V file_group K) e
+      planned K sees = record {
+        few = subst (λ (ws : List Write). length ws ≤ write_limit g) (sym is.writes_are) few;
+        front_low = front_claimed V file_group e.reads.front K sees.ok (let l = sees.reader.last in omega arith) (λ m d at low. sees.reader.done m d at (omega arith));
+        base_low = (let l = sees.reader.base in omega arith);
+        placed = placed-by K sees;
+      }
+
+      may-draw : DoneGroupsMay V → Changes done.writes.items done.frees.items → (K : Shared P FileEntry G) → Sees μ rest K → newest K < 2 ^ 63 → May V file_group e K
+      may-draw law change K sees limit =
+          let d : DoneOn (geometry_of V file_group K) e.session (map_now V file_group K) requests done = subst (λ (n : ℕ). DoneOn (geometry_of V file_group K) n (map_now V file_group K) requests done) (sym is.session_is) (stands.does K sees) in
+          let entry : IsEntryOf e.session requests done e = subst (λ (n : ℕ). IsEntryOf n requests done e) (sym is.session_is) is in
+          let own : e.session < queues_of (geometry_of V file_group K) = subst (λ (x : Geometry). e.session < queues_of x) (sym (shape-seen K sees)) (subst (λ (n : ℕ). n < queues_of g) (sym is.session_is) queue) in
+          law K requests done e d entry change own (omega arith) (planned K sees)
+
+      plan-is : IsPlanOf (homes_of g) (blocks_in (written_by e)) e.placed
+      plan-is =
+          let p = plan-of e.reads.front e.reads.base placement in
+          subst (λ (ws : List Write). IsPlanOf (homes_of g) (blocks_in ws) e.placed) (sym is.writes_are) (subst (λ (x : Placed). IsPlanOf (homes_of g) (blocks_in done.writes.items) x) (sym placed) p)
+
+      page-held : (b : ℕ) → changes (tx_of e) b ≡ true → 0 < times b v.held
+      page-held b change =
+          let there = changed-known (homes_of g) cells e b plan-is (λ w has. on.0.written w (subst (λ (ws : List Write). Contains ws w) is.writes_are has)) (λ x has. on.0.freed x (subst (λ (xs : List ℕ). Contains xs x) is.frees_are has)) change in
+          let cell = known-cell (cell_of cells b) there in
+          (each-cell (HoldsPage μ o v) cells b cell.0 holds.pages.each cell.1).holds
+
+      turn-held : (K : Shared P FileEntry G) → Sees μ rest K → (t : Turn) → IsTurn K.opening t → touches V file_group K.log e t ≡ true → 0 < times (slot_of K.opening t) v.held
+      turn-held K sees (Page b) mine change = page-held b change
+      turn-held K sees (Side r) mine change =
+          let same : e.session ≡ r = eqb-true e.session r change in
+          let own : q ≡ r = sym is.session_is ∙ same in
+          let here : 0 < times (slot_of o (Side r)) v.held = subst (λ (n : ℕ). 0 < times (slot_of o (Side n)) v.held) own holds.side.holds in
+          subst (λ (x : Start P FileEntry G). 0 < times (slot_of x (Side r)) v.held) (sym (opening_seen μ o K rest opening sees)) here
+      turn-held K sees RootTurn mine change = absurd (false≢true change)
+
+      pub may-come : DoneGroupsMay V → Changes done.writes.items done.frees.items → MayCome state faults file_group o q e v
+      may-come law change = record { holds = turn-held; may = may-draw law change }
+
+      pub has-place : FitIs (area_of s.pmr.geometry) e.reads.base (rows_of s.stored.items) (state s.pmr.port) plan Yes → IsBounded (rows_of s.stored.items) (state s.pmr.port) plan → HasPlace state faults file_group s v (placed_of (tx_of e))
+      has-place fits bounds =
+          let same : plan ≡ placed_of (tx_of e) = sym (tells_plan q (homes_of g) requests done plan e is placed (plan-of e.reads.front e.reads.base placement)) in
+          record {
+            base = e.reads.base;
+            read = base;
+            fits = subst (λ (p : Placed). FitIs (area_of s.pmr.geometry) e.reads.base (rows_of s.stored.items) (state s.pmr.port) p Yes) same fits;
+            bounds = subst (λ (p : Placed). IsBounded (rows_of s.stored.items) (state s.pmr.port) p) same bounds;
+          }
+
+-- ---- the next call
+
+module _ {P : Type 0} {G : Ghosts P} (state : P → PortState) (faults : P → List Fault) where
+  pub follows-call : (calls : ℕ) (e : FileEntry) (v : Seat P FileEntry G) → e.session ≡ v.session → e.call ≡ calls → HasCalled calls v → Follows (files state faults) e v
+  follows-call calls e v own count called = record {
+    session = own;
+    drawn = subst (λ (n : ℕ). Each (λ d. d.1.call < n) v.drawn) (sym count) called.drawn;
+    read = subst (λ (n : ℕ). Each (λ r. r.0.call < n) v.read) (sym count) called.read;
+  }

@@ -1,0 +1,15 @@
+use Rattle.std.proofs.Common.{◌≡◌, length}
+use Rattle.mq_turns.specs.AtDesk.{AtDesk, start_of, view}
+use Rattle.mq_calls.specs.Runs.{files}
+use Rattle.mq_calls.proofs.AfterDraw.{HasLeft}
+use Rattle.mq_calls.proofs.leaving.give_drawn_pages.Given as goal
+
+abbrev pub invariant-loop-block : goal.invariant-loop-block
+invariant-loop-block g l = record {
+  at : AtDesk l.desk l.chair;
+  left : HasLeft (files g.P.Port.state g.P.Port.faults) (start_of l.desk) l.number l.plan l.frees (view l.fn.chair) (view l.chair) l.fn.held.cells l.held.cells l.fn.writes.items l.writes.items;
+  room : l.held.room ≡ l.fn.held.room;
+}
+
+abbrev pub decreases-loop-block : goal.decreases-loop-block
+decreases-loop-block g l = length l.held.cells

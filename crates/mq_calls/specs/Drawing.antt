@@ -1,0 +1,33 @@
+-- A group that was prepared is drawn and sent.
+use Rattle.std.specs.Prelude.{◌≡◌, ◌<◌, ℕ, List, [], ◌∷◌}
+use Rattle.mq_blocks.specs.declared.geometry.Geometry.{Geometry}
+use Rattle.mq_drive.specs.declared.port.Port.{Ghosts}
+use Rattle.mq_files.specs.declared.entry.FileEntry.{FileEntry}
+use Rattle.mq_journal.specs.Numbers.{Seat, reported}
+use Rattle.mq_tree.specs.declared.request.Reply.{Reply}
+use Rattle.mq_turns.specs.declared.rule.Report.{Report}
+use Rattle.mq_turns.specs.declared.rule.Report.TheVariants.{Sent}
+use Rattle.mq_calls.specs.Acts.{Call, Commits}
+
+module _ {P : Type 0} {G : Ghosts P} where
+  -- who the session is
+  pub record SameSeat (old new : Seat P FileEntry G) : Type 0 where
+    pub parts : new.parts ≡ old.parts
+    pub opening : new.opening ≡ old.opening
+    pub session : new.session ≡ old.session
+
+  -- It has drawn the entry at the number, above all that it had seen, and reported this of the queue's port. It holds no
+  -- turn any more.
+  pub record HasDrawn (e : FileEntry) (q at : ℕ) (r : Report) (old new : Seat P FileEntry G) : Type 0 where
+    pub seat : SameSeat old new
+    pub held : new.held ≡ []
+    pub drawn : new.drawn ≡ (at, e) ∷ old.drawn
+    pub read : new.read ≡ old.read
+    pub above : old.seen < at
+    pub seen : new.seen ≡ at
+    pub answers : new.reading.answers ≡ old.reading.answers
+    pub charged : new.reading.charged ≡ reported q r ∷ old.reading.charged
+
+  -- what a group that changes something came to: it is a commit, and rung, at the newest number that the session knows of
+  abbrev pub IsCommitted : Geometry → Call → List Reply → (at : ℕ) → Seat P FileEntry G → Seat P FileEntry G → Type 0
+  IsCommitted g c replies at old new = Commits g c replies at (Sent at) old new × (new.seen ≡ at)
