@@ -59,7 +59,7 @@ module _ {P : Type 0} {G : Ghosts P} (state : P → PortState) (faults : P → L
   μ = Runs.files state faults
 
   module _ (g : Geometry) (o : Opening PageCell (QueueSide P FileEntry G) (Root P G)) (cells : Cells) (v : ChairView PageCell (QueueSide P FileEntry G) (Root P G) FileEntry) (opening : v.opening ≡ Some o) (shape : shape_of V file_group o ≡ g) (held : HoldsPages μ o cells v) where
-    shape-is : (K : Desk V file_group) → Sees μ v K → geometry_of V file_group K ≡ g
+    pub shape-is : (K : Desk V file_group) → Sees μ v K → geometry_of V file_group K ≡ g
     shape-is K s = ap (shape_of V file_group) (opening_seen μ o K v opening s) ∙ shape
 
     map-now : (K : Desk V file_group) → Sees μ v K → (b : ℕ) (page : Option (List ℕ)) → held_pages cells b ≡ Some page → map_now V file_group K b ≡ page

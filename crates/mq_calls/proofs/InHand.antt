@@ -30,7 +30,7 @@ use Rattle.mq_turns.proofs.Each.{each_map}
 use Rattle.mq_calls.specs.Committing.{HasRead, HoldsCommit, ReadsWords}
 use Rattle.mq_calls.specs.Pages.{HoldsOnlyPages, HoldsPage, HoldsPages, IsSeen, blocks_of}
 use Rattle.mq_calls.specs.Runs.{files}
-use Rattle.mq_calls.proofs.Asking.{cells-below}
+use Rattle.mq_calls.proofs.Further.{cells-below}
 use Rattle.mq_calls.proofs.Holding.{pages-beside-all, sees-taken}
 
 module _ {Q R E : Type 0} (μ : Meaning PageCell Q R E) where

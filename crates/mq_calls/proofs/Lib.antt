@@ -2,9 +2,13 @@ pub mod Lists
 pub mod Holding
 pub mod Taking
 pub mod Counting
-pub mod Asking
+pub mod Further
 pub mod Finding
 pub mod Missing
+pub mod Unchanged
+pub mod NotDrawn
+pub mod Between
+pub mod FirstChange
 pub mod InHand
 pub mod Drawable
 pub mod Acting

@@ -2,10 +2,12 @@
 use Rattle.std.specs.Prelude.{◌≡◌, ◌≢◌, ◌+◌, ℕ, Bool, false, List, [], Option, Some}
 use Rattle.std.specs.List.{All, AllZip}
 use Rattle.mq_blocks.specs.Drive.{PortState}
+use Rattle.mq_blocks.specs.Machine.{Map}
 use Rattle.mq_blocks.specs.declared.geometry.Geometry.{Geometry}
 use Rattle.mq_drive.specs.Steps.{Fault}
 use Rattle.mq_drive.specs.declared.port.Port.{Ghosts}
 use Rattle.mq_exec.specs.declared.outcome.Done.{Done}
+use Rattle.mq_files.specs.Plans.{DoneOn}
 use Rattle.mq_files.specs.declared.entry.FileEntry.{FileEntry}
 use Rattle.mq_inodes.specs.Pages.{held_pages}
 use Rattle.mq_journal.specs.Machine.{journal}
@@ -17,6 +19,8 @@ use Rattle.mq_rules.specs.Rule.{Desk, IsPage, map_now, numbered}
 use Rattle.mq_rules.specs.Values.{Values}
 use Rattle.mq_side.specs.Commits.{NumberedCommit}
 use Rattle.mq_side.specs.declared.side.QueueSide.{QueueSide}
+use Rattle.mq_tree.specs.Requests.{is_change}
+use Rattle.mq_tree.specs.declared.request.Request.{Request}
 use Rattle.mq_turns.specs.Chairs.{giving, holding}
 use Rattle.mq_turns.specs.Desk.{Sees, refreshed}
 use Rattle.mq_turns.specs.Lists.{tick, times}
@@ -24,7 +28,6 @@ use Rattle.mq_turns.specs.Meaning.{Meaning}
 use Rattle.mq_turns.specs.declared.rule.Known.{Known}
 use Rattle.mq_turns.specs.declared.rule.Opening.{Opening}
 use Rattle.mq_turns.specs.declared.rule.ChairView.{ChairView}
-use Rattle.mq_tree.specs.declared.request.Request.{Request}
 use Rattle.mq_calls.specs.Leaving.{cells_after}
 use Rattle.mq_calls.specs.Pages.{HoldsPages, IsAfterStep, blocks_of, giving_pages}
 use Rattle.mq_calls.specs.Runs.{IsDoneOnCells, IsDoneOnHeld, files, geometry_at}
@@ -102,6 +105,14 @@ module _ {P : Type 0} {G : Ghosts P} (state : P → PortState) (faults : P → L
       → HoldsPages (files state faults) o cells v
       → IsDoneOnCells g session requests cells done
       → IsDoneOnHeld state faults session requests cells v done
+
+-- what a group of requests that only read comes to on the volume of a map
+abbrev pub ReadingGroupsChangeNothing : Type 0
+ReadingGroupsChangeNothing =
+    (g : Geometry) (session : ℕ) (m : Map) (requests : List Request) (done : Done)
+    → All (λ r. is_change r ≡ false) requests
+    → DoneOn g session m requests done
+    → (done.writes.items ≡ []) × (done.frees.items ≡ [])
 
 module _ {P E : Type 0} {G : Ghosts P} (state : P → PortState) (faults : P → List Fault) (group : Group E) (s : QueueSide P E G) where
   -- Pages that a session holds when it draws a number stay held, each with the cell that the transaction of the entry makes

@@ -6,6 +6,7 @@ pub mod Acts
 pub mod Calling
 pub mod Committing
 pub mod Preparing
+pub mod Asking
 pub mod Drawing
 pub mod Synchronizing
 pub mod Leaving

@@ -1,5 +1,5 @@
 -- The blocks whose pages a call asks for.
-use Rattle.std.specs.Prelude.{◌≡◌, ◌⊎◌, ◌<◌, ◌↔◌, ℕ, List}
+use Rattle.std.specs.Prelude.{◌≡◌, ◌⊎◌, ◌<◌, ◌≤◌, ◌↔◌, ℕ, List}
 use Rattle.std.specs.List.{All, AllPairs, Contains}
 use Rattle.mq_pages.specs.Held.{Cells}
 use Rattle.mq_pages.specs.declared.page.PageCell.{PageCell}
@@ -25,9 +25,11 @@ pub record AreTogether (blocks others both : List ℕ) : Type 0 where
   pub only : (b : ℕ) → Contains both b → Contains blocks b ⊎ Contains others b
 
 module _ {Q R E : Type 0} where
-  -- Nothing of the session changes but the turns that it holds, and the greatest number that it knows of.
-  abbrev pub IsSameSession : (old new : ChairView PageCell Q R E) → Type 0
-  IsSameSession old new = new ≡ record old { seen = new.seen; hand = new.hand; held = new.held }
+  -- Nothing of the session changes but the turns that it holds, and the greatest number that it knows of, which does not
+  -- fall.
+  pub record IsSameSession (old new : ChairView PageCell Q R E) : Type 0 where
+    pub is : new ≡ record old { seen = new.seen; hand = new.hand; held = new.held }
+    pub seen : old.seen ≤ new.seen
 
 module _ {Q R E : Type 0} (μ : Meaning PageCell Q R E) where
   -- The session holds just the pages of the wanted blocks, and something may be known by now.

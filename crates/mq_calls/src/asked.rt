@@ -3,6 +3,7 @@ use mq_blocks::QueueNo;
 use mq_tree::Request;
 
 /// A group of requests, and the call that asks it.
+#[derive(Clone, Copy)]
 pub(crate) struct Asked<'a> {
     /// The session's queue, which has its number.
     pub(crate) queue: QueueNo,

@@ -2,6 +2,7 @@
 ghost use Rattle.mq_calls.specs.Laws.{CellsAreCurrent, DoneGroupsStand, PagesAreOfTheMap};
 ghost use Rattle.mq_turns.specs.AtDesk.{start_of};
 ghost use Rattle.mq_calls.specs.Laws.{PagesFollowStep, PagesStayAtGiveBack, PagesStayAtStep, PagesStayAtTake};
+ghost use Rattle.mq_calls.specs.Laws.{ReadingGroupsChangeNothing};
 ghost use Rattle.mq_calls.specs.Laws.{DrawnPagesAreHeld, NoPageIsLeft};
 
 use crate::machine::FileMachine;
@@ -39,6 +40,11 @@ pub fn a_done_group_stands<P: Port + Drop>(desk: &Desk<FileMachine<P>>)
 {
     let _ = desk;
 }
+
+/// A group of requests of which none may change the tree writes nothing and frees nothing.
+pub fn a_reading_group_changes_nothing()
+    ensures { ReadingGroupsChangeNothing }
+{}
 
 /// The pages that a session holds when it draws a number on a side stay held: by what it then knows, each
 /// cell is what the transaction of its group made of it. A page that the group leaves alone keeps its cell.

@@ -4,6 +4,7 @@
 
 mod answers;
 mod asked;
+mod asking;
 mod committing;
 mod drawing;
 mod gate;
@@ -21,8 +22,8 @@ mod wanted;
 pub use answers::{Answer, CallCause, Refusal};
 pub use gate::{Gate, Open, Point};
 pub use laws::{
-    a_done_group_stands, current_pages_are_of_the_map, drawn_pages_are_held,
-    held_pages_are_current, held_pages_stay, no_page_is_left,
+    a_done_group_stands, a_reading_group_changes_nothing, current_pages_are_of_the_map,
+    drawn_pages_are_held, held_pages_are_current, held_pages_stay, no_page_is_left,
 };
 pub use machine::{FileGroups, FileMachine, Shaped};
 pub use pages::{give_back_pages, take_pages};

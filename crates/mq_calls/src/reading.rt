@@ -6,6 +6,7 @@ ghost use Rattle.mq_turns.specs.Desk.{Follows, MayRead};
 ghost use Rattle.mq_calls.specs.Calling.{IsAsking, IsReadOf, Looked, call_of};
 ghost use Rattle.mq_calls.specs.Pages.{HoldsOnlyPages};
 ghost use Rattle.mq_calls.specs.Runs.{IsDoneOnCells, files, geometry_at};
+ghost use Rattle.mq_calls.specs.Wanted.{IsSameSession};
 
 use crate::asked::Asked;
 use crate::machine::FileMachine;
@@ -59,6 +60,7 @@ pub(crate) fn read_group<P: Port + Drop>(
     ensures at { AtDesk desk.now chair.new }
     ensures read { IfOk result (λ at. IsReadOf (call_of asked.now) done.now at (view chair.old) (view chair.new)) }
     ensures left { OnErr result ((view chair.new).held ≡ []) }
+    ensures same { OnErr result (IsSameSession (view chair.old) (view chair.new)) }
     ensures cells { held.new.cells ≡ [] }
     ensures room { held.new.room ≡ held.old.room }
 {

@@ -3,7 +3,7 @@ ghost use Rattle.std.specs.Prelude.{◌≡◌, ◌<◌, ◌≤◌, ℕ, [], leng
 ghost use Rattle.std.specs.List.{Contains};
 ghost use Rattle.mq_blocks.specs.Geometry.{homes_of, queues_of};
 ghost use Rattle.mq_turns.specs.AtDesk.{AtDesk, view, start_of};
-ghost use Rattle.mq_calls.specs.Pages.{HoldsOnlyPages, blocks_of};
+ghost use Rattle.mq_calls.specs.Pages.{HoldsOnlyPages, IsSeen, blocks_of};
 ghost use Rattle.mq_calls.specs.Runs.{IsDoneOnCells, files, geometry_at};
 ghost use Rattle.mq_calls.specs.Wanted.{AreWanted, HaveSame, HoldsWanted, IsSameSession};
 
@@ -87,6 +87,7 @@ pub fn run_held<P: Port + Drop, R: Wait>(
     ensures pages { OnOk result
         (HoldsOnlyPages (files P.state P.faults) (start_of desk.now) held.new.cells (view chair.new)) }
     ensures blocks { OnOk result (HaveSame wanted.new.items (blocks_of held.new.cells)) }
+    ensures seen { OnOk result (IsSeen (files P.state P.faults) (view chair.new)) }
     ensures done { IfOk result (λ done.
         IsDoneOnCells geometry queue requests.now held.new.cells done) }
     ensures idle { OnErr result (((view chair.new).held ≡ []) × (held.new.cells ≡ [])) }

@@ -9,7 +9,7 @@ use Rattle.mq_pages.specs.Held.{Cells, IsRising}
 use Rattle.mq_pages.specs.declared.page.PageCell.{PageCell}
 use Rattle.mq_turns.specs.Desk.{Sees, Stay, after_look, turn_at}
 use Rattle.mq_turns.specs.Lists.{Each, times}
-use Rattle.mq_turns.specs.Meaning.{Meaning}
+use Rattle.mq_turns.specs.Meaning.{Meaning, newest}
 use Rattle.mq_turns.specs.declared.rule.Known.{Known}
 use Rattle.mq_turns.specs.declared.rule.Opening.{Opening}
 use Rattle.mq_turns.specs.declared.rule.ChairView.{ChairView}
@@ -57,16 +57,23 @@ module _ {Q R E : Type 0} where
   -- ---- what stays of a session
 
   pub same-at-once : (v : ChairView PageCell Q R E) → IsSameSession v v
-  same-at-once v = refl
+  same-at-once v = record { is = refl; seen = omega arith }
 
   pub same-then : (a b c : ChairView PageCell Q R E) → IsSameSession a b → IsSameSession b c → IsSameSession a c
-  same-then a b c first second = second ∙ ap (λ (x : ChairView PageCell Q R E). record x { seen = c.seen; hand = c.hand; held = c.held }) first
+  same-then a b c first second = record {
+    is = second.is ∙ ap (λ (x : ChairView PageCell Q R E). record x { seen = c.seen; hand = c.hand; held = c.held }) first.is;
+    seen = let low = first.seen in let high = second.seen in omega arith;
+  }
 
   pub same-taken : (v w : ChairView PageCell Q R E) (taken : List (ℕ × Known PageCell Q R E)) → w ≡ taking_pages taken v → IsSameSession v w
-  same-taken v w taken is = subst (λ (x : ChairView PageCell Q R E). IsSameSession v x) (sym is) refl
+  same-taken v w taken is = subst (λ (x : ChairView PageCell Q R E). IsSameSession v x) (sym is) (record { is = refl; seen = omega arith })
 
   pub same-given : (v w : ChairView PageCell Q R E) (blocks : List ℕ) → w ≡ giving_pages blocks v → IsSameSession v w
-  same-given v w blocks is = subst (λ (x : ChairView PageCell Q R E). IsSameSession v x) (sym is) refl
+  same-given v w blocks is = subst (λ (x : ChairView PageCell Q R E). IsSameSession v x) (sym is) (record { is = refl; seen = omega arith })
+
+  -- at a look that reads no entry
+  pub same-looked : (v w : ChairView PageCell Q R E) (K : Known PageCell Q R E) → w ≡ after_look None K v → v.seen ≤ newest K → IsSameSession v w
+  same-looked v w K is low = subst (λ (x : ChairView PageCell Q R E). IsSameSession v x) (sym is) (record { is = refl; seen = low })
 
 module _ {Q R E : Type 0} (μ : Meaning PageCell Q R E) where
   -- ---- what is held

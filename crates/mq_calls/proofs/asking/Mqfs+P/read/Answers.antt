@@ -1,0 +1,28 @@
+use Rattle.std.proofs.Common.{◌∙◌, inl, refl}
+use Rattle.std.specs.Prelude.{false}
+use Rattle.mq_turns.specs.AtDesk.{start_of, view}
+use Rattle.mq_calls.proofs.Between.{reads-only, ready-again, ready-read}
+use Rattle.mq_calls.proofs.Further.{same-then}
+use Rattle.mq_calls.proofs.NotDrawn.{reads-nothing}
+use Rattle.mq_calls.proofs.asking.Mqfs+P.read.Goals as goal
+
+pub read_group-requires-clause-undrawn : goal.read_group-requires-clause-undrawn
+read_group-requires-clause-undrawn g c =
+    let ran = c.in_ok-done.ensures in
+    inl (reads-nothing g.P.Port.state g.P.Port.faults c.args.self.now.geometry (start_of c.args.self.now.desk) c.args.session.now.queue c.args.requests.now c.run_held.new.held.cells (view c.run_held.new.chair) c.in_ok-done.done c.run_held.ensures.at.1 c.args.self.now.shape ran.pages.pages ran.seen ran.done c.requires.reads)
+
+pub returns-in_err-at-clause-ready : goal.returns-in_err-at-clause-ready
+returns-in_err-at-clause-ready g c =
+    let left = c.in_err-at.ensures in
+    let same = same-then (view c.args.session.now.chair) (view c.run_held.new.chair) (view c.read_group.new.chair) c.run_held.ensures.same left.same in
+    ready-again c.args.self.now.geometry c.args.session.now.queue c.args.session.now.calls c.args.session.now.held c.read_group.new.held (view c.args.session.now.chair) (view c.read_group.new.chair) c.requires.ready same left.left c.read_group.ensures.cells (c.read_group.ensures.room ∙ c.run_held.ensures.room)
+
+pub returns-clause-ready : goal.returns-clause-ready
+returns-clause-ready g c =
+    ready-read c.args.self.now.geometry (record { session = c.args.session.now.queue; count = c.args.session.now.calls; durable = false; requests = c.args.requests.now }) c.in_ok-done.done c.in_ok-at.at c.args.session.now.held c.read_group.new.held (view c.args.session.now.chair) (view c.run_held.new.chair) (view c.read_group.new.chair) c.requires.ready c.run_held.ensures.same c.in_ok-at.ensures.read c.read_group.ensures.cells (c.read_group.ensures.room ∙ c.run_held.ensures.room)
+
+pub returns-clause-answered : goal.returns-clause-answered
+returns-clause-answered g c =
+    let ran = c.in_ok-done.ensures in
+    let none = reads-nothing g.P.Port.state g.P.Port.faults c.args.self.now.geometry (start_of c.args.self.now.desk) c.args.session.now.queue c.args.requests.now c.run_held.new.held.cells (view c.run_held.new.chair) c.in_ok-done.done c.run_held.ensures.at.1 c.args.self.now.shape ran.pages.pages ran.seen ran.done c.requires.reads in
+    (refl, reads-only (record { session = c.args.session.now.queue; count = c.args.session.now.calls; durable = false; requests = c.args.requests.now }) c.in_ok-done.done c.in_ok-at.at (view c.args.session.now.chair) (view c.run_held.new.chair) (view c.read_group.new.chair) c.run_held.ensures.same c.in_ok-at.ensures.read none.0 none.1)
