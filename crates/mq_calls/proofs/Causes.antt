@@ -50,9 +50,10 @@ module _ {P : Type 0} {G : Ghosts P} (state : P → PortState) (faults : P → L
   kept-by : (s : QueueSide P FileEntry G) (k : Option (ℕ × Why)) (c : Cause) → IsSeen state faults file_group v → HoldsSide state faults file_group o q s v → s.kept ≡ k → cause_kept k ≡ Some c → ShowsReport state faults file_group q (report_of c) s v × IsCaused state faults v q c
   kept-by s None c seen holds is e = absurd cc
   kept-by s (Some (tx, why)) c seen holds is e =
-      let same : Stopped tx why ≡ c = cc in
-      (subst (λ (x : Cause). ShowsReport state faults file_group q (report_of x) s v) same (kept-shown s tx why holds is),
-        subst (λ (x : Cause). IsCaused state faults v q x) same (kept-caused s tx why seen holds is))
+      let same : Stopped tx why ≡ c = cc in (
+        subst (λ (x : Cause). ShowsReport state faults file_group q (report_of x) s v) same (kept-shown s tx why holds is),
+        subst (λ (x : Cause). IsCaused state faults v q x) same (kept-caused s tx why seen holds is),
+      )
 
   pub kept-refused : (s : QueueSide P FileEntry G) (c : Cause) → IsSeen state faults file_group v → HoldsSide state faults file_group o q s v → cause_kept s.kept ≡ Some c → ShowsReport state faults file_group q (report_of c) s v × IsCaused state faults v q c
   kept-refused s c seen holds e = kept-by s s.kept c seen holds refl e

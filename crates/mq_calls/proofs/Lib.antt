@@ -15,3 +15,4 @@ pub mod Acting
 pub mod AfterDraw
 pub mod Drains
 pub mod Causes
+pub mod Sent

@@ -62,12 +62,11 @@ module _ {P : Type 0} {G : Ghosts P} where
     pub front : reads.front ≤ new.reading.done
     pub base : reads.base ≤ new.reading.base
 
-  -- It holds no turn, and else this alone has changed: what it reported.
-  pub record Leaves (reports : List Charge) (old new : Seat P FileEntry G) : Type 0 where
+  -- Of all but its turns and what it knows of words, this alone has changed: what it reported.
+  pub record OnlyReports (reports : List Charge) (old new : Seat P FileEntry G) : Type 0 where
     pub parts : new.parts ≡ old.parts
     pub opening : new.opening ≡ old.opening
     pub session : new.session ≡ old.session
-    pub held : new.held ≡ []
     pub drawn : new.drawn ≡ old.drawn
     pub read : new.read ≡ old.read
     pub charged : new.reading.charged ≡ reports

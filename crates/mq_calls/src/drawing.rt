@@ -1,13 +1,13 @@
 // A group that is prepared is drawn and sent; or it is refused.
 ghost use Rattle.std.specs.Prelude.{◌≡◌, ◌<◌, ◌≤◌, [], IfErr, IfOk, OnErr, length};
-ghost use Rattle.mq_blocks.specs.Geometry.{homes_of, write_limit};
+ghost use Rattle.mq_blocks.specs.Geometry.{homes_of, queues_of, write_limit};
 ghost use Rattle.mq_files.specs.Entries.{Changes};
 ghost use Rattle.mq_turns.specs.AtDesk.{AtDesk, chairs_of, start_of, view};
 ghost use Rattle.mq_turns.specs.Desk.{allotment};
 ghost use Rattle.mq_turns.specs.declared.rule.Report.TheVariants as report;
 ghost use Rattle.mq_calls.specs.Acts.{IsRefused, WasCutAt};
 ghost use Rattle.mq_calls.specs.Calling.{IsAsking, call_of};
-ghost use Rattle.mq_calls.specs.Committing.{HoldsCommit, IsLacking, IsPrepared, Leaves, refusal_for, reports_for};
+ghost use Rattle.mq_calls.specs.Committing.{HoldsCommit, IsLacking, IsPrepared, OnlyReports, refusal_for, reports_for};
 ghost use Rattle.mq_calls.specs.Drawing.{HasDrawn, IsCommitted, SameSeat};
 ghost use Rattle.mq_calls.specs.Pages.{HoldsOnlyPages, IsSeen};
 ghost use Rattle.mq_calls.specs.Runs.{IsDoneOnCells, files, geometry_at};
@@ -71,7 +71,33 @@ fn draw_group<P: Port + Drop>(
     }
 }
 
-// Gives back the side and the pages of a group that is not drawn, and reports a refusal of the port.
+// Gives back the side of a group that is not drawn, and reports a refusal of its port. The pages stay with
+// the session.
+fn give_side<P: Port + Drop>(
+    desk: &Desk<FileMachine<P>>,
+    chair: &mut Chair<FileMachine<P>>,
+    side: QueueSide<P, FileEntry>,
+    held: &Held,
+    lack: &Lack,
+)
+    requires at { AtDesk desk.now chair.old }
+    requires holds { HoldsCommit P.state P.faults (start_of desk.now) side.pmr.queue held.now.cells
+        side (view chair.old) }
+    requires lacks { IsLacking P.state P.faults (start_of desk.now) side.pmr.queue side (view chair.old) lack.now }
+    ensures at { AtDesk desk.now chair.new }
+    ensures pages { HoldsOnlyPages (files P.state P.faults) (start_of desk.now) held.now.cells (view chair.new) }
+    ensures reports { OnlyReports (reports_for side.pmr.queue lack.now (view chair.old).reading.charged)
+        (view chair.old) (view chair.new) }
+{
+    let _ = held;
+    match lack {
+        Lack::Drive(cause) => report_side(desk, chair, side, report_of(cause)),
+        Lack::Memory => give_back_side(desk, chair, side),
+        Lack::Area => give_back_side(desk, chair, side),
+    }
+}
+
+// Gives back the side and the pages of a group that is not drawn, and reports a refusal of its port.
 fn give_up<P: Port + Drop>(
     desk: &Desk<FileMachine<P>>,
     chair: &mut Chair<FileMachine<P>>,
@@ -84,16 +110,13 @@ fn give_up<P: Port + Drop>(
         side (view chair.old) }
     requires lacks { IsLacking P.state P.faults (start_of desk.now) side.pmr.queue side (view chair.old) lack.now }
     ensures at { AtDesk desk.now chair.new }
-    ensures leaves { Leaves (reports_for side.pmr.queue lack.now (view chair.old).reading.charged)
+    ensures idle { (view chair.new).held ≡ [] }
+    ensures reports { OnlyReports (reports_for side.pmr.queue lack.now (view chair.old).reading.charged)
         (view chair.old) (view chair.new) }
     ensures cells { held.new.cells ≡ [] }
     ensures room { held.new.room ≡ held.old.room }
 {
-    match lack {
-        Lack::Drive(cause) => report_side(desk, chair, side, report_of(cause)),
-        Lack::Memory => give_back_side(desk, chair, side),
-        Lack::Area => give_back_side(desk, chair, side),
-    }
+    give_side(desk, chair, side, held, lack);
     give_back_pages(desk, chair, held);
 }
 
@@ -128,6 +151,7 @@ pub(crate) fn commit<P: Port + Drop, R: Wait>(
     requires sides { length (start_of desk.now).sides ≡ queues_of geometry }
     requires asks { IsAsking geometry asked.now (view chair.old) }
     requires holds { HoldsOnlyPages (files P.state P.faults) (start_of desk.now) held.old.cells (view chair.old) }
+    requires seen { IsSeen (files P.state P.faults) (view chair.old) }
     requires done { IsDoneOnCells geometry asked.now.queue asked.now.requests.now held.old.cells done.old }
     requires changes { Changes done.old.writes.items done.old.frees.items }
     requires few { length done.old.writes.items ≤ write_limit geometry }

@@ -181,7 +181,15 @@ pub(crate) fn make_ready<P: Port + Drop>(
     let Reads { front, base } = read_words(desk, chair);
     let geometry = side.geometry();
     let reads = Reads { front, base };
-    place(alloc, geometry, asked.queue, held, &done.writes, reads, into)?;
+    place(
+        alloc,
+        geometry,
+        asked.queue,
+        held,
+        &done.writes,
+        reads,
+        into,
+    )?;
     make_room(desk, chair, side, into, base)?;
     prepare(alloc, side, asked, done, into, Reads { front, base })
 }

@@ -1,0 +1,86 @@
+use Rattle.std.proofs.Common.{◌≡◌, ◌∙◌, ℕ, List, sym, ap, subst}
+use Rattle.mq_files.specs.Entries.{tx_by}
+use Rattle.mq_files.specs.Group.{file_group}
+use Rattle.mq_journal.specs.Numbers.{Draws, HoldsNumbered, IsReported, Seat}
+use Rattle.mq_pages.specs.Held.{Cells}
+use Rattle.mq_turns.specs.AtDesk.{start_of, view}
+use Rattle.mq_turns.specs.declared.rule.Report.TheVariants as report
+use Rattle.mq_calls.specs.Calling.{call_of}
+use Rattle.mq_calls.specs.Leaving.{cells_after}
+use Rattle.mq_calls.specs.Pages.{HoldsPages}
+use Rattle.mq_calls.specs.Runs.{files}
+use Rattle.mq_calls.proofs.AfterDraw.{drawn-held, entry-leaves, numbered-left}
+use Rattle.mq_calls.proofs.Further.{cells-below}
+use Rattle.mq_calls.proofs.Sent.{cut-at, has-drawn}
+use Rattle.mq_calls.proofs.drawing.draw_group.Goals as goal
+
+pub give_drawn_pages-requires-clause-pages : goal.give_drawn_pages-requires-clause-pages
+give_drawn_pages-requires-clause-pages g c =
+    let st = g.P.Port.state in
+    let fs = g.P.Port.faults in
+    let o = start_of c.args.desk.now in
+    let cells = c.args.held.now.cells in
+    let w = view c.number-numbered.new.chair in
+    let e = c.args.ready.entry in
+    let p = c.requires.ready.1 in
+    let pages = drawn-held st fs file_group o c.args.side.pmr.queue e (view c.args.chair.now) w c.number-numbered.new.side c.number-numbered.result c.requires.at.1 c.number-numbered.ensures.draws cells c.requires.holds.pages in
+    let leaves = entry-leaves c.number-numbered.result.number c.args.asked.now.queue c.args.asked.now.requests.now c.args.done.now c.args.plan.now e cells p.is.is p.placed in
+    let here = subst (λ (cs : Cells). HoldsPages (files st fs) o cs w) leaves pages in
+    let at = subst (λ (n : ℕ). HoldsPages (files st fs) o (cells_after (tx_by n 0 c.args.plan.now c.args.done.now.writes.items c.args.done.now.frees.items) cells) w) (sym c.number-at.ensures) here in
+    subst (λ (bs : List ℕ). HoldsPages (files st fs) o (cells_after (tx_by c.number-at.result 0 c.args.plan.now c.args.done.now.writes.items bs) cells) w) (sym c.deref.ensures.value) at
+
+pub send-requires-clause-side : goal.send-requires-clause-side
+send-requires-clause-side g c =
+    let st = g.P.Port.state in
+    let fs = g.P.Port.faults in
+    let o = start_of c.args.desk.now in
+    let cells = c.args.held.now.cells in
+    let s = c.number-numbered.new.side in
+    let n = c.number-numbered.result in
+    let d = c.number-numbered.ensures.draws in
+    let w = view c.number-numbered.new.chair in
+    let left = numbered-left st fs file_group o c.args.side.pmr.queue s n w cells (cells-below (files st fs) o cells (view c.args.chair.now) c.requires.holds.pages) d.side in
+    let here = subst (λ (x : Seat _ _ _). HoldsNumbered st fs file_group o c.args.side.pmr.queue s n x) (sym c.give_drawn_pages.ensures.gave) left in
+    subst (λ (p : _). HoldsNumbered st fs file_group o p.queue s n (view c.give_drawn_pages.new.chair)) (sym c.number-numbered.ensures.pmr) here
+
+pub returns-in-Ok-clause-sent : goal.returns-in-Ok-clause-sent
+returns-in-Ok-clause-sent g c =
+    let st = g.P.Port.state in
+    let fs = g.P.Port.faults in
+    let o = start_of c.args.desk.now in
+    let q = c.args.asked.now.queue in
+    let e = c.args.ready.entry in
+    let cells = c.args.held.now.cells in
+    let s = c.number-numbered.new.side in
+    let n = c.number-numbered.result in
+    let v = view c.args.chair.now in
+    let w = view c.number-numbered.new.chair in
+    let x = view c.give_drawn_pages.new.chair in
+    let y = view c.send.new.chair in
+    let draws = subst (λ (m : ℕ). Draws st fs file_group o m e v w s n) c.requires.queue c.number-numbered.ensures.draws in
+    let same : s.pmr.queue ≡ q = ap (λ p. p.queue) c.number-numbered.ensures.pmr ∙ c.requires.queue in
+    let number = c.in-Ok.ensures.answer in
+    let told = subst (λ (m : ℕ). IsReported st fs file_group o m (report.Sent n.number) x y) same c.in-Ok.ensures.sent in
+    let here = subst (λ (m : ℕ). IsReported st fs file_group o q (report.Sent m) x y) (sym number) told in
+    has-drawn st fs o q c.in-Ok.tx e (report.Sent c.in-Ok.tx) cells c.args.side s n v w x y c.requires.holds draws (sym number) c.give_drawn_pages.ensures.gave here
+
+pub returns-in-Err-clause-cut : goal.returns-in-Err-clause-cut
+returns-in-Err-clause-cut g c =
+    let st = g.P.Port.state in
+    let fs = g.P.Port.faults in
+    let o = start_of c.args.desk.now in
+    let q = c.args.asked.now.queue in
+    let e = c.args.ready.entry in
+    let cells = c.args.held.now.cells in
+    let s = c.number-numbered.new.side in
+    let n = c.number-numbered.result in
+    let v = view c.args.chair.now in
+    let w = view c.number-numbered.new.chair in
+    let x = view c.give_drawn_pages.new.chair in
+    let y = view c.send.new.chair in
+    let draws = subst (λ (m : ℕ). Draws st fs file_group o m e v w s n) c.requires.queue c.number-numbered.ensures.draws in
+    let same : s.pmr.queue ≡ q = ap (λ p. p.queue) c.number-numbered.ensures.pmr ∙ c.requires.queue in
+    let number = sym c.number-at.ensures in
+    let told = subst (λ (m : ℕ). IsReported st fs file_group o m report.Off x y) same c.in-Err.ensures.charged in
+    (has-drawn st fs o q c.number-at.result e report.Off cells c.args.side s n v w x y c.requires.holds draws number c.give_drawn_pages.ensures.gave told,
+      cut-at st fs o q c.number-at.result e s n v w draws number c.in-Err.ensures.cut)
