@@ -5,3 +5,7 @@ pub mod Counting
 pub mod Asking
 pub mod Finding
 pub mod Missing
+pub mod OpeningCells
+pub mod OpeningLists
+pub mod OpeningState
+pub mod OpeningFresh

@@ -3,3 +3,4 @@ pub mod Wanted
 pub mod Runs
 pub mod Sessions
 pub mod Laws
+pub mod Opening

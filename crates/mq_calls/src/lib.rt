@@ -3,9 +3,11 @@
 #![tactic(auto)]
 
 mod answers;
+mod closing;
 mod gate;
 mod laws;
 mod machine;
+mod opening;
 mod pages;
 mod rounds;
 mod session;
