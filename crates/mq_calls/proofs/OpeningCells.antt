@@ -1,12 +1,12 @@
 -- The cells of a desk at its opening.
-use Rattle.std.proofs.Common.{◌≡◌, ℕ, zero, suc, ◌+◌, ◌-◌, ◌*◌, ◌/◌, ◌%◌, ◌<◌, ◌≤◌, Bool, true, false, cond, List, [], ◌∷◌, ◌++◌, length, get_or, map, refl, sym, ap, subst, ◌∙◌, append-nil, append_assoc, inl, inr, arith}
-use Rattle.std.specs.Prelude.{Option, Some, None, nat_eq, nat_lt, reverse, slice_index_or, ◌&&◌}
+use Rattle.std.proofs.Common.{◌≡◌, ℕ, suc, ◌+◌, ◌-◌, ◌/◌, ◌%◌, ◌<◌, ◌≤◌, Bool, true, false, cond, List, [], ◌∷◌, ◌++◌, length, get_or, map, sym, ap, ◌∙◌, append-nil, append_assoc, inl, inr, arith}
+use Rattle.std.specs.Prelude.{Option, Some, None, nat_eq, nat_lt, reverse, ◌&&◌}
 use Rattle.std.specs.List.{range_with_len}
-use Rattle.std.proofs.lemmas.Bool.{cases_Bool, cases_lt, le-ltb, lt-ltb}
+use Rattle.std.proofs.lemmas.Bool.{cases_lt, le-ltb, lt-ltb}
 use Rattle.std.proofs.lemmas.List.{get_or-append_right, get_or_append_left, get_or_default, length_push, reverse-append}
 use Rattle.std.proofs.lemmas.Option.{same_Some}
-use Rattle.mq_blocks.specs.Blocks.{block_at, content, zeros}
-use Rattle.mq_blocks.specs.Geometry.{homes_of, meta_of, queues_of, zone_of, zone_size}
+use Rattle.mq_blocks.specs.Blocks.{block_at, content}
+use Rattle.mq_blocks.specs.Geometry.{homes_of, meta_of, zone_of, zone_size}
 use Rattle.mq_blocks.specs.declared.geometry.Geometry.{Geometry}
 use Rattle.mq_layout.specs.Bits.{bit_of}
 use Rattle.mq_layout.specs.Places.{zone_bitmap}
@@ -14,7 +14,7 @@ use Rattle.mq_layout.proofs.EmptyLaws.{zeros-bit}
 use Rattle.mq_pages.specs.declared.page.PageCell.{PageCell}
 use Rattle.mq_tree.specs.Laid.{is_marked, map_of}
 use Rattle.mq_tree.proofs.Maps.{zone-low}
-use Rattle.mq_calls.specs.Opening.{first_cell, first_cells, stored_map}
+use Rattle.mq_calls.specs.Opening.{first_cell, first_cells}
 
 abbrev Stored : Type 0
 Stored = List (Option (List ℕ))

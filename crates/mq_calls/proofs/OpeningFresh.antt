@@ -1,11 +1,13 @@
 -- A desk that is opened over ports on which nothing has happened yet is fresh.
-use Rattle.std.proofs.Common.{◌≡◌, ℕ, zero, suc, ◌+◌, ◌*◌, ◌-◌, ◌^◌, ◌<◌, ◌≤◌, Bool, true, cond, List, [], ◌∷◌, length, get_or, map, refl, sym, ap, subst, ◌∙◌, inl, inr, arith}
+use Rattle.std.proofs.Common.{◌≡◌, ℕ, ◌+◌, ◌<◌, Bool, cond, List, [], ◌∷◌, length, get_or, map, refl, sym, ap, subst, ◌∙◌, inl, inr, arith}
 use Rattle.std.specs.Prelude.{Option, Some, None, slice_get}
 use Rattle.std.specs.List.{All}
 use Rattle.std.specs.Option.{option_map}
 use Rattle.std.proofs.lemmas.Bool.{eq-eqb}
 use Rattle.std.proofs.lemmas.List.{length-map}
+use Rattle.std.proofs.lemmas.List.FromFn.{length-map-range_with_len}
 use Rattle.std.proofs.lemmas.Option.{get_or_from_slice_get, slice_get-map, slice_get_within}
+use Rattle.mq_blocks.specs.Blocks.{block_at}
 use Rattle.mq_blocks.specs.Drive.{PortState}
 use Rattle.mq_blocks.specs.Geometry.{homes_of, queues_of}
 use Rattle.mq_blocks.specs.Machine.{Map}
@@ -24,12 +26,10 @@ use Rattle.mq_pages.specs.Held.{HeldCells}
 use Rattle.mq_pages.specs.declared.page.PageCell.{PageCell}
 use Rattle.mq_pmr.specs.Rungs.{last_end}
 use Rattle.mq_pmr.specs.declared.rungs.Rung.{Rung}
-use Rattle.mq_recover.specs.Drives.{drive_of}
-use Rattle.mq_recover.specs.Recovery.{started}
+use Rattle.mq_recover.specs.Drives.{DriveState, drive_of, view_over}
+use Rattle.mq_recover.specs.Recovery.{IsStartDrive}
 use Rattle.mq_recover.specs.declared.standing.Standing.{Standing}
-use Rattle.mq_rules.specs.Opening.{IsFresh, state_of}
 use Rattle.mq_rules.specs.Rule as rule
-use Rattle.mq_rules.specs.Values.{Part}
 use Rattle.mq_rules.proofs.Opening.{at_map}
 use Rattle.mq_side.specs.Counts.{unless_same}
 use Rattle.mq_side.specs.Side.{AreRungsOf, IsKept}
@@ -38,6 +38,7 @@ use Rattle.mq_side.specs.Told.{IsTold}
 use Rattle.mq_side.specs.declared.answers.Why.{Why}
 use Rattle.mq_side.specs.declared.side.QueueSide.{QueueSide}
 use Rattle.mq_tree.specs.Laid.{map_of}
+use Rattle.mq_tree.proofs.Maps.{mapped}
 use Rattle.mq_turns.specs.Desk.{fresh}
 use Rattle.mq_calls.specs.Opening.{IsEquipped, IsNewSession, IsNewSide, IsOpenedOver, IsUnused, MayOpen, first_cells, stored_map}
 use Rattle.mq_calls.specs.Runs.{file_values, geometry_at}
@@ -84,12 +85,24 @@ module _ {P E : Type 0} {G : Ghosts P} (state : P → PortState) (faults : P →
 
 -- ---- the whole
 
+-- A start drive may be opened over the standing of it, where it mounts.
+pub may-open : (g : Geometry) (d : DriveState) (s : Standing) → IsStartDrive g d → length s.blocks.items ≡ homes_of g → s.base ≡ d.root.base → ((b : ℕ) → b < homes_of g → block_at s.blocks.items b ≡ (view_over g d).home b) → CarriesVolume g (map_of g s.blocks.items) → MayOpen g d s
+may-open g d s starts whole base homes mounts = record {
+  whole = whole;
+  base = base;
+  start = starts (stored_map g s.blocks.items) (length-map-range_with_len (map_of g s.blocks.items) 0 (homes_of g)) (λ x content low e. sym (homes x low) ∙ sym (mapped g s.blocks.items x content (sym (map-at g s.blocks.items x) ∙ e)).is);
+  mounts = mounts;
+}
+
 carried : (g : Geometry) (m n : Map) → ((b : ℕ) → n b ≡ m b) → CarriesVolume g m → CarriesVolume g n
-carried g m n same (v, laid) = (v, record {
-  sound = laid.sound;
-  shown = λ b page e. laid.shown b page (sym (same b) ∙ e);
-  vacant = λ b e. laid.vacant b (sym (same b) ∙ e);
-})
+carried g m n same (v, laid) = (
+  v,
+  record {
+    sound = laid.sound;
+    shown = λ b page e. laid.shown b page (sym (same b) ∙ e);
+    vacant = λ b e. laid.vacant b (sym (same b) ∙ e);
+  },
+)
 
 -- the shape of the drive is that of its first side
 first-shape : {P E : Type 0} {G : Ghosts P} (state : P → PortState) (g least : Geometry) (sides : List (QueueSide P E G)) → ((q : ℕ) (s : QueueSide P E G) → slice_get sides q ≡ Some s → IsNewSide state g q s) → 0 < length sides → get_or (map (λ s. s.pmr.geometry) sides) 0 least ≡ g

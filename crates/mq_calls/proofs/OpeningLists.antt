@@ -1,6 +1,6 @@
 -- A list that is made of another, the last element first.
 use Rattle.std.proofs.Common.{◌≡◌, ℕ, zero, suc, ◌+◌, List, [], ◌∷◌, ◌++◌, length, map, refl, sym, ap, subst, ◌∙◌, append-nil, append_assoc, arith}
-use Rattle.std.specs.Prelude.{Option, Some, None, reverse, slice_get}
+use Rattle.std.specs.Prelude.{Some, reverse, slice_get}
 use Rattle.std.proofs.lemmas.List.{length_push, reverse-append}
 use Rattle.std.proofs.lemmas.Option.{same_Some}
 

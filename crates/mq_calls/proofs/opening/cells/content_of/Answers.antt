@@ -1,5 +1,5 @@
 use Rattle.std.proofs.Common.{◌≡◌, ◌≤◌, Bool, true, false, refl, sym, ap, ◌∙◌, arith}
-use Rattle.std.specs.Prelude.{Some, None, not}
+use Rattle.std.specs.Prelude.{Some, not}
 use Rattle.std.proofs.lemmas.Bool.{false≢true, leb-true}
 use Rattle.mq_blocks.specs.Blocks.{content}
 use Rattle.mq_blocks.specs.Geometry.{meta_of}

@@ -1,8 +1,7 @@
-use Rattle.std.proofs.Common.{◌≡◌, ◌≤◌, ◌+◌, ◌++◌, ◌∷◌, [], ℕ, List, Option, length, refl, sym, ap, subst, ◌∙◌, arith, rules}
-use Rattle.std.specs.Prelude.{vec_capacity}
+use Rattle.std.proofs.Common.{◌≡◌, ◌+◌, ◌++◌, ◌∷◌, [], ℕ, List, Option, length, refl, ap, subst, ◌∙◌, arith, rules}
 use Rattle.std.proofs.lemmas.List.{length_push}
 use Rattle.mq_tree.specs.Laid.{map_of}
-use Rattle.mq_calls.proofs.OpeningCells.{made-all, made-more, made-none}
+use Rattle.mq_calls.proofs.OpeningCells.{made-more, made-none}
 use Rattle.mq_calls.proofs.opening.cells.make_cells.Goals as goal
 
 pub loop-block-init : goal.loop-block-init

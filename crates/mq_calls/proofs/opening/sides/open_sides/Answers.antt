@@ -1,5 +1,5 @@
-use Rattle.std.proofs.Common.{◌≡◌, ◌+◌, ◌≤◌, ◌++◌, ◌∷◌, [], ℕ, length, sym, ap, subst, ◌∙◌, arith, rules, List}
-use Rattle.std.specs.Prelude.{Some, reverse, slice_get, vec_capacity}
+use Rattle.std.proofs.Common.{◌≡◌, ◌+◌, ◌++◌, ◌∷◌, [], ℕ, length, sym, ap, subst, ◌∙◌, arith, rules}
+use Rattle.std.specs.Prelude.{reverse, slice_get}
 use Rattle.std.proofs.lemmas.List.{length_push}
 use Rattle.mq_calls.specs.Opening.{IsIdle, IsNewSide}
 use Rattle.mq_calls.proofs.OpeningLists.{moved-all, moved-more, moved-next}
