@@ -81,13 +81,13 @@ map-kept g before rest x b at home marked =
 -- ---- the cells that are made, the last block's first
 
 -- The cells of the blocks from b on are made, and the blocks before it are left.
-pub record HasMade (g : Geometry) (s : Stored) (base : ℕ) (left : Stored) (made : List PageCell) : Type 0 where
+pub record HasMadeCells (g : Geometry) (s : Stored) (base : ℕ) (left : Stored) (made : List PageCell) : Type 0 where
   pub rest : Stored
   pub whole : s ≡ left ++ rest
   pub count : length left + length made ≡ homes_of g
   pub cells : reverse made ≡ map (λ b. first_cell base (map_of g s b)) (range_with_len (length left) (homes_of g - length left))
 
-pub made-none : (g : Geometry) (s : Stored) (base : ℕ) (made : List PageCell) → length s ≡ homes_of g → made ≡ [] → HasMade g s base s made
+pub made-none : (g : Geometry) (s : Stored) (base : ℕ) (made : List PageCell) → length s ≡ homes_of g → made ≡ [] → HasMadeCells g s base s made
 made-none g s base made all none =
     let zero_left : homes_of g - length s ≡ 0 = omega arith in
     record {
@@ -98,8 +98,8 @@ made-none g s base made all none =
     }
 
 pub made-more : (g : Geometry) (s : Stored) (base b : ℕ) (left now : Stored) (x : Option (List ℕ)) (made more : List PageCell) (c : PageCell)
-    → HasMade g s base left made → left ≡ now ++ x ∷ [] → b ≡ length now → ((rest : Stored) → c.content ≡ map_of g (now ++ x ∷ rest) b) → c ≡ first_cell base c.content → more ≡ made ++ c ∷ []
-    → HasMade g s base now more
+    → HasMadeCells g s base left made → left ≡ now ++ x ∷ [] → b ≡ length now → ((rest : Stored) → c.content ≡ map_of g (now ++ x ∷ rest) b) → c ≡ first_cell base c.content → more ≡ made ++ c ∷ []
+    → HasMadeCells g s base now more
 made-more g s base b left now x made more c h is at content_is cell pushed =
     let f = λ (k : ℕ). first_cell base (map_of g s k) in
     let more_left : length left ≡ length now + 1 = ap length is ∙ length_push now x in
@@ -118,7 +118,7 @@ made-more g s base b left now x made more c h is at content_is cell pushed =
           ∙ sym (ap (λ (k : ℕ). map f (range_with_len (length now) k)) count)))));
     }
 
-pub made-all : (g : Geometry) (s : Stored) (base : ℕ) (left : Stored) (made : List PageCell) → HasMade g s base left made → left ≡ [] → reverse made ≡ first_cells g s base
+pub made-all : (g : Geometry) (s : Stored) (base : ℕ) (left : Stored) (made : List PageCell) → HasMadeCells g s base left made → left ≡ [] → reverse made ≡ first_cells g s base
 made-all g s base left made h none =
     let f = λ (k : ℕ). first_cell base (map_of g s k) in
     let whole : homes_of g - 0 ≡ homes_of g = omega arith in

@@ -40,7 +40,7 @@ use Rattle.mq_side.specs.declared.side.QueueSide.{QueueSide}
 use Rattle.mq_tree.specs.Laid.{map_of}
 use Rattle.mq_tree.proofs.Maps.{mapped}
 use Rattle.mq_turns.specs.Desk.{fresh}
-use Rattle.mq_calls.specs.Opening.{IsEquipped, IsNewSession, IsNewSide, IsOpenedOver, IsUnused, MayOpen, first_cells, stored_map}
+use Rattle.mq_calls.specs.Opening.{IsEquipped, IsNewSession, IsNewSide, IsOpenedOver, IsUncalled, MayOpen, first_cells, stored_map}
 use Rattle.mq_calls.specs.Runs.{file_values, geometry_at}
 use Rattle.mq_calls.specs.Sessions.{HasCalled}
 use Rattle.mq_calls.proofs.OpeningState.{count-is, first-contents, first-numbers, map-after, map-at, state-is}
@@ -160,7 +160,7 @@ pub map-place : {A B : Type 0} (f : A → B) (xs : List A) (ys : List B) (i : �
 map-place {B = B} f xs ys i x made e = ap (λ (zs : List B). slice_get zs i) (sym made) ∙ (slice_get-map f xs i ∙ ap (option_map f) e)
 
 module _ {P : Type 0} {G : Ghosts P} where
-  pub new-session : (g : Geometry) (o : Start P FileEntry G) (i queue calls : ℕ) (wanted : List ℕ) (cells : HeldCells) (v : Seat P FileEntry G) → i < queues_of g → v ≡ fresh o i → IsUnused i queue calls wanted → IsEquipped g cells → IsNewSession g o i queue calls wanted cells v
+  pub new-session : (g : Geometry) (o : Start P FileEntry G) (i queue calls : ℕ) (wanted : List ℕ) (cells : HeldCells) (v : Seat P FileEntry G) → i < queues_of g → v ≡ fresh o i → IsUncalled i queue calls wanted → IsEquipped g cells → IsNewSession g o i queue calls wanted cells v
   new-session g o i queue calls wanted cells v low is unused equipped = record {
     view_is = is;
     queue_is = unused.queue_is;

@@ -88,7 +88,7 @@ pub record IsEquipped (g : Geometry) (cells : HeldCells) : Type 0 where
   pub room : homes_of g ≤ cells.room
 
 -- the session has the number of its queue, has made no call, and wants no block yet
-pub record IsUnused (i queue calls : ℕ) (wanted : List ℕ) : Type 0 where
+pub record IsUncalled (i queue calls : ℕ) (wanted : List ℕ) : Type 0 where
   pub queue_is : queue ≡ i
   pub calls_are : calls ≡ 0
   pub wanted_are : wanted ≡ []

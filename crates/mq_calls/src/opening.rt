@@ -30,7 +30,7 @@ use std::alloc::Global;
 
 // What an opening takes memory for before it takes a port: the cells, and what the sessions need.
 #[derive(Drop)]
-struct Prepared<P: Port + Drop>
+struct Provisions<P: Port + Drop>
 where
     FileMachine<P>: Machine,
 {
@@ -40,12 +40,12 @@ where
 }
 
 // Takes that memory.
-fn prepare<P: Port + Drop>(
+fn provide<P: Port + Drop>(
     alloc: Global,
     geometry: Geometry,
     standing: Standing,
     sessions: u32,
-) -> Result<Prepared<P>, OutOfMemory>
+) -> Result<Provisions<P>, OutOfMemory>
     requires whole { length standing.blocks.items ≡ homes_of geometry }
     ensures cells { IfOk result (λ r. r.cells.items ≡ first_cells geometry
         standing.blocks.items standing.base) }
@@ -53,7 +53,7 @@ fn prepare<P: Port + Drop>(
         × All (λ kit. IsEquipped geometry kit.0) r.kits.items) }
     ensures room { IfOk result (λ r. (r.sessions.items ≡ []) × (sessions ≤ vec_capacity r.sessions)) }
 {
-    Ok(Prepared {
+    Ok(Provisions {
         cells: make_cells(alloc, geometry, standing)?,
         kits: equip(alloc, geometry, sessions)?,
         sessions: Vec::with_capacity(alloc, sessions as usize)?,
@@ -123,7 +123,7 @@ impl<P: Port + Drop> Mqfs<P> {
         ensures err { IfErr result (λ e. (e.0.queues.items ≡ ports.queues.items) × (e.0.root ≡ ports.root)) }
     {
         let base = standing.base;
-        let Ok(prepared) = prepare(alloc, geometry, standing, sessions) else {
+        let Ok(provisions) = provide(alloc, geometry, standing, sessions) else {
             return Err((ports, OutOfMemory));
         };
         let Ports { queues, root } = ports;
@@ -131,11 +131,11 @@ impl<P: Port + Drop> Mqfs<P> {
             Ok(opened) => opened,
             Err((queues, full)) => return Err((Ports { queues, root }, full)),
         };
-        let Prepared {
+        let Provisions {
             cells,
             kits,
             sessions: seats,
-        } = prepared;
+        } = provisions;
         let root = Root::open(root);
         match open_desk(alloc, cells, sides, root, base, sessions, spare) {
             Ok((desk, chairs)) => {

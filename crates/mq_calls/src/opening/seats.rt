@@ -2,7 +2,7 @@
 ghost use Rattle.std.specs.Prelude.{◌≡◌, ◌≤◌, ℕ, [], Some, IfOk, map, slice_get, vec_len, vec_capacity};
 ghost use Rattle.std.specs.List.{All};
 ghost use Rattle.mq_blocks.specs.Geometry.{homes_of};
-ghost use Rattle.mq_calls.specs.Opening.{IsEquipped, IsUnused};
+ghost use Rattle.mq_calls.specs.Opening.{IsEquipped, IsUncalled};
 
 use crate::machine::FileMachine;
 use crate::session::Session;
@@ -44,7 +44,7 @@ pub fn seat<P: Port + Drop>(
     ensures kits { map (λ s. (s.held, s.plan)) result.items ≡ kits.items }
     ensures each { (i : ℕ) (s : _)
         → slice_get result.items i ≡ Some s
-        → IsUnused i s.queue s.calls s.wanted.items }
+        → IsUncalled i s.queue s.calls s.wanted.items }
 {
     let mut chairs = chairs;
     let mut kits = kits;

@@ -15,13 +15,13 @@ open_sides-requires-clause-idle g c = idle-each c.args.geometry g.P.Port.state c
 
 pub open_desk-requires-clause-starts : goal.open_desk-requires-clause-starts
 open_desk-requires-clause-starts g c =
-    let over = opened-over g.P.Port.state g.P.Port.faults c.args.geometry c.args.ports c.args.standing (record { pages = c.in-Ok.prepared.cells.items; sides = c.in-Ok-open_sides.opened.0.items; root = c.open-root.result; base = c.args.standing.base })
+    let over = opened-over g.P.Port.state g.P.Port.faults c.args.geometry c.args.ports c.args.standing (record { pages = c.in-Ok.provisions.cells.items; sides = c.in-Ok-open_sides.opened.0.items; root = c.open-root.result; base = c.args.standing.base })
     c.requires.drive c.in-Ok.ensures.cells refl c.in-Ok-open_sides.ensures.ports c.open-root.ensures c.in-Ok-open_sides.ensures.sides in
     starts (file_values g.P.Port.state g.P.Port.faults) file_group _ over.fresh
 
 pub invariant_of-result-clause-shape : goal.invariant_of-result-clause-shape
 invariant_of-result-clause-shape g c =
-    let over = opened-over g.P.Port.state g.P.Port.faults c.args.geometry c.args.ports c.args.standing (record { pages = c.in-Ok.prepared.cells.items; sides = c.in-Ok-open_sides.opened.0.items; root = c.open-root.result; base = c.args.standing.base })
+    let over = opened-over g.P.Port.state g.P.Port.faults c.args.geometry c.args.ports c.args.standing (record { pages = c.in-Ok.provisions.cells.items; sides = c.in-Ok-open_sides.opened.0.items; root = c.open-root.result; base = c.args.standing.base })
     c.requires.drive c.in-Ok.ensures.cells refl c.in-Ok-open_sides.ensures.ports c.open-root.ensures c.in-Ok-open_sides.ensures.sides in
     ap (λ o. geometry_at g.P.Port.state g.P.Port.faults o) c.in-Ok-open_desk.ensures.desk.0 ∙ over.shape
 
@@ -33,15 +33,15 @@ invariant_of-result-clause-sides g c = ap (λ o. length o.sides) c.in-Ok-open_de
 
 pub returns-in-Ok-open_desk-clause-desk : goal.returns-in-Ok-open_desk-clause-desk
 returns-in-Ok-open_desk-clause-desk g c =
-    let over = opened-over g.P.Port.state g.P.Port.faults c.args.geometry c.args.ports c.args.standing (record { pages = c.in-Ok.prepared.cells.items; sides = c.in-Ok-open_sides.opened.0.items; root = c.open-root.result; base = c.args.standing.base })
+    let over = opened-over g.P.Port.state g.P.Port.faults c.args.geometry c.args.ports c.args.standing (record { pages = c.in-Ok.provisions.cells.items; sides = c.in-Ok-open_sides.opened.0.items; root = c.open-root.result; base = c.args.standing.base })
     c.requires.drive c.in-Ok.ensures.cells refl c.in-Ok-open_sides.ensures.ports c.open-root.ensures c.in-Ok-open_sides.ensures.sides in
     subst (λ o. IsOpenedOver g.P.Port.state g.P.Port.faults c.args.geometry c.args.ports c.args.standing o) (sym c.in-Ok-open_desk.ensures.desk.0) over
 
 pub returns-in-Ok-open_desk-clause-each : goal.returns-in-Ok-open_desk-clause-each
 returns-in-Ok-open_desk-clause-each g c = λ i s e.
     let chair = map-place (λ s. s.chair) c.seat-seated.result.items c.in-Ok-open_desk.chairs.items i s c.seat-seated.ensures.chairs e in
-    let kit = map-place (λ s. (s.held, s.plan)) c.seat-seated.result.items c.in-Ok.prepared.kits.items i s c.seat-seated.ensures.kits e in
-    let equipped = all-at (λ kit. IsEquipped c.args.geometry kit.0) c.in-Ok.prepared.kits.items i (s.held, s.plan) c.in-Ok.ensures.kits.1 kit in
+    let kit = map-place (λ s. (s.held, s.plan)) c.seat-seated.result.items c.in-Ok.provisions.kits.items i s c.seat-seated.ensures.kits e in
+    let equipped = all-at (λ kit. IsEquipped c.args.geometry kit.0) c.in-Ok.provisions.kits.items i (s.held, s.plan) c.in-Ok.ensures.kits.1 kit in
     let seated = c.in-Ok-open_desk.ensures.chairs.1 i s.chair chair in
     let within = slice_get_within c.in-Ok-open_desk.chairs.items i s.chair chair in
     let low : i < queues_of c.args.geometry =

@@ -1,6 +1,6 @@
 use Rattle.std.proofs.Common.{◌≡◌, ◌+◌, ◌++◌, ◌∷◌, [], length, refl, ap, ◌∙◌, arith, rules}
 use Rattle.std.proofs.lemmas.List.{length_push}
-use Rattle.mq_calls.specs.Opening.{IsUnused}
+use Rattle.mq_calls.specs.Opening.{IsUncalled}
 use Rattle.mq_calls.proofs.OpeningLists.{moved-more}
 use Rattle.mq_calls.proofs.opening.seats.seat.Goals as goal
 
@@ -15,7 +15,7 @@ loop-chair-preserved g c =
     let more : length c.push_reserved.new.self.items ≡ length c.loop-chair.sessions.items + 1 = ap length c.push_reserved.ensures.items ∙ length_push c.loop-chair.sessions.items _ in
     let same = c.push_reserved.ensures.capacity in
     record {
-      seated = moved-more (λ s. s.chair) (λ i s. IsUnused i s.queue s.calls s.wanted.items) c.args.chairs.items c.loop-chair.chairs.items c.pop.new.self.items c.loop-chair.sessions.items c.push_reserved.new.self.items c.len.result c.in-Some.chair _ i.seated last at refl (record { queue_is = refl; calls_are = refl; wanted_are = c.new.ensures.items }) c.push_reserved.ensures.items;
+      seated = moved-more (λ s. s.chair) (λ i s. IsUncalled i s.queue s.calls s.wanted.items) c.args.chairs.items c.loop-chair.chairs.items c.pop.new.self.items c.loop-chair.sessions.items c.push_reserved.new.self.items c.len.result c.in-Some.chair _ i.seated last at refl (record { queue_is = refl; calls_are = refl; wanted_are = c.new.ensures.items }) c.push_reserved.ensures.items;
       equipped = moved-more (λ s. (s.held, s.plan)) (λ i s. Unit {0}) c.args.kits.items c.loop-chair.kits.items c.pop-in-Some.new.self.items c.loop-chair.sessions.items c.push_reserved.new.self.items (length c.pop-in-Some.new.self.items) _ _ i.equipped kit refl refl tt c.push_reserved.ensures.items;
       kits = let k = i.kits in omega arith;
       room = let k = i.room in omega arith;
