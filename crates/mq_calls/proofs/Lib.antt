@@ -16,3 +16,7 @@ pub mod AfterDraw
 pub mod Drains
 pub mod Causes
 pub mod Sent
+pub mod OpeningCells
+pub mod OpeningLists
+pub mod OpeningState
+pub mod OpeningFresh

@@ -12,3 +12,4 @@ pub mod Synchronizing
 pub mod Leaving
 pub mod Sweeping
 pub mod Laws
+pub mod Opening

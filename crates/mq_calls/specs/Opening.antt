@@ -1,0 +1,103 @@
+-- A file system at its opening: over which ports it may be opened, and what its desk and its sessions are then.
+use Rattle.std.specs.Prelude.{◌≡◌, ◌≤◌, ℕ, List, [], length, map, Option, None}
+use Rattle.std.specs.List.{range_with_len}
+use Rattle.mq_blocks.specs.Drive.{PortState}
+use Rattle.mq_blocks.specs.Geometry.{homes_of}
+use Rattle.mq_blocks.specs.declared.geometry.Geometry.{Geometry}
+use Rattle.mq_drive.specs.Start.{IsPortOf}
+use Rattle.mq_drive.specs.Steps.{Fault}
+use Rattle.mq_drive.specs.declared.port.Port.{Ghosts}
+use Rattle.mq_drive.specs.declared.port.Ports.{Ports}
+use Rattle.mq_drive.specs.declared.role.Role.TheVariants.{Queue}
+use Rattle.mq_files.specs.Group.{CarriesVolume, file_group}
+use Rattle.mq_files.specs.declared.entry.FileEntry.{FileEntry}
+use Rattle.mq_journal.specs.Numbers.{Seat, Start}
+use Rattle.mq_ledger.specs.State.{IsStart}
+use Rattle.mq_ledger.specs.Written.{journal_entries}
+use Rattle.mq_pages.specs.Held.{HeldCells}
+use Rattle.mq_pages.specs.declared.page.PageCell.{PageCell}
+use Rattle.mq_recover.specs.Drives.{DriveState}
+use Rattle.mq_recover.specs.Recovery.{started}
+use Rattle.mq_recover.specs.declared.standing.Standing.{Standing}
+use Rattle.mq_rules.specs.Opening.{IsFresh}
+use Rattle.mq_side.specs.declared.side.QueueSide.{QueueSide}
+use Rattle.mq_tree.specs.Laid.{map_of}
+use Rattle.mq_turns.specs.Desk.{fresh}
+use Rattle.mq_calls.specs.Runs.{file_values, geometry_at}
+use Rattle.mq_calls.specs.Sessions.{IsReady}
+
+-- ---- what stands on the drive
+
+-- the map of stored home blocks, as a list
+abbrev pub stored_map : Geometry → List (Option (List ℕ)) → List (Option (List ℕ))
+stored_map g stored = map (map_of g stored) (range_with_len 0 (homes_of g))
+
+-- The ports are a start of the machine over the map of these blocks, on which some volume lies; their base is the
+-- standing's. So each block of the map stands at home.
+pub record MayOpen (g : Geometry) (d : DriveState) (s : Standing) : Type 0 where
+  pub whole : length s.blocks.items ≡ homes_of g
+  pub base : s.base ≡ d.root.base
+  pub start : IsStart journal_entries (started g d (stored_map g s.blocks.items))
+  pub mounts : CarriesVolume g (map_of g s.blocks.items)
+
+-- ---- what is made of it
+
+-- the cell of a block that nothing has changed since the base
+abbrev pub first_cell : ℕ → Option (List ℕ) → PageCell
+first_cell base content = record { content = content; version = base; last_logged = base; home_version = base }
+
+-- the cells of all home blocks
+abbrev pub first_cells : Geometry → List (Option (List ℕ)) → ℕ → List PageCell
+first_cells g stored base = map (λ b. first_cell base (map_of g stored b)) (range_with_len 0 (homes_of g))
+
+-- Nothing is under way on the port of the queue.
+pub record IsIdle (g : Geometry) (q : ℕ) (p : PortState) : Type 0 where
+  pub port : IsPortOf g (Queue q) p
+  pub head : p.head ≡ p.doorbell
+  pub stored_head : p.stored_head ≡ p.doorbell
+  pub pending : p.pending ≡ []
+  pub posted : p.posted ≡ []
+  pub failed : p.failed ≡ []
+  pub flushed : p.flushed_end ≡ p.doorbell
+
+module _ {P E : Type 0} {G : Ghosts P} (state : P → PortState) where
+  -- the side of the queue, on which nothing was drawn yet
+  pub record IsNewSide (g : Geometry) (q : ℕ) (s : QueueSide P E G) : Type 0 where
+    pub geometry : s.pmr.geometry ≡ g
+    pub queue : s.pmr.queue ≡ q
+    pub idle : IsIdle g q (state s.pmr.port)
+    pub passed : s.pmr.done ≡ record { tx = 0; end = (state s.pmr.port).doorbell }
+    pub rung : s.pmr.rung.items ≡ []
+    pub stored : s.stored.items ≡ []
+    pub done : s.done ≡ 0
+    pub kept : s.kept ≡ None
+
+module _ {P : Type 0} {G : Ghosts P} (state : P → PortState) (faults : P → List Fault) where
+  -- What a desk was opened with over these ports: the map in its cells, and the ports, each where it was.
+  pub record IsOpenedOver (g : Geometry) (ports : Ports P) (s : Standing) (o : Start P FileEntry G) : Type 0 where
+    pub base : o.base ≡ s.base
+    pub pages : map (λ c. c.content) o.pages ≡ stored_map g s.blocks.items
+    pub queues : map (λ q. q.pmr.port) o.sides ≡ ports.queues.items
+    pub root : o.root.port ≡ ports.root
+    pub shape : geometry_at state faults o ≡ g
+    pub fresh : IsFresh (file_values state faults) file_group o
+
+-- no cell is held, and there is room for those of all home blocks
+pub record IsEquipped (g : Geometry) (cells : HeldCells) : Type 0 where
+  pub none : cells.cells ≡ []
+  pub room : homes_of g ≤ cells.room
+
+-- the session has the number of its queue, has made no call, and wants no block yet
+pub record IsUncalled (i queue calls : ℕ) (wanted : List ℕ) : Type 0 where
+  pub queue_is : queue ≡ i
+  pub calls_are : calls ≡ 0
+  pub wanted_are : wanted ≡ []
+
+module _ {P : Type 0} {G : Ghosts P} where
+  -- a session that has made no call
+  pub record IsNewSession (g : Geometry) (o : Start P FileEntry G) (i queue calls : ℕ) (wanted : List ℕ) (cells : HeldCells) (v : Seat P FileEntry G) : Type 0 where
+    pub view_is : v ≡ fresh o i
+    pub queue_is : queue ≡ i
+    pub calls_are : calls ≡ 0
+    pub wanted_are : wanted ≡ []
+    pub ready : IsReady g i 0 cells v

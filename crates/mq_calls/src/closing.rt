@@ -1,0 +1,55 @@
+// A file system gives its desk back.
+ghost use Rattle.std.specs.Prelude.{◌≡◌, ◌≤◌, [], IfOk, IfErr, map, vec_len, vec_capacity};
+ghost use Rattle.std.specs.List.{All};
+ghost use Rattle.mq_turns.specs.AtDesk.{AtDesk, chairs_of};
+
+use crate::machine::FileMachine;
+use crate::session::{Mqfs, Session};
+use mq_blocks::OutOfMemory;
+use mq_drive::Port;
+use mq_turns::{Chair, Desk};
+use std::alloc::Global;
+
+// The chairs of sessions, in their order.
+fn leave<P: Port + Drop>(
+    sessions: Vec<Session<P>>,
+    chairs: Vec<Chair<FileMachine<P>>>,
+) -> Vec<Chair<FileMachine<P>>>
+    requires { (chairs.items ≡ []) × (vec_len sessions ≤ vec_capacity chairs) }
+    ensures { result.items ≡ map (λ s. s.chair) sessions.items }
+{
+    let mut sessions = sessions;
+    let mut chairs = chairs;
+    while let Some(session) = sessions.pop() {
+        let Session { chair, .. } = session;
+        chairs.push_reserved(chair);
+    }
+    chairs.reverse();
+    chairs
+}
+
+impl<P: Port + Drop> Mqfs<P> {
+    /// The desk, and the chairs of all its sessions, in their order. Out of memory gives all back as it was.
+    pub fn into_desk(
+        self,
+        alloc: Global,
+        sessions: Vec<Session<P>>,
+    ) -> Result<
+        (Desk<FileMachine<P>>, Vec<Chair<FileMachine<P>>>),
+        (Mqfs<P>, Vec<Session<P>>, OutOfMemory),
+    >
+        requires at { All (λ s. AtDesk self.desk s.chair) sessions.items }
+        requires all { vec_len sessions ≡ chairs_of self.desk }
+        ensures desk { IfOk result (λ r. r.0 ≡ self.desk) }
+        ensures chairs { IfOk result (λ r. r.1.items ≡ map (λ s. s.chair) sessions.items) }
+        ensures at { IfOk result (λ r. All (λ c. AtDesk r.0 c) r.1.items) }
+        ensures all { IfOk result (λ r. vec_len r.1 ≡ chairs_of r.0) }
+        ensures err { IfErr result (λ e. (e.0 ≡ self) × (e.1 ≡ sessions)) }
+    {
+        let Ok(chairs) = Vec::with_capacity(alloc, sessions.len()) else {
+            return Err((self, sessions, OutOfMemory));
+        };
+        let Mqfs { desk, .. } = self;
+        Ok((desk, leave(sessions, chairs)))
+    }
+}

@@ -1,0 +1,148 @@
+// A file system is opened on a desk, over the ports of a drive that was recovered.
+ghost use Rattle.std.specs.Prelude.{◌≡◌, ◌<◌, ◌≤◌, ◌^◌, ℕ, [], IsNone, IfOk, IfErr, Some, length, map, slice_get, vec_len, vec_capacity};
+ghost use Rattle.std.specs.List.{All};
+ghost use Rattle.mq_blocks.specs.Geometry.{homes_of, queues_of};
+ghost use Rattle.mq_recover.specs.Drives.{drive_of};
+ghost use Rattle.mq_turns.specs.AtDesk.{AtDesk, view, start_of, chairs_of};
+ghost use Rattle.mq_turns.specs.Chairs.{Starts};
+ghost use Rattle.mq_turns.specs.Desk.{fresh};
+ghost use Rattle.mq_calls.specs.Runs.{files};
+ghost use Rattle.mq_calls.specs.Opening.{IsEquipped, IsNewSession, IsOpenedOver, MayOpen, first_cells};
+
+mod cells;
+mod seats;
+mod sides;
+
+use crate::machine::FileMachine;
+use crate::session::{Mqfs, Session};
+use cells::make_cells;
+use mq_blocks::{Geometry, OutOfMemory, TxNo};
+use mq_drive::{Port, Ports};
+use mq_files::FileEntry;
+use mq_pages::{Held, PageCell};
+use mq_recover::Standing;
+use mq_revoke::Placement;
+use mq_side::{QueueSide, Root};
+use mq_turns::{Chair, Desk, Machine};
+use seats::{equip, seat};
+use sides::{open_sides, unmake_sides};
+use std::alloc::Global;
+
+// What an opening takes memory for before it takes a port: the cells, and what the sessions need.
+#[derive(Drop)]
+struct Provisions<P: Port + Drop>
+where
+    FileMachine<P>: Machine,
+{
+    cells: Vec<PageCell>,
+    kits: Vec<(Held, Placement)>,
+    sessions: Vec<Session<P>>,
+}
+
+// Takes that memory.
+fn provide<P: Port + Drop>(
+    alloc: Global,
+    geometry: Geometry,
+    standing: Standing,
+    sessions: u32,
+) -> Result<Provisions<P>, OutOfMemory>
+    requires whole { length standing.blocks.items ≡ homes_of geometry }
+    ensures cells { IfOk result (λ r. r.cells.items ≡ first_cells geometry
+        standing.blocks.items standing.base) }
+    ensures kits { IfOk result (λ r. (vec_len r.kits ≡ sessions)
+        × All (λ kit. IsEquipped geometry kit.0) r.kits.items) }
+    ensures room { IfOk result (λ r. (r.sessions.items ≡ []) × (sessions ≤ vec_capacity r.sessions)) }
+{
+    Ok(Provisions {
+        cells: make_cells(alloc, geometry, standing)?,
+        kits: equip(alloc, geometry, sessions)?,
+        sessions: Vec::with_capacity(alloc, sessions as usize)?,
+    })
+}
+
+// A desk with these values. Out of memory gives the ports back.
+fn open_desk<P: Port + Drop>(
+    alloc: Global,
+    cells: Vec<PageCell>,
+    sides: Vec<QueueSide<P, FileEntry>>,
+    root: Root<P>,
+    base: TxNo,
+    sessions: u32,
+    spare: Vec<P>,
+) -> Result<(Desk<FileMachine<P>>, Vec<Chair<FileMachine<P>>>), (Ports<P>, OutOfMemory)>
+    requires sessions { 0 < sessions }
+    requires base { base ≤ 2 ^ 62 }
+    requires few { (vec_len cells < 2 ^ 32) × (vec_len sides < 2 ^ 32) }
+    requires starts { Starts (files P.state P.faults) (record { pages = cells.items; sides = sides.items; root = root; base = base }) }
+    requires room { (spare.items ≡ []) × (vec_len sides ≤ vec_capacity spare) }
+    ensures desk { IfOk result (λ d. (start_of d.0 ≡ record { pages = cells.items; sides = sides.items; root = root; base = base })
+        × (chairs_of d.0 ≡ sessions)) }
+    ensures chairs { IfOk result (λ d. (vec_len d.1 ≡ sessions)
+        × ((i : ℕ) (ch : _)
+        → slice_get d.1.items i ≡ Some ch
+        → AtDesk d.0 ch × (view ch ≡ fresh (start_of d.0) i))) }
+    ensures err { IfErr result (λ e. (e.0.queues.items ≡ map (λ s. s.pmr.port) sides.items)
+        × (e.0.root ≡ root.port)) }
+{
+    match Desk::new(alloc, cells, sides, root, base, sessions) {
+        Ok(opened) => Ok(opened),
+        Err((_, mut sides, root, full)) => {
+            let mut queues = spare;
+            sides.reverse();
+            unmake_sides(sides, &mut queues);
+            let root = root.into_port();
+            Err((Ports { queues, root }, full))
+        }
+    }
+}
+
+impl<P: Port + Drop> Mqfs<P> {
+    /// A file system over the ports of a drive that was recovered, whose map is that of what stands there,
+    /// with so many sessions, the i-th on the i-th queue. What stands there is moved, and not copied. Out
+    /// of memory gives the ports back.
+    pub fn open(
+        alloc: Global,
+        geometry: Geometry,
+        ports: Ports<P>,
+        standing: Standing,
+        sessions: u32,
+    ) -> Result<(Mqfs<P>, Vec<Session<P>>), (Ports<P>, OutOfMemory)>
+        requires drive { MayOpen geometry (drive_of P.state ports) standing }
+        requires base { standing.base ≤ 2 ^ 62 }
+        requires sessions { (1 ≤ sessions) × (sessions ≤ queues_of geometry) }
+        ensures desk { IfOk result (λ r. IsOpenedOver P.state P.faults geometry ports standing
+            (start_of r.0.desk)) }
+        ensures chairs { IfOk result (λ r. chairs_of r.0.desk ≡ sessions) }
+        ensures geometry { IfOk result (λ r. r.0.geometry ≡ geometry) }
+        ensures count { IfOk result (λ r. vec_len r.1 ≡ sessions) }
+        ensures each { IfOk result (λ r. (i : ℕ) (s : _)
+            → slice_get r.1.items i ≡ Some s
+            → AtDesk r.0.desk s.chair
+            × IsNewSession geometry (start_of r.0.desk) i s.queue s.calls s.wanted.items s.held
+            (view s.chair)) }
+        ensures err { IfErr result (λ e. (e.0.queues.items ≡ ports.queues.items) × (e.0.root ≡ ports.root)) }
+    {
+        let base = standing.base;
+        let Ok(provisions) = provide(alloc, geometry, standing, sessions) else {
+            return Err((ports, OutOfMemory));
+        };
+        let Ports { queues, root } = ports;
+        let (sides, spare) = match open_sides(alloc, geometry, queues) {
+            Ok(opened) => opened,
+            Err((queues, full)) => return Err((Ports { queues, root }, full)),
+        };
+        let Provisions {
+            cells,
+            kits,
+            sessions: seats,
+        } = provisions;
+        let root = Root::open(root);
+        match open_desk(alloc, cells, sides, root, base, sessions, spare) {
+            Ok((desk, chairs)) => {
+                let seated = seat(alloc, chairs, kits, seats);
+                Ok((Mqfs { desk, geometry }, seated))
+            }
+            Err(refused) => Err(refused),
+        }
+    }
+}
