@@ -5,9 +5,10 @@
 mod answers;
 mod asked;
 mod asking;
+mod calls;
+mod closing;
 mod committing;
 mod drawing;
-mod closing;
 mod gate;
 mod laws;
 mod leaving;

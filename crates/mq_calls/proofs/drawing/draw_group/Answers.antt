@@ -81,6 +81,7 @@ returns-in-Err-clause-cut g c =
     let draws = subst (λ (m : ℕ). Draws st fs file_group o m e v w s n) c.requires.queue c.number-numbered.ensures.draws in
     let same : s.pmr.queue ≡ q = ap (λ p. p.queue) c.number-numbered.ensures.pmr ∙ c.requires.queue in
     let number = sym c.number-at.ensures in
-    let told = subst (λ (m : ℕ). IsReported st fs file_group o m report.Off x y) same c.in-Err.ensures.charged in
-    (has-drawn st fs o q c.number-at.result e report.Off cells c.args.side s n v w x y c.requires.holds draws number c.give_drawn_pages.ensures.gave told,
-      cut-at st fs o q c.number-at.result e s n v w draws number c.in-Err.ensures.cut)
+    let told = subst (λ (m : ℕ). IsReported st fs file_group o m report.Off x y) same c.in-Err.ensures.charged in (
+      has-drawn st fs o q c.number-at.result e report.Off cells c.args.side s n v w x y c.requires.holds draws number c.give_drawn_pages.ensures.gave told,
+      cut-at st fs o q c.number-at.result e s n v w draws number c.in-Err.ensures.cut,
+    )
