@@ -9,19 +9,27 @@ use Rattle.mq_drive.specs.declared.port.Port.{Ghosts}
 use Rattle.mq_exec.specs.declared.outcome.Done.{Done}
 use Rattle.mq_files.specs.Entries.{written_by}
 use Rattle.mq_files.specs.declared.entry.FileEntry.{FileEntry}
-use Rattle.mq_journal.specs.Numbers.{Seat, Shared, reported}
+use Rattle.mq_journal.specs.Draining.{report_of}
+use Rattle.mq_journal.specs.Numbers.{Seat, Shared, Start, reported}
 use Rattle.mq_pages.specs.declared.page.PageCell.{PageCell}
 use Rattle.mq_pages.specs.declared.page.Write.{Write}
+use Rattle.mq_side.specs.declared.answers.Cause.{Cause}
+use Rattle.mq_side.specs.declared.answers.Cause.TheVariants as cause
 use Rattle.mq_side.specs.declared.root.Root.{Root}
 use Rattle.mq_side.specs.declared.side.QueueSide.{QueueSide}
 use Rattle.mq_turns.specs.Chairs.{holding}
 use Rattle.mq_turns.specs.declared.rule.Answer.TheVariants.{Base, Front}
 use Rattle.mq_turns.specs.declared.rule.Reading.{Reading}
 use Rattle.mq_turns.specs.declared.rule.Report.{Report}
-use Rattle.mq_calls.specs.Acts.{Call, Commits, IsOfCall}
+use Rattle.mq_turns.specs.declared.rule.Charge.{Charge}
+use Rattle.mq_turns.specs.declared.rule.Report.TheVariants.{Off, Sent}
+use Rattle.mq_calls.specs.Acts.{Call, Commits, IsCaused, IsKnownFrom, IsOfCall, IsRefused, Rests, WasCutAt, area_full, before, cut, drained, kept, memory}
 use Rattle.mq_calls.specs.Calling.{IsEntryFor}
-use Rattle.mq_calls.specs.Committing.{ReadsWords}
-use Rattle.mq_calls.specs.Drawing.{HasDrawn}
+use Rattle.mq_calls.specs.Committing.{IsLacking, OnlyReports, ReadsWords, refusal_for, reports_for}
+use Rattle.mq_calls.specs.Drawing.{HasDrawn, IsCommitted}
+use Rattle.mq_calls.specs.declared.answers.CallCause.TheVariants.{Drive}
+use Rattle.mq_calls.specs.declared.committing.Lack.{Lack}
+use Rattle.mq_calls.specs.declared.committing.Lack.TheVariants as lack
 
 -- an entry of the call's group is one of the call, with the group's replies
 pub of-call : (c : Call) (done : Done) (e : FileEntry) → IsEntryFor c done e → IsOfCall c done.replies.items e
@@ -70,3 +78,44 @@ module _ {P : Type 0} {G : Ghosts P} where
     answers = drew.answers ∙ answers ∙ ap (λ (x : Reads P G). Base e.reads.base ∷ Front e.reads.front ∷ x.answers) holds.reading;
     charged = drew.charged ∙ ap (λ l. reported c.session r ∷ l) (words.charged ∙ ap (λ (x : Reads P G). x.charged) holds.reading);
   }
+
+  -- a group that was drawn and sent
+  pub committed-of : (g : Geometry) (c : Call) (done : Done) (e : FileEntry) (at : ℕ) (old taken v new : Seat P FileEntry G) → OnlyHolds old taken → ReadsWords taken v → v.reading.answers ≡ Base e.reads.base ∷ Front e.reads.front ∷ taken.reading.answers → IsEntryFor c done e → length done.writes.items ≤ write_limit g → HasDrawn e c.session at (Sent at) v new → IsCommitted g c done.replies.items at old new
+  committed-of g c done e at old taken v new holds words answers is few drew = (commits-of g c done e at (Sent at) old taken v new holds words answers is few drew, drew.seen)
+
+  -- ---- a group that was not drawn
+
+  pub rests-of : (old taken v new : Seat P FileEntry G) (reports : List Charge) → OnlyHolds old taken → ReadsWords taken v → OnlyReports reports v new → Rests old new
+  rests-of old taken v new reports holds words only = record {
+    drawn = only.drawn ∙ words.drawn ∙ holds.drawn;
+    read = only.read ∙ words.read ∙ holds.read;
+  }
+
+  charges-of : (old taken v : Seat P FileEntry G) → OnlyHolds old taken → ReadsWords taken v → v.reading.charged ≡ old.reading.charged
+  charges-of old taken v holds words = words.charged ∙ ap (λ (x : Reads P G). x.charged) holds.reading
+
+module _ {P : Type 0} {G : Ghosts P} (state : P → PortState) (faults : P → List Fault) where
+  known-before : (old v : Seat P FileEntry G) (K : Shared P FileEntry G) → v.opening ≡ old.opening → old.seen ≤ v.seen → IsKnownFrom state faults v K → IsKnownFrom state faults old K
+  known-before old v K opening seen k = record { opening = sym opening ∙ k.opening; seen = (let l = k.seen in omega arith) }
+
+  caused-before : (old v : Seat P FileEntry G) (q : ℕ) (c : Cause) → v.opening ≡ old.opening → old.seen ≤ v.seen → IsCaused state faults v q c → IsCaused state faults old q c
+  caused-before old v q c opening seen (kept K s known side is) = kept K s (known-before old v K opening seen known) side is
+  caused-before old v q c opening seen (drained K s after known side drains cause) = drained K s after (known-before old v K opening seen known) side drains cause
+
+  pub refused-for : (o : Start P FileEntry G) (g : Geometry) (c : Call) (s : QueueSide P FileEntry G) (old taken v new : Seat P FileEntry G) (l : Lack) → OnlyHolds old taken → ReadsWords taken v → IsLacking state faults o c.session s v l → OnlyReports (reports_for c.session l v.reading.charged) v new → IsRefused state faults g c old new (refusal_for c.session l).cause (refusal_for c.session l).drawn
+  refused-for o g c s old taken v new lack.Memory holds words lacks only = memory (record { rests = rests-of old taken v new v.reading.charged holds words only; charged = only.charged ∙ charges-of old taken v holds words })
+  refused-for o g c s old taken v new lack.Area holds words lacks only = area_full (record { rests = rests-of old taken v new v.reading.charged holds words only; charged = only.charged ∙ charges-of old taken v holds words })
+  refused-for o g c s old taken v new (lack.Drive cause) holds words lacks only =
+      before (record {
+        rests = rests-of old taken v new (reported c.session (report_of cause) ∷ v.reading.charged) holds words only;
+        charged = only.charged ∙ ap (λ l. reported c.session (report_of cause) ∷ l) (charges-of old taken v holds words);
+        caused = caused-before old v c.session cause (words.opening ∙ holds.opening) (let a = words.seen in let b = holds.seen in omega arith) lacks.1;
+      })
+
+  -- a group whose send was cut
+  pub cut-of : (g : Geometry) (c : Call) (done : Done) (e : FileEntry) (at : ℕ) (old taken v new : Seat P FileEntry G) → OnlyHolds old taken → ReadsWords taken v → v.reading.answers ≡ Base e.reads.base ∷ Front e.reads.front ∷ taken.reading.answers → IsEntryFor c done e → length done.writes.items ≤ write_limit g → HasDrawn e c.session at Off v new → WasCutAt state faults v at → IsRefused state faults g c old new (Drive cause.Off) (Some at)
+  cut-of g c done e at old taken v new holds words answers is few drew was = cut (record {
+    replies = done.replies.items;
+    commits = commits-of g c done e at Off old taken v new holds words answers is few drew;
+    cut = record { above = (let a = was.above in let b = words.seen in let d = holds.seen in omega arith); side = was.side; numbered = was.numbered; number = was.number; cut = was.cut };
+  })

@@ -30,7 +30,7 @@ use Rattle.mq_turns.proofs.Each.{each_map}
 use Rattle.mq_calls.specs.Committing.{HasRead, HoldsCommit, ReadsWords}
 use Rattle.mq_calls.specs.Pages.{HoldsOnlyPages, HoldsPage, HoldsPages, IsSeen, blocks_of}
 use Rattle.mq_calls.specs.Runs.{files}
-use Rattle.mq_calls.proofs.Further.{cells-below}
+use Rattle.mq_calls.proofs.Further.{cells-below, held-low}
 use Rattle.mq_calls.proofs.Holding.{pages-beside-all, sees-taken}
 
 module _ {Q R E : Type 0} (μ : Meaning PageCell Q R E) where
@@ -55,6 +55,14 @@ module _ {Q R E : Type 0} (μ : Meaning PageCell Q R E) where
 
   pub side-apart : (o : Opening PageCell Q R) (q : ℕ) (cells : Cells) (v : ChairView PageCell Q R E) → HoldsPages μ o cells v → All (λ b. b ≢ slot_of o (Side q)) (blocks_of cells)
   side-apart o q cells v h = other-slots o q cells (cells-below μ o cells v h)
+
+  -- and the turn of a side is above them
+  below-side : (o : Opening PageCell Q R) (q : ℕ) (cells : Cells) → Each (λ c. c.0 < length o.pages) cells → All (λ b. b < slot_of o (Side q)) (blocks_of cells)
+  below-side o q [] low = All-nil (λ b. b < slot_of o (Side q))
+  below-side o q (x ∷ xs) low = All-cons (λ b. b < slot_of o (Side q)) x.0 (blocks_of xs) (let l = low.0 in omega arith) (below-side o q xs low.1)
+
+  pub side-above : (o : Opening PageCell Q R) (q : ℕ) (cells : Cells) (v : ChairView PageCell Q R E) → HoldsOnlyPages μ o cells v → IsSeen μ v → Each (λ h. h.0 < slot_of o (Side q)) v.held
+  side-above o q cells v h seen = held-low μ o (blocks_of cells) cells v (slot_of o (Side q)) (record { pages = h; blocks = λ b. (λ c. c, λ c. c); seen = seen }) (below-side o q cells (cells-below μ o cells v h.pages))
 
   -- ---- a front and a base were read
 

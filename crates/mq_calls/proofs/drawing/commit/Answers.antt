@@ -1,0 +1,62 @@
+use Rattle.std.proofs.Common.{◌≡◌, ◌∙◌, ℕ, List, sym, ap, subst}
+use Rattle.mq_blocks.specs.declared.geometry.Geometry.{Geometry}
+use Rattle.mq_turns.specs.AtDesk.{start_of, view}
+use Rattle.mq_turns.specs.Desk.{slot_of}
+use Rattle.mq_turns.specs.declared.turn.Turn.TheVariants.{Side}
+use Rattle.mq_calls.specs.Acts.{IsRefused}
+use Rattle.mq_calls.specs.Calling.{call_of}
+use Rattle.mq_calls.specs.Committing.{OnlyReports, reports_for}
+use Rattle.mq_calls.specs.Runs.{IsDoneOnCells, files}
+use Rattle.mq_calls.specs.declared.answers.Refusal.{Refusal}
+use Rattle.mq_calls.proofs.Acting.{committed-of, cut-of, holds-more, refused-for}
+use Rattle.mq_calls.proofs.InHand.{commit-taken, side-above}
+use Rattle.mq_calls.proofs.drawing.commit.Goals as goal
+
+pub take_side-side-requires-clause-above : goal.take_side-side-requires-clause-above
+take_side-side-requires-clause-above g c =
+    side-above (files g.P.Port.state g.P.Port.faults) (start_of c.args.desk.now) c.args.asked.now.queue c.args.held.now.cells (view c.args.chair.now) c.requires.holds c.requires.seen
+
+pub make_ready-requires-clause-holds : goal.make_ready-requires-clause-holds
+make_ready-requires-clause-holds g c =
+    let t = c.take_side-side.ensures.took in
+    commit-taken g.P.Port.state g.P.Port.faults (start_of c.args.desk.now) c.args.asked.now.queue c.args.held.now.cells c.take_side-side.result (view c.args.chair.now) (view c.take_side-side.new.chair) t.known c.requires.holds t.is t.sees c.take_side-side.ensures.side
+
+pub make_ready-requires-clause-done : goal.make_ready-requires-clause-done
+make_ready-requires-clause-done g c =
+    subst (λ (x : Geometry). IsDoneOnCells x c.args.asked.now.queue c.args.asked.now.requests.now c.args.held.now.cells c.args.done.now) (sym (c.take_side-side.ensures.geometry ∙ c.requires.geometry)) c.requires.done
+
+pub draw_group-requires-clause-done : goal.draw_group-requires-clause-done
+draw_group-requires-clause-done g c =
+    subst (λ (x : Geometry). IsDoneOnCells x c.args.asked.now.queue c.args.asked.now.requests.now c.args.held.now.cells c.args.done.now) (sym (c.in-Ok.ensures.keeps.geometry ∙ c.take_side-side.ensures.geometry ∙ c.requires.geometry)) c.requires.done
+
+pub returns-in-Ok-draw_group-clause-committed : goal.returns-in-Ok-draw_group-clause-committed
+returns-in-Ok-draw_group-clause-committed g c =
+    let o = start_of c.args.desk.now in
+    let t = c.take_side-side.ensures.took in
+    let old = view c.args.chair.now in
+    let taken = view c.take_side-side.new.chair in
+    let p = c.in-Ok.ensures.ready in
+    committed-of c.args.geometry (call_of c.args.asked.now) c.args.done.now c.in-Ok.ready.entry c.in-Ok-draw_group.at old taken (view c.make_ready.new.chair) (view c.draw_group.new.chair) (holds-more (slot_of o (Side c.args.asked.now.queue)) t.known old taken t.is) c.in-Ok.ensures.words p.answers p.is c.requires.few c.in-Ok-draw_group.ensures.sent
+
+pub returns-in-Err-draw_group-clause-refused : goal.returns-in-Err-draw_group-clause-refused
+returns-in-Err-draw_group-clause-refused g c =
+    let o = start_of c.args.desk.now in
+    let t = c.take_side-side.ensures.took in
+    let old = view c.args.chair.now in
+    let taken = view c.take_side-side.new.chair in
+    let p = c.in-Ok.ensures.ready in
+    let was = c.in-Err-draw_group.ensures.cut in
+    cut-of g.P.Port.state g.P.Port.faults c.args.geometry (call_of c.args.asked.now) c.args.done.now c.in-Ok.ready.entry c.in-Err-draw_group.at old taken (view c.make_ready.new.chair) (view c.draw_group.new.chair) (holds-more (slot_of o (Side c.args.asked.now.queue)) t.known old taken t.is) c.in-Ok.ensures.words p.answers p.is c.requires.few was.0 was.1
+
+pub returns-in-Err-clause-refused : goal.returns-in-Err-clause-refused
+returns-in-Err-clause-refused g c =
+    let st = g.P.Port.state in
+    let fs = g.P.Port.faults in
+    let o = start_of c.args.desk.now in
+    let t = c.take_side-side.ensures.took in
+    let old = view c.args.chair.now in
+    let taken = view c.take_side-side.new.chair in
+    let same = c.in-Err.ensures.keeps.queue ∙ c.take_side-side.ensures.queue in
+    let reports = subst (λ (q : ℕ). OnlyReports (reports_for q c.in-Err.lack (view c.make_ready.new.chair).reading.charged) (view c.make_ready.new.chair) (view c.give_up.new.chair)) same c.give_up.ensures.reports in
+    let r = refused-for st fs o c.args.geometry (call_of c.args.asked.now) c.make_ready.new.side old taken (view c.make_ready.new.chair) (view c.give_up.new.chair) c.in-Err.lack (holds-more (slot_of o (Side c.args.asked.now.queue)) t.known old taken t.is) c.in-Err.ensures.words c.in-Err.ensures.lacks reports in
+    subst (λ (x : Refusal). IsRefused st fs c.args.geometry (call_of c.args.asked.now) old (view c.give_up.new.chair) x.cause x.drawn) (sym c.refusal_of.ensures) r

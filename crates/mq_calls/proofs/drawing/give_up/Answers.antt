@@ -1,0 +1,12 @@
+use Rattle.std.proofs.Common.{◌≡◌, ◌∙◌, ap}
+use Rattle.mq_files.specs.declared.entry.FileEntry.{FileEntry}
+use Rattle.mq_journal.specs.Numbers.{Seat}
+use Rattle.mq_turns.specs.AtDesk.{start_of, view}
+use Rattle.mq_calls.specs.Runs.{files}
+use Rattle.mq_calls.proofs.NotDrawn.{given-empty}
+use Rattle.mq_calls.proofs.drawing.give_up.Goals as goal
+
+pub returns-clause-idle : goal.returns-clause-idle
+returns-clause-idle g c =
+    ap (λ (x : Seat g.row.P.Denot FileEntry g.P.Port). x.held) c.give_back_pages.ensures.gave
+    ∙ given-empty (files g.P.Port.state g.P.Port.faults) (start_of c.args.desk.now) c.args.held.now.cells (view c.give_side.new.chair) c.give_side.ensures.pages
