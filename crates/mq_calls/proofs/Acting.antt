@@ -98,7 +98,7 @@ module _ {P : Type 0} {G : Ghosts P} (state : P → PortState) (faults : P → L
   known-before : (old v : Seat P FileEntry G) (K : Shared P FileEntry G) → v.opening ≡ old.opening → old.seen ≤ v.seen → IsKnownFrom state faults v K → IsKnownFrom state faults old K
   known-before old v K opening seen k = record { opening = sym opening ∙ k.opening; seen = (let l = k.seen in omega arith) }
 
-  caused-before : (old v : Seat P FileEntry G) (q : ℕ) (c : Cause) → v.opening ≡ old.opening → old.seen ≤ v.seen → IsCaused state faults v q c → IsCaused state faults old q c
+  pub caused-before : (old v : Seat P FileEntry G) (q : ℕ) (c : Cause) → v.opening ≡ old.opening → old.seen ≤ v.seen → IsCaused state faults v q c → IsCaused state faults old q c
   caused-before old v q c opening seen (kept K s known side is) = kept K s (known-before old v K opening seen known) side is
   caused-before old v q c opening seen (drained K s after known side drains cause) = drained K s after (known-before old v K opening seen known) side drains cause
 

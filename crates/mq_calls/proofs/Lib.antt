@@ -20,3 +20,4 @@ pub mod OpeningCells
 pub mod OpeningLists
 pub mod OpeningState
 pub mod OpeningFresh
+pub mod Composing

@@ -13,7 +13,7 @@ use Rattle.mq_pages.specs.Held.{HeldCells}
 use Rattle.mq_tree.specs.declared.request.Request.{Request}
 use Rattle.mq_turns.specs.Meaning.{newest}
 use Rattle.mq_calls.specs.Acts.{Call}
-use Rattle.mq_calls.specs.Pages.{HoldsOnlyPages}
+use Rattle.mq_calls.specs.Pages.{HoldsOnlyPages, IsSeen}
 use Rattle.mq_calls.specs.Runs.{IsDoneOnCells, files}
 use Rattle.mq_calls.specs.Sessions.{HasCalled}
 use Rattle.mq_calls.specs.declared.asked.Asked.{Asked}
@@ -41,6 +41,7 @@ module _ {P : Type 0} {G : Ghosts P} where
   pub record IsHolding (state : P → PortState) (faults : P → List Fault) (o : Start P FileEntry G) (g : Geometry) (a : Asked) (cells : HeldCells) (v : Seat P FileEntry G) (done : Done) : Type 0 where
     pub asks : IsAsking g a v
     pub pages : HoldsOnlyPages (files state faults) o cells.cells v
+    pub seen : IsSeen (files state faults) v
     pub done_on : IsDoneOnCells g a.queue a.requests.now cells.cells done
 
   -- It is the same session, and holds no turn and no cell any more.

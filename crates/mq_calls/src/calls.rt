@@ -26,8 +26,7 @@ use std::sync::Wait;
 
 // The refusal of a group that draws no number, for this.
 fn refused(cause: CallCause) -> Refusal
-    ensures cause { result.cause ≡ cause }
-    ensures drawn { result.drawn ≡ None }
+    ensures { result ≡ record { cause = cause; drawn = None } }
 {
     Refusal { cause, drawn: None }
 }

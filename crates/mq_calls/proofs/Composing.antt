@@ -1,0 +1,275 @@
+-- What a call leaves, from what its steps leave: of the group as a whole, and of the session.
+use Rattle.std.proofs.Common.{◌≡◌, ℕ, suc, ◌+◌, ◌-◌, ◌*◌, ◌<◌, ◌≤◌, Bool, true, false, List, [], ◌∷◌, length, map, Option, refl, sym, ap, subst, ◌∙◌, arith, Some}
+use Rattle.std.specs.Prelude.{None, Result, Ok, Err, IfOk, IfErr}
+use Rattle.mq_blocks.specs.Descriptor.{AreRising}
+use Rattle.mq_blocks.specs.Drive.{PortState}
+use Rattle.mq_blocks.specs.Geometry.{homes_of, write_limit}
+use Rattle.mq_blocks.specs.declared.geometry.Geometry.{Geometry}
+use Rattle.mq_drive.specs.Steps.{Fault}
+use Rattle.mq_drive.specs.declared.port.Port.{Ghosts}
+use Rattle.mq_exec.specs.declared.outcome.Done.{Done}
+use Rattle.mq_files.specs.Entries.{written_by}
+use Rattle.mq_files.specs.Group.{file_group}
+use Rattle.mq_files.specs.Laws.{blocks_in}
+use Rattle.mq_files.specs.declared.entry.FileEntry.{FileEntry}
+use Rattle.mq_files.proofs.Doing.{done_rises}
+use Rattle.mq_journal.specs.Draining.{report_of}
+use Rattle.mq_journal.specs.Numbers.{Seat, Shared, Start, reported}
+use Rattle.mq_pages.specs.Held.{Cells, HeldCells}
+use Rattle.mq_pages.specs.declared.page.PageCell.{PageCell}
+use Rattle.mq_pages.specs.declared.page.Write.{Write}
+use Rattle.mq_rules.specs.Rule.{geometry_of, map_now}
+use Rattle.mq_side.specs.declared.root.Root.{Root}
+use Rattle.mq_side.specs.declared.side.QueueSide.{QueueSide}
+use Rattle.mq_tree.specs.declared.request.Reply.{Reply}
+use Rattle.mq_tree.specs.declared.request.Request.{Request}
+use Rattle.mq_turns.specs.Lists.{Each}
+use Rattle.mq_turns.specs.declared.rule.Answer.TheVariants.{Base, Front}
+use Rattle.mq_turns.specs.declared.rule.Reading.{Reading}
+use Rattle.mq_turns.specs.declared.rule.Report.{Report}
+use Rattle.mq_turns.specs.declared.rule.Report.TheVariants as report
+use Rattle.mq_turns.proofs.Each.{each_map}
+use Rattle.mq_calls.specs.Acts.{Acts, Call, Commits, IsCut, IsRefused, IsTooLarge, KeepsAll, Reads, ReadsOnly, Refuses, Rests, area_full, before, cut, memory, too_large}
+use Rattle.mq_calls.specs.Calling.{HasLeft, IsReadOf}
+use Rattle.mq_calls.specs.Pages.{HoldsPages, IsSeen}
+use Rattle.mq_calls.specs.Runs.{IsDoneOnCells, file_values, files, geometry_at}
+use Rattle.mq_calls.specs.Sessions.{HasCalled, IsReady}
+use Rattle.mq_calls.specs.Sweeping.{HasSwept}
+use Rattle.mq_calls.specs.Synchronizing.{IsDurable}
+use Rattle.mq_calls.specs.Wanted.{IsSameSession}
+use Rattle.mq_calls.specs.declared.answers.Answer.{Answer}
+use Rattle.mq_calls.specs.declared.answers.CallCause.{CallCause}
+use Rattle.mq_calls.specs.declared.answers.Refusal.{Refusal}
+use Rattle.mq_calls.proofs.Acting.{caused-before}
+use Rattle.mq_calls.proofs.Between.{called-more}
+use Rattle.mq_calls.proofs.Finding.{done-now, shape-is}
+
+-- ---- how many blocks a group writes
+
+rising-few : (low high : ℕ) (xs : List ℕ) → AreRising low high xs → length xs ≤ high - low
+rising-few low high [] rise = omega arith
+rising-few low high (x ∷ xs) rise = let rest = rising-few (x + 1) high xs rise.2 in let a = rise.0 in let b = rise.1 in omega arith
+
+length-blocks : (ws : List Write) → length (blocks_in ws) ≡ length ws
+length-blocks [] = refl
+length-blocks (w ∷ ws) = let rest = length-blocks ws in omega arith
+
+module _ {P : Type 0} {G : Ghosts P} (state : P → PortState) (faults : P → List Fault) where
+  -- no more than there are home blocks
+  pub written-few : (g : Geometry) (o : Start P FileEntry G) (q : ℕ) (requests : List Request) (cells : Cells) (v : Seat P FileEntry G) (done : Done) → v.opening ≡ Some o → geometry_at state faults o ≡ g → HoldsPages (files state faults) o cells v → IsSeen (files state faults) v → IsDoneOnCells g q requests cells done → length done.writes.items ≤ homes_of g
+  written-few g o q requests cells v done opening shape holds seen on =
+      let stands = done-now state faults g o cells v opening shape holds q requests done on in
+      let K = seen.0 in
+      let rise = done_rises (geometry_of (file_values state faults) file_group K) q (map_now (file_values state faults) file_group K) requests done (stands.does K seen.1) in
+      let here = subst (λ (x : Geometry). AreRising 0 (homes_of x) (blocks_in done.writes.items)) (shape-is state faults g o cells v opening shape holds K seen.1) rise in
+      let few = rising-few 0 (homes_of g) (blocks_in done.writes.items) here in
+      let same = length-blocks done.writes.items in
+      omega arith
+
+module _ {P : Type 0} {G : Ghosts P} where
+  -- ---- a group that was read
+
+  pub reads-of : (c : Call) (done : Done) (at : ℕ) (v w : Seat P FileEntry G) (r : IsReadOf c done at v w) → Reads c done.replies.items at r.entry v w
+  reads-of c done at v w r = record {
+    is = record {
+      session = r.is.is.session_is;
+      call = r.is.call;
+      durable = r.is.durable;
+      requests = r.is.is.requests_are;
+      replies_are = r.is.is.replies_are;
+    };
+    known = r.looked.known;
+    number = r.looked.number;
+    drawn = ap (λ (x : Seat P FileEntry G). x.drawn) r.looked.is;
+    read = ap (λ (x : Seat P FileEntry G). x.read) r.looked.is;
+    above = r.looked.above;
+    answers = ap (λ (x : Seat P FileEntry G). x.reading.answers) r.looked.is;
+    charged = ap (λ (x : Seat P FileEntry G). x.reading.charged) r.looked.is;
+  }
+
+  pub large-of : (g : Geometry) (c : Call) (done : Done) (at count limit : ℕ) (v w : Seat P FileEntry G) → IsReadOf c done at v w → limit ≡ write_limit g → count ≡ length done.writes.items → limit < count → IsTooLarge g c count limit v w
+  large-of g c done at count limit v w r limit_is count_is above = record {
+    replies = done.replies.items;
+    at = at;
+    entry = r.entry;
+    reads = reads-of c done at v w r;
+    limit_is = limit_is;
+    count_is = count_is ∙ ap length (sym r.is.is.writes_are);
+    above = above;
+  }
+
+  -- ---- what stands before the group changes nothing of what it leaves
+
+  commits-same : (g : Geometry) (c : Call) (replies : List Reply) (at : ℕ) (r : Report) (v m w : Seat P FileEntry G) → IsSameSession v m → Commits g c replies at r m w → Commits g c replies at r v w
+  commits-same g c replies at r v m w same k = record {
+    entry = k.entry;
+    is = k.is;
+    drawn = k.drawn ∙ ap (λ (x : Seat P FileEntry G). (at, k.entry) ∷ x.drawn) same.is;
+    read = k.read ∙ ap (λ (x : Seat P FileEntry G). x.read) same.is;
+    above = (let a = same.seen in let b = k.above in omega arith);
+    few = k.few;
+    answers = k.answers ∙ ap (λ (x : Seat P FileEntry G). Base k.entry.reads.base ∷ Front k.entry.reads.front ∷ x.reading.answers) same.is;
+    charged = k.charged ∙ ap (λ (x : Seat P FileEntry G). reported c.session r ∷ x.reading.charged) same.is;
+  }
+
+  reads-same : (c : Call) (replies : List Reply) (at : ℕ) (e : FileEntry) (v m w : Seat P FileEntry G) → IsSameSession v m → Reads c replies at e m w → Reads c replies at e v w
+  reads-same c replies at e v m w same k = record {
+    is = k.is;
+    known = k.known;
+    number = k.number;
+    drawn = k.drawn ∙ ap (λ (x : Seat P FileEntry G). x.drawn) same.is;
+    read = k.read ∙ ap (λ (x : Seat P FileEntry G). (e, k.known) ∷ x.read) same.is;
+    above = (let a = same.seen in let b = k.above in omega arith);
+    answers = k.answers ∙ ap (λ (x : Seat P FileEntry G). x.reading.answers) same.is;
+    charged = k.charged ∙ ap (λ (x : Seat P FileEntry G). x.reading.charged) same.is;
+  }
+
+  pub acts-same : (g : Geometry) (c : Call) (at : ℕ) (drew : Bool) (replies : List Reply) (v m w : Seat P FileEntry G) → IsSameSession v m → Acts g c at drew replies m w → Acts g c at drew replies v w
+  acts-same g c at true replies v m w same a = commits-same g c replies at (report.Sent at) v m w same a
+  acts-same g c at false replies v m w same a = record { entry = a.entry; reads = reads-same c replies at a.entry v m w same a.reads; writes = a.writes; frees = a.frees }
+
+  rests-same : (v m w : Seat P FileEntry G) → IsSameSession v m → Rests m w → Rests v w
+  rests-same v m w same k = record {
+    drawn = k.drawn ∙ ap (λ (x : Seat P FileEntry G). x.drawn) same.is;
+    read = k.read ∙ ap (λ (x : Seat P FileEntry G). x.read) same.is;
+  }
+
+  keeps-same : (v m w : Seat P FileEntry G) → IsSameSession v m → KeepsAll m w → KeepsAll v w
+  keeps-same v m w same k = record {
+    rests = rests-same v m w same k.rests;
+    charged = k.charged ∙ ap (λ (x : Seat P FileEntry G). x.reading.charged) same.is;
+  }
+
+  large-same : (g : Geometry) (c : Call) (count limit : ℕ) (v m w : Seat P FileEntry G) → IsSameSession v m → IsTooLarge g c count limit m w → IsTooLarge g c count limit v w
+  large-same g c count limit v m w same k = record {
+    replies = k.replies;
+    at = k.at;
+    entry = k.entry;
+    reads = reads-same c k.replies k.at k.entry v m w same k.reads;
+    limit_is = k.limit_is;
+    count_is = k.count_is;
+    above = k.above;
+  }
+
+  -- ---- the session's next call
+
+  called-drawn : (n at : ℕ) (e : FileEntry) (v w : Seat P FileEntry G) → e.call ≡ n → w.drawn ≡ (at, e) ∷ v.drawn → w.read ≡ v.read → HasCalled n v → HasCalled (n + 1) w
+  called-drawn n at e v w count drawn read h =
+      let more = called-more n v h in
+      record {
+        drawn = subst (Each (λ d. d.1.call < n + 1)) (sym drawn) (omega (arith, count), more.drawn);
+        read = subst (Each (λ r. r.0.call < n + 1)) (sym read) more.read;
+        few = (let l = h.few in let s = ap length drawn in omega arith);
+      }
+
+  called-read : (n : ℕ) (e : FileEntry) (K : Shared P FileEntry G) (v w : Seat P FileEntry G) → e.call ≡ n → w.drawn ≡ v.drawn → w.read ≡ (e, K) ∷ v.read → HasCalled n v → HasCalled (n + 1) w
+  called-read n e K v w count drawn read h =
+      let more = called-more n v h in
+      record {
+        drawn = subst (Each (λ d. d.1.call < n + 1)) (sym drawn) more.drawn;
+        read = subst (Each (λ r. r.0.call < n + 1)) (sym read) (omega (arith, count), more.read);
+        few = (let l = more.few in let s = ap length drawn in omega arith);
+      }
+
+  called-rests : (n : ℕ) (v w : Seat P FileEntry G) → Rests v w → HasCalled n v → HasCalled (n + 1) w
+  called-rests n v w r h =
+      let more = called-more n v h in
+      record {
+        drawn = subst (Each (λ d. d.1.call < n + 1)) (sym r.drawn) more.drawn;
+        read = subst (Each (λ x. x.0.call < n + 1)) (sym r.read) more.read;
+        few = (let l = more.few in let s = ap length r.drawn in omega arith);
+      }
+
+  pub called-acts : (g : Geometry) (c : Call) (at : ℕ) (drew : Bool) (replies : List Reply) (v w : Seat P FileEntry G) → Acts g c at drew replies v w → HasCalled c.count v → HasCalled (c.count + 1) w
+  called-acts g c at true replies v w a h = called-drawn c.count at a.entry v w a.is.call a.drawn a.read h
+  called-acts g c at false replies v w a h = called-read c.count a.entry a.reads.known v w a.reads.is.call a.reads.drawn a.reads.read h
+
+  -- it holds nothing, and its next call has one more before it
+  pub ready-left : (g : Geometry) (q n : ℕ) (old mid cells : HeldCells) (first v w : Seat P FileEntry G) → IsReady g q n old first → IsSameSession first v → HasLeft mid cells v w → mid.room ≡ old.room → HasCalled (n + 1) w → IsReady g q (n + 1) cells w
+  ready-left g q n old mid cells first v w ready same left room called = record {
+    queue = ready.queue;
+    own = left.session ∙ ap (λ (x : Seat P FileEntry G). x.session) same.is ∙ ready.own;
+    idle = left.held;
+    called = called;
+    none = left.none;
+    room = subst (λ (k : ℕ). homes_of g ≤ k) (sym (left.room ∙ room)) ready.room;
+  }
+
+module _ {P : Type 0} {G : Ghosts P} (state : P → PortState) (faults : P → List Fault) where
+  pub refused-same : (g : Geometry) (c : Call) (v m w : Seat P FileEntry G) (why : CallCause) (drawn : Option ℕ) → IsSameSession v m → IsRefused state faults g c m w why drawn → IsRefused state faults g c v w why drawn
+  refused-same g c v m w why drawn same (memory k) = memory (keeps-same v m w same k)
+  refused-same g c v m w why drawn same (too_large {count} {limit} k) = too_large (large-same g c count limit v m w same k)
+  refused-same g c v m w why drawn same (area_full k) = area_full (keeps-same v m w same k)
+  refused-same g c v m w why drawn same (before {why = x} k) = before (record {
+    rests = rests-same v m w same k.rests;
+    charged = k.charged ∙ ap (λ (z : Seat P FileEntry G). reported c.session (report_of x) ∷ z.reading.charged) same.is;
+    caused = caused-before state faults v m c.session x (ap (λ (x : Seat P FileEntry G). x.opening) same.is) same.seen k.caused;
+  })
+  refused-same g c v m w why drawn same (cut {at} k) = cut (record {
+    replies = k.replies;
+    commits = commits-same g c k.replies at report.Off v m w same k.commits;
+    cut = record { above = (let a = k.cut.above in let b = same.seen in omega arith); side = k.cut.side; numbered = k.cut.numbered; number = k.cut.number; cut = k.cut.cut };
+  })
+
+  pub called-refused : (g : Geometry) (c : Call) (v w : Seat P FileEntry G) (why : CallCause) (drawn : Option ℕ) → IsRefused state faults g c v w why drawn → HasCalled c.count v → HasCalled (c.count + 1) w
+  called-refused g c v w why drawn (memory k) h = called-rests c.count v w k.rests h
+  called-refused g c v w why drawn (too_large k) h = called-read c.count k.entry k.reads.known v w k.reads.is.call k.reads.drawn k.reads.read h
+  called-refused g c v w why drawn (area_full k) h = called-rests c.count v w k.rests h
+  called-refused g c v w why drawn (before k) h = called-rests c.count v w k.rests h
+  called-refused g c v w why drawn (cut {at} k) h = called-drawn c.count at k.commits.entry v w k.commits.is.call k.commits.drawn k.commits.read h
+
+  -- whatever it came to
+  pub called-either : (g : Geometry) (c : Call) (v w : Seat P FileEntry G) (r : Result Answer Refusal) → IfOk r (λ a. Acts g c a.at a.drew a.replies.items v w) → IfErr r (λ e. IsRefused state faults g c v w e.cause e.drawn) → HasCalled c.count v → HasCalled (c.count + 1) w
+  called-either g c v w (Ok a) acts refused h = called-acts g c a.at a.drew a.replies.items v w acts h
+  called-either g c v w (Err e) acts refused h = called-refused g c v w e.cause e.drawn refused h
+
+  pub either-acts : (g : Geometry) (c : Call) (v m w : Seat P FileEntry G) (r : Result Answer Refusal) → IsSameSession v m → IfOk r (λ a. Acts g c a.at a.drew a.replies.items m w) → IfOk r (λ a. Acts g c a.at a.drew a.replies.items v w)
+  either-acts g c v m w (Ok a) same acts = acts-same g c a.at a.drew a.replies.items v m w same acts
+  either-acts g c v m w (Err e) same acts = tt
+
+  pub either-refused : (g : Geometry) (c : Call) (v m w : Seat P FileEntry G) (r : Result Answer Refusal) → IsSameSession v m → IfErr r (λ e. IsRefused state faults g c m w e.cause e.drawn) → IfErr r (λ e. IsRefused state faults g c v w e.cause e.drawn)
+  either-refused g c v m w (Ok a) same refused = tt
+  either-refused g c v m w (Err e) same refused = refused-same g c v m w e.cause e.drawn same refused
+
+  -- ---- queues were drained after it
+
+  acts-swept : (g : Geometry) (c : Call) (at : ℕ) (drew : Bool) (replies : List Reply) (v m w : Seat P FileEntry G) → HasSwept state faults file_group m w → Acts g c at drew replies v m → Acts g c at drew replies v w
+  acts-swept g c at true replies v m w s a = record {
+    entry = a.entry;
+    is = a.is;
+    drawn = ap (λ (x : Seat P FileEntry G). x.drawn) s.is ∙ a.drawn;
+    read = ap (λ (x : Seat P FileEntry G). x.read) s.is ∙ a.read;
+    above = a.above;
+    few = a.few;
+    answers = s.reading.answers ∙ a.answers;
+    charged = s.reading.charged ∙ a.charged;
+  }
+  acts-swept g c at false replies v m w s a = record {
+    entry = a.entry;
+    reads = record {
+      is = a.reads.is;
+      known = a.reads.known;
+      number = a.reads.number;
+      drawn = ap (λ (x : Seat P FileEntry G). x.drawn) s.is ∙ a.reads.drawn;
+      read = ap (λ (x : Seat P FileEntry G). x.read) s.is ∙ a.reads.read;
+      above = a.reads.above;
+      answers = s.reading.answers ∙ a.reads.answers;
+      charged = s.reading.charged ∙ a.reads.charged;
+    };
+    writes = a.writes;
+    frees = a.frees;
+  }
+
+  pub durable-of : (g : Geometry) (c : Call) (at : ℕ) (drew : Bool) (replies : List Reply) (v m w : Seat P FileEntry G) → Acts g c at drew replies v m → HasSwept state faults file_group m w → at ≤ w.reading.done → IsDurable g c at drew replies v w
+  durable-of g c at drew replies v m w a s done = record { acts = acts-swept g c at drew replies v m w s a; done = done }
+
+  -- a session stays ready where only its reading changes
+  pub ready-swept : (g : Geometry) (q n : ℕ) (cells : HeldCells) (v w : Seat P FileEntry G) (r : Reading PageCell (QueueSide P FileEntry G) (Root P G) FileEntry) → w ≡ record v { hand = 0; reading = r } → IsReady g q n cells v → IsReady g q n cells w
+  ready-swept g q n cells v w r is ready = subst (λ (x : Seat P FileEntry G). IsReady g q n cells x) (sym is) (record {
+    queue = ready.queue;
+    own = ready.own;
+    idle = ready.idle;
+    called = record { drawn = ready.called.drawn; read = ready.called.read; few = ready.called.few };
+    none = ready.none;
+    room = ready.room;
+  })
