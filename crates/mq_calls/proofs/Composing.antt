@@ -16,16 +16,12 @@ use Rattle.mq_files.proofs.Doing.{done_rises}
 use Rattle.mq_journal.specs.Draining.{report_of}
 use Rattle.mq_journal.specs.Numbers.{Seat, Shared, Start, reported}
 use Rattle.mq_pages.specs.Held.{Cells, HeldCells}
-use Rattle.mq_pages.specs.declared.page.PageCell.{PageCell}
 use Rattle.mq_pages.specs.declared.page.Write.{Write}
 use Rattle.mq_rules.specs.Rule.{geometry_of, map_now}
-use Rattle.mq_side.specs.declared.root.Root.{Root}
-use Rattle.mq_side.specs.declared.side.QueueSide.{QueueSide}
 use Rattle.mq_tree.specs.declared.request.Reply.{Reply}
 use Rattle.mq_tree.specs.declared.request.Request.{Request}
 use Rattle.mq_turns.specs.Lists.{Each}
 use Rattle.mq_turns.specs.declared.rule.Answer.TheVariants.{Base, Front}
-use Rattle.mq_turns.specs.declared.rule.Reading.{Reading}
 use Rattle.mq_turns.specs.declared.rule.Report.{Report}
 use Rattle.mq_turns.specs.declared.rule.Report.TheVariants as report
 use Rattle.mq_turns.proofs.Each.{each_map}
@@ -35,7 +31,7 @@ use Rattle.mq_calls.specs.Pages.{HoldsPages, IsSeen}
 use Rattle.mq_calls.specs.Runs.{IsDoneOnCells, file_values, files, geometry_at}
 use Rattle.mq_calls.specs.Sessions.{HasCalled, IsReady}
 use Rattle.mq_calls.specs.Sweeping.{HasSwept}
-use Rattle.mq_calls.specs.Synchronizing.{IsDurable}
+use Rattle.mq_calls.specs.Synchronizing.{IsDurable, IsNotDurable, WasDrainRefused, after}
 use Rattle.mq_calls.specs.Wanted.{IsSameSession}
 use Rattle.mq_calls.specs.declared.answers.Answer.{Answer}
 use Rattle.mq_calls.specs.declared.answers.CallCause.{CallCause}
@@ -263,13 +259,14 @@ module _ {P : Type 0} {G : Ghosts P} (state : P → PortState) (faults : P → L
   pub durable-of : (g : Geometry) (c : Call) (at : ℕ) (drew : Bool) (replies : List Reply) (v m w : Seat P FileEntry G) → Acts g c at drew replies v m → HasSwept state faults file_group m w → at ≤ w.reading.done → IsDurable g c at drew replies v w
   durable-of g c at drew replies v m w a s done = record { acts = acts-swept g c at drew replies v m w s a; done = done }
 
-  -- a session stays ready where only its reading changes
-  pub ready-swept : (g : Geometry) (q n : ℕ) (cells : HeldCells) (v w : Seat P FileEntry G) (r : Reading PageCell (QueueSide P FileEntry G) (Root P G) FileEntry) → w ≡ record v { hand = 0; reading = r } → IsReady g q n cells v → IsReady g q n cells w
-  ready-swept g q n cells v w r is ready = subst (λ (x : Seat P FileEntry G). IsReady g q n cells x) (sym is) (record {
-    queue = ready.queue;
-    own = ready.own;
-    idle = ready.idle;
-    called = record { drawn = ready.called.drawn; read = ready.called.read; few = ready.called.few };
-    none = ready.none;
-    room = ready.room;
-  })
+  pub not-durable : (g : Geometry) (c : Call) (at : ℕ) (drew : Bool) (replies : List Reply) (v m w : Seat P FileEntry G) (why : CallCause) (drawn : Option ℕ) → Acts g c at drew replies v m → WasDrainRefused state faults g at drew m w why drawn → IsNotDurable state faults g c v w why drawn
+  not-durable g c at drew replies v m w why drawn a r = subst (λ (x : CallCause). IsNotDurable state faults g c v w x drawn) (sym r.cause_is) (after (record {
+    at = at;
+    drew = drew;
+    replies = replies;
+    between = m;
+    acts = a;
+    refused = r.refused;
+    upto = r.upto;
+    drawn_is = r.drawn_is;
+  }))

@@ -1,5 +1,5 @@
 // The calls of a session that change the file system.
-ghost use Rattle.std.specs.Prelude.{◌≡◌, ◌<◌, ◌≤◌, IfErr, IfOk, OnOk, [], None};
+ghost use Rattle.std.specs.Prelude.{◌≡◌, ◌<◌, ◌≤◌, IfErr, IfOk, OnOk, [], None, true, false};
 ghost use Rattle.mq_files.specs.Entries.{IsUndrawn};
 ghost use Rattle.mq_files.specs.Group.{file_group};
 ghost use Rattle.mq_turns.specs.AtDesk.{AtDesk, start_of, view};

@@ -1,0 +1,22 @@
+use Rattle.std.proofs.Common.{◌≡◌, true}
+use Rattle.mq_turns.specs.AtDesk.{view}
+use Rattle.mq_calls.specs.Calling.{call_by}
+use Rattle.mq_calls.specs.Synchronizing.{before}
+use Rattle.mq_calls.proofs.Composing.{durable-of, not-durable}
+use Rattle.mq_calls.proofs.calls.Mqfs+P.fsync.Goals as goal
+
+pub returns-in-Ok-drained-clause-durable : goal.returns-in-Ok-drained-clause-durable
+returns-in-Ok-drained-clause-durable g c =
+    let s = c.args.session.now in
+    let a = c.in-Ok.answer in
+    durable-of g.P.Port.state g.P.Port.faults c.args.self.now.geometry (call_by s.queue s.calls true c.args.requests.now) a.at a.drew a.replies.items (view s.chair) (view c.act.new.session.chair) (view c.drain-drained.new.session.chair) c.in-Ok.ensures.acts c.in-Ok-drained.ensures.swept c.in-Ok-drained.ensures.done
+
+pub returns-in-Err-drained-clause-refused : goal.returns-in-Err-drained-clause-refused
+returns-in-Err-drained-clause-refused g c =
+    let s = c.args.session.now in
+    let a = c.in-Ok.answer in
+    let r = c.in-Err-drained.refusal in
+    not-durable g.P.Port.state g.P.Port.faults c.args.self.now.geometry (call_by s.queue s.calls true c.args.requests.now) a.at a.drew a.replies.items (view s.chair) (view c.act.new.session.chair) (view c.drain-drained.new.session.chair) r.cause r.drawn c.in-Ok.ensures.acts c.in-Err-drained.ensures.refused
+
+pub returns-in-Err-clause-refused : goal.returns-in-Err-clause-refused
+returns-in-Err-clause-refused g c = before c.in-Err.ensures.refused
