@@ -1,13 +1,11 @@
 -- What a call leaves, from what its steps leave.
-use Rattle.std.proofs.Common.{◌≡◌, ℕ, suc, ◌+◌, ◌<◌, ◌≤◌, List, [], ◌∷◌, length, refl, sym, ap, subst, ◌∙◌, arith, Some}
-use Rattle.std.specs.Prelude.{None}
+use Rattle.std.proofs.Common.{◌≡◌, ℕ, ◌≤◌, List, ◌∷◌, length, sym, ap, subst, ◌∙◌, arith, Some}
 use Rattle.mq_blocks.specs.Drive.{PortState}
 use Rattle.mq_blocks.specs.Geometry.{write_limit}
 use Rattle.mq_blocks.specs.declared.geometry.Geometry.{Geometry}
 use Rattle.mq_drive.specs.Steps.{Fault}
 use Rattle.mq_drive.specs.declared.port.Port.{Ghosts}
 use Rattle.mq_exec.specs.declared.outcome.Done.{Done}
-use Rattle.mq_files.specs.Entries.{written_by}
 use Rattle.mq_files.specs.declared.entry.FileEntry.{FileEntry}
 use Rattle.mq_journal.specs.Draining.{report_of}
 use Rattle.mq_journal.specs.Numbers.{Seat, Shared, Start, reported}

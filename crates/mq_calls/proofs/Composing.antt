@@ -1,6 +1,6 @@
 -- What a call leaves, from what its steps leave: of the group as a whole, and of the session.
-use Rattle.std.proofs.Common.{◌≡◌, ℕ, suc, ◌+◌, ◌-◌, ◌*◌, ◌<◌, ◌≤◌, Bool, true, false, List, [], ◌∷◌, length, map, Option, refl, sym, ap, subst, ◌∙◌, arith, Some}
-use Rattle.std.specs.Prelude.{None, Result, Ok, Err, IfOk, IfErr}
+use Rattle.std.proofs.Common.{◌≡◌, ℕ, ◌+◌, ◌-◌, ◌<◌, ◌≤◌, Bool, true, false, List, [], ◌∷◌, length, Option, refl, sym, ap, subst, ◌∙◌, arith, Some}
+use Rattle.std.specs.Prelude.{Result, Ok, Err, IfOk, IfErr}
 use Rattle.mq_blocks.specs.Descriptor.{AreRising}
 use Rattle.mq_blocks.specs.Drive.{PortState}
 use Rattle.mq_blocks.specs.Geometry.{homes_of, write_limit}
@@ -8,7 +8,6 @@ use Rattle.mq_blocks.specs.declared.geometry.Geometry.{Geometry}
 use Rattle.mq_drive.specs.Steps.{Fault}
 use Rattle.mq_drive.specs.declared.port.Port.{Ghosts}
 use Rattle.mq_exec.specs.declared.outcome.Done.{Done}
-use Rattle.mq_files.specs.Entries.{written_by}
 use Rattle.mq_files.specs.Group.{file_group}
 use Rattle.mq_files.specs.Laws.{blocks_in}
 use Rattle.mq_files.specs.declared.entry.FileEntry.{FileEntry}
@@ -24,8 +23,7 @@ use Rattle.mq_turns.specs.Lists.{Each}
 use Rattle.mq_turns.specs.declared.rule.Answer.TheVariants.{Base, Front}
 use Rattle.mq_turns.specs.declared.rule.Report.{Report}
 use Rattle.mq_turns.specs.declared.rule.Report.TheVariants as report
-use Rattle.mq_turns.proofs.Each.{each_map}
-use Rattle.mq_calls.specs.Acts.{Acts, Call, Commits, IsCut, IsRefused, IsTooLarge, KeepsAll, Reads, ReadsOnly, Refuses, Rests, area_full, before, cut, memory, too_large}
+use Rattle.mq_calls.specs.Acts.{Acts, Call, Commits, IsRefused, IsTooLarge, KeepsAll, Reads, Rests, area_full, before, cut, memory, too_large}
 use Rattle.mq_calls.specs.Calling.{HasLeft, IsReadOf}
 use Rattle.mq_calls.specs.Pages.{HoldsPages, IsSeen}
 use Rattle.mq_calls.specs.Runs.{IsDoneOnCells, file_values, files, geometry_at}

@@ -1,12 +1,11 @@
 -- A group that is prepared on the pages and the side that its session holds may be drawn.
-use Rattle.std.proofs.Common.{◌≡◌, ◌≢◌, ◌⊎◌, ℕ, suc, ◌+◌, ◌<◌, ◌≤◌, ◌^◌, Bool, true, false, List, [], ◌∷◌, ◌++◌, length, map, nat_eq, Option, inl, inr, refl, sym, ap, subst, ◌∙◌, arith, Some}
+use Rattle.std.proofs.Common.{◌≡◌, ◌≢◌, ◌⊎◌, ℕ, ◌<◌, ◌≤◌, ◌^◌, Bool, true, List, [], ◌∷◌, ◌++◌, length, map, Option, inl, inr, refl, sym, ap, subst, ◌∙◌, arith, Some}
 use Rattle.std.specs.Prelude.{None}
 use Rattle.std.proofs.lemmas.Bool.{eqb-true, false≢true}
 use Rattle.std.specs.List.{Contains}
 use Rattle.mq_blocks.specs.Drive.{PortState}
 use Rattle.mq_blocks.specs.Geometry.{area_of, homes_of, queues_of, write_limit}
 use Rattle.mq_blocks.specs.Descriptor.{AreRising}
-use Rattle.mq_blocks.specs.Journal.{is_among, number_limit}
 use Rattle.mq_blocks.specs.Machine.{write_of}
 use Rattle.mq_blocks.specs.declared.geometry.Geometry.{Geometry}
 use Rattle.mq_blocks.proofs.Among.{among-contains}
@@ -25,7 +24,6 @@ use Rattle.mq_files.proofs.Written.{only}
 use Rattle.mq_inodes.specs.Pages.{held_pages, page_in}
 use Rattle.mq_journal.specs.Numbers.{HasPlace, MayCome, Seat, Shared, Start}
 use Rattle.mq_ledger.specs.History.{changes}
-use Rattle.mq_ledger.specs.declared.tx.Tx.{Tx}
 use Rattle.mq_pages.specs.Held.{Cells, cell_of}
 use Rattle.mq_pages.specs.declared.page.PageCell.{PageCell}
 use Rattle.mq_pages.specs.declared.page.Write.{Write}
@@ -33,7 +31,7 @@ use Rattle.mq_revoke.specs.Guard.{placed_of}
 use Rattle.mq_revoke.specs.Placed.{Placed}
 use Rattle.mq_revoke.specs.Placing.{IsPlacement}
 use Rattle.mq_revoke.specs.declared.placement.Planned.{Planned}
-use Rattle.mq_rules.specs.Rule.{IsPage, May, core_of, geometry_of, history_of, map_now, start_of, touches}
+use Rattle.mq_rules.specs.Rule.{May, core_of, geometry_of, history_of, map_now, start_of, touches}
 use Rattle.mq_rules.specs.Values.{Values}
 use Rattle.mq_rules.proofs.Settled.{front_claimed}
 use Rattle.mq_side.specs.Commits.{IsPlanOf, written_in}

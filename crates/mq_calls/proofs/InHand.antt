@@ -1,5 +1,5 @@
 -- A session that holds the pages of a group and the side of its queue.
-use Rattle.std.proofs.Common.{◌≡◌, ◌≢◌, ℕ, suc, ◌+◌, ◌<◌, ◌≤◌, Bool, true, List, [], ◌∷◌, length, map, refl, sym, ap, subst, ◌∙◌, arith, Some}
+use Rattle.std.proofs.Common.{◌≡◌, ◌≢◌, ℕ, ◌+◌, ◌<◌, ◌≤◌, List, [], ◌∷◌, length, sym, ap, subst, ◌∙◌, arith}
 use Rattle.std.specs.List.{All}
 use Rattle.std.proofs.lemmas.List.Elements.{All-cons, All-nil}
 use Rattle.mq_blocks.specs.Drive.{PortState}
@@ -19,7 +19,7 @@ use Rattle.mq_turns.specs.Chairs.{holding}
 use Rattle.mq_turns.specs.Desk.{Sees, slot_of}
 use Rattle.mq_turns.specs.Lists.{Each, tick, times}
 use Rattle.mq_turns.specs.Meaning.{Meaning}
-use Rattle.mq_turns.specs.Swept.{AfterFront, AfterMarks, Sweeping}
+use Rattle.mq_turns.specs.Swept.{AfterFront}
 use Rattle.mq_turns.specs.Words.{after_base}
 use Rattle.mq_turns.specs.declared.rule.Answer.TheVariants.{Base, Front}
 use Rattle.mq_turns.specs.declared.rule.ChairView.{ChairView}

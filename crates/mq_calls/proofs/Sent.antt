@@ -1,5 +1,5 @@
 -- A group that was drawn and sent, or refused: what that leaves of its session.
-use Rattle.std.proofs.Common.{◌≡◌, ◌≢◌, ℕ, suc, ◌+◌, ◌<◌, ◌≤◌, Bool, true, false, List, [], ◌∷◌, length, refl, sym, ap, subst, ◌∙◌, inl, inr, arith, Some}
+use Rattle.std.proofs.Common.{◌≡◌, ◌≢◌, ℕ, ◌+◌, ◌<◌, Bool, false, List, [], ◌∷◌, length, refl, sym, ap, subst, ◌∙◌, inl, inr, arith, Some}
 use Rattle.std.specs.List.{All}
 use Rattle.std.proofs.lemmas.Bool.{cases_eq, ne_eqb}
 use Rattle.std.proofs.lemmas.List.Elements.{All-cons, All-nil}
@@ -17,15 +17,12 @@ use Rattle.mq_side.specs.Commits.{NumberedCommit}
 use Rattle.mq_side.specs.declared.root.Root.{Root}
 use Rattle.mq_side.specs.declared.side.QueueSide.{QueueSide}
 use Rattle.mq_turns.specs.Chairs.{giving}
-use Rattle.mq_turns.specs.Desk.{Sees, refreshed, slot_of, turn_at}
+use Rattle.mq_turns.specs.Desk.{refreshed, slot_of, turn_at}
 use Rattle.mq_turns.specs.Lists.{Each, tick, times, without}
 use Rattle.mq_turns.specs.Meaning.{Meaning, charged, drawn}
 use Rattle.mq_turns.specs.Words.{after_notice, same_turn}
-use Rattle.mq_turns.specs.declared.rule.Charge.{Charge}
-use Rattle.mq_turns.specs.declared.rule.Known.{Known}
 use Rattle.mq_turns.specs.declared.rule.Notice.TheVariants as notice
 use Rattle.mq_turns.specs.declared.rule.Report.{Report}
-use Rattle.mq_turns.specs.declared.turn.Turn.{Turn}
 use Rattle.mq_turns.specs.declared.turn.Turn.TheVariants.{Page, Side}
 use Rattle.mq_turns.proofs.Each.{each_map, times_without, times_without_other}
 use Rattle.mq_turns.proofs.Seen.{times_renewed, turn_seen}

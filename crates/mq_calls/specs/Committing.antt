@@ -1,8 +1,8 @@
 -- A group that is about to be drawn: its pages and the side of its queue are held, its blocks are placed, and its commit is
 -- prepared.
-use Rattle.std.specs.Prelude.{◌≡◌, ◌<◌, ◌≤◌, ◌+◌, ℕ, List, [], ◌∷◌, map, None, vec_len, vec_capacity}
+use Rattle.std.specs.Prelude.{◌≡◌, ◌<◌, ◌≤◌, ◌+◌, ℕ, List, ◌∷◌, map, None, vec_len, vec_capacity}
 use Rattle.mq_blocks.specs.Drive.{PortState}
-use Rattle.mq_blocks.specs.Geometry.{area_of, homes_of}
+use Rattle.mq_blocks.specs.Geometry.{area_of}
 use Rattle.mq_blocks.specs.declared.geometry.Geometry.{Geometry}
 use Rattle.mq_drive.specs.Steps.{Fault}
 use Rattle.mq_drive.specs.declared.port.Port.{Ghosts}
@@ -14,13 +14,13 @@ use Rattle.mq_files.specs.Plans.{planned_with}
 use Rattle.mq_files.specs.declared.entry.FileEntry.{FileEntry}
 use Rattle.mq_files.specs.declared.entry.Reads.{Reads as WordsRead}
 use Rattle.mq_journal.specs.Draining.{report_of}
-use Rattle.mq_journal.specs.Numbers.{HasPlace, HoldsSide, MayCome, Seat, ShowsReport, Start, WasCut, reported}
+use Rattle.mq_journal.specs.Numbers.{HasPlace, HoldsSide, MayCome, Seat, ShowsReport, Start, reported}
 use Rattle.mq_pages.specs.Held.{Cells}
 use Rattle.mq_pages.specs.declared.page.Write.{Write}
 use Rattle.mq_revoke.specs.Guard.{placed_of}
 use Rattle.mq_revoke.specs.Placed.{Placed}
 use Rattle.mq_revoke.specs.Placing.{IsPlacement}
-use Rattle.mq_side.specs.Commits.{Commit, IsPlanOf, NumberedCommit, commit_of_tx}
+use Rattle.mq_side.specs.Commits.{IsPlanOf, commit_of_tx}
 use Rattle.mq_side.specs.Stored.{FitIs, rows_of}
 use Rattle.mq_side.specs.declared.answers.Fit.TheVariants.{Area}
 use Rattle.mq_side.specs.declared.side.QueueSide.{QueueSide}

@@ -1,4 +1,4 @@
-use Rattle.std.proofs.Common.{◌≡◌, ◌∙◌, ℕ, List, sym, ap, subst}
+use Rattle.std.proofs.Common.{◌∙◌, ℕ, sym, subst}
 use Rattle.mq_blocks.specs.declared.geometry.Geometry.{Geometry}
 use Rattle.mq_turns.specs.AtDesk.{start_of, view}
 use Rattle.mq_turns.specs.Desk.{slot_of}

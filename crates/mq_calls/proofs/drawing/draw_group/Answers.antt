@@ -5,7 +5,6 @@ use Rattle.mq_journal.specs.Numbers.{Draws, HoldsNumbered, IsReported, Seat}
 use Rattle.mq_pages.specs.Held.{Cells}
 use Rattle.mq_turns.specs.AtDesk.{start_of, view}
 use Rattle.mq_turns.specs.declared.rule.Report.TheVariants as report
-use Rattle.mq_calls.specs.Calling.{call_of}
 use Rattle.mq_calls.specs.Leaving.{cells_after}
 use Rattle.mq_calls.specs.Pages.{HoldsPages}
 use Rattle.mq_calls.specs.Runs.{files}

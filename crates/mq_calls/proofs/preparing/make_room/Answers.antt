@@ -1,4 +1,3 @@
-use Rattle.std.proofs.Common.{◌≡◌}
 use Rattle.mq_turns.specs.AtDesk.{start_of, view}
 use Rattle.mq_calls.proofs.Causes.{drain-caused}
 use Rattle.mq_calls.proofs.preparing.make_room.Goals as goal

@@ -1,4 +1,4 @@
-use Rattle.std.proofs.Common.{◌≡◌, ◌∙◌, ℕ, List, sym, subst}
+use Rattle.std.proofs.Common.{◌∙◌, ℕ, List, sym, subst}
 use Rattle.mq_blocks.specs.Descriptor.{AreRising}
 use Rattle.mq_blocks.specs.Geometry.{homes_of}
 use Rattle.mq_revoke.specs.Placing.{AreInOrder}

@@ -1,6 +1,4 @@
-use Rattle.std.proofs.Common.{◌≡◌, sym, subst}
-use Rattle.mq_files.specs.declared.entry.FileEntry.{FileEntry}
-use Rattle.mq_journal.specs.Numbers.{Seat}
+use Rattle.std.proofs.Common.{sym, subst}
 use Rattle.mq_turns.specs.AtDesk.{start_of, view}
 use Rattle.mq_turns.specs.Desk.{Sees}
 use Rattle.mq_calls.specs.Runs.{files}

@@ -1,5 +1,4 @@
-use Rattle.std.proofs.Common.{◌≡◌, ◌∙◌, ◌+◌, ℕ, sym, subst}
-use Rattle.mq_pages.specs.Held.{HeldCells}
+use Rattle.std.proofs.Common.{ℕ, sym, subst}
 use Rattle.mq_turns.specs.AtDesk.{view}
 use Rattle.mq_calls.specs.Acts.{IsRefused, memory}
 use Rattle.mq_calls.specs.Calling.{call_by}

@@ -1,4 +1,4 @@
-use Rattle.std.proofs.Common.{◌≡◌, true}
+use Rattle.std.proofs.Common.{true}
 use Rattle.mq_turns.specs.AtDesk.{view}
 use Rattle.mq_calls.specs.Calling.{call_by}
 use Rattle.mq_calls.specs.Synchronizing.{before}
