@@ -21,3 +21,4 @@ pub mod OpeningLists
 pub mod OpeningState
 pub mod OpeningFresh
 pub mod Composing
+pub mod StartReads

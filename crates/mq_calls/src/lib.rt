@@ -13,6 +13,7 @@ mod gate;
 mod laws;
 mod leaving;
 mod machine;
+mod mounting;
 mod opening;
 mod pages;
 mod preparing;
