@@ -7,9 +7,12 @@ use Rattle.mq_drive.specs.Steps.{Fault}
 use Rattle.mq_drive.specs.declared.port.Port.{Ghosts}
 use Rattle.mq_exec.specs.declared.outcome.Done.{Done}
 use Rattle.mq_files.specs.declared.entry.FileEntry.{FileEntry}
+use Rattle.mq_files.specs.Group.{file_group}
+use Rattle.mq_journal.proofs.InHand.{held_is_current}
 use Rattle.mq_journal.specs.Draining.{report_of}
 use Rattle.mq_journal.specs.Numbers.{Seat, Shared, Start, reported}
 use Rattle.mq_pages.specs.declared.page.PageCell.{PageCell}
+use Rattle.mq_pages.specs.Held.{Cells}
 use Rattle.mq_pages.specs.declared.page.Write.{Write}
 use Rattle.mq_side.specs.declared.answers.Cause.{Cause}
 use Rattle.mq_side.specs.declared.answers.Cause.TheVariants as cause
@@ -23,7 +26,7 @@ use Rattle.mq_turns.specs.declared.rule.Charge.{Charge}
 use Rattle.mq_turns.specs.declared.rule.Report.TheVariants.{Off, Sent}
 use Rattle.mq_calls.specs.Acts.{Call, Commits, IsCaused, IsKnownFrom, IsOfCall, IsRefused, Rests, WasCutAt, area_full, before, cut, drained, kept, memory}
 use Rattle.mq_calls.specs.Calling.{IsEntryFor}
-use Rattle.mq_calls.specs.Committing.{IsLacking, OnlyReports, ReadsWords, refusal_for, reports_for}
+use Rattle.mq_calls.specs.Committing.{HoldsCommit, IsLacking, OnlyReports, ReadsWords, refusal_for, reports_for}
 use Rattle.mq_calls.specs.Drawing.{HasDrawn, IsCommitted}
 use Rattle.mq_calls.specs.declared.answers.CallCause.TheVariants.{Drive}
 use Rattle.mq_calls.specs.declared.committing.Lack.{Lack}
@@ -93,17 +96,27 @@ module _ {P : Type 0} {G : Ghosts P} where
   charges-of old taken v holds words = words.charged ∙ ap (λ (x : Reads P G). x.charged) holds.reading
 
 module _ {P : Type 0} {G : Ghosts P} (state : P → PortState) (faults : P → List Fault) where
-  known-before : (old v : Seat P FileEntry G) (K : Shared P FileEntry G) → v.opening ≡ old.opening → old.seen ≤ v.seen → IsKnownFrom state faults v K → IsKnownFrom state faults old K
+  pub known-before : (old v : Seat P FileEntry G) (K : Shared P FileEntry G) → v.opening ≡ old.opening → old.seen ≤ v.seen → IsKnownFrom state faults v K → IsKnownFrom state faults old K
   known-before old v K opening seen k = record { opening = sym opening ∙ k.opening; seen = (let l = k.seen in omega arith) }
 
   pub caused-before : (old v : Seat P FileEntry G) (q : ℕ) (c : Cause) → v.opening ≡ old.opening → old.seen ≤ v.seen → IsCaused state faults v q c → IsCaused state faults old q c
   caused-before old v q c opening seen (kept K s known side is) = kept K s (known-before old v K opening seen known) side is
   caused-before old v q c opening seen (drained K s after known side drains cause) = drained K s after (known-before old v K opening seen known) side drains cause
 
-  pub refused-for : (o : Start P FileEntry G) (g : Geometry) (c : Call) (s : QueueSide P FileEntry G) (old taken v new : Seat P FileEntry G) (l : Lack) → OnlyHolds old taken → ReadsWords taken v → IsLacking state faults o c.session s v l → OnlyReports (reports_for c.session l v.reading.charged) v new → IsRefused state faults g c old new (refusal_for c.session l).cause (refusal_for c.session l).drawn
-  refused-for o g c s old taken v new lack.Memory holds words lacks only = memory (record { rests = rests-of old taken v new v.reading.charged holds words only; charged = only.charged ∙ charges-of old taken v holds words })
-  refused-for o g c s old taken v new lack.Area holds words lacks only = area_full (record { rests = rests-of old taken v new v.reading.charged holds words only; charged = only.charged ∙ charges-of old taken v holds words })
-  refused-for o g c s old taken v new (lack.Drive cause) holds words lacks only =
+  pub refused-for : (o : Start P FileEntry G) (g : Geometry) (c : Call) (cells : Cells) (s : QueueSide P FileEntry G) (old taken v new : Seat P FileEntry G) (l : Lack) → v.opening ≡ Some o → HoldsCommit state faults o c.session cells s v → OnlyHolds old taken → ReadsWords taken v → IsLacking state faults o c.session s v l → OnlyReports (reports_for c.session l v.reading.charged) v new → IsRefused state faults g c old new (refusal_for c.session l).cause (refusal_for c.session l).drawn
+  refused-for o g c cells s old taken v new lack.Memory opening side holds words lacks only = memory (record { rests = rests-of old taken v new v.reading.charged holds words only; charged = only.charged ∙ charges-of old taken v holds words })
+  refused-for o g c cells s old taken v new lack.Area opening side holds words lacks only =
+      let K = side.seen.0 in
+      area_full (record { rests = rests-of old taken v new v.reading.charged holds words only; charged = only.charged ∙ charges-of old taken v holds words }) (record {
+        known = K;
+        from = known-before old v K (words.opening ∙ holds.opening) (let a = words.seen in let b = holds.seen in omega arith) (record { opening = side.seen.1.opening; seen = side.seen.1.seen });
+        side = s;
+        is = held_is_current state faults file_group s o c.session v K opening side.side side.seen.1;
+        base = lacks.0;
+        plan = lacks.1;
+        lacks = lacks.2;
+      })
+  refused-for o g c cells s old taken v new (lack.Drive cause) opening side holds words lacks only =
       before (record {
         rests = rests-of old taken v new (reported c.session (report_of cause) ∷ v.reading.charged) holds words only;
         charged = only.charged ∙ ap (λ l. reported c.session (report_of cause) ∷ l) (charges-of old taken v holds words);

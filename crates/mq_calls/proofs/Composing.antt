@@ -34,7 +34,7 @@ use Rattle.mq_calls.specs.Wanted.{IsSameSession}
 use Rattle.mq_calls.specs.declared.answers.Answer.{Answer}
 use Rattle.mq_calls.specs.declared.answers.CallCause.{CallCause}
 use Rattle.mq_calls.specs.declared.answers.Refusal.{Refusal}
-use Rattle.mq_calls.proofs.Acting.{caused-before}
+use Rattle.mq_calls.proofs.Acting.{caused-before, known-before}
 use Rattle.mq_calls.proofs.Between.{called-more}
 use Rattle.mq_calls.proofs.Finding.{done-now, shape-is}
 
@@ -193,7 +193,15 @@ module _ {P : Type 0} {G : Ghosts P} (state : P → PortState) (faults : P → L
   pub refused-same : (g : Geometry) (c : Call) (v m w : Seat P FileEntry G) (why : CallCause) (drawn : Option ℕ) → IsSameSession v m → IsRefused state faults g c m w why drawn → IsRefused state faults g c v w why drawn
   refused-same g c v m w why drawn same (memory k) = memory (keeps-same v m w same k)
   refused-same g c v m w why drawn same (too_large {count} {limit} k) = too_large (large-same g c count limit v m w same k)
-  refused-same g c v m w why drawn same (area_full k) = area_full (keeps-same v m w same k)
+  refused-same g c v m w why drawn same (area_full k l) = area_full (keeps-same v m w same k) (record {
+    known = l.known;
+    from = known-before state faults v m l.known (ap (λ (x : Seat P FileEntry G). x.opening) same.is) same.seen l.from;
+    side = l.side;
+    is = l.is;
+    base = l.base;
+    plan = l.plan;
+    lacks = l.lacks;
+  })
   refused-same g c v m w why drawn same (before {why = x} k) = before (record {
     rests = rests-same v m w same k.rests;
     charged = k.charged ∙ ap (λ (z : Seat P FileEntry G). reported c.session (report_of x) ∷ z.reading.charged) same.is;
@@ -208,7 +216,7 @@ module _ {P : Type 0} {G : Ghosts P} (state : P → PortState) (faults : P → L
   pub called-refused : (g : Geometry) (c : Call) (v w : Seat P FileEntry G) (why : CallCause) (drawn : Option ℕ) → IsRefused state faults g c v w why drawn → HasCalled c.count v → HasCalled (c.count + 1) w
   called-refused g c v w why drawn (memory k) h = called-rests c.count v w k.rests h
   called-refused g c v w why drawn (too_large k) h = called-read c.count k.entry k.reads.known v w k.reads.is.call k.reads.drawn k.reads.read h
-  called-refused g c v w why drawn (area_full k) h = called-rests c.count v w k.rests h
+  called-refused g c v w why drawn (area_full k l) h = called-rests c.count v w k.rests h
   called-refused g c v w why drawn (before k) h = called-rests c.count v w k.rests h
   called-refused g c v w why drawn (cut {at} k) h = called-drawn c.count at k.commits.entry v w k.commits.is.call k.commits.drawn k.commits.read h
 

@@ -1,7 +1,7 @@
 -- What the calls of a session do, and what they leave of what the session knows.
 use Rattle.std.specs.Prelude.{◌≡◌, ◌<◌, ◌≤◌, ℕ, Bool, true, false, List, [], ◌∷◌, length, Option, Some, None, Err}
 use Rattle.mq_blocks.specs.Drive.{PortState}
-use Rattle.mq_blocks.specs.Geometry.{write_limit}
+use Rattle.mq_blocks.specs.Geometry.{area_of, write_limit}
 use Rattle.mq_blocks.specs.declared.geometry.Geometry.{Geometry}
 use Rattle.mq_drive.specs.Steps.{Fault}
 use Rattle.mq_drive.specs.declared.port.Port.{Ghosts}
@@ -10,13 +10,16 @@ use Rattle.mq_files.specs.Group.{file_group}
 use Rattle.mq_files.specs.declared.entry.FileEntry.{FileEntry}
 use Rattle.mq_journal.specs.Draining.{report_of}
 use Rattle.mq_journal.specs.Numbers.{Seat, Shared, WasCut, reported}
+use Rattle.mq_revoke.specs.Placed.{Placed}
 use Rattle.mq_rules.specs.Rule.{IsSide}
 use Rattle.mq_side.specs.Commits.{NumberedCommit}
 use Rattle.mq_side.specs.Drained.{DrainCause, Drains}
 use Rattle.mq_side.specs.Side.{side_state}
+use Rattle.mq_side.specs.Stored.{FitIs, rows_of}
 use Rattle.mq_side.specs.declared.answers.Cause.{Cause}
 use Rattle.mq_side.specs.declared.answers.Cause.TheVariants.{Stopped}
 use Rattle.mq_side.specs.declared.answers.Cause.TheVariants as cause
+use Rattle.mq_side.specs.declared.answers.Fit.TheVariants.{Area}
 use Rattle.mq_side.specs.declared.answers.Why.{Why}
 use Rattle.mq_side.specs.declared.side.QueueSide.{QueueSide}
 use Rattle.mq_tree.specs.declared.request.Reply.{Reply}
@@ -118,6 +121,16 @@ module _ {P : Type 0} {G : Ghosts P} (state : P → PortState) (faults : P → L
     kept : {tx : ℕ} {why : Why} (K : Shared P FileEntry G) (s : QueueSide P FileEntry G) → IsKnownFrom v K → IsSide (file_values state faults) file_group q K s → s.kept ≡ Some (tx, why) → IsCaused v q (Stopped tx why)
     drained : {c : Cause} (K : Shared P FileEntry G) (s after : QueueSide P FileEntry G) → IsKnownFrom v K → IsSide (file_values state faults) file_group q K s → Drains (side_state state faults s) (Err c) (side_state state faults after) → DrainCause (Err c) (faults s.pmr.port) (faults after.pmr.port) → IsCaused v q c
 
+  -- A plan does not fit the journal area of the queue's side, by a base and beside what the side stores.
+  pub record LacksArea (v : Seat P FileEntry G) (q : ℕ) : Type 0 where
+    pub known : Shared P FileEntry G
+    pub from : IsKnownFrom v known
+    pub side : QueueSide P FileEntry G
+    pub is : IsSide (file_values state faults) file_group q known side
+    pub base : ℕ
+    pub plan : Placed
+    pub lacks : FitIs (area_of side.pmr.geometry) base (rows_of side.stored.items) (state side.pmr.port) plan Area
+
   -- A port's refusal before the group drew a number. It is charged to the port of the queue, and nothing else is.
   pub record Refuses (q : ℕ) (c : Cause) (old new : Seat P FileEntry G) : Type 0 where
     pub rests : Rests old new
@@ -143,6 +156,6 @@ module _ {P : Type 0} {G : Ghosts P} (state : P → PortState) (faults : P → L
   pub data IsRefused (g : Geometry) (c : Call) (old new : Seat P FileEntry G) : CallCause → Option ℕ → Type 0 where
     memory : KeepsAll old new → IsRefused g c old new refused.OutOfMemory None
     too_large : {count limit : ℕ} → IsTooLarge g c count limit old new → IsRefused g c old new (refused.TooLarge count limit) None
-    area_full : KeepsAll old new → IsRefused g c old new (refused.AreaFull c.session) None
+    area_full : KeepsAll old new → LacksArea old c.session → IsRefused g c old new (refused.AreaFull c.session) None
     before : {why : Cause} → Refuses c.session why old new → IsRefused g c old new (refused.Drive why) None
     cut : {at : ℕ} → IsCut g c at old new → IsRefused g c old new (refused.Drive cause.Off) (Some at)

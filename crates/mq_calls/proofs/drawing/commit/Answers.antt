@@ -58,5 +58,5 @@ returns-in-Err-clause-refused g c =
     let taken = view c.take_side-side.new.chair in
     let same = c.in-Err.ensures.keeps.queue ∙ c.take_side-side.ensures.queue in
     let reports = subst (λ (q : ℕ). OnlyReports (reports_for q c.in-Err.lack (view c.make_ready.new.chair).reading.charged) (view c.make_ready.new.chair) (view c.give_up.new.chair)) same c.give_up.ensures.reports in
-    let r = refused-for st fs o c.args.geometry (call_of c.args.asked.now) c.make_ready.new.side old taken (view c.make_ready.new.chair) (view c.give_up.new.chair) c.in-Err.lack (holds-more (slot_of o (Side c.args.asked.now.queue)) t.known old taken t.is) c.in-Err.ensures.words c.in-Err.ensures.lacks reports in
+    let r = refused-for st fs o c.args.geometry (call_of c.args.asked.now) c.args.held.now.cells c.make_ready.new.side old taken (view c.make_ready.new.chair) (view c.give_up.new.chair) c.in-Err.lack c.in-Err.ensures.at.1 c.in-Err.ensures.holds (holds-more (slot_of o (Side c.args.asked.now.queue)) t.known old taken t.is) c.in-Err.ensures.words c.in-Err.ensures.lacks reports in
     subst (λ (x : Refusal). IsRefused st fs c.args.geometry (call_of c.args.asked.now) old (view c.give_up.new.chair) x.cause x.drawn) (sym c.refusal_of.ensures) r
