@@ -1,2 +1,5 @@
 pub mod Ended
 pub mod Laws
+pub mod Stored
+pub mod Legal
+pub mod Runs
