@@ -5,7 +5,7 @@ use Rattle.mq_blocks.specs.Drive.{PortState}
 use Rattle.mq_blocks.specs.Journal.{is_among}
 use Rattle.mq_drive.specs.Steps.{Fault}
 use Rattle.mq_drive.specs.declared.port.Port.{Ghosts}
-use Rattle.mq_ends.specs.Parts.{AreMarks, AreParts, Parts, marks_from, state}
+use Rattle.mq_ends.specs.Parts.{AreMarks, AreParts, Parts, least_marks, marks_from, state_with}
 use Rattle.mq_journal.specs.Machine.{journal}
 use Rattle.mq_journal.specs.Numbers.{Seat, Shared, Start}
 use Rattle.mq_journal.specs.Values.{side_values}
@@ -64,7 +64,7 @@ module _ {P E : Type 0} {G : Ghosts P} (state : P → PortState) (faults : P →
   pub record EndsLawfully (K : Shared P E G) (r : Ended P E G) (told : List ℕ) : Type 0 where
     pub parts : AreParts (parts_of K r told)
     pub marks : AreMarks (parts_of K r told) (marks_from (λ q. mark_of q K.claims) 0 (geometry_of run_values group K).queues)
-    pub lawful : IsLawful (parts_of K r told).entries (state (parts_of K r told))
+    pub lawful : IsLawful (parts_of K r told).entries (state_with (least_marks (parts_of K r told)) (parts_of K r told))
 
   -- What a run leaves, by what was known together at its end and by what each chair drew and read.
   pub record IsRun (K : Shared P E G) (views : List (Seat P E G)) (r : Ended P E G) : Type 0 where

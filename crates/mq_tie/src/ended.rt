@@ -33,6 +33,6 @@ pub struct Ended<P: Port, E> {
     pub(crate) order: Vec<Spot>,
     // room for the queues' ports
     pub(crate) queues: Vec<P>,
-    ghost found: { length (entries_at (stored_by sides.items) order.items) ≡ vec_len order },
+    ghost found: { length (entries_at (stored_by sides.items) order.items) ≡ length order.items },
     ghost room: { (queues.items ≡ []) × (vec_len sides ≤ vec_capacity queues) },
 }

@@ -1,0 +1,2 @@
+-- What a run leaves.
+use Rattle.std.proofs.Common.{ℕ}
