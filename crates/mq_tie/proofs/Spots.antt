@@ -2,6 +2,7 @@
 use Rattle.std.proofs.Common.{◌≡◌, ◌≢◌, ℕ, zero, suc, ◌+◌, ◌-◌, ◌<◌, ◌≤◌, List, [], ◌∷◌, length, map, get_or, set, Option, Some, None, refl, sym, ap, subst, ◌∙◌, inl, inr, arith}
 use Rattle.std.specs.Prelude.{slice_get}
 use Rattle.std.proofs.lemmas.Bool.{cases_lt}
+use Rattle.std.proofs.lemmas.Option.{same_Some}
 use mathlib.Core.Logic.{dite}
 use native.Mathlib.Decide.{ℕ_discrete}
 use Rattle.mq_side.specs.declared.drawn.Drawn.{Drawn}
@@ -49,6 +50,26 @@ module _ {E : Type 0} (lists : List (List (Drawn E))) (base : ℕ) where
         found = is.found;
         number = is.number;
       })
+
+  -- one more spot is noted
+  module _ (order : List Spot) (queue place : ℕ) (d : Drawn E) (found : drawn_at lists (record { queue = queue; place = place }) ≡ Some d) (above : base < d.number) (low : d.number ≤ base + length order) (i : ℕ) (at : i ≡ d.number - suc base) where
+    abbrev later : List Spot
+    later = set order i (record { queue = queue; place = place })
+
+    same_list : set order (d.number - suc base) (record { queue = queue; place = place }) ≡ later
+    same_list = ap (λ (j : ℕ). set order j (record { queue = queue; place = place })) (sym at)
+
+    pub note-kept : (n : ℕ) → IsNoted lists base order n → IsNoted lists base later n
+    note-kept n is = subst (λ o. IsNoted lists base o n) same_list (noted-kept order _ d found above low n is)
+
+    pub note-next : ((p : ℕ) (x : Drawn E) → p < place → drawn_at lists (record { queue = queue; place = p }) ≡ Some x → IsNoted lists base order x.number) → (p : ℕ) (x : Drawn E) → p < place + 1 → drawn_at lists (record { queue = queue; place = p }) ≡ Some x → IsNoted lists base later x.number
+    note-next earlier p x l e = elim (cases_lt p place) [
+      | inl before ↦ note-kept x.number (earlier p x before e)
+      | inr not ↦
+          let same : p ≡ place = omega arith in
+          let is : x ≡ d = same_Some _ _ (sym e ∙ (ap (λ (q : ℕ). drawn_at lists (record { queue = queue; place = q })) same ∙ found)) in
+          subst (λ (y : Drawn E). IsNoted lists base later y.number) (sym is) (subst (λ o. IsNoted lists base o d.number) same_list (noted-here order _ d found above low))
+    ]
 
 -- ---- the list
 
@@ -121,3 +142,22 @@ module _ {E : Type 0} (lists : List (List (Drawn E))) where
       reads-at s order d found here rest (suc i) l =
           let m = rest i (omega arith) in
           record { spot = m.spot; at = m.at; drawn = m.drawn; found = m.found; is = ap (λ hs. slice_get hs (suc i)) here ∙ m.is }
+
+-- ---- the place of a number
+
+-- a number above the base, among so many that follow it, has a place among so many
+pub record HasPlace (base number wide long : ℕ) : Type 0 where
+  pub above : base ≤ number
+  pub next : 1 ≤ number - base
+  pub short : number - base - 1 < wide
+  pub low : number ≤ base + long
+  pub at : number - base - 1 ≡ number - suc base
+
+pub has-place : (base number wide was long first : ℕ) → base < number → number ≤ base + was → was ≡ first → long ≡ first → wide ≡ long → HasPlace base number wide long
+has-place base number wide was long first above low e f h = record {
+  above = omega arith;
+  next = omega arith;
+  short = omega arith;
+  low = omega arith;
+  at = omega arith;
+}

@@ -5,7 +5,7 @@ use Rattle.std.specs.List.{sum_by}
 use Rattle.std.proofs.lemmas.Bool.{cases_Bool, cases_lt, eq-eqb, eqb-true, false≢true}
 use Rattle.std.proofs.lemmas.List.{get_or_past, length-reverse, reverse-append, reverse-reverse}
 use Rattle.std.proofs.lemmas.List.Sums.{sum_by-cons}
-use Rattle.std.proofs.lemmas.Option.{get_or_from_slice_get, same_Some, slice_get_within}
+use Rattle.std.proofs.lemmas.Option.{get_or_from_slice_get, same_Some, slice_get_read, slice_get_within}
 use lib.ListN.{length-map}
 use mathlib.Core.Logic.{dite}
 use native.Mathlib.Decide.{ℕ_discrete}
@@ -162,6 +162,20 @@ module _ {P E : Type 0} {G : Ghosts P} (sides : List (QueueSide P E G)) where
         let nowhere : slice_get {X = Drawn E} [] s.place ≡ Some d = ap (λ ds. slice_get ds s.place) (sym none) ∙ e in
         absurd (cc)
   ]
+
+  -- what is read there is what is stored there
+  pub at-spot : (q : ℕ) (w : QueueSide P E G) → q < length sides → w ≡ get_or sides q w → (ds : List (Drawn E)) → ds ≡ w.stored.items → (p : ℕ) (d : Drawn E) → p < length ds → d ≡ get_or ds p d → drawn_at (stored_by sides) (record { queue = q; place = p }) ≡ Some d
+  at-spot q w inside side_is ds list_is p d short is =
+      let side : slice_get sides q ≡ Some w = slice_get_read sides (length sides) q w refl inside side_is in
+      let list : get_or (stored_by sides) q [] ≡ w.stored.items = (at_map (λ s. s.stored.items) sides q w [] side).0 in
+      ap (λ xs. slice_get xs p) (list ∙ sym list_is) ∙ slice_get_read ds (length ds) p d refl short is
+
+  -- and beyond what is stored is nothing
+  pub at-end : (q : ℕ) (w : QueueSide P E G) → q < length sides → w ≡ get_or sides q w → (ds : List (Drawn E)) → ds ≡ w.stored.items → (p : ℕ) (d : Drawn E) → drawn_at (stored_by sides) (record { queue = q; place = p }) ≡ Some d → p < length ds
+  at-end q w inside side_is ds list_is p d e =
+      let side : slice_get sides q ≡ Some w = slice_get_read sides (length sides) q w refl inside side_is in
+      let list : get_or (stored_by sides) q [] ≡ w.stored.items = (at_map (λ s. s.stored.items) sides q w [] side).0 in
+      slice_get_within ds p d (ap (λ xs. slice_get xs p) (list_is ∙ sym list) ∙ e)
 
   -- a spot that is read out of an order of which all is found
   module _ (order : List Spot) (at : ℕ) (all : length (entries_at (stored_by sides) order) ≡ length order) (inside : at < length order) (spot : Spot) (is : spot ≡ get_or order at spot) where
