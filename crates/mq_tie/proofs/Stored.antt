@@ -107,7 +107,7 @@ sum-of h f (x ∷ xs) q each =
 
 -- ---- a number's place in the history
 
-at-low : {E : Type 0} (base : ℕ) (es : List E) (n : ℕ) (e : E) → IsAt base es n e → (base < n) × (n ≤ base + length es)
+pub at-low : {E : Type 0} (base : ℕ) (es : List E) (n : ℕ) (e : E) → IsAt base es n e → (base < n) × (n ≤ base + length es)
 at-low base [] n e at = absurd at
 at-low base (x ∷ xs) n e (inl same) = let is = same.0 in (omega arith, omega arith)
 at-low base (x ∷ xs) n e (inr deeper) = let r = at-low base xs n e deeper in (r.0, omega arith)
