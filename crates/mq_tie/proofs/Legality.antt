@@ -1,8 +1,8 @@
 -- Commits and reads are the machine's on the maps at their numbers.
-use Rattle.std.proofs.Common.{◌≡◌, ℕ, suc, ◌+◌, ◌-◌, ◌<◌, ◌≤◌, List, [], ◌∷◌, ◌++◌, length, refl, sym, ap, subst, ◌∙◌, inl, inr, length-append, arith}
-use Rattle.mq_blocks.specs.Machine.{Map}
+use Rattle.std.proofs.Common.{◌≡◌, ℕ, ◌+◌, ◌-◌, ◌≤◌, List, [], ◌∷◌, ◌++◌, length, refl, sym, ap, subst, ◌∙◌, inl, inr, length-append, arith}
+use Rattle.mq_blocks.specs.Machine.{Map, after}
 use Rattle.mq_blocks.specs.declared.geometry.Geometry.{Geometry}
-use Rattle.mq_ledger.specs.History.{map_after, upto}
+use Rattle.mq_ledger.specs.History.{change_of, map_after, upto}
 use Rattle.mq_ledger.specs.declared.tx.Tx.{Tx}
 use Rattle.mq_ledger.proofs.Values.{upto-at, upto-past}
 use Rattle.mq_pages.specs.declared.page.PageCell.{PageCell}
@@ -11,7 +11,12 @@ use Rattle.mq_rules.specs.Rule
 use Rattle.mq_rules.specs.Values.{Values}
 use Rattle.mq_turns.specs.Meaning.{Grows, IsAt, newest}
 use Rattle.mq_turns.specs.declared.rule.Opening.{Opening}
-use Rattle.mq_tie.specs.Legal.{IsCommit, IsRead}
+use Rattle.mq_tie.specs.Legal.{IsCommit, IsRead, map_at}
+
+-- what a transaction makes of a map doesn't depend on its number
+after-numbered : (m : Map) (n : ℕ) (t : Tx) → after m (change_of (Rule.numbered n t)) ≡ after m (change_of t)
+unfolding after
+after-numbered m n t = refl
 
 module _ {Q R E : Type 0} (values : Values Q R E) (group : Group E) where
   abbrev hist : ℕ → List E → List Tx
@@ -33,6 +38,7 @@ module _ {Q R E : Type 0} (values : Values Q R E) (group : Group E) where
     pub rest : List E
     pub number : n - 1 ≡ base + length rest
     pub before : upto (n - 1) (hist base es) ≡ hist base rest
+    pub with_it : upto n (hist base es) ≡ Rule.numbered n (group.tx e) ∷ hist base rest
     pub does : group.does g (map_after start (hist base rest)) e
     pub placed : group.placed g start base (hist base rest) e
 
@@ -44,6 +50,11 @@ module _ {Q R E : Type 0} (values : Values Q R E) (group : Group E) where
         rest = xs;
         number = number;
         before = upto-hist base (n - 1) (x ∷ []) xs number;
+        with_it =
+            let is = same.0 in
+            let at : base + length xs + 1 ≡ n = omega arith in
+            upto-at n (Rule.numbered (base + length xs + 1) (group.tx x)) (hist base xs) (omega arith)
+            ∙ (λ i. Rule.numbered (at i) (group.tx (same.1 i)) ∷ hist base xs);
         does = subst (λ (y : E). group.does g (map_after start (hist base xs)) y) same.1 legal.0;
         placed = subst (λ (y : E). group.placed g start base (hist base xs) y) same.1 legal.1;
       }
@@ -55,6 +66,7 @@ module _ {Q R E : Type 0} (values : Values Q R E) (group : Group E) where
         rest = r.rest;
         number = r.number;
         before = upto-past (n - 1) (Rule.numbered (base + length xs + 1) (group.tx x)) (hist base xs) (omega arith) ∙ r.before;
+        with_it = upto-past n (Rule.numbered (base + length xs + 1) (group.tx x)) (hist base xs) (omega arith) ∙ r.with_it;
         does = r.does;
         placed = r.placed;
       }
@@ -70,6 +82,7 @@ module _ {Q R E : Type 0} (values : Values Q R E) (group : Group E) where
       record {
         does = subst (λ h. group.does (Rule.geometry_of values group K) (map_after (Rule.start_of values group K.opening) h) e) (sym s.before) s.does;
         placed = subst (λ h. group.placed (Rule.geometry_of values group K) (Rule.start_of values group K.opening) K.opening.base h e) (sym s.before) s.placed;
+        next = ap (map_after (Rule.start_of values group K.opening)) s.with_it ∙ (after-numbered _ n (group.tx e) ∙ ap (λ h. after (map_after (Rule.start_of values group K.opening) h) (change_of (group.tx e))) (sym s.before));
       }
 
   reads-on : (o p : Opening PageCell Q R) (log newer es : List E) (e : E) → p ≡ o → log ≡ newer ++ es → group.asks (Rule.shape_of values group o) (map_after (Rule.start_of values group o) (hist o.base es)) e → group.asks (Rule.shape_of values group p) (map_after (Rule.start_of values group p) (upto (o.base + length es) (hist p.base log))) e
@@ -86,3 +99,7 @@ module _ {Q R E : Type 0} (values : Values Q R E) (group : Group E) where
         high = omega arith;
         asks = reads-on L.opening K.opening K.log grows.newer L.log e grows.opening grows.log fits;
       }
+
+  -- the map at the newest number is that of all transactions
+  pub map-newest : (K : Rule.Desk values group) → Rule.map_now values group K ≡ map_at values group K (newest K)
+  map-newest K = ap (map_after (Rule.start_of values group K.opening)) (sym (upto-own K.opening.base (newest K) K.log refl))

@@ -1,7 +1,7 @@
 -- What a run leaves: its history, its commits and reads, and the lawful state that its ports are.
-use Rattle.std.proofs.Common.{◌≡◌, ℕ, zero, suc, ◌+◌, ◌-◌, ◌<◌, ◌≤◌, true, List, [], ◌∷◌, ◌++◌, length, Some, get_or, refl, sym, ap, subst, ◌∙◌, inl, inr, arith}
+use Rattle.std.proofs.Common.{◌≡◌, ℕ, zero, suc, ◌+◌, ◌-◌, ◌<◌, ◌≤◌, true, List, [], ◌∷◌, length, Some, get_or, refl, sym, ap, subst, ◌∙◌, arith}
 use Rattle.std.specs.Prelude.{reverse, slice_get}
-use Rattle.std.specs.List.{Contains, sum_by}
+use Rattle.std.specs.List.{sum_by}
 use Rattle.std.proofs.lemmas.List.{length-reverse}
 use Rattle.mq_blocks.specs.Drive.{PortState}
 use Rattle.mq_blocks.specs.Journal.{is_among}
@@ -21,13 +21,13 @@ use Rattle.mq_turns.specs.Lists.{Each}
 use Rattle.mq_turns.specs.Meaning.{IsAt, newest}
 use Rattle.mq_turns.proofs.Each.{each_map}
 use Rattle.mq_tie.specs.Ended.{HasEnded}
-use Rattle.mq_tie.specs.Legal.{IsRead, numbered}
-use Rattle.mq_tie.specs.Runs.{EndsLawfully, IsKnownDone, IsRun, history_of, run_machine, run_values}
+use Rattle.mq_tie.specs.Legal.{map_at, numbered}
+use Rattle.mq_tie.specs.Runs.{IsKnownDone, IsRun, history_of, run_machine, run_values}
 use Rattle.mq_tie.specs.Stored.{AreWithin, HasStored, IsNoted, entries_at, stored_by}
 use Rattle.mq_tie.specs.declared.ended.Ended.{Ended}
 use Rattle.mq_tie.specs.declared.ended.Spot.{Spot}
 use Rattle.mq_tie.proofs.Ending.{ended_marks, ended_parts}
-use Rattle.mq_tie.proofs.Legality.{is-commit, is-read}
+use Rattle.mq_tie.proofs.Legality.{is-commit, is-read, map-newest}
 use Rattle.mq_tie.proofs.Stored.{StoreAll, at-low, at-place, has-stored, noted-history, stored-many, within}
 
 -- ---- lists
@@ -131,7 +131,7 @@ module _ {P E : Type 0} {G : Ghosts P} (state : P → PortState) (faults : P →
       pub all-found : length (entries_at (stored_by ss) os) ≡ length os
       all-found = ap length in-order ∙ (numbered-length (suc K.opening.base) (reverse K.log) ∙ (length-reverse K.log ∙ sym (long ∙ (count-is ∙ many))))
 
-  module _ (r : Ended P E G) (same_sides : r.sides.items ≡ sides) (same_root : r.root ≡ root) (same_next : r.next ≡ next) (ordered : history_of r ≡ numbered (suc K.opening.base) (reverse K.log)) where
+  module _ (r : Ended P E G) (same_pages : r.pages.items ≡ pages) (same_sides : r.sides.items ≡ sides) (same_root : r.root ≡ root) (same_next : r.next ≡ next) (ordered : history_of r ≡ numbered (suc K.opening.base) (reverse K.log)) where
     in-place : (n : ℕ) (e : E) → IsAt K.opening.base K.log n e → slice_get (history_of r) (n - suc K.opening.base) ≡ Some (n, e)
     in-place n e at =
         let low = (at-low K.opening.base K.log n e at).0 in
@@ -155,6 +155,11 @@ module _ {P E : Type 0} {G : Ghosts P} (state : P → PortState) (faults : P →
       commits = is-commit (run_values state faults group) group K end.ok;
       reads = each_map _ _ (λ a is. is-read (run_values state faults group) group K a.1 a.0 is.1 is.2) _ end.read;
       draws = each_map _ _ (λ d at. in-place d.0 d.1 at) _ end.drew;
+      cells = ap length same_pages ∙ (end.all_pages ∙ ap (λ p. length p.pages) (sym end.opening));
+      contents = λ b c e.
+          let last : r.next ≡ newest K = same_next ∙ end.next_is in
+          (end.pages_stand b c (ap (λ ps. slice_get ps b) (sym same_pages) ∙ e)).content
+          ∙ ((λ i. map-newest (run_values state faults group) group K i b) ∙ ap (λ (n : ℕ). map_at (run_values state faults group) group K n b) (sym last));
       ends = λ queues told known.
           let ended = has-ended told queues known in
           let are = ended_parts (run_values state faults group) group K r.sides.items r.root told ended in

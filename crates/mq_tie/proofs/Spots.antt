@@ -1,5 +1,5 @@
 -- Where the entry of each number is stored, and the list that this makes.
-use Rattle.std.proofs.Common.{◌≡◌, ◌≢◌, ℕ, zero, suc, ◌+◌, ◌-◌, ◌<◌, ◌≤◌, List, [], ◌∷◌, length, map, get_or, set, Option, Some, None, refl, sym, ap, subst, ◌∙◌, inl, inr, arith}
+use Rattle.std.proofs.Common.{◌≡◌, ◌≢◌, ℕ, zero, suc, ◌+◌, ◌-◌, ◌<◌, ◌≤◌, List, [], ◌∷◌, length, set, Option, Some, None, refl, sym, ap, subst, ◌∙◌, inl, inr, arith}
 use Rattle.std.specs.Prelude.{slice_get}
 use Rattle.std.proofs.lemmas.Bool.{cases_lt}
 use Rattle.std.proofs.lemmas.Option.{same_Some}
@@ -8,7 +8,7 @@ use native.Mathlib.Decide.{ℕ_discrete}
 use Rattle.mq_side.specs.declared.drawn.Drawn.{Drawn}
 use Rattle.mq_tie.specs.declared.ended.Spot.{Spot}
 use Rattle.mq_tie.specs.Legal.{numbered}
-use Rattle.mq_tie.specs.Stored.{AreWithin, HasStored, IsNoted, drawn_at, entries_at, with_found}
+use Rattle.mq_tie.specs.Stored.{IsNoted, drawn_at, entries_at, with_found}
 
 -- ---- a write to one place of a list
 

@@ -1,8 +1,8 @@
 -- What the sides of all queues store is the history: each entry is stored in one place, and there are as many as numbers.
-use Rattle.std.proofs.Common.{◌≡◌, ◌≢◌, ◌⊎◌, ℕ, zero, suc, ◌+◌, ◌-◌, ◌<◌, ◌≤◌, eqb, true, false, if◌then◌else◌, List, [], ◌∷◌, ◌++◌, length, map, get_or, Option, Some, None, refl, sym, ap, subst, ◌∙◌, inl, inr, arith}
+use Rattle.std.proofs.Common.{◌≡◌, ◌≢◌, ◌⊎◌, ℕ, zero, suc, ◌+◌, ◌-◌, ◌<◌, ◌≤◌, eqb, true, List, [], ◌∷◌, ◌++◌, length, map, get_or, Some, refl, sym, ap, subst, ◌∙◌, inl, inr, arith}
 use Rattle.std.specs.Prelude.{reverse, slice_get}
 use Rattle.std.specs.List.{sum_by}
-use Rattle.std.proofs.lemmas.Bool.{cases_Bool, cases_lt, eq-eqb, eqb-true, false≢true}
+use Rattle.std.proofs.lemmas.Bool.{cases_Bool, cases_lt, eq-eqb, eqb-true}
 use Rattle.std.proofs.lemmas.List.{get_or_past, length-reverse, reverse-append, reverse-reverse}
 use Rattle.std.proofs.lemmas.List.Sums.{sum_by-cons}
 use Rattle.std.proofs.lemmas.Option.{get_or_from_slice_get, same_Some, slice_get_read, slice_get_within}
@@ -22,7 +22,7 @@ use Rattle.mq_tie.specs.declared.ended.Spot.{Spot}
 use Rattle.mq_tie.specs.Legal.{numbered}
 use Rattle.mq_tie.specs.Stored.{AreWithin, HasStored, IsNoted, drawn_at, entries_at, stored_by}
 use Rattle.mq_tie.proofs.Ending.{there}
-use Rattle.mq_tie.proofs.Spots.{Matches, Reads, entries-numbered, reads-all}
+use Rattle.mq_tie.proofs.Spots.{Reads, entries-numbered, reads-all}
 
 -- ---- members of a list
 

@@ -22,7 +22,7 @@ use Rattle.mq_turns.specs.Lists.{Each}
 use Rattle.mq_turns.specs.Marks.{mark_of}
 use Rattle.mq_turns.specs.Meaning.{IsAt, Meaning, newest}
 use Rattle.mq_tie.specs.Ended.{parts}
-use Rattle.mq_tie.specs.Legal.{IsCommit, IsRead, numbered}
+use Rattle.mq_tie.specs.Legal.{IsCommit, IsRead, map_at, numbered}
 use Rattle.mq_tie.specs.Stored.{entries_at, stored_by}
 use Rattle.mq_tie.specs.declared.ended.Ended.{Ended}
 
@@ -77,5 +77,8 @@ module _ {P E : Type 0} {G : Ghosts P} (state : P → PortState) (faults : P →
     pub reads : Each (λ a. IsRead run_values group K (newest a.1) a.0) (read_of views)
     -- what each chair drew stands in it
     pub draws : Each (λ d. slice_get (history_of r) (d.0 - suc K.opening.base) ≡ Some d) (drawn_of views)
+    -- the cells have the map at the last number
+    pub cells : length r.pages.items ≡ length K.opening.pages
+    pub contents : (b : ℕ) (c : PageCell) → slice_get r.pages.items b ≡ Some c → c.content ≡ map_at run_values group K r.next b
     -- where the desk had a side for each queue, the ports and the history are a lawful state
     pub ends : length K.opening.sides ≡ (geometry_of run_values group K).queues → (told : List ℕ) → ((n : ℕ) → is_among n told ≡ true → IsKnownDone views r.next n) → EndsLawfully K r told

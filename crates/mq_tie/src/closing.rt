@@ -39,7 +39,7 @@ pub fn close<P: Port + Drop, G: Groups>(
     ensures done { IfOk result (λ r. r.done.items ≡ map (λ s. s.done) parts.sides.items) }
     ensures run { IfOk result (λ r. (o : _) (views : _)
         (end : DeskEnded (run_machine P.state P.faults G.group) o views parts.pages.items parts.sides.items parts.root
-            parts.next parts.base)
+        parts.next parts.base)
         → IsRun P.state P.faults G.group end.known views r) }
     ensures err { IfErr result (λ e. e.0 ≡ parts) }
 {

@@ -1,4 +1,4 @@
-use Rattle.std.proofs.Common.{◌≡◌, ◌≤◌, ap, sym, ◌∙◌, rules, arith}
+use Rattle.std.proofs.Common.{ap, sym, ◌∙◌}
 use Rattle.mq_tie.proofs.Running.{all-found, count-fits, count-low, in-order, is-run, order-stored, order-within}
 use Rattle.mq_tie.proofs.closing.close.Goals as goal
 
@@ -38,5 +38,5 @@ returns-clause-values g c = (ap (λ w. w.pages) c.parts.view_is, ap (λ w. w.roo
 pub returns-clause-run : goal.returns-clause-run
 returns-clause-run g c = λ o views end.
     let p = c.args.parts in
-    is-run g.P.Port.state g.P.Port.faults g.G.Groups.group o views p.pages.items p.sides.items p.root p.next p.base end _ (ap (λ w. w.sides.items) c.parts.view_is) (ap (λ w. w.root) c.parts.view_is) (ap (λ w. w.next) c.parts.view_is)
+    is-run g.P.Port.state g.P.Port.faults g.G.Groups.group o views p.pages.items p.sides.items p.root p.next p.base end _ (ap (λ w. w.pages.items) c.parts.view_is) (ap (λ w. w.sides.items) c.parts.view_is) (ap (λ w. w.root) c.parts.view_is) (ap (λ w. w.next) c.parts.view_is)
     (in-order g.P.Port.state g.P.Port.faults g.G.Groups.group o views p.pages.items p.sides.items p.root p.next p.base end c.deref-2.result.now c.deref.result.now _ c.count_stored-count.result (c.deref-2.ensures.value ∙ ap (λ w. w.sides.items) c.parts.view_is) (c.deref.ensures.value ∙ ap (λ w. w.sides.items) c.parts.view_is) (ap (λ w. w.next) c.parts.view_is) c.count_stored-count.ensures _ c.in-Ok.order.items (ap (λ w. w.sides.items) c.parts.view_is) (sym c.in-Ok.order.ok.0 ∙ c.in-Ok.ensures.count) c.in-Ok.ensures.noted)

@@ -1,4 +1,4 @@
-use Rattle.std.proofs.Common.{◌≡◌, ◌≤◌, take, length}
+use Rattle.std.proofs.Common.{◌≡◌, take, length}
 use Rattle.std.specs.List.{sum_by}
 use Rattle.mq_tie.proofs.order.count_stored.Given as goal
 

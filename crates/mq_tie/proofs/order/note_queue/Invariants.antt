@@ -1,5 +1,4 @@
 use Rattle.std.proofs.Common.{◌≡◌, ◌<◌, ℕ, length, Some}
-use Rattle.std.specs.Prelude.{slice_get}
 use Rattle.mq_tie.specs.Stored.{IsNoted, drawn_at, stored_by}
 use Rattle.mq_tie.proofs.order.note_queue.Given as goal
 

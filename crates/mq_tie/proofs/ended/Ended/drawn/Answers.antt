@@ -1,4 +1,4 @@
-use Rattle.std.proofs.Common.{◌<◌, length, arith}
+use Rattle.std.proofs.Common.{arith}
 use Rattle.mq_tie.proofs.Stored.{spot-inside, spot-is, spot-place}
 use Rattle.mq_tie.proofs.ended.Ended.drawn.Goals as goal
 
