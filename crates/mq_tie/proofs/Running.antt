@@ -1,5 +1,5 @@
 -- What a run leaves: its history, its commits and reads, and the lawful state that its ports are.
-use Rattle.std.proofs.Common.{◌≡◌, ℕ, zero, suc, ◌+◌, ◌-◌, ◌<◌, ◌≤◌, true, List, [], ◌∷◌, length, Some, get_or, refl, sym, ap, subst, ◌∙◌, arith}
+use Rattle.std.proofs.Common.{◌≡◌, ℕ, zero, suc, ◌+◌, ◌-◌, ◌<◌, ◌≤◌, true, List, [], ◌∷◌, length, map, Some, get_or, refl, sym, ap, subst, ◌∙◌, arith}
 use Rattle.std.specs.Prelude.{reverse, slice_get}
 use Rattle.std.specs.List.{sum_by}
 use Rattle.std.proofs.lemmas.List.{length-reverse}
@@ -20,9 +20,10 @@ use Rattle.mq_turns.specs.Chairs.{Ended as DeskEnded}
 use Rattle.mq_turns.specs.Lists.{Each}
 use Rattle.mq_turns.specs.Meaning.{IsAt, newest}
 use Rattle.mq_turns.proofs.Each.{each_map}
+use Rattle.mq_tie.specs.Closed.{HasRun}
 use Rattle.mq_tie.specs.Ended.{HasEnded}
 use Rattle.mq_tie.specs.Legal.{map_at, numbered}
-use Rattle.mq_tie.specs.Runs.{IsKnownDone, IsRun, history_of, run_machine, run_values}
+use Rattle.mq_tie.specs.Runs.{IsKnownDone, IsRun, history_of, ports_of, run_machine, run_values}
 use Rattle.mq_tie.specs.Stored.{AreWithin, HasStored, IsNoted, entries_at, stored_by}
 use Rattle.mq_tie.specs.declared.ended.Ended.{Ended}
 use Rattle.mq_tie.specs.declared.ended.Spot.{Spot}
@@ -169,3 +170,17 @@ module _ {P E : Type 0} {G : Ghosts P} (state : P → PortState) (faults : P →
             lawful = lawful _ are;
           };
     }
+
+-- ---- a desk that is closed
+
+module _ {P E : Type 0} {G : Ghosts P} (state : P → PortState) (faults : P → List Fault) (group : Group E) (o : Start P E G) (views : List (Seat P E G)) (sides : List (QueueSide P E G)) (r : Ended P E G) (ports : ports_of r ≡ map (λ s. s.pmr.port) sides) (done : r.done.items ≡ map (λ s. s.done) sides) where
+  abbrev Over : List PageCell → Root P G → ℕ → ℕ → Type 0
+  Over pages root next base = (end : DeskEnded (run_machine state faults group) o views pages sides root next base) → IsRun state faults group end.known views r → HasRun state faults group o views r
+
+  pub has-run : (pages : List PageCell) (root : Root P G) (next base : ℕ) → r.pages.items ≡ pages → r.root ≡ root → r.next ≡ next → r.base ≡ base → Over pages root next base
+  has-run pages root next base same_pages same_root same_next same_base =
+      subst (λ ps. Over ps root next base) same_pages
+      (subst (λ t. Over r.pages.items t next base) same_root
+      (subst (λ (n : ℕ). Over r.pages.items r.root n base) same_next
+      (subst (λ (b : ℕ). Over r.pages.items r.root r.next b) same_base
+      (λ end run. record { sides = sides; end = end; ports = ports; done = done; run = run }))))

@@ -3,3 +3,4 @@ pub mod Laws
 pub mod Stored
 pub mod Legal
 pub mod Runs
+pub mod Closed

@@ -1,7 +1,10 @@
 // The end of a run: one history out of what the sides of all queues store.
-ghost use Rattle.std.specs.Prelude.{◌≡◌, IfOk, IfErr, map};
+ghost use Rattle.std.specs.Prelude.{◌≡◌, [], IfOk, IfErr, length, map};
+ghost use Rattle.std.specs.List.{All};
+ghost use Rattle.mq_turns.specs.AtDesk.{AtDesk, chairs_of, start_of, view};
 ghost use Rattle.mq_turns.specs.Chairs.{Ended as DeskEnded};
 ghost use Rattle.mq_tie.specs.Runs.{IsRun, CanEnd, ports_of, run_machine};
+ghost use Rattle.mq_tie.specs.Closed.{HasRun, StaysOpen};
 
 use crate::ended::Ended;
 use crate::order::{count_stored, order_of};
@@ -9,7 +12,7 @@ use mq_blocks::{OutOfMemory, TxNo};
 use mq_drive::Port;
 use mq_journal::{Groups, JournalMachine};
 use mq_side::QueueSide;
-use mq_turns::Parts;
+use mq_turns::{Chair, Desk, Machine, Parts};
 use std::alloc::Global;
 
 // The last number of each queue of which its side knows that it is done.
@@ -71,4 +74,34 @@ pub fn close<P: Port + Drop, G: Groups>(
         order,
         queues,
     })
+}
+
+/// A desk that could not be closed, for want of memory.
+#[derive(Drop)]
+pub enum Unclosed<M: Machine> {
+    /// It stands as it was, with its chairs.
+    Desk(Desk<M>, Vec<Chair<M>>),
+    /// It has ended, and this is what it had. `close` may be tried again.
+    Parts(Parts<M>),
+}
+
+/// Ends a desk, all of whose chairs hold nothing, and the run over what it had.
+pub fn close_desk<P: Port + Drop, G: Groups>(
+    alloc: Global,
+    desk: Desk<JournalMachine<P, G>>,
+    chairs: Vec<Chair<JournalMachine<P, G>>>,
+) -> Result<Ended<P, G::Entry>, (Unclosed<JournalMachine<P, G>>, OutOfMemory)>
+    requires theirs { All (λ ch. AtDesk desk ch × ((view ch).held ≡ [])) chairs.items }
+    requires all { length chairs.items ≡ chairs_of desk }
+    ensures run { IfOk result (λ r. HasRun P.state P.faults G.group (start_of desk)
+        (map (λ ch. view ch) chairs.items) r) }
+    ensures err { IfErr result (λ e. StaysOpen (run_machine P.state P.faults G.group) desk chairs.items e.0) }
+{
+    match desk.into_parts(alloc, chairs) {
+        Ok(parts) => match close(alloc, parts) {
+            Ok(ended) => Ok(ended),
+            Err((parts, full)) => Err((Unclosed::Parts(parts), full)),
+        },
+        Err((desk, chairs, full)) => Err((Unclosed::Desk(desk, chairs), full)),
+    }
 }

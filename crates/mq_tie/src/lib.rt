@@ -8,6 +8,6 @@ mod laws;
 mod order;
 mod reading;
 
-pub use closing::close;
+pub use closing::{Unclosed, close, close_desk};
 pub use ended::Ended;
 pub use laws::a_desk_ends_in_a_lawful_state;
