@@ -8,6 +8,7 @@ use Rattle.mq_blocks.specs.Journal.{is_among}
 use Rattle.mq_drive.specs.Steps.{Fault}
 use Rattle.mq_drive.specs.declared.port.Port.{Ghosts}
 use Rattle.mq_ends.proofs.Assembly.{lawful}
+use Rattle.mq_ends.specs.Parts.{AreMarks, AreParts, marks_from}
 use Rattle.mq_journal.specs.Numbers.{Seat, Shared, Start}
 use Rattle.mq_ledger.specs.KnownJournal.{front}
 use Rattle.mq_pages.specs.declared.page.PageCell.{PageCell}
@@ -18,10 +19,11 @@ use Rattle.mq_side.specs.declared.root.Root.{Root}
 use Rattle.mq_side.specs.declared.side.QueueSide.{QueueSide}
 use Rattle.mq_turns.specs.Chairs.{Ended as DeskEnded}
 use Rattle.mq_turns.specs.Lists.{Each}
+use Rattle.mq_turns.specs.Marks.{mark_of}
 use Rattle.mq_turns.specs.Meaning.{IsAt, newest}
 use Rattle.mq_turns.proofs.Each.{each_map}
 use Rattle.mq_tie.specs.Closed.{HasRun}
-use Rattle.mq_tie.specs.Ended.{HasEnded}
+use Rattle.mq_tie.specs.Ended.{HasEnded, parts_over}
 use Rattle.mq_tie.specs.Legal.{map_at, numbered}
 use Rattle.mq_tie.specs.Runs.{IsKnownDone, IsRun, history_of, ports_of, run_machine, run_values}
 use Rattle.mq_tie.specs.Stored.{AreWithin, HasStored, IsNoted, entries_at, stored_by}
@@ -46,6 +48,10 @@ each-at : {A : Type 0} (P : A → Type 0) (xs : List A) (k : ℕ) (x : A) → Ea
 each-at P [] k x h l e = absurd (omega arith)
 each-at P (y ∷ ys) zero x h l e = subst P e h.0
 each-at P (y ∷ ys) (suc k) x h l e = each-at P ys k x h.1 (omega arith) e
+
+same-ports : {P E : Type 0} {G : Ghosts P} (state : P → PortState) (ss : List (QueueSide P E G)) → map (λ s. state s.pmr.port) ss ≡ map state (map (λ s. s.pmr.port) ss)
+same-ports state [] = refl
+same-ports state (s ∷ ss) = ap (λ ps. state s.pmr.port ∷ ps) (same-ports state ss)
 
 module _ {P E : Type 0} {G : Ghosts P} (state : P → PortState) (faults : P → List Fault) (group : Group E) (o : Start P E G) (views : List (Seat P E G)) (pages : List PageCell) (sides : List (QueueSide P E G)) (root : Root P G) (next base : ℕ) (end : DeskEnded (run_machine state faults group) o views pages sides root next base) where
   abbrev K : Shared P E G
@@ -163,10 +169,11 @@ module _ {P E : Type 0} {G : Ghosts P} (state : P → PortState) (faults : P →
           ∙ ((λ i. map-newest (run_values state faults group) group K i b) ∙ ap (λ (n : ℕ). map_at (run_values state faults group) group K n b) (sym last));
       ends = λ queues told known.
           let ended = has-ended told queues known in
-          let are = ended_parts (run_values state faults group) group K r.sides.items r.root told ended in
+          let same = same-ports state r.sides.items in
+          let are = subst (λ ps. AreParts (parts_over (run_values state faults group) group K ps (state r.root.port) told)) same (ended_parts (run_values state faults group) group K r.sides.items r.root told ended) in
           record {
             parts = are;
-            marks = ended_marks (run_values state faults group) group K r.sides.items r.root told ended end.marked.undone;
+            marks = subst (λ ps. AreMarks (parts_over (run_values state faults group) group K ps (state r.root.port) told) (marks_from (λ q. mark_of q K.claims) 0 (geometry_of (run_values state faults group) group K).queues)) same (ended_marks (run_values state faults group) group K r.sides.items r.root told ended end.marked.undone);
             lawful = lawful _ are;
           };
     }

@@ -21,7 +21,7 @@ use Rattle.mq_turns.specs.Desk.{drawn_of, read_of}
 use Rattle.mq_turns.specs.Lists.{Each}
 use Rattle.mq_turns.specs.Marks.{mark_of}
 use Rattle.mq_turns.specs.Meaning.{IsAt, Meaning, newest}
-use Rattle.mq_tie.specs.Ended.{parts}
+use Rattle.mq_tie.specs.Ended.{parts_over}
 use Rattle.mq_tie.specs.Legal.{IsCommit, IsRead, map_at, numbered}
 use Rattle.mq_tie.specs.Stored.{entries_at, stored_by}
 use Rattle.mq_tie.specs.declared.ended.Ended.{Ended}
@@ -57,7 +57,7 @@ module _ {P E : Type 0} {G : Ghosts P} (state : P → PortState) (faults : P →
 
   -- what is known and what lies in the ports, with these numbers acknowledged
   abbrev pub parts_of : Shared P E G → Ended P E G → List ℕ → Parts
-  parts_of K r told = parts run_values group K r.sides.items r.root told
+  parts_of K r told = parts_over run_values group K (map state (ports_of r)) (state r.root.port) told
 
   -- The parts are one lawful state of the machine, with the words of the marks or each queue's least number that isn't
   -- done as its mark.
