@@ -16,7 +16,7 @@ use Rattle.mq_rules.proofs.Opening.{at_map}
 use Rattle.mq_rules.proofs.Settled.{entry_at}
 use Rattle.mq_tie.specs.Ended.{HasEnded, parts}
 
-there : {A : Type 0} (xs : List A) (i : ℕ) → i < length xs → (x : A) × (slice_get xs i ≡ Some x)
+pub there : {A : Type 0} (xs : List A) (i : ℕ) → i < length xs → (x : A) × (slice_get xs i ≡ Some x)
 there [] i l = absurd (omega arith)
 there (x ∷ xs) zero l = (x, refl)
 there (x ∷ xs) (suc i) l = there xs i (omega arith)

@@ -1,5 +1,6 @@
 -- What lies on a desk over the ports of a journal while nobody holds anything, as the parts of a state.
 use Rattle.std.specs.Prelude.{◌≡◌, ◌≤◌, ℕ, true, List, length, map, slice_get, Some}
+use Rattle.mq_blocks.specs.Drive.{PortState}
 use Rattle.mq_blocks.specs.Journal.{is_among}
 use Rattle.mq_ledger.specs.KnownJournal.{front}
 use Rattle.mq_ledger.specs.Written.{journal_entries}
@@ -11,8 +12,9 @@ use Rattle.mq_rules.specs.Rule.{Desk, IsOk, IsSide, IsRoot, core_of, geometry_of
 use Rattle.mq_rules.specs.Values.{Values}
 
 module _ {Q R E : Type 0} (values : Values Q R E) (group : Group E) where
-  abbrev pub parts : Desk values group → List Q → R → List ℕ → Parts
-  parts K sides root acknowledged = record {
+  -- what is known on the desk, over these ports of the queues and of the root
+  abbrev pub parts_over : Desk values group → List PortState → PortState → List ℕ → Parts
+  parts_over K ports root acknowledged = record {
     geometry = geometry_of values group K;
     entries = journal_entries;
     start = map (λ c. c.content) K.opening.pages;
@@ -22,10 +24,13 @@ module _ {Q R E : Type 0} (values : Values Q R E) (group : Group E) where
     done = λ t ts. is_claimed t.queue t.number K.claims;
     due = due_by K.opening.base K.ended;
     word = K.word;
-    ports = map values.port sides;
-    root = values.root root;
+    ports = ports;
+    root = root;
     acknowledged = acknowledged;
   }
+
+  abbrev pub parts : Desk values group → List Q → R → List ℕ → Parts
+  parts K sides root acknowledged = parts_over K (map values.port sides) (values.root root) acknowledged
 
   -- The values are what the rule says of them, and each acknowledged number is known to be done.
   pub record HasEnded (K : Desk values group) (all : List Q) (top : R) (told : List ℕ) : Type 0 where

@@ -1,2 +1,6 @@
 pub mod Ended
 pub mod Laws
+pub mod Stored
+pub mod Legal
+pub mod Runs
+pub mod Closed

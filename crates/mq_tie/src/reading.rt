@@ -1,0 +1,59 @@
+// The history of a run, read entry by entry, and the ports that it leaves.
+ghost use Rattle.std.specs.Prelude.{◌≡◌, ◌+◌, ◌<◌, ◌≤◌, ◌++◌, Some, length, map, reverse, slice_get, vec_len, vec_capacity};
+ghost use Rattle.mq_tie.specs.Runs.{history_of, ports_of};
+
+use crate::ended::Ended;
+use mq_drive::{Port, Ports};
+use mq_pages::PageCell;
+use mq_side::{Drawn, QueueSide};
+
+// Puts the ports of sides back, the last side's first.
+fn unmake_sides<P: Port, E: Drop>(sides: Vec<QueueSide<P, E>>, ports: &mut Vec<P>)
+    requires room { vec_len ports.old + vec_len sides ≤ vec_capacity ports.old }
+    ensures { ports.new.items ≡ ports.old.items ++ map (λ s. s.pmr.port) (reverse sides.items) }
+{
+    let mut sides = sides;
+    while let Some(side) = sides.pop() {
+        ports.push_reserved(side.into_pmr().into_port());
+    }
+    sides.destroy_empty();
+}
+
+impl<P: Port, E> Ended<P, E> {
+    /// How many entries the history has.
+    pub fn count(&self) -> usize
+        ensures { result ≡ length (history_of self.now) }
+    {
+        self.order.len()
+    }
+
+    /// An entry of the history, with its number, by its place in number order, counted from 0.
+    pub fn drawn(&self, at: usize) -> &Drawn<E>
+        requires { at < length (history_of self.now) }
+        ensures { slice_get (history_of self.now) at ≡ Some (result.now.number, result.now.entry) }
+    {
+        let spot = self.order[at];
+        &self.sides[spot.queue].stored()[spot.place]
+    }
+}
+
+impl<P: Port + Drop, E: Drop> Ended<P, E> {
+    /// The ports, and the cells of the home blocks. The history is dropped. It takes no memory.
+    pub fn into_ports(self) -> (Ports<P>, Vec<PageCell>)
+        ensures queues { result.0.queues.items ≡ ports_of self }
+        ensures root { result.0.root ≡ self.root.port }
+        ensures pages { result.1 ≡ self.pages }
+    {
+        let Ended {
+            pages,
+            root,
+            mut sides,
+            mut queues,
+            ..
+        } = self;
+        sides.reverse();
+        unmake_sides(sides, &mut queues);
+        let root = root.into_port();
+        (Ports { queues, root }, pages)
+    }
+}
