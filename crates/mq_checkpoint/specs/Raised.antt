@@ -1,0 +1,44 @@
+-- What a checkpoint has done once the base is raised.
+use Rattle.std.specs.Prelude.{◌≡◌, ◌≤◌, ℕ, List, [], ◌∷◌}
+use Rattle.mq_blocks.specs.Drive.{PortState}
+use Rattle.mq_drive.specs.Steps.{Fault}
+use Rattle.mq_drive.specs.declared.port.Port.{Ghosts}
+use Rattle.mq_journal.specs.Numbers.{Seat, Shared, values}
+use Rattle.mq_rules.specs.Groups.{Group}
+use Rattle.mq_rules.specs.Rule.{IsOk, IsRoot}
+use Rattle.mq_side.specs.declared.root.Root.{Root}
+use Rattle.mq_turns.specs.Desk.{Below}
+use Rattle.mq_turns.specs.Meaning.{raised}
+use Rattle.mq_turns.specs.declared.rule.Answer.TheVariants.{Front}
+use Rattle.mq_checkpoint.specs.Steps.{IsKnownFrom}
+
+module _ {P E : Type 0} {G : Ghosts P} (state : P → PortState) (faults : P → List Fault) (group : Group E) where
+  -- At a moment of this call the root, which the session held, had flushed this base, and the word was raised to it: so
+  -- the root is what the rule says.
+  pub record IsRaisedTo (base : ℕ) (v : Seat P E G) : Type 0 where
+    pub known : Shared P E G
+    pub since : IsKnownFrom v known
+    pub ok : IsOk (values state faults group) group (raised base known)
+    pub root : Root P G
+    pub flushed : (state root.port).base ≡ base
+    pub stood : IsRoot (values state faults group) group (raised base known) root
+
+  -- The base is raised, on the root's port and on the desk. It is not below any number that the session had seen or drawn
+  -- before, nor below the front, which was read once and before the first page. Nothing was reported. The session may know
+  -- of greater numbers, drawn and done, and has noted pages; all else of it is as it was.
+  pub record Raises (base : ℕ) (old new : Seat P E G) : Type 0 where
+    pub seen : Below base old
+    pub front : ℕ
+    pub read : new.reading.answers ≡ Front front ∷ old.reading.answers
+    pub reached : front ≤ base
+    pub raised_to : IsRaisedTo base old
+    pub word : new.reading.base ≡ base
+    pub parts : new.parts ≡ old.parts
+    pub opening : new.opening ≡ old.opening
+    pub session : new.session ≡ old.session
+    pub held : new.held ≡ old.held
+    pub drawn : new.drawn ≡ old.drawn
+    pub read_before : new.read ≡ old.read
+    pub later : old.seen ≤ new.seen
+    pub done : old.reading.done ≤ new.reading.done
+    pub charged : new.reading.charged ≡ old.reading.charged
