@@ -1,2 +1,5 @@
 pub mod Drains
 pub mod Moving
+pub mod HomeSide
+pub mod HomeViews
+pub mod BySide

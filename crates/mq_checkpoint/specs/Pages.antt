@@ -9,6 +9,18 @@ use Rattle.mq_pages.specs.declared.page.PageCell.{PageCell}
 use Rattle.mq_rules.specs.Groups.{Group}
 use Rattle.mq_rules.specs.Rule.{IsPage, core_of}
 
+-- the cell once the content of its last change is at home
+abbrev pub at_home : PageCell → PageCell
+at_home c = record c { home_version = c.version }
+
+module _ {P E : Type 0} {G : Ghosts P} where
+  -- The cell waits for a home write: its last change logged it, is above the last number whose content came home, and is
+  -- known to be done.
+  pub record IsDue (c : PageCell) (v : Seat P E G) : Type 0 where
+    pub last : c.last_logged ≡ c.version
+    pub waits : c.home_version < c.version
+    pub done : c.version ≤ v.reading.done
+
 module _ {P E : Type 0} {G : Ghosts P} (state : P → PortState) (faults : P → List Fault) (group : Group E) where
   -- By what was known then, the base was done and so was the page's last change, and the base needed no home write of
   -- the page: where the block is in the map, and its last change logged it and is not above the base, its content is at

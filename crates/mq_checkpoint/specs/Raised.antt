@@ -3,14 +3,24 @@ use Rattle.std.specs.Prelude.{◌≡◌, ◌≤◌, ℕ, List, [], ◌∷◌}
 use Rattle.mq_blocks.specs.Drive.{PortState}
 use Rattle.mq_drive.specs.Steps.{Fault}
 use Rattle.mq_drive.specs.declared.port.Port.{Ghosts}
-use Rattle.mq_journal.specs.Numbers.{Seat, Shared, values}
+use Rattle.mq_journal.specs.Numbers.{Seat, Shared, Start, machine, values}
 use Rattle.mq_rules.specs.Groups.{Group}
 use Rattle.mq_rules.specs.Rule.{IsOk, IsRoot}
 use Rattle.mq_side.specs.declared.root.Root.{Root}
-use Rattle.mq_turns.specs.Desk.{Below}
-use Rattle.mq_turns.specs.Meaning.{raised}
+use Rattle.mq_turns.specs.Chairs.{giving}
+use Rattle.mq_turns.specs.Desk.{Below, Sees, slot_of}
+use Rattle.mq_turns.specs.Meaning.{charged, raised}
+use Rattle.mq_turns.specs.Words.{after_notice}
 use Rattle.mq_turns.specs.declared.rule.Answer.TheVariants.{Front}
+use Rattle.mq_turns.specs.declared.rule.Charge.{Charge}
+use Rattle.mq_turns.specs.declared.rule.Notice.TheVariants as notice
+use Rattle.mq_turns.specs.declared.rule.Report.{Report}
+use Rattle.mq_turns.specs.declared.turn.Turn.TheVariants as turn
 use Rattle.mq_checkpoint.specs.Steps.{IsKnownFrom}
+
+-- a report of the root's port
+abbrev pub reported_root : Report → Charge
+reported_root r = record { port = turn.Root; report = r }
 
 module _ {P E : Type 0} {G : Ghosts P} (state : P → PortState) (faults : P → List Fault) (group : Group E) where
   -- At a moment of this call the root, which the session held, had flushed this base, and the word was raised to it: so
@@ -42,3 +52,13 @@ module _ {P E : Type 0} {G : Ghosts P} (state : P → PortState) (faults : P →
     pub later : old.seen ≤ new.seen
     pub done : old.reading.done ≤ new.reading.done
     pub charged : new.reading.charged ≡ old.reading.charged
+
+  -- Whatever is known: with the report, the root is what the rule says.
+  abbrev pub ShowsRootReport : Report → Root P G → Seat P E G → Type 0
+  ShowsRootReport r root v = (K : Shared P E G) → Sees (machine state faults group) v K → IsRoot (values state faults group) group (charged (reported_root r) K) root
+
+  -- It was reported of the root's port, and the root was given back.
+  pub record IsReportedOfRoot (o : Start P E G) (r : Report) (old new : Seat P E G) : Type 0 where
+    pub known : Shared P E G
+    pub sees : Sees (machine state faults group) old known
+    pub is : new ≡ giving (slot_of o turn.Root) (after_notice (machine state faults group) (notice.Charge (reported_root r)) known old)
