@@ -3,3 +3,4 @@ pub mod Moving
 pub mod HomeSide
 pub mod HomeViews
 pub mod BySide
+pub mod ByRoot
