@@ -4,3 +4,4 @@ pub mod HomeSide
 pub mod HomeViews
 pub mod BySide
 pub mod ByRoot
+pub mod Visits

@@ -1,5 +1,5 @@
 -- The pages that a checkpoint has passed, and the one that it holds.
-use Rattle.std.specs.Prelude.{◌≡◌, ◌⊎◌, ◌<◌, ◌≤◌, ℕ, List, [], ◌∷◌, length, Some}
+use Rattle.std.specs.Prelude.{◌≡◌, ◌⊎◌, ◌<◌, ◌≤◌, ℕ, List, [], ◌∷◌, length, Option, None, Some}
 use Rattle.mq_blocks.specs.Drive.{PortState}
 use Rattle.mq_drive.specs.Steps.{Fault}
 use Rattle.mq_drive.specs.declared.port.Port.{Ghosts}
@@ -12,6 +12,16 @@ use Rattle.mq_rules.specs.Rule.{IsPage, core_of}
 -- the cell once the content of its last change is at home
 abbrev pub at_home : PageCell → PageCell
 at_home c = record c { home_version = c.version }
+
+-- no base up to the block's last change needs a home write of it: where the block is in the map, and its last change
+-- logged it, its content is at home
+abbrev pub IsAtHome : PageCell → Type 0
+IsAtHome c = (content : List ℕ) → c.content ≡ Some content → c.last_logged ≡ c.version → c.version ≤ c.home_version
+
+-- a copy of what waits for a home write, where the cell does
+abbrev pub IsCopyOf : PageCell → Option (List ℕ) → Type 0
+IsCopyOf c None = IsAtHome c
+IsCopyOf c (Some copy) = (c.content ≡ Some copy) × (c.last_logged ≡ c.version) × (c.home_version < c.version)
 
 module _ {P E : Type 0} {G : Ghosts P} where
   -- The cell waits for a home write: its last change logged it, is above the last number whose content came home, and is

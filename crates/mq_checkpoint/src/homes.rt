@@ -111,3 +111,36 @@ pub(crate) fn write_by_root<R: Wait, P: Port + Drop, G: Groups>(
         }
     }
 }
+
+/// Writes a copy of the page home, by the port that has its block.
+pub(crate) fn write_home<R: Wait, P: Port + Drop, G: Groups>(
+    rt: &R,
+    desk: &Desk<JournalMachine<P, G>>,
+    chair: &mut Chair<JournalMachine<P, G>>,
+    geometry: Geometry,
+    block: BlockNo,
+    cell: &PageCell,
+    copy: Block,
+) -> Result<(), Cause>
+    requires at { AtDesk desk.now chair.old }
+    requires shape { geometry ≡ shape_of (values P.state P.faults G.group) G.group (start_of desk.now) }
+    requires sides { length (start_of desk.now).sides ≡ queues_of geometry }
+    requires home { block < homes_of geometry }
+    requires page { HoldsOnlyPage P.state P.faults G.group (start_of desk.now) block cell.now
+        (view chair.old) }
+    requires due { IsDue cell.now (view chair.old) }
+    requires content { cell.now.content ≡ Some copy }
+    ensures at { AtDesk desk.now chair.new }
+    ensures wrote { OnOk result (HoldsOnlyPage P.state P.faults G.group (start_of desk.now) block
+        (at_home cell.now) (view chair.new)) }
+    ensures left { OnErr result (HoldsOnlyPage P.state P.faults G.group (start_of desk.now) block
+        cell.now (view chair.new)) }
+    ensures moves { OnOk result (Moves [] [] (view chair.old) (view chair.new)) }
+    ensures refused { IfErr result (λ c. IsRefusedBy P.state P.faults G.group [] c
+        (view chair.old) (view chair.new)) }
+{
+    match geometry.zone_of(block) {
+        Some(queue) => write_by_side(rt, desk, chair, geometry, queue, block, cell, copy),
+        None => write_by_root(rt, desk, chair, geometry, block, cell, copy),
+    }
+}

@@ -12,6 +12,8 @@ pub enum CheckpointRefusal {
 }
 
 impl From<OutOfMemory> for CheckpointRefusal {
+    ghost use Rattle.std.specs.Prelude.{◌≡◌};
+
     ghost use Rattle.mq_checkpoint.specs.declared.refusal.CheckpointRefusal.TheVariants as refused;
 
     ghost from_gives = { λ _ e. e ≡ refused.OutOfMemory };
@@ -22,6 +24,8 @@ impl From<OutOfMemory> for CheckpointRefusal {
 }
 
 impl From<Cause> for CheckpointRefusal {
+    ghost use Rattle.std.specs.Prelude.{◌≡◌};
+
     ghost use Rattle.mq_checkpoint.specs.declared.refusal.CheckpointRefusal.TheVariants as refused;
 
     ghost from_gives = { λ cause e. e ≡ refused.Drive cause };
