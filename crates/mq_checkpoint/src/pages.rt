@@ -92,10 +92,11 @@ fn write_waiting<R: Wait, P: Port + Drop, G: Groups>(
     ensures refused { IfErr result (λ r. Refuses P.state P.faults G.group [] r
         (view chair.old) (view chair.new)) }
 {
-    if let Some(copy) = copy_waiting(alloc, cell)? {
-        write_home(rt, desk, chair, geometry, block, cell, copy)?;
-        cell.home_version = cell.version;
-    }
+    let Some(copy) = copy_waiting(alloc, cell)? else {
+        return Ok(());
+    };
+    write_home(rt, desk, chair, geometry, block, cell, copy)?;
+    cell.home_version = cell.version;
     Ok(())
 }
 
