@@ -91,7 +91,7 @@ abbrev IsOf : Geometry → Report → Fault → Type 0
 IsOf g r x = (first old new : List Fault) → AreMore first old → Gains x old new → (2 ^ 64 - 1 ≤ length new) ⊎ IsBacked g r first old new
 
 -- and does so after all that was charged before
-backed_by : (g : Geometry) (t : Rattle.mq_turns.specs.declared.turn.Turn.Turn) (cs : List Rattle.mq_turns.specs.declared.rule.Charge.Charge) (first old new : List Fault) (r : Report) (x : Fault) → IsOf g r x → Gains x old new → AreCharged g t cs first old → (2 ^ 64 - 1 ≤ length new) ⊎ IsBacked g r first old new
+pub backed_by : (g : Geometry) (t : Rattle.mq_turns.specs.declared.turn.Turn.Turn) (cs : List Rattle.mq_turns.specs.declared.rule.Charge.Charge) (first old new : List Fault) (r : Report) (x : Fault) → IsOf g r x → Gains x old new → AreCharged g t cs first old → (2 ^ 64 - 1 ≤ length new) ⊎ IsBacked g r first old new
 backed_by g t cs first old new r x of gains (inl full) = inl (let l = (gains_rises x old new gains).0 in omega arith)
 backed_by g t cs first old new r x of gains (inr was) = of first old new was.more gains
 

@@ -5,3 +5,4 @@ pub mod HomeViews
 pub mod BySide
 pub mod ByRoot
 pub mod Visits
+pub mod AtRoot

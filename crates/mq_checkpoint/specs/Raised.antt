@@ -1,9 +1,11 @@
 -- What a checkpoint has done once the base is raised.
-use Rattle.std.specs.Prelude.{◌≡◌, ◌≤◌, ℕ, List, [], ◌∷◌}
+use Rattle.std.specs.Prelude.{◌≡◌, ◌⊎◌, ◌≤◌, ℕ, List, [], ◌∷◌}
 use Rattle.mq_blocks.specs.Drive.{PortState}
+use Rattle.mq_base.specs.Bases.{BaseOk, RootStands}
 use Rattle.mq_drive.specs.Steps.{Fault}
 use Rattle.mq_drive.specs.declared.port.Port.{Ghosts}
 use Rattle.mq_journal.specs.Numbers.{Seat, Shared, Start, machine, values}
+use Rattle.mq_ledger.specs.KnownJournal.{KnownJournal}
 use Rattle.mq_rules.specs.Groups.{Group}
 use Rattle.mq_rules.specs.Rule.{IsOk, IsRoot}
 use Rattle.mq_side.specs.declared.root.Root.{Root}
@@ -16,7 +18,12 @@ use Rattle.mq_turns.specs.declared.rule.Charge.{Charge}
 use Rattle.mq_turns.specs.declared.rule.Notice.TheVariants as notice
 use Rattle.mq_turns.specs.declared.rule.Report.{Report}
 use Rattle.mq_turns.specs.declared.turn.Turn.TheVariants as turn
-use Rattle.mq_checkpoint.specs.Steps.{IsKnownFrom}
+use Rattle.mq_checkpoint.specs.Steps.{IsKnownFrom, Refuses}
+use Rattle.mq_checkpoint.specs.declared.refusal.CheckpointRefusal.{CheckpointRefusal}
+
+-- whatever is known, by which this is a base: a root that stood before stands after
+abbrev pub KeepsStanding : ℕ → PortState → PortState → Type 0
+KeepsStanding base old new = (k : KnownJournal) → BaseOk k base → RootStands k old → RootStands k new
 
 -- a report of the root's port
 abbrev pub reported_root : Report → Charge
@@ -32,6 +39,11 @@ module _ {P E : Type 0} {G : Ghosts P} (state : P → PortState) (faults : P →
     pub root : Root P G
     pub flushed : (state root.port).base ≡ base
     pub stood : IsRoot (values state faults group) group (raised base known) root
+
+  -- This base was raised. Nothing else of the session has changed, but that it has no slot in hand.
+  pub record IsStored (base : ℕ) (old new : Seat P E G) : Type 0 where
+    pub raised_to : IsRaisedTo base old
+    pub is : new ≡ record old { hand = 0; reading = record old.reading { base = base } }
 
   -- The base is raised, on the root's port and on the desk. It is not below any number that the session had seen or drawn
   -- before, nor below the front, which was read once and before the first page. Nothing was reported. The session may know
@@ -62,3 +74,7 @@ module _ {P E : Type 0} {G : Ghosts P} (state : P → PortState) (faults : P →
     pub known : Shared P E G
     pub sees : Sees (machine state faults group) old known
     pub is : new ≡ giving (slot_of o turn.Root) (after_notice (machine state faults group) (notice.Charge (reported_root r)) known old)
+
+  -- It was refused before its front was read, or after.
+  abbrev pub HasRefused : CheckpointRefusal → Seat P E G → Seat P E G → Type 0
+  HasRefused r old new = Refuses state faults group [] r old new ⊎ ((front : ℕ) × Refuses state faults group (Front front ∷ []) r old new)

@@ -2,12 +2,12 @@
 //! commit, and the base is raised.
 #![tactic(auto)]
 
-mod checkpoint;
 mod homes;
 mod pages;
+mod raising;
 mod refusal;
 mod root;
 mod sweeping;
 
-// pub use checkpoint::checkpoint;
+pub use raising::checkpoint;
 pub use refusal::CheckpointRefusal;
