@@ -6,3 +6,4 @@ pub mod BySide
 pub mod ByRoot
 pub mod Visits
 pub mod AtRoot
+pub mod AtEnd
