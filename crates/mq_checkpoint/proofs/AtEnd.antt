@@ -1,5 +1,5 @@
 -- What a checkpoint has done in the end.
-use Rattle.std.proofs.Common.{◌≡◌, ◌⊎◌, ℕ, ◌+◌, ◌<◌, ◌≤◌, max, List, [], ◌∷◌, ◌++◌, length, sym, refl, ap, subst, ◌∙◌, inl, inr, arith}
+use Rattle.std.proofs.Common.{◌≡◌, ℕ, ◌<◌, ◌≤◌, List, [], ◌∷◌, length, sym, ap, subst, ◌∙◌, inl, inr, arith}
 use Rattle.std.specs.Prelude.{Some}
 use Rattle.mq_blocks.specs.Drive.{PortState}
 use Rattle.mq_blocks.specs.Geometry.{homes_of}
@@ -136,6 +136,8 @@ module _ {P E : Type 0} {G : Ghosts P} (state : P → PortState) (faults : P →
     later = let a = ap (λ (z : Seat P E G). z.seen) st.is in let b = m.seen in omega arith;
     done = let a = ap (λ (z : Seat P E G). z.reading.done) st.is in let b = m.done in omega arith;
     charged = ap (λ (z : Seat P E G). z.reading.charged) st.is ∙ m.charged;
+    noted = m.noted;
+    pages = ap (λ (z : Seat P E G). z.reading.pages) st.is ∙ m.pages;
   }
 
   pub whole_moves : (front : ℕ) (v v1 v2 v3 : Seat P E G) → Moves [] [] v v1 → Moves [] (Front front ∷ []) v1 v2 → Moves [] [] v2 v3 → Moves [] (Front front ∷ []) v v3

@@ -1,45 +1,36 @@
 -- The base is raised.
-use Rattle.std.proofs.Common.{◌≡◌, ◌⊎◌, ℕ, ◌+◌, ◌-◌, ◌==◌, ◌<◌, ◌≤◌, ◌^◌, max, true, false, cond, List, [], ◌∷◌, ◌++◌, length, sym, refl, ap, subst, ◌∙◌, inl, inr, arith}
+use Rattle.std.proofs.Common.{◌≡◌, ℕ, ◌<◌, ◌≤◌, max, true, cond, List, [], ◌∷◌, sym, refl, ap, subst, ◌∙◌, inl, inr, arith}
 use Rattle.std.specs.Prelude.{None, Some, Result, Ok, Err, OnOk, OnErr}
 use Rattle.std.proofs.lemmas.Bool.{eq-eqb}
 use Rattle.mq_blocks.specs.Drive.{PortState}
-use Rattle.mq_blocks.specs.Geometry.{homes_of}
-use Rattle.mq_blocks.specs.declared.geometry.Geometry.{Geometry}
 use Rattle.mq_base.specs.Bases.{BaseOk, RootStands}
-use Rattle.mq_base.specs.Pages.{WasBrought}
-use Rattle.mq_base.proofs.Pages.{raise}
 use Rattle.mq_base.proofs.Roots.{stands_flushed, stands_stored}
 use Rattle.mq_drive.specs.Faults.{AreMore, count_of}
-use Rattle.mq_drive.specs.Steps.{Fault, Gains, OffCause, PowerOff}
+use Rattle.mq_drive.specs.Steps.{Fault, Gains, PowerOff}
 use Rattle.mq_drive.specs.declared.port.Off.{Off}
 use Rattle.mq_drive.specs.declared.port.Port.{Ghosts}
-use Rattle.mq_journal.specs.Draining.{report_of}
 use Rattle.mq_journal.specs.Numbers
 use Rattle.mq_journal.specs.Numbers.{Seat, Shared, Start}
-use Rattle.mq_journal.proofs.Refusing.{taken_seen}
 use Rattle.mq_journal.proofs.Sent.{gained_more, off_backed}
-use Rattle.mq_ledger.specs.KnownJournal.{KnownJournal, front}
+use Rattle.mq_ledger.specs.KnownJournal.{KnownJournal}
 use Rattle.mq_pages.specs.declared.page.PageCell.{PageCell}
 use Rattle.mq_rules.specs.Groups.{Group}
 use Rattle.mq_rules.specs.Rule
 use Rattle.mq_rules.specs.Rule.{IsOk, IsPage, IsRoot}
 use Rattle.mq_rules.specs.Values.{Values}
 use Rattle.mq_rules.proofs.Charging.{charged_more}
-use Rattle.mq_rules.proofs.Staying.{core_grown}
-use Rattle.mq_rules.proofs.Telling.{ok_raised, page_numbers, root_charged, root_raised}
+use Rattle.mq_rules.proofs.Telling.{ok_raised, root_charged, root_raised}
 use Rattle.mq_side.specs.Roots.{IsRaiseCut, after_raise}
 use Rattle.mq_side.specs.declared.answers.Cause.TheVariants as cause
 use Rattle.mq_side.specs.declared.root.Root.{Root}
 use Rattle.mq_side.specs.declared.side.QueueSide.{QueueSide}
 use Rattle.mq_side.proofs.Completes.{gains_rises}
 use Rattle.mq_turns.specs.Chairs.{giving, holding}
-use Rattle.mq_turns.specs.Desk.{Below, Sees, refreshed, slot_of, turn_at}
+use Rattle.mq_turns.specs.Desk.{Sees, refreshed, slot_of, turn_at}
 use Rattle.mq_turns.specs.Lists.{Each, times, without}
-use Rattle.mq_turns.specs.Meaning.{Grows, Meaning, charged, newest, raised}
-use Rattle.mq_turns.specs.Swept.{AfterFront}
+use Rattle.mq_turns.specs.Meaning.{Meaning, charged, raised}
 use Rattle.mq_turns.specs.Words
 use Rattle.mq_turns.specs.Words.{MayRaise, after_notice, same_turn}
-use Rattle.mq_turns.specs.declared.rule.Answer.TheVariants.{Front}
 use Rattle.mq_turns.specs.declared.rule.Known.{Known}
 use Rattle.mq_turns.specs.declared.rule.Notice.TheVariants as notice
 use Rattle.mq_turns.specs.declared.rule.Report.TheVariants as report
@@ -48,11 +39,10 @@ use Rattle.mq_turns.specs.declared.turn.Turn.TheVariants as turn
 use Rattle.mq_turns.proofs.Each.{hit}
 use Rattle.mq_turns.proofs.Seen.{opening_seen, sees_before, stands_held, stands_renewed}
 use Rattle.mq_turns.proofs.Slots.{turn_at_slot}
-use Rattle.mq_checkpoint.specs.Pages.{AreNoted, IsNoted}
-use Rattle.mq_checkpoint.specs.Raised.{IsRaisedTo, IsReportedOfRoot, IsStored, KeepsStanding, Raises, ShowsRootReport, reported_root}
-use Rattle.mq_checkpoint.specs.Steps.{IsRefusedBy, Moves, at_root}
+use Rattle.mq_checkpoint.specs.Raised.{IsReportedOfRoot, IsStored, KeepsStanding, ShowsRootReport, reported_root}
+use Rattle.mq_checkpoint.specs.Steps.{IsRefusedBy, at_root}
 use Rattle.mq_checkpoint.proofs.HomeSide.{backed_by}
-use Rattle.mq_checkpoint.proofs.HomeViews.{done_front, known_seen}
+use Rattle.mq_checkpoint.proofs.HomeViews.{known_seen}
 use Rattle.mq_checkpoint.proofs.Moving.{moves_report}
 
 -- ---- the root's port

@@ -1,5 +1,5 @@
 -- A page is written home by the root, which the session takes and gives back.
-use Rattle.std.proofs.Common.{◌≡◌, ℕ, ◌+◌, ◌<◌, ◌≤◌, List, [], ◌∷◌, length, sym, refl, ap, subst, ◌∙◌, inl, inr, arith}
+use Rattle.std.proofs.Common.{◌≡◌, ℕ, ◌<◌, List, [], ◌∷◌, sym, refl, ap, subst, ◌∙◌, inl, inr, arith}
 use Rattle.std.specs.Prelude.{None, Some, Result, Ok, Err}
 use Rattle.std.proofs.lemmas.Bool.{cases_lt, le-ltb}
 use Rattle.mq_blocks.specs.Drive.{IsHome, PortState}
@@ -19,30 +19,23 @@ use Rattle.mq_rules.specs.Groups.{Group}
 use Rattle.mq_rules.specs.Rule
 use Rattle.mq_rules.specs.Rule.{IsRoot}
 use Rattle.mq_rules.specs.Values.{Values}
-use Rattle.mq_side.specs.Counts.{KeepsCount}
-use Rattle.mq_side.specs.Drained.{Rises}
 use Rattle.mq_side.specs.Homes.{RootStaysAt}
-use Rattle.mq_side.specs.Side.{side_state}
-use Rattle.mq_side.specs.Told.{KeepsTold}
 use Rattle.mq_side.specs.declared.answers.Cause.{Cause}
-use Rattle.mq_side.specs.declared.answers.Cause.TheVariants as cause
 use Rattle.mq_side.specs.declared.root.Root.{Root}
 use Rattle.mq_side.specs.declared.side.QueueSide.{QueueSide}
-use Rattle.mq_side.proofs.Completes.{gains_rises}
-use Rattle.mq_turns.specs.Chairs.{giving, holding}
+use Rattle.mq_turns.specs.Chairs.{holding}
 use Rattle.mq_turns.specs.Desk.{Sees, slot_of}
 use Rattle.mq_turns.specs.Lists.{Each, times}
 use Rattle.mq_turns.specs.Meaning.{Meaning, charged, written}
 use Rattle.mq_turns.specs.Words.{after_notice}
 use Rattle.mq_turns.specs.declared.rule.Notice.TheVariants as notice
-use Rattle.mq_turns.specs.declared.rule.Report.{Report}
 use Rattle.mq_turns.specs.declared.rule.Report.TheVariants as report
 use Rattle.mq_turns.specs.declared.turn.Item.TheVariants as item
 use Rattle.mq_turns.specs.declared.turn.Turn.TheVariants as turn
 use Rattle.mq_turns.proofs.Each.{hit}
 use Rattle.mq_turns.proofs.Seen.{opening_seen, stands_held}
-use Rattle.mq_checkpoint.specs.Pages.{HoldsOnlyPage, IsDue, at_home}
-use Rattle.mq_checkpoint.specs.Steps.{IsCauseOf, IsRefusedBy, Moves, at_root}
+use Rattle.mq_checkpoint.specs.Pages.{HoldsOnlyPage, IsDue}
+use Rattle.mq_checkpoint.specs.Steps.{IsCauseOf, IsRefusedBy, at_root}
 use Rattle.mq_checkpoint.specs.Raised.{IsReportedOfRoot, reported_root}
 use Rattle.mq_checkpoint.proofs.HomeSide.{home_in_meta, root_failed, root_off, root_written}
 use Rattle.mq_checkpoint.proofs.HomeViews.{bring_seen, known_seen, noted_held, page_seen, port_seen, report_held, report_moves, took_before, took_held, took_opening}

@@ -1,6 +1,6 @@
 -- The sides of the queues are drained one after another.
-use Rattle.std.proofs.Common.{◌≡◌, ℕ, suc, ◌+◌, ◌-◌, ◌<◌, ◌≤◌, min, nat_le, List, [], ◌∷◌, ◌++◌, length, sym, refl, ap, subst, ◌∙◌, inl, inr, arith, if◌then◌else◌}
-use Rattle.std.specs.Prelude.{Option, Some, Result, Ok, Err}
+use Rattle.std.proofs.Common.{◌≡◌, ℕ, suc, ◌+◌, ◌-◌, ◌<◌, ◌≤◌, min, nat_le, List, [], ◌∷◌, length, sym, refl, ap, subst, ◌∙◌, inl, inr, arith, if◌then◌else◌}
+use Rattle.std.specs.Prelude.{Some, Result, Ok, Err}
 use Rattle.std.proofs.lemmas.Bool.{cases_Bool}
 use Rattle.mq_blocks.specs.Drive.{PortState}
 use Rattle.mq_drive.specs.Steps.{Fault}
@@ -13,7 +13,6 @@ use Rattle.mq_side.specs.Drained.{DrainCause, Drains}
 use Rattle.mq_side.specs.Side.{side_state}
 use Rattle.mq_side.specs.declared.answers.Cause.{Cause}
 use Rattle.mq_side.specs.declared.answers.Cause.TheVariants as cause
-use Rattle.mq_side.specs.declared.answers.Why.{Why}
 use Rattle.mq_side.specs.declared.root.Root.{Root}
 use Rattle.mq_side.specs.declared.side.QueueSide.{QueueSide}
 use Rattle.mq_turns.specs.Lists.{Each}
@@ -24,7 +23,7 @@ use Rattle.mq_turns.specs.declared.rule.Reading.{Reading}
 use Rattle.mq_turns.specs.declared.turn.Turn.TheVariants.{Side}
 use Rattle.mq_turns.proofs.Each.{each_map}
 use Rattle.mq_turns.proofs.Sweeps.{Passing, none_passed, shows_next}
-use Rattle.mq_checkpoint.specs.Steps.{IsCauseOf, IsKnownFrom, IsRefusedBy, Moves, at_side}
+use Rattle.mq_checkpoint.specs.Steps.{IsCauseOf, IsRefusedBy, Moves, at_side}
 
 -- ---- what is answered
 

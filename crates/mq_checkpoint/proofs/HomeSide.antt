@@ -1,11 +1,11 @@
 -- A port by which a page was written home, by what the rule says of it.
-use Rattle.std.proofs.Common.{◌≡◌, ◌⊎◌, ℕ, ◌+◌, ◌-◌, ◌<◌, ◌≤◌, ◌^◌, Bool, cond, List, [], ◌∷◌, length, Option, sym, refl, ap, subst, ◌∙◌, inl, inr, arith}
+use Rattle.std.proofs.Common.{◌≡◌, ◌⊎◌, ℕ, ◌-◌, ◌<◌, ◌≤◌, ◌^◌, Bool, cond, List, length, sym, refl, ap, subst, ◌∙◌, inl, inr, arith}
 use Rattle.std.specs.Prelude.{None, Some, Result, Ok, Err}
 use Rattle.mq_blocks.specs.Drive.{IsHome, PortState, after_begin, after_end, counted}
 use Rattle.mq_blocks.specs.Geometry.{homes_of, home_lba, zone_of}
 use Rattle.mq_blocks.specs.Ports.{IsPort}
 use Rattle.mq_blocks.specs.declared.geometry.Geometry.{Geometry}
-use Rattle.mq_base.specs.Bases.{BaseOk, RootStands}
+use Rattle.mq_base.specs.Bases.{BaseOk}
 use Rattle.mq_base.specs.Pages.{IsToBring}
 use Rattle.mq_base.proofs.Bases.{base_later}
 use Rattle.mq_base.proofs.HomeWrites.{grown_brought, log_brought, logged_last, root_began, root_brought, side_began, side_brought}
@@ -36,8 +36,8 @@ use Rattle.mq_rules.proofs.Charging.{charged_more}
 use Rattle.mq_rules.proofs.Telling.{root_charged}
 use Rattle.mq_side.specs.Counts.{KeepsCount}
 use Rattle.mq_side.specs.Drained.{Rises}
-use Rattle.mq_side.specs.Homes.{MayGoHome, RootStaysAt, StaysAt}
-use Rattle.mq_side.specs.Side.{IsQueueSide, SideState, side_state}
+use Rattle.mq_side.specs.Homes.{RootStaysAt, StaysAt}
+use Rattle.mq_side.specs.Side.{IsQueueSide, side_state}
 use Rattle.mq_side.specs.Stored.{AreStored}
 use Rattle.mq_side.specs.Told.{KeepsTold}
 use Rattle.mq_side.specs.declared.root.Root.{Root}

@@ -1,6 +1,6 @@
 -- A session that holds a page takes the port of its block, notes a home write or reports of the port, and gives the port
 -- back.
-use Rattle.std.proofs.Common.{◌≡◌, ◌≢◌, ◌⊎◌, ℕ, ◌+◌, ◌-◌, ◌==◌, ◌<◌, ◌≤◌, ◌^◌, Bool, true, false, cond, List, [], ◌∷◌, length, Option, sym, refl, ap, subst, ◌∙◌, inl, inr, arith, eqb}
+use Rattle.std.proofs.Common.{◌≡◌, ◌≢◌, ℕ, ◌==◌, ◌<◌, ◌≤◌, true, false, cond, List, [], ◌∷◌, Option, sym, refl, ap, subst, ◌∙◌, arith}
 use Rattle.std.specs.Prelude.{None, Some}
 use Rattle.std.proofs.lemmas.Bool.{eq-eqb, eqb-true, false≢true, ne_eqb}
 use Rattle.mq_blocks.specs.Drive.{PortState}
@@ -24,9 +24,8 @@ use Rattle.mq_side.specs.declared.side.QueueSide.{QueueSide}
 use Rattle.mq_turns.specs.Chairs.{giving, holding}
 use Rattle.mq_turns.specs.Desk.{IsTurn, Sees, Stands, slot_of, turn_at}
 use Rattle.mq_turns.specs.Lists.{Each, times}
-use Rattle.mq_turns.specs.Meaning.{Meaning, charged, newest, written}
+use Rattle.mq_turns.specs.Meaning.{Meaning, charged, written}
 use Rattle.mq_turns.specs.Words.{MayNote, after_notice, same_turn}
-use Rattle.mq_turns.specs.declared.rule.Charge.{Charge}
 use Rattle.mq_turns.specs.declared.rule.Notice.TheVariants as notice
 use Rattle.mq_turns.specs.declared.rule.Report.{Report}
 use Rattle.mq_turns.specs.declared.turn.Item.{Item}
@@ -34,8 +33,7 @@ use Rattle.mq_turns.specs.declared.turn.Item.TheVariants as item
 use Rattle.mq_turns.specs.declared.turn.Turn.{Turn}
 use Rattle.mq_turns.specs.declared.turn.Turn.TheVariants.{Page, Side}
 use Rattle.mq_turns.specs.declared.turn.Turn.TheVariants as turn
-use Rattle.mq_turns.proofs.Changes.{not_same, turn_is}
-use Rattle.mq_turns.proofs.Each.{hit, miss}
+use Rattle.mq_turns.proofs.Each.{hit}
 use Rattle.mq_turns.proofs.Seen.{opening_seen, sees_before, stands_held}
 use Rattle.mq_turns.proofs.Slots.{turn_at_slot}
 use Rattle.mq_checkpoint.specs.Pages.{HoldsOnlyPage, IsDue, at_home}
@@ -126,9 +124,11 @@ module _ {P E : Type 0} {G : Ghosts P} (state : P → PortState) (faults : P →
     pub may_home : IsDue c v → MayNote μ (notice.Home b c.version) v1
     may_home due K sees =
         let before = took_before K sees in
-        let start : K.opening ≡ o = opening_seen μ o K v1 took_opening sees in
-        (ok_written values group b c.version c.last_logged c.home_version K before.ok (bring_seen o b c v opening h due K before), λ u is about.
-            subst (λ (s : Start P E G). 0 < times (slot_of s u) v1.held) (sym start) (go u (subst (λ (s : Start P E G). Rule.lies values group s (b, c.version) u ≡ true) start about)))
+        let start : K.opening ≡ o = opening_seen μ o K v1 took_opening sees in (
+          ok_written values group b c.version c.last_logged c.home_version K before.ok (bring_seen o b c v opening h due K before),
+          λ u is about.
+              subst (λ (s : Start P E G). 0 < times (slot_of s u) v1.held) (sym start) (go u (subst (λ (s : Start P E G). Rule.lies values group s (b, c.version) u ≡ true) start about)),
+        )
       where
         there : (u : Turn) → u ≡ t → 0 < times (slot_of o u) v1.held
         there u e = subst (λ w. 0 < times (slot_of o w) v1.held) (sym e) holds_slot

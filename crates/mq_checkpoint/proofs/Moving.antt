@@ -1,6 +1,5 @@
 -- Steps of a checkpoint one after another.
 use Rattle.std.proofs.Common.{◌≡◌, ℕ, ◌≤◌, List, [], ◌∷◌, ◌++◌, refl, sym, ap, ◌∙◌, arith}
-use Rattle.std.specs.Prelude.{Option, Some}
 use Rattle.mq_blocks.specs.Drive.{PortState}
 use Rattle.mq_drive.specs.Steps.{Fault}
 use Rattle.mq_drive.specs.declared.port.Port.{Ghosts}
@@ -8,7 +7,6 @@ use Rattle.mq_pages.specs.declared.page.PageCell.{PageCell}
 use Rattle.mq_journal.specs.Numbers.{Seat, Shared}
 use Rattle.mq_rules.specs.Groups.{Group}
 use Rattle.mq_side.specs.declared.answers.Cause.{Cause}
-use Rattle.mq_turns.specs.Desk.{Below}
 use Rattle.mq_turns.specs.declared.rule.Answer.{Answer}
 use Rattle.mq_turns.specs.declared.rule.Charge.{Charge}
 use Rattle.mq_turns.specs.declared.turn.Turn.{Turn}

@@ -1,5 +1,5 @@
 -- A page that a checkpoint visits, and those that it has visited.
-use Rattle.std.proofs.Common.{◌≡◌, ◌⊎◌, ℕ, ◌+◌, ◌<◌, ◌≤◌, List, [], ◌∷◌, ◌++◌, length, sym, refl, ap, subst, ◌∙◌, inl, inr, arith}
+use Rattle.std.proofs.Common.{◌≡◌, ℕ, ◌+◌, ◌<◌, ◌≤◌, List, [], ◌∷◌, ◌++◌, length, refl, ap, subst, ◌∙◌, inl, inr, arith}
 use Rattle.std.specs.Prelude.{Some, Result, Ok, Err, IfOk}
 use Rattle.std.proofs.lemmas.Bool.{cases_lt}
 use Rattle.mq_blocks.specs.Drive.{PortState}
@@ -19,7 +19,7 @@ use Rattle.mq_side.specs.declared.side.QueueSide.{QueueSide}
 use Rattle.mq_turns.specs.Chairs.{holding}
 use Rattle.mq_turns.specs.Desk.{Sees}
 use Rattle.mq_turns.specs.Meaning.{Meaning, newest}
-use Rattle.mq_checkpoint.specs.Pages.{AreNoted, HoldsOnlyPage, IsAtHome, IsNoted, WasBroughtHome}
+use Rattle.mq_checkpoint.specs.Pages.{AreNoted, HoldsOnlyPage, IsAtHome, IsNoted}
 use Rattle.mq_checkpoint.proofs.HomeViews.{done_front, page_seen}
 
 pub if_ok_both : {A B : Type 0} {F G H : A → Type 0} (r : Result A B) → ((x : A) → F x → G x → H x) → IfOk r F → IfOk r G → IfOk r H
@@ -59,11 +59,14 @@ module _ {P E : Type 0} {G : Ghosts P} (state : P → PortState) (faults : P →
 
   -- a page of which no home write is needed is noted
   pub noted_now : (base b : ℕ) (c : PageCell) (v : Seat P E G) (K : Shared P E G) (ns : List (ℕ × PageCell × Shared P E G)) → Sees μ v K → base ≤ v.reading.done → c.version ≤ v.reading.done → IsAtHome c → IsNoted state faults group base b ((b, c, K) ∷ ns)
-  noted_now base b c v K ns sees low changed home = inl (refl, record {
-    reached = done_front state faults group v K base sees low;
-    done = done_front state faults group v K c.version sees changed;
-    home = λ content there last under. home content there last;
-  })
+  noted_now base b c v K ns sees low changed home = inl (
+    refl,
+    record {
+      reached = done_front state faults group v K base sees low;
+      done = done_front state faults group v K c.version sees changed;
+      home = λ content there last under. home content there last;
+    },
+  )
 
   pub noted_none : (base : ℕ) (ns : List (ℕ × PageCell × Shared P E G)) → AreNoted state faults group base 0 ns
   noted_none base ns x lt = absurd (omega arith)

@@ -1,11 +1,12 @@
 -- What a checkpoint has done once the base is raised.
-use Rattle.std.specs.Prelude.{◌≡◌, ◌⊎◌, ◌≤◌, ℕ, List, [], ◌∷◌}
+use Rattle.std.specs.Prelude.{◌≡◌, ◌⊎◌, ◌≤◌, ℕ, List, [], ◌∷◌, ◌++◌}
 use Rattle.mq_blocks.specs.Drive.{PortState}
 use Rattle.mq_base.specs.Bases.{BaseOk, RootStands}
 use Rattle.mq_drive.specs.Steps.{Fault}
 use Rattle.mq_drive.specs.declared.port.Port.{Ghosts}
 use Rattle.mq_journal.specs.Numbers.{Seat, Shared, Start, machine, values}
 use Rattle.mq_ledger.specs.KnownJournal.{KnownJournal}
+use Rattle.mq_pages.specs.declared.page.PageCell.{PageCell}
 use Rattle.mq_rules.specs.Groups.{Group}
 use Rattle.mq_rules.specs.Rule.{IsOk, IsRoot}
 use Rattle.mq_side.specs.declared.root.Root.{Root}
@@ -64,6 +65,8 @@ module _ {P E : Type 0} {G : Ghosts P} (state : P → PortState) (faults : P →
     pub later : old.seen ≤ new.seen
     pub done : old.reading.done ≤ new.reading.done
     pub charged : new.reading.charged ≡ old.reading.charged
+    pub noted : List (ℕ × PageCell × Shared P E G)
+    pub pages : new.reading.pages ≡ noted ++ old.reading.pages
 
   -- Whatever is known: with the report, the root is what the rule says.
   abbrev pub ShowsRootReport : Report → Root P G → Seat P E G → Type 0

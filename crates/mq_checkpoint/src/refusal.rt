@@ -13,7 +13,6 @@ pub enum CheckpointRefusal {
 
 impl From<OutOfMemory> for CheckpointRefusal {
     ghost use Rattle.std.specs.Prelude.{◌≡◌};
-
     ghost use Rattle.mq_checkpoint.specs.declared.refusal.CheckpointRefusal.TheVariants as refused;
 
     ghost from_gives = { λ _ e. e ≡ refused.OutOfMemory };
@@ -25,7 +24,6 @@ impl From<OutOfMemory> for CheckpointRefusal {
 
 impl From<Cause> for CheckpointRefusal {
     ghost use Rattle.std.specs.Prelude.{◌≡◌};
-
     ghost use Rattle.mq_checkpoint.specs.declared.refusal.CheckpointRefusal.TheVariants as refused;
 
     ghost from_gives = { λ cause e. e ≡ refused.Drive cause };

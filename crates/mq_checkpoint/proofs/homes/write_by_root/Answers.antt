@@ -1,4 +1,4 @@
-use Rattle.std.proofs.Common.{◌≡◌, refl, ap}
+use Rattle.std.proofs.Common.{refl, ap}
 use Rattle.std.specs.Prelude.{None, Ok, Err}
 use Rattle.mq_drive.specs.Steps.{PowerOff}
 use Rattle.mq_side.proofs.Completes.{gains_rises}

@@ -1,4 +1,4 @@
-use Rattle.std.proofs.Common.{[], refl}
+use Rattle.std.proofs.Common.{[]}
 use Rattle.std.proofs.lemmas.Result.{err_from_is_err_and}
 use Rattle.mq_turns.specs.AtDesk.{view}
 use Rattle.mq_checkpoint.proofs.Moving.{moves_on, refuses_on}

@@ -1,4 +1,4 @@
-use Rattle.std.proofs.Common.{◌≡◌, ◌+◌, ◌≤◌, [], ap, subst, sym, arith}
+use Rattle.std.proofs.Common.{◌+◌, ◌≤◌, [], subst, sym, arith}
 use Rattle.std.proofs.lemmas.Result.{err_from_is_err_and}
 use Rattle.mq_turns.specs.AtDesk.{view}
 use Rattle.mq_checkpoint.specs.Pages.{AreNoted, IsNoted}

@@ -1,4 +1,3 @@
-use Rattle.std.proofs.Common.{◌≡◌}
 use Rattle.mq_turns.specs.AtDesk.{view, start_of}
 use Rattle.mq_checkpoint.proofs.Visits.{if_ok_both, page_kept, version_looked}
 use Rattle.mq_checkpoint.proofs.pages.settle_page.Goals as goal

@@ -1,7 +1,5 @@
-use Rattle.std.proofs.Common.{◌≡◌, ◌<◌, ◌≤◌, max, [], length, sym, ap, subst, ◌∙◌, arith}
+use Rattle.std.proofs.Common.{◌≡◌, max, sym, ◌∙◌, arith}
 use Rattle.std.proofs.lemmas.Result.{err_from_is_err_and}
-use Rattle.std.specs.Prelude.{IfOk}
-use Rattle.mq_blocks.specs.Geometry.{homes_of, queues_of}
 use Rattle.mq_turns.specs.AtDesk.{view, start_of}
 use Rattle.mq_checkpoint.proofs.AtEnd.{base_of_pages, front_known, front_moves, looked_low, raises, refused_last, refused_pages, whole_moves}
 use Rattle.mq_checkpoint.proofs.raising.checkpoint.Goals as goal

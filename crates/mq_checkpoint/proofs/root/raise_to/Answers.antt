@@ -1,4 +1,3 @@
-use Rattle.std.proofs.Common.{◌≡◌}
 use Rattle.mq_turns.specs.AtDesk.{view, start_of}
 use Rattle.mq_checkpoint.proofs.AtRoot.{may_raise, off_refused, off_root, raised_root, stored_base}
 use Rattle.mq_checkpoint.proofs.root.raise_to.Goals as goal

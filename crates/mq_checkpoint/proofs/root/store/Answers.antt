@@ -1,4 +1,4 @@
-use Rattle.std.proofs.Common.{◌≡◌, max, rules, sym, ap, ◌∙◌}
+use Rattle.std.proofs.Common.{◌≡◌, max, ◌∙◌}
 use Rattle.mq_checkpoint.proofs.AtRoot.{stands_after}
 use Rattle.mq_checkpoint.proofs.root.store.Goals as goal
 

@@ -1,4 +1,3 @@
-use Rattle.std.proofs.Common.{◌≡◌}
 use Rattle.mq_turns.specs.AtDesk.{AtDesk, view}
 use Rattle.mq_checkpoint.proofs.Drains.{HasDrained}
 use Rattle.mq_checkpoint.proofs.sweeping.drain_all.Given as goal

@@ -1,6 +1,5 @@
 use Rattle.std.proofs.Common.{◌≡◌, [], rules}
 use Rattle.std.proofs.lemmas.Result.{err_from_is_err_and}
-use Rattle.mq_journal.specs.Numbers.{Seat}
 use Rattle.mq_turns.specs.AtDesk.{view}
 use Rattle.mq_turns.specs.Meaning.{newest}
 use Rattle.mq_checkpoint.proofs.Moving.{moves_look, refused_on}
