@@ -98,9 +98,6 @@ module _ {P E : Type 0} {G : Ghosts P} (state : P → PortState) (faults : P →
           charged = ap (λ (z : Seat P E G). z.reading.charged) after.is ∙ (ap (λ r. r.charged) read ∙ s.kept.4);
         }
 
-    pub front_held : w.held ≡ v.held
-    front_held = ap (λ (z : Seat P E G). z.held) after.is ∙ ap (λ (z : Seat P E G). z.held) after.marks.sweep.is
-
     -- all numbers up to it are known to be done
     pub front_known : 0 < length o.sides → front ≤ w.reading.done
     front_known some =
@@ -144,9 +141,6 @@ module _ {P E : Type 0} {G : Ghosts P} (state : P → PortState) (faults : P →
   whole_moves front v v1 v2 v3 a f b = moves_on [] (Front front ∷ []) v v1 v3 a (moves_fronts [] (Front front ∷ []) v1 v2 v3 f b)
 
   -- ---- or a refusal
-
-  pub refused_first : (c : Cause) (v w : Seat P E G) → IsRefusedBy state faults group [] c v w → HasRefused state faults group (refused.Drive c) v w
-  refused_first c v w r = inl r
 
   pub refused_pages : (front : ℕ) (r : CheckpointRefusal) (v v1 v2 w : Seat P E G) → Moves [] [] v v1 → Moves [] (Front front ∷ []) v1 v2 → Refuses state faults group [] r v2 w → HasRefused state faults group r v w
   refused_pages front r v v1 v2 w a f x = inr (front, refuses_on state faults group (Front front ∷ []) r v v1 w a (refuses_fronts state faults group (Front front ∷ []) r v1 v2 w f x))

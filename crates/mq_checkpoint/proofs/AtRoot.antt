@@ -1,6 +1,6 @@
 -- The base is raised.
 use Rattle.std.proofs.Common.{◌≡◌, ℕ, ◌<◌, ◌≤◌, max, true, cond, List, [], ◌∷◌, sym, refl, ap, subst, ◌∙◌, inl, inr, arith}
-use Rattle.std.specs.Prelude.{None, Some, Result, Ok, Err, OnOk, OnErr}
+use Rattle.std.specs.Prelude.{Bool, Some, Result, Ok, Err, OnOk, OnErr}
 use Rattle.std.proofs.lemmas.Bool.{eq-eqb}
 use Rattle.mq_blocks.specs.Drive.{PortState}
 use Rattle.mq_base.specs.Bases.{BaseOk, RootStands}
@@ -28,7 +28,7 @@ use Rattle.mq_side.proofs.Completes.{gains_rises}
 use Rattle.mq_turns.specs.Chairs.{giving, holding}
 use Rattle.mq_turns.specs.Desk.{Sees, refreshed, slot_of, turn_at}
 use Rattle.mq_turns.specs.Lists.{Each, times, without}
-use Rattle.mq_turns.specs.Meaning.{Meaning, charged, raised}
+use Rattle.mq_turns.specs.Meaning.{Meaning, raised}
 use Rattle.mq_turns.specs.Words
 use Rattle.mq_turns.specs.Words.{MayRaise, after_notice, same_turn}
 use Rattle.mq_turns.specs.declared.rule.Known.{Known}
@@ -60,7 +60,7 @@ stands_after old new base m (Err e) is done cut k ok stood = stands_cut old new 
 
 -- ---- the root is taken by a session that holds nothing
 
-gone : {P Q R E : Type 0} (slot : ℕ) (f : ℕ → Rattle.std.specs.Prelude.Bool) (L K : Known P Q R E) (held : List (ℕ × Known P Q R E)) → held ≡ [] → without slot (refreshed f L ((slot, K) ∷ held)) ≡ held
+gone : {P Q R E : Type 0} (slot : ℕ) (f : ℕ → Bool) (L K : Known P Q R E) (held : List (ℕ × Known P Q R E)) → held ≡ [] → without slot (refreshed f L ((slot, K) ∷ held)) ≡ held
 gone slot f L K held none = subst (λ l. without slot (refreshed f L ((slot, K) ∷ l)) ≡ l) (sym none) (ap (λ y. cond y [] ((slot, cond (f slot) L K) ∷ [])) (eq-eqb slot slot refl))
 
 module _ {P E : Type 0} {G : Ghosts P} (state : P → PortState) (faults : P → List Fault) (group : Group E)
@@ -122,9 +122,6 @@ module _ {P E : Type 0} {G : Ghosts P} (state : P → PortState) (faults : P →
       root_then : IsRoot values group (raised b K3) u
       root_then = root_raised values group b K3 u sees3.ok (root_after (same_more same) K3 sees3) up3 (omega arith)
 
-      pub raised_holds : 0 < times slot v2.held
-      raised_holds = subst (λ l. 0 < times slot l) (sym (ap (λ (w : Seat P E G). w.held) was ∙ ap (refreshed (λ k. same_turn turn.Root (turn_at K3.opening k)) (raised b K3)) held_is)) (let a = hit slot slot refl in omega arith)
-
       pub raised_root : (K : Shared P E G) → Sees μ v2 K → IsRoot values group K u
       raised_root K sees =
           let start = opening_seen μ o K3 v1 opening_is sees3 in
@@ -160,9 +157,6 @@ module _ {P E : Type 0} {G : Ghosts P} (state : P → PortState) (faults : P →
     module _ (w : Seat P E G) (n : IsReportedOfRoot state faults group o report.Off v1 w) where
       whole : w ≡ giving slot (after_notice μ (notice.Charge (reported_root report.Off)) n.known (holding slot K1 v))
       whole = n.is ∙ ap (λ z. giving slot (after_notice μ (notice.Charge (reported_root report.Off)) n.known z)) took
-
-      pub off_idle : w.held ≡ []
-      off_idle = ap (λ (z : Seat P E G). z.held) whole ∙ (gone slot (λ k. same_turn turn.Root (turn_at n.known.opening k)) (charged (reported_root report.Off) n.known) K1 v.held idle ∙ idle)
 
       pub off_refused : IsRefusedBy state faults group [] cause.Off v w
       off_refused = record {

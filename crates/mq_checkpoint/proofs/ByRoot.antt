@@ -38,10 +38,10 @@ use Rattle.mq_checkpoint.specs.Pages.{HoldsOnlyPage, IsDue}
 use Rattle.mq_checkpoint.specs.Steps.{IsCauseOf, IsRefusedBy, at_root}
 use Rattle.mq_checkpoint.specs.Raised.{IsReportedOfRoot, reported_root}
 use Rattle.mq_checkpoint.proofs.HomeSide.{home_in_meta, root_failed, root_off, root_written}
-use Rattle.mq_checkpoint.proofs.HomeViews.{bring_seen, known_seen, noted_held, page_seen, port_seen, report_held, report_moves, took_before, took_held, took_opening}
+use Rattle.mq_checkpoint.proofs.HomeViews.{bring_seen, known_seen, noted_held, page_seen, port_seen, report_held, report_moves, took_before, took_opening}
 
 -- a block of no zone is one of the metadata region
-pub in_meta : (g : Geometry) (x : ℕ) → zone_of g x ≡ None → x < g.meta
+in_meta : (g : Geometry) (x : ℕ) → zone_of g x ≡ None → x < g.meta
 in_meta g x none = elim (cases_lt x g.meta) [
   | inl low ↦ low
   | inr high ↦ absurd (some_none (rw (le-ltb x g.meta high) at none))
@@ -81,10 +81,6 @@ module _ {P E : Type 0} {G : Ghosts P} (state : P → PortState) (faults : P →
       (subst (λ x. IsHome (state s.port) (home_lba x b)) (sym shaped)
       (home_in_meta (Rule.geometry_of values group K) b (state s.port) (root_now K sees).port.port.port (subst (λ x. b < x.meta) shaped (in_meta g b zone))))
 
-  -- of the home write that began
-  pub holds_root : 0 < times (slot_of o turn.Root) v1.held
-  holds_root = subst (λ l. 0 < times (slot_of o turn.Root) l) (sym (took_held state faults group o b c v v1 opening h None zone_there tt below K2 took)) (let a = hit (slot_of o turn.Root) (slot_of o turn.Root) refl in omega arith)
-
   module _ (due : IsDue c v) (u : Root P G) (r : Result HomeStep Off) (lba : ℕ) (lba_is : lba ≡ home_lba g b) (copy : List ℕ)
       (gives : HomeGives (state s.port) (faults s.port) lba copy r (state u.port) (faults u.port))
       (stays : RootStaysAt lba (state s.port) (state u.port)) where
@@ -116,7 +112,7 @@ module _ {P E : Type 0} {G : Ghosts P} (state : P → PortState) (faults : P →
       held : v2.held ≡ (slot, written (b, c.version) K3) ∷ (b, written (b, c.version) K3) ∷ []
       held = noted_held state faults group o b c v v1 opening h None zone_there tt below K2 took K3 v2 v2 sees3 noted
 
-      pub noted_holds : 0 < times slot v2.held
+      noted_holds : 0 < times slot v2.held
       noted_holds = subst (λ l. 0 < times slot l) (sym held) (let a = hit slot slot refl in omega arith)
 
       pub noted_root : (K : Shared P E G) → Sees μ v2 K → IsRoot values group K u

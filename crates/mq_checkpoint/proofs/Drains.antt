@@ -9,7 +9,7 @@ use Rattle.mq_pages.specs.declared.page.PageCell.{PageCell}
 use Rattle.mq_journal.specs.Draining.{Passes, Refuses, WasDrained, answer_upto, report_of}
 use Rattle.mq_journal.specs.Numbers.{ReadOn, Seat, Shared, Start, reported}
 use Rattle.mq_rules.specs.Groups.{Group}
-use Rattle.mq_side.specs.Drained.{DrainCause, Drains}
+use Rattle.mq_side.specs.Drained.{DrainCause, Drains, Failures, kept_after}
 use Rattle.mq_side.specs.Side.{side_state}
 use Rattle.mq_side.specs.declared.answers.Cause.{Cause}
 use Rattle.mq_side.specs.declared.answers.Cause.TheVariants as cause
@@ -48,7 +48,7 @@ module _ {P E : Type 0} {G : Ghosts P} (state : P → PortState) (faults : P →
   cause_is (cause.FailedHome block status) s u drains none = absurd none
   cause_is (cause.Stopped tx why) s u drains same = go drains.failures drains.takes.kept drains.ends.0
     where
-      go : (fs : Rattle.mq_side.specs.Drained.Failures) → u.kept ≡ Rattle.mq_side.specs.Drained.kept_after s.kept fs → fs ≡ [] → s.kept ≡ Some (tx, why)
+      go : (fs : Failures) → u.kept ≡ kept_after s.kept fs → fs ≡ [] → s.kept ≡ Some (tx, why)
       go [] kept none = sym kept ∙ drains.ends.1
       go (f ∷ fs) kept none = absurd cc
 
@@ -145,6 +145,3 @@ module _ {P E : Type 0} {G : Ghosts P} (state : P → PortState) (faults : P →
             (record { opening = sym (ap (λ (z : Seat P E G). z.opening) h.is) ∙ was.sees.opening; seen = let a = ap (λ (z : Seat P E G). z.seen) h.is in let b = was.sees.seen in omega arith })
             was.stood (cause_is c was.side was.after drains gained);
       }
-
-  pub refused_held : (q : ℕ) (c : Cause) (u w : Seat P E G) → Refuses q c u w → w.held ≡ u.held
-  refused_held q c u w is = ap (λ (z : Seat P E G). z.held) is

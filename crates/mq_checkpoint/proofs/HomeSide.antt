@@ -46,8 +46,10 @@ use Rattle.mq_side.proofs.Completes.{gains_rises}
 use Rattle.mq_side.proofs.Telling.{one_more}
 use Rattle.mq_turns.specs.Lists.{Each}
 use Rattle.mq_turns.specs.Meaning.{charged, written}
+use Rattle.mq_turns.specs.declared.rule.Charge.{Charge}
 use Rattle.mq_turns.specs.declared.rule.Report.{Report}
 use Rattle.mq_turns.specs.declared.rule.Report.TheVariants as report
+use Rattle.mq_turns.specs.declared.turn.Turn.{Turn}
 use Rattle.mq_turns.specs.declared.turn.Turn.TheVariants.{Side}
 use Rattle.mq_turns.specs.declared.turn.Turn.TheVariants as turn
 use Rattle.mq_checkpoint.specs.Raised.{reported_root}
@@ -69,7 +71,7 @@ home_in_meta g x p port low =
 
 -- ---- faults
 
-pub home_more : (p q : PortState) (old new : List Fault) (lba : ℕ) (block : List ℕ) (r : Result HomeStep Off) → HomeGives p old lba block r q new → AreMore old new
+home_more : (p q : PortState) (old new : List Fault) (lba : ℕ) (block : List ℕ) (r : Result HomeStep Off) → HomeGives p old lba block r q new → AreMore old new
 home_more p q old new lba block (Ok home.Done) gives f = let e : count_of f new ≡ count_of f old = ap (count_of f) gives.1 in omega arith
 home_more p q old new lba block (Ok (home.Error status)) gives f = gained_more old new (HomeError lba status) gives.2 f
 home_more p q old new lba block (Err off) gives f = gained_more old new PowerOff gives.1 f
@@ -91,7 +93,7 @@ abbrev IsOf : Geometry → Report → Fault → Type 0
 IsOf g r x = (first old new : List Fault) → AreMore first old → Gains x old new → (2 ^ 64 - 1 ≤ length new) ⊎ IsBacked g r first old new
 
 -- and does so after all that was charged before
-pub backed_by : (g : Geometry) (t : Rattle.mq_turns.specs.declared.turn.Turn.Turn) (cs : List Rattle.mq_turns.specs.declared.rule.Charge.Charge) (first old new : List Fault) (r : Report) (x : Fault) → IsOf g r x → Gains x old new → AreCharged g t cs first old → (2 ^ 64 - 1 ≤ length new) ⊎ IsBacked g r first old new
+pub backed_by : (g : Geometry) (t : Turn) (cs : List Charge) (first old new : List Fault) (r : Report) (x : Fault) → IsOf g r x → Gains x old new → AreCharged g t cs first old → (2 ^ 64 - 1 ≤ length new) ⊎ IsBacked g r first old new
 backed_by g t cs first old new r x of gains (inl full) = inl (let l = (gains_rises x old new gains).0 in omega arith)
 backed_by g t cs first old new r x of gains (inr was) = of first old new was.more gains
 
@@ -151,7 +153,7 @@ module _ {P E : Type 0} {G : Ghosts P} (state : P → PortState) (faults : P →
       rings = same (λ p. p.rings) (λ p. refl) (λ p. refl) r gives
 
       -- however the write ended, and before it is noted, the side is what the rule says
-      pub side_wrote : IsSide values group q K u
+      side_wrote : IsSide values group q K u
       side_wrote = record {
         port = now.side;
         stored = ap (λ v. entries_in v.items) stored ∙ is.stored;
@@ -232,7 +234,7 @@ module _ {P E : Type 0} {G : Ghosts P} (state : P → PortState) (faults : P →
       root_stored : root_new.stored_base ≡ root_old.stored_base
       root_stored = root_same (λ p. p.stored_base) (λ p. refl) (λ p. refl) r gives
 
-      pub root_wrote : IsRoot values group K u
+      root_wrote : IsRoot values group K u
       root_wrote = record {
         says = tt;
         port = record {

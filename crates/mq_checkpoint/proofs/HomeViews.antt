@@ -22,8 +22,8 @@ use Rattle.mq_rules.proofs.Telling.{ok_written, page_waits, page_written}
 use Rattle.mq_side.specs.declared.root.Root.{Root}
 use Rattle.mq_side.specs.declared.side.QueueSide.{QueueSide}
 use Rattle.mq_turns.specs.Chairs.{giving, holding}
-use Rattle.mq_turns.specs.Desk.{IsTurn, Sees, Stands, slot_of, turn_at}
-use Rattle.mq_turns.specs.Lists.{Each, times}
+use Rattle.mq_turns.specs.Desk.{IsTurn, Sees, Stands, refreshed, slot_of, turn_at}
+use Rattle.mq_turns.specs.Lists.{Each, times, without}
 use Rattle.mq_turns.specs.Meaning.{Meaning, charged, written}
 use Rattle.mq_turns.specs.Words.{MayNote, after_notice, same_turn}
 use Rattle.mq_turns.specs.declared.rule.Notice.TheVariants as notice
@@ -166,10 +166,10 @@ module _ {P E : Type 0} {G : Ghosts P} (state : P → PortState) (faults : P →
       pub noted_held : v2 ≡ after_notice μ (notice.Home b c.version) K3 v1 → v2.held ≡ (slot, L) ∷ (b, L) ∷ []
       noted_held noted =
           ap (λ (w : Seat P E G). w.held) noted
-          ∙ (ap (λ l. Rattle.mq_turns.specs.Desk.refreshed (λ k. Rule.lies values group K3.opening (b, c.version) (turn_at K3.opening k)) L l) took_held
+          ∙ (ap (λ l. refreshed (λ k. Rule.lies values group K3.opening (b, c.version) (turn_at K3.opening k)) L l) took_held
           ∙ (λ i. (slot, cond (about_slot i) L K2) ∷ (b, cond (about_page i) L h.known) ∷ []))
 
-      left : (M N : Shared P E G) → Rattle.mq_turns.specs.Lists.without slot ((slot, M) ∷ (b, N) ∷ []) ≡ (b, N) ∷ []
+      left : (M N : Shared P E G) → without slot ((slot, M) ∷ (b, N) ∷ []) ≡ (b, N) ∷ []
       left M N = ap (λ y. cond y (cond (b == slot) [] ((b, N) ∷ [])) ((slot, M) ∷ cond (b == slot) [] ((b, N) ∷ []))) (eq-eqb slot slot refl) ∙ ap (λ y. cond y [] ((b, N) ∷ [])) (ne_eqb b slot apart)
 
       pub home_held : IsDue c v → v2 ≡ after_notice μ (notice.Home b c.version) K3 v1 → v3 ≡ giving slot v2 → HoldsOnlyPage state faults group o b (at_home c) v3
@@ -178,7 +178,7 @@ module _ {P E : Type 0} {G : Ghosts P} (state : P → PortState) (faults : P →
           record {
             known = L;
             turn = h.turn;
-            held = ap (λ (w : Seat P E G). w.held) gave ∙ (ap (Rattle.mq_turns.specs.Lists.without slot) (noted_held noted) ∙ left L L);
+            held = ap (λ (w : Seat P E G). w.held) gave ∙ (ap (without slot) (noted_held noted) ∙ left L L);
             is = page_written values group b K3 c (page_seen o b c v opening h K3 before) (bring_seen o b c v opening h due K3 before);
           }
 
@@ -200,7 +200,7 @@ module _ {P E : Type 0} {G : Ghosts P} (state : P → PortState) (faults : P →
           turn = h.turn;
           held =
               ap (λ (w : Seat P E G). w.held) reported
-              ∙ (ap (λ l. Rattle.mq_turns.specs.Lists.without slot (Rattle.mq_turns.specs.Desk.refreshed (λ k. same_turn t (turn_at K3.opening k)) M l)) took_held
+              ∙ (ap (λ l. without slot (refreshed (λ k. same_turn t (turn_at K3.opening k)) M l)) took_held
               ∙ (left (cond (same_turn t (turn_at K3.opening slot)) M K2) (cond (same_turn t (turn_at K3.opening b)) M h.known)
               ∙ (λ i. (b, cond (other i) M h.known) ∷ [])));
           is = h.is;

@@ -14,7 +14,7 @@ use Rattle.mq_checkpoint.specs.Steps.{IsCaused, IsKnownFrom, IsRefusedBy, Moves,
 use Rattle.mq_checkpoint.specs.declared.refusal.CheckpointRefusal.{CheckpointRefusal}
 use Rattle.mq_checkpoint.specs.declared.refusal.CheckpointRefusal.TheVariants as refused
 
-pub append_more : {A : Type 0} (xs ys zs : List A) → xs ++ (ys ++ zs) ≡ (xs ++ ys) ++ zs
+append_more : {A : Type 0} (xs ys zs : List A) → xs ++ (ys ++ zs) ≡ (xs ++ ys) ++ zs
 append_more [] ys zs = refl
 append_more (x ∷ xs) ys zs = ap (λ l. x ∷ l) (append_more xs ys zs)
 
@@ -40,7 +40,7 @@ module _ {P E : Type 0} {G : Ghosts P} where
   }
 
   -- where nothing was reported in the end, and no front read
-  pub moves_still : (reports : List Charge) (fronts : List Answer) (v u w : Seat P E G) → Moves reports fronts v u → Moves [] [] u w → Moves reports fronts v w
+  moves_still : (reports : List Charge) (fronts : List Answer) (v u w : Seat P E G) → Moves reports fronts v u → Moves [] [] u w → Moves reports fronts v w
   moves_still reports fronts v u w a b = record {
     parts = b.parts ∙ a.parts;
     opening = b.opening ∙ a.opening;
@@ -147,14 +147,14 @@ module _ {P E : Type 0} {G : Ghosts P} where
   known_before r f v u K m k = record { opening = sym m.opening ∙ k.opening; seen = let a = m.seen in let b = k.seen in omega arith }
 
 module _ {P E : Type 0} {G : Ghosts P} (state : P → PortState) (faults : P → List Fault) (group : Group E) where
-  pub caused_before : (r : List Charge) (f : List Answer) (v u : Seat P E G) (t : Turn) (c : Cause) → Moves r f v u → IsCaused state faults group u t c → IsCaused state faults group v t c
+  caused_before : (r : List Charge) (f : List Answer) (v u : Seat P E G) (t : Turn) (c : Cause) → Moves r f v u → IsCaused state faults group u t c → IsCaused state faults group v t c
   caused_before r f v u t c m (at_side K s after known is cause) = at_side K s after (known_before r f v u K m known) is cause
   caused_before r f v u t c m (at_root K s after known is cause) = at_root K s after (known_before r f v u K m known) is cause
 
   pub refused_on : (fronts : List Answer) (c : Cause) (v u w : Seat P E G) → Moves [] [] v u → IsRefusedBy state faults group fronts c u w → IsRefusedBy state faults group fronts c v w
   refused_on fronts c v u w m r = record { port = r.port; moves = moves_on _ fronts v u w m r.moves; caused = caused_before [] [] v u r.port c m r.caused }
 
-  pub refused_still : (fronts : List Answer) (c : Cause) (v u w : Seat P E G) → IsRefusedBy state faults group fronts c v u → Moves [] [] u w → IsRefusedBy state faults group fronts c v w
+  refused_still : (fronts : List Answer) (c : Cause) (v u w : Seat P E G) → IsRefusedBy state faults group fronts c v u → Moves [] [] u w → IsRefusedBy state faults group fronts c v w
   refused_still fronts c v u w r m = record { port = r.port; moves = moves_still _ fronts v u w r.moves m; caused = r.caused }
 
   pub refused_fronts : (fronts : List Answer) (c : Cause) (v u w : Seat P E G) → Moves [] fronts v u → IsRefusedBy state faults group [] c u w → IsRefusedBy state faults group fronts c v w

@@ -53,7 +53,7 @@ module _ {P E : Type 0} {G : Ghosts P} (state : P → PortState) (faults : P →
 
   -- ---- notes
 
-  pub noted_more : (base x : ℕ) (ms ns : List (ℕ × PageCell × Shared P E G)) → IsNoted state faults group base x ns → IsNoted state faults group base x (ms ++ ns)
+  noted_more : (base x : ℕ) (ms ns : List (ℕ × PageCell × Shared P E G)) → IsNoted state faults group base x ns → IsNoted state faults group base x (ms ++ ns)
   noted_more base x [] ns is = is
   noted_more base x (m ∷ ms) ns is = inr (noted_more base x ms ns is)
 

@@ -1,10 +1,9 @@
 // What a checkpoint does with the root.
 ghost use Rattle.std.specs.Prelude.{◌≡◌, ◌<◌, ◌≤◌, [], length, IfErr, IfOk, OnOk};
-ghost use Rattle.mq_rules.specs.Rule.{IsRefusal};
 ghost use Rattle.mq_base.specs.Bases.{BaseOk};
 ghost use Rattle.mq_drive.specs.Steps.{OffCause};
 ghost use Rattle.mq_journal.specs.Numbers.{Shared, machine, values};
-ghost use Rattle.mq_rules.specs.Rule.{core_of};
+ghost use Rattle.mq_rules.specs.Rule.{IsRefusal, core_of};
 ghost use Rattle.mq_turns.specs.AtDesk.{AtDesk, view, start_of};
 ghost use Rattle.mq_turns.specs.Desk.{Sees, slot_of};
 ghost use Rattle.mq_turns.specs.Lists.{times};

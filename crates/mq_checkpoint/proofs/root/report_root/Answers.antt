@@ -2,6 +2,7 @@ use Rattle.std.proofs.Common.{◌≡◌, ℕ, true, ap, ◌∙◌, arith}
 use Rattle.mq_turns.specs.AtDesk.{view, start_of}
 use Rattle.mq_turns.specs.Chairs.{giving}
 use Rattle.mq_turns.specs.Desk.{slot_of, turn_at}
+use Rattle.mq_turns.specs.Lists.{times}
 use Rattle.mq_turns.specs.Meaning.{charged}
 use Rattle.mq_turns.specs.Words.{same_turn}
 use Rattle.mq_turns.specs.declared.turn.Item.TheVariants as item
@@ -19,7 +20,7 @@ give_back-requires-clause-holds g c =
     let v = view c.args.chair.now in
     let noted = c.charge.ensures.noted in
     let L = charged (reported_root c.args.report) noted.0 in
-    let same = ap (λ w. Rattle.mq_turns.specs.Lists.times (slot_of o Root) w.held) noted.1 ∙ times_renewed μ (λ k. same_turn Root (turn_at L.opening k)) L (slot_of o Root) v.held in
+    let same = ap (λ w. times (slot_of o Root) w.held) noted.1 ∙ times_renewed μ (λ k. same_turn Root (turn_at L.opening k)) L (slot_of o Root) v.held in
     let holds = c.requires.holds in
     omega arith
 
