@@ -1,0 +1,9 @@
+use Rattle.std.proofs.Common.{◌≡◌, max, ◌∙◌}
+use Rattle.mq_checkpoint.proofs.AtRoot.{stands_after}
+use Rattle.mq_checkpoint.proofs.root.store.Goals as goal
+
+pub returns-clause-stands : goal.returns-clause-stands
+returns-clause-stands g c =
+    let p = g.P.Port.state c.args.root.now.port in
+    let m : c.max-2.result ≡ max c.args.base p.stored_base = c.max-2.ensures ∙ (λ i. max (c.base.view_is i) ((c.max.view_is ∙ c.stored.ensures) i)) in
+    stands_after p (g.P.Port.state c.raise_base.new.self.port) c.args.base c.max-2.result c.raise_base.result m c.raise_base.ensures.ok c.raise_base.ensures.off

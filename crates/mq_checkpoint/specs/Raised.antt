@@ -1,0 +1,83 @@
+-- What a checkpoint has done once the base is raised.
+use Rattle.std.specs.Prelude.{◌≡◌, ◌⊎◌, ◌≤◌, ℕ, List, [], ◌∷◌, ◌++◌}
+use Rattle.mq_blocks.specs.Drive.{PortState}
+use Rattle.mq_base.specs.Bases.{BaseOk, RootStands}
+use Rattle.mq_drive.specs.Steps.{Fault}
+use Rattle.mq_drive.specs.declared.port.Port.{Ghosts}
+use Rattle.mq_journal.specs.Numbers.{Seat, Shared, Start, machine, values}
+use Rattle.mq_ledger.specs.KnownJournal.{KnownJournal}
+use Rattle.mq_pages.specs.declared.page.PageCell.{PageCell}
+use Rattle.mq_rules.specs.Groups.{Group}
+use Rattle.mq_rules.specs.Rule.{IsOk, IsRoot}
+use Rattle.mq_side.specs.declared.root.Root.{Root}
+use Rattle.mq_turns.specs.Chairs.{giving}
+use Rattle.mq_turns.specs.Desk.{Below, Sees, slot_of}
+use Rattle.mq_turns.specs.Meaning.{charged, raised}
+use Rattle.mq_turns.specs.Words.{after_notice}
+use Rattle.mq_turns.specs.declared.rule.Answer.TheVariants.{Front}
+use Rattle.mq_turns.specs.declared.rule.Charge.{Charge}
+use Rattle.mq_turns.specs.declared.rule.Notice.TheVariants as notice
+use Rattle.mq_turns.specs.declared.rule.Report.{Report}
+use Rattle.mq_turns.specs.declared.turn.Turn.TheVariants as turn
+use Rattle.mq_checkpoint.specs.Steps.{IsKnownFrom, Refuses}
+use Rattle.mq_checkpoint.specs.declared.refusal.CheckpointRefusal.{CheckpointRefusal}
+
+-- whatever is known, by which this is a base: a root that stood before stands after
+abbrev pub KeepsStanding : ℕ → PortState → PortState → Type 0
+KeepsStanding base old new = (k : KnownJournal) → BaseOk k base → RootStands k old → RootStands k new
+
+-- a report of the root's port
+abbrev pub reported_root : Report → Charge
+reported_root r = record { port = turn.Root; report = r }
+
+module _ {P E : Type 0} {G : Ghosts P} (state : P → PortState) (faults : P → List Fault) (group : Group E) where
+  -- At a moment of this call the root, which the session held, had flushed this base, and the word was raised to it: so
+  -- the root is what the rule says.
+  pub record IsRaisedTo (base : ℕ) (v : Seat P E G) : Type 0 where
+    pub known : Shared P E G
+    pub since : IsKnownFrom v known
+    pub ok : IsOk (values state faults group) group (raised base known)
+    pub root : Root P G
+    pub flushed : (state root.port).base ≡ base
+    pub stood : IsRoot (values state faults group) group (raised base known) root
+
+  -- This base was raised. Nothing else of the session has changed, but that it has no slot in hand.
+  pub record IsStored (base : ℕ) (old new : Seat P E G) : Type 0 where
+    pub raised_to : IsRaisedTo base old
+    pub is : new ≡ record old { hand = 0; reading = record old.reading { base = base } }
+
+  -- The base is raised, on the root's port and on the desk. It is not below any number that the session had seen or drawn
+  -- before, nor below the front, which was read once and before the first page. Nothing was reported. The session may know
+  -- of greater numbers, drawn and done, and has noted pages; all else of it is as it was.
+  pub record Raises (base : ℕ) (old new : Seat P E G) : Type 0 where
+    pub seen : Below base old
+    pub front : ℕ
+    pub read : new.reading.answers ≡ Front front ∷ old.reading.answers
+    pub reached : front ≤ base
+    pub raised_to : IsRaisedTo base old
+    pub word : new.reading.base ≡ base
+    pub parts : new.parts ≡ old.parts
+    pub opening : new.opening ≡ old.opening
+    pub session : new.session ≡ old.session
+    pub held : new.held ≡ old.held
+    pub drawn : new.drawn ≡ old.drawn
+    pub read_before : new.read ≡ old.read
+    pub later : old.seen ≤ new.seen
+    pub done : old.reading.done ≤ new.reading.done
+    pub charged : new.reading.charged ≡ old.reading.charged
+    pub noted : List (ℕ × PageCell × Shared P E G)
+    pub pages : new.reading.pages ≡ noted ++ old.reading.pages
+
+  -- Whatever is known: with the report, the root is what the rule says.
+  abbrev pub ShowsRootReport : Report → Root P G → Seat P E G → Type 0
+  ShowsRootReport r root v = (K : Shared P E G) → Sees (machine state faults group) v K → IsRoot (values state faults group) group (charged (reported_root r) K) root
+
+  -- It was reported of the root's port, and the root was given back.
+  pub record IsReportedOfRoot (o : Start P E G) (r : Report) (old new : Seat P E G) : Type 0 where
+    pub known : Shared P E G
+    pub sees : Sees (machine state faults group) old known
+    pub is : new ≡ giving (slot_of o turn.Root) (after_notice (machine state faults group) (notice.Charge (reported_root r)) known old)
+
+  -- It was refused before its front was read, or after.
+  abbrev pub HasRefused : CheckpointRefusal → Seat P E G → Seat P E G → Type 0
+  HasRefused r old new = Refuses state faults group [] r old new ⊎ ((front : ℕ) × Refuses state faults group (Front front ∷ []) r old new)

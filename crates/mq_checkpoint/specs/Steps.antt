@@ -1,0 +1,74 @@
+-- What the steps of a checkpoint leave of a session, and why one is refused.
+use Rattle.std.specs.Prelude.{◌≡◌, ◌≤◌, ℕ, List, [], ◌∷◌, ◌++◌, Option, Some, None}
+use Rattle.mq_blocks.specs.Drive.{PortState}
+use Rattle.mq_drive.specs.Steps.{Fault}
+use Rattle.mq_drive.specs.declared.port.Port.{Ghosts}
+use Rattle.mq_journal.specs.Draining.{report_of}
+use Rattle.mq_journal.specs.Numbers.{Seat, Shared}
+use Rattle.mq_journal.specs.Values.{side_values}
+use Rattle.mq_pages.specs.declared.page.PageCell.{PageCell}
+use Rattle.mq_rules.specs.Groups.{Group}
+use Rattle.mq_rules.specs.Rule.{IsRoot, IsSide}
+use Rattle.mq_side.specs.Drained.{Rises}
+use Rattle.mq_side.specs.declared.answers.Cause.{Cause}
+use Rattle.mq_side.specs.declared.answers.Cause.TheVariants as cause
+use Rattle.mq_side.specs.declared.answers.Why.{Why}
+use Rattle.mq_side.specs.declared.root.Root.{Root}
+use Rattle.mq_side.specs.declared.side.QueueSide.{QueueSide}
+use Rattle.mq_turns.specs.Meaning.{newest}
+use Rattle.mq_turns.specs.declared.rule.Answer.{Answer}
+use Rattle.mq_turns.specs.declared.rule.Charge.{Charge}
+use Rattle.mq_turns.specs.declared.turn.Turn.{Turn}
+use Rattle.mq_turns.specs.declared.turn.Turn.TheVariants.{Side}
+use Rattle.mq_turns.specs.declared.turn.Turn.TheVariants as turn
+use Rattle.mq_checkpoint.specs.declared.refusal.CheckpointRefusal.{CheckpointRefusal}
+use Rattle.mq_checkpoint.specs.declared.refusal.CheckpointRefusal.TheVariants as refused
+
+module _ {P E : Type 0} {G : Ghosts P} where
+  -- The session reported this, and was answered these fronts. It may know of greater numbers, drawn and done, and may have
+  -- noted pages. What it is, what it drew, what it read and the base that it knows of stay; of the turns that it holds
+  -- nothing is said.
+  pub record Moves (reports : List Charge) (fronts : List Answer) (old new : Seat P E G) : Type 0 where
+    pub parts : new.parts ≡ old.parts
+    pub opening : new.opening ≡ old.opening
+    pub session : new.session ≡ old.session
+    pub drawn : new.drawn ≡ old.drawn
+    pub read : new.read ≡ old.read
+    pub seen : old.seen ≤ new.seen
+    pub done : old.reading.done ≤ new.reading.done
+    pub base : new.reading.base ≡ old.reading.base
+    pub noted : List (ℕ × PageCell × Shared P E G)
+    pub pages : new.reading.pages ≡ noted ++ old.reading.pages
+    pub answers : new.reading.answers ≡ fronts ++ old.reading.answers
+    pub charged : new.reading.charged ≡ reports ++ old.reading.charged
+
+  -- This was known on the session's desk, when all that the session had seen was.
+  pub record IsKnownFrom (v : Seat P E G) (K : Shared P E G) : Type 0 where
+    pub opening : v.opening ≡ Some K.opening
+    pub seen : v.seen ≤ newest K
+
+-- A port that was refused has gained faults in the call, or has as many as a count of 64 bits can say; of a failure that
+-- stopped a queue before, the side had kept it.
+abbrev pub IsCauseOf : Cause → Option (ℕ × Why) → List Fault → List Fault → Type 0
+IsCauseOf cause.Off kept old new = Rises old new
+IsCauseOf (cause.Failed tx status) kept old new = Rises old new
+IsCauseOf (cause.FailedHome block status) kept old new = Rises old new
+IsCauseOf (cause.Stopped tx why) kept old new = kept ≡ Some (tx, why)
+
+module _ {P E : Type 0} {G : Ghosts P} (state : P → PortState) (faults : P → List Fault) (group : Group E) where
+  -- By what was known since then, a side or the root that the session held is what lies there, and its port came to this
+  -- refusal.
+  pub data IsCaused (v : Seat P E G) : Turn → Cause → Type 0 where
+    at_side : {q : ℕ} {c : Cause} (K : Shared P E G) (s after : QueueSide P E G) → IsKnownFrom v K → IsSide (side_values state faults) group q K s → IsCauseOf c s.kept (faults s.pmr.port) (faults after.pmr.port) → IsCaused v (Side q) c
+    at_root : {c : Cause} (K : Shared P E G) (r after : Root P G) → IsKnownFrom v K → IsRoot (side_values state faults) group K r → IsCauseOf c None (faults r.port) (faults after.port) → IsCaused v turn.Root c
+
+  -- The drive refused a call on a port whose turn the session held: that alone was reported.
+  pub record IsRefusedBy (fronts : List Answer) (c : Cause) (old new : Seat P E G) : Type 0 where
+    pub port : Turn
+    pub moves : Moves (record { port = port; report = report_of c } ∷ []) fronts old new
+    pub caused : IsCaused old port c
+
+  -- For want of memory nothing is reported.
+  abbrev pub Refuses : List Answer → CheckpointRefusal → Seat P E G → Seat P E G → Type 0
+  Refuses fronts refused.OutOfMemory old new = Moves [] fronts old new
+  Refuses fronts (refused.Drive c) old new = IsRefusedBy fronts c old new
