@@ -3,6 +3,9 @@ use Rattle.std.specs.Prelude.{◌≡◌, ◌<◌, ◌≤◌, ℕ, Bool, true, fa
 use Rattle.mq_blocks.specs.Drive.{PortState}
 use Rattle.mq_blocks.specs.Geometry.{area_of, write_limit}
 use Rattle.mq_blocks.specs.declared.geometry.Geometry.{Geometry}
+use Rattle.mq_checkpoint.specs.Raised.{HasRefused, Raises}
+use Rattle.mq_checkpoint.specs.declared.refusal.CheckpointRefusal.{CheckpointRefusal}
+use Rattle.mq_checkpoint.specs.declared.refusal.CheckpointRefusal.TheVariants as checkpoint
 use Rattle.mq_drive.specs.Steps.{Fault}
 use Rattle.mq_drive.specs.declared.port.Port.{Ghosts}
 use Rattle.mq_files.specs.Entries.{freed_by, written_by}
@@ -39,6 +42,11 @@ pub record Call : Type 0 where
   pub count : ℕ
   pub durable : Bool
   pub requests : List Request
+
+-- what a call answers where its checkpoint was refused
+abbrev pub cause_of : CheckpointRefusal → CallCause
+cause_of checkpoint.OutOfMemory = refused.OutOfMemory
+cause_of (checkpoint.Drive why) = refused.Drive why
 
 -- the entry is of this call, with these replies
 pub record IsOfCall (c : Call) (replies : List Reply) (e : FileEntry) : Type 0 where
@@ -86,6 +94,13 @@ module _ {P : Type 0} {G : Ghosts P} where
   abbrev pub Acts : Geometry → Call → (at : ℕ) → (drew : Bool) → List Reply → Seat P FileEntry G → Seat P FileEntry G → Type 0
   Acts g c at true replies old new = Commits g c replies at (report.Sent at) old new
   Acts g c at false replies old new = ReadsOnly c replies at old new
+
+  -- ---- what a session knows of numbers
+
+  -- it never falls
+  pub record GoesOn (old new : Seat P FileEntry G) : Type 0 where
+    pub seen : old.seen ≤ new.seen
+    pub done : old.reading.done ≤ new.reading.done
 
   -- ---- a group that was refused
 
@@ -152,10 +167,40 @@ module _ {P : Type 0} {G : Ghosts P} (state : P → PortState) (faults : P → L
     pub commits : Commits g c replies at report.Off old new
     pub cut : WasCutAt old at
 
-  -- Why `fatomic` refuses a group, with the number that the group had drawn, and what that leaves.
+  -- Why a group that was run on its pages is refused, with the number that it had drawn, and what that leaves.
+  pub data IsTurnedDown (g : Geometry) (c : Call) (old new : Seat P FileEntry G) : CallCause → Option ℕ → Type 0 where
+    memory : KeepsAll old new → IsTurnedDown g c old new refused.OutOfMemory None
+    too_large : {count limit : ℕ} → IsTooLarge g c count limit old new → IsTurnedDown g c old new (refused.TooLarge count limit) None
+    before : {why : Cause} → Refuses c.session why old new → IsTurnedDown g c old new (refused.Drive why) None
+    cut : {at : ℕ} → IsCut g c at old new → IsTurnedDown g c old new (refused.Drive cause.Off) (Some at)
+
+  -- ---- a call whose plan did not fit the journal area
+
+  -- The plan of the group does not fit the area of its queue. Nothing was drawn, read or reported.
+  pub record IsAreaFull (c : Call) (old new : Seat P FileEntry G) : Type 0 where
+    pub keeps : KeepsAll old new
+    pub lacks : LacksArea old c.session
+
+  -- So a checkpoint was made, and has raised the base.
+  pub record MadeRoom (c : Call) (old new : Seat P FileEntry G) : Type 0 where
+    pub between : Seat P FileEntry G
+    pub full : IsAreaFull c old between
+    pub base : ℕ
+    pub raises : Raises state faults file_group base between new
+
+  -- where the group was run that is answered: at once, or once more after a checkpoint
+  pub data Begins (c : Call) (old : Seat P FileEntry G) : Seat P FileEntry G → Type 0 where
+    at_once : Begins c old old
+    again : {new : Seat P FileEntry G} → MadeRoom c old new → Begins c old new
+
+  -- The group is a commit in the history at the number, and rung; or it is a read there.
+  pub record HasActed (g : Geometry) (c : Call) (at : ℕ) (drew : Bool) (replies : List Reply) (old new : Seat P FileEntry G) : Type 0 where
+    pub from : Seat P FileEntry G
+    pub begins : Begins c old from
+    pub acts : Acts g c at drew replies from new
+
+  -- Why `fatomic` refuses a group, with the number that the group had drawn, and what that leaves: the group was turned
+  -- down; or its plan did not fit the journal area, and the checkpoint was refused.
   pub data IsRefused (g : Geometry) (c : Call) (old new : Seat P FileEntry G) : CallCause → Option ℕ → Type 0 where
-    memory : KeepsAll old new → IsRefused g c old new refused.OutOfMemory None
-    too_large : {count limit : ℕ} → IsTooLarge g c count limit old new → IsRefused g c old new (refused.TooLarge count limit) None
-    area_full : KeepsAll old new → LacksArea old c.session → IsRefused g c old new (refused.AreaFull c.session) None
-    before : {why : Cause} → Refuses c.session why old new → IsRefused g c old new (refused.Drive why) None
-    cut : {at : ℕ} → IsCut g c at old new → IsRefused g c old new (refused.Drive cause.Off) (Some at)
+    turned_down : {why : CallCause} {drawn : Option ℕ} {from : Seat P FileEntry G} → Begins c old from → IsTurnedDown g c from new why drawn → IsRefused g c old new why drawn
+    no_room : {why : CheckpointRefusal} {between : Seat P FileEntry G} → IsAreaFull c old between → HasRefused state faults file_group why between new → IsRefused g c old new (cause_of why) None

@@ -10,7 +10,7 @@ use Rattle.mq_files.specs.declared.entry.FileEntry.{FileEntry}
 use Rattle.mq_journal.specs.Numbers.{Seat}
 use Rattle.mq_side.specs.declared.answers.Cause.{Cause}
 use Rattle.mq_tree.specs.declared.request.Reply.{Reply}
-use Rattle.mq_calls.specs.Acts.{Acts, Call, IsRefused}
+use Rattle.mq_calls.specs.Acts.{Call, HasActed, IsRefused}
 use Rattle.mq_calls.specs.Sweeping.{NamesUpto, WasRefused}
 use Rattle.mq_calls.specs.declared.answers.CallCause.{CallCause}
 use Rattle.mq_calls.specs.declared.answers.CallCause.TheVariants.{Drive}
@@ -20,14 +20,13 @@ abbrev pub drawn_at : (at : ℕ) → (drew : Bool) → Option ℕ
 drawn_at at true = Some at
 drawn_at at false = None
 
-module _ {P : Type 0} {G : Ghosts P} where
+module _ {P : Type 0} {G : Ghosts P} (state : P → PortState) (faults : P → List Fault) where
   -- The group is a commit in the history at the number, or a read there; and the session knows every number up to it to be
   -- done.
   pub record IsDurable (g : Geometry) (c : Call) (at : ℕ) (drew : Bool) (replies : List Reply) (old new : Seat P FileEntry G) : Type 0 where
-    pub acts : Acts g c at drew replies old new
+    pub acted : HasActed state faults g c at drew replies old new
     pub done : at ≤ new.reading.done
 
-module _ {P : Type 0} {G : Ghosts P} (state : P → PortState) (faults : P → List Fault) where
   -- The drain of a queue came to a refusal, after a group that had drawn this.
   pub record WasDrainRefused (g : Geometry) (at : ℕ) (drew : Bool) (old new : Seat P FileEntry G) (cause : CallCause) (drawn : Option ℕ) : Type 0 where
     pub why : Cause
@@ -42,7 +41,7 @@ module _ {P : Type 0} {G : Ghosts P} (state : P → PortState) (faults : P → L
     pub drew : Bool
     pub replies : List Reply
     pub between : Seat P FileEntry G
-    pub acts : Acts g c at drew replies old between
+    pub acted : HasActed state faults g c at drew replies old between
     pub refused : WasRefused state faults file_group (queues_of g) at cause between new
     pub upto : NamesUpto at cause
     pub drawn_is : drawn ≡ drawn_at at drew

@@ -1,0 +1,41 @@
+// What a run reports.
+use mq_blocks::{BlockNo, TxNo};
+use mq_calls::Refusal;
+use mq_script::End;
+use mq_tree::Reply;
+
+/// A group that was carried out: the commit of this number, or a read on the volume at this number.
+#[derive(Drop)]
+pub struct Line {
+    pub number: TxNo,
+    /// It drew the number.
+    pub commit: bool,
+    pub session: u32,
+    /// The groups of a session are counted from 0.
+    pub group: u32,
+    pub end: End,
+    /// In the order of the requests.
+    pub replies: Vec<Reply>,
+}
+
+/// What a group was answered: the number of its line, or why it was refused.
+#[derive(Clone, Copy, Debug, PartialEq, Eq)]
+pub struct Told {
+    pub session: u32,
+    pub group: u32,
+    pub end: End,
+    pub answer: Result<TxNo, Refusal>,
+}
+
+/// How a run ended.
+#[derive(Clone, Copy, Debug, PartialEq, Eq)]
+pub enum Last {
+    /// All is at home up to this number, which is the base.
+    Clean(TxNo),
+    /// The power was cut after so many events.
+    Cut(u64),
+    /// The last checkpoint was refused, for a command of this transaction.
+    StoppedTx(TxNo),
+    /// It was refused for the home write of this block.
+    StoppedBlock(BlockNo),
+}
