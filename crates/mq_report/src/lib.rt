@@ -2,6 +2,11 @@
 //! text of it.
 #![tactic(auto)]
 
+mod answers;
 mod line;
+mod print;
+mod replies;
+mod words;
 
 pub use line::{Last, Line, Told};
+pub use print::report;
