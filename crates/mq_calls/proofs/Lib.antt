@@ -22,3 +22,4 @@ pub mod OpeningState
 pub mod OpeningFresh
 pub mod Composing
 pub mod StartReads
+pub mod GoingOn

@@ -85,6 +85,7 @@ module _ {P : Type 0} {G : Ghosts P} (state : P → PortState) (faults : P → L
         read = ap (λ (z : Seat P FileEntry G). z.read) is ∙ d.rest.read;
         above = (let l = d.sees.seen in let m = d.number in omega arith);
         seen = ap (λ (z : Seat P FileEntry G). z.seen) is ∙ d.seen ∙ number;
+        done = (let l : y.reading.done ≡ w.reading.done = ap (λ (z : Seat P FileEntry G). z.reading.done) is in let m = d.rest.reading.done in omega arith);
         answers = ap (λ (z : Seat P FileEntry G). z.reading.answers) is ∙ d.rest.reading.answers;
         charged = ap (λ (z : Seat P FileEntry G). z.reading.charged) is ∙ ap (λ l. reported q r ∷ l) d.rest.reading.charged;
       }
@@ -137,6 +138,8 @@ module _ {P : Type 0} {G : Ghosts P} (state : P → PortState) (faults : P → L
     session = ap (λ (z : Seat P FileEntry G). z.session) told.is;
     drawn = ap (λ (z : Seat P FileEntry G). z.drawn) told.is;
     read = ap (λ (z : Seat P FileEntry G). z.read) told.is;
+    seen = (let l : w.seen ≡ v.seen = ap (λ (z : Seat P FileEntry G). z.seen) told.is in omega arith);
+    done = (let l : w.reading.done ≡ v.reading.done = ap (λ (z : Seat P FileEntry G). z.reading.done) told.is in omega arith);
     charged = ap (λ (z : Seat P FileEntry G). z.reading.charged) told.is;
   }
 
@@ -147,5 +150,7 @@ module _ {P : Type 0} {G : Ghosts P} (state : P → PortState) (faults : P → L
     session = ap (λ (z : Seat P FileEntry G). z.session) is;
     drawn = ap (λ (z : Seat P FileEntry G). z.drawn) is;
     read = ap (λ (z : Seat P FileEntry G). z.read) is;
+    seen = (let l : w.seen ≡ v.seen = ap (λ (z : Seat P FileEntry G). z.seen) is in omega arith);
+    done = (let l : w.reading.done ≡ v.reading.done = ap (λ (z : Seat P FileEntry G). z.reading.done) is in omega arith);
     charged = ap (λ (z : Seat P FileEntry G). z.reading.charged) is;
   }
