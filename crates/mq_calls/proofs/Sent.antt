@@ -21,6 +21,7 @@ use Rattle.mq_turns.specs.Desk.{refreshed, slot_of, turn_at}
 use Rattle.mq_turns.specs.Lists.{Each, tick, times, without}
 use Rattle.mq_turns.specs.Meaning.{Meaning, charged, drawn}
 use Rattle.mq_turns.specs.Words.{after_notice, same_turn}
+use Rattle.mq_turns.specs.declared.rule.Charge.{Charge}
 use Rattle.mq_turns.specs.declared.rule.Notice.TheVariants as notice
 use Rattle.mq_turns.specs.declared.rule.Report.{Report}
 use Rattle.mq_turns.specs.declared.turn.Turn.TheVariants.{Page, Side}
@@ -154,3 +155,16 @@ module _ {P : Type 0} {G : Ghosts P} (state : P → PortState) (faults : P → L
     done = (let l : w.reading.done ≡ v.reading.done = ap (λ (z : Seat P FileEntry G). z.reading.done) is in omega arith);
     charged = ap (λ (z : Seat P FileEntry G). z.reading.charged) is;
   }
+
+  -- and the pages are given back then
+  pub reports-left : (blocks : List ℕ) (reports : List Charge) (v w x : Seat P FileEntry G) → OnlyReports reports v w → x ≡ giving_pages blocks w → OnlyReports reports v x
+  reports-left blocks reports v w x only is = subst (λ (z : Seat P FileEntry G). OnlyReports reports v z) (sym is) (record {
+    parts = only.parts;
+    opening = only.opening;
+    session = only.session;
+    drawn = only.drawn;
+    read = only.read;
+    seen = only.seen;
+    done = only.done;
+    charged = only.charged;
+  })
