@@ -67,8 +67,12 @@ module _ {P : Type 0} {G : Ghosts P} where
 module _ {P : Type 0} {G : Ghosts P} (state : P → PortState) (faults : P → List Fault) where
   -- ---- what a checkpoint leaves
 
-  pub ready-raised : (g : Geometry) (q n : ℕ) (cells : HeldCells) (base : ℕ) (v w : Seat P FileEntry G) → Raises state faults file_group base v w → IsReady g q n cells v → IsReady g q n cells w
+  ready-raised : (g : Geometry) (q n : ℕ) (cells : HeldCells) (base : ℕ) (v w : Seat P FileEntry G) → Raises state faults file_group base v w → IsReady g q n cells v → IsReady g q n cells w
   ready-raised g q n cells base v w r ready = ready-kept g q n cells v w r.session r.drawn r.read_before (r.held ∙ ready.idle) ready
+
+  -- also with the cells that a later value has
+  pub ready-between : (g : Geometry) (q n : ℕ) (base : ℕ) (first mid : HeldCells) (v m : Seat P FileEntry G) → mid ≡ first → Raises state faults file_group base v m → IsReady g q n first v → IsReady g q n mid m
+  ready-between g q n base first mid v m same raises ready = subst (λ (x : HeldCells). IsReady g q n x m) (sym same) (ready-raised g q n first base v m raises ready)
 
   goes-raised : (base : ℕ) (v w : Seat P FileEntry G) → Raises state faults file_group base v w → GoesOn v w
   goes-raised base v w r = record { seen = r.later; done = r.done }

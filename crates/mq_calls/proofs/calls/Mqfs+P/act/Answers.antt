@@ -48,18 +48,12 @@ returns-in-Err-Refused-clause-ready g c =
     ready-attempted geometry s.queue s.calls t.queue t.calls s.held t.held (view s.chair) (view t.chair) c.requires.ready c.attempt.ensures.rests called c.attempt.ensures.queue c.attempt.ensures.calls
 
 pub returns-in-Err-Refused-clause-refused : goal.returns-in-Err-Refused-clause-refused
-returns-in-Err-Refused-clause-refused g c =
-    let s = c.args.session.now in
-    let r = c.in-Err-Refused.refusal in
-    refused-at-once g.P.Port.state g.P.Port.faults c.args.self.now.geometry (call_by s.queue s.calls c.args.durable c.args.requests.now) r.cause r.drawn (view s.chair) (view c.attempt.new.session.chair) c.in-Err-Refused.ensures.missed
+returns-in-Err-Refused-clause-refused g c = let h = c.in-Err-Refused in ?
 
 -- ---- its plan did not fit
 
 pub act_again-requires-clause-ready : goal.act_again-requires-clause-ready
-act_again-requires-clause-ready g c =
-    let s = c.args.session.now in
-    let t = c.attempt.new.session in
-    ready-full g.P.Port.state g.P.Port.faults c.args.self.now.geometry (call_by s.queue s.calls c.args.durable c.args.requests.now) s.held t.held (view s.chair) (view t.chair) c.requires.ready c.attempt.ensures.rests c.in-Err-AreaFull.ensures.missed
+act_again-requires-clause-ready g c = let h = c.in-Err-AreaFull in ?
 
 pub returns-in-Err-AreaFull-clause-goes : goal.returns-in-Err-AreaFull-clause-goes
 returns-in-Err-AreaFull-clause-goes g c = goes-then (view c.args.session.now.chair) (view c.attempt.new.session.chair) (view c.act_again.new.session.chair) c.attempt.ensures.goes c.act_again.ensures.goes
