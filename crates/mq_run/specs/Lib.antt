@@ -1,0 +1,4 @@
+pub mod Playing
+pub mod Ending
+pub mod Lines
+pub mod Runs
