@@ -3,6 +3,9 @@
 #![tactic(auto)]
 
 mod end;
+mod ending;
+mod lines;
+mod opening;
 mod runner;
 
 pub use end::RunEnd;

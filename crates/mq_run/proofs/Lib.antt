@@ -1,0 +1,3 @@
+pub mod LineOrder
+pub mod Joined
+pub mod Growing
