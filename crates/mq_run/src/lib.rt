@@ -3,6 +3,8 @@
 #![tactic(auto)]
 
 mod end;
+mod playing;
 mod runner;
+mod together;
 
 pub use end::RunEnd;
