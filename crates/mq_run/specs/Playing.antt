@@ -1,11 +1,12 @@
 -- What the groups of a script come to, one after another, on one session.
-use Rattle.std.specs.Prelude.{◌≡◌, ◌⊎◌, ◌<◌, ◌≤◌, ◌++◌, ◌-◌, ℕ, suc, Bool, true, false, not, List, [], ◌∷◌, length, Option, None, Some, Result, Ok, Err, slice_get}
+use Rattle.std.specs.Prelude.{◌≡◌, ◌⊎◌, ◌<◌, ◌≤◌, ◌++◌, ◌-◌, ◌^◌, ℕ, suc, Bool, true, false, not, List, [], ◌∷◌, length, Option, None, Some, Result, Ok, Err, slice_get}
 use Rattle.mq_blocks.specs.Drive.{PortState}
 use Rattle.mq_blocks.specs.declared.geometry.Geometry.{Geometry}
 use Rattle.mq_calls.specs.Acts.{Call, GoesOn, HasActed, IsRefused, ReadsOnly}
 use Rattle.mq_calls.specs.Asking.{IsNotAnswered}
 use Rattle.mq_calls.specs.Calling.{call_by}
 use Rattle.mq_calls.specs.Synchronizing.{IsDurable, IsNotDurable}
+use Rattle.mq_calls.specs.declared.answers.Answer.{Answer}
 use Rattle.mq_calls.specs.declared.answers.CallCause.{CallCause}
 use Rattle.mq_calls.specs.declared.answers.CallCause.TheVariants.{Changes, Drive, OutOfMemory, TooLarge}
 use Rattle.mq_calls.specs.declared.answers.Refusal.{Refusal}
@@ -41,11 +42,24 @@ abbrev pub is_last : Result ℕ Refusal → Bool
 is_last (Ok at) = false
 is_last (Err r) = not (goes_on r.cause)
 
+-- what is told of a group that was answered so
+abbrev pub answered : Result Answer Refusal → Result ℕ Refusal
+answered (Ok a) = Ok a.at
+answered (Err r) = Err r
+
+abbrev pub told_of : (session k : ℕ) → End → Result Answer Refusal → Told
+told_of session k end answer = record { session = session; group = k; end = end; answer = answered answer }
+
 -- the answers are those of all groups, or the last of them ends the session; no other does
 pub record AreAnswers (groups : ℕ) (told : List Told) : Type 0 where
   pub most : length told ≤ groups
   pub before : (i : ℕ) (t : Told) → slice_get told i ≡ Some t → suc i < length told → is_last t.answer ≡ false
   pub all : (length told ≡ groups) ⊎ ((t : Told) × (slice_get told (length told - 1) ≡ Some t) × (is_last t.answer ≡ true))
+
+-- The groups can be counted in 32 bits, and so can the requests of each.
+pub record IsShort (groups : List Group) : Type 0 where
+  pub few : length groups < 2 ^ 32
+  pub each : (i : ℕ) (group : Group) → slice_get groups i ≡ Some group → length group.requests < 2 ^ 32
 
 -- ---- one group
 
@@ -57,6 +71,15 @@ pub record IsReadLine (session k : ℕ) (end : End) (at : ℕ) (replies : List R
   pub group : l.group ≡ k
   pub end_is : l.end ≡ end
   pub replies_are : l.replies.items ≡ replies
+
+-- the lines that a group has which was answered so
+abbrev pub AreLinesAt : (session k : ℕ) → End → (at : ℕ) → (drew : Bool) → List Reply → List Line → Type 0
+AreLinesAt session k end at true replies lines = lines ≡ []
+AreLinesAt session k end at false replies lines = (l : Line) × IsReadLine session k end at replies l × (lines ≡ l ∷ [])
+
+abbrev pub AreLines : (session k : ℕ) → End → Result Answer Refusal → List Line → Type 0
+AreLines session k end (Ok a) lines = AreLinesAt session k end a.at a.drew a.replies.items lines
+AreLines session k end (Err r) lines = lines ≡ []
 
 module _ {P : Type 0} {G : Ghosts P} (state : P → PortState) (faults : P → List Fault) where
   -- the group was done as its end asks
