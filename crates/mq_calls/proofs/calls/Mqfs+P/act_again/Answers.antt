@@ -101,4 +101,4 @@ returns-in-Err-clause-refused g c = λ first full.
     let geometry = c.args.self.now.geometry in
     let call = call_of c.args.asked.now in
     let w = view c.checkpoint.new.session.chair in
-    subst (λ (x : Refusal). IsRefused st fs geometry call first w x.cause x.drawn) (sym c.no_room.ensures) (no_room {why = c.in-Err.why} full c.in-Err.ensures.refused)
+    subst (λ (x : Refusal). IsRefused st fs geometry call first w x.cause x.drawn) (sym c.no_room.ensures) (no_room c.in-Err.why full c.in-Err.ensures.refused)
