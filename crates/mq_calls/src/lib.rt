@@ -23,6 +23,7 @@ mod reading;
 mod rounds;
 mod session;
 mod sweeping;
+mod telling;
 mod wanted;
 
 pub use answers::{Answer, CallCause, Refusal};
