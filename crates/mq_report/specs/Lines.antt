@@ -1,7 +1,7 @@
 -- What is reported of a group.
 use Rattle.std.specs.Prelude.{ℕ, Bool, List, Option, Result, Ok, Err}
 use Rattle.mq_calls.specs.declared.answers.CallCause.{CallCause}
-use Rattle.mq_calls.specs.declared.answers.CallCause.TheVariants.{OutOfMemory, TooLarge, Changes as Changing, AreaFull, Drive}
+use Rattle.mq_calls.specs.declared.answers.CallCause.TheVariants.{OutOfMemory, TooLarge, Changes as Changing, Drive}
 use Rattle.mq_calls.specs.declared.answers.Refusal.{Refusal}
 use Rattle.mq_side.specs.declared.answers.Cause.{Cause}
 use Rattle.mq_side.specs.declared.answers.Cause.TheVariants.{Off as PowerOff, Failed as CommandFailed, FailedHome, Stopped as WasStopped}
@@ -39,7 +39,6 @@ abbrev pub call_answer : CallCause → (drawn : Option ℕ) → Answer
 call_answer OutOfMemory drawn = Memory
 call_answer (TooLarge count limit) drawn = Large count
 call_answer (Changing index) drawn = Changes index
-call_answer (AreaFull queue) drawn = Memory
 call_answer (Drive cause) drawn = drive_answer cause drawn
 
 abbrev pub answer_of : Result ℕ Refusal → Answer

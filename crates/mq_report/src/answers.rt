@@ -43,7 +43,6 @@ fn put_refusal(out: &mut Vec<u8>, refusal: Refusal) -> Result<(), OutOfMemory>
         CallCause::OutOfMemory => put_word(out, b"memory"),
         CallCause::TooLarge { count, .. } => put_named(out, b"large", u64::from(count)),
         CallCause::Changes { index } => put_named(out, b"changes", u64::from(index)),
-        CallCause::AreaFull { .. } => put_word(out, b"memory"),
         CallCause::Drive(cause) => put_cause(out, cause, drawn),
     }
 }
