@@ -1,0 +1,4 @@
+pub mod Groups
+pub mod Legal
+pub mod Answers
+pub mod Cuts
