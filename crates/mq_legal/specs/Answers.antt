@@ -1,5 +1,5 @@
 -- What the groups of the scripts were answered, as far as scripts and history say.
-use Rattle.std.specs.Prelude.{◌≡◌, ◌≢◌, ◌<◌, ◌≤◌, ◌+◌, ◌⊎◌, ◌↔◌, ℕ, Bool, true, false, List, length, Option, Some, None, Result, Ok, Err}
+use Rattle.std.specs.Prelude.{◌≡◌, ◌≢◌, ◌<◌, ◌≤◌, ◌+◌, ℕ, Bool, true, false, List, length, Option, Some, None, Result, Ok, Err}
 use Rattle.std.specs.List.{AllPairs, Contains}
 use Rattle.mq_blocks.specs.Geometry.{homes_of, write_limit}
 use Rattle.mq_blocks.specs.declared.geometry.Geometry.{Geometry}

@@ -1,0 +1,7 @@
+pub mod Facts
+pub mod Goes
+pub mod Histories
+pub mod Laying
+pub mod Maps
+pub mod Quiet
+pub mod Tiles

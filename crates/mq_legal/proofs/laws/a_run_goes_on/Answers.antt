@@ -1,0 +1,5 @@
+use Rattle.mq_legal.proofs.Goes.{next-starts, starts-once}
+use Rattle.mq_legal.proofs.laws.a_run_goes_on.Goals as goal
+
+pub returns : goal.returns
+returns c = record { once = starts-once; next = next-starts }

@@ -1,0 +1,48 @@
+// What holds of legal runs and of cuts.
+ghost use Rattle.mq_legal.specs.Laws.{SoundVolumesLie, VolumesHaveOneMap, MapsHaveOneVolume};
+ghost use Rattle.mq_legal.specs.Laws.{StandingVolumesStand};
+ghost use Rattle.mq_legal.specs.Laws.{EachNumberHasACommit, LinesHaveNumbersWithin, NumbersNeverFall};
+ghost use Rattle.mq_legal.specs.Laws.{GoodCommitsAreRung};
+ghost use Rattle.mq_legal.specs.Laws.{ImagesStartOnce, CutsStartTheNextRun};
+ghost use Rattle.mq_legal.specs.Laws.{HistoriesLie, EntriesChangeTheVolume, EntriesAskOnTheVolume};
+ghost use Rattle.mq_legal.specs.Laws.{QuietEntriesStay, QuietEntriesStayOnMaps};
+ghost use Rattle.mq_legal.specs.Laws.{HistoriesAreRuns, VolumesAtNumbersLie, HistoriesEndAtTheNewest};
+
+/// A sound volume lies on a map, and on one alone, on which no other volume lies. Where a volume stands on
+/// an image, each block of each of its maps does.
+pub fn a_volume_has_one_map()
+    ensures some { SoundVolumesLie }
+    ensures map { VolumesHaveOneMap }
+    ensures volume { MapsHaveOneVolume }
+    ensures stands { StandingVolumesStand }
+{}
+
+/// A run has a commit for each number from the base on to the last, and no other numbers; they never fall
+/// along the lines. A commit that was answered well has moved the doorbell of its queue.
+pub fn each_number_has_its_commit()
+    ensures commit { EachNumberHasACommit }
+    ensures within { LinesHaveNumbersWithin }
+    ensures order { NumbersNeverFall }
+    ensures rung { GoodCommitsAreRung }
+{}
+
+/// An image starts a run with one base and one volume. What a run leaves starts the next one with the
+/// volume for which the cut stands, and with no greater base than the last number.
+pub fn a_run_goes_on()
+    ensures once { ImagesStartOnce }
+    ensures next { CutsStartTheNextRun }
+{}
+
+/// Entries that do what they say, one after another on a map on which a volume lies, lead from volume to
+/// volume: after each of them the volume after its group lies on the map. So the lines that tell of them are
+/// a run. An entry that was read, and neither writes nor frees, leaves the volume as it is.
+pub fn a_history_is_a_run()
+    ensures laid { HistoriesLie }
+    ensures changes { EntriesChangeTheVolume }
+    ensures asks { EntriesAskOnTheVolume }
+    ensures stays { QuietEntriesStay }
+    ensures stays_on { QuietEntriesStayOnMaps }
+    ensures run { HistoriesAreRuns }
+    ensures at { VolumesAtNumbersLie }
+    ensures newest { HistoriesEndAtTheNewest }
+{}
