@@ -2,6 +2,7 @@
 use Rattle.std.specs.Prelude.{◌≡◌, ◌<◌, ◌≤◌, ◌+◌, ◌-◌, ◌++◌, ℕ, true, List, ◌∷◌, length, take, Some}
 use Rattle.std.specs.List.{All, Contains}
 use Rattle.mq_blocks.specs.Descriptor.{Descriptor}
+use Rattle.mq_blocks.specs.Geometry.{homes_of}
 use Rattle.mq_blocks.specs.Journal.{Shown, stands}
 use Rattle.mq_blocks.specs.Machine.{Map}
 use Rattle.mq_blocks.specs.declared.geometry.Geometry.{Geometry}
@@ -10,7 +11,7 @@ use Rattle.mq_files.specs.declared.entry.FileEntry.{FileEntry}
 use Rattle.mq_legal.specs.Answers.{HasCommit, IsOf, is_good}
 use Rattle.mq_legal.specs.Cuts.{IsCut, IsRung, StandsFor, Starts, is_on}
 use Rattle.mq_legal.specs.Histories.{AllDo, AreLinesOf, AreOfBytes, ChangesOn, IsQuiet, RunsOn, StaysOn, map_after, volume_through}
-use Rattle.mq_legal.specs.Legal.{AllWriteFew, IsRun, newest, volume_at}
+use Rattle.mq_legal.specs.Legal.{AllWriteFew, IsRun, Writes, newest, volume_at}
 use Rattle.mq_report.specs.Lines.{Line}
 use Rattle.mq_report.specs.declared.line.Told.{Told}
 use Rattle.mq_script.specs.Scripts.{Script}
@@ -171,3 +172,13 @@ HistoriesEndAtTheNewest =
     (g : Geometry) (scripts : List Script) (m : Map) (base : ℕ) (es : List FileEntry) (lines : List Line)
     → AreLinesOf g scripts m base es lines
     → newest base lines ≡ base + length es
+
+-- ---- changes
+
+-- from a sound volume to another so many blocks are written
+abbrev pub ChangesHaveACount : Type 0
+ChangesHaveACount = (g : Geometry) (v w : Volume) → IsSound g v → IsSound g w → (count : ℕ) × Writes g v w count
+
+-- which are home blocks, each once
+abbrev pub ChangesAreOfHomes : Type 0
+ChangesAreOfHomes = (g : Geometry) (v w : Volume) (count : ℕ) → Writes g v w count → count ≤ homes_of g

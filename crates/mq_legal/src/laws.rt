@@ -1,6 +1,7 @@
 // What holds of legal runs and of cuts.
 ghost use Rattle.mq_legal.specs.Laws.{SoundVolumesLie, VolumesHaveOneMap, MapsHaveOneVolume};
 ghost use Rattle.mq_legal.specs.Laws.{StandingVolumesStand};
+ghost use Rattle.mq_legal.specs.Laws.{ChangesHaveACount, ChangesAreOfHomes};
 ghost use Rattle.mq_legal.specs.Laws.{EachNumberHasACommit, LinesHaveNumbersWithin, NumbersNeverFall};
 ghost use Rattle.mq_legal.specs.Laws.{GoodCommitsAreRung};
 ghost use Rattle.mq_legal.specs.Laws.{ImagesStartOnce, CutsStartTheNextRun};
@@ -15,6 +16,12 @@ pub fn a_volume_has_one_map()
     ensures map { VolumesHaveOneMap }
     ensures volume { MapsHaveOneVolume }
     ensures stands { StandingVolumesStand }
+{}
+
+/// From one sound volume to another so many blocks are written, and no more than there are home blocks.
+pub fn a_change_has_a_count()
+    ensures some { ChangesHaveACount }
+    ensures few { ChangesAreOfHomes }
 {}
 
 /// A run has a commit for each number from the base on to the last, and no other numbers; they never fall
