@@ -25,7 +25,7 @@ steps-up : (n m : ℕ) (b : Bool) → m ≡ number_after n b → n ≤ m
 steps-up n m true e = omega (arith, e)
 steps-up n m false e = omega (arith, e)
 
-grows : (g : Geometry) (ss : List Script) (v : Volume) (n : ℕ) (lines : List Line) → IsRun g ss v n lines → n ≤ newest n lines
+pub grows : (g : Geometry) (ss : List Script) (v : Volume) (n : ℕ) (lines : List Line) → IsRun g ss v n lines → n ≤ newest n lines
 grows g ss v n [] run = omega arith
 grows g ss v n (l ∷ ls) run =
     let a = steps-up n l.number l.commit run.0.number in

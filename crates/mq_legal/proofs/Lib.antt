@@ -5,4 +5,6 @@ pub mod Laying
 pub mod Maps
 pub mod Moving
 pub mod Quiet
+pub mod SmallRun
+pub mod Starting
 pub mod Tiles

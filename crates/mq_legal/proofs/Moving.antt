@@ -1,5 +1,5 @@
 -- What is written and freed from one volume to another can be listed, and is of home blocks.
-use Rattle.std.proofs.Common.{get_or, ◌≡◌, ◌≢◌, ◌∙◌, ℕ, zero, suc, ◌+◌, ◌<◌, ◌≤◌, ◌⊎◌, inl, inr, Bool, true, false, List, [], ◌∷◌, length, refl, sym, ap, subst, arith}
+use Rattle.std.proofs.Common.{get_or, ◌≡◌, ◌∙◌, ℕ, zero, suc, ◌+◌, ◌<◌, ◌≤◌, ◌⊎◌, inl, inr, List, [], ◌∷◌, length, refl, sym, ap, subst, arith}
 use Rattle.std.specs.Prelude.{◌↔◌, Option, Some, None}
 use Rattle.std.specs.List.{All, AllPairs, Contains}
 use Rattle.std.specs.Str.{bytes_eq}
@@ -88,9 +88,9 @@ rising-few n limit (x ∷ xs) b top rise above below =
     let high : b ≤ n x = above 0 x (omega arith) in
     let low : n x < limit = below 0 x (omega arith) in
     let rest = rising-few n limit xs (b + 1) (omega arith)
-        (λ i j d l h. rise (suc i) (suc j) d (omega arith) (omega arith))
-        (λ k d l. let up = rise 0 (suc k) d (omega arith) (omega arith) in omega (arith, up, high))
-        (λ k d l. below (suc k) d (omega arith)) in
+    (λ i j d l h. rise (suc i) (suc j) d (omega arith) (omega arith))
+    (λ k d l. let up = rise 0 (suc k) d (omega arith) (omega arith) in omega (arith, up, high))
+    (λ k d l. below (suc k) d (omega arith)) in
     omega (arith, rest)
 
 -- ---- what is written
@@ -104,10 +104,12 @@ kind-of g w b uses = elim (cases_Bool (is_taken w b)) [
   where
     other : (u : Use) → block_in w u ≡ Some b → ((f : IsOfFile w b) → u ≡ Part f.inode f.place → ⊥) → (kind : Kind) × ((kind ≡ Data) ↔ IsOfFile w b)
     other u e nay = (Meta, (λ same. absurd (cc), λ f. absurd (nay f (uses.apart u (Part f.inode f.place) b e f.there))))
+
     by-body : (i k : ℕ) → block_in w (Part i k) ≡ Some b → (x : Body) → body w i ≡ x → (kind : Kind) × ((kind ≡ Data) ↔ IsOfFile w b)
     by-body i k e Free is = other (Part i k) e (λ f same. let x : Free ≡ File f.bytes = sym is ∙ ap (λ (u : Use). body w (owner u)) same ∙ f.is in absurd (cc))
     by-body i k e (File bytes) is = (Data, (λ same. record { inode = i; place = k; bytes = bytes; there = e; is = is }, λ f. refl))
     by-body i k e (Dir slots) is = other (Part i k) e (λ f same. let x : Dir slots ≡ File f.bytes = sym is ∙ ap (λ (u : Use). body w (owner u)) same ∙ f.is in absurd (cc))
+
     by-use : (u : Use) → block_in w u ≡ Some b → (kind : Kind) × ((kind ≡ Data) ↔ IsOfFile w b)
     by-use (Part i k) e = by-body i k e (body w i) refl
     by-use (Pointers i) e = other (Pointers i) e (λ f same. absurd (cc))
@@ -137,8 +139,8 @@ written-one g v w b page uses now new =
     let k = kind-of g w b uses in
     let x : Write = record { block = b; kind = k.0; content = page } in
     one x (record { now = now; new = new; kind = k.1 }) refl (λ y is e. write-same x y e
-        (page-once g w b y.content page uses (subst (λ (c : ℕ). Shows g w c y.content) e is.now) now)
-        (kind-same y.kind k.0 (λ d. k.1.1 (subst (λ (c : ℕ). IsOfFile w c) e (is.kind.0 d))) (λ d. is.kind.1 (subst (λ (c : ℕ). IsOfFile w c) (sym e) (k.1.0 d)))))
+    (page-once g w b y.content page uses (subst (λ (c : ℕ). Shows g w c y.content) e is.now) now)
+    (kind-same y.kind k.0 (λ d. k.1.1 (subst (λ (c : ℕ). IsOfFile w c) e (is.kind.0 d))) (λ d. is.kind.1 (subst (λ (c : ℕ). IsOfFile w c) (sym e) (k.1.0 d)))))
 
 written-none : (g : Geometry) (v w : Volume) (b : ℕ) → ((page : List ℕ) → Shows g w b page → Shows g v b page) → AtMost block_of (IsWritten g v w) b
 written-none g v w b same = nothing (λ y is e. is.new (subst (λ (c : ℕ). Shows g v c y.content) (sym e) (same y.content (subst (λ (c : ℕ). Shows g w c y.content) e is.now))))
@@ -148,10 +150,10 @@ written-at g m n v w b h k None p e f = written-none g v w b (λ page s. absurd 
 written-at g m n v w b h k (Some q) None e f = written-one g v w b q (sound-uses g w k.sound) (k.shown b q e) (λ s. shown-vacant g v b q s (h.vacant b f))
 written-at g m n v w b h k (Some q) (Some p) e f = elim (cases_Bool (bytes_eq p q)) [
   | inl same ↦ written-none g v w b (λ page s.
-        let now = page-once g w b q page (sound-uses g w k.sound) (k.shown b q e) s in
-        subst (λ (x : List ℕ). Shows g v b x) ((bytes_eq-Decides p q).0 same ∙ now) (h.shown b p f))
+      let now = page-once g w b q page (sound-uses g w k.sound) (k.shown b q e) s in
+      subst (λ (x : List ℕ). Shows g v b x) ((bytes_eq-Decides p q).0 same ∙ now) (h.shown b p f))
   | inr other ↦ written-one g v w b q (sound-uses g w k.sound) (k.shown b q e) (λ s.
-        true≢false (sym ((bytes_eq-Decides p q).1 (page-once g v b p q (sound-uses g v h.sound) (h.shown b p f) s)) ∙ other))
+      true≢false (sym ((bytes_eq-Decides p q).1 (page-once g v b p q (sound-uses g v h.sound) (h.shown b p f) s)) ∙ other))
 ]
 
 -- ---- what is freed
@@ -173,13 +175,16 @@ freed-home g v w b uses is = let u = taken-use v b is.0 in (uses.zones u.0 b u.1
 pub laid-moves : (g : Geometry) (m n : Map) (v w : Volume) → IsLaid g m v → IsLaid g n w → (writes : List Write) × (frees : List ℕ) × Moves g v w writes frees
 laid-moves g m n v w h k =
     let wrote = found-from block_of (IsWritten g v w) (homes_of g) (λ b. written-at g m n v w b h k (n b) (m b) refl refl) (λ x is. shown-home g w x.block x.content is.now) (homes_of g) 0 (omega arith) in
-    let freed = found-from (λ (x : ℕ). x) (IsFreed v w) (homes_of g) (λ b. freed-at v w b) (λ b is. freed-home g v w b (sound-uses g v h.sound) is) (homes_of g) 0 (omega arith) in
-    (wrote.items, freed.items, record {
-      writes_rise = wrote.rise;
-      written = λ x. (λ c. wrote.only x c, λ is. wrote.all x is (omega arith));
-      frees_rise = freed.rise;
-      freed = λ b. (λ c. freed.only b c, λ is. freed.all b is (omega arith));
-    })
+    let freed = found-from (λ (x : ℕ). x) (IsFreed v w) (homes_of g) (λ b. freed-at v w b) (λ b is. freed-home g v w b (sound-uses g v h.sound) is) (homes_of g) 0 (omega arith) in (
+      wrote.items,
+      freed.items,
+      record {
+        writes_rise = wrote.rise;
+        written = λ x. (λ c. wrote.only x c, λ is. wrote.all x is (omega arith));
+        frees_rise = freed.rise;
+        freed = λ b. (λ c. freed.only b c, λ is. freed.all b is (omega arith));
+      },
+    )
 
 pub sound-writes : (g : Geometry) (v w : Volume) → IsSound g v → IsSound g w → (count : ℕ) × Writes g v w count
 sound-writes g v w sound fine =

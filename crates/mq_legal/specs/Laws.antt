@@ -1,20 +1,22 @@
 -- What holds of legal runs and of cuts, in one statement each.
-use Rattle.std.specs.Prelude.{◌≡◌, ◌<◌, ◌≤◌, ◌+◌, ◌-◌, ◌++◌, ℕ, true, List, ◌∷◌, length, take, Some}
+use Rattle.std.specs.Prelude.{◌≡◌, ◌<◌, ◌≤◌, ◌+◌, ◌-◌, ◌++◌, ℕ, true, List, [], ◌∷◌, length, take, Some}
 use Rattle.std.specs.List.{All, Contains}
 use Rattle.mq_blocks.specs.Descriptor.{Descriptor}
 use Rattle.mq_blocks.specs.Geometry.{homes_of}
-use Rattle.mq_blocks.specs.Journal.{Shown, stands}
+use Rattle.mq_blocks.specs.Journal.{Shown, number_limit, stands}
 use Rattle.mq_blocks.specs.Machine.{Map}
 use Rattle.mq_blocks.specs.declared.geometry.Geometry.{Geometry}
 use Rattle.mq_files.specs.Entries.{Asks, volume_after}
 use Rattle.mq_files.specs.declared.entry.FileEntry.{FileEntry}
-use Rattle.mq_legal.specs.Answers.{HasCommit, IsOf, is_good}
-use Rattle.mq_legal.specs.Cuts.{IsCut, IsRung, StandsFor, Starts, is_on}
+use Rattle.mq_legal.specs.Answers.{AreAnswered, AreCaused, HasCommit, IsCaused, IsAcknowledged, IsOf, is_good}
+use Rattle.mq_legal.specs.Cuts.{IsClean, IsCut, IsRung, StandsFor, Starts, is_on}
 use Rattle.mq_legal.specs.Histories.{AllDo, AreLinesOf, AreOfBytes, ChangesOn, IsQuiet, RunsOn, StaysOn, map_after, volume_through}
-use Rattle.mq_legal.specs.Legal.{AllWriteFew, IsRun, Writes, newest, volume_at}
+use Rattle.mq_legal.specs.Legal.{AllWriteFew, IsLegal, IsRun, Writes, newest, volume_at}
+use Rattle.mq_legal.specs.SmallRun.{as_changing, as_large, as_read, asking_scripts, only_asking, small_answers, small_lines, small_scripts, small_told, swapped, two, well_asked}
 use Rattle.mq_report.specs.Lines.{Line}
 use Rattle.mq_report.specs.declared.line.Told.{Told}
 use Rattle.mq_script.specs.Scripts.{Script}
+use Rattle.mq_tree.specs.Empty.{empty_volume}
 use Rattle.mq_tree.specs.Kept.{HasBytes}
 use Rattle.mq_tree.specs.Laid.{IsLaid}
 use Rattle.mq_tree.specs.Sound.{IsSound}
@@ -182,3 +184,85 @@ ChangesHaveACount = (g : Geometry) (v w : Volume) → IsSound g v → IsSound g 
 -- which are home blocks, each once
 abbrev pub ChangesAreOfHomes : Type 0
 ChangesAreOfHomes = (g : Geometry) (v w : Volume) (count : ℕ) → Writes g v w count → count ≤ homes_of g
+
+-- ---- images that there are
+
+abbrev pub HasDoorbells : (ℕ → ℕ) → Type 0
+HasDoorbells bells = (q : ℕ) → bells q ≤ number_limit
+
+-- for each sound volume, base and doorbells there is a clean image from which a run starts with them
+abbrev pub EachVolumeStartsARun : Type 0
+EachVolumeStartsARun =
+    (g : Geometry) (v : Volume) (n : ℕ) (bells : ℕ → ℕ)
+    → IsSound g v
+    → n ≤ number_limit
+    → HasDoorbells bells
+    → (i : Shown) × Starts g i n v × IsClean g i n × ((q : ℕ) → i.doorbell q ≡ bells q)
+
+-- and for each run that ends in one a clean image that is a cut at its last number
+abbrev pub EachRunHasACut : Type 0
+EachRunHasACut =
+    (g : Geometry) (scripts : List Script) (v : Volume) (base : ℕ) (lines : List Line) (answers : List Told) (bells : ℕ → ℕ)
+    → IsRun g scripts v base lines
+    → IsSound g (volume_at g scripts v lines (newest base lines))
+    → newest base lines ≤ number_limit
+    → HasDoorbells bells
+    → ((n : ℕ) → IsAcknowledged scripts answers n → n ≤ newest base lines)
+    → (i : Shown) × IsCut g scripts v base lines answers i (newest base lines) × IsClean g i (newest base lines) × ((q : ℕ) → i.doorbell q ≡ bells q)
+
+-- ---- a small run, and what may not be told of it
+
+abbrev pub TheSmallRunIsLegal : Type 0
+TheSmallRunIsLegal = IsLegal two small_scripts (empty_volume two) 0 small_lines
+
+abbrev pub TheSmallRunIsAnswered : Type 0
+TheSmallRunIsAnswered = AreAnswered small_scripts small_lines small_answers × AreCaused two small_scripts (empty_volume two) 0 small_lines small_answers
+
+-- some clean image is a cut of it, with the doorbell of its commit
+abbrev pub TheSmallRunIsCut : Type 0
+TheSmallRunIsCut =
+    (i : Shown)
+    × IsCut two small_scripts (empty_volume two) 0 small_lines small_answers i 1
+    × IsClean two i 1
+    × IsRung two small_scripts (empty_volume two) small_lines small_answers 0 0 (i.doorbell 0)
+    × (0 < i.doorbell 0)
+
+-- an answer without its line
+abbrev pub NoLineIsLeftOut : Type 0
+NoLineIsLeftOut = AreAnswered small_scripts [] small_answers → ⊥
+
+-- no answers, or two for one group
+abbrev pub NoAnswerIsLeftOut : Type 0
+NoAnswerIsLeftOut = (ls : List Line) → AreAnswered small_scripts ls [] → ⊥
+
+abbrev pub NoGroupIsAnsweredTwice : Type 0
+NoGroupIsAnsweredTwice = (ls : List Line) → AreAnswered small_scripts ls (small_told ∷ small_told ∷ []) → ⊥
+
+-- a commit as a read
+abbrev pub NoCommitIsARead : Type 0
+NoCommitIsARead = IsRun two small_scripts (empty_volume two) 0 (as_read ∷ []) → ⊥
+
+-- other replies
+abbrev pub NoRepliesAreSwapped : Type 0
+NoRepliesAreSwapped = IsRun two asking_scripts (empty_volume two) 0 (swapped ∷ []) → ⊥
+
+-- a number twice
+abbrev pub NoNumberComesTwice : Type 0
+NoNumberComesTwice =
+    (g : Geometry) (ss : List Script) (v : Volume) (n : ℕ) (l m : Line)
+    → l.commit ≡ true
+    → m.commit ≡ true
+    → IsRun g ss v n (l ∷ m ∷ [])
+    → l.number ≡ m.number
+    → ⊥
+
+-- a refusal whose cause does not hold
+abbrev pub NoSmallGroupIsLarge : Type 0
+NoSmallGroupIsLarge = (ls : List Line) (count : ℕ) → IsCaused two small_scripts (empty_volume two) 0 ls (as_large count) → ⊥
+
+abbrev pub NoGroupChangesByItself : Type 0
+NoGroupChangesByItself = (ls : List Line) (index : ℕ) → IsCaused two small_scripts (empty_volume two) 0 ls (as_changing index) → ⊥
+
+-- a good answer to a group that asks, with a request that may change something
+abbrev pub NoChangeIsAsked : Type 0
+NoChangeIsAsked = (ls : List Line) → IsCaused two only_asking (empty_volume two) 0 ls well_asked → ⊥

@@ -4,3 +4,4 @@ pub mod Answers
 pub mod Cuts
 pub mod Histories
 pub mod Laws
+pub mod SmallRun

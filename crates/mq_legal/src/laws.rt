@@ -4,10 +4,14 @@ ghost use Rattle.mq_legal.specs.Laws.{StandingVolumesStand};
 ghost use Rattle.mq_legal.specs.Laws.{ChangesHaveACount, ChangesAreOfHomes};
 ghost use Rattle.mq_legal.specs.Laws.{EachNumberHasACommit, LinesHaveNumbersWithin, NumbersNeverFall};
 ghost use Rattle.mq_legal.specs.Laws.{GoodCommitsAreRung};
-ghost use Rattle.mq_legal.specs.Laws.{ImagesStartOnce, CutsStartTheNextRun};
+ghost use Rattle.mq_legal.specs.Laws.{ImagesStartOnce, CutsStartTheNextRun, EachVolumeStartsARun, EachRunHasACut};
 ghost use Rattle.mq_legal.specs.Laws.{HistoriesLie, EntriesChangeTheVolume, EntriesAskOnTheVolume};
 ghost use Rattle.mq_legal.specs.Laws.{QuietEntriesStay, QuietEntriesStayOnMaps};
 ghost use Rattle.mq_legal.specs.Laws.{HistoriesAreRuns, VolumesAtNumbersLie, HistoriesEndAtTheNewest};
+ghost use Rattle.mq_legal.specs.Laws.{TheSmallRunIsLegal, TheSmallRunIsAnswered, TheSmallRunIsCut};
+ghost use Rattle.mq_legal.specs.Laws.{NoLineIsLeftOut, NoAnswerIsLeftOut, NoGroupIsAnsweredTwice};
+ghost use Rattle.mq_legal.specs.Laws.{NoCommitIsARead, NoRepliesAreSwapped, NoNumberComesTwice};
+ghost use Rattle.mq_legal.specs.Laws.{NoSmallGroupIsLarge, NoGroupChangesByItself, NoChangeIsAsked};
 
 /// A sound volume lies on a map, and on one alone, on which no other volume lies. Where a volume stands on
 /// an image, each block of each of its maps does.
@@ -34,10 +38,13 @@ pub fn each_number_has_its_commit()
 {}
 
 /// An image starts a run with one base and one volume. What a run leaves starts the next one with the
-/// volume for which the cut stands, and with no greater base than the last number.
+/// volume for which the cut stands, and with no greater base than the last number. There are such images:
+/// each sound volume starts a run, and each run that ends in one has a clean cut.
 pub fn a_run_goes_on()
     ensures once { ImagesStartOnce }
     ensures next { CutsStartTheNextRun }
+    ensures starts { EachVolumeStartsARun }
+    ensures cut { EachRunHasACut }
 {}
 
 /// Entries that do what they say, one after another on a map on which a volume lies, lead from volume to
@@ -52,4 +59,21 @@ pub fn a_history_is_a_run()
     ensures run { HistoriesAreRuns }
     ensures at { VolumesAtNumbersLie }
     ensures newest { HistoriesEndAtTheNewest }
+{}
+
+/// The run of one group that makes a directory and a file is legal, answered and cut; and what might be told
+/// of it in its place is refused.
+pub fn a_small_run()
+    ensures legal { TheSmallRunIsLegal }
+    ensures answered { TheSmallRunIsAnswered }
+    ensures cut { TheSmallRunIsCut }
+    ensures no_line { NoLineIsLeftOut }
+    ensures no_answers { NoAnswerIsLeftOut }
+    ensures once { NoGroupIsAnsweredTwice }
+    ensures no_read { NoCommitIsARead }
+    ensures no_swap { NoRepliesAreSwapped }
+    ensures no_twice { NoNumberComesTwice }
+    ensures no_large { NoSmallGroupIsLarge }
+    ensures no_changes { NoGroupChangesByItself }
+    ensures no_ask { NoChangeIsAsked }
 {}
