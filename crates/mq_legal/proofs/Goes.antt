@@ -44,6 +44,11 @@ meta-page : (g : Geometry) (m : Map) (v : Volume) (b : ℕ) → IsLaid g m v →
 meta-page g m v b h low None e = absurd (let high = (h.vacant b e).0 in omega arith)
 meta-page g m v b h low (Some page) e = (page, e)
 
+-- the bit of a block in the bitmap of its zone
+marked-at : (g : Geometry) (v : Volume) (z place b n : ℕ) → n ≡ (if zone_marked g v z place then 1 else 0) → place < zone_size g → zone_block g z place ≡ b → n ≡ (if is_taken v b then 1 else 0)
+marked-at g v z place b n bit rest here =
+    bit ∙ ap (λ (c : Bool). if c && is_taken v (zone_block g z place) then 1 else 0) (lt-ltb place (zone_size g) rest) ∙ ap (λ (c : ℕ). if is_taken v c then 1 else 0) here
+
 -- the bits of stored blocks are those of the volume
 bit-is : (g : Geometry) (m : Map) (v : Volume) (stored : List (Option (List ℕ))) (b : ℕ) → IsLaid g m v → ((c : ℕ) (page : List ℕ) → m c ≡ Some page → block_at stored c ≡ page) → meta_of g ≤ b → b < homes_of g
     → bit_of (block_at stored (zone_bitmap ((b - meta_of g) / zone_size g))) ((b - meta_of g) % zone_size g) ≡ (if is_taken v b then 1 else 0)
@@ -57,10 +62,7 @@ bit-is g m v stored b h k high home =
     let place = (b - meta_of g) % zone_size g in
     let rest = zone-rest g b in
     let bit = marks place (zone-small g place rest) in
-    ap (λ (p : List ℕ). bit_of p place) (k (zone_bitmap z) page.0 page.1)
-    ∙ bit
-    ∙ ap (λ (c : Bool). if c && is_taken v (zone_block g z place) then 1 else 0) (lt-ltb place (zone_size g) rest)
-    ∙ ap (λ (c : ℕ). if is_taken v c then 1 else 0) (zone-place g b high)
+    ap (λ (p : List ℕ). bit_of p place) (k (zone_bitmap z) page.0 page.1) ∙ marked-at g v z place b (bit_of page.0 place) bit rest (zone-place g b high)
 
 marked-taken : (t : Bool) (n : ℕ) → n ≡ (if t then 1 else 0) → nat_eq n 1 ≡ t
 marked-taken true n e = eq-eqb n 1 e

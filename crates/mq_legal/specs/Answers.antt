@@ -99,7 +99,8 @@ pub record IsLarge (g : Geometry) (scripts : List Script) (v : Volume) (base : �
   pub least : base ≤ at
   pub seen : HasSeen lines t.session t.group at
   pub most : at ≤ newest base lines
-  pub writes : Writes g (volume_at g scripts v lines at) (after_group g t.session (volume_at g scripts v lines at) (group_told scripts t).requests) count
+  pub writes : Writes g (volume_at g scripts v lines at)
+      (after_group g t.session (volume_at g scripts v lines at) (group_told scripts t).requests) count
   pub many : write_limit g < count
 
 -- the group asks, and this is its first request that may change something

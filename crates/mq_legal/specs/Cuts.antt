@@ -79,7 +79,12 @@ pub record IsRung (g : Geometry) (scripts : List Script) (v : Volume) (lines : L
   pub sum : ℕ
   pub entries : HasEntries g scripts q v sent sum
   pub doorbell : new ≡ old + sum
-  pub good : (l : Line) (t : Told) → Contains unsent l → is_on q l ≡ true → Contains answers t → IsOf t l.session l.group → is_good t.answer ≡ false
+  pub good : (l : Line) (t : Told)
+      → Contains unsent l
+      → is_on q l ≡ true
+      → Contains answers t
+      → IsOf t l.session l.group
+      → is_good t.answer ≡ false
 
 -- ---- a clean image
 

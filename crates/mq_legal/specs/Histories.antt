@@ -89,5 +89,11 @@ pub record IsReadOf (g : Geometry) (scripts : List Script) (m : Map) (n : ℕ) (
 -- The lines, from this map and number on: the commits of the entries, one after another, and between them the reads.
 pub data AreLinesOf (g : Geometry) (scripts : List Script) : Map → ℕ → List FileEntry → List Line → Type 0 where
   none : {m : Map} {n : ℕ} → AreLinesOf g scripts m n [] []
-  commit : {m : Map} {n : ℕ} {es : List FileEntry} {ls : List Line} (e : FileEntry) (l : Line) → IsCommitOf g scripts m n e l → AreLinesOf g scripts (after m (change_of (tx_of e))) (n + 1) es ls → AreLinesOf g scripts m n (e ∷ es) (l ∷ ls)
-  read : {m : Map} {n : ℕ} {es : List FileEntry} {ls : List Line} (e : FileEntry) (l : Line) → IsReadOf g scripts m n e l → AreLinesOf g scripts m n es ls → AreLinesOf g scripts m n es (l ∷ ls)
+  commit : {m : Map} {n : ℕ} {es : List FileEntry} {ls : List Line} (e : FileEntry) (l : Line)
+      → IsCommitOf g scripts m n e l
+      → AreLinesOf g scripts (after m (change_of (tx_of e))) (n + 1) es ls
+      → AreLinesOf g scripts m n (e ∷ es) (l ∷ ls)
+  read : {m : Map} {n : ℕ} {es : List FileEntry} {ls : List Line} (e : FileEntry) (l : Line)
+      → IsReadOf g scripts m n e l
+      → AreLinesOf g scripts m n es ls
+      → AreLinesOf g scripts m n es (l ∷ ls)

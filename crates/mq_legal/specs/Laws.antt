@@ -1,5 +1,5 @@
 -- What holds of legal runs and of cuts, in one statement each.
-use Rattle.std.specs.Prelude.{◌≡◌, ◌<◌, ◌≤◌, ◌+◌, ◌-◌, ◌++◌, ℕ, true, List, [], ◌∷◌, length, take, Some}
+use Rattle.std.specs.Prelude.{◌≡◌, ◌<◌, ◌≤◌, ◌+◌, ◌-◌, ◌++◌, ℕ, true, List, [], ◌∷◌, length, reverse, slice_index_or, take, Some}
 use Rattle.std.specs.List.{All, Contains}
 use Rattle.mq_blocks.specs.Descriptor.{Descriptor}
 use Rattle.mq_blocks.specs.Geometry.{homes_of}
@@ -7,7 +7,9 @@ use Rattle.mq_blocks.specs.Journal.{Shown, number_limit, stands}
 use Rattle.mq_blocks.specs.Machine.{Map}
 use Rattle.mq_blocks.specs.declared.geometry.Geometry.{Geometry}
 use Rattle.mq_files.specs.Entries.{Asks, volume_after}
+use Rattle.mq_files.specs.Group.{file_group}
 use Rattle.mq_files.specs.declared.entry.FileEntry.{FileEntry}
+use Rattle.mq_ledger.specs.History as ledger
 use Rattle.mq_legal.specs.Answers.{AreAnswered, AreCaused, HasCommit, IsCaused, IsAcknowledged, IsOf, is_good}
 use Rattle.mq_legal.specs.Cuts.{IsClean, IsCut, IsRung, StandsFor, Starts, is_on}
 use Rattle.mq_legal.specs.Histories.{AllDo, AreLinesOf, AreOfBytes, ChangesOn, IsQuiet, RunsOn, StaysOn, map_after, volume_through}
@@ -15,7 +17,11 @@ use Rattle.mq_legal.specs.Legal.{AllWriteFew, IsLegal, IsRun, Writes, newest, vo
 use Rattle.mq_legal.specs.SmallRun.{as_changing, as_large, as_read, asking_scripts, only_asking, small_answers, small_lines, small_scripts, small_told, swapped, two, well_asked}
 use Rattle.mq_report.specs.Lines.{Line}
 use Rattle.mq_report.specs.declared.line.Told.{Told}
+use Rattle.mq_rules.specs.Rule as rule
+use Rattle.mq_rules.specs.Rule.{history}
+use Rattle.mq_rules.specs.Values.{Values}
 use Rattle.mq_script.specs.Scripts.{Script}
+use Rattle.mq_script.specs.Spelled.{Spells}
 use Rattle.mq_tree.specs.Empty.{empty_volume}
 use Rattle.mq_tree.specs.Kept.{HasBytes}
 use Rattle.mq_tree.specs.Laid.{IsLaid}
@@ -266,3 +272,28 @@ NoGroupChangesByItself = (ls : List Line) (index : ℕ) → IsCaused two small_s
 -- a good answer to a group that asks, with a request that may change something
 abbrev pub NoChangeIsAsked : Type 0
 NoChangeIsAsked = (ls : List Line) → IsCaused two only_asking (empty_volume two) 0 ls well_asked → ⊥
+
+-- ---- scripts
+
+-- a text spells each script
+abbrev pub AreSpelled : List Script → Type 0
+AreSpelled scripts = (s : ℕ) → s < length scripts → (text : List ℕ) × Spells text (slice_index_or scripts s (record { groups = [] }))
+
+abbrev pub SpelledScriptsAreOfBytes : Type 0
+SpelledScriptsAreOfBytes = (scripts : List Script) → AreSpelled scripts → AreOfBytes scripts
+
+-- ---- the log of a desk, the newest entry first
+
+module _ {Q R : Type 0} (values : Values Q R FileEntry) where
+  -- its entries do what they say, the oldest first
+  abbrev pub LogsDo : Type 0
+  LogsDo =
+      (g : Geometry) (start : Map) (base : ℕ) (es : List FileEntry)
+      → rule.IsLegal values file_group g start base es
+      → AllDo g start (reverse es)
+
+  -- and lead to the map after its transactions
+  abbrev pub LogsLead : Type 0
+  LogsLead =
+      (start : Map) (base : ℕ) (es : List FileEntry)
+      → ledger.map_after start (history values file_group base es) ≡ map_after start (reverse es)

@@ -12,6 +12,10 @@ ghost use Rattle.mq_legal.specs.Laws.{TheSmallRunIsLegal, TheSmallRunIsAnswered,
 ghost use Rattle.mq_legal.specs.Laws.{NoLineIsLeftOut, NoAnswerIsLeftOut, NoGroupIsAnsweredTwice};
 ghost use Rattle.mq_legal.specs.Laws.{NoCommitIsARead, NoRepliesAreSwapped, NoNumberComesTwice};
 ghost use Rattle.mq_legal.specs.Laws.{NoSmallGroupIsLarge, NoGroupChangesByItself, NoChangeIsAsked};
+ghost use Rattle.mq_legal.specs.Laws.{SpelledScriptsAreOfBytes, LogsDo, LogsLead};
+
+use mq_files::FileEntry;
+use mq_rules::JournalValues;
 
 /// A sound volume lies on a map, and on one alone, on which no other volume lies. Where a volume stands on
 /// an image, each block of each of its maps does.
@@ -59,6 +63,17 @@ pub fn a_history_is_a_run()
     ensures run { HistoriesAreRuns }
     ensures at { VolumesAtNumbersLie }
     ensures newest { HistoriesEndAtTheNewest }
+{}
+
+/// The log of a desk, from its last entry back, is such a history on the map at the opening.
+pub fn a_log_is_a_history<J: JournalValues<Entry = FileEntry>>()
+    ensures does { LogsDo J.values }
+    ensures leads { LogsLead J.values }
+{}
+
+/// What scripts write that texts spell are bytes.
+pub fn spelled_scripts_are_of_bytes()
+    ensures { SpelledScriptsAreOfBytes }
 {}
 
 /// The run of one group that makes a directory and a file is legal, answered and cut; and what might be told

@@ -5,6 +5,6 @@
 mod laws;
 
 pub use laws::{
-    a_change_has_a_count, a_history_is_a_run, a_run_goes_on, a_small_run, a_volume_has_one_map,
-    each_number_has_its_commit,
+    a_change_has_a_count, a_history_is_a_run, a_log_is_a_history, a_run_goes_on, a_small_run,
+    a_volume_has_one_map, each_number_has_its_commit, spelled_scripts_are_of_bytes,
 };
