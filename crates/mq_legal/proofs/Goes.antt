@@ -1,16 +1,17 @@
 -- Where a volume stands on an image, the next run starts from it.
-use Rattle.std.proofs.Common.{◌≡◌, ◌∙◌, ℕ, ◌-◌, ◌*◌, ◌/◌, ◌%◌, ◌<◌, ◌≤◌, inl, inr, Bool, true, false, List, refl, sym, ap, subst, arith}
+use Rattle.std.proofs.Common.{◌≡◌, ◌∙◌, ℕ, ◌-◌, ◌*◌, ◌/◌, ◌%◌, ◌<◌, ◌≤◌, inl, inr, Bool, true, false, List, [], length, refl, sym, ap, subst, arith}
 use Rattle.std.specs.Prelude.{Option, Some, None, nat_eq, if◌then◌else◌, ◌&&◌}
 use Rattle.std.proofs.lemmas.Bool.{cases_lt, eq-eqb, lt-ltb, true≢false}
 use Rattle.std.proofs.Math.Nat.{mul-le-mul_right}
 use Rattle.mq_blocks.specs.Blocks.{block_at}
 use Rattle.mq_blocks.specs.Descriptor.{Descriptor}
 use Rattle.mq_blocks.specs.Geometry.{homes_of, meta_of, queues_of, zone_size}
-use Rattle.mq_blocks.specs.Journal.{Shown}
+use Rattle.mq_blocks.specs.Journal.{Shown, stands}
 use Rattle.mq_blocks.specs.Machine.{Map}
 use Rattle.mq_blocks.specs.declared.geometry.Geometry.{Geometry}
-use Rattle.mq_legal.proofs.Maps.{laid-on}
-use Rattle.mq_legal.specs.Cuts.{AreStanding, IsCut, StandsFor, Starts}
+use Rattle.mq_legal.proofs.Maps.{each-stands, laid-on}
+use Rattle.mq_legal.specs.Cuts.{AreStanding, IsClean, IsCut, StandsFor, Starts}
+use Rattle.mq_legal.specs.Laws.{IsAtHome}
 use Rattle.mq_legal.specs.Legal.{newest, volume_at}
 use Rattle.mq_report.specs.Lines.{Line}
 use Rattle.mq_report.specs.declared.line.Told.{Told}
@@ -107,3 +108,16 @@ pub next-starts : (g : Geometry) (scripts : List Script) (v w : Volume) (base ot
 next-starts g scripts v w base other r lines answers i cut start =
     let e = starts-from g i cut.ds cut.top other (volume_at g scripts v lines r) w cut.read cut.stand start in
     (sym e.1, subst (λ (n : ℕ). n ≤ newest base lines) e.0 cut.top_most)
+
+-- a clean image that is a cut is one at the last number, and has the blocks of the volume there at home
+pub clean-home : (g : Geometry) (scripts : List Script) (v : Volume) (base r : ℕ) (lines : List Line) (answers : List Told) (i : Shown) → IsCut g scripts v base lines answers i r → IsClean g i (newest base lines) → (r ≡ newest base lines) × IsAtHome g i (volume_at g scripts v lines (newest base lines))
+clean-home g scripts v base r lines answers i cut clean =
+    let n = newest base lines in
+    let e = read-same g i cut.ds [] cut.top n cut.read clean.read in
+    let count = ap length e.0 in
+    let reaches = cut.reaches in
+    let at = clean.base_is in
+    let same : r ≡ n = omega (arith, count, reaches, at) in
+    (same, λ m b page laid there.
+        let here = subst (λ (k : ℕ). IsLaid g m (volume_at g scripts v lines k)) (sym same) laid in
+        subst (λ ds. stands g i ds b ≡ page) e.0 (each-stands g i cut.ds (volume_at g scripts v lines r) m b page cut.stand here there))

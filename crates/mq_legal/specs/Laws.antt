@@ -113,6 +113,17 @@ CutsStartTheNextRun =
     → Starts g i other w
     → (w ≡ volume_at g scripts v lines r) × (other ≤ newest base lines)
 
+-- the image has each block of the volume at home
+abbrev pub IsAtHome : Geometry → Shown → Volume → Type 0
+IsAtHome g i v = (m : Map) (b : ℕ) (page : List ℕ) → IsLaid g m v → m b ≡ Some page → i.home b ≡ page
+
+abbrev pub CleanCutsAreAtHome : Type 0
+CleanCutsAreAtHome =
+    (g : Geometry) (scripts : List Script) (v : Volume) (base r : ℕ) (lines : List Line) (answers : List Told) (i : Shown)
+    → IsCut g scripts v base lines answers i r
+    → IsClean g i (newest base lines)
+    → (r ≡ newest base lines) × IsAtHome g i (volume_at g scripts v lines (newest base lines))
+
 -- ---- a history of entries
 
 abbrev pub HistoriesLie : Type 0

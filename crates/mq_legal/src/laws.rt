@@ -4,7 +4,8 @@ ghost use Rattle.mq_legal.specs.Laws.{StandingVolumesStand};
 ghost use Rattle.mq_legal.specs.Laws.{ChangesHaveACount, ChangesAreOfHomes};
 ghost use Rattle.mq_legal.specs.Laws.{EachNumberHasACommit, LinesHaveNumbersWithin, NumbersNeverFall};
 ghost use Rattle.mq_legal.specs.Laws.{GoodCommitsAreRung};
-ghost use Rattle.mq_legal.specs.Laws.{ImagesStartOnce, CutsStartTheNextRun, EachVolumeStartsARun, EachRunHasACut};
+ghost use Rattle.mq_legal.specs.Laws.{ImagesStartOnce, CutsStartTheNextRun, CleanCutsAreAtHome};
+ghost use Rattle.mq_legal.specs.Laws.{EachVolumeStartsARun, EachRunHasACut};
 ghost use Rattle.mq_legal.specs.Laws.{HistoriesLie, EntriesChangeTheVolume, EntriesAskOnTheVolume};
 ghost use Rattle.mq_legal.specs.Laws.{QuietEntriesStay, QuietEntriesStayOnMaps};
 ghost use Rattle.mq_legal.specs.Laws.{HistoriesAreRuns, VolumesAtNumbersLie, HistoriesEndAtTheNewest};
@@ -47,6 +48,7 @@ pub fn each_number_has_its_commit()
 pub fn a_run_goes_on()
     ensures once { ImagesStartOnce }
     ensures next { CutsStartTheNextRun }
+    ensures clean { CleanCutsAreAtHome }
     ensures starts { EachVolumeStartsARun }
     ensures cut { EachRunHasACut }
 {}
