@@ -117,7 +117,9 @@ clean-home g scripts v base r lines answers i cut clean =
     let count = ap length e.0 in
     let reaches = cut.reaches in
     let at = clean.base_is in
-    let same : r ≡ n = omega (arith, count, reaches, at) in
-    (same, λ m b page laid there.
-        let here = subst (λ (k : ℕ). IsLaid g m (volume_at g scripts v lines k)) (sym same) laid in
-        subst (λ ds. stands g i ds b ≡ page) e.0 (each-stands g i cut.ds (volume_at g scripts v lines r) m b page cut.stand here there))
+    let same : r ≡ n = omega (arith, count, reaches, at) in (
+      same,
+      λ m b page laid there.
+          let here = subst (λ (k : ℕ). IsLaid g m (volume_at g scripts v lines k)) (sym same) laid in
+          subst (λ ds. stands g i ds b ≡ page) e.0 (each-stands g i cut.ds (volume_at g scripts v lines r) m b page cut.stand here there),
+    )
