@@ -1,0 +1,12 @@
+pub mod Facts
+pub mod Goes
+pub mod Histories
+pub mod Laying
+pub mod Logs
+pub mod Maps
+pub mod Moving
+pub mod Quiet
+pub mod SmallRun
+pub mod Spelled
+pub mod Starting
+pub mod Tiles

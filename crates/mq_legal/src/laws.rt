@@ -1,0 +1,96 @@
+// What holds of legal runs and of cuts.
+ghost use Rattle.mq_legal.specs.Laws.{SoundVolumesLie, VolumesHaveOneMap, MapsHaveOneVolume};
+ghost use Rattle.mq_legal.specs.Laws.{StandingVolumesStand};
+ghost use Rattle.mq_legal.specs.Laws.{ChangesHaveACount, ChangesAreOfHomes};
+ghost use Rattle.mq_legal.specs.Laws.{EachNumberHasACommit, LinesHaveNumbersWithin, NumbersNeverFall};
+ghost use Rattle.mq_legal.specs.Laws.{GoodCommitsAreRung};
+ghost use Rattle.mq_legal.specs.Laws.{ImagesStartOnce, CutsStartTheNextRun, CleanCutsAreAtHome};
+ghost use Rattle.mq_legal.specs.Laws.{EachVolumeStartsARun, EachRunHasACut};
+ghost use Rattle.mq_legal.specs.Laws.{HistoriesLie, EntriesChangeTheVolume, EntriesAskOnTheVolume};
+ghost use Rattle.mq_legal.specs.Laws.{QuietEntriesStay, QuietEntriesStayOnMaps};
+ghost use Rattle.mq_legal.specs.Laws.{HistoriesAreRuns, VolumesAtNumbersLie, HistoriesEndAtTheNewest};
+ghost use Rattle.mq_legal.specs.Laws.{TheSmallRunIsLegal, TheSmallRunIsAnswered, TheSmallRunIsCut};
+ghost use Rattle.mq_legal.specs.Laws.{NoLineIsLeftOut, NoAnswerIsLeftOut, NoGroupIsAnsweredTwice};
+ghost use Rattle.mq_legal.specs.Laws.{NoCommitIsARead, NoRepliesAreSwapped, NoNumberComesTwice};
+ghost use Rattle.mq_legal.specs.Laws.{NoSmallGroupIsLarge, NoGroupChangesByItself, NoChangeIsAsked};
+ghost use Rattle.mq_legal.specs.Laws.{SpelledScriptsAreOfBytes, LogsDo, LogsLead};
+
+use mq_files::FileEntry;
+use mq_rules::JournalValues;
+
+/// A sound volume lies on a map, and on one alone, on which no other volume lies. Where a volume stands on
+/// an image, each block of each of its maps does.
+pub fn a_volume_has_one_map()
+    ensures some { SoundVolumesLie }
+    ensures map { VolumesHaveOneMap }
+    ensures volume { MapsHaveOneVolume }
+    ensures stands { StandingVolumesStand }
+{}
+
+/// From one sound volume to another so many blocks are written, and no more than there are home blocks.
+pub fn a_change_has_a_count()
+    ensures some { ChangesHaveACount }
+    ensures few { ChangesAreOfHomes }
+{}
+
+/// A run has a commit for each number from the base on to the last, and no other numbers; they never fall
+/// along the lines. A commit that was answered well has moved the doorbell of its queue.
+pub fn each_number_has_its_commit()
+    ensures commit { EachNumberHasACommit }
+    ensures within { LinesHaveNumbersWithin }
+    ensures order { NumbersNeverFall }
+    ensures rung { GoodCommitsAreRung }
+{}
+
+/// An image starts a run with one base and one volume. What a run leaves starts the next one with the
+/// volume for which the cut stands, and with no greater base than the last number. There are such images:
+/// each sound volume starts a run, and each run that ends in one has a clean cut.
+pub fn a_run_goes_on()
+    ensures once { ImagesStartOnce }
+    ensures next { CutsStartTheNextRun }
+    ensures clean { CleanCutsAreAtHome }
+    ensures starts { EachVolumeStartsARun }
+    ensures cut { EachRunHasACut }
+{}
+
+/// Entries that do what they say, one after another on a map on which a volume lies, lead from volume to
+/// volume: after each of them the volume after its group lies on the map. So the lines that tell of them are
+/// a run. An entry that was read, and neither writes nor frees, leaves the volume as it is.
+pub fn a_history_is_a_run()
+    ensures laid { HistoriesLie }
+    ensures changes { EntriesChangeTheVolume }
+    ensures asks { EntriesAskOnTheVolume }
+    ensures stays { QuietEntriesStay }
+    ensures stays_on { QuietEntriesStayOnMaps }
+    ensures run { HistoriesAreRuns }
+    ensures at { VolumesAtNumbersLie }
+    ensures newest { HistoriesEndAtTheNewest }
+{}
+
+/// The log of a desk, from its last entry back, is such a history on the map at the opening.
+pub fn a_log_is_a_history<J: JournalValues<Entry = FileEntry>>()
+    ensures does { LogsDo J.values }
+    ensures leads { LogsLead J.values }
+{}
+
+/// What scripts write that texts spell are bytes.
+pub fn spelled_scripts_are_of_bytes()
+    ensures { SpelledScriptsAreOfBytes }
+{}
+
+/// The run of one group that makes a directory and a file is legal, answered and cut; and what might be told
+/// of it in its place is refused.
+pub fn a_small_run()
+    ensures legal { TheSmallRunIsLegal }
+    ensures answered { TheSmallRunIsAnswered }
+    ensures cut { TheSmallRunIsCut }
+    ensures no_line { NoLineIsLeftOut }
+    ensures no_answers { NoAnswerIsLeftOut }
+    ensures once { NoGroupIsAnsweredTwice }
+    ensures no_read { NoCommitIsARead }
+    ensures no_swap { NoRepliesAreSwapped }
+    ensures no_twice { NoNumberComesTwice }
+    ensures no_large { NoSmallGroupIsLarge }
+    ensures no_changes { NoGroupChangesByItself }
+    ensures no_ask { NoChangeIsAsked }
+{}
