@@ -1,5 +1,6 @@
 -- What a call leaves, from what its steps leave: of the group as a whole, and of the session.
 use Rattle.std.proofs.Common.{◌≡◌, ℕ, ◌+◌, ◌-◌, ◌<◌, ◌≤◌, Bool, true, false, List, [], ◌∷◌, length, Option, refl, sym, ap, subst, ◌∙◌, arith, Some}
+use Rattle.std.specs.Prelude.{Result, Ok, Err, IfOk, IfErr}
 use Rattle.mq_blocks.specs.Descriptor.{AreRising}
 use Rattle.mq_blocks.specs.Drive.{PortState}
 use Rattle.mq_blocks.specs.Geometry.{homes_of, write_limit}
@@ -31,6 +32,7 @@ use Rattle.mq_calls.specs.Sessions.{HasCalled, IsReady}
 use Rattle.mq_calls.specs.Sweeping.{HasSwept}
 use Rattle.mq_calls.specs.Synchronizing.{IsDurable, IsNotDurable, WasDrainRefused, after}
 use Rattle.mq_calls.specs.Wanted.{IsSameSession}
+use Rattle.mq_calls.specs.declared.answers.Answer.{Answer}
 use Rattle.mq_calls.specs.declared.answers.CallCause.{CallCause}
 use Rattle.mq_calls.specs.declared.committing.Miss.{Miss}
 use Rattle.mq_calls.specs.declared.committing.Miss.TheVariants as miss
