@@ -256,7 +256,8 @@ module _ (x : DriveImage) (ports : Ports EmuPort) (images : List PortImage) (sea
   left-count : length ports.queues.items ≡ g.queues
   left-count = sym (length-map ports.queues.items emu_state) ∙ are.count
 
-  left-drive : IsDrive y
+  -- an image of a drive, which is one that a cut may leave
+  pub left-drive : IsDrive y
   left-drive =
       let roles = row-images g ports left-count images seats cut (λ role s i. IsPortOf g role s → IsImageOf g role i) (λ role p i s one. one.role g role) in
       record {
@@ -265,7 +266,7 @@ module _ (x : DriveImage) (ports : Ports EmuPort) (images : List PortImage) (sea
         root = roles.1 are.root;
       }
 
-  left-images : AreImages g e (queue_ports y) (root_port y)
+  pub left-images : AreImages g e (queue_ports y) (root_port y)
   left-images =
       let held = row-images g ports left-count images seats cut (λ role s i. IsImage s i) (λ role p i s one. one.image) in
       record {
