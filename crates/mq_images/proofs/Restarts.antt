@@ -1,9 +1,8 @@
 -- The drive that starts from a recovered image.
-use Rattle.std.proofs.Common.{◌≡◌, ◌<◌, ℕ, List, [], length, Option, Some, None, refl, sym, ◌∙◌, ap, subst}
-use Rattle.mq_blocks.specs.Blocks.{block_at}
+use Rattle.std.proofs.Common.{◌≡◌, ◌<◌, ℕ, List, [], length, Option, Some, None, sym, ◌∙◌, ap, subst}
 use Rattle.mq_blocks.specs.Descriptor.{Descriptor}
 use Rattle.mq_blocks.specs.Drive.{FuseName, PortState}
-use Rattle.mq_blocks.specs.Geometry.{homes_of, queues_of}
+use Rattle.mq_blocks.specs.Geometry.{queues_of}
 use Rattle.mq_blocks.specs.Journal.{Shown, stands}
 use Rattle.mq_blocks.specs.declared.geometry.Geometry.{Geometry}
 use Rattle.mq_drive.specs.Emu.{emu_state}
@@ -11,13 +10,12 @@ use Rattle.mq_drive.specs.declared.emu.EmuPort.{EmuPort}
 use Rattle.mq_drive.specs.declared.port.Ports.{Ports}
 use Rattle.mq_image.specs.File.{DriveImage}
 use Rattle.mq_images.specs.Recovering.{EndsAs, IsAllHome, IsRecoveryOf, events_of}
-use Rattle.mq_images.specs.Standing.{AreStanding, IsStandingOf, StandsFor}
+use Rattle.mq_images.specs.Standing.{AreStanding, StandsFor}
 use Rattle.mq_images.specs.Starts.{AreStarted}
 use Rattle.mq_images.specs.Views.{drive_from, view_of}
 use Rattle.mq_images.specs.declared.ports.Failing.{Failing}
 use Rattle.mq_images.specs.declared.recovery.RecoveredImage.{RecoveredImage}
-use Rattle.mq_images.proofs.Standings.{standing-under}
-use Rattle.mq_images.proofs.Starting.{start-queue, start-view, started-view, still-under}
+use Rattle.mq_images.proofs.Starting.{start-queue, started-view, still-under}
 use Rattle.mq_ledger.specs.State.{port_at}
 use Rattle.mq_recover.specs.Drives.{DriveState, IsQuiescentDrive, drive_of, view_over}
 use Rattle.mq_recover.specs.Recovery.{IsRead, IsStartDrive}
