@@ -24,9 +24,9 @@ use Rattle.mq_turns.specs.declared.rule.Reading.{Reading}
 use Rattle.mq_turns.specs.declared.rule.Report.{Report}
 use Rattle.mq_turns.specs.declared.rule.Charge.{Charge}
 use Rattle.mq_turns.specs.declared.rule.Report.TheVariants.{Off, Sent}
-use Rattle.mq_calls.specs.Acts.{Call, Commits, IsCaused, IsKnownFrom, IsOfCall, IsRefused, Rests, WasCutAt, area_full, before, cut, drained, kept, memory}
+use Rattle.mq_calls.specs.Acts.{Call, Commits, IsCaused, IsKnownFrom, IsOfCall, IsTurnedDown, Rests, WasCutAt, before, cut, drained, kept, memory}
 use Rattle.mq_calls.specs.Calling.{IsEntryFor}
-use Rattle.mq_calls.specs.Committing.{HoldsCommit, IsLacking, OnlyReports, ReadsWords, refusal_for, reports_for}
+use Rattle.mq_calls.specs.Committing.{HoldsCommit, IsLacking, IsMissed, OnlyReports, ReadsWords, miss_for, reports_for}
 use Rattle.mq_calls.specs.Drawing.{HasDrawn, IsCommitted}
 use Rattle.mq_calls.specs.declared.answers.CallCause.TheVariants.{Drive}
 use Rattle.mq_calls.specs.declared.committing.Lack.{Lack}
@@ -103,20 +103,23 @@ module _ {P : Type 0} {G : Ghosts P} (state : P → PortState) (faults : P → L
   caused-before old v q c opening seen (kept K s known side is) = kept K s (known-before old v K opening seen known) side is
   caused-before old v q c opening seen (drained K s after known side drains cause) = drained K s after (known-before old v K opening seen known) side drains cause
 
-  pub refused-for : (o : Start P FileEntry G) (g : Geometry) (c : Call) (cells : Cells) (s : QueueSide P FileEntry G) (old taken v new : Seat P FileEntry G) (l : Lack) → v.opening ≡ Some o → HoldsCommit state faults o c.session cells s v → OnlyHolds old taken → ReadsWords taken v → IsLacking state faults o c.session s v l → OnlyReports (reports_for c.session l v.reading.charged) v new → IsRefused state faults g c old new (refusal_for c.session l).cause (refusal_for c.session l).drawn
-  refused-for o g c cells s old taken v new lack.Memory opening side holds words lacks only = memory (record { rests = rests-of old taken v new v.reading.charged holds words only; charged = only.charged ∙ charges-of old taken v holds words })
-  refused-for o g c cells s old taken v new lack.Area opening side holds words lacks only =
+  pub missed-for : (o : Start P FileEntry G) (g : Geometry) (c : Call) (cells : Cells) (s : QueueSide P FileEntry G) (old taken v new : Seat P FileEntry G) (l : Lack) → v.opening ≡ Some o → HoldsCommit state faults o c.session cells s v → OnlyHolds old taken → ReadsWords taken v → IsLacking state faults o c.session s v l → OnlyReports (reports_for c.session l v.reading.charged) v new → IsMissed state faults g c old new (miss_for l)
+  missed-for o g c cells s old taken v new lack.Memory opening side holds words lacks only = memory (record { rests = rests-of old taken v new v.reading.charged holds words only; charged = only.charged ∙ charges-of old taken v holds words })
+  missed-for o g c cells s old taken v new lack.Area opening side holds words lacks only =
       let K = side.seen.0 in
-      area_full (record { rests = rests-of old taken v new v.reading.charged holds words only; charged = only.charged ∙ charges-of old taken v holds words }) (record {
-        known = K;
-        from = known-before old v K (words.opening ∙ holds.opening) (let a = words.seen in let b = holds.seen in omega arith) (record { opening = side.seen.1.opening; seen = side.seen.1.seen });
-        side = s;
-        is = held_is_current state faults file_group s o c.session v K opening side.side side.seen.1;
-        base = lacks.0;
-        plan = lacks.1;
-        lacks = lacks.2;
-      })
-  refused-for o g c cells s old taken v new (lack.Drive cause) opening side holds words lacks only =
+      record {
+        keeps = record { rests = rests-of old taken v new v.reading.charged holds words only; charged = only.charged ∙ charges-of old taken v holds words };
+        lacks = record {
+          known = K;
+          from = known-before old v K (words.opening ∙ holds.opening) (let a = words.seen in let b = holds.seen in omega arith) (record { opening = side.seen.1.opening; seen = side.seen.1.seen });
+          side = s;
+          is = held_is_current state faults file_group s o c.session v K opening side.side side.seen.1;
+          base = lacks.0;
+          plan = lacks.1;
+          lacks = lacks.2;
+        };
+      }
+  missed-for o g c cells s old taken v new (lack.Drive cause) opening side holds words lacks only =
       before (record {
         rests = rests-of old taken v new (reported c.session (report_of cause) ∷ v.reading.charged) holds words only;
         charged = only.charged ∙ ap (λ l. reported c.session (report_of cause) ∷ l) (charges-of old taken v holds words);
@@ -124,7 +127,7 @@ module _ {P : Type 0} {G : Ghosts P} (state : P → PortState) (faults : P → L
       })
 
   -- a group whose send was cut
-  pub cut-of : (g : Geometry) (c : Call) (done : Done) (e : FileEntry) (at : ℕ) (old taken v new : Seat P FileEntry G) → OnlyHolds old taken → ReadsWords taken v → v.reading.answers ≡ Base e.reads.base ∷ Front e.reads.front ∷ taken.reading.answers → IsEntryFor c done e → length done.writes.items ≤ write_limit g → HasDrawn e c.session at Off v new → WasCutAt state faults v at → IsRefused state faults g c old new (Drive cause.Off) (Some at)
+  pub cut-of : (g : Geometry) (c : Call) (done : Done) (e : FileEntry) (at : ℕ) (old taken v new : Seat P FileEntry G) → OnlyHolds old taken → ReadsWords taken v → v.reading.answers ≡ Base e.reads.base ∷ Front e.reads.front ∷ taken.reading.answers → IsEntryFor c done e → length done.writes.items ≤ write_limit g → HasDrawn e c.session at Off v new → WasCutAt state faults v at → IsTurnedDown state faults g c old new (Drive cause.Off) (Some at)
   cut-of g c done e at old taken v new holds words answers is few drew was = cut (record {
     replies = done.replies.items;
     commits = commits-of g c done e at Off old taken v new holds words answers is few drew;

@@ -1,5 +1,6 @@
 -- A session between two calls.
-use Rattle.std.proofs.Common.{◌≡◌, ℕ, ◌+◌, ◌<◌, ◌≤◌, List, [], ◌∷◌, length, refl, sym, ap, subst, ◌∙◌, arith}
+use Rattle.std.proofs.Common.{◌≡◌, ℕ, ◌+◌, ◌<◌, ◌≤◌, List, [], ◌∷◌, length, refl, sym, ap, subst, ◌∙◌, inl, inr, arith}
+use Rattle.std.proofs.lemmas.Bool.{cases_lt}
 use Rattle.mq_blocks.specs.Geometry.{homes_of}
 use Rattle.mq_blocks.specs.declared.geometry.Geometry.{Geometry}
 use Rattle.mq_drive.specs.declared.port.Port.{Ghosts}
@@ -50,6 +51,24 @@ module _ {P : Type 0} {G : Ghosts P} where
     none = none;
     room = subst (λ (k : ℕ). homes_of g ≤ k) (sym room) ready.room;
   }
+
+  -- a call that was counted, and that took no step
+  pub ready-more : (g : Geometry) (q n : ℕ) (cells : HeldCells) (v : Seat P FileEntry G) → IsReady g q n cells v → IsReady g q (n + 1) cells v
+  ready-more g q n cells v ready = record {
+    queue = ready.queue;
+    own = ready.own;
+    idle = ready.idle;
+    called = called-more n v ready.called;
+    none = ready.none;
+    room = ready.room;
+  }
+
+  -- where it is counted as long as fewer than the limit were made
+  pub ready-counted : (g : Geometry) (q n m limit : ℕ) (cells : HeldCells) (v : Seat P FileEntry G) → (n < limit → m ≡ n + 1) → (limit ≤ n → m ≡ n) → IsReady g q n cells v → IsReady g q m cells v
+  ready-counted g q n m limit cells v one same ready = elim (cases_lt n limit) [
+    | inl low ↦ subst (λ (k : ℕ). IsReady g q k cells v) (sym (one low)) (ready-more g q n cells v ready)
+    | inr high ↦ subst (λ (k : ℕ). IsReady g q k cells v) (sym (same high)) ready
+  ]
 
   -- a call that read its group
   pub ready-read : (g : Geometry) (c : Call) (done : Done) (at : ℕ) (old new : HeldCells) (v m w : Seat P FileEntry G) → IsReady g c.session c.count old v → IsSameSession v m → IsReadOf c done at m w → new.cells ≡ [] → new.room ≡ old.room → IsReady g c.session (c.count + 1) new w

@@ -23,8 +23,9 @@ use Rattle.mq_turns.specs.Lists.{Each}
 use Rattle.mq_turns.specs.declared.rule.Answer.TheVariants.{Base, Front}
 use Rattle.mq_turns.specs.declared.rule.Report.{Report}
 use Rattle.mq_turns.specs.declared.rule.Report.TheVariants as report
-use Rattle.mq_calls.specs.Acts.{Acts, Call, Commits, IsRefused, IsTooLarge, KeepsAll, Reads, Rests, area_full, before, cut, memory, too_large}
+use Rattle.mq_calls.specs.Acts.{Acts, Call, Commits, HasActed, IsAreaFull, IsTooLarge, IsTurnedDown, KeepsAll, Reads, Rests, before, cut, memory, too_large}
 use Rattle.mq_calls.specs.Calling.{HasLeft, IsReadOf}
+use Rattle.mq_calls.specs.Committing.{IsMissed}
 use Rattle.mq_calls.specs.Pages.{HoldsPages, IsSeen}
 use Rattle.mq_calls.specs.Runs.{IsDoneOnCells, file_values, files, geometry_at}
 use Rattle.mq_calls.specs.Sessions.{HasCalled, IsReady}
@@ -33,7 +34,8 @@ use Rattle.mq_calls.specs.Synchronizing.{IsDurable, IsNotDurable, WasDrainRefuse
 use Rattle.mq_calls.specs.Wanted.{IsSameSession}
 use Rattle.mq_calls.specs.declared.answers.Answer.{Answer}
 use Rattle.mq_calls.specs.declared.answers.CallCause.{CallCause}
-use Rattle.mq_calls.specs.declared.answers.Refusal.{Refusal}
+use Rattle.mq_calls.specs.declared.committing.Miss.{Miss}
+use Rattle.mq_calls.specs.declared.committing.Miss.TheVariants as miss
 use Rattle.mq_calls.proofs.Acting.{caused-before, known-before}
 use Rattle.mq_calls.proofs.Between.{called-more}
 use Rattle.mq_calls.proofs.Finding.{done-now, shape-is}
@@ -165,7 +167,7 @@ module _ {P : Type 0} {G : Ghosts P} where
         few = (let l = more.few in let s = ap length drawn in omega arith);
       }
 
-  called-rests : (n : ℕ) (v w : Seat P FileEntry G) → Rests v w → HasCalled n v → HasCalled (n + 1) w
+  pub called-rests : (n : ℕ) (v w : Seat P FileEntry G) → Rests v w → HasCalled n v → HasCalled (n + 1) w
   called-rests n v w r h =
       let more = called-more n v h in
       record {
@@ -178,60 +180,76 @@ module _ {P : Type 0} {G : Ghosts P} where
   called-acts g c at true replies v w a h = called-drawn c.count at a.entry v w a.is.call a.drawn a.read h
   called-acts g c at false replies v w a h = called-read c.count a.entry a.reads.known v w a.reads.is.call a.reads.drawn a.reads.read h
 
-  -- it holds nothing, and its next call has one more before it
-  pub ready-left : (g : Geometry) (q n : ℕ) (old mid cells : HeldCells) (first v w : Seat P FileEntry G) → IsReady g q n old first → IsSameSession first v → HasLeft mid cells v w → mid.room ≡ old.room → HasCalled (n + 1) w → IsReady g q (n + 1) cells w
-  ready-left g q n old mid cells first v w ready same left room called = record {
+  -- it holds nothing after its pages were taken and given back
+  pub left-along : (old mid new : HeldCells) (v m w : Seat P FileEntry G) → IsSameSession v m → HasLeft mid new m w → mid.room ≡ old.room → HasLeft old new v w
+  left-along old mid new v m w same left room = record {
+    parts = left.parts ∙ ap (λ (x : Seat P FileEntry G). x.parts) same.is;
+    opening = left.opening ∙ ap (λ (x : Seat P FileEntry G). x.opening) same.is;
+    session = left.session ∙ ap (λ (x : Seat P FileEntry G). x.session) same.is;
+    held = left.held;
+    none = left.none;
+    room = left.room ∙ room;
+  }
+
+  pub left-same : (old new : HeldCells) (v w : Seat P FileEntry G) → IsSameSession v w → w.held ≡ [] → new.cells ≡ [] → new.room ≡ old.room → HasLeft old new v w
+  left-same old new v w same held none room = record {
+    parts = ap (λ (x : Seat P FileEntry G). x.parts) same.is;
+    opening = ap (λ (x : Seat P FileEntry G). x.opening) same.is;
+    session = ap (λ (x : Seat P FileEntry G). x.session) same.is;
+    held = held;
+    none = none;
+    room = room;
+  }
+
+  -- it is ready once it has left
+  pub ready-left : (g : Geometry) (q n k : ℕ) (old new : HeldCells) (v w : Seat P FileEntry G) → IsReady g q n old v → HasLeft old new v w → HasCalled k w → IsReady g q k new w
+  ready-left g q n k old new v w ready left called = record {
     queue = ready.queue;
-    own = left.session ∙ ap (λ (x : Seat P FileEntry G). x.session) same.is ∙ ready.own;
+    own = left.session ∙ ready.own;
     idle = left.held;
     called = called;
     none = left.none;
-    room = subst (λ (k : ℕ). homes_of g ≤ k) (sym (left.room ∙ room)) ready.room;
+    room = subst (λ (x : ℕ). homes_of g ≤ x) (sym left.room) ready.room;
   }
 
 module _ {P : Type 0} {G : Ghosts P} (state : P → PortState) (faults : P → List Fault) where
-  pub refused-same : (g : Geometry) (c : Call) (v m w : Seat P FileEntry G) (why : CallCause) (drawn : Option ℕ) → IsSameSession v m → IsRefused state faults g c m w why drawn → IsRefused state faults g c v w why drawn
-  refused-same g c v m w why drawn same (memory k) = memory (keeps-same v m w same k)
-  refused-same g c v m w why drawn same (too_large {count} {limit} k) = too_large (large-same g c count limit v m w same k)
-  refused-same g c v m w why drawn same (area_full k l) = area_full (keeps-same v m w same k) (record {
-    known = l.known;
-    from = known-before state faults v m l.known (ap (λ (x : Seat P FileEntry G). x.opening) same.is) same.seen l.from;
-    side = l.side;
-    is = l.is;
-    base = l.base;
-    plan = l.plan;
-    lacks = l.lacks;
-  })
-  refused-same g c v m w why drawn same (before {why = x} k) = before (record {
+  full-same : (c : Call) (v m w : Seat P FileEntry G) → IsSameSession v m → IsAreaFull state faults c m w → IsAreaFull state faults c v w
+  full-same c v m w same k = record {
+    keeps = keeps-same v m w same k.keeps;
+    lacks = record {
+      known = k.lacks.known;
+      from = known-before state faults v m k.lacks.known (ap (λ (x : Seat P FileEntry G). x.opening) same.is) same.seen k.lacks.from;
+      side = k.lacks.side;
+      is = k.lacks.is;
+      base = k.lacks.base;
+      plan = k.lacks.plan;
+      lacks = k.lacks.lacks;
+    };
+  }
+
+  turned-same : (g : Geometry) (c : Call) (v m w : Seat P FileEntry G) (why : CallCause) (drawn : Option ℕ) → IsSameSession v m → IsTurnedDown state faults g c m w why drawn → IsTurnedDown state faults g c v w why drawn
+  turned-same g c v m w why drawn same (memory k) = memory (keeps-same v m w same k)
+  turned-same g c v m w why drawn same (too_large {count} {limit} k) = too_large (large-same g c count limit v m w same k)
+  turned-same g c v m w why drawn same (before {why = x} k) = before (record {
     rests = rests-same v m w same k.rests;
     charged = k.charged ∙ ap (λ (z : Seat P FileEntry G). reported c.session (report_of x) ∷ z.reading.charged) same.is;
     caused = caused-before state faults v m c.session x (ap (λ (x : Seat P FileEntry G). x.opening) same.is) same.seen k.caused;
   })
-  refused-same g c v m w why drawn same (cut {at} k) = cut (record {
+  turned-same g c v m w why drawn same (cut {at} k) = cut (record {
     replies = k.replies;
     commits = commits-same g c k.replies at report.Off v m w same k.commits;
     cut = record { above = (let a = k.cut.above in let b = same.seen in omega arith); side = k.cut.side; numbered = k.cut.numbered; number = k.cut.number; cut = k.cut.cut };
   })
 
-  pub called-refused : (g : Geometry) (c : Call) (v w : Seat P FileEntry G) (why : CallCause) (drawn : Option ℕ) → IsRefused state faults g c v w why drawn → HasCalled c.count v → HasCalled (c.count + 1) w
-  called-refused g c v w why drawn (memory k) h = called-rests c.count v w k.rests h
-  called-refused g c v w why drawn (too_large k) h = called-read c.count k.entry k.reads.known v w k.reads.is.call k.reads.drawn k.reads.read h
-  called-refused g c v w why drawn (area_full k l) h = called-rests c.count v w k.rests h
-  called-refused g c v w why drawn (before k) h = called-rests c.count v w k.rests h
-  called-refused g c v w why drawn (cut {at} k) h = called-drawn c.count at k.commits.entry v w k.commits.is.call k.commits.drawn k.commits.read h
+  pub missed-same : (g : Geometry) (c : Call) (v m w : Seat P FileEntry G) (x : Miss) → IsSameSession v m → IsMissed state faults g c m w x → IsMissed state faults g c v w x
+  missed-same g c v m w miss.AreaFull same k = full-same c v m w same k
+  missed-same g c v m w (miss.Refused r) same k = turned-same g c v m w r.cause r.drawn same k
 
-  -- whatever it came to
-  pub called-either : (g : Geometry) (c : Call) (v w : Seat P FileEntry G) (r : Result Answer Refusal) → IfOk r (λ a. Acts g c a.at a.drew a.replies.items v w) → IfErr r (λ e. IsRefused state faults g c v w e.cause e.drawn) → HasCalled c.count v → HasCalled (c.count + 1) w
-  called-either g c v w (Ok a) acts refused h = called-acts g c a.at a.drew a.replies.items v w acts h
-  called-either g c v w (Err e) acts refused h = called-refused g c v w e.cause e.drawn refused h
-
-  pub either-acts : (g : Geometry) (c : Call) (v m w : Seat P FileEntry G) (r : Result Answer Refusal) → IsSameSession v m → IfOk r (λ a. Acts g c a.at a.drew a.replies.items m w) → IfOk r (λ a. Acts g c a.at a.drew a.replies.items v w)
-  either-acts g c v m w (Ok a) same acts = acts-same g c a.at a.drew a.replies.items v m w same acts
-  either-acts g c v m w (Err e) same acts = tt
-
-  pub either-refused : (g : Geometry) (c : Call) (v m w : Seat P FileEntry G) (r : Result Answer Refusal) → IsSameSession v m → IfErr r (λ e. IsRefused state faults g c m w e.cause e.drawn) → IfErr r (λ e. IsRefused state faults g c v w e.cause e.drawn)
-  either-refused g c v m w (Ok a) same refused = tt
-  either-refused g c v m w (Err e) same refused = refused-same g c v m w e.cause e.drawn same refused
+  pub called-turned : (g : Geometry) (c : Call) (v w : Seat P FileEntry G) (why : CallCause) (drawn : Option ℕ) → IsTurnedDown state faults g c v w why drawn → HasCalled c.count v → HasCalled (c.count + 1) w
+  called-turned g c v w why drawn (memory k) h = called-rests c.count v w k.rests h
+  called-turned g c v w why drawn (too_large k) h = called-read c.count k.entry k.reads.known v w k.reads.is.call k.reads.drawn k.reads.read h
+  called-turned g c v w why drawn (before k) h = called-rests c.count v w k.rests h
+  called-turned g c v w why drawn (cut {at} k) h = called-drawn c.count at k.commits.entry v w k.commits.is.call k.commits.drawn k.commits.read h
 
   -- ---- queues were drained after it
 
@@ -262,16 +280,19 @@ module _ {P : Type 0} {G : Ghosts P} (state : P → PortState) (faults : P → L
     frees = a.frees;
   }
 
-  pub durable-of : (g : Geometry) (c : Call) (at : ℕ) (drew : Bool) (replies : List Reply) (v m w : Seat P FileEntry G) → Acts g c at drew replies v m → HasSwept state faults file_group m w → at ≤ w.reading.done → IsDurable g c at drew replies v w
-  durable-of g c at drew replies v m w a s done = record { acts = acts-swept g c at drew replies v m w s a; done = done }
+  acted-swept : (g : Geometry) (c : Call) (at : ℕ) (drew : Bool) (replies : List Reply) (v m w : Seat P FileEntry G) → HasSwept state faults file_group m w → HasActed state faults g c at drew replies v m → HasActed state faults g c at drew replies v w
+  acted-swept g c at drew replies v m w s a = record { from = a.from; begins = a.begins; acts = acts-swept g c at drew replies a.from m w s a.acts }
 
-  pub not-durable : (g : Geometry) (c : Call) (at : ℕ) (drew : Bool) (replies : List Reply) (v m w : Seat P FileEntry G) (why : CallCause) (drawn : Option ℕ) → Acts g c at drew replies v m → WasDrainRefused state faults g at drew m w why drawn → IsNotDurable state faults g c v w why drawn
+  pub durable-of : (g : Geometry) (c : Call) (at : ℕ) (drew : Bool) (replies : List Reply) (v m w : Seat P FileEntry G) → HasActed state faults g c at drew replies v m → HasSwept state faults file_group m w → at ≤ w.reading.done → IsDurable state faults g c at drew replies v w
+  durable-of g c at drew replies v m w a s done = record { acted = acted-swept g c at drew replies v m w s a; done = done }
+
+  pub not-durable : (g : Geometry) (c : Call) (at : ℕ) (drew : Bool) (replies : List Reply) (v m w : Seat P FileEntry G) (why : CallCause) (drawn : Option ℕ) → HasActed state faults g c at drew replies v m → WasDrainRefused state faults g at drew m w why drawn → IsNotDurable state faults g c v w why drawn
   not-durable g c at drew replies v m w why drawn a r = subst (λ (x : CallCause). IsNotDurable state faults g c v w x drawn) (sym r.cause_is) (after (record {
     at = at;
     drew = drew;
     replies = replies;
     between = m;
-    acts = a;
+    acted = a;
     refused = r.refused;
     upto = r.upto;
     drawn_is = r.drawn_is;

@@ -104,6 +104,7 @@ module _ {P : Type 0} {G : Ghosts P} (state : P → PortState) (faults : P → L
         drawn = ap (λ (x : Seat P FileEntry G). x.drawn) is;
         read = ap (λ (x : Seat P FileEntry G). x.read) is;
         seen = (let e : w.seen ≡ s.counter = ap (λ (x : Seat P FileEntry G). x.seen) is in let b = s.below.0 in omega arith);
+        done = (let e : w.reading.done ≡ s.reading.done = ap (λ (x : Seat P FileEntry G). x.reading.done) is in let k = s.kept.0 in omega arith);
         charged = ap (λ (x : Seat P FileEntry G). x.reading.charged) is ∙ s.kept.4;
       }
 
@@ -131,6 +132,7 @@ module _ {P : Type 0} {G : Ghosts P} (state : P → PortState) (faults : P → L
     drawn = y.drawn ∙ x.drawn;
     read = y.read ∙ x.read;
     seen = (let l = x.seen in let m = y.seen in omega arith);
+    done = (let l = x.done in let m = y.done in omega arith);
     charged = y.charged ∙ x.charged;
   }
 
@@ -143,6 +145,7 @@ module _ {P : Type 0} {G : Ghosts P} (state : P → PortState) (faults : P → L
     drawn = ap (λ (x : Seat P FileEntry G). x.drawn) is;
     read = ap (λ (x : Seat P FileEntry G). x.read) is;
     seen = (let e : w.seen ≡ v.seen = ap (λ (x : Seat P FileEntry G). x.seen) is in omega arith);
+    done = (let e : w.reading.done ≡ v.reading.done = ap (λ (x : Seat P FileEntry G). x.reading.done) is in omega arith);
     charged = ap (λ (x : Seat P FileEntry G). x.reading.charged) is;
   }
 

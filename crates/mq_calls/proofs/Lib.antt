@@ -22,3 +22,5 @@ pub mod OpeningState
 pub mod OpeningFresh
 pub mod Composing
 pub mod StartReads
+pub mod GoingOn
+pub mod MakingRoom

@@ -21,6 +21,7 @@ use Rattle.mq_turns.specs.Desk.{refreshed, slot_of, turn_at}
 use Rattle.mq_turns.specs.Lists.{Each, tick, times, without}
 use Rattle.mq_turns.specs.Meaning.{Meaning, charged, drawn}
 use Rattle.mq_turns.specs.Words.{after_notice, same_turn}
+use Rattle.mq_turns.specs.declared.rule.Charge.{Charge}
 use Rattle.mq_turns.specs.declared.rule.Notice.TheVariants as notice
 use Rattle.mq_turns.specs.declared.rule.Report.{Report}
 use Rattle.mq_turns.specs.declared.turn.Turn.TheVariants.{Page, Side}
@@ -85,6 +86,7 @@ module _ {P : Type 0} {G : Ghosts P} (state : P → PortState) (faults : P → L
         read = ap (λ (z : Seat P FileEntry G). z.read) is ∙ d.rest.read;
         above = (let l = d.sees.seen in let m = d.number in omega arith);
         seen = ap (λ (z : Seat P FileEntry G). z.seen) is ∙ d.seen ∙ number;
+        done = (let l : y.reading.done ≡ w.reading.done = ap (λ (z : Seat P FileEntry G). z.reading.done) is in let m = d.rest.reading.done in omega arith);
         answers = ap (λ (z : Seat P FileEntry G). z.reading.answers) is ∙ d.rest.reading.answers;
         charged = ap (λ (z : Seat P FileEntry G). z.reading.charged) is ∙ ap (λ l. reported q r ∷ l) d.rest.reading.charged;
       }
@@ -130,22 +132,15 @@ module _ {P : Type 0} {G : Ghosts P} (state : P → PortState) (faults : P → L
     only = λ k. ap (λ (z : Seat P FileEntry G). times k z.held) is ∙ side-given o q cells v h.only (cells-below μ o cells v h.pages) k;
   }
 
-  pub only-reported : (o : Start P FileEntry G) (q : ℕ) (r : Report) (v w : Seat P FileEntry G) → IsReported state faults file_group o q r v w → OnlyReports (reported q r ∷ v.reading.charged) v w
-  only-reported o q r v w told = record {
-    parts = ap (λ (z : Seat P FileEntry G). z.parts) told.is;
-    opening = ap (λ (z : Seat P FileEntry G). z.opening) told.is;
-    session = ap (λ (z : Seat P FileEntry G). z.session) told.is;
-    drawn = ap (λ (z : Seat P FileEntry G). z.drawn) told.is;
-    read = ap (λ (z : Seat P FileEntry G). z.read) told.is;
-    charged = ap (λ (z : Seat P FileEntry G). z.reading.charged) told.is;
-  }
-
-  pub only-given : (k : ℕ) (v w : Seat P FileEntry G) → w ≡ giving k v → OnlyReports v.reading.charged v w
-  only-given k v w is = record {
-    parts = ap (λ (z : Seat P FileEntry G). z.parts) is;
-    opening = ap (λ (z : Seat P FileEntry G). z.opening) is;
-    session = ap (λ (z : Seat P FileEntry G). z.session) is;
-    drawn = ap (λ (z : Seat P FileEntry G). z.drawn) is;
-    read = ap (λ (z : Seat P FileEntry G). z.read) is;
-    charged = ap (λ (z : Seat P FileEntry G). z.reading.charged) is;
-  }
+  -- what was reported stays so where pages are given back then
+  pub reports-left : (blocks : List ℕ) (reports : List Charge) (v w x : Seat P FileEntry G) → OnlyReports reports v w → x ≡ giving_pages blocks w → OnlyReports reports v x
+  reports-left blocks reports v w x only is = subst (λ (z : Seat P FileEntry G). OnlyReports reports v z) (sym is) (record {
+    parts = only.parts;
+    opening = only.opening;
+    session = only.session;
+    drawn = only.drawn;
+    read = only.read;
+    seen = only.seen;
+    done = only.done;
+    charged = only.charged;
+  })

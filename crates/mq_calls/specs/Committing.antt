@@ -29,14 +29,15 @@ use Rattle.mq_turns.specs.Lists.{tick, times}
 use Rattle.mq_turns.specs.declared.rule.Answer.TheVariants.{Base, Front}
 use Rattle.mq_turns.specs.declared.rule.Charge.{Charge}
 use Rattle.mq_turns.specs.declared.turn.Turn.TheVariants.{Side}
-use Rattle.mq_calls.specs.Acts.{Call, IsCaused}
+use Rattle.mq_calls.specs.Acts.{Call, IsAreaFull, IsCaused, IsTurnedDown}
 use Rattle.mq_calls.specs.Calling.{IsEntryFor}
 use Rattle.mq_calls.specs.Pages.{HoldsPages, IsSeen}
 use Rattle.mq_calls.specs.Runs.{files}
-use Rattle.mq_calls.specs.declared.answers.CallCause.TheVariants.{AreaFull, Drive, OutOfMemory}
-use Rattle.mq_calls.specs.declared.answers.Refusal.{Refusal}
+use Rattle.mq_calls.specs.declared.answers.CallCause.TheVariants.{Drive, OutOfMemory}
 use Rattle.mq_calls.specs.declared.committing.Lack.{Lack}
 use Rattle.mq_calls.specs.declared.committing.Lack.TheVariants as lack
+use Rattle.mq_calls.specs.declared.committing.Miss.{Miss}
+use Rattle.mq_calls.specs.declared.committing.Miss.TheVariants as miss
 use Rattle.mq_calls.specs.declared.committing.Ready.{Ready}
 
 -- the blocks that a group writes are placed by what was read, on the pages in these cells
@@ -53,6 +54,7 @@ module _ {P : Type 0} {G : Ghosts P} where
     pub drawn : new.drawn ≡ old.drawn
     pub read : new.read ≡ old.read
     pub seen : old.seen ≤ new.seen
+    pub done : old.reading.done ≤ new.reading.done
     pub charged : new.reading.charged ≡ old.reading.charged
 
   -- It has read a front and a base, in this order, and both hold from then on.
@@ -62,13 +64,16 @@ module _ {P : Type 0} {G : Ghosts P} where
     pub front : reads.front ≤ new.reading.done
     pub base : reads.base ≤ new.reading.base
 
-  -- Of all but its turns and what it knows of words, this alone has changed: what it reported.
+  -- Of all but its turns and what it knows of words, this alone has changed: what it reported. What it knows of numbers
+  -- has not fallen.
   pub record OnlyReports (reports : List Charge) (old new : Seat P FileEntry G) : Type 0 where
     pub parts : new.parts ≡ old.parts
     pub opening : new.opening ≡ old.opening
     pub session : new.session ≡ old.session
     pub drawn : new.drawn ≡ old.drawn
     pub read : new.read ≡ old.read
+    pub seen : old.seen ≤ new.seen
+    pub done : old.reading.done ≤ new.reading.done
     pub charged : new.reading.charged ≡ reports
 
 module _ {P : Type 0} {G : Ghosts P} (state : P → PortState) (faults : P → List Fault) where
@@ -100,11 +105,17 @@ module _ {P : Type 0} {G : Ghosts P} (state : P → PortState) (faults : P → L
       (base : ℕ) × (plan : Placed) × FitIs (area_of s.pmr.geometry) base (rows_of s.stored.items) (state s.pmr.port) plan Area
   IsLacking o q s v (lack.Drive cause) = ShowsReport state faults file_group q (report_of cause) s v × IsCaused state faults v q cause
 
+  -- Why a group that was run on its pages was not done, and what that leaves: its plan did not fit the journal area, or it
+  -- was turned down.
+  abbrev pub IsMissed : Geometry → Call → Seat P FileEntry G → Seat P FileEntry G → Miss → Type 0
+  IsMissed g c old new miss.AreaFull = IsAreaFull state faults c old new
+  IsMissed g c old new (miss.Refused r) = IsTurnedDown state faults g c old new r.cause r.drawn
+
 -- what is answered where a group is not drawn for this
-abbrev pub refusal_for : ℕ → Lack → Refusal
-refusal_for q lack.Memory = record { cause = OutOfMemory; drawn = None }
-refusal_for q lack.Area = record { cause = AreaFull q; drawn = None }
-refusal_for q (lack.Drive cause) = record { cause = Drive cause; drawn = None }
+abbrev pub miss_for : Lack → Miss
+miss_for lack.Memory = miss.Refused (record { cause = OutOfMemory; drawn = None })
+miss_for lack.Area = miss.AreaFull
+miss_for (lack.Drive cause) = miss.Refused (record { cause = Drive cause; drawn = None })
 
 -- what is reported where a group is not drawn for this
 abbrev pub reports_for : ℕ → Lack → List Charge → List Charge

@@ -1,5 +1,5 @@
 -- A group that was prepared is drawn and sent.
-use Rattle.std.specs.Prelude.{◌≡◌, ◌<◌, ℕ, List, [], ◌∷◌}
+use Rattle.std.specs.Prelude.{◌≡◌, ◌<◌, ◌≤◌, ℕ, List, [], ◌∷◌}
 use Rattle.mq_blocks.specs.declared.geometry.Geometry.{Geometry}
 use Rattle.mq_drive.specs.declared.port.Port.{Ghosts}
 use Rattle.mq_files.specs.declared.entry.FileEntry.{FileEntry}
@@ -17,7 +17,7 @@ module _ {P : Type 0} {G : Ghosts P} where
     pub session : new.session ≡ old.session
 
   -- It has drawn the entry at the number, above all that it had seen, and reported this of the queue's port. It holds no
-  -- turn any more.
+  -- turn any more, and may know of more that is done.
   pub record HasDrawn (e : FileEntry) (q at : ℕ) (r : Report) (old new : Seat P FileEntry G) : Type 0 where
     pub seat : SameSeat old new
     pub held : new.held ≡ []
@@ -25,6 +25,7 @@ module _ {P : Type 0} {G : Ghosts P} where
     pub read : new.read ≡ old.read
     pub above : old.seen < at
     pub seen : new.seen ≡ at
+    pub done : old.reading.done ≤ new.reading.done
     pub answers : new.reading.answers ≡ old.reading.answers
     pub charged : new.reading.charged ≡ reported q r ∷ old.reading.charged
 

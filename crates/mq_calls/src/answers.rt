@@ -1,5 +1,5 @@
 // What the calls of a session answer.
-use mq_blocks::{QueueNo, TxNo};
+use mq_blocks::TxNo;
 use mq_side::Cause;
 use mq_tree::Reply;
 
@@ -30,8 +30,6 @@ pub enum CallCause {
     TooLarge { count: u32, limit: u32 },
     /// A request of a group that only reads would change something: the first that does, counted from 0.
     Changes { index: u32 },
-    /// The journal area of the queue has no room for the group until a checkpoint.
-    AreaFull { queue: QueueNo },
     /// A port refused.
     Drive(Cause),
 }

@@ -1,9 +1,9 @@
 // The call of a session that only reads.
-ghost use Rattle.std.specs.Prelude.{◌≡◌, ◌<◌, ◌^◌, ◌↔◌, ℕ, false, IfErr, IfNone, IfOk, IfSome, OnErr, length};
+ghost use Rattle.std.specs.Prelude.{◌≡◌, ◌<◌, ◌≤◌, ◌+◌, ◌^◌, ◌↔◌, ℕ, false, IfErr, IfNone, IfOk, IfSome, OnErr, length};
 ghost use Rattle.std.specs.List.{All};
 ghost use Rattle.mq_tree.specs.Requests.{is_change};
 ghost use Rattle.mq_turns.specs.AtDesk.{AtDesk, view};
-ghost use Rattle.mq_calls.specs.Acts.{KeepsAll, ReadsOnly};
+ghost use Rattle.mq_calls.specs.Acts.{GoesOn, KeepsAll, ReadsOnly};
 ghost use Rattle.mq_calls.specs.Asking.{IsFirstChange, IsNotAnswered, refusal_at};
 ghost use Rattle.mq_calls.specs.Sessions.{IsReady};
 
@@ -28,6 +28,14 @@ fn first_change(requests: &[Request]) -> Option<u32>
     Some(index as u32)
 }
 
+// The count of calls after one more, which is not counted above the limit.
+fn counted(calls: u64) -> u64
+    ensures one { calls < CALL_LIMIT → result ≡ calls + 1 }
+    ensures limit { CALL_LIMIT ≤ calls → result ≡ calls }
+{
+    if calls < CALL_LIMIT { calls + 1 } else { calls }
+}
+
 impl<P: Port + Drop> Mqfs<P> {
     // Asks a group of requests of which none may change the tree, as the next call of the session.
     fn read<R: Wait>(
@@ -49,6 +57,8 @@ impl<P: Port + Drop> Mqfs<P> {
         ensures answered { IfOk result (λ a. (a.drew ≡ false) × ReadsOnly
             (record { session = session.old.queue; count = session.old.calls; durable = false; requests = requests.now })
             a.replies.items a.at (view session.old.chair) (view session.new.chair)) }
+        ensures calls { session.new.calls ≡ session.old.calls + 1 }
+        ensures goes { GoesOn (view session.old.chair) (view session.new.chair) }
         ensures refused { OnErr result (KeepsAll (view session.old.chair) (view session.new.chair)) }
     {
         let asked = Asked {
@@ -89,7 +99,7 @@ impl<P: Port + Drop> Mqfs<P> {
     /// Asks a group of requests of which none may change the tree. It is read at the newest number that the
     /// session finds: the replies are those of the volume that all groups drawn up to there have left, also of
     /// groups that a power cut may still undo. Where a request may change the tree, it answers so at once, and
-    /// the session is as it was.
+    /// the session is as it was, but that it has made one call more.
     pub fn ask<R: Wait>(
         &self,
         rt: &R,
@@ -111,9 +121,14 @@ impl<P: Port + Drop> Mqfs<P> {
         ensures refused { IfErr result (λ r. IsNotAnswered requests.now
             (view session.old.chair) (view session.new.chair) r.cause r.drawn) }
         ensures changes { (i : ℕ) → IsFirstChange requests.now i ↔ (result ≡ Err (refusal_at i)) }
-        ensures kept { (i : ℕ) → IsFirstChange requests.now i → session.new ≡ session.old }
+        ensures kept { (i : ℕ) → IsFirstChange requests.now i
+            → session.new ≡ record session.old { calls = session.new.calls } }
+        ensures goes { GoesOn (view session.old.chair) (view session.new.chair) }
+        ensures calls { session.old.calls < CALL_LIMIT → session.new.calls ≡ session.old.calls + 1 }
+        ensures limit { CALL_LIMIT ≤ session.old.calls → session.new ≡ session.old }
     {
         if let Some(index) = first_change(requests) {
+            session.calls = counted(session.calls);
             return Err(Refusal {
                 cause: CallCause::Changes { index },
                 drawn: None,

@@ -1,25 +1,21 @@
 // The calls of a session that change the file system.
-ghost use Rattle.std.specs.Prelude.{◌≡◌, ◌<◌, ◌≤◌, IfErr, IfOk, OnOk, [], None, true, false};
-ghost use Rattle.mq_files.specs.Entries.{IsUndrawn};
+ghost use Rattle.std.specs.Prelude.{◌≡◌, ◌+◌, ◌<◌, ◌≤◌, IfErr, IfOk, OnOk, [], None, true, false};
 ghost use Rattle.mq_files.specs.Group.{file_group};
-ghost use Rattle.mq_turns.specs.AtDesk.{AtDesk, start_of, view};
-ghost use Rattle.mq_calls.specs.Acts.{Acts, IsRefused};
-ghost use Rattle.mq_calls.specs.Calling.{HasLeft, IsHolding, IsReadOf, call_by, call_of};
+ghost use Rattle.mq_turns.specs.AtDesk.{AtDesk, view};
+ghost use Rattle.mq_calls.specs.Acts.{GoesOn, HasActed, IsAreaFull, IsRefused, cause_of};
+ghost use Rattle.mq_calls.specs.Calling.{call_by, call_of};
 ghost use Rattle.mq_calls.specs.Sessions.{IsReady};
 ghost use Rattle.mq_calls.specs.Sweeping.{HasSwept};
 ghost use Rattle.mq_calls.specs.Synchronizing.{IsDurable, IsNotDurable, WasDrainRefused};
 
 use crate::answers::{Answer, CallCause, Refusal};
 use crate::asked::Asked;
-use crate::drawing::commit;
+use crate::committing::Miss;
 use crate::gate::{Gate, Point};
-use crate::reading::read_group;
-use crate::rounds::run_held;
 use crate::session::{CALL_LIMIT, Mqfs, Session};
 use crate::sweeping::drain_all;
-use mq_blocks::TxNo;
+use mq_checkpoint::CheckpointRefusal;
 use mq_drive::Port;
-use mq_exec::Done;
 use mq_tree::Request;
 use std::alloc::Global;
 use std::sync::Wait;
@@ -31,6 +27,16 @@ fn refused(cause: CallCause) -> Refusal
     Refusal { cause, drawn: None }
 }
 
+// What a call answers where its checkpoint was refused.
+fn no_room(why: CheckpointRefusal) -> Refusal
+    ensures { result ≡ record { cause = cause_of why; drawn = None } }
+{
+    match why {
+        CheckpointRefusal::OutOfMemory => refused(CallCause::OutOfMemory),
+        CheckpointRefusal::Drive(cause) => refused(CallCause::Drive(cause)),
+    }
+}
+
 // Passes the gate, where a commit was rung.
 fn pass_rung<G: Gate>(gate: &G, session: u32, answer: &Answer) {
     if answer.drew {
@@ -39,100 +45,6 @@ fn pass_rung<G: Gate>(gate: &G, session: u32, answer: &Answer) {
 }
 
 impl<P: Port + Drop> Mqfs<P> {
-    // Reads a group that is not drawn, at the number that it answers.
-    fn read_undrawn(
-        &self,
-        alloc: Global,
-        session: &mut Session<P>,
-        asked: &Asked,
-        done: &Done,
-    ) -> Result<TxNo, Refusal>
-        requires desk { AtDesk self.now.desk session.old.chair }
-        requires holds { IsHolding P.state P.faults (start_of self.now.desk) self.now.geometry asked.now
-            session.old.held (view session.old.chair) done.now }
-        requires undrawn { IsUndrawn self.now.geometry done.now.writes.items done.now.frees.items }
-        ensures desk { AtDesk self.now.desk session.new.chair }
-        ensures rests { HasLeft session.old.held session.new.held (view session.old.chair) (view session.new.chair) }
-        ensures queue { session.new.queue ≡ session.old.queue }
-        ensures calls { session.new.calls ≡ session.old.calls }
-        ensures read { IfOk result (λ at. IsReadOf (call_of asked.now) done.now at
-            (view session.old.chair) (view session.new.chair)) }
-        ensures refused { IfErr result (λ r. IsRefused P.state P.faults self.now.geometry (call_of asked.now)
-            (view session.old.chair) (view session.new.chair) r.cause r.drawn) }
-    {
-        match read_group(
-            alloc,
-            &self.desk,
-            &mut session.chair,
-            self.geometry,
-            asked,
-            &mut session.held,
-            done,
-        ) {
-            Ok(at) => Ok(at),
-            Err(_) => Err(refused(CallCause::OutOfMemory)),
-        }
-    }
-
-    // Does a group on the pages that are held, and gives them back: as a commit where it changes something,
-    // and else as a read.
-    fn finish<R: Wait>(
-        &self,
-        rt: &R,
-        alloc: Global,
-        session: &mut Session<P>,
-        asked: &Asked,
-        mut done: Done,
-    ) -> Result<Answer, Refusal>
-        requires desk { AtDesk self.now.desk session.old.chair }
-        requires holds { IsHolding P.state P.faults (start_of self.now.desk) self.now.geometry asked.now
-            session.old.held (view session.old.chair) done }
-        requires limit { asked.now.calls < CALL_LIMIT }
-        ensures desk { AtDesk self.now.desk session.new.chair }
-        ensures rests { HasLeft session.old.held session.new.held (view session.old.chair) (view session.new.chair) }
-        ensures queue { session.new.queue ≡ session.old.queue }
-        ensures calls { session.new.calls ≡ session.old.calls }
-        ensures acts { IfOk result (λ a. Acts self.now.geometry (call_of asked.now) a.at a.drew a.replies.items
-            (view session.old.chair) (view session.new.chair)) }
-        ensures seen { IfOk result (λ a. a.at ≤ (view session.new.chair).seen) }
-        ensures refused { IfErr result (λ r. IsRefused P.state P.faults self.now.geometry (call_of asked.now)
-            (view session.old.chair) (view session.new.chair) r.cause r.drawn) }
-    {
-        if done.writes.is_empty() && done.frees.is_empty() {
-            let at = self.read_undrawn(alloc, session, asked, &done)?;
-            return Ok(Answer {
-                at,
-                drew: false,
-                replies: done.replies,
-            });
-        }
-        let limit = self.geometry.write_limit();
-        let count = done.writes.len();
-        if count > limit as usize {
-            self.read_undrawn(alloc, session, asked, &done)?;
-            return Err(refused(CallCause::TooLarge {
-                count: count as u32,
-                limit,
-            }));
-        }
-        let at = commit(
-            rt,
-            alloc,
-            &self.desk,
-            &mut session.chair,
-            self.geometry,
-            asked,
-            &mut session.held,
-            &mut done,
-            &mut session.plan,
-        )?;
-        Ok(Answer {
-            at,
-            drew: true,
-            replies: done.replies,
-        })
-    }
-
     // Drains each queue, so that every number up to the answer's is done.
     fn drain<R: Wait>(
         &self,
@@ -147,6 +59,7 @@ impl<P: Port + Drop> Mqfs<P> {
         ensures queue { session.new.queue ≡ session.old.queue }
         ensures calls { session.new.calls ≡ session.old.calls }
         ensures held { session.new.held ≡ session.old.held }
+        ensures goes { GoesOn (view session.old.chair) (view session.new.chair) }
         ensures done { OnOk result (answer.now.at ≤ (view session.new.chair).reading.done) }
         ensures swept { OnOk result (HasSwept P.state P.faults file_group (view session.old.chair)
             (view session.new.chair)) }
@@ -163,8 +76,50 @@ impl<P: Port + Drop> Mqfs<P> {
         }
     }
 
-    // Does a group as the session's next call: takes the pages that it looks at, runs it, and commits or
-    // reads it.
+    // Makes room in the journal areas by a checkpoint, and does the group once more: its plan did not fit the
+    // area of its queue. After the checkpoint nothing of this queue is above the base, so the plan fits then.
+    // That is not proved, and where it did not fit again, the answer would be out of memory.
+    fn act_again<R: Wait>(
+        &self,
+        rt: &R,
+        alloc: Global,
+        session: &mut Session<P>,
+        asked: &Asked,
+    ) -> Result<Answer, Refusal>
+        requires desk { AtDesk self.now.desk session.old.chair }
+        requires ready { IsReady self.now.geometry asked.now.queue asked.now.calls session.old.held
+            (view session.old.chair) }
+        requires queue { session.old.queue ≡ asked.now.queue }
+        requires calls { session.old.calls ≡ asked.now.calls + 1 }
+        requires limit { asked.now.calls < CALL_LIMIT }
+        ensures desk { AtDesk self.now.desk session.new.chair }
+        ensures ready { IsReady self.now.geometry session.new.queue session.new.calls session.new.held
+            (view session.new.chair) }
+        ensures queue { session.new.queue ≡ session.old.queue }
+        ensures calls { session.new.calls ≡ session.old.calls }
+        ensures goes { GoesOn (view session.old.chair) (view session.new.chair) }
+        ensures acts { IfOk result (λ a. (first : _)
+            → IsAreaFull P.state P.faults (call_of asked.now) first (view session.old.chair)
+            → HasActed P.state P.faults self.now.geometry (call_of asked.now) a.at a.drew a.replies.items
+            first (view session.new.chair)) }
+        ensures seen { IfOk result (λ a. a.at ≤ (view session.new.chair).seen) }
+        ensures refused { IfErr result (λ r. (first : _)
+            → IsAreaFull P.state P.faults (call_of asked.now) first (view session.old.chair)
+            → IsRefused P.state P.faults self.now.geometry (call_of asked.now)
+            first (view session.new.chair) r.cause r.drawn) }
+    {
+        match self.checkpoint(rt, alloc, session) {
+            Ok(_) => match self.attempt(rt, alloc, session, asked) {
+                Ok(answer) => Ok(answer),
+                Err(Miss::Refused(refusal)) => Err(refusal),
+                Err(Miss::AreaFull) => Err(refused(CallCause::OutOfMemory)),
+            },
+            Err(why) => Err(no_room(why)),
+        }
+    }
+
+    // Does a group as the session's next call. Where its plan does not fit the journal area, it makes a
+    // checkpoint and begins again, once.
     fn act<R: Wait>(
         &self,
         rt: &R,
@@ -180,7 +135,9 @@ impl<P: Port + Drop> Mqfs<P> {
         ensures ready { IsReady self.now.geometry session.new.queue session.new.calls session.new.held
             (view session.new.chair) }
         ensures queue { session.new.queue ≡ session.old.queue }
-        ensures acts { IfOk result (λ a. Acts self.now.geometry
+        ensures calls { session.old.calls < CALL_LIMIT → session.new.calls ≡ session.old.calls + 1 }
+        ensures goes { GoesOn (view session.old.chair) (view session.new.chair) }
+        ensures acts { IfOk result (λ a. HasActed P.state P.faults self.now.geometry
             (call_by session.old.queue session.old.calls durable requests.now) a.at a.drew a.replies.items
             (view session.old.chair) (view session.new.chair)) }
         ensures seen { IfOk result (λ a. a.at ≤ (view session.new.chair).seen) }
@@ -198,26 +155,17 @@ impl<P: Port + Drop> Mqfs<P> {
             requests,
         };
         session.calls += 1;
-        session.wanted.clear();
-        match run_held(
-            rt,
-            alloc,
-            &self.desk,
-            &mut session.chair,
-            self.geometry,
-            session.queue,
-            requests,
-            &mut session.wanted,
-            &mut session.held,
-        ) {
-            Ok(done) => self.finish(rt, alloc, session, &asked, done),
-            Err(_) => Err(refused(CallCause::OutOfMemory)),
+        match self.attempt(rt, alloc, session, &asked) {
+            Ok(answer) => Ok(answer),
+            Err(Miss::Refused(refusal)) => Err(refusal),
+            Err(Miss::AreaFull) => self.act_again(rt, alloc, session, &asked),
         }
     }
 
     /// Does a group as one transaction, which a power cut keeps whole or drops whole. It survives once an
     /// `fsync` with a number not below the answer's has succeeded. A group that changes nothing draws no
-    /// number, and is answered the number at which it was read.
+    /// number, and is answered the number at which it was read. Where the journal area of the queue lacks room
+    /// for it, a checkpoint is made first.
     pub fn fatomic<R: Wait, G: Gate>(
         &self,
         rt: &R,
@@ -233,7 +181,9 @@ impl<P: Port + Drop> Mqfs<P> {
         ensures ready { IsReady self.now.geometry session.new.queue session.new.calls session.new.held
             (view session.new.chair) }
         ensures queue { session.new.queue ≡ session.old.queue }
-        ensures acts { IfOk result (λ a. Acts self.now.geometry
+        ensures calls { session.old.calls < CALL_LIMIT → session.new.calls ≡ session.old.calls + 1 }
+        ensures goes { GoesOn (view session.old.chair) (view session.new.chair) }
+        ensures acts { IfOk result (λ a. HasActed P.state P.faults self.now.geometry
             (call_by session.old.queue session.old.calls false requests.now) a.at a.drew a.replies.items
             (view session.old.chair) (view session.new.chair)) }
         ensures refused { IfErr result (λ r. IsRefused P.state P.faults self.now.geometry
@@ -271,7 +221,9 @@ impl<P: Port + Drop> Mqfs<P> {
         ensures ready { IsReady self.now.geometry session.new.queue session.new.calls session.new.held
             (view session.new.chair) }
         ensures queue { session.new.queue ≡ session.old.queue }
-        ensures durable { IfOk result (λ a. IsDurable self.now.geometry
+        ensures calls { session.old.calls < CALL_LIMIT → session.new.calls ≡ session.old.calls + 1 }
+        ensures goes { GoesOn (view session.old.chair) (view session.new.chair) }
+        ensures durable { IfOk result (λ a. IsDurable P.state P.faults self.now.geometry
             (call_by session.old.queue session.old.calls true requests.now) a.at a.drew a.replies.items
             (view session.old.chair) (view session.new.chair)) }
         ensures refused { IfErr result (λ r. IsNotDurable P.state P.faults self.now.geometry

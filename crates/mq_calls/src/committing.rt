@@ -1,4 +1,5 @@
-// What keeps a group from being drawn, or what it is drawn with.
+// What keeps a group from being drawn, or what it is drawn with; and why it was not done.
+use crate::answers::Refusal;
 use mq_blocks::OutOfMemory;
 use mq_files::FileEntry;
 use mq_side::{Cause, Prepared};
@@ -22,6 +23,14 @@ impl From<OutOfMemory> for Lack {
     fn from(_: OutOfMemory) -> Self {
         Lack::Memory
     }
+}
+
+/// Why a group was not done.
+#[derive(Clone, Copy)]
+pub(crate) enum Miss {
+    /// Its plan does not fit the journal area, and nothing was changed.
+    AreaFull,
+    Refused(Refusal),
 }
 
 /// A group that may be drawn: its commit with all the memory that it takes, and its entry.

@@ -5,21 +5,21 @@ ghost use Rattle.mq_files.specs.Entries.{Changes};
 ghost use Rattle.mq_turns.specs.AtDesk.{AtDesk, chairs_of, start_of, view};
 ghost use Rattle.mq_turns.specs.Desk.{allotment};
 ghost use Rattle.mq_turns.specs.declared.rule.Report.TheVariants as report;
-ghost use Rattle.mq_calls.specs.Acts.{IsRefused, WasCutAt};
+ghost use Rattle.mq_calls.specs.Acts.{GoesOn, WasCutAt};
 ghost use Rattle.mq_calls.specs.Calling.{IsAsking, call_of};
-ghost use Rattle.mq_calls.specs.Committing.{HoldsCommit, IsLacking, IsPrepared, OnlyReports, refusal_for, reports_for};
+ghost use Rattle.mq_calls.specs.Committing.{HoldsCommit, IsLacking, IsMissed, IsPrepared, OnlyReports, miss_for, reports_for};
 ghost use Rattle.mq_calls.specs.Drawing.{HasDrawn, IsCommitted, SameSeat};
 ghost use Rattle.mq_calls.specs.Pages.{HoldsOnlyPages, IsSeen};
 ghost use Rattle.mq_calls.specs.Runs.{IsDoneOnCells, files, geometry_at};
 
 use crate::answers::{CallCause, Refusal};
 use crate::asked::Asked;
-use crate::committing::{Lack, Ready};
+use crate::committing::{Lack, Miss, Ready};
 use crate::leaving::give_drawn_pages;
 use crate::machine::FileMachine;
 use crate::pages::give_back_pages;
 use crate::preparing::make_ready;
-use mq_blocks::{Geometry, QueueNo, TxNo};
+use mq_blocks::{Geometry, TxNo};
 use mq_drive::Port;
 use mq_exec::Done;
 use mq_files::FileEntry;
@@ -120,20 +120,25 @@ fn give_up<P: Port + Drop>(
     give_back_pages(desk, chair, held);
 }
 
-// The refusal of a group that is not drawn.
-fn refusal_of(lack: Lack, queue: QueueNo) -> Refusal
-    ensures { result ≡ refusal_for queue lack }
+// Why a group that is not drawn was not done.
+fn miss_of(lack: Lack) -> Miss
+    ensures { result ≡ miss_for lack }
 {
-    let cause = match lack {
-        Lack::Memory => CallCause::OutOfMemory,
-        Lack::Area => CallCause::AreaFull { queue },
-        Lack::Drive(cause) => CallCause::Drive(cause),
-    };
-    Refusal { cause, drawn: None }
+    match lack {
+        Lack::Memory => Miss::Refused(Refusal {
+            cause: CallCause::OutOfMemory,
+            drawn: None,
+        }),
+        Lack::Area => Miss::AreaFull,
+        Lack::Drive(cause) => Miss::Refused(Refusal {
+            cause: CallCause::Drive(cause),
+            drawn: None,
+        }),
+    }
 }
 
 /// Draws and sends a group that changes something. The session holds the group's pages; it takes the side
-/// of its queue, and gives all back. The error tells why, and which number was drawn.
+/// of its queue, and gives all back. The error tells why it was not done, and which number was drawn.
 pub(crate) fn commit<P: Port + Drop, R: Wait>(
     rt: &R,
     alloc: Global,
@@ -144,7 +149,7 @@ pub(crate) fn commit<P: Port + Drop, R: Wait>(
     held: &mut Held,
     done: &mut Done,
     into: &mut Placement,
-) -> Result<TxNo, Refusal>
+) -> Result<TxNo, Miss>
     requires at { AtDesk desk.now chair.old }
     requires geometry { geometry_at P.state P.faults (start_of desk.now) ≡ geometry }
     requires pages { length (start_of desk.now).pages ≡ homes_of geometry }
@@ -161,8 +166,9 @@ pub(crate) fn commit<P: Port + Drop, R: Wait>(
     ensures idle { (view chair.new).held ≡ [] }
     ensures committed { IfOk result (λ at. IsCommitted geometry (call_of asked.now) done.old.replies.items at
         (view chair.old) (view chair.new)) }
-    ensures refused { IfErr result (λ r. IsRefused P.state P.faults geometry (call_of asked.now)
-        (view chair.old) (view chair.new) r.cause r.drawn) }
+    ensures missed { IfErr result (λ m. IsMissed P.state P.faults geometry (call_of asked.now)
+        (view chair.old) (view chair.new) m) }
+    ensures goes { GoesOn (view chair.old) (view chair.new) }
     ensures cells { held.new.cells ≡ [] }
     ensures room { held.new.room ≡ held.old.room }
     ensures replies { done.new.replies ≡ done.old.replies }
@@ -171,14 +177,14 @@ pub(crate) fn commit<P: Port + Drop, R: Wait>(
     match make_ready(alloc, desk, chair, &mut side, asked, held, done, into) {
         Ok(ready) => match draw_group(desk, chair, side, held, asked, into, done, ready) {
             Ok(at) => Ok(at),
-            Err(at) => Err(Refusal {
+            Err(at) => Err(Miss::Refused(Refusal {
                 cause: CallCause::Drive(Cause::Off),
                 drawn: Some(at),
-            }),
+            })),
         },
         Err(lack) => {
             give_up(desk, chair, side, held, &lack);
-            Err(refusal_of(lack, asked.queue))
+            Err(miss_of(lack))
         }
     }
 }

@@ -5,7 +5,9 @@
 mod answers;
 mod asked;
 mod asking;
+mod attempting;
 mod calls;
+mod checkpointing;
 mod closing;
 mod committing;
 mod drawing;
@@ -21,6 +23,7 @@ mod reading;
 mod rounds;
 mod session;
 mod sweeping;
+mod telling;
 mod wanted;
 
 pub use answers::{Answer, CallCause, Refusal};
@@ -31,6 +34,7 @@ pub use laws::{
 };
 pub use machine::{FileGroups, FileMachine, Shaped};
 pub use mounting::find_volume;
+pub use mq_checkpoint::CheckpointRefusal;
 pub use pages::{give_back_pages, take_pages};
 pub use rounds::run_held;
 pub use session::{FileSystem, Mqfs, Session, User};

@@ -2,13 +2,14 @@ use Rattle.std.proofs.Common.{◌∙◌, ℕ, sym, subst}
 use Rattle.mq_blocks.specs.declared.geometry.Geometry.{Geometry}
 use Rattle.mq_turns.specs.AtDesk.{start_of, view}
 use Rattle.mq_turns.specs.Desk.{slot_of}
+use Rattle.mq_turns.specs.declared.rule.Report.TheVariants.{Off, Sent}
 use Rattle.mq_turns.specs.declared.turn.Turn.TheVariants.{Side}
-use Rattle.mq_calls.specs.Acts.{IsRefused}
 use Rattle.mq_calls.specs.Calling.{call_of}
-use Rattle.mq_calls.specs.Committing.{OnlyReports, reports_for}
+use Rattle.mq_calls.specs.Committing.{IsMissed, OnlyReports, reports_for}
 use Rattle.mq_calls.specs.Runs.{IsDoneOnCells, files}
-use Rattle.mq_calls.specs.declared.answers.Refusal.{Refusal}
-use Rattle.mq_calls.proofs.Acting.{committed-of, cut-of, holds-more, refused-for}
+use Rattle.mq_calls.specs.declared.committing.Miss.{Miss}
+use Rattle.mq_calls.proofs.Acting.{committed-of, cut-of, holds-more, missed-for}
+use Rattle.mq_calls.proofs.GoingOn.{goes-drawn, goes-holds, goes-reports, goes-then, goes-words}
 use Rattle.mq_calls.proofs.InHand.{commit-taken, side-above}
 use Rattle.mq_calls.proofs.drawing.commit.Goals as goal
 
@@ -38,8 +39,8 @@ returns-in-Ok-draw_group-clause-committed g c =
     let p = c.in-Ok.ensures.ready in
     committed-of c.args.geometry (call_of c.args.asked.now) c.args.done.now c.in-Ok.ready.entry c.in-Ok-draw_group.at old taken (view c.make_ready.new.chair) (view c.draw_group.new.chair) (holds-more (slot_of o (Side c.args.asked.now.queue)) t.known old taken t.is) c.in-Ok.ensures.words p.answers p.is c.requires.few c.in-Ok-draw_group.ensures.sent
 
-pub returns-in-Err-draw_group-clause-refused : goal.returns-in-Err-draw_group-clause-refused
-returns-in-Err-draw_group-clause-refused g c =
+pub returns-in-Err-draw_group-clause-missed : goal.returns-in-Err-draw_group-clause-missed
+returns-in-Err-draw_group-clause-missed g c =
     let o = start_of c.args.desk.now in
     let t = c.take_side-side.ensures.took in
     let old = view c.args.chair.now in
@@ -48,8 +49,8 @@ returns-in-Err-draw_group-clause-refused g c =
     let was = c.in-Err-draw_group.ensures.cut in
     cut-of g.P.Port.state g.P.Port.faults c.args.geometry (call_of c.args.asked.now) c.args.done.now c.in-Ok.ready.entry c.in-Err-draw_group.at old taken (view c.make_ready.new.chair) (view c.draw_group.new.chair) (holds-more (slot_of o (Side c.args.asked.now.queue)) t.known old taken t.is) c.in-Ok.ensures.words p.answers p.is c.requires.few was.0 was.1
 
-pub returns-in-Err-clause-refused : goal.returns-in-Err-clause-refused
-returns-in-Err-clause-refused g c =
+pub returns-in-Err-clause-missed : goal.returns-in-Err-clause-missed
+returns-in-Err-clause-missed g c =
     let st = g.P.Port.state in
     let fs = g.P.Port.faults in
     let o = start_of c.args.desk.now in
@@ -58,5 +59,32 @@ returns-in-Err-clause-refused g c =
     let taken = view c.take_side-side.new.chair in
     let same = c.in-Err.ensures.keeps.queue ∙ c.take_side-side.ensures.queue in
     let reports = subst (λ (q : ℕ). OnlyReports (reports_for q c.in-Err.lack (view c.make_ready.new.chair).reading.charged) (view c.make_ready.new.chair) (view c.give_up.new.chair)) same c.give_up.ensures.reports in
-    let r = refused-for st fs o c.args.geometry (call_of c.args.asked.now) c.args.held.now.cells c.make_ready.new.side old taken (view c.make_ready.new.chair) (view c.give_up.new.chair) c.in-Err.lack c.in-Err.ensures.at.1 c.in-Err.ensures.holds (holds-more (slot_of o (Side c.args.asked.now.queue)) t.known old taken t.is) c.in-Err.ensures.words c.in-Err.ensures.lacks reports in
-    subst (λ (x : Refusal). IsRefused st fs c.args.geometry (call_of c.args.asked.now) old (view c.give_up.new.chair) x.cause x.drawn) (sym c.refusal_of.ensures) r
+    let r = missed-for st fs o c.args.geometry (call_of c.args.asked.now) c.args.held.now.cells c.make_ready.new.side old taken (view c.make_ready.new.chair) (view c.give_up.new.chair) c.in-Err.lack c.in-Err.ensures.at.1 c.in-Err.ensures.holds (holds-more (slot_of o (Side c.args.asked.now.queue)) t.known old taken t.is) c.in-Err.ensures.words c.in-Err.ensures.lacks reports in
+    subst (λ (m : Miss). IsMissed st fs c.args.geometry (call_of c.args.asked.now) old (view c.give_up.new.chair) m) (sym c.miss_of.ensures) r
+
+pub returns-in-Ok-draw_group-clause-goes : goal.returns-in-Ok-draw_group-clause-goes
+returns-in-Ok-draw_group-clause-goes g c =
+    let t = c.take_side-side.ensures.took in
+    let old = view c.args.chair.now in
+    let taken = view c.take_side-side.new.chair in
+    let v = view c.make_ready.new.chair in
+    let first = goes-holds old taken (holds-more (slot_of (start_of c.args.desk.now) (Side c.args.asked.now.queue)) t.known old taken t.is) in
+    goes-then old v (view c.draw_group.new.chair) (goes-then old taken v first (goes-words taken v c.in-Ok.ensures.words)) (goes-drawn c.in-Ok.ready.entry c.args.asked.now.queue c.in-Ok-draw_group.at (Sent c.in-Ok-draw_group.at) v (view c.draw_group.new.chair) c.in-Ok-draw_group.ensures.sent)
+
+pub returns-in-Err-draw_group-clause-goes : goal.returns-in-Err-draw_group-clause-goes
+returns-in-Err-draw_group-clause-goes g c =
+    let t = c.take_side-side.ensures.took in
+    let old = view c.args.chair.now in
+    let taken = view c.take_side-side.new.chair in
+    let v = view c.make_ready.new.chair in
+    let first = goes-holds old taken (holds-more (slot_of (start_of c.args.desk.now) (Side c.args.asked.now.queue)) t.known old taken t.is) in
+    goes-then old v (view c.draw_group.new.chair) (goes-then old taken v first (goes-words taken v c.in-Ok.ensures.words)) (goes-drawn c.in-Ok.ready.entry c.args.asked.now.queue c.in-Err-draw_group.at Off v (view c.draw_group.new.chair) c.in-Err-draw_group.ensures.cut.0)
+
+pub returns-in-Err-clause-goes : goal.returns-in-Err-clause-goes
+returns-in-Err-clause-goes g c =
+    let t = c.take_side-side.ensures.took in
+    let old = view c.args.chair.now in
+    let taken = view c.take_side-side.new.chair in
+    let v = view c.make_ready.new.chair in
+    let first = goes-holds old taken (holds-more (slot_of (start_of c.args.desk.now) (Side c.args.asked.now.queue)) t.known old taken t.is) in
+    goes-then old v (view c.give_up.new.chair) (goes-then old taken v first (goes-words taken v c.in-Err.ensures.words)) (goes-reports (reports_for c.make_ready.new.side.pmr.queue c.in-Err.lack v.reading.charged) v (view c.give_up.new.chair) c.give_up.ensures.reports)

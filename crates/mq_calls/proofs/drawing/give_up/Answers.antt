@@ -2,11 +2,19 @@ use Rattle.std.proofs.Common.{◌∙◌, ap}
 use Rattle.mq_files.specs.declared.entry.FileEntry.{FileEntry}
 use Rattle.mq_journal.specs.Numbers.{Seat}
 use Rattle.mq_turns.specs.AtDesk.{start_of, view}
+use Rattle.mq_calls.specs.Committing.{reports_for}
+use Rattle.mq_calls.specs.Pages.{blocks_of}
 use Rattle.mq_calls.specs.Runs.{files}
 use Rattle.mq_calls.proofs.NotDrawn.{given-empty}
+use Rattle.mq_calls.proofs.Sent.{reports-left}
 use Rattle.mq_calls.proofs.drawing.give_up.Goals as goal
 
 pub returns-clause-idle : goal.returns-clause-idle
 returns-clause-idle g c =
     ap (λ (x : Seat g.row.P.Denot FileEntry g.P.Port). x.held) c.give_back_pages.ensures.gave
     ∙ given-empty (files g.P.Port.state g.P.Port.faults) (start_of c.args.desk.now) c.args.held.now.cells (view c.give_side.new.chair) c.give_side.ensures.pages
+
+pub returns-clause-reports : goal.returns-clause-reports
+returns-clause-reports g c =
+    let v = view c.args.chair.now in
+    reports-left g.P.Port.state g.P.Port.faults (blocks_of c.args.held.now.cells) (reports_for c.args.side.pmr.queue c.args.lack.now v.reading.charged) v (view c.give_side.new.chair) (view c.give_back_pages.new.chair) c.give_side.ensures.reports c.give_back_pages.ensures.gave

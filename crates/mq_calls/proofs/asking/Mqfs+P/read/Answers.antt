@@ -3,6 +3,7 @@ use Rattle.std.specs.Prelude.{false}
 use Rattle.mq_turns.specs.AtDesk.{start_of, view}
 use Rattle.mq_calls.proofs.Between.{reads-only, ready-again, ready-read}
 use Rattle.mq_calls.proofs.Further.{same-then}
+use Rattle.mq_calls.proofs.GoingOn.{goes-read, goes-same, goes-then}
 use Rattle.mq_calls.proofs.NotDrawn.{reads-nothing}
 use Rattle.mq_calls.proofs.asking.Mqfs+P.read.Goals as goal
 
@@ -26,3 +27,18 @@ returns-clause-answered g c =
     let ran = c.in_ok-done.ensures in
     let none = reads-nothing g.P.Port.state g.P.Port.faults c.args.self.now.geometry (start_of c.args.self.now.desk) c.args.session.now.queue c.args.requests.now c.run_held.new.held.cells (view c.run_held.new.chair) c.in_ok-done.done c.run_held.ensures.at.1 c.args.self.now.shape ran.pages.pages ran.seen ran.done c.requires.reads in
     (refl, reads-only (record { session = c.args.session.now.queue; count = c.args.session.now.calls; durable = false; requests = c.args.requests.now }) c.in_ok-done.done c.in_ok-at.at (view c.args.session.now.chair) (view c.run_held.new.chair) (view c.read_group.new.chair) c.run_held.ensures.same c.in_ok-at.ensures.read none.0 none.1)
+
+pub returns-in_err-done-clause-goes : goal.returns-in_err-done-clause-goes
+returns-in_err-done-clause-goes g c = goes-same (view c.args.session.now.chair) (view c.run_held.new.chair) c.run_held.ensures.same
+
+pub returns-in_err-at-clause-goes : goal.returns-in_err-at-clause-goes
+returns-in_err-at-clause-goes g c =
+    let left = c.in_err-at.ensures in
+    goes-same (view c.args.session.now.chair) (view c.read_group.new.chair) (same-then (view c.args.session.now.chair) (view c.run_held.new.chair) (view c.read_group.new.chair) c.run_held.ensures.same left.same)
+
+pub returns-clause-goes : goal.returns-clause-goes
+returns-clause-goes g c =
+    let v = view c.args.session.now.chair in
+    let m = view c.run_held.new.chair in
+    let w = view c.read_group.new.chair in
+    goes-then v m w (goes-same v m c.run_held.ensures.same) (goes-read (record { session = c.args.session.now.queue; count = c.args.session.now.calls; durable = false; requests = c.args.requests.now }) c.in_ok-done.done c.in_ok-at.at m w c.in_ok-at.ensures.read)

@@ -1,13 +1,14 @@
 use Rattle.std.proofs.Common.{rules, ◌≡◌, length, sym, subst, arith}
 use Rattle.std.proofs.lemmas.List.{nil_from_length}
 use Rattle.mq_turns.specs.AtDesk.{start_of, view}
-use Rattle.mq_calls.specs.Acts.{IsRefused, too_large}
+use Rattle.mq_calls.specs.Acts.{too_large}
 use Rattle.mq_calls.specs.Calling.{call_of}
-use Rattle.mq_calls.specs.declared.answers.Refusal.{Refusal}
+use Rattle.mq_calls.specs.Committing.{IsMissed}
+use Rattle.mq_calls.specs.declared.committing.Miss.{Miss}
 use Rattle.mq_calls.proofs.Between.{reads-only}
 use Rattle.mq_calls.proofs.Composing.{large-of, written-few}
 use Rattle.mq_calls.proofs.Further.{same-at-once}
-use Rattle.mq_calls.proofs.calls.Mqfs+P.finish.Goals as goal
+use Rattle.mq_calls.proofs.attempting.Mqfs+P.finish.Goals as goal
 
 pub returns-then-is_empty-2-clause-acts : goal.returns-then-is_empty-2-clause-acts
 returns-then-is_empty-2-clause-acts g c =
@@ -25,12 +26,12 @@ overflow_cast-count g c =
     let same = c.len-count.ensures in
     omega arith
 
-pub returns-then-count-limit-clause-refused : goal.returns-then-count-limit-clause-refused
-returns-then-count-limit-clause-refused g c =
+pub returns-then-count-limit-clause-missed : goal.returns-then-count-limit-clause-missed
+returns-then-count-limit-clause-missed g c =
     let st = g.P.Port.state in
     let fs = g.P.Port.faults in
     let v = view c.args.session.now.chair in
     let w = view c.read_undrawn-then-count-limit.new.session.chair in
     let same : c.len-count.result ≡ length c.args.done.writes.items = search rules in
     let large = large-of c.args.self.now.geometry (call_of c.args.asked.now) c.args.done c.in_ok-read_undrawn.field-0 c.len-count.result c.write_limit-limit.result v w c.in_ok-read_undrawn.ensures.read c.write_limit-limit.ensures same c.if-count-limit.true in
-    subst (λ (x : Refusal). IsRefused st fs c.args.self.now.geometry (call_of c.args.asked.now) v w x.cause x.drawn) (sym c.refused.ensures) (too_large large)
+    subst (λ (x : Miss). IsMissed st fs c.args.self.now.geometry (call_of c.args.asked.now) v w x) (sym c.turned_down.ensures) (too_large large)

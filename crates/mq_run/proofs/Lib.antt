@@ -1,0 +1,4 @@
+pub mod Plays
+pub mod LineOrder
+pub mod Joined
+pub mod Growing

@@ -1,0 +1,5 @@
+pub mod Playing
+pub mod Ending
+pub mod Lines
+pub mod Runs
+pub mod Seating

@@ -1,0 +1,123 @@
+-- What the groups of a script come to, one after another, on one session.
+use Rattle.std.specs.Prelude.{◌≡◌, ◌⊎◌, ◌<◌, ◌≤◌, ◌++◌, ◌-◌, ◌^◌, ℕ, suc, Bool, true, false, not, List, [], ◌∷◌, length, Option, None, Some, Result, Ok, Err, slice_get}
+use Rattle.mq_blocks.specs.Drive.{PortState}
+use Rattle.mq_blocks.specs.declared.geometry.Geometry.{Geometry}
+use Rattle.mq_calls.specs.Acts.{Call, GoesOn, HasActed, IsRefused, ReadsOnly}
+use Rattle.mq_calls.specs.Asking.{IsNotAnswered}
+use Rattle.mq_calls.specs.Calling.{call_by}
+use Rattle.mq_calls.specs.Synchronizing.{IsDurable, IsNotDurable}
+use Rattle.mq_calls.specs.declared.answers.Answer.{Answer}
+use Rattle.mq_calls.specs.declared.answers.CallCause.{CallCause}
+use Rattle.mq_calls.specs.declared.answers.CallCause.TheVariants.{Changes, Drive, OutOfMemory, TooLarge}
+use Rattle.mq_calls.specs.declared.answers.Refusal.{Refusal}
+use Rattle.mq_drive.specs.Steps.{Fault}
+use Rattle.mq_drive.specs.declared.port.Port.{Ghosts}
+use Rattle.mq_files.specs.declared.entry.FileEntry.{FileEntry}
+use Rattle.mq_journal.specs.Numbers.{Seat}
+use Rattle.mq_report.specs.declared.line.Line.{Line}
+use Rattle.mq_report.specs.declared.line.Told.{Told}
+use Rattle.mq_script.specs.Scripts.{Group}
+use Rattle.mq_script.specs.declared.group.End.{End}
+use Rattle.mq_script.specs.declared.group.End.TheVariants.{Ask, Fatomic, Fsync}
+use Rattle.mq_tree.specs.declared.request.Reply.{Reply}
+
+abbrev pub is_durable : End → Bool
+is_durable Fsync = true
+is_durable Fatomic = false
+is_durable Ask = false
+
+-- the call by which a session asks its k-th group
+abbrev pub call_at : (session k : ℕ) → Group → Call
+call_at session k group = call_by session k (is_durable group.end) group.requests
+
+-- ---- which answers end a session
+
+abbrev pub goes_on : CallCause → Bool
+goes_on OutOfMemory = false
+goes_on (TooLarge count limit) = true
+goes_on (Changes index) = true
+goes_on (Drive why) = false
+
+abbrev pub is_last : Result ℕ Refusal → Bool
+is_last (Ok at) = false
+is_last (Err r) = not (goes_on r.cause)
+
+-- what is told of a group that was answered so
+abbrev pub answered : Result Answer Refusal → Result ℕ Refusal
+answered (Ok a) = Ok a.at
+answered (Err r) = Err r
+
+abbrev pub told_of : (session k : ℕ) → End → Result Answer Refusal → Told
+told_of session k end answer = record { session = session; group = k; end = end; answer = answered answer }
+
+-- the answers are those of all groups, or the last of them ends the session; no other does
+pub record AreAnswers (groups : ℕ) (told : List Told) : Type 0 where
+  pub most : length told ≤ groups
+  pub before : (i : ℕ) (t : Told) → slice_get told i ≡ Some t → suc i < length told → is_last t.answer ≡ false
+  pub all : (length told ≡ groups) ⊎ ((t : Told) × (slice_get told (length told - 1) ≡ Some t) × (is_last t.answer ≡ true))
+
+-- The groups can be counted in 32 bits, and so can the requests of each.
+pub record IsShort (groups : List Group) : Type 0 where
+  pub few : length groups < 2 ^ 32
+  pub each : (i : ℕ) (group : Group) → slice_get groups i ≡ Some group → length group.requests < 2 ^ 32
+
+-- ---- one group
+
+-- the line of a group that was read
+pub record IsReadLine (session k : ℕ) (end : End) (at : ℕ) (replies : List Reply) (l : Line) : Type 0 where
+  pub number : l.number ≡ at
+  pub commit : l.commit ≡ false
+  pub session_is : l.session ≡ session
+  pub group : l.group ≡ k
+  pub end_is : l.end ≡ end
+  pub replies_are : l.replies.items ≡ replies
+
+-- the lines that a group has which was answered so
+abbrev pub AreLinesAt : (session k : ℕ) → End → (at : ℕ) → (drew : Bool) → List Reply → List Line → Type 0
+AreLinesAt session k end at true replies lines = lines ≡ []
+AreLinesAt session k end at false replies lines = (l : Line) × IsReadLine session k end at replies l × (lines ≡ l ∷ [])
+
+abbrev pub AreLines : (session k : ℕ) → End → Result Answer Refusal → List Line → Type 0
+AreLines session k end (Ok a) lines = AreLinesAt session k end a.at a.drew a.replies.items lines
+AreLines session k end (Err r) lines = lines ≡ []
+
+module _ {P : Type 0} {G : Ghosts P} (state : P → PortState) (faults : P → List Fault) where
+  -- the group was done as its end asks
+  abbrev pub IsDone : Geometry → End → Call → (at : ℕ) → (drew : Bool) → List Reply → Seat P FileEntry G → Seat P FileEntry G → Type 0
+  IsDone g Fsync c at drew replies old new = IsDurable state faults g c at drew replies old new
+  IsDone g Fatomic c at drew replies old new = HasActed state faults g c at drew replies old new
+  IsDone g Ask c at drew replies old new = (drew ≡ false) × ReadsOnly c replies at old new
+
+  abbrev pub IsNotDone : Geometry → End → Call → Refusal → Seat P FileEntry G → Seat P FileEntry G → Type 0
+  IsNotDone g Fsync c r old new = IsNotDurable state faults g c old new r.cause r.drawn
+  IsNotDone g Fatomic c r old new = IsRefused state faults g c old new r.cause r.drawn
+  IsNotDone g Ask c r old new = IsNotAnswered c.requests old new r.cause r.drawn
+
+  -- What a group came to, and the line that it has if it was read: the line of a commit is made of the history.
+  abbrev pub Comes : Geometry → (session k : ℕ) → Group → Result ℕ Refusal → List Line → Seat P FileEntry G → Seat P FileEntry G → Type 0
+  Comes g session k group (Ok at) [] old new = (replies : List Reply) × IsDone g group.end (call_at session k group) at true replies old new
+  Comes g session k group (Ok at) (l ∷ []) old new =
+      (replies : List Reply) × IsReadLine session k group.end at replies l × IsDone g group.end (call_at session k group) at false replies old new
+  Comes g session k group (Ok at) (l ∷ m ∷ ls) old new = ⊥
+  Comes g session k group (Err r) [] old new = IsNotDone g group.end (call_at session k group) r old new
+  Comes g session k group (Err r) (l ∷ ls) old new = ⊥
+
+  -- what is told of it
+  pub record IsTold (g : Geometry) (session k : ℕ) (group : Group) (t : Told) (lines : List Line) (old new : Seat P FileEntry G) : Type 0 where
+    pub session_is : t.session ≡ session
+    pub group_is : t.group ≡ k
+    pub end : t.end ≡ group.end
+    pub comes : Comes g session k group t.answer lines old new
+    pub goes : GoesOn old new
+
+  -- ---- the groups of a script
+
+  -- The first groups were asked, one after another: the answers, and the lines of those that were read.
+  pub data Plays (g : Geometry) (session : ℕ) (groups : List Group) (from : Seat P FileEntry G) : (k : ℕ) → List Told → List Line → Seat P FileEntry G → Type 0 where
+    begins : Plays g session groups from 0 [] [] from
+    goes : {k : ℕ} {told : List Told} {lines more : List Line} {old new : Seat P FileEntry G} {group : Group} {t : Told} → Plays g session groups from k told lines old → slice_get groups k ≡ Some group → IsTold g session k group t more old new → Plays g session groups from (suc k) (told ++ t ∷ []) (lines ++ more) new
+
+  -- The session has played its script.
+  pub record HasPlayed (g : Geometry) (session : ℕ) (groups : List Group) (told : List Told) (lines : List Line) (old new : Seat P FileEntry G) : Type 0 where
+    pub plays : Plays g session groups old (length told) told lines new
+    pub answers : AreAnswers (length groups) told

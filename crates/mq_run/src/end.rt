@@ -1,0 +1,26 @@
+// What a run leaves.
+use mq_blocks::TxNo;
+use mq_checkpoint::CheckpointRefusal;
+use mq_drive::{Port, Ports};
+use mq_files::Placed;
+use mq_pages::PageCell;
+use mq_report::{Line, Told};
+
+/// What a run of scripts leaves, and what it reports.
+#[derive(Drop)]
+pub struct RunEnd<P: Port> {
+    /// The ports of the drive, as they are once nobody holds anything.
+    pub ports: Ports<P>,
+    /// The commits and the reads, by number, the commit before the reads, and these by session and group.
+    pub entries: Vec<Line>,
+    /// What each group was answered, by session and group.
+    pub answers: Vec<Told>,
+    /// The cells of the home blocks.
+    pub pages: Vec<PageCell>,
+    /// Where the blocks of each commit went, in number order.
+    pub placed: Vec<Placed>,
+    /// The last number drawn, or the base at the opening.
+    pub next: TxNo,
+    /// What the checkpoint at the end answered, where one was asked for.
+    pub finished: Option<Result<TxNo, CheckpointRefusal>>,
+}

@@ -1,0 +1,54 @@
+// All sessions play their scripts at once.
+ghost use Rattle.std.specs.Prelude.{◌≡◌, ◌<◌, ◌≤◌, ℕ, Some, [], length, slice_get, vec_capacity};
+ghost use Rattle.mq_calls.specs.Sessions.{IsReady};
+ghost use Rattle.mq_turns.specs.AtDesk.{AtDesk, view};
+ghost use Rattle.mq_run.specs.Playing.{HasPlayed, IsShort};
+
+use crate::playing::play;
+use crate::runner::Runner;
+use mq_calls::{FileMachine, Gate, Mqfs};
+use mq_drive::Port;
+use mq_script::Script;
+use std::alloc::Global;
+use std::sync::Wait;
+use std::thread::{Threads, for_each_mut};
+
+/// Each session plays the script of its own number, on a thread of its own where one can be made. It returns once
+/// all have played.
+pub(crate) fn play_all<P: Port + Drop + Send, R: Threads + Wait + Sync, G: Gate + Sync>(
+    rt: &R,
+    alloc: Global,
+    files: &Mqfs<P>,
+    runners: &mut [Runner<FileMachine<P>>],
+    scripts: &[Script],
+    gate: &G,
+)
+    requires many { length scripts.now ≡ length runners.old }
+    requires some { 0 < length runners.old }
+    requires desk { (i : ℕ) (a : _) → slice_get runners.old i ≡ Some a → AtDesk files.now.desk a.user.chair }
+    requires ready { (i : ℕ) (a : _) → slice_get runners.old i ≡ Some a
+        → IsReady files.now.geometry a.user.queue a.user.calls a.user.held (view a.user.chair)
+        × (a.user.queue ≡ i) × (a.user.calls ≡ 0) }
+    requires told { (i : ℕ) (a : _) (s : _) → slice_get runners.old i ≡ Some a → slice_get scripts.now i ≡ Some s
+        → (a.told.items ≡ []) × (length s.groups ≤ vec_capacity a.told) }
+    requires reads { (i : ℕ) (a : _) (s : _) → slice_get runners.old i ≡ Some a → slice_get scripts.now i ≡ Some s
+        → (a.reads.items ≡ []) × (length s.groups ≤ vec_capacity a.reads) }
+    requires short { (i : ℕ) (s : _) → slice_get scripts.now i ≡ Some s → IsShort s.groups }
+    ensures many { length runners.new ≡ length runners.old }
+    ensures desk { (i : ℕ) (b : _) → slice_get runners.new i ≡ Some b → AtDesk files.now.desk b.user.chair }
+    ensures ready { (i : ℕ) (b : _) → slice_get runners.new i ≡ Some b
+        → IsReady files.now.geometry b.user.queue b.user.calls b.user.held (view b.user.chair)
+        × (b.user.queue ≡ i) }
+    ensures played { (i : ℕ) (a b : _) (s : _) → slice_get runners.old i ≡ Some a → slice_get runners.new i ≡ Some b
+        → slice_get scripts.now i ≡ Some s
+        → HasPlayed P.state P.faults files.now.geometry i s.groups b.told.items b.reads.items
+            (view a.user.chair) (view b.user.chair) }
+{
+    let threads = runners.len();
+    for_each_mut(
+        rt,
+        runners,
+        threads,
+        &|i, runner| play(rt, alloc, files, runner, &scripts[i], gate),
+    );
+}
