@@ -2,6 +2,7 @@ pub mod Blank
 pub mod Chains
 pub mod CutRows
 pub mod Recoverings
+pub mod Restarts
 pub mod Results
 pub mod Rows
 pub mod Starting

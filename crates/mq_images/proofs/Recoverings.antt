@@ -124,13 +124,13 @@ none-failed g old new port lba status sound bounds count before gains =
 
 -- ---- the drive that starts from the image
 
-pub started-sound : (g : Geometry) (fuse : FuseName) (x : DriveImage) (ports : Ports EmuPort) → g ≡ x.geometry → IsDrive x → AreStarted fuse x ports → AreSound g ports
+pub started-sound : (g : Geometry) (fuse : FuseName) (x : DriveImage) (ports : Ports EmuPort) → g ≡ x.geometry → IsDrive x → AreStarted fuse None x ports → AreSound g ports
 started-sound g fuse x ports same drive started =
     let many = queues-count x drive in
     subst (λ (h : Geometry). AreSound h ports) (sym same) (record {
       queues = λ k d low. (started.queues k d low).0;
       root = started.root.0;
-      none = λ q low. ap (λ (d : DriveState). (port_at d.queues q).fail) started.states ∙ ap (λ (s : PortState). s.fail) (start-at x.geometry fuse 0 (queue_ports x) q (omega (arith, many, low)));
+      none = λ q low. ap (λ (d : DriveState). (port_at d.queues q).fail) started.states ∙ ap (λ (s : PortState). s.fail) (start-at x.geometry fuse None 0 (queue_ports x) q (omega (arith, many, low)));
       root_none = ap (λ (d : DriveState). d.root.fail) started.states;
     })
 
@@ -148,7 +148,7 @@ pub record HasMade (x : DriveImage) (d e : DriveState) (ds : List Descriptor) (t
   pub events : e ≡ after_events x.geometry d (take k (recovery_events d writes top))
   pub ports : ArePorts x.geometry e
 
-done-made : (x : DriveImage) (fuse : FuseName) (d e : DriveState) (found : Recovered) → d ≡ drive_from fuse x → (done : IsDone x.geometry d found.prefix found.base e) → HasMade x d e done.ds found.base done.writes (events_of x done.writes found.base)
+done-made : (x : DriveImage) (fuse : FuseName) (d e : DriveState) (found : Recovered) → d ≡ drive_from fuse None x → (done : IsDone x.geometry d found.prefix found.base e) → HasMade x d e done.ds found.base done.writes (events_of x done.writes found.base)
 done-made x fuse d e found start done =
     let long : length (recovery_events d done.writes found.base) ≡ events_of x done.writes found.base =
     ap (λ (s : DriveState). length (recovery_events s done.writes found.base)) start ∙ recovery-length fuse x done.writes found.base in
@@ -160,7 +160,7 @@ done-made x fuse d e found start done =
       ports = still-ports x.geometry e done.recovered.still;
     }
 
-short-made : (x : DriveImage) (fuse : FuseName) (d e : DriveState) → d ≡ drive_from fuse x → (short : IsCutShort x.geometry Off d e) → (short.events.0 < events_of x short.writes short.top) × HasMade x d e short.ds short.top short.writes short.events.0
+short-made : (x : DriveImage) (fuse : FuseName) (d e : DriveState) → d ≡ drive_from fuse None x → (short : IsCutShort x.geometry Off d e) → (short.events.0 < events_of x short.writes short.top) × HasMade x d e short.ds short.top short.writes short.events.0
 short-made x fuse d e start short =
     let long : length (recovery_events d short.writes short.top) ≡ events_of x short.writes short.top =
     ap (λ (s : DriveState). length (recovery_events s short.writes short.top)) start ∙ recovery-length fuse x short.writes short.top in
@@ -177,9 +177,9 @@ short-made x fuse d e start short =
     )
 
 -- what there is to recover
-made-plan : (x : DriveImage) (fuse : FuseName) (d e : DriveState) (ds : List Descriptor) (top : ℕ) (writes : Writes) (k : ℕ) → d ≡ drive_from fuse x → HasMade x d e ds top writes k → IsToRecover x ds top writes
+made-plan : (x : DriveImage) (fuse : FuseName) (d e : DriveState) (ds : List Descriptor) (top : ℕ) (writes : Writes) (k : ℕ) → d ≡ drive_from fuse None x → HasMade x d e ds top writes k → IsToRecover x ds top writes
 made-plan x fuse d e ds top writes k start made =
-    let view : view_over x.geometry d ≡ view_of x = ap (view_over x.geometry) start ∙ start-view fuse x in
+    let view : view_over x.geometry d ≡ view_of x = ap (view_over x.geometry) start ∙ start-view fuse None x in
     record {
       read = subst (λ (i : Shown). IsRead x.geometry i ds top) view made.read;
       rising = made.home_writes.rising;
@@ -256,7 +256,8 @@ module _ (x : DriveImage) (ports : Ports EmuPort) (images : List PortImage) (sea
   left-count : length ports.queues.items ≡ g.queues
   left-count = sym (length-map ports.queues.items emu_state) ∙ are.count
 
-  left-drive : IsDrive y
+  -- an image of a drive, which is one that a cut may leave
+  pub left-drive : IsDrive y
   left-drive =
       let roles = row-images g ports left-count images seats cut (λ role s i. IsPortOf g role s → IsImageOf g role i) (λ role p i s one. one.role g role) in
       record {
@@ -265,7 +266,7 @@ module _ (x : DriveImage) (ports : Ports EmuPort) (images : List PortImage) (sea
         root = roles.1 are.root;
       }
 
-  left-images : AreImages g e (queue_ports y) (root_port y)
+  pub left-images : AreImages g e (queue_ports y) (root_port y)
   left-images =
       let held = row-images g ports left-count images seats cut (λ role s i. IsImage s i) (λ role p i s one. one.image) in
       record {
@@ -291,11 +292,11 @@ module _ (x : DriveImage) (ports : Ports EmuPort) (images : List PortImage) (sea
       quiet-in still None zone = still.root.quiet
       quiet-in still (Some q) zone = (still.each q zone).quiet
 
-  module _ (fuse : FuseName) (d : DriveState) (drive : IsDrive x) (start : d ≡ drive_from fuse x) (bounds : AreBoundsKept g d e) where
+  module _ (fuse : FuseName) (d : DriveState) (drive : IsDrive x) (start : d ≡ drive_from fuse None x) (bounds : AreBoundsKept g d e) where
     start-at-queue : (q : ℕ) → q < g.queues → (s : PortState) × (port_at d.queues q ≡ s) × (s.fuse ≡ fuse) × (s.fail ≡ None) × (s.doorbell ≡ (view_of x).doorbell q)
     start-at-queue q low =
         let many = queues-count x drive in
-        let at = ap (λ (s : DriveState). port_at s.queues q) start ∙ start-at g fuse 0 (queue_ports x) q (omega (arith, many, low)) in
+        let at = ap (λ (s : DriveState). port_at s.queues q) start ∙ start-at g fuse None 0 (queue_ports x) q (omega (arith, many, low)) in
         (start_of g (Queue (0 + q)) (image_at (queue_ports x) q) fuse None, at, refl, refl, refl)
 
     left-bound : (z : Option ℕ) → IsZone g z → ((port_in e z).fuse ≡ fuse) × ((port_in e z).fail ≡ None)
@@ -325,14 +326,14 @@ module _ (x : DriveImage) (ports : Ports EmuPort) (images : List PortImage) (sea
 
       left-doorbells : (q : ℕ) → q < g.queues → (view_of y).doorbell q ≡ (view_of x).doorbell q
       left-doorbells q low =
-          let still : IsQuiescentDrive g d = subst (IsQuiescentDrive g) (sym start) (start-still fuse x drive) in
+          let still : IsQuiescentDrive g d = subst (IsQuiescentDrive g) (sym start) (start-still fuse None x drive) in
           let stage = each-stage g d writes top k still (writes-below g d ds writes made.home_writes) in
           let kept : (port_at e.queues q).doorbell ≡ (port_at d.queues q).doorbell = ap (λ (s : DriveState). (port_at s.queues q).doorbell) made.events ∙ (stage.0.each (Some q) low).doorbell in
           let at = start-at-queue q low in
           (left-images.each q low).doorbell ∙ kept ∙ ap (λ (s : PortState). s.doorbell) at.1 ∙ at.4
 
     start-sees : view_over g d ≡ view_of x
-    start-sees = ap (view_over g) start ∙ start-view fuse x
+    start-sees = ap (view_over g) start ∙ start-view fuse None x
 
     -- a recovery that is done
     left-home : (found : Recovered) (done : IsDone g d found.prefix found.base e) → IsAllHome x done.ds found.base y
@@ -416,13 +417,13 @@ run-ports g d e before after found true run = still-ports g e run.0.recovered.st
 run-ports g d e before after found false run = run.0.ports
 
 -- the same under another name of the geometry
-pub left-under : (g : Geometry) (x : DriveImage) (fuse : FuseName) (old ports : Ports EmuPort) (found : Recovered) (whole : Bool) (images : List PortImage) (seats : List FuseSeat) → g ≡ x.geometry → IsDrive x → AreStarted fuse x old
+pub left-under : (g : Geometry) (x : DriveImage) (fuse : FuseName) (old ports : Ports EmuPort) (found : Recovered) (whole : Bool) (images : List PortImage) (seats : List FuseSeat) → g ≡ x.geometry → IsDrive x → AreStarted fuse None x old
     → HasRun g (drive_of emu_state old) (drive_of emu_state ports) (faults_on emu_faults old) (faults_on emu_faults ports) found whole → AreBoundsKept g (drive_of emu_state old) (drive_of emu_state ports) → AreCutPorts (row_of ports) images seats → IsLeftBy x fuse found whole images seats
 left-under g x fuse old ports found whole images seats same drive started run bounds cut =
     let d = drive_of emu_state old in
     let e = drive_of emu_state ports in
     let ran = subst (λ (h : Geometry). HasRun h d e (faults_on emu_faults old) (faults_on emu_faults ports) found whole) same run in
-    let many : length old.queues.items ≡ x.geometry.queues = sym (length-map old.queues.items emu_state) ∙ ap (λ (s : DriveState). length s.queues) started.states ∙ (start-still fuse x drive).count in
+    let many : length old.queues.items ≡ x.geometry.queues = sym (length-map old.queues.items emu_state) ∙ ap (λ (s : DriveState). length s.queues) started.states ∙ (start-still fuse None x drive).count in
     left-by x ports images seats cut (run-ports x.geometry d e (faults_on emu_faults old) (faults_on emu_faults ports) found whole ran) fuse d drive started.states (subst (λ (h : Geometry). AreBoundsKept h d e) same bounds)
     old found whole (started-sound x.geometry fuse x old refl drive started) many ran
 

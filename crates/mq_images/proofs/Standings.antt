@@ -1,5 +1,5 @@
 -- What stands on an image does not depend on the drive that starts from it.
-use Rattle.std.proofs.Common.{◌≡◌, ◌⊎◌, inl, inr, ℕ, List, refl, sym, ◌∙◌, ap, subst}
+use Rattle.std.proofs.Common.{◌≡◌, ◌⊎◌, inl, inr, ℕ, List, Option, None, refl, sym, ◌∙◌, ap, subst}
 use Rattle.mq_blocks.specs.Descriptor.{Descriptor}
 use Rattle.mq_blocks.specs.Drive.{FuseName}
 use Rattle.mq_blocks.specs.Journal.{AreWhole, Shown, stands}
@@ -7,6 +7,7 @@ use Rattle.mq_blocks.specs.declared.geometry.Geometry.{Geometry}
 use Rattle.mq_image.specs.File.{DriveImage}
 use Rattle.mq_images.specs.Standing.{IsStandingOf, Reads, RefusesDrive}
 use Rattle.mq_images.specs.Views.{drive_from, view_of}
+use Rattle.mq_images.specs.declared.ports.Failing.{Failing}
 use Rattle.mq_images.proofs.Starting.{started-view}
 use Rattle.mq_recover.specs.Drives.{DriveState}
 use Rattle.mq_recover.specs.Recovery.{IsRead}
@@ -18,9 +19,9 @@ use Rattle.mq_recover.specs.declared.standing.Standing.{Standing}
 use Rattle.mq_recover.proofs.Images.{image-refused, read-readable, whole-readable}
 
 -- what stands on the drive stands on the image
-pub standing-of : (fuse : FuseName) (x : DriveImage) (d : DriveState) (s : Standing) → d ≡ drive_from fuse x → StandsIn x.geometry d s → IsStandingOf x s
-standing-of fuse x d s is stood =
-    let view = started-view fuse x d is in
+pub standing-of : (fuse : FuseName) (fail : Option Failing) (x : DriveImage) (d : DriveState) (s : Standing) → d ≡ drive_from fuse fail x → StandsIn x.geometry d s → IsStandingOf x s
+standing-of fuse fail x d s is stood =
+    let view = started-view fuse fail x d is in
     let held = stood.3 in
     record {
       ds = stood.0;
@@ -32,31 +33,31 @@ standing-of fuse x d s is stood =
       top_is = held.top_is;
     }
 
-pub refuses-of : (fuse : FuseName) (x : DriveImage) (d : DriveState) (e : ImageFault) → d ≡ drive_from fuse x → (e ≡ OutOfMemory) ⊎ RefusesImage x.geometry d e → (e ≡ OutOfMemory) ⊎ RefusesDrive x e
+pub refuses-of : (fuse : FuseName) (x : DriveImage) (d : DriveState) (e : ImageFault) → d ≡ drive_from fuse None x → (e ≡ OutOfMemory) ⊎ RefusesImage x.geometry d e → (e ≡ OutOfMemory) ⊎ RefusesDrive x e
 refuses-of fuse x d e is (inl memory) = inl memory
 refuses-of fuse x d e is (inr refuses) = inr (record { fuse = fuse; refuses = subst (λ (s : DriveState). RefusesImage x.geometry s e) is refuses })
 
-pub readable-of : (fuse : FuseName) (x : DriveImage) (d : DriveState) (ds : List Descriptor) (top : ℕ) → d ≡ drive_from fuse x → Reads x ds top → IsReadableImage x.geometry d
-readable-of fuse x d ds top is read =
-    read-readable x.geometry d ds top (subst (λ (i : Shown). IsRead x.geometry i ds top) (sym (started-view fuse x d is)) read)
+pub readable-of : (fuse : FuseName) (fail : Option Failing) (x : DriveImage) (d : DriveState) (ds : List Descriptor) (top : ℕ) → d ≡ drive_from fuse fail x → Reads x ds top → IsReadableImage x.geometry d
+readable-of fuse fail x d ds top is read =
+    read-readable x.geometry d ds top (subst (λ (i : Shown). IsRead x.geometry i ds top) (sym (started-view fuse fail x d is)) read)
 
 -- an image that is readable is not refused
 pub read-refused : (x : DriveImage) (ds : List Descriptor) (top : ℕ) (e : ImageFault) → Reads x ds top → RefusesDrive x e → ⊥
 read-refused x ds top e read refused =
-    image-refused x.geometry (drive_from refused.fuse x) e (readable-of refused.fuse x (drive_from refused.fuse x) ds top refl read) refused.refuses
+    image-refused x.geometry (drive_from refused.fuse None x) e (readable-of refused.fuse None x (drive_from refused.fuse None x) ds top refl read) refused.refuses
 
 -- the same under another name of the geometry
-pub standing-under : (fuse : FuseName) (g : Geometry) (x : DriveImage) (d : DriveState) (s : Standing) → g ≡ x.geometry → d ≡ drive_from fuse x → StandsIn g d s → IsStandingOf x s
-standing-under fuse g x d s same is stood = standing-of fuse x d s is (subst (λ (h : Geometry). StandsIn h d s) same stood)
+pub standing-under : (fuse : FuseName) (fail : Option Failing) (g : Geometry) (x : DriveImage) (d : DriveState) (s : Standing) → g ≡ x.geometry → d ≡ drive_from fuse fail x → StandsIn g d s → IsStandingOf x s
+standing-under fuse fail g x d s same is stood = standing-of fuse fail x d s is (subst (λ (h : Geometry). StandsIn h d s) same stood)
 
-pub refuses-under : (fuse : FuseName) (g : Geometry) (x : DriveImage) (d : DriveState) (e : ImageFault) → g ≡ x.geometry → d ≡ drive_from fuse x → (e ≡ OutOfMemory) ⊎ RefusesImage g d e → (e ≡ OutOfMemory) ⊎ RefusesDrive x e
+pub refuses-under : (fuse : FuseName) (g : Geometry) (x : DriveImage) (d : DriveState) (e : ImageFault) → g ≡ x.geometry → d ≡ drive_from fuse None x → (e ≡ OutOfMemory) ⊎ RefusesImage g d e → (e ≡ OutOfMemory) ⊎ RefusesDrive x e
 refuses-under fuse g x d e same is refused = refuses-of fuse x d e is (subst (λ (h : Geometry). (e ≡ OutOfMemory) ⊎ RefusesImage h d e) same refused)
 
-pub readable-under : (fuse : FuseName) (g : Geometry) (x : DriveImage) (d : DriveState) (ds : List Descriptor) (top : ℕ) → g ≡ x.geometry → d ≡ drive_from fuse x → Reads x ds top → IsReadableImage g d
-readable-under fuse g x d ds top same is read = subst (λ (h : Geometry). IsReadableImage h d) (sym same) (readable-of fuse x d ds top is read)
+pub readable-under : (fuse : FuseName) (fail : Option Failing) (g : Geometry) (x : DriveImage) (d : DriveState) (ds : List Descriptor) (top : ℕ) → g ≡ x.geometry → d ≡ drive_from fuse fail x → Reads x ds top → IsReadableImage g d
+readable-under fuse fail g x d ds top same is read = subst (λ (h : Geometry). IsReadableImage h d) (sym same) (readable-of fuse fail x d ds top is read)
 
 -- the same of an image whose chains are whole
 pub whole-refused : (x : DriveImage) (chains : ℕ → List Descriptor) (e : ImageFault) → AreWhole x.geometry (view_of x) chains → RefusesDrive x e → ⊥
 whole-refused x chains e whole refused =
-    let d = drive_from refused.fuse x in
-    image-refused x.geometry d e (whole-readable x.geometry d chains (subst (λ (i : Shown). AreWhole x.geometry i chains) (sym (started-view refused.fuse x d refl)) whole)) refused.refuses
+    let d = drive_from refused.fuse None x in
+    image-refused x.geometry d e (whole-readable x.geometry d chains (subst (λ (i : Shown). AreWhole x.geometry i chains) (sym (started-view refused.fuse None x d refl)) whole)) refused.refuses

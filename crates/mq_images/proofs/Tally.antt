@@ -214,17 +214,17 @@ length-pair : (t : Bool) (a b : Event) (rest : List Event) → length ((if t the
 length-pair true a b rest = omega arith
 length-pair false a b rest = omega arith
 
-length-heads : (g : Geometry) (fuse : FuseName) (n m : ℕ) (is : List PortImage) → length (heads_events n (starts_from g fuse m is)) ≡ events_of_heads is
+length-heads : (g : Geometry) (fuse : FuseName) (n m : ℕ) (is : List PortImage) → length (heads_events n (starts_from g fuse None m is)) ≡ events_of_heads is
 length-heads g fuse n m [] = refl
 length-heads g fuse n m (i ∷ is) =
     let later = length-heads g fuse (n + 1) (m + 1) is in
-    length-pair (nat_eq i.head i.doorbell) (StoreHead n i.doorbell) (FlushHead n) (heads_events (n + 1) (starts_from g fuse (m + 1) is)) ∙ ap (λ (k : ℕ). word_events i.head i.doorbell + k) later
+    length-pair (nat_eq i.head i.doorbell) (StoreHead n i.doorbell) (FlushHead n) (heads_events (n + 1) (starts_from g fuse None (m + 1) is)) ∙ ap (λ (k : ℕ). word_events i.head i.doorbell + k) later
 
-pub recovery-length : (fuse : FuseName) (x : DriveImage) (writes : Writes) (top : ℕ) → length (recovery_events (drive_from fuse x) writes top) ≡ events_of x writes top
+pub recovery-length : (fuse : FuseName) (x : DriveImage) (writes : Writes) (top : ℕ) → length (recovery_events (drive_from fuse None x) writes top) ≡ events_of x writes top
 recovery-length fuse x writes top =
     let heads = length-heads x.geometry fuse 0 0 (queue_ports x) in
-    let base = length-pair (nat_eq (root_port x).base top) (StoreBase top) FlushBase (heads_events 0 (starts_from x.geometry fuse 0 (queue_ports x))) in
-    length-homes writes (base_events (root_port x).base top ++ heads_events 0 (starts_from x.geometry fuse 0 (queue_ports x)))
+    let base = length-pair (nat_eq (root_port x).base top) (StoreBase top) FlushBase (heads_events 0 (starts_from x.geometry fuse None 0 (queue_ports x))) in
+    length-homes writes (base_events (root_port x).base top ++ heads_events 0 (starts_from x.geometry fuse None 0 (queue_ports x)))
     ∙ ap (λ (k : ℕ). 2 * length writes + k) (base ∙ ap (λ (k : ℕ). word_events (root_port x).base top + k) heads)
 
 word-few : (old new : ℕ) → word_events old new ≤ 2
@@ -258,24 +258,24 @@ few-events x writes top drive rising =
 
 -- ---- the drive that starts from an image
 
-start-tally : (g : Geometry) (fuse : FuseName) (n : ℕ) (is : List PortImage) → total tally (starts_from g fuse n is) ≡ 0
+start-tally : (g : Geometry) (fuse : FuseName) (n : ℕ) (is : List PortImage) → total tally (starts_from g fuse None n is) ≡ 0
 start-tally g fuse n [] = refl
 start-tally g fuse n (i ∷ is) = let rest = start-tally g fuse (n + 1) is in omega (arith, rest)
 
-start-idle : (fuse : FuseName) (x : DriveImage) → IsDrive x → AreIdle x.geometry (drive_from fuse x)
+start-idle : (fuse : FuseName) (x : DriveImage) → IsDrive x → AreIdle x.geometry (drive_from fuse None x)
 start-idle fuse x drive None zone = refl
-start-idle fuse x drive (Some q) zone = let many = queues-count x drive in ap (λ (s : PortState). s.begun) (start-at x.geometry fuse 0 (queue_ports x) q (omega (arith, many, zone)))
+start-idle fuse x drive (Some q) zone = let many = queues-count x drive in ap (λ (s : PortState). s.begun) (start-at x.geometry fuse None 0 (queue_ports x) q (omega (arith, many, zone)))
 
 -- after the first so many events of a recovery, so many have happened
 pub recovery-tally : (fuse : FuseName) (x : DriveImage) (writes : Writes) (top k : ℕ) → IsDrive x → AreRising 0 (homes_of x.geometry) (map (λ w. w.0) writes) → AreBelow (homes_of x.geometry) writes → k ≤ events_of x writes top
-    → tally_of (after_events x.geometry (drive_from fuse x) (take k (recovery_events (drive_from fuse x) writes top))) ≡ k
+    → tally_of (after_events x.geometry (drive_from fuse None x) (take k (recovery_events (drive_from fuse None x) writes top))) ≡ k
 recovery-tally fuse x writes top k drive rising below low =
     let g = x.geometry in
-    let d = drive_from fuse x in
+    let d = drive_from fuse None x in
     let long = recovery-length fuse x writes top in
     let few = few-events x writes top drive rising in
     let none = start-tally g fuse 0 (queue_ports x) in
-    let count : length d.queues ≡ g.queues = start-length g fuse 0 (queue_ports x) ∙ queues-count x drive in
+    let count : length d.queues ≡ g.queues = start-length g fuse None 0 (queue_ports x) ∙ queues-count x drive in
     let words : AreWordEvents g (base_events d.root.base top ++ heads_events 0 d.queues) = base-words g d.root.base top (heads_events 0 d.queues) (heads-words g 0 d.queues (omega (arith, count))) in
     let counts = homes-count g d writes (base_events d.root.base top ++ heads_events 0 d.queues) count (start-idle fuse x drive) below words (omega (arith, long, few, none)) k (omega (arith, low, long)) in
     omega (arith, counts, none)

@@ -1,5 +1,5 @@
 -- What an image stands for: the blocks of its prefix, and the volume on them; or why there is none.
-use Rattle.std.specs.Prelude.{◌≡◌, ◌<◌, ℕ, List, length, Option}
+use Rattle.std.specs.Prelude.{◌≡◌, ◌<◌, ℕ, List, length, Option, None}
 use Rattle.mq_blocks.specs.Blocks.{block_at}
 use Rattle.mq_blocks.specs.Descriptor.{Descriptor}
 use Rattle.mq_blocks.specs.Drive.{FuseName}
@@ -50,7 +50,7 @@ pub record StandsFor (x : DriveImage) (v : Volume) : Type 0 where
 -- the drive that starts from the image.
 pub record RefusesDrive (x : DriveImage) (e : ImageFault) : Type 0 where
   pub fuse : FuseName
-  pub refuses : RefusesImage x.geometry (drive_from fuse x) e
+  pub refuses : RefusesImage x.geometry (drive_from fuse None x) e
 
 -- the image is not readable; or the blocks that stand hold no volume, and this is wrong at this block
 pub data RefusesVolume (x : DriveImage) : StandingRefusal → Type 0 where

@@ -1,5 +1,5 @@
 -- The ports of a drive that starts from an image.
-use Rattle.std.specs.Prelude.{◌≡◌, ℕ, List, [], All, length}
+use Rattle.std.specs.Prelude.{◌≡◌, ℕ, List, [], All, Option, length}
 use Rattle.mq_blocks.specs.Drive.{FuseName}
 use Rattle.mq_drive.specs.Emu.{drawn_by, emu_faults, emu_state}
 use Rattle.mq_drive.specs.Seats.{fuse_of, tickets_of}
@@ -8,6 +8,7 @@ use Rattle.mq_drive.specs.declared.fuse.FuseSeat.{FuseSeat}
 use Rattle.mq_drive.specs.declared.port.Ports.{Ports}
 use Rattle.mq_image.specs.File.{DriveImage}
 use Rattle.mq_images.specs.Views.{drive_from}
+use Rattle.mq_images.specs.declared.ports.Failing.{Failing}
 use Rattle.mq_recover.specs.Drives.{drive_of}
 
 -- the seat has drawn no ticket of this fuse
@@ -23,8 +24,8 @@ pub record AreFreshSeats (fuse : FuseName) (count : ℕ) (seats : List FuseSeat)
 abbrev pub IsFreshPort : EmuPort → Type 0
 IsFreshPort p = (emu_faults p ≡ []) × (drawn_by p ≡ [])
 
--- these are the ports of the drive that starts from the image
-pub record AreStarted (fuse : FuseName) (x : DriveImage) (p : Ports EmuPort) : Type 0 where
-  pub states : drive_of emu_state p ≡ drive_from fuse x
+-- these are the ports of the drive that starts from the image, of which this command is to fail
+pub record AreStarted (fuse : FuseName) (fail : Option Failing) (x : DriveImage) (p : Ports EmuPort) : Type 0 where
+  pub states : drive_of emu_state p ≡ drive_from fuse fail x
   pub queues : All IsFreshPort p.queues.items
   pub root : IsFreshPort p.root

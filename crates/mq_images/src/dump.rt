@@ -206,6 +206,6 @@ pub fn dump_image(alloc: Global, image: DriveImage) -> Result<Vec<u8>, ImageFaul
 {
     let geometry = image.geometry;
     let (fuse, seats) = drive_power(alloc, geometry, None)?;
-    let ports = start_ports(alloc, &fuse, seats, image, 0)?;
+    let ports = start_ports(alloc, &fuse, seats, image, None, 0)?;
     dump_drive(alloc, geometry, &ports)
 }

@@ -1,16 +1,21 @@
-//! What is done on the image of a drive in memory: the empty file system, the volume that stands, the chains, and
-//! recovery.
+//! What is done on the image of a drive in memory: the empty file system, the volume that stands, the chains,
+//! recovery, and the drive that starts from it and ends with a cut of its power.
 #![tactic(auto)]
 
+mod cut;
 mod dump;
 mod format;
+mod laws;
 mod ports;
 mod recovery;
 mod refusal;
 mod volume;
 
+pub use cut::{CutDrive, cut_ports};
 pub use dump::dump_image;
 pub use format::format_drive;
+pub use laws::{a_recovered_image_holds_what_stood, a_recovered_image_starts};
+pub use ports::{Failing, drive_power, start_ports};
 pub use recovery::{RecoveredImage, recover_image};
 pub use refusal::StandingRefusal;
 pub use volume::{list_volume, read_volume};

@@ -1,4 +1,4 @@
-// The drive that starts from an image, and what stands on it.
+// The drive that starts from an image, one of whose commands may fail, and what stands on it.
 ghost use Rattle.std.specs.Prelude.{◌≡◌, ◌⊎◌, ◌+◌, ◌≤◌, ◌^◌, ℕ, List, IfErr, IfOk, IsErrOf, IsOkUnless, All, None};
 ghost use Rattle.std.specs.Option.{ForSome};
 ghost use Rattle.mq_blocks.specs.Descriptor.{Descriptor};
@@ -9,12 +9,32 @@ ghost use Rattle.mq_drive.specs.Start.{IsImageOf, IsRole, start_of};
 ghost use Rattle.mq_image.specs.Drives.{IsDrive};
 ghost use Rattle.mq_images.specs.Standing.{IsStandingOf, Reads, RefusesDrive};
 ghost use Rattle.mq_images.specs.Starts.{AreFreshSeats, AreStarted, IsFreshPort, IsFreshSeat};
+ghost use Rattle.mq_images.specs.Views.{command_of};
 
 use mq_blocks::{Geometry, OutOfMemory, QueueNo};
 use mq_drive::{EmuPort, Fuse, FuseSeat, Ports, Role};
 use mq_image::DriveImage;
 use mq_recover::{ImageFault, Standing, stands};
 use std::alloc::Global;
+
+/// A command of a drive that is to fail: it ends with the status Write Fault. A pair that names no command fails none.
+#[derive(Clone, Copy)]
+pub struct Failing {
+    /// The number of its port: that of a queue, from 0 on, or of the root, which comes after all queues.
+    pub port: u32,
+    /// Which command of this port it is, counted from 1 over executed entries and home writes alike.
+    pub command: u64,
+}
+
+// Which command of the port with this number is to fail, where some command of it is.
+fn failing_of(fail: Option<Failing>, port: u32) -> Option<u64>
+    ensures { result ≡ command_of fail port }
+{
+    match fail {
+        Some(failing) if failing.port == port => Some(failing.command),
+        _ => None,
+    }
+}
 
 /// A fuse that lets `limit` events happen, or all, with a seat for each port of a drive.
 pub fn drive_power(
@@ -29,17 +49,20 @@ pub fn drive_power(
     Fuse::new(alloc, limit, geometry.queues() + 1)
 }
 
-/// The ports of a drive that starts from an image.
+/// The ports of a drive that starts from an image, with the power of a fuse and with a seat of it for each port, the
+/// root's last. The command that is told, of the port that it names, is to fail. `seed` and a port's number choose the
+/// order in which posted commands are executed.
 pub fn start_ports<'f>(
     alloc: Global,
     fuse: &'f Fuse,
     seats: Vec<FuseSeat>,
     image: DriveImage,
+    fail: Option<Failing>,
     seed: u64,
 ) -> Result<Ports<EmuPort<'f>>, OutOfMemory>
     requires seats { AreFreshSeats (name_of fuse.now) (queues_of image.geometry + 1) seats.items }
     requires image { IsDrive image }
-    ensures { IfOk result (AreStarted (name_of fuse.now) image) }
+    ensures { IfOk result (AreStarted (name_of fuse.now) fail image) }
 {
     let DriveImage { geometry, ports } = image;
     let mut images = ports;
@@ -49,11 +72,22 @@ pub fn start_ports<'f>(
         let image = images.remove(0);
         let seat = seats.remove(0);
         let role = Role::Queue(QueueNo(q));
-        queues.push(EmuPort::new(alloc, fuse, seat, geometry, role, image, None, seed)?)?;
+        let command = failing_of(fail, q);
+        queues.push(EmuPort::new(alloc, fuse, seat, geometry, role, image, command, seed)?)?;
     }
     let image = images.remove(0);
     let seat = seats.remove(0);
-    let root = EmuPort::new(alloc, fuse, seat, geometry, Role::Root, image, None, seed)?;
+    let command = failing_of(fail, geometry.queues());
+    let root = EmuPort::new(
+        alloc,
+        fuse,
+        seat,
+        geometry,
+        Role::Root,
+        image,
+        command,
+        seed,
+    )?;
     Ok(Ports { queues, root })
 }
 
@@ -68,6 +102,6 @@ pub fn read_standing(alloc: Global, image: DriveImage) -> Result<Standing, Image
 {
     let geometry = image.geometry;
     let (fuse, seats) = drive_power(alloc, geometry, None)?;
-    let ports = start_ports(alloc, &fuse, seats, image, 0)?;
+    let ports = start_ports(alloc, &fuse, seats, image, None, 0)?;
     stands(alloc, geometry, &ports)
 }

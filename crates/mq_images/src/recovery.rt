@@ -6,16 +6,17 @@ ghost use Rattle.mq_blocks.specs.Geometry.{queues_of};
 ghost use Rattle.mq_drive.specs.Emu.{emu_faults, emu_state};
 ghost use Rattle.mq_drive.specs.Seats.{name_of};
 ghost use Rattle.mq_image.specs.Drives.{IsDrive};
-ghost use Rattle.mq_images.specs.Cuts.{AreCutPorts, AreSound, HasRun, IsCutPort, IsLeftBy, row_of};
+ghost use Rattle.mq_images.specs.Cuts.{AreSound, HasRun, IsLeftBy};
 ghost use Rattle.mq_images.specs.Recovering.{IsRecoveryOf};
 ghost use Rattle.mq_images.specs.Standing.{Reads, RefusesDrive};
 ghost use Rattle.mq_images.specs.Starts.{AreFreshSeats};
 ghost use Rattle.mq_recover.specs.Drives.{AreBoundsKept, IsQuiescentDrive, drive_of, faults_on};
 ghost use Rattle.mq_recover.specs.Refusals.{IsReadableImage, RefusesImage};
 
+use crate::cut::{CutDrive, cut_ports};
 use crate::ports::{drive_power, start_ports};
-use mq_blocks::{Geometry, OutOfMemory};
-use mq_drive::{EmuPort, Fuse, FuseSeat, PortImage, Ports};
+use mq_blocks::Geometry;
+use mq_drive::{EmuPort, Fuse, FuseSeat, Ports};
 use mq_image::DriveImage;
 use mq_recover::{ImageFault, RecoverRefusal, Recovered, recover, stands};
 use std::alloc::Global;
@@ -29,40 +30,6 @@ pub struct RecoveredImage {
     pub found: Recovered,
     /// After how many events the recovery was cut, where it was.
     pub cut: Option<u64>,
-}
-
-// What cuts leave of the ports of a drive, the root's last, and their seats.
-#[derive(Drop)]
-struct Left {
-    images: Vec<PortImage>,
-    seats: Vec<FuseSeat>,
-}
-
-// What a cut of the power leaves of a port, and its seat.
-fn cut_port(port: EmuPort<'_>, pick: u64) -> (PortImage, FuseSeat)
-    ensures { IsCutPort port.entry result.0 result.1 }
-{
-    port.cut(pick)
-}
-
-// What cuts of the power leave of the ports of a drive.
-fn cut_ports(alloc: Global, ports: Ports<EmuPort<'_>>, pick: u64) -> Result<Left, OutOfMemory>
-    ensures { IfOk result (λ left. AreCutPorts (row_of ports.entry) left.images.items left.seats.items) }
-{
-    let Ports { mut queues, root } = ports;
-    let count = queues.len();
-    let mut images = Vec::with_capacity(alloc, count + 1)?;
-    let mut seats = Vec::with_capacity(alloc, count + 1)?;
-    for q in 0..count {
-        let _queue = q;
-        let (image, seat) = cut_port(queues.remove(0), pick);
-        images.push(image)?;
-        seats.push(seat)?;
-    }
-    let (image, seat) = cut_port(root, pick);
-    images.push(image)?;
-    seats.push(seat)?;
-    Ok(Left { images, seats })
 }
 
 // How a recovery ended: what it found, and whether it was whole.
@@ -127,7 +94,7 @@ fn recover_until(
     seats: Vec<FuseSeat>,
     image: DriveImage,
     pick: u64,
-) -> Result<(Run, Left), ImageFault>
+) -> Result<(Run, CutDrive), ImageFault>
     requires seats { AreFreshSeats (name_of fuse.now) (queues_of image.geometry + 1) seats.items }
     requires image { IsDrive image }
     ensures ok { IfOk result (λ r. IsLeftBy image (name_of fuse.now) r.0.found r.0.whole r.1.images.items
@@ -138,7 +105,7 @@ fn recover_until(
         → IsOkUnless result ImageFault.OutOfMemory }
 {
     let geometry = image.geometry;
-    let mut ports = start_ports(alloc, fuse, seats, image, pick)?;
+    let mut ports = start_ports(alloc, fuse, seats, image, None, pick)?;
     let ran = recover_ports(alloc, geometry, &mut ports)?;
     let left = cut_ports(alloc, ports, pick)?;
     Ok((ran, left))
@@ -163,7 +130,7 @@ pub fn recover_image(
     let geometry = image.geometry;
     let (fuse, seats) = drive_power(alloc, geometry, cut)?;
     let (ran, left) = recover_until(alloc, &fuse, seats, image, pick)?;
-    let Left { images, seats } = left;
+    let CutDrive { images, seats } = left;
     let events = fuse.close(seats);
     Ok(RecoveredImage {
         image: DriveImage {

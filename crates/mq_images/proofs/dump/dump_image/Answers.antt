@@ -1,4 +1,4 @@
-use Rattle.std.proofs.Common.{◌≡◌, ◌⊎◌, ap, subst}
+use Rattle.std.proofs.Common.{◌≡◌, ◌⊎◌, None, ap, subst}
 use Rattle.mq_blocks.specs.Journal.{Shown}
 use Rattle.mq_blocks.specs.declared.geometry.Geometry.{Geometry}
 use Rattle.mq_drive.specs.Emu.{emu_state}
@@ -18,7 +18,7 @@ pub invariant_of-ports : goal.invariant_of-ports
 invariant_of-ports c = search c.in_ok-ports.ports.root.device
 
 pub dump_drive-requires : goal.dump_drive-requires
-dump_drive-requires c = still-under (name_of c.in_ok-fuse.fuse) c.image.inside.geometry c.args.image (drive_of emu_state c.in_ok-ports.ports) c.requires (ap (λ (x : DriveImage). x.geometry) c.image.view_is) c.in_ok-ports.ensures.states
+dump_drive-requires c = still-under (name_of c.in_ok-fuse.fuse) None c.image.inside.geometry c.args.image (drive_of emu_state c.in_ok-ports.ports) c.requires (ap (λ (x : DriveImage). x.geometry) c.image.view_is) c.in_ok-ports.ensures.states
 
 pub returns-clause-ok : goal.returns-clause-ok
 returns-clause-ok c =
@@ -27,7 +27,7 @@ returns-clause-ok c =
     let same : g ≡ c.args.image.geometry = ap (λ (x : DriveImage). x.geometry) c.image.view_is in
     on-ok c.dump_drive.result (λ v. IsDumpOf g (view_over g d) v.items) (λ v. IsDump c.args.image v.items) c.dump_drive.ensures.ok
     (λ v is.
-    subst (λ (i : Shown). IsDumpOf c.args.image.geometry i v.items) (started-view (name_of c.in_ok-fuse.fuse) c.args.image d c.in_ok-ports.ensures.states)
+    subst (λ (i : Shown). IsDumpOf c.args.image.geometry i v.items) (started-view (name_of c.in_ok-fuse.fuse) None c.args.image d c.in_ok-ports.ensures.states)
     (subst (λ (h : Geometry). IsDumpOf h (view_over h d) v.items) same is))
 
 pub returns-clause-refused : goal.returns-clause-refused
@@ -40,4 +40,4 @@ returns-clause-refused c =
 pub returns-clause-complete : goal.returns-clause-complete
 returns-clause-complete c = λ ds top read.
     let same : c.image.inside.geometry ≡ c.args.image.geometry = ap (λ (x : DriveImage). x.geometry) c.image.view_is in
-    c.dump_drive.ensures.complete (readable-under (name_of c.in_ok-fuse.fuse) c.image.inside.geometry c.args.image (drive_of emu_state c.in_ok-ports.ports) ds top same c.in_ok-ports.ensures.states read)
+    c.dump_drive.ensures.complete (readable-under (name_of c.in_ok-fuse.fuse) None c.image.inside.geometry c.args.image (drive_of emu_state c.in_ok-ports.ports) ds top same c.in_ok-ports.ensures.states read)

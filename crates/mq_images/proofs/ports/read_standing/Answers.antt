@@ -1,4 +1,4 @@
-use Rattle.std.proofs.Common.{◌≡◌, ◌⊎◌, ap}
+use Rattle.std.proofs.Common.{◌≡◌, ◌⊎◌, None, ap}
 use Rattle.mq_drive.specs.Emu.{emu_state}
 use Rattle.mq_drive.specs.Seats.{name_of}
 use Rattle.mq_image.specs.File.{DriveImage}
@@ -16,14 +16,14 @@ pub invariant_of-ports : goal.invariant_of-ports
 invariant_of-ports c = search c.in_ok-ports.ports.root.device
 
 pub stands-requires : goal.stands-requires
-stands-requires c = still-under (name_of c.in_ok-fuse.fuse) c.image.inside.geometry c.args.image (drive_of emu_state c.in_ok-ports.ports) c.requires (ap (λ (x : DriveImage). x.geometry) c.image.view_is) c.in_ok-ports.ensures.states
+stands-requires c = still-under (name_of c.in_ok-fuse.fuse) None c.image.inside.geometry c.args.image (drive_of emu_state c.in_ok-ports.ports) c.requires (ap (λ (x : DriveImage). x.geometry) c.image.view_is) c.in_ok-ports.ensures.states
 
 pub returns-clause-ok : goal.returns-clause-ok
 returns-clause-ok c =
     let g = c.image.inside.geometry in
     let d = drive_of emu_state c.in_ok-ports.ports in
     let same : g ≡ c.args.image.geometry = ap (λ (x : DriveImage). x.geometry) c.image.view_is in
-    on-ok c.stands.result (StandsIn g d) (IsStandingOf c.args.image) c.stands.ensures.ok (λ s stood. standing-under (name_of c.in_ok-fuse.fuse) g c.args.image d s same c.in_ok-ports.ensures.states stood)
+    on-ok c.stands.result (StandsIn g d) (IsStandingOf c.args.image) c.stands.ensures.ok (λ s stood. standing-under (name_of c.in_ok-fuse.fuse) None g c.args.image d s same c.in_ok-ports.ensures.states stood)
 
 pub returns-clause-refused : goal.returns-clause-refused
 returns-clause-refused c =
@@ -35,4 +35,4 @@ returns-clause-refused c =
 pub returns-clause-complete : goal.returns-clause-complete
 returns-clause-complete c = λ ds top read.
     let same : c.image.inside.geometry ≡ c.args.image.geometry = ap (λ (x : DriveImage). x.geometry) c.image.view_is in
-    c.stands.ensures.complete (readable-under (name_of c.in_ok-fuse.fuse) c.image.inside.geometry c.args.image (drive_of emu_state c.in_ok-ports.ports) ds top same c.in_ok-ports.ensures.states read)
+    c.stands.ensures.complete (readable-under (name_of c.in_ok-fuse.fuse) None c.image.inside.geometry c.args.image (drive_of emu_state c.in_ok-ports.ports) ds top same c.in_ok-ports.ensures.states read)

@@ -3,4 +3,4 @@ use Rattle.mq_images.proofs.Rows.{AreStartedTo}
 use Rattle.mq_images.proofs.ports.start_ports.Given as goal
 
 abbrev pub invariant-loop-q : goal.invariant-loop-q
-invariant-loop-q l = AreStartedTo l.geometry (name_of l.fuse) l.fn.image.ports l.q l.queues.items l.images.items l.seats.items
+invariant-loop-q l = AreStartedTo l.geometry (name_of l.fuse) l.fail l.fn.image.ports l.q l.queues.items l.images.items l.seats.items

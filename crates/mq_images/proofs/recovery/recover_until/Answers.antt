@@ -1,4 +1,4 @@
-use Rattle.std.proofs.Common.{ap}
+use Rattle.std.proofs.Common.{None, ap}
 use Rattle.std.proofs.lemmas.Result.{err_from_is_err_and}
 use Rattle.mq_drive.specs.Emu.{emu_state}
 use Rattle.mq_drive.specs.Seats.{name_of}
@@ -10,7 +10,7 @@ use Rattle.mq_images.proofs.Starting.{still-under}
 use Rattle.mq_images.proofs.recovery.recover_until.Goals as goal
 
 pub recover_ports-requires-clause-still : goal.recover_ports-requires-clause-still
-recover_ports-requires-clause-still c = still-under (name_of c.args.fuse.now) c.image.inside.geometry c.args.image (drive_of emu_state c.in_ok-ports.ports) c.requires.image (ap (λ (x : DriveImage). x.geometry) c.image.view_is) c.in_ok-ports.ensures.states
+recover_ports-requires-clause-still c = still-under (name_of c.args.fuse.now) None c.image.inside.geometry c.args.image (drive_of emu_state c.in_ok-ports.ports) c.requires.image (ap (λ (x : DriveImage). x.geometry) c.image.view_is) c.in_ok-ports.ensures.states
 
 pub recover_ports-requires-clause-sound : goal.recover_ports-requires-clause-sound
 recover_ports-requires-clause-sound c = started-sound c.image.inside.geometry (name_of c.args.fuse.now) c.args.image c.in_ok-ports.ports (ap (λ (x : DriveImage). x.geometry) c.image.view_is) c.requires.image c.in_ok-ports.ensures
@@ -26,7 +26,7 @@ returns-in_err-ran-clause-refused c =
 pub returns-in_err-ran-clause-complete : goal.returns-in_err-ran-clause-complete
 returns-in_err-ran-clause-complete c = λ ds top read.
     let p = err_from_is_err_and c.from_residual-in_err-ran.result c.from_residual-in_err-ran.ensures.1 in
-    rw (p.1, p.2) (c.in_err-ran.ensures.complete (readable-under (name_of c.args.fuse.now) c.image.inside.geometry c.args.image (drive_of emu_state c.in_ok-ports.ports) ds top (ap (λ (x : DriveImage). x.geometry) c.image.view_is) c.in_ok-ports.ensures.states read))
+    rw (p.1, p.2) (c.in_err-ran.ensures.complete (readable-under (name_of c.args.fuse.now) None c.image.inside.geometry c.args.image (drive_of emu_state c.in_ok-ports.ports) ds top (ap (λ (x : DriveImage). x.geometry) c.image.view_is) c.in_ok-ports.ensures.states read))
 
 pub returns-clause-ok : goal.returns-clause-ok
 returns-clause-ok c =

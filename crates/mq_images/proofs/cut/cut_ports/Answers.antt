@@ -1,6 +1,6 @@
 use Rattle.std.proofs.Common.{arith}
 use Rattle.mq_images.proofs.CutRows.{all-cut, next-cut, none-cut}
-use Rattle.mq_images.proofs.recovery.cut_ports.Goals as goal
+use Rattle.mq_images.proofs.cut.cut_ports.Goals as goal
 
 pub invariant_of-root : goal.invariant_of-root
 invariant_of-root c = search c.args.ports.root.device
