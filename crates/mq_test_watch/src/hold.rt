@@ -43,7 +43,7 @@ impl Watch for Hold {
 }
 
 // Flushes the root while the queue's flush is held. Answers whether it was held.
-fn flush_while_held<P: Port>(hold: &Hold, port: P) -> (bool, Result<(), Off>) {
+fn flush_while_held<P: Port + Drop>(hold: &Hold, port: P) -> (bool, Result<(), Off>) {
     let mut port = port;
     let is_held = comes(&hold.held);
     let flushed = port.flush();
@@ -51,7 +51,7 @@ fn flush_while_held<P: Port>(hold: &Hold, port: P) -> (bool, Result<(), Off>) {
     (is_held, flushed)
 }
 
-fn flush<P: Port>(port: P) -> Result<(), Off> {
+fn flush<P: Port + Drop>(port: P) -> Result<(), Off> {
     let mut port = port;
     port.flush()
 }
