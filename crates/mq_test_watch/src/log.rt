@@ -1,8 +1,9 @@
 // A watch that notes what it is told.
+use mq_blocks::OutOfMemory;
 use mq_drive::Role;
 use mq_watch::{Call, Watch};
 use std::alloc::Global;
-use std::cell::RefCell;
+use std::cell::Cell;
 
 /// A call that a watch was told of.
 #[derive(Clone, Copy, Debug, PartialEq, Eq)]
@@ -13,36 +14,41 @@ pub struct Told {
     pub call: Call,
 }
 
+// So many calls a log can note.
+const PLACES: usize = 16;
+
 /// What watches were told, in order.
 #[derive(Drop)]
 pub struct Log {
-    told: RefCell<Vec<Told>>,
+    told: Vec<Cell<Option<Told>>>,
+    count: Cell<usize>,
 }
 
 impl Log {
-    pub fn new(alloc: Global) -> Log {
-        Log {
-            told: RefCell::new(Vec::new(alloc)),
-        }
+    pub fn new(alloc: Global) -> Result<Log, OutOfMemory> {
+        Ok(Log {
+            told: (0..PLACES).map(|_| Cell::new(None)).collect(alloc)?,
+            count: Cell::new(0),
+        })
     }
 
-    // A call for which there is no memory isn't noted, and the test then finds that it is missing.
+    // A call for which there is no place is counted.
     fn note(&self, told: Told) {
-        if let Ok(mut all) = self.told.try_borrow_mut() {
-            let _ = all.push(told);
+        let count = self.count.get();
+        if let Some(place) = self.told.get(count) {
+            place.set(Some(told));
         }
+        self.count.set(count.saturating_add(1));
     }
 
     /// Whether these were told, and no others.
     pub fn is(&self, first: &[Told], then: &[Told]) -> bool {
-        match self.told.try_borrow() {
-            Ok(all) => {
-                all.starts_with(first)
-                    && all.ends_with(then)
-                    && all.len() - first.len() == then.len()
-            }
-            Err(_) => false,
-        }
+        let count = self.count.get();
+        let mut places = self.told.iter();
+        count.checked_sub(first.len()) == Some(then.len())
+            && first.iter().chain(then).all(|told| places
+                .next()
+                .is_some_and(|place| place.get() == Some(*told)))
     }
 }
 

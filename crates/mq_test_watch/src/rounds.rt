@@ -73,7 +73,33 @@ fn of_queue(call: Call) -> Told {
     }
 }
 
-// With power for so many events the last call of the commit is the first refused one; the steps follow.
+// Whether a queue with power for so many events answers under a watch as without one, and whether the watch
+// is told of these calls.
+fn is_watched(
+    rt: &impl Abort,
+    alloc: Global,
+    limit: u64,
+    calls: &[Told],
+    steps: &[Told],
+) -> Result<bool, OutOfMemory>
+    requires { limit ≤ 2 ^ 63 }
+{
+    let log = Log::new(alloc)?;
+    let level = Level {
+        level: 0,
+        log: &log,
+    };
+    let (answers, image) = watched_queue(rt, alloc, limit, &level)?;
+    let (wanted, left) = unwatched_queue(rt, alloc, limit)?;
+    Ok(
+        same_answers(&answers, &wanted)
+            && same_images(&image, &left)
+            && answers.commit.is_ok() == (limit >= 5)
+            && log.is(calls, steps),
+    )
+}
+
+// Of the commit the first call that is refused is the last that is made; the steps follow all the same.
 #[test]
 fn a_queue_answers_as_without_its_watch(rt: HostRuntime) -> Result<(), OutOfMemory> {
     let calls = [
@@ -94,17 +120,10 @@ fn a_queue_answers_as_without_its_watch(rt: HostRuntime) -> Result<(), OutOfMemo
         (6, 5),
         (9, 5),
     ] {
-        let log = Log::new(rt.alloc());
-        let level = Level {
-            level: 0,
-            log: &log,
-        };
-        let (answers, image) = watched_queue(&rt, rt.alloc(), limit, &level)?;
-        let (wanted, left) = unwatched_queue(&rt, rt.alloc(), limit)?;
-        assert!(rt; same_answers(&answers, &wanted), "limit {limit}");
-        assert!(rt; same_images(&image, &left), "limit {limit}");
-        assert!(rt; answers.commit.is_ok() == (limit >= 5), "limit {limit}");
-        assert!(rt; log.is(&calls[..told], &steps), "limit {limit}");
+        assert!(rt;
+            is_watched(&rt, rt.alloc(), limit, &calls[..told], &steps)?,
+            "limit {limit}"
+        );
     }
     Ok(())
 }
@@ -156,7 +175,7 @@ fn of_root(call: Call) -> [Told; 2] {
 
 #[test]
 fn a_watch_is_told_before_the_call(rt: HostRuntime) -> Result<(), OutOfMemory> {
-    let log = Log::new(rt.alloc());
+    let log = Log::new(rt.alloc())?;
     let inner = Level {
         level: 0,
         log: &log,
