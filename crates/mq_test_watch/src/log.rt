@@ -1,65 +1,56 @@
-// A watch that notes what it is told.
-use mq_blocks::OutOfMemory;
+// A watch that compares what it is told with what it is to be told.
 use mq_drive::Role;
 use mq_watch::{Call, Watch};
-use std::alloc::Global;
 use std::cell::Cell;
 
-/// A call that a watch was told of.
+/// A call that a watch is told of.
 #[derive(Clone, Copy, Debug, PartialEq, Eq)]
 pub struct Told {
-    /// Which of the watches was told.
+    /// Which of the watches is told.
     pub level: u8,
     pub role: Role,
     pub call: Call,
 }
 
-// So many calls a log can note.
-const PLACES: usize = 16;
-
-/// What watches were told, in order.
+/// What watches are to be told, in order, and how it went so far.
 #[derive(Drop)]
-pub struct Log {
-    told: Vec<Cell<Option<Told>>>,
+pub struct Log<'t> {
+    wanted: &'t [Told],
     count: Cell<usize>,
+    is_other: Cell<bool>,
 }
 
-impl Log {
-    pub fn new(alloc: Global) -> Result<Log, OutOfMemory> {
-        Ok(Log {
-            told: (0..PLACES).map(|_| Cell::new(None)).collect(alloc)?,
+impl<'t> Log<'t> {
+    pub fn new(wanted: &'t [Told]) -> Log<'t> {
+        Log {
+            wanted,
             count: Cell::new(0),
-        })
+            is_other: Cell::new(false),
+        }
     }
 
-    // A call for which there is no place is counted.
     fn note(&self, told: Told) {
         let count = self.count.get();
-        if let Some(place) = self.told.get(count) {
-            place.set(Some(told));
+        if self.wanted.get(count) != Some(&told) {
+            self.is_other.set(true);
         }
         self.count.set(count.saturating_add(1));
     }
 
-    /// Whether these were told, and no others.
-    pub fn is(&self, first: &[Told], then: &[Told]) -> bool {
-        let count = self.count.get();
-        let mut places = self.told.iter();
-        count.checked_sub(first.len()) == Some(then.len())
-            && first.iter().chain(then).all(|told| places
-                .next()
-                .is_some_and(|place| place.get() == Some(*told)))
+    /// Whether all this was told, and no more.
+    pub fn is_told(&self) -> bool {
+        !self.is_other.get() && self.count.get() == self.wanted.len()
     }
 }
 
 /// One of the watches that share a log.
 #[derive(Clone, Copy)]
-pub struct Level<'l> {
+pub struct Level<'l, 't> {
     pub level: u8,
-    pub log: &'l Log,
+    pub log: &'l Log<'t>,
 }
 
-impl<'l> Watch for Level<'l> {
+impl<'l, 't> Watch for Level<'l, 't> {
     fn before(&self, role: Role, call: Call) {
         self.log.note(Told {
             level: self.level,

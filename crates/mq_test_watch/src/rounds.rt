@@ -1,7 +1,7 @@
 // What a port answers and what a cut leaves of it, with a watch and without one.
 ghost use Rattle.std.specs.Prelude.{◌≤◌, ◌^◌};
 
-use crate::calls::{Answers, queue_calls, root_calls};
+use crate::calls::{Answers, Reads, queue_calls, root_calls};
 use crate::drive::{QUEUE, filled, one_queue, powered, queue_port, root_port};
 use crate::log::{Level, Log, Told};
 use mq_blocks::{Block, OutOfMemory};
@@ -25,12 +25,15 @@ fn same_images(one: &PortImage, other: &PortImage) -> bool {
         && same_blocks(one.blocks.as_slice(), other.blocks.as_slice())
 }
 
+fn same_reads(one: &Reads, other: &Reads) -> bool {
+    one.role == other.role
+        && one.words == other.words
+        && one.slot == other.slot
+        && one.block.bytes() == other.block.bytes()
+}
+
 fn same_answers(one: &Answers, other: &Answers) -> bool {
-    let (a, b) = (&one.reads, &other.reads);
-    (a.role, a.words) == (b.role, b.words)
-        && a.slot == b.slot
-        && a.block.bytes() == b.block.bytes()
-        && (one.commit, one.steps) == (other.commit, other.steps)
+    same_reads(&one.reads, &other.reads) && one.commit == other.commit && one.steps == other.steps
 }
 
 fn unwatched_queue(
@@ -64,27 +67,37 @@ fn watched_queue<W: Watch>(
     Ok((answers, port.into_inner().cut(9).0))
 }
 
-// What a watch of the queue is told.
-fn of_queue(call: Call) -> Told {
-    Told {
-        level: 0,
-        role: QUEUE,
-        call,
+// What a watch of the queue is to be told where so many calls of the commit are made: these, and each step.
+fn told_of_queue(alloc: Global, calls: usize) -> Result<Vec<Told>, OutOfMemory> {
+    let commit = [
+        Call::StoreHead,
+        Call::Stage,
+        Call::Stage,
+        Call::Flush,
+        Call::Ring,
+    ];
+    let mut told = Vec::new(alloc);
+    for call in commit.iter().take(calls).chain(&[Call::Step; 3]) {
+        told.push(Told {
+            level: 0,
+            role: QUEUE,
+            call: *call,
+        })?;
     }
+    Ok(told)
 }
 
 // Whether a queue with power for so many events answers under a watch as without one, and whether the watch
-// is told of these calls.
+// is told of this.
 fn is_watched(
     rt: &impl Abort,
     alloc: Global,
     limit: u64,
-    calls: &[Told],
-    steps: &[Told],
+    told: &[Told],
 ) -> Result<bool, OutOfMemory>
     requires { limit ≤ 2 ^ 63 }
 {
-    let log = Log::new(alloc)?;
+    let log = Log::new(told);
     let level = Level {
         level: 0,
         log: &log,
@@ -95,22 +108,14 @@ fn is_watched(
         same_answers(&answers, &wanted)
             && same_images(&image, &left)
             && answers.commit.is_ok() == (limit >= 5)
-            && log.is(calls, steps),
+            && log.is_told(),
     )
 }
 
 // Of the commit the first call that is refused is the last that is made; the steps follow all the same.
 #[test]
 fn a_queue_answers_as_without_its_watch(rt: HostRuntime) -> Result<(), OutOfMemory> {
-    let calls = [
-        of_queue(Call::StoreHead),
-        of_queue(Call::Stage),
-        of_queue(Call::Stage),
-        of_queue(Call::Flush),
-        of_queue(Call::Ring),
-    ];
-    let steps = [of_queue(Call::Step); 3];
-    for (limit, told) in [
+    for (limit, calls) in [
         (0, 1),
         (1, 2),
         (2, 3),
@@ -120,8 +125,9 @@ fn a_queue_answers_as_without_its_watch(rt: HostRuntime) -> Result<(), OutOfMemo
         (6, 5),
         (9, 5),
     ] {
+        let told = told_of_queue(rt.alloc(), calls)?;
         assert!(rt;
-            is_watched(&rt, rt.alloc(), limit, &calls[..told], &steps)?,
+            is_watched(&rt, rt.alloc(), limit, told.as_slice())?,
             "limit {limit}"
         );
     }
@@ -156,26 +162,25 @@ fn root_watched_twice<W: Watch>(
     Ok((answer, port.into_inner().into_inner().cut(9).0))
 }
 
-// What both watches of the root are told: the one above is told before the call comes to the one below.
-fn of_root(call: Call) -> [Told; 2] {
-    let role = Role::Root;
-    [
-        Told {
-            level: 1,
-            role,
-            call,
-        },
-        Told {
-            level: 0,
-            role,
-            call,
-        },
-    ]
+// The watch above is told of a call before the call comes to the watch below.
+fn told_of_root(alloc: Global) -> Result<Vec<Told>, OutOfMemory> {
+    let mut told = Vec::new(alloc);
+    for call in [Call::StoreBase, Call::Flush, Call::WriteHome] {
+        for level in [1, 0] {
+            told.push(Told {
+                level,
+                role: Role::Root,
+                call,
+            })?;
+        }
+    }
+    Ok(told)
 }
 
 #[test]
 fn a_watch_is_told_before_the_call(rt: HostRuntime) -> Result<(), OutOfMemory> {
-    let log = Log::new(rt.alloc())?;
+    let told = told_of_root(rt.alloc())?;
+    let log = Log::new(told.as_slice());
     let inner = Level {
         level: 0,
         log: &log,
@@ -188,12 +193,6 @@ fn a_watch_is_told_before_the_call(rt: HostRuntime) -> Result<(), OutOfMemory> {
     let (wanted, left) = unwatched_root(&rt, rt.alloc())?;
     assert!(rt; answer == wanted && answer == Ok(HomeStep::Done));
     assert!(rt; same_images(&image, &left));
-    let (base, flush, home) = (
-        of_root(Call::StoreBase),
-        of_root(Call::Flush),
-        of_root(Call::WriteHome),
-    );
-    let calls = [base[0], base[1], flush[0], flush[1]];
-    assert!(rt; log.is(&calls, &home));
+    assert!(rt; log.is_told());
     Ok(())
 }
