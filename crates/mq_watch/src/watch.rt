@@ -1,0 +1,20 @@
+// Who is told of the calls of a port.
+use mq_drive::Role;
+
+/// A changing call of a port.
+#[derive(Clone, Copy, Debug, PartialEq, Eq)]
+pub enum Call {
+    Stage,
+    Flush,
+    Ring,
+    Step,
+    StoreHead,
+    StoreBase,
+    WriteHome,
+}
+
+/// What is told of each changing call of a port, on the thread that makes it and right before it is passed
+/// on. A test can hold the call there; it can't change what the call does.
+pub trait Watch {
+    fn before(&self, role: Role, call: Call);
+}
