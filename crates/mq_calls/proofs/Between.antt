@@ -53,7 +53,7 @@ module _ {P : Type 0} {G : Ghosts P} where
   }
 
   -- a call that was counted, and that took no step
-  ready-more : (g : Geometry) (q n : ℕ) (cells : HeldCells) (v : Seat P FileEntry G) → IsReady g q n cells v → IsReady g q (n + 1) cells v
+  pub ready-more : (g : Geometry) (q n : ℕ) (cells : HeldCells) (v : Seat P FileEntry G) → IsReady g q n cells v → IsReady g q (n + 1) cells v
   ready-more g q n cells v ready = record {
     queue = ready.queue;
     own = ready.own;

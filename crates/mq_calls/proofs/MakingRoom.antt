@@ -18,9 +18,11 @@ use Rattle.mq_turns.specs.Lists.{Each}
 use Rattle.mq_turns.specs.declared.rule.Answer.{Answer}
 use Rattle.mq_turns.specs.declared.rule.Charge.{Charge}
 use Rattle.mq_calls.specs.Acts.{Acts, Begins, Call, GoesOn, HasActed, IsAreaFull, IsRefused, IsTurnedDown, again, at_once, memory, turned_down}
+use Rattle.mq_calls.specs.Calling.{HasLeft}
 use Rattle.mq_calls.specs.Sessions.{HasCalled, IsReady}
 use Rattle.mq_calls.specs.declared.answers.CallCause.{CallCause}
 use Rattle.mq_calls.specs.declared.answers.CallCause.TheVariants.{OutOfMemory}
+use Rattle.mq_calls.proofs.Composing.{ready-left}
 
 -- ---- what a result holds
 
@@ -53,14 +55,24 @@ module _ {P : Type 0} {G : Ghosts P} where
   ready-moved : {reports : List Charge} {fronts : List Answer} (g : Geometry) (q n : ℕ) (cells : HeldCells) (v w : Seat P FileEntry G) → Moves reports fronts v w → w.held ≡ [] → IsReady g q n cells v → IsReady g q n cells w
   ready-moved g q n cells v w m idle ready = ready-kept g q n cells v w m.session m.drawn m.read idle ready
 
+  -- it is ready for its next call once its group was run
+  pub ready-attempted : (g : Geometry) (q n k l : ℕ) (old new : HeldCells) (v w : Seat P FileEntry G) → IsReady g q n old v → HasLeft old new v w → HasCalled (n + 1) w → k ≡ q → l ≡ n + 1 → IsReady g k l new w
+  ready-attempted g q n k l old new v w ready left called queue calls =
+      subst (λ (x : ℕ). IsReady g x l new w) (sym queue)
+      (subst (λ (x : ℕ). IsReady g q x new w) (sym calls) (ready-left g q n (n + 1) old new v w ready left called))
+
   goes-moved : {reports : List Charge} {fronts : List Answer} (v w : Seat P FileEntry G) → Moves reports fronts v w → GoesOn v w
   goes-moved v w m = record { seen = m.seen; done = m.done }
 
 module _ {P : Type 0} {G : Ghosts P} (state : P → PortState) (faults : P → List Fault) where
   -- ---- what a checkpoint leaves
 
-  pub ready-raised : (g : Geometry) (q n : ℕ) (cells : HeldCells) (base : ℕ) (v w : Seat P FileEntry G) → Raises state faults file_group base v w → IsReady g q n cells v → IsReady g q n cells w
+  ready-raised : (g : Geometry) (q n : ℕ) (cells : HeldCells) (base : ℕ) (v w : Seat P FileEntry G) → Raises state faults file_group base v w → IsReady g q n cells v → IsReady g q n cells w
   ready-raised g q n cells base v w r ready = ready-kept g q n cells v w r.session r.drawn r.read_before (r.held ∙ ready.idle) ready
+
+  -- also with the cells that a later value has
+  pub ready-between : (g : Geometry) (q n : ℕ) (base : ℕ) (first mid : HeldCells) (v m : Seat P FileEntry G) → mid ≡ first → Raises state faults file_group base v m → IsReady g q n first v → IsReady g q n mid m
+  ready-between g q n base first mid v m same raises ready = subst (λ (x : HeldCells). IsReady g q n x m) (sym same) (ready-raised g q n first base v m raises ready)
 
   goes-raised : (base : ℕ) (v w : Seat P FileEntry G) → Raises state faults file_group base v w → GoesOn v w
   goes-raised base v w r = record { seen = r.later; done = r.done }
@@ -85,6 +97,12 @@ module _ {P : Type 0} {G : Ghosts P} (state : P → PortState) (faults : P → L
   pub goes-either : (r : Result ℕ CheckpointRefusal) (v w : Seat P FileEntry G) → IfOk r (λ base. Raises state faults file_group base v w) → IfErr r (λ why. HasRefused state faults file_group why v w) → GoesOn v w
   goes-either (Ok base) v w raised refused = goes-raised base v w raised
   goes-either (Err why) v w raised refused = goes-unraised why v w refused
+
+  -- ---- a plan that did not fit
+
+  -- the session may be asked the same call again
+  pub ready-full : (g : Geometry) (c : Call) (old new : HeldCells) (v w : Seat P FileEntry G) → IsReady g c.session c.count old v → HasLeft old new v w → IsAreaFull state faults c v w → IsReady g c.session c.count new w
+  ready-full g c old new v w ready left full = ready-left g c.session c.count c.count old new v w ready left (called-kept c.count v w full.keeps.rests.drawn full.keeps.rests.read ready.called)
 
   -- ---- a call that was run once
 

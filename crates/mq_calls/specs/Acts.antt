@@ -203,4 +203,4 @@ module _ {P : Type 0} {G : Ghosts P} (state : P → PortState) (faults : P → L
   -- down; or its plan did not fit the journal area, and the checkpoint was refused.
   pub data IsRefused (g : Geometry) (c : Call) (old new : Seat P FileEntry G) : CallCause → Option ℕ → Type 0 where
     turned_down : {why : CallCause} {drawn : Option ℕ} {from : Seat P FileEntry G} → Begins c old from → IsTurnedDown g c from new why drawn → IsRefused g c old new why drawn
-    no_room : {why : CheckpointRefusal} {between : Seat P FileEntry G} → IsAreaFull c old between → HasRefused state faults file_group why between new → IsRefused g c old new (cause_of why) None
+    no_room : (why : CheckpointRefusal) {between : Seat P FileEntry G} → IsAreaFull c old between → HasRefused state faults file_group why between new → IsRefused g c old new (cause_of why) None

@@ -101,12 +101,12 @@ impl<P: Port + Drop> Mqfs<P> {
         ensures acts { IfOk result (λ a. (first : _)
             → IsAreaFull P.state P.faults (call_of asked.now) first (view session.old.chair)
             → HasActed P.state P.faults self.now.geometry (call_of asked.now) a.at a.drew a.replies.items
-                first (view session.new.chair)) }
+            first (view session.new.chair)) }
         ensures seen { IfOk result (λ a. a.at ≤ (view session.new.chair).seen) }
         ensures refused { IfErr result (λ r. (first : _)
             → IsAreaFull P.state P.faults (call_of asked.now) first (view session.old.chair)
             → IsRefused P.state P.faults self.now.geometry (call_of asked.now)
-                first (view session.new.chair) r.cause r.drawn) }
+            first (view session.new.chair) r.cause r.drawn) }
     {
         match self.checkpoint(rt, alloc, session) {
             Ok(_) => match self.attempt(rt, alloc, session, asked) {

@@ -38,12 +38,6 @@ impl<P: Port + Drop> Mqfs<P> {
         ensures refused { IfErr result (λ why. HasRefused P.state P.faults file_group why
             (view session.old.chair) (view session.new.chair)) }
     {
-        checkpoint(
-            rt,
-            alloc,
-            self.geometry,
-            &self.desk,
-            &mut session.chair,
-        )
+        checkpoint(rt, alloc, self.geometry, &self.desk, &mut session.chair)
     }
 }

@@ -1,7 +1,5 @@
 use Rattle.mq_turns.specs.AtDesk.{start_of, view}
-use Rattle.mq_turns.specs.Desk.{slot_of}
-use Rattle.mq_turns.specs.declared.turn.Turn.TheVariants.{Side}
-use Rattle.mq_calls.proofs.Sent.{only-given, only-reported, pages-given, pages-reported}
+use Rattle.mq_calls.proofs.Sent.{pages-given, pages-reported}
 use Rattle.mq_calls.proofs.drawing.give_side.Goals as goal
 
 pub returns-in-Drive-clause-pages : goal.returns-in-Drive-clause-pages
@@ -15,9 +13,3 @@ returns-in-Memory-clause-pages g c =
 pub returns-in-Area-clause-pages : goal.returns-in-Area-clause-pages
 returns-in-Area-clause-pages g c =
     pages-given g.P.Port.state g.P.Port.faults (start_of c.args.desk.now) c.args.side.pmr.queue c.args.held.now.cells c.args.side (view c.args.chair.now) (view c.give_back_side-in-Area.new.chair) c.requires.holds c.give_back_side-in-Area.ensures.gave
-
-pub returns-in-Memory-clause-reports : goal.returns-in-Memory-clause-reports
-returns-in-Memory-clause-reports g c = only-given g.P.Port.state g.P.Port.faults (slot_of (start_of c.args.desk.now) (Side c.args.side.pmr.queue)) (view c.args.chair.now) (view c.give_back_side.new.chair) c.give_back_side.ensures.gave
-
-pub returns-in-Area-clause-reports : goal.returns-in-Area-clause-reports
-returns-in-Area-clause-reports g c = only-given g.P.Port.state g.P.Port.faults (slot_of (start_of c.args.desk.now) (Side c.args.side.pmr.queue)) (view c.args.chair.now) (view c.give_back_side-in-Area.new.chair) c.give_back_side-in-Area.ensures.gave

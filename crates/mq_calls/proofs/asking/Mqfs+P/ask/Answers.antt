@@ -18,7 +18,7 @@ returns-in-Some-clause-changes g c = at-change c.args.requests.now c.in-Some.ind
 pub returns-in-Some-clause-ready : goal.returns-in-Some-clause-ready
 returns-in-Some-clause-ready g c =
     let s = c.args.session.now in
-    ready-counted c.args.self.now.geometry s.queue s.calls c.counted.result _ s.held (view s.chair) c.counted.ensures.one c.counted.ensures.limit c.requires.ready
+    ready-counted c.args.self.now.geometry s.queue s.calls c.counted-session.result _ s.held (view s.chair) c.counted-session.ensures.one c.counted-session.ensures.limit c.requires.ready
 
 pub returns-in-Some-clause-goes : goal.returns-in-Some-clause-goes
 returns-in-Some-clause-goes g c = goes-at-once (view c.args.session.now.chair)

@@ -1,53 +1,81 @@
-use Rattle.std.proofs.Common.{ℕ, sym, subst}
+use Rattle.std.proofs.Common.{ℕ, refl, sym, subst}
 use Rattle.mq_turns.specs.AtDesk.{view}
-use Rattle.mq_calls.specs.Acts.{IsRefused, memory}
+use Rattle.mq_calls.specs.Acts.{HasActed, IsAreaFull, IsRefused, at_once, memory, turned_down}
 use Rattle.mq_calls.specs.Calling.{call_by}
-use Rattle.mq_calls.specs.Sessions.{IsReady}
+use Rattle.mq_calls.specs.declared.answers.Answer.{Answer}
 use Rattle.mq_calls.specs.declared.answers.Refusal.{Refusal}
-use Rattle.mq_calls.proofs.Between.{called-along, keeps-all, keeps-at-once, ready-again}
-use Rattle.mq_calls.proofs.Composing.{called-either, either-acts, either-refused, ready-left}
+use Rattle.mq_calls.proofs.Between.{keeps-at-once}
+use Rattle.mq_calls.proofs.Composing.{called-acts, called-turned}
+use Rattle.mq_calls.proofs.GoingOn.{goes-at-once, goes-then}
+use Rattle.mq_calls.proofs.MakingRoom.{acted-at-once, err-along, ok-along, ready-attempted, ready-full, refused-at-once}
 use Rattle.mq_calls.proofs.calls.Mqfs+P.act.Goals as goal
+
+pub returns-then-session-ge-CALL_LIMIT-clause-goes : goal.returns-then-session-ge-CALL_LIMIT-clause-goes
+returns-then-session-ge-CALL_LIMIT-clause-goes g c = goes-at-once (view c.args.session.now.chair)
 
 pub returns-then-session-ge-CALL_LIMIT-clause-refused : goal.returns-then-session-ge-CALL_LIMIT-clause-refused
 returns-then-session-ge-CALL_LIMIT-clause-refused g c =
     let s = c.args.session.now in
     let v = view s.chair in
-    subst (λ (x : Refusal). IsRefused g.P.Port.state g.P.Port.faults c.args.self.now.geometry (call_by s.queue s.calls c.args.durable c.args.requests.now) v v x.cause x.drawn) (sym c.refused.ensures) (memory (keeps-at-once v))
+    subst (λ (x : Refusal). IsRefused g.P.Port.state g.P.Port.faults c.args.self.now.geometry (call_by s.queue s.calls c.args.durable c.args.requests.now) v v x.cause x.drawn) (sym c.refused.ensures) (turned_down at_once (memory (keeps-at-once v)))
+
+-- ---- the group was done at once
 
 pub returns-in-Ok-clause-ready : goal.returns-in-Ok-clause-ready
 returns-in-Ok-clause-ready g c =
-    let st = g.P.Port.state in
-    let fs = g.P.Port.faults in
     let s = c.args.session.now in
+    let t = c.attempt.new.session in
+    let r = c.in-Ok.answer in
     let geometry = c.args.self.now.geometry in
-    let call = call_by s.queue s.calls c.args.durable c.args.requests.now in
-    let m = view c.run_held.new.chair in
-    let w = view c.finish.new.session.chair in
-    let e = c.finish.ensures in
-    let called = called-either st fs geometry call m w c.finish.result e.acts e.refused (called-along s.calls (view s.chair) m c.in-Ok.ensures.same c.requires.ready.called) in
-    let ready = ready-left geometry s.queue s.calls s.held c.run_held.new.held c.finish.new.session.held (view s.chair) m w c.requires.ready c.in-Ok.ensures.same e.rests c.in-Ok.ensures.room called in
-    subst (λ (q : ℕ). IsReady geometry q c.finish.new.session.calls c.finish.new.session.held w) (sym e.queue)
-    (subst (λ (n : ℕ). IsReady geometry s.queue n c.finish.new.session.held w) (sym e.calls) ready)
+    let called = called-acts geometry (call_by s.queue s.calls c.args.durable c.args.requests.now) r.at r.drew r.replies.items (view s.chair) (view t.chair) c.in-Ok.ensures.acts c.requires.ready.called in
+    ready-attempted geometry s.queue s.calls t.queue t.calls s.held t.held (view s.chair) (view t.chair) c.requires.ready c.attempt.ensures.rests called c.attempt.ensures.queue c.attempt.ensures.calls
 
 pub returns-in-Ok-clause-acts : goal.returns-in-Ok-clause-acts
 returns-in-Ok-clause-acts g c =
     let s = c.args.session.now in
-    either-acts g.P.Port.state g.P.Port.faults c.args.self.now.geometry (call_by s.queue s.calls c.args.durable c.args.requests.now) (view s.chair) (view c.run_held.new.chair) (view c.finish.new.session.chair) c.finish.result c.in-Ok.ensures.same c.finish.ensures.acts
+    let r = c.in-Ok.answer in
+    acted-at-once g.P.Port.state g.P.Port.faults c.args.self.now.geometry (call_by s.queue s.calls c.args.durable c.args.requests.now) r.at r.drew r.replies.items (view s.chair) (view c.attempt.new.session.chair) c.in-Ok.ensures.acts
 
-pub returns-in-Ok-clause-refused : goal.returns-in-Ok-clause-refused
-returns-in-Ok-clause-refused g c =
+-- ---- it was turned down
+
+pub returns-in-Err-Refused-clause-ready : goal.returns-in-Err-Refused-clause-ready
+returns-in-Err-Refused-clause-ready g c =
     let s = c.args.session.now in
-    either-refused g.P.Port.state g.P.Port.faults c.args.self.now.geometry (call_by s.queue s.calls c.args.durable c.args.requests.now) (view s.chair) (view c.run_held.new.chair) (view c.finish.new.session.chair) c.finish.result c.in-Ok.ensures.same c.finish.ensures.refused
+    let t = c.attempt.new.session in
+    let r = c.in-Err-Refused.refusal in
+    let geometry = c.args.self.now.geometry in
+    let called = called-turned g.P.Port.state g.P.Port.faults geometry (call_by s.queue s.calls c.args.durable c.args.requests.now) (view s.chair) (view t.chair) r.cause r.drawn c.in-Err-Refused.ensures.missed c.requires.ready.called in
+    ready-attempted geometry s.queue s.calls t.queue t.calls s.held t.held (view s.chair) (view t.chair) c.requires.ready c.attempt.ensures.rests called c.attempt.ensures.queue c.attempt.ensures.calls
 
-pub returns-in-Err-clause-ready : goal.returns-in-Err-clause-ready
-returns-in-Err-clause-ready g c =
-    let s = c.args.session.now in
-    let e = c.in-Err.ensures in
-    ready-again c.args.self.now.geometry s.queue s.calls s.held c.run_held.new.held (view s.chair) (view c.run_held.new.chair) c.requires.ready e.same e.idle.0 e.idle.1 e.room
+pub returns-in-Err-Refused-clause-refused : goal.returns-in-Err-Refused-clause-refused
+returns-in-Err-Refused-clause-refused g c = let h = c.in-Err-Refused in ?
 
-pub returns-in-Err-clause-refused : goal.returns-in-Err-clause-refused
-returns-in-Err-clause-refused g c =
+-- ---- its plan did not fit
+
+pub act_again-requires-clause-ready : goal.act_again-requires-clause-ready
+act_again-requires-clause-ready g c = let h = c.in-Err-AreaFull in ?
+
+pub returns-in-Err-AreaFull-clause-goes : goal.returns-in-Err-AreaFull-clause-goes
+returns-in-Err-AreaFull-clause-goes g c = goes-then (view c.args.session.now.chair) (view c.attempt.new.session.chair) (view c.act_again.new.session.chair) c.attempt.ensures.goes c.act_again.ensures.goes
+
+pub returns-in-Err-AreaFull-clause-acts : goal.returns-in-Err-AreaFull-clause-acts
+returns-in-Err-AreaFull-clause-acts g c =
+    let st = g.P.Port.state in
+    let fs = g.P.Port.faults in
     let s = c.args.session.now in
     let v = view s.chair in
-    let w = view c.run_held.new.chair in
-    subst (λ (x : Refusal). IsRefused g.P.Port.state g.P.Port.faults c.args.self.now.geometry (call_by s.queue s.calls c.args.durable c.args.requests.now) v w x.cause x.drawn) (sym c.refused-in-Err.ensures) (memory (keeps-all v w c.in-Err.ensures.same))
+    let w = view c.act_again.new.session.chair in
+    let geometry = c.args.self.now.geometry in
+    let call = call_by s.queue s.calls c.args.durable c.args.requests.now in
+    ok-along c.act_again.result _ (λ (a : Answer). HasActed st fs geometry call a.at a.drew a.replies.items v w) (λ a acts. acts v c.in-Err-AreaFull.ensures.missed) c.act_again.ensures.acts
+
+pub returns-in-Err-AreaFull-clause-refused : goal.returns-in-Err-AreaFull-clause-refused
+returns-in-Err-AreaFull-clause-refused g c =
+    let st = g.P.Port.state in
+    let fs = g.P.Port.faults in
+    let s = c.args.session.now in
+    let v = view s.chair in
+    let w = view c.act_again.new.session.chair in
+    let geometry = c.args.self.now.geometry in
+    let call = call_by s.queue s.calls c.args.durable c.args.requests.now in
+    err-along c.act_again.result _ (λ (r : Refusal). IsRefused st fs geometry call v w r.cause r.drawn) (λ r refused. refused v c.in-Err-AreaFull.ensures.missed) c.act_again.ensures.refused

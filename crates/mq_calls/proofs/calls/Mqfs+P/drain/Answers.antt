@@ -5,6 +5,3 @@ use Rattle.mq_calls.proofs.calls.Mqfs+P.drain.Goals as goal
 
 pub returns-in-Ok-clause-goes : goal.returns-in-Ok-clause-goes
 returns-in-Ok-clause-goes g c = goes-swept g.P.Port.state g.P.Port.faults (view c.args.session.now.chair) (view c.drain_all.new.chair) c.in-Ok.ensures.swept
-
-pub returns-in-Err-clause-goes : goal.returns-in-Err-clause-goes
-returns-in-Err-clause-goes g c = goes-refused g.P.Port.state g.P.Port.faults c.queues-queues.result c.args.answer.now.at c.in-Err.cause (view c.args.session.now.chair) (view c.drain_all.new.chair) c.in-Err.ensures.refused

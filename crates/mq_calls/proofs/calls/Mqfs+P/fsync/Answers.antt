@@ -3,13 +3,20 @@ use Rattle.mq_turns.specs.AtDesk.{view}
 use Rattle.mq_calls.specs.Calling.{call_by}
 use Rattle.mq_calls.specs.Synchronizing.{before}
 use Rattle.mq_calls.proofs.Composing.{durable-of, not-durable}
+use Rattle.mq_calls.proofs.GoingOn.{goes-then}
 use Rattle.mq_calls.proofs.calls.Mqfs+P.fsync.Goals as goal
+
+pub returns-in-Ok-drained-clause-goes : goal.returns-in-Ok-drained-clause-goes
+returns-in-Ok-drained-clause-goes g c = goes-then (view c.args.session.now.chair) (view c.act.new.session.chair) (view c.drain-drained.new.session.chair) c.act.ensures.goes c.drain-drained.ensures.goes
 
 pub returns-in-Ok-drained-clause-durable : goal.returns-in-Ok-drained-clause-durable
 returns-in-Ok-drained-clause-durable g c =
     let s = c.args.session.now in
     let a = c.in-Ok.answer in
     durable-of g.P.Port.state g.P.Port.faults c.args.self.now.geometry (call_by s.queue s.calls true c.args.requests.now) a.at a.drew a.replies.items (view s.chair) (view c.act.new.session.chair) (view c.drain-drained.new.session.chair) c.in-Ok.ensures.acts c.in-Ok-drained.ensures.swept c.in-Ok-drained.ensures.done
+
+pub returns-in-Err-drained-clause-goes : goal.returns-in-Err-drained-clause-goes
+returns-in-Err-drained-clause-goes g c = goes-then (view c.args.session.now.chair) (view c.act.new.session.chair) (view c.drain-drained.new.session.chair) c.act.ensures.goes c.drain-drained.ensures.goes
 
 pub returns-in-Err-drained-clause-refused : goal.returns-in-Err-drained-clause-refused
 returns-in-Err-drained-clause-refused g c =
