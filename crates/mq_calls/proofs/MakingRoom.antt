@@ -19,9 +19,13 @@ use Rattle.mq_turns.specs.declared.rule.Answer.{Answer}
 use Rattle.mq_turns.specs.declared.rule.Charge.{Charge}
 use Rattle.mq_calls.specs.Acts.{Acts, Begins, Call, GoesOn, HasActed, IsAreaFull, IsRefused, IsTurnedDown, again, at_once, memory, turned_down}
 use Rattle.mq_calls.specs.Calling.{HasLeft}
+use Rattle.mq_calls.specs.Committing.{IsMissed}
 use Rattle.mq_calls.specs.Sessions.{HasCalled, IsReady}
 use Rattle.mq_calls.specs.declared.answers.CallCause.{CallCause}
 use Rattle.mq_calls.specs.declared.answers.CallCause.TheVariants.{OutOfMemory}
+use Rattle.mq_calls.specs.declared.answers.Refusal.{Refusal}
+use Rattle.mq_calls.specs.declared.committing.Miss.{Miss}
+use Rattle.mq_calls.specs.declared.committing.Miss.TheVariants as miss
 use Rattle.mq_calls.proofs.Composing.{ready-left}
 
 -- ---- what a result holds
@@ -97,6 +101,14 @@ module _ {P : Type 0} {G : Ghosts P} (state : P → PortState) (faults : P → L
   pub goes-either : (r : Result ℕ CheckpointRefusal) (v w : Seat P FileEntry G) → IfOk r (λ base. Raises state faults file_group base v w) → IfErr r (λ why. HasRefused state faults file_group why v w) → GoesOn v w
   goes-either (Ok base) v w raised refused = goes-raised base v w raised
   goes-either (Err why) v w raised refused = goes-unraised why v w refused
+
+  -- ---- why an attempt missed
+
+  pub turned-of : (g : Geometry) (c : Call) (x : Miss) (r : Refusal) (v w : Seat P FileEntry G) → x ≡ miss.Refused r → IsMissed state faults g c v w x → IsTurnedDown state faults g c v w r.cause r.drawn
+  turned-of g c x r v w is missed = subst (IsMissed state faults g c v w) is missed
+
+  pub full-of : (g : Geometry) (c : Call) (x : Miss) (v w : Seat P FileEntry G) → x ≡ miss.AreaFull → IsMissed state faults g c v w x → IsAreaFull state faults c v w
+  full-of g c x v w is missed = subst (IsMissed state faults g c v w) is missed
 
   -- ---- a plan that did not fit
 

@@ -132,31 +132,7 @@ module _ {P : Type 0} {G : Ghosts P} (state : P → PortState) (faults : P → L
     only = λ k. ap (λ (z : Seat P FileEntry G). times k z.held) is ∙ side-given o q cells v h.only (cells-below μ o cells v h.pages) k;
   }
 
-  pub only-reported : (o : Start P FileEntry G) (q : ℕ) (r : Report) (v w : Seat P FileEntry G) → IsReported state faults file_group o q r v w → OnlyReports (reported q r ∷ v.reading.charged) v w
-  only-reported o q r v w told = record {
-    parts = ap (λ (z : Seat P FileEntry G). z.parts) told.is;
-    opening = ap (λ (z : Seat P FileEntry G). z.opening) told.is;
-    session = ap (λ (z : Seat P FileEntry G). z.session) told.is;
-    drawn = ap (λ (z : Seat P FileEntry G). z.drawn) told.is;
-    read = ap (λ (z : Seat P FileEntry G). z.read) told.is;
-    seen = (let l : w.seen ≡ v.seen = ap (λ (z : Seat P FileEntry G). z.seen) told.is in omega arith);
-    done = (let l : w.reading.done ≡ v.reading.done = ap (λ (z : Seat P FileEntry G). z.reading.done) told.is in omega arith);
-    charged = ap (λ (z : Seat P FileEntry G). z.reading.charged) told.is;
-  }
-
-  pub only-given : (k : ℕ) (v w : Seat P FileEntry G) → w ≡ giving k v → OnlyReports v.reading.charged v w
-  only-given k v w is = record {
-    parts = ap (λ (z : Seat P FileEntry G). z.parts) is;
-    opening = ap (λ (z : Seat P FileEntry G). z.opening) is;
-    session = ap (λ (z : Seat P FileEntry G). z.session) is;
-    drawn = ap (λ (z : Seat P FileEntry G). z.drawn) is;
-    read = ap (λ (z : Seat P FileEntry G). z.read) is;
-    seen = (let l : w.seen ≡ v.seen = ap (λ (z : Seat P FileEntry G). z.seen) is in omega arith);
-    done = (let l : w.reading.done ≡ v.reading.done = ap (λ (z : Seat P FileEntry G). z.reading.done) is in omega arith);
-    charged = ap (λ (z : Seat P FileEntry G). z.reading.charged) is;
-  }
-
-  -- and the pages are given back then
+  -- what was reported stays so where pages are given back then
   pub reports-left : (blocks : List ℕ) (reports : List Charge) (v w x : Seat P FileEntry G) → OnlyReports reports v w → x ≡ giving_pages blocks w → OnlyReports reports v x
   reports-left blocks reports v w x only is = subst (λ (z : Seat P FileEntry G). OnlyReports reports v z) (sym is) (record {
     parts = only.parts;

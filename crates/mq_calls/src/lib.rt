@@ -23,6 +23,7 @@ mod reading;
 mod rounds;
 mod session;
 mod sweeping;
+mod telling;
 mod wanted;
 
 pub use answers::{Answer, CallCause, Refusal};
@@ -32,6 +33,7 @@ pub use laws::{
     drawn_pages_are_held, held_pages_are_current, held_pages_stay, no_page_is_left,
 };
 pub use machine::{FileGroups, FileMachine, Shaped};
+pub use mounting::find_volume;
 pub use mq_checkpoint::CheckpointRefusal;
 pub use pages::{give_back_pages, take_pages};
 pub use rounds::run_held;

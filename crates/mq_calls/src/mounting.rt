@@ -26,8 +26,8 @@ fn only_memory(fault: ImageFault) -> MountRefusal
     }
 }
 
-// What stands on the ports of a drive that was recovered, where it is a file system.
-fn find_volume<P: Port>(
+/// What stands on the ports of a drive that was recovered, where it is a file system: what `Mqfs::open` asks for.
+pub fn find_volume<P: Port>(
     alloc: Global,
     geometry: Geometry,
     ports: &Ports<P>,

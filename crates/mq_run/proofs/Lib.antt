@@ -1,1 +1,4 @@
 pub mod Plays
+pub mod LineOrder
+pub mod Joined
+pub mod Growing

@@ -1,7 +1,6 @@
 -- The end of a run: one session hears of all that the others know, and makes a checkpoint.
-use Rattle.std.specs.Prelude.{◌≡◌, ℕ, List, Option, None, Some, Result, Ok, Err}
+use Rattle.std.specs.Prelude.{◌≡◌, ℕ, Bool, true, false, List, ◌∷◌, Option, None, Some, Result, Ok, Err}
 use Rattle.mq_blocks.specs.Drive.{PortState}
-use Rattle.mq_calls.specs.Acts.{GoesOn}
 use Rattle.mq_checkpoint.specs.Raised.{HasRefused, Raises}
 use Rattle.mq_checkpoint.specs.declared.refusal.CheckpointRefusal.{CheckpointRefusal}
 use Rattle.mq_drive.specs.Steps.{Fault}
@@ -11,6 +10,13 @@ use Rattle.mq_files.specs.declared.entry.FileEntry.{FileEntry}
 use Rattle.mq_journal.specs.Numbers.{Seat}
 use Rattle.mq_turns.specs.Desk.{Below}
 use Rattle.mq_turns.specs.Lists.{Each}
+
+-- a checkpoint was made at the end just where one was asked for
+abbrev pub IsAskedFor : Bool → Option (Result ℕ CheckpointRefusal) → Type 0
+IsAskedFor true None = ⊥
+IsAskedFor true (Some answer) = Unit {0}
+IsAskedFor false None = Unit {0}
+IsAskedFor false (Some answer) = ⊥
 
 module _ {P : Type 0} {G : Ghosts P} where
   -- It knows of each number that it or one of the others had seen or drawn; nothing else of it has changed.
@@ -27,3 +33,13 @@ module _ {P : Type 0} {G : Ghosts P} (state : P → PortState) (faults : P → L
       (between : Seat P FileEntry G) × HasHeard others old between × Raises state faults file_group base between new
   Finishes (Some (Err why)) others old new =
       (between : Seat P FileEntry G) × HasHeard others old between × HasRefused state faults file_group why between new
+
+  -- what this leaves of what all sessions knew
+  pub record HasFinished (finish : Bool) (answer : Option (Result ℕ CheckpointRefusal)) (old new : List (Seat P FileEntry G)) : Type 0 where
+    pub asked : IsAskedFor finish answer
+    pub first : Seat P FileEntry G
+    pub last : Seat P FileEntry G
+    pub others : List (Seat P FileEntry G)
+    pub before : old ≡ first ∷ others
+    pub after : new ≡ last ∷ others
+    pub finishes : Finishes answer others first last

@@ -2,3 +2,4 @@ pub mod Playing
 pub mod Ending
 pub mod Lines
 pub mod Runs
+pub mod Seating

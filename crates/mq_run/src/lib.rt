@@ -3,8 +3,13 @@
 #![tactic(auto)]
 
 mod end;
+mod ending;
+mod lines;
+mod opening;
 mod playing;
 mod runner;
+mod running;
 mod together;
 
 pub use end::RunEnd;
+pub use running::run_scripts;

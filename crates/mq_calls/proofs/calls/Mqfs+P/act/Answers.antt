@@ -7,7 +7,7 @@ use Rattle.mq_calls.specs.declared.answers.Refusal.{Refusal}
 use Rattle.mq_calls.proofs.Between.{keeps-at-once}
 use Rattle.mq_calls.proofs.Composing.{called-acts, called-turned}
 use Rattle.mq_calls.proofs.GoingOn.{goes-at-once, goes-then}
-use Rattle.mq_calls.proofs.MakingRoom.{acted-at-once, err-along, ok-along, ready-attempted, ready-full, refused-at-once}
+use Rattle.mq_calls.proofs.MakingRoom.{acted-at-once, err-along, full-of, ok-along, ready-attempted, ready-full, refused-at-once, turned-of}
 use Rattle.mq_calls.proofs.calls.Mqfs+P.act.Goals as goal
 
 pub returns-then-session-ge-CALL_LIMIT-clause-goes : goal.returns-then-session-ge-CALL_LIMIT-clause-goes
@@ -42,18 +42,38 @@ pub returns-in-Err-Refused-clause-ready : goal.returns-in-Err-Refused-clause-rea
 returns-in-Err-Refused-clause-ready g c =
     let s = c.args.session.now in
     let t = c.attempt.new.session in
-    let r = c.in-Err-Refused.refusal in
+    let e = c.in-Err-Refused in
+    let r = e.refusal in
     let geometry = c.args.self.now.geometry in
-    let called = called-turned g.P.Port.state g.P.Port.faults geometry (call_by s.queue s.calls c.args.durable c.args.requests.now) (view s.chair) (view t.chair) r.cause r.drawn c.in-Err-Refused.ensures.missed c.requires.ready.called in
+    let call = call_by s.queue s.calls c.args.durable c.args.requests.now in
+    let turned = turned-of g.P.Port.state g.P.Port.faults geometry call e.field-0 r (view s.chair) (view t.chair) e.field-0-is e.ensures.missed in
+    let called = called-turned g.P.Port.state g.P.Port.faults geometry call (view s.chair) (view t.chair) r.cause r.drawn turned c.requires.ready.called in
     ready-attempted geometry s.queue s.calls t.queue t.calls s.held t.held (view s.chair) (view t.chair) c.requires.ready c.attempt.ensures.rests called c.attempt.ensures.queue c.attempt.ensures.calls
 
 pub returns-in-Err-Refused-clause-refused : goal.returns-in-Err-Refused-clause-refused
-returns-in-Err-Refused-clause-refused g c = let h = c.in-Err-Refused in ?
+returns-in-Err-Refused-clause-refused g c =
+    let st = g.P.Port.state in
+    let fs = g.P.Port.faults in
+    let s = c.args.session.now in
+    let w = view c.attempt.new.session.chair in
+    let e = c.in-Err-Refused in
+    let r = e.refusal in
+    let geometry = c.args.self.now.geometry in
+    let call = call_by s.queue s.calls c.args.durable c.args.requests.now in
+    refused-at-once st fs geometry call r.cause r.drawn (view s.chair) w (turned-of st fs geometry call e.field-0 r (view s.chair) w e.field-0-is e.ensures.missed)
 
 -- ---- its plan did not fit
 
 pub act_again-requires-clause-ready : goal.act_again-requires-clause-ready
-act_again-requires-clause-ready g c = let h = c.in-Err-AreaFull in ?
+act_again-requires-clause-ready g c =
+    let st = g.P.Port.state in
+    let fs = g.P.Port.faults in
+    let s = c.args.session.now in
+    let t = c.attempt.new.session in
+    let e = c.in-Err-AreaFull in
+    let geometry = c.args.self.now.geometry in
+    let call = call_by s.queue s.calls c.args.durable c.args.requests.now in
+    ready-full st fs geometry call s.held t.held (view s.chair) (view t.chair) c.requires.ready c.attempt.ensures.rests (full-of st fs geometry call e.field-0 (view s.chair) (view t.chair) e.field-0-is e.ensures.missed)
 
 pub returns-in-Err-AreaFull-clause-goes : goal.returns-in-Err-AreaFull-clause-goes
 returns-in-Err-AreaFull-clause-goes g c = goes-then (view c.args.session.now.chair) (view c.attempt.new.session.chair) (view c.act_again.new.session.chair) c.attempt.ensures.goes c.act_again.ensures.goes
@@ -65,9 +85,11 @@ returns-in-Err-AreaFull-clause-acts g c =
     let s = c.args.session.now in
     let v = view s.chair in
     let w = view c.act_again.new.session.chair in
+    let e = c.in-Err-AreaFull in
     let geometry = c.args.self.now.geometry in
     let call = call_by s.queue s.calls c.args.durable c.args.requests.now in
-    ok-along c.act_again.result _ (λ (a : Answer). HasActed st fs geometry call a.at a.drew a.replies.items v w) (λ a acts. acts v c.in-Err-AreaFull.ensures.missed) c.act_again.ensures.acts
+    let full = full-of st fs geometry call e.field-0 v (view c.attempt.new.session.chair) e.field-0-is e.ensures.missed in
+    ok-along c.act_again.result _ (λ (a : Answer). HasActed st fs geometry call a.at a.drew a.replies.items v w) (λ a acts. acts v full) c.act_again.ensures.acts
 
 pub returns-in-Err-AreaFull-clause-refused : goal.returns-in-Err-AreaFull-clause-refused
 returns-in-Err-AreaFull-clause-refused g c =
@@ -76,6 +98,8 @@ returns-in-Err-AreaFull-clause-refused g c =
     let s = c.args.session.now in
     let v = view s.chair in
     let w = view c.act_again.new.session.chair in
+    let e = c.in-Err-AreaFull in
     let geometry = c.args.self.now.geometry in
     let call = call_by s.queue s.calls c.args.durable c.args.requests.now in
-    err-along c.act_again.result _ (λ (r : Refusal). IsRefused st fs geometry call v w r.cause r.drawn) (λ r refused. refused v c.in-Err-AreaFull.ensures.missed) c.act_again.ensures.refused
+    let full = full-of st fs geometry call e.field-0 v (view c.attempt.new.session.chair) e.field-0-is e.ensures.missed in
+    err-along c.act_again.result _ (λ (r : Refusal). IsRefused st fs geometry call v w r.cause r.drawn) (λ r refused. refused v full) c.act_again.ensures.refused

@@ -7,7 +7,7 @@ use Rattle.mq_calls.specs.declared.answers.Refusal.{Refusal}
 use Rattle.mq_calls.proofs.Between.{ready-more}
 use Rattle.mq_calls.proofs.Composing.{called-acts, called-rests, called-turned}
 use Rattle.mq_calls.proofs.GoingOn.{goes-then}
-use Rattle.mq_calls.proofs.MakingRoom.{acted-again, full-again, ready-attempted, ready-between, refused-again}
+use Rattle.mq_calls.proofs.MakingRoom.{acted-again, full-again, full-of, ready-attempted, ready-between, refused-again, turned-of}
 use Rattle.mq_calls.proofs.calls.Mqfs+P.act_again.Goals as goal
 
 pub checkpoint-requires-clause-ready : goal.checkpoint-requires-clause-ready
@@ -56,11 +56,13 @@ returns-in-Err-Refused-clause-ready g c =
     let a = c.args.asked.now in
     let m = view c.checkpoint.new.session.chair in
     let t = c.attempt.new.session in
-    let r = c.in-Err-Refused.refusal in
+    let e = c.in-Err-Refused in
+    let r = e.refusal in
     let geometry = c.args.self.now.geometry in
+    let turned = turned-of g.P.Port.state g.P.Port.faults geometry (call_of a) e.field-0 r m (view t.chair) e.field-0-is e.ensures.missed in
     let s = c.args.session.now in
     let ready = ready-between g.P.Port.state g.P.Port.faults geometry a.queue a.calls c.in-Ok.field-0 s.held c.checkpoint.new.session.held (view s.chair) m c.checkpoint.ensures.held c.in-Ok.ensures.raised c.requires.ready in
-    let called = called-turned g.P.Port.state g.P.Port.faults geometry (call_of a) m (view t.chair) r.cause r.drawn c.in-Err-Refused.ensures.missed ready.called in
+    let called = called-turned g.P.Port.state g.P.Port.faults geometry (call_of a) m (view t.chair) r.cause r.drawn turned ready.called in
     ready-attempted geometry a.queue a.calls t.queue t.calls c.checkpoint.new.session.held t.held m (view t.chair) ready c.attempt.ensures.rests called (c.attempt.ensures.queue ∙ c.checkpoint.ensures.queue ∙ c.requires.queue) (c.attempt.ensures.calls ∙ c.checkpoint.ensures.calls ∙ c.requires.calls)
 
 pub returns-in-Err-Refused-clause-goes : goal.returns-in-Err-Refused-clause-goes
@@ -68,8 +70,15 @@ returns-in-Err-Refused-clause-goes g c = goes-then (view c.args.session.now.chai
 
 pub returns-in-Err-Refused-clause-refused : goal.returns-in-Err-Refused-clause-refused
 returns-in-Err-Refused-clause-refused g c = λ first full.
-    let r = c.in-Err-Refused.refusal in
-    refused-again g.P.Port.state g.P.Port.faults c.args.self.now.geometry (call_of c.args.asked.now) r.cause r.drawn c.in-Ok.field-0 first (view c.args.session.now.chair) (view c.checkpoint.new.session.chair) (view c.attempt.new.session.chair) full c.in-Ok.ensures.raised c.in-Err-Refused.ensures.missed
+    let st = g.P.Port.state in
+    let fs = g.P.Port.faults in
+    let geometry = c.args.self.now.geometry in
+    let call = call_of c.args.asked.now in
+    let m = view c.checkpoint.new.session.chair in
+    let w = view c.attempt.new.session.chair in
+    let e = c.in-Err-Refused in
+    let r = e.refusal in
+    refused-again st fs geometry call r.cause r.drawn c.in-Ok.field-0 first (view c.args.session.now.chair) m w full c.in-Ok.ensures.raised (turned-of st fs geometry call e.field-0 r m w e.field-0-is e.ensures.missed)
 
 -- ---- its plan did not fit again
 
@@ -79,9 +88,11 @@ returns-in-Err-AreaFull-clause-ready g c =
     let m = view c.checkpoint.new.session.chair in
     let t = c.attempt.new.session in
     let geometry = c.args.self.now.geometry in
+    let e = c.in-Err-AreaFull in
+    let still = full-of g.P.Port.state g.P.Port.faults geometry (call_of a) e.field-0 m (view t.chair) e.field-0-is e.ensures.missed in
     let s = c.args.session.now in
     let ready = ready-between g.P.Port.state g.P.Port.faults geometry a.queue a.calls c.in-Ok.field-0 s.held c.checkpoint.new.session.held (view s.chair) m c.checkpoint.ensures.held c.in-Ok.ensures.raised c.requires.ready in
-    let called = called-rests a.calls m (view t.chair) c.in-Err-AreaFull.ensures.missed.keeps.rests ready.called in
+    let called = called-rests a.calls m (view t.chair) still.keeps.rests ready.called in
     ready-attempted geometry a.queue a.calls t.queue t.calls c.checkpoint.new.session.held t.held m (view t.chair) ready c.attempt.ensures.rests called (c.attempt.ensures.queue ∙ c.checkpoint.ensures.queue ∙ c.requires.queue) (c.attempt.ensures.calls ∙ c.checkpoint.ensures.calls ∙ c.requires.calls)
 
 pub returns-in-Err-AreaFull-clause-goes : goal.returns-in-Err-AreaFull-clause-goes
@@ -93,8 +104,10 @@ returns-in-Err-AreaFull-clause-refused g c = λ first full.
     let fs = g.P.Port.faults in
     let geometry = c.args.self.now.geometry in
     let call = call_of c.args.asked.now in
+    let m = view c.checkpoint.new.session.chair in
     let w = view c.attempt.new.session.chair in
-    subst (λ (x : Refusal). IsRefused st fs geometry call first w x.cause x.drawn) (sym c.refused.ensures) (full-again st fs geometry call c.in-Ok.field-0 first (view c.args.session.now.chair) (view c.checkpoint.new.session.chair) w full c.in-Ok.ensures.raised c.in-Err-AreaFull.ensures.missed)
+    let e = c.in-Err-AreaFull in
+    subst (λ (x : Refusal). IsRefused st fs geometry call first w x.cause x.drawn) (sym c.refused.ensures) (full-again st fs geometry call c.in-Ok.field-0 first (view c.args.session.now.chair) m w full c.in-Ok.ensures.raised (full-of st fs geometry call e.field-0 m w e.field-0-is e.ensures.missed))
 
 -- ---- the checkpoint was refused
 
