@@ -3,6 +3,7 @@ use mq_blocks::{BlockNo, TxNo};
 use mq_calls::Refusal;
 use mq_script::End;
 use mq_tree::Reply;
+use std::marker::Model;
 
 /// A group that was carried out: the commit of this number, or a read on the volume at this number.
 #[derive(Drop)]
@@ -16,6 +17,21 @@ pub struct Line {
     pub end: End,
     /// In the order of the requests.
     pub replies: Vec<Reply>,
+}
+
+impl Model for Line {
+    ghost use Rattle.mq_report.specs.Lines.{Line as Entry};
+
+    ghost Value = { Entry };
+
+    ghost view = { λ l. record {
+      number = l.number;
+      commit = l.commit;
+      session = l.session;
+      group = l.group;
+      end = l.end;
+      replies = l.replies.items;
+    } };
 }
 
 /// What a group was answered: the number of its line, or why it was refused.

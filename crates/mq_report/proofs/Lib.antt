@@ -1,0 +1,6 @@
+mod Back
+mod Cutting
+mod Gathering
+mod Plain
+mod Reading
+mod Spelling

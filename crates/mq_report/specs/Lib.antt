@@ -1,0 +1,5 @@
+pub mod Lines
+pub mod Orders
+pub mod Ranges
+pub mod Reports
+pub mod Texts
