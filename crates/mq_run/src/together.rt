@@ -1,8 +1,8 @@
 // All sessions play their scripts at once.
-ghost use Rattle.std.specs.Prelude.{◌≡◌, ◌<◌, ◌≤◌, ℕ, Some, [], length, slice_get, vec_capacity};
+ghost use Rattle.std.specs.Prelude.{◌≡◌, ◌<◌, ℕ, Some, length, slice_get};
 ghost use Rattle.mq_calls.specs.Sessions.{IsReady};
 ghost use Rattle.mq_turns.specs.AtDesk.{AtDesk, view};
-ghost use Rattle.mq_run.specs.Playing.{HasPlayed, IsShort};
+ghost use Rattle.mq_run.specs.Playing.{HasPlayed, HasRoom, IsShort};
 
 use crate::playing::play;
 use crate::runner::Runner;
@@ -12,6 +12,35 @@ use mq_script::Script;
 use std::alloc::Global;
 use std::sync::Wait;
 use std::thread::{Threads, for_each_mut};
+
+// A session plays the script of this place.
+fn play_at<P: Port + Drop, R: Wait, G: Gate>(
+    rt: &R,
+    alloc: Global,
+    files: &Mqfs<P>,
+    index: usize,
+    runner: &mut Runner<FileMachine<P>>,
+    scripts: &[Script],
+    gate: &G,
+)
+    requires within { index < length scripts.now }
+    requires desk { AtDesk files.now.desk runner.old.user.chair }
+    requires ready { IsReady files.now.geometry runner.old.user.queue runner.old.user.calls runner.old.user.held
+        (view runner.old.user.chair)
+        × (runner.old.user.queue ≡ index)
+        × (runner.old.user.calls ≡ 0) }
+    requires room { (s : _) → slice_get scripts.now index ≡ Some s
+        → HasRoom s.groups runner.old.told runner.old.reads × IsShort s.groups }
+    ensures desk { AtDesk files.now.desk runner.new.user.chair }
+    ensures ready { IsReady files.now.geometry runner.new.user.queue runner.new.user.calls runner.new.user.held
+        (view runner.new.user.chair)
+        × (runner.new.user.queue ≡ index) }
+    ensures played { (s : _) → slice_get scripts.now index ≡ Some s
+        → HasPlayed P.state P.faults files.now.geometry index s.groups runner.new.told.items runner.new.reads.items
+        (view runner.old.user.chair) (view runner.new.user.chair) }
+{
+    play(rt, alloc, files, runner, &scripts[index], gate);
+}
 
 /// Each session plays the script of its own number, on a thread of its own where one can be made. It returns once
 /// all have played.
@@ -28,12 +57,10 @@ pub(crate) fn play_all<P: Port + Drop + Send, R: Threads + Wait + Sync, G: Gate 
     requires desk { (i : ℕ) (a : _) → slice_get runners.old i ≡ Some a → AtDesk files.now.desk a.user.chair }
     requires ready { (i : ℕ) (a : _) → slice_get runners.old i ≡ Some a
         → IsReady files.now.geometry a.user.queue a.user.calls a.user.held (view a.user.chair)
-        × (a.user.queue ≡ i) × (a.user.calls ≡ 0) }
-    requires told { (i : ℕ) (a : _) (s : _) → slice_get runners.old i ≡ Some a → slice_get scripts.now i ≡ Some s
-        → (a.told.items ≡ []) × (length s.groups ≤ vec_capacity a.told) }
-    requires reads { (i : ℕ) (a : _) (s : _) → slice_get runners.old i ≡ Some a → slice_get scripts.now i ≡ Some s
-        → (a.reads.items ≡ []) × (length s.groups ≤ vec_capacity a.reads) }
-    requires short { (i : ℕ) (s : _) → slice_get scripts.now i ≡ Some s → IsShort s.groups }
+        × (a.user.queue ≡ i)
+        × (a.user.calls ≡ 0) }
+    requires room { (i : ℕ) (a : _) (s : _) → slice_get runners.old i ≡ Some a → slice_get scripts.now i ≡ Some s
+        → HasRoom s.groups a.told a.reads × IsShort s.groups }
     ensures many { length runners.new ≡ length runners.old }
     ensures desk { (i : ℕ) (b : _) → slice_get runners.new i ≡ Some b → AtDesk files.now.desk b.user.chair }
     ensures ready { (i : ℕ) (b : _) → slice_get runners.new i ≡ Some b
@@ -42,13 +69,13 @@ pub(crate) fn play_all<P: Port + Drop + Send, R: Threads + Wait + Sync, G: Gate 
     ensures played { (i : ℕ) (a b : _) (s : _) → slice_get runners.old i ≡ Some a → slice_get runners.new i ≡ Some b
         → slice_get scripts.now i ≡ Some s
         → HasPlayed P.state P.faults files.now.geometry i s.groups b.told.items b.reads.items
-            (view a.user.chair) (view b.user.chair) }
+        (view a.user.chair) (view b.user.chair) }
 {
     let threads = runners.len();
     for_each_mut(
         rt,
         runners,
         threads,
-        &|i, runner| play(rt, alloc, files, runner, &scripts[i], gate),
+        &|i, runner| play_at(rt, alloc, files, i, runner, scripts, gate),
     );
 }
