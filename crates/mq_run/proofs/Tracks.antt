@@ -42,11 +42,11 @@ module _ {P : Type 0} {G : Ghosts P} (state : P → PortState) (faults : P → L
       record {
         left = left;
         finished = subst (λ (vs : List (Seat P FileEntry G)). HasFinished state faults finish e.finished vs left) views
-          (subst (λ (a : Option (Result ℕ CheckpointRefusal)). HasFinished state faults finish a seats left) (sym same) finished);
+            (subst (λ (a : Option (Result ℕ CheckpointRefusal)). HasFinished state faults finish a seats left) (sym same) finished);
         end = end;
         run = run;
         leaves = subst (λ (ls : List (List Line)). Leaves end (map (λ t. t.told) (map track_of runners)) ls e) reading
-          (subst (λ (ts : List (List Told)). Leaves end ts lines e) tells leaves);
+            (subst (λ (ts : List (List Told)). Leaves end ts lines e) tells leaves);
       }
 
   pub has_run : (g files : Geometry) (ports : Ports P) (s : Standing) (scripts : List Script) (finish : Bool) (e : RunEnd P) (opening : Start P FileEntry G) (old new : List R)
@@ -54,18 +54,18 @@ module _ {P : Type 0} {G : Ghosts P} (state : P → PortState) (faults : P → L
       → ((i : ℕ) (a : R) → slice_get old i ≡ Some a → look a ≡ fresh opening i)
       → ((i : ℕ) (a b : R) (script : Script) → slice_get old i ≡ Some a → slice_get new i ≡ Some b → slice_get scripts i ≡ Some script → HasPlayed state faults files i script.groups (told b) (reads b) (look a) (look b))
       → EndsSo state faults opening (map track_of new) finish e
-      → HasRunScripts state faults g ports s scripts finish e
+      → HasRunScripts G state faults g ports s scripts finish e
   has_run g files ports s scripts finish e opening old new same opened as_many many first played ends = record {
     opening = opening;
     opened = opened;
     tracks = map track_of new;
     many = length-map track_of new ∙ (many ∙ as_many);
     played = λ i script t at to.
-      let b = image_from track_of new i t to in
-      let here : slice_get old i ≡ Some (get_or old i b.0) = partner new old i b.0 b.0 many b.1 in
-      subst (λ (t : Track P G). HasPlayed state faults g i script.groups t.told t.reads (fresh opening i) t.view) b.2
-      (subst (λ (v : Seat P FileEntry G). HasPlayed state faults g i script.groups (told b.0) (reads b.0) v (look b.0)) (first i (get_or old i b.0) here)
-      (subst (λ (h : Geometry). HasPlayed state faults h i script.groups (told b.0) (reads b.0) (look (get_or old i b.0)) (look b.0)) same
-      (played i (get_or old i b.0) b.0 script here b.1 at)));
+        let b = image_from track_of new i t to in
+        let here : slice_get old i ≡ Some (get_or old i b.0) = partner new old i b.0 b.0 many b.1 in
+        subst (λ (t : Track P G). HasPlayed state faults g i script.groups t.told t.reads (fresh opening i) t.view) b.2
+        (subst (λ (v : Seat P FileEntry G). HasPlayed state faults g i script.groups (told b.0) (reads b.0) v (look b.0)) (first i (get_or old i b.0) here)
+        (subst (λ (h : Geometry). HasPlayed state faults h i script.groups (told b.0) (reads b.0) (look (get_or old i b.0)) (look b.0)) same
+        (played i (get_or old i b.0) b.0 script here b.1 at)));
     ends = ends;
   }

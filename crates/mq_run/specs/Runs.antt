@@ -58,6 +58,7 @@ module _ {P : Type 0} {G : Ghosts P} (state : P → PortState) (faults : P → L
     pub run : HasRun state faults file_group opening left end
     pub leaves : Leaves end (map (λ t. t.told) tracks) (map (λ t. t.reads) tracks) e
 
+module _ {P : Type 0} (G : Ghosts P) (state : P → PortState) (faults : P → List Fault) where
   -- Each session has played its script, from the opening of a desk over these ports; and then the run ended.
   pub record HasRunScripts (g : Geometry) (ports : Ports P) (s : Standing) (scripts : List Script) (finish : Bool) (e : RunEnd P) : Type 0 where
     pub opening : Start P FileEntry G
@@ -65,4 +66,4 @@ module _ {P : Type 0} {G : Ghosts P} (state : P → PortState) (faults : P → L
     pub tracks : List (Track P G)
     pub many : length tracks ≡ length scripts
     pub played : (i : ℕ) (script : Script) (t : Track P G) → slice_get scripts i ≡ Some script → slice_get tracks i ≡ Some t → HasPlayed state faults g i script.groups t.told t.reads (fresh opening i) t.view
-    pub ends : EndsSo opening tracks finish e
+    pub ends : EndsSo state faults opening tracks finish e

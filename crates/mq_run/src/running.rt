@@ -37,7 +37,7 @@ pub fn run_scripts<P: Port + Drop + Send, R: Threads + Wait + Sync, G: Gate + Sy
     requires base { standing.base ≤ 2 ^ 62 }
     requires scripts { (1 ≤ length scripts.now) × (length scripts.now ≤ queues_of geometry) }
     requires short { All (λ s. IsShort s.groups) scripts.now }
-    ensures run { IfOk result (λ e. HasRunScripts P.state P.faults geometry ports standing scripts.now finish e) }
+    ensures run { IfOk result (λ e. HasRunScripts P.Port P.state P.faults geometry ports standing scripts.now finish e) }
     ensures err { IfErr result (λ e. IfSome e.0 (λ p. (p.queues.items ≡ ports.queues.items)
         × (p.root ≡ ports.root))) }
 {

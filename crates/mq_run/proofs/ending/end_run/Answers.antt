@@ -16,6 +16,6 @@ close_desk-requires-clause-theirs g c =
 pub returns-in-Ok-close_desk : goal.returns-in-Ok-close_desk
 returns-in-Ok-close_desk g c =
     let views : map (λ ch. view ch) c.in-Ok.chairs.items ≡ map (λ s. view s.chair) c.args.sessions.items =
-      ap (map (λ ch. view ch)) c.in-Ok.ensures.chairs ∙ map_twice (λ s. s.chair) (λ ch. view ch) c.args.sessions.items in
+    ap (map (λ ch. view ch)) c.in-Ok.ensures.chairs ∙ map_twice (λ s. s.chair) (λ ch. view ch) c.args.sessions.items in
     subst (λ vs. HasRun g.P.Port.state g.P.Port.faults file_group (start_of c.args.files.desk) vs c.in-Ok-close_desk.ended) views
     (subst (λ d. HasRun g.P.Port.state g.P.Port.faults file_group (start_of d) (map (λ ch. view ch) c.in-Ok.chairs.items) c.in-Ok-close_desk.ended) c.in-Ok.ensures.desk c.in-Ok-close_desk.ensures.run)

@@ -16,7 +16,7 @@ loop-at-preserved g c =
     let heard = c.tell.ensures.to in
     let within : at < length c.loop-at.others = let l = c.loop-at.auto.others in let t = c.loop-at-test.true in omega arith in
     let here : slice_get (map (λ s. view s.chair) c.args.others.now) at ≡ Some (view (get_or c.loop-at.others at one).chair) =
-      ap (λ vs. slice_get vs at) (sym i.views) ∙ image_at (λ s. view s.chair) c.loop-at.others at (get_or c.loop-at.others at one) (got c.loop-at.others at one within) in
+    ap (λ vs. slice_get vs at) (sym i.views) ∙ image_at (λ s. view s.chair) c.loop-at.others at (get_or c.loop-at.others at one) (got c.loop-at.others at one within) in
     let now : (view c.tell.new.to.chair).seen ≡ heard.0 = ap (λ v. v.seen) heard.1 in
     let up : (view c.loop-at.first.chair).seen ≤ (view c.tell.new.to.chair).seen = let b = heard.3.0 in omega arith in
     record {
