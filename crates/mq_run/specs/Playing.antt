@@ -78,7 +78,7 @@ pub record IsReadLine (session k : ℕ) (end : End) (at : ℕ) (replies : List R
   pub session_is : l.session ≡ session
   pub group : l.group ≡ k
   pub end_is : l.end ≡ end
-  pub replies_are : l.replies.items ≡ replies
+  pub replies_are : l.replies ≡ replies
 
 -- the lines that a group has which was answered so
 abbrev pub AreLinesAt : (session k : ℕ) → End → (at : ℕ) → (drew : Bool) → List Reply → List Line → Type 0
