@@ -40,6 +40,10 @@ module _ {A B C : Type 0} (f : A → C) (g : B → C) where
       let rest : map f az ≡ map g bs = cc in same_at az bs i x y rest at to
 
 module _ {A B : Type 0} (f : A → B) where
+  pub map_twice : {C : Type 0} (g : B → C) (xs : List A) → map g (map f xs) ≡ map (λ x. g (f x)) xs
+  map_twice g [] = refl
+  map_twice g (x ∷ xs) = ap (λ zs. g (f x) ∷ zs) (map_twice g xs)
+
   -- what stands at a place of the images
   pub image_at : (xs : List A) (i : ℕ) (x : A) → slice_get xs i ≡ Some x → slice_get (map f xs) i ≡ Some (f x)
   image_at [] i x e = absurd (cc)

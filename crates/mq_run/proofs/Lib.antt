@@ -2,3 +2,6 @@ pub mod Plays
 pub mod LineOrder
 pub mod Joined
 pub mod Growing
+pub mod Hearing
+pub mod Parts
+pub mod Tracks

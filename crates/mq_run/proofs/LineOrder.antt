@@ -52,7 +52,7 @@ only_first true false e = (refl, refl)
 at_most : (x y : ℕ) → is_lt (nat_cmp x y) ≡ false → y ≤ x
 at_most x y h =
     let both : (o : Ordering) → MatchOrdering o (x < y) (x ≡ y) (y < x) → is_lt o ≡ false → y ≤ x =
-      λ o r q. elim o as (λ (o : Ordering). MatchOrdering o (x < y) (x ≡ y) (y < x) → is_lt o ≡ false → y ≤ x) [ Less ↦ λ r q. absurd (cc) | Equal ↦ λ r q. omega arith | Greater ↦ λ r q. omega arith ] r q
+    λ o r q. elim o as (λ (o : Ordering). MatchOrdering o (x < y) (x ≡ y) (y < x) → is_lt o ≡ false → y ≤ x) [ Less ↦ λ r q. absurd (cc) | Equal ↦ λ r q. omega arith | Greater ↦ λ r q. omega arith ] r q
     in both (nat_cmp x y) (ranked x y (nat_cmp x y) refl) h
 
 module _ (l m : Line) where
@@ -64,11 +64,11 @@ module _ (l m : Line) where
 
   pub not_after : is_lt (line_cmp m l) ≡ false → IsNotAfter l m
   not_after h = elim (not_less (ordering_then (ordering_then (nat_cmp m.number l.number) (bool_cmp l.commit m.commit)) (nat_cmp m.session l.session)) (nat_cmp m.group l.group) h) [
-    inl e ↦ first_three e
+    | inl e ↦ first_three e
     | inr e ↦ (
-      let most = then_equal (ordering_then (nat_cmp m.number l.number) (bool_cmp l.commit m.commit)) (nat_cmp m.session l.session) e.0 in
-      let both = then_equal (nat_cmp m.number l.number) (bool_cmp l.commit m.commit) most.0 in
-      inr (inr (inr (sym (level m.number l.number both.0), same_flag l.commit m.commit both.1, sym (level m.session l.session most.1), at_most m.group l.group e.1))))
+        let most = then_equal (ordering_then (nat_cmp m.number l.number) (bool_cmp l.commit m.commit)) (nat_cmp m.session l.session) e.0 in
+        let both = then_equal (nat_cmp m.number l.number) (bool_cmp l.commit m.commit) most.0 in
+        inr (inr (inr (sym (level m.number l.number both.0), same_flag l.commit m.commit both.1, sym (level m.session l.session most.1), at_most m.group l.group e.1))))
   ]
 
 pub in_order : (lines : List Line) → IsSortedBy (λ x y. is_lt (line_cmp x y)) lines → AllPairs IsNotAfter lines

@@ -1,6 +1,6 @@
 -- The groups of a script, asked one after another: one more of them, and the last.
-use Rattle.std.proofs.Common.{◌≡◌, ◌⊎◌, ◌<◌, ◌≤◌, ◌+◌, ◌-◌, ◌++◌, ◌∙◌, ℕ, suc, zero, refl, sym, ap, subst, inl, inr, arith, length-append, List, [], ◌∷◌, get_or, length}
-use Rattle.std.specs.Prelude.{Bool, true, false, Option, None, Some, Result, Ok, Err, IfOk, IfErr, slice_get}
+use Rattle.std.proofs.Common.{◌≡◌, ◌<◌, ◌-◌, ◌++◌, ◌∙◌, ℕ, suc, zero, refl, sym, ap, subst, inl, inr, arith, length-append, List, [], ◌∷◌, get_or, length}
+use Rattle.std.specs.Prelude.{Bool, true, false, Some, Result, Ok, Err, IfOk, IfErr, slice_get}
 use Rattle.std.specs.List.{All}
 use Rattle.std.proofs.lemmas.List.Elements.{All-append}
 use Rattle.std.proofs.lemmas.Option.{get_or_from_slice_get, slice_get_read, slice_get_within}
@@ -18,7 +18,7 @@ use Rattle.mq_report.specs.declared.line.Told.{Told}
 use Rattle.mq_script.specs.Scripts.{Group}
 use Rattle.mq_script.specs.declared.group.End.{End}
 use Rattle.mq_tree.specs.declared.request.Reply.{Reply}
-use Rattle.mq_run.specs.Playing.{AreAnswers, AreLines, AreLinesAt, Comes, IsDone, IsNotDone, IsReadLine, HasPlayed, IsTold, Plays, answered, begins, call_at, goes, is_last, told_of}
+use Rattle.mq_run.specs.Playing.{AreAnswers, AreLines, AreLinesAt, Comes, IsDone, IsNotDone, IsReadLine, HasPlayed, Plays, answered, begins, call_at, goes, is_last, told_of}
 
 -- ---- lists
 
@@ -36,8 +36,14 @@ get-last xs y =
     let n : length (xs ++ y ∷ []) - 1 ≡ length xs = omega (arith, length-append xs (y ∷ [])) in
     ap (slice_get (xs ++ y ∷ [])) n ∙ get-end xs y
 
+pub read-element : {A : Type 0} (xs : List A) (i : ℕ) (x : A) → i < length xs → x ≡ get_or xs i x → slice_get xs i ≡ Some x
+read-element xs i x within is = slice_get_read xs (length xs) i x refl within is
+
+pub same-element : {A : Type 0} (xs : List A) (i : ℕ) (x y : A) → x ≡ get_or xs i x → slice_get xs i ≡ Some y → x ≡ y
+same-element xs i x y is at = is ∙ get_or_from_slice_get xs i y x at
+
 pub group-at : (groups inside : List Group) (i : ℕ) (x : Group) → inside ≡ groups → i < length inside → x ≡ get_or inside i x → slice_get groups i ≡ Some x
-group-at groups inside i x same within is = subst (λ (xs : List Group). slice_get xs i ≡ Some x) same (slice_get_read inside (length inside) i x refl within is)
+group-at groups inside i x same within is = subst (λ (xs : List Group). slice_get xs i ≡ Some x) same (read-element inside i x within is)
 
 -- ---- answers
 

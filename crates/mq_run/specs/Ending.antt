@@ -1,5 +1,5 @@
 -- The end of a run: one session hears of all that the others know, and makes a checkpoint.
-use Rattle.std.specs.Prelude.{◌≡◌, ℕ, Bool, true, false, List, ◌∷◌, Option, None, Some, Result, Ok, Err}
+use Rattle.std.specs.Prelude.{◌≡◌, ◌≤◌, ℕ, Bool, true, false, List, ◌∷◌, Option, None, Some, Result, Ok, Err}
 use Rattle.mq_blocks.specs.Drive.{PortState}
 use Rattle.mq_checkpoint.specs.Raised.{HasRefused, Raises}
 use Rattle.mq_checkpoint.specs.declared.refusal.CheckpointRefusal.{CheckpointRefusal}
@@ -19,10 +19,11 @@ IsAskedFor false None = Unit {0}
 IsAskedFor false (Some answer) = ⊥
 
 module _ {P : Type 0} {G : Ghosts P} where
-  -- It knows of each number that it or one of the others had seen or drawn; nothing else of it has changed.
+  -- It knows of each number that one of the others had seen or drawn, and of no lesser one than before; nothing else of it
+  -- has changed.
   pub record HasHeard (others : List (Seat P FileEntry G)) (old new : Seat P FileEntry G) : Type 0 where
     pub is : new ≡ record old { seen = new.seen }
-    pub own : Below new.seen old
+    pub later : old.seen ≤ new.seen
     pub each : Each (λ v. Below new.seen v) others
 
 module _ {P : Type 0} {G : Ghosts P} (state : P → PortState) (faults : P → List Fault) where

@@ -19,7 +19,7 @@ pub record IsCommitLine (number : ℕ) (e : FileEntry) (l : Line) : Type 0 where
   -- a session asks fewer groups
   pub group : l.group ≡ e.call % 2 ^ 32
   pub end_is : l.end ≡ end_of e.durable
-  pub replies_are : l.replies.items ≡ e.replies
+  pub replies_are : l.replies ≡ e.replies
 
 -- one for each entry, in their order
 pub data AreCommitLines : List (ℕ × FileEntry) → List Line → Type 0 where

@@ -1,5 +1,6 @@
 -- What the groups of a script come to, one after another, on one session.
-use Rattle.std.specs.Prelude.{◌≡◌, ◌⊎◌, ◌<◌, ◌≤◌, ◌++◌, ◌-◌, ◌^◌, ℕ, suc, Bool, true, false, not, List, [], ◌∷◌, length, Option, None, Some, Result, Ok, Err, slice_get}
+use Rattle.std.specs.Prelude.{◌≡◌, ◌⊎◌, ◌<◌, ◌≤◌, ◌++◌, ◌-◌, ◌^◌, ℕ, suc, Bool, true, false, not, List, [], ◌∷◌, length, Some, Result, Ok, Err, slice_get, vec_capacity}
+use Rattle.std.specs.declared.vec.Vec.{Vec}
 use Rattle.mq_blocks.specs.Drive.{PortState}
 use Rattle.mq_blocks.specs.declared.geometry.Geometry.{Geometry}
 use Rattle.mq_calls.specs.Acts.{Call, GoesOn, HasActed, IsRefused, ReadsOnly}
@@ -61,6 +62,13 @@ pub record IsShort (groups : List Group) : Type 0 where
   pub few : length groups < 2 ^ 32
   pub each : (i : ℕ) (group : Group) → slice_get groups i ≡ Some group → length group.requests < 2 ^ 32
 
+-- Nothing was told yet, and there is room for what is told of each group, and for its line.
+pub record HasRoom {Z : Type 0} (groups : List Group) (told : Vec Told Z) (reads : Vec Line Z) : Type 0 where
+  pub told_none : told.items ≡ []
+  pub told_room : length groups ≤ vec_capacity told
+  pub reads_none : reads.items ≡ []
+  pub reads_room : length groups ≤ vec_capacity reads
+
 -- ---- one group
 
 -- the line of a group that was read
@@ -70,7 +78,7 @@ pub record IsReadLine (session k : ℕ) (end : End) (at : ℕ) (replies : List R
   pub session_is : l.session ≡ session
   pub group : l.group ≡ k
   pub end_is : l.end ≡ end
-  pub replies_are : l.replies.items ≡ replies
+  pub replies_are : l.replies ≡ replies
 
 -- the lines that a group has which was answered so
 abbrev pub AreLinesAt : (session k : ℕ) → End → (at : ℕ) → (drew : Bool) → List Reply → List Line → Type 0

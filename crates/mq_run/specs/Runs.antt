@@ -24,14 +24,14 @@ use Rattle.mq_run.specs.Lines.{AreCommitLines, IsNotAfter, joined}
 use Rattle.mq_run.specs.Playing.{HasPlayed}
 use Rattle.mq_run.specs.declared.end.RunEnd.{RunEnd}
 
-module _ {P : Type 0} {G : Ghosts P} where
-  -- what a session was told, the lines of what it read, and what it knew once its script was played
-  pub record Track : Type 0 where
-    pub told : List Told
-    pub reads : List Line
-    pub view : Seat P FileEntry G
+-- what a session was told, the lines of what it read, and what it knew once its script was played
+pub record Track (P : Type 0) (G : Ghosts P) : Type 0 where
+  pub told : List Told
+  pub reads : List Line
+  pub view : Seat P FileEntry G
 
-  abbrev pub track : List Told → List Line → Seat P FileEntry G → Track {P} {G}
+module _ {P : Type 0} {G : Ghosts P} where
+  abbrev pub track : List Told → List Line → Seat P FileEntry G → Track P G
   track told reads view = record { told = told; reads = reads; view = view }
 
   -- What is left of a closed desk and is reported of it, where the sessions were told this and these are the lines of what
@@ -51,18 +51,19 @@ module _ {P : Type 0} {G : Ghosts P} where
 module _ {P : Type 0} {G : Ghosts P} (state : P → PortState) (faults : P → List Fault) where
   -- Where it was asked for, the first session heard of what the others knew, and made a checkpoint. Then the desk was
   -- closed: the ports, the cells and the history are those that it had at the end.
-  pub record EndsSo (opening : Start P FileEntry G) (tracks : List (Track {P} {G})) (finish : Bool) (e : RunEnd P) : Type 0 where
+  pub record EndsSo (opening : Start P FileEntry G) (tracks : List (Track P G)) (finish : Bool) (e : RunEnd P) : Type 0 where
     pub left : List (Seat P FileEntry G)
     pub finished : HasFinished state faults finish e.finished (map (λ t. t.view) tracks) left
     pub end : Ended P FileEntry G
     pub run : HasRun state faults file_group opening left end
     pub leaves : Leaves end (map (λ t. t.told) tracks) (map (λ t. t.reads) tracks) e
 
+module _ {P : Type 0} (G : Ghosts P) (state : P → PortState) (faults : P → List Fault) where
   -- Each session has played its script, from the opening of a desk over these ports; and then the run ended.
   pub record HasRunScripts (g : Geometry) (ports : Ports P) (s : Standing) (scripts : List Script) (finish : Bool) (e : RunEnd P) : Type 0 where
     pub opening : Start P FileEntry G
     pub opened : IsOpenedOver state faults g ports s opening
-    pub tracks : List (Track {P} {G})
+    pub tracks : List (Track P G)
     pub many : length tracks ≡ length scripts
-    pub played : (i : ℕ) (script : Script) (t : Track {P} {G}) → slice_get scripts i ≡ Some script → slice_get tracks i ≡ Some t → HasPlayed state faults g i script.groups t.told t.reads (fresh opening i) t.view
-    pub ends : EndsSo opening tracks finish e
+    pub played : (i : ℕ) (script : Script) (t : Track P G) → slice_get scripts i ≡ Some script → slice_get tracks i ≡ Some t → HasPlayed state faults g i script.groups t.told t.reads (fresh opening i) t.view
+    pub ends : EndsSo state faults opening tracks finish e

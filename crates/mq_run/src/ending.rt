@@ -59,11 +59,11 @@ pub(crate) fn finish<P: Port + Drop, R: Wait>(
     ensures finished { HasFinished P.state P.faults asked result
         (map (λ s. view s.chair) sessions.old) (map (λ s. view s.chair) sessions.new) }
 {
+    if !asked {
+        return None;
+    }
     match sessions.split_first_mut() {
         Some((first, others)) => {
-            if !asked {
-                return None;
-            }
             tell_first(files, first, others);
             Some(files.checkpoint(rt, alloc, first))
         }

@@ -3,11 +3,11 @@ ghost use Rattle.std.specs.Prelude.{◌≡◌, ◌+◌, ◌<◌, ◌≤◌, ◌^
 ghost use Rattle.mq_calls.specs.Acts.{GoesOn};
 ghost use Rattle.mq_calls.specs.Sessions.{IsReady};
 ghost use Rattle.mq_turns.specs.AtDesk.{AtDesk, view};
-ghost use Rattle.mq_run.specs.Playing.{AreLines, HasPlayed, IsDone, IsNotDone, IsShort, call_at, goes_on, is_last, told_of};
+ghost use Rattle.mq_run.specs.Playing.{AreLines, HasPlayed, HasRoom, IsDone, IsNotDone, IsShort, call_at, goes_on, is_last, told_of};
 
 use crate::runner::Runner;
-use mq_calls::{Answer, CallCause, FileMachine, Gate, Mqfs, Refusal, Session};
 use mq_blocks::QueueNo;
+use mq_calls::{Answer, CallCause, FileMachine, Gate, Mqfs, Refusal, Session};
 use mq_drive::Port;
 use mq_report::{Line, Told};
 use mq_script::{End, Group, Script};
@@ -59,12 +59,7 @@ fn passes(cause: CallCause) -> bool
 }
 
 // What is told of a group that was answered so.
-fn tell(
-    session: QueueNo,
-    index: u32,
-    group: &Group,
-    answer: &Result<Answer, Refusal>,
-) -> Told
+fn tell(session: QueueNo, index: u32, group: &Group, answer: &Result<Answer, Refusal>) -> Told
     ensures { result ≡ told_of session index group.now.end answer.now }
 {
     let answer = match answer {
@@ -131,8 +126,7 @@ pub(crate) fn play<P: Port + Drop, R: Wait, G: Gate>(
     requires ready { IsReady files.now.geometry runner.old.user.queue runner.old.user.calls runner.old.user.held
         (view runner.old.user.chair) }
     requires calls { runner.old.user.calls ≡ 0 }
-    requires told { (runner.old.told.items ≡ []) × (length script.now.groups ≤ vec_capacity runner.old.told) }
-    requires reads { (runner.old.reads.items ≡ []) × (length script.now.groups ≤ vec_capacity runner.old.reads) }
+    requires room { HasRoom script.now.groups runner.old.told runner.old.reads }
     requires short { IsShort script.now.groups }
     ensures desk { AtDesk files.now.desk runner.new.user.chair }
     ensures ready { IsReady files.now.geometry runner.new.user.queue runner.new.user.calls runner.new.user.held

@@ -1,9 +1,10 @@
 // Scripts run over the ports of a drive that was recovered.
-ghost use Rattle.std.specs.Prelude.{◌≡◌, ◌<◌, ◌≤◌, ◌^◌, IfOk, IfErr, IfSome, length};
+ghost use Rattle.std.specs.Prelude.{◌≡◌, ◌≤◌, ◌^◌, IfOk, IfErr, IfSome, length};
 ghost use Rattle.std.specs.List.{All};
 ghost use Rattle.mq_blocks.specs.Geometry.{queues_of};
 ghost use Rattle.mq_calls.specs.Opening.{MayOpen};
 ghost use Rattle.mq_recover.specs.Drives.{drive_of};
+ghost use Rattle.mq_run.specs.Playing.{IsShort};
 ghost use Rattle.mq_run.specs.Runs.{HasRunScripts};
 
 use crate::end::RunEnd;
@@ -35,8 +36,8 @@ pub fn run_scripts<P: Port + Drop + Send, R: Threads + Wait + Sync, G: Gate + Sy
     requires drive { MayOpen geometry (drive_of P.state ports) standing }
     requires base { standing.base ≤ 2 ^ 62 }
     requires scripts { (1 ≤ length scripts.now) × (length scripts.now ≤ queues_of geometry) }
-    requires few { All (λ s. length s.groups < 2 ^ 32) scripts.now }
-    ensures run { IfOk result (λ e. HasRunScripts P.state P.faults geometry ports standing scripts.now finish e) }
+    requires short { All (λ s. IsShort s.groups) scripts.now }
+    ensures run { IfOk result (λ e. HasRunScripts P.Port P.state P.faults geometry ports standing scripts.now finish e) }
     ensures err { IfErr result (λ e. IfSome e.0 (λ p. (p.queues.items ≡ ports.queues.items)
         × (p.root ≡ ports.root))) }
 {

@@ -1,26 +1,27 @@
-use Rattle.std.proofs.Common.{◌≡◌, ◌+◌, ◌∙◌, ◌≤◌, ◌<◌, ◌++◌, ◌∷◌, [], ℕ, List, ap, arith, length, refl, rules, sym, add-one, subst}
+use Rattle.std.proofs.Common.{◌≡◌, ◌+◌, ◌∙◌, ◌<◌, ◌++◌, ◌∷◌, [], ℕ, List, ap, arith, length, refl, rules, sym, add-one, subst}
 use Rattle.std.specs.List.{All}
 use Rattle.std.specs.Prelude.{Some, false, slice_get, true}
 use Rattle.mq_report.specs.declared.line.Told.{Told}
 use Rattle.mq_script.specs.Scripts.{Group, Script}
 use Rattle.mq_turns.specs.AtDesk.{view}
 use Rattle.mq_run.specs.Playing.{AreLines, Plays, is_last, answered, told_of}
-use Rattle.mq_run.proofs.Plays.{Goes, Stays, all-answered, group-at, goes-on, has-ended, has-played, none-played, none-stays, stays-on}
+use Rattle.mq_run.proofs.Plays.{Stays, all-answered, group-at, goes-on, has-ended, has-played, none-played, none-stays, stays-on}
 use Rattle.mq_run.proofs.playing.play.Goals as goal
 
 pub loop-index-init : goal.loop-index-init
 loop-index-init g c =
     let r = c.args.runner.now in
+    let none : r.reads.items ≡ [] = c.requires.room.reads_none in
     record {
       desk = c.requires.desk;
       ready = c.requires.ready;
       queue = refl;
       session = c.queue-session.ensures;
       calls = c.requires.calls;
-      plays = none-played g.P.Port.state g.P.Port.faults c.args.files.now.geometry r.user.queue c.args.script.now.groups (view r.user.chair) r.told.items r.reads.items c.requires.told.0 c.requires.reads.0;
-      told = (ap length c.requires.told.0, refl);
+      plays = none-played g.P.Port.state g.P.Port.faults c.args.files.now.geometry r.user.queue c.args.script.now.groups (view r.user.chair) r.told.items r.reads.items c.requires.room.told_none c.requires.room.reads_none;
+      told = (ap length c.requires.room.told_none, refl);
       reads = (search rules, refl);
-      stays = none-stays r.told.items c.requires.told.0;
+      stays = none-stays r.told.items c.requires.room.told_none;
     }
 
 pub ask_group-answer-requires-clause-short : goal.ask_group-answer-requires-clause-short
@@ -111,4 +112,3 @@ returns-clause-played g c =
     let session = c.args.runner.now.user.queue in
     let all : length r.told.items ≡ length groups = subst (λ (xs : List Group). length r.told.items ≡ length xs) (ap (λ (s : Script). s.groups) c.script.view_is) (omega arith) in
     has-played g.P.Port.state g.P.Port.faults c.args.files.now.geometry session groups (view c.args.runner.now.user.chair) c.loop-index.index r.told.items r.reads.items (view r.user.chair) i.plays i.told.0 (all-answered (length groups) r.told.items i.stays all)
-
