@@ -59,7 +59,7 @@ trait Scripted: Shaped {
             × (runner.new.user.queue ≡ index) }
         ensures played { (s : _) → slice_get scripts.now index ≡ Some s
             → has_played files.now.geometry index s.groups runner.new.told.items runner.new.reads.items
-                (view runner.old.user.chair) (view runner.new.user.chair) };
+            (view runner.old.user.chair) (view runner.new.user.chair) };
 }
 
 impl<P: Port + Drop> Scripted for FileMachine<P> {
@@ -87,7 +87,9 @@ impl<P: Port + Drop> Scripted for FileMachine<P> {
 fn play_each<
     P: Port + Drop + Send,
     E: Drop + Send,
-    M: Machine<Page = PageCell, Side = QueueSide<P, E>, Root = Root<P>, Entry = E> + Scripted + Send,
+    M: Machine<Page = PageCell, Side = QueueSide<P, E>, Root = Root<P>, Entry = E>
+        + Scripted
+        + Send,
     R: Threads + Wait + Sync,
     G: Gate + Sync,
 >(
@@ -115,15 +117,27 @@ fn play_each<
     ensures played { (i : ℕ) (a b : _) (s : _) → slice_get runners.old i ≡ Some a → slice_get runners.new i ≡ Some b
         → slice_get scripts.now i ≡ Some s
         → M.has_played files.now.geometry i s.groups b.told.items b.reads.items
-            (view a.user.chair) (view b.user.chair) }
+        (view a.user.chair) (view b.user.chair) }
 {
+    let part = |i: usize, runner: &mut Runner<M>|
+        requires within { i < length scripts.now }
+        requires desk { AtDesk files.now.desk runner.now.user.chair }
+        requires ready { M.is_ready files.now.geometry runner.now.user.queue runner.now.user.calls
+            runner.now.user.held (view runner.now.user.chair)
+            × (runner.now.user.queue ≡ i)
+            × (runner.now.user.calls ≡ 0) }
+        requires room { (s : _) → slice_get scripts.now i ≡ Some s
+            → HasRoom s.groups runner.now.told runner.now.reads × IsShort s.groups }
+        ensures desk { AtDesk files.entry.now.desk runner.exit.now.user.chair }
+        ensures ready { M.is_ready files.entry.now.geometry runner.exit.now.user.queue runner.exit.now.user.calls
+            runner.exit.now.user.held (view runner.exit.now.user.chair)
+            × (runner.exit.now.user.queue ≡ i) }
+        ensures played { (s : _) → slice_get scripts.entry.now i ≡ Some s
+            → M.has_played files.entry.now.geometry i s.groups runner.exit.now.told.items
+            runner.exit.now.reads.items (view runner.entry.now.user.chair) (view runner.exit.now.user.chair) }
+    { M::play_at(rt, alloc, files, i, runner, scripts, gate) };
     let threads = runners.len();
-    for_each_mut(
-        rt,
-        runners,
-        threads,
-        &|i, runner| M::play_at(rt, alloc, files, i, runner, scripts, gate),
-    );
+    for_each_mut(rt, runners, threads, &part);
 }
 
 /// Each session plays the script of its own number, on a thread of its own where one can be made. It returns once
@@ -153,7 +167,7 @@ pub(crate) fn play_all<P: Port + Drop + Send, R: Threads + Wait + Sync, G: Gate 
     ensures played { (i : ℕ) (a b : _) (s : _) → slice_get runners.old i ≡ Some a → slice_get runners.new i ≡ Some b
         → slice_get scripts.now i ≡ Some s
         → HasPlayed P.state P.faults files.now.geometry i s.groups b.told.items b.reads.items
-            (view a.user.chair) (view b.user.chair) }
+        (view a.user.chair) (view b.user.chair) }
 {
     play_each::<P, FileEntry, FileMachine<P>, R, G>(rt, alloc, files, runners, scripts, gate);
 }

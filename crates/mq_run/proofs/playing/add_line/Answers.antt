@@ -8,7 +8,7 @@ use Rattle.mq_run.proofs.playing.add_line.Goals as goal
 pub returns-then-not-answer-clause-read : goal.returns-then-not-answer-clause-read
 returns-then-not-answer-clause-read c =
     let a = c.in-Ok.answer in
-    let line : Line = record { number = a.at; commit = false; session = c.session.inside.0; group = c.args.index; end = c.group.inside.end; replies = a.replies } in
+    let line : Line = record { number = a.at; commit = false; session = c.session.inside.0; group = c.args.index; end = c.group.inside.end; replies = a.replies.items } in
     let none : a.drew ≡ false = search rules in (
       line ∷ [],
       read-line c.args.session c.args.index c.args.group.now.end c.args.answer a line c.in-Ok.is none (record {

@@ -1,7 +1,6 @@
 use Rattle.std.proofs.Common.{◌∙◌, subst, ◌<◌, arith, length, rules}
 use Rattle.std.proofs.lemmas.Option.{get_or_from_slice_get, slice_get_within}
 use Rattle.mq_turns.specs.AtDesk.{view}
-
 use Rattle.mq_run.proofs.Plays.{read-element}
 use Rattle.mq_run.proofs.together.play_each.Goals as goal
 
@@ -9,7 +8,7 @@ pub for_each_mut-requires-clause-accepts : goal.for_each_mut-requires-clause-acc
 for_each_mut-requires-clause-accepts g c κs within = λ i p below is.
     let at = read-element c.args.runners.now i p.now below is in
     let one : i < length c.args.scripts.now = omega arith in
-    λ a1 a2 a3 a4 a5 a6 a7 a8 a9 a10 a11 a12. (one, (c.requires.desk i p.now at, (c.requires.ready i p.now at, λ s is. c.requires.room i p.now s at is)))
+    (one, (c.requires.desk i p.now at, (c.requires.ready i p.now at, λ s is. c.requires.room i p.now s at is)))
 
 pub returns-clause-played : goal.returns-clause-played
 returns-clause-played g c = λ i a b s from at script.
