@@ -6,40 +6,124 @@ ghost use Rattle.mq_run.specs.Playing.{HasPlayed, HasRoom, IsShort};
 
 use crate::playing::play;
 use crate::runner::Runner;
-use mq_calls::{FileMachine, Gate, Mqfs};
+use mq_calls::{FileMachine, FileSystem, Gate, Mqfs, Shaped};
 use mq_drive::Port;
+use mq_files::FileEntry;
+use mq_pages::PageCell;
 use mq_script::Script;
+use mq_side::{QueueSide, Root};
+use mq_turns::Machine;
 use std::alloc::Global;
 use std::sync::Wait;
 use std::thread::{Threads, for_each_mut};
 
-// A session plays the script of this place.
-fn play_at<P: Port + Drop, R: Wait, G: Gate>(
+/// A machine on whose sessions scripts are played. By it the threads are forked over any entries: all that they
+/// ask of these is that they may be sent from one to another.
+trait Scripted: Shaped {
+    ghost use Rattle.std.specs.Prelude.{ℕ, List};
+    ghost use Rattle.mq_blocks.specs.declared.geometry.Geometry.{Geometry};
+    ghost use Rattle.mq_pages.specs.Held.{HeldCells};
+    ghost use Rattle.mq_report.specs.declared.line.Line.{Line};
+    ghost use Rattle.mq_report.specs.declared.line.Told.{Told};
+    ghost use Rattle.mq_script.specs.Scripts.{Group};
+    ghost use Rattle.mq_turns.specs.declared.rule.ChairView.{ChairView};
+
+    ghost is_ready: { Geometry → ℕ → ℕ → HeldCells
+        → ChairView Self.Page Self.Side Self.Root Self.Entry → Type 0 };
+
+    ghost has_played: { Geometry → ℕ → List Group → List Told → List Line
+        → ChairView Self.Page Self.Side Self.Root Self.Entry
+        → ChairView Self.Page Self.Side Self.Root Self.Entry → Type 0 };
+
+    // A session plays the script of its place.
+    fn play_at<R: Wait, G: Gate>(
+        rt: &R,
+        alloc: Global,
+        files: &FileSystem<Self>,
+        index: usize,
+        runner: &mut Runner<Self>,
+        scripts: &[Script],
+        gate: &G,
+    )
+        requires within { index < length scripts.now }
+        requires desk { AtDesk files.now.desk runner.old.user.chair }
+        requires ready { is_ready files.now.geometry runner.old.user.queue runner.old.user.calls
+            runner.old.user.held (view runner.old.user.chair)
+            × (runner.old.user.queue ≡ index)
+            × (runner.old.user.calls ≡ 0) }
+        requires room { (s : _) → slice_get scripts.now index ≡ Some s
+            → HasRoom s.groups runner.old.told runner.old.reads × IsShort s.groups }
+        ensures desk { AtDesk files.now.desk runner.new.user.chair }
+        ensures ready { is_ready files.now.geometry runner.new.user.queue runner.new.user.calls
+            runner.new.user.held (view runner.new.user.chair)
+            × (runner.new.user.queue ≡ index) }
+        ensures played { (s : _) → slice_get scripts.now index ≡ Some s
+            → has_played files.now.geometry index s.groups runner.new.told.items runner.new.reads.items
+                (view runner.old.user.chair) (view runner.new.user.chair) };
+}
+
+impl<P: Port + Drop> Scripted for FileMachine<P> {
+    ghost use Rattle.mq_calls.specs.Sessions.{IsReady};
+    ghost use Rattle.mq_run.specs.Playing.{HasPlayed};
+
+    ghost is_ready = { λ g session calls cells v. IsReady g session calls cells v };
+
+    ghost has_played = { λ g session groups told lines v w. HasPlayed P.state P.faults g session groups told lines v w };
+
+    fn play_at<R: Wait, G: Gate>(
+        rt: &R,
+        alloc: Global,
+        files: &FileSystem<FileMachine<P>>,
+        index: usize,
+        runner: &mut Runner<FileMachine<P>>,
+        scripts: &[Script],
+        gate: &G,
+    ) {
+        play(rt, alloc, files, runner, &scripts[index], gate);
+    }
+}
+
+// Each session plays the script of its place, on a thread of its own where one can be made.
+fn play_each<
+    P: Port + Drop + Send,
+    E: Drop + Send,
+    M: Machine<Page = PageCell, Side = QueueSide<P, E>, Root = Root<P>, Entry = E> + Scripted + Send,
+    R: Threads + Wait + Sync,
+    G: Gate + Sync,
+>(
     rt: &R,
     alloc: Global,
-    files: &Mqfs<P>,
-    index: usize,
-    runner: &mut Runner<FileMachine<P>>,
+    files: &FileSystem<M>,
+    runners: &mut [Runner<M>],
     scripts: &[Script],
     gate: &G,
 )
-    requires within { index < length scripts.now }
-    requires desk { AtDesk files.now.desk runner.old.user.chair }
-    requires ready { IsReady files.now.geometry runner.old.user.queue runner.old.user.calls runner.old.user.held
-        (view runner.old.user.chair)
-        × (runner.old.user.queue ≡ index)
-        × (runner.old.user.calls ≡ 0) }
-    requires room { (s : _) → slice_get scripts.now index ≡ Some s
-        → HasRoom s.groups runner.old.told runner.old.reads × IsShort s.groups }
-    ensures desk { AtDesk files.now.desk runner.new.user.chair }
-    ensures ready { IsReady files.now.geometry runner.new.user.queue runner.new.user.calls runner.new.user.held
-        (view runner.new.user.chair)
-        × (runner.new.user.queue ≡ index) }
-    ensures played { (s : _) → slice_get scripts.now index ≡ Some s
-        → HasPlayed P.state P.faults files.now.geometry index s.groups runner.new.told.items runner.new.reads.items
-        (view runner.old.user.chair) (view runner.new.user.chair) }
+    requires many { length scripts.now ≡ length runners.old }
+    requires some { 0 < length runners.old }
+    requires desk { (i : ℕ) (a : _) → slice_get runners.old i ≡ Some a → AtDesk files.now.desk a.user.chair }
+    requires ready { (i : ℕ) (a : _) → slice_get runners.old i ≡ Some a
+        → M.is_ready files.now.geometry a.user.queue a.user.calls a.user.held (view a.user.chair)
+        × (a.user.queue ≡ i)
+        × (a.user.calls ≡ 0) }
+    requires room { (i : ℕ) (a : _) (s : _) → slice_get runners.old i ≡ Some a → slice_get scripts.now i ≡ Some s
+        → HasRoom s.groups a.told a.reads × IsShort s.groups }
+    ensures many { length runners.new ≡ length runners.old }
+    ensures desk { (i : ℕ) (b : _) → slice_get runners.new i ≡ Some b → AtDesk files.now.desk b.user.chair }
+    ensures ready { (i : ℕ) (b : _) → slice_get runners.new i ≡ Some b
+        → M.is_ready files.now.geometry b.user.queue b.user.calls b.user.held (view b.user.chair)
+        × (b.user.queue ≡ i) }
+    ensures played { (i : ℕ) (a b : _) (s : _) → slice_get runners.old i ≡ Some a → slice_get runners.new i ≡ Some b
+        → slice_get scripts.now i ≡ Some s
+        → M.has_played files.now.geometry i s.groups b.told.items b.reads.items
+            (view a.user.chair) (view b.user.chair) }
 {
-    play(rt, alloc, files, runner, &scripts[index], gate);
+    let threads = runners.len();
+    for_each_mut(
+        rt,
+        runners,
+        threads,
+        &|i, runner| M::play_at(rt, alloc, files, i, runner, scripts, gate),
+    );
 }
 
 /// Each session plays the script of its own number, on a thread of its own where one can be made. It returns once
@@ -69,13 +153,7 @@ pub(crate) fn play_all<P: Port + Drop + Send, R: Threads + Wait + Sync, G: Gate 
     ensures played { (i : ℕ) (a b : _) (s : _) → slice_get runners.old i ≡ Some a → slice_get runners.new i ≡ Some b
         → slice_get scripts.now i ≡ Some s
         → HasPlayed P.state P.faults files.now.geometry i s.groups b.told.items b.reads.items
-        (view a.user.chair) (view b.user.chair) }
+            (view a.user.chair) (view b.user.chair) }
 {
-    let threads = runners.len();
-    for_each_mut(
-        rt,
-        runners,
-        threads,
-        &|i, runner| play_at(rt, alloc, files, i, runner, scripts, gate),
-    );
+    play_each::<P, FileEntry, FileMachine<P>, R, G>(rt, alloc, files, runners, scripts, gate);
 }

@@ -3,7 +3,7 @@ use Rattle.mq_script.specs.Scripts.{Script}
 use Rattle.mq_run.proofs.Plays.{same-element, read-element}
 use Rattle.mq_run.specs.Playing.{HasPlayed}
 use Rattle.mq_turns.specs.AtDesk.{view}
-use Rattle.mq_run.proofs.together.play_at.Goals as goal
+use Rattle.mq_run.proofs.together.FileMachineScripted.play_at.Goals as goal
 
 pub play-requires-clause-room : goal.play-requires-clause-room
 play-requires-clause-room g c =

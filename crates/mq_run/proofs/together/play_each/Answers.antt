@@ -1,9 +1,9 @@
 use Rattle.std.proofs.Common.{◌∙◌, subst, ◌<◌, arith, length, rules}
 use Rattle.std.proofs.lemmas.Option.{get_or_from_slice_get, slice_get_within}
 use Rattle.mq_turns.specs.AtDesk.{view}
-use Rattle.mq_run.specs.Playing.{HasPlayed}
+
 use Rattle.mq_run.proofs.Plays.{read-element}
-use Rattle.mq_run.proofs.together.play_all.Goals as goal
+use Rattle.mq_run.proofs.together.play_each.Goals as goal
 
 pub for_each_mut-requires-clause-accepts : goal.for_each_mut-requires-clause-accepts
 for_each_mut-requires-clause-accepts g c κs within = λ i p below is.
@@ -19,8 +19,7 @@ returns-clause-played g c = λ i a b s from at script.
     let old = called.argument_is ∙ get_or_from_slice_get c.args.runners.now i a b from in
     let new = called.left ∙ get_or_from_slice_get c.for_each_mut.new.s i b b at in
     let w = called.after_call.now in
-    let st = g.P.Port.state in
-    let fs = g.P.Port.faults in
-    let F = λ (y : _). HasPlayed st fs c.args.files.now.geometry i s.groups y.told.items y.reads.items (view a.user.chair) (view y.user.chair) in
-    let H = λ (x : _). HasPlayed st fs c.args.files.now.geometry i s.groups w.told.items w.reads.items (view x.user.chair) (view w.user.chair) in
+    let played = g.M.Scripted.has_played in
+    let F = λ (y : _). played c.args.files.now.geometry i s.groups y.told.items y.reads.items (view a.user.chair) (view y.user.chair) in
+    let H = λ (x : _). played c.args.files.now.geometry i s.groups w.told.items w.reads.items (view x.user.chair) (view w.user.chair) in
     subst F new (subst H old (search rules))
