@@ -59,7 +59,7 @@ trait Scripted: Shaped {
             × (runner.new.user.queue ≡ index) }
         ensures played { (s : _) → slice_get scripts.now index ≡ Some s
             → has_played files.now.geometry index s.groups runner.new.told.items runner.new.reads.items
-                (view runner.old.user.chair) (view runner.new.user.chair) };
+            (view runner.old.user.chair) (view runner.new.user.chair) };
 }
 
 impl<P: Port + Drop> Scripted for FileMachine<P> {
@@ -87,7 +87,9 @@ impl<P: Port + Drop> Scripted for FileMachine<P> {
 fn play_each<
     P: Port + Drop + Send,
     E: Drop + Send,
-    M: Machine<Page = PageCell, Side = QueueSide<P, E>, Root = Root<P>, Entry = E> + Scripted + Send,
+    M: Machine<Page = PageCell, Side = QueueSide<P, E>, Root = Root<P>, Entry = E>
+        + Scripted
+        + Send,
     R: Threads + Wait + Sync,
     G: Gate + Sync,
 >(
@@ -115,7 +117,7 @@ fn play_each<
     ensures played { (i : ℕ) (a b : _) (s : _) → slice_get runners.old i ≡ Some a → slice_get runners.new i ≡ Some b
         → slice_get scripts.now i ≡ Some s
         → M.has_played files.now.geometry i s.groups b.told.items b.reads.items
-            (view a.user.chair) (view b.user.chair) }
+        (view a.user.chair) (view b.user.chair) }
 {
     let threads = runners.len();
     for_each_mut(
@@ -153,7 +155,7 @@ pub(crate) fn play_all<P: Port + Drop + Send, R: Threads + Wait + Sync, G: Gate 
     ensures played { (i : ℕ) (a b : _) (s : _) → slice_get runners.old i ≡ Some a → slice_get runners.new i ≡ Some b
         → slice_get scripts.now i ≡ Some s
         → HasPlayed P.state P.faults files.now.geometry i s.groups b.told.items b.reads.items
-            (view a.user.chair) (view b.user.chair) }
+        (view a.user.chair) (view b.user.chair) }
 {
     play_each::<P, FileEntry, FileMachine<P>, R, G>(rt, alloc, files, runners, scripts, gate);
 }
