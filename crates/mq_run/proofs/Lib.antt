@@ -5,3 +5,4 @@ pub mod Growing
 pub mod Hearing
 pub mod Parts
 pub mod Tracks
+pub mod Seats

@@ -24,6 +24,19 @@ module _ {A B : Type 0} (f : A → B) where
       let all : All Idle ys = subst (λ (zs : List B). All Idle zs) (sym is) (All-map Idle f xs (λ j e l. idle (get_or xs j e) (ready j e l))) in
       (at k d lt, all k d lt)
 
+module _ {A B : Type 0} (f : B → A) where
+  pub all_parts : (Is : A → Type 0) (ys : List B) (xs : List A) → xs ≡ map f ys → All (λ y. Is (f y)) ys → All Is xs
+  all_parts Is ys xs is h = subst (λ (zs : List A). All Is zs) (sym is) (All-map Is f ys h)
+
+module _ {A : Type 0} where
+  pub all_at : (Is : A → Type 0) (xs : List A) (i : ℕ) (x : A) → All Is xs → slice_get xs i ≡ Some x → Is x
+  all_at Is xs i x h at =
+      let lt : i < length xs = slice_get_within xs i x at in
+      subst Is (same_Some (get_or xs i x) x (sym (got xs i x lt) ∙ at)) (h i x lt)
+
+  pub along : (xs ys : List A) (i : ℕ) (x : A) → xs ≡ ys → slice_get xs i ≡ Some x → slice_get ys i ≡ Some x
+  along xs ys i x same at = ap (λ (zs : List A). slice_get zs i) (sym same) ∙ at
+
 module _ {A B : Type 0} where
   -- a list has an element wherever one of the same length has one
   pub partner : (xs : List A) (ys : List B) (i : ℕ) (x : A) (d : B) → length xs ≡ length ys → slice_get xs i ≡ Some x → slice_get ys i ≡ Some (get_or ys i d)

@@ -59,7 +59,7 @@ module _ {P : Type 0} {G : Ghosts P} (state : P → PortState) (faults : P → L
     opening = opening;
     opened = opened;
     tracks = map track_of new;
-    many = length-map track_of new ∙ (many ∙ as_many);
+    many = length-map new track_of ∙ (many ∙ as_many);
     played = λ i script t at to.
         let b = image_from track_of new i t to in
         let here : slice_get old i ≡ Some (get_or old i b.0) = partner new old i b.0 b.0 many b.1 in

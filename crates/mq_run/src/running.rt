@@ -41,13 +41,14 @@ pub fn run_scripts<P: Port + Drop + Send, R: Threads + Wait + Sync, G: Gate + Sy
     ensures err { IfErr result (λ e. IfSome e.0 (λ p. (p.queues.items ≡ ports.queues.items)
         × (p.root ≡ ports.root))) }
 {
-    let (files, mut runners) = match open_runners(alloc, geometry, ports, standing, scripts) {
-        Ok(opened) => opened,
-        Err((ports, full)) => return Err((Some(ports), full)),
-    };
-    play_all(rt, alloc, &files, &mut runners, scripts, gate);
-    match end_scripts(rt, alloc, files, runners, finish) {
-        Ok(end) => Ok(end),
-        Err(full) => Err((None, full)),
+    match open_runners(alloc, geometry, ports, standing, scripts) {
+        Ok((files, mut runners)) => {
+            play_all(rt, alloc, &files, &mut runners, scripts, gate);
+            match end_scripts(rt, alloc, files, runners, finish) {
+                Ok(end) => Ok(end),
+                Err(full) => Err((None, full)),
+            }
+        }
+        Err((ports, full)) => Err((Some(ports), full)),
     }
 }
