@@ -68,6 +68,11 @@ pub record PortState : Type 0 where
   pub fuse : FuseName
   pub fail : Option ℕ
 
+-- a port has the same fuse, and the same of its commands and home writes fails
+pub record IsBoundKept (old new : PortState) : Type 0 where
+  pub fuse : new.fuse ≡ old.fuse
+  pub fail : new.fail ≡ old.fail
+
 -- a count of 64 bits stands still at its end
 abbrev pub counted : ℕ → ℕ → ℕ
 counted n zero = n

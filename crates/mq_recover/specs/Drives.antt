@@ -1,7 +1,7 @@
 -- The ports of a drive as recovery sees them, and what their images show.
 use Rattle.std.specs.Prelude.{◌≡◌, ◌<◌, ℕ, List, length, map, slice_set}
 use Rattle.mq_nvme.specs.Says.{says}
-use Rattle.mq_blocks.specs.Drive.{PortState, PortImage, IsImage, IsQuiescent, image_of}
+use Rattle.mq_blocks.specs.Drive.{PortState, PortImage, IsBoundKept, IsImage, IsQuiescent, image_of}
 use Rattle.mq_blocks.specs.Journal.{Shown, shown, image_at}
 use Rattle.mq_blocks.specs.declared.geometry.Geometry.{Geometry}
 use Rattle.mq_ledger.specs.State.{port_at}
@@ -61,12 +61,7 @@ pub record AreImages (g : Geometry) (d : DriveState) (queues : List PortImage) (
   pub each : (q : ℕ) → q < g.queues → IsImage (port_at d.queues q) (image_at queues q)
   pub root_is : IsImage d.root root
 
--- a port has the same fuse, and the same of its commands and home writes fails
-pub record IsBoundKept (old new : PortState) : Type 0 where
-  pub fuse : new.fuse ≡ old.fuse
-  pub fail : new.fail ≡ old.fail
-
--- the same of all ports
+-- each port has the same fuse, and the same of its commands and home writes fails
 pub record AreBoundsKept (g : Geometry) (old new : DriveState) : Type 0 where
   pub queues : (q : ℕ) → q < g.queues → IsBoundKept (port_at old.queues q) (port_at new.queues q)
   pub root : IsBoundKept old.root new.root

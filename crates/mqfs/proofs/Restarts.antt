@@ -3,7 +3,7 @@ use Rattle.std.proofs.Common.{◌≡◌, ◌<◌, ◌≤◌, ◌⊎◌, ⊎_elim
 use Rattle.std.specs.Prelude.{Contains, slice_get, Result, Ok, Err, IfOk}
 use Rattle.std.proofs.lemmas.List.{length-map}
 use Rattle.mq_blocks.specs.Descriptor.{Descriptor}
-use Rattle.mq_blocks.specs.Drive.{FuseName, PortState, PortImage, IsImage, IsQuiescent}
+use Rattle.mq_blocks.specs.Drive.{FuseName, PortState, PortImage, IsBoundKept, IsImage, IsQuiescent}
 use Rattle.mq_blocks.specs.Geometry.{homes_of, home_lba, zone_of}
 use Rattle.mq_blocks.specs.Journal.{Reaches, image_at, stands}
 use Rattle.mq_blocks.specs.declared.geometry.Geometry.{Geometry}
@@ -21,7 +21,7 @@ use Rattle.mqfs.specs.Restart.{IsLeftOf, cut_view, no_faults}
 use Rattle.mqfs.specs.Ports.{the_queue}
 use Rattle.mqfs.proofs.Drives.{first_mapped}
 use Rattle.mq_drive.specs.declared.port.Ports.{Ports}
-use Rattle.mq_recover.specs.Drives.{DriveFaults, DriveState, IsQuiescentDrive, IsQuiescentPort, AreImages, ArePorts, AreBoundsKept, IsBoundKept, drive, states, faults_of, view_over, drive_of, faults_on}
+use Rattle.mq_recover.specs.Drives.{DriveFaults, DriveState, IsQuiescentDrive, IsQuiescentPort, AreImages, ArePorts, AreBoundsKept, drive, states, faults_of, view_over, drive_of, faults_on}
 use Rattle.mq_recover.specs.RecoverCauses.{HasDriveCause, OnDrive, OnImage, OneGains}
 use Rattle.mq_recover.specs.Recovery.{IsRead, StandsAs}
 use Rattle.mq_recover.specs.Refusals.{RefusesImage}
