@@ -45,5 +45,7 @@ module _ {P Q R E : Type 0} (μ : Meaning P Q R E) where
     -- each number that isn't done is at or above its queue's mark, and those up to which a chair knew all to be done are
     pub marked : Marked μ known
     pub done : Each (λ v. DoneTo μ v.reading.done known) views
+    -- no chair knew of a greater base
+    pub based : Each (λ v. v.reading.base ≤ known.word) views
     -- each charge was made once
     pub charges : (f : Charge → Bool) → tally f (charged_of views) ≡ tally f known.charges

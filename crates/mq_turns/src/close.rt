@@ -57,6 +57,8 @@ fn join_all<M: Machine>(
         (map (λ ch. view ch) chairs.items) }
     ensures done { (place.old.me.0.reading.done ≤ place.new.me.0.reading.done)
         × Each (λ v. v.reading.done ≤ place.new.me.0.reading.done) (map (λ ch. view ch) chairs.items) }
+    ensures based { (place.old.me.0.reading.base ≤ place.new.me.0.reading.base)
+        × Each (λ v. v.reading.base ≤ place.new.me.0.reading.base) (map (λ ch. view ch) chairs.items) }
 {
     while let Some(Chair { place: mut other }) = chairs.pop() {
         steps::count(top, &mut other, counter);
@@ -77,6 +79,7 @@ fn gather<M: Machine>(top: &Top<M>, counter: usize, mut chairs: Vec<Chair<M>>) -
         × (result.me.0.read ≡ read_of (map (λ ch. view ch) chairs.items)) }
     ensures charged { result.me.0.reading.charged ≡ charged_of (map (λ ch. view ch) chairs.items) }
     ensures done { Each (λ v. v.reading.done ≤ result.me.0.reading.done) (map (λ ch. view ch) chairs.items) }
+    ensures based { Each (λ v. v.reading.base ≤ result.me.0.reading.base) (map (λ ch. view ch) chairs.items) }
     ensures order { Each (IsInOrder M.meaning) (map (λ ch. view ch) chairs.items) }
 {
     let Some(Chair { place: mut one }) = chairs.pop() else {
