@@ -8,7 +8,7 @@ use Rattle.std.proofs.lemmas.List.{length-map}
 use Rattle.std.proofs.lemmas.List.FromFn.{length-map-range_with_len}
 use Rattle.std.proofs.lemmas.Option.{get_or_from_slice_get, slice_get-map, slice_get_within}
 use Rattle.mq_blocks.specs.Blocks.{block_at}
-use Rattle.mq_blocks.specs.Drive.{PortState}
+use Rattle.mq_blocks.specs.Drive.{PortState, IsBoundKept}
 use Rattle.mq_blocks.specs.Geometry.{homes_of, queues_of}
 use Rattle.mq_blocks.specs.Machine.{Map}
 use Rattle.mq_blocks.specs.declared.geometry.Geometry.{Geometry}
@@ -77,6 +77,7 @@ module _ {P E : Type 0} {G : Ghosts P} (state : P → PortState) (faults : P →
           told = subst (λ (k : Option (ℕ × Why)). IsTold first (faults s.pmr.port) k) (sym n.kept) (inr (record { more = λ f. let c = ap (count_of f) told in omega arith; added = tt }));
           few = inr (omega arith);
           rings = sym (ap (λ (p : PortState). p.rings) same);
+          bound = subst (λ (p : PortState). IsBoundKept p (state s.pmr.port)) (sym same) (bound_now (state s.pmr.port));
         };
         whole = λ _. bell_end;
         stored = ap rows_of n.stored;

@@ -2,7 +2,7 @@
 use Rattle.std.proofs.Common.{◌≡◌, ℕ, ◌<◌, ◌≤◌, max, true, cond, List, [], ◌∷◌, sym, refl, ap, subst, ◌∙◌, inl, inr, arith}
 use Rattle.std.specs.Prelude.{Bool, Some, Result, Ok, Err, OnOk, OnErr}
 use Rattle.std.proofs.lemmas.Bool.{eq-eqb}
-use Rattle.mq_blocks.specs.Drive.{PortState}
+use Rattle.mq_blocks.specs.Drive.{PortState, IsBoundKept}
 use Rattle.mq_base.specs.Bases.{BaseOk, RootStands}
 use Rattle.mq_base.proofs.Roots.{stands_flushed, stands_stored}
 use Rattle.mq_drive.specs.Faults.{AreMore, count_of}
@@ -24,7 +24,7 @@ use Rattle.mq_side.specs.Roots.{IsRaiseCut, after_raise}
 use Rattle.mq_side.specs.declared.answers.Cause.TheVariants as cause
 use Rattle.mq_side.specs.declared.root.Root.{Root}
 use Rattle.mq_side.specs.declared.side.QueueSide.{QueueSide}
-use Rattle.mq_side.proofs.Completes.{gains_rises}
+use Rattle.mq_side.proofs.Completes.{bound_now, bound_then, gains_rises}
 use Rattle.mq_turns.specs.Chairs.{giving, holding}
 use Rattle.mq_turns.specs.Desk.{Sees, refreshed, slot_of, turn_at}
 use Rattle.mq_turns.specs.Lists.{Each, times, without}
@@ -51,12 +51,21 @@ stands_raised : (old : PortState) (base : ℕ) (k : KnownJournal) → BaseOk k b
 stands_raised old base k ok stood = stands_flushed k _ (stands_stored k old base stood ok)
 
 stands_cut : (old new : PortState) (base : ℕ) → IsRaiseCut old (max base old.stored_base) new → KeepsStanding base old new
-stands_cut old new base (inl is) k ok stood = subst (RootStands k) (sym is) stood
-stands_cut old new base (inr is) k ok stood = subst (RootStands k) (sym is) (stands_stored k old base stood ok)
+stands_cut old new base (inl is) = record {
+  stands = λ k ok stood. subst (RootStands k) (sym is) stood;
+  bound = subst (IsBoundKept old) (sym is) (bound_now old);
+}
+stands_cut old new base (inr is) = record {
+  stands = λ k ok stood. subst (RootStands k) (sym is) (stands_stored k old base stood ok);
+  bound = subst (IsBoundKept old) (sym is) (record { fuse = refl; fail = refl });
+}
 
 pub stands_after : (old new : PortState) (base m : ℕ) (r : Result (Unit {0}) Off) → m ≡ max base old.stored_base → OnOk r (new ≡ after_raise old m) → OnErr r (IsRaiseCut old m new) → KeepsStanding base old new
-stands_after old new base m (Ok x) is done cut k ok stood = subst (RootStands k) (sym (done ∙ ap (after_raise old) is)) (stands_raised old base k ok stood)
-stands_after old new base m (Err e) is done cut k ok stood = stands_cut old new base (subst (λ n. IsRaiseCut old n new) is cut) k ok stood
+stands_after old new base m (Ok x) is done cut = record {
+  stands = λ k ok stood. subst (RootStands k) (sym (done ∙ ap (after_raise old) is)) (stands_raised old base k ok stood);
+  bound = subst (IsBoundKept old) (sym done) (record { fuse = refl; fail = refl });
+}
+stands_after old new base m (Err e) is done cut = stands_cut old new base (subst (λ n. IsRaiseCut old n new) is cut)
 
 -- ---- the root is taken by a session that holds nothing
 
@@ -99,7 +108,8 @@ module _ {P E : Type 0} {G : Ghosts P} (state : P → PortState) (faults : P →
       let was = root_now K sees in
       record {
         says = tt;
-        port = stands (Rule.core_of values group K) (bases K (before K sees)) was.port;
+        port = stands.stands (Rule.core_of values group K) (bases K (before K sees)) was.port;
+        bound = bound_then (state K.opening.root.port) (state s.port) (state u.port) was.bound stands.bound;
         charged = charged_more (Rule.geometry_of values group K) turn.Root K.charges (faults K.opening.root.port) (faults s.port) (faults u.port) more was.charged;
       }
 

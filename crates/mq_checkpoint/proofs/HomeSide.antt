@@ -1,7 +1,7 @@
 -- A port by which a page was written home, by what the rule says of it.
 use Rattle.std.proofs.Common.{◌≡◌, ◌⊎◌, ℕ, ◌-◌, ◌<◌, ◌≤◌, ◌^◌, Bool, cond, List, length, sym, refl, ap, subst, ◌∙◌, inl, inr, arith}
 use Rattle.std.specs.Prelude.{None, Some, Result, Ok, Err}
-use Rattle.mq_blocks.specs.Drive.{IsHome, PortState, after_begin, after_end, counted}
+use Rattle.mq_blocks.specs.Drive.{IsBoundKept, IsHome, PortState, after_begin, after_end, counted}
 use Rattle.mq_blocks.specs.Geometry.{homes_of, home_lba, zone_of}
 use Rattle.mq_blocks.specs.Ports.{IsPort}
 use Rattle.mq_blocks.specs.declared.geometry.Geometry.{Geometry}
@@ -42,7 +42,7 @@ use Rattle.mq_side.specs.Stored.{AreStored}
 use Rattle.mq_side.specs.Told.{KeepsTold}
 use Rattle.mq_side.specs.declared.root.Root.{Root}
 use Rattle.mq_side.specs.declared.side.QueueSide.{QueueSide}
-use Rattle.mq_side.proofs.Completes.{gains_rises}
+use Rattle.mq_side.proofs.Completes.{bound_then, gains_rises}
 use Rattle.mq_side.proofs.Telling.{one_more}
 use Rattle.mq_turns.specs.Lists.{Each}
 use Rattle.mq_turns.specs.Meaning.{charged, written}
@@ -152,6 +152,9 @@ module _ {P E : Type 0} {G : Ghosts P} (state : P → PortState) (faults : P →
       rings : new.rings ≡ old.rings
       rings = same (λ p. p.rings) (λ p. refl) (λ p. refl) r gives
 
+      bound : IsBoundKept old new
+      bound = record { fuse = same (λ p. p.fuse) (λ p. refl) (λ p. refl) r gives; fail = same (λ p. p.fail) (λ p. refl) (λ p. refl) r gives }
+
       -- however the write ended, and before it is noted, the side is what the rule says
       side_wrote : IsSide values group q K u
       side_wrote = record {
@@ -169,6 +172,7 @@ module _ {P E : Type 0} {G : Ghosts P} (state : P → PortState) (faults : P →
             told = told first r.told;
             few = counts (Rule.port_of values group K.opening q).events q k us ok.log qs r.few;
             rings = rings ∙ (r.rings ∙ ap (λ d. counted (Rule.port_of values group K.opening q).rings (rung_of start us d)) (sym doorbell));
+            bound = bound_then (Rule.port_of values group K.opening q) old new r.bound bound;
           });
           whole = λ none. doorbell ∙ is.says.whole (sym kept ∙ none);
           stored = subst (λ v. AreStored us v.items) (sym stored) is.says.stored;
@@ -220,7 +224,7 @@ module _ {P E : Type 0} {G : Ghosts P} (state : P → PortState) (faults : P →
       abbrev root_new : PortState
       root_new = state u.port
 
-      root_same : (f : PortState → ℕ) → ((p : PortState) → f (after_begin p lba block) ≡ f p) → ((p : PortState) → f (after_end p lba block) ≡ f p) → (res : Result HomeStep Off) → HomeGives root_old (faults s.port) lba block res root_new (faults u.port) → f root_new ≡ f root_old
+      root_same : {A : Type 0} (f : PortState → A) → ((p : PortState) → f (after_begin p lba block) ≡ f p) → ((p : PortState) → f (after_end p lba block) ≡ f p) → (res : Result HomeStep Off) → HomeGives root_old (faults s.port) lba block res root_new (faults u.port) → f root_new ≡ f root_old
       root_same f begun ended (Ok home.Done) g = ap f g.0 ∙ (ended (after_begin root_old lba block) ∙ begun root_old)
       root_same f begun ended (Ok (home.Error status)) g = ap f g.1 ∙ begun root_old
       root_same f begun ended (Err off) g = elim g.0 [
@@ -234,6 +238,9 @@ module _ {P E : Type 0} {G : Ghosts P} (state : P → PortState) (faults : P →
       root_stored : root_new.stored_base ≡ root_old.stored_base
       root_stored = root_same (λ p. p.stored_base) (λ p. refl) (λ p. refl) r gives
 
+      root_bound : IsBoundKept root_old root_new
+      root_bound = record { fuse = root_same (λ p. p.fuse) (λ p. refl) (λ p. refl) r gives; fail = root_same (λ p. p.fail) (λ p. refl) (λ p. refl) r gives }
+
       root_wrote : IsRoot values group K u
       root_wrote = record {
         says = tt;
@@ -242,6 +249,7 @@ module _ {P E : Type 0} {G : Ghosts P} (state : P → PortState) (faults : P →
           flushed = subst (BaseOk k) (sym root_base) is.port.flushed;
           stored = subst (BaseOk k) (sym root_stored) is.port.stored;
         };
+        bound = bound_then (state K.opening.root.port) root_old root_new is.bound root_bound;
         charged = charged_more g turn.Root K.charges first_root (faults s.port) (faults u.port) (home_more root_old root_new (faults s.port) (faults u.port) lba block r gives) is.charged;
       }
 
@@ -262,6 +270,7 @@ module _ {P E : Type 0} {G : Ghosts P} (state : P → PortState) (faults : P →
               flushed = base_later k l root_new.base ok.log log grown wrote.port.flushed;
               stored = base_later k l root_new.stored_base ok.log log grown wrote.port.stored;
             };
+            bound = wrote.bound;
             charged = wrote.charged;
           }
 

@@ -1,6 +1,6 @@
 -- What a checkpoint has done once the base is raised.
 use Rattle.std.specs.Prelude.{◌≡◌, ◌⊎◌, ◌≤◌, ℕ, List, [], ◌∷◌, ◌++◌}
-use Rattle.mq_blocks.specs.Drive.{PortState}
+use Rattle.mq_blocks.specs.Drive.{PortState, IsBoundKept}
 use Rattle.mq_base.specs.Bases.{BaseOk, RootStands}
 use Rattle.mq_drive.specs.Steps.{Fault}
 use Rattle.mq_drive.specs.declared.port.Port.{Ghosts}
@@ -22,9 +22,11 @@ use Rattle.mq_turns.specs.declared.turn.Turn.TheVariants as turn
 use Rattle.mq_checkpoint.specs.Steps.{IsKnownFrom, Refuses}
 use Rattle.mq_checkpoint.specs.declared.refusal.CheckpointRefusal.{CheckpointRefusal}
 
--- whatever is known, by which this is a base: a root that stood before stands after
-abbrev pub KeepsStanding : ℕ → PortState → PortState → Type 0
-KeepsStanding base old new = (k : KnownJournal) → BaseOk k base → RootStands k old → RootStands k new
+-- Whatever is known, by which this is a base: a root that stood before stands after. The port keeps its fuse, and the
+-- same of its home writes fails.
+pub record KeepsStanding (base : ℕ) (old new : PortState) : Type 0 where
+  pub stands : (k : KnownJournal) → BaseOk k base → RootStands k old → RootStands k new
+  pub bound : IsBoundKept old new
 
 -- a report of the root's port
 abbrev pub reported_root : Report → Charge

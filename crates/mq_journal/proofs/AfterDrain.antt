@@ -34,7 +34,7 @@ use Rattle.mq_side.specs.declared.answers.Why.{Why}
 use Rattle.mq_side.specs.declared.answers.Why.TheVariants.{Off, Status}
 use Rattle.mq_side.specs.declared.root.Root.{Root}
 use Rattle.mq_side.specs.declared.side.QueueSide.{QueueSide}
-use Rattle.mq_side.proofs.Completes.{gains_rises}
+use Rattle.mq_side.proofs.Completes.{bound_then, gains_rises}
 use Rattle.mq_side.proofs.Reaching.{below_head, done_before}
 use Rattle.mq_side.proofs.Telling.{one_more}
 use Rattle.mq_turns.specs.declared.rule.Report.TheVariants as report
@@ -153,6 +153,7 @@ module _ {P E : Type 0} {G : Ghosts P} (state : P → PortState) (faults : P →
           told = told first r.told;
           few = counts (Rule.port_of values group K.opening q).events q k us ok.log qs r.few;
           rings = drains.rings ∙ (r.rings ∙ ap (λ d. counted (Rule.port_of values group K.opening q).rings (rung_of start us d)) (sym drains.doorbell));
+          bound = bound_then (Rule.port_of values group K.opening q) ss.port uu.port r.bound drains.bound;
         });
         whole = λ none. drains.doorbell ∙ is.says.whole (quiet_before none);
         stored = subst (λ v. AreStored us v.items) (sym stored) is.says.stored;

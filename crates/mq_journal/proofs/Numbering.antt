@@ -147,6 +147,7 @@ module _ {P E : Type 0} {G : Ghosts P} (state : P → PortState) (faults : P →
       told = r.told;
       few = drawn_counts (Rule.port_of values group K.opening q).events k q t us ss qs rung r.few;
       rings = r.rings ∙ ap (counted (Rule.port_of values group K.opening q).rings) (rung_same (Rule.doorbell_of values group K.opening q) ss.port.doorbell t us rung);
+      bound = r.bound;
     }
 
     commit_is : n ≡ commit_of t us

@@ -35,6 +35,7 @@ record_reported p reports s is = record {
   told = is.told;
   few = is.few;
   rings = is.rings;
+  bound = is.bound;
 }
 
 module _ {P E : Type 0} {G : Ghosts P} (state : P → PortState) (faults : P → List Fault) (group : Group E) (q : ℕ) (K : Shared P E G) (s u : QueueSide P E G) (r : Report) where

@@ -2,7 +2,7 @@
 use Rattle.std.proofs.Common.{◌≡◌, ◌⊎◌, ℕ, zero, suc, ◌+◌, ◌-◌, ◌≤◌, ◌^◌, min, Bool, cond, List, ◌∷◌, length, sym, refl, ap, subst, ◌∙◌, inl, inr, arith}
 use Rattle.std.specs.Prelude.{None, Some}
 use Rattle.std.proofs.lemmas.Bool.{lt-ltb, le-ltb}
-use Rattle.mq_blocks.specs.Drive.{PortState, counted}
+use Rattle.mq_blocks.specs.Drive.{PortState, IsBoundKept, counted}
 use Rattle.mq_blocks.specs.declared.geometry.Geometry.{Geometry}
 use Rattle.mq_drive.specs.Faults.{AreMore, count_of}
 use Rattle.mq_drive.specs.Steps.{Fault, Gains, PowerOff}
@@ -27,7 +27,7 @@ use Rattle.mq_side.specs.Told.{KeepsTold}
 use Rattle.mq_side.specs.declared.answers.Why.TheVariants.{Off}
 use Rattle.mq_side.specs.declared.root.Root.{Root}
 use Rattle.mq_side.specs.declared.side.QueueSide.{QueueSide}
-use Rattle.mq_side.proofs.Completes.{gains_rises}
+use Rattle.mq_side.proofs.Completes.{bound_then, gains_rises}
 use Rattle.mq_side.proofs.Telling.{one_more}
 use Rattle.mq_turns.specs.declared.rule.Report.{Report}
 use Rattle.mq_turns.specs.declared.rule.Report.TheVariants as report
@@ -99,8 +99,8 @@ module _ {P E : Type 0} {G : Ghosts P} (state : P → PortState) (faults : P →
     now : IsQueueSide k q us uu
     now = stays q k us ok.log has.says.ready qs
 
-    record_with : uu.port.rings ≡ counted (Rule.port_of values group K.opening q).rings (rung_of (Rule.doorbell_of values group K.opening q) us uu.port.doorbell) → IsRecord (Rule.part_of values group q K) uu
-    record_with rings = let r = has.says.is in record {
+    record_with : uu.port.rings ≡ counted (Rule.port_of values group K.opening q).rings (rung_of (Rule.doorbell_of values group K.opening q) us uu.port.doorbell) → IsBoundKept ss.port uu.port → IsRecord (Rule.part_of values group q K) uu
+    record_with rings bound = let r = has.says.is in record {
       geometry = own.0 ∙ r.geometry;
       queue = own.1 ∙ r.queue;
       passed = now.passed;
@@ -111,6 +111,7 @@ module _ {P E : Type 0} {G : Ghosts P} (state : P → PortState) (faults : P →
       told = told (Rule.faults_of values group K.opening q) r.told;
       few = counts (Rule.port_of values group K.opening q).events q k us ok.log has.says.ready qs r.few;
       rings = rings;
+      bound = bound_then (Rule.port_of values group K.opening q) ss.port uu.port r.bound bound;
     }
 
     abbrev start : ℕ
@@ -123,11 +124,11 @@ module _ {P E : Type 0} {G : Ghosts P} (state : P → PortState) (faults : P →
     shows_with : ss.port.doorbell ≤ uu.port.doorbell → ShowsAll start us uu reports
     shows_with up = shows_still start us us (λ t ts at. at) ss.port.doorbell uu.port.doorbell ss.port.failed uu.port.failed ss.kept uu.kept up (λ some. absurd (some has.says.ready.none)) reports has.says.shows
 
-    side_with : ss.port.doorbell ≤ uu.port.doorbell → uu.port.rings ≡ counted (Rule.port_of values group K.opening q).rings (rung_of (Rule.doorbell_of values group K.opening q) us uu.port.doorbell) → (u.kept ≡ None → uu.port.doorbell ≡ end_of (k.from q) us) → AreMore (faults s.pmr.port) (faults u.pmr.port) → IsSide values group q K u
-    side_with up rings whole more = record {
+    side_with : ss.port.doorbell ≤ uu.port.doorbell → uu.port.rings ≡ counted (Rule.port_of values group K.opening q).rings (rung_of (Rule.doorbell_of values group K.opening q) us uu.port.doorbell) → (u.kept ≡ None → uu.port.doorbell ≡ end_of (k.from q) us) → AreMore (faults s.pmr.port) (faults u.pmr.port) → IsBoundKept ss.port uu.port → IsSide values group q K u
+    side_with up rings whole more bound = record {
       port = now.side;
       stored = ap (λ v. entries_in v.items) stored ∙ has.stored;
-      says = record { is = record_with rings; whole = whole; stored = subst (λ v. AreStored us v.items) (sym stored) has.says.stored; shows = shows_with up };
+      says = record { is = record_with rings bound; whole = whole; stored = subst (λ v. AreStored us v.items) (sym stored) has.says.stored; shows = shows_with up };
       charged = charged_more (Rule.geometry_of values group K) (Side q) K.charges (Rule.faults_of values group K.opening q) (faults s.pmr.port) (faults u.pmr.port) more has.charged;
     }
 
@@ -147,6 +148,7 @@ module _ {P E : Type 0} {G : Ghosts P} (state : P → PortState) (faults : P →
         let at : uu.port.doorbell ≡ end_of start (r.t ∷ r.ts) = rung ∙ ap (end_of start) r.newest in
         let many : rung_of start us uu.port.doorbell ≡ suc (length r.ts) = ap (λ l. rung_of start l uu.port.doorbell) r.newest ∙ after_newest start r.t r.ts uu.port.doorbell at in
         side_with (let a = r.rung in omega arith) (ap (λ (p : PortState). p.rings) is ∙ (ap (λ m. counted m 1) rings_before ∙ (sym (counted-next opened (length r.ts)) ∙ ap (counted opened) (sym many)))) (λ none. rung) (λ f. let e : count_of f (faults u.pmr.port) ≡ count_of f (faults s.pmr.port) = ap (count_of f) same in omega arith)
+        (record { fuse = ap (λ (p : PortState). p.fuse) is; fail = ap (λ (p : PortState). p.fail) is })
 
     -- it was cut
     cut_rings : (items : Items) → IsCutAt ss.port n.number items uu.port → (uu.port.rings ≡ ss.port.rings) × (uu.port.doorbell ≡ ss.port.doorbell)
@@ -154,10 +156,15 @@ module _ {P E : Type 0} {G : Ghosts P} (state : P → PortState) (faults : P →
     cut_rings items (inr (inl all)) = (ap (λ (p : PortState). p.rings) all, ap (λ (p : PortState). p.doorbell) all)
     cut_rings items (inr (inr all)) = (ap (λ (p : PortState). p.rings) all, ap (λ (p : PortState). p.doorbell) all)
 
+    cut_bound : (items : Items) → IsCutAt ss.port n.number items uu.port → IsBoundKept ss.port uu.port
+    cut_bound items (inl part) = let is = part.2 in record { fuse = ap (λ (p : PortState). p.fuse) is; fail = ap (λ (p : PortState). p.fail) is }
+    cut_bound items (inr (inl all)) = record { fuse = ap (λ (p : PortState). p.fuse) all; fail = ap (λ (p : PortState). p.fail) all }
+    cut_bound items (inr (inr all)) = record { fuse = ap (λ (p : PortState). p.fuse) all; fail = ap (λ (p : PortState). p.fail) all }
+
     pub cut_side : (items : Items) → IsCutAt ss.port n.number items uu.port → u.kept ≡ Some (n.number, Off) → Gains PowerOff (faults s.pmr.port) (faults u.pmr.port) → IsSide values group q K u
     cut_side items cut kept gains =
         let same = cut_rings items cut in
-        side_with (let a = same.1 in omega arith) (same.0 ∙ (has.says.is.rings ∙ ap (λ d. counted (Rule.port_of values group K.opening q).rings (rung_of start us d)) (sym same.1))) (λ none. absurd (some_none (sym kept ∙ none))) (gained_more (faults s.pmr.port) (faults u.pmr.port) PowerOff gains)
+        side_with (let a = same.1 in omega arith) (same.0 ∙ (has.says.is.rings ∙ ap (λ d. counted (Rule.port_of values group K.opening q).rings (rung_of start us d)) (sym same.1))) (λ none. absurd (some_none (sym kept ∙ none))) (gained_more (faults s.pmr.port) (faults u.pmr.port) PowerOff gains) (cut_bound items cut)
       where
         some_none : {A : Type 0} {x : A} → Some x ≡ None → ⊥
         some_none e = cc

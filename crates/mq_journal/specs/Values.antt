@@ -1,7 +1,7 @@
 -- What the side of a queue and the root show on a desk.
 use lib.Dec.{lit≤}
 use Rattle.std.specs.Prelude.{◌≡◌, ◌≢◌, ◌⊎◌, ◌<◌, ◌≤◌, ℕ, suc, ◌+◌, ◌-◌, ◌^◌, List, [], ◌∷◌, length, map, reverse, slice_index_or, Option, Some, None, nat_lt, if◌then◌else◌}
-use Rattle.mq_blocks.specs.Drive.{PortState, counted}
+use Rattle.mq_blocks.specs.Drive.{PortState, IsBoundKept, counted}
 use Rattle.mq_blocks.specs.declared.command.Command.{Command}
 use Rattle.mq_blocks.specs.declared.geometry.Geometry.{Geometry}
 use Rattle.mq_drive.specs.Steps.{Fault}
@@ -36,7 +36,8 @@ AreFew p s =
     ⊎ (s.port.events + ahead (end_of p.start p.txs) s ≤ p.opened.events + most_events p.txs + length s.faults)
 
 -- What a side's record says beside its port: its records are of the queue's transactions, the failure that it
--- keeps is one of the faults that its port has gained since the opening, and each transaction that was sent was rung once.
+-- keeps is one of the faults that its port has gained since the opening, each transaction that was sent was rung once, and
+-- the port has the fuse that it had at the opening, and the same of its commands and home writes fails.
 pub record IsRecord (p : Part) (s : SideState) : Type 0 where
   pub geometry : s.geometry ≡ p.geometry
   pub queue : s.queue ≡ p.queue
@@ -48,6 +49,7 @@ pub record IsRecord (p : Part) (s : SideState) : Type 0 where
   pub told : IsTold p.first s.faults s.kept
   pub few : AreFew p s
   pub rings : s.port.rings ≡ counted p.opened.rings (rung_of p.start p.txs s.port.doorbell)
+  pub bound : IsBoundKept p.opened s.port
 
 -- Where it keeps no failure, all that was drawn is rung.
 abbrev pub IsWhole : Part → SideState → Type 0
@@ -66,6 +68,7 @@ record_later p word s is = record {
   told = is.told;
   few = is.few;
   rings = is.rings;
+  bound = is.bound;
 }
 
 -- ---- what was reported of its port

@@ -120,6 +120,7 @@ module _ {Q R E : Type 0} (values : Values Q R E) (group : Group E) (o : Opening
             flushed = subst (λ b. BaseOk core b) (sym base_is) base;
             stored = subst (λ b. BaseOk core b) (sym stored_is) base;
           };
+          bound = record { fuse = refl; fail = refl };
           charged = nothing_charged (Rule.shape_of values group o) Root (values.root_faults o.root) (values.root_faults o.root) refl;
         };
   }

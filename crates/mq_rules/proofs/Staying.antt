@@ -1,6 +1,7 @@
 -- What a value is by what is known, it is by what is known later, where nothing of that is about it.
 use Rattle.std.proofs.Common.{◌≡◌, ◌≢◌, ℕ, ◌+◌, Bool, true, false, List, [], ◌∷◌, ◌++◌, length, Option, Some, None, max, sym, refl, ap, subst, ◌∙◌, inl, inr, arith, eqb}
 use Rattle.std.proofs.lemmas.Bool.{eq-eqb, or_cases, or_left, or_right, false≢true}
+use Rattle.mq_blocks.specs.Drive.{IsBoundKept}
 use Rattle.mq_blocks.specs.Geometry.{zone_of}
 use Rattle.mq_blocks.specs.Machine.{Map, after}
 use Rattle.mq_blocks.specs.declared.geometry.Geometry.{Geometry}
@@ -21,6 +22,7 @@ use Rattle.mq_turns.specs.Lists.{Each}
 use Rattle.mq_turns.specs.Marks.{is_claimed}
 use Rattle.mq_turns.specs.Meaning.{Apart, Grows, newest, drawn}
 use Rattle.mq_turns.specs.declared.rule.Charge.{Charge}
+use Rattle.mq_turns.specs.declared.rule.Opening.{Opening}
 use Rattle.mq_turns.specs.declared.turn.Turn.{Turn}
 use Rattle.mq_turns.specs.declared.turn.Turn.TheVariants.{Page, Side, Root}
 use Rattle.mq_turns.proofs.Each.{each_map}
@@ -199,6 +201,7 @@ module _ {Q R E : Type 0} (values : Values Q R E) (group : Group E) where
           flushed = later_base (values.root r).base is.port.flushed;
           stored = later_base (values.root r).stored_base is.port.stored;
         };
+        bound = subst (λ (z : Opening PageCell Q R). IsBoundKept (values.root z.root) (values.root r)) (sym o) is.bound;
         charged = subst (λ (z : Geometry × (List Charge × List Fault)). AreCharged z.0 Root z.1.0 z.1.1 (values.root_faults r)) (λ i. (Rule.shape_of values group (sym o i), (sym s.grows.charges i, values.root_faults (sym o i).root)))
             (backed_apart (geometry_of values group K) Root s.grows.blamed K.charges (values.root_faults K.opening.root) (values.root_faults r) s.charges is.charged);
       }

@@ -120,7 +120,7 @@ module _ {Q R E : Type 0} (values : Values Q R E) (group : Group E) where
       }
 
   pub root_raised : (b : ℕ) (K : Desk) (r : R) → IsOk values group K → IsRoot values group K r → K.word ≤ b → b ≤ (values.root r).base → IsRoot values group (raised b K) r
-  root_raised b K r ok is up low = record { says = is.says; port = stands_raised (core K) b (values.root r) ok.log is.port up low; charged = is.charged }
+  root_raised b K r ok is up low = record { says = is.says; port = stands_raised (core K) b (values.root r) ok.log is.port up low; bound = is.bound; charged = is.charged }
 
   -- ---- charges
 
@@ -153,6 +153,7 @@ module _ {Q R E : Type 0} (values : Values Q R E) (group : Group E) where
       record {
         says = is.says;
         port = is.port;
+        bound = is.bound;
         charged = subst (λ t. AreCharged g t (c ∷ K.charges) first (values.root_faults s)) mine
             (charged_backed g c K.charges first (values.root_faults r) (values.root_faults s) (subst (λ t. AreCharged g t K.charges first (values.root_faults r)) (sym mine) was) backed);
       }

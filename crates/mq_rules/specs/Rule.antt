@@ -1,7 +1,7 @@
 -- What lies on a desk over the ports of a drive, by what is known: cells of home blocks, sides of queues, and the root;
 -- and which groups may be drawn.
 use Rattle.std.specs.Prelude.{◌≡◌, ℕ, ◌+◌, ◌<◌, ◌≤◌, nat_eq, Bool, true, false, List, [], ◌∷◌, length, map, slice_index_or, Option, Some, None, if◌then◌else◌}
-use Rattle.mq_blocks.specs.Drive.{PortState}
+use Rattle.mq_blocks.specs.Drive.{PortState, IsBoundKept}
 use Rattle.mq_blocks.specs.Geometry.{zone_of}
 use Rattle.mq_blocks.specs.Machine.{Map}
 use Rattle.mq_blocks.specs.declared.geometry.Geometry.{Geometry}
@@ -179,10 +179,12 @@ module _ {Q R E : Type 0} (values : Values Q R E) (group : Group E) where
     pub says : values.says (part_of q K) w
     pub charged : AreCharged (geometry_of K) (Side q) K.charges (faults_of K.opening q) (values.faults w)
 
-  -- The flushed and the stored base are bases, not below the base word.
+  -- The flushed and the stored base are bases, not below the base word. The port has the fuse that it had at the opening,
+  -- and the same of its home writes fails.
   pub record IsRoot (K : Desk) (r : R) : Type 0 where
     pub says : values.root_says (geometry_of K) r
     pub port : RootStands (core_of K) (values.root r)
+    pub bound : IsBoundKept (values.root K.opening.root) (values.root r)
     pub charged : AreCharged (geometry_of K) Root K.charges (values.root_faults K.opening.root) (values.root_faults r)
 
   -- ---- draws

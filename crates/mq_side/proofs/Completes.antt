@@ -6,7 +6,7 @@ use Rattle.std.proofs.lemmas.List.{map-append, append-nil}
 use Rattle.std.proofs.lemmas.List.Edits.{length-remove}
 use Rattle.std.proofs.lemmas.Option.{slice_get_within}
 use Rattle.std.proofs.lemmas.Bool.{cases_lt}
-use Rattle.mq_blocks.specs.Drive.{PortState}
+use Rattle.mq_blocks.specs.Drive.{PortState, IsBoundKept}
 use Rattle.mq_blocks.specs.declared.command.Command.{Command}
 use Rattle.mq_drive.specs.Steps.{Fault, Gains, CommandError, PowerOff}
 use Rattle.mq_pmr.specs.Answers.{EndsWell, EndsBadly}
@@ -93,12 +93,20 @@ pub record SoFar (old : SideState) (failed : Bool) (now : SideState) : Type 0 wh
   pub taken : HasTaken failures failed
   pub same : SameEnds old now
 
+-- a port keeps its fuse and its failing command
+pub bound_now : (p : PortState) → IsBoundKept p p
+bound_now p = record { fuse = refl; fail = refl }
+
+pub bound_then : (a b c : PortState) → IsBoundKept a b → IsBoundKept b c → IsBoundKept a c
+bound_then a b c first second = record { fuse = second.fuse ∙ first.fuse; fail = second.fail ∙ first.fail }
+
 -- what a command that ends leaves of a port
 pub record EndedPort (old new : PortState) : Type 0 where
   pub head : new.head ≡ old.head
   pub stored : new.stored_head ≡ old.stored_head
   pub doorbell : new.doorbell ≡ old.doorbell
   pub rings : new.rings ≡ old.rings
+  pub bound : IsBoundKept old new
 
 pub so_ends : (old now new : SideState) → SameEnds old now → SameRecords now new → EndedPort now.port new.port → SameEnds old new
 so_ends old now new ends same port = record {
@@ -111,6 +119,7 @@ so_ends old now new ends same port = record {
   stored = port.stored ∙ ends.stored;
   doorbell = port.doorbell ∙ ends.doorbell;
   rings = port.rings ∙ ends.rings;
+  bound = bound_then old.port now.port new.port ends.bound port.bound;
 }
 
 pub none_so_far : (s : SideState) → SoFar s false s
@@ -118,7 +127,7 @@ none_so_far s = record {
   failures = [];
   takes = record { failed = sym (append-nil (numbers_of s.port.failed)); gained = refl; kept = refl };
   taken = refl;
-  same = record { geometry = refl; queue = refl; passed = refl; rung = refl; done = refl; head = refl; stored = refl; doorbell = refl; rings = refl };
+  same = record { geometry = refl; queue = refl; passed = refl; rung = refl; done = refl; head = refl; stored = refl; doorbell = refl; rings = refl; bound = bound_now s.port };
 }
 
 module _ (old now new : SideState) (failed : Bool) (so : SoFar old failed now) (same : SameRecords now new) where
@@ -128,6 +137,7 @@ module _ (old now new : SideState) (failed : Bool) (so : SoFar old failed now) (
     stored = ap (λ (p : PortState). p.stored_head) is;
     doorbell = ap (λ (p : PortState). p.doorbell) is;
     rings = ap (λ (p : PortState). p.rings) is;
+    bound = subst (IsBoundKept now.port) (sym is) (record { fuse = refl; fail = refl });
   })
 
   pub well_so_far : (slot : ℕ) → EndsWell now.port slot new.port → new.kept ≡ now.kept → new.faults ≡ now.faults → SoFar old failed new
@@ -148,6 +158,7 @@ module _ (old now new : SideState) (failed : Bool) (so : SoFar old failed now) (
     stored = ap (λ (p : PortState). p.stored_head) is;
     doorbell = ap (λ (p : PortState). p.doorbell) is;
     rings = ap (λ (p : PortState). p.rings) is;
+    bound = subst (IsBoundKept now.port) (sym is) (record { fuse = refl; fail = refl });
   })
 
   pub badly_so_far : (tx status : ℕ) → EndsBadly now.port tx new.port → Gains (CommandError tx status) now.faults new.faults → new.kept ≡ kept_with now.kept tx status → SoFar old true new
@@ -169,6 +180,7 @@ module _ (old now new : SideState) (failed : Bool) (so : SoFar old failed now) (
     stored = ap (λ (p : PortState). p.stored_head) is;
     doorbell = ap (λ (p : PortState). p.doorbell) is;
     rings = ap (λ (p : PortState). p.rings) is;
+    bound = subst (IsBoundKept now.port) (sym is) (bound_now now.port);
   }
 
   still_takes : new.port ≡ now.port → new.kept ≡ now.kept → Takes old so.failures now.faults new

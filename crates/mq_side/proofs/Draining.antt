@@ -2,7 +2,7 @@
 use Rattle.std.proofs.Common.{◌≡◌, ◌≢◌, ◌⊎◌, ℕ, ◌≤◌, eqb, Bool, true, false, List, [], ◌∷◌, Option, Some, None, sym, refl, ap, subst, ◌∙◌, inl, inr, arith, ⊎_elim}
 use Rattle.std.specs.Prelude.{◌&&◌, Result, Ok, Err, OnOk}
 use Rattle.std.proofs.lemmas.Bool.{cases_lt, le-leb, lt-leb}
-use Rattle.mq_blocks.specs.Drive.{PortState, AreFrom, after_flush, after_store_head}
+use Rattle.mq_blocks.specs.Drive.{PortState, IsBoundKept, AreFrom, after_flush, after_store_head}
 use Rattle.mq_blocks.specs.declared.command.Command.{Command}
 use Rattle.mq_drive.specs.Steps.{Fault, Gains, PowerOff}
 use Rattle.mq_drive.specs.declared.port.Off.{Off as PowerCut}
@@ -18,7 +18,7 @@ use Rattle.mq_side.specs.declared.answers.Cause.{Cause}
 use Rattle.mq_side.specs.declared.answers.Cause.TheVariants as cause
 use Rattle.mq_side.specs.declared.answers.Why.{Why}
 use Rattle.mq_side.specs.declared.answers.Why.TheVariants.{Status, Off}
-use Rattle.mq_side.proofs.Completes.{gains_rises, gained_rises, gained_then}
+use Rattle.mq_side.proofs.Completes.{bound_now, bound_then, gains_rises, gained_rises, gained_then}
 use Rattle.mq_side.proofs.CountedSides.{head_counts, cut_head_counts}
 use Rattle.mq_side.proofs.Heads.{HeadMoves, Rings, advanced, stored, passed, head_at, same_head}
 use Rattle.mq_side.proofs.Rungs.{leading_all}
@@ -60,6 +60,9 @@ head_bell p h = same_head (eqb p.head h) p (after_flush (after_store_head p h)) 
 pub head_rings : (p : PortState) (h : ℕ) → (after_head p h).rings ≡ p.rings
 head_rings p h = same_head (eqb p.head h) p (after_flush (after_store_head p h)) (λ t. t.rings ≡ p.rings) refl refl
 
+pub head_bound : (p : PortState) (h : ℕ) → IsBoundKept p (after_head p h)
+head_bound p h = same_head (eqb p.head h) p (after_flush (after_store_head p h)) (IsBoundKept p) (bound_now p) (record { fuse = refl; fail = refl })
+
 -- ---- the head moves on
 
 -- the new head is not stored, or it is stored and not flushed
@@ -92,6 +95,7 @@ module _ (old new : SideState) (a : HeadMoves old new new.passed.end) (r : Rings
         kept = a.kept;
         doorbell = ap (λ (p : PortState). p.doorbell) is ∙ head_bell old.port h;
         rings = ap (λ (p : PortState). p.rings) is ∙ head_rings old.port h;
+        bound = subst (IsBoundKept old.port) (sym is) (head_bound old.port h);
       }
 
   pub advances_cut : {A : Type 0} (off : PowerCut) → IsHeadCut old.port new.passed.end new.port → new.done ≡ old.done → Gains PowerOff old.faults new.faults → Advances {A = A} old (Err off) new
@@ -104,6 +108,7 @@ module _ (old new : SideState) (a : HeadMoves old new new.passed.end) (r : Rings
     kept = a.kept;
     doorbell = ⊎_elim (λ e. ap (λ (p : PortState). p.doorbell) e) (λ e. ap (λ (p : PortState). p.doorbell) e) is;
     rings = ⊎_elim (λ e. ap (λ (p : PortState). p.rings) e) (λ e. ap (λ (p : PortState). p.rings) e) is;
+    bound = ⊎_elim (λ e. subst (IsBoundKept old.port) (sym e) (bound_now old.port)) (λ e. subst (IsBoundKept old.port) (sym e) (record { fuse = refl; fail = refl })) is;
   }
 
 -- ---- the whole drain
@@ -157,6 +162,7 @@ module _ {A : Type 0} (old mid new : SideState) (failed : Bool) (u : A) (c : Com
     queue = a.queue ∙ c.same.queue;
     doorbell = a.doorbell ∙ c.same.doorbell;
     rings = a.rings ∙ c.same.rings;
+    bound = bound_then old.port mid.port new.port c.same.bound a.bound;
   }
 
   -- none was taken where nothing is kept
@@ -212,6 +218,7 @@ cut_drain old new off c = record {
   queue = c.same.queue;
   doorbell = c.same.doorbell;
   rings = c.same.rings;
+  bound = c.same.bound;
 }
 
 pub cut_cause : (old new : SideState) (off : PowerCut) → Completes old (Err off) new → Rises old.faults new.faults
@@ -232,6 +239,7 @@ module _ {A : Type 0} (old mid new : SideState) (failed : Bool) (off : PowerCut)
     queue = a.queue ∙ c.same.queue;
     doorbell = a.doorbell ∙ c.same.doorbell;
     rings = a.rings ∙ c.same.rings;
+    bound = bound_then old.port mid.port new.port c.same.bound a.bound;
   }
 
   pub cut_head_cause : Rises old.faults new.faults

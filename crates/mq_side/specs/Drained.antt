@@ -1,5 +1,6 @@
 -- What a drain comes to.
 use Rattle.std.specs.Prelude.{◌≡◌, ◌≢◌, ◌⊎◌, ◌<◌, ◌≤◌, ◌-◌, ◌^◌, ◌++◌, ℕ, Bool, true, false, List, [], ◌∷◌, length, map, Option, Some, None, Result, Ok, Err, nat_le, if◌then◌else◌}
+use Rattle.mq_blocks.specs.Drive.{IsBoundKept}
 use Rattle.mq_blocks.specs.declared.command.Command.{Command}
 use Rattle.mq_drive.specs.Steps.{Fault, CommandError, PowerOff, Gains}
 use Rattle.mq_drive.specs.declared.port.Off.{Off}
@@ -63,6 +64,7 @@ pub record SameEnds (old new : SideState) : Type 0 where
   pub stored : new.port.stored_head ≡ old.port.stored_head
   pub doorbell : new.port.doorbell ≡ old.port.doorbell
   pub rings : new.port.rings ≡ old.port.rings
+  pub bound : IsBoundKept old.port new.port
 
 abbrev pub CompletesTo : Failures → List Fault → Result Bool Off → SideState → Type 0
 CompletesTo failures faults (Ok failed) new = (new.port.posted ≡ []) × (new.faults ≡ faults) × HasTaken failures failed
@@ -94,6 +96,7 @@ pub record Advances {A : Type 0} (old : SideState) (result : Result A Off) (new 
   pub kept : new.kept ≡ old.kept
   pub doorbell : new.port.doorbell ≡ old.port.doorbell
   pub rings : new.port.rings ≡ old.port.rings
+  pub bound : IsBoundKept old.port new.port
 
 -- ---- draining
 
@@ -124,6 +127,7 @@ pub record Drains (old : SideState) (result : Result ℕ Cause) (new : SideState
   pub queue : new.queue ≡ old.queue
   pub doorbell : new.port.doorbell ≡ old.port.doorbell
   pub rings : new.port.rings ≡ old.port.rings
+  pub bound : IsBoundKept old.port new.port
 
 -- At Ok the flushed head is at the doorbell: whatever is known, all that was rung is done.
 abbrev pub IsWhole : SideState → SideState → Type 0
