@@ -7,6 +7,7 @@ use Rattle.mq_images.specs.declared.refusal.StandingRefusal.{StandingRefusal}
 use Rattle.mq_images.specs.declared.refusal.StandingRefusal.TheVariants.{Corrupt, Image, OutOfMemory}
 use Rattle.mq_recover.specs.declared.refusal.ImageFault.{ImageFault}
 use Rattle.mq_recover.specs.declared.refusal.ImageFault.TheVariants.{Limit}
+use Rattle.mq_recover.specs.declared.refusal.ImageFault.TheVariants as fault
 use Rattle.mq_tree.specs.Corrupt.{IsCorrupt}
 use Rattle.mq_tree.specs.Laid.{IsLaid, map_of}
 use Rattle.mq_tree.specs.Volume.{Volume}
@@ -19,3 +20,7 @@ pub data RefusesRun (x : DriveImage) : StandingRefusal → Type 0 where
   above_limit : {n : ℕ} (ds : List Descriptor) (top : ℕ) → Reads x ds top → IsFirstAbove x top n → RefusesRun x (Image (Limit n))
   not_mounted : {cause : _} {b : ℕ} (ds : List Descriptor) (top : ℕ) (stored : List (Option (List ℕ))) → Reads x ds top → AreWithin x top → AreStanding x ds stored → ((v : Volume) → IsLaid x.geometry (map_of x.geometry stored) v → ⊥) → IsCorrupt x.geometry stored cause b → RefusesRun x (Corrupt cause b)
   wanting : RefusesRun x OutOfMemory
+
+abbrev pub refusal_for : ImageFault → StandingRefusal
+refusal_for fault.OutOfMemory = OutOfMemory
+refusal_for e = Image e
