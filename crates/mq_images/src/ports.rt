@@ -21,7 +21,7 @@ use std::alloc::Global;
 #[derive(Clone, Copy)]
 pub struct Failing {
     /// The number of its port: that of a queue, from 0 on, or of the root, which comes after all queues.
-    pub port: u32,
+    pub port: u64,
     /// Which command of this port it is, counted from 1 over executed entries and home writes alike.
     pub command: u64,
 }
@@ -31,7 +31,7 @@ fn failing_of(fail: Option<Failing>, port: u32) -> Option<u64>
     ensures { result ≡ command_of fail port }
 {
     match fail {
-        Some(failing) if failing.port == port => Some(failing.command),
+        Some(failing) if failing.port == u64::from(port) => Some(failing.command),
         _ => None,
     }
 }

@@ -3,3 +3,4 @@ pub mod Spots
 pub mod Stored
 pub mod Legality
 pub mod Running
+pub mod Ports

@@ -49,7 +49,7 @@ each-at P [] k x h l e = absurd (omega arith)
 each-at P (y ∷ ys) zero x h l e = subst P e h.0
 each-at P (y ∷ ys) (suc k) x h l e = each-at P ys k x h.1 (omega arith) e
 
-same-ports : {P E : Type 0} {G : Ghosts P} (state : P → PortState) (ss : List (QueueSide P E G)) → map (λ s. state s.pmr.port) ss ≡ map state (map (λ s. s.pmr.port) ss)
+pub same-ports : {P E : Type 0} {G : Ghosts P} (state : P → PortState) (ss : List (QueueSide P E G)) → map (λ s. state s.pmr.port) ss ≡ map state (map (λ s. s.pmr.port) ss)
 same-ports state [] = refl
 same-ports state (s ∷ ss) = ap (λ ps. state s.pmr.port ∷ ps) (same-ports state ss)
 

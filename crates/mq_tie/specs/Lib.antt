@@ -4,3 +4,4 @@ pub mod Stored
 pub mod Legal
 pub mod Runs
 pub mod Closed
+pub mod Ports

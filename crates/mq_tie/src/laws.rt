@@ -1,6 +1,9 @@
 // What holds of a desk over the ports of a journal, once nobody holds anything.
 ghost use Rattle.mq_tie.specs.Laws.{DesksEndAsParts, WordsAreMarks};
+ghost use Rattle.mq_tie.specs.Ports.{RunsKeepTheirPorts};
 
+use mq_drive::Port;
+use mq_journal::Groups;
 use mq_rules::JournalValues;
 
 /// Where nobody holds anything, what is known on a desk, its sides and its root are parts of one lawful
@@ -8,4 +11,10 @@ use mq_rules::JournalValues;
 pub fn a_desk_ends_in_a_lawful_state<J: JournalValues>()
     ensures parts { DesksEndAsParts J.values J.group }
     ensures marks { WordsAreMarks J.values J.group }
+{}
+
+/// A desk that was closed gives back the ports that it was opened with: each is the port of its role still, with
+/// the same fuse, and the same of its commands and home writes fails.
+pub fn a_closed_desk_keeps_its_ports<P: Port, G: Groups>()
+    ensures { RunsKeepTheirPorts P.Port P.state P.faults G.group }
 {}

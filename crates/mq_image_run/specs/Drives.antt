@@ -1,0 +1,85 @@
+-- What scripts come to on a drive, from its start to the cut of its power.
+use Rattle.std.specs.Prelude.{◌≡◌, ◌||◌, ℕ, Bool, false, List, [], ◌∷◌, Option, is_none}
+use Rattle.mq_blocks.specs.Drive.{FuseName}
+use Rattle.mq_blocks.specs.Totals.{total}
+use Rattle.mq_blocks.specs.declared.geometry.Geometry.{Geometry}
+use Rattle.mq_calls.specs.Mounting.{IsNotMounted}
+use Rattle.mq_calls.specs.Opening.{MayOpen}
+use Rattle.mq_drive.specs.Emu.{emu_faults, emu_state, executed_of}
+use Rattle.mq_drive.specs.Happened.{happened_in}
+use Rattle.mq_drive.specs.Limits.{fails_by}
+use Rattle.mq_drive.specs.declared.emu.EmuPort.{EmuPort}
+use Rattle.mq_drive.specs.declared.port.Port.{Ghosts}
+use Rattle.mq_drive.specs.declared.port.Ports.{Ports}
+use Rattle.mq_image.specs.File.{DriveImage}
+use Rattle.mq_images.specs.Cuts.{AreCutPorts, row_of}
+use Rattle.mq_images.specs.Starts.{AreStarted}
+use Rattle.mq_images.specs.declared.ports.Failing.{Failing}
+use Rattle.mq_images.specs.declared.refusal.StandingRefusal.{StandingRefusal}
+use Rattle.mq_images.specs.declared.refusal.StandingRefusal.TheVariants.{Corrupt, Image, OutOfMemory}
+use Rattle.mq_recover.specs.Drives.{AreBoundsKept, ArePorts, drive_of}
+use Rattle.mq_recover.specs.Standing.{StandsIn}
+use Rattle.mq_recover.specs.declared.standing.Standing.{Standing}
+use Rattle.mq_run.specs.Runs.{HasRunScripts}
+use Rattle.mq_run.specs.declared.end.RunEnd.{RunEnd}
+use Rattle.mq_script.specs.Scripts.{Script}
+use Rattle.mq_tree.specs.declared.corrupt.CorruptCause.{CorruptCause}
+use Rattle.mq_tree.specs.declared.corrupt.MountRefusal.{MountRefusal}
+use Rattle.mq_tree.specs.declared.corrupt.MountRefusal.TheVariants as mount
+use Rattle.mq_image_run.specs.declared.driving.Driven.{Driven}
+use Rattle.mq_image_run.specs.declared.options.RunOptions.{RunOptions}
+
+-- ---- what the ports tell
+
+-- the command that is to fail was executed on one of them
+abbrev pub has_failed : List EmuPort → Bool
+has_failed [] = false
+has_failed (p ∷ ps) = fails_by (emu_state p).fail (executed_of p) || has_failed ps
+
+-- how many events happened on them
+abbrev pub events_on : List EmuPort → ℕ
+events_on ports = total (λ p. happened_in (emu_state p) (emu_faults p)) ports
+
+-- ---- a whole drive
+
+-- The scripts were run over these ports and over what stands on them; without a cut the run ended with a checkpoint. The
+-- ports that came back are those of the drive still, each with its fuse and its failing command. Then the power of all of
+-- them was cut.
+pub record HasDriven (g : Geometry) (ports : Ports EmuPort) (standing : Standing) (scripts : List Script) (o : RunOptions) (d : Driven) : Type 0 where
+  pub end : RunEnd EmuPort
+  pub ghosts : Ghosts EmuPort
+  pub ran : HasRunScripts ghosts emu_state emu_faults g ports standing scripts (is_none o.cut) end
+  pub same_ports : ArePorts g (drive_of emu_state end.ports)
+  pub bounds : AreBoundsKept g (drive_of emu_state ports) (drive_of emu_state end.ports)
+  pub entries : d.entries ≡ end.entries
+  pub answers : d.answers ≡ end.answers
+  pub finished : d.finished ≡ end.finished
+  pub failed : d.failed ≡ has_failed (row_of end.ports)
+  pub cut : AreCutPorts (row_of end.ports) d.left.images.items d.left.seats.items
+
+-- This was done on the drive that starts from the image, with the power and the failing command that were asked for, over
+-- the volume that stands there.
+pub record IsDriven (fuse : FuseName) (y : DriveImage) (scripts : List Script) (o : RunOptions) (d : Driven) : Type 0 where
+  pub ports : Ports EmuPort
+  pub started : AreStarted fuse o.fail y ports
+  pub standing : Standing
+  pub stands : StandsIn y.geometry (drive_of emu_state ports) standing
+  pub opens : MayOpen y.geometry (drive_of emu_state ports) standing
+  pub has : HasDriven y.geometry ports standing scripts o d
+
+-- ---- where no volume stands
+
+abbrev pub refusal_of : MountRefusal → StandingRefusal
+refusal_of (mount.Corrupt cause block) = Corrupt cause block
+refusal_of mount.OutOfMemory = OutOfMemory
+
+-- What stands on the drive that starts from the image holds no volume, and this is wrong at this block.
+abbrev pub HoldsNone : FuseName → Option Failing → DriveImage → CorruptCause → (block : ℕ) → Type 0
+HoldsNone fuse fail y cause block =
+    (ports : Ports EmuPort) × AreStarted fuse fail y ports × IsNotMounted y.geometry (drive_of emu_state ports) (mount.Corrupt cause block)
+
+-- why no script is run: memory is wanting, or no volume stands
+abbrev pub IsNotDriven : FuseName → Option Failing → DriveImage → StandingRefusal → Type 0
+IsNotDriven fuse fail y OutOfMemory = Unit {0}
+IsNotDriven fuse fail y (Corrupt cause block) = HoldsNone fuse fail y cause block
+IsNotDriven fuse fail y (Image fault) = ⊥

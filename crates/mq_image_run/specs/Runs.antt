@@ -1,0 +1,61 @@
+-- What a run makes of an image.
+use Rattle.std.specs.Prelude.{◌≡◌, ◌≤◌, ℕ, List, Option, None, Some, Result, Ok, Err}
+use Rattle.mq_blocks.specs.Drive.{FuseName}
+use Rattle.mq_checkpoint.specs.declared.refusal.CheckpointRefusal.{CheckpointRefusal}
+use Rattle.mq_checkpoint.specs.declared.refusal.CheckpointRefusal.TheVariants as checkpoint
+use Rattle.mq_image.specs.Drives.{IsDrive}
+use Rattle.mq_image.specs.File.{DriveImage}
+use Rattle.mq_images.specs.Cuts.{row_of}
+use Rattle.mq_images.specs.Recovering.{IsRecoveryOf}
+use Rattle.mq_images.specs.declared.recovery.RecoveredImage.{RecoveredImage}
+use Rattle.mq_report.specs.declared.line.Last.{Last}
+use Rattle.mq_report.specs.declared.line.Last.TheVariants.{Clean, Cut, StoppedBlock, StoppedTx}
+use Rattle.mq_script.specs.Scripts.{Script}
+use Rattle.mq_side.specs.declared.answers.Cause.{Cause}
+use Rattle.mq_side.specs.declared.answers.Cause.TheVariants as cause
+use Rattle.mq_image_run.specs.Drives.{IsDriven, events_on}
+use Rattle.mq_image_run.specs.Limits.{AreWithin}
+use Rattle.mq_image_run.specs.declared.driving.Driven.{Driven}
+use Rattle.mq_image_run.specs.declared.options.RunOptions.{RunOptions}
+use Rattle.mq_image_run.specs.declared.ran.ImageRun.{ImageRun}
+
+-- ---- how a run ends
+
+-- what is told of a checkpoint at the end that the drive refused
+abbrev pub IsStop : Cause → (events : ℕ) → Last → Type 0
+IsStop cause.Off events last = last ≡ Cut events
+IsStop (cause.Failed tx status) events last = last ≡ StoppedTx tx
+IsStop (cause.FailedHome block status) events last = last ≡ StoppedBlock block
+IsStop (cause.Stopped tx why) events last = last ≡ StoppedTx tx
+
+-- With a cut the last line tells how many events happened. Else it tells what the checkpoint at the end came to: the
+-- number up to which all stands at home, or what stopped it.
+abbrev pub IsLast : (cut : Option ℕ) → (events : ℕ) → Option (Result ℕ CheckpointRefusal) → Last → Type 0
+IsLast (Some k) events finished last = last ≡ Cut events
+IsLast None events (Some (Ok n)) last = last ≡ Clean n
+IsLast None events (Some (Err (checkpoint.Drive why))) last = IsStop why events last
+IsLast None events (Some (Err checkpoint.OutOfMemory)) last = ⊥
+IsLast None events None last = ⊥
+
+-- ---- the whole
+
+-- The image was recovered, whole, and is within the limits of a run. The scripts were run on the drive that started from
+-- what this left, and the image is what the cut of its power at the end left.
+pub record IsRunOf (x : DriveImage) (scripts : List Script) (o : RunOptions) (r : ImageRun) : Type 0 where
+  pub recovered : RecoveredImage
+  pub recovery : IsRecoveryOf x None recovered
+  pub within : AreWithin x recovered.found.base
+  pub base_is : r.base ≡ recovered.found.base
+  pub fuse : FuseName
+  pub power : fuse.limit ≡ o.cut
+  pub driven : Driven
+  pub drives : IsDriven fuse recovered.image scripts o driven
+  pub entries : r.entries ≡ driven.entries
+  pub answers : r.answers ≡ driven.answers
+  pub failed : r.failed ≡ driven.failed
+  pub geometry : r.image.geometry ≡ x.geometry
+  pub ports : r.image.ports ≡ driven.left.images.items
+  pub drive : IsDrive r.image
+  pub events : ℕ
+  pub happened : (l : ℕ) → o.cut ≡ Some l → (events ≡ events_on (row_of drives.has.end.ports)) × (events ≤ l)
+  pub last : IsLast o.cut events driven.finished r.last

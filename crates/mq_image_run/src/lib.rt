@@ -1,0 +1,13 @@
+//! A run of scripts on the image of a drive: recovery, the sessions, the end, and the image that is left.
+#![tactic(auto)]
+
+mod driving;
+mod ending;
+mod limits;
+mod options;
+mod ran;
+mod running;
+
+pub use options::RunOptions;
+pub use ran::ImageRun;
+pub use running::run_image;

@@ -1,0 +1,85 @@
+// A run on an image.
+ghost use Rattle.std.specs.Prelude.{◌≡◌, ◌≤◌, ◌^◌, IfErr, IfOk, length};
+ghost use Rattle.std.specs.Option.{ForSome};
+ghost use Rattle.mq_blocks.specs.Geometry.{queues_of};
+ghost use Rattle.mq_image.specs.Drives.{IsDrive};
+ghost use Rattle.mq_image_run.specs.Refusals.{RefusesRun, refusal_for};
+ghost use Rattle.mq_image_run.specs.Runs.{IsRunOf};
+
+use crate::driving::{Driven, run_drive};
+use crate::ending::last_of;
+use crate::limits::{are_short, check_limits};
+use crate::options::RunOptions;
+use crate::ran::ImageRun;
+use mq_calls::Gate;
+use mq_image::DriveImage;
+use mq_images::{CutDrive, StandingRefusal, drive_power, recover_image};
+use mq_recover::ImageFault;
+use mq_script::Script;
+use std::alloc::Global;
+use std::sync::Wait;
+use std::thread::Threads;
+
+// Why the image is not readable, or that memory was wanting.
+fn not_readable(fault: ImageFault) -> StandingRefusal
+    ensures { result ≡ refusal_for fault }
+{
+    match fault {
+        ImageFault::OutOfMemory => StandingRefusal::OutOfMemory,
+        fault => StandingRefusal::Image(fault),
+    }
+}
+
+/// Recovers the drive that starts from an image, and runs scripts over the volume that stands there, each on a session and
+/// a thread of its own. Power and failing command are those of the drive after the recovery. Without a cut the run ends
+/// with a checkpoint. Then the power of the drive is cut, and what that leaves is the new image.
+pub fn run_image<R: Threads + Wait + Sync, G: Gate + Sync>(
+    rt: &R,
+    alloc: Global,
+    image: DriveImage,
+    scripts: &[Script],
+    options: RunOptions,
+    gate: &G,
+) -> Result<ImageRun, StandingRefusal>
+    requires image { IsDrive image }
+    requires cut { ForSome options.cut (λ k. k ≤ 2 ^ 63) }
+    requires scripts { (1 ≤ length scripts.now) × (length scripts.now ≤ queues_of image.geometry) }
+    ensures ok { IfOk result (IsRunOf image scripts.now options) }
+    ensures refused { IfErr result (RefusesRun image) }
+{
+    if !are_short(scripts) {
+        return Err(StandingRefusal::OutOfMemory);
+    }
+    let geometry = image.geometry;
+    let recovered = match recover_image(alloc, image, None, options.pick) {
+        Ok(recovered) => recovered,
+        Err(fault) => return Err(not_readable(fault)),
+    };
+    let base = recovered.found.base;
+    check_limits(&recovered.image, base)?;
+    let (fuse, seats) = drive_power(alloc, geometry, options.cut)?;
+    let driven = run_drive(
+        rt, alloc, &fuse, seats, recovered, scripts, options, gate,
+    )?;
+    let Driven {
+        entries,
+        answers,
+        finished,
+        failed,
+        left,
+    } = driven;
+    let CutDrive { images, seats } = left;
+    let events = fuse.close(seats);
+    let last = last_of(options.cut, events, finished)?;
+    Ok(ImageRun {
+        image: DriveImage {
+            geometry,
+            ports: images,
+        },
+        base,
+        entries,
+        answers,
+        last,
+        failed,
+    })
+}
