@@ -1,5 +1,5 @@
 -- The base that a checkpoint at the end of a run raises is the last number.
-use Rattle.std.proofs.Common.{◌≡◌, ◌≢◌, ◌⊎◌, ℕ, zero, suc, ◌+◌, ◌<◌, ◌≤◌, Bool, List, [], ◌∷◌, ◌++◌, length, map, Some, refl, sym, ap, subst, ◌∙◌, inl, inr, elim, arith}
+use Rattle.std.proofs.Common.{◌≡◌, ℕ, suc, ◌<◌, ◌≤◌, Bool, List, [], ◌∷◌, length, map, Some, refl, sym, ap, subst, ◌∙◌, inl, inr, arith}
 use Rattle.std.specs.Prelude.{Ok, slice_get}
 use Rattle.std.proofs.lemmas.Bool.{cases_lt}
 use Rattle.mq_blocks.specs.Drive.{PortState}
@@ -82,7 +82,7 @@ module _ {P : Type 0} (G : Ghosts P) (state : P → PortState) (faults : P → L
   K = run.ends.run.end.known
 
   abbrev values : Values (QueueSide P FileEntry G) (Root P G) FileEntry
-  values = run_values state faults
+  values = run_values state faults file_group
 
   fin : HasFinished state faults finish e.finished (map (λ t. t.view) run.tracks) run.ends.left
   fin = run.ends.finished
