@@ -1,5 +1,5 @@
 -- The ports that a run gives back.
-use Rattle.std.proofs.Common.{◌≡◌, ℕ, ◌<◌, Bool, List, length, map, refl, sym, ap, subst, ◌∙◌, arith}
+use Rattle.std.proofs.Common.{◌≡◌, ℕ, ◌<◌, Bool, List, length, map, sym, ap, subst, ◌∙◌, arith}
 use Rattle.std.proofs.lemmas.List.{length-map}
 use Rattle.mq_blocks.specs.Drive.{PortState, IsBoundKept}
 use Rattle.mq_blocks.specs.declared.geometry.Geometry.{Geometry}
@@ -32,7 +32,7 @@ module _ {P : Type 0} (G : Ghosts P) (state : P → PortState) (faults : P → L
   end = run.ends.end
 
   keeps : KeepsPorts G state faults file_group o end
-  keeps = closed.keeps-ports G state faults file_group o run.ends.left end run.ends.run
+  keeps = closed.keeps-ports state faults file_group o run.ends.left end run.ends.run
 
   given : map state e.ports.queues.items ≡ map state (ports_of end)
   given = ap (map state) run.ends.leaves.queues

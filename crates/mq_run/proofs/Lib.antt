@@ -7,3 +7,4 @@ pub mod Parts
 pub mod Tracks
 pub mod Seats
 pub mod KeptPorts
+pub mod Finished
