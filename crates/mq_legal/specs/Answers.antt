@@ -126,7 +126,7 @@ HasFailure (Status status) = IsFailure status
 HasFailure why = Unit {0}
 
 -- what a port's cause says of the history: a transaction that failed, or that stopped its queue, is undone; and a home write
--- that failed is of a home block, of the port of its queue or of the root
+-- that failed is of a home block, so of the port of a queue or of the root
 abbrev pub IsPortCause : Geometry → List Line → (reached : ℕ) → Cause → Type 0
 IsPortCause g lines reached (Failed tx status) = IsUndone g lines reached tx × IsFailure status
 IsPortCause g lines reached (FailedHome block status) = (block < homes_of g) × IsFailure status
