@@ -1,5 +1,5 @@
 -- What was reported of the ports of a desk is backed by their faults once it is closed.
-use Rattle.std.proofs.Common.{◌≡◌, ◌<◌, List, [], ◌∷◌, length, map, refl, sym, ap, subst, ◌∙◌, inl, inr, arith}
+use Rattle.std.proofs.Common.{◌≡◌, ◌<◌, List, [], length, map, refl, sym, ap, subst, ◌∙◌, inl, inr, arith}
 use Rattle.std.specs.Prelude.{slice_index_or}
 use Rattle.std.specs.List.{Contains}
 use Rattle.std.proofs.lemmas.List.{length-map}
@@ -21,16 +21,12 @@ use Rattle.mq_tie.specs.Runs.{ports_of, run_values}
 use Rattle.mq_tie.specs.declared.ended.Ended.{Ended}
 use Rattle.mq_tie.proofs.Charges.{holds-of}
 use Rattle.mq_tie.proofs.Ports.{found}
+use Rattle.mq_tie.proofs.Running.{same-ports}
 use Rattle.mq_turns.specs.Desk.{charged_of}
 use Rattle.mq_turns.specs.Lists.{Each}
 use Rattle.mq_turns.specs.declared.rule.Charge.{Charge}
 use Rattle.mq_turns.specs.declared.turn.Turn.{Turn}
 use Rattle.mq_turns.specs.declared.turn.Turn.TheVariants as turn
-
--- the faults of the ports of sides
-faults-of-sides : {P E : Type 0} {G : Ghosts P} (faults : P → List Fault) (ss : List (QueueSide P E G)) → map (λ s. faults s.pmr.port) ss ≡ map faults (map (λ s. s.pmr.port) ss)
-faults-of-sides faults [] = refl
-faults-of-sides faults (s ∷ ss) = ap (λ fs. faults s.pmr.port ∷ fs) (faults-of-sides faults ss)
 
 module _ {P E : Type 0} {G : Ghosts P} (state : P → PortState) (faults : P → List Fault) (group : Group E) (o : Start P E G) (views : List (Seat P E G)) (r : Ended P E G) (c : Charge)
     (run : HasRun state faults group o views r) (reported : Contains (charged_of views) c) where
@@ -65,7 +61,7 @@ module _ {P E : Type 0} {G : Ghosts P} (state : P → PortState) (faults : P →
   last = faults_on faults (ports_of r) r.root.port
 
   last-are : last.queues ≡ map (λ s. faults s.pmr.port) run.sides
-  last-are = ap (map faults) run.ports ∙ sym (faults-of-sides faults run.sides)
+  last-are = ap (map faults) run.ports ∙ sym (same-ports faults run.sides)
 
   many : length run.sides ≡ length o.sides
   many = run.end.all_sides
