@@ -14,10 +14,11 @@ use Rattle.mq_files.specs.Group.{file_group}
 use Rattle.mq_files.specs.declared.entry.FileEntry.{FileEntry}
 use Rattle.mq_journal.specs.Draining.{report_of}
 use Rattle.mq_journal.specs.Numbers.{Seat, Start}
+use Rattle.mq_recover.specs.Drives.{DriveFaults, faults_of, faults_on}
 use Rattle.mq_recover.specs.declared.standing.Standing.{Standing}
 use Rattle.mq_script.specs.Scripts.{Script}
 use Rattle.mq_side.specs.declared.answers.Cause.{Cause}
-use Rattle.mq_tie.specs.Backed.{DriveFaults, IsBehindAt, faults_on, opened_faults}
+use Rattle.mq_tie.specs.Backed.{IsBehindAt, opened_faults}
 use Rattle.mq_tie.specs.Runs.{ports_of}
 use Rattle.mq_tie.specs.declared.ended.Ended.{Ended}
 use Rattle.mq_tie.proofs.Backed as closed
@@ -66,15 +67,15 @@ module _ {P : Type 0} (G : Ghosts P) (state : P → PortState) (faults : P → L
       let last : Contains fin.last.reading.charged charge = subst (λ cs. Contains cs charge) (sym named.charged) first in
       subst (λ vs. Contains (charged_of vs) charge) (sym fin.after) (Contains-append_right (charged_of fin.others) fin.last.reading.charged charge last)
 
-  taken : opened_faults G state faults file_group o ≡ faults_on faults ports.queues.items ports.root
+  taken : opened_faults G state faults file_group o ≡ faults_on faults ports
   taken =
       let queues : map (λ q. faults q.pmr.port) o.sides ≡ map faults ports.queues.items = same-ports faults o.sides ∙ ap (map faults) run.opened.queues in
       λ i. record { queues = queues i; root = faults (run.opened.root i) }
 
-  given : faults_on faults (ports_of end) end.root.port ≡ faults_on faults e.ports.queues.items e.ports.root
-  given = λ i. faults_on faults (sym run.ends.leaves.queues i) (sym run.ends.leaves.root i)
+  given : faults_of faults (ports_of end) end.root.port ≡ faults_on faults e.ports
+  given = λ i. faults_of faults (sym run.ends.leaves.queues i) (sym run.ends.leaves.root i)
 
-  pub stop-backed : IsBehindStop g why (faults_on faults ports.queues.items ports.root) (faults_on faults e.ports.queues.items e.ports.root)
+  pub stop-backed : IsBehindStop g why (faults_on faults ports) (faults_on faults e.ports)
   stop-backed = record {
     port = named.port;
     behind =

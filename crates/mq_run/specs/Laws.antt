@@ -7,13 +7,13 @@ use Rattle.mq_drive.specs.Steps.{Fault}
 use Rattle.mq_drive.specs.declared.port.Port.{Ghosts}
 use Rattle.mq_drive.specs.declared.port.Ports.{Ports}
 use Rattle.mq_journal.specs.Draining.{report_of}
-use Rattle.mq_recover.specs.Drives.{AreBoundsKept, ArePorts, drive_of}
+use Rattle.mq_recover.specs.Drives.{AreBoundsKept, ArePorts, DriveFaults, drive_of, faults_on}
 use Rattle.mq_recover.specs.declared.standing.Standing.{Standing}
 use Rattle.mq_run.specs.Runs.{HasRunScripts}
 use Rattle.mq_run.specs.declared.end.RunEnd.{RunEnd}
 use Rattle.mq_script.specs.Scripts.{Script}
 use Rattle.mq_side.specs.declared.answers.Cause.{Cause}
-use Rattle.mq_tie.specs.Backed.{DriveFaults, IsBehindAt, faults_on}
+use Rattle.mq_tie.specs.Backed.{IsBehindAt}
 use Rattle.mq_turns.specs.declared.turn.Turn.{Turn}
 
 -- the number is the last one, and the base of the root's port, as stored and as flushed
@@ -49,4 +49,4 @@ module _ {P : Type 0} (G : Ghosts P) (state : P → PortState) (faults : P → L
       (g : Geometry) (ports : Ports P) (s : Standing) (scripts : List Script) (finish : Bool) (e : RunEnd P) (why : Cause)
       → HasRunScripts G state faults g ports s scripts finish e
       → e.finished ≡ Some (Err (Drive why))
-      → IsBehindStop g why (faults_on faults ports.queues.items ports.root) (faults_on faults e.ports.queues.items e.ports.root)
+      → IsBehindStop g why (faults_on faults ports) (faults_on faults e.ports)

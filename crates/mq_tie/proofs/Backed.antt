@@ -8,14 +8,16 @@ use Rattle.mq_blocks.specs.declared.geometry.Geometry.{Geometry}
 use Rattle.mq_drive.specs.Steps.{Fault}
 use Rattle.mq_drive.specs.declared.port.Port.{Ghosts}
 use Rattle.mq_journal.specs.Numbers.{Seat, Shared, Start}
+use Rattle.mq_recover.specs.Drives.{DriveFaults, faults_of}
 use Rattle.mq_rules.specs.Faults.{AreCharged, WasGained, named_by}
 use Rattle.mq_rules.specs.Groups.{Group}
-use Rattle.mq_rules.specs.Rule.{IsOfPort, IsPortOf, IsSide, faults_of, geometry_of, shape_of}
+use Rattle.mq_rules.specs.Rule.{IsOfPort, IsPortOf, IsSide, geometry_of, shape_of}
+use Rattle.mq_rules.specs.Rule as rule
 use Rattle.mq_rules.specs.Values.{Values}
 use Rattle.mq_rules.proofs.Opening.{at_map}
 use Rattle.mq_side.specs.declared.root.Root.{Root}
 use Rattle.mq_side.specs.declared.side.QueueSide.{QueueSide}
-use Rattle.mq_tie.specs.Backed.{DriveFaults, IsBehind, IsBehindAt, faults_at, faults_on, opened_faults}
+use Rattle.mq_tie.specs.Backed.{IsBehind, IsBehindAt, faults_at, opened_faults}
 use Rattle.mq_tie.specs.Closed.{HasRun}
 use Rattle.mq_tie.specs.Runs.{ports_of, run_values}
 use Rattle.mq_tie.specs.declared.ended.Ended.{Ended}
@@ -58,7 +60,7 @@ module _ {P E : Type 0} {G : Ghosts P} (state : P → PortState) (faults : P →
   first = opened_faults G state faults group o
 
   abbrev last : DriveFaults
-  last = faults_on faults (ports_of r) r.root.port
+  last = faults_of faults (ports_of r) r.root.port
 
   last-are : last.queues ≡ map (λ s. faults s.pmr.port) run.sides
   last-are = ap (map faults) run.ports ∙ sym (same-ports faults run.sides)
@@ -73,9 +75,9 @@ module _ {P E : Type 0} {G : Ghosts P} (state : P → PortState) (faults : P →
       let at = found run.sides q (let m = many in omega arith) in
       let side : IsSide values group q K at.0 = run.end.sides_stand q at.0 at.1 in
       let new : faults_at last q ≡ faults at.0.pmr.port = ap (λ fs. slice_index_or fs q []) last-are ∙ (at_map (λ (s : QueueSide P E G). faults s.pmr.port) run.sides q at.0 [] at.1).0 in
-      let old : faults_of values group K.opening q ≡ faults_at first q = ap (λ (z : Start P E G). faults_of values group z q) run.end.opening in
+      let old : rule.faults_of values group K.opening q ≡ faults_at first q = ap (λ (z : Start P E G). rule.faults_of values group z q) run.end.opening in
       let many_sides : length first.queues ≡ length o.sides = length-map o.sides (λ (s : QueueSide P E G). faults s.pmr.port) in
-      (omega arith, subst (λ (z : List Fault × List Fault). IsBehind shape c.report z.0 z.1) (λ i. (old i, sym new i)) (behind (turn.Side q) is (faults_of values group K.opening q) (faults at.0.pmr.port) side.charged))
+      (omega arith, subst (λ (z : List Fault × List Fault). IsBehind shape c.report z.0 z.1) (λ i. (old i, sym new i)) (behind (turn.Side q) is (rule.faults_of values group K.opening q) (faults at.0.pmr.port) side.charged))
   at-turn turn.Root is of =
       let root = run.end.root_stands in
       subst (λ (z : Start P E G). IsBehind shape c.report (faults z.root.port) (faults r.root.port)) run.end.opening (behind turn.Root is (faults K.opening.root.port) (faults r.root.port) root.charged)

@@ -6,6 +6,7 @@ use Rattle.mq_blocks.specs.declared.geometry.Geometry.{Geometry}
 use Rattle.mq_drive.specs.Steps.{Fault}
 use Rattle.mq_drive.specs.declared.port.Port.{Ghosts}
 use Rattle.mq_journal.specs.Numbers.{Seat, Start}
+use Rattle.mq_recover.specs.Drives.{DriveFaults, faults_of}
 use Rattle.mq_rules.specs.Faults.{WasGained, named_by}
 use Rattle.mq_rules.specs.Groups.{Group}
 use Rattle.mq_rules.specs.Rule.{shape_of}
@@ -17,14 +18,6 @@ use Rattle.mq_turns.specs.declared.rule.Charge.{Charge}
 use Rattle.mq_turns.specs.declared.rule.Report.{Report}
 use Rattle.mq_turns.specs.declared.turn.Turn.{Turn}
 use Rattle.mq_turns.specs.declared.turn.Turn.TheVariants.{Page, Side, Root}
-
--- the faults of the ports of a drive, the queues' in order
-pub record DriveFaults : Type 0 where
-  pub queues : List (List Fault)
-  pub root : List Fault
-
-abbrev pub faults_on : {P : Type 0} → (P → List Fault) → (queues : List P) → (root : P) → DriveFaults
-faults_on faults queues root = record { queues = map faults queues; root = faults root }
 
 -- the faults of the port of a queue
 abbrev pub faults_at : DriveFaults → ℕ → List Fault
@@ -52,4 +45,4 @@ module _ {P E : Type 0} (G : Ghosts P) (state : P → PortState) (faults : P →
       (o : Start P E G) (views : List (Seat P E G)) (r : Ended P E G) (c : Charge)
       → HasRun state faults group o views r
       → Contains (charged_of views) c
-      → IsBehindAt (shape_of (run_values state faults group) group o) c.port c.report (opened_faults o) (faults_on faults (ports_of r) r.root.port)
+      → IsBehindAt (shape_of (run_values state faults group) group o) c.port c.report (opened_faults o) (faults_of faults (ports_of r) r.root.port)
