@@ -1,5 +1,5 @@
 -- What scripts come to on a drive, from its start to the cut of its power.
-use Rattle.std.specs.Prelude.{◌≡◌, ◌||◌, ℕ, Bool, false, List, [], ◌∷◌, Option, is_none}
+use Rattle.std.specs.Prelude.{◌≡◌, ◌≤◌, ◌||◌, ℕ, Bool, false, List, [], ◌∷◌, Option, Some, is_none}
 use Rattle.mq_blocks.specs.Drive.{FuseName}
 use Rattle.mq_blocks.specs.Totals.{total}
 use Rattle.mq_blocks.specs.declared.geometry.Geometry.{Geometry}
@@ -8,6 +8,7 @@ use Rattle.mq_calls.specs.Opening.{MayOpen}
 use Rattle.mq_drive.specs.Emu.{emu_faults, emu_state, executed_of}
 use Rattle.mq_drive.specs.Happened.{happened_in}
 use Rattle.mq_drive.specs.Limits.{fails_by}
+use Rattle.mq_drive.specs.contracts.emu.EmuPortPort.TheImpl.{ghosts}
 use Rattle.mq_drive.specs.declared.emu.EmuPort.{EmuPort}
 use Rattle.mq_drive.specs.declared.port.Port.{Ghosts}
 use Rattle.mq_drive.specs.declared.port.Ports.{Ports}
@@ -27,6 +28,7 @@ use Rattle.mq_tree.specs.declared.corrupt.CorruptCause.{CorruptCause}
 use Rattle.mq_tree.specs.declared.corrupt.MountRefusal.{MountRefusal}
 use Rattle.mq_tree.specs.declared.corrupt.MountRefusal.TheVariants as mount
 use Rattle.mq_image_run.specs.declared.driving.Driven.{Driven}
+use Rattle.mq_image_run.specs.declared.stopping.Stopped.{Stopped}
 use Rattle.mq_image_run.specs.declared.options.RunOptions.{RunOptions}
 
 -- ---- what the ports tell
@@ -42,13 +44,16 @@ events_on ports = total (λ p. happened_in (emu_state p) (emu_faults p)) ports
 
 -- ---- a whole drive
 
+-- what a port in memory stands for, as any port does
+abbrev pub emu_ghosts : Ghosts EmuPort
+emu_ghosts = ghosts
+
 -- The scripts were run over these ports and over what stands on them; without a cut the run ended with a checkpoint. The
 -- ports that came back are those of the drive still, each with its fuse and its failing command. Then the power of all of
 -- them was cut.
 pub record HasDriven (g : Geometry) (ports : Ports EmuPort) (standing : Standing) (scripts : List Script) (o : RunOptions) (d : Driven) : Type 0 where
   pub end : RunEnd EmuPort
-  pub ghosts : Ghosts EmuPort
-  pub ran : HasRunScripts ghosts emu_state emu_faults g ports standing scripts (is_none o.cut) end
+  pub ran : HasRunScripts emu_ghosts emu_state emu_faults g ports standing scripts (is_none o.cut) end
   pub same_ports : ArePorts g (drive_of emu_state end.ports)
   pub bounds : AreBoundsKept g (drive_of emu_state ports) (drive_of emu_state end.ports)
   pub entries : d.entries ≡ end.entries
@@ -66,6 +71,18 @@ pub record IsDriven (fuse : FuseName) (y : DriveImage) (scripts : List Script) (
   pub stands : StandsIn y.geometry (drive_of emu_state ports) standing
   pub opens : MayOpen y.geometry (drive_of emu_state ports) standing
   pub has : HasDriven y.geometry ports standing scripts o d
+
+-- What was driven, once the fuse was closed: with a limit, so many events happened on all ports, at most those of the
+-- limit.
+pub record HasStopped (fuse : FuseName) (y : DriveImage) (scripts : List Script) (o : RunOptions) (s : Stopped) : Type 0 where
+  pub driven : Driven
+  pub drives : IsDriven fuse y scripts o driven
+  pub entries : s.entries ≡ driven.entries
+  pub answers : s.answers ≡ driven.answers
+  pub finished : s.finished ≡ driven.finished
+  pub failed : s.failed ≡ driven.failed
+  pub images : s.images ≡ driven.left.images
+  pub happened : (l : ℕ) → fuse.limit ≡ Some l → (s.events ≡ events_on (row_of drives.has.end.ports)) × (s.events ≤ l)
 
 -- ---- where no volume stands
 

@@ -1,19 +1,24 @@
 // A run on an image.
-ghost use Rattle.std.specs.Prelude.{◌≡◌, ◌≤◌, ◌^◌, IfErr, IfOk, length};
+ghost use Rattle.std.specs.Prelude.{◌≡◌, ◌≤◌, ◌^◌, IfErr, IfOk, None, length};
 ghost use Rattle.std.specs.Option.{ForSome};
 ghost use Rattle.mq_blocks.specs.Geometry.{queues_of};
 ghost use Rattle.mq_image.specs.Drives.{IsDrive};
+ghost use Rattle.mq_image_run.specs.Limits.{AreWithin};
 ghost use Rattle.mq_image_run.specs.Refusals.{RefusesRun, refusal_for};
 ghost use Rattle.mq_image_run.specs.Runs.{IsRunOf};
+ghost use Rattle.mq_images.specs.Recovering.{IsRecoveryOf};
 
-use crate::driving::{Driven, run_drive};
 use crate::ending::last_of;
-use crate::limits::{are_short, check_limits};
+use crate::limits::{are_short, first_above};
 use crate::options::RunOptions;
 use crate::ran::ImageRun;
+use crate::stopping::run_to_stop;
+use mq_blocks::TxNo;
 use mq_calls::Gate;
 use mq_image::DriveImage;
-use mq_images::{CutDrive, StandingRefusal, drive_power, recover_image};
+use mq_images::{
+    RecoveredImage, StandingRefusal, a_recovered_image_holds_what_stood, drive_power, recover_image,
+};
 use mq_recover::ImageFault;
 use mq_script::Script;
 use std::alloc::Global;
@@ -28,6 +33,33 @@ fn not_readable(fault: ImageFault) -> StandingRefusal
         ImageFault::OutOfMemory => StandingRefusal::OutOfMemory,
         fault => StandingRefusal::Image(fault),
     }
+}
+
+// Recovers an image whole, and tests that its numbers are within the limits of a run.
+fn recover_within(
+    alloc: Global,
+    image: DriveImage,
+    pick: u64,
+) -> Result<RecoveredImage, StandingRefusal>
+    requires { IsDrive image }
+    ensures ok { IfOk result (λ r. IsRecoveryOf image None r × AreWithin image r.found.base) }
+    ensures refused { IfErr result (RefusesRun image) }
+{
+    let recovered = match recover_image(alloc, image, None, pick) {
+        Ok(recovered) => recovered,
+        Err(fault) => return Err(not_readable(fault)),
+    };
+    match first_above(&recovered.image, recovered.found.base) {
+        Some(base) => Err(StandingRefusal::Image(ImageFault::Limit { base })),
+        None => Ok(recovered),
+    }
+}
+
+// The base that a recovery found.
+fn base_of(recovered: &RecoveredImage) -> TxNo
+    ensures { result ≡ recovered.now.found.base }
+{
+    recovered.found.base
 }
 
 /// Recovers the drive that starts from an image, and runs scripts over the volume that stands there, each on a session and
@@ -51,35 +83,21 @@ pub fn run_image<R: Threads + Wait + Sync, G: Gate + Sync>(
         return Err(StandingRefusal::OutOfMemory);
     }
     let geometry = image.geometry;
-    let recovered = match recover_image(alloc, image, None, options.pick) {
-        Ok(recovered) => recovered,
-        Err(fault) => return Err(not_readable(fault)),
-    };
-    let base = recovered.found.base;
-    check_limits(&recovered.image, base)?;
+    let recovered = recover_within(alloc, image, options.pick)?;
+    let base = base_of(&recovered);
+    a_recovered_image_holds_what_stood();
     let (fuse, seats) = drive_power(alloc, geometry, options.cut)?;
-    let driven = run_drive(
-        rt, alloc, &fuse, seats, recovered, scripts, options, gate,
-    )?;
-    let Driven {
-        entries,
-        answers,
-        finished,
-        failed,
-        left,
-    } = driven;
-    let CutDrive { images, seats } = left;
-    let events = fuse.close(seats);
-    let last = last_of(options.cut, events, finished)?;
+    let stopped = run_to_stop(rt, alloc, fuse, seats, recovered, scripts, options, gate)?;
+    let last = last_of(options.cut, stopped.events, stopped.finished)?;
     Ok(ImageRun {
         image: DriveImage {
             geometry,
-            ports: images,
+            ports: stopped.images,
         },
         base,
-        entries,
-        answers,
+        entries: stopped.entries,
+        answers: stopped.answers,
         last,
-        failed,
+        failed: stopped.failed,
     })
 }
