@@ -1,3 +1,4 @@
 pub mod Mounting
 pub mod Ended
 pub mod Limited
+pub mod Powered
