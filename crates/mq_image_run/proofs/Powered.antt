@@ -1,9 +1,8 @@
 -- Where a fuse has no limit, the power of no port has gone off: so no checkpoint at the end is refused for it.
-use Rattle.std.proofs.Common.{◌≡◌, ℕ, zero, suc, ◌+◌, ◌<◌, ◌≤◌, ◌++◌, ◌⊎◌, Bool, true, false, List, [], ◌∷◌, length, map, Option, Some, None, replicate, refl, sym, ap, subst, ◌∙◌, inl, inr, arith}
+use Rattle.std.proofs.Common.{◌≡◌, ℕ, zero, suc, ◌+◌, ◌<◌, ◌≤◌, ◌++◌, Bool, true, false, List, [], ◌∷◌, length, map, Option, Some, None, replicate, refl, sym, ap, subst, ◌∙◌, inl, inr, arith}
 use Rattle.std.specs.Prelude.{slice_index_or}
-use Rattle.std.proofs.lemmas.Bool.{cases_lt}
 use Rattle.std.proofs.lemmas.List.{length-map}
-use Rattle.mq_blocks.specs.Drive.{FuseName, PortImage, PortState}
+use Rattle.mq_blocks.specs.Drive.{FuseName, PortImage}
 use Rattle.mq_blocks.specs.declared.geometry.Geometry.{Geometry}
 use Rattle.mq_drive.specs.Emu.{emu_faults, emu_state}
 use Rattle.mq_drive.specs.Failures.{errors_of}
@@ -14,11 +13,11 @@ use Rattle.mq_drive.specs.declared.failing.Failure.{Failure}
 use Rattle.mq_drive.specs.declared.failing.Failure.TheVariants.{Home, Queued}
 use Rattle.mq_drive.specs.declared.port.Ports.{Ports}
 use Rattle.mq_image.specs.File.{DriveImage, queue_ports}
-use Rattle.mq_images.specs.Views.{drive_from, starts_from}
+use Rattle.mq_images.specs.Views.{starts_from}
 use Rattle.mq_images.specs.declared.ports.Failing.{Failing}
 use Rattle.mq_ledger.specs.State.{port_at}
-use Rattle.mq_recover.specs.Drives.{DriveState, drive_of, faults_on}
-use Rattle.mq_run.specs.Laws.{IsBehindStop, StopsAreBacked}
+use Rattle.mq_recover.specs.Drives.{DriveState, faults_on}
+use Rattle.mq_run.specs.Laws.{StopsAreBacked}
 use Rattle.mq_script.specs.Scripts.{Script}
 use Rattle.mq_side.specs.declared.answers.Cause.TheVariants as cause
 use Rattle.mq_tie.specs.Backed.{IsBehind, IsBehindAt}
