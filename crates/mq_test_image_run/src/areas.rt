@@ -1,6 +1,6 @@
 // Runs that write one block again and again.
 use crate::failure::Failure;
-use crate::images::{dumped, formatted, listed};
+use crate::images::{dumped, formatted, lists};
 use crate::runs::{Asked, PLAIN, run};
 use mq_blocks::Geometry;
 use std::alloc::Global;
@@ -26,14 +26,14 @@ fn areas_are_filled(rt: HostRuntime) -> Result<(), Failure> {
         let number = times + 1;
         let end = format!(in rt.alloc(); "\nanswer 0 {times} ok {number}\nclean {number}\n")?;
         assert!(rt; ran.report.ends_with(end.as_str()) && ran.acknowledged == number);
-        assert_eq!(rt; listed(rt.alloc(), &ran.file)?.as_str(), "d /\nf 4096 /f\n");
+        assert!(rt; lists(rt.alloc(), &ran.file, "d /\nf 4096 /f\n")?);
         let asked = Asked {
             cut: Some(1_000_000),
             ..PLAIN
         };
         let cut = run(&rt, rt.alloc(), &empty, &[script.as_str()], asked)?;
         assert!(rt; dumped(rt.alloc(), &cut.file)?.starts_with("base 0\n") == fits);
-        assert_eq!(rt; listed(rt.alloc(), &cut.file)?.as_str(), "d /\nf 4096 /f\n");
+        assert!(rt; lists(rt.alloc(), &cut.file, "d /\nf 4096 /f\n")?);
     }
     Ok(())
 }

@@ -1,6 +1,6 @@
 // Runs of which a command fails.
 use crate::failure::Failure;
-use crate::images::{empty_file, listed, recovered};
+use crate::images::{empty_file, lists, recovered};
 use crate::plain::{FIRST, FIRST_TREE};
 use crate::runs::{Asked, run};
 use std::alloc::Global;
@@ -58,7 +58,7 @@ fn commands_fail(rt: HostRuntime) -> Result<(), Failure> {
         } else {
             FIRST_TREE
         };
-        assert_eq!(rt; listed(rt.alloc(), &left.file)?.as_str(), tree);
+        assert!(rt; lists(rt.alloc(), &left.file, tree)?);
     }
     Ok(())
 }

@@ -1,5 +1,5 @@
 // Why a test could not be carried out.
-use mq_blocks::{BlockNo, GeometryRefusal, OutOfMemory, QueueNo};
+use mq_blocks::{GeometryRefusal, OutOfMemory};
 use mq_image::FileFault;
 use mq_images::StandingRefusal;
 use mq_recover::{ChainRefusal, ImageFault};
@@ -18,14 +18,14 @@ pub enum Failure {
     Script,
     /// There is no script, or there are more than queues.
     Scripts,
-    /// The image is not readable, for the words of this queue.
-    Words(QueueNo),
+    /// The image is not readable, for the words of a queue.
+    Words,
     /// This number of the image is above its limit.
     Limit(u64),
     /// The image is not readable for another cause.
     Image,
-    /// No volume stands on the image, and this is wrong at this block.
-    Corrupt(CorruptCause, BlockNo),
+    /// No volume stands on the image, and this is wrong at a block.
+    Corrupt(CorruptCause),
     OutOfMemory,
 }
 
@@ -69,9 +69,9 @@ impl From<ImageFault> for Failure {
     fn from(fault: ImageFault) -> Self {
         match fault {
             ImageFault::Bad {
-                queue,
                 cause: ChainRefusal::Words,
-            } => Failure::Words(queue),
+                ..
+            } => Failure::Words,
             ImageFault::Limit { base } => Failure::Limit(base),
             ImageFault::OutOfMemory => Failure::OutOfMemory,
             _ => Failure::Image,
@@ -83,7 +83,7 @@ impl From<StandingRefusal> for Failure {
     fn from(refusal: StandingRefusal) -> Self {
         match refusal {
             StandingRefusal::Image(fault) => Failure::from(fault),
-            StandingRefusal::Corrupt { cause, block } => Failure::Corrupt(cause, block),
+            StandingRefusal::Corrupt { cause, .. } => Failure::Corrupt(cause),
             StandingRefusal::OutOfMemory => Failure::OutOfMemory,
         }
     }

@@ -1,6 +1,6 @@
 // Sessions on threads, one of which a gate holds until another one has come to a point.
 use crate::failure::Failure;
-use crate::images::{empty_file, listed, recovered};
+use crate::images::{empty_file, lists, recovered};
 use crate::plain::FIRST;
 use crate::runs::{Asked, Outcome, PLAIN, run, run_past};
 use mq_calls::{Gate, Point};
@@ -70,10 +70,7 @@ fn two_sessions_end(rt: HostRuntime) -> Result<(), Failure> {
     let other =
         "base 0\ncommit 1 session 1 group 0 fsync\n  ok\ncommit 2 session 0 group 0 fsync\n  ok\nanswer 0 0 ok 2\nanswer 1 0 ok 1\nclean 2\n";
     assert!(rt; is_either(&ran, one, other), "{}", ran.report.as_str());
-    assert_eq!(rt;
-        listed(rt.alloc(), &ran.file)?.as_str(),
-        "d /\nd /a\nd /b\n"
-    );
+    assert!(rt; lists(rt.alloc(), &ran.file, "d /\nd /a\nd /b\n")?);
     Ok(())
 }
 
@@ -90,10 +87,7 @@ fn a_session_goes_on_while_another_is_held(rt: HostRuntime) -> Result<(), Failur
     let other =
         "base 0\ncommit 1 session 1 group 0 fsync\n  ok\ncommit 2 session 0 group 0 fatomic\n  ok\nanswer 0 0 ok 2\nanswer 1 0 ok 1\nclean 2\n";
     assert!(rt; is_either(&ran, one, other), "{}", ran.report.as_str());
-    assert_eq!(rt;
-        listed(rt.alloc(), &ran.file)?.as_str(),
-        "d /\nd /a\nd /b\n"
-    );
+    assert!(rt; lists(rt.alloc(), &ran.file, "d /\nd /a\nd /b\n")?);
     Ok(())
 }
 
@@ -119,6 +113,6 @@ fn a_failure_stops_other_sessions(rt: HostRuntime) -> Result<(), Failure> {
     assert!(rt; is_either(&ran, one, other), "{}", ran.report.as_str());
     let left = recovered(rt.alloc(), &ran.file, None, 0)?;
     assert_eq!(rt; (left.prefix, left.base), (0, 2));
-    assert_eq!(rt; listed(rt.alloc(), &left.file)?.as_str(), "d /\n");
+    assert!(rt; lists(rt.alloc(), &left.file, "d /\n")?);
     Ok(())
 }

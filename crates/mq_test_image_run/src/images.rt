@@ -19,10 +19,10 @@ pub fn formatted(alloc: Global, geometry: Geometry) -> Result<Vec<u8>, Failure> 
     Ok(write_image(alloc, &image)?)
 }
 
-/// The text that lists the volume on an image.
-pub fn listed(alloc: Global, file: &[u8]) -> Result<String, Failure> {
+/// Whether the volume on an image lists so.
+pub fn lists(alloc: Global, file: &[u8], tree: &str) -> Result<bool, Failure> {
     let text = list_volume(alloc, read_image(alloc, file)?)?;
-    Ok(String::from_utf8_lossy(alloc, &text)?)
+    Ok(text.as_slice() == tree.as_bytes())
 }
 
 /// The text that tells the words and the chains of an image.

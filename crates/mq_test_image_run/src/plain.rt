@@ -1,8 +1,11 @@
 // Runs without a cut in which nothing fails.
 use crate::failure::Failure;
-use crate::images::{empty_file, formatted, listed};
+use crate::images::{empty_file, formatted, lists};
 use crate::runs::{PLAIN, run};
 use mq_blocks::Geometry;
+use std::alloc::Global;
+use std::sync::Wait;
+use std::thread::Threads;
 
 /// A group that makes a directory and in it a file of two bytes.
 pub const FIRST: &str = "mkdir /a\ncreate /a/f\nwrite /a/f 0 \"hi\"\nfsync\n";
@@ -55,14 +58,57 @@ const SCRIPTS: [(&str, &str, &str); 9] = [
     ),
 ];
 
+// Scripts on the empty file system of other drives, by queues, area, metadata and zone. On the first the two zones have
+// two blocks each, and the last write finds none. On the second the group writes the 1,036 blocks of data of the largest
+// file, its block of pointers, three blocks of metadata and the root's block; the session goes on after the refusal.
+const OTHER_DRIVES: [([u32; 4], &str, &str, &str); 2] = [
+    (
+        [2, 1024, 16, 2],
+        "create /f\nwrite /f 0 fill:61:4096\nwrite /f 4096 \"b\"\nwrite /f 8192 \"c\"\nwrite /f 12288 \"d\"\nfsync\n",
+        "base 0\ncommit 1 session 0 group 0 fsync\n  ok\n  ok\n  ok\n  ok\n  refused NoSpace\nanswer 0 0 ok 1\nclean 1\n",
+        "d /\nf 8193 /f\n",
+    ),
+    (
+        [1, 1024, 16, 2000],
+        "create /f\nwrite /f 0 fill:61:4243456\nfsync\nmkdir /a\nfsync\n",
+        "base 0\ncommit 1 session 0 group 1 fsync\n  ok\nanswer 0 0 large 1041\nanswer 0 1 ok 1\nclean 1\n",
+        "d /\nd /a\n",
+    ),
+];
+
+// Whether a run of a script on an image is reported so and leaves this tree.
+fn is_reported<R: Threads + Wait + Sync>(
+    rt: &R,
+    alloc: Global,
+    file: &[u8],
+    script: &str,
+    report: &str,
+    tree: &str,
+) -> Result<bool, Failure> {
+    let ran = run(rt, alloc, file, &[script], PLAIN)?;
+    Ok(!ran.failed && ran.report.as_str() == report && lists(alloc, &ran.file, tree)?)
+}
+
 #[test]
 fn scripts_are_reported(rt: HostRuntime) -> Result<(), Failure> {
     let empty = empty_file(rt.alloc())?;
     for (script, report, tree) in SCRIPTS {
-        let ran = run(&rt, rt.alloc(), &empty, &[script], PLAIN)?;
-        assert_eq!(rt; ran.report.as_str(), report);
-        assert_eq!(rt; listed(rt.alloc(), &ran.file)?.as_str(), tree);
-        assert!(rt; !ran.failed);
+        assert!(rt;
+            is_reported(&rt, rt.alloc(), &empty, script, report, tree)?,
+            "{script}"
+        );
+    }
+    Ok(())
+}
+
+#[test]
+fn scripts_on_other_drives_are_reported(rt: HostRuntime) -> Result<(), Failure> {
+    for ([queues, area, meta, zone], script, report, tree) in OTHER_DRIVES {
+        let file = formatted(rt.alloc(), Geometry::new(queues, area, meta, zone)?)?;
+        assert!(rt;
+            is_reported(&rt, rt.alloc(), &file, script, report, tree)?,
+            "{script}"
+        );
     }
     Ok(())
 }
@@ -84,44 +130,9 @@ fn numbers_go_on(rt: HostRuntime) -> Result<(), Failure> {
     let empty = empty_file(rt.alloc())?;
     let first = run(&rt, rt.alloc(), &empty, &[FIRST], PLAIN)?;
     let script = "read /a/f 0 10\nlist /a\nask\nrename /a/f /b\nfsync\n";
-    let second = run(&rt, rt.alloc(), &first.file, &[script], PLAIN)?;
-    assert_eq!(rt;
-        second.report.as_str(),
-        "base 1\nat 1 session 0 group 0 ask\n  data 2 6869\n  names f\ncommit 2 session 0 group 1 fsync\n  ok\nanswer 0 0 ok 1\nanswer 0 1 ok 2\nclean 2\n"
-    );
-    assert_eq!(rt;
-        listed(rt.alloc(), &second.file)?.as_str(),
-        "d /\nd /a\nf 2 /b\n"
-    );
-    Ok(())
-}
-
-// Two zones of two blocks each: the last write finds no block.
-#[test]
-fn a_full_volume_refuses(rt: HostRuntime) -> Result<(), Failure> {
-    let file = formatted(rt.alloc(), Geometry::new(2, 1024, 16, 2)?)?;
-    let script =
-        "create /f\nwrite /f 0 fill:61:4096\nwrite /f 4096 \"b\"\nwrite /f 8192 \"c\"\nwrite /f 12288 \"d\"\nfsync\n";
-    let ran = run(&rt, rt.alloc(), &file, &[script], PLAIN)?;
-    assert_eq!(rt;
-        ran.report.as_str(),
-        "base 0\ncommit 1 session 0 group 0 fsync\n  ok\n  ok\n  ok\n  ok\n  refused NoSpace\nanswer 0 0 ok 1\nclean 1\n"
-    );
-    assert_eq!(rt; listed(rt.alloc(), &ran.file)?.as_str(), "d /\nf 8193 /f\n");
-    Ok(())
-}
-
-// The largest file has 1,036 blocks of data and one of pointers, and with it four blocks of the metadata and the
-// root are written. The session goes on after the refusal.
-#[test]
-fn a_large_group_is_refused(rt: HostRuntime) -> Result<(), Failure> {
-    let file = formatted(rt.alloc(), Geometry::new(1, 1024, 16, 2000)?)?;
-    let script = "create /f\nwrite /f 0 fill:61:4243456\nfsync\nmkdir /a\nfsync\n";
-    let ran = run(&rt, rt.alloc(), &file, &[script], PLAIN)?;
-    assert_eq!(rt;
-        ran.report.as_str(),
-        "base 0\ncommit 1 session 0 group 1 fsync\n  ok\nanswer 0 0 large 1041\nanswer 0 1 ok 1\nclean 1\n"
-    );
-    assert_eq!(rt; listed(rt.alloc(), &ran.file)?.as_str(), "d /\nd /a\n");
+    let report =
+        "base 1\nat 1 session 0 group 0 ask\n  data 2 6869\n  names f\ncommit 2 session 0 group 1 fsync\n  ok\nanswer 0 0 ok 1\nanswer 0 1 ok 2\nclean 2\n";
+    let tree = "d /\nd /a\nf 2 /b\n";
+    assert!(rt; is_reported(&rt, rt.alloc(), &first.file, script, report, tree)?);
     Ok(())
 }
