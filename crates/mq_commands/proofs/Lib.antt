@@ -1,3 +1,4 @@
 pub mod Exact
 pub mod Recoveries
+pub mod Runnings
 pub mod Saying
