@@ -7,26 +7,25 @@ use Rattle.mq_drive.specs.Steps.{Fault}
 use Rattle.mq_drive.specs.declared.port.Port.{Ghosts}
 use Rattle.mq_exec.specs.declared.outcome.Done.{Done}
 use Rattle.mq_files.specs.declared.entry.FileEntry.{FileEntry}
-use Rattle.mq_files.specs.Group.{file_group}
-use Rattle.mq_journal.proofs.InHand.{held_is_current}
 use Rattle.mq_journal.specs.Draining.{report_of}
-use Rattle.mq_journal.specs.Numbers.{Seat, Shared, Start, reported}
+use Rattle.mq_journal.specs.Numbers.{Seat, Shared, reported}
 use Rattle.mq_pages.specs.declared.page.PageCell.{PageCell}
-use Rattle.mq_pages.specs.Held.{Cells}
 use Rattle.mq_pages.specs.declared.page.Write.{Write}
 use Rattle.mq_side.specs.declared.answers.Cause.{Cause}
 use Rattle.mq_side.specs.declared.answers.Cause.TheVariants as cause
 use Rattle.mq_side.specs.declared.root.Root.{Root}
 use Rattle.mq_side.specs.declared.side.QueueSide.{QueueSide}
 use Rattle.mq_turns.specs.Chairs.{holding}
+use Rattle.mq_turns.specs.Lists.{Each}
+use Rattle.mq_turns.specs.Meaning.{IsAt}
 use Rattle.mq_turns.specs.declared.rule.Answer.TheVariants.{Base, Front}
 use Rattle.mq_turns.specs.declared.rule.Reading.{Reading}
 use Rattle.mq_turns.specs.declared.rule.Report.{Report}
 use Rattle.mq_turns.specs.declared.rule.Charge.{Charge}
 use Rattle.mq_turns.specs.declared.rule.Report.TheVariants.{Off, Sent}
-use Rattle.mq_calls.specs.Acts.{Call, Commits, IsCaused, IsKnownFrom, IsOfCall, IsTurnedDown, Rests, WasCutAt, before, cut, drained, kept, memory}
+use Rattle.mq_calls.specs.Acts.{Call, Commits, IsCaused, IsKnownFrom, IsOfCall, IsTurnedDown, LacksArea, Rests, WasCutAt, before, cut, drained, kept, memory}
 use Rattle.mq_calls.specs.Calling.{IsEntryFor}
-use Rattle.mq_calls.specs.Committing.{HoldsCommit, IsLacking, IsMissed, OnlyReports, ReadsWords, miss_for, reports_for}
+use Rattle.mq_calls.specs.Committing.{IsLacking, IsMissed, OnlyReports, ReadsWords, ShowsLack, miss_for, reports_for}
 use Rattle.mq_calls.specs.Drawing.{HasDrawn, IsCommitted}
 use Rattle.mq_calls.specs.declared.answers.CallCause.TheVariants.{Drive}
 use Rattle.mq_calls.specs.declared.committing.Lack.{Lack}
@@ -96,34 +95,49 @@ module _ {P : Type 0} {G : Ghosts P} where
   charges-of old taken v holds words = words.charged ∙ ap (λ (x : Reads P G). x.charged) holds.reading
 
 module _ {P : Type 0} {G : Ghosts P} (state : P → PortState) (faults : P → List Fault) where
-  pub known-before : (old v : Seat P FileEntry G) (K : Shared P FileEntry G) → v.opening ≡ old.opening → old.seen ≤ v.seen → IsKnownFrom state faults v K → IsKnownFrom state faults old K
-  known-before old v K opening seen k = record { opening = sym opening ∙ k.opening; seen = (let l = k.seen in omega arith) }
+  pub known-before : (old v : Seat P FileEntry G) (K : Shared P FileEntry G) → v.opening ≡ old.opening → old.seen ≤ v.seen → v.drawn ≡ old.drawn → IsKnownFrom state faults v K → IsKnownFrom state faults old K
+  known-before old v K opening seen drawn k = record {
+    opening = sym opening ∙ k.opening;
+    ok = k.ok;
+    seen = (let l = k.seen in omega arith);
+    drew = subst (Each (λ d. IsAt K.opening.base K.log d.0 d.1)) drawn k.drew;
+  }
 
-  pub caused-before : (old v : Seat P FileEntry G) (q : ℕ) (c : Cause) → v.opening ≡ old.opening → old.seen ≤ v.seen → IsCaused state faults v q c → IsCaused state faults old q c
-  caused-before old v q c opening seen (kept K s known side is) = kept K s (known-before old v K opening seen known) side is
-  caused-before old v q c opening seen (drained K s after known side drains cause) = drained K s after (known-before old v K opening seen known) side drains cause
+  pub caused-before : (old v : Seat P FileEntry G) (q : ℕ) (c : Cause) → v.opening ≡ old.opening → old.seen ≤ v.seen → v.drawn ≡ old.drawn → IsCaused state faults v q c → IsCaused state faults old q c
+  caused-before old v q c opening seen drawn (kept K s known side is) = kept K s (known-before old v K opening seen drawn known) side is
+  caused-before old v q c opening seen drawn (drained K s after known side drains cause) = drained K s after (known-before old v K opening seen drawn known) side drains cause
 
-  pub missed-for : (o : Start P FileEntry G) (g : Geometry) (c : Call) (cells : Cells) (s : QueueSide P FileEntry G) (old taken v new : Seat P FileEntry G) (l : Lack) → v.opening ≡ Some o → HoldsCommit state faults o c.session cells s v → OnlyHolds old taken → ReadsWords taken v → IsLacking state faults o c.session s v l → OnlyReports (reports_for c.session l v.reading.charged) v new → IsMissed state faults g c old new (miss_for l)
-  missed-for o g c cells s old taken v new lack.Memory opening side holds words lacks only = memory (record { rests = rests-of old taken v new v.reading.charged holds words only; charged = only.charged ∙ charges-of old taken v holds words })
-  missed-for o g c cells s old taken v new lack.Area opening side holds words lacks only =
-      let K = side.seen.0 in
-      record {
-        keeps = record { rests = rests-of old taken v new v.reading.charged holds words only; charged = only.charged ∙ charges-of old taken v holds words };
-        lacks = record {
-          known = K;
-          from = known-before old v K (words.opening ∙ holds.opening) (let a = words.seen in let b = holds.seen in omega arith) (record { opening = side.seen.1.opening; seen = side.seen.1.seen });
-          side = s;
-          is = held_is_current state faults file_group s o c.session v K opening side.side side.seen.1;
-          base = lacks.0;
-          plan = lacks.1;
-          lacks = lacks.2;
-        };
-      }
-  missed-for o g c cells s old taken v new (lack.Drive cause) opening side holds words lacks only =
+  -- what is lacked shows on the side
+  pub lack-shown : (g : Geometry) (c : Call) (old : Seat P FileEntry G) (s : QueueSide P FileEntry G) (v : Seat P FileEntry G) (l : Lack) → IsLacking state faults g c old s v l → ShowsLack state faults c.session s v l
+  lack-shown g c old s v lack.Memory lacks = tt
+  lack-shown g c old s v lack.Area lacks = tt
+  lack-shown g c old s v (lack.Drive cause) lacks = lacks.0
+
+  -- the plan lacked room, of a session that then took a turn and now reports nothing
+  area-lacked : (g : Geometry) (c : Call) (old taken v new : Seat P FileEntry G) → OnlyHolds old taken → new.reading.answers ≡ v.reading.answers → LacksArea state faults g c taken v → LacksArea state faults g c old new
+  area-lacked g c old taken v new holds answers k = record {
+    known = k.known;
+    from = known-before old taken k.known holds.opening (let a = holds.seen in omega arith) holds.drawn k.from;
+    reads = k.reads;
+    answers = answers ∙ k.answers ∙ ap (λ (x : Reads P G). Base k.reads.base ∷ Front k.reads.front ∷ x.answers) holds.reading;
+    plan = k.plan;
+    placed = k.placed;
+    side = k.side;
+    is = k.is;
+    lacks = k.lacks;
+  }
+
+  pub missed-for : (g : Geometry) (c : Call) (s : QueueSide P FileEntry G) (old taken v new : Seat P FileEntry G) (l : Lack) → OnlyHolds old taken → ReadsWords taken v → IsLacking state faults g c taken s v l → OnlyReports (reports_for c.session l v.reading.charged) v new → IsMissed state faults g c old new (miss_for l)
+  missed-for g c s old taken v new lack.Memory holds words lacks only = memory (record { rests = rests-of old taken v new v.reading.charged holds words only; charged = only.charged ∙ charges-of old taken v holds words })
+  missed-for g c s old taken v new lack.Area holds words lacks only = record {
+    keeps = record { rests = rests-of old taken v new v.reading.charged holds words only; charged = only.charged ∙ charges-of old taken v holds words };
+    lacks = area-lacked g c old taken v new holds only.answers lacks;
+  }
+  missed-for g c s old taken v new (lack.Drive cause) holds words lacks only =
       before (record {
         rests = rests-of old taken v new (reported c.session (report_of cause) ∷ v.reading.charged) holds words only;
         charged = only.charged ∙ ap (λ l. reported c.session (report_of cause) ∷ l) (charges-of old taken v holds words);
-        caused = caused-before old v c.session cause (words.opening ∙ holds.opening) (let a = words.seen in let b = holds.seen in omega arith) lacks.1;
+        caused = caused-before old v c.session cause (words.opening ∙ holds.opening) (let a = words.seen in let b = holds.seen in omega arith) (words.drawn ∙ holds.drawn) lacks.1;
       })
 
   -- a group whose send was cut

@@ -30,7 +30,7 @@ refusal-same c d e = cc
 
 module _ {P : Type 0} {G : Ghosts P} (state : P → PortState) (faults : P → List Fault) (o : Start P FileEntry G) (q : ℕ) (v : Seat P FileEntry G) (opening : v.opening ≡ Some o) where
   known-from : (K : Shared P FileEntry G) → Sees (files state faults) v K → IsKnownFrom state faults v K
-  known-from K sees = record { opening = sees.opening; seen = sees.seen }
+  known-from K sees = record { opening = sees.opening; ok = sees.ok; seen = sees.seen; drew = sees.drew }
 
   by-drain : (K : Shared P FileEntry G) (s u : QueueSide P FileEntry G) (c : Cause) (r : Result ℕ Cause) → IsKnownFrom state faults v K → IsSide (file_values state faults) file_group q K s → Drains (side_state state faults s) r (side_state state faults u) → DrainCause r (faults s.pmr.port) (faults u.pmr.port) → refusal c ≡ drain_answer r → IsCaused state faults v q c
   by-drain K s u c (Ok n) known side drains cause is = absurd cc

@@ -1,6 +1,5 @@
 -- What a call leaves, from what its steps leave: of the group as a whole, and of the session.
 use Rattle.std.proofs.Common.{◌≡◌, ℕ, ◌+◌, ◌-◌, ◌<◌, ◌≤◌, Bool, true, false, List, [], ◌∷◌, length, Option, refl, sym, ap, subst, ◌∙◌, arith, Some}
-use Rattle.std.specs.Prelude.{Result, Ok, Err, IfOk, IfErr}
 use Rattle.mq_blocks.specs.Descriptor.{AreRising}
 use Rattle.mq_blocks.specs.Drive.{PortState}
 use Rattle.mq_blocks.specs.Geometry.{homes_of, write_limit}
@@ -32,7 +31,6 @@ use Rattle.mq_calls.specs.Sessions.{HasCalled, IsReady}
 use Rattle.mq_calls.specs.Sweeping.{HasSwept}
 use Rattle.mq_calls.specs.Synchronizing.{IsDurable, IsNotDurable, WasDrainRefused, after}
 use Rattle.mq_calls.specs.Wanted.{IsSameSession}
-use Rattle.mq_calls.specs.declared.answers.Answer.{Answer}
 use Rattle.mq_calls.specs.declared.answers.CallCause.{CallCause}
 use Rattle.mq_calls.specs.declared.committing.Miss.{Miss}
 use Rattle.mq_calls.specs.declared.committing.Miss.TheVariants as miss
@@ -213,16 +211,18 @@ module _ {P : Type 0} {G : Ghosts P} where
   }
 
 module _ {P : Type 0} {G : Ghosts P} (state : P → PortState) (faults : P → List Fault) where
-  full-same : (c : Call) (v m w : Seat P FileEntry G) → IsSameSession v m → IsAreaFull state faults c m w → IsAreaFull state faults c v w
-  full-same c v m w same k = record {
+  full-same : (g : Geometry) (c : Call) (v m w : Seat P FileEntry G) → IsSameSession v m → IsAreaFull state faults g c m w → IsAreaFull state faults g c v w
+  full-same g c v m w same k = record {
     keeps = keeps-same v m w same k.keeps;
     lacks = record {
       known = k.lacks.known;
-      from = known-before state faults v m k.lacks.known (ap (λ (x : Seat P FileEntry G). x.opening) same.is) same.seen k.lacks.from;
+      from = known-before state faults v m k.lacks.known (ap (λ (x : Seat P FileEntry G). x.opening) same.is) same.seen (ap (λ (x : Seat P FileEntry G). x.drawn) same.is) k.lacks.from;
+      reads = k.lacks.reads;
+      answers = k.lacks.answers ∙ ap (λ (x : Seat P FileEntry G). Base k.lacks.reads.base ∷ Front k.lacks.reads.front ∷ x.reading.answers) same.is;
+      plan = k.lacks.plan;
+      placed = k.lacks.placed;
       side = k.lacks.side;
       is = k.lacks.is;
-      base = k.lacks.base;
-      plan = k.lacks.plan;
       lacks = k.lacks.lacks;
     };
   }
@@ -233,7 +233,7 @@ module _ {P : Type 0} {G : Ghosts P} (state : P → PortState) (faults : P → L
   turned-same g c v m w why drawn same (before {why = x} k) = before (record {
     rests = rests-same v m w same k.rests;
     charged = k.charged ∙ ap (λ (z : Seat P FileEntry G). reported c.session (report_of x) ∷ z.reading.charged) same.is;
-    caused = caused-before state faults v m c.session x (ap (λ (x : Seat P FileEntry G). x.opening) same.is) same.seen k.caused;
+    caused = caused-before state faults v m c.session x (ap (λ (x : Seat P FileEntry G). x.opening) same.is) same.seen (ap (λ (x : Seat P FileEntry G). x.drawn) same.is) k.caused;
   })
   turned-same g c v m w why drawn same (cut {at} k) = cut (record {
     replies = k.replies;
@@ -242,7 +242,7 @@ module _ {P : Type 0} {G : Ghosts P} (state : P → PortState) (faults : P → L
   })
 
   pub missed-same : (g : Geometry) (c : Call) (v m w : Seat P FileEntry G) (x : Miss) → IsSameSession v m → IsMissed state faults g c m w x → IsMissed state faults g c v w x
-  missed-same g c v m w miss.AreaFull same k = full-same c v m w same k
+  missed-same g c v m w miss.AreaFull same k = full-same g c v m w same k
   missed-same g c v m w (miss.Refused r) same k = turned-same g c v m w r.cause r.drawn same k
 
   pub called-turned : (g : Geometry) (c : Call) (v w : Seat P FileEntry G) (why : CallCause) (drawn : Option ℕ) → IsTurnedDown state faults g c v w why drawn → HasCalled c.count v → HasCalled (c.count + 1) w

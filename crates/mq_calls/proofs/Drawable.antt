@@ -23,6 +23,7 @@ use Rattle.mq_files.proofs.Ruling.{may, tells_plans}
 use Rattle.mq_files.proofs.Written.{only}
 use Rattle.mq_inodes.specs.Pages.{held_pages, page_in}
 use Rattle.mq_journal.specs.Numbers.{HasPlace, MayCome, Seat, Shared, Start}
+use Rattle.mq_journal.proofs.InHand.{held_is_current}
 use Rattle.mq_ledger.specs.History.{changes}
 use Rattle.mq_pages.specs.Held.{Cells, cell_of}
 use Rattle.mq_pages.specs.declared.page.PageCell.{PageCell}
@@ -36,7 +37,7 @@ use Rattle.mq_rules.specs.Values.{Values}
 use Rattle.mq_rules.proofs.Settled.{front_claimed}
 use Rattle.mq_side.specs.Commits.{IsPlanOf, written_in}
 use Rattle.mq_side.specs.Stored.{FitIs, IsBounded, rows_of}
-use Rattle.mq_side.specs.declared.answers.Fit.TheVariants.{Yes}
+use Rattle.mq_side.specs.declared.answers.Fit.TheVariants.{Area, Yes}
 use Rattle.mq_side.specs.declared.root.Root.{Root}
 use Rattle.mq_side.specs.declared.side.QueueSide.{QueueSide}
 use Rattle.mq_tree.specs.declared.request.Request.{Request}
@@ -49,13 +50,16 @@ use Rattle.mq_turns.specs.declared.turn.Turn.{Turn}
 use Rattle.mq_turns.specs.declared.turn.Turn.TheVariants.{Page, Root as RootTurn, Side}
 use Rattle.mq_turns.proofs.Each.{each_without}
 use Rattle.mq_turns.proofs.Seen.{opening_seen}
-use Rattle.mq_calls.specs.Acts.{Call}
-use Rattle.mq_calls.specs.Committing.{HasRead, HoldsCommit, IsPlacedOn, IsPrepared}
+use Rattle.mq_calls.specs.Acts.{Call, LacksArea, planned_at}
+use Rattle.mq_calls.specs.Committing.{HasRead, HoldsCommit, IsLacking, IsPlacedOn, IsPrepared, LacksRoom}
 use Rattle.mq_calls.specs.Pages.{HoldsPage, HoldsPages}
 use Rattle.mq_calls.specs.Preparing.{IsEntryReady}
 use Rattle.mq_calls.specs.Runs.{IsDoneOnCells, IsDoneOnHeld, file_values, files, geometry_at}
 use Rattle.mq_calls.specs.Sessions.{HasCalled}
+use Rattle.mq_calls.specs.declared.committing.Lack.{Lack}
+use Rattle.mq_calls.specs.declared.committing.Lack.TheVariants as lack
 use Rattle.mq_calls.specs.declared.committing.Ready.{Ready}
+use Rattle.mq_calls.proofs.Acting.{known-before}
 use Rattle.mq_calls.proofs.InHand.{side-apart}
 use Rattle.mq_calls.proofs.Finding.{done-now}
 use Rattle.mq_calls.proofs.Holding.{cells-now, pages-kept-all}
@@ -133,22 +137,30 @@ module _ {P : Type 0} {G : Ghosts P} (state : P → PortState) (faults : P → L
         let rise = done_rises (geometry_of V file_group K) q (map_now V file_group K) requests done (stands.does K sees) in
         subst (λ (x : Geometry). AreRising 0 (homes_of x) (blocks_in done.writes.items)) (shape-seen K sees) rise
 
+    -- it is done so on the map of what is known
+    pub does-now : (K : Shared P FileEntry G) → Sees μ v K → DoneOn g q (map_now V file_group K) requests done
+    does-now K now =
+        let sees = seen-rest K now in
+        subst (λ (x : Geometry). DoneOn x q (map_now V file_group K) requests done) (shape-seen K sees) (stands.does K sees)
+
     -- a placement of it on these pages is a plan
     pub plan-of : (plan : Placed) (front base : ℕ) → IsPlacement g q front base (map (planned_with cells) done.writes.items) plan → IsPlanOf (homes_of g) (blocks_in done.writes.items) plan
     plan-of plan front base placement =
         let K = holds.seen.0 in
-        let sees = seen-rest K holds.seen.1 in
-        let d : DoneOn g q (map_now V file_group K) requests done = subst (λ (x : Geometry). DoneOn x q (map_now V file_group K) requests done) (shape-seen K sees) (stands.does K sees) in
-        done_planned g q front base (map_now V file_group K) requests done (map (planned_with cells) done.writes.items) plan d (blocks-planned cells done.writes.items) placement
+        done_planned g q front base (map_now V file_group K) requests done (map (planned_with cells) done.writes.items) plan (does-now K holds.seen.1) (blocks-planned cells done.writes.items) placement
+
+    known : (w : Write) → Contains done.writes.items w → (c : PageCell) × (cell_of cells w.block ≡ Some c)
+    known w has = known-cell (cell_of cells w.block) (on.0.written w has)
+
+    -- what the rule of placing asks is what the history says
+    told : (K : Shared P FileEntry G) → Sees μ rest K → map (planned_with cells) done.writes.items ≡ map (planned_by (start_of V file_group K.opening) K.opening.base (history_of V file_group K)) done.writes.items
+    told K sees = tells_plans V K cells done.writes.items (λ b c at. cells-now μ o cells rest K b c opening pages-rest sees at) known
+
+    -- it is placed so by what is known
+    pub placed-now : (plan : Placed) (front base : ℕ) (K : Shared P FileEntry G) → Sees μ v K → IsPlacement g q front base (map (planned_with cells) done.writes.items) plan → IsPlacement g q front base (planned_at state faults K done.writes.items) plan
+    placed-now plan front base K now placement = subst (λ (ps : List Planned). IsPlacement g q front base ps plan) (told K (seen-rest K now)) placement
 
     module _ (plan : Placed) (e : FileEntry) (queue : q < queues_of g) (is : IsEntryOf q requests done e) (placed : e.placed ≡ plan) (few : length done.writes.items ≤ write_limit g) (front : e.reads.front ≤ v.reading.done) (base : e.reads.base ≤ v.reading.base) (placement : IsPlacement g q e.reads.front e.reads.base (map (planned_with cells) done.writes.items) plan) where
-      known : (w : Write) → Contains done.writes.items w → (c : PageCell) × (cell_of cells w.block ≡ Some c)
-      known w has = known-cell (cell_of cells w.block) (on.0.written w has)
-
-      -- what the rule of placing asks is what the history says
-      told : (K : Shared P FileEntry G) → Sees μ rest K → map (planned_with cells) done.writes.items ≡ map (planned_by (start_of V file_group K.opening) K.opening.base (history_of V file_group K)) done.writes.items
-      told K sees = tells_plans V K cells done.writes.items (λ b c at. cells-now μ o cells rest K b c opening pages-rest sees at) known
-
       placed-by : (K : Shared P FileEntry G) → Sees μ rest K → IsPlaced (geometry_of V file_group K) (start_of V file_group K.opening) K.opening.base (history_of V file_group K) e
       placed-by K sees =
           let writes = subst (λ (ps : List Planned). IsPlacement g q e.reads.front e.reads.base ps plan) (told K sees) placement in
@@ -251,3 +263,36 @@ module _ {P : Type 0} {G : Ghosts P} (state : P → PortState) (faults : P → L
         reserved = er.reserved;
         none = none;
       }
+
+  -- ---- a group that lacks room
+
+  lacks-area : (o : Start P FileEntry G) (g : Geometry) (c : Call) (done : Done) (plan : Placed) (reads : WordsRead) (cells : Cells) (old v : Seat P FileEntry G) (w : QueueSide P FileEntry G) → v.opening ≡ Some o → geometry_at state faults o ≡ g → w.pmr.geometry ≡ g → HoldsCommit state faults o c.session cells w v → IsDoneOnCells g c.session c.requests cells done → length done.writes.items ≤ write_limit g → Changes done.writes.items done.frees.items → HasRead reads old v → IsPlacedOn g c.session reads cells done.writes.items plan → FitIs (area_of w.pmr.geometry) reads.base (rows_of w.stored.items) (state w.pmr.port) plan Area → LacksArea state faults g c old v
+  lacks-area o g c done plan reads cells old v w opening shape drive holds on few change read placement lacks =
+      let K = holds.seen.0 in
+      let sees = holds.seen.1 in
+      let front_read = read.front in
+      let base_read = read.base in
+      record {
+        known = K;
+        from = known-before state faults old v K read.words.opening read.words.seen read.words.drawn (record { opening = sees.opening; ok = sees.ok; seen = sees.seen; drew = sees.drew });
+        reads = reads;
+        answers = read.answers;
+        plan = plan;
+        placed = record {
+          done = done;
+          does = does-now state faults o g c.session cells w v c.requests done opening shape holds on K sees;
+          changes = change;
+          few = few;
+          front_low = front_claimed (file_values state faults) file_group reads.front K sees.ok (let l = sees.reader.last in omega arith) (λ m d at low. sees.reader.done m d at (omega arith));
+          base_low = (let l = sees.reader.base in omega arith);
+          placed = placed-now state faults o g c.session cells w v c.requests done opening shape holds on plan reads.front reads.base K sees placement;
+        };
+        side = w;
+        is = held_is_current state faults file_group w o c.session v K opening holds.side sees;
+        lacks = subst (λ (x : Geometry). FitIs (area_of x) reads.base (rows_of w.stored.items) (state w.pmr.port) plan Area) drive lacks;
+      }
+
+  pub lacks-room : (o : Start P FileEntry G) (g : Geometry) (c : Call) (done : Done) (plan : Placed) (reads : WordsRead) (cells : Cells) (old v : Seat P FileEntry G) (w : QueueSide P FileEntry G) → v.opening ≡ Some o → geometry_at state faults o ≡ g → w.pmr.geometry ≡ g → HoldsCommit state faults o c.session cells w v → IsDoneOnCells g c.session c.requests cells done → length done.writes.items ≤ write_limit g → Changes done.writes.items done.frees.items → HasRead reads old v → IsPlacedOn g c.session reads cells done.writes.items plan → (l : Lack) → LacksRoom state faults c.session reads.base plan w v l → IsLacking state faults g c old w v l
+  lacks-room o g c done plan reads cells old v w opening shape drive holds on few change read placement lack.Memory lacks = absurd lacks
+  lacks-room o g c done plan reads cells old v w opening shape drive holds on few change read placement lack.Area lacks = lacks-area o g c done plan reads cells old v w opening shape drive holds on few change read placement lacks
+  lacks-room o g c done plan reads cells old v w opening shape drive holds on few change read placement (lack.Drive cause) lacks = lacks

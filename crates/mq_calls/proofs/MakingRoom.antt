@@ -1,5 +1,5 @@
 -- A checkpoint that a session makes, between two calls or within one.
-use Rattle.std.proofs.Common.{◌≡◌, ℕ, ◌+◌, ◌<◌, ◌≤◌, Bool, List, [], ◌∷◌, length, Option, None, sym, ap, subst, ◌∙◌, arith, inl, inr}
+use Rattle.std.proofs.Common.{◌≡◌, ℕ, ◌+◌, ◌<◌, Bool, List, [], length, Option, None, sym, ap, subst, ◌∙◌, arith, inl, inr}
 use Rattle.std.specs.Prelude.{Result, Ok, Err, IfOk, IfErr}
 use Rattle.mq_blocks.specs.Drive.{PortState}
 use Rattle.mq_blocks.specs.declared.geometry.Geometry.{Geometry}
@@ -107,13 +107,13 @@ module _ {P : Type 0} {G : Ghosts P} (state : P → PortState) (faults : P → L
   pub turned-of : (g : Geometry) (c : Call) (x : Miss) (r : Refusal) (v w : Seat P FileEntry G) → x ≡ miss.Refused r → IsMissed state faults g c v w x → IsTurnedDown state faults g c v w r.cause r.drawn
   turned-of g c x r v w is missed = subst (IsMissed state faults g c v w) is missed
 
-  pub full-of : (g : Geometry) (c : Call) (x : Miss) (v w : Seat P FileEntry G) → x ≡ miss.AreaFull → IsMissed state faults g c v w x → IsAreaFull state faults c v w
+  pub full-of : (g : Geometry) (c : Call) (x : Miss) (v w : Seat P FileEntry G) → x ≡ miss.AreaFull → IsMissed state faults g c v w x → IsAreaFull state faults g c v w
   full-of g c x v w is missed = subst (IsMissed state faults g c v w) is missed
 
   -- ---- a plan that did not fit
 
   -- the session may be asked the same call again
-  pub ready-full : (g : Geometry) (c : Call) (old new : HeldCells) (v w : Seat P FileEntry G) → IsReady g c.session c.count old v → HasLeft old new v w → IsAreaFull state faults c v w → IsReady g c.session c.count new w
+  pub ready-full : (g : Geometry) (c : Call) (old new : HeldCells) (v w : Seat P FileEntry G) → IsReady g c.session c.count old v → HasLeft old new v w → IsAreaFull state faults g c v w → IsReady g c.session c.count new w
   ready-full g c old new v w ready left full = ready-left g c.session c.count c.count old new v w ready left (called-kept c.count v w full.keeps.rests.drawn full.keeps.rests.read ready.called)
 
   -- ---- a call that was run once
@@ -126,15 +126,15 @@ module _ {P : Type 0} {G : Ghosts P} (state : P → PortState) (faults : P → L
 
   -- ---- a call that was run once more after a checkpoint
 
-  begins-again : (c : Call) (base : ℕ) (first v m : Seat P FileEntry G) → IsAreaFull state faults c first v → Raises state faults file_group base v m → Begins state faults c first m
-  begins-again c base first v m full raises = again (record { between = v; full = full; base = base; raises = raises })
+  begins-again : (g : Geometry) (c : Call) (base : ℕ) (first v m : Seat P FileEntry G) → IsAreaFull state faults g c first v → Raises state faults file_group base v m → Begins state faults g c first m
+  begins-again g c base first v m full raises = again (record { between = v; full = full; base = base; raises = raises })
 
-  pub acted-again : (g : Geometry) (c : Call) (at : ℕ) (drew : Bool) (replies : List Reply) (base : ℕ) (first v m w : Seat P FileEntry G) → IsAreaFull state faults c first v → Raises state faults file_group base v m → Acts g c at drew replies m w → HasActed state faults g c at drew replies first w
-  acted-again g c at drew replies base first v m w full raises acts = record { from = m; begins = begins-again c base first v m full raises; acts = acts }
+  pub acted-again : (g : Geometry) (c : Call) (at : ℕ) (drew : Bool) (replies : List Reply) (base : ℕ) (first v m w : Seat P FileEntry G) → IsAreaFull state faults g c first v → Raises state faults file_group base v m → Acts g c at drew replies m w → HasActed state faults g c at drew replies first w
+  acted-again g c at drew replies base first v m w full raises acts = record { from = m; begins = begins-again g c base first v m full raises; acts = acts }
 
-  pub refused-again : (g : Geometry) (c : Call) (why : CallCause) (drawn : Option ℕ) (base : ℕ) (first v m w : Seat P FileEntry G) → IsAreaFull state faults c first v → Raises state faults file_group base v m → IsTurnedDown state faults g c m w why drawn → IsRefused state faults g c first w why drawn
-  refused-again g c why drawn base first v m w full raises turned = turned_down (begins-again c base first v m full raises) turned
+  pub refused-again : (g : Geometry) (c : Call) (why : CallCause) (drawn : Option ℕ) (base : ℕ) (first v m w : Seat P FileEntry G) → IsAreaFull state faults g c first v → Raises state faults file_group base v m → IsTurnedDown state faults g c m w why drawn → IsRefused state faults g c first w why drawn
+  refused-again g c why drawn base first v m w full raises turned = turned_down (begins-again g c base first v m full raises) turned
 
   -- where it did not fit then either
-  pub full-again : (g : Geometry) (c : Call) (base : ℕ) (first v m w : Seat P FileEntry G) → IsAreaFull state faults c first v → Raises state faults file_group base v m → IsAreaFull state faults c m w → IsRefused state faults g c first w OutOfMemory None
+  pub full-again : (g : Geometry) (c : Call) (base : ℕ) (first v m w : Seat P FileEntry G) → IsAreaFull state faults g c first v → Raises state faults file_group base v m → IsAreaFull state faults g c m w → IsRefused state faults g c first w OutOfMemory None
   full-again g c base first v m w full raises still = refused-again g c OutOfMemory None base first v m w full raises (memory still.keeps)

@@ -31,6 +31,7 @@ use Rattle.mq_recover.specs.Recovery.{IsStartDrive}
 use Rattle.mq_recover.specs.declared.standing.Standing.{Standing}
 use Rattle.mq_rules.specs.Rule as rule
 use Rattle.mq_rules.proofs.Opening.{at_map}
+use Rattle.mq_side.proofs.Completes.{bound_now}
 use Rattle.mq_side.specs.Counts.{unless_same}
 use Rattle.mq_side.specs.Side.{AreRungsOf, IsKept}
 use Rattle.mq_side.specs.Stored.{rows_of}

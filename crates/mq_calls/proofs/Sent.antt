@@ -142,5 +142,6 @@ module _ {P : Type 0} {G : Ghosts P} (state : P → PortState) (faults : P → L
     read = only.read;
     seen = only.seen;
     done = only.done;
+    answers = only.answers;
     charged = only.charged;
   })

@@ -1,5 +1,5 @@
 -- What the calls of a session do, and what they leave of what the session knows.
-use Rattle.std.specs.Prelude.{◌≡◌, ◌<◌, ◌≤◌, ℕ, Bool, true, false, List, [], ◌∷◌, length, Option, Some, None, Err}
+use Rattle.std.specs.Prelude.{◌≡◌, ◌<◌, ◌≤◌, ℕ, Bool, true, false, List, [], ◌∷◌, length, map, Option, Some, None, Err}
 use Rattle.mq_blocks.specs.Drive.{PortState}
 use Rattle.mq_blocks.specs.Geometry.{area_of, write_limit}
 use Rattle.mq_blocks.specs.declared.geometry.Geometry.{Geometry}
@@ -8,13 +8,20 @@ use Rattle.mq_checkpoint.specs.declared.refusal.CheckpointRefusal.{CheckpointRef
 use Rattle.mq_checkpoint.specs.declared.refusal.CheckpointRefusal.TheVariants as checkpoint
 use Rattle.mq_drive.specs.Steps.{Fault}
 use Rattle.mq_drive.specs.declared.port.Port.{Ghosts}
-use Rattle.mq_files.specs.Entries.{freed_by, written_by}
+use Rattle.mq_exec.specs.declared.outcome.Done.{Done}
+use Rattle.mq_files.specs.Entries.{Changes, freed_by, written_by}
 use Rattle.mq_files.specs.Group.{file_group}
+use Rattle.mq_files.specs.Plans.{DoneOn, planned_by}
 use Rattle.mq_files.specs.declared.entry.FileEntry.{FileEntry}
+use Rattle.mq_files.specs.declared.entry.Reads.{Reads as WordsRead}
 use Rattle.mq_journal.specs.Draining.{report_of}
 use Rattle.mq_journal.specs.Numbers.{Seat, Shared, WasCut, reported}
+use Rattle.mq_ledger.specs.KnownJournal.{front}
+use Rattle.mq_pages.specs.declared.page.Write.{Write}
 use Rattle.mq_revoke.specs.Placed.{Placed}
-use Rattle.mq_rules.specs.Rule.{IsSide}
+use Rattle.mq_revoke.specs.Placing.{IsPlacement}
+use Rattle.mq_revoke.specs.declared.placement.Planned.{Planned}
+use Rattle.mq_rules.specs.Rule.{IsOk, IsSide, core_of, history_of, map_now, start_of}
 use Rattle.mq_side.specs.Commits.{NumberedCommit}
 use Rattle.mq_side.specs.Drained.{DrainCause, Drains}
 use Rattle.mq_side.specs.Side.{side_state}
@@ -27,7 +34,8 @@ use Rattle.mq_side.specs.declared.answers.Why.{Why}
 use Rattle.mq_side.specs.declared.side.QueueSide.{QueueSide}
 use Rattle.mq_tree.specs.declared.request.Reply.{Reply}
 use Rattle.mq_tree.specs.declared.request.Request.{Request}
-use Rattle.mq_turns.specs.Meaning.{newest}
+use Rattle.mq_turns.specs.Lists.{Each}
+use Rattle.mq_turns.specs.Meaning.{IsAt, newest}
 use Rattle.mq_turns.specs.declared.rule.Answer.TheVariants.{Base, Front}
 use Rattle.mq_turns.specs.declared.rule.Report.{Report}
 use Rattle.mq_turns.specs.declared.rule.Report.TheVariants as report
@@ -125,26 +133,19 @@ module _ {P : Type 0} {G : Ghosts P} where
     pub above : limit < count
 
 module _ {P : Type 0} {G : Ghosts P} (state : P → PortState) (faults : P → List Fault) where
-  -- This was known on the session's desk, when all that the session had seen was.
+  -- This may have been known on the session's desk from then on: it is by the rule of the desk, no number that the session
+  -- had seen or been told is above it, and each group that the session had drawn is in it with its number.
   pub record IsKnownFrom (v : Seat P FileEntry G) (K : Shared P FileEntry G) : Type 0 where
     pub opening : v.opening ≡ Some K.opening
+    pub ok : IsOk (file_values state faults) file_group K
     pub seen : v.seen ≤ newest K
+    pub drew : Each (λ d. IsAt K.opening.base K.log d.0 d.1) v.drawn
 
   -- By what was known since then, a side that the session held is what lies there; it had kept the failure that is named,
   -- or its drain came to this refusal.
   pub data IsCaused (v : Seat P FileEntry G) (q : ℕ) : Cause → Type 0 where
     kept : {tx : ℕ} {why : Why} (K : Shared P FileEntry G) (s : QueueSide P FileEntry G) → IsKnownFrom v K → IsSide (file_values state faults) file_group q K s → s.kept ≡ Some (tx, why) → IsCaused v q (Stopped tx why)
     drained : {c : Cause} (K : Shared P FileEntry G) (s after : QueueSide P FileEntry G) → IsKnownFrom v K → IsSide (file_values state faults) file_group q K s → Drains (side_state state faults s) (Err c) (side_state state faults after) → DrainCause (Err c) (faults s.pmr.port) (faults after.pmr.port) → IsCaused v q c
-
-  -- A plan does not fit the journal area of the queue's side, by a base and beside what the side stores.
-  pub record LacksArea (v : Seat P FileEntry G) (q : ℕ) : Type 0 where
-    pub known : Shared P FileEntry G
-    pub from : IsKnownFrom v known
-    pub side : QueueSide P FileEntry G
-    pub is : IsSide (file_values state faults) file_group q known side
-    pub base : ℕ
-    pub plan : Placed
-    pub lacks : FitIs (area_of side.pmr.geometry) base (rows_of side.stored.items) (state side.pmr.port) plan Area
 
   -- A port's refusal before the group drew a number. It is charged to the port of the queue, and nothing else is.
   pub record Refuses (q : ℕ) (c : Cause) (old new : Seat P FileEntry G) : Type 0 where
@@ -176,31 +177,59 @@ module _ {P : Type 0} {G : Ghosts P} (state : P → PortState) (faults : P → L
 
   -- ---- a call whose plan did not fit the journal area
 
+  -- what the rule of placing asks of writes, on the map and the transactions of what is known
+  abbrev pub planned_at : Shared P FileEntry G → List Write → List Planned
+  planned_at K writes = map (planned_by (start_of (file_values state faults) file_group K.opening) K.opening.base (history_of (file_values state faults) file_group K)) writes
+
+  -- On the map at the newest number of what was known, the group of the call comes to this: it changes something, and writes
+  -- no more than a transaction may. The rule places what it writes so, by a front and a base that had been read.
+  pub record IsPlacedAt (g : Geometry) (c : Call) (K : Shared P FileEntry G) (reads : WordsRead) (plan : Placed) : Type 0 where
+    pub done : Done
+    pub does : DoneOn g c.session (map_now (file_values state faults) file_group K) c.requests done
+    pub changes : Changes done.writes.items done.frees.items
+    pub few : length done.writes.items ≤ write_limit g
+    pub front_low : reads.front ≤ front (core_of (file_values state faults) file_group K)
+    pub base_low : reads.base ≤ K.word
+    pub placed : IsPlacement g c.session reads.front reads.base (planned_at K done.writes.items) plan
+
+  -- The plan of the call's group, by the front and the base that the call was answered, does not fit the journal area of its
+  -- queue: by that base there is no room for it beside what the side stores, which the session held.
+  pub record LacksArea (g : Geometry) (c : Call) (old new : Seat P FileEntry G) : Type 0 where
+    pub known : Shared P FileEntry G
+    pub from : IsKnownFrom old known
+    pub reads : WordsRead
+    pub answers : new.reading.answers ≡ Base reads.base ∷ Front reads.front ∷ old.reading.answers
+    pub plan : Placed
+    pub placed : IsPlacedAt g c known reads plan
+    pub side : QueueSide P FileEntry G
+    pub is : IsSide (file_values state faults) file_group c.session known side
+    pub lacks : FitIs (area_of g) reads.base (rows_of side.stored.items) (state side.pmr.port) plan Area
+
   -- The plan of the group does not fit the area of its queue. Nothing was drawn, read or reported.
-  pub record IsAreaFull (c : Call) (old new : Seat P FileEntry G) : Type 0 where
+  pub record IsAreaFull (g : Geometry) (c : Call) (old new : Seat P FileEntry G) : Type 0 where
     pub keeps : KeepsAll old new
-    pub lacks : LacksArea old c.session
+    pub lacks : LacksArea g c old new
 
   -- So a checkpoint was made, and has raised the base.
-  pub record MadeRoom (c : Call) (old new : Seat P FileEntry G) : Type 0 where
+  pub record MadeRoom (g : Geometry) (c : Call) (old new : Seat P FileEntry G) : Type 0 where
     pub between : Seat P FileEntry G
-    pub full : IsAreaFull c old between
+    pub full : IsAreaFull g c old between
     pub base : ℕ
     pub raises : Raises state faults file_group base between new
 
   -- where the group was run that is answered: at once, or once more after a checkpoint
-  pub data Begins (c : Call) (old : Seat P FileEntry G) : Seat P FileEntry G → Type 0 where
-    at_once : Begins c old old
-    again : {new : Seat P FileEntry G} → MadeRoom c old new → Begins c old new
+  pub data Begins (g : Geometry) (c : Call) (old : Seat P FileEntry G) : Seat P FileEntry G → Type 0 where
+    at_once : Begins g c old old
+    again : {new : Seat P FileEntry G} → MadeRoom g c old new → Begins g c old new
 
   -- The group is a commit in the history at the number, and rung; or it is a read there.
   pub record HasActed (g : Geometry) (c : Call) (at : ℕ) (drew : Bool) (replies : List Reply) (old new : Seat P FileEntry G) : Type 0 where
     pub from : Seat P FileEntry G
-    pub begins : Begins c old from
+    pub begins : Begins g c old from
     pub acts : Acts g c at drew replies from new
 
   -- Why `fatomic` refuses a group, with the number that the group had drawn, and what that leaves: the group was turned
   -- down; or its plan did not fit the journal area, and the checkpoint was refused.
   pub data IsRefused (g : Geometry) (c : Call) (old new : Seat P FileEntry G) : CallCause → Option ℕ → Type 0 where
-    turned_down : {why : CallCause} {drawn : Option ℕ} {from : Seat P FileEntry G} → Begins c old from → IsTurnedDown g c from new why drawn → IsRefused g c old new why drawn
-    no_room : (why : CheckpointRefusal) {between : Seat P FileEntry G} → IsAreaFull c old between → HasRefused state faults file_group why between new → IsRefused g c old new (cause_of why) None
+    turned_down : {why : CallCause} {drawn : Option ℕ} {from : Seat P FileEntry G} → Begins g c old from → IsTurnedDown g c from new why drawn → IsRefused g c old new why drawn
+    no_room : (why : CheckpointRefusal) {between : Seat P FileEntry G} → IsAreaFull g c old between → HasRefused state faults file_group why between new → IsRefused g c old new (cause_of why) None

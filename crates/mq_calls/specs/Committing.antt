@@ -29,7 +29,7 @@ use Rattle.mq_turns.specs.Lists.{tick, times}
 use Rattle.mq_turns.specs.declared.rule.Answer.TheVariants.{Base, Front}
 use Rattle.mq_turns.specs.declared.rule.Charge.{Charge}
 use Rattle.mq_turns.specs.declared.turn.Turn.TheVariants.{Side}
-use Rattle.mq_calls.specs.Acts.{Call, IsAreaFull, IsCaused, IsTurnedDown}
+use Rattle.mq_calls.specs.Acts.{Call, IsAreaFull, IsCaused, IsTurnedDown, LacksArea}
 use Rattle.mq_calls.specs.Calling.{IsEntryFor}
 use Rattle.mq_calls.specs.Pages.{HoldsPages, IsSeen}
 use Rattle.mq_calls.specs.Runs.{files}
@@ -65,7 +65,7 @@ module _ {P : Type 0} {G : Ghosts P} where
     pub base : reads.base ≤ new.reading.base
 
   -- Of all but its turns and what it knows of words, this alone has changed: what it reported. What it knows of numbers
-  -- has not fallen.
+  -- has not fallen, and it was answered nothing more.
   pub record OnlyReports (reports : List Charge) (old new : Seat P FileEntry G) : Type 0 where
     pub parts : new.parts ≡ old.parts
     pub opening : new.opening ≡ old.opening
@@ -74,6 +74,7 @@ module _ {P : Type 0} {G : Ghosts P} where
     pub read : new.read ≡ old.read
     pub seen : old.seen ≤ new.seen
     pub done : old.reading.done ≤ new.reading.done
+    pub answers : new.reading.answers ≡ old.reading.answers
     pub charged : new.reading.charged ≡ reports
 
 module _ {P : Type 0} {G : Ghosts P} (state : P → PortState) (faults : P → List Fault) where
@@ -97,18 +98,30 @@ module _ {P : Type 0} {G : Ghosts P} (state : P → PortState) (faults : P → L
     pub reserved : vec_len s.stored < vec_capacity s.stored
     pub none : s.kept ≡ None
 
-  -- Why it is not, and what stands behind that: the plan of the call does not fit the journal area of the queue; or the
-  -- side shows what will be reported of its port, and had come to it in hand.
-  abbrev pub IsLacking : Start P FileEntry G → (queue : ℕ) → QueueSide P FileEntry G → Seat P FileEntry G → Lack → Type 0
-  IsLacking o q s v lack.Memory = Unit {0}
-  IsLacking o q s v lack.Area =
-      (base : ℕ) × (plan : Placed) × FitIs (area_of s.pmr.geometry) base (rows_of s.stored.items) (state s.pmr.port) plan Area
-  IsLacking o q s v (lack.Drive cause) = ShowsReport state faults file_group q (report_of cause) s v × IsCaused state faults v q cause
+  -- Why the side of the queue has no room for what is placed so: by this base it does not fit the journal area; or the side
+  -- shows what will be reported of its port, and had come to it in hand. No memory is taken.
+  abbrev pub LacksRoom : (queue base : ℕ) → Placed → QueueSide P FileEntry G → Seat P FileEntry G → Lack → Type 0
+  LacksRoom q base plan s v lack.Memory = ⊥
+  LacksRoom q base plan s v lack.Area = FitIs (area_of s.pmr.geometry) base (rows_of s.stored.items) (state s.pmr.port) plan Area
+  LacksRoom q base plan s v (lack.Drive cause) = ShowsReport state faults file_group q (report_of cause) s v × IsCaused state faults v q cause
+
+  -- Why the commit of the call is not prepared, and what stands behind that: the plan of its group does not fit the journal
+  -- area of the queue; or the side shows what will be reported of its port, and had come to it in hand.
+  abbrev pub IsLacking : Geometry → Call → (old : Seat P FileEntry G) → QueueSide P FileEntry G → Seat P FileEntry G → Lack → Type 0
+  IsLacking g c old s v lack.Memory = Unit {0}
+  IsLacking g c old s v lack.Area = LacksArea state faults g c old v
+  IsLacking g c old s v (lack.Drive cause) = ShowsReport state faults file_group c.session (report_of cause) s v × IsCaused state faults v c.session cause
+
+  -- The side shows what will be reported of its port.
+  abbrev pub ShowsLack : (queue : ℕ) → QueueSide P FileEntry G → Seat P FileEntry G → Lack → Type 0
+  ShowsLack q s v lack.Memory = Unit {0}
+  ShowsLack q s v lack.Area = Unit {0}
+  ShowsLack q s v (lack.Drive cause) = ShowsReport state faults file_group q (report_of cause) s v
 
   -- Why a group that was run on its pages was not done, and what that leaves: its plan did not fit the journal area, or it
   -- was turned down.
   abbrev pub IsMissed : Geometry → Call → Seat P FileEntry G → Seat P FileEntry G → Miss → Type 0
-  IsMissed g c old new miss.AreaFull = IsAreaFull state faults c old new
+  IsMissed g c old new miss.AreaFull = IsAreaFull state faults g c old new
   IsMissed g c old new (miss.Refused r) = IsTurnedDown state faults g c old new r.cause r.drawn
 
 -- what is answered where a group is not drawn for this

@@ -99,12 +99,12 @@ impl<P: Port + Drop> Mqfs<P> {
         ensures calls { session.new.calls ≡ session.old.calls }
         ensures goes { GoesOn (view session.old.chair) (view session.new.chair) }
         ensures acts { IfOk result (λ a. (first : _)
-            → IsAreaFull P.state P.faults (call_of asked.now) first (view session.old.chair)
+            → IsAreaFull P.state P.faults self.now.geometry (call_of asked.now) first (view session.old.chair)
             → HasActed P.state P.faults self.now.geometry (call_of asked.now) a.at a.drew a.replies.items
             first (view session.new.chair)) }
         ensures seen { IfOk result (λ a. a.at ≤ (view session.new.chair).seen) }
         ensures refused { IfErr result (λ r. (first : _)
-            → IsAreaFull P.state P.faults (call_of asked.now) first (view session.old.chair)
+            → IsAreaFull P.state P.faults self.now.geometry (call_of asked.now) first (view session.old.chair)
             → IsRefused P.state P.faults self.now.geometry (call_of asked.now)
             first (view session.new.chair) r.cause r.drawn) }
     {

@@ -7,7 +7,7 @@ ghost use Rattle.mq_turns.specs.Desk.{allotment};
 ghost use Rattle.mq_turns.specs.declared.rule.Report.TheVariants as report;
 ghost use Rattle.mq_calls.specs.Acts.{GoesOn, WasCutAt};
 ghost use Rattle.mq_calls.specs.Calling.{IsAsking, call_of};
-ghost use Rattle.mq_calls.specs.Committing.{HoldsCommit, IsLacking, IsMissed, IsPrepared, OnlyReports, miss_for, reports_for};
+ghost use Rattle.mq_calls.specs.Committing.{HoldsCommit, IsMissed, IsPrepared, OnlyReports, ShowsLack, miss_for, reports_for};
 ghost use Rattle.mq_calls.specs.Drawing.{HasDrawn, IsCommitted, SameSeat};
 ghost use Rattle.mq_calls.specs.Pages.{HoldsOnlyPages, IsSeen};
 ghost use Rattle.mq_calls.specs.Runs.{IsDoneOnCells, files, geometry_at};
@@ -83,7 +83,7 @@ fn give_side<P: Port + Drop>(
     requires at { AtDesk desk.now chair.old }
     requires holds { HoldsCommit P.state P.faults (start_of desk.now) side.pmr.queue held.now.cells
         side (view chair.old) }
-    requires lacks { IsLacking P.state P.faults (start_of desk.now) side.pmr.queue side (view chair.old) lack.now }
+    requires shows { ShowsLack P.state P.faults side.pmr.queue side (view chair.old) lack.now }
     ensures at { AtDesk desk.now chair.new }
     ensures pages { HoldsOnlyPages (files P.state P.faults) (start_of desk.now) held.now.cells (view chair.new) }
     ensures reports { OnlyReports (reports_for side.pmr.queue lack.now (view chair.old).reading.charged)
@@ -108,7 +108,7 @@ fn give_up<P: Port + Drop>(
     requires at { AtDesk desk.now chair.old }
     requires holds { HoldsCommit P.state P.faults (start_of desk.now) side.pmr.queue held.old.cells
         side (view chair.old) }
-    requires lacks { IsLacking P.state P.faults (start_of desk.now) side.pmr.queue side (view chair.old) lack.now }
+    requires shows { ShowsLack P.state P.faults side.pmr.queue side (view chair.old) lack.now }
     ensures at { AtDesk desk.now chair.new }
     ensures idle { (view chair.new).held ≡ [] }
     ensures reports { OnlyReports (reports_for side.pmr.queue lack.now (view chair.old).reading.charged)

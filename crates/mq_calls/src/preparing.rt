@@ -11,7 +11,7 @@ ghost use Rattle.mq_side.specs.Stored.{FitIs, IsBounded, rows_of};
 ghost use Rattle.mq_side.specs.declared.answers.Fit.TheVariants.{Yes};
 ghost use Rattle.mq_turns.specs.AtDesk.{AtDesk, start_of, view};
 ghost use Rattle.mq_calls.specs.Calling.{IsAsking, IsEntryFor, call_of};
-ghost use Rattle.mq_calls.specs.Committing.{HasRead, HoldsCommit, IsLacking, IsPlacedOn, IsPrepared, ReadsWords};
+ghost use Rattle.mq_calls.specs.Committing.{HasRead, HoldsCommit, IsLacking, IsPlacedOn, IsPrepared, LacksRoom, ReadsWords};
 ghost use Rattle.mq_calls.specs.Pages.{IsSeen};
 ghost use Rattle.mq_calls.specs.Preparing.{IsEntryReady, IsSideOf, KeepsSide, cause_kept};
 ghost use Rattle.mq_calls.specs.Runs.{IsDoneOnCells, files, geometry_at};
@@ -95,7 +95,7 @@ fn make_room<P: Port + Drop>(
     ensures none { OnOk result (side.new.kept ≡ None) }
     ensures fits { OnOk result (FitIs (area_of side.new.pmr.geometry) base
         (rows_of side.new.stored.items) (P.state side.new.pmr.port) plan.now Yes) }
-    ensures lacks { IfErr result (IsLacking P.state P.faults (start_of desk.now) side.old.pmr.queue
+    ensures lacks { IfErr result (LacksRoom P.state P.faults side.old.pmr.queue base plan.now
         side.new (view chair.now)) }
 {
     match side.fits(plan, base) {
@@ -171,8 +171,8 @@ pub(crate) fn make_ready<P: Port + Drop>(
         side.new (view chair.new) }
     ensures ready { IfOk result (IsPrepared P.state P.faults (start_of desk.now) (call_of asked.now) done.now
         into.new (view chair.old) side.new (view chair.new)) }
-    ensures lacks { IfErr result (IsLacking P.state P.faults (start_of desk.now) asked.now.queue
-        side.new (view chair.new)) }
+    ensures lacks { IfErr result (IsLacking P.state P.faults side.old.pmr.geometry (call_of asked.now)
+        (view chair.old) side.new (view chair.new)) }
 {
     if let Some(cause) = kept_cause(side) {
         return Err(Lack::Drive(cause));

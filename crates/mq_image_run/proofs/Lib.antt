@@ -1,0 +1,3 @@
+pub mod Mounting
+pub mod Ended
+pub mod Limited

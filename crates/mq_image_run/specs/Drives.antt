@@ -8,6 +8,7 @@ use Rattle.mq_calls.specs.Opening.{MayOpen}
 use Rattle.mq_drive.specs.Emu.{emu_faults, emu_state, executed_of}
 use Rattle.mq_drive.specs.Happened.{happened_in}
 use Rattle.mq_drive.specs.Limits.{fails_by}
+use Rattle.mq_drive.specs.contracts.emu.EmuPortPort.TheImpl.{ghosts}
 use Rattle.mq_drive.specs.declared.emu.EmuPort.{EmuPort}
 use Rattle.mq_drive.specs.declared.port.Port.{Ghosts}
 use Rattle.mq_drive.specs.declared.port.Ports.{Ports}
@@ -42,13 +43,16 @@ events_on ports = total (λ p. happened_in (emu_state p) (emu_faults p)) ports
 
 -- ---- a whole drive
 
+-- what a port in memory stands for, as any port does
+abbrev pub emu_ghosts : Ghosts EmuPort
+emu_ghosts = ghosts
+
 -- The scripts were run over these ports and over what stands on them; without a cut the run ended with a checkpoint. The
 -- ports that came back are those of the drive still, each with its fuse and its failing command. Then the power of all of
 -- them was cut.
 pub record HasDriven (g : Geometry) (ports : Ports EmuPort) (standing : Standing) (scripts : List Script) (o : RunOptions) (d : Driven) : Type 0 where
   pub end : RunEnd EmuPort
-  pub ghosts : Ghosts EmuPort
-  pub ran : HasRunScripts ghosts emu_state emu_faults g ports standing scripts (is_none o.cut) end
+  pub ran : HasRunScripts emu_ghosts emu_state emu_faults g ports standing scripts (is_none o.cut) end
   pub same_ports : ArePorts g (drive_of emu_state end.ports)
   pub bounds : AreBoundsKept g (drive_of emu_state ports) (drive_of emu_state end.ports)
   pub entries : d.entries ≡ end.entries

@@ -1,5 +1,5 @@
 // The drive on which scripts are run, from its start to the cut of its power.
-ghost use Rattle.std.specs.Prelude.{◌≡◌, ◌≢◌, ◌⊎◌, ◌+◌, ◌≤◌, IfErr, IfOk, IsTrue, None, length};
+ghost use Rattle.std.specs.Prelude.{◌≡◌, ◌+◌, ◌≤◌, ◌^◌, IfErr, IfOk, None, length};
 ghost use Rattle.std.specs.List.{All};
 ghost use Rattle.mq_blocks.specs.Geometry.{queues_of};
 ghost use Rattle.mq_drive.specs.Seats.{name_of};
@@ -81,7 +81,7 @@ fn run_ports<R: Threads + Wait + Sync, G: Gate + Sync>(
     requires base { standing.base ≤ 2 ^ 62 }
     requires scripts { (1 ≤ length scripts.now) × (length scripts.now ≤ queues_of geometry) }
     requires short { All (λ s. IsShort s.groups) scripts.now }
-    ensures { IfOk result (HasDriven geometry ports standing scripts.now options) }
+    ensures { IfOk result (HasDriven geometry ports.entry standing scripts.now options) }
 {
     let finish = options.cut.is_none();
     let end = match run_scripts(rt, alloc, geometry, ports, standing, scripts, finish, gate) {

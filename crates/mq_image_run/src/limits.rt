@@ -1,15 +1,12 @@
 // What is tested before a run.
-ghost use Rattle.std.specs.Prelude.{◌≡◌, ◌⊎◌, ◌<◌, ◌≤◌, ℕ, IfErr, IsTrue, OnOk, slice_index_or};
+ghost use Rattle.std.specs.Prelude.{IsTrue, MatchOption};
 ghost use Rattle.std.specs.List.{All};
-ghost use Rattle.mq_blocks.specs.Geometry.{queues_of};
 ghost use Rattle.mq_image.specs.Drives.{IsDrive};
-ghost use Rattle.mq_image_run.specs.Limits.{AreWithin, IsFirstAbove, run_limit};
+ghost use Rattle.mq_image_run.specs.Limits.{AreWithin, IsFirstAbove};
 ghost use Rattle.mq_run.specs.Playing.{IsShort};
 
 use mq_blocks::TxNo;
 use mq_image::DriveImage;
-use mq_images::StandingRefusal;
-use mq_recover::ImageFault;
 use mq_script::Script;
 
 /// A run begins with no number and no doorbell above this one, so that none of its own outgrows the journal's.
@@ -42,28 +39,20 @@ pub fn are_short(scripts: &[Script]) -> bool
     true
 }
 
-// A number that is above the limit of a run.
-fn check_number(number: u64) -> Result<(), StandingRefusal>
-    ensures ok { OnOk result (number ≤ run_limit) }
-    ensures err { IfErr result (λ e. (run_limit < number) × (e ≡ StandingRefusal.Image (ImageFault.Limit number))) }
-{
-    if number > RUN_LIMIT {
-        return Err(StandingRefusal::Image(ImageFault::Limit { base: number }));
-    }
-    Ok(())
-}
-
-/// Tests the base that a recovery found, and then the doorbell of each queue.
-pub fn check_limits(image: &DriveImage, base: TxNo) -> Result<(), StandingRefusal>
+/// The base that a recovery found, where it is above the limit of a run, and else the doorbell of the first queue where
+/// that is.
+pub fn first_above(image: &DriveImage, base: TxNo) -> Option<u64>
     requires { IsDrive image.now }
-    ensures ok { OnOk result (AreWithin image.now base) }
-    ensures err { IfErr result (λ e. (n : ℕ)
-        × IsFirstAbove image.now base n
-        × (e ≡ StandingRefusal.Image (ImageFault.Limit n))) }
+    ensures { MatchOption result (AreWithin image.now base) (IsFirstAbove image.now base) }
 {
-    check_number(base.0)?;
-    for q in 0..image.geometry.queues() {
-        check_number(image.ports[q as usize].doorbell)?;
+    if base.0 > RUN_LIMIT {
+        return Some(base.0);
     }
-    Ok(())
+    for q in 0..image.geometry.queues() {
+        let doorbell = image.ports[q as usize].doorbell;
+        if doorbell > RUN_LIMIT {
+            return Some(doorbell);
+        }
+    }
+    None
 }

@@ -1,19 +1,21 @@
 // A run on an image.
-ghost use Rattle.std.specs.Prelude.{◌≡◌, ◌≤◌, ◌^◌, IfErr, IfOk, length};
+ghost use Rattle.std.specs.Prelude.{◌≡◌, ◌≤◌, ◌^◌, IfErr, IfOk, None, length};
 ghost use Rattle.std.specs.Option.{ForSome};
 ghost use Rattle.mq_blocks.specs.Geometry.{queues_of};
 ghost use Rattle.mq_image.specs.Drives.{IsDrive};
+ghost use Rattle.mq_image_run.specs.Limits.{AreWithin};
 ghost use Rattle.mq_image_run.specs.Refusals.{RefusesRun, refusal_for};
 ghost use Rattle.mq_image_run.specs.Runs.{IsRunOf};
+ghost use Rattle.mq_images.specs.Recovering.{IsRecoveryOf};
 
 use crate::driving::{Driven, run_drive};
 use crate::ending::last_of;
-use crate::limits::{are_short, check_limits};
+use crate::limits::{are_short, first_above};
 use crate::options::RunOptions;
 use crate::ran::ImageRun;
 use mq_calls::Gate;
 use mq_image::DriveImage;
-use mq_images::{CutDrive, StandingRefusal, drive_power, recover_image};
+use mq_images::{CutDrive, RecoveredImage, StandingRefusal, drive_power, recover_image};
 use mq_recover::ImageFault;
 use mq_script::Script;
 use std::alloc::Global;
@@ -27,6 +29,22 @@ fn not_readable(fault: ImageFault) -> StandingRefusal
     match fault {
         ImageFault::OutOfMemory => StandingRefusal::OutOfMemory,
         fault => StandingRefusal::Image(fault),
+    }
+}
+
+// Recovers an image whole, and tests that its numbers are within the limits of a run.
+fn recover_within(alloc: Global, image: DriveImage, pick: u64) -> Result<RecoveredImage, StandingRefusal>
+    requires { IsDrive image }
+    ensures ok { IfOk result (λ r. IsRecoveryOf image None r × AreWithin image r.found.base) }
+    ensures refused { IfErr result (RefusesRun image) }
+{
+    let recovered = match recover_image(alloc, image, None, pick) {
+        Ok(recovered) => recovered,
+        Err(fault) => return Err(not_readable(fault)),
+    };
+    match first_above(&recovered.image, recovered.found.base) {
+        Some(base) => Err(StandingRefusal::Image(ImageFault::Limit { base })),
+        None => Ok(recovered),
     }
 }
 
@@ -51,12 +69,8 @@ pub fn run_image<R: Threads + Wait + Sync, G: Gate + Sync>(
         return Err(StandingRefusal::OutOfMemory);
     }
     let geometry = image.geometry;
-    let recovered = match recover_image(alloc, image, None, options.pick) {
-        Ok(recovered) => recovered,
-        Err(fault) => return Err(not_readable(fault)),
-    };
+    let recovered = recover_within(alloc, image, options.pick)?;
     let base = recovered.found.base;
-    check_limits(&recovered.image, base)?;
     let (fuse, seats) = drive_power(alloc, geometry, options.cut)?;
     let driven = run_drive(
         rt, alloc, &fuse, seats, recovered, scripts, options, gate,

@@ -201,7 +201,7 @@ module _ (g : Geometry) (ports : Ports EmuPort) (count : length ports.queues.ite
   abbrev row_drive : DriveState
   row_drive = drive_of emu_state ports
 
-  row-long : length (row_of ports) ≡ g.queues + 1
+  pub row-long : length (row_of ports) ≡ g.queues + 1
   row-long = length-append ports.queues.items (ports.root ∷ []) ∙ ap (λ (k : ℕ). k + 1) count
 
   row-queue : (q : ℕ) (d : PortState) → q < g.queues → get_or (map emu_state (row_of ports)) q d ≡ port_at row_drive.queues q
@@ -224,7 +224,7 @@ module _ (g : Geometry) (ports : Ports EmuPort) (count : length ports.queues.ite
       ∙ ap (λ (k : ℕ). get_or (row_drive.root ∷ []) k d) (let e : g.queues - g.queues ≡ 0 = omega arith in e)
 
   -- what holds of each queue's port and of the root's holds of each in the row
-  row-each : (P : PortState → Type 0) → ((z : Option ℕ) → IsZone g z → P (port_in row_drive z)) → (k : ℕ) (d : PortState) → k < length (row_of ports) → P (get_or (map emu_state (row_of ports)) k d)
+  pub row-each : (P : PortState → Type 0) → ((z : Option ℕ) → IsZone g z → P (port_in row_drive z)) → (k : ℕ) (d : PortState) → k < length (row_of ports) → P (get_or (map emu_state (row_of ports)) k d)
   row-each P holds k d low = elim (cases_lt k g.queues) [
     | inl less ↦ subst P (sym (row-queue k d less)) (holds (Some k) less)
     | inr high ↦

@@ -10,7 +10,7 @@ use Rattle.mq_blocks.specs.Journal.{Shown, stands}
 use Rattle.mq_blocks.specs.Machine.{Map}
 use Rattle.mq_blocks.specs.declared.geometry.Geometry.{Geometry}
 use Rattle.mq_legal.proofs.Maps.{each-stands, laid-on}
-use Rattle.mq_legal.specs.Cuts.{AreStanding, IsClean, IsCut, StandsFor, Starts}
+use Rattle.mq_legal.specs.Cuts.{AreHomeContents, IsClean, IsCut, ShowsVolume, Starts}
 use Rattle.mq_legal.specs.Laws.{IsAtHome}
 use Rattle.mq_legal.specs.Legal.{newest, volume_at}
 use Rattle.mq_report.specs.Lines.{Line}
@@ -85,20 +85,20 @@ same-at g m v stored b h k (Some x) None e f =
     let w = h.vacant b f in
     absurd (true≢false (sym (p.marked w.0) ∙ marked-is g m v stored b h k w.0 p.home ∙ w.1))
 
-pub goes-on : (g : Geometry) (i : Shown) (ds : List Descriptor) (v : Volume) (stored : List (Option (List ℕ))) → StandsFor g i ds v → AreStanding g i ds stored → IsLaid g (map_of g stored) v
+pub goes-on : (g : Geometry) (i : Shown) (ds : List Descriptor) (v : Volume) (stored : List (Option (List ℕ))) → ShowsVolume g i ds v → AreHomeContents g i ds stored → IsLaid g (map_of g stored) v
 goes-on g i ds v stored s a =
     let k : (c : ℕ) (page : List ℕ) → s.map c ≡ Some page → block_at stored c ≡ page = λ c page e. a.each c (home-of g s.map v c page s.laid e) ∙ s.each c page e in
     laid-on g s.map (map_of g stored) v s.laid (λ b. sym (same-at g s.map v stored b s.laid k (map_of g stored b) (s.map b) refl refl))
 
 -- what is laid on the standing blocks stands
-laid-stands : (g : Geometry) (i : Shown) (ds : List Descriptor) (v : Volume) (stored : List (Option (List ℕ))) → AreStanding g i ds stored → IsLaid g (map_of g stored) v → StandsFor g i ds v
+laid-stands : (g : Geometry) (i : Shown) (ds : List Descriptor) (v : Volume) (stored : List (Option (List ℕ))) → AreHomeContents g i ds stored → IsLaid g (map_of g stored) v → ShowsVolume g i ds v
 laid-stands g i ds v stored a h = record { map = map_of g stored; laid = h; each = λ b page e. let p = mapped g stored b page e in sym (a.each b p.home) ∙ sym p.is }
 
 -- where these descriptors are read, the volume is the one that starts
-starts-from : (g : Geometry) (i : Shown) (ds : List Descriptor) (top base : ℕ) (v w : Volume) → IsRead g i ds top → StandsFor g i ds v → Starts g i base w → (top ≡ base) × (v ≡ w)
+starts-from : (g : Geometry) (i : Shown) (ds : List Descriptor) (top base : ℕ) (v w : Volume) → IsRead g i ds top → ShowsVolume g i ds v → Starts g i base w → (top ≡ base) × (v ≡ w)
 starts-from g i ds top base v w read s start =
     let e = read-same g i ds start.ds top base read start.read in
-    let t : StandsFor g i start.ds v = subst (λ es. StandsFor g i es v) e.0 s in
+    let t : ShowsVolume g i start.ds v = subst (λ es. ShowsVolume g i es v) e.0 s in
     (e.1, volume-once g (map_of g start.stored) v w (goes-on g i start.ds v start.stored t start.standing) start.laid)
 
 pub starts-once : (g : Geometry) (i : Shown) (base other : ℕ) (v w : Volume) → Starts g i base v → Starts g i other w → (base ≡ other) × (v ≡ w)

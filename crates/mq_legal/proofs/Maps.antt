@@ -7,7 +7,7 @@ use Rattle.mq_blocks.specs.Machine.{Map}
 use Rattle.mq_blocks.specs.declared.geometry.Geometry.{Geometry}
 use Rattle.mq_inodes.proofs.LocalOnce.{page-once, shown-vacant}
 use Rattle.mq_inodes.proofs.Sound.{sound-uses}
-use Rattle.mq_legal.specs.Cuts.{StandsFor}
+use Rattle.mq_legal.specs.Cuts.{ShowsVolume}
 use Rattle.mq_tree.proofs.Unique.{volume-once}
 use Rattle.mq_tree.specs.Laid.{IsLaid}
 use Rattle.mq_tree.specs.Volume.{Volume}
@@ -34,5 +34,5 @@ pub same-volume : (g : Geometry) (m n : Map) (v w : Volume) → IsLaid g m v →
 same-volume g m n v w h k e = volume-once g n v w (laid-on g m n v h e) k
 
 -- where the volume stands, each map of it does
-pub each-stands : (g : Geometry) (i : Shown) (ds : List Descriptor) (v : Volume) (m : Map) (b : ℕ) (page : List ℕ) → StandsFor g i ds v → IsLaid g m v → m b ≡ Some page → stands g i ds b ≡ page
+pub each-stands : (g : Geometry) (i : Shown) (ds : List Descriptor) (v : Volume) (m : Map) (b : ℕ) (page : List ℕ) → ShowsVolume g i ds v → IsLaid g m v → m b ≡ Some page → stands g i ds b ≡ page
 each-stands g i ds v m b page s h e = s.each b page (same-map g s.map m v s.laid h b ∙ e)

@@ -1,26 +1,28 @@
 -- The small run: it is legal, answered and cut; and what may not be told of it.
 use Rattle.std.proofs.Common.{◌≡◌, ◌≢◌, ◌∙◌, ℕ, zero, suc, ◌+◌, ◌<◌, ◌≤◌, inl, inr, Bool, true, false, List, [], ◌∷◌, length, refl, sym, ap, subst, lit≤, arith}
-use Rattle.std.specs.Prelude.{None, Result, Ok, Err, codes}
+use Rattle.std.specs.Prelude.{None, Some, Result, Ok, Err, codes}
 use Rattle.std.specs.List.{All, Contains}
 use Rattle.std.proofs.lemmas.Bool.{cases_eq, true≢false}
 use Rattle.mq_blocks.specs.Geometry.{homes_of, queues_of}
 use Rattle.mq_blocks.specs.Journal.{Shown}
 use Rattle.mq_blocks.specs.declared.geometry.Geometry.{Geometry}
 use Rattle.mq_calls.specs.Asking.{IsFirstChange, refusal_at}
-use Rattle.mq_calls.specs.declared.answers.CallCause.TheVariants.{TooLarge}
+use Rattle.mq_calls.specs.declared.answers.CallCause.TheVariants.{Drive, TooLarge}
 use Rattle.mq_calls.specs.declared.answers.Refusal.{Refusal}
 use Rattle.mq_layout.specs.Names.{is_name}
 use Rattle.mq_legal.proofs.Moving.{sound-writes, writes-few}
 use Rattle.mq_legal.proofs.Starting.{run-ends}
-use Rattle.mq_legal.specs.Answers.{AreAnswered, AreCaused, IsAcknowledged, IsCaused, IsLarge, IsOf, IsPrefixAnswered, group_told, Names as NamesLine, number_in}
+use Rattle.mq_legal.specs.Answers.{AreAnswered, AreCaused, IsAcknowledged, IsCaused, IsLarge, IsOf, IsPrefixAnswered, IsRefusedFor, group_told, Names as NamesLine, number_in}
 use Rattle.mq_legal.specs.Cuts.{IsClean, IsCut, IsRung}
 use Rattle.mq_legal.specs.Groups.{IsGroup}
 use Rattle.mq_legal.specs.Legal.{IsLegal, IsRun, IsStep, Writes, WritesFew, next, number_after}
-use Rattle.mq_legal.specs.SmallRun.{as_changing, as_large, as_read, asking, asking_scripts, directory, only_asking, requests, small_answers, small_line, small_lines, small_scripts, small_told, swapped, two, well_asked}
+use Rattle.mq_legal.specs.SmallRun.{as_changing, as_failed, as_large, as_read, asking, asking_scripts, directory, only_asking, requests, small_answers, small_line, small_lines, small_scripts, small_told, stopped_ask, swapped, two, well_asked}
 use Rattle.mq_report.specs.Lines.{Line}
 use Rattle.mq_report.specs.declared.line.Told.{Told}
 use Rattle.mq_script.specs.Scripts.{Script}
 use Rattle.mq_script.specs.declared.group.End.TheVariants.{Ask, Fsync}
+use Rattle.mq_side.specs.declared.answers.Cause.TheVariants.{Failed, Stopped}
+use Rattle.mq_side.specs.declared.answers.Why.{Why}
 use Rattle.mq_tree.proofs.Empties.{empty-sound}
 use Rattle.mq_tree.proofs.KeepSteps.{group-sound}
 use Rattle.mq_tree.specs.Empty.{empty_volume}
@@ -127,14 +129,14 @@ small-answered = record {
 not-ask : Fsync ≢ Ask
 not-ask e = absurd (cc)
 
-told-caused : (ls : List Line) → IsCaused two small_scripts empty 0 ls small_told
-told-caused ls = record {
+told-caused : (ls : List Line) (reached : ℕ) → IsCaused two small_scripts empty 0 ls reached small_told
+told-caused ls reached = record {
   refused = λ r e. absurd (cc);
   changing = λ index changing. absurd (not-ask changing.asks);
 }
 
-pub small-caused : AreCaused two small_scripts empty 0 small_lines small_answers
-small-caused t c = subst (λ (x : Told). IsCaused two small_scripts empty 0 small_lines x) (one small_told t c) (told-caused small_lines)
+pub small-caused : AreCaused two small_scripts empty 0 small_lines 1 small_answers
+small-caused t c = subst (λ (x : Told). IsCaused two small_scripts empty 0 small_lines 1 x) (one small_told t c) (told-caused small_lines 1)
 
 -- ---- it is cut
 
@@ -212,19 +214,36 @@ pub no-swap : IsRun two asking_scripts empty 0 (swapped ∷ []) → ⊥
 no-swap run = true≢false (sym (ap counts_second (run.0.answered ∙ asked)))
 
 -- a large group
-pub no-large : (ls : List Line) (count : ℕ) → IsCaused two small_scripts empty 0 ls (as_large count) → ⊥
-no-large ls count h =
+pub no-large : (ls : List Line) (reached count : ℕ) → IsCaused two small_scripts empty 0 ls reached (as_large count) → ⊥
+no-large ls reached count h =
     let is : IsLarge two small_scripts empty 0 ls (as_large count) count = (h.refused (record { cause = TooLarge count 1000; drawn = None }) refl).cause_is.0 in
     let few = writes-few two _ _ count is.writes in
     let homes = homes-few in
     let many : 1000 < count = is.many in
     absurd (omega (arith, few, homes, many))
 
-pub no-changing : (ls : List Line) (index : ℕ) → IsCaused two small_scripts empty 0 ls (as_changing index) → ⊥
-no-changing ls index h = not-ask (h.refused (refusal_at index) refl).cause_is.asks
+pub no-changing : (ls : List Line) (reached index : ℕ) → IsCaused two small_scripts empty 0 ls reached (as_changing index) → ⊥
+no-changing ls reached index h = not-ask (h.refused (refusal_at index) refl).cause_is.asks
 
 first-change : IsFirstChange asking 0
 first-change = record { within = lit≤ tt; changes = λ d. refl; before = λ k d low high. absurd (omega arith) }
 
-pub no-good-ask : (ls : List Line) → IsCaused two only_asking empty 0 ls well_asked → ⊥
-no-good-ask ls h = let e = h.changing 0 (record { asks = refl; first = first-change }) in absurd (cc)
+pub no-good-ask : (ls : List Line) (reached : ℕ) → IsCaused two only_asking empty 0 ls reached well_asked → ⊥
+no-good-ask ls reached h = let e = h.changing 0 (record { asks = refl; first = first-change }) in absurd (cc)
+
+-- a transaction that failed
+
+failed-for : (ls : List Line) (reached tx status : ℕ) → IsCaused two small_scripts empty 0 ls reached (as_failed tx status) → IsRefusedFor two small_scripts empty 0 ls reached (as_failed tx status) (record { cause = Drive (Failed tx status); drawn = Some 1 })
+failed-for ls reached tx status h = h.refused (record { cause = Drive (Failed tx status); drawn = Some 1 }) refl
+
+pub no-later : (ls : List Line) (reached tx status : ℕ) → 1 < tx → IsCaused two small_scripts empty 0 ls reached (as_failed tx status) → ⊥
+no-later ls reached tx status above h = let late = ((failed-for ls reached tx status h).late 1 refl).1 in omega arith
+
+pub no-reached : (ls : List Line) (reached tx status : ℕ) → tx ≤ reached → IsCaused two small_scripts empty 0 ls reached (as_failed tx status) → ⊥
+no-reached ls reached tx status low h = let above = (failed-for ls reached tx status h).cause_is.0.above in omega arith
+
+pub no-status : (ls : List Line) (reached tx status : ℕ) → status ≢ 640 → IsCaused two small_scripts empty 0 ls reached (as_failed tx status) → ⊥
+no-status ls reached tx status other h = other (failed-for ls reached tx status h).cause_is.1
+
+pub no-stopped-ask : (ls : List Line) (reached tx : ℕ) (why : Why) → IsCaused two only_asking empty 0 ls reached (stopped_ask tx why) → ⊥
+no-stopped-ask ls reached tx why h = (h.refused (record { cause = Drive (Stopped tx why); drawn = None }) refl).asks refl

@@ -12,7 +12,7 @@ use Rattle.mq_legal.proofs.Facts.{grows}
 use Rattle.mq_legal.proofs.Goes.{goes-on}
 use Rattle.mq_legal.proofs.Laying.{sound-laid}
 use Rattle.mq_legal.specs.Answers.{IsAcknowledged}
-use Rattle.mq_legal.specs.Cuts.{AreStanding, IsClean, IsCut, StandsFor, Starts}
+use Rattle.mq_legal.specs.Cuts.{AreHomeContents, IsClean, IsCut, ShowsVolume, Starts}
 use Rattle.mq_legal.specs.Legal.{IsRun, newest, volume_at}
 use Rattle.mq_legal.specs.Laws.{HasDoorbells}
 use Rattle.mq_recover.specs.Recovery.{IsRead}
@@ -101,7 +101,7 @@ read-image g n bells home low few = record {
 abbrev home_of : Map → ℕ → List ℕ
 home_of m b = or_else (m b) []
 
-stands-clean : (g : Geometry) (v : Volume) (n : ℕ) (bells : ℕ → ℕ) (sound : IsSound g v) → StandsFor g (clean_image n bells (home_of (sound-laid g v sound).0)) [] v
+stands-clean : (g : Geometry) (v : Volume) (n : ℕ) (bells : ℕ → ℕ) (sound : IsSound g v) → ShowsVolume g (clean_image n bells (home_of (sound-laid g v sound).0)) [] v
 stands-clean g v n bells sound =
     let m = sound-laid g v sound in
     record { map = m.0; laid = m.1; each = λ b page e. ap (λ (o : Option (List ℕ)). or_else o []) e }
@@ -112,7 +112,7 @@ clean-image g n bells home low few = record { base_is = refl; read = read-image 
 abbrev stored_of : Geometry → (ℕ → List ℕ) → List (Option (List ℕ))
 stored_of g home = table_of (homes_of g) (λ b. Some (home b))
 
-standing-clean : (g : Geometry) (n : ℕ) (bells : ℕ → ℕ) (home : ℕ → List ℕ) → AreStanding g (clean_image n bells home) [] (stored_of g home)
+standing-clean : (g : Geometry) (n : ℕ) (bells : ℕ → ℕ) (home : ℕ → List ℕ) → AreHomeContents g (clean_image n bells home) [] (stored_of g home)
 standing-clean g n bells home = record { whole = length-table (homes_of g) (λ b. Some (home b)); each = λ b low. ap (λ (o : Option (List ℕ)). content o) (table-at (homes_of g) (λ c. Some (home c)) b None low) }
 
 pub volume-starts : (g : Geometry) (v : Volume) (n : ℕ) (bells : ℕ → ℕ) → IsSound g v → n ≤ number_limit → HasDoorbells bells → (i : Shown) × Starts g i n v × IsClean g i n × ((q : ℕ) → i.doorbell q ≡ bells q)

@@ -1,20 +1,24 @@
 -- What the groups of the scripts were answered, as far as scripts and history say.
 use Rattle.std.specs.Prelude.{◌≡◌, ◌≢◌, ◌<◌, ◌≤◌, ◌+◌, ℕ, Bool, true, false, List, length, Option, Some, None, Result, Ok, Err}
 use Rattle.std.specs.List.{AllPairs, Contains}
-use Rattle.mq_blocks.specs.Geometry.{homes_of, write_limit}
+use Rattle.mq_blocks.specs.Geometry.{homes_of, queues_of, write_limit}
 use Rattle.mq_blocks.specs.declared.geometry.Geometry.{Geometry}
 use Rattle.mq_calls.specs.Asking.{IsFirstChange, refusal_at}
 use Rattle.mq_calls.specs.declared.answers.CallCause.{CallCause}
-use Rattle.mq_calls.specs.declared.answers.CallCause.TheVariants.{Changes, Drive, TooLarge}
+use Rattle.mq_calls.specs.declared.answers.CallCause.TheVariants.{Changes, Drive, OutOfMemory, TooLarge}
 use Rattle.mq_calls.specs.declared.answers.Refusal.{Refusal}
 use Rattle.mq_legal.specs.Groups.{IsGroup, group_at, groups_of}
 use Rattle.mq_legal.specs.Legal.{Writes, newest, volume_at}
 use Rattle.mq_report.specs.Lines.{Line}
+use Rattle.mq_report.specs.Sessions.{ends_session}
 use Rattle.mq_report.specs.declared.line.Told.{Told}
 use Rattle.mq_script.specs.Scripts.{Group, Script}
+use Rattle.mq_script.specs.declared.group.End.{End}
 use Rattle.mq_script.specs.declared.group.End.TheVariants.{Ask, Fsync}
 use Rattle.mq_side.specs.declared.answers.Cause.{Cause}
-use Rattle.mq_side.specs.declared.answers.Cause.TheVariants.{Failed, FailedHome, Stopped}
+use Rattle.mq_side.specs.declared.answers.Cause.TheVariants.{Failed, FailedHome, Off, Stopped}
+use Rattle.mq_side.specs.declared.answers.Why.{Why}
+use Rattle.mq_side.specs.declared.answers.Why.TheVariants.{Status}
 use Rattle.mq_tree.specs.Requests.{after_group}
 use Rattle.mq_tree.specs.Volume.{Volume}
 
@@ -31,16 +35,6 @@ abbrev pub group_told : List Script → Told → Group
 group_told scripts t = group_at scripts t.session t.group
 
 -- ---- which groups are answered
-
--- a refusal for this cause ends its session
-abbrev pub is_end : CallCause → Bool
-is_end (TooLarge count limit) = false
-is_end (Changes index) = false
-is_end cause = true
-
-abbrev pub ends_session : Result ℕ Refusal → Bool
-ends_session (Ok n) = false
-ends_session (Err r) = is_end r.cause
 
 -- The groups of a session that are answered are the first ones of its script: all of them, unless the last answer ends
 -- the session. No other answer does.
@@ -112,39 +106,71 @@ pub record IsChanging (scripts : List Script) (t : Told) (index : ℕ) : Type 0 
 abbrev pub HasCommit : List Line → ℕ → Type 0
 HasCommit lines n = (l : Line) × Contains lines l × (l.commit ≡ true) × (l.number ≡ n)
 
--- what a port's cause says of the history
-abbrev pub IsPortCause : Geometry → List Line → Cause → Type 0
-IsPortCause g lines (Failed tx status) = HasCommit lines tx
-IsPortCause g lines (FailedHome block status) = block < homes_of g
-IsPortCause g lines (Stopped tx why) = HasCommit lines tx
-IsPortCause g lines cause = Unit {0}
+-- A commit among the lines has this number, is of a queue of the drive, and was not reached: it is above `reached`, the
+-- number that the image at the end reaches.
+pub record IsUndone (g : Geometry) (lines : List Line) (reached n : ℕ) : Type 0 where
+  pub line : Line
+  pub told : Contains lines line
+  pub commit : line.commit ≡ true
+  pub number : line.number ≡ n
+  pub queue : line.session < queues_of g
+  pub above : reached < n
+
+-- a command that fails ends with this status
+abbrev pub IsFailure : ℕ → Type 0
+IsFailure status = status ≡ 640
+
+-- so where a queue was stopped by one
+abbrev pub HasFailure : Why → Type 0
+HasFailure (Status status) = IsFailure status
+HasFailure why = Unit {0}
+
+-- what a port's cause says of the history: a transaction that failed, or that stopped its queue, is undone; and a home write
+-- that failed is of a home block, so of the port of a queue or of the root
+abbrev pub IsPortCause : Geometry → List Line → (reached : ℕ) → Cause → Type 0
+IsPortCause g lines reached (Failed tx status) = IsUndone g lines reached tx × IsFailure status
+IsPortCause g lines reached (FailedHome block status) = (block < homes_of g) × IsFailure status
+IsPortCause g lines reached (Stopped tx why) = IsUndone g lines reached tx × HasFailure why
+IsPortCause g lines reached cause = Unit {0}
 
 -- what a cause says of the scripts and of the history
-abbrev pub IsCause : Geometry → List Script → Volume → (base : ℕ) → List Line → Told → CallCause → Type 0
-IsCause g scripts v base lines t (TooLarge count limit) = IsLarge g scripts v base lines t count × (limit ≡ write_limit g)
-IsCause g scripts v base lines t (Changes index) = IsChanging scripts t index
-IsCause g scripts v base lines t (Drive cause) = IsPortCause g lines cause
-IsCause g scripts v base lines t cause = Unit {0}
+abbrev pub IsCause : Geometry → List Script → Volume → (base : ℕ) → List Line → (reached : ℕ) → Told → CallCause → Type 0
+IsCause g scripts v base lines reached t (TooLarge count limit) = IsLarge g scripts v base lines t count × (limit ≡ write_limit g)
+IsCause g scripts v base lines reached t (Changes index) = IsChanging scripts t index
+IsCause g scripts v base lines reached t (Drive cause) = IsPortCause g lines reached cause
+IsCause g scripts v base lines reached t cause = Unit {0}
 
--- a port may stop a group that had drawn its number; all other refusals come before
-abbrev pub is_late_port : Cause → Bool
-is_late_port (FailedHome block status) = false
-is_late_port cause = true
+-- `ask` is refused for want of memory, and for a request that may change something
+abbrev pub MayRefuseAsk : CallCause → Type 0
+MayRefuseAsk OutOfMemory = Unit {0}
+MayRefuseAsk (Changes index) = Unit {0}
+MayRefuseAsk cause = ⊥
 
-abbrev pub is_late : CallCause → Bool
-is_late (Drive cause) = is_late_port cause
-is_late cause = false
+-- A group that has drawn the number n is refused for a port that is off; or, by a drain of `fsync`, for a transaction up to
+-- its own.
+abbrev pub IsLatePort : End → (n : ℕ) → Cause → Type 0
+IsLatePort end n Off = Unit {0}
+IsLatePort end n (Failed tx status) = (end ≡ Fsync) × (tx ≤ n)
+IsLatePort end n (FailedHome block status) = ⊥
+IsLatePort end n (Stopped tx why) = (end ≡ Fsync) × (tx ≤ n)
 
--- a refusal has its cause, and names a drawn number only where it may come after the draw
-pub record IsRefusedFor (g : Geometry) (scripts : List Script) (v : Volume) (base : ℕ) (lines : List Line) (t : Told) (r : Refusal) : Type 0 where
-  pub cause_is : IsCause g scripts v base lines t r.cause
-  pub undrawn : is_late r.cause ≡ false → r.drawn ≡ None
+abbrev pub IsLate : End → (n : ℕ) → CallCause → Type 0
+IsLate end n (Drive cause) = IsLatePort end n cause
+IsLate end n cause = ⊥
+
+-- A refusal has its cause, which is one of those that the group's end has; and it names a drawn number only where it may
+-- come after the draw.
+pub record IsRefusedFor (g : Geometry) (scripts : List Script) (v : Volume) (base : ℕ) (lines : List Line) (reached : ℕ) (t : Told) (r : Refusal) : Type 0 where
+  pub cause_is : IsCause g scripts v base lines reached t r.cause
+  pub asks : (group_told scripts t).end ≡ Ask → MayRefuseAsk r.cause
+  pub late : (n : ℕ) → r.drawn ≡ Some n → IsLate (group_told scripts t).end n r.cause
 
 -- A group is refused for a cause that holds; and a group that asks is refused for a request that may change something
 -- wherever it has one.
-pub record IsCaused (g : Geometry) (scripts : List Script) (v : Volume) (base : ℕ) (lines : List Line) (t : Told) : Type 0 where
-  pub refused : (r : Refusal) → t.answer ≡ Err r → IsRefusedFor g scripts v base lines t r
+pub record IsCaused (g : Geometry) (scripts : List Script) (v : Volume) (base : ℕ) (lines : List Line) (reached : ℕ) (t : Told) : Type 0 where
+  pub refused : (r : Refusal) → t.answer ≡ Err r → IsRefusedFor g scripts v base lines reached t r
   pub changing : (index : ℕ) → IsChanging scripts t index → t.answer ≡ Err (refusal_at index)
 
-abbrev pub AreCaused : Geometry → List Script → Volume → (base : ℕ) → List Line → List Told → Type 0
-AreCaused g scripts v base lines answers = (t : Told) → Contains answers t → IsCaused g scripts v base lines t
+-- So are all groups. The image at the end reaches the number `reached`.
+abbrev pub AreCaused : Geometry → List Script → Volume → (base : ℕ) → List Line → (reached : ℕ) → List Told → Type 0
+AreCaused g scripts v base lines reached answers = (t : Told) → Contains answers t → IsCaused g scripts v base lines reached t

@@ -19,7 +19,7 @@ use Rattle.mq_tree.specs.Volume.{Volume}
 -- ---- where a history starts
 
 -- these are the contents of all home blocks, by the descriptors
-pub record AreStanding (g : Geometry) (i : Shown) (ds : List Descriptor) (stored : List (Option (List ℕ))) : Type 0 where
+pub record AreHomeContents (g : Geometry) (i : Shown) (ds : List Descriptor) (stored : List (Option (List ℕ))) : Type 0 where
   pub whole : length stored ≡ homes_of g
   pub each : (b : ℕ) → b < homes_of g → block_at stored b ≡ stands g i ds b
 
@@ -28,13 +28,13 @@ pub record Starts (g : Geometry) (i : Shown) (base : ℕ) (v : Volume) : Type 0 
   pub ds : List Descriptor
   pub read : IsRead g i ds base
   pub stored : List (Option (List ℕ))
-  pub standing : AreStanding g i ds stored
+  pub standing : AreHomeContents g i ds stored
   pub laid : IsLaid g (map_of g stored) v
 
 -- ---- where it is cut
 
 -- each block of the volume's map stands with the map's content
-pub record StandsFor (g : Geometry) (i : Shown) (ds : List Descriptor) (v : Volume) : Type 0 where
+pub record ShowsVolume (g : Geometry) (i : Shown) (ds : List Descriptor) (v : Volume) : Type 0 where
   pub map : Map
   pub laid : IsLaid g map v
   pub each : (b : ℕ) (page : List ℕ) → map b ≡ Some page → stands g i ds b ≡ page
@@ -49,7 +49,7 @@ pub record IsCut (g : Geometry) (scripts : List Script) (v : Volume) (base : ℕ
   pub reaches : r ≡ i.base + length ds
   pub least : base ≤ r
   pub most : r ≤ newest base lines
-  pub stand : StandsFor g i ds (volume_at g scripts v lines r)
+  pub stand : ShowsVolume g i ds (volume_at g scripts v lines r)
   pub acknowledged : (n : ℕ) → IsAcknowledged scripts answers n → n ≤ r
   pub top_most : top ≤ newest base lines
 

@@ -1,5 +1,5 @@
 -- What holds of legal runs and of cuts, in one statement each.
-use Rattle.std.specs.Prelude.{◌≡◌, ◌<◌, ◌≤◌, ◌+◌, ◌-◌, ◌++◌, ℕ, true, List, [], ◌∷◌, length, reverse, slice_index_or, take, Some}
+use Rattle.std.specs.Prelude.{◌≡◌, ◌≢◌, ◌<◌, ◌≤◌, ◌+◌, ◌-◌, ◌++◌, ℕ, true, List, [], ◌∷◌, length, reverse, slice_index_or, take, Some}
 use Rattle.std.specs.List.{All, Contains}
 use Rattle.mq_blocks.specs.Descriptor.{Descriptor}
 use Rattle.mq_blocks.specs.Geometry.{homes_of}
@@ -11,10 +11,10 @@ use Rattle.mq_files.specs.Group.{file_group}
 use Rattle.mq_files.specs.declared.entry.FileEntry.{FileEntry}
 use Rattle.mq_ledger.specs.History as ledger
 use Rattle.mq_legal.specs.Answers.{AreAnswered, AreCaused, HasCommit, IsCaused, IsAcknowledged, IsOf, is_good}
-use Rattle.mq_legal.specs.Cuts.{IsClean, IsCut, IsRung, StandsFor, Starts, is_on}
+use Rattle.mq_legal.specs.Cuts.{IsClean, IsCut, IsRung, ShowsVolume, Starts, is_on}
 use Rattle.mq_legal.specs.Histories.{AllDo, AreLinesOf, AreOfBytes, ChangesOn, IsQuiet, RunsOn, StaysOn, map_after, volume_through}
 use Rattle.mq_legal.specs.Legal.{AllWriteFew, IsLegal, IsRun, Writes, newest, volume_at}
-use Rattle.mq_legal.specs.SmallRun.{as_changing, as_large, as_read, asking_scripts, only_asking, small_answers, small_lines, small_scripts, small_told, swapped, two, well_asked}
+use Rattle.mq_legal.specs.SmallRun.{as_changing, as_failed, as_large, as_read, asking_scripts, only_asking, small_answers, small_lines, small_scripts, small_told, stopped_ask, swapped, two, well_asked}
 use Rattle.mq_report.specs.Lines.{Line}
 use Rattle.mq_report.specs.declared.line.Told.{Told}
 use Rattle.mq_rules.specs.Rule as rule
@@ -22,6 +22,7 @@ use Rattle.mq_rules.specs.Rule.{history}
 use Rattle.mq_rules.specs.Values.{Values}
 use Rattle.mq_script.specs.Scripts.{Script}
 use Rattle.mq_script.specs.Spelled.{Spells}
+use Rattle.mq_side.specs.declared.answers.Why.{Why}
 use Rattle.mq_tree.specs.Empty.{empty_volume}
 use Rattle.mq_tree.specs.Kept.{HasBytes}
 use Rattle.mq_tree.specs.Laid.{IsLaid}
@@ -54,7 +55,7 @@ MapsHaveOneVolume =
 abbrev pub StandingVolumesStand : Type 0
 StandingVolumesStand =
     (g : Geometry) (i : Shown) (ds : List Descriptor) (v : Volume) (m : Map) (b : ℕ) (page : List ℕ)
-    → StandsFor g i ds v
+    → ShowsVolume g i ds v
     → IsLaid g m v
     → m b ≡ Some page
     → stands g i ds b ≡ page
@@ -233,7 +234,7 @@ abbrev pub TheSmallRunIsLegal : Type 0
 TheSmallRunIsLegal = IsLegal two small_scripts (empty_volume two) 0 small_lines
 
 abbrev pub TheSmallRunIsAnswered : Type 0
-TheSmallRunIsAnswered = AreAnswered small_scripts small_lines small_answers × AreCaused two small_scripts (empty_volume two) 0 small_lines small_answers
+TheSmallRunIsAnswered = AreAnswered small_scripts small_lines small_answers × AreCaused two small_scripts (empty_volume two) 0 small_lines 1 small_answers
 
 -- some clean image is a cut of it, with the doorbell of its commit
 abbrev pub TheSmallRunIsCut : Type 0
@@ -275,14 +276,45 @@ NoNumberComesTwice =
 
 -- a refusal whose cause does not hold
 abbrev pub NoSmallGroupIsLarge : Type 0
-NoSmallGroupIsLarge = (ls : List Line) (count : ℕ) → IsCaused two small_scripts (empty_volume two) 0 ls (as_large count) → ⊥
+NoSmallGroupIsLarge = (ls : List Line) (reached count : ℕ) → IsCaused two small_scripts (empty_volume two) 0 ls reached (as_large count) → ⊥
 
 abbrev pub NoGroupChangesByItself : Type 0
-NoGroupChangesByItself = (ls : List Line) (index : ℕ) → IsCaused two small_scripts (empty_volume two) 0 ls (as_changing index) → ⊥
+NoGroupChangesByItself = (ls : List Line) (reached index : ℕ) → IsCaused two small_scripts (empty_volume two) 0 ls reached (as_changing index) → ⊥
 
 -- a good answer to a group that asks, with a request that may change something
 abbrev pub NoChangeIsAsked : Type 0
-NoChangeIsAsked = (ls : List Line) → IsCaused two only_asking (empty_volume two) 0 ls well_asked → ⊥
+NoChangeIsAsked = (ls : List Line) (reached : ℕ) → IsCaused two only_asking (empty_volume two) 0 ls reached well_asked → ⊥
+
+-- a refusal of a group that drew its number, for a transaction after it
+abbrev pub NoLaterOneStopsAGroup : Type 0
+NoLaterOneStopsAGroup =
+    (ls : List Line) (reached tx status : ℕ)
+    → 1 < tx
+    → IsCaused two small_scripts (empty_volume two) 0 ls reached (as_failed tx status)
+    → ⊥
+
+-- for one that was reached
+abbrev pub NoReachedOneFails : Type 0
+NoReachedOneFails =
+    (ls : List Line) (reached tx status : ℕ)
+    → tx ≤ reached
+    → IsCaused two small_scripts (empty_volume two) 0 ls reached (as_failed tx status)
+    → ⊥
+
+-- or with another status
+abbrev pub NoOtherStatusFails : Type 0
+NoOtherStatusFails =
+    (ls : List Line) (reached tx status : ℕ)
+    → status ≢ 640
+    → IsCaused two small_scripts (empty_volume two) 0 ls reached (as_failed tx status)
+    → ⊥
+
+-- a group that asks, stopped by the drive
+abbrev pub NoAskIsStopped : Type 0
+NoAskIsStopped =
+    (ls : List Line) (reached tx : ℕ) (why : Why)
+    → IsCaused two only_asking (empty_volume two) 0 ls reached (stopped_ask tx why)
+    → ⊥
 
 -- ---- scripts
 

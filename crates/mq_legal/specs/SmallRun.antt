@@ -1,14 +1,16 @@
 -- A run of one group that makes a directory and a file, on an empty file system of two queues, and what might be told of
 -- it.
-use Rattle.std.specs.Prelude.{ℕ, true, false, List, [], ◌∷◌, None, Ok, Err, codes}
+use Rattle.std.specs.Prelude.{ℕ, true, false, List, [], ◌∷◌, None, Some, Ok, Err, codes}
 use Rattle.std.proofs.Common.{lit≤}
 use Rattle.mq_blocks.specs.declared.geometry.Geometry.{Geometry}
 use Rattle.mq_calls.specs.Asking.{refusal_at}
-use Rattle.mq_calls.specs.declared.answers.CallCause.TheVariants.{TooLarge}
+use Rattle.mq_calls.specs.declared.answers.CallCause.TheVariants.{Drive, TooLarge}
 use Rattle.mq_report.specs.Lines.{Line}
 use Rattle.mq_report.specs.declared.line.Told.{Told}
 use Rattle.mq_script.specs.Scripts.{Script}
 use Rattle.mq_script.specs.declared.group.End.TheVariants.{Ask, Fsync}
+use Rattle.mq_side.specs.declared.answers.Cause.TheVariants.{Failed, Stopped}
+use Rattle.mq_side.specs.declared.answers.Why.{Why}
 use Rattle.mq_tree.specs.declared.request.Reply.TheVariants.{Ok as Done, Names, Dir as Count}
 use Rattle.mq_tree.specs.declared.request.Request.{Request}
 use Rattle.mq_tree.specs.declared.request.Request.TheVariants.{Mkdir, Create, Write, List as ListOf, Stat}
@@ -70,6 +72,10 @@ as_large count = record { session = 0; group = 0; end = Fsync; answer = Err (rec
 abbrev pub as_changing : ℕ → Told
 as_changing index = record { session = 0; group = 0; end = Fsync; answer = Err (refusal_at index) }
 
+-- that it drew its number, and a transaction failed with this status
+abbrev pub as_failed : (tx status : ℕ) → Told
+as_failed tx status = record { session = 0; group = 0; end = Fsync; answer = Err (record { cause = Drive (Failed tx status); drawn = Some 1 }) }
+
 -- mkdir /a, stat /a, list /, with the last two replies swapped
 abbrev pub asking : List Request
 asking = Mkdir (directory ∷ []) ∷ Stat (directory ∷ []) ∷ ListOf [] ∷ []
@@ -86,3 +92,7 @@ only_asking = record { groups = record { requests = asking; end = Ask } ∷ [] }
 
 abbrev pub well_asked : Told
 well_asked = record { session = 0; group = 0; end = Ask; answer = Ok 0 }
+
+-- nor be stopped by the drive
+abbrev pub stopped_ask : (tx : ℕ) → Why → Told
+stopped_ask tx why = record { session = 0; group = 0; end = Ask; answer = Err (record { cause = Drive (Stopped tx why); drawn = None }) }

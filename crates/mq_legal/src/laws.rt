@@ -13,6 +13,7 @@ ghost use Rattle.mq_legal.specs.Laws.{TheSmallRunIsLegal, TheSmallRunIsAnswered,
 ghost use Rattle.mq_legal.specs.Laws.{NoLineIsLeftOut, NoAnswerIsLeftOut, NoGroupIsAnsweredTwice};
 ghost use Rattle.mq_legal.specs.Laws.{NoCommitIsARead, NoRepliesAreSwapped, NoNumberComesTwice};
 ghost use Rattle.mq_legal.specs.Laws.{NoSmallGroupIsLarge, NoGroupChangesByItself, NoChangeIsAsked};
+ghost use Rattle.mq_legal.specs.Laws.{NoLaterOneStopsAGroup, NoReachedOneFails, NoOtherStatusFails, NoAskIsStopped};
 ghost use Rattle.mq_legal.specs.Laws.{SpelledScriptsAreOfBytes, LogsDo, LogsLead};
 
 use mq_files::FileEntry;
@@ -93,4 +94,8 @@ pub fn a_small_run()
     ensures no_large { NoSmallGroupIsLarge }
     ensures no_changes { NoGroupChangesByItself }
     ensures no_ask { NoChangeIsAsked }
+    ensures no_later { NoLaterOneStopsAGroup }
+    ensures no_reached { NoReachedOneFails }
+    ensures no_status { NoOtherStatusFails }
+    ensures no_stopped_ask { NoAskIsStopped }
 {}

@@ -1,6 +1,6 @@
 -- Lists that grow by the item at the next place of another, and what is at a place.
 use Rattle.std.proofs.Common.{◌≡◌, ℕ, zero, suc, ◌+◌, ◌<◌, List, [], ◌∷◌, ◌++◌, length, get_or, map, take, refl, ap, sym, subst, ◌∙◌, add-one, arith}
-use Rattle.std.specs.Prelude.{Option, Some, None, slice_get, slice_index_or}
+use Rattle.std.specs.Prelude.{Some, slice_get}
 use Rattle.std.specs.List.{All}
 use Rattle.std.proofs.lemmas.List.{map_push}
 use Rattle.std.proofs.lemmas.Option.{same_Some}

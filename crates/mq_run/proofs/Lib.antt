@@ -6,3 +6,5 @@ pub mod Hearing
 pub mod Parts
 pub mod Tracks
 pub mod Seats
+pub mod KeptPorts
+pub mod Finished

@@ -1,5 +1,5 @@
 -- The groups of a script, asked one after another: one more of them, and the last.
-use Rattle.std.proofs.Common.{◌≡◌, ◌<◌, ◌-◌, ◌++◌, ◌∙◌, ℕ, suc, zero, refl, sym, ap, subst, inl, inr, arith, length-append, List, [], ◌∷◌, get_or, length}
+use Rattle.std.proofs.Common.{◌≡◌, ◌↔◌, ◌<◌, ◌-◌, ◌++◌, ◌∙◌, ℕ, suc, zero, refl, sym, ap, subst, inl, inr, arith, length-append, List, [], ◌∷◌, get_or, length}
 use Rattle.std.specs.Prelude.{Bool, true, false, Some, Result, Ok, Err, IfOk, IfErr, slice_get}
 use Rattle.std.specs.List.{All}
 use Rattle.std.proofs.lemmas.List.Elements.{All-append}
@@ -7,18 +7,22 @@ use Rattle.std.proofs.lemmas.Option.{get_or_from_slice_get, slice_get_read, slic
 use Rattle.mq_blocks.specs.Drive.{PortState}
 use Rattle.mq_blocks.specs.declared.geometry.Geometry.{Geometry}
 use Rattle.mq_calls.specs.Acts.{GoesOn}
+use Rattle.mq_calls.specs.Asking.{IsFirstChange, refusal_at}
 use Rattle.mq_calls.specs.declared.answers.Answer.{Answer}
 use Rattle.mq_calls.specs.declared.answers.Refusal.{Refusal}
 use Rattle.mq_drive.specs.Steps.{Fault}
 use Rattle.mq_drive.specs.declared.port.Port.{Ghosts}
 use Rattle.mq_files.specs.declared.entry.FileEntry.{FileEntry}
 use Rattle.mq_journal.specs.Numbers.{Seat}
+use Rattle.mq_report.specs.Sessions.{ends_session}
 use Rattle.mq_report.specs.declared.line.Line.{Line}
 use Rattle.mq_report.specs.declared.line.Told.{Told}
 use Rattle.mq_script.specs.Scripts.{Group}
 use Rattle.mq_script.specs.declared.group.End.{End}
+use Rattle.mq_script.specs.declared.group.End.TheVariants.{Ask}
 use Rattle.mq_tree.specs.declared.request.Reply.{Reply}
-use Rattle.mq_run.specs.Playing.{AreAnswers, AreLines, AreLinesAt, Comes, IsDone, IsNotDone, IsReadLine, HasPlayed, Plays, answered, begins, call_at, goes, is_last, told_of}
+use Rattle.mq_tree.specs.declared.request.Request.{Request}
+use Rattle.mq_run.specs.Playing.{AreAnswers, AreLines, AreLinesAt, Comes, IsDone, IsNotDone, IsReadLine, HasPlayed, Plays, TellsOfChanges, answered, begins, call_at, goes, told_of}
 
 -- ---- lists
 
@@ -49,7 +53,7 @@ group-at groups inside i x same within is = subst (λ (xs : List Group). slice_g
 
 -- the session goes on after it
 abbrev pub Stays : Told → Type 0
-Stays t = is_last t.answer ≡ false
+Stays t = ends_session t.answer ≡ false
 
 pub stays-at : (told : List Told) (i : ℕ) (t : Told) → All Stays told → slice_get told i ≡ Some t → Stays t
 stays-at told i t a at = subst Stays (get_or_from_slice_get told i t t at) (a i t (slice_get_within told i t at))
@@ -61,7 +65,7 @@ one : (t : Told) → Stays t → All Stays (t ∷ [])
 one t on zero d within = on
 one t on (suc i) d within = absurd (omega arith)
 
-pub stays-on : (told : List Told) (t : Told) → All Stays told → is_last t.answer ≡ false → All Stays (told ++ t ∷ [])
+pub stays-on : (told : List Told) (t : Told) → All Stays told → ends_session t.answer ≡ false → All Stays (told ++ t ∷ [])
 stays-on told t a on = All-append Stays told (t ∷ []) a (one t on)
 
 pub all-answered : (groups : ℕ) (told : List Told) → All Stays told → length told ≡ groups → AreAnswers groups told
@@ -71,7 +75,7 @@ all-answered groups told a e = record {
   all = inl e;
 }
 
-pub ended : (groups : ℕ) (told : List Told) (t : Told) → All Stays told → length told < groups → is_last t.answer ≡ true → AreAnswers groups (told ++ t ∷ [])
+pub ended : (groups : ℕ) (told : List Told) (t : Told) → All Stays told → length told < groups → ends_session t.answer ≡ true → AreAnswers groups (told ++ t ∷ [])
 ended groups told t a few last = record {
   most = omega (arith, length-append told (t ∷ []));
   before = λ i u at within.
@@ -79,6 +83,28 @@ ended groups told t a few last = record {
       stays-at told i u a (sym (get-left told (t ∷ []) i h) ∙ at);
   all = inr (t, get-last told t, last);
 }
+
+-- ---- groups that ask
+
+abbrev told-as : Refusal → Result ℕ Refusal
+told-as r = Err r
+
+abbrev refused-as : Refusal → Result Answer Refusal
+refused-as r = Err r
+
+refusal-in : (r s : Refusal) → refused-as r ≡ refused-as s → r ≡ s
+refusal-in r s e = cc
+
+refusal-told : (r s : Refusal) → told-as r ≡ told-as s → r ≡ s
+refusal-told r s e = cc
+
+-- what `ask` says of changes
+pub tells-asked : (requests : List Request) (answer : Result Answer Refusal) → ((i : ℕ) → IsFirstChange requests i ↔ (answer ≡ Err (refusal_at i))) → TellsOfChanges Ask requests (answered answer)
+tells-asked requests (Ok a) h i = (λ first. let e = (h i).0 first in absurd (cc), λ e. absurd (cc))
+tells-asked requests (Err r) h i = (
+  λ first. let e = (h i).0 first in ap told-as (refusal-in r (refusal_at i) e),
+  λ e. (h i).1 (ap refused-as (refusal-told r (refusal_at i) e)),
+)
 
 -- ---- one more group
 
@@ -109,8 +135,8 @@ module _ {P : Type 0} {G : Ghosts P} (state : P → PortState) (faults : P → L
       subst (λ (x : List Told). Plays state faults g session groups from 0 x lines from) (sym t)
       (subst (λ (x : List Line). Plays state faults g session groups from 0 [] x from) (sym l) begins)
 
-  pub plays-on : (k q n : ℕ) (told : List Told) (lines more : List Line) (v w : Seat P FileEntry G) (group : Group) (answer : Result Answer Refusal) → Plays state faults g session groups from k told lines v → slice_get groups k ≡ Some group → q ≡ session → n ≡ k → IfOk answer (λ a. IsDone state faults g group.end (call_at q n group) a.at a.drew a.replies.items v w) → IfErr answer (λ r. IsNotDone state faults g group.end (call_at q n group) r v w) → GoesOn v w → AreLines session k group.end answer more → Plays state faults g session groups from (suc k) (told ++ told_of session k group.end answer ∷ []) (lines ++ more) w
-  plays-on k q n told lines more v w group answer p at qs nk d e goes_on are =
+  pub plays-on : (k q n : ℕ) (told : List Told) (lines more : List Line) (v w : Seat P FileEntry G) (group : Group) (answer : Result Answer Refusal) → Plays state faults g session groups from k told lines v → slice_get groups k ≡ Some group → q ≡ session → n ≡ k → IfOk answer (λ a. IsDone state faults g group.end (call_at q n group) a.at a.drew a.replies.items v w) → IfErr answer (λ r. IsNotDone state faults g group.end (call_at q n group) r v w) → TellsOfChanges group.end group.requests (answered answer) → GoesOn v w → AreLines session k group.end answer more → Plays state faults g session groups from (suc k) (told ++ told_of session k group.end answer ∷ []) (lines ++ more) w
+  plays-on k q n told lines more v w group answer p at qs nk d e changes goes_on are =
       let D : ℕ → ℕ → Type 0 = λ a b. IfOk answer (λ x. IsDone state faults g group.end (call_at a b group) x.at x.drew x.replies.items v w) in
       let N : ℕ → ℕ → Type 0 = λ a b. IfErr answer (λ r. IsNotDone state faults g group.end (call_at a b group) r v w) in
       let d2 = subst (D session) nk (subst (λ (a : ℕ). D a n) qs d) in
@@ -120,6 +146,7 @@ module _ {P : Type 0} {G : Ghosts P} (state : P → PortState) (faults : P → L
         group_is = refl;
         end = refl;
         comes = comes state faults g session k group v w answer more d2 e2 are;
+        changes = changes;
         goes = goes_on;
       })
 
@@ -131,6 +158,7 @@ module _ {P : Type 0} {G : Ghosts P} (state : P → PortState) (faults : P → L
     pub calls : n ≡ k
     pub done : IfOk answer (λ a. IsDone state faults g group.end (call_at q n group) a.at a.drew a.replies.items v w)
     pub not_done : IfErr answer (λ r. IsNotDone state faults g group.end (call_at q n group) r v w)
+    pub changes : TellsOfChanges group.end group.requests (answered answer)
     pub goes : GoesOn v w
     pub more : List Line
     pub are : AreLines session k group.end answer more
@@ -139,7 +167,7 @@ module _ {P : Type 0} {G : Ghosts P} (state : P → PortState) (faults : P → L
 
   pub goes-on : (k q n : ℕ) (told : List Told) (lines : List Line) (v w : Seat P FileEntry G) (told2 : List Told) (lines2 : List Line) (group : Group) (answer : Result Answer Refusal) → Goes k q n told lines v w told2 lines2 group answer → Plays state faults g session groups from (suc k) told2 lines2 w
   goes-on k q n told lines v w told2 lines2 group answer h =
-      let one = plays-on k q n told lines h.more v w group answer h.plays h.at h.session_is h.calls h.done h.not_done h.goes h.are in
+      let one = plays-on k q n told lines h.more v w group answer h.plays h.at h.session_is h.calls h.done h.not_done h.changes h.goes h.are in
       subst (λ (x : List Told). Plays state faults g session groups from (suc k) x lines2 w) (sym h.told_are)
       (subst (λ (x : List Line). Plays state faults g session groups from (suc k) (told ++ told_of session k group.end answer ∷ []) x w) (sym h.lines_are) one)
 
@@ -149,7 +177,7 @@ module _ {P : Type 0} {G : Ghosts P} (state : P → PortState) (faults : P → L
     answers = a;
   }
 
-  pub has-ended : (k q n : ℕ) (told : List Told) (lines : List Line) (v w : Seat P FileEntry G) (told2 : List Told) (lines2 : List Line) (group : Group) (answer : Result Answer Refusal) → Goes k q n told lines v w told2 lines2 group answer → length told ≡ k → k < length groups → All Stays told → is_last (answered answer) ≡ true → HasPlayed state faults g session groups told2 lines2 from w
+  pub has-ended : (k q n : ℕ) (told : List Told) (lines : List Line) (v w : Seat P FileEntry G) (told2 : List Told) (lines2 : List Line) (group : Group) (answer : Result Answer Refusal) → Goes k q n told lines v w told2 lines2 group answer → length told ≡ k → k < length groups → All Stays told → ends_session (answered answer) ≡ true → HasPlayed state faults g session groups told2 lines2 from w
   has-ended k q n told lines v w told2 lines2 group answer h count few stays last =
       let t = told_of session k group.end answer in
       let many : length told2 ≡ suc k = ap length h.told_are ∙ omega (arith, length-append told (t ∷ [])) in

@@ -1,5 +1,5 @@
 -- The tracks of runners, and what a run comes to by them.
-use Rattle.std.proofs.Common.{◌≡◌, ℕ, List, length, get_or, map, sym, ap, ◌∙◌, subst}
+use Rattle.std.proofs.Common.{◌≡◌, ℕ, List, length, get_or, map, sym, ◌∙◌, subst}
 use Rattle.std.proofs.lemmas.List.{length-map}
 use Rattle.std.specs.Prelude.{Option, Some, Result, slice_get}
 use Rattle.mq_blocks.specs.Drive.{PortState}

@@ -3,3 +3,4 @@ pub mod Ending
 pub mod Lines
 pub mod Runs
 pub mod Seating
+pub mod Laws

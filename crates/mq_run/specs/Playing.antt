@@ -1,26 +1,26 @@
 -- What the groups of a script come to, one after another, on one session.
-use Rattle.std.specs.Prelude.{◌≡◌, ◌⊎◌, ◌<◌, ◌≤◌, ◌++◌, ◌-◌, ◌^◌, ℕ, suc, Bool, true, false, not, List, [], ◌∷◌, length, Some, Result, Ok, Err, slice_get, vec_capacity}
+use Rattle.std.specs.Prelude.{◌≡◌, ◌⊎◌, ◌↔◌, ◌<◌, ◌≤◌, ◌++◌, ◌-◌, ◌^◌, ℕ, suc, Bool, true, false, List, [], ◌∷◌, length, Some, Result, Ok, Err, slice_get, vec_capacity}
 use Rattle.std.specs.declared.vec.Vec.{Vec}
 use Rattle.mq_blocks.specs.Drive.{PortState}
 use Rattle.mq_blocks.specs.declared.geometry.Geometry.{Geometry}
 use Rattle.mq_calls.specs.Acts.{Call, GoesOn, HasActed, IsRefused, ReadsOnly}
-use Rattle.mq_calls.specs.Asking.{IsNotAnswered}
+use Rattle.mq_calls.specs.Asking.{IsFirstChange, IsNotAnswered, refusal_at}
 use Rattle.mq_calls.specs.Calling.{call_by}
 use Rattle.mq_calls.specs.Synchronizing.{IsDurable, IsNotDurable}
 use Rattle.mq_calls.specs.declared.answers.Answer.{Answer}
-use Rattle.mq_calls.specs.declared.answers.CallCause.{CallCause}
-use Rattle.mq_calls.specs.declared.answers.CallCause.TheVariants.{Changes, Drive, OutOfMemory, TooLarge}
 use Rattle.mq_calls.specs.declared.answers.Refusal.{Refusal}
 use Rattle.mq_drive.specs.Steps.{Fault}
 use Rattle.mq_drive.specs.declared.port.Port.{Ghosts}
 use Rattle.mq_files.specs.declared.entry.FileEntry.{FileEntry}
 use Rattle.mq_journal.specs.Numbers.{Seat}
+use Rattle.mq_report.specs.Sessions.{ends_session}
 use Rattle.mq_report.specs.declared.line.Line.{Line}
 use Rattle.mq_report.specs.declared.line.Told.{Told}
 use Rattle.mq_script.specs.Scripts.{Group}
 use Rattle.mq_script.specs.declared.group.End.{End}
 use Rattle.mq_script.specs.declared.group.End.TheVariants.{Ask, Fatomic, Fsync}
 use Rattle.mq_tree.specs.declared.request.Reply.{Reply}
+use Rattle.mq_tree.specs.declared.request.Request.{Request}
 
 abbrev pub is_durable : End → Bool
 is_durable Fsync = true
@@ -31,17 +31,7 @@ is_durable Ask = false
 abbrev pub call_at : (session k : ℕ) → Group → Call
 call_at session k group = call_by session k (is_durable group.end) group.requests
 
--- ---- which answers end a session
-
-abbrev pub goes_on : CallCause → Bool
-goes_on OutOfMemory = false
-goes_on (TooLarge count limit) = true
-goes_on (Changes index) = true
-goes_on (Drive why) = false
-
-abbrev pub is_last : Result ℕ Refusal → Bool
-is_last (Ok at) = false
-is_last (Err r) = not (goes_on r.cause)
+-- ---- answers
 
 -- what is told of a group that was answered so
 abbrev pub answered : Result Answer Refusal → Result ℕ Refusal
@@ -54,8 +44,8 @@ told_of session k end answer = record { session = session; group = k; end = end;
 -- the answers are those of all groups, or the last of them ends the session; no other does
 pub record AreAnswers (groups : ℕ) (told : List Told) : Type 0 where
   pub most : length told ≤ groups
-  pub before : (i : ℕ) (t : Told) → slice_get told i ≡ Some t → suc i < length told → is_last t.answer ≡ false
-  pub all : (length told ≡ groups) ⊎ ((t : Told) × (slice_get told (length told - 1) ≡ Some t) × (is_last t.answer ≡ true))
+  pub before : (i : ℕ) (t : Told) → slice_get told i ≡ Some t → suc i < length told → ends_session t.answer ≡ false
+  pub all : (length told ≡ groups) ⊎ ((t : Told) × (slice_get told (length told - 1) ≡ Some t) × (ends_session t.answer ≡ true))
 
 -- The groups can be counted in 32 bits, and so can the requests of each.
 pub record IsShort (groups : List Group) : Type 0 where
@@ -70,6 +60,12 @@ pub record HasRoom {Z : Type 0} (groups : List Group) (told : Vec Told Z) (reads
   pub reads_room : length groups ≤ vec_capacity reads
 
 -- ---- one group
+
+-- A group that asks is refused with `Changes` exactly where a request of it may change the tree, by the first one.
+abbrev pub TellsOfChanges : End → List Request → Result ℕ Refusal → Type 0
+TellsOfChanges Fsync requests answer = Unit {0}
+TellsOfChanges Fatomic requests answer = Unit {0}
+TellsOfChanges Ask requests answer = (index : ℕ) → IsFirstChange requests index ↔ (answer ≡ Err (refusal_at index))
 
 -- the line of a group that was read
 pub record IsReadLine (session k : ℕ) (end : End) (at : ℕ) (replies : List Reply) (l : Line) : Type 0 where
@@ -116,6 +112,7 @@ module _ {P : Type 0} {G : Ghosts P} (state : P → PortState) (faults : P → L
     pub group_is : t.group ≡ k
     pub end : t.end ≡ group.end
     pub comes : Comes g session k group t.answer lines old new
+    pub changes : TellsOfChanges group.end group.requests t.answer
     pub goes : GoesOn old new
 
   -- ---- the groups of a script

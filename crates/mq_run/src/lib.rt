@@ -4,6 +4,7 @@
 
 mod end;
 mod ending;
+mod laws;
 mod lines;
 mod opening;
 mod playing;
@@ -12,4 +13,5 @@ mod running;
 mod together;
 
 pub use end::RunEnd;
+pub use laws::{a_finished_run_is_clean, a_run_keeps_its_ports};
 pub use running::run_scripts;

@@ -1,9 +1,10 @@
 // A session plays its script: it asks the groups one after another.
-ghost use Rattle.std.specs.Prelude.{◌≡◌, ◌+◌, ◌<◌, ◌≤◌, ◌^◌, ◌++◌, [], ◌∷◌, not, IfErr, IfOk, length, vec_capacity, vec_len};
+ghost use Rattle.std.specs.Prelude.{◌≡◌, ◌+◌, ◌<◌, ◌≤◌, ◌^◌, ◌++◌, [], ◌∷◌, IfErr, IfOk, length, vec_capacity, vec_len};
 ghost use Rattle.mq_calls.specs.Acts.{GoesOn};
 ghost use Rattle.mq_calls.specs.Sessions.{IsReady};
 ghost use Rattle.mq_turns.specs.AtDesk.{AtDesk, view};
-ghost use Rattle.mq_run.specs.Playing.{AreLines, HasPlayed, HasRoom, IsDone, IsNotDone, IsShort, call_at, goes_on, is_last, told_of};
+ghost use Rattle.mq_run.specs.Playing.{AreLines, HasPlayed, HasRoom, IsDone, IsNotDone, IsShort, TellsOfChanges, answered, call_at, told_of};
+ghost use Rattle.mq_report.specs.Sessions.{ends_session, is_end};
 
 use crate::runner::Runner;
 use mq_blocks::QueueNo;
@@ -38,6 +39,7 @@ fn ask_group<P: Port + Drop, R: Wait, G: Gate>(
     ensures refused { IfErr result (λ r. IsNotDone P.state P.faults files.now.geometry group.now.end
         (call_at user.old.queue user.old.calls group.now) r
         (view user.old.chair) (view user.new.chair)) }
+    ensures changes { TellsOfChanges group.now.end group.now.requests (answered result) }
 {
     match group.end {
         End::Fsync => files.fsync(rt, alloc, user, &group.requests, gate),
@@ -46,15 +48,15 @@ fn ask_group<P: Port + Drop, R: Wait, G: Gate>(
     }
 }
 
-// Whether a session goes on after such a refusal.
-fn passes(cause: CallCause) -> bool
-    ensures { result ≡ goes_on cause }
+// Whether a refusal for this cause ends the session.
+fn stops(cause: CallCause) -> bool
+    ensures { result ≡ is_end cause }
 {
     match cause {
-        CallCause::OutOfMemory => false,
-        CallCause::TooLarge { .. } => true,
-        CallCause::Changes { .. } => true,
-        CallCause::Drive(_) => false,
+        CallCause::OutOfMemory => true,
+        CallCause::TooLarge { .. } => false,
+        CallCause::Changes { .. } => false,
+        CallCause::Drive(_) => true,
     }
 }
 
@@ -76,11 +78,11 @@ fn tell(session: QueueNo, index: u32, group: &Group, answer: &Result<Answer, Ref
 
 // Whether the session ends with it.
 fn ends(told: &Told) -> bool
-    ensures { result ≡ is_last told.now.answer }
+    ensures { result ≡ ends_session told.now.answer }
 {
     match told.answer {
         Ok(_) => false,
-        Err(refusal) => !passes(refusal.cause),
+        Err(refusal) => stops(refusal.cause),
     }
 }
 

@@ -1,5 +1,5 @@
 -- A fault that was gained stays among the faults.
-use Rattle.std.proofs.Common.{◌≡◌, ◌⊎◌, ℕ, ◌+◌, ◌-◌, ◌≤◌, ◌^◌, Bool, true, cond, List, ◌∷◌, ◌++◌, length, Option, Some, None, sym, refl, ap, subst, ◌∙◌, inl, inr, arith, length-append}
+use Rattle.std.proofs.Common.{◌≡◌, ℕ, ◌+◌, ◌≤◌, Bool, cond, List, ◌∷◌, length, Option, Some, None, sym, refl, ap, subst, ◌∙◌, inl, inr, arith, length-append}
 use Rattle.std.specs.Prelude.{Result, Ok, Err}
 use Rattle.std.proofs.lemmas.Bool.{cases_lt, le-leb, lt-leb}
 use Rattle.mq_blocks.proofs.Totals.{total_append}
@@ -10,7 +10,7 @@ use Rattle.mq_drive.specs.declared.port.Off as drive
 use Rattle.mq_drive.specs.declared.port.HomeStep.{HomeStep}
 use Rattle.mq_drive.specs.declared.port.HomeStep.TheVariants as home
 use Rattle.mq_side.specs.Drained.{kept_with}
-use Rattle.mq_side.specs.Told.{IsKeptAmong, IsTold, IsToldSince, fault_of}
+use Rattle.mq_side.specs.Told.{IsKeptAmong, IsTold, fault_of}
 use Rattle.mq_side.specs.declared.answers.Why.{Why}
 use Rattle.mq_side.specs.declared.answers.Why.TheVariants.{Status, Off}
 

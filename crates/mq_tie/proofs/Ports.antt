@@ -1,5 +1,5 @@
 -- The ports that a closed desk gives back.
-use Rattle.std.proofs.Common.{◌≡◌, ℕ, zero, suc, ◌<◌, List, [], ◌∷◌, length, map, Some, get_or, refl, sym, ap, subst, ◌∙◌, arith}
+use Rattle.std.proofs.Common.{◌≡◌, ℕ, zero, suc, ◌<◌, List, [], ◌∷◌, length, map, Some, None, refl, sym, ap, subst, ◌∙◌, arith}
 use Rattle.std.specs.Prelude.{slice_get, slice_index_or}
 use Rattle.std.proofs.lemmas.List.{length-map}
 use Rattle.mq_blocks.specs.Drive.{PortState, IsBoundKept, IsFlushed}
@@ -11,17 +11,13 @@ use Rattle.mq_drive.specs.declared.port.Port.{Ghosts}
 use Rattle.mq_drive.specs.declared.role.Role.TheVariants.{Queue, Root}
 use Rattle.mq_journal.specs.Numbers.{Seat, Start}
 use Rattle.mq_ledger.specs.State.{port_at}
-use Rattle.mq_pages.specs.declared.page.PageCell.{PageCell}
 use Rattle.mq_rules.specs.Groups.{Group}
 use Rattle.mq_rules.specs.Rule.{IsRoot, IsSide, geometry_of, port_of, shape_of}
 use Rattle.mq_rules.proofs.Opening.{at_map}
-use Rattle.mq_side.specs.declared.root.Root.{Root as RootSide}
 use Rattle.mq_side.specs.declared.side.QueueSide.{QueueSide}
-use Rattle.mq_turns.specs.Chairs.{Ended as DeskEnded}
-use Rattle.mq_turns.specs.declared.rule.Opening.{Opening}
 use Rattle.mq_tie.specs.Closed.{HasRun}
 use Rattle.mq_tie.specs.Ports.{KeepsPorts, StaysPort, opened_states}
-use Rattle.mq_tie.specs.Runs.{ports_of, run_machine, run_values}
+use Rattle.mq_tie.specs.Runs.{ports_of, run_values}
 use Rattle.mq_tie.specs.declared.ended.Ended.{Ended}
 use Rattle.mq_tie.proofs.Running.{same-ports}
 
@@ -29,6 +25,20 @@ found : {A : Type 0} (xs : List A) (i : ℕ) → i < length xs → (x : A) × (s
 found [] i lt = absurd (omega arith)
 found (x ∷ xs) zero lt = (x, refl)
 found (x ∷ xs) (suc i) lt = found xs i (omega arith)
+
+side-port : (g : Geometry) (q : ℕ) (p : PortState) → IsPort g (Some q) p → ((n : ℕ) → IsFlushed p n → slice_index_or p.staged n [] ≡ slice_index_or p.flushed n []) → IsPortOf g (Queue q) p
+side-port g q p is settled = record {
+  queue = is.queue;
+  area_first = is.area_first;
+  area_size = is.area_size;
+  homes_first = is.homes_first;
+  homes_size = is.homes_size;
+  flushed = is.flushed;
+  staged = is.staged;
+  blocks = is.blocks;
+  certain = is.certain ∙ sym is.blocks;
+  settled = λ k lt there. sym (settled k there);
+}
 
 -- the root has no ring
 root-port : (g : Geometry) (p : PortState) → IsPort g None p → IsPortOf g Root p
@@ -52,12 +62,11 @@ module _ {P E : Type 0} {G : Ghosts P} (state : P → PortState) (faults : P →
   shape-is : geometry_of (run_values state faults group) group run.end.known ≡ shape
   shape-is = ap (shape_of (run_values state faults group) group) run.end.opening
 
-  stays : (q : ℕ) (w : QueueSide P E G) → slice_get run.sides q ≡ Some w → StaysPort shape (Queue q) (port_at (opened_states state faults group o) q) (state w.pmr.port)
+  stays : (q : ℕ) (w : QueueSide P E G) → slice_get run.sides q ≡ Some w → StaysPort shape (Queue q) (port_at (opened_states G state faults group o) q) (state w.pmr.port)
   stays q w at =
       let is : IsSide (run_values state faults group) group q run.end.known w = run.end.sides_stand q w at in
-      let own : IsPortOf w.pmr.geometry (Queue w.pmr.queue) (state w.pmr.port) = w.pmr.own.port in
       record {
-        port = subst (λ (z : Geometry × ℕ). IsPortOf z.0 (Queue z.1) (state w.pmr.port)) (λ i. ((is.says.is.geometry ∙ shape-is) i, is.says.is.queue i)) own;
+        port = subst (λ (z : Geometry). IsPortOf z (Queue q) (state w.pmr.port)) shape-is (side-port _ q (state w.pmr.port) is.port.port is.port.ring.settled);
         bound = subst (λ (z : Start P E G). IsBoundKept (port_of (run_values state faults group) group z q) (state w.pmr.port)) run.end.opening is.says.is.bound;
       }
 
@@ -67,13 +76,13 @@ module _ {P E : Type 0} {G : Ghosts P} (state : P → PortState) (faults : P →
   many : length run.sides ≡ length o.sides
   many = run.end.all_sides
 
-  pub keeps-ports : KeepsPorts state faults group o r
+  pub keeps-ports : KeepsPorts G state faults group o r
   keeps-ports = record {
     count = ap length run.ports ∙ (length-map run.sides (λ (s : QueueSide P E G). s.pmr.port) ∙ many);
     queues = λ q lt.
         let at = found run.sides q (let m = many in omega arith) in
         let same : port_at (map state (ports_of r)) q ≡ state at.0.pmr.port = ap (λ ps. port_at ps q) states-are ∙ (at_map (λ (s : QueueSide P E G). state s.pmr.port) run.sides q at.0 _ at.1).0 in
-        subst (StaysPort shape (Queue q) (port_at (opened_states state faults group o) q)) (sym same) (stays q at.0 at.1);
+        subst (StaysPort shape (Queue q) (port_at (opened_states G state faults group o) q)) (sym same) (stays q at.0 at.1);
     root =
         let is : IsRoot (run_values state faults group) group run.end.known r.root = run.end.root_stands in
         record {

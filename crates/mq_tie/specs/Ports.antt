@@ -20,7 +20,7 @@ pub record StaysPort (g : Geometry) (role : Role) (old new : PortState) : Type 0
   pub port : IsPortOf g role new
   pub bound : IsBoundKept old new
 
-module _ {P E : Type 0} {G : Ghosts P} (state : P → PortState) (faults : P → List Fault) (group : Group E) where
+module _ {P E : Type 0} (G : Ghosts P) (state : P → PortState) (faults : P → List Fault) (group : Group E) where
   -- the states of the ports that a desk was opened with
   abbrev pub opened_states : Start P E G → List PortState
   opened_states o = map (λ s. state s.pmr.port) o.sides

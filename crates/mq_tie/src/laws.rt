@@ -16,5 +16,5 @@ pub fn a_desk_ends_in_a_lawful_state<J: JournalValues>()
 /// A desk that was closed gives back the ports that it was opened with: each is the port of its role still, with
 /// the same fuse, and the same of its commands and home writes fails.
 pub fn a_closed_desk_keeps_its_ports<P: Port, G: Groups>()
-    ensures { RunsKeepTheirPorts P.state P.faults G.group }
+    ensures { RunsKeepTheirPorts P.Port P.state P.faults G.group }
 {}

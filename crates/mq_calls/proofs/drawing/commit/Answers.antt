@@ -5,10 +5,10 @@ use Rattle.mq_turns.specs.Desk.{slot_of}
 use Rattle.mq_turns.specs.declared.rule.Report.TheVariants.{Off, Sent}
 use Rattle.mq_turns.specs.declared.turn.Turn.TheVariants.{Side}
 use Rattle.mq_calls.specs.Calling.{call_of}
-use Rattle.mq_calls.specs.Committing.{IsMissed, OnlyReports, reports_for}
+use Rattle.mq_calls.specs.Committing.{IsLacking, IsMissed, OnlyReports, ShowsLack, reports_for}
 use Rattle.mq_calls.specs.Runs.{IsDoneOnCells, files}
 use Rattle.mq_calls.specs.declared.committing.Miss.{Miss}
-use Rattle.mq_calls.proofs.Acting.{committed-of, cut-of, holds-more, missed-for}
+use Rattle.mq_calls.proofs.Acting.{committed-of, cut-of, holds-more, lack-shown, missed-for}
 use Rattle.mq_calls.proofs.GoingOn.{goes-drawn, goes-holds, goes-reports, goes-then, goes-words}
 use Rattle.mq_calls.proofs.InHand.{commit-taken, side-above}
 use Rattle.mq_calls.proofs.drawing.commit.Goals as goal
@@ -49,6 +49,15 @@ returns-in-Err-draw_group-clause-missed g c =
     let was = c.in-Err-draw_group.ensures.cut in
     cut-of g.P.Port.state g.P.Port.faults c.args.geometry (call_of c.args.asked.now) c.args.done.now c.in-Ok.ready.entry c.in-Err-draw_group.at old taken (view c.make_ready.new.chair) (view c.draw_group.new.chair) (holds-more (slot_of o (Side c.args.asked.now.queue)) t.known old taken t.is) c.in-Ok.ensures.words p.answers p.is c.requires.few was.0 was.1
 
+pub give_up-requires-clause-shows : goal.give_up-requires-clause-shows
+give_up-requires-clause-shows g c =
+    let st = g.P.Port.state in
+    let fs = g.P.Port.faults in
+    let v = view c.make_ready.new.chair in
+    let same = c.in-Err.ensures.keeps.queue ∙ c.take_side-side.ensures.queue in
+    subst (λ (q : ℕ). ShowsLack st fs q c.make_ready.new.side v c.in-Err.lack) (sym same)
+    (lack-shown st fs c.take_side-side.result.pmr.geometry (call_of c.args.asked.now) (view c.take_side-side.new.chair) c.make_ready.new.side v c.in-Err.lack c.in-Err.ensures.lacks)
+
 pub returns-in-Err-clause-missed : goal.returns-in-Err-clause-missed
 returns-in-Err-clause-missed g c =
     let st = g.P.Port.state in
@@ -59,7 +68,9 @@ returns-in-Err-clause-missed g c =
     let taken = view c.take_side-side.new.chair in
     let same = c.in-Err.ensures.keeps.queue ∙ c.take_side-side.ensures.queue in
     let reports = subst (λ (q : ℕ). OnlyReports (reports_for q c.in-Err.lack (view c.make_ready.new.chair).reading.charged) (view c.make_ready.new.chair) (view c.give_up.new.chair)) same c.give_up.ensures.reports in
-    let r = missed-for st fs o c.args.geometry (call_of c.args.asked.now) c.args.held.now.cells c.make_ready.new.side old taken (view c.make_ready.new.chair) (view c.give_up.new.chair) c.in-Err.lack c.in-Err.ensures.at.1 c.in-Err.ensures.holds (holds-more (slot_of o (Side c.args.asked.now.queue)) t.known old taken t.is) c.in-Err.ensures.words c.in-Err.ensures.lacks reports in
+    let shape = c.take_side-side.ensures.geometry ∙ c.requires.geometry in
+    let lacks = subst (λ (x : Geometry). IsLacking st fs x (call_of c.args.asked.now) taken c.make_ready.new.side (view c.make_ready.new.chair) c.in-Err.lack) shape c.in-Err.ensures.lacks in
+    let r = missed-for st fs c.args.geometry (call_of c.args.asked.now) c.make_ready.new.side old taken (view c.make_ready.new.chair) (view c.give_up.new.chair) c.in-Err.lack (holds-more (slot_of o (Side c.args.asked.now.queue)) t.known old taken t.is) c.in-Err.ensures.words lacks reports in
     subst (λ (m : Miss). IsMissed st fs c.args.geometry (call_of c.args.asked.now) old (view c.give_up.new.chair) m) (sym c.miss_of.ensures) r
 
 pub returns-in-Ok-draw_group-clause-goes : goal.returns-in-Ok-draw_group-clause-goes

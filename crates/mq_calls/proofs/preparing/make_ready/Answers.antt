@@ -1,5 +1,5 @@
 use Rattle.std.proofs.Common.{◌∙◌, ℕ, List, sym, subst}
-use Rattle.std.proofs.lemmas.Result.{IfOk-weaker}
+use Rattle.std.proofs.lemmas.Result.{IfOk-weaker, err_from_is_err_and}
 use Rattle.mq_blocks.specs.Descriptor.{AreRising}
 use Rattle.mq_blocks.specs.Geometry.{homes_of}
 use Rattle.mq_blocks.specs.declared.geometry.Geometry.{Geometry}
@@ -10,10 +10,10 @@ use Rattle.mq_pages.specs.declared.page.Write.{Write}
 use Rattle.mq_side.specs.Commits.{IsPlanOf}
 use Rattle.mq_turns.specs.AtDesk.{start_of, view}
 use Rattle.mq_calls.specs.Calling.{call_of}
-use Rattle.mq_calls.specs.Committing.{IsPlacedOn, IsPrepared}
+use Rattle.mq_calls.specs.Committing.{IsPlacedOn, IsPrepared, LacksRoom}
 use Rattle.mq_calls.specs.Preparing.{IsEntryReady}
 use Rattle.mq_calls.proofs.Causes.{kept-refused}
-use Rattle.mq_calls.proofs.Drawable.{called-on, fits-still, is-prepared, plan-of, writes-rise}
+use Rattle.mq_calls.proofs.Drawable.{called-on, fits-still, is-prepared, lacks-room, plan-of, writes-rise}
 use Rattle.mq_calls.proofs.InHand.{commit-prepared, commit-read, commit-side}
 use Rattle.mq_calls.proofs.preparing.make_ready.Goals as goal
 
@@ -95,3 +95,29 @@ returns-clause-ready g c =
     IfOk-weaker c.prepare.result (IsEntryReady st (call_of c.args.asked.now) c.args.done.now plan reads w) (IsPrepared st fs o (call_of c.args.asked.now) c.args.done.now plan old w v)
     (λ ready er. is-prepared st fs o s.pmr.geometry (call_of c.args.asked.now) c.args.done.now plan reads cells old v s w ready c.a_done_group_may_be_drawn.ensures opening c.requires.geometry drive holds c.requires.done c.requires.asks.queue own called c.requires.few c.requires.changes c.read_words-front.ensures.read here fit none er)
     p.ready
+
+pub returns-in_err-make_room-clause-lacks : goal.returns-in_err-make_room-clause-lacks
+returns-in_err-make_room-clause-lacks g c =
+    let st = g.P.Port.state in
+    let fs = g.P.Port.faults in
+    let o = start_of c.args.desk.now in
+    let q = c.args.asked.now.queue in
+    let cells = c.args.held.now.cells in
+    let old = view c.args.chair.now in
+    let v = view c.read_words-front.new.chair in
+    let s = c.args.side.now in
+    let w = c.make_room.new.side in
+    let reads = c.read_words-front.result in
+    let plan = c.place.new.into in
+    let words = c.read_words-front.ensures.read.words in
+    let opening = words.opening ∙ c.requires.at.1 in
+    let own = c.make_room.ensures.keeps.queue ∙ c.requires.queue in
+    let side = subst (λ (n : ℕ). HoldsSide st fs file_group o n w v) own c.make_room.ensures.side in
+    let holds = commit-side st fs o q cells s w v side (commit-read st fs o q cells s old v words.held c.read_words-front.ensures.seen c.requires.holds) in
+    let on = subst (λ (ws : List Write). IsPlacedOn c.geometry-geometry.result q reads cells ws plan) c.deref.ensures.value c.in_ok-place.ensures.placed in
+    let here = subst (λ (x : Geometry). IsPlacedOn x q reads cells c.args.done.now.writes.items plan) c.geometry-geometry.ensures on in
+    let lack = c.in_err-make_room.field-0.0 in
+    let room = subst (λ (n : ℕ). LacksRoom st fs n reads.base plan w v lack) c.requires.queue c.in_err-make_room.ensures.lacks in
+    let lacks = lacks-room st fs o s.pmr.geometry (call_of c.args.asked.now) c.args.done.now plan reads cells old v w opening c.requires.geometry c.make_room.ensures.keeps.geometry holds c.requires.done c.requires.few c.requires.changes c.read_words-front.ensures.read here lack room in
+    let p = err_from_is_err_and c.from_residual-in_err-make_room.result c.from_residual-in_err-make_room.ensures.1 in
+    rw (p.1, p.2) lacks

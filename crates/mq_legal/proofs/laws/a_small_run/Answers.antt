@@ -1,4 +1,4 @@
-use Rattle.mq_legal.proofs.SmallRun.{answered-twice, no-answers, no-changing, no-good-ask, no-large, no-line, no-read, no-swap, number-twice, small-answered, small-caused, small-cut, small-legal}
+use Rattle.mq_legal.proofs.SmallRun.{answered-twice, no-answers, no-changing, no-good-ask, no-large, no-later, no-line, no-reached, no-read, no-status, no-stopped-ask, no-swap, number-twice, small-answered, small-caused, small-cut, small-legal}
 use Rattle.mq_legal.proofs.laws.a_small_run.Goals as goal
 
 pub returns : goal.returns
@@ -15,4 +15,8 @@ returns c = record {
   no_large = no-large;
   no_changes = no-changing;
   no_ask = no-good-ask;
+  no_later = no-later;
+  no_reached = no-reached;
+  no_status = no-status;
+  no_stopped_ask = no-stopped-ask;
 }

@@ -1,4 +1,4 @@
-use Rattle.std.proofs.Common.{◌≡◌, [], List, map, sym, ap, ◌∙◌, subst}
+use Rattle.std.proofs.Common.{◌≡◌, [], map, ap, ◌∙◌, subst}
 use Rattle.mq_calls.specs.Sessions.{IsReady}
 use Rattle.mq_files.specs.Group.{file_group}
 use Rattle.mq_tie.specs.Closed.{HasRun}

@@ -1,10 +1,11 @@
 use Rattle.std.proofs.Common.{◌≡◌, ◌+◌, ◌∙◌, ◌<◌, ◌++◌, ◌∷◌, [], ℕ, List, ap, arith, length, refl, rules, sym, add-one, subst}
 use Rattle.std.specs.List.{All}
 use Rattle.std.specs.Prelude.{Some, false, slice_get, true}
+use Rattle.mq_report.specs.Sessions.{ends_session}
 use Rattle.mq_report.specs.declared.line.Told.{Told}
 use Rattle.mq_script.specs.Scripts.{Group, Script}
 use Rattle.mq_turns.specs.AtDesk.{view}
-use Rattle.mq_run.specs.Playing.{AreLines, Plays, is_last, answered, told_of}
+use Rattle.mq_run.specs.Playing.{AreLines, Plays, answered, told_of}
 use Rattle.mq_run.proofs.Plays.{Stays, all-answered, group-at, goes-on, has-ended, has-played, none-played, none-stays, stays-on}
 use Rattle.mq_run.proofs.playing.play.Goals as goal
 
@@ -46,7 +47,7 @@ returns-then-ends-clause-played g c =
     let at : slice_get groups k ≡ Some group = group-at groups c.script.inside.groups.items k group same (omega arith) c.index-group.ensures in
     let tells : c.push_reserved.new.self.items ≡ r.told.items ++ told_of session k group.end answer ∷ [] = search rules in
     let few : k < length groups = subst (λ (xs : List Group). k < length xs) same (omega arith) in
-    let last : is_last (answered answer) ≡ true = search rules in
+    let last : ends_session (answered answer) ≡ true = search rules in
     let are : AreLines session k group.end answer c.add_line.ensures.read.0 = subst (λ (x : ℕ). AreLines x k group.end answer c.add_line.ensures.read.0) i.session c.add_line.ensures.read.1 in
     has-ended g.P.Port.state g.P.Port.faults c.args.files.now.geometry session groups (view c.args.runner.now.user.chair) k r.user.queue r.user.calls r.told.items r.reads.items v w c.push_reserved.new.self.items c.add_line.new.reads.items group answer (record {
       plays = i.plays;
@@ -55,6 +56,7 @@ returns-then-ends-clause-played g c =
       calls = i.calls;
       done = asks.done;
       not_done = asks.refused;
+      changes = asks.changes;
       goes = asks.goes;
       more = c.add_line.ensures.read.0;
       are = are;
@@ -77,7 +79,7 @@ loop-index-preserved g c =
     let same : c.script.inside.groups.items ≡ groups = ap (λ (s : Script). s.groups) c.script.view_is in
     let at : slice_get groups k ≡ Some group = group-at groups c.script.inside.groups.items k group same (omega arith) c.index-group.ensures in
     let tells : c.push_reserved.new.self.items ≡ r.told.items ++ told_of session k group.end answer ∷ [] = search rules in
-    let on : is_last (answered answer) ≡ false = search rules in
+    let on : ends_session (answered answer) ≡ false = search rules in
     let are : AreLines session k group.end answer c.add_line.ensures.read.0 = subst (λ (x : ℕ). AreLines x k group.end answer c.add_line.ensures.read.0) i.session c.add_line.ensures.read.1 in
     let plays = goes-on g.P.Port.state g.P.Port.faults c.args.files.now.geometry session groups (view c.args.runner.now.user.chair) k r.user.queue r.user.calls r.told.items r.reads.items v w c.push_reserved.new.self.items c.add_line.new.reads.items group answer (record {
       plays = i.plays;
@@ -86,6 +88,7 @@ loop-index-preserved g c =
       calls = i.calls;
       done = asks.done;
       not_done = asks.refused;
+      changes = asks.changes;
       goes = asks.goes;
       more = c.add_line.ensures.read.0;
       are = are;

@@ -1,7 +1,6 @@
 use Rattle.std.proofs.Common.{◌≡◌, length, map, drop, sym, ap, subst, ◌∙◌, arith}
 use Rattle.std.proofs.lemmas.List.{take_at}
 use Rattle.std.specs.List.{All}
-use Rattle.std.specs.Prelude.{slice_get}
 use Rattle.mq_calls.specs.Sessions.{IsReady}
 use Rattle.mq_turns.specs.AtDesk.{AtDesk, start_of, view}
 use Rattle.mq_run.specs.Playing.{IsShort}

@@ -1,6 +1,6 @@
-use Rattle.std.proofs.Common.{ℕ, refl, sym, subst}
+use Rattle.std.proofs.Common.{sym, subst}
 use Rattle.mq_turns.specs.AtDesk.{view}
-use Rattle.mq_calls.specs.Acts.{HasActed, IsAreaFull, IsRefused, at_once, memory, turned_down}
+use Rattle.mq_calls.specs.Acts.{HasActed, IsRefused, at_once, memory, turned_down}
 use Rattle.mq_calls.specs.Calling.{call_by}
 use Rattle.mq_calls.specs.declared.answers.Answer.{Answer}
 use Rattle.mq_calls.specs.declared.answers.Refusal.{Refusal}

@@ -1,4 +1,4 @@
-use Rattle.std.proofs.Common.{ℕ, ◌+◌, ◌∙◌, sym, subst}
+use Rattle.std.proofs.Common.{ℕ, ◌∙◌, sym, subst}
 use Rattle.mq_turns.specs.AtDesk.{view}
 use Rattle.mq_calls.specs.Acts.{IsRefused, no_room}
 use Rattle.mq_calls.specs.Calling.{call_of}

@@ -1,6 +1,5 @@
 use Rattle.mq_turns.specs.AtDesk.{view}
-use Rattle.mq_blocks.specs.Geometry.{queues_of}
-use Rattle.mq_calls.proofs.GoingOn.{goes-refused, goes-swept}
+use Rattle.mq_calls.proofs.GoingOn.{goes-swept}
 use Rattle.mq_calls.proofs.calls.Mqfs+P.drain.Goals as goal
 
 pub returns-in-Ok-clause-goes : goal.returns-in-Ok-clause-goes
