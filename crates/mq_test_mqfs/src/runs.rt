@@ -183,7 +183,7 @@ const MANY: [Step<'static>; 5] = [
     FORMAT,
     ("run d t t t", 2, "scripts 3 queues 2\n"),
     ("run d t u", 4, "fault load u\n"),
-    ("run t t", 3, "image Short 40 45\n"),
+    ("run t t", 3, "image Magic\n"),
     ("ls d", 0, "d /\n"),
 ];
 
