@@ -1,3 +1,5 @@
 pub mod Mounting
 pub mod Ended
 pub mod Limited
+pub mod Seats
+pub mod Images

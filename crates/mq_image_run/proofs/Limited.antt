@@ -1,45 +1,58 @@
 -- What is tested before a run.
-use Rattle.std.proofs.Common.{◌≡◌, ◌≢◌, ◌⊎◌, ℕ, ◌<◌, None, refl, sym, ap, subst, ◌∙◌, inl, inr, arith}
+use Rattle.std.proofs.Common.{◌≡◌, ◌⊎◌, ℕ, ◌<◌, ◌≤◌, Option, None, sym, subst, ◌∙◌, inl, inr, arith}
+use Rattle.mq_blocks.specs.Drive.{FuseName}
 use Rattle.mq_blocks.specs.Geometry.{queues_of}
 use Rattle.mq_blocks.specs.declared.geometry.Geometry.{Geometry}
+use Rattle.mq_calls.specs.Mounting.{IsNotMounted, corrupt}
+use Rattle.mq_drive.specs.Emu.{emu_state}
 use Rattle.mq_image.specs.File.{DriveImage}
+use Rattle.mq_images.specs.Laws.{RecoveredDrivesHoldTheBlocks}
 use Rattle.mq_images.specs.Recovering.{IsRecoveryOf}
 use Rattle.mq_images.specs.Standing.{RefusesDrive}
+use Rattle.mq_images.specs.declared.ports.Failing.{Failing}
 use Rattle.mq_images.specs.declared.recovery.RecoveredImage.{RecoveredImage}
 use Rattle.mq_images.specs.declared.refusal.StandingRefusal.{StandingRefusal}
-use Rattle.mq_images.specs.declared.refusal.StandingRefusal.TheVariants.{Image, OutOfMemory}
+use Rattle.mq_images.specs.declared.refusal.StandingRefusal.TheVariants.{Corrupt, Image, OutOfMemory}
+use Rattle.mq_recover.specs.Drives.{drive_of}
 use Rattle.mq_recover.specs.declared.refusal.ImageFault.{ImageFault}
 use Rattle.mq_recover.specs.declared.refusal.ImageFault.TheVariants.{Bad, Limit, Twice}
 use Rattle.mq_recover.specs.declared.refusal.ImageFault.TheVariants as fault
-use Rattle.mq_image_run.specs.Limits.{AreBelow, IsFirstAbove}
-use Rattle.mq_image_run.specs.Refusals.{RefusesRun, above_limit, not_readable, refusal_for, wanting}
+use Rattle.mq_tree.specs.declared.corrupt.MountRefusal.TheVariants as mount
+use Rattle.mq_image_run.specs.Drives.{IsNotDriven}
+use Rattle.mq_image_run.specs.Limits.{AreBelow, AreWithin, IsFirstAbove}
+use Rattle.mq_image_run.specs.Refusals.{RefusesRun, above_limit, not_mounted, not_readable, refusal_for, wanting}
 
 module _ (x : DriveImage) (r : RecoveredImage) (recovery : IsRecoveryOf x None r) where
   -- the recovery moves no doorbell
-  below-before : (q base : ℕ) → (q ≡ queues_of x.geometry) ⊎ (q < queues_of x.geometry) → AreBelow q r.image base → AreBelow q x base
+  below-before : (q base : ℕ) → q ≤ queues_of x.geometry → AreBelow q r.image base → AreBelow q x base
   below-before q base most below = record {
     base_low = below.base_low;
     doorbells = λ p low.
-        let inside : p < queues_of x.geometry = most-inside p low most in
-        let same = recovery.doorbells p inside in
+        let same = recovery.doorbells p (omega arith) in
         let high = below.doorbells p low in
         omega arith;
   }
-  where
-    most-inside : (p : ℕ) → p < q → (q ≡ queues_of x.geometry) ⊎ (q < queues_of x.geometry) → p < queues_of x.geometry
-    most-inside p low (inl same) = omega arith
-    most-inside p low (inr more) = omega arith
 
   first-before : (n : ℕ) → IsFirstAbove r.image r.found.base n → IsFirstAbove x recovery.top n
   first-before n (above, inl same) = (above, inl (same ∙ recovery.base))
   first-before n (above, inr at) =
       let q = at.0 in
       let inside : q < queues_of x.geometry = subst (λ (g : Geometry). q < queues_of g) recovery.geometry at.1 in
-      let below = subst (AreBelow q x) recovery.base (below-before q r.found.base (inr inside) at.2) in
+      let below = subst (AreBelow q x) recovery.base (below-before q r.found.base (omega arith) at.2) in
       (above, inr (q, inside, below, at.3 ∙ recovery.doorbells q inside))
 
   pub refuses-limit : (n : ℕ) → IsFirstAbove r.image r.found.base n → RefusesRun x (Image (Limit n))
   refuses-limit n first = above_limit recovery.ds recovery.top recovery.plan.read (first-before n first)
+
+  pub refuses-drive : RecoveredDrivesHoldTheBlocks → (fuse : FuseName) (fail : Option Failing) → AreWithin x r.found.base → (e : StandingRefusal) → IsNotDriven fuse fail r.image e → RefusesRun x e
+  refuses-drive holds fuse fail within OutOfMemory not = wanting
+  refuses-drive holds fuse fail within (Image e) not = absurd not
+  refuses-drive holds fuse fail within (Corrupt cause b) (ports, started, not) = mounted (subst (λ (g : Geometry). IsNotMounted g (drive_of emu_state ports) (mount.Corrupt cause b)) recovery.geometry not)
+    where
+      mounted : IsNotMounted x.geometry (drive_of emu_state ports) (mount.Corrupt cause b) → RefusesRun x (Corrupt cause b)
+      mounted (corrupt s stands is none) =
+          not_mounted recovery.ds recovery.top s.blocks.items recovery.plan.read (subst (AreWithin x) recovery.base within) (holds x r fuse fail ports s recovery started stands)
+          (λ v laid. none v (record { standing = s; stands = stands; laid = laid })) is
 
 refuses-image : (x : DriveImage) (e : ImageFault) → (e ≡ fault.OutOfMemory) ⊎ RefusesDrive x e → RefusesRun x (refusal_for e)
 refuses-image x fault.OutOfMemory why = wanting

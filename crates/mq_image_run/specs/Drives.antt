@@ -1,5 +1,5 @@
 -- What scripts come to on a drive, from its start to the cut of its power.
-use Rattle.std.specs.Prelude.{◌≡◌, ◌||◌, ℕ, Bool, false, List, [], ◌∷◌, Option, is_none}
+use Rattle.std.specs.Prelude.{◌≡◌, ◌≤◌, ◌||◌, ℕ, Bool, false, List, [], ◌∷◌, Option, Some, is_none}
 use Rattle.mq_blocks.specs.Drive.{FuseName}
 use Rattle.mq_blocks.specs.Totals.{total}
 use Rattle.mq_blocks.specs.declared.geometry.Geometry.{Geometry}
@@ -28,6 +28,7 @@ use Rattle.mq_tree.specs.declared.corrupt.CorruptCause.{CorruptCause}
 use Rattle.mq_tree.specs.declared.corrupt.MountRefusal.{MountRefusal}
 use Rattle.mq_tree.specs.declared.corrupt.MountRefusal.TheVariants as mount
 use Rattle.mq_image_run.specs.declared.driving.Driven.{Driven}
+use Rattle.mq_image_run.specs.declared.stopping.Stopped.{Stopped}
 use Rattle.mq_image_run.specs.declared.options.RunOptions.{RunOptions}
 
 -- ---- what the ports tell
@@ -70,6 +71,18 @@ pub record IsDriven (fuse : FuseName) (y : DriveImage) (scripts : List Script) (
   pub stands : StandsIn y.geometry (drive_of emu_state ports) standing
   pub opens : MayOpen y.geometry (drive_of emu_state ports) standing
   pub has : HasDriven y.geometry ports standing scripts o d
+
+-- What was driven, once the fuse was closed: with a limit, so many events happened on all ports, at most those of the
+-- limit.
+pub record HasStopped (fuse : FuseName) (y : DriveImage) (scripts : List Script) (o : RunOptions) (s : Stopped) : Type 0 where
+  pub driven : Driven
+  pub drives : IsDriven fuse y scripts o driven
+  pub entries : s.entries ≡ driven.entries
+  pub answers : s.answers ≡ driven.answers
+  pub finished : s.finished ≡ driven.finished
+  pub failed : s.failed ≡ driven.failed
+  pub images : s.images ≡ driven.left.images
+  pub happened : (l : ℕ) → fuse.limit ≡ Some l → (s.events ≡ events_on (row_of drives.has.end.ports)) × (s.events ≤ l)
 
 -- ---- where no volume stands
 

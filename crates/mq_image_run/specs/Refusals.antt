@@ -1,5 +1,5 @@
 -- Why an image is not run.
-use Rattle.std.specs.Prelude.{◌≡◌, ℕ, List, Option}
+use Rattle.std.specs.Prelude.{ℕ, List, Option}
 use Rattle.mq_blocks.specs.Descriptor.{Descriptor}
 use Rattle.mq_image.specs.File.{DriveImage}
 use Rattle.mq_images.specs.Standing.{AreStanding, Reads, RefusesDrive}

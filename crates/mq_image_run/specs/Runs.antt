@@ -1,11 +1,10 @@
 -- What a run makes of an image.
-use Rattle.std.specs.Prelude.{◌≡◌, ◌≤◌, ℕ, List, Option, None, Some, Result, Ok, Err}
+use Rattle.std.specs.Prelude.{◌≡◌, ℕ, List, Option, None, Some, Result, Ok, Err}
 use Rattle.mq_blocks.specs.Drive.{FuseName}
 use Rattle.mq_checkpoint.specs.declared.refusal.CheckpointRefusal.{CheckpointRefusal}
 use Rattle.mq_checkpoint.specs.declared.refusal.CheckpointRefusal.TheVariants as checkpoint
 use Rattle.mq_image.specs.Drives.{IsDrive}
 use Rattle.mq_image.specs.File.{DriveImage}
-use Rattle.mq_images.specs.Cuts.{row_of}
 use Rattle.mq_images.specs.Recovering.{IsRecoveryOf}
 use Rattle.mq_images.specs.declared.recovery.RecoveredImage.{RecoveredImage}
 use Rattle.mq_report.specs.declared.line.Last.{Last}
@@ -13,11 +12,11 @@ use Rattle.mq_report.specs.declared.line.Last.TheVariants.{Clean, Cut, StoppedBl
 use Rattle.mq_script.specs.Scripts.{Script}
 use Rattle.mq_side.specs.declared.answers.Cause.{Cause}
 use Rattle.mq_side.specs.declared.answers.Cause.TheVariants as cause
-use Rattle.mq_image_run.specs.Drives.{IsDriven, events_on}
+use Rattle.mq_image_run.specs.Drives.{HasStopped}
 use Rattle.mq_image_run.specs.Limits.{AreWithin}
-use Rattle.mq_image_run.specs.declared.driving.Driven.{Driven}
 use Rattle.mq_image_run.specs.declared.options.RunOptions.{RunOptions}
 use Rattle.mq_image_run.specs.declared.ran.ImageRun.{ImageRun}
+use Rattle.mq_image_run.specs.declared.stopping.Stopped.{Stopped}
 
 -- ---- how a run ends
 
@@ -48,14 +47,12 @@ pub record IsRunOf (x : DriveImage) (scripts : List Script) (o : RunOptions) (r 
   pub base_is : r.base ≡ recovered.found.base
   pub fuse : FuseName
   pub power : fuse.limit ≡ o.cut
-  pub driven : Driven
-  pub drives : IsDriven fuse recovered.image scripts o driven
-  pub entries : r.entries ≡ driven.entries
-  pub answers : r.answers ≡ driven.answers
-  pub failed : r.failed ≡ driven.failed
+  pub stopped : Stopped
+  pub stops : HasStopped fuse recovered.image scripts o stopped
+  pub entries : r.entries ≡ stopped.entries
+  pub answers : r.answers ≡ stopped.answers
+  pub failed : r.failed ≡ stopped.failed
+  pub last : IsLast o.cut stopped.events stopped.finished r.last
   pub geometry : r.image.geometry ≡ x.geometry
-  pub ports : r.image.ports ≡ driven.left.images.items
+  pub ports : r.image.ports ≡ stopped.images.items
   pub drive : IsDrive r.image
-  pub events : ℕ
-  pub happened : (l : ℕ) → o.cut ≡ Some l → (events ≡ events_on (row_of drives.has.end.ports)) × (events ≤ l)
-  pub last : IsLast o.cut events driven.finished r.last

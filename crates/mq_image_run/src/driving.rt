@@ -136,8 +136,6 @@ pub fn run_drive<R: Threads + Wait + Sync, G: Gate + Sync>(
         Ok(standing) => standing,
         Err(refusal) => return Err(not_mounted(refusal)),
     };
-    let driven = run_ports(
-        rt, alloc, geometry, ports, standing, scripts, options, gate,
-    )?;
+    let driven = run_ports(rt, alloc, geometry, ports, standing, scripts, options, gate)?;
     Ok(driven)
 }

@@ -7,6 +7,7 @@ mod limits;
 mod options;
 mod ran;
 mod running;
+mod stopping;
 
 pub use options::RunOptions;
 pub use ran::ImageRun;

@@ -8,14 +8,17 @@ ghost use Rattle.mq_image_run.specs.Refusals.{RefusesRun, refusal_for};
 ghost use Rattle.mq_image_run.specs.Runs.{IsRunOf};
 ghost use Rattle.mq_images.specs.Recovering.{IsRecoveryOf};
 
-use crate::driving::{Driven, run_drive};
 use crate::ending::last_of;
 use crate::limits::{are_short, first_above};
 use crate::options::RunOptions;
 use crate::ran::ImageRun;
+use crate::stopping::run_to_stop;
+use mq_blocks::TxNo;
 use mq_calls::Gate;
 use mq_image::DriveImage;
-use mq_images::{CutDrive, RecoveredImage, StandingRefusal, drive_power, recover_image};
+use mq_images::{
+    RecoveredImage, StandingRefusal, a_recovered_image_holds_what_stood, drive_power, recover_image,
+};
 use mq_recover::ImageFault;
 use mq_script::Script;
 use std::alloc::Global;
@@ -33,7 +36,11 @@ fn not_readable(fault: ImageFault) -> StandingRefusal
 }
 
 // Recovers an image whole, and tests that its numbers are within the limits of a run.
-fn recover_within(alloc: Global, image: DriveImage, pick: u64) -> Result<RecoveredImage, StandingRefusal>
+fn recover_within(
+    alloc: Global,
+    image: DriveImage,
+    pick: u64,
+) -> Result<RecoveredImage, StandingRefusal>
     requires { IsDrive image }
     ensures ok { IfOk result (λ r. IsRecoveryOf image None r × AreWithin image r.found.base) }
     ensures refused { IfErr result (RefusesRun image) }
@@ -46,6 +53,13 @@ fn recover_within(alloc: Global, image: DriveImage, pick: u64) -> Result<Recover
         Some(base) => Err(StandingRefusal::Image(ImageFault::Limit { base })),
         None => Ok(recovered),
     }
+}
+
+// The base that a recovery found.
+fn base_of(recovered: &RecoveredImage) -> TxNo
+    ensures { result ≡ recovered.now.found.base }
+{
+    recovered.found.base
 }
 
 /// Recovers the drive that starts from an image, and runs scripts over the volume that stands there, each on a session and
@@ -70,30 +84,20 @@ pub fn run_image<R: Threads + Wait + Sync, G: Gate + Sync>(
     }
     let geometry = image.geometry;
     let recovered = recover_within(alloc, image, options.pick)?;
-    let base = recovered.found.base;
+    let base = base_of(&recovered);
+    a_recovered_image_holds_what_stood();
     let (fuse, seats) = drive_power(alloc, geometry, options.cut)?;
-    let driven = run_drive(
-        rt, alloc, &fuse, seats, recovered, scripts, options, gate,
-    )?;
-    let Driven {
-        entries,
-        answers,
-        finished,
-        failed,
-        left,
-    } = driven;
-    let CutDrive { images, seats } = left;
-    let events = fuse.close(seats);
-    let last = last_of(options.cut, events, finished)?;
+    let stopped = run_to_stop(rt, alloc, fuse, seats, recovered, scripts, options, gate)?;
+    let last = last_of(options.cut, stopped.events, stopped.finished)?;
     Ok(ImageRun {
         image: DriveImage {
             geometry,
-            ports: images,
+            ports: stopped.images,
         },
         base,
-        entries,
-        answers,
+        entries: stopped.entries,
+        answers: stopped.answers,
         last,
-        failed,
+        failed: stopped.failed,
     })
 }

@@ -8,3 +8,4 @@ pub mod Tracks
 pub mod Seats
 pub mod KeptPorts
 pub mod Finished
+pub mod Stopped

@@ -1,5 +1,5 @@
 // What holds of a run.
-ghost use Rattle.mq_run.specs.Laws.{FinishedRunsAreClean, RunsKeepTheirPorts};
+ghost use Rattle.mq_run.specs.Laws.{FinishedRunsAreClean, RunsKeepTheirPorts, StopsAreBacked};
 
 use mq_drive::Port;
 
@@ -13,4 +13,10 @@ pub fn a_run_keeps_its_ports<P: Port>()
 /// port: so no transaction is above it.
 pub fn a_finished_run_is_clean<P: Port>()
     ensures { FinishedRunsAreClean P.Port P.state P.faults }
+{}
+
+/// Where the drive refused the checkpoint at the end of a run, one of its ports is behind it: since the run began it has
+/// gained the fault that the refusal names, or it has as many faults as a count of 64 bits can say.
+pub fn a_stopped_run_is_backed<P: Port>()
+    ensures { StopsAreBacked P.Port P.state P.faults }
 {}

@@ -4,3 +4,5 @@ pub mod Stored
 pub mod Legality
 pub mod Running
 pub mod Ports
+pub mod Charges
+pub mod Backed

@@ -21,7 +21,7 @@ use Rattle.mq_tie.specs.Runs.{ports_of, run_values}
 use Rattle.mq_tie.specs.declared.ended.Ended.{Ended}
 use Rattle.mq_tie.proofs.Running.{same-ports}
 
-found : {A : Type 0} (xs : List A) (i : ℕ) → i < length xs → (x : A) × (slice_get xs i ≡ Some x)
+pub found : {A : Type 0} (xs : List A) (i : ℕ) → i < length xs → (x : A) × (slice_get xs i ≡ Some x)
 found [] i lt = absurd (omega arith)
 found (x ∷ xs) zero lt = (x, refl)
 found (x ∷ xs) (suc i) lt = found xs i (omega arith)

@@ -49,9 +49,9 @@ each-at P [] k x h l e = absurd (omega arith)
 each-at P (y ∷ ys) zero x h l e = subst P e h.0
 each-at P (y ∷ ys) (suc k) x h l e = each-at P ys k x h.1 (omega arith) e
 
-pub same-ports : {P E : Type 0} {G : Ghosts P} (state : P → PortState) (ss : List (QueueSide P E G)) → map (λ s. state s.pmr.port) ss ≡ map state (map (λ s. s.pmr.port) ss)
-same-ports state [] = refl
-same-ports state (s ∷ ss) = ap (λ ps. state s.pmr.port ∷ ps) (same-ports state ss)
+pub same-ports : {P E B : Type 0} {G : Ghosts P} (f : P → B) (ss : List (QueueSide P E G)) → map (λ s. f s.pmr.port) ss ≡ map f (map (λ s. s.pmr.port) ss)
+same-ports f [] = refl
+same-ports f (s ∷ ss) = ap (λ ps. f s.pmr.port ∷ ps) (same-ports f ss)
 
 module _ {P E : Type 0} {G : Ghosts P} (state : P → PortState) (faults : P → List Fault) (group : Group E) (o : Start P E G) (views : List (Seat P E G)) (pages : List PageCell) (sides : List (QueueSide P E G)) (root : Root P G) (next base : ℕ) (end : DeskEnded (run_machine state faults group) o views pages sides root next base) where
   abbrev K : Shared P E G

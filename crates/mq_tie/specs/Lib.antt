@@ -5,3 +5,4 @@ pub mod Legal
 pub mod Runs
 pub mod Closed
 pub mod Ports
+pub mod Backed

@@ -1,4 +1,5 @@
 // What holds of a desk over the ports of a journal, once nobody holds anything.
+ghost use Rattle.mq_tie.specs.Backed.{ReportsAreBacked};
 ghost use Rattle.mq_tie.specs.Laws.{DesksEndAsParts, WordsAreMarks};
 ghost use Rattle.mq_tie.specs.Ports.{RunsKeepTheirPorts};
 
@@ -17,4 +18,10 @@ pub fn a_desk_ends_in_a_lawful_state<J: JournalValues>()
 /// the same fuse, and the same of its commands and home writes fails.
 pub fn a_closed_desk_keeps_its_ports<P: Port, G: Groups>()
     ensures { RunsKeepTheirPorts P.Port P.state P.faults G.group }
+{}
+
+/// What a chair of a closed desk had reported is of one of the ports, and backed by it: the port has gained the fault that
+/// the report names since the desk was opened, or has as many faults as a count of 64 bits can say.
+pub fn what_was_reported_is_backed<P: Port, G: Groups>()
+    ensures { ReportsAreBacked P.Port P.state P.faults G.group }
 {}

@@ -1,4 +1,4 @@
-use Rattle.std.proofs.Common.{◌≡◌, Bool, refl, subst}
+use Rattle.std.proofs.Common.{Bool, refl, subst}
 use Rattle.mq_drive.specs.Emu.{emu_faults, emu_state}
 use Rattle.mq_run.specs.Runs.{HasRunScripts}
 use Rattle.mq_image_run.specs.Drives.{emu_ghosts}

@@ -1,0 +1,23 @@
+-- The image that a run leaves.
+use Rattle.std.proofs.Common.{◌≡◌, ◌∙◌, List, None, ap, sym, subst}
+use Rattle.mq_blocks.specs.Drive.{FuseName, PortImage}
+use Rattle.mq_blocks.specs.declared.geometry.Geometry.{Geometry}
+use Rattle.mq_image.specs.Drives.{IsDrive}
+use Rattle.mq_image.specs.File.{DriveImage}
+use Rattle.mq_images.specs.Recovering.{IsRecoveryOf}
+use Rattle.mq_images.specs.declared.recovery.RecoveredImage.{RecoveredImage}
+use Rattle.mq_images.proofs.Recoverings.{left-drive}
+use Rattle.mq_script.specs.Scripts.{Script}
+use Rattle.mq_image_run.specs.Drives.{HasStopped}
+use Rattle.mq_image_run.specs.declared.options.RunOptions.{RunOptions}
+use Rattle.mq_image_run.specs.declared.stopping.Stopped.{Stopped}
+
+module _ (x : DriveImage) (r : RecoveredImage) (recovery : IsRecoveryOf x None r) (fuse : FuseName) (scripts : List Script) (o : RunOptions) (s : Stopped) (stops : HasStopped fuse r.image scripts o s) where
+  abbrev of_drive : Geometry → List PortImage → DriveImage
+  of_drive g images = record { geometry = g; ports = images }
+
+  pub run-drive : (g : Geometry) → g ≡ x.geometry → IsDrive (of_drive g s.images.items)
+  run-drive g same =
+      let has = stops.drives.has in
+      let left : IsDrive (of_drive r.image.geometry stops.driven.left.images.items) = left-drive r.image has.end.ports stops.driven.left.images.items stops.driven.left.seats.items has.cut has.same_ports in
+      subst (λ (z : Geometry × List PortImage). IsDrive (of_drive z.0 z.1)) (λ i. ((recovery.geometry ∙ sym same) i, sym (ap (λ v. v.items) stops.images) i)) left

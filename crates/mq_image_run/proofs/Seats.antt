@@ -1,0 +1,65 @@
+-- What the seats of a drive tell, once its power was cut.
+use Rattle.std.proofs.Common.{◌≡◌, ℕ, suc, ◌+◌, ◌<◌, List, [], ◌∷◌, All, Option, None, Some, length, map, get_or, refl, sym, ap, subst, ◌∙◌, arith}
+use Rattle.std.proofs.lemmas.List.{length-map}
+use Rattle.mq_blocks.specs.Drive.{FuseName, PortState}
+use Rattle.mq_blocks.specs.Geometry.{queues_of}
+use Rattle.mq_blocks.specs.Totals.{total}
+use Rattle.mq_drive.specs.Emu.{emu_state}
+use Rattle.mq_drive.specs.Fuse.{below}
+use Rattle.mq_drive.specs.Seats.{fuse_of, tickets_of}
+use Rattle.mq_drive.specs.declared.emu.EmuPort.{EmuPort}
+use Rattle.mq_image.specs.Drives.{IsDrive}
+use Rattle.mq_image.specs.File.{DriveImage}
+use Rattle.mq_images.specs.Cuts.{CutPort, IsCutPort, row_of}
+use Rattle.mq_images.proofs.CutRows.{seats-long, seats-own}
+use Rattle.mq_images.proofs.Recoverings.{row-each, row-long}
+use Rattle.mq_images.proofs.Starting.{start-queue}
+use Rattle.mq_ledger.specs.State.{port_at}
+use Rattle.mq_recover.specs.Drives.{DriveState, drive_of}
+use Rattle.mq_recover.proofs.Zones.{IsZone, port_in}
+use Rattle.mq_script.specs.Scripts.{Script}
+use Rattle.mq_image_run.specs.Drives.{IsDriven, events_on}
+use Rattle.mq_image_run.specs.declared.driving.Driven.{Driven}
+use Rattle.mq_image_run.specs.declared.options.RunOptions.{RunOptions}
+
+module _ (fuse : FuseName) (y : DriveImage) (drive : IsDrive y) (scripts : List Script) (o : RunOptions) (d : Driven) (driven : IsDriven fuse y scripts o d) where
+  abbrev row : List EmuPort
+  row = row_of driven.has.end.ports
+
+  count : length driven.has.end.ports.queues.items ≡ queues_of y.geometry
+  count = sym (length-map driven.has.end.ports.queues.items emu_state) ∙ driven.has.same_ports.count
+
+  -- each port has the fuse of the drive
+  bound : (z : Option ℕ) → IsZone y.geometry z → (port_in (drive_of emu_state driven.has.end.ports) z).fuse ≡ fuse
+  bound None zone = driven.has.bounds.root.fuse ∙ ap (λ (s : DriveState). s.root.fuse) driven.started.states
+  bound (Some q) zone =
+      (driven.has.bounds.queues q zone).fuse
+      ∙ (ap (λ (s : DriveState). (port_at s.queues q).fuse) driven.started.states
+      ∙ ap (λ (s : PortState). s.fuse) (start-queue fuse o.fail y q drive zone))
+
+  fuses : (k : ℕ) (s : PortState) → k < length row → (get_or (map emu_state row) k s).fuse ≡ fuse
+  fuses = row-each y.geometry driven.has.end.ports count (λ s. s.fuse ≡ fuse) bound
+
+  pub own-seats : All (λ s. fuse_of s ≡ fuse) d.left.seats.items
+  own-seats = seats-own row d.left.images.items d.left.seats.items driven.has.cut fuse fuses
+
+  pub all-seats : length d.left.seats.items ≡ queues_of y.geometry + 1
+  all-seats = seats-long row d.left.images.items d.left.seats.items driven.has.cut ∙ row-long y.geometry driven.has.end.ports count
+
+  -- the tickets of all seats that are below the limit are the events that happened on all ports
+  module _ (l : ℕ) (limit : fuse.limit ≡ Some l) where
+    sum : (cs : List CutPort) → All (λ c. IsCutPort c.port c.image c.seat) cs → ((k : ℕ) (s : PortState) → k < length cs → (get_or (map emu_state (map (λ (c : CutPort). c.port) cs)) k s).fuse ≡ fuse)
+        → total (λ s. below l (tickets_of s)) (map (λ (c : CutPort). c.seat) cs) ≡ events_on (map (λ (c : CutPort). c.port) cs)
+    sum [] each of = refl
+    sum (c ∷ cs) each of =
+        let one = (each 0 c (omega arith)).events l (ap (λ (f : FuseName). f.limit) (of 0 (emu_state c.port) (omega arith)) ∙ limit) in
+        let rest = sum cs (λ k d low. each (suc k) d (omega (arith, low))) (λ k s low. of (suc k) s (omega (arith, low))) in
+        omega (arith, one, rest)
+
+    pub sum-is : total (λ s. below l (tickets_of s)) d.left.seats.items ≡ events_on row
+    sum-is =
+        let cut = driven.has.cut in
+        let long : length row ≡ length cut.cuts = ap length cut.ports_are ∙ length-map cut.cuts (λ (c : CutPort). c.port) in
+        ap (total (λ s. below l (tickets_of s))) cut.seats_are
+        ∙ sum cut.cuts cut.each (λ k s low. subst (λ (ps : List EmuPort). (get_or (map emu_state ps) k s).fuse ≡ fuse) cut.ports_are (fuses k s (omega (arith, low, long))))
+        ∙ ap events_on (sym cut.ports_are)
