@@ -1,5 +1,5 @@
 -- What `run` says, and that each status comes exactly where its cause holds.
-use Rattle.std.proofs.Common.{◌≡◌, ◌≢◌, ◌⊎◌, inl, inr, ◌<◌, ◌≤◌, ℕ, ◌+◌, Bool, cond, true, false, List, [], ◌∷◌, ◌++◌, Bor, length, map, drop, get_or, Option, Some, Ok, Err, refl, sym, ◌∙◌, ap, subst, arith, append_assoc}
+use Rattle.std.proofs.Common.{◌≡◌, ◌≢◌, ◌⊎◌, inl, inr, ◌<◌, ◌≤◌, ℕ, ◌+◌, Bool, cond, true, false, List, [], ◌∷◌, ◌++◌, Bor, length, map, drop, get_or, Option, None, Some, Ok, Err, refl, sym, ◌∙◌, ap, subst, arith, append_assoc}
 use Rattle.std.proofs.lemmas.List.{append-nil, drop_all, drop_more, length-map}
 use Rattle.std.specs.Prelude.{IfOk, MatchResult, Result}
 use Rattle.mq_blocks.specs.Descriptor.{Descriptor}
@@ -39,6 +39,7 @@ use Rattle.mq_script.specs.declared.refusal.ScriptRefusal.TheVariants.{At}
 use Rattle.mq_tree.specs.Volume.{Volume}
 use Rattle.mq_commands.proofs.Exact.{not-loaded-status, not-saved-status, of-image, one-held, read-faulty, read-once, refused-status, says-where, still-memory}
 use Rattle.mq_commands.proofs.Saying.{said-as}
+use Rattle.mq_commands.proofs.Unfailing.{never-failed}
 
 -- the end of `run`
 abbrev pub RunEnds : RunOptions → (name : List ℕ) → (names : List (List ℕ)) → (old new : FilesState) → (before after : SinkState) → ℕ → Type 0
@@ -220,12 +221,16 @@ not-refused x v _ for within refusals.RefusesRun.wanting other = other refl
 
 -- ---- which status comes
 
-ran-status : (memory failed : Bool) (result : ℕ) → IsUnlessWanting (cond memory 6 (cond failed 5 0)) result → (result ≡ 5) ⊎ IsUnlessWanting 0 result
-ran-status true failed result (inl six) = inr (inr (inr six))
-ran-status true failed result (inr other) = inr (inr other)
-ran-status false true result (inl five) = inl five
-ran-status false true result (inr other) = inr (inr other)
-ran-status false false result ends = inr ends
+-- the status is 5, and a command is to fail
+abbrev pub IsFailure : RunOptions → ℕ → Type 0
+IsFailure o result = (o.fail ≢ None) × (result ≡ 5)
+
+ran-status : (o : RunOptions) (memory failed : Bool) (result : ℕ) → (o.fail ≡ None → failed ≡ false) → IsUnlessWanting (cond memory 6 (cond failed 5 0)) result → IsFailure o result ⊎ IsUnlessWanting 0 result
+ran-status o true failed result whole (inl six) = inr (inr (inr six))
+ran-status o true failed result whole (inr other) = inr (inr other)
+ran-status o false true result whole (inl five) = inl (λ none. (let both = whole none in cc), five)
+ran-status o false true result whole (inr other) = inr (inr other)
+ran-status o false false result whole ends = inr ends
 
 module _ (o : RunOptions) (name : List ℕ) (names : List (List ℕ)) (old new : FilesState) (result : ℕ) (bytes : List ℕ) (x : DriveImage) (tells : Tells old.contents name (Some bytes)) (read : IsRead x bytes) where
   one-image : (other : List ℕ) (y : DriveImage) (mid : FilesState) → IsLoaded name other old mid → IsRead y other → y ≡ x
@@ -276,7 +281,7 @@ module _ (o : RunOptions) (name : List ℕ) (names : List (List ℕ)) (old new :
     refused-two more _ _ (not_run e few refuses other) ends = absurd (omega (arith, few, more))
     refused-two more _ _ runs.RefusesRunning.wanting ends = still-memory 2 result ends
 
-    refused-none : (v : Volume) (for : StandsFor x v) → AreWithin x for.top → length texts ≤ queues_of x.geometry → (status : ℕ) (text : List ℕ) → RefusesRunning x texts status text → IsUnlessWanting status result → (result ≡ 5) ⊎ IsUnlessWanting 0 result
+    refused-none : (v : Volume) (for : StandsFor x v) → AreWithin x for.top → length texts ≤ queues_of x.geometry → (status : ℕ) (text : List ℕ) → RefusesRunning x texts status text → IsUnlessWanting status result → IsFailure o result ⊎ IsUnlessWanting 0 result
     refused-none v for within few _ _ (too_many more) ends = absurd (omega (arith, few, more))
     refused-none v for within few _ _ (not_run e others refuses other) ends = absurd (not-refused x v e for within refuses other)
     refused-none v for within few _ _ runs.RefusesRunning.wanting ends = inr (still-memory 0 result ends)
@@ -285,10 +290,10 @@ module _ (o : RunOptions) (name : List ℕ) (names : List (List ℕ)) (old new :
       unless : IsUnlessWanting ends.0 result
       unless = unless_wanting ends.0 ends.1 result before after ends.3
 
-      pub done-where : length texts ≤ queues_of x.geometry → (v : Volume) (for : StandsFor x v) → AreWithin x for.top → (result ≡ 5) ⊎ IsUnlessWanting 0 result
+      pub done-where : length texts ≤ queues_of x.geometry → (v : Volume) (for : StandsFor x v) → AreWithin x for.top → IsFailure o result ⊎ IsUnlessWanting 0 result
       done-where few v for within =
-          settled ((result ≡ 5) ⊎ IsUnlessWanting 0 result) 0 (λ u. inr u) (refused-none v for within few)
-          (λ r less of u. ran-status (are_wanting r.answers.items) r.failed result u) ends.0 ends.1 ends.2 unless
+          settled (IsFailure o result ⊎ IsUnlessWanting 0 result) 0 (λ u. inr u) (refused-none v for within few)
+          (λ r less of u. ran-status o (are_wanting r.answers.items) r.failed result (never-failed x texts o r of) u) ends.0 ends.1 ends.2 unless
 
       pub too-many-where : queues_of x.geometry < length texts → IsUnlessWanting 2 result
       too-many-where more = settled (IsUnlessWanting 2 result) 2 (λ u. u) (refused-two more) (λ r few of u. absurd (omega (arith, few, more))) ends.0 ends.1 ends.2 unless

@@ -1,5 +1,5 @@
 // `run`: recovers an image, runs scripts on it, and saves what that left.
-ghost use Rattle.std.specs.Prelude.{◌≡◌, ◌⊎◌, ◌<◌, ◌≤◌, ◌^◌, ◌++◌, ◌∷◌, [], ℕ, List, IfErr, IfOk, Some, length, map};
+ghost use Rattle.std.specs.Prelude.{◌≡◌, ◌≢◌, ◌⊎◌, ◌<◌, ◌≤◌, ◌^◌, ◌++◌, ◌∷◌, [], ℕ, List, IfErr, IfOk, None, Some, length, map};
 ghost use Rattle.std.specs.Option.{ForSome};
 ghost use Rattle.mq_blocks.specs.Descriptor.{Descriptor};
 ghost use Rattle.mq_blocks.specs.Geometry.{queues_of};
@@ -281,7 +281,7 @@ pub fn run<F: Files, K: Sink, R: Threads + Wait + Sync, G: Gate + Sync>(
         → length texts ≤ queues_of x.geometry
         → (for : StandsFor x v)
         → AreWithin x for.top
-        → (result ≡ 5) ⊎ IsUnlessWanting 0 result }
+        → ((options.fail ≢ None) × (result ≡ 5)) ⊎ IsUnlessWanting 0 result }
     ensures refused_where { (bytes : List ℕ) (e : FileFault)
         → Tells (F.state files.old).contents name.now (Some bytes)
         → HasFault bytes (Some e)

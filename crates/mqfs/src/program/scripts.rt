@@ -58,7 +58,7 @@ pub fn run_scripts<F: Files, K: Sink, R: Threads + Wait + Sync, G: Gate + Sync>(
         × Runs (run_options options) image.now (map (λ s. s.now) scripts.now) (F.state files.old) (F.state files.new) status text
         × EndsWith status text result (K.state out.old) (K.state out.new) }
     ensures decided { (status : ℕ)
-        → RunDecides image.now (map (λ s. s.now) scripts.now) (F.state files.old).contents status
+        → RunDecides image.now (map (λ s. s.now) scripts.now) options (F.state files.old).contents status
         → IsUnlessWanting status result }
     ensures runs { IsRunnable image.now (map (λ s. s.now) scripts.now) (F.state files.old).contents
         → (result ≡ 5) ⊎ IsUnlessWanting 0 result }

@@ -39,7 +39,7 @@ pub returns-in-Run-clause-decided : goal.returns-in-Run-clause-decided
 returns-in-Run-clause-decided g c =
     rw c.in-Run.is (λ status decides.
     c.run_scripts.ensures.decided status
-    (subst (λ (l : List (Bor (List ℕ))). RunDecides c.in-Run.image.now (map (λ s. s.now) l) (g.F.Files.state c.args.files.now).contents status) (sym c.deref.ensures.value) decides))
+    (subst (λ (l : List (Bor (List ℕ))). RunDecides c.in-Run.image.now (map (λ s. s.now) l) c.in-Run.options (g.F.Files.state c.args.files.now).contents status) (sym c.deref.ensures.value) decides))
 
 pub returns-in-Run-clause-runs : goal.returns-in-Run-clause-runs
 returns-in-Run-clause-runs g c =
