@@ -20,19 +20,26 @@ use Rattle.mq_image_run.specs.declared.stopping.Stopped.{Stopped}
 
 -- ---- how a run ends
 
--- what is told of a checkpoint at the end that the drive refused
-abbrev pub IsStop : Cause → (events : ℕ) → Last → Type 0
-IsStop cause.Off events last = last ≡ Cut events
-IsStop (cause.Failed tx status) events last = last ≡ StoppedTx tx
-IsStop (cause.FailedHome block status) events last = last ≡ StoppedBlock block
-IsStop (cause.Stopped tx why) events last = last ≡ StoppedTx tx
+abbrev pub IsPowerOff : Cause → Type 0
+IsPowerOff why = why ≡ cause.Off
+
+-- the checkpoint at the end was refused since the power went off
+abbrev pub StoppedByPower : Option (Result ℕ CheckpointRefusal) → Type 0
+StoppedByPower finished = finished ≡ Some (Err (checkpoint.Drive cause.Off))
+
+-- What is told of a checkpoint at the end that the drive refused: its power was on.
+abbrev pub IsStop : Cause → Last → Type 0
+IsStop cause.Off last = ⊥
+IsStop (cause.Failed tx status) last = last ≡ StoppedTx tx
+IsStop (cause.FailedHome block status) last = last ≡ StoppedBlock block
+IsStop (cause.Stopped tx why) last = last ≡ StoppedTx tx
 
 -- With a cut the last line tells how many events happened. Else it tells what the checkpoint at the end came to: the
 -- number up to which all stands at home, or what stopped it.
 abbrev pub IsLast : (cut : Option ℕ) → (events : ℕ) → Option (Result ℕ CheckpointRefusal) → Last → Type 0
 IsLast (Some k) events finished last = last ≡ Cut events
 IsLast None events (Some (Ok n)) last = last ≡ Clean n
-IsLast None events (Some (Err (checkpoint.Drive why))) last = IsStop why events last
+IsLast None events (Some (Err (checkpoint.Drive why))) last = IsStop why last
 IsLast None events (Some (Err checkpoint.OutOfMemory)) last = ⊥
 IsLast None events None last = ⊥
 
