@@ -1,0 +1,39 @@
+-- What a run of scripts is, in the words of its report, in one statement each.
+use Rattle.std.specs.Prelude.{Bool, List}
+use Rattle.std.specs.List.{All}
+use Rattle.mq_blocks.specs.Drive.{PortState}
+use Rattle.mq_blocks.specs.declared.geometry.Geometry.{Geometry}
+use Rattle.mq_drive.specs.Steps.{Fault}
+use Rattle.mq_drive.specs.declared.port.Port.{Ghosts}
+use Rattle.mq_drive.specs.declared.port.Ports.{Ports}
+use Rattle.mq_legal.specs.Answers.{AreAnswered}
+use Rattle.mq_legal.specs.Histories.{AreOfBytes}
+use Rattle.mq_legal.specs.Legal.{IsLegal}
+use Rattle.mq_recover.specs.declared.standing.Standing.{Standing}
+use Rattle.mq_run.specs.Playing.{IsShort}
+use Rattle.mq_run.specs.Runs.{HasRunScripts}
+use Rattle.mq_run.specs.declared.end.RunEnd.{RunEnd}
+use Rattle.mq_script.specs.Scripts.{Script}
+use Rattle.mq_tree.specs.Laid.{IsLaid, map_of}
+use Rattle.mq_tree.specs.Volume.{Volume}
+
+module _ {P : Type 0} (G : Ghosts P) (state : P → PortState) (faults : P → List Fault) where
+  -- The lines of a run are a legal list from the base and the volume that lay on the home blocks at the opening, where the
+  -- groups can be counted in 32 bits and the scripts write bytes.
+  abbrev pub RunsAreLegal : Type 0
+  RunsAreLegal =
+      (g : Geometry) (ports : Ports P) (s : Standing) (scripts : List Script) (finish : Bool) (e : RunEnd P) (v : Volume)
+      → HasRunScripts G state faults g ports s scripts finish e
+      → All (λ script. IsShort script.groups) scripts
+      → AreOfBytes scripts
+      → IsLaid g (map_of g s.blocks.items) v
+      → IsLegal g scripts v s.base e.entries.items
+
+  -- Of each script the groups of a prefix are answered, each once, with the numbers of their lines; and each line is that
+  -- of an answered group.
+  abbrev pub RunsAreAnswered : Type 0
+  RunsAreAnswered =
+      (g : Geometry) (ports : Ports P) (s : Standing) (scripts : List Script) (finish : Bool) (e : RunEnd P)
+      → HasRunScripts G state faults g ports s scripts finish e
+      → All (λ script. IsShort script.groups) scripts
+      → AreAnswered scripts e.entries.items e.answers.items
