@@ -46,12 +46,12 @@ module _ {P : Type 0} (G : Ghosts P) (state : P → PortState) (faults : P → L
   -- ---- an answer
 
   -- its session, and the group that it is of
-  record ToldIn (t : Told) : Type 0 where
-    track : Track P G
-    own : slice_get run.tracks t.session ≡ Some track
-    at : slice_get track.told t.group ≡ Some t
-    session : Session G state faults g ports s scripts finish e run t.session track
-    is : ToldAt t.session session.script.groups track.reads track.view t.group t
+  pub record ToldIn (t : Told) : Type 0 where
+    pub track : Track P G
+    pub own : slice_get run.tracks t.session ≡ Some track
+    pub at : slice_get track.told t.group ≡ Some t
+    pub session : Session G state faults g ports s scripts finish e run t.session track
+    pub is : ToldAt t.session session.script.groups track.reads track.view t.group t
 
   told-at : (i j : ℕ) (track : Track P G) (t : Told) → slice_get run.tracks i ≡ Some track → slice_get track.told j ≡ Some t → ToldIn t
   told-at i j track t own at =
@@ -60,7 +60,7 @@ module _ {P : Type 0} (G : Ghosts P) (state : P → PortState) (faults : P → L
       let at_is : slice_get track.told t.group ≡ Some t = ap (slice_get track.told) b.group_is ∙ at in
       record { track = track; own = own_is; at = at_is; session = of-session t.session track own_is; is = (of-session t.session track own_is).tells.each t.group t at_is }
 
-  told-in : (t : Told) → Contains answers t → ToldIn t
+  pub told-in : (t : Told) → Contains answers t → ToldIn t
   told-in t c =
       let back : Contains (joined (map (λ (u : Track P G). u.told) run.tracks)) t = subst (λ (ts : List Told). Contains ts t) run.ends.leaves.answers c in
       let j = joined-in (map (λ (u : Track P G). u.told) run.tracks) t back in
@@ -204,7 +204,7 @@ module _ {P : Type 0} (G : Ghosts P) (state : P → PortState) (faults : P → L
       let read = b.session.tells.reads h.line h.there in
       (h.line, in_lines, (read.session_is, h.group), h.number, λ nay. absurd (true≢false (sym (ap is_good h.good) ∙ nay)))
 
-  names : (t : Told) → Contains answers t → (number : Option ℕ) → number_in t.answer ≡ number → Names lines t number
+  pub names : (t : Told) → Contains answers t → (number : Option ℕ) → number_in t.answer ≡ number → Names lines t number
   names t c None is = no-line t c is
   names t c (Some n) is = let b = told-in t c in elim (b.is.names n is) [ inl h ↦ commit-named t b n h | inr h ↦ read-named t b n h ]
 

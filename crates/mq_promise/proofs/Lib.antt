@@ -6,3 +6,6 @@ pub mod Numbered
 pub mod Views
 pub mod Whole
 pub mod Answered
+pub mod Done
+pub mod Tops
+pub mod Cutting

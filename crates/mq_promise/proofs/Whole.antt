@@ -330,7 +330,7 @@ module _ {P : Type 0} (G : Ghosts P) (state : P → PortState) (faults : P → L
           quiet = b.quiet;
         })
 
-    kinds : (l : Line) → Contains lines l → Kind g scripts start K.opening.base es l
+    pub kinds : (l : Line) → Contains lines l → Kind g scripts start K.opening.base es l
     kinds l c = elim (line-in l c) [ inl a ↦ commit-kind l a | inr b ↦ read-kind l b ]
 
     -- ---- along a session

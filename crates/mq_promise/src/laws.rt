@@ -1,5 +1,5 @@
 // What holds of a run of scripts.
-ghost use Rattle.mq_promise.specs.Laws.{RunsAreAnswered, RunsAreLegal};
+ghost use Rattle.mq_promise.specs.Laws.{AcknowledgedNumbersAreDone, EndsAreCuts, RunsAreAnswered, RunsAreLegal};
 
 use mq_drive::Port;
 
@@ -11,4 +11,11 @@ pub fn a_run_is_legal<P: Port>()
 /// The answers of a run are one for each group of a prefix of each script, with the number of its line.
 pub fn a_run_is_answered<P: Port>()
     ensures { RunsAreAnswered P.Port P.state P.faults }
+{}
+
+/// Whatever a power cut leaves of the ports after a run is a cut of its history: it reaches a number that is not below
+/// any that `fsync` has answered, and the volume at this number stands there.
+pub fn a_run_is_cut<P: Port>()
+    ensures done { AcknowledgedNumbersAreDone P.Port P.state P.faults }
+    ensures cut { EndsAreCuts P.Port P.state P.faults }
 {}
