@@ -59,7 +59,7 @@ home-of g m v b page h e = elim (cases_lt b (homes_of g)) [
 ]
 
 module _ {Q R : Type 0} (values : Values Q R FileEntry) where
-  many-txs : (base : ℕ) (es : List FileEntry) → length (history values file_group base es) ≡ length es
+  pub many-txs : (base : ℕ) (es : List FileEntry) → length (history values file_group base es) ≡ length es
   many-txs base [] = refl
   many-txs base (e ∷ es) = ap suc (many-txs base es)
 
@@ -92,7 +92,7 @@ module _ {P : Type 0} (G : Ghosts P) (state : P → PortState) (faults : P → L
   abbrev own : Geometry
   own = geometry_of values file_group K
 
-  abbrev parts : Parts
+  abbrev pub parts : Parts
   parts = parts_of state faults file_group K end []
 
   abbrev at-end : State
@@ -106,18 +106,18 @@ module _ {P : Type 0} (G : Ghosts P) (state : P → PortState) (faults : P → L
       ∙ (ap (λ (x : Geometry). x.queues) run.opened.shape
       ∙ sym (ap (λ (x : Geometry). x.queues) (shape-is G state faults g ports s scripts finish e run)))))
 
-  ends : EndsLawfully state faults file_group K end []
+  pub ends : EndsLawfully state faults file_group K end []
   ends = run.ends.run.run.ends all-sides [] (λ n among. absurd (cc))
 
   -- what is found on an image
-  record Found (h : Geometry) (queues : List PortImage) (root : PortImage) : Type 0 where
-    ds : List Descriptor
-    top : ℕ
-    read : IsRead h (shown says h queues root) ds top
-    top_low : top ≤ K.opening.base + length K.log
-    least : front (core_of values file_group K) ≤ root.base + length ds
-    most : root.base + length ds ≤ K.opening.base + length K.log
-    stand : (x : ℕ) (content : List ℕ) → x < homes_of h → ledger.map_after (start_of values file_group K.opening) (ledger.upto (root.base + length ds) (history_of values file_group K)) x ≡ Some content → stands h (shown says h queues root) ds x ≡ content
+  pub record Found (h : Geometry) (queues : List PortImage) (root : PortImage) : Type 0 where
+    pub ds : List Descriptor
+    pub top : ℕ
+    pub read : IsRead h (shown says h queues root) ds top
+    pub top_low : top ≤ K.opening.base + length K.log
+    pub least : front (core_of values file_group K) ≤ root.base + length ds
+    pub most : root.base + length ds ≤ K.opening.base + length K.log
+    pub stand : (x : ℕ) (content : List ℕ) → x < homes_of h → ledger.map_after (start_of values file_group K.opening) (ledger.upto (root.base + length ds) (history_of values file_group K)) x ≡ Some content → stands h (shown says h queues root) ds x ≡ content
 
   found-own : (queues : List PortImage) (root : PortImage) → machine.AreImages at-end queues root → Found own queues root
   found-own queues root images =
@@ -139,7 +139,7 @@ module _ {P : Type 0} (G : Ghosts P) (state : P → PortState) (faults : P → L
         stand = recovers.stand;
       }
 
-  found : (queues : List PortImage) (root : PortImage) → AreImages g (drive_of state e.ports) queues root → Found g queues root
+  pub found : (queues : List PortImage) (root : PortImage) → AreImages g (drive_of state e.ports) queues root → Found g queues root
   found queues root =
       let given : map state e.ports.queues.items ≡ map state (ports_of end) = ap (map state) run.ends.leaves.queues in
       let at_root : state e.ports.root ≡ state end.root.port = ap state run.ends.leaves.root in

@@ -9,3 +9,4 @@ pub mod Answered
 pub mod Done
 pub mod Tops
 pub mod Cutting
+pub mod Clean

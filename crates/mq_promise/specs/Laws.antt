@@ -1,5 +1,5 @@
 -- What a run of scripts is, in the words of its report, in one statement each.
-use Rattle.std.specs.Prelude.{◌≤◌, ℕ, Bool, List}
+use Rattle.std.specs.Prelude.{◌≡◌, ◌≤◌, ℕ, Bool, List, Ok, Some}
 use Rattle.std.specs.List.{All}
 use Rattle.mq_nvme.specs.Says.{says}
 use Rattle.mq_blocks.specs.Drive.{PortImage, PortState}
@@ -12,9 +12,9 @@ use Rattle.mq_files.specs.Group.{file_group}
 use Rattle.mq_journal.specs.Values.{side_values}
 use Rattle.mq_ledger.specs.KnownJournal.{front}
 use Rattle.mq_legal.specs.Answers.{AreAnswered, IsAcknowledged}
-use Rattle.mq_legal.specs.Cuts.{IsCut}
+use Rattle.mq_legal.specs.Cuts.{IsClean, IsCut}
 use Rattle.mq_legal.specs.Histories.{AreOfBytes}
-use Rattle.mq_legal.specs.Legal.{IsLegal}
+use Rattle.mq_legal.specs.Legal.{IsLegal, newest}
 use Rattle.mq_recover.specs.Drives.{AreImages, drive_of}
 use Rattle.mq_recover.specs.declared.standing.Standing.{Standing}
 use Rattle.mq_run.specs.Playing.{IsShort}
@@ -65,3 +65,14 @@ module _ {P : Type 0} (G : Ghosts P) (state : P → PortState) (faults : P → L
       → IsLaid g (map_of g s.blocks.items) v
       → AreImages g (drive_of state e.ports) queues root
       → (r : ℕ) × IsCut g scripts v s.base e.entries.items e.answers.items (shown says g queues root) r
+
+  -- Where the checkpoint at the end answered a number, it is the last one of the lines, and each image of the ports is
+  -- clean, whether the power was cut or not.
+  abbrev pub FinishedEndsAreClean : Type 0
+  FinishedEndsAreClean =
+      (g : Geometry) (ports : Ports P) (s : Standing) (scripts : List Script) (finish : Bool) (e : RunEnd P) (n : ℕ) (queues : List PortImage) (root : PortImage)
+      → HasRunScripts G state faults g ports s scripts finish e
+      → All (λ script. IsShort script.groups) scripts
+      → e.finished ≡ Some (Ok n)
+      → AreImages g (drive_of state e.ports) queues root
+      → (n ≡ newest s.base e.entries.items) × IsClean g (shown says g queues root) n

@@ -1,5 +1,6 @@
 // What holds of a run of scripts.
-ghost use Rattle.mq_promise.specs.Laws.{AcknowledgedNumbersAreDone, EndsAreCuts, RunsAreAnswered, RunsAreLegal};
+ghost use Rattle.mq_promise.specs.Laws.{AcknowledgedNumbersAreDone, EndsAreCuts, FinishedEndsAreClean};
+ghost use Rattle.mq_promise.specs.Laws.{RunsAreAnswered, RunsAreLegal};
 
 use mq_drive::Port;
 
@@ -14,8 +15,9 @@ pub fn a_run_is_answered<P: Port>()
 {}
 
 /// Whatever a power cut leaves of the ports after a run is a cut of its history: it reaches a number that is not below
-/// any that `fsync` has answered, and the volume at this number stands there.
+/// any that `fsync` has answered, and the volume at this number stands there. After a checkpoint at the end it is clean.
 pub fn a_run_is_cut<P: Port>()
     ensures done { AcknowledgedNumbersAreDone P.Port P.state P.faults }
     ensures cut { EndsAreCuts P.Port P.state P.faults }
+    ensures clean { FinishedEndsAreClean P.Port P.state P.faults }
 {}
