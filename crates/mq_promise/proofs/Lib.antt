@@ -1,0 +1,12 @@
+pub mod Pairs
+pub mod Came
+pub mod Played
+pub mod Building
+pub mod Numbered
+pub mod Views
+pub mod Whole
+pub mod Answered
+pub mod Done
+pub mod Tops
+pub mod Cutting
+pub mod Clean

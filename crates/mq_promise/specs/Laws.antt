@@ -1,0 +1,78 @@
+-- What a run of scripts is, in the words of its report, in one statement each.
+use Rattle.std.specs.Prelude.{◌≡◌, ◌≤◌, ℕ, Bool, List, Ok, Some}
+use Rattle.std.specs.List.{All}
+use Rattle.mq_nvme.specs.Says.{says}
+use Rattle.mq_blocks.specs.Drive.{PortImage, PortState}
+use Rattle.mq_blocks.specs.Journal.{shown}
+use Rattle.mq_blocks.specs.declared.geometry.Geometry.{Geometry}
+use Rattle.mq_drive.specs.Steps.{Fault}
+use Rattle.mq_drive.specs.declared.port.Port.{Ghosts}
+use Rattle.mq_drive.specs.declared.port.Ports.{Ports}
+use Rattle.mq_files.specs.Group.{file_group}
+use Rattle.mq_journal.specs.Values.{side_values}
+use Rattle.mq_ledger.specs.KnownJournal.{front}
+use Rattle.mq_legal.specs.Answers.{AreAnswered, IsAcknowledged}
+use Rattle.mq_legal.specs.Cuts.{IsClean, IsCut}
+use Rattle.mq_legal.specs.Histories.{AreOfBytes}
+use Rattle.mq_legal.specs.Legal.{IsLegal, newest}
+use Rattle.mq_recover.specs.Drives.{AreImages, drive_of}
+use Rattle.mq_recover.specs.declared.standing.Standing.{Standing}
+use Rattle.mq_run.specs.Playing.{IsShort}
+use Rattle.mq_run.specs.Runs.{HasRunScripts}
+use Rattle.mq_run.specs.declared.end.RunEnd.{RunEnd}
+use Rattle.mq_rules.specs.Rule.{core_of}
+use Rattle.mq_script.specs.Scripts.{Script}
+use Rattle.mq_tree.specs.Laid.{IsLaid, map_of}
+use Rattle.mq_tree.specs.Volume.{Volume}
+
+module _ {P : Type 0} (G : Ghosts P) (state : P → PortState) (faults : P → List Fault) where
+  -- The lines of a run are a legal list from the base and the volume that lay on the home blocks at the opening, where the
+  -- groups can be counted in 32 bits and the scripts write bytes.
+  abbrev pub RunsAreLegal : Type 0
+  RunsAreLegal =
+      (g : Geometry) (ports : Ports P) (s : Standing) (scripts : List Script) (finish : Bool) (e : RunEnd P) (v : Volume)
+      → HasRunScripts G state faults g ports s scripts finish e
+      → All (λ script. IsShort script.groups) scripts
+      → AreOfBytes scripts
+      → IsLaid g (map_of g s.blocks.items) v
+      → IsLegal g scripts v s.base e.entries.items
+
+  -- Of each script the groups of a prefix are answered, each once, with the numbers of their lines; and each line is that
+  -- of an answered group.
+  abbrev pub RunsAreAnswered : Type 0
+  RunsAreAnswered =
+      (g : Geometry) (ports : Ports P) (s : Standing) (scripts : List Script) (finish : Bool) (e : RunEnd P)
+      → HasRunScripts G state faults g ports s scripts finish e
+      → All (λ script. IsShort script.groups) scripts
+      → AreAnswered scripts e.entries.items e.answers.items
+
+  -- What `fsync` has answered is known to be done at the end.
+  abbrev pub AcknowledgedNumbersAreDone : Type 0
+  AcknowledgedNumbersAreDone =
+      (g : Geometry) (ports : Ports P) (s : Standing) (scripts : List Script) (finish : Bool) (e : RunEnd P) (n : ℕ)
+      → (run : HasRunScripts G state faults g ports s scripts finish e)
+      → All (λ script. IsShort script.groups) scripts
+      → IsAcknowledged scripts e.answers.items n
+      → n ≤ front (core_of (side_values state faults) file_group run.ends.run.end.known)
+
+  -- Whatever a power cut leaves of the ports at the end is a cut of this history.
+  abbrev pub EndsAreCuts : Type 0
+  EndsAreCuts =
+      (g : Geometry) (ports : Ports P) (s : Standing) (scripts : List Script) (finish : Bool) (e : RunEnd P) (v : Volume) (queues : List PortImage) (root : PortImage)
+      → HasRunScripts G state faults g ports s scripts finish e
+      → All (λ script. IsShort script.groups) scripts
+      → AreOfBytes scripts
+      → IsLaid g (map_of g s.blocks.items) v
+      → AreImages g (drive_of state e.ports) queues root
+      → (r : ℕ) × IsCut g scripts v s.base e.entries.items e.answers.items (shown says g queues root) r
+
+  -- Where the checkpoint at the end answered a number, it is the last one of the lines, and each image of the ports is
+  -- clean, whether the power was cut or not.
+  abbrev pub FinishedEndsAreClean : Type 0
+  FinishedEndsAreClean =
+      (g : Geometry) (ports : Ports P) (s : Standing) (scripts : List Script) (finish : Bool) (e : RunEnd P) (n : ℕ) (queues : List PortImage) (root : PortImage)
+      → HasRunScripts G state faults g ports s scripts finish e
+      → All (λ script. IsShort script.groups) scripts
+      → e.finished ≡ Some (Ok n)
+      → AreImages g (drive_of state e.ports) queues root
+      → (n ≡ newest s.base e.entries.items) × IsClean g (shown says g queues root) n

@@ -1,0 +1,23 @@
+// What holds of a run of scripts.
+ghost use Rattle.mq_promise.specs.Laws.{AcknowledgedNumbersAreDone, EndsAreCuts, FinishedEndsAreClean};
+ghost use Rattle.mq_promise.specs.Laws.{RunsAreAnswered, RunsAreLegal};
+
+use mq_drive::Port;
+
+/// The commits and reads of a run are a legal list, from the volume and the base at its opening on.
+pub fn a_run_is_legal<P: Port>()
+    ensures { RunsAreLegal P.Port P.state P.faults }
+{}
+
+/// The answers of a run are one for each group of a prefix of each script, with the number of its line.
+pub fn a_run_is_answered<P: Port>()
+    ensures { RunsAreAnswered P.Port P.state P.faults }
+{}
+
+/// Whatever a power cut leaves of the ports after a run is a cut of its history: it reaches a number that is not below
+/// any that `fsync` has answered, and the volume at this number stands there. After a checkpoint at the end it is clean.
+pub fn a_run_is_cut<P: Port>()
+    ensures done { AcknowledgedNumbersAreDone P.Port P.state P.faults }
+    ensures cut { EndsAreCuts P.Port P.state P.faults }
+    ensures clean { FinishedEndsAreClean P.Port P.state P.faults }
+{}

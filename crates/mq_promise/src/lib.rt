@@ -1,0 +1,6 @@
+//! What a run of scripts is, in the words of its report.
+#![tactic(auto)]
+
+mod laws;
+
+pub use laws::{a_run_is_answered, a_run_is_cut, a_run_is_legal};
