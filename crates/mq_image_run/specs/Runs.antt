@@ -1,5 +1,6 @@
 -- What a run makes of an image.
 use Rattle.std.specs.Prelude.{◌≡◌, ℕ, List, Option, None, Some, Result, Ok, Err}
+use Rattle.std.specs.List.{All}
 use Rattle.mq_blocks.specs.Drive.{FuseName}
 use Rattle.mq_checkpoint.specs.declared.refusal.CheckpointRefusal.{CheckpointRefusal}
 use Rattle.mq_checkpoint.specs.declared.refusal.CheckpointRefusal.TheVariants as checkpoint
@@ -9,6 +10,7 @@ use Rattle.mq_images.specs.Recovering.{IsRecoveryOf}
 use Rattle.mq_images.specs.declared.recovery.RecoveredImage.{RecoveredImage}
 use Rattle.mq_report.specs.declared.line.Last.{Last}
 use Rattle.mq_report.specs.declared.line.Last.TheVariants.{Clean, Cut, StoppedBlock, StoppedTx}
+use Rattle.mq_run.specs.Playing.{IsShort}
 use Rattle.mq_script.specs.Scripts.{Script}
 use Rattle.mq_side.specs.declared.answers.Cause.{Cause}
 use Rattle.mq_side.specs.declared.answers.Cause.TheVariants as cause
@@ -45,9 +47,11 @@ IsLast None events None last = ⊥
 
 -- ---- the whole
 
--- The image was recovered, whole, and is within the limits of a run. The scripts were run on the drive that started from
--- what this left, and the image is what the cut of its power at the end left.
+-- Groups and requests of the scripts can be counted in 32 bits. The image was recovered, whole, and is within the limits of
+-- a run. The scripts were run on the drive that started from what this left, and the image is what the cut of its power at
+-- the end left.
 pub record IsRunOf (x : DriveImage) (scripts : List Script) (o : RunOptions) (r : ImageRun) : Type 0 where
+  pub short : All (λ script. IsShort script.groups) scripts
   pub recovered : RecoveredImage
   pub recovery : IsRecoveryOf x None recovered
   pub within : AreWithin x recovered.found.base

@@ -10,3 +10,4 @@ pub mod Done
 pub mod Tops
 pub mod Cutting
 pub mod Clean
+pub mod Saved

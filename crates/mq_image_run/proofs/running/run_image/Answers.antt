@@ -36,6 +36,7 @@ returns-clause-ok g c =
     let same = ap (λ (i : DriveImage). i.geometry) c.image.view_is in
     let stops = c.in_ok-stopped.ensures.ok in
     record {
+      short = c.are_short.ensures c.if-not-are_short.false;
       recovered = c.in_ok-recovered.recovered;
       recovery = is.0;
       within = is.1;
