@@ -1,5 +1,5 @@
 -- What `run` says, and that each status comes exactly where its cause holds.
-use Rattle.std.proofs.Common.{◌≡◌, ◌≢◌, ◌⊎◌, inl, inr, ◌<◌, ◌≤◌, ℕ, ◌+◌, Bool, cond, true, false, List, [], ◌∷◌, ◌++◌, Bor, length, map, drop, get_or, Option, None, Some, Ok, Err, refl, sym, ◌∙◌, ap, subst, arith, append_assoc}
+use Rattle.std.proofs.Common.{◌≡◌, ◌≢◌, ◌⊎◌, inl, inr, ◌<◌, ◌≤◌, ℕ, zero, suc, ◌+◌, Bool, cond, true, false, List, [], ◌∷◌, ◌++◌, Bor, length, map, drop, get_or, Option, None, Some, Ok, Err, refl, sym, ◌∙◌, ap, subst, arith, append_assoc}
 use Rattle.std.proofs.lemmas.List.{append-nil, drop_all, drop_more, length-map}
 use Rattle.std.specs.Prelude.{IfOk, MatchResult, Result}
 use Rattle.mq_blocks.specs.Descriptor.{Descriptor}
@@ -20,6 +20,10 @@ use Rattle.mq_image_run.specs.Refusals as refusals
 use Rattle.mq_image_run.specs.Runs.{IsRunOf}
 use Rattle.mq_image_run.specs.declared.options.RunOptions.{RunOptions}
 use Rattle.mq_image_run.specs.declared.ran.ImageRun.{ImageRun}
+use Rattle.mq_legal.specs.Laws.{AreSpelled}
+use Rattle.mq_legal.proofs.Spelled.{spelled-bytes}
+use Rattle.mq_promise.specs.Images.{KeepsPromise}
+use Rattle.mq_promise.proofs.Saved.{keeps-promise}
 use Rattle.mq_images.specs.Standing as standings
 use Rattle.mq_images.specs.Standing.{Reads, RefusesDrive, StandsFor}
 use Rattle.mq_images.specs.Views.{view_of}
@@ -117,6 +121,17 @@ many-refused stat words x scripts queues (Ok a) is same more =
     said-as (RefusesRunning x scripts) 2 (stat a) (scripts_line (length scripts) (queues_of x.geometry)) (words a) is.0 (is.1 ∙ ap (scripts_line (length scripts)) same) (too_many (omega (arith, same, more)))
 many-refused stat words x scripts queues (Err e) is same more = tt
 
+-- the texts of the names spell their scripts, which so write bytes
+loaded-spelled : (names : List (List ℕ)) (scripts : List Script) (old new : FilesState) → AreLoaded names scripts old new → AreSpelled scripts
+loaded-spelled [] [] old new loaded s low = absurd (omega arith)
+loaded-spelled [] (script ∷ scripts) old new loaded s low = absurd loaded
+loaded-spelled (name ∷ names) [] old new loaded s low = absurd loaded
+loaded-spelled (name ∷ names) (script ∷ scripts) old new loaded zero low = (loaded.0, loaded.3.spells)
+loaded-spelled (name ∷ names) (script ∷ scripts) old new loaded (suc s) low = loaded-spelled names scripts loaded.1 new loaded.4 s (omega arith)
+
+kept-promise : (o : RunOptions) (names : List (List ℕ)) (x : DriveImage) (scripts : List Script) (r : ImageRun) (old new : FilesState) → AreLoaded names scripts old new → IsRunOf x scripts o r → KeepsPromise x scripts r
+kept-promise o names x scripts r old new loaded run = keeps-promise x scripts o r run (spelled-bytes scripts (loaded-spelled names scripts old new loaded))
+
 pub run-saved : (o : RunOptions) (name : List ℕ) (names : List (List ℕ)) (bytes : List ℕ) (x : DriveImage) (scripts : List Script) (file : List ℕ) (status : ℕ) (text : List ℕ) (old mid read new : FilesState) (before between after : SinkState) (result : ℕ)
     → IsLoaded name bytes old mid → IsRead x bytes → AreLoaded names scripts mid read → between ≡ before → IsRunAs x scripts o file status text
     → (IsSaved name file read new × EndsWith status text result between after) ⊎ ((s : ℕ) × (t : List ℕ) × IsNotSaved name read new s t × EndsWith s t result between after)
@@ -125,11 +140,11 @@ run-saved o name names bytes x scripts file status text old mid read new before 
   status,
   text,
   said-as (Runs o name names old new) (run_status run.0) status (run_text run.0) text run.3.1 run.3.2
-      (ran bytes x scripts run.0 mid read load is loaded run.1 run.2 (subst (λ (l : List ℕ). IsSaved name l read new) run.3.0 save.0)),
+      (ran bytes x scripts run.0 mid read load is loaded run.1 run.2 (kept-promise o names x scripts run.0 mid read loaded run.2) (subst (λ (l : List ℕ). IsSaved name l read new) run.3.0 save.0)),
   subst (λ (s : SinkState). EndsWith status text result s after) same save.1,
 )
 run-saved o name names bytes x scripts file status text old mid read new before between after result load is loaded same run (inr not) =
-    (not.0, not.1, unsaved bytes x scripts run.0 mid read load is loaded run.1 run.2 not.2, subst (λ (s : SinkState). EndsWith not.0 not.1 result s after) same not.3)
+    (not.0, not.1, unsaved bytes x scripts run.0 mid read load is loaded run.1 run.2 (kept-promise o names x scripts run.0 mid read loaded run.2) not.2, subst (λ (s : SinkState). EndsWith not.0 not.1 result s after) same not.3)
 
 pub run-refused : {A E : Type 0} (stat : A → ℕ) (words : A → List ℕ) (o : RunOptions) (name : List ℕ) (names : List (List ℕ)) (bytes : List ℕ) (x : DriveImage) (scripts : List Script) (old mid new : FilesState) (before between after : SinkState) (answer : Result A E) (result : ℕ)
     → IsLoaded name bytes old mid → IsRead x bytes → AreLoaded names scripts mid new → between ≡ before
@@ -240,11 +255,11 @@ module _ (o : RunOptions) (name : List ℕ) (names : List (List ℕ)) (old new :
   named wanted status text says ends = says-where (SaysOfImage SaysNothing) name bytes wanted old new result status text tells (of-image SaysNothing bytes x wanted read (λ s t nothing. absurd nothing)) says ends
 
   bad-status : HoldBadScript old.contents names → (status : ℕ) (text : List ℕ) → Runs o name names old new status text → IsUnlessWanting status result → IsUnlessWanting 2 result
-  bad-status bad _ _ (ran other y scripts r mid all load is loaded few of save) ends = absurd (bad-unloaded old.contents names scripts mid all load.contents bad loaded)
+  bad-status bad _ _ (ran other y scripts r mid all load is loaded few of keeps save) ends = absurd (bad-unloaded old.contents names scripts mid all load.contents bad loaded)
   bad-status bad status text (no_image says) ends = named 2 status text says ends
   bad-status bad status text (no_scripts other y mid load is refuses) ends = scripts-two names mid new status text result refuses ends
   bad-status bad status text (no_run other y scripts mid load is loaded refuses) ends = absurd (bad-unloaded old.contents names scripts mid new load.contents bad loaded)
-  bad-status bad status text (unsaved other y scripts r mid all load is loaded few of not) ends = absurd (bad-unloaded old.contents names scripts mid all load.contents bad loaded)
+  bad-status bad status text (unsaved other y scripts r mid all load is loaded few of keeps not) ends = absurd (bad-unloaded old.contents names scripts mid all load.contents bad loaded)
 
   module _ (texts : List Script) (hold : HoldScripts old.contents names texts) where
     -- either the scripts are run, or why not is said, a fault and want of memory aside
@@ -252,7 +267,7 @@ module _ (o : RunOptions) (name : List ℕ) (names : List (List ℕ)) (old new :
         → ((status : ℕ) (text : List ℕ) → RefusesRunning x texts status text → IsUnlessWanting status result → Goal)
         → ((r : ImageRun) → length texts ≤ queues_of x.geometry → IsRunOf x texts o r → IsUnlessWanting (run_status r) result → Goal)
         → (status : ℕ) (text : List ℕ) → Runs o name names old new status text → IsUnlessWanting status result → Goal
-    settled Goal wanted from none run _ _ (ran other y scripts r mid all load is loaded few of save) ends =
+    settled Goal wanted from none run _ _ (ran other y scripts r mid all load is loaded few of keeps save) ends =
         let image : y ≡ x = one-image other y mid load is in
         let same : scripts ≡ texts = same-scripts old.contents names scripts texts mid all load.contents hold loaded in
         run r
@@ -268,7 +283,7 @@ module _ (o : RunOptions) (name : List ℕ) (names : List (List ℕ)) (old new :
         none status text
         (subst (λ (z : DriveImage). RefusesRunning z texts status text) image (subst (λ (l : List Script). RefusesRunning y l status text) same refuses))
         ends
-    settled Goal wanted from none run status text (unsaved other y scripts r mid all load is loaded few of not) ends =
+    settled Goal wanted from none run status text (unsaved other y scripts r mid all load is loaded few of keeps not) ends =
         from (not-saved-status name all new status text wanted result not ends)
 
     refused-three : length texts ≤ queues_of x.geometry → (status : ℕ) (text : List ℕ) → RefusesRunning x texts status text → IsUnlessWanting status result → IsUnlessWanting 3 result
@@ -315,7 +330,7 @@ module _ (o : RunOptions) (name : List ℕ) (names : List (List ℕ)) (old new :
 -- bytes that are no image
 fault-status : (o : RunOptions) (name : List ℕ) (names : List (List ℕ)) (old new : FilesState) (result : ℕ) (bytes : List ℕ) (e : FileFault) → Tells old.contents name (Some bytes) → HasFault bytes (Some e)
     → (status : ℕ) (text : List ℕ) → Runs o name names old new status text → IsUnlessWanting status result → IsUnlessWanting 3 result
-fault-status o name names old new result bytes e tells has _ _ (ran other y scripts r mid all load is loaded few of save) ends =
+fault-status o name names old new result bytes e tells has _ _ (ran other y scripts r mid all load is loaded few of keeps save) ends =
     absurd (read-faulty y bytes e (subst (IsRead y) (one-held old.contents name bytes other tells load.holds) is) has)
 fault-status o name names old new result bytes e tells has status text (no_image says) ends =
     says-where (SaysOfImage SaysNothing) name bytes 3 old new result status text tells (refused-status SaysNothing bytes e has) says ends
@@ -323,7 +338,7 @@ fault-status o name names old new result bytes e tells has status text (no_scrip
     absurd (read-faulty y bytes e (subst (IsRead y) (one-held old.contents name bytes other tells load.holds) is) has)
 fault-status o name names old new result bytes e tells has status text (no_run other y scripts mid load is loaded refuses) ends =
     absurd (read-faulty y bytes e (subst (IsRead y) (one-held old.contents name bytes other tells load.holds) is) has)
-fault-status o name names old new result bytes e tells has status text (unsaved other y scripts r mid all load is loaded few of not) ends =
+fault-status o name names old new result bytes e tells has status text (unsaved other y scripts r mid all load is loaded few of keeps not) ends =
     absurd (read-faulty y bytes e (subst (IsRead y) (one-held old.contents name bytes other tells load.holds) is) has)
 
 pub fault-where : (o : RunOptions) (name : List ℕ) (names : List (List ℕ)) (old new : FilesState) (before after : SinkState) (result : ℕ) (bytes : List ℕ) (e : FileFault) → RunEnds o name names old new before after result → Tells old.contents name (Some bytes) → HasFault bytes (Some e) → IsUnlessWanting 3 result

@@ -16,6 +16,7 @@ use Rattle.mq_image_run.specs.declared.ran.ImageRun.{ImageRun}
 use Rattle.mq_images.specs.declared.refusal.StandingRefusal.{StandingRefusal}
 use Rattle.mq_images.specs.declared.refusal.StandingRefusal.TheVariants as standing
 use Rattle.mq_outside.specs.Outside.{FilesState, Held, Tells}
+use Rattle.mq_promise.specs.Images.{KeepsPromise}
 use Rattle.mq_report.specs.Texts.{report_lines, spelled}
 use Rattle.mq_report.specs.declared.line.Told.{Told}
 use Rattle.mq_script.specs.Answers.{Refused}
@@ -103,14 +104,15 @@ abbrev pub RefusesName : (name : List ℕ) → (old new : FilesState) → (statu
 RefusesName name old new status text = SaysOf (SaysOfImage SaysNothing) name old new status text
 
 -- The image that the name held was recovered, the scripts that the other names held were run on it, and the name holds
--- what that left; or nothing was saved, and why is said: of the image, then of the scripts in order, then of their run,
+-- what that left. What is told of it is a legal list with the answers of its lines, and what the name holds is a cut of this
+-- history. Or nothing was saved, and why is said: of the image, then of the scripts in order, then of their run,
 -- and then of the save.
 pub data Runs (o : RunOptions) (name : List ℕ) (names : List (List ℕ)) (old new : FilesState) : (status : ℕ) → (text : List ℕ) → Type 0 where
-  ran : (bytes : List ℕ) (x : DriveImage) (scripts : List Script) (r : ImageRun) (mid read : FilesState) → IsLoaded name bytes old mid → IsRead x bytes → AreLoaded names scripts mid read → length scripts ≤ queues_of x.geometry → IsRunOf x scripts o r → IsSaved name (image_bytes r.image) read new → Runs o name names old new (run_status r) (run_text r)
+  ran : (bytes : List ℕ) (x : DriveImage) (scripts : List Script) (r : ImageRun) (mid read : FilesState) → IsLoaded name bytes old mid → IsRead x bytes → AreLoaded names scripts mid read → length scripts ≤ queues_of x.geometry → IsRunOf x scripts o r → KeepsPromise x scripts r → IsSaved name (image_bytes r.image) read new → Runs o name names old new (run_status r) (run_text r)
   no_image : {status : ℕ} {text : List ℕ} → RefusesName name old new status text → Runs o name names old new status text
   no_scripts : {status : ℕ} {text : List ℕ} (bytes : List ℕ) (x : DriveImage) (mid : FilesState) → IsLoaded name bytes old mid → IsRead x bytes → RefusesScripts names mid new status text → Runs o name names old new status text
   no_run : {status : ℕ} {text : List ℕ} (bytes : List ℕ) (x : DriveImage) (scripts : List Script) (mid : FilesState) → IsLoaded name bytes old mid → IsRead x bytes → AreLoaded names scripts mid new → RefusesRunning x scripts status text → Runs o name names old new status text
-  unsaved : {status : ℕ} {text : List ℕ} (bytes : List ℕ) (x : DriveImage) (scripts : List Script) (r : ImageRun) (mid read : FilesState) → IsLoaded name bytes old mid → IsRead x bytes → AreLoaded names scripts mid read → length scripts ≤ queues_of x.geometry → IsRunOf x scripts o r → IsNotSaved name read new status text → Runs o name names old new status text
+  unsaved : {status : ℕ} {text : List ℕ} (bytes : List ℕ) (x : DriveImage) (scripts : List Script) (r : ImageRun) (mid read : FilesState) → IsLoaded name bytes old mid → IsRead x bytes → AreLoaded names scripts mid read → length scripts ≤ queues_of x.geometry → IsRunOf x scripts o r → KeepsPromise x scripts r → IsNotSaved name read new status text → Runs o name names old new status text
 
 -- ---- what files tell of scripts
 

@@ -141,13 +141,12 @@ module _ (x : DriveImage) (scripts : List Script) (o : RunOptions) (r : ImageRun
 
   is-a-cut : (k : ℕ) × IsCut g scripts volume r.base r.entries.items r.answers.items (view_of r.image) k
   is-a-cut =
-      let is = is-cut emu_ghosts emu_state emu_faults g run.stops.drives.ports standing scripts (is_none o.cut) end ran volume (queue_ports r.image) (root_port r.image) run.short bytes laid images in
-      (
+      let is = is-cut emu_ghosts emu_state emu_faults g run.stops.drives.ports standing scripts (is_none o.cut) end ran volume (queue_ports r.image) (root_port r.image) run.short bytes laid images in (
         is.0,
         subst (λ (i : Shown). IsCut g scripts volume r.base r.entries.items r.answers.items i is.0) seen-is
-        (subst (λ told. IsCut g scripts volume r.base r.entries.items told.items seen is.0) answers-are
-        (subst (λ es. IsCut g scripts volume r.base es.items end.answers.items seen is.0) entries-are
-        (subst (λ (b : ℕ). IsCut g scripts volume b end.entries.items end.answers.items seen is.0) base-is is.1))),
+            (subst (λ told. IsCut g scripts volume r.base r.entries.items told.items seen is.0) answers-are
+            (subst (λ es. IsCut g scripts volume r.base es.items end.answers.items seen is.0) entries-are
+            (subst (λ (b : ℕ). IsCut g scripts volume b end.entries.items end.answers.items seen is.0) base-is is.1))),
       )
 
   finished-is : (n : ℕ) → r.last ≡ Clean n → end.finished ≡ Some (Ok n)
@@ -155,8 +154,7 @@ module _ (x : DriveImage) (scripts : List Script) (o : RunOptions) (r : ImageRun
 
   cleaned : (n : ℕ) → r.last ≡ Clean n → (n ≡ newest r.base r.entries.items) × IsClean g (view_of r.image) n
   cleaned n told =
-      let is = is-clean emu_ghosts emu_state emu_faults g run.stops.drives.ports standing scripts (is_none o.cut) end n ran (finished-is n told) (queue_ports r.image) (root_port r.image) run.short images in
-      (
+      let is = is-clean emu_ghosts emu_state emu_faults g run.stops.drives.ports standing scripts (is_none o.cut) end n ran (finished-is n told) (queue_ports r.image) (root_port r.image) run.short images in (
         is.0 ∙ (ap (λ (b : ℕ). newest b end.entries.items) base-is ∙ ap (λ es. newest r.base es.items) entries-are),
         subst (λ (i : Shown). IsClean g i n) seen-is is.1,
       )

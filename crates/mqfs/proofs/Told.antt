@@ -359,8 +359,8 @@ no-image-status : (x : DriveImage) (status : ℕ) (text : List ℕ) → SaysNoth
 no-image-status x status text nothing = absurd nothing
 
 told_run : (o : RunOptions) (name : List ℕ) (names : List (List ℕ)) (old new : FilesState) (status : ℕ) (text : List ℕ) → Runs o name names old new status text → Told (Some name) (name ∷ names) Nothing (Runs o name names old new 2 text) (Runs o name names old new 5 text) old new status
-told_run o name names old new _ _ (ran bytes x scripts r mid read load is were few of save) =
-    was-run o name names old new _ _ (ran bytes x scripts r mid read load is were few of save) (image_bytes r.image) read (statuses-of-run (are_wanting r.answers.items) r.failed)
+told_run o name names old new _ _ (ran bytes x scripts r mid read load is were few of keeps save) =
+    was-run o name names old new _ _ (ran bytes x scripts r mid read load is were few of keeps save) (image_bytes r.image) read (statuses-of-run (are_wanting r.answers.items) r.failed)
     (after-load (length names) name bytes old mid read load (told_loaded names scripts mid read were)) save
 told_run o name names old new status text (runs.no_image says) =
     weaker (Some name) (name ∷ names) _ _ old new status (told_image (SaysOfImage SaysNothing) (statuses SaysNothing no-image-status) (Some name) names name old new status text says)
@@ -369,7 +369,7 @@ told_run o name names old new status text (runs.no_scripts bytes x mid load is r
 told_run o name names old new status text (runs.no_run bytes x scripts mid load is were refuses) =
     not-run o name names old new status text (runs.no_run bytes x scripts mid load is were refuses)
     (later-refused names name bytes old mid new status load (running_refused x scripts names mid new status text (told_loaded names scripts mid new were) refuses))
-told_run o name names old new status text (runs.unsaved bytes x scripts r mid read load is were few of not) =
+told_run o name names old new status text (runs.unsaved bytes x scripts r mid read load is were few of keeps not) =
     let t = after-load (length names) name bytes old mid read load (told_loaded names scripts mid read were) in
     weaker (Some name) (name ∷ names) _ _ old new status (told_not_saved (name ∷ names) name old read new status text t.contents t.faults not)
 
