@@ -10,3 +10,5 @@ pub mod Done
 pub mod Tops
 pub mod Cutting
 pub mod Clean
+pub mod Shares
+pub mod Rung

@@ -3,4 +3,4 @@
 
 mod laws;
 
-pub use laws::{a_run_is_answered, a_run_is_cut, a_run_is_legal};
+pub use laws::{a_run_is_answered, a_run_is_cut, a_run_is_legal, a_run_is_rung};
