@@ -27,6 +27,10 @@ use Rattle.mq_script.specs.Scripts.{Script}
 use Rattle.mq_tree.specs.Laid.{IsLaid, map_of}
 use Rattle.mq_tree.specs.Volume.{Volume}
 
+-- the doorbell of a queue
+abbrev pub bell_of : {P : Type 0} → (P → PortState) → (queue : ℕ) → Ports P → ℕ
+bell_of state q ports = (port_at (drive_of state ports).queues q).doorbell
+
 module _ {P : Type 0} (G : Ghosts P) (state : P → PortState) (faults : P → List Fault) where
   -- The lines of a run are a legal list from the base and the volume that lay on the home blocks at the opening, where the
   -- groups can be counted in 32 bits and the scripts write bytes.
@@ -60,7 +64,8 @@ module _ {P : Type 0} (G : Ghosts P) (state : P → PortState) (faults : P → L
   -- Whatever a power cut leaves of the ports at the end is a cut of this history.
   abbrev pub EndsAreCuts : Type 0
   EndsAreCuts =
-      (g : Geometry) (ports : Ports P) (s : Standing) (scripts : List Script) (finish : Bool) (e : RunEnd P) (v : Volume) (queues : List PortImage) (root : PortImage)
+      (g : Geometry) (ports : Ports P) (s : Standing) (scripts : List Script) (finish : Bool) (e : RunEnd P) (v : Volume)
+      (queues : List PortImage) (root : PortImage)
       → HasRunScripts G state faults g ports s scripts finish e
       → All (λ script. IsShort script.groups) scripts
       → AreOfBytes scripts
@@ -72,7 +77,8 @@ module _ {P : Type 0} (G : Ghosts P) (state : P → PortState) (faults : P → L
   -- clean, whether the power was cut or not.
   abbrev pub FinishedEndsAreClean : Type 0
   FinishedEndsAreClean =
-      (g : Geometry) (ports : Ports P) (s : Standing) (scripts : List Script) (finish : Bool) (e : RunEnd P) (n : ℕ) (queues : List PortImage) (root : PortImage)
+      (g : Geometry) (ports : Ports P) (s : Standing) (scripts : List Script) (finish : Bool) (e : RunEnd P) (n : ℕ)
+      (queues : List PortImage) (root : PortImage)
       → HasRunScripts G state faults g ports s scripts finish e
       → All (λ script. IsShort script.groups) scripts
       → e.finished ≡ Some (Ok n)
@@ -89,4 +95,4 @@ module _ {P : Type 0} (G : Ghosts P) (state : P → PortState) (faults : P → L
       → AreOfBytes scripts
       → IsLaid g (map_of g s.blocks.items) v
       → q < queues_of g
-      → IsRung g scripts v e.entries.items e.answers.items q (port_at (drive_of state ports).queues q).doorbell (port_at (drive_of state e.ports).queues q).doorbell
+      → IsRung g scripts v e.entries.items e.answers.items q (bell_of state q ports) (bell_of state q e.ports)
