@@ -27,7 +27,7 @@ use Rattle.mq_promise.proofs.Pairs.{get-in, get-map, in-get, in-joined, in-left,
 use Rattle.mq_promise.proofs.Played.{HasEntry, HasLine, ToldAt}
 use Rattle.mq_promise.proofs.Whole.{Session, commits-are, drawn-stands, line-in, session-of, small-call}
 
-some-at : {A : Type 0} (xs : List A) (k : ℕ) → k < length xs → (x : A) × (slice_get xs k ≡ Some x)
+pub some-at : {A : Type 0} (xs : List A) (k : ℕ) → k < length xs → (x : A) × (slice_get xs k ≡ Some x)
 some-at [] k lt = absurd (omega arith)
 some-at (x ∷ xs) zero lt = (x, refl)
 some-at (x ∷ xs) (suc k) lt = some-at xs k (omega arith)
@@ -85,7 +85,7 @@ module _ {P : Type 0} (G : Ghosts P) (state : P → PortState) (faults : P → L
   track-at : (i : ℕ) → i < length scripts → (t : Track P G) × (slice_get run.tracks i ≡ Some t)
   track-at i lt = let many = run.many in some-at run.tracks i (omega arith)
 
-  same-told : (t : Told) (b : ToldIn t) (i : ℕ) (track : Track P G) → t.session ≡ i → slice_get run.tracks i ≡ Some track → slice_get track.told t.group ≡ Some t
+  pub same-told : (t : Told) (b : ToldIn t) (i : ℕ) (track : Track P G) → t.session ≡ i → slice_get run.tracks i ≡ Some track → slice_get track.told t.group ≡ Some t
   same-told t b i track own at =
       let one : b.track ≡ track = same-get run.tracks t.session b.track track b.own (ap (slice_get run.tracks) own ∙ at) in
       subst (λ (u : Track P G). slice_get u.told t.group ≡ Some t) one b.at

@@ -98,7 +98,7 @@ module _ {P : Type 0} (G : Ghosts P) (state : P → PortState) (faults : P → L
   abbrev at-end : State
   at-end = state_with (least_marks parts) parts
 
-  all-sides : length K.opening.sides ≡ own.queues
+  pub all-sides : length K.opening.sides ≡ own.queues
   all-sides =
       ap (λ (x : Start P FileEntry G). length x.sides) run.ends.run.end.opening
       ∙ (sym (length-map run.opening.sides (λ (q : QueueSide P FileEntry G). state q.pmr.port))

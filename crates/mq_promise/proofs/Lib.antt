@@ -10,4 +10,6 @@ pub mod Done
 pub mod Tops
 pub mod Cutting
 pub mod Clean
+pub mod Shares
+pub mod Rung
 pub mod Saved

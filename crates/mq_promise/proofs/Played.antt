@@ -13,8 +13,8 @@ use Rattle.mq_drive.specs.Steps.{Fault}
 use Rattle.mq_drive.specs.declared.port.Port.{Ghosts}
 use Rattle.mq_files.specs.Entries.{written_by}
 use Rattle.mq_files.specs.declared.entry.FileEntry.{FileEntry}
-use Rattle.mq_journal.specs.Numbers.{Seat, Shared}
-use Rattle.mq_legal.specs.Answers.{number_in}
+use Rattle.mq_journal.specs.Numbers.{Seat, Shared, reported}
+use Rattle.mq_legal.specs.Answers.{is_good, number_in}
 use Rattle.mq_legal.specs.Histories.{IsQuiet}
 use Rattle.mq_report.specs.declared.line.Line.{Line}
 use Rattle.mq_report.specs.declared.line.Told.{Told}
@@ -25,8 +25,10 @@ use Rattle.mq_script.specs.declared.group.End.{End}
 use Rattle.mq_script.specs.declared.group.End.TheVariants.{Ask, Fatomic, Fsync}
 use Rattle.mq_tree.specs.declared.request.Reply.{Reply}
 use Rattle.mq_turns.specs.Meaning.{newest}
+use Rattle.mq_turns.specs.declared.rule.Charge.{Charge}
+use Rattle.mq_turns.specs.declared.rule.Report.TheVariants as report
 use Rattle.mq_promise.proofs.Came.{Came, drew, saw, passed, came}
-use Rattle.mq_promise.proofs.Pairs.{cons-cases, get-append, get-push, here, in-either, in-left, in-right, none-in, pairs-append, pairs-none, pairs-one, push-cases, there}
+use Rattle.mq_promise.proofs.Pairs.{cons-cases, get-append, get-push, here, in-either, in-left, in-right, none-in, pairs-append, pairs-none, pairs-one, push-cases, same-get, there}
 
 -- the drawn entry is that of a group that was told so
 pub record DrawnBy (g : Geometry) (session : ℕ) (groups : List Group) (told : List Told) (d : ℕ × FileEntry) : Type 0 where
@@ -109,6 +111,8 @@ module _ {P : Type 0} {G : Ghosts P} where
     pub reads : (l : Line) → Contains lines l → ReadBy session groups told v.read l
     pub each : (j : ℕ) (t : Told) → slice_get told j ≡ Some t → ToldAt session groups lines v j t
     pub rising : AllPairs (λ l m. l.group < m.group) lines
+    -- the send of a group that was answered well is reported
+    pub sent : (d : ℕ × FileEntry) → Contains v.drawn d → (t : Told) → slice_get told d.1.call ≡ Some t → is_good t.answer ≡ true → Contains v.reading.charged (reported session (report.Sent d.0))
 
   -- ---- one more answer
 
@@ -147,10 +151,17 @@ module _ {P : Type 0} {G : Ghosts P} where
     durable = λ n a e. let low = b.durable n a e in omega arith;
   }
 
+  -- the entry that the new group drew
+  pub record NewlyDrawn (g : Geometry) (session : ℕ) (groups : List Group) (k : ℕ) (told : List Told) (t : Told) (new : Seat P FileEntry G) (d : ℕ × FileEntry) : Type 0 where
+    pub by : DrawnBy g session groups (told ++ t ∷ []) d
+    pub call : d.1.call ≡ k
+    pub sent : is_good t.answer ≡ true → Contains new.reading.charged (reported session (report.Sent d.0))
+
   -- what the new group left
   pub record Adds (g : Geometry) (session : ℕ) (groups : List Group) (k : ℕ) (told : List Told) (t : Told) (more : List Line) (old new : Seat P FileEntry G) : Type 0 where
     pub drawn_on : (d : ℕ × FileEntry) → Contains old.drawn d → Contains new.drawn d
-    pub drawn : (d : ℕ × FileEntry) → Contains new.drawn d → Contains old.drawn d ⊎ DrawnBy g session groups (told ++ t ∷ []) d
+    pub drawn : (d : ℕ × FileEntry) → Contains new.drawn d → Contains old.drawn d ⊎ NewlyDrawn g session groups k told t new d
+    pub charged_on : (x : Charge) → Contains old.reading.charged x → Contains new.reading.charged x
     pub read_on : (r : FileEntry × Shared P FileEntry G) → Contains old.read r → Contains new.read r
     pub reads : (l : Line) → Contains more l → ReadBy session groups (told ++ t ∷ []) new.read l × (l.group ≡ k)
     pub names : (n : ℕ) → number_in t.answer ≡ Some n → HasEntry session k n new.drawn ⊎ HasLine k n t.answer more
@@ -160,7 +171,7 @@ module _ {P : Type 0} {G : Ghosts P} where
   adds g session groups k group told t more old new many at h = by t.answer more refl h
     where
       by : (answer : Result ℕ Refusal) (ls : List Line) → t.answer ≡ answer → Came g session k group answer ls old new → Adds g session groups k told t ls old new
-      by answer _ same (drew n d end number) =
+      by answer _ same (drew n d end number sent) =
           let one : DrawnBy g session groups (told ++ t ∷ []) (n, d.entry) = record {
             group = group;
             at = ap (slice_get groups) d.is.call ∙ at;
@@ -174,7 +185,8 @@ module _ {P : Type 0} {G : Ghosts P} where
           } in
           record {
             drawn_on = λ x c. in-same ((n, d.entry) ∷ old.drawn) new.drawn d.drawn x (there x (n, d.entry) old.drawn c);
-            drawn = λ x c. elim (cons-cases x (n, d.entry) old.drawn (in-back ((n, d.entry) ∷ old.drawn) new.drawn d.drawn x c)) [ inl e ↦ inr (subst (λ (y : ℕ × FileEntry). DrawnBy g session groups (told ++ t ∷ []) y) e one) | inr c ↦ inl c ];
+            drawn = λ x c. elim (cons-cases x (n, d.entry) old.drawn (in-back ((n, d.entry) ∷ old.drawn) new.drawn d.drawn x c)) [ inl e ↦ inr (subst (λ (y : ℕ × FileEntry). NewlyDrawn g session groups k told t new y) e (record { by = one; call = d.is.call; sent = λ good. sent (sym (ap is_good same) ∙ good) })) | inr c ↦ inl c ];
+            charged_on = λ x c. in-same (d.charges ++ old.reading.charged) new.reading.charged d.charged x (in-right d.charges old.reading.charged x c);
             read_on = in-same old.read new.read d.read;
             reads = λ l c. absurd (none-in l c);
             names = λ m e. let is : n ≡ m = cc in inl (record { entry = d.entry; there = in-same ((n, d.entry) ∷ old.drawn) new.drawn d.drawn (m, d.entry) (0, omega arith, λ i. (is i, d.entry)); call = d.is.call });
@@ -204,6 +216,7 @@ module _ {P : Type 0} {G : Ghosts P} where
           record {
             drawn_on = in-same old.drawn new.drawn s.drawn;
             drawn = λ x c. inl (in-back old.drawn new.drawn s.drawn x c);
+            charged_on = λ x c. in-same (s.charges ++ old.reading.charged) new.reading.charged s.charged x (in-right s.charges old.reading.charged x c);
             read_on = λ r c. in-same ((s.entry, s.known) ∷ old.read) new.read s.read r (there r (s.entry, s.known) old.read c);
             reads = λ m c. elim (cons-cases m l [] c) [ inl e ↦ subst (λ (x : Line). ReadBy session groups (told ++ t ∷ []) new.read x × (x.group ≡ k)) e (one, line.group) | inr c ↦ absurd (none-in m c) ];
             names = λ m e. let a = ap number_in same in let is : n ≡ m = cc in inr (record { line = l; there = here l []; number = line.number ∙ is; group = line.group; good = same ∙ ap (λ (i : ℕ). Ok i) is });
@@ -212,6 +225,7 @@ module _ {P : Type 0} {G : Ghosts P} where
       by answer _ same (passed none p) = record {
         drawn_on = in-same old.drawn new.drawn p.drawn;
         drawn = λ x c. inl (in-back old.drawn new.drawn p.drawn x c);
+        charged_on = λ x c. in-same (p.charges ++ old.reading.charged) new.reading.charged p.charged x (in-right p.charges old.reading.charged x c);
         read_on = λ r c. in-same (p.more ++ old.read) new.read p.read r (in-right p.more old.read r c);
         reads = λ l c. absurd (none-in l c);
         names = λ m e. let a = ap number_in same in absurd (cc);
@@ -223,7 +237,8 @@ module _ {P : Type 0} {G : Ghosts P} where
       → Tells g session groups (suc k) (told ++ t ∷ []) (lines ++ more) new
   one-more g session groups k group told t lines more old new h at own place end later durable a = record {
     many = let n = h.many in let l = length-append told (t ∷ []) in omega arith;
-    drawn = λ d c. elim (a.drawn d c) [ inl o ↦ drawn-more g session groups told (t ∷ []) d (h.drawn d o) | inr n ↦ n ];
+    drawn = λ d c. elim (a.drawn d c) [ inl o ↦ drawn-more g session groups told (t ∷ []) d (h.drawn d o) | inr n ↦ n.by ];
+    sent = sent_on;
     reads = λ l c. elim (in-either lines more l c) [ inl o ↦ reads-more session groups told (t ∷ []) old.read new.read l a.read_on (h.reads l o) | inr n ↦ (a.reads l n).0 ];
     each = λ j u e. elim (push-cases told j t u e) [
       | inl o ↦ told-more session groups lines more old new j u a.drawn_on later (h.each j u o)
@@ -239,6 +254,17 @@ module _ {P : Type 0} {G : Ghosts P} where
         omega arith);
   }
     where
+      sent_on : (d : ℕ × FileEntry) → Contains new.drawn d → (u : Told) → slice_get (told ++ t ∷ []) d.1.call ≡ Some u → is_good u.answer ≡ true → Contains new.reading.charged (reported session (report.Sent d.0))
+      sent_on d c u there_at good = elim (a.drawn d c) [
+        | inl o ↦ (
+            let b = h.drawn d o in
+            let same : b.answer ≡ u = same-get (told ++ t ∷ []) d.1.call b.answer u (get-append told (t ∷ []) d.1.call b.answer b.told_at) there_at in
+            a.charged_on (reported session (report.Sent d.0)) (h.sent d o b.answer b.told_at (ap (λ (x : Told). is_good x.answer) same ∙ good)))
+        | inr n ↦ (
+            let same : t ≡ u = same-get (told ++ t ∷ []) k t u (get-push told k t h.many) (ap (slice_get (told ++ t ∷ [])) (sym n.call) ∙ there_at) in
+            n.sent (ap (λ (x : Told). is_good x.answer) same ∙ good))
+      ]
+
       this : ToldAt session groups (lines ++ more) new k t
       this = record {
         group = group;
@@ -273,6 +299,7 @@ module _ {P : Type 0} {G : Ghosts P} (state : P → PortState) (faults : P → L
     reads = λ l c. absurd (none-in l c);
     each = λ j t e. absurd (cc);
     rising = pairs-none (λ l m. l.group < m.group);
+    sent = λ d c t at good. absurd (none-in d (subst (λ (ds : List (ℕ × FileEntry)). Contains ds d) none c));
   }
   tells _ _ _ _ none (goes {k = k} {told = told} {lines = lines} {more = more} {old = old} {new = new} {group = group} {t = t} plays at is) =
       let h = tells k told lines old none plays in

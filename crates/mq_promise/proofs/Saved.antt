@@ -1,7 +1,8 @@
 -- What a run of scripts on an image leaves.
-use Rattle.std.proofs.Common.{◌≡◌, ◌∙◌, ℕ, List, Option, None, Some, refl, sym, ap, subst}
+use Rattle.std.proofs.Common.{◌≡◌, ◌<◌, ◌∙◌, ℕ, List, Option, None, Some, sym, ap, subst}
 use Rattle.std.specs.Prelude.{Err, Ok, Result, is_none}
 use Rattle.mq_blocks.specs.Journal.{Shown, shown}
+use Rattle.mq_blocks.specs.Geometry.{queues_of}
 use Rattle.mq_blocks.specs.declared.geometry.Geometry.{Geometry}
 use Rattle.mq_calls.specs.Opening.{MayOpen}
 use Rattle.mq_checkpoint.specs.declared.refusal.CheckpointRefusal.{CheckpointRefusal}
@@ -9,7 +10,7 @@ use Rattle.mq_checkpoint.specs.declared.refusal.CheckpointRefusal.TheVariants as
 use Rattle.mq_drive.specs.Emu.{emu_faults, emu_state}
 use Rattle.mq_drive.specs.declared.emu.EmuPort.{EmuPort}
 use Rattle.mq_image.specs.File.{DriveImage, queue_ports, root_port}
-use Rattle.mq_image_run.specs.Drives.{HasDriven, HasStopped, emu_ghosts}
+use Rattle.mq_image_run.specs.Drives.{HasDriven, emu_ghosts}
 use Rattle.mq_image_run.specs.Runs.{IsLast, IsRunOf}
 use Rattle.mq_image_run.specs.declared.options.RunOptions.{RunOptions}
 use Rattle.mq_image_run.specs.declared.ran.ImageRun.{ImageRun}
@@ -17,9 +18,10 @@ use Rattle.mq_images.specs.Cuts.{with_ports}
 use Rattle.mq_images.specs.Standing.{AreStanding}
 use Rattle.mq_images.specs.Views.{view_of}
 use Rattle.mq_images.proofs.Recoverings.{left-images}
-use Rattle.mq_images.proofs.Restarts.{blocks-stand, none-above}
+use Rattle.mq_images.proofs.Restarts.{blocks-stand, doorbells-kept, none-above}
+use Rattle.mq_ledger.specs.State.{port_at}
 use Rattle.mq_legal.specs.Answers.{AreAnswered}
-use Rattle.mq_legal.specs.Cuts.{IsClean, IsCut, Starts}
+use Rattle.mq_legal.specs.Cuts.{IsClean, IsCut, IsRung, Starts}
 use Rattle.mq_legal.specs.Histories.{AreOfBytes}
 use Rattle.mq_legal.specs.Legal.{IsLegal, newest}
 use Rattle.mq_nvme.specs.Says.{says}
@@ -39,6 +41,7 @@ use Rattle.mq_promise.specs.Images.{KeepsPromise}
 use Rattle.mq_promise.proofs.Answered.{are-answered}
 use Rattle.mq_promise.proofs.Clean.{is-clean}
 use Rattle.mq_promise.proofs.Cutting.{is-cut}
+use Rattle.mq_promise.proofs.Rung.{is-rung}
 use Rattle.mq_promise.proofs.Whole.{legal}
 
 -- a run is told as clean only where the checkpoint at the end answered this number
@@ -149,6 +152,22 @@ module _ (x : DriveImage) (scripts : List Script) (o : RunOptions) (r : ImageRun
             (subst (λ (b : ℕ). IsCut g scripts volume b end.entries.items end.answers.items seen is.0) base-is is.1))),
       )
 
+  -- ---- its doorbells
+
+  old-bell : (q : ℕ) → q < queues_of g → (port_at (drive_of emu_state run.stops.drives.ports).queues q).doorbell ≡ (view_of x).doorbell q
+  old-bell q own = doorbells-kept x run.recovered run.fuse o.fail run.stops.drives.ports run.recovery run.stops.drives.started q own
+
+  new-bell : (q : ℕ) → q < queues_of g → (port_at (drive_of emu_state end.ports).queues q).doorbell ≡ (view_of r.image).doorbell q
+  new-bell q own = sym (images.each q own).doorbell ∙ ap (λ (i : Shown). i.doorbell q) seen-is
+
+  rung : (q : ℕ) → q < queues_of g → IsRung g scripts volume r.entries.items r.answers.items q ((view_of x).doorbell q) ((view_of r.image).doorbell q)
+  rung q own =
+      let is = is-rung emu_ghosts emu_state emu_faults g run.stops.drives.ports standing scripts (is_none o.cut) end ran run.short q own volume bytes laid in
+      subst (λ (n : ℕ). IsRung g scripts volume r.entries.items r.answers.items q ((view_of x).doorbell q) n) (new-bell q own)
+      (subst (λ (n : ℕ). IsRung g scripts volume r.entries.items r.answers.items q n (port_at (drive_of emu_state end.ports).queues q).doorbell) (old-bell q own)
+      (subst (λ told. IsRung g scripts volume r.entries.items told.items q (port_at (drive_of emu_state run.stops.drives.ports).queues q).doorbell (port_at (drive_of emu_state end.ports).queues q).doorbell) answers-are
+      (subst (λ es. IsRung g scripts volume es.items end.answers.items q (port_at (drive_of emu_state run.stops.drives.ports).queues q).doorbell (port_at (drive_of emu_state end.ports).queues q).doorbell) entries-are is)))
+
   finished-is : (n : ℕ) → r.last ≡ Clean n → end.finished ≡ Some (Ok n)
   finished-is n told = sym (run.stops.finished ∙ has.finished) ∙ told-clean o.cut run.stopped.events run.stopped.finished r.last n run.last told
 
@@ -167,5 +186,6 @@ module _ (x : DriveImage) (scripts : List Script) (o : RunOptions) (r : ImageRun
     answered = answered;
     reached = is-a-cut.0;
     cut = is-a-cut.1;
+    rung = rung;
     clean = cleaned;
   }

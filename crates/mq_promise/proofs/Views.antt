@@ -1,5 +1,5 @@
 -- What the sessions of a run knew once their scripts were played, and once it was ended.
-use Rattle.std.proofs.Common.{◌≡◌, ◌∙◌, ℕ, zero, suc, ◌≤◌, Bool, List, [], ◌∷◌, inl, inr, refl, sym, ap, subst, arith}
+use Rattle.std.proofs.Common.{◌≡◌, ◌∙◌, ℕ, zero, suc, ◌≤◌, Bool, List, [], ◌∷◌, ◌++◌, inl, inr, refl, sym, ap, subst, arith}
 use Rattle.std.specs.Prelude.{Option, Some, None, Result, Ok, Err, slice_get}
 use Rattle.std.specs.List.{Contains}
 use Rattle.std.proofs.lemmas.Option.{same_Some}
@@ -11,8 +11,10 @@ use Rattle.mq_drive.specs.Steps.{Fault}
 use Rattle.mq_drive.specs.declared.port.Port.{Ghosts}
 use Rattle.mq_files.specs.Group.{file_group}
 use Rattle.mq_files.specs.declared.entry.FileEntry.{FileEntry}
+use Rattle.mq_journal.specs.Draining.{report_of}
 use Rattle.mq_journal.specs.Numbers.{Seat, Shared}
-use Rattle.mq_turns.specs.Desk.{drawn_of, read_of}
+use Rattle.mq_turns.specs.Desk.{charged_of, drawn_of, read_of}
+use Rattle.mq_turns.specs.declared.rule.Charge.{Charge}
 use Rattle.mq_run.specs.Ending.{Finishes, HasFinished}
 use Rattle.mq_promise.proofs.Pairs.{cons-cases, here, in-either, in-left, in-right, none-in, there}
 
@@ -22,6 +24,8 @@ module _ {P : Type 0} {G : Ghosts P} where
     pub drawn : new.drawn ≡ old.drawn
     pub read : new.read ≡ old.read
     pub done : old.reading.done ≤ new.reading.done
+    pub charges : List Charge
+    pub charged : new.reading.charged ≡ charges ++ old.reading.charged
 
   abbrev pub Knower : List (Seat P FileEntry G) → ℕ → Seat P FileEntry G → Type 0
   Knower news i old = (new : Seat P FileEntry G) × (slice_get news i ≡ Some new) × Keeps old new
@@ -30,7 +34,7 @@ module _ {P : Type 0} {G : Ghosts P} where
   Known olds i new = (old : Seat P FileEntry G) × (slice_get olds i ≡ Some old) × Keeps old new
 
   keeps-self : (v : Seat P FileEntry G) → Keeps v v
-  keeps-self v = record { drawn = refl; read = refl; done = omega arith }
+  keeps-self v = record { drawn = refl; read = refl; done = omega arith; charges = []; charged = refl }
 
   -- ---- what all have drawn and read
 
@@ -45,6 +49,13 @@ module _ {P : Type 0} {G : Ghosts P} where
     | inr c ↦ in-left (drawn_of vs) w.drawn d (in-drawn vs v d c h)
   ]
 
+  pub in-charged : (vs : List (Seat P FileEntry G)) (v : Seat P FileEntry G) (x : Charge) → Contains vs v → Contains v.reading.charged x → Contains (charged_of vs) x
+  in-charged [] v x c h = absurd (none-in v c)
+  in-charged (w ∷ vs) v x c h = elim (cons-cases v w vs c) [
+    | inl e ↦ in-right (charged_of vs) w.reading.charged x (subst (λ (y : Seat P FileEntry G). Contains y.reading.charged x) (sym e) h)
+    | inr c ↦ in-left (charged_of vs) w.reading.charged x (in-charged vs v x c h)
+  ]
+
   pub in-read : (vs : List (Seat P FileEntry G)) (v : Seat P FileEntry G) (r : FileEntry × Shared P FileEntry G) → Contains vs v → Contains v.read r → Contains (read_of vs) r
   in-read [] v r c h = absurd (none-in v c)
   in-read (w ∷ vs) v r c h = elim (cons-cases v w vs c) [
@@ -54,21 +65,23 @@ module _ {P : Type 0} {G : Ghosts P} where
 
 module _ {P : Type 0} {G : Ghosts P} (state : P → PortState) (faults : P → List Fault) where
   refused-keeps : (why : CheckpointRefusal) (old new : Seat P FileEntry G) → HasRefused state faults file_group why old new → Keeps old new
-  refused-keeps checkpoint.OutOfMemory old new (inl m) = record { drawn = m.drawn; read = m.read; done = m.done }
-  refused-keeps checkpoint.OutOfMemory old new (inr (front, m)) = record { drawn = m.drawn; read = m.read; done = m.done }
-  refused-keeps (checkpoint.Drive why) old new (inl m) = record { drawn = m.moves.drawn; read = m.moves.read; done = m.moves.done }
-  refused-keeps (checkpoint.Drive why) old new (inr (front, m)) = record { drawn = m.moves.drawn; read = m.moves.read; done = m.moves.done }
+  refused-keeps checkpoint.OutOfMemory old new (inl m) = record { drawn = m.drawn; read = m.read; done = m.done; charges = []; charged = m.charged }
+  refused-keeps checkpoint.OutOfMemory old new (inr (front, m)) = record { drawn = m.drawn; read = m.read; done = m.done; charges = []; charged = m.charged }
+  refused-keeps (checkpoint.Drive why) old new (inl m) = record { drawn = m.moves.drawn; read = m.moves.read; done = m.moves.done; charges = record { port = m.port; report = report_of why } ∷ []; charged = m.moves.charged }
+  refused-keeps (checkpoint.Drive why) old new (inr (front, m)) = record { drawn = m.moves.drawn; read = m.moves.read; done = m.moves.done; charges = record { port = m.port; report = report_of why } ∷ []; charged = m.moves.charged }
 
   heard-keeps : (old mid new : Seat P FileEntry G) (seen : ℕ) → mid ≡ record old { seen = seen } → Keeps mid new → Keeps old new
   heard-keeps old mid new seen is k = record {
     drawn = k.drawn ∙ ap (λ (v : Seat P FileEntry G). v.drawn) is;
     read = k.read ∙ ap (λ (v : Seat P FileEntry G). v.read) is;
     done = let a = k.done in let b = ap (λ (v : Seat P FileEntry G). v.reading.done) is in omega arith;
+    charges = k.charges;
+    charged = k.charged ∙ ap (λ (v : Seat P FileEntry G). k.charges ++ v.reading.charged) is;
   }
 
   finishes-keeps : (answer : Option (Result ℕ CheckpointRefusal)) (others : List (Seat P FileEntry G)) (old new : Seat P FileEntry G) → Finishes state faults answer others old new → Keeps old new
   finishes-keeps None others old new same = subst (λ (v : Seat P FileEntry G). Keeps old v) (sym same) (keeps-self old)
-  finishes-keeps (Some (Ok base)) others old new (mid, heard, raises) = heard-keeps old mid new mid.seen heard.is (record { drawn = raises.drawn; read = raises.read_before; done = raises.done })
+  finishes-keeps (Some (Ok base)) others old new (mid, heard, raises) = heard-keeps old mid new mid.seen heard.is (record { drawn = raises.drawn; read = raises.read_before; done = raises.done; charges = []; charged = raises.charged })
   finishes-keeps (Some (Err why)) others old new (mid, heard, refused) = heard-keeps old mid new mid.seen heard.is (refused-keeps why mid new refused)
 
   module _ (finish : Bool) (answer : Option (Result ℕ CheckpointRefusal)) (olds news : List (Seat P FileEntry G)) (h : HasFinished state faults finish answer olds news) where

@@ -1,8 +1,9 @@
 -- What a run of scripts is, in the words of its report, in one statement each.
-use Rattle.std.specs.Prelude.{◌≡◌, ◌≤◌, ℕ, Bool, List, Ok, Some}
+use Rattle.std.specs.Prelude.{◌≡◌, ◌<◌, ◌≤◌, ℕ, Bool, List, Ok, Some}
 use Rattle.std.specs.List.{All}
 use Rattle.mq_nvme.specs.Says.{says}
 use Rattle.mq_blocks.specs.Drive.{PortImage, PortState}
+use Rattle.mq_blocks.specs.Geometry.{queues_of}
 use Rattle.mq_blocks.specs.Journal.{shown}
 use Rattle.mq_blocks.specs.declared.geometry.Geometry.{Geometry}
 use Rattle.mq_drive.specs.Steps.{Fault}
@@ -11,8 +12,9 @@ use Rattle.mq_drive.specs.declared.port.Ports.{Ports}
 use Rattle.mq_files.specs.Group.{file_group}
 use Rattle.mq_journal.specs.Values.{side_values}
 use Rattle.mq_ledger.specs.KnownJournal.{front}
+use Rattle.mq_ledger.specs.State.{port_at}
 use Rattle.mq_legal.specs.Answers.{AreAnswered, IsAcknowledged}
-use Rattle.mq_legal.specs.Cuts.{IsClean, IsCut}
+use Rattle.mq_legal.specs.Cuts.{IsClean, IsCut, IsRung}
 use Rattle.mq_legal.specs.Histories.{AreOfBytes}
 use Rattle.mq_legal.specs.Legal.{IsLegal, newest}
 use Rattle.mq_recover.specs.Drives.{AreImages, drive_of}
@@ -24,6 +26,10 @@ use Rattle.mq_rules.specs.Rule.{core_of}
 use Rattle.mq_script.specs.Scripts.{Script}
 use Rattle.mq_tree.specs.Laid.{IsLaid, map_of}
 use Rattle.mq_tree.specs.Volume.{Volume}
+
+-- the doorbell of a queue
+abbrev pub bell_of : {P : Type 0} → (P → PortState) → (queue : ℕ) → Ports P → ℕ
+bell_of state q ports = (port_at (drive_of state ports).queues q).doorbell
 
 module _ {P : Type 0} (G : Ghosts P) (state : P → PortState) (faults : P → List Fault) where
   -- The lines of a run are a legal list from the base and the volume that lay on the home blocks at the opening, where the
@@ -58,7 +64,8 @@ module _ {P : Type 0} (G : Ghosts P) (state : P → PortState) (faults : P → L
   -- Whatever a power cut leaves of the ports at the end is a cut of this history.
   abbrev pub EndsAreCuts : Type 0
   EndsAreCuts =
-      (g : Geometry) (ports : Ports P) (s : Standing) (scripts : List Script) (finish : Bool) (e : RunEnd P) (v : Volume) (queues : List PortImage) (root : PortImage)
+      (g : Geometry) (ports : Ports P) (s : Standing) (scripts : List Script) (finish : Bool) (e : RunEnd P) (v : Volume)
+      (queues : List PortImage) (root : PortImage)
       → HasRunScripts G state faults g ports s scripts finish e
       → All (λ script. IsShort script.groups) scripts
       → AreOfBytes scripts
@@ -70,9 +77,22 @@ module _ {P : Type 0} (G : Ghosts P) (state : P → PortState) (faults : P → L
   -- clean, whether the power was cut or not.
   abbrev pub FinishedEndsAreClean : Type 0
   FinishedEndsAreClean =
-      (g : Geometry) (ports : Ports P) (s : Standing) (scripts : List Script) (finish : Bool) (e : RunEnd P) (n : ℕ) (queues : List PortImage) (root : PortImage)
+      (g : Geometry) (ports : Ports P) (s : Standing) (scripts : List Script) (finish : Bool) (e : RunEnd P) (n : ℕ)
+      (queues : List PortImage) (root : PortImage)
       → HasRunScripts G state faults g ports s scripts finish e
       → All (λ script. IsShort script.groups) scripts
       → e.finished ≡ Some (Ok n)
       → AreImages g (drive_of state e.ports) queues root
       → (n ≡ newest s.base e.entries.items) × IsClean g (shown says g queues root) n
+
+  -- The doorbell of each queue has gone on by the entries of its commits in a prefix of the lines, behind which none was
+  -- answered well.
+  abbrev pub DoorbellsAreRung : Type 0
+  DoorbellsAreRung =
+      (g : Geometry) (ports : Ports P) (s : Standing) (scripts : List Script) (finish : Bool) (e : RunEnd P) (v : Volume) (q : ℕ)
+      → HasRunScripts G state faults g ports s scripts finish e
+      → All (λ script. IsShort script.groups) scripts
+      → AreOfBytes scripts
+      → IsLaid g (map_of g s.blocks.items) v
+      → q < queues_of g
+      → IsRung g scripts v e.entries.items e.answers.items q (bell_of state q ports) (bell_of state q e.ports)

@@ -1,6 +1,6 @@
 // What holds of a run of scripts.
 ghost use Rattle.mq_promise.specs.Images.{RunsKeepTheirPromise};
-ghost use Rattle.mq_promise.specs.Laws.{AcknowledgedNumbersAreDone, EndsAreCuts, FinishedEndsAreClean};
+ghost use Rattle.mq_promise.specs.Laws.{AcknowledgedNumbersAreDone, DoorbellsAreRung, EndsAreCuts, FinishedEndsAreClean};
 ghost use Rattle.mq_promise.specs.Laws.{RunsAreAnswered, RunsAreLegal};
 
 use mq_drive::Port;
@@ -21,6 +21,12 @@ pub fn a_run_is_cut<P: Port>()
     ensures done { AcknowledgedNumbersAreDone P.Port P.state P.faults }
     ensures cut { EndsAreCuts P.Port P.state P.faults }
     ensures clean { FinishedEndsAreClean P.Port P.state P.faults }
+{}
+
+/// The doorbell of each queue has gone on by the entries of its commits in a prefix of the lines, which has every commit
+/// that was answered well.
+pub fn a_run_is_rung<P: Port>()
+    ensures { DoorbellsAreRung P.Port P.state P.faults }
 {}
 
 /// A run on an image tells a legal list of commits and reads, from the volume and the base that recovery of the old image

@@ -4,5 +4,6 @@
 mod laws;
 
 pub use laws::{
-    a_run_is_answered, a_run_is_cut, a_run_is_legal, a_run_on_an_image_keeps_its_promise,
+    a_run_is_answered, a_run_is_cut, a_run_is_legal, a_run_is_rung,
+    a_run_on_an_image_keeps_its_promise,
 };
