@@ -12,3 +12,5 @@ pub mod Cutting
 pub mod Clean
 pub mod Shares
 pub mod Rung
+pub mod Reasons
+pub mod Caused

@@ -1,6 +1,6 @@
 // What holds of a run of scripts.
 ghost use Rattle.mq_promise.specs.Laws.{AcknowledgedNumbersAreDone, DoorbellsAreRung, EndsAreCuts, FinishedEndsAreClean};
-ghost use Rattle.mq_promise.specs.Laws.{RunsAreAnswered, RunsAreLegal};
+ghost use Rattle.mq_promise.specs.Laws.{RefusalsAreCaused, RunsAreAnswered, RunsAreLegal};
 
 use mq_drive::Port;
 
@@ -26,4 +26,10 @@ pub fn a_run_is_cut<P: Port>()
 /// that was answered well.
 pub fn a_run_is_rung<P: Port>()
     ensures { DoorbellsAreRung P.Port P.state P.faults }
+{}
+
+/// Each refusal of a run has its cause, as far as scripts and history say: what a cause of a port says of the history is
+/// a premise.
+pub fn a_refusal_is_caused<P: Port>()
+    ensures { RefusalsAreCaused P.Port P.state P.faults }
 {}

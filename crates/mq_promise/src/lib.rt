@@ -3,4 +3,6 @@
 
 mod laws;
 
-pub use laws::{a_run_is_answered, a_run_is_cut, a_run_is_legal, a_run_is_rung};
+pub use laws::{
+    a_refusal_is_caused, a_run_is_answered, a_run_is_cut, a_run_is_legal, a_run_is_rung,
+};
