@@ -99,11 +99,11 @@ still-fault : (wanted result : ℕ) → IsUnlessWanting 4 result → IsUnlessWan
 still-fault wanted result (inl e) = inr (inl e)
 still-fault wanted result (inr e) = inr e
 
-still-memory : (wanted result : ℕ) → IsUnlessWanting 6 result → IsUnlessWanting wanted result
+pub still-memory : (wanted result : ℕ) → IsUnlessWanting 6 result → IsUnlessWanting wanted result
 still-memory wanted result (inl e) = inr (inr e)
 still-memory wanted result (inr e) = inr e
 
-not-loaded-status : (name : List ℕ) (old new : FilesState) (status : ℕ) (text : List ℕ) (wanted result : ℕ) → IsNotLoaded name old new status text → IsUnlessWanting status result → IsUnlessWanting wanted result
+pub not-loaded-status : (name : List ℕ) (old new : FilesState) (status : ℕ) (text : List ℕ) (wanted result : ℕ) → IsNotLoaded name old new status text → IsUnlessWanting status result → IsUnlessWanting wanted result
 not-loaded-status name old new _ _ wanted result (load_failed same rose) ends = still-fault wanted result ends
 not-loaded-status name old new _ _ wanted result (load_too_long same over faults takes) ends = still-fault wanted result ends
 not-loaded-status name old new _ _ wanted result (load_memory same faults) ends = still-memory wanted result ends

@@ -1,3 +1,5 @@
 pub mod Exact
 pub mod Recoveries
+pub mod Runnings
 pub mod Saying
+pub mod Unfailing

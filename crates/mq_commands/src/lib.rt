@@ -8,8 +8,10 @@ mod lines;
 mod listing;
 mod names;
 mod recovering;
+mod running;
 
 pub use dumping::dump;
 pub use formatting::{Numbers, format};
 pub use listing::{cat, ls};
 pub use recovering::recover;
+pub use running::run;

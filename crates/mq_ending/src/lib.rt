@@ -5,4 +5,6 @@ mod files;
 mod says;
 
 pub use files::{load_or_say, save_or_say};
-pub use says::{DONE, FAULT, IMAGE, NO_MEMORY, REFUSED, USAGE, say, say_memory, say_named};
+pub use says::{
+    COMMAND, DONE, FAULT, IMAGE, NO_MEMORY, REFUSED, USAGE, say, say_memory, say_named,
+};

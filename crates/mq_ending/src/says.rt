@@ -20,6 +20,9 @@ pub const IMAGE: u8 = 3;
 /// A file or the output failed, or a file is too long.
 pub const FAULT: u8 = 4;
 
+/// A command of the drive failed that was told to.
+pub const COMMAND: u8 = 5;
+
 /// Memory was wanting.
 pub const NO_MEMORY: u8 = 6;
 

@@ -1,5 +1,6 @@
 -- What a run makes of an image.
 use Rattle.std.specs.Prelude.{◌≡◌, ℕ, List, Option, None, Some, Result, Ok, Err}
+use Rattle.std.specs.List.{All}
 use Rattle.mq_blocks.specs.Drive.{FuseName}
 use Rattle.mq_checkpoint.specs.declared.refusal.CheckpointRefusal.{CheckpointRefusal}
 use Rattle.mq_checkpoint.specs.declared.refusal.CheckpointRefusal.TheVariants as checkpoint
@@ -9,6 +10,7 @@ use Rattle.mq_images.specs.Recovering.{IsRecoveryOf}
 use Rattle.mq_images.specs.declared.recovery.RecoveredImage.{RecoveredImage}
 use Rattle.mq_report.specs.declared.line.Last.{Last}
 use Rattle.mq_report.specs.declared.line.Last.TheVariants.{Clean, Cut, StoppedBlock, StoppedTx}
+use Rattle.mq_run.specs.Playing.{IsShort}
 use Rattle.mq_script.specs.Scripts.{Script}
 use Rattle.mq_side.specs.declared.answers.Cause.{Cause}
 use Rattle.mq_side.specs.declared.answers.Cause.TheVariants as cause
@@ -20,27 +22,36 @@ use Rattle.mq_image_run.specs.declared.stopping.Stopped.{Stopped}
 
 -- ---- how a run ends
 
--- what is told of a checkpoint at the end that the drive refused
-abbrev pub IsStop : Cause → (events : ℕ) → Last → Type 0
-IsStop cause.Off events last = last ≡ Cut events
-IsStop (cause.Failed tx status) events last = last ≡ StoppedTx tx
-IsStop (cause.FailedHome block status) events last = last ≡ StoppedBlock block
-IsStop (cause.Stopped tx why) events last = last ≡ StoppedTx tx
+abbrev pub IsPowerOff : Cause → Type 0
+IsPowerOff why = why ≡ cause.Off
+
+-- the checkpoint at the end was refused since the power went off
+abbrev pub StoppedByPower : Option (Result ℕ CheckpointRefusal) → Type 0
+StoppedByPower finished = finished ≡ Some (Err (checkpoint.Drive cause.Off))
+
+-- What is told of a checkpoint at the end that the drive refused: its power was on.
+abbrev pub IsStop : Cause → Last → Type 0
+IsStop cause.Off last = ⊥
+IsStop (cause.Failed tx status) last = last ≡ StoppedTx tx
+IsStop (cause.FailedHome block status) last = last ≡ StoppedBlock block
+IsStop (cause.Stopped tx why) last = last ≡ StoppedTx tx
 
 -- With a cut the last line tells how many events happened. Else it tells what the checkpoint at the end came to: the
 -- number up to which all stands at home, or what stopped it.
 abbrev pub IsLast : (cut : Option ℕ) → (events : ℕ) → Option (Result ℕ CheckpointRefusal) → Last → Type 0
 IsLast (Some k) events finished last = last ≡ Cut events
 IsLast None events (Some (Ok n)) last = last ≡ Clean n
-IsLast None events (Some (Err (checkpoint.Drive why))) last = IsStop why events last
+IsLast None events (Some (Err (checkpoint.Drive why))) last = IsStop why last
 IsLast None events (Some (Err checkpoint.OutOfMemory)) last = ⊥
 IsLast None events None last = ⊥
 
 -- ---- the whole
 
--- The image was recovered, whole, and is within the limits of a run. The scripts were run on the drive that started from
--- what this left, and the image is what the cut of its power at the end left.
+-- Groups and requests of the scripts can be counted in 32 bits. The image was recovered, whole, and is within the limits of
+-- a run. The scripts were run on the drive that started from what this left, and the image is what the cut of its power at
+-- the end left.
 pub record IsRunOf (x : DriveImage) (scripts : List Script) (o : RunOptions) (r : ImageRun) : Type 0 where
+  pub short : All (λ script. IsShort script.groups) scripts
   pub recovered : RecoveredImage
   pub recovery : IsRecoveryOf x None recovered
   pub within : AreWithin x recovered.found.base

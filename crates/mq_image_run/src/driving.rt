@@ -11,6 +11,7 @@ ghost use Rattle.mq_images.specs.Starts.{AreFreshSeats};
 ghost use Rattle.mq_calls.specs.Opening.{MayOpen};
 ghost use Rattle.mq_drive.specs.Emu.{emu_state};
 ghost use Rattle.mq_image_run.specs.Drives.{HasDriven, IsDriven, IsNotDriven, has_failed, refusal_of};
+ghost use Rattle.mq_image_run.specs.Runs.{StoppedByPower};
 ghost use Rattle.mq_recover.specs.Drives.{drive_of};
 ghost use Rattle.mq_run.specs.Playing.{IsShort};
 
@@ -25,7 +26,7 @@ use mq_images::{
 };
 use mq_recover::Standing;
 use mq_report::{Line, Told};
-use mq_run::{RunEnd, a_run_keeps_its_ports, run_scripts};
+use mq_run::{RunEnd, a_run_keeps_its_ports, a_stopped_run_is_backed, run_scripts};
 use mq_script::Script;
 use mq_tree::MountRefusal;
 use std::alloc::Global;
@@ -125,6 +126,7 @@ pub fn run_drive<R: Threads + Wait + Sync, G: Gate + Sync>(
     requires scripts { (1 ≤ length scripts.now) × (length scripts.now ≤ queues_of recovered.image.geometry) }
     requires short { All (λ s. IsShort s.groups) scripts.now }
     ensures ok { IfOk result (IsDriven (name_of fuse.now) recovered.image scripts.now options) }
+    ensures powered { IfOk result (λ d. (name_of fuse.now).limit ≡ None → StoppedByPower d.finished → ⊥) }
     ensures refused { IfErr result (IsNotDriven (name_of fuse.now) options.fail recovered.image) }
 {
     let image = recovered.image;
@@ -137,5 +139,6 @@ pub fn run_drive<R: Threads + Wait + Sync, G: Gate + Sync>(
         Err(refusal) => return Err(not_mounted(refusal)),
     };
     let driven = run_ports(rt, alloc, geometry, ports, standing, scripts, options, gate)?;
+    a_stopped_run_is_backed::<EmuPort<'_>>();
     Ok(driven)
 }

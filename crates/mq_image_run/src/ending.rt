@@ -1,6 +1,6 @@
 // How a run ended.
-ghost use Rattle.std.specs.Prelude.{IfOk, is_none};
-ghost use Rattle.mq_image_run.specs.Runs.{IsLast, IsStop};
+ghost use Rattle.std.specs.Prelude.{◌≡◌, IfOk, None, is_none};
+ghost use Rattle.mq_image_run.specs.Runs.{IsLast, IsPowerOff, IsStop, StoppedByPower};
 ghost use Rattle.mq_run.specs.Ending.{IsAskedFor};
 
 use mq_blocks::{OutOfMemory, TxNo};
@@ -8,26 +8,27 @@ use mq_checkpoint::CheckpointRefusal;
 use mq_report::Last;
 use mq_side::Cause;
 
-// What is told of a checkpoint at the end that the drive refused.
-fn stop_of(cause: Cause, events: u64) -> Last
-    ensures { IsStop cause events result }
+// What is told of a checkpoint at the end that the drive refused while its power was on.
+fn stop_of(cause: Cause) -> Last
+    requires { IsPowerOff cause → ⊥ }
+    ensures { IsStop cause result }
 {
     match cause {
-        // Without a fuse the power stays on.
-        Cause::Off => Last::Cut(events),
+        Cause::Off => unreachable!(),
         Cause::Failed { tx, .. } | Cause::Stopped { tx, .. } => Last::StoppedTx(tx),
         Cause::FailedHome { block, .. } => Last::StoppedBlock(block),
     }
 }
 
 /// How a run ended, whose power was to go off or not, by how many events happened and by what the checkpoint at the end
-/// answered.
+/// answered. Where the power was not to go off, it stayed on.
 pub fn last_of(
     cut: Option<u64>,
     events: u64,
     finished: Option<Result<TxNo, CheckpointRefusal>>,
 ) -> Result<Last, OutOfMemory>
-    requires { IsAskedFor (is_none cut) finished }
+    requires asked { IsAskedFor (is_none cut) finished }
+    requires power { cut ≡ None → StoppedByPower finished → ⊥ }
     ensures { IfOk result (IsLast cut events finished) }
 {
     if cut.is_some() {
@@ -35,7 +36,7 @@ pub fn last_of(
     }
     match finished {
         Some(Ok(number)) => Ok(Last::Clean(number)),
-        Some(Err(CheckpointRefusal::Drive(cause))) => Ok(stop_of(cause, events)),
+        Some(Err(CheckpointRefusal::Drive(cause))) => Ok(stop_of(cause)),
         Some(Err(CheckpointRefusal::OutOfMemory)) => Err(OutOfMemory),
         None => unreachable!(),
     }

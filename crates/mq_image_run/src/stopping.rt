@@ -5,6 +5,7 @@ ghost use Rattle.mq_blocks.specs.Geometry.{queues_of};
 ghost use Rattle.mq_drive.specs.Seats.{name_of, ports_of};
 ghost use Rattle.mq_image.specs.File.{DriveImage as Image};
 ghost use Rattle.mq_image_run.specs.Drives.{HasStopped, IsNotDriven};
+ghost use Rattle.mq_image_run.specs.Runs.{StoppedByPower};
 ghost use Rattle.mq_images.specs.Recovering.{IsRecoveryOf};
 ghost use Rattle.mq_images.specs.Starts.{AreFreshSeats};
 ghost use Rattle.mq_run.specs.Playing.{IsShort};
@@ -56,6 +57,7 @@ pub fn run_to_stop<R: Threads + Wait + Sync, G: Gate + Sync>(
     requires scripts { (1 ≤ length scripts.now) × (length scripts.now ≤ queues_of recovered.image.geometry) }
     requires short { All (λ s. IsShort s.groups) scripts.now }
     ensures ok { IfOk result (HasStopped (name_of fuse) recovered.image scripts.now options) }
+    ensures powered { IfOk result (λ s. (name_of fuse).limit ≡ None → StoppedByPower s.finished → ⊥) }
     ensures refused { IfErr result (IsNotDriven (name_of fuse) options.fail recovered.image) }
 {
     let driven = run_drive(rt, alloc, &fuse, seats, recovered, scripts, options, gate)?;

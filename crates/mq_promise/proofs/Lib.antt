@@ -14,3 +14,4 @@ pub mod Shares
 pub mod Rung
 pub mod Reasons
 pub mod Caused
+pub mod Saved

@@ -1,4 +1,5 @@
 // What holds of a run of scripts.
+ghost use Rattle.mq_promise.specs.Images.{RunsKeepTheirPromise};
 ghost use Rattle.mq_promise.specs.Laws.{AcknowledgedNumbersAreDone, DoorbellsAreRung, EndsAreCuts, FinishedEndsAreClean};
 ghost use Rattle.mq_promise.specs.Laws.{RefusalsAreCaused, RunsAreAnswered, RunsAreLegal};
 
@@ -32,4 +33,11 @@ pub fn a_run_is_rung<P: Port>()
 /// a premise.
 pub fn a_refusal_is_caused<P: Port>()
     ensures { RefusalsAreCaused P.Port P.state P.faults }
+{}
+
+/// A run on an image tells a legal list of commits and reads, from the volume and the base that recovery of the old image
+/// gives on, and the answers of its lines; and the new image is a cut of this history, with all that `fsync` has answered.
+/// Where it is told as clean, it is.
+pub fn a_run_on_an_image_keeps_its_promise()
+    ensures { RunsKeepTheirPromise }
 {}

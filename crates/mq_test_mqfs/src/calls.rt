@@ -1,7 +1,10 @@
 // Calls of the program over files and an output in memory.
+use mq_calls::Open;
 use mq_outside::{MemFiles, MemSink};
 use mqfs::mqfs;
 use std::alloc::{AllocError, Global};
+use std::sync::Wait;
+use std::thread::Threads;
 
 // These words.
 pub fn words_of(alloc: Global, words: &[&str]) -> Result<Vec<String>, AllocError> {
@@ -56,7 +59,8 @@ impl Outcome {
 }
 
 // What a call with these words comes to, where `t` holds this text.
-pub fn outcome_with(
+pub fn outcome_with<R: Threads + Wait + Sync>(
+    rt: &R,
     alloc: Global,
     words: &[String],
     text: &[u8],
@@ -64,7 +68,7 @@ pub fn outcome_with(
 ) -> Result<Outcome, AllocError> {
     let mut files = file_t(alloc, text, failing.loads)?;
     let mut out = MemSink::new(alloc, Vec::from_slice(alloc, failing.puts)?);
-    let status = mqfs(alloc, words, &mut files, &mut out);
+    let status = mqfs(rt, alloc, words, &mut files, &mut out, &Open);
     let output = Vec::from_slice(alloc, out.written())?;
     Ok(Outcome {
         status,
@@ -74,25 +78,32 @@ pub fn outcome_with(
 }
 
 // The same of the words of a line, where nothing fails.
-pub fn outcome_of(alloc: Global, line: &str, text: &[u8]) -> Result<Outcome, AllocError> {
+pub fn outcome_of<R: Threads + Wait + Sync>(
+    rt: &R,
+    alloc: Global,
+    line: &str,
+    text: &[u8],
+) -> Result<Outcome, AllocError> {
     let words = words_in(alloc, line)?;
-    outcome_with(alloc, &words, text, NOTHING_FAILS)
+    outcome_with(rt, alloc, &words, text, NOTHING_FAILS)
 }
 
 // Whether a call with the words of a line, where `t` holds this text, ends so.
-pub fn ends(
+pub fn ends<R: Threads + Wait + Sync>(
+    rt: &R,
     alloc: Global,
     line: &str,
     text: &str,
     status: u8,
     output: &str,
 ) -> Result<bool, AllocError> {
-    let found = outcome_of(alloc, line, text.as_bytes())?;
+    let found = outcome_of(rt, alloc, line, text.as_bytes())?;
     Ok(found.is(status, output.as_bytes()))
 }
 
 // Whether a call with these words ends so.
-pub fn words_end(
+pub fn words_end<R: Threads + Wait + Sync>(
+    rt: &R,
     alloc: Global,
     words: &[&str],
     text: &str,
@@ -100,7 +111,7 @@ pub fn words_end(
     output: &str,
 ) -> Result<bool, AllocError> {
     let words = words_of(alloc, words)?;
-    let found = outcome_with(alloc, &words, text.as_bytes(), NOTHING_FAILS)?;
+    let found = outcome_with(rt, alloc, &words, text.as_bytes(), NOTHING_FAILS)?;
     Ok(found.is(status, output.as_bytes()))
 }
 
@@ -108,12 +119,17 @@ pub fn words_end(
 pub type Step<'a> = (&'a str, u8, &'a str);
 
 // Whether calls one after another over the same files end so, where `t` holds this text.
-pub fn follows(alloc: Global, text: &str, steps: &[Step<'_>]) -> Result<bool, AllocError> {
+pub fn follows<R: Threads + Wait + Sync>(
+    rt: &R,
+    alloc: Global,
+    text: &str,
+    steps: &[Step<'_>],
+) -> Result<bool, AllocError> {
     let mut files = file_t(alloc, text.as_bytes(), &[])?;
     for (line, status, output) in steps {
         let words = words_in(alloc, line)?;
         let mut out = MemSink::new(alloc, Vec::new(alloc));
-        let found = mqfs(alloc, &words, &mut files, &mut out);
+        let found = mqfs(rt, alloc, &words, &mut files, &mut out, &Open);
         if found != *status || out.written() != output.as_bytes() {
             return Ok(false);
         }

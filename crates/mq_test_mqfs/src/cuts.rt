@@ -5,10 +5,13 @@ use crate::standing::{all_events, is_right};
 use mq_text::{BlockText, read_block_text};
 use std::alloc::{AllocError, Global};
 use std::ops::Range;
+use std::sync::Wait;
+use std::thread::Threads;
 
 // Whether what is printed of a text after so many events is as it must be, also where the recovery is cut. With one
 // of the picks it is not.
-fn cut_is_right(
+fn cut_is_right<R: Threads + Wait + Sync>(
+    rt: &R,
     alloc: Global,
     bytes: &[u8],
     text: &BlockText,
@@ -22,15 +25,20 @@ fn cut_is_right(
             events % 13
         )?,
     };
-    let found = outcome_of(alloc, &line, bytes)?;
+    let found = outcome_of(rt, alloc, &line, bytes)?;
     Ok(found.status == 0 && is_right(alloc, text, events, &found.output)?)
 }
 
 // Whether each cut of a text leaves what it must.
-fn cuts_are_right(alloc: Global, bytes: &[u8], text: &BlockText) -> Result<bool, AllocError> {
+fn cuts_are_right<R: Threads + Wait + Sync>(
+    rt: &R,
+    alloc: Global,
+    bytes: &[u8],
+    text: &BlockText,
+) -> Result<bool, AllocError> {
     for events in 0..all_events(text).saturating_add(2).min(1000) {
         for pick in 0..3 {
-            if !cut_is_right(alloc, bytes, text, events, pick)? {
+            if !cut_is_right(rt, alloc, bytes, text, events, pick)? {
                 return Ok(false);
             }
         }
@@ -39,22 +47,30 @@ fn cuts_are_right(alloc: Global, bytes: &[u8], text: &BlockText) -> Result<bool,
 }
 
 // Whether the text of a seed is as it must be, cut at each of its events and at none.
-fn is_all_right(alloc: Global, seed: u64) -> Result<bool, AllocError> {
+fn is_all_right<R: Threads + Wait + Sync>(
+    rt: &R,
+    alloc: Global,
+    seed: u64,
+) -> Result<bool, AllocError> {
     let bytes = some_text(alloc, seed)?;
     let Ok(text) = read_block_text(alloc, &bytes) else {
         return Ok(false);
     };
-    let whole = outcome_of(alloc, "blocks t", &bytes)?;
+    let whole = outcome_of(rt, alloc, "blocks t", &bytes)?;
     Ok(
         is_right(alloc, &text, all_events(&text), &whole.output)?
-            && cuts_are_right(alloc, &bytes, &text)?,
+            && cuts_are_right(rt, alloc, &bytes, &text)?,
     )
 }
 
 // The first seed of these whose text is not.
-fn wrong_among(alloc: Global, seeds: Range<u64>) -> Result<Option<u64>, AllocError> {
+fn wrong_among<R: Threads + Wait + Sync>(
+    rt: &R,
+    alloc: Global,
+    seeds: Range<u64>,
+) -> Result<Option<u64>, AllocError> {
     for seed in seeds {
-        if !is_all_right(alloc, seed)? {
+        if !is_all_right(rt, alloc, seed)? {
             return Ok(Some(seed));
         }
     }
@@ -63,30 +79,30 @@ fn wrong_among(alloc: Global, seeds: Range<u64>) -> Result<Option<u64>, AllocErr
 
 #[test]
 fn each_cut_leaves_the_first_lines(rt: HostRuntime) -> Result<(), AllocError> {
-    assert_eq!(rt; wrong_among(rt.alloc(), 0..20)?, None);
+    assert_eq!(rt; wrong_among(&rt, rt.alloc(), 0..20)?, None);
     Ok(())
 }
 
 #[test]
 fn each_cut_of_more_texts(rt: HostRuntime) -> Result<(), AllocError> {
-    assert_eq!(rt; wrong_among(rt.alloc(), 20..40)?, None);
+    assert_eq!(rt; wrong_among(&rt, rt.alloc(), 20..40)?, None);
     Ok(())
 }
 
 #[test]
 fn each_cut_of_a_third_lot(rt: HostRuntime) -> Result<(), AllocError> {
-    assert_eq!(rt; wrong_among(rt.alloc(), 40..60)?, None);
+    assert_eq!(rt; wrong_among(&rt, rt.alloc(), 40..60)?, None);
     Ok(())
 }
 
 #[test]
 fn each_cut_of_a_fourth_lot(rt: HostRuntime) -> Result<(), AllocError> {
-    assert_eq!(rt; wrong_among(rt.alloc(), 60..80)?, None);
+    assert_eq!(rt; wrong_among(&rt, rt.alloc(), 60..80)?, None);
     Ok(())
 }
 
 #[test]
 fn each_cut_of_a_fifth_lot(rt: HostRuntime) -> Result<(), AllocError> {
-    assert_eq!(rt; wrong_among(rt.alloc(), 80..100)?, None);
+    assert_eq!(rt; wrong_among(&rt, rt.alloc(), 80..100)?, None);
     Ok(())
 }

@@ -27,7 +27,7 @@ const FORMATTED: [Step<'static>; 8] = [
 
 #[test]
 fn an_image_is_formatted_and_told(rt: HostRuntime) -> Result<(), AllocError> {
-    assert!(rt; follows(rt.alloc(), TWO_LINES, &FORMATTED)?);
+    assert!(rt; follows(&rt, rt.alloc(), TWO_LINES, &FORMATTED)?);
     Ok(())
 }
 
@@ -44,7 +44,7 @@ const SAVED: [Step<'static>; 7] = [
 
 #[test]
 fn what_the_plug_left_is_saved(rt: HostRuntime) -> Result<(), AllocError> {
-    assert!(rt; follows(rt.alloc(), TWO_LINES, &SAVED)?);
+    assert!(rt; follows(&rt, rt.alloc(), TWO_LINES, &SAVED)?);
     Ok(())
 }
 
@@ -56,6 +56,6 @@ const UNSAVED: [Step<'static>; 2] = [
 
 #[test]
 fn a_refused_text_saves_nothing(rt: HostRuntime) -> Result<(), AllocError> {
-    assert!(rt; follows(rt.alloc(), "x\n", &UNSAVED)?);
+    assert!(rt; follows(&rt, rt.alloc(), "x\n", &UNSAVED)?);
     Ok(())
 }

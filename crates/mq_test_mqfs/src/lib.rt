@@ -18,6 +18,8 @@ mod ports;
 #[cfg(test)]
 mod refusals;
 #[cfg(test)]
+mod runs;
+#[cfg(test)]
 mod standing;
 #[cfg(test)]
 mod words;

@@ -1,6 +1,8 @@
 // What is printed of a text.
 use crate::calls::{ends, outcome_of};
 use std::alloc::{AllocError, Global};
+use std::sync::Wait;
+use std::thread::Threads;
 
 // Texts, each with what is printed of it.
 const PRINTED: [(&str, &str); 9] = [
@@ -24,7 +26,10 @@ const PRINTED: [(&str, &str); 9] = [
 #[test]
 fn texts_are_printed(rt: HostRuntime) -> Result<(), AllocError> {
     for (text, output) in PRINTED {
-        assert!(rt; ends(rt.alloc(), "blocks t", text, 0, output)?, "{text}");
+        assert!(rt;
+            ends(&rt, rt.alloc(), "blocks t", text, 0, output)?,
+            "{text}"
+        );
     }
     Ok(())
 }
@@ -63,7 +68,7 @@ fn full_output(alloc: Global) -> Result<Vec<u8>, AllocError> {
 fn a_text_that_fills_the_area(rt: HostRuntime) -> Result<(), AllocError> {
     let text = full_text(rt.alloc())?;
     let output = full_output(rt.alloc())?;
-    assert!(rt; outcome_of(rt.alloc(), "blocks t", &text)?.is(0, &output));
+    assert!(rt; outcome_of(&rt, rt.alloc(), "blocks t", &text)?.is(0, &output));
     Ok(())
 }
 
@@ -78,7 +83,7 @@ fn a_text_that_passes_the_area(rt: HostRuntime) -> Result<(), AllocError> {
         "blocks t --cut 9223372036854775807 --pick 10",
     ] {
         assert!(rt;
-            outcome_of(rt.alloc(), line, &text)?.is(2, b"blocks line 5: Area\n"),
+            outcome_of(&rt, rt.alloc(), line, &text)?.is(2, b"blocks line 5: Area\n"),
             "{line}"
         );
     }
@@ -95,15 +100,26 @@ const ONE: &str = "prefix 1\n5 ab\n7 01\n";
 const BOTH: &str = "prefix 2\n5 ab\n9 ff\n";
 
 // What is printed of them where they are cut after so many events, with this pick.
-fn cut_after(alloc: Global, cut: u32, pick: u32) -> Result<Vec<u8>, AllocError> {
+fn cut_after<R: Threads + Wait + Sync>(
+    rt: &R,
+    alloc: Global,
+    cut: u32,
+    pick: u32,
+) -> Result<Vec<u8>, AllocError> {
     let line = format!(in alloc; "blocks t --cut {cut} --pick {pick}")?;
-    Ok(outcome_of(alloc, &line, TWO_LINES.as_bytes())?.output)
+    Ok(outcome_of(rt, alloc, &line, TWO_LINES.as_bytes())?.output)
 }
 
 // The same where a first recovery is cut after so many events.
-fn cut_again(alloc: Global, cut: u32, pick: u32, again: u32) -> Result<Vec<u8>, AllocError> {
+fn cut_again<R: Threads + Wait + Sync>(
+    rt: &R,
+    alloc: Global,
+    cut: u32,
+    pick: u32,
+    again: u32,
+) -> Result<Vec<u8>, AllocError> {
     let line = format!(in alloc; "blocks t --cut {cut} --pick {pick} --again {again}")?;
-    Ok(outcome_of(alloc, &line, TWO_LINES.as_bytes())?.output)
+    Ok(outcome_of(rt, alloc, &line, TWO_LINES.as_bytes())?.output)
 }
 
 // The first line takes 10 events and the second 8. After the store of a head, either value may stand.
@@ -122,7 +138,7 @@ fn may_stand(cut: u32, output: &[u8]) -> bool {
 fn a_cut_at_each_event(rt: HostRuntime) -> Result<(), AllocError> {
     for cut in 0..21_u32 {
         for pick in 0..8_u32 {
-            let output = cut_after(rt.alloc(), cut, pick)?;
+            let output = cut_after(&rt, rt.alloc(), cut, pick)?;
             assert!(rt; may_stand(cut, &output), "cut {cut} pick {pick}");
         }
     }
@@ -134,7 +150,7 @@ fn a_cut_at_each_event(rt: HostRuntime) -> Result<(), AllocError> {
 fn a_stored_head_stands_or_not(rt: HostRuntime) -> Result<(), AllocError> {
     let mut stood: u32 = 0;
     for pick in 0..8_u32 {
-        if cut_after(rt.alloc(), 9, pick)?.as_slice() == ONE.as_bytes() {
+        if cut_after(&rt, rt.alloc(), 9, pick)?.as_slice() == ONE.as_bytes() {
             stood = stood.saturating_add(1);
         }
     }
@@ -146,23 +162,37 @@ fn a_stored_head_stands_or_not(rt: HostRuntime) -> Result<(), AllocError> {
 fn a_recovery_of_two_lines_is_cut_at_each_event(rt: HostRuntime) -> Result<(), AllocError> {
     for again in 0..13_u32 {
         for pick in 0..8_u32 {
-            let output = cut_again(rt.alloc(), 18, pick, again)?;
+            let output = cut_again(&rt, rt.alloc(), 18, pick, again)?;
             assert!(rt;
                 output.as_slice() == BOTH.as_bytes(),
                 "again {again} pick {pick}"
             );
         }
     }
-    assert!(rt; ends(rt.alloc(), "blocks t --cut 10 --again 3", TWO_LINES, 0, ONE)?);
-    assert!(rt; ends(rt.alloc(), "blocks t --again 0", TWO_LINES, 0, BOTH)?);
+    assert!(rt;
+        ends(
+            &rt,
+            rt.alloc(),
+            "blocks t --cut 10 --again 3",
+            TWO_LINES,
+            0,
+            ONE
+        )?
+    );
+    assert!(rt; ends(&rt, rt.alloc(), "blocks t --again 0", TWO_LINES, 0, BOTH)?);
     Ok(())
 }
 
 // Whether a recovery that is cut at any of its events and begun again prints what one that isn't cut prints.
-fn again_is_the_same(alloc: Global, cut: u32, pick: u32) -> Result<bool, AllocError> {
-    let whole = cut_after(alloc, cut, pick)?;
+fn again_is_the_same<R: Threads + Wait + Sync>(
+    rt: &R,
+    alloc: Global,
+    cut: u32,
+    pick: u32,
+) -> Result<bool, AllocError> {
+    let whole = cut_after(rt, alloc, cut, pick)?;
     for again in 0..13_u32 {
-        let output = cut_again(alloc, cut, pick, again)?;
+        let output = cut_again(rt, alloc, cut, pick, again)?;
         if output.as_slice() != whole.as_slice() {
             return Ok(false);
         }
@@ -175,7 +205,7 @@ fn a_cut_of_a_recovery_changes_nothing(rt: HostRuntime) -> Result<(), AllocError
     for cut in 0..20_u32 {
         for pick in 0..4_u32 {
             assert!(rt;
-                again_is_the_same(rt.alloc(), cut, pick)?,
+                again_is_the_same(&rt, rt.alloc(), cut, pick)?,
                 "cut {cut} pick {pick}"
             );
         }

@@ -5,7 +5,7 @@ use std::alloc::AllocError;
 const USAGE: &str = "usage: mqfs blocks|format|run|recover|ls|cat|gen|dump\n";
 
 // Words that are no command, also where `t` holds a text that is read.
-const NO_COMMAND: [&str; 43] = [
+const NO_COMMAND: [&str; 51] = [
     "",
     "blocks",
     "blocks t t",
@@ -14,8 +14,17 @@ const NO_COMMAND: [&str; 43] = [
     "t blocks",
     "help",
     "-h",
-    "run d t",
     "gen 1 1 1",
+    // a run has one script or more, and names a command by two numbers, of which the second is not 0
+    "run",
+    "run d",
+    "run d --cut 1",
+    "run d t --again 1",
+    "run d t --fail 1",
+    "run d t --fail 0:0",
+    "run d t --fail 0:01",
+    "run d t --fail 0:1:1",
+    "run d t --fail 9223372036854775808:1",
     // options stand once, with a value that does not begin with a hyphen
     "blocks t --cut 1 --cut 1",
     "blocks t --cut=1 --cut=1",
@@ -57,7 +66,7 @@ const NO_COMMAND: [&str; 43] = [
 #[test]
 fn other_words_are_no_command(rt: HostRuntime) -> Result<(), AllocError> {
     for line in NO_COMMAND {
-        assert!(rt; ends(rt.alloc(), line, "1=00\n", 1, USAGE)?, "{line}");
+        assert!(rt; ends(&rt, rt.alloc(), line, "1=00\n", 1, USAGE)?, "{line}");
     }
     Ok(())
 }
@@ -85,14 +94,14 @@ fn numbers_of_another_form(rt: HostRuntime) -> Result<(), AllocError> {
             ["blocks", "t", "--cut", "0", "--pick", number],
         ] {
             assert!(rt;
-                words_end(rt.alloc(), &words, "1=00\n", 1, USAGE)?,
+                words_end(&rt, rt.alloc(), &words, "1=00\n", 1, USAGE)?,
                 "{number}"
             );
         }
         for option in ["--cut", "--pick"] {
             let words = ["blocks", "t", option, number];
             assert!(rt;
-                words_end(rt.alloc(), &words, "1=00\n", 1, USAGE)?,
+                words_end(&rt, rt.alloc(), &words, "1=00\n", 1, USAGE)?,
                 "{option} {number}"
             );
         }
@@ -117,7 +126,10 @@ fn other_texts_are_refused(rt: HostRuntime) -> Result<(), AllocError> {
             "blocks t --pick 9223372036854775807",
             "blocks t --cut 9223372036854775807 --pick 10",
         ] {
-            assert!(rt; ends(rt.alloc(), line, text, 2, output)?, "{line}: {text}");
+            assert!(rt;
+                ends(&rt, rt.alloc(), line, text, 2, output)?,
+                "{line}: {text}"
+            );
         }
     }
     Ok(())
@@ -126,7 +138,7 @@ fn other_texts_are_refused(rt: HostRuntime) -> Result<(), AllocError> {
 #[test]
 fn a_path_of_other_bytes(rt: HostRuntime) -> Result<(), AllocError> {
     for path in ["", "/a b", "/\u{7f}", "/\u{e9}"] {
-        assert!(rt; words_end(rt.alloc(), &["cat", "d", path], "", 1, USAGE)?);
+        assert!(rt; words_end(&rt, rt.alloc(), &["cat", "d", path], "", 1, USAGE)?);
     }
     Ok(())
 }
@@ -138,7 +150,9 @@ fn a_file_that_fails(rt: HostRuntime) -> Result<(), AllocError> {
         loads: &[1],
         puts: &[],
     };
-    assert!(rt; outcome_with(rt.alloc(), &words, b"1=00\n", failing)?.is(4, b"fault load t\n"));
+    assert!(rt;
+        outcome_with(&rt, rt.alloc(), &words, b"1=00\n", failing)?.is(4, b"fault load t\n")
+    );
     Ok(())
 }
 
@@ -154,7 +168,7 @@ fn an_output_that_fails(rt: HostRuntime) -> Result<(), AllocError> {
             loads: &[],
             puts: &[put],
         };
-        let found = outcome_with(rt.alloc(), &words, THREE_PIECES, failing)?;
+        let found = outcome_with(&rt, rt.alloc(), &words, THREE_PIECES, failing)?;
         assert_eq!(rt; found.status, 4);
         assert_eq!(rt; found.output.len(), length);
     }

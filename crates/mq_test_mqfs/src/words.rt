@@ -27,7 +27,7 @@ const FORMS: [(&str, &str); 12] = [
 #[test]
 fn options_stand_anywhere(rt: HostRuntime) -> Result<(), AllocError> {
     for (line, output) in FORMS {
-        assert!(rt; ends(rt.alloc(), line, TEXT, 0, output)?, "{line}");
+        assert!(rt; ends(&rt, rt.alloc(), line, TEXT, 0, output)?, "{line}");
     }
     Ok(())
 }
@@ -43,10 +43,19 @@ const NAMES: [(&str, &str); 4] = [
 #[test]
 fn names_of_files(rt: HostRuntime) -> Result<(), AllocError> {
     for (line, output) in NAMES {
-        assert!(rt; ends(rt.alloc(), line, "", 4, output)?, "{line}");
+        assert!(rt; ends(&rt, rt.alloc(), line, "", 4, output)?, "{line}");
     }
-    assert!(rt; words_end(rt.alloc(), &["blocks", ""], "", 4, "fault load \n")?);
-    assert!(rt; words_end(rt.alloc(), &["blocks", "a b"], "", 4, "fault load a b\n")?);
+    assert!(rt; words_end(&rt, rt.alloc(), &["blocks", ""], "", 4, "fault load \n")?);
+    assert!(rt;
+        words_end(
+            &rt,
+            rt.alloc(),
+            &["blocks", "a b"],
+            "",
+            4,
+            "fault load a b\n"
+        )?
+    );
     Ok(())
 }
 
@@ -66,7 +75,7 @@ const HELP: [(&str, &str); 9] = [
 #[test]
 fn help_is_said(rt: HostRuntime) -> Result<(), AllocError> {
     for (line, begins) in HELP {
-        let found = outcome_of(rt.alloc(), line, b"")?;
+        let found = outcome_of(&rt, rt.alloc(), line, b"")?;
         assert_eq!(rt; found.status, 0);
         assert!(rt; found.output.starts_with(begins.as_bytes()), "{line}");
     }

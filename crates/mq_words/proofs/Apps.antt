@@ -1,24 +1,28 @@
 -- The commands as `clap` has them, built up an argument at a time.
-use Rattle.std.proofs.Common.{◌≡◌, ◌≢◌, ◌<◌, ℕ, true, subst, ◌+◌, List, [], ◌∷◌, ◌++◌, length, get_or, map, take, refl, sym, ◌∙◌, ap, append_assoc}
+use Rattle.std.proofs.Common.{◌≡◌, ◌≢◌, ◌<◌, ℕ, true, subst, ◌+◌, List, [], ◌∷◌, ◌++◌, length, get_or, map, take, Option, None, refl, sym, ◌∙◌, ap, append_assoc}
 use Rattle.std.proofs.lemmas.List.{map-append, append-nil}
 use Rattle.mq_text.proofs.TextLines.{map_take_more}
 use Rattle.clap.specs.Words.{App, IsAmong, Kinds, Rule, Text, is_simple, is_simple_and_free, with_rule}
 use Rattle.clap.specs.declared.error.kind.ErrorKind.{ErrorKind}
-use Rattle.mq_words.specs.Syntax.{app_for, app_with, name_rule, option_rule}
+use Rattle.mq_words.specs.Syntax.{app_for, app_with, name_rule, option_rule, repeated_rules}
 use Rattle.mq_words.specs.declared.verb.Verb.{Verb}
-use Rattle.mq_words.specs.declared.verb.Verb.TheVariants.{Blocks, Format, Recover, Ls, Cat, Dump}
+use Rattle.mq_words.specs.declared.verb.Verb.TheVariants.{Blocks, Format, Run, Recover, Ls, Cat, Dump}
 
 -- one name more
-pub name_more : (verb : Text) (names : List Text) (name : Text) → with_rule (app_with verb names []) (name_rule name) ≡ app_with verb (names ++ name ∷ []) []
+pub name_more : (verb : Text) (names : List Text) (name : Text) → with_rule (app_with verb names None []) (name_rule name) ≡ app_with verb (names ++ name ∷ []) None []
 name_more verb names name =
-    ap (λ (rules : List Rule). record (app_with verb names []) { top = record (app_with verb names []).top { rules = rules } })
+    ap (λ (rules : List Rule). record (app_with verb names None []) { top = record (app_with verb names None []).top { rules = rules } })
     (ap (λ (l : List Rule). l ++ name_rule name ∷ []) (append-nil (map name_rule names)) ∙ sym (map-append name_rule names (name ∷ [])) ∙ sym (append-nil (map name_rule (names ++ name ∷ []))))
 
 -- one option more
-pub option_more : (verb : Text) (names options : List Text) (option : Text) → with_rule (app_with verb names options) (option_rule option) ≡ app_with verb names (options ++ option ∷ [])
-option_more verb names options option =
-    ap (λ (rules : List Rule). record (app_with verb names []) { top = record (app_with verb names []).top { rules = rules } })
-    (append_assoc (map name_rule names) (map option_rule options) (option_rule option ∷ []) ∙ ap (λ (l : List Rule). map name_rule names ++ l) (sym (map-append option_rule options (option ∷ []))))
+pub option_more : (verb : Text) (names : List Text) (repeated : Option Text) (options : List Text) (option : Text)
+    → with_rule (app_with verb names repeated options) (option_rule option) ≡ app_with verb names repeated (options ++ option ∷ [])
+option_more verb names repeated options option =
+    ap (λ (rules : List Rule). record (app_with verb names None []) { top = record (app_with verb names None []).top { rules = rules } })
+    (append_assoc (map name_rule names) (repeated_rules repeated ++ map option_rule options) (option_rule option ∷ [])
+    ∙ ap (λ (l : List Rule). map name_rule names ++ l)
+    (append_assoc (repeated_rules repeated) (map option_rule options) (option_rule option ∷ [])
+    ∙ ap (λ (l : List Rule). repeated_rules repeated ++ l) (sym (map-append option_rule options (option ∷ [])))))
 
 -- a step of the loop over names, or over options
 pub step : {X : Type 0} (now : X → Text) (made : List Text → App) (rule : Text → Rule) → ((xs : List Text) (x : Text) → with_rule (made xs) (rule x) ≡ made (xs ++ x ∷ []))
@@ -31,6 +35,7 @@ pub simple_and_free : (v : Verb) → is_simple_and_free (app_for v) ≡ true
 unfolding app_for
 simple_and_free Blocks = refl
 simple_and_free Format = refl
+simple_and_free Run = refl
 simple_and_free Recover = refl
 simple_and_free Ls = refl
 simple_and_free Cat = refl
@@ -40,6 +45,7 @@ pub simple : (v : Verb) → is_simple (app_for v) ≡ true
 unfolding app_for
 simple Blocks = refl
 simple Format = refl
+simple Run = refl
 simple Recover = refl
 simple Ls = refl
 simple Cat = refl

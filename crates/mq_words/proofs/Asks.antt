@@ -1,10 +1,10 @@
 -- What words ask, step by step.
-use Rattle.std.proofs.Common.{◌≡◌, ◌≢◌, ◌<◌, ◌≤◌, ◌⊎◌, inl, inr, ℕ, Bool, cond, List, [], ◌∷◌, get_or, map, drop, length, Option, Some, None, refl, sym, ◌∙◌, ap, arith}
-use Rattle.std.specs.Prelude.{MatchResult, Result, Ok, Err, option_and_then}
+use Rattle.std.proofs.Common.{◌≡◌, ◌≢◌, ◌<◌, ◌≤◌, ◌⊎◌, inl, inr, ℕ, Bor, Bool, cond, List, [], ◌∷◌, get_or, map, drop, length, Option, Some, None, refl, sym, ◌∙◌, ap, arith}
+use Rattle.std.specs.Prelude.{MatchResult, Result, Ok, Err, option_and_then, option_map}
 use Rattle.std.proofs.lemmas.Bool.{lt-ltb}
 use Rattle.clap.specs.Words.{Kinds, Row, Text, fault_of, matches_of}
 use Rattle.mq_script.specs.Words.{number_in}
-use Rattle.mq_words.specs.Asked.{Asked, Words, asked_after, asked_by, asked_of, below, found_in, is_empty, number_within}
+use Rattle.mq_words.specs.Asked.{Asked, Words, asked_after, asked_by, asked_of, below, found_in, is_empty, number_within, some_words}
 use Rattle.mq_words.specs.Syntax.{app_for, verb_of}
 use Rattle.mq_words.specs.declared.refusal.WordsRefusal.{WordsRefusal}
 use Rattle.mq_words.specs.declared.refusal.WordsRefusal.TheVariants.{OutOfMemory, Unknown}
@@ -54,3 +54,21 @@ other_asked f xs a word some is same none =
 pub reads_as : {A E : Type 0} {B : Type 0} (r : Result A E) (f : B → Option A) (x y : B) (Other : E → Type 0) → x ≡ y → MatchResult r (λ a. f x ≡ Some a) (λ e. Other e × (f x ≡ None)) → MatchResult r (λ a. f y ≡ Some a) (λ e. Other e × (f y ≡ None))
 reads_as (Ok a) f x y Other same is = ap f (sym same) ∙ is
 reads_as (Err e) f x y Other same is = (is.0, ap f (sym same) ∙ is.1)
+
+-- the words of a name that was found, or of one that was not
+abbrev Texts : Type 0
+Texts = List (Bor Text)
+
+pub some_found : (found : Option (Bor Texts)) (words : Bor Texts) (all : Option Words) → option_map (λ s. map (λ w. w.now) s.now) found ≡ all → found ≡ Some words → some_words all ≡ some_words (Some (map (λ w. w.now) words.now))
+some_found found words all same is = ap some_words (sym same) ∙ ap (λ (o : Option (Bor Texts)). some_words (option_map (λ s. map (λ w. w.now) s.now) o)) is
+
+pub none_found : (found : Option (Bor Texts)) (all : Option Words) → option_map (λ s. map (λ w. w.now) s.now) found ≡ all → found ≡ None → some_words all ≡ None
+none_found found all same is = ap some_words (sym same) ∙ ap (λ (o : Option (Bor Texts)). some_words (option_map (λ s. map (λ w. w.now) s.now) o)) is
+
+pub no_word : (words : Texts) → length words ≡ 0 → some_words (Some (map (λ w. w.now) words)) ≡ None
+no_word [] none = refl
+no_word (w ∷ ws) none = absurd (omega arith)
+
+pub some_word : (words : Texts) → 1 ≤ length words → some_words (Some (map (λ w. w.now) words)) ≡ Some (map (λ w. w.now) words)
+some_word [] some = absurd (omega arith)
+some_word (w ∷ ws) some = refl

@@ -1,12 +1,14 @@
 -- What words ask: exactly one thing, or nothing.
-use Rattle.std.specs.Prelude.{ℕ, ◌<◌, ◌^◌, IfSome, ◌==◌, ◌&&◌, ◌||◌, Bool, true, false, List, [], ◌∷◌, length, Option, Some, None, option_and_then, option_map, codes, bytes_eq, nat_lt, nat_le, if◌then◌else◌}
-use Rattle.std.specs.List.{list_all}
-use Rattle.clap.specs.Words.{Row, Text, fault_of, first_of, matches_of}
+use Rattle.std.specs.Prelude.{ℕ, ◌<◌, ◌≤◌, ◌+◌, ◌^◌, IfSome, ◌==◌, ◌&&◌, Bool, true, false, List, [], ◌∷◌, length, map, take, drop, Option, Some, None, option_and_then, option_map, codes, bytes_eq, nat_lt, nat_le, if◌then◌else◌}
+use Rattle.std.specs.List.{list_all, position}
+use Rattle.clap.specs.Words.{Row, Text, all_of, fault_of, first_of, matches_of}
 use Rattle.mq_script.specs.Words.{number_in, path_in}
 use Rattle.mq_tree.specs.Volume.{Path}
 use Rattle.mq_words.specs.Syntax.{app_for, verb_of}
 use Rattle.mq_words.specs.declared.command.BlocksOptions.{BlocksOptions}
 use Rattle.mq_words.specs.declared.command.Command.{Command}
+use Rattle.mq_words.specs.declared.command.FailingCommand.{FailingCommand}
+use Rattle.mq_words.specs.declared.command.RunOptions.{RunOptions}
 use Rattle.mq_words.specs.declared.command.Command.TheVariants as command
 use Rattle.mq_words.specs.declared.verb.Verb.{Verb}
 use Rattle.mq_words.specs.declared.verb.Verb.TheVariants as verb
@@ -19,6 +21,7 @@ Words = List Text
 pub data Asked : Type 0 where
   blocks : (file : Text) → BlocksOptions → (save : Option Text) → Asked
   format : (image : Text) → (queues area meta zone : ℕ) → Asked
+  run : (image : Text) → (scripts : List Text) → RunOptions → Asked
   recover : (image : Text) → (cut pick : Option ℕ) → Asked
   ls : (image : Text) → Asked
   cat : (image : Text) → Path → Asked
@@ -48,6 +51,22 @@ abbrev pub number_option : Option Text → Option (Option ℕ)
 number_option None = Some None
 number_option (Some text) = option_map Some (number_within number_end text)
 
+-- a port's number and a command's, which counts from 1
+abbrev pub failing_by : (port command : Option ℕ) → Option FailingCommand
+failing_by (Some port) (Some command) = if nat_lt 0 command then Some (record { port = port; command = command }) else None
+failing_by _ _ = None
+
+-- the two numbers, with the first colon between
+abbrev pub failing_in : Text → Option FailingCommand
+failing_in text = option_and_then
+    (λ i. failing_by (number_within number_end (take i text)) (number_within number_end (drop (i + 1) text)))
+    (position (λ b. b == 58) text)
+
+-- the command that an option names, where the option is given
+abbrev pub failing_option : Option Text → Option (Option FailingCommand)
+failing_option None = Some None
+failing_option (Some text) = option_map Some (failing_in text)
+
 -- a visible character of ASCII
 abbrev pub is_visible : ℕ → Bool
 is_visible b = nat_le 33 b && nat_le b 126
@@ -65,6 +84,15 @@ blocks_by _ _ _ _ _ = None
 abbrev pub format_by : Option Text → (queues area meta zone : Option ℕ) → Option Asked
 format_by (Some image) (Some queues) (Some area) (Some meta) (Some zone) = Some (format image queues area meta zone)
 format_by _ _ _ _ _ = None
+
+-- one word or more
+abbrev pub some_words : Option Words → Option Words
+some_words (Some (word ∷ words)) = Some (word ∷ words)
+some_words _ = None
+
+abbrev pub run_by : Option Text → (scripts : Option Words) → (cut pick : Option (Option ℕ)) → (fail : Option (Option FailingCommand)) → Option Asked
+run_by (Some image) (Some scripts) (Some cut) (Some pick) (Some fail) = Some (run image scripts (record { cut = cut; pick = pick; fail = fail }))
+run_by _ _ _ _ _ = None
 
 abbrev pub recover_by : Option Text → (cut pick : Option (Option ℕ)) → Option Asked
 recover_by (Some image) (Some cut) (Some pick) = Some (recover image cut pick)
@@ -85,6 +113,8 @@ asked_by verb.Blocks rows = blocks_by (first_of (codes "file") rows)
     (first_of (codes "save") rows)
 asked_by verb.Format rows = format_by (first_of (codes "image") rows)
     (word_in (first_of (codes "queues") rows)) (word_in (first_of (codes "area") rows)) (word_in (first_of (codes "meta") rows)) (word_in (first_of (codes "zone") rows))
+asked_by verb.Run rows = run_by (first_of (codes "image") rows) (some_words (all_of (codes "scripts") rows))
+    (number_option (first_of (codes "cut") rows)) (number_option (first_of (codes "pick") rows)) (failing_option (first_of (codes "fail") rows))
 asked_by verb.Recover rows = recover_by (first_of (codes "image") rows)
     (number_option (first_of (codes "cut") rows)) (number_option (first_of (codes "pick") rows))
 asked_by verb.Ls rows = option_map ls (first_of (codes "image") rows)
@@ -125,6 +155,7 @@ asked_of (word ∷ words) = asked_after (verb_of word) word words
 abbrev pub asked : Command → Asked
 asked (command.Blocks file options save) = blocks file.now options (option_map (λ s. s.now) save)
 asked (command.Format image queues area meta zone) = format image.now queues area meta zone
+asked (command.Run image scripts options) = run image.now (map (λ s. s.now) scripts.items) options
 asked (command.Recover image cut pick) = recover image.now cut pick
 asked (command.Ls image) = ls image.now
 asked (command.Cat image path) = cat image.now path
@@ -136,7 +167,21 @@ asked command.Version = version
 abbrev pub AreSmall : BlocksOptions → Type 0
 AreSmall o = IfSome o.cut (λ n. n < number_end) × IfSome o.pick (λ n. n < number_end) × IfSome o.again (λ n. n < number_end)
 
+-- the numbers are below their limit, and the command's counts from 1
+abbrev pub NamesCommand : FailingCommand → Type 0
+NamesCommand f = (f.port < number_end) × (1 ≤ f.command) × (f.command < number_end)
+
+-- the same of the options of `run`
+abbrev pub AreSmallOfRun : RunOptions → Type 0
+AreSmallOfRun o = IfSome o.cut (λ n. n < number_end) × IfSome o.pick (λ n. n < number_end) × IfSome o.fail NamesCommand
+
 abbrev pub HasSmallNumbers : Command → Type 0
 HasSmallNumbers (command.Blocks file options save) = AreSmall options
+HasSmallNumbers (command.Run image scripts options) = AreSmallOfRun options
 HasSmallNumbers (command.Recover image cut pick) = IfSome cut (λ n. n < number_end) × IfSome pick (λ n. n < number_end)
 HasSmallNumbers _ = Unit {0}
+
+-- a run has at least one script
+abbrev pub HasScript : Command → Type 0
+HasScript (command.Run image scripts options) = 1 ≤ length scripts.items
+HasScript _ = Unit {0}

@@ -8,11 +8,12 @@ program_help =
     codes "mqfs runs a crash-consistent journal on an emulated drive.\n\n"
     ++ (codes "  mqfs blocks FILE [--cut K] [--pick S] [--again J] [--save NAME]\n"
     ++ (codes "  mqfs format IMAGE QUEUES AREA META ZONE\n"
+    ++ (codes "  mqfs run IMAGE SCRIPT.. [--cut K] [--pick S] [--fail Q:N]\n"
     ++ (codes "  mqfs recover IMAGE [--cut K] [--pick S]\n"
     ++ (codes "  mqfs ls IMAGE\n"
     ++ (codes "  mqfs cat IMAGE PATH\n"
     ++ (codes "  mqfs dump IMAGE\n\n"
-    ++ (codes "mqfs COMMAND --help says more of a command.\n")))))))
+    ++ (codes "mqfs COMMAND --help says more of a command.\n"))))))))
 
 unfoldable pub blocks_help : List ℕ
 blocks_help =
@@ -32,6 +33,16 @@ format_help =
     ++ (codes "queues, the blocks of each queue's journal area, the blocks of metadata, and\n"
     ++ (codes "the blocks of each queue's zone of data.\n\n"
     ++ (codes "Example: mqfs format d 2 1024 64 256\n"))))
+
+unfoldable pub run_help : List ℕ
+run_help =
+    codes "mqfs run IMAGE SCRIPT.. [--cut K] [--pick S] [--fail Q:N]\n\n"
+    ++ (codes "Recovers the drive of IMAGE, runs each SCRIPT on a session and a thread of its\n"
+    ++ (codes "own, saves what that left as IMAGE, and prints a report.\n\n"
+    ++ (codes "  --cut K      the power goes off after K events, or at the end of the sessions\n"
+    ++ (codes "  --pick S     chooses the order of commands and what a cut leaves, else 0\n"
+    ++ (codes "  --fail Q:N   command N of port Q, counted from 1, ends with an error\n\n"
+    ++ (codes "Example: mqfs run d a b --cut 40\n"))))))
 
 unfoldable pub recover_help : List ℕ
 recover_help =
@@ -66,6 +77,7 @@ abbrev pub help_text : Option Verb → List ℕ
 help_text None = program_help
 help_text (Some verb.Blocks) = blocks_help
 help_text (Some verb.Format) = format_help
+help_text (Some verb.Run) = run_help
 help_text (Some verb.Recover) = recover_help
 help_text (Some verb.Ls) = ls_help
 help_text (Some verb.Cat) = cat_help

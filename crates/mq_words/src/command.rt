@@ -13,6 +13,27 @@ pub struct BlocksOptions {
     pub again: Option<u64>,
 }
 
+/// A command of a port that ends with an error.
+#[derive(Clone, Copy)]
+pub struct FailingCommand {
+    /// The port's number.
+    pub port: u64,
+    /// The command's number among those of the port, counted from 1.
+    pub command: u64,
+}
+
+/// The numbers of the options of `run`.
+#[derive(Clone, Copy)]
+pub struct RunOptions {
+    /// After how many events the power goes off.
+    pub cut: Option<u64>,
+    /// Where the draws of what is uncertain at the cut, and of the order in which commands end,
+    /// come from.
+    pub pick: Option<u64>,
+    /// Which command ends with an error.
+    pub fail: Option<FailingCommand>,
+}
+
 /// What words ask.
 #[derive(Drop)]
 pub enum Command<'a> {
@@ -28,6 +49,12 @@ pub enum Command<'a> {
         area: u32,
         meta: u32,
         zone: u32,
+    },
+    Run {
+        image: &'a str,
+        /// The names of the scripts, of which there is at least one.
+        scripts: Vec<&'a str>,
+        options: RunOptions,
     },
     Recover {
         image: &'a str,

@@ -1,6 +1,6 @@
 // What the program says of itself and of each command.
 ghost use Rattle.std.specs.Prelude.{◌≡◌};
-ghost use Rattle.mq_words.specs.Help.{blocks_help, cat_help, dump_help, format_help, help_text, ls_help, program_help, recover_help, version_line as version_text};
+ghost use Rattle.mq_words.specs.Help.{blocks_help, cat_help, dump_help, format_help, help_text, ls_help, program_help, recover_help, run_help, version_line as version_text};
 
 use crate::verb::Verb;
 
@@ -12,6 +12,7 @@ fn program_text() -> &'static str
 
   mqfs blocks FILE [--cut K] [--pick S] [--again J] [--save NAME]
   mqfs format IMAGE QUEUES AREA META ZONE
+  mqfs run IMAGE SCRIPT.. [--cut K] [--pick S] [--fail Q:N]
   mqfs recover IMAGE [--cut K] [--pick S]
   mqfs ls IMAGE
   mqfs cat IMAGE PATH
@@ -50,6 +51,23 @@ queues, the blocks of each queue's journal area, the blocks of metadata, and
 the blocks of each queue's zone of data.
 
 Example: mqfs format d 2 1024 64 256
+"
+}
+
+#[tactic(auto, unfolding(crate::specs::Help::run_help))]
+fn run_text() -> &'static str
+    ensures { result.now ≡ run_help }
+{
+    "mqfs run IMAGE SCRIPT.. [--cut K] [--pick S] [--fail Q:N]
+
+Recovers the drive of IMAGE, runs each SCRIPT on a session and a thread of its
+own, saves what that left as IMAGE, and prints a report.
+
+  --cut K      the power goes off after K events, or at the end of the sessions
+  --pick S     chooses the order of commands and what a cut leaves, else 0
+  --fail Q:N   command N of port Q, counted from 1, ends with an error
+
+Example: mqfs run d a b --cut 40
 "
 }
 
@@ -115,6 +133,7 @@ pub fn help_on(topic: Option<Verb>) -> &'static str
         None => program_text(),
         Some(Verb::Blocks) => blocks_text(),
         Some(Verb::Format) => format_text(),
+        Some(Verb::Run) => run_text(),
         Some(Verb::Recover) => recover_text(),
         Some(Verb::Ls) => ls_text(),
         Some(Verb::Cat) => cat_text(),

@@ -1,7 +1,8 @@
 // The numbers of words.
 ghost use Rattle.std.specs.Prelude.{◌≡◌, ◌≤◌, ◌<◌, ◌^◌, None, Some, IfOk, IfSome, MatchResult, option_map};
-ghost use Rattle.mq_words.specs.Asked.{number_end, number_option, number_within, word_end, word_in};
+ghost use Rattle.mq_words.specs.Asked.{NamesCommand, failing_in, failing_option, number_end, number_option, number_within, word_end, word_in};
 
+use crate::command::FailingCommand;
 use crate::refusal::WordsRefusal;
 use mq_text::read_number;
 
@@ -31,6 +32,35 @@ pub fn optional_number(word: Option<&str>) -> Result<Option<u64>, WordsRefusal>
         None => Ok(None),
         Some(word) => match number_below(NUMBER_END, word) {
             Some(value) => Ok(Some(value)),
+            None => Err(WordsRefusal::Unknown),
+        },
+    }
+}
+
+/// The command of a port that a word names: the two numbers, with a colon between.
+fn failing_command(word: &str) -> Option<FailingCommand>
+    ensures small { IfSome result NamesCommand }
+    ensures reads { result ≡ failing_in word.now }
+{
+    let (port, command) = word.split_once(':')?;
+    let port = number_below(NUMBER_END, port)?;
+    let command = number_below(NUMBER_END, command)?;
+    if command == 0 {
+        return None;
+    }
+    Some(FailingCommand { port, command })
+}
+
+/// The command of a port that an option names, where the option is given.
+pub fn optional_command(word: Option<&str>) -> Result<Option<FailingCommand>, WordsRefusal>
+    ensures small { IfOk result (λ o. IfSome o NamesCommand) }
+    ensures reads { MatchResult result (λ f. failing_option (option_map (λ s. s.now) word.entry) ≡ Some f)
+        (λ e. (e ≡ WordsRefusal.Unknown) × (failing_option (option_map (λ s. s.now) word.entry) ≡ None)) }
+{
+    match word {
+        None => Ok(None),
+        Some(word) => match failing_command(word) {
+            Some(command) => Ok(Some(command)),
             None => Err(WordsRefusal::Unknown),
         },
     }

@@ -1,23 +1,23 @@
 // Words as `clap` reads them.
-ghost use Rattle.std.specs.Prelude.{◌≡◌, ◌≢◌, ◌⊎◌, [], IfErr, IfOk, map};
+ghost use Rattle.std.specs.Prelude.{◌≡◌, ◌≢◌, ◌⊎◌, [], IfErr, IfOk, None, map};
 ghost use Rattle.std.specs.String.{string_bytes};
 ghost use Rattle.clap.specs.Words.{app_of, fault_of, found_of, kind_of, matches_of, rows_of};
-ghost use Rattle.mq_words.specs.Syntax.{app_for, app_with};
+ghost use Rattle.mq_words.specs.Syntax.{app_for, app_with, names_for, repeated_for, verb_text};
 
 use crate::refusal::WordsRefusal;
-use crate::syntax::{names, options};
+use crate::syntax::{names, options, repeated};
 use crate::verb::Verb;
 use clap::error::ErrorKind;
 use clap::{Arg, ArgAction, ArgMatches, Command};
 use std::alloc::{AllocError, Global};
 
-// A command with these names, which have to stand, and no option.
+// A command with these names, each of which has to stand as one word, and no option.
 fn with_names<'a>(
     alloc: Global,
     verb: &'a str,
     names: &[&'a str],
 ) -> Result<Command<'a>, AllocError>
-    ensures { IfOk result (λ c. app_of c ≡ app_with verb.now (map (λ s. s.now) names.now) []) }
+    ensures { IfOk result (λ c. app_of c ≡ app_with verb.now (map (λ s. s.now) names.now) None []) }
 {
     let mut command = Command::new(alloc, verb).disable_help_flag(true);
     for name in names {
@@ -27,11 +27,27 @@ fn with_names<'a>(
     Ok(command)
 }
 
+// A command with the names of a verb, and no option.
+fn with_all_names<'a>(alloc: Global, verb: Verb) -> Result<Command<'a>, AllocError>
+    ensures { IfOk result (λ c. app_of c ≡ app_with (verb_text verb) (names_for verb) (repeated_for verb) []) }
+{
+    let command = with_names(alloc, verb.name(), names(verb))?;
+    match repeated(verb) {
+        None => Ok(command),
+        Some(name) => {
+            let name = Arg::new(alloc, name)
+                .required(true)
+                .action(ArgAction::Append);
+            command.arg(name)
+        }
+    }
+}
+
 // The command of a verb.
 fn command_for<'a>(alloc: Global, verb: Verb) -> Result<Command<'a>, AllocError>
     ensures { IfOk result (λ c. app_of c ≡ app_for verb) }
 {
-    let mut command = with_names(alloc, verb.name(), names(verb))?;
+    let mut command = with_all_names(alloc, verb)?;
     for option in options(verb) {
         let option = Arg::new(alloc, option).long(option).action(ArgAction::Set);
         command = command.arg(option)?;

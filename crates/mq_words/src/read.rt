@@ -1,13 +1,13 @@
 // What words ask.
-ghost use Rattle.std.specs.Prelude.{◌≡◌, ◌<◌, ◌⊎◌, None, Some, IfOk, IfSome, MatchResult, map, option_map};
+ghost use Rattle.std.specs.Prelude.{◌≡◌, ◌≤◌, ◌<◌, ◌⊎◌, None, Some, IfOk, IfSome, MatchResult, length, map, option_map};
 ghost use Rattle.std.specs.String.{string_bytes};
-ghost use Rattle.clap.specs.Words.{first_of, found_of, rows_of};
-ghost use Rattle.mq_words.specs.Asked.{HasSmallNumbers, Words, asked, asked_after, asked_by, asked_of, found_in, number_end, number_option, word_in};
+ghost use Rattle.clap.specs.Words.{all_of, first_of, found_of, rows_of};
+ghost use Rattle.mq_words.specs.Asked.{HasScript, HasSmallNumbers, NamesCommand, Words, asked, asked_after, asked_by, asked_of, failing_option, found_in, number_end, number_option, some_words, word_in};
 ghost use Rattle.mq_words.specs.declared.verb.Verb.TheVariants as verb;
 
-use crate::command::{BlocksOptions, Command};
+use crate::command::{BlocksOptions, Command, FailingCommand, RunOptions};
 use crate::help::asks_help;
-use crate::numbers::{geometry_word, optional_number};
+use crate::numbers::{geometry_word, optional_command, optional_number};
 use crate::parse::parse;
 use crate::path::path_of;
 use crate::refusal::WordsRefusal;
@@ -44,6 +44,17 @@ fn number(matches: &ArgMatches, id: &str) -> Result<Option<u64>, WordsRefusal>
     optional_number(found(matches, id))
 }
 
+// The command of a port that an option names.
+fn failing(matches: &ArgMatches, id: &str) -> Result<Option<FailingCommand>, WordsRefusal>
+    ensures small { IfOk result (λ o. IfSome o NamesCommand) }
+    ensures reads { MatchResult result
+        (λ f. failing_option (first_of id.now (rows_of (found_of matches.now))) ≡ Some f)
+        (λ e. (e ≡ WordsRefusal.Unknown)
+        × (failing_option (first_of id.now (rows_of (found_of matches.now))) ≡ None)) }
+{
+    optional_command(found(matches, id))
+}
+
 // A number of a geometry.
 fn word(matches: &ArgMatches, id: &str) -> Result<u32, WordsRefusal>
     ensures { MatchResult result (λ n. word_in (first_of id.now (rows_of (found_of matches.now))) ≡ Some n)
@@ -53,12 +64,34 @@ fn word(matches: &ArgMatches, id: &str) -> Result<u32, WordsRefusal>
     geometry_word(found(matches, id))
 }
 
+// The words of a name, of which there is at least one.
+fn words_of<'a>(
+    alloc: Global,
+    matches: &ArgMatches<'a>,
+    id: &str,
+) -> Result<Vec<&'a str>, WordsRefusal>
+    ensures some { IfOk result (λ v. 1 ≤ length v.items) }
+    ensures reads { MatchResult result
+        (λ v. some_words (all_of id.now (rows_of (found_of matches.now))) ≡ Some (map (λ s. s.now) v.items))
+        (λ e. (e ≡ WordsRefusal.OutOfMemory) ⊎ ((e ≡ WordsRefusal.Unknown)
+        × (some_words (all_of id.now (rows_of (found_of matches.now))) ≡ None))) }
+{
+    let Some(words) = matches.get_strs(id) else {
+        return Err(WordsRefusal::Unknown);
+    };
+    if words.is_empty() {
+        return Err(WordsRefusal::Unknown);
+    }
+    Ok(words.to_vec(alloc)?)
+}
+
 // What is found of `blocks` asks.
 fn blocks<'a>(matches: &ArgMatches<'a>) -> Result<Command<'a>, WordsRefusal>
     ensures asks { MatchResult result (λ c. asked_by verb.Blocks (rows_of (found_of matches.now)) ≡ Some (asked c))
         (λ e. (e ≡ WordsRefusal.Unknown)
         × (asked_by verb.Blocks (rows_of (found_of matches.now)) ≡ None)) }
     ensures small { IfOk result HasSmallNumbers }
+    ensures script { IfOk result HasScript }
 {
     let file = name(matches, "file")?;
     let cut = number(matches, "cut")?;
@@ -77,6 +110,7 @@ fn format<'a>(matches: &ArgMatches<'a>) -> Result<Command<'a>, WordsRefusal>
         (λ e. (e ≡ WordsRefusal.Unknown)
         × (asked_by verb.Format (rows_of (found_of matches.now)) ≡ None)) }
     ensures small { IfOk result HasSmallNumbers }
+    ensures script { IfOk result HasScript }
 {
     let image = name(matches, "image")?;
     let queues = word(matches, "queues")?;
@@ -92,12 +126,33 @@ fn format<'a>(matches: &ArgMatches<'a>) -> Result<Command<'a>, WordsRefusal>
     })
 }
 
+// What is found of `run` asks.
+fn run<'a>(alloc: Global, matches: &ArgMatches<'a>) -> Result<Command<'a>, WordsRefusal>
+    ensures asks { MatchResult result (λ c. asked_by verb.Run (rows_of (found_of matches.now)) ≡ Some (asked c))
+        (λ e. (e ≡ WordsRefusal.OutOfMemory) ⊎ ((e ≡ WordsRefusal.Unknown)
+        × (asked_by verb.Run (rows_of (found_of matches.now)) ≡ None))) }
+    ensures small { IfOk result HasSmallNumbers }
+    ensures script { IfOk result HasScript }
+{
+    let image = name(matches, "image")?;
+    let cut = number(matches, "cut")?;
+    let pick = number(matches, "pick")?;
+    let fail = failing(matches, "fail")?;
+    let scripts = words_of(alloc, matches, "scripts")?;
+    Ok(Command::Run {
+        image,
+        scripts,
+        options: RunOptions { cut, pick, fail },
+    })
+}
+
 // What is found of `recover` asks.
 fn recover<'a>(matches: &ArgMatches<'a>) -> Result<Command<'a>, WordsRefusal>
     ensures asks { MatchResult result (λ c. asked_by verb.Recover (rows_of (found_of matches.now)) ≡ Some (asked c))
         (λ e. (e ≡ WordsRefusal.Unknown)
         × (asked_by verb.Recover (rows_of (found_of matches.now)) ≡ None)) }
     ensures small { IfOk result HasSmallNumbers }
+    ensures script { IfOk result HasScript }
 {
     let image = name(matches, "image")?;
     let cut = number(matches, "cut")?;
@@ -111,6 +166,7 @@ fn cat<'a>(alloc: Global, matches: &ArgMatches<'a>) -> Result<Command<'a>, Words
         (λ e. (e ≡ WordsRefusal.OutOfMemory) ⊎ ((e ≡ WordsRefusal.Unknown)
         × (asked_by verb.Cat (rows_of (found_of matches.now)) ≡ None))) }
     ensures small { IfOk result HasSmallNumbers }
+    ensures script { IfOk result HasScript }
 {
     let image = name(matches, "image")?;
     let word = name(matches, "path")?;
@@ -128,10 +184,12 @@ fn command_of<'a>(
         (λ e. (e ≡ WordsRefusal.OutOfMemory) ⊎ ((e ≡ WordsRefusal.Unknown)
         × (asked_by verb (rows_of (found_of matches.now)) ≡ None))) }
     ensures small { IfOk result HasSmallNumbers }
+    ensures script { IfOk result HasScript }
 {
     match verb {
         Verb::Blocks => blocks(matches),
         Verb::Format => format(matches),
+        Verb::Run => run(alloc, matches),
         Verb::Recover => recover(matches),
         Verb::Ls => {
             let image = name(matches, "image")?;
@@ -155,6 +213,7 @@ fn read_found<'a>(
         (λ e. (e ≡ WordsRefusal.OutOfMemory) ⊎ ((e ≡ WordsRefusal.Unknown)
         × (found_in verb (map string_bytes words.now) ≡ None))) }
     ensures small { IfOk result HasSmallNumbers }
+    ensures script { IfOk result HasScript }
 {
     match parse(alloc, verb, words) {
         Ok(matches) => command_of(alloc, verb, &matches),
@@ -167,6 +226,7 @@ fn read_other<'a>(word: &str) -> Result<Command<'a>, WordsRefusal>
     ensures asks { MatchResult result (λ c. (words : Words) → asked_after None word.now words ≡ Some (asked c))
         (λ e. (e ≡ WordsRefusal.Unknown) × ((words : Words) → asked_after None word.now words ≡ None)) }
     ensures small { IfOk result HasSmallNumbers }
+    ensures script { IfOk result HasScript }
 {
     match word {
         "--help" => Ok(Command::Help(None)),
@@ -181,6 +241,7 @@ pub fn read_command<'a>(alloc: Global, words: &'a [String]) -> Result<Command<'a
         (λ e. (e ≡ WordsRefusal.OutOfMemory) ⊎ ((e ≡ WordsRefusal.Unknown)
         × (asked_of (map string_bytes words.now) ≡ None))) }
     ensures small { IfOk result HasSmallNumbers }
+    ensures script { IfOk result HasScript }
 {
     let [word, rest @ ..] = words else {
         return Err(WordsRefusal::Unknown);

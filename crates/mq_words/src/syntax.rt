@@ -1,20 +1,31 @@
 // The names and options of each command.
-ghost use Rattle.std.specs.Prelude.{◌≡◌, map};
-ghost use Rattle.mq_words.specs.Syntax.{names_for, options_for};
+ghost use Rattle.std.specs.Prelude.{◌≡◌, map, option_map};
+ghost use Rattle.mq_words.specs.Syntax.{names_for, options_for, repeated_for};
 
 use crate::verb::Verb;
 
-/// The names that a command wants, in order.
+/// The names that a command wants, in order, each of which is one word.
 pub fn names<'a>(verb: Verb) -> &'a [&'a str]
     ensures { map (λ s. s.now) result.now ≡ names_for verb }
 {
     match verb {
         Verb::Blocks => &["file"],
         Verb::Format => &["image", "queues", "area", "meta", "zone"],
+        Verb::Run => &["image"],
         Verb::Recover => &["image"],
         Verb::Ls => &["image"],
         Verb::Cat => &["image", "path"],
         Verb::Dump => &["image"],
+    }
+}
+
+/// The name behind these of which it wants one or more words, where it has one.
+pub fn repeated<'a>(verb: Verb) -> Option<&'a str>
+    ensures { option_map (λ s. s.now) result ≡ repeated_for verb }
+{
+    match verb {
+        Verb::Run => Some("scripts"),
+        Verb::Blocks | Verb::Format | Verb::Recover | Verb::Ls | Verb::Cat | Verb::Dump => None,
     }
 }
 
@@ -24,6 +35,7 @@ pub fn options<'a>(verb: Verb) -> &'a [&'a str]
 {
     match verb {
         Verb::Blocks => &["cut", "pick", "again", "save"],
+        Verb::Run => &["cut", "pick", "fail"],
         Verb::Recover => &["cut", "pick"],
         Verb::Format | Verb::Ls | Verb::Cat | Verb::Dump => &[],
     }

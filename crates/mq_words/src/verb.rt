@@ -7,6 +7,7 @@ ghost use Rattle.mq_words.specs.Syntax.{verb_of, verb_text};
 pub enum Verb {
     Blocks,
     Format,
+    Run,
     Recover,
     Ls,
     Cat,
@@ -21,6 +22,7 @@ impl Verb {
         match self {
             Verb::Blocks => "blocks",
             Verb::Format => "format",
+            Verb::Run => "run",
             Verb::Recover => "recover",
             Verb::Ls => "ls",
             Verb::Cat => "cat",
@@ -36,6 +38,7 @@ pub fn read_verb(word: &str) -> Option<Verb>
     match word {
         "blocks" => Some(Verb::Blocks),
         "format" => Some(Verb::Format),
+        "run" => Some(Verb::Run),
         "recover" => Some(Verb::Recover),
         "ls" => Some(Verb::Ls),
         "cat" => Some(Verb::Cat),

@@ -1,20 +1,26 @@
 -- What the files hold decides the status of each command.
-use Rattle.std.proofs.Common.{◌≡◌, inl, inr, ℕ, List, Option, Some, None, Ok, Err, sym, ◌∙◌, subst}
+use Rattle.std.proofs.Common.{◌≡◌, ◌≢◌, ◌⊎◌, inl, inr, ap, ◌<◌, ◌≤◌, length, ℕ, List, Option, Some, None, Ok, Err, sym, ◌∙◌, subst}
+use Rattle.std.specs.Prelude.{option_map}
 use Rattle.mq_blocks.specs.Descriptor.{Descriptor}
+use Rattle.mq_blocks.specs.Geometry.{queues_of}
 use Rattle.mq_blocks.specs.Journal.{AreWhole}
 use Rattle.mq_blocks.specs.declared.geometry.Geometry.{Geometry}
 use Rattle.mq_blocks.specs.declared.geometry.GeometryRefusal.{GeometryRefusal}
 use Rattle.mq_commands.specs.Commands.{RefusesNumbers, numbers_of}
+use Rattle.mq_commands.specs.RunsScripts.{HoldBadScript, HoldScripts}
 use Rattle.mq_commands.specs.declared.formatting.Numbers.{Numbers}
 use Rattle.mq_ending.specs.Ending.{IsNotLoaded, IsNotSaved, IsUnlessWanting, load_failed, load_memory, load_too_long, save_failed, save_memory}
 use Rattle.mq_image.specs.Drives.{IsRead}
 use Rattle.mq_image.specs.Faults.{HasFault}
 use Rattle.mq_image.specs.File.{DriveImage}
 use Rattle.mq_image.specs.declared.fault.FileFault.{FileFault}
+use Rattle.mq_image_run.specs.Limits.{AreWithin, IsFirstAbove}
+use Rattle.mq_image_run.specs.declared.options.RunOptions.{RunOptions}
 use Rattle.mq_images.specs.Standing.{Reads, RefusesDrive, StandsFor}
 use Rattle.mq_images.specs.Views.{view_of}
 use Rattle.mq_outside.specs.Outside.{FilesState, Held, Holds, Tells}
 use Rattle.mq_recover.specs.declared.refusal.ImageFault.{ImageFault}
+use Rattle.mq_script.specs.Scripts.{Script}
 use Rattle.mq_text.specs.Refusals.{RefusesText}
 use Rattle.mq_text.specs.declared.item.BlockItem.{BlockItem}
 use Rattle.mq_text.specs.declared.refusal.BlockTextCause.{BlockTextCause}
@@ -23,9 +29,10 @@ use Rattle.mq_tree.specs.Trees.{ReadsAs}
 use Rattle.mq_tree.specs.Volume.{Path, Volume}
 use Rattle.mq_tree.specs.declared.request.Fault.{Fault}
 use Rattle.mq_words.specs.declared.command.BlocksOptions.{BlocksOptions}
+use Rattle.mq_words.specs.declared.command.RunOptions.{RunOptions as OptionsOfRun}
 use Rattle.mqfs.specs.Blocks.{IsBlockText}
-use Rattle.mqfs.specs.Decided.{ChainsDecide, FileDecides, ImageDecides, NumbersDecide, RecoveryDecides, TextDecides, TreeDecides, bad_numbers, bad_text, good_numbers, good_text, has_chains, has_file, has_no_file, has_standing, has_tree, no_chains, no_image, no_standing, no_tree, no_volume, unreadable}
-use Rattle.mqfs.specs.Says.{SaysOfBlocks, printed, refused}
+use Rattle.mqfs.specs.Decided.{ChainsDecide, FileDecides, ImageDecides, IsRunnable, NumbersDecide, RecoveryDecides, RunDecides, TextDecides, TreeDecides, above_limit, bad_numbers, bad_script, bad_text, good_numbers, good_text, has_chains, has_file, has_no_file, has_standing, has_tree, no_chains, no_drive, no_image, no_standing, no_tree, no_volume, runs_whole, too_many, unreadable, unreadable_drive}
+use Rattle.mqfs.specs.Says.{SaysOfBlocks, failing, printed, refused, run_options}
 use Rattle.mqfs.specs.Says as blocks_says
 
 -- ---- `format`
@@ -65,6 +72,34 @@ module _ (image : List ℕ) (held : Option Held) (result : ℕ)
   file_decided path done none _ (has_file bytes x v content tells read for reads) = done bytes x v content tells read for reads
   file_decided path done none _ (has_no_file bytes x v fault tells read for reads) = none bytes x v fault tells read for reads
   file_decided path done none status (no_volume image) = image_decided status image
+
+-- ---- `run`
+
+-- the command that is to fail, as the run has it
+none-to-fail : (o : RunOptions) (options : OptionsOfRun) → o ≡ run_options options → options.fail ≡ None → o.fail ≡ None
+none-to-fail o options same none = ap (λ (p : RunOptions). p.fail) same ∙ ap (option_map failing) none
+
+module _ (image : List ℕ) (names : List (List ℕ)) (options : OptionsOfRun) (o : RunOptions) (same : o ≡ run_options options) (held : Option Held) (result : ℕ)
+    (done : (bytes : List ℕ) (x : DriveImage) (v : Volume) (scripts : List Script) → Tells held image (Some bytes) → IsRead x bytes → HoldScripts held names scripts → length scripts ≤ queues_of x.geometry → (for : StandsFor x v) → AreWithin x for.top → ((o.fail ≢ None) × (result ≡ 5)) ⊎ IsUnlessWanting 0 result) where
+  runs_or_fails : IsRunnable image names held → ((o.fail ≢ None) × (result ≡ 5)) ⊎ IsUnlessWanting 0 result
+  runs_or_fails runs = let has = runs.scripts in done has.bytes runs.x runs.volume has.scripts has.tells has.read has.hold has.few runs.for runs.within
+
+  pub run_decided :
+      (faulty : (bytes : List ℕ) (e : FileFault) → Tells held image (Some bytes) → HasFault bytes (Some e) → IsUnlessWanting 3 result)
+      (bad : (bytes : List ℕ) (x : DriveImage) → Tells held image (Some bytes) → IsRead x bytes → HoldBadScript held names → IsUnlessWanting 2 result)
+      (many : (bytes : List ℕ) (x : DriveImage) (scripts : List Script) → Tells held image (Some bytes) → IsRead x bytes → HoldScripts held names scripts → queues_of x.geometry < length scripts → IsUnlessWanting 2 result)
+      (unread : (bytes : List ℕ) (x : DriveImage) (scripts : List Script) (e : ImageFault) → Tells held image (Some bytes) → IsRead x bytes → HoldScripts held names scripts → length scripts ≤ queues_of x.geometry → RefusesDrive x e → IsUnlessWanting 3 result)
+      (above : (bytes : List ℕ) (x : DriveImage) (scripts : List Script) (ds : List Descriptor) (top n : ℕ) → Tells held image (Some bytes) → IsRead x bytes → HoldScripts held names scripts → length scripts ≤ queues_of x.geometry → Reads x ds top → IsFirstAbove x top n → IsUnlessWanting 3 result)
+      (status : ℕ) → RunDecides image names options held status → IsUnlessWanting status result
+  run_decided faulty bad many unread above _ (no_drive bytes e tells has) = faulty bytes e tells has
+  run_decided faulty bad many unread above _ (bad_script bytes x tells read hold) = bad bytes x tells read hold
+  run_decided faulty bad many unread above _ (too_many bytes x scripts tells read hold more) = many bytes x scripts tells read hold more
+  run_decided faulty bad many unread above _ (unreadable_drive x e has refuses) = unread has.bytes x has.scripts e has.tells has.read has.hold has.few refuses
+  run_decided faulty bad many unread above _ (above_limit x ds top n has reads first) = above has.bytes x has.scripts ds top n has.tells has.read has.hold has.few reads first
+  run_decided faulty bad many unread above _ (runs_whole runs none) = elim (runs_or_fails runs) [ inl fails ↦ absurd (fails.0 (none-to-fail o options same none)) | inr ends ↦ ends ]
+
+  pub run_runs : IsRunnable image names held → (result ≡ 5) ⊎ IsUnlessWanting 0 result
+  run_runs runs = elim (runs_or_fails runs) [ inl fails ↦ inl fails.1 | inr ends ↦ inr ends ]
 
 -- ---- `blocks`
 

@@ -1,17 +1,17 @@
 -- What the status of the program tells, by what there was to say and how that ended.
 use Rattle.std.proofs.Common.{◌≡◌, ◌≢◌, ◌⊎◌, inl, inr, ℕ, Bool, cond, List, Option, Some, None, true, false, sym, ◌∙◌, ap, subst, arith}
 use Rattle.std.specs.Prelude.{nat_eq}
-use Rattle.mq_ending.specs.Ending.{EndsWith, IsUnlessWanting, TakesWithin}
+use Rattle.mq_ending.specs.Ending.{EndsWith, IsUnlessWanting}
 use Rattle.mq_ending.proofs.Pieces.{unless_wanting}
 use Rattle.mq_outside.specs.Outside.{FilesState, Rose, SinkState, appended}
 use Rattle.mq_words.specs.Asked.{Asked, Words, asked_of, blocks}
 use Rattle.mq_words.specs.declared.command.BlocksOptions.{BlocksOptions}
 use Rattle.mq_ending.specs.Ending.{IsNotLoaded, IsNotSaved, load_failed, load_memory, load_too_long, save_failed, save_memory}
-use Rattle.mqfs.specs.Decided.{Decides}
-use Rattle.mqfs.specs.Program.{AreUnknown, IsDone, IsRefusedText, IsSaid, IsStatus, IsToSay, IsTooLong, KeepsNames, no_command, no_memory, of_command, usage_line}
+use Rattle.mqfs.specs.Decided.{Decides, RunsThere}
+use Rattle.mqfs.specs.Program.{AreUnknown, IsDone, IsEndedRun, IsRefusedText, IsSaid, IsStatus, IsToSay, IsTooLong, KeepsNames, TakesFor, no_command, no_memory, of_command, usage_line}
 use Rattle.mqfs.specs.Says.{Says, SaysOfBlocks, printed, refused}
 use Rattle.mqfs.specs.Says as blocks_says
-use Rattle.mqfs.proofs.Told.{SaysWords, told_words}
+use Rattle.mqfs.proofs.Told.{BadWords, RunWords, SaysWords, told_words}
 
 -- where the output wants memory, the status is 4 only where it was
 wanting_four : (status result : ℕ) → IsStatus status → result ≡ cond (nat_eq status 4) 4 6 → result ≡ 4 → status ≡ 4
@@ -20,7 +20,8 @@ wanting_four status result (inr (inl e)) want four = let is : result ≡ 6 = sub
 wanting_four status result (inr (inr (inl e))) want four = let is : result ≡ 6 = subst (λ (s : ℕ). result ≡ cond (nat_eq s 4) 4 6) e want in absurd (omega (arith, is, four))
 wanting_four status result (inr (inr (inr (inl e)))) want four = let is : result ≡ 6 = subst (λ (s : ℕ). result ≡ cond (nat_eq s 4) 4 6) e want in absurd (omega (arith, is, four))
 wanting_four status result (inr (inr (inr (inr (inl e))))) want four = e
-wanting_four status result (inr (inr (inr (inr (inr e))))) want four = let is : result ≡ 6 = subst (λ (s : ℕ). result ≡ cond (nat_eq s 4) 4 6) e want in absurd (omega (arith, is, four))
+wanting_four status result (inr (inr (inr (inr (inr (inl e)))))) want four = let is : result ≡ 6 = subst (λ (s : ℕ). result ≡ cond (nat_eq s 4) 4 6) e want in absurd (omega (arith, is, four))
+wanting_four status result (inr (inr (inr (inr (inr (inr e)))))) want four = let is : result ≡ 6 = subst (λ (s : ℕ). result ≡ cond (nat_eq s 4) 4 6) e want in absurd (omega (arith, is, four))
 
 four-or-six : (b : Bool) (result : ℕ) → result ≡ cond b 4 6 → (result ≡ 4) ⊎ (result ≡ 6)
 four-or-six true result e = inl e
@@ -28,7 +29,7 @@ four-or-six false result e = inr e
 
 as_status : (result : ℕ) → (result ≡ 4) ⊎ (result ≡ 6) → IsStatus result
 as_status result (inl e) = inr (inr (inr (inr (inl e))))
-as_status result (inr e) = inr (inr (inr (inr (inr e))))
+as_status result (inr e) = inr (inr (inr (inr (inr (inr e)))))
 
 some-none : (a : Asked) → ◌≡◌ {A = Option Asked} (Some a) None → ⊥
 some-none a e = cc
@@ -66,13 +67,21 @@ module _ (words : Words) (files new_files : FilesState) (status : ℕ) (text : L
     | inr e ↦ elim e [ inl four ↦ absurd (omega (arith, four, one)) | inr six ↦ absurd (omega (arith, six, one)) ]
   ]
 
-  pub refused_told : result ≡ 2 → IsRefusedText words files old new
+  -- what was refused, with its line
+  bad_said : new.contents ≡ appended old.contents text → BadWords words files text ⊎ RunWords 2 words files new_files text → IsRefusedText words files old new ⊎ IsEndedRun 2 words files new_files old new
+  bad_said whole (inl t) = inl (t.0, t.1, t.2, t.3, t.4, t.5, t.6, t.7, t.8, whole ∙ ap (appended old.contents) t.9)
+  bad_said whole (inr t) = inr (t.0, t.1, t.2, text, t.3, t.4, whole)
+
+  pub refused_told : result ≡ 2 → IsRefusedText words files old new ⊎ IsEndedRun 2 words files new_files old new
   refused_told two = elim said_or [
-    | inl e ↦ (
-        let t = tells.bad (sym e.0 ∙ two) in
-        (t.0, t.1, t.2, t.3, t.4, t.5, t.6, t.7, t.8, e.1 ∙ ap (appended old.contents) t.9)
-        )
+    | inl e ↦ bad_said e.1 (tells.bad (sym e.0 ∙ two))
     | inr e ↦ elim e [ inl four ↦ absurd (omega (arith, four, two)) | inr six ↦ absurd (omega (arith, six, two)) ]
+  ]
+
+  pub failed_told : result ≡ 5 → IsEndedRun 5 words files new_files old new
+  failed_told five = elim said_or [
+    | inl e ↦ (let t = tells.ended (sym e.0 ∙ five) in (t.0, t.1, t.2, text, t.3, t.4, e.1))
+    | inr e ↦ elim e [ inl four ↦ absurd (omega (arith, four, five)) | inr six ↦ absurd (omega (arith, six, five)) ]
   ]
 
   of_files : Rose files.faults new_files.faults ⊎ IsTooLong words files new_files → Rose files.faults new_files.faults ⊎ (Rose old.faults new.faults ⊎ IsTooLong words files new_files)
@@ -94,7 +103,7 @@ module _ (words : Words) (files new_files : FilesState) (status : ℕ) (text : L
     ]
   ]
 
-  pub takes_told : result ≢ 4 → result ≢ 6 → TakesWithin files.taken new_files.taken
+  pub takes_told : result ≢ 4 → result ≢ 6 → TakesFor words files new_files
   takes_told not_four not_six = elim said_or [
     | inl e ↦ tells.takes (λ four. not_four (e.0 ∙ four)) (λ six. not_six (e.0 ∙ six))
     | inr e ↦ elim e [ inl four ↦ absurd (not_four four) | inr six ↦ absurd (not_six six) ]
@@ -161,6 +170,12 @@ decided_told words files a b result is each asks status decides =
     let same : ◌≡◌ {A = Option Asked} (Some a) (Some b) = sym asks ∙ is in
     let one : a ≡ b = cc in
     each status (subst (λ (x : Asked). Decides x files.contents status) one decides)
+
+pub runs_told : (words : Words) (files : FilesState) (a b : Asked) (result : ℕ) → asked_of words ≡ Some b → (RunsThere b files.contents → (result ≡ 5) ⊎ IsUnlessWanting 0 result) → asked_of words ≡ Some a → RunsThere a files.contents → (result ≡ 5) ⊎ IsUnlessWanting 0 result
+runs_told words files a b result is each asks runs =
+    let same : ◌≡◌ {A = Option Asked} (Some a) (Some b) = sym asks ∙ is in
+    let one : a ≡ b = cc in
+    each (subst (λ (x : Asked). RunsThere x files.contents) one runs)
 
 pub not_asked : (words : Words) (a : Asked) → asked_of words ≡ None → asked_of words ≡ Some a → ⊥
 not_asked words a none some = let e : ◌≡◌ {A = Option Asked} None (Some a) = sym none ∙ some in cc

@@ -1,27 +1,32 @@
 -- Which status what is asked ends with, by what the files hold, where nothing fails and memory is not wanting: one
 -- definition for each command.
-use Rattle.std.specs.Prelude.{◌≡◌, ℕ, List, Option, Some, Ok, Err}
+use Rattle.std.specs.Prelude.{◌≡◌, ◌<◌, ◌≤◌, ℕ, List, length, Option, None, Some, Ok, Err}
 use Rattle.mq_blocks.specs.Descriptor.{Descriptor}
+use Rattle.mq_blocks.specs.Geometry.{queues_of}
 use Rattle.mq_blocks.specs.Journal.{AreWhole}
 use Rattle.mq_blocks.specs.declared.geometry.Geometry.{Geometry}
 use Rattle.mq_blocks.specs.declared.geometry.GeometryRefusal.{GeometryRefusal}
 use Rattle.mq_commands.specs.Commands.{RefusesNumbers, numbers_of}
+use Rattle.mq_commands.specs.RunsScripts.{HoldBadScript, HoldScripts}
 use Rattle.mq_commands.specs.declared.formatting.Numbers.{Numbers}
 use Rattle.mq_image.specs.Drives.{IsRead}
 use Rattle.mq_image.specs.Faults.{HasFault}
 use Rattle.mq_image.specs.File.{DriveImage}
 use Rattle.mq_image.specs.declared.fault.FileFault.{FileFault}
+use Rattle.mq_image_run.specs.Limits.{AreWithin, IsFirstAbove}
 use Rattle.mq_images.specs.Standing.{Reads, RefusesDrive, StandsFor}
 use Rattle.mq_images.specs.Views.{view_of}
 use Rattle.mq_outside.specs.Outside.{Held, Tells}
 use Rattle.mq_recover.specs.declared.refusal.ImageFault.{ImageFault}
+use Rattle.mq_script.specs.Scripts.{Script}
 use Rattle.mq_text.specs.Refusals.{RefusesText}
 use Rattle.mq_text.specs.declared.item.BlockItem.{BlockItem}
 use Rattle.mq_text.specs.declared.refusal.BlockTextCause.{BlockTextCause}
 use Rattle.mq_tree.specs.Trees.{ReadsAs}
 use Rattle.mq_tree.specs.Volume.{Path, Volume}
 use Rattle.mq_tree.specs.declared.request.Fault.{Fault}
-use Rattle.mq_words.specs.Asked.{Asked, blocks, cat, dump, format, help, ls, recover, version}
+use Rattle.mq_words.specs.Asked.{Asked, blocks, cat, dump, format, help, ls, recover, run, version}
+use Rattle.mq_words.specs.declared.command.RunOptions.{RunOptions}
 use Rattle.mqfs.specs.Blocks.{IsBlockText}
 use Rattle.mqfs.specs.Says.{numbers}
 
@@ -39,6 +44,33 @@ pub data NumbersDecide (n : Numbers) : ℕ → Type 0 where
 pub data ImageDecides (image : List ℕ) (held : Option Held) : ℕ → Type 0 where
   no_image : (bytes : List ℕ) (e : FileFault) → Tells held image (Some bytes) → HasFault bytes (Some e) → ImageDecides image held 3
   unreadable : (bytes : List ℕ) (x : DriveImage) (e : ImageFault) → Tells held image (Some bytes) → IsRead x bytes → RefusesDrive x e → ImageDecides image held 3
+
+-- the name holds an image, and the others hold scripts, not more than the image has queues
+pub record HasScripts (image : List ℕ) (names : List (List ℕ)) (held : Option Held) (x : DriveImage) : Type 0 where
+  pub bytes : List ℕ
+  pub tells : Tells held image (Some bytes)
+  pub read : IsRead x bytes
+  pub scripts : List Script
+  pub hold : HoldScripts held names scripts
+  pub few : length scripts ≤ queues_of x.geometry
+
+-- the scripts are run, on the volume that stands: then the status is 0, or 5 where a command is to fail
+pub record IsRunnable (image : List ℕ) (names : List (List ℕ)) (held : Option Held) : Type 0 where
+  pub x : DriveImage
+  pub volume : Volume
+  pub scripts : HasScripts image names held x
+  pub for : StandsFor x volume
+  pub within : AreWithin x for.top
+
+-- `run`: the file is no image; or a script is refused, or there are more scripts than queues; or the image is not
+-- readable, or above the limit of a run; or the scripts are run, and no command is to fail
+pub data RunDecides (image : List ℕ) (names : List (List ℕ)) (options : RunOptions) (held : Option Held) : ℕ → Type 0 where
+  no_drive : (bytes : List ℕ) (e : FileFault) → Tells held image (Some bytes) → HasFault bytes (Some e) → RunDecides image names options held 3
+  bad_script : (bytes : List ℕ) (x : DriveImage) → Tells held image (Some bytes) → IsRead x bytes → HoldBadScript held names → RunDecides image names options held 2
+  too_many : (bytes : List ℕ) (x : DriveImage) (scripts : List Script) → Tells held image (Some bytes) → IsRead x bytes → HoldScripts held names scripts → queues_of x.geometry < length scripts → RunDecides image names options held 2
+  unreadable_drive : (x : DriveImage) (e : ImageFault) → HasScripts image names held x → RefusesDrive x e → RunDecides image names options held 3
+  above_limit : (x : DriveImage) (ds : List Descriptor) (top n : ℕ) → HasScripts image names held x → Reads x ds top → IsFirstAbove x top n → RunDecides image names options held 3
+  runs_whole : IsRunnable image names held → options.fail ≡ None → RunDecides image names options held 0
 
 -- `recover`: the image is readable
 pub data RecoveryDecides (image : List ℕ) (held : Option Held) : ℕ → Type 0 where
@@ -64,9 +96,15 @@ pub data ChainsDecide (image : List ℕ) (held : Option Held) : ℕ → Type 0 w
 abbrev pub Decides : Asked → Option Held → (status : ℕ) → Type 0
 Decides (blocks file options save) held status = TextDecides file held status
 Decides (format image queues area meta zone) held status = NumbersDecide (numbers queues area meta zone) status
+Decides (run image scripts options) held status = RunDecides image scripts options held status
 Decides (recover image cut pick) held status = RecoveryDecides image held status
 Decides (ls image) held status = TreeDecides image held status
 Decides (cat image path) held status = FileDecides image path held status
 Decides (dump image) held status = ChainsDecide image held status
 Decides (help topic) held status = status ≡ 0
 Decides version held status = status ≡ 0
+
+-- what is asked is a run, and its scripts are run
+abbrev pub RunsThere : Asked → Option Held → Type 0
+RunsThere (run image scripts options) held = IsRunnable image scripts held
+RunsThere _ held = ⊥

@@ -1,16 +1,18 @@
 -- What the program says to words, and what its status tells.
-use Rattle.std.specs.Prelude.{◌≡◌, ◌⊎◌, ℕ, List, Option, Some, None, codes, option_and_then}
+use Rattle.std.specs.Prelude.{◌≡◌, ◌⊎◌, ◌≤◌, ℕ, ◌+◌, ◌*◌, List, [], ◌∷◌, length, Option, Some, None, codes, option_and_then}
+use Rattle.mq_commands.specs.RunsScripts.{Runs}
 use Rattle.mq_ending.specs.Ending.{TakesOver, memory_line}
-use Rattle.mq_outside.specs.Outside.{FilesState, Holds, HoldsOver, OthersSame, SinkState, appended}
+use Rattle.mq_outside.specs.Outside.{FilesState, Holds, HoldsOver, OthersSame, SinkState, appended, load_limit}
 use Rattle.mq_text.specs.Refusals.{RefusesText}
 use Rattle.mq_text.specs.declared.item.BlockItem.{BlockItem}
 use Rattle.mq_text.specs.declared.refusal.BlockTextCause.{BlockTextCause}
-use Rattle.mq_words.specs.Asked.{Asked, Words, asked_of, blocks, cat, dump, format, help, ls, recover, version}
+use Rattle.mq_words.specs.Asked.{Asked, Words, asked_of, blocks, cat, dump, format, help, ls, recover, run, version}
 use Rattle.mq_words.specs.declared.command.BlocksOptions.{BlocksOptions}
+use Rattle.mq_words.specs.declared.command.RunOptions.{RunOptions}
 use Rattle.mqfs.specs.Blocks.{IsBlockText, output_of, refused_line}
 use Rattle.mqfs.specs.Cuts.{IsPrefixAt}
 use Rattle.mqfs.specs.Left.{SavesLeft}
-use Rattle.mqfs.specs.Says.{Says}
+use Rattle.mqfs.specs.Says.{Says, run_options}
 
 -- the words are no command
 abbrev pub AreUnknown : Words → Type 0
@@ -30,7 +32,7 @@ pub data IsToSay (words : Words) (old new : FilesState) : (status : ℕ) → (te
 
 -- the status is one of these
 abbrev pub IsStatus : ℕ → Type 0
-IsStatus s = (s ≡ 0) ⊎ ((s ≡ 1) ⊎ ((s ≡ 2) ⊎ ((s ≡ 3) ⊎ ((s ≡ 4) ⊎ (s ≡ 6)))))
+IsStatus s = (s ≡ 0) ⊎ ((s ≡ 1) ⊎ ((s ≡ 2) ⊎ ((s ≡ 3) ⊎ ((s ≡ 4) ⊎ ((s ≡ 5) ⊎ (s ≡ 6))))))
 
 -- what there was to say with this status was said whole
 abbrev pub IsSaid : Words → (files new_files : FilesState) → (old new : SinkState) → (status : ℕ) → Type 0
@@ -50,21 +52,33 @@ IsRefusedText words files old new =
     (file : List ℕ) × (options : BlocksOptions) × (save : Option (List ℕ)) × (bytes : List ℕ) × (line : ℕ) × (cause : BlockTextCause)
     × (asked_of words ≡ Some (blocks file options save)) × Holds files.contents file bytes × RefusesText bytes line cause × (new.contents ≡ appended old.contents (refused_line line cause))
 
--- the name that is loaded
-abbrev pub loaded_name : Asked → Option (List ℕ)
-loaded_name (blocks file options save) = Some file
-loaded_name (format image queues area meta zone) = None
-loaded_name (recover image cut pick) = Some image
-loaded_name (ls image) = Some image
-loaded_name (cat image path) = Some image
-loaded_name (dump image) = Some image
-loaded_name (help topic) = None
-loaded_name version = None
+-- The words are those of `run`, which ended with this status, and its text was said.
+abbrev pub IsEndedRun : (status : ℕ) → Words → (files new_files : FilesState) → (old new : SinkState) → Type 0
+IsEndedRun status words files new_files old new =
+    (image : List ℕ) × (scripts : List (List ℕ)) × (options : RunOptions) × (text : List ℕ)
+    × (asked_of words ≡ Some (run image scripts options)) × Runs (run_options options) image scripts files new_files status text × (new.contents ≡ appended old.contents text)
+
+-- the names that are loaded
+abbrev pub loaded_names : Asked → List (List ℕ)
+loaded_names (blocks file options save) = file ∷ []
+loaded_names (format image queues area meta zone) = []
+loaded_names (run image scripts options) = image ∷ scripts
+loaded_names (recover image cut pick) = image ∷ []
+loaded_names (ls image) = image ∷ []
+loaded_names (cat image path) = image ∷ []
+loaded_names (dump image) = image ∷ []
+loaded_names (help topic) = []
+loaded_names version = []
+
+abbrev pub loaded_by : Option Asked → List (List ℕ)
+loaded_by None = []
+loaded_by (Some a) = loaded_names a
 
 -- the name that is saved
 abbrev pub saved_name : Asked → Option (List ℕ)
 saved_name (blocks file options save) = save
 saved_name (format image queues area meta zone) = Some image
+saved_name (run image scripts options) = Some image
 saved_name (recover image cut pick) = Some image
 saved_name (ls image) = None
 saved_name (cat image path) = None
@@ -72,13 +86,21 @@ saved_name (dump image) = None
 saved_name (help topic) = None
 saved_name version = None
 
--- the name that is loaded holds more bytes than one load gives
-abbrev pub HoldsTooMuch : Option (List ℕ) → (old new : FilesState) → Type 0
-HoldsTooMuch None old new = ⊥
-HoldsTooMuch (Some name) old new = HoldsOver old.contents name × TakesOver old.taken new.taken
+-- one of the names holds more bytes than one load gives
+abbrev pub HoldsTooMuch : List (List ℕ) → (old new : FilesState) → Type 0
+HoldsTooMuch [] old new = ⊥
+HoldsTooMuch (name ∷ names) old new = (HoldsOver old.contents name × TakesOver old.taken new.taken) ⊎ HoldsTooMuch names old new
 
 abbrev pub IsTooLong : Words → (old new : FilesState) → Type 0
-IsTooLong words old new = HoldsTooMuch (option_and_then loaded_name (asked_of words)) old new
+IsTooLong words old new = HoldsTooMuch (loaded_by (asked_of words)) old new
+
+-- the loads took at most what so many loads give
+abbrev pub TakesUpTo : (loads : ℕ) → (old new : ℕ) → Type 0
+TakesUpTo loads old new = (old ≤ new) × (new ≤ old + loads * load_limit)
+
+-- one load for each name that is loaded
+abbrev pub TakesFor : Words → (old new : FilesState) → Type 0
+TakesFor words old new = TakesUpTo (length (loaded_by (asked_of words))) old.taken new.taken
 
 -- no name changes but the one that is saved
 abbrev pub KeepsOthers : Option (List ℕ) → (old new : FilesState) → Type 0

@@ -1,16 +1,22 @@
 -- What there is to say of what words ask, and with which status: one definition for each command.
-use Rattle.std.specs.Prelude.{◌≡◌, ℕ, List, Option, Some}
+use Rattle.std.specs.Prelude.{◌≡◌, ℕ, List, Option, Some, option_map}
+use Rattle.std.specs.Option.{unwrap_or}
 use Rattle.mq_commands.specs.Commands.{Dumps, Formats, Lists, SaysOfImage, ShowsFile}
 use Rattle.mq_commands.specs.Recovers.{Recovers}
+use Rattle.mq_commands.specs.RunsScripts.{Runs}
 use Rattle.mq_commands.specs.declared.formatting.Numbers.{Numbers}
 use Rattle.mq_ending.specs.Ending.{IsLoaded, IsNotLoaded, IsNotSaved, SaysOf, memory_line}
+use Rattle.mq_image_run.specs.declared.options.RunOptions.{RunOptions}
+use Rattle.mq_images.specs.declared.ports.Failing.{Failing}
 use Rattle.mq_outside.specs.Outside.{FilesState}
 use Rattle.mq_text.specs.Refusals.{RefusesText}
 use Rattle.mq_text.specs.declared.item.BlockItem.{BlockItem}
 use Rattle.mq_text.specs.declared.refusal.BlockTextCause.{BlockTextCause}
-use Rattle.mq_words.specs.Asked.{Asked, blocks, cat, dump, format, help, ls, recover, version}
+use Rattle.mq_words.specs.Asked.{Asked, blocks, cat, dump, format, help, ls, recover, run, version}
 use Rattle.mq_words.specs.Help.{help_text, version_line}
 use Rattle.mq_words.specs.declared.command.BlocksOptions.{BlocksOptions}
+use Rattle.mq_words.specs.declared.command.FailingCommand.{FailingCommand}
+use Rattle.mq_words.specs.declared.command.RunOptions.{RunOptions as OptionsOfRun}
 use Rattle.mqfs.specs.Blocks.{IsBlockText, output_of, refused_line}
 use Rattle.mqfs.specs.Cuts.{IsPrefixAt}
 use Rattle.mqfs.specs.Left.{SavesLeft}
@@ -32,10 +38,18 @@ pub data SaysOnly (line : List ℕ) (old new : FilesState) : (status : ℕ) → 
 abbrev pub numbers : (queues area meta zone : ℕ) → Numbers
 numbers queues area meta zone = record { queues = queues; area = area; meta = meta; zone = zone }
 
+abbrev pub failing : FailingCommand → Failing
+failing f = record { port = f.port; command = f.command }
+
+-- draws come from 0 where no pick is given
+abbrev pub run_options : OptionsOfRun → RunOptions
+run_options o = record { cut = o.cut; pick = unwrap_or o.pick 0; fail = option_map failing o.fail }
+
 -- what there is to say of what is asked, by what the files show before and after
 abbrev pub Says : Asked → (old new : FilesState) → (status : ℕ) → (text : List ℕ) → Type 0
 Says (blocks file options save) old new status text = SaysOfBlocks file options save old new status text
 Says (format image queues area meta zone) old new status text = Formats (numbers queues area meta zone) image old new status text
+Says (run image scripts options) old new status text = Runs (run_options options) image scripts old new status text
 Says (recover image cut pick) old new status text = Recovers cut image old new status text
 Says (ls image) old new status text = SaysOf (SaysOfImage Lists) image old new status text
 Says (cat image path) old new status text = SaysOf (SaysOfImage (ShowsFile path)) image old new status text

@@ -1,12 +1,12 @@
 // The program: the command that words ask, over files and an output.
 ghost use Rattle.std.specs.Prelude.{◌≡◌, ◌≢◌, ◌⊎◌, ℕ, List, None, Option, Some, map};
 ghost use Rattle.std.specs.String.{string_bytes};
-ghost use Rattle.mq_ending.specs.Ending.{EndsWith, IsUnlessWanting, TakesWithin};
+ghost use Rattle.mq_ending.specs.Ending.{EndsWith, IsUnlessWanting};
 ghost use Rattle.mq_outside.specs.Outside.{Rose, appended};
-ghost use Rattle.mq_words.specs.Asked.{Asked, HasSmallNumbers, asked, asked_of, blocks};
+ghost use Rattle.mq_words.specs.Asked.{Asked, HasScript, HasSmallNumbers, asked, asked_of, blocks};
 ghost use Rattle.mq_words.specs.declared.command.BlocksOptions.{BlocksOptions};
-ghost use Rattle.mqfs.specs.Decided.{Decides};
-ghost use Rattle.mqfs.specs.Program.{AreUnknown, IsDone, IsRefusedText, IsSaid, IsStatus, IsToSay, IsTooLong, KeepsNames, usage_line};
+ghost use Rattle.mqfs.specs.Decided.{Decides, RunsThere};
+ghost use Rattle.mqfs.specs.Program.{AreUnknown, IsDone, IsEndedRun, IsRefusedText, IsSaid, IsStatus, IsToSay, IsTooLong, KeepsNames, TakesFor, usage_line};
 ghost use Rattle.mqfs.specs.Says.{Says};
 
 mod cat;
@@ -15,6 +15,7 @@ mod format;
 mod help;
 mod ls;
 mod recover;
+mod scripts;
 mod text;
 
 use self::cat::run_cat;
@@ -23,19 +24,31 @@ use self::format::run_format;
 use self::help::{say_help, say_version};
 use self::ls::run_ls;
 use self::recover::run_recover;
+use self::scripts::run_scripts;
 use self::text::run_blocks;
+use mq_calls::Gate;
 use mq_commands::Numbers;
 use mq_ending::{USAGE, say, say_memory};
 use mq_outside::{Files, Sink};
 use mq_words::{Command, WordsRefusal, read_command};
 use std::alloc::Global;
+use std::sync::Wait;
+use std::thread::Threads;
 
 // The line of the words that are no command.
 const USAGE_LINE: &[u8] = b"usage: mqfs blocks|format|run|recover|ls|cat|gen|dump\n";
 
 // Runs a command.
-fn run<F: Files, K: Sink>(alloc: Global, command: Command, files: &mut F, out: &mut K) -> u8
+fn run<F: Files, K: Sink, R: Threads + Wait + Sync, G: Gate + Sync>(
+    rt: &R,
+    alloc: Global,
+    command: Command,
+    files: &mut F,
+    out: &mut K,
+    gate: &G,
+) -> u8
     requires small { HasSmallNumbers command }
+    requires script { HasScript command }
     ensures ends { (status : ℕ)
         × (text : List ℕ)
         × Says (asked command.entry) (F.state files.old) (F.state files.new) status text
@@ -43,6 +56,8 @@ fn run<F: Files, K: Sink>(alloc: Global, command: Command, files: &mut F, out: &
     ensures decided { (status : ℕ)
         → Decides (asked command.entry) (F.state files.old).contents status
         → IsUnlessWanting status result }
+    ensures runs { RunsThere (asked command.entry) (F.state files.old).contents
+        → (result ≡ 5) ⊎ IsUnlessWanting 0 result }
 {
     match command {
         Command::Blocks {
@@ -65,6 +80,11 @@ fn run<F: Files, K: Sink>(alloc: Global, command: Command, files: &mut F, out: &
             };
             run_format(alloc, image, numbers, files, out)
         }
+        Command::Run {
+            image,
+            scripts,
+            options,
+        } => run_scripts(rt, alloc, image, &scripts, options, files, out, gate),
         Command::Recover { image, cut, pick } => run_recover(alloc, image, cut, pick, files, out),
         Command::Ls { image } => run_ls(alloc, image, files, out),
         Command::Cat { image, path } => run_cat(alloc, image, &path, files, out),
@@ -75,11 +95,13 @@ fn run<F: Files, K: Sink>(alloc: Global, command: Command, files: &mut F, out: &
 }
 
 // Reads the words, and runs the command that they ask.
-fn read_and_run<F: Files, K: Sink>(
+fn read_and_run<F: Files, K: Sink, R: Threads + Wait + Sync, G: Gate + Sync>(
+    rt: &R,
     alloc: Global,
     words: &[String],
     files: &mut F,
     out: &mut K,
+    gate: &G,
 ) -> u8
     ensures ends { (status : ℕ)
         × (text : List ℕ)
@@ -89,19 +111,32 @@ fn read_and_run<F: Files, K: Sink>(
         → asked_of (map string_bytes words.now) ≡ Some a
         → Decides a (F.state files.old).contents status
         → IsUnlessWanting status result }
+    ensures runs { (a : Asked)
+        → asked_of (map string_bytes words.now) ≡ Some a
+        → RunsThere a (F.state files.old).contents
+        → (result ≡ 5) ⊎ IsUnlessWanting 0 result }
 {
     match read_command(alloc, words) {
-        Ok(command) => run(alloc, command, files, out),
+        Ok(command) => run(rt, alloc, command, files, out, gate),
         Err(WordsRefusal::Unknown) => say(USAGE, USAGE_LINE, out),
         Err(WordsRefusal::OutOfMemory) => say_memory(out),
     }
 }
 
 /// The program: runs the command of the words, which are those after its name, over files and an
-/// output. The status is 0 for done, 1 for words that are no command, 2 for a block text that is
-/// refused, 3 for an image, a geometry or a path that is refused, 4 for a fault of a file or the
-/// output or a file that is too long, and 6 for want of memory.
-pub fn mqfs<F: Files, K: Sink>(alloc: Global, words: &[String], files: &mut F, out: &mut K) -> u8
+/// output. The sessions of `run` play their scripts on threads, and pass the gate on their way. The
+/// status is 0 for done, 1 for words that are no command, 2 for a block text or a script that is
+/// refused or for more scripts than queues, 3 for an image, a geometry or a path that is refused, 4
+/// for a fault of a file or the output or a file that is too long, 5 where the command of the drive
+/// was executed that `run` was told to let fail, and 6 for want of memory.
+pub fn mqfs<F: Files, K: Sink, R: Threads + Wait + Sync, G: Gate + Sync>(
+    rt: &R,
+    alloc: Global,
+    words: &[String],
+    files: &mut F,
+    out: &mut K,
+    gate: &G,
+) -> u8
     ensures status { IsStatus result }
     // What there is to say of what the words ask, with which status, is `Says`, by a definition for each command.
     // One such text was to be said, and at most that is.
@@ -119,6 +154,12 @@ pub fn mqfs<F: Files, K: Sink>(alloc: Global, words: &[String], files: &mut F, o
         → asked_of (map string_bytes words.now) ≡ Some a
         → Decides a (F.state files.old).contents status
         → IsUnlessWanting status result }
+    // Where a run is asked whose scripts are read, not more than queues, on an image within the limits on which a volume
+    // stands, the status is 0 or 5, 4 and 6 aside.
+    ensures runs { (a : Asked)
+        → asked_of (map string_bytes words.now) ≡ Some a
+        → RunsThere a (F.state files.old).contents
+        → (result ≡ 5) ⊎ IsUnlessWanting 0 result }
     // `blocks`: the output is that of the lines that stand, of the text that the file holds.
     ensures done { (file : List ℕ) (options : BlocksOptions) (save : Option (List ℕ))
         → asked_of (map string_bytes words.now) ≡ Some (blocks file options save)
@@ -130,9 +171,15 @@ pub fn mqfs<F: Files, K: Sink>(alloc: Global, words: &[String], files: &mut F, o
         × ((K.state out.new).contents ≡ appended (K.state out.old).contents usage_line)
         × (F.state files.new ≡ F.state files.old) }
     ensures usage_where { AreUnknown (map string_bytes words.now) → IsUnlessWanting 1 result }
-    // The words are those of `blocks`, and the file holds bytes that are refused.
+    // The words are those of `blocks`, and the file holds bytes that are refused; or they are those of `run`, and a
+    // script is refused, or there are more than queues.
     ensures refused { result ≡ 2
-        → IsRefusedText (map string_bytes words.now) (F.state files.old) (K.state out.old)
+        → IsRefusedText (map string_bytes words.now) (F.state files.old) (K.state out.old) (K.state out.new)
+        ⊎ IsEndedRun 2 (map string_bytes words.now) (F.state files.old) (F.state files.new) (K.state out.old)
+        (K.state out.new) }
+    // The words are those of `run`, and the command that was to fail was executed.
+    ensures failed { result ≡ 5
+        → IsEndedRun 5 (map string_bytes words.now) (F.state files.old) (F.state files.new) (K.state out.old)
         (K.state out.new) }
     // A file or the output failed, or a file was too long.
     ensures fault { result ≡ 4
@@ -142,11 +189,11 @@ pub fn mqfs<F: Files, K: Sink>(alloc: Global, words: &[String], files: &mut F, o
     ensures fault_where { result ≢ 4
         → ((F.state files.new).faults ≡ (F.state files.old).faults)
         × ((K.state out.new).faults ≡ (K.state out.old).faults) }
-    ensures takes { result ≢ 4 → result ≢ 6 → TakesWithin (F.state files.old).taken (F.state files.new).taken }
+    ensures takes { result ≢ 4 → result ≢ 6 → TakesFor (map string_bytes words.now) (F.state files.old) (F.state files.new) }
     // No name changes but the one that the words save, and none at the statuses 1, 2 and 3.
     ensures names { KeepsNames (map string_bytes words.now) (F.state files.old) (F.state files.new) }
     ensures contents { (result ≡ 1) ⊎ ((result ≡ 2) ⊎ (result ≡ 3))
         → (F.state files.new).contents ≡ (F.state files.old).contents }
 {
-    read_and_run(alloc, words, files, out)
+    read_and_run(rt, alloc, words, files, out, gate)
 }

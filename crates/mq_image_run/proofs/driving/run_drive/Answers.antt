@@ -10,6 +10,7 @@ use Rattle.mq_recover.specs.Recovery.{IsStartDrive}
 use Rattle.mq_recover.specs.Standing.{StandsIn}
 use Rattle.mq_image_run.specs.Drives.{HasDriven, IsNotDriven}
 use Rattle.mq_image_run.proofs.Mounting.{not-driven}
+use Rattle.mq_image_run.proofs.Powered.{not-stopped}
 use Rattle.mq_image_run.proofs.driving.run_drive.Goals as goal
 
 pub find_volume-requires-clause-still : goal.find_volume-requires-clause-still
@@ -49,3 +50,6 @@ returns-clause-ok g c =
       opens = subst (λ (z : Geometry). MayOpen z (drive_of emu_state c.in_ok-ports.ports) c.in-Ok.standing) same c.in-Ok.ensures.open;
       has = subst (λ (z : Geometry). HasDriven z c.in_ok-ports.ports c.in-Ok.standing c.args.scripts.now c.args.options c.in_ok-driven.driven) same c.in_ok-driven.ensures;
     }
+
+pub returns-clause-powered : goal.returns-clause-powered
+returns-clause-powered g c = not-stopped (name_of c.args.fuse.now) c.args.recovered.image c.args.scripts.now c.args.options c.in_ok-driven.driven (returns-clause-ok g c) c.a_stopped_run_is_backed.ensures

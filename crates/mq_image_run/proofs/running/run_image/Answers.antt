@@ -1,4 +1,4 @@
-use Rattle.std.proofs.Common.{ap, refl}
+use Rattle.std.proofs.Common.{◌∙◌, ap, refl}
 use Rattle.std.proofs.lemmas.Result.{err_from_is_err_and}
 use Rattle.mq_drive.specs.Seats.{name_of}
 use Rattle.mq_image.specs.File.{DriveImage}
@@ -22,6 +22,9 @@ returns-in_err-stopped-clause-refused g c =
     let within = c.in_ok-recovered.ensures.ok.1 in
     rw (p.1, p.2) (refuses-drive c.args.image c.in_ok-recovered.recovered is.0 c.a_recovered_image_holds_what_stood.ensures.blocks (name_of c.in_ok-fuse.fuse) c.args.options.fail within c.in_err-stopped.field-0.0 c.in_err-stopped.ensures.refused)
 
+pub last_of-requires-clause-power : goal.last_of-requires-clause-power
+last_of-requires-clause-power g c = λ none. c.in_ok-stopped.ensures.powered (c.in_ok-fuse.ensures.fuse.0 ∙ none)
+
 pub returns-in_err-last-clause-refused : goal.returns-in_err-last-clause-refused
 returns-in_err-last-clause-refused g c =
     let p = err_from_is_err_and c.from_residual-in_err-last.result c.from_residual-in_err-last.ensures.1 in
@@ -33,6 +36,7 @@ returns-clause-ok g c =
     let same = ap (λ (i : DriveImage). i.geometry) c.image.view_is in
     let stops = c.in_ok-stopped.ensures.ok in
     record {
+      short = c.are_short.ensures c.if-not-are_short.false;
       recovered = c.in_ok-recovered.recovered;
       recovery = is.0;
       within = is.1;

@@ -1,4 +1,4 @@
-use Rattle.std.proofs.Common.{◌≡◌, Some, sym, ◌∙◌, ap}
+use Rattle.std.proofs.Common.{◌≡◌, sym, ◌∙◌, ap}
 use Rattle.mq_script.specs.Words.{number_in}
 use Rattle.mq_script.proofs.DigitWords.{number_is}
 use Rattle.mq_words.proofs.Asks.{within_some}

@@ -1,15 +1,9 @@
 use Rattle.std.proofs.Common.{rules, ◌≡◌, ◌∙◌, ℕ, List, [], Bor, get_or, map, ap}
 use Rattle.std.proofs.lemmas.List.{take_all}
 use Rattle.clap.specs.Words.{Text, app_of, rule_of, with_rule}
-use Rattle.mq_words.specs.Syntax.{app_for, app_with, names_for, option_rule, verb_text}
+use Rattle.mq_words.specs.Syntax.{app_for, app_with, names_for, option_rule, repeated_for, verb_text}
 use Rattle.mq_words.proofs.Apps.{option_more, step}
 use Rattle.mq_words.proofs.parse.command_for.Goals as goal
-
-pub loop-option-init : goal.loop-option-init
-loop-option-init c =
-    let name : c.name.result.now ≡ verb_text c.args.verb = c.name.ensures in
-    let names : map (λ s. s.now) c.names.result.now ≡ names_for c.args.verb = c.names.ensures in
-    c.in_ok-command.ensures ∙ (λ i. app_with (name i) (names i) [])
 
 pub loop-option-preserved : goal.loop-option-preserved
 loop-option-preserved c =
@@ -17,7 +11,7 @@ loop-option-preserved c =
     let items : List (Bor (List ℕ)) = c.options-option-items.result.now in
     let option : Text = (get_or items c.loop-option.option-index d).now in
     let rule : rule_of c.action-option.result ≡ option_rule option = search rules in
-    step (λ (s : Bor (List ℕ)). s.now) (app_with (verb_text c.args.verb) (names_for c.args.verb)) option_rule (option_more (verb_text c.args.verb) (names_for c.args.verb)) items c.loop-option.option-index d c.loop-option-test.true (app_of c.loop-option.command) (app_of c.in_ok-command-2.command) c.loop-option.invariant
+    step (λ (s : Bor (List ℕ)). s.now) (app_with (verb_text c.args.verb) (names_for c.args.verb) (repeated_for c.args.verb)) option_rule (option_more (verb_text c.args.verb) (names_for c.args.verb) (repeated_for c.args.verb)) items c.loop-option.option-index d c.loop-option-test.true (app_of c.loop-option.command) (app_of c.in_ok-command-2.command) c.loop-option.invariant
     (c.in_ok-command-2.ensures.shape (search rules) ∙ ap (with_rule (app_of c.loop-option.command)) rule)
 
 pub returns : goal.returns
@@ -25,5 +19,5 @@ unfolding app_for
 returns c =
     let items : List (Bor (List ℕ)) = c.options-option-items.result.now in
     c.loop-option.invariant
-    ∙ ap (λ (l : List (Bor (List ℕ))). app_with (verb_text c.args.verb) (names_for c.args.verb) (map (λ s. s.now) l)) (take_all c.loop-option.option-index items c.loop-option-test.false)
-    ∙ ap (app_with (verb_text c.args.verb) (names_for c.args.verb)) c.options-option-items.ensures
+    ∙ ap (λ (l : List (Bor (List ℕ))). app_with (verb_text c.args.verb) (names_for c.args.verb) (repeated_for c.args.verb) (map (λ s. s.now) l)) (take_all c.loop-option.option-index items c.loop-option-test.false)
+    ∙ ap (app_with (verb_text c.args.verb) (names_for c.args.verb) (repeated_for c.args.verb)) c.options-option-items.ensures

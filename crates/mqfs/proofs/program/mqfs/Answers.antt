@@ -1,6 +1,6 @@
 use Rattle.std.proofs.Common.{map}
 use Rattle.std.specs.String.{string_bytes}
-use Rattle.mqfs.proofs.Endings.{contents_told, done_told, fault_told, names_told, refused_told, said_told, same_told, status_told, takes_told, usage_told, usage-where}
+use Rattle.mqfs.proofs.Endings.{contents_told, done_told, failed_told, fault_told, names_told, refused_told, said_told, same_told, status_told, takes_told, usage_told, usage-where}
 use Rattle.mqfs.proofs.program.mqfs.Goals as goal
 
 pub returns-clause-status : goal.returns-clause-status
@@ -17,6 +17,9 @@ returns-clause-usage_where g c = usage-where (map string_bytes c.args.words.now)
 
 pub returns-clause-refused : goal.returns-clause-refused
 returns-clause-refused g c = refused_told (map string_bytes c.args.words.now) (g.F.Files.state c.args.files.now) (g.F.Files.state c.read_and_run.new.files) c.read_and_run.ensures.ends.0 c.read_and_run.ensures.ends.1 c.read_and_run.result (g.K.Sink.state c.args.out.now) (g.K.Sink.state c.read_and_run.new.out) c.read_and_run.ensures.ends.2 c.read_and_run.ensures.ends.3
+
+pub returns-clause-failed : goal.returns-clause-failed
+returns-clause-failed g c = failed_told (map string_bytes c.args.words.now) (g.F.Files.state c.args.files.now) (g.F.Files.state c.read_and_run.new.files) c.read_and_run.ensures.ends.0 c.read_and_run.ensures.ends.1 c.read_and_run.result (g.K.Sink.state c.args.out.now) (g.K.Sink.state c.read_and_run.new.out) c.read_and_run.ensures.ends.2 c.read_and_run.ensures.ends.3
 
 pub returns-clause-fault : goal.returns-clause-fault
 returns-clause-fault g c = fault_told (map string_bytes c.args.words.now) (g.F.Files.state c.args.files.now) (g.F.Files.state c.read_and_run.new.files) c.read_and_run.ensures.ends.0 c.read_and_run.ensures.ends.1 c.read_and_run.result (g.K.Sink.state c.args.out.now) (g.K.Sink.state c.read_and_run.new.out) c.read_and_run.ensures.ends.2 c.read_and_run.ensures.ends.3

@@ -3,7 +3,7 @@ use Rattle.std.specs.String.{string_bytes}
 use Rattle.mq_ending.specs.Ending.{memory_line}
 use Rattle.mq_words.specs.Asked.{asked}
 use Rattle.mqfs.specs.Program.{no_command, no_memory, of_command, usage_line}
-use Rattle.mqfs.proofs.Endings.{decided_told}
+use Rattle.mqfs.proofs.Endings.{decided_told, runs_told}
 use Rattle.mqfs.proofs.Running.{unknown_asks}
 use Rattle.mqfs.proofs.program.read_and_run.Goals as goal
 
@@ -23,3 +23,7 @@ returns-in-Err-Unknown-clause-ends g c =
 
 pub returns-in-Err-OutOfMemory-clause-ends : goal.returns-in-Err-OutOfMemory-clause-ends
 returns-in-Err-OutOfMemory-clause-ends g c = (6, memory_line, no_memory refl, c.say_memory.ensures)
+
+pub returns-in-Ok-clause-runs : goal.returns-in-Ok-clause-runs
+returns-in-Ok-clause-runs g c = λ a asks runs.
+    runs_told (map string_bytes c.args.words.now) (g.F.Files.state c.args.files.now) a (asked c.in-Ok.command) c.run.result c.in-Ok.ensures.asks c.run.ensures.runs asks runs

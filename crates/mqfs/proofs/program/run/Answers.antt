@@ -1,6 +1,8 @@
-use Rattle.std.proofs.Common.{refl}
+use Rattle.std.proofs.Common.{List, ℕ, Bor, map, refl, sym, subst}
+use Rattle.mq_commands.specs.RunsScripts.{Runs}
 use Rattle.mq_words.specs.Help.{help_text, version_line}
-use Rattle.mqfs.specs.Says.{said}
+use Rattle.mqfs.specs.Decided.{IsRunnable, RunDecides}
+use Rattle.mqfs.specs.Says.{run_options, said}
 use Rattle.mqfs.proofs.program.run.Goals as goal
 
 pub returns-in-Recover-clause-ends : goal.returns-in-Recover-clause-ends
@@ -20,3 +22,27 @@ returns-in-Help-clause-ends g c = rw c.in-Help.is (0, help_text c.in-Help.topic,
 
 pub returns-in-Version-clause-ends : goal.returns-in-Version-clause-ends
 returns-in-Version-clause-ends g c = rw c.in-Version.is (0, version_line, said refl, c.say_version.ensures)
+
+pub returns-in-Run-clause-ends : goal.returns-in-Run-clause-ends
+returns-in-Run-clause-ends g c =
+    let files = g.F.Files.state in
+    let sink = g.K.Sink.state in
+    let ends = c.run_scripts.ensures.ends in
+    rw c.in-Run.is (
+      ends.0,
+      ends.1,
+      subst (λ (l : List (Bor (List ℕ))). Runs (run_options c.in-Run.options) c.in-Run.image.now (map (λ s. s.now) l) (files c.args.files.now) (files c.run_scripts.new.files) ends.0 ends.1) c.deref.ensures.value ends.2,
+      ends.3,
+    )
+
+pub returns-in-Run-clause-decided : goal.returns-in-Run-clause-decided
+returns-in-Run-clause-decided g c =
+    rw c.in-Run.is (λ status decides.
+    c.run_scripts.ensures.decided status
+    (subst (λ (l : List (Bor (List ℕ))). RunDecides c.in-Run.image.now (map (λ s. s.now) l) c.in-Run.options (g.F.Files.state c.args.files.now).contents status) (sym c.deref.ensures.value) decides))
+
+pub returns-in-Run-clause-runs : goal.returns-in-Run-clause-runs
+returns-in-Run-clause-runs g c =
+    rw c.in-Run.is (λ runs.
+    c.run_scripts.ensures.runs
+    (subst (λ (l : List (Bor (List ℕ))). IsRunnable c.in-Run.image.now (map (λ s. s.now) l) (g.F.Files.state c.args.files.now).contents) (sym c.deref.ensures.value) runs))

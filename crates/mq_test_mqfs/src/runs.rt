@@ -1,0 +1,219 @@
+// Scripts that are run on images: reports, cuts and their recovery, a command that fails, and scripts that are refused.
+use crate::calls::{Step, ends, follows};
+use std::alloc::AllocError;
+
+// A directory with a file of two bytes: 18 events.
+const SCRIPT: &str = "mkdir /a\ncreate /a/f\nwrite /a/f 0 \"hi\"\nfsync\n";
+
+const FORMAT: Step<'static> = ("format d 2 1024 64 256", 0, "formatted\n");
+
+const DONE: &str = "base 0
+commit 1 session 0 group 0 fsync
+  ok
+  ok
+  ok
+answer 0 0 ok 1
+clean 1
+";
+
+// A second run finds the tree: the group changes nothing, and draws no number.
+const AGAIN: &str = "base 1
+at 1 session 0 group 0 fsync
+  refused Exists
+  refused Exists
+  ok
+answer 0 0 ok 1
+clean 1
+";
+
+const RUN: [Step<'static>; 6] = [
+    FORMAT,
+    ("run d t", 0, DONE),
+    ("ls d", 0, "d /\nd /a\nf 2 /a/f\n"),
+    ("cat d /a/f", 0, "hi"),
+    ("run d t", 0, AGAIN),
+    ("ls d", 0, "d /\nd /a\nf 2 /a/f\n"),
+];
+
+#[test]
+fn a_script_is_run(rt: HostRuntime) -> Result<(), AllocError> {
+    assert!(rt; follows(&rt, rt.alloc(), SCRIPT, &RUN)?);
+    Ok(())
+}
+
+// A script of no group leaves the image as it is.
+const NOTHING: [Step<'static>; 3] = [
+    FORMAT,
+    ("run d t", 0, "base 0\nclean 0\n"),
+    ("ls d", 0, "d /\n"),
+];
+
+#[test]
+fn a_script_of_no_group(rt: HostRuntime) -> Result<(), AllocError> {
+    assert!(rt; follows(&rt, rt.alloc(), "", &NOTHING)?);
+    Ok(())
+}
+
+// Before its doorbell write the transaction does not survive.
+const EARLY: [Step<'static>; 7] = [
+    FORMAT,
+    (
+        "run d t --cut 0",
+        0,
+        "base 0\ncommit 1 session 0 group 0 fsync\n  ok\n  ok\n  ok\nanswer 0 0 off 1\ncut 0\n",
+    ),
+    ("recover d", 0, "prefix 0\nbase 0\n"),
+    (
+        "run d t --cut 8",
+        0,
+        "base 0\ncommit 1 session 0 group 0 fsync\n  ok\n  ok\n  ok\nanswer 0 0 off 1\ncut 8\n",
+    ),
+    ("recover d", 0, "prefix 0\nbase 0\n"),
+    ("ls d", 0, "d /\n"),
+    ("run d t", 0, DONE),
+];
+
+#[test]
+fn a_run_is_cut_early(rt: HostRuntime) -> Result<(), AllocError> {
+    assert!(rt; follows(&rt, rt.alloc(), SCRIPT, &EARLY)?);
+    Ok(())
+}
+
+// After its last event it stands, and a recovery brings it home.
+const LATE: [Step<'static>; 5] = [
+    FORMAT,
+    (
+        "run d t --cut 19",
+        0,
+        "base 0\ncommit 1 session 0 group 0 fsync\n  ok\n  ok\n  ok\nanswer 0 0 ok 1\ncut 18\n",
+    ),
+    ("recover d --cut 5", 0, "prefix 1\nbase 1\ncut 5\n"),
+    ("recover d", 0, "prefix 1\nbase 1\n"),
+    ("ls d", 0, "d /\nd /a\nf 2 /a/f\n"),
+];
+
+#[test]
+fn a_run_is_cut_late(rt: HostRuntime) -> Result<(), AllocError> {
+    assert!(rt; follows(&rt, rt.alloc(), SCRIPT, &LATE)?);
+    Ok(())
+}
+
+const FAILED: [Step<'static>; 3] = [
+    FORMAT,
+    (
+        "run d t --fail 0:3",
+        5,
+        "base 0\ncommit 1 session 0 group 0 fsync\n  ok\n  ok\n  ok\nanswer 0 0 failed 1 640 1\nstopped tx 1\n",
+    ),
+    ("recover d", 0, "prefix 0\nbase 1\n"),
+];
+
+#[test]
+fn a_command_fails(rt: HostRuntime) -> Result<(), AllocError> {
+    assert!(rt; follows(&rt, rt.alloc(), SCRIPT, &FAILED)?);
+    Ok(())
+}
+
+// A pair that names no command of the run has no effect.
+const UNNAMED: [Step<'static>; 3] = [
+    FORMAT,
+    ("run d t --fail 3:1", 0, DONE),
+    (
+        "run d t --fail 0:1000 --cut 1000 --pick 7",
+        0,
+        UNNAMED_AGAIN,
+    ),
+];
+
+const UNNAMED_AGAIN: &str = "base 1
+at 1 session 0 group 0 fsync
+  refused Exists
+  refused Exists
+  ok
+answer 0 0 ok 1
+cut 0
+";
+
+#[test]
+fn a_pair_that_names_no_command(rt: HostRuntime) -> Result<(), AllocError> {
+    assert!(rt; follows(&rt, rt.alloc(), SCRIPT, &UNNAMED)?);
+    Ok(())
+}
+
+// Reads, and a group that asks and would change something.
+const READS: &str = "create /f
+write /f 0 \"hi\"
+fsync
+read /f 0 10
+list /
+stat /f
+ask
+mkdir /x
+ask
+";
+
+const READ: [Step<'static>; 2] = [
+    FORMAT,
+    (
+        "run d t",
+        0,
+        "base 0
+commit 1 session 0 group 0 fsync
+  ok
+  ok
+at 1 session 0 group 1 ask
+  data 2 6869
+  names f
+  file 2
+answer 0 0 ok 1
+answer 0 1 ok 1
+answer 0 2 changes 0
+clean 1
+",
+    ),
+];
+
+#[test]
+fn a_script_reads(rt: HostRuntime) -> Result<(), AllocError> {
+    assert!(rt; follows(&rt, rt.alloc(), READS, &READ)?);
+    Ok(())
+}
+
+const MANY: [Step<'static>; 5] = [
+    FORMAT,
+    ("run d t t t", 2, "scripts 3 queues 2\n"),
+    ("run d t u", 4, "fault load u\n"),
+    ("run t t", 3, "image Magic\n"),
+    ("ls d", 0, "d /\n"),
+];
+
+#[test]
+fn more_scripts_than_queues(rt: HostRuntime) -> Result<(), AllocError> {
+    assert!(rt; follows(&rt, rt.alloc(), SCRIPT, &MANY)?);
+    Ok(())
+}
+
+// Scripts that are refused, each with the line and the cause.
+const BAD: [(&str, &str); 3] = [
+    ("mkdir a\n", "script t line 1: Path\n"),
+    ("mkdir /a\n", "script t line 1: Open\n"),
+    (
+        "mkdir /a\nfsync\nmake /b\nfsync\n",
+        "script t line 3: Verb\n",
+    ),
+];
+
+#[test]
+fn a_script_is_refused(rt: HostRuntime) -> Result<(), AllocError> {
+    for (text, line) in BAD {
+        let steps = [
+            FORMAT,
+            ("run d t", 2, line),
+            ("run d t t t", 2, line),
+            ("ls d", 0, "d /\n"),
+        ];
+        assert!(rt; follows(&rt, rt.alloc(), text, &steps)?, "{text}");
+        assert!(rt; ends(&rt, rt.alloc(), "run d t", text, 4, "fault load d\n")?);
+    }
+    Ok(())
+}

@@ -1,0 +1,76 @@
+// `run`: scripts of requests, run on an image.
+ghost use Rattle.std.specs.Prelude.{◌≡◌, ◌⊎◌, ◌≤◌, ℕ, List, length, map};
+ghost use Rattle.mq_commands.specs.RunsScripts.{Runs};
+ghost use Rattle.mq_ending.specs.Ending.{EndsWith, IsUnlessWanting};
+ghost use Rattle.mq_words.specs.Asked.{AreSmallOfRun};
+ghost use Rattle.mqfs.specs.Decided.{IsRunnable, RunDecides};
+ghost use Rattle.mqfs.specs.Says.{failing, run_options};
+
+use mq_calls::Gate;
+use mq_commands::run;
+use mq_image_run::RunOptions;
+use mq_images::Failing;
+use mq_outside::{Files, Sink};
+use mq_words::{FailingCommand, RunOptions as Options};
+use std::alloc::Global;
+use std::sync::Wait;
+use std::thread::Threads;
+
+// The command that is to fail.
+fn failing_of(command: FailingCommand) -> Failing
+    ensures { result ≡ failing command }
+{
+    Failing {
+        port: command.port,
+        command: command.command,
+    }
+}
+
+// What the options ask of a run. Draws come from 0 where no pick is given.
+fn options_of(options: Options) -> RunOptions
+    ensures { result ≡ run_options options }
+{
+    RunOptions {
+        cut: options.cut,
+        pick: options.pick.unwrap_or(0),
+        fail: match options.fail {
+            Some(command) => Some(failing_of(command)),
+            None => None,
+        },
+    }
+}
+
+/// Runs `run IMAGE SCRIPT..` with its options.
+pub fn run_scripts<F: Files, K: Sink, R: Threads + Wait + Sync, G: Gate + Sync>(
+    rt: &R,
+    alloc: Global,
+    image: &str,
+    scripts: &[&str],
+    options: Options,
+    files: &mut F,
+    out: &mut K,
+    gate: &G,
+) -> u8
+    requires small { AreSmallOfRun options }
+    requires script { 1 ≤ length scripts.now }
+    ensures ends { (status : ℕ)
+        × (text : List ℕ)
+        × Runs (run_options options) image.now (map (λ s. s.now) scripts.now) (F.state files.old) (F.state files.new) status text
+        × EndsWith status text result (K.state out.old) (K.state out.new) }
+    ensures decided { (status : ℕ)
+        → RunDecides image.now (map (λ s. s.now) scripts.now) options (F.state files.old).contents status
+        → IsUnlessWanting status result }
+    ensures runs { IsRunnable image.now (map (λ s. s.now) scripts.now) (F.state files.old).contents
+        → (result ≡ 5) ⊎ IsUnlessWanting 0 result }
+{
+    run(
+        rt,
+        alloc,
+        image,
+        scripts,
+        options_of(options),
+        files,
+        out,
+        gate,
+    )
+}
