@@ -12,4 +12,6 @@ pub mod Cutting
 pub mod Clean
 pub mod Shares
 pub mod Rung
+pub mod Reasons
+pub mod Caused
 pub mod Saved

@@ -293,7 +293,7 @@ module _ {P : Type 0} (G : Ghosts P) (state : P → PortState) (faults : P → L
         })
 
     -- a read on the map of what was known then
-    asks-at : (f : FileEntry) (L : Shared P FileEntry G) → Grows L K → Fits values file_group f L → Asks g (map_after start (take (length L.log) es)) f
+    pub asks-at : (f : FileEntry) (L : Shared P FileEntry G) → Grows L K → Fits values file_group f L → Asks g (map_after start (take (length L.log) es)) f
     asks-at f L grows fits =
         let leads : map_now values file_group L ≡ map_after (start_of values file_group L.opening) (reverse L.log) = log-map values (start_of values file_group L.opening) L.opening.base L.log in
         let old : map_after (start_of values file_group L.opening) (reverse L.log) ≡ map_after start (take (length L.log) es) =
@@ -336,7 +336,7 @@ module _ {P : Type 0} (G : Ghosts P) (state : P → PortState) (faults : P → L
     -- ---- along a session
 
     -- what the session of a track drew and read is in order
-    in-order : (i : ℕ) (t : Track P G) → slice_get run.tracks i ≡ Some t → (n : ℕ) × InOrder machine n t.view.drawn t.view.read
+    pub in-order : (i : ℕ) (t : Track P G) → slice_get run.tracks i ≡ Some t → (n : ℕ) × InOrder machine n t.view.drawn t.view.read
     in-order i t at =
         let x = session-of i t at in
         let own : IsInOrder machine x.last = each-in (IsInOrder machine) run.ends.left x.last run.ends.run.end.ordered (get-in run.ends.left i x.last x.last_at) in

@@ -1,6 +1,6 @@
 -- What a run of scripts is, in the words of its report, in one statement each.
-use Rattle.std.specs.Prelude.{◌≡◌, ◌<◌, ◌≤◌, ℕ, Bool, List, Ok, Some}
-use Rattle.std.specs.List.{All}
+use Rattle.std.specs.Prelude.{◌≡◌, ◌<◌, ◌≤◌, ℕ, Bool, List, Err, Ok, Some}
+use Rattle.std.specs.List.{All, Contains}
 use Rattle.mq_nvme.specs.Says.{says}
 use Rattle.mq_blocks.specs.Drive.{PortImage, PortState}
 use Rattle.mq_blocks.specs.Geometry.{queues_of}
@@ -13,10 +13,15 @@ use Rattle.mq_files.specs.Group.{file_group}
 use Rattle.mq_journal.specs.Values.{side_values}
 use Rattle.mq_ledger.specs.KnownJournal.{front}
 use Rattle.mq_ledger.specs.State.{port_at}
-use Rattle.mq_legal.specs.Answers.{AreAnswered, IsAcknowledged}
+use Rattle.mq_legal.specs.Answers.{AreAnswered, AreCaused, IsAcknowledged, IsPortCause}
 use Rattle.mq_legal.specs.Cuts.{IsClean, IsCut, IsRung}
 use Rattle.mq_legal.specs.Histories.{AreOfBytes}
 use Rattle.mq_legal.specs.Legal.{IsLegal, newest}
+use Rattle.mq_calls.specs.declared.answers.CallCause.TheVariants.{Drive}
+use Rattle.mq_calls.specs.declared.answers.Refusal.{Refusal}
+use Rattle.mq_report.specs.Lines.{Line}
+use Rattle.mq_report.specs.declared.line.Told.{Told}
+use Rattle.mq_side.specs.declared.answers.Cause.{Cause}
 use Rattle.mq_recover.specs.Drives.{AreImages, drive_of}
 use Rattle.mq_recover.specs.declared.standing.Standing.{Standing}
 use Rattle.mq_run.specs.Playing.{IsShort}
@@ -30,6 +35,15 @@ use Rattle.mq_tree.specs.Volume.{Volume}
 -- the doorbell of a queue
 abbrev pub bell_of : {P : Type 0} → (P → PortState) → (queue : ℕ) → Ports P → ℕ
 bell_of state q ports = (port_at (drive_of state ports).queues q).doorbell
+
+-- what each refusal for a port's cause says of the history holds
+abbrev pub HavePortCauses : Geometry → List Line → (reached : ℕ) → List Told → Type 0
+HavePortCauses g lines reached answers =
+    (t : Told) (r : Refusal) (cause : Cause)
+    → Contains answers t
+    → t.answer ≡ Err r
+    → r.cause ≡ Drive cause
+    → IsPortCause g lines reached cause
 
 module _ {P : Type 0} (G : Ghosts P) (state : P → PortState) (faults : P → List Fault) where
   -- The lines of a run are a legal list from the base and the volume that lay on the home blocks at the opening, where the
@@ -96,3 +110,15 @@ module _ {P : Type 0} (G : Ghosts P) (state : P → PortState) (faults : P → L
       → IsLaid g (map_of g s.blocks.items) v
       → q < queues_of g
       → IsRung g scripts v e.entries.items e.answers.items q (bell_of state q ports) (bell_of state q e.ports)
+
+  -- Each refusal has its cause, as far as scripts and history say, where what the ports are behind is given: the image at
+  -- the end reaches some number, and what a cause of a port says of the history holds.
+  abbrev pub RefusalsAreCaused : Type 0
+  RefusalsAreCaused =
+      (g : Geometry) (ports : Ports P) (s : Standing) (scripts : List Script) (finish : Bool) (e : RunEnd P) (v : Volume) (reached : ℕ)
+      → HasRunScripts G state faults g ports s scripts finish e
+      → All (λ script. IsShort script.groups) scripts
+      → AreOfBytes scripts
+      → IsLaid g (map_of g s.blocks.items) v
+      → HavePortCauses g e.entries.items reached e.answers.items
+      → AreCaused g scripts v s.base e.entries.items reached e.answers.items

@@ -1,7 +1,7 @@
 // What holds of a run of scripts.
 ghost use Rattle.mq_promise.specs.Images.{RunsKeepTheirPromise};
 ghost use Rattle.mq_promise.specs.Laws.{AcknowledgedNumbersAreDone, DoorbellsAreRung, EndsAreCuts, FinishedEndsAreClean};
-ghost use Rattle.mq_promise.specs.Laws.{RunsAreAnswered, RunsAreLegal};
+ghost use Rattle.mq_promise.specs.Laws.{RefusalsAreCaused, RunsAreAnswered, RunsAreLegal};
 
 use mq_drive::Port;
 
@@ -27,6 +27,12 @@ pub fn a_run_is_cut<P: Port>()
 /// that was answered well.
 pub fn a_run_is_rung<P: Port>()
     ensures { DoorbellsAreRung P.Port P.state P.faults }
+{}
+
+/// Each refusal of a run has its cause, as far as scripts and history say: what a cause of a port says of the history is
+/// a premise.
+pub fn a_refusal_is_caused<P: Port>()
+    ensures { RefusalsAreCaused P.Port P.state P.faults }
 {}
 
 /// A run on an image tells a legal list of commits and reads, from the volume and the base that recovery of the old image

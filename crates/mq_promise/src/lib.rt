@@ -4,6 +4,6 @@
 mod laws;
 
 pub use laws::{
-    a_run_is_answered, a_run_is_cut, a_run_is_legal, a_run_is_rung,
+    a_refusal_is_caused, a_run_is_answered, a_run_is_cut, a_run_is_legal, a_run_is_rung,
     a_run_on_an_image_keeps_its_promise,
 };
