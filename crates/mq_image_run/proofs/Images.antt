@@ -1,5 +1,5 @@
 -- The image that a run leaves.
-use Rattle.std.proofs.Common.{◌≡◌, ◌∙◌, List, None, ap, sym, subst}
+use Rattle.std.proofs.Common.{◌≡◌, ◌∙◌, List, None, sym, subst}
 use Rattle.mq_blocks.specs.Drive.{FuseName, PortImage}
 use Rattle.mq_blocks.specs.declared.geometry.Geometry.{Geometry}
 use Rattle.mq_image.specs.Drives.{IsDrive}
@@ -16,8 +16,8 @@ module _ (x : DriveImage) (r : RecoveredImage) (recovery : IsRecoveryOf x None r
   abbrev of_drive : Geometry → List PortImage → DriveImage
   of_drive g images = record { geometry = g; ports = images }
 
-  pub run-drive : (g : Geometry) → g ≡ x.geometry → IsDrive (of_drive g s.images.items)
+  pub run-drive : (g : Geometry) → g ≡ x.geometry → IsDrive (of_drive g s.driven.images.items)
   run-drive g same =
       let has = stops.drives.has in
-      let left : IsDrive (of_drive r.image.geometry stops.driven.left.images.items) = left-drive r.image has.end.ports stops.driven.left.images.items stops.driven.left.seats.items has.cut has.same_ports in
-      subst (λ (z : Geometry × List PortImage). IsDrive (of_drive z.0 z.1)) (λ i. ((recovery.geometry ∙ sym same) i, sym (ap (λ v. v.items) stops.images) i)) left
+      let left : IsDrive (of_drive r.image.geometry s.driven.images.items) = left-drive r.image has.end.ports s.driven.images.items stops.seats has.cut has.same_ports in
+      subst (λ (z : Geometry). IsDrive (of_drive z s.driven.images.items)) (recovery.geometry ∙ sym same) left

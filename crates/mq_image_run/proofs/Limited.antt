@@ -1,5 +1,5 @@
 -- What is tested before a run.
-use Rattle.std.proofs.Common.{◌≡◌, ◌⊎◌, ℕ, ◌<◌, ◌≤◌, Option, None, sym, subst, ◌∙◌, inl, inr, arith}
+use Rattle.std.proofs.Common.{◌≡◌, ◌⊎◌, ℕ, ◌<◌, ◌≤◌, Option, None, refl, subst, ◌∙◌, inl, inr, arith}
 use Rattle.mq_blocks.specs.Drive.{FuseName}
 use Rattle.mq_blocks.specs.Geometry.{queues_of}
 use Rattle.mq_blocks.specs.declared.geometry.Geometry.{Geometry}
@@ -8,19 +8,26 @@ use Rattle.mq_drive.specs.Emu.{emu_state}
 use Rattle.mq_image.specs.File.{DriveImage}
 use Rattle.mq_images.specs.Laws.{RecoveredDrivesHoldTheBlocks}
 use Rattle.mq_images.specs.Recovering.{IsRecoveryOf}
-use Rattle.mq_images.specs.Standing.{RefusesDrive}
+use Rattle.mq_images.specs.Refusals.{refusal_for}
+use Rattle.mq_images.specs.Standing.{RefusesDrive, StandsFor}
+use Rattle.mq_images.specs.Standing as standing
+use Rattle.mq_images.specs.Views.{view_of}
 use Rattle.mq_images.specs.declared.ports.Failing.{Failing}
 use Rattle.mq_images.specs.declared.recovery.RecoveredImage.{RecoveredImage}
 use Rattle.mq_images.specs.declared.refusal.StandingRefusal.{StandingRefusal}
 use Rattle.mq_images.specs.declared.refusal.StandingRefusal.TheVariants.{Corrupt, Image, OutOfMemory}
+use Rattle.mq_images.proofs.Standings.{read-refused}
+use Rattle.mq_images.proofs.Volumes.{stands-refused}
+use Rattle.mq_recover.proofs.Images.{read-same}
 use Rattle.mq_recover.specs.Drives.{drive_of}
 use Rattle.mq_recover.specs.declared.refusal.ImageFault.{ImageFault}
 use Rattle.mq_recover.specs.declared.refusal.ImageFault.TheVariants.{Bad, Limit, Twice}
 use Rattle.mq_recover.specs.declared.refusal.ImageFault.TheVariants as fault
+use Rattle.mq_tree.specs.Volume.{Volume}
 use Rattle.mq_tree.specs.declared.corrupt.MountRefusal.TheVariants as mount
 use Rattle.mq_image_run.specs.Drives.{IsNotDriven}
 use Rattle.mq_image_run.specs.Limits.{AreBelow, AreWithin, IsFirstAbove}
-use Rattle.mq_image_run.specs.Refusals.{RefusesRun, above_limit, not_mounted, not_readable, refusal_for, wanting}
+use Rattle.mq_image_run.specs.Refusals.{RefusesRun, above_limit, not_mounted, not_readable, wanting}
 
 module _ (x : DriveImage) (r : RecoveredImage) (recovery : IsRecoveryOf x None r) where
   -- the recovery moves no doorbell
@@ -54,7 +61,7 @@ module _ (x : DriveImage) (r : RecoveredImage) (recovery : IsRecoveryOf x None r
           not_mounted recovery.ds recovery.top s.blocks.items recovery.plan.read (subst (AreWithin x) recovery.base within) (holds x r fuse fail ports s recovery started stands)
           (λ v laid. none v (record { standing = s; stands = stands; laid = laid })) is
 
-refuses-image : (x : DriveImage) (e : ImageFault) → (e ≡ fault.OutOfMemory) ⊎ RefusesDrive x e → RefusesRun x (refusal_for e)
+pub refuses-image : (x : DriveImage) (e : ImageFault) → (e ≡ fault.OutOfMemory) ⊎ RefusesDrive x e → RefusesRun x (refusal_for e)
 refuses-image x fault.OutOfMemory why = wanting
 refuses-image x (Bad q cause) (inl e) = absurd (cc)
 refuses-image x (Bad q cause) (inr is) = not_readable (Bad q cause) is
@@ -63,5 +70,18 @@ refuses-image x (Twice n a b) (inr is) = not_readable (Twice n a b) is
 refuses-image x (Limit n) (inl e) = absurd (cc)
 refuses-image x (Limit n) (inr is) = not_readable (Limit n) is
 
-pub refuses-fault : (x : DriveImage) (e : ImageFault) (said : StandingRefusal) → said ≡ refusal_for e → (e ≡ fault.OutOfMemory) ⊎ RefusesDrive x e → RefusesRun x said
-refuses-fault x e said is why = subst (RefusesRun x) (sym is) (refuses-image x e why)
+-- ---- where nothing but memory is wanting
+
+not-above : (x : DriveImage) (n base : ℕ) → AreWithin x base → IsFirstAbove x base n → ⊥
+not-above x n base within (above, inl is) = let low = within.base_low in omega (arith, above, is, low)
+not-above x n base within (above, inr at) = let low = within.doorbells at.0 at.1 in let is = at.3 in omega (arith, above, is, low)
+
+-- an image that is within the limits and stands for a volume is refused for want of memory alone
+pub only-wanting : (x : DriveImage) (v : Volume) (e : StandingRefusal) (for : StandsFor x v) → AreWithin x for.top → RefusesRun x e → e ≡ OutOfMemory
+only-wanting x v _ for within (not_readable e refuses) = absurd (read-refused x for.ds for.top e for.read refuses)
+only-wanting x v _ for within (above_limit ds top read first) =
+    let once : for.top ≡ top = (read-same x.geometry (view_of x) for.ds ds for.top top for.read read).1 in
+    absurd (not-above x _ top (subst (AreWithin x) once within) first)
+only-wanting x v _ for within (not_mounted ds top stored read low blocks none is) =
+    absurd (stands-refused x v _ for (standing.not_mounted ds top stored read blocks none is) (λ e. cc))
+only-wanting x v _ for within wanting = refl

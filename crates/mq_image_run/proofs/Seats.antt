@@ -1,13 +1,16 @@
 -- What the seats of a drive tell, once its power was cut.
-use Rattle.std.proofs.Common.{◌≡◌, ℕ, suc, ◌+◌, ◌<◌, List, [], ◌∷◌, All, Option, None, Some, length, map, get_or, refl, sym, ap, subst, ◌∙◌, arith}
+use Rattle.std.proofs.Common.{◌≡◌, ℕ, zero, suc, ◌+◌, ◌<◌, List, [], ◌∷◌, All, Option, None, Some, length, map, get_or, refl, sym, ap, subst, ◌∙◌, arith}
+use Rattle.std.specs.Prelude.{Contains}
 use Rattle.std.proofs.lemmas.List.{length-map}
 use Rattle.mq_blocks.specs.Drive.{FuseName, PortState}
 use Rattle.mq_blocks.specs.Geometry.{queues_of}
 use Rattle.mq_blocks.specs.Totals.{total}
-use Rattle.mq_drive.specs.Emu.{emu_state}
-use Rattle.mq_drive.specs.Fuse.{below}
+use Rattle.mq_drive.specs.Emu.{emu_faults, emu_state}
+use Rattle.mq_drive.specs.Fuse.{above, below}
 use Rattle.mq_drive.specs.Seats.{fuse_of, tickets_of}
+use Rattle.mq_drive.specs.Steps.{PowerOff}
 use Rattle.mq_drive.specs.declared.emu.EmuPort.{EmuPort}
+use Rattle.mq_drive.specs.declared.fuse.FuseSeat.{FuseSeat}
 use Rattle.mq_image.specs.Drives.{IsDrive}
 use Rattle.mq_image.specs.File.{DriveImage}
 use Rattle.mq_images.specs.Cuts.{CutPort, IsCutPort, row_of}
@@ -22,7 +25,22 @@ use Rattle.mq_image_run.specs.Drives.{IsDriven, events_on}
 use Rattle.mq_image_run.specs.declared.driving.Driven.{Driven}
 use Rattle.mq_image_run.specs.declared.options.RunOptions.{RunOptions}
 
-module _ (fuse : FuseName) (y : DriveImage) (drive : IsDrive y) (scripts : List Script) (o : RunOptions) (d : Driven) (driven : IsDriven fuse y scripts o d) where
+mapped : (ps : List EmuPort) (k : ℕ) (p : EmuPort) → get_or ps k p ≡ p → get_or (map emu_state ps) k (emu_state p) ≡ emu_state p
+mapped [] k p at = refl
+mapped (q ∷ ps) zero p at = ap emu_state at
+mapped (q ∷ ps) (suc k) p at = mapped ps k p at
+
+-- the cut of a port in a row
+cut-of : (cs : List CutPort) → All (λ c. IsCutPort c.port c.image c.seat) cs → (k : ℕ) (p : EmuPort) → k < length cs → get_or (map (λ (c : CutPort). c.port) cs) k p ≡ p
+    → (c : CutPort) × Contains (map (λ (c : CutPort). c.seat) cs) c.seat × (c.port ≡ p) × IsCutPort c.port c.image c.seat
+cut-of [] each k p low at = absurd (omega (arith, low))
+cut-of (c ∷ cs) each zero p low at = (c, (0, omega arith, refl), at, each 0 c (omega arith))
+cut-of (c ∷ cs) each (suc k) p low at =
+    let rest = cut-of cs (λ j d less. each (suc j) d (omega (arith, less))) k p (omega (arith, low)) at in
+    let within = rest.1.1 in
+    (rest.0, (suc rest.1.0, omega (arith, within), rest.1.2), rest.2, rest.3)
+
+module _ (fuse : FuseName) (y : DriveImage) (drive : IsDrive y) (scripts : List Script) (o : RunOptions) (d : Driven) (seats : List FuseSeat) (driven : IsDriven fuse y scripts o d seats) where
   abbrev row : List EmuPort
   row = row_of driven.has.end.ports
 
@@ -40,11 +58,27 @@ module _ (fuse : FuseName) (y : DriveImage) (drive : IsDrive y) (scripts : List 
   fuses : (k : ℕ) (s : PortState) → k < length row → (get_or (map emu_state row) k s).fuse ≡ fuse
   fuses = row-each y.geometry driven.has.end.ports count (λ s. s.fuse ≡ fuse) bound
 
-  pub own-seats : All (λ s. fuse_of s ≡ fuse) d.left.seats.items
-  own-seats = seats-own row d.left.images.items d.left.seats.items driven.has.cut fuse fuses
+  pub own-seats : All (λ s. fuse_of s ≡ fuse) seats
+  own-seats = seats-own row d.images.items seats driven.has.cut fuse fuses
 
-  pub all-seats : length d.left.seats.items ≡ queues_of y.geometry + 1
-  all-seats = seats-long row d.left.images.items d.left.seats.items driven.has.cut ∙ row-long y.geometry driven.has.end.ports count
+  pub all-seats : length seats ≡ queues_of y.geometry + 1
+  all-seats = seats-long row d.images.items seats driven.has.cut ∙ row-long y.geometry driven.has.end.ports count
+
+  -- a port that the row contains has the fuse of the drive
+  pub own-fuse : (p : EmuPort) → Contains row p → (emu_state p).fuse ≡ fuse
+  own-fuse p own = ap (λ (s : PortState). s.fuse) (sym (mapped row own.0 p own.2)) ∙ fuses own.0 (emu_state p) own.1
+
+  -- where a port refused an event for its power, a seat drew a ticket at or above the limit
+  pub off-seat : (l : ℕ) (p : EmuPort) → fuse.limit ≡ Some l → Contains row p → Contains (emu_faults p) PowerOff → (s : FuseSeat) × Contains seats s × (0 < above l (tickets_of s))
+  off-seat l p limit own off =
+      let cut = driven.has.cut in
+      let has : Contains (map (λ (c : CutPort). c.port) cut.cuts) p = subst (λ (ps : List EmuPort). Contains ps p) cut.ports_are own in
+      let within = has.1 in
+      let long = length-map cut.cuts (λ (c : CutPort). c.port) in
+      let one = cut-of cut.cuts cut.each has.0 p (omega (arith, within, long)) has.2 in
+      let limited : (emu_state one.0.port).fuse.limit ≡ Some l = ap (λ (q : EmuPort). (emu_state q).fuse.limit) one.2 ∙ (ap (λ (f : FuseName). f.limit) (own-fuse p own) ∙ limit) in
+      let more : 0 < above l (tickets_of one.0.seat) = one.3.off l limited (subst (λ (q : EmuPort). Contains (emu_faults q) PowerOff) (sym one.2) off) in
+      (one.0.seat, subst (λ (ss : List FuseSeat). Contains ss one.0.seat) (sym cut.seats_are) one.1, more)
 
   -- the tickets of all seats that are below the limit are the events that happened on all ports
   module _ (l : ℕ) (limit : fuse.limit ≡ Some l) where
@@ -56,7 +90,7 @@ module _ (fuse : FuseName) (y : DriveImage) (drive : IsDrive y) (scripts : List 
         let rest = sum cs (λ k d low. each (suc k) d (omega (arith, low))) (λ k s low. of (suc k) s (omega (arith, low))) in
         omega (arith, one, rest)
 
-    pub sum-is : total (λ s. below l (tickets_of s)) d.left.seats.items ≡ events_on row
+    pub sum-is : total (λ s. below l (tickets_of s)) seats ≡ events_on row
     sum-is =
         let cut = driven.has.cut in
         let long : length row ≡ length cut.cuts = ap length cut.ports_are ∙ length-map cut.cuts (λ (c : CutPort). c.port) in

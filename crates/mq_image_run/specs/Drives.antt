@@ -1,5 +1,5 @@
 -- What scripts come to on a drive, from its start to the cut of its power.
-use Rattle.std.specs.Prelude.{◌≡◌, ◌≤◌, ◌||◌, ℕ, Bool, false, List, [], ◌∷◌, Option, Some, is_none}
+use Rattle.std.specs.Prelude.{◌≡◌, ◌≤◌, ◌||◌, ℕ, zero, suc, Bool, false, List, [], ◌∷◌, Contains, Option, Some, None, is_none}
 use Rattle.mq_blocks.specs.Drive.{FuseName}
 use Rattle.mq_blocks.specs.Totals.{total}
 use Rattle.mq_blocks.specs.declared.geometry.Geometry.{Geometry}
@@ -9,7 +9,9 @@ use Rattle.mq_drive.specs.Emu.{emu_faults, emu_state, executed_of}
 use Rattle.mq_drive.specs.Happened.{happened_in}
 use Rattle.mq_drive.specs.Limits.{fails_by}
 use Rattle.mq_drive.specs.contracts.emu.EmuPortPort.TheImpl.{ghosts}
+use Rattle.mq_drive.specs.Steps.{PowerOff}
 use Rattle.mq_drive.specs.declared.emu.EmuPort.{EmuPort}
+use Rattle.mq_drive.specs.declared.fuse.FuseSeat.{FuseSeat}
 use Rattle.mq_drive.specs.declared.port.Port.{Ghosts}
 use Rattle.mq_drive.specs.declared.port.Ports.{Ports}
 use Rattle.mq_image.specs.File.{DriveImage}
@@ -25,7 +27,6 @@ use Rattle.mq_run.specs.Runs.{HasRunScripts}
 use Rattle.mq_run.specs.declared.end.RunEnd.{RunEnd}
 use Rattle.mq_script.specs.Scripts.{Script}
 use Rattle.mq_tree.specs.declared.corrupt.CorruptCause.{CorruptCause}
-use Rattle.mq_tree.specs.declared.corrupt.MountRefusal.{MountRefusal}
 use Rattle.mq_tree.specs.declared.corrupt.MountRefusal.TheVariants as mount
 use Rattle.mq_image_run.specs.declared.driving.Driven.{Driven}
 use Rattle.mq_image_run.specs.declared.stopping.Stopped.{Stopped}
@@ -37,6 +38,17 @@ use Rattle.mq_image_run.specs.declared.options.RunOptions.{RunOptions}
 abbrev pub has_failed : List EmuPort → Bool
 has_failed [] = false
 has_failed (p ∷ ps) = fails_by (emu_state p).fail (executed_of p) || has_failed ps
+
+-- how many commands the port with this number has executed since it was made: none where no port has it
+abbrev pub executed_at : List EmuPort → (port : ℕ) → ℕ
+executed_at [] port = 0
+executed_at (p ∷ ps) zero = executed_of p
+executed_at (p ∷ ps) (suc port) = executed_at ps port
+
+-- the command that is told, counted from 1, is among those that its port has executed
+abbrev pub was_executed : Option Failing → List EmuPort → Bool
+was_executed None ports = false
+was_executed (Some f) ports = fails_by (Some f.command) (executed_at ports f.port)
 
 -- how many events happened on them
 abbrev pub events_on : List EmuPort → ℕ
@@ -50,8 +62,8 @@ emu_ghosts = ghosts
 
 -- The scripts were run over these ports and over what stands on them; without a cut the run ended with a checkpoint. The
 -- ports that came back are those of the drive still, each with its fuse and its failing command. Then the power of all of
--- them was cut.
-pub record HasDriven (g : Geometry) (ports : Ports EmuPort) (standing : Standing) (scripts : List Script) (o : RunOptions) (d : Driven) : Type 0 where
+-- them was cut, and their seats came back.
+pub record HasDriven (g : Geometry) (ports : Ports EmuPort) (standing : Standing) (scripts : List Script) (o : RunOptions) (d : Driven) (seats : List FuseSeat) : Type 0 where
   pub end : RunEnd EmuPort
   pub ran : HasRunScripts emu_ghosts emu_state emu_faults g ports standing scripts (is_none o.cut) end
   pub same_ports : ArePorts g (drive_of emu_state end.ports)
@@ -60,35 +72,32 @@ pub record HasDriven (g : Geometry) (ports : Ports EmuPort) (standing : Standing
   pub answers : d.answers ≡ end.answers
   pub finished : d.finished ≡ end.finished
   pub failed : d.failed ≡ has_failed (row_of end.ports)
-  pub cut : AreCutPorts (row_of end.ports) d.left.images.items d.left.seats.items
+  pub cut : AreCutPorts (row_of end.ports) d.images.items seats
 
 -- This was done on the drive that starts from the image, with the power and the failing command that were asked for, over
--- the volume that stands there.
-pub record IsDriven (fuse : FuseName) (y : DriveImage) (scripts : List Script) (o : RunOptions) (d : Driven) : Type 0 where
+-- the volume that stands there. No port had executed a command at the start: so the command that was to fail is that of
+-- this number, on the port of this number, that was executed since.
+pub record IsDriven (fuse : FuseName) (y : DriveImage) (scripts : List Script) (o : RunOptions) (d : Driven) (seats : List FuseSeat) : Type 0 where
   pub ports : Ports EmuPort
   pub started : AreStarted fuse o.fail y ports
   pub standing : Standing
   pub stands : StandsIn y.geometry (drive_of emu_state ports) standing
   pub opens : MayOpen y.geometry (drive_of emu_state ports) standing
-  pub has : HasDriven y.geometry ports standing scripts o d
+  pub has : HasDriven y.geometry ports standing scripts o d seats
+  pub named : d.failed ≡ was_executed o.fail (row_of has.end.ports)
 
--- What was driven, once the fuse was closed: with a limit, so many events happened on all ports, at most those of the
--- limit.
+-- What was driven, once the fuse was closed. With a limit, so many events happened on all ports, at most those of the
+-- limit, and all of those where a port refused one for its power. Without a limit no port refused one for its power, and
+-- where the failing command was not executed either, no port has a fault.
 pub record HasStopped (fuse : FuseName) (y : DriveImage) (scripts : List Script) (o : RunOptions) (s : Stopped) : Type 0 where
-  pub driven : Driven
-  pub drives : IsDriven fuse y scripts o driven
-  pub entries : s.entries ≡ driven.entries
-  pub answers : s.answers ≡ driven.answers
-  pub finished : s.finished ≡ driven.finished
-  pub failed : s.failed ≡ driven.failed
-  pub images : s.images ≡ driven.left.images
+  pub seats : List FuseSeat
+  pub drives : IsDriven fuse y scripts o s.driven seats
   pub happened : (l : ℕ) → fuse.limit ≡ Some l → (s.events ≡ events_on (row_of drives.has.end.ports)) × (s.events ≤ l)
+  pub off : (l : ℕ) (p : EmuPort) → fuse.limit ≡ Some l → Contains (row_of drives.has.end.ports) p → Contains (emu_faults p) PowerOff → s.events ≡ l
+  pub powered : (p : EmuPort) → fuse.limit ≡ None → Contains (row_of drives.has.end.ports) p → Contains (emu_faults p) PowerOff → ⊥
+  pub sound : (p : EmuPort) → fuse.limit ≡ None → s.driven.failed ≡ false → Contains (row_of drives.has.end.ports) p → emu_faults p ≡ []
 
 -- ---- where no volume stands
-
-abbrev pub refusal_of : MountRefusal → StandingRefusal
-refusal_of (mount.Corrupt cause block) = Corrupt cause block
-refusal_of mount.OutOfMemory = OutOfMemory
 
 -- What stands on the drive that starts from the image holds no volume, and this is wrong at this block.
 abbrev pub HoldsNone : FuseName → Option Failing → DriveImage → CorruptCause → (block : ℕ) → Type 0

@@ -7,20 +7,16 @@ use Rattle.mq_images.specs.declared.refusal.StandingRefusal.{StandingRefusal}
 use Rattle.mq_images.specs.declared.refusal.StandingRefusal.TheVariants.{Corrupt, Image, OutOfMemory}
 use Rattle.mq_recover.specs.declared.refusal.ImageFault.{ImageFault}
 use Rattle.mq_recover.specs.declared.refusal.ImageFault.TheVariants.{Limit}
-use Rattle.mq_recover.specs.declared.refusal.ImageFault.TheVariants as fault
 use Rattle.mq_tree.specs.Corrupt.{IsCorrupt}
 use Rattle.mq_tree.specs.Laid.{IsLaid, map_of}
 use Rattle.mq_tree.specs.Volume.{Volume}
 use Rattle.mq_image_run.specs.Limits.{AreWithin, IsFirstAbove}
 
 -- The image is not readable, and this is the first cause; or its greatest number or a doorbell is above the limit of a
--- run; or the blocks that stand hold no volume, and this is wrong at this block; or memory was wanting.
+-- run; or the blocks that stand hold no volume, and this is wrong at this block; or memory was wanting, as it is counted
+-- also where the groups or requests of a script are too many to be counted in 32 bits.
 pub data RefusesRun (x : DriveImage) : StandingRefusal → Type 0 where
   not_readable : (e : ImageFault) → RefusesDrive x e → RefusesRun x (Image e)
   above_limit : {n : ℕ} (ds : List Descriptor) (top : ℕ) → Reads x ds top → IsFirstAbove x top n → RefusesRun x (Image (Limit n))
   not_mounted : {cause : _} {b : ℕ} (ds : List Descriptor) (top : ℕ) (stored : List (Option (List ℕ))) → Reads x ds top → AreWithin x top → AreStanding x ds stored → ((v : Volume) → IsLaid x.geometry (map_of x.geometry stored) v → ⊥) → IsCorrupt x.geometry stored cause b → RefusesRun x (Corrupt cause b)
   wanting : RefusesRun x OutOfMemory
-
-abbrev pub refusal_for : ImageFault → StandingRefusal
-refusal_for fault.OutOfMemory = OutOfMemory
-refusal_for e = Image e

@@ -1,10 +1,10 @@
 -- What a run makes of an image.
-use Rattle.std.specs.Prelude.{◌≡◌, ℕ, List, Option, None, Some, Result, Ok, Err}
+use Rattle.std.specs.Prelude.{◌≡◌, ℕ, false, List, Option, None, Some, Result, Ok, Err}
 use Rattle.std.specs.List.{All}
 use Rattle.mq_blocks.specs.Drive.{FuseName}
 use Rattle.mq_checkpoint.specs.declared.refusal.CheckpointRefusal.{CheckpointRefusal}
 use Rattle.mq_checkpoint.specs.declared.refusal.CheckpointRefusal.TheVariants as checkpoint
-use Rattle.mq_image.specs.Drives.{IsDrive}
+use Rattle.mq_image.specs.Drives.{HasWidths, IsDrive}
 use Rattle.mq_image.specs.File.{DriveImage}
 use Rattle.mq_images.specs.Recovering.{IsRecoveryOf}
 use Rattle.mq_images.specs.declared.recovery.RecoveredImage.{RecoveredImage}
@@ -49,7 +49,7 @@ IsLast None events None last = ⊥
 
 -- Groups and requests of the scripts can be counted in 32 bits. The image was recovered, whole, and is within the limits of
 -- a run. The scripts were run on the drive that started from what this left, and the image is what the cut of its power at
--- the end left.
+-- the end left; it fits its file. Without a cut, and where the failing command was not executed, the run ended clean.
 pub record IsRunOf (x : DriveImage) (scripts : List Script) (o : RunOptions) (r : ImageRun) : Type 0 where
   pub short : All (λ script. IsShort script.groups) scripts
   pub recovered : RecoveredImage
@@ -60,10 +60,12 @@ pub record IsRunOf (x : DriveImage) (scripts : List Script) (o : RunOptions) (r 
   pub power : fuse.limit ≡ o.cut
   pub stopped : Stopped
   pub stops : HasStopped fuse recovered.image scripts o stopped
-  pub entries : r.entries ≡ stopped.entries
-  pub answers : r.answers ≡ stopped.answers
-  pub failed : r.failed ≡ stopped.failed
-  pub last : IsLast o.cut stopped.events stopped.finished r.last
+  pub entries : r.entries ≡ stopped.driven.entries
+  pub answers : r.answers ≡ stopped.driven.answers
+  pub failed : r.failed ≡ stopped.driven.failed
+  pub last : IsLast o.cut stopped.events stopped.driven.finished r.last
+  pub ended : o.cut ≡ None → r.failed ≡ false → (n : ℕ) × (r.last ≡ Clean n)
   pub geometry : r.image.geometry ≡ x.geometry
-  pub ports : r.image.ports ≡ stopped.images.items
+  pub ports : r.image.ports ≡ stopped.driven.images.items
   pub drive : IsDrive r.image
+  pub widths : All HasWidths r.image.ports

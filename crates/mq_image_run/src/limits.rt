@@ -13,8 +13,9 @@ use mq_script::Script;
 const RUN_LIMIT: u64 = 1 << 62;
 
 // Whether groups and requests of a script can be counted in 32 bits.
-fn is_short(script: &Script) -> bool
-    ensures { IsTrue result → IsShort script.now.groups }
+fn is_countable(script: &Script) -> bool
+    ensures short { IsTrue result → IsShort script.now.groups }
+    ensures exact { IsShort script.now.groups → IsTrue result }
 {
     if script.groups.len() > u32::MAX as usize {
         return false;
@@ -28,11 +29,12 @@ fn is_short(script: &Script) -> bool
 }
 
 /// Whether groups and requests of all scripts can be counted in 32 bits.
-pub fn are_short(scripts: &[Script]) -> bool
-    ensures { IsTrue result → All (λ s. IsShort s.groups) scripts.now }
+pub fn are_countable(scripts: &[Script]) -> bool
+    ensures short { IsTrue result → All (λ s. IsShort s.groups) scripts.now }
+    ensures exact { All (λ s. IsShort s.groups) scripts.now → IsTrue result }
 {
     for script in scripts {
-        if !is_short(script) {
+        if !is_countable(script) {
             return false;
         }
     }

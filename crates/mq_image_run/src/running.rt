@@ -1,39 +1,36 @@
 // A run on an image.
-ghost use Rattle.std.specs.Prelude.{◌≡◌, ◌≤◌, ◌^◌, IfErr, IfOk, None, length};
+ghost use Rattle.std.specs.Prelude.{◌≡◌, ◌≤◌, ◌^◌, IfErr, IfOk, IsErrOf, IsOkUnless, None, length};
+ghost use Rattle.std.specs.List.{All};
 ghost use Rattle.std.specs.Option.{ForSome};
 ghost use Rattle.mq_blocks.specs.Geometry.{queues_of};
 ghost use Rattle.mq_image.specs.Drives.{IsDrive};
 ghost use Rattle.mq_image_run.specs.Limits.{AreWithin};
-ghost use Rattle.mq_image_run.specs.Refusals.{RefusesRun, refusal_for};
+ghost use Rattle.mq_image_run.specs.Refusals.{RefusesRun};
 ghost use Rattle.mq_image_run.specs.Runs.{IsRunOf};
 ghost use Rattle.mq_images.specs.Recovering.{IsRecoveryOf};
+ghost use Rattle.mq_images.specs.Standing.{StandsFor};
+ghost use Rattle.mq_run.specs.Playing.{IsShort};
+ghost use Rattle.mq_tree.specs.Volume.{Volume};
 
 use crate::ending::last_of;
-use crate::limits::{are_short, first_above};
+use crate::limits::{are_countable, first_above};
 use crate::options::RunOptions;
 use crate::ran::ImageRun;
 use crate::stopping::run_to_stop;
 use mq_blocks::TxNo;
 use mq_calls::Gate;
+use mq_drive::EmuPort;
 use mq_image::DriveImage;
 use mq_images::{
-    RecoveredImage, StandingRefusal, a_recovered_image_holds_what_stood, drive_power, recover_image,
+    RecoveredImage, StandingRefusal, a_recovered_image_holds_what_stood, an_image_fits_its_file,
+    drive_power, recover_image,
 };
 use mq_recover::ImageFault;
+use mq_run::a_stopped_run_is_backed;
 use mq_script::Script;
 use std::alloc::Global;
 use std::sync::Wait;
 use std::thread::Threads;
-
-// Why the image is not readable, or that memory was wanting.
-fn not_readable(fault: ImageFault) -> StandingRefusal
-    ensures { result ≡ refusal_for fault }
-{
-    match fault {
-        ImageFault::OutOfMemory => StandingRefusal::OutOfMemory,
-        fault => StandingRefusal::Image(fault),
-    }
-}
 
 // Recovers an image whole, and tests that its numbers are within the limits of a run.
 fn recover_within(
@@ -45,10 +42,7 @@ fn recover_within(
     ensures ok { IfOk result (λ r. IsRecoveryOf image None r × AreWithin image r.found.base) }
     ensures refused { IfErr result (RefusesRun image) }
 {
-    let recovered = match recover_image(alloc, image, None, pick) {
-        Ok(recovered) => recovered,
-        Err(fault) => return Err(not_readable(fault)),
-    };
+    let recovered = recover_image(alloc, image, None, pick)?;
     match first_above(&recovered.image, recovered.found.base) {
         Some(base) => Err(StandingRefusal::Image(ImageFault::Limit { base })),
         None => Ok(recovered),
@@ -60,6 +54,46 @@ fn base_of(recovered: &RecoveredImage) -> TxNo
     ensures { result ≡ recovered.now.found.base }
 {
     recovered.found.base
+}
+
+// As `run_image`, of scripts whose groups and requests can be counted.
+fn run_countable<R: Threads + Wait + Sync, G: Gate + Sync>(
+    rt: &R,
+    alloc: Global,
+    image: DriveImage,
+    scripts: &[Script],
+    options: RunOptions,
+    gate: &G,
+) -> Result<ImageRun, StandingRefusal>
+    requires image { IsDrive image }
+    requires cut { ForSome options.cut (λ k. k ≤ 2 ^ 63) }
+    requires scripts { (1 ≤ length scripts.now) × (length scripts.now ≤ queues_of image.geometry) }
+    requires short { All (λ s. IsShort s.groups) scripts.now }
+    ensures ok { IfOk result (IsRunOf image scripts.now options) }
+    ensures refused { IfErr result (RefusesRun image) }
+{
+    let geometry = image.geometry;
+    let recovered = recover_within(alloc, image, options.pick)?;
+    let base = base_of(&recovered);
+    a_recovered_image_holds_what_stood();
+    let (fuse, seats) = drive_power(alloc, geometry, options.cut)?;
+    let stopped = run_to_stop(rt, alloc, fuse, seats, recovered, scripts, options, gate)?;
+    a_stopped_run_is_backed::<EmuPort<'_>>();
+    let driven = stopped.driven;
+    let last = last_of(options.cut, stopped.events, driven.finished)?;
+    let left = DriveImage {
+        geometry,
+        ports: driven.images,
+    };
+    an_image_fits_its_file(&left);
+    Ok(ImageRun {
+        image: left,
+        base,
+        entries: driven.entries,
+        answers: driven.answers,
+        last,
+        failed: driven.failed,
+    })
 }
 
 /// Recovers the drive that starts from an image, and runs scripts over the volume that stands there, each on a session and
@@ -78,26 +112,13 @@ pub fn run_image<R: Threads + Wait + Sync, G: Gate + Sync>(
     requires scripts { (1 ≤ length scripts.now) × (length scripts.now ≤ queues_of image.geometry) }
     ensures ok { IfOk result (IsRunOf image scripts.now options) }
     ensures refused { IfErr result (RefusesRun image) }
+    ensures complete { (v : Volume) (stands : StandsFor image v)
+        → AreWithin image stands.top
+        → IsOkUnless result StandingRefusal.OutOfMemory }
+    ensures long { (All (λ s. IsShort s.groups) scripts.now → ⊥) → IsErrOf result StandingRefusal.OutOfMemory }
 {
-    if !are_short(scripts) {
+    if !are_countable(scripts) {
         return Err(StandingRefusal::OutOfMemory);
     }
-    let geometry = image.geometry;
-    let recovered = recover_within(alloc, image, options.pick)?;
-    let base = base_of(&recovered);
-    a_recovered_image_holds_what_stood();
-    let (fuse, seats) = drive_power(alloc, geometry, options.cut)?;
-    let stopped = run_to_stop(rt, alloc, fuse, seats, recovered, scripts, options, gate)?;
-    let last = last_of(options.cut, stopped.events, stopped.finished)?;
-    Ok(ImageRun {
-        image: DriveImage {
-            geometry,
-            ports: stopped.images,
-        },
-        base,
-        entries: stopped.entries,
-        answers: stopped.answers,
-        last,
-        failed: stopped.failed,
-    })
+    run_countable(rt, alloc, image, scripts, options, gate)
 }

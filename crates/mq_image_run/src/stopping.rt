@@ -5,35 +5,24 @@ ghost use Rattle.mq_blocks.specs.Geometry.{queues_of};
 ghost use Rattle.mq_drive.specs.Seats.{name_of, ports_of};
 ghost use Rattle.mq_image.specs.File.{DriveImage as Image};
 ghost use Rattle.mq_image_run.specs.Drives.{HasStopped, IsNotDriven};
-ghost use Rattle.mq_image_run.specs.Runs.{StoppedByPower};
 ghost use Rattle.mq_images.specs.Recovering.{IsRecoveryOf};
 ghost use Rattle.mq_images.specs.Starts.{AreFreshSeats};
 ghost use Rattle.mq_run.specs.Playing.{IsShort};
 
 use crate::driving::{Driven, run_drive};
 use crate::options::RunOptions;
-use mq_blocks::TxNo;
 use mq_calls::Gate;
-use mq_checkpoint::CheckpointRefusal;
-use mq_drive::{Fuse, FuseSeat, PortImage};
-use mq_images::{CutDrive, RecoveredImage, StandingRefusal};
-use mq_report::{Line, Told};
+use mq_drive::{Fuse, FuseSeat};
+use mq_images::{RecoveredImage, StandingRefusal};
 use mq_script::Script;
 use std::alloc::Global;
 use std::sync::Wait;
 use std::thread::Threads;
 
-/// What scripts that were run on a drive report, and what a cut of its power left.
+/// What scripts that were run on a drive came to, and how many events happened.
 #[derive(Drop)]
 pub struct Stopped {
-    pub entries: Vec<Line>,
-    pub answers: Vec<Told>,
-    /// What the checkpoint at the end answered, where one was asked for.
-    pub finished: Option<Result<TxNo, CheckpointRefusal>>,
-    /// Whether the command that was to fail was executed.
-    pub failed: bool,
-    /// One image for each port, the root's last.
-    pub images: Vec<PortImage>,
+    pub driven: Driven,
     /// How many events happened, where the fuse has a limit, else 0.
     pub events: u64,
 }
@@ -57,25 +46,9 @@ pub fn run_to_stop<R: Threads + Wait + Sync, G: Gate + Sync>(
     requires scripts { (1 ≤ length scripts.now) × (length scripts.now ≤ queues_of recovered.image.geometry) }
     requires short { All (λ s. IsShort s.groups) scripts.now }
     ensures ok { IfOk result (HasStopped (name_of fuse) recovered.image scripts.now options) }
-    ensures powered { IfOk result (λ s. (name_of fuse).limit ≡ None → StoppedByPower s.finished → ⊥) }
     ensures refused { IfErr result (IsNotDriven (name_of fuse) options.fail recovered.image) }
 {
-    let driven = run_drive(rt, alloc, &fuse, seats, recovered, scripts, options, gate)?;
-    let Driven {
-        entries,
-        answers,
-        finished,
-        failed,
-        left,
-    } = driven;
-    let CutDrive { images, seats } = left;
+    let (driven, seats) = run_drive(rt, alloc, &fuse, seats, recovered, scripts, options, gate)?;
     let events = fuse.close(seats);
-    Ok(Stopped {
-        entries,
-        answers,
-        finished,
-        failed,
-        images,
-        events,
-    })
+    Ok(Stopped { driven, events })
 }

@@ -1,5 +1,5 @@
 -- The image of an empty drive, of the ports of its queues and of its root.
-use Rattle.std.proofs.Common.{◌≡◌, ◌<◌, ◌≤◌, inl, inr, ℕ, ◌+◌, ◌-◌, ◌*◌, ◌/◌, Bool, if◌then◌else◌, List, [], ◌∷◌, ◌++◌, length, get_or, Option, Some, None, refl, sym, ◌∙◌, ap, subst, arith, length-append}
+use Rattle.std.proofs.Common.{◌≡◌, ◌<◌, ◌≤◌, inl, inr, ℕ, ◌+◌, ◌-◌, ◌*◌, ◌/◌, Bool, if◌then◌else◌, List, [], ◌∷◌, ◌++◌, All, length, get_or, Option, Some, None, refl, sym, ◌∙◌, ap, subst, arith, length-append}
 use Rattle.std.proofs.lemmas.Bool.{cases_lt, lt-ltb, le-ltb}
 use Rattle.std.proofs.lemmas.List.{get_or_append_left, get_or-append_right, take_at}
 use Rattle.std.proofs.lemmas.Nat.{div_below}
@@ -10,6 +10,7 @@ use Rattle.mq_blocks.specs.Journal.{home_block, image_at}
 use Rattle.mq_blocks.specs.declared.geometry.Geometry.{Geometry}
 use Rattle.mq_drive.specs.Start.{IsImageOf}
 use Rattle.mq_drive.specs.declared.role.Role.TheVariants.{Queue, Root}
+use Rattle.mq_image.specs.Drives.{HasWidths}
 use Rattle.mq_image.specs.File.{DriveImage, no_port, queue_ports, root_port}
 use Rattle.mq_images.specs.Empty.{AreBlankQueues, IsBlankQueue, IsEmptyDrive, IsUnused}
 use Rattle.mq_layout.specs.Empty.{empty_block}
@@ -68,14 +69,15 @@ module _ (g : Geometry) (v : List PortImage) (r : PortImage) (blank : AreBlankQu
         )
   ]
 
-  pub empty-drive : IsEmptyDrive g image
-  empty-drive = record {
+  pub empty-drive : All HasWidths image.ports → IsEmptyDrive g image
+  empty-drive widths = record {
     geometry_is = refl;
     drive = record {
       ports = length-append v (r ∷ []) ∙ ap (λ (n : ℕ). n + 1) blank.count_is;
       queues = λ q low. subst (IsImageOf g (Queue q)) (sym (port-at q low)) (blank.each q low).image;
       root = subst (IsImageOf g Root) (sym root-is) root.image;
     };
+    widths = widths;
     unused = empty-unused;
     areas = λ q k low inside. empty-areas q k low;
     homes = empty-homes;
@@ -97,5 +99,5 @@ blank-more g n v w p blank is next =
     })
 
 -- the image of these ports
-pub formatted : (g : Geometry) (v w : List PortImage) (r : PortImage) → AreBlankQueues g (queues_of g) v → IsEmptyRoot g r → w ≡ v ++ r ∷ [] → IsEmptyDrive g (record { geometry = g; ports = w })
-formatted g v w r blank root is = subst (λ (l : List PortImage). IsEmptyDrive g (record { geometry = g; ports = l })) (sym is) (empty-drive g v r blank root)
+pub formatted : (g : Geometry) (v w : List PortImage) (r : PortImage) → AreBlankQueues g (queues_of g) v → IsEmptyRoot g r → w ≡ v ++ r ∷ [] → All HasWidths w → IsEmptyDrive g (record { geometry = g; ports = w })
+formatted g v w r blank root is widths = subst (λ (l : List PortImage). IsEmptyDrive g (record { geometry = g; ports = l })) (sym is) (empty-drive g v r blank root (subst (All HasWidths) is widths))

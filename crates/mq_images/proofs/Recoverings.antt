@@ -23,7 +23,7 @@ use Rattle.mq_drive.specs.declared.port.Ports.{Ports}
 use Rattle.mq_drive.specs.declared.role.Role.{Role}
 use Rattle.mq_drive.specs.declared.role.Role.TheVariants.{Queue, Root}
 use Rattle.mq_drive.proofs.Faults.{home_error_is_none, no_error, off_above, off_unlimited}
-use Rattle.mq_image.specs.Drives.{IsDrive}
+use Rattle.mq_image.specs.Drives.{HasWidths, IsDrive}
 use Rattle.mq_image.specs.File.{DriveImage, no_port, queue_ports, root_port}
 use Rattle.mq_images.specs.Cuts.{AreCutPorts, AreSound, EndsBy, HasRun, IsCutPort, IsLeftBy, happened_at, row_of, with_ports}
 use Rattle.mq_images.specs.Recovering.{EndsAs, IsAllHome, IsRecoveryOf, IsStillStanding, IsToRecover, events_of}
@@ -128,8 +128,8 @@ pub started-sound : (g : Geometry) (fuse : FuseName) (x : DriveImage) (ports : P
 started-sound g fuse x ports same drive started =
     let many = queues-count x drive in
     subst (λ (h : Geometry). AreSound h ports) (sym same) (record {
-      queues = λ k d low. (started.queues k d low).0;
-      root = started.root.0;
+      queues = λ k d low. (started.queues k d low).faults;
+      root = started.root.faults;
       none = λ q low. ap (λ (d : DriveState). (port_at d.queues q).fail) started.states ∙ ap (λ (s : PortState). s.fail) (start-at x.geometry fuse None 0 (queue_ports x) q (omega (arith, many, low)));
       root_none = ap (λ (d : DriveState). d.root.fail) started.states;
     })
@@ -223,15 +223,19 @@ module _ (g : Geometry) (ports : Ports EmuPort) (count : length ports.queues.ite
       ∙ get_or-append_right row_drive.queues (row_drive.root ∷ []) g.queues g.queues d long (omega arith)
       ∙ ap (λ (k : ℕ). get_or (row_drive.root ∷ []) k d) (let e : g.queues - g.queues ≡ 0 = omega arith in e)
 
-  -- what holds of each queue's port and of the root's holds of each in the row
-  pub row-each : (P : PortState → Type 0) → ((z : Option ℕ) → IsZone g z → P (port_in row_drive z)) → (k : ℕ) (d : PortState) → k < length (row_of ports) → P (get_or (map emu_state (row_of ports)) k d)
-  row-each P holds k d low = elim (cases_lt k g.queues) [
-    | inl less ↦ subst P (sym (row-queue k d less)) (holds (Some k) less)
+  -- what holds of each port, by its number, holds of each in the row
+  pub row-at : (P : ℕ → PortState → Type 0) → ((q : ℕ) → q < g.queues → P q (port_at row_drive.queues q)) → P g.queues row_drive.root → (k : ℕ) (d : PortState) → k < length (row_of ports) → P k (get_or (map emu_state (row_of ports)) k d)
+  row-at P queues root k d low = elim (cases_lt k g.queues) [
+    | inl less ↦ subst (P k) (sym (row-queue k d less)) (queues k less)
     | inr high ↦
         let long = row-long in
         let last : g.queues ≡ k = omega (arith, low, high, long) in
-        subst (λ (j : ℕ). P (get_or (map emu_state (row_of ports)) j d)) last (subst P (sym (row-root d)) (holds None tt))
+        subst (λ (j : ℕ). P j (get_or (map emu_state (row_of ports)) j d)) last (subst (P g.queues) (sym (row-root d)) root)
   ]
+
+  -- and so does what holds of each, whatever its number
+  pub row-each : (P : PortState → Type 0) → ((z : Option ℕ) → IsZone g z → P (port_in row_drive z)) → (k : ℕ) (d : PortState) → k < length (row_of ports) → P (get_or (map emu_state (row_of ports)) k d)
+  row-each P holds = row-at (λ k s. P s) (λ q low. holds (Some q) low) (holds None tt)
 
   module _ (images : List PortImage) (seats : List FuseSeat) (cut : AreCutPorts (row_of ports) images seats) where
     row-images : (Q : Role → PortState → PortImage → Type 0) → ((role : Role) (p : EmuPort) (i : PortImage) (s : FuseSeat) → IsCutPort p i s → Q role (emu_state p) i) → ((q : ℕ) → q < g.queues → Q (Queue q) (port_at row_drive.queues q) (get_or images q no_port)) × Q Root row_drive.root (get_or images g.queues no_port)
@@ -479,8 +483,8 @@ module _ (x : DriveImage) (limit : Option ℕ) (fuse : FuseName) (found : Recove
       let less = ends.5 in
       (sym is ∙ ends.1 ∙ ap (λ (k : ℕ). Some k) (sym all), omega (arith, few, less), ends.6)
 
-  pub answers : (g : Geometry) (whole : Bool) (cut : Option ℕ) → g ≡ x.geometry → cut ≡ cut_by whole events → IsLeftBy x fuse found whole images seats → IsRecoveryOf x limit (answer_of g images found cut)
-  answers g whole cut same cut-is left =
+  pub answers : (g : Geometry) (whole : Bool) (cut : Option ℕ) → g ≡ x.geometry → cut ≡ cut_by whole events → All HasWidths images → IsLeftBy x fuse found whole images seats → IsRecoveryOf x limit (answer_of g images found cut)
+  answers g whole cut same cut-is widths left =
       subst (λ (h : Geometry). IsRecoveryOf x limit (answer_of h images found cut)) (sym same)
       (subst (λ (c : Option ℕ). IsRecoveryOf x limit (answer_of x.geometry images found c)) (sym cut-is) (record {
         ds = left.ds;
@@ -490,6 +494,7 @@ module _ (x : DriveImage) (limit : Option ℕ) (fuse : FuseName) (found : Recove
         prefix = left.prefix;
         base = left.base;
         drive = left.drive;
+        widths = widths;
         geometry = refl;
         doorbells = left.doorbells;
         ends = ends-as whole left.ds left.top (events_of x left.writes left.top) left.ends;

@@ -10,7 +10,8 @@ use Rattle.mq_blocks.specs.Machine.{Map}
 use Rattle.mq_blocks.specs.declared.geometry.Geometry.{Geometry}
 use Rattle.mq_blocks.specs.Journal.{stands}
 use Rattle.mq_image.specs.File.{DriveImage}
-use Rattle.mq_images.specs.Standing.{IsStandingOf, RefusesDrive, RefusesVolume, StandsFor, not_mounted, not_readable, wanting}
+use Rattle.mq_images.specs.Refusals.{refusal_for, refusal_of}
+use Rattle.mq_images.specs.Standing.{AreStanding, HasNoVolume, IsStandingOf, Reads, RefusesDrive, RefusesVolume, StandsFor, not_mounted, not_readable, unmounted, unreadable, wanting}
 use Rattle.mq_images.specs.Views.{view_of}
 use Rattle.mq_images.specs.declared.refusal.StandingRefusal.{StandingRefusal}
 use Rattle.mq_images.specs.declared.refusal.StandingRefusal.TheVariants as standing
@@ -26,7 +27,6 @@ use Rattle.mq_tree.specs.Laid.{IsLaid, IsTreeOf, is_marked, map_of}
 use Rattle.mq_tree.specs.Trees.{IsAlike}
 use Rattle.mq_tree.specs.Volume.{Things, Volume, layout, tree}
 use Rattle.mq_tree.proofs.Unique.{volume-once}
-use Rattle.mq_tree.specs.declared.corrupt.CorruptCause.{CorruptCause}
 use Rattle.mq_tree.specs.declared.corrupt.MountRefusal.{MountRefusal}
 use Rattle.mq_tree.specs.declared.corrupt.MountRefusal.TheVariants as mount
 
@@ -92,46 +92,48 @@ module _ (g : Geometry) (x : DriveImage) (same : g ≡ x.geometry) (s : Standing
   pub mounts : (v : Volume) (e : MountRefusal) → StandsFor x v → (e ≢ mount.OutOfMemory → (t : Things) → IsTreeOf g (map_of g s.blocks.items) t → ⊥) → e ≢ mount.OutOfMemory → ⊥
   mounts v e for none other = none other (tree v) (tree-of g (map_of g s.blocks.items) v (volume-laid v for))
 
-  pub mount-refuses : (e : MountRefusal) (r : StandingRefusal) → Refuses g s.blocks.items e → (e ≢ mount.OutOfMemory → (t : Things) → IsTreeOf g (map_of g s.blocks.items) t → ⊥) → ((cause : CorruptCause) (b : ℕ) → e ≡ mount.Corrupt cause b → r ≡ standing.Corrupt cause b) → (e ≡ mount.OutOfMemory → r ≡ standing.OutOfMemory) → RefusesVolume x r
-  mount-refuses (mount.Corrupt cause b) r refuses none is memory =
-      subst (RefusesVolume x) (sym (is cause b refl)) (not_mounted stood.ds stood.top s.blocks.items stood.read stood.blocks
+  pub mount-refuses : (e : MountRefusal) → Refuses g s.blocks.items e → (e ≢ mount.OutOfMemory → (t : Things) → IsTreeOf g (map_of g s.blocks.items) t → ⊥) → RefusesVolume x (refusal_of e)
+  mount-refuses (mount.Corrupt cause b) refuses none =
+      not_mounted stood.ds stood.top s.blocks.items stood.read stood.blocks
       (λ v laid. none (λ e. cc) (tree v) (tree-of g (map_of g s.blocks.items) v (subst (λ (h : Geometry). IsLaid h (map_of h s.blocks.items) v) (sym same) laid)))
-      (subst (λ (h : Geometry). Refuses h s.blocks.items (mount.Corrupt cause b)) same refuses))
-  mount-refuses mount.OutOfMemory r refuses none is memory = subst (RefusesVolume x) (sym (memory refl)) wanting
+      (subst (λ (h : Geometry). Refuses h s.blocks.items (mount.Corrupt cause b)) same refuses)
+  mount-refuses mount.OutOfMemory refuses none = wanting
 
-  pub mount-wants : (v : Volume) (e : MountRefusal) (r : StandingRefusal) → StandsFor x v → (e ≢ mount.OutOfMemory → (t : Things) → IsTreeOf g (map_of g s.blocks.items) t → ⊥) → (e ≡ mount.OutOfMemory → r ≡ standing.OutOfMemory) → r ≡ standing.OutOfMemory
-  mount-wants v (mount.Corrupt cause b) r for none memory = absurd (mounts v (mount.Corrupt cause b) for none (λ e. cc))
-  mount-wants v mount.OutOfMemory r for none memory = memory refl
+  pub mount-wants : (v : Volume) (e : MountRefusal) → StandsFor x v → (e ≢ mount.OutOfMemory → (t : Things) → IsTreeOf g (map_of g s.blocks.items) t → ⊥) → refusal_of e ≡ standing.OutOfMemory
+  mount-wants v (mount.Corrupt cause b) for none = absurd (mounts v (mount.Corrupt cause b) for none (λ e. cc))
+  mount-wants v mount.OutOfMemory for none = refl
 
 -- what a reading of the image refuses
-pub image-refuses : (x : DriveImage) (e : ImageFault) (r : StandingRefusal) → (e ≡ image.OutOfMemory) ⊎ RefusesDrive x e → ((e ≡ image.OutOfMemory) × (r ≡ standing.OutOfMemory)) ⊎ ((e ≢ image.OutOfMemory) × (r ≡ standing.Image e)) → RefusesVolume x r
-image-refuses x e r refused (inl memory) = subst (RefusesVolume x) (sym memory.1) wanting
-image-refuses x e r (inl memory) (inr other) = absurd (other.0 memory)
-image-refuses x e r (inr refuses) (inr other) = subst (RefusesVolume x) (sym other.1) (not_readable e refuses)
+pub image-refuses : (x : DriveImage) (e : ImageFault) → (e ≡ image.OutOfMemory) ⊎ RefusesDrive x e → RefusesVolume x (refusal_for e)
+image-refuses x image.OutOfMemory why = wanting
+image-refuses x (image.Bad q cause) (inl e) = absurd (cc)
+image-refuses x (image.Bad q cause) (inr is) = not_readable (image.Bad q cause) is
+image-refuses x (image.Twice n a b) (inl e) = absurd (cc)
+image-refuses x (image.Twice n a b) (inr is) = not_readable (image.Twice n a b) is
+image-refuses x (image.Limit n) (inl e) = absurd (cc)
+image-refuses x (image.Limit n) (inr is) = not_readable (image.Limit n) is
 
-pub image-wants : (e : ImageFault) (r : StandingRefusal) → e ≡ image.OutOfMemory → ((e ≡ image.OutOfMemory) × (r ≡ standing.OutOfMemory)) ⊎ ((e ≢ image.OutOfMemory) × (r ≡ standing.Image e)) → r ≡ standing.OutOfMemory
-image-wants e r is (inl memory) = memory.1
-image-wants e r is (inr other) = absurd (other.0 is)
+-- a volume that stands lies on all blocks that stand
+laid-on : (x : DriveImage) (v : Volume) (ds : List Descriptor) (top : ℕ) (stored : List (Option (List ℕ))) → StandsFor x v → Reads x ds top → AreStanding x ds stored → IsLaid x.geometry (map_of x.geometry stored) v
+laid-on x v ds top stored for read blocks =
+    let once : for.ds ≡ ds = (read-same x.geometry (view_of x) for.ds ds for.top top for.read read).0 in
+    let others = for.standing in
+    laid-along x.geometry (map_of x.geometry for.stored) (map_of x.geometry stored) v
+    (same-map x.geometry for.stored stored (λ b low. others.each b low ∙ ap (λ (es : List Descriptor). stands x.geometry (view_of x) es b) once ∙ sym (blocks.each b low)))
+    for.laid
 
 -- where a volume stands, nothing is refused
 pub stands-refused : (x : DriveImage) (v : Volume) (r : StandingRefusal) → StandsFor x v → RefusesVolume x r → r ≢ standing.OutOfMemory → ⊥
 stands-refused x v _ for (not_readable e refuses) other = read-refused x for.ds for.top e for.read refuses
-stands-refused x v _ for (not_mounted ds top stored read blocks none corrupt) other =
-    let once : for.ds ≡ ds = (read-same x.geometry (view_of x) for.ds ds for.top top for.read read).0 in
-    let others = for.standing in
-    none v (laid-along x.geometry (map_of x.geometry for.stored) (map_of x.geometry stored) v
-    (same-map x.geometry for.stored stored (λ b low. others.each b low ∙ ap (λ (es : List Descriptor). stands x.geometry (view_of x) es b) once ∙ sym (blocks.each b low)))
-    for.laid)
+stands-refused x v _ for (not_mounted ds top stored read blocks none corrupt) other = none v (laid-on x v ds top stored for read blocks)
 stands-refused x v _ for wanting other = other refl
+
+-- nor does none stand
+pub stands-none : (x : DriveImage) (v : Volume) → StandsFor x v → HasNoVolume x → ⊥
+stands-none x v for (unreadable e refuses) = read-refused x for.ds for.top e for.read refuses
+stands-none x v for (unmounted ds top stored read blocks none) = none v (laid-on x v ds top stored for read blocks)
 
 -- an image stands for one volume
 pub stands-once : (x : DriveImage) (v w : Volume) → StandsFor x v → StandsFor x w → v ≡ w
 stands-once x v w for other =
-    let once : for.ds ≡ other.ds = (read-same x.geometry (view_of x) for.ds other.ds for.top other.top for.read other.read).0 in
-    let these = for.standing in
-    let those = other.standing in
-    volume-once x.geometry (map_of x.geometry other.stored) v w
-    (laid-along x.geometry (map_of x.geometry for.stored) (map_of x.geometry other.stored) v
-    (same-map x.geometry for.stored other.stored (λ b low. these.each b low ∙ ap (λ (ds : List Descriptor). stands x.geometry (view_of x) ds b) once ∙ sym (those.each b low)))
-    for.laid)
-    other.laid
+    volume-once x.geometry (map_of x.geometry other.stored) v w (laid-on x v other.ds other.top other.stored for other.read other.standing) other.laid

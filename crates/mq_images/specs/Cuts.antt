@@ -35,6 +35,8 @@ pub record IsCutPort (p : EmuPort) (i : PortImage) (s : FuseSeat) : Type 0 where
   pub fuse : fuse_of s ≡ (emu_state p).fuse
   pub tickets : tickets_of s ≡ drawn_by p
   pub events : (l : ℕ) → (emu_state p).fuse.limit ≡ Some l → below l (tickets_of s) ≡ happened_in (emu_state p) (emu_faults p)
+  -- a port that refused an event for its power drew a ticket at or above the limit
+  pub off : (l : ℕ) → (emu_state p).fuse.limit ≡ Some l → Contains (emu_faults p) PowerOff → 0 < above l (tickets_of s)
 
 -- a port with its image and its seat
 pub record CutPort : Type 0 where

@@ -1,12 +1,13 @@
 -- The image of a fresh drive that holds the empty file system.
 use Rattle.std.specs.Prelude.{◌≡◌, ◌<◌, ◌≤◌, ℕ, List, [], length, None, slice_index_or}
+use Rattle.std.specs.List.{All}
 use Rattle.mq_blocks.specs.Blocks.{zeros}
 use Rattle.mq_blocks.specs.Drive.{PortImage}
 use Rattle.mq_blocks.specs.Geometry.{area_of, homes_of, queues_of}
 use Rattle.mq_blocks.specs.declared.geometry.Geometry.{Geometry}
 use Rattle.mq_drive.specs.Start.{IsImageOf}
 use Rattle.mq_drive.specs.declared.role.Role.TheVariants.{Queue}
-use Rattle.mq_image.specs.Drives.{IsDrive}
+use Rattle.mq_image.specs.Drives.{HasWidths, IsDrive}
 use Rattle.mq_image.specs.File.{DriveImage, no_port}
 use Rattle.mq_images.specs.Views.{view_of}
 use Rattle.mq_layout.specs.Empty.{empty_block}
@@ -23,6 +24,7 @@ pub record IsUnused (p : PortImage) : Type 0 where
 pub record IsEmptyDrive (g : Geometry) (x : DriveImage) : Type 0 where
   pub geometry_is : x.geometry ≡ g
   pub drive : IsDrive x
+  pub widths : All HasWidths x.ports
   pub unused : (k : ℕ) → k ≤ queues_of g → IsUnused (slice_index_or x.ports k no_port)
   pub areas : (q k : ℕ) → q < queues_of g → k < area_of g → (view_of x).area q k ≡ zeros
   pub homes : (b : ℕ) → b < homes_of g → (view_of x).home b ≡ empty_block g b

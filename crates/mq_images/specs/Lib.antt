@@ -3,6 +3,7 @@ pub mod Dump
 pub mod Empty
 pub mod Laws
 pub mod Recovering
+pub mod Refusals
 pub mod Standing
 pub mod Starts
 pub mod Views

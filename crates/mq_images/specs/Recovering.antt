@@ -1,12 +1,13 @@
 -- What a recovery makes of an image, where its power may go off.
 use Rattle.std.specs.Prelude.{◌≡◌, ◌⊎◌, ◌<◌, ◌≤◌, ℕ, ◌+◌, ◌*◌, List, [], ◌∷◌, length, map, Option, Some, None, nat_eq, if◌then◌else◌}
+use Rattle.std.specs.List.{All}
 use Rattle.std.specs.Option.{ForSome}
 use Rattle.mq_blocks.specs.Descriptor.{AreRising, Descriptor}
 use Rattle.mq_blocks.specs.Drive.{PortImage}
 use Rattle.mq_blocks.specs.Geometry.{area_of, homes_of, queues_of}
 use Rattle.mq_blocks.specs.Journal.{stands}
 use Rattle.mq_blocks.specs.Machine.{Writes}
-use Rattle.mq_image.specs.Drives.{IsDrive}
+use Rattle.mq_image.specs.Drives.{HasWidths, IsDrive}
 use Rattle.mq_image.specs.File.{DriveImage, queue_ports}
 use Rattle.mq_images.specs.Standing.{Reads}
 use Rattle.mq_images.specs.Views.{view_of}
@@ -62,8 +63,9 @@ abbrev pub EndsAs : (x : DriveImage) → (ds : List Descriptor) → (top events 
 EndsAs x ds top events limit None y = ForSome limit (λ l. events ≤ l) × IsAllHome x ds top y
 EndsAs x ds top events limit (Some k) y = (limit ≡ Some k) × (k < events) × IsStillStanding x ds top y
 
--- What is left of an image by a recovery whose power lasts for so many events, where that is told; the prefix and the
--- new base that it found, which are those of the image; and after how many events it was cut, where it was.
+-- What is left of an image by a recovery whose power lasts for so many events, where that is told, and that it fits its
+-- file; the prefix and the new base that it found, which are those of the image; and after how many events it was cut,
+-- where it was.
 pub record IsRecoveryOf (x : DriveImage) (limit : Option ℕ) (r : RecoveredImage) : Type 0 where
   pub ds : List Descriptor
   pub top : ℕ
@@ -72,6 +74,7 @@ pub record IsRecoveryOf (x : DriveImage) (limit : Option ℕ) (r : RecoveredImag
   pub prefix : r.found.prefix ≡ length ds
   pub base : r.found.base ≡ top
   pub drive : IsDrive r.image
+  pub widths : All HasWidths r.image.ports
   pub geometry : r.image.geometry ≡ x.geometry
   pub doorbells : (q : ℕ) → q < queues_of x.geometry → (view_of r.image).doorbell q ≡ (view_of x).doorbell q
   pub ends : EndsAs x ds top (events_of x writes top) limit r.cut r.image

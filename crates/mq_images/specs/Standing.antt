@@ -57,3 +57,8 @@ pub data RefusesVolume (x : DriveImage) : StandingRefusal → Type 0 where
   not_readable : (e : ImageFault) → RefusesDrive x e → RefusesVolume x (Image e)
   not_mounted : {cause : _} {b : ℕ} (ds : List Descriptor) (top : ℕ) (stored : List (Option (List ℕ))) → Reads x ds top → AreStanding x ds stored → ((v : Volume) → IsLaid x.geometry (map_of x.geometry stored) v → ⊥) → IsCorrupt x.geometry stored cause b → RefusesVolume x (Corrupt cause b)
   wanting : RefusesVolume x OutOfMemory
+
+-- no volume stands on the image: it is not readable, or the blocks that stand hold none
+pub data HasNoVolume (x : DriveImage) : Type 0 where
+  unreadable : (e : ImageFault) → RefusesDrive x e → HasNoVolume x
+  unmounted : (ds : List Descriptor) (top : ℕ) (stored : List (Option (List ℕ))) → Reads x ds top → AreStanding x ds stored → ((v : Volume) → IsLaid x.geometry (map_of x.geometry stored) v → ⊥) → HasNoVolume x

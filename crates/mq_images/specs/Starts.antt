@@ -1,7 +1,7 @@
 -- The ports of a drive that starts from an image.
 use Rattle.std.specs.Prelude.{◌≡◌, ℕ, List, [], All, Option, length}
 use Rattle.mq_blocks.specs.Drive.{FuseName}
-use Rattle.mq_drive.specs.Emu.{drawn_by, emu_faults, emu_state}
+use Rattle.mq_drive.specs.Emu.{drawn_by, emu_faults, emu_state, executed_of}
 use Rattle.mq_drive.specs.Seats.{fuse_of, tickets_of}
 use Rattle.mq_drive.specs.declared.emu.EmuPort.{EmuPort}
 use Rattle.mq_drive.specs.declared.fuse.FuseSeat.{FuseSeat}
@@ -20,9 +20,11 @@ pub record AreFreshSeats (fuse : FuseName) (count : ℕ) (seats : List FuseSeat)
   pub count_is : length seats ≡ count
   pub each : All (IsFreshSeat fuse) seats
 
--- the port has no fault, and its seat has drawn no ticket
-abbrev pub IsFreshPort : EmuPort → Type 0
-IsFreshPort p = (emu_faults p ≡ []) × (drawn_by p ≡ [])
+-- the port has no fault, its seat has drawn no ticket, and it has executed no command
+pub record IsFreshPort (p : EmuPort) : Type 0 where
+  pub faults : emu_faults p ≡ []
+  pub tickets : drawn_by p ≡ []
+  pub executed : executed_of p ≡ 0
 
 -- these are the ports of the drive that starts from the image, of which this command is to fail
 pub record AreStarted (fuse : FuseName) (fail : Option Failing) (x : DriveImage) (p : Ports EmuPort) : Type 0 where

@@ -8,6 +8,7 @@ ghost use Rattle.mq_images.specs.Empty.{AreBlankQueues, IsBlankQueue, IsEmptyDri
 ghost use Rattle.mq_layout.specs.Empty.{empty_block};
 ghost use Rattle.mq_nvme.specs.Entry.{blank};
 
+use crate::width::an_image_fits_its_file;
 use mq_blocks::{Block, BlockNo, Geometry, OutOfMemory, RING_DEPTH};
 use mq_drive::PortImage;
 use mq_image::DriveImage;
@@ -29,7 +30,9 @@ pub fn format_drive(alloc: Global, geometry: Geometry) -> Result<DriveImage, Out
         slots: Vec::new(alloc),
         blocks: meta_blocks(alloc, geometry)?,
     })?;
-    Ok(DriveImage { geometry, ports })
+    let image = DriveImage { geometry, ports };
+    an_image_fits_its_file(&image);
+    Ok(image)
 }
 
 // The image of each queue's port.

@@ -10,6 +10,7 @@ mod ports;
 mod recovery;
 mod refusal;
 mod volume;
+mod width;
 
 pub use cut::{CutDrive, cut_ports};
 pub use dump::dump_image;
@@ -19,3 +20,4 @@ pub use ports::{Failing, drive_power, start_ports};
 pub use recovery::{RecoveredImage, recover_image};
 pub use refusal::StandingRefusal;
 pub use volume::{list_volume, read_volume};
+pub use width::an_image_fits_its_file;

@@ -15,6 +15,7 @@ ghost use Rattle.mq_recover.specs.Refusals.{IsReadableImage, RefusesImage};
 
 use crate::cut::{CutDrive, cut_ports};
 use crate::ports::{drive_power, start_ports};
+use crate::width::an_image_fits_its_file;
 use mq_blocks::Geometry;
 use mq_drive::{EmuPort, Fuse, FuseSeat, Ports};
 use mq_image::DriveImage;
@@ -132,11 +133,13 @@ pub fn recover_image(
     let (ran, left) = recover_until(alloc, &fuse, seats, image, pick)?;
     let CutDrive { images, seats } = left;
     let events = fuse.close(seats);
+    let recovered = DriveImage {
+        geometry,
+        ports: images,
+    };
+    an_image_fits_its_file(&recovered);
     Ok(RecoveredImage {
-        image: DriveImage {
-            geometry,
-            ports: images,
-        },
+        image: recovered,
         found: ran.found,
         cut: cut_after(ran.whole, events),
     })

@@ -23,3 +23,31 @@ impl From<OutOfMemory> for StandingRefusal {
         StandingRefusal::OutOfMemory
     }
 }
+
+impl From<ImageFault> for StandingRefusal {
+    ghost use Rattle.std.specs.Prelude.{◌≡◌};
+    ghost use Rattle.mq_images.specs.Refusals.{refusal_for};
+
+    ghost from_gives = { λ fault e. e ≡ refusal_for fault };
+
+    fn from(fault: ImageFault) -> Self {
+        match fault {
+            ImageFault::OutOfMemory => StandingRefusal::OutOfMemory,
+            fault => StandingRefusal::Image(fault),
+        }
+    }
+}
+
+impl From<MountRefusal> for StandingRefusal {
+    ghost use Rattle.std.specs.Prelude.{◌≡◌};
+    ghost use Rattle.mq_images.specs.Refusals.{refusal_of};
+
+    ghost from_gives = { λ refusal e. e ≡ refusal_of refusal };
+
+    fn from(refusal: MountRefusal) -> Self {
+        match refusal {
+            MountRefusal::Corrupt { cause, block } => StandingRefusal::Corrupt { cause, block },
+            MountRefusal::OutOfMemory => StandingRefusal::OutOfMemory,
+        }
+    }
+}

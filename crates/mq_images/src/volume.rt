@@ -1,5 +1,5 @@
 // The volume that stands on an image.
-ghost use Rattle.std.specs.Prelude.{◌≡◌, ◌≢◌, ◌⊎◌, IfErr, IfOk, IsOkUnless};
+ghost use Rattle.std.specs.Prelude.{◌≡◌, IfErr, IfOk, IsOkUnless};
 ghost use Rattle.mq_image.specs.Drives.{IsDrive};
 ghost use Rattle.mq_images.specs.Standing.{RefusesVolume, StandsFor};
 ghost use Rattle.mq_tree.specs.ListText.{list_text};
@@ -9,33 +9,8 @@ ghost use Rattle.mq_tree.specs.Volume.{Volume};
 use crate::ports::read_standing;
 use crate::refusal::StandingRefusal;
 use mq_image::DriveImage;
-use mq_recover::ImageFault;
-use mq_tree::{MountRefusal, Tree, mount};
+use mq_tree::{Tree, mount};
 use std::alloc::Global;
-
-// Why the image is not readable, or that memory was wanting.
-fn not_readable(fault: ImageFault) -> StandingRefusal
-    ensures { ((fault ≡ ImageFault.OutOfMemory) × (result ≡ StandingRefusal.OutOfMemory))
-        ⊎ ((fault ≢ ImageFault.OutOfMemory) × (result ≡ StandingRefusal.Image fault)) }
-{
-    match fault {
-        ImageFault::OutOfMemory => StandingRefusal::OutOfMemory,
-        fault => StandingRefusal::Image(fault),
-    }
-}
-
-// Why the blocks that stand have no tree, or that memory was wanting.
-fn not_mounted(refusal: MountRefusal) -> StandingRefusal
-    ensures corrupt { (cause : _) (b : _)
-        → refusal ≡ MountRefusal.Corrupt cause b
-        → result ≡ StandingRefusal.Corrupt cause b }
-    ensures memory { refusal ≡ MountRefusal.OutOfMemory → result ≡ StandingRefusal.OutOfMemory }
-{
-    match refusal {
-        MountRefusal::Corrupt { cause, block } => StandingRefusal::Corrupt { cause, block },
-        MountRefusal::OutOfMemory => StandingRefusal::OutOfMemory,
-    }
-}
 
 /// The tree of the volume that stands on an image, as a recovery would leave it. The image is tested first, and then the
 /// blocks that stand.
@@ -46,14 +21,8 @@ pub fn read_volume(alloc: Global, image: DriveImage) -> Result<Tree, StandingRef
     ensures complete { (v : Volume) → StandsFor image v → IsOkUnless result StandingRefusal.OutOfMemory }
 {
     let geometry = image.geometry;
-    let standing = match read_standing(alloc, image) {
-        Ok(standing) => standing,
-        Err(fault) => return Err(not_readable(fault)),
-    };
-    match mount(alloc, geometry, &standing.blocks) {
-        Ok(tree) => Ok(tree),
-        Err(refusal) => Err(not_mounted(refusal)),
-    }
+    let standing = read_standing(alloc, image)?;
+    Ok(mount(alloc, geometry, &standing.blocks)?)
 }
 
 /// The text that lists the volume that stands on an image.

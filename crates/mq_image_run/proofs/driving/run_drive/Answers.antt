@@ -1,16 +1,16 @@
 use Rattle.std.proofs.Common.{◌≡◌, ◌∙◌, ap, sym, subst}
+use Rattle.std.proofs.lemmas.Result.{err_from_is_err_and}
 use Rattle.mq_blocks.specs.declared.geometry.Geometry.{Geometry}
 use Rattle.mq_calls.specs.Opening.{MayOpen}
 use Rattle.mq_drive.specs.Emu.{emu_state}
 use Rattle.mq_drive.specs.Seats.{name_of}
 use Rattle.mq_image.specs.File.{DriveImage}
-use Rattle.mq_images.specs.declared.refusal.StandingRefusal.{StandingRefusal}
 use Rattle.mq_recover.specs.Drives.{IsQuiescentDrive, drive_of}
 use Rattle.mq_recover.specs.Recovery.{IsStartDrive}
 use Rattle.mq_recover.specs.Standing.{StandsIn}
-use Rattle.mq_image_run.specs.Drives.{HasDriven, IsNotDriven}
+use Rattle.mq_image_run.specs.Drives.{HasDriven}
 use Rattle.mq_image_run.proofs.Mounting.{not-driven}
-use Rattle.mq_image_run.proofs.Powered.{not-stopped}
+use Rattle.mq_image_run.proofs.Named.{named-is}
 use Rattle.mq_image_run.proofs.driving.run_drive.Goals as goal
 
 pub find_volume-requires-clause-still : goal.find_volume-requires-clause-still
@@ -30,26 +30,61 @@ find_volume-requires-clause-start g c =
     (c.a_recovered_image_starts.ensures.start x c.args.recovered (name_of c.args.fuse.now) c.args.options.fail c.in_ok-ports.ports r c.in_ok-ports.ensures)
 
 pub invariant_of-ports : goal.invariant_of-ports
-invariant_of-ports g c = search c.in_ok-ports.ports.root.device
+invariant_of-ports g c =
+    let d = c.in_ok-ports.ports.root.device in
+    record {
+      same_ring = d.same_ring;
+      ring = d.ring;
+      settled = d.settled;
+      flushed_low = d.flushed_low;
+      flushed_high = d.flushed_high;
+      pending_room = d.pending_room;
+      posted_room = d.posted_room;
+      pending_ring = d.pending_ring;
+      pending_few = d.pending_few;
+      pending_last = d.pending_last;
+      pending_order = d.pending_order;
+      pending_counted = d.pending_counted;
+      pending_own = d.pending_own;
+      posted_counted = d.posted_counted;
+      posted_own = d.posted_own;
+      heads = d.heads;
+      sized = d.sized;
+      area_before = d.area_before;
+      queue_base = d.queue_base;
+      root_words = d.root_words;
+      homes_end = d.homes_end;
+      id_small = d.id_small;
+      id_is = d.id_is;
+      events_counted = d.events_counted;
+      failure_counted = d.failure_counted;
+      failure_own = d.failure_own;
+      failure_doubt = d.failure_doubt;
+      under_way_last = d.under_way_last;
+      under_way_own = d.under_way_own;
+      under_way_doubt = d.under_way_doubt;
+    }
 
-pub returns-in-Err-clause-refused : goal.returns-in-Err-clause-refused
-returns-in-Err-clause-refused g c =
-    let fuse = name_of c.args.fuse.now in
+pub returns-in_err-standing-clause-refused : goal.returns-in_err-standing-clause-refused
+returns-in_err-standing-clause-refused g c =
     let same = ap (λ (i : DriveImage). i.geometry) c.image.view_is in
-    subst (λ (x : StandingRefusal). IsNotDriven fuse c.args.options.fail c.args.recovered.image x) (sym c.not_mounted.ensures)
-    (not-driven fuse c.args.options.fail c.args.recovered.image c.image.inside.geometry c.in_ok-ports.ports c.in-Err.refusal same c.in_ok-ports.ensures c.in-Err.ensures.refused)
+    let p = err_from_is_err_and c.from_residual-in_err-standing.result c.from_residual-in_err-standing.ensures.1 in
+    rw (p.1, p.2) (not-driven (name_of c.args.fuse.now) c.args.options.fail c.args.recovered.image c.image.inside.geometry c.in_ok-ports.ports c.in_err-standing.field-0.0 same c.in_ok-ports.ensures c.in_err-standing.ensures.refused)
 
 pub returns-clause-ok : goal.returns-clause-ok
 returns-clause-ok g c =
+    let y = c.args.recovered.image in
+    let ports = c.in_ok-ports.ports in
+    let standing = c.in_ok-standing.standing in
+    let ran = c.in_ok-run_ports.field-0 in
     let same = ap (λ (i : DriveImage). i.geometry) c.image.view_is in
+    let has = subst (λ (z : Geometry). HasDriven z ports standing c.args.scripts.now c.args.options ran.0 ran.1.items) same c.in_ok-run_ports.ensures in
     record {
-      ports = c.in_ok-ports.ports;
+      ports = ports;
       started = c.in_ok-ports.ensures;
-      standing = c.in-Ok.standing;
-      stands = subst (λ (z : Geometry). StandsIn z (drive_of emu_state c.in_ok-ports.ports) c.in-Ok.standing) same c.in-Ok.ensures.stands;
-      opens = subst (λ (z : Geometry). MayOpen z (drive_of emu_state c.in_ok-ports.ports) c.in-Ok.standing) same c.in-Ok.ensures.open;
-      has = subst (λ (z : Geometry). HasDriven z c.in_ok-ports.ports c.in-Ok.standing c.args.scripts.now c.args.options c.in_ok-driven.driven) same c.in_ok-driven.ensures;
+      standing = standing;
+      stands = subst (λ (z : Geometry). StandsIn z (drive_of emu_state ports) standing) same c.in_ok-standing.ensures.stands;
+      opens = subst (λ (z : Geometry). MayOpen z (drive_of emu_state ports) standing) same c.in_ok-standing.ensures.open;
+      has = has;
+      named = named-is (name_of c.args.fuse.now) y c.requires.recovery.1.drive c.args.scripts.now c.args.options ran.0 ran.1.items ports standing c.in_ok-ports.ensures has;
     }
-
-pub returns-clause-powered : goal.returns-clause-powered
-returns-clause-powered g c = not-stopped (name_of c.args.fuse.now) c.args.recovered.image c.args.scripts.now c.args.options c.in_ok-driven.driven (returns-clause-ok g c) c.a_stopped_run_is_backed.ensures

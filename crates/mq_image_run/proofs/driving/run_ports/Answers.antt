@@ -5,8 +5,8 @@ use Rattle.mq_image_run.specs.Drives.{emu_ghosts}
 use Rattle.mq_image_run.proofs.Ended.{none-is}
 use Rattle.mq_image_run.proofs.driving.run_ports.Goals as goal
 
-pub invariant_of-t-44 : goal.invariant_of-t-44
-invariant_of-t-44 g c = search c.drop-arg-1.given.0.0.root.device
+pub invariant_of-t-49 : goal.invariant_of-t-49
+invariant_of-t-49 g c = search c.drop-arg-1.given.0.0.root.device
 
 pub returns : goal.returns
 returns g c =
@@ -21,5 +21,5 @@ returns g c =
       answers = refl;
       finished = refl;
       failed = c.any_failed-failed.ensures;
-      cut = c.in_ok-left.ensures;
+      cut = c.in_ok-images.ensures;
     }

@@ -1,8 +1,11 @@
-use Rattle.mq_image_run.proofs.Limited.{refuses-fault, refuses-limit}
+use Rattle.std.proofs.lemmas.Result.{err_from_is_err_and}
+use Rattle.mq_image_run.proofs.Limited.{refuses-image, refuses-limit}
 use Rattle.mq_image_run.proofs.running.recover_within.Goals as goal
 
-pub returns-in-Err-clause-refused : goal.returns-in-Err-clause-refused
-returns-in-Err-clause-refused c = refuses-fault c.args.image c.in-Err.fault c.not_readable.result c.not_readable.ensures c.in-Err.ensures.refused
+pub returns-in_err-recovered-clause-refused : goal.returns-in_err-recovered-clause-refused
+returns-in_err-recovered-clause-refused c =
+    let p = err_from_is_err_and c.from_residual.result c.from_residual.ensures.1 in
+    rw (p.1, p.2) (refuses-image c.args.image c.in_err-recovered.field-0.0 c.in_err-recovered.ensures.refused)
 
 pub returns-in-Some-clause-refused : goal.returns-in-Some-clause-refused
-returns-in-Some-clause-refused c = refuses-limit c.args.image c.in-Ok.recovered c.in-Ok.ensures.ok c.in-Some.base c.in-Some.ensures
+returns-in-Some-clause-refused c = refuses-limit c.args.image c.in_ok-recovered.recovered c.in_ok-recovered.ensures.ok c.in-Some.base c.in-Some.ensures

@@ -1,55 +1,15 @@
-use Rattle.std.proofs.Common.{◌∙◌, ap, refl}
-use Rattle.std.proofs.lemmas.Result.{err_from_is_err_and}
-use Rattle.mq_drive.specs.Seats.{name_of}
-use Rattle.mq_image.specs.File.{DriveImage}
-use Rattle.mq_image_run.specs.Refusals.{wanting}
-use Rattle.mq_image_run.proofs.Images.{run-drive}
-use Rattle.mq_image_run.proofs.Limited.{refuses-drive}
+use Rattle.std.proofs.Common.{◌≡◌}
+use Rattle.mq_images.specs.declared.refusal.StandingRefusal.TheVariants.{OutOfMemory}
+use Rattle.mq_images.proofs.Results.{on-err}
+use Rattle.mq_image_run.specs.Refusals.{RefusesRun, wanting}
+use Rattle.mq_image_run.proofs.Limited.{only-wanting}
 use Rattle.mq_image_run.proofs.running.run_image.Goals as goal
 
-pub returns-then-not-are_short-clause-refused : goal.returns-then-not-are_short-clause-refused
-returns-then-not-are_short-clause-refused g c = wanting
+pub returns-then-not-are_countable-clause-refused : goal.returns-then-not-are_countable-clause-refused
+returns-then-not-are_countable-clause-refused g c = wanting
 
-pub returns-in_err-fuse-clause-refused : goal.returns-in_err-fuse-clause-refused
-returns-in_err-fuse-clause-refused g c =
-    let p = err_from_is_err_and c.from_residual-in_err-fuse.result c.from_residual-in_err-fuse.ensures.1 in
-    rw (p.1, p.2) wanting
+pub returns-clause-long : goal.returns-clause-long
+returns-clause-long g c = λ long. absurd (long (c.are_countable.ensures.short c.if-not-are_countable.false))
 
-pub returns-in_err-stopped-clause-refused : goal.returns-in_err-stopped-clause-refused
-returns-in_err-stopped-clause-refused g c =
-    let p = err_from_is_err_and c.from_residual-in_err-stopped.result c.from_residual-in_err-stopped.ensures.1 in
-    let is = c.in_ok-recovered.ensures.ok in
-    let within = c.in_ok-recovered.ensures.ok.1 in
-    rw (p.1, p.2) (refuses-drive c.args.image c.in_ok-recovered.recovered is.0 c.a_recovered_image_holds_what_stood.ensures.blocks (name_of c.in_ok-fuse.fuse) c.args.options.fail within c.in_err-stopped.field-0.0 c.in_err-stopped.ensures.refused)
-
-pub last_of-requires-clause-power : goal.last_of-requires-clause-power
-last_of-requires-clause-power g c = λ none. c.in_ok-stopped.ensures.powered (c.in_ok-fuse.ensures.fuse.0 ∙ none)
-
-pub returns-in_err-last-clause-refused : goal.returns-in_err-last-clause-refused
-returns-in_err-last-clause-refused g c =
-    let p = err_from_is_err_and c.from_residual-in_err-last.result c.from_residual-in_err-last.ensures.1 in
-    rw (p.1, p.2) wanting
-
-pub returns-clause-ok : goal.returns-clause-ok
-returns-clause-ok g c =
-    let is = c.in_ok-recovered.ensures.ok in
-    let same = ap (λ (i : DriveImage). i.geometry) c.image.view_is in
-    let stops = c.in_ok-stopped.ensures.ok in
-    record {
-      short = c.are_short.ensures c.if-not-are_short.false;
-      recovered = c.in_ok-recovered.recovered;
-      recovery = is.0;
-      within = is.1;
-      base_is = c.base_of-base.ensures;
-      fuse = name_of c.in_ok-fuse.fuse;
-      power = c.in_ok-fuse.ensures.fuse.0;
-      stopped = c.in_ok-stopped.stopped;
-      stops = stops;
-      entries = refl;
-      answers = refl;
-      failed = refl;
-      last = c.in_ok-last.ensures;
-      geometry = same;
-      ports = refl;
-      drive = run-drive c.args.image c.in_ok-recovered.recovered is.0 (name_of c.in_ok-fuse.fuse) c.args.scripts.now c.args.options c.in_ok-stopped.stopped stops c.image.inside.geometry same;
-    }
+pub returns-clause-complete : goal.returns-clause-complete
+returns-clause-complete g c = λ v for within. on-err c.run_countable.result (RefusesRun c.args.image) (λ e. e ≡ OutOfMemory) c.run_countable.ensures.refused (λ e. only-wanting c.args.image v e for within)

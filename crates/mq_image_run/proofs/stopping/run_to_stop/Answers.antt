@@ -1,27 +1,31 @@
-use Rattle.std.proofs.Common.{◌∙◌, refl, sym}
+use Rattle.std.proofs.Common.{◌∙◌, sym}
 use Rattle.mq_drive.specs.Seats.{name_of}
-use Rattle.mq_image_run.proofs.Seats.{all-seats, own-seats, sum-is}
+use Rattle.mq_image_run.proofs.Powered.{never-off, no-faults}
+use Rattle.mq_image_run.proofs.Seats.{all-seats, off-seat, own-seats, sum-is}
 use Rattle.mq_image_run.proofs.stopping.run_to_stop.Goals as goal
 
 pub close-events-requires-clause-fuse : goal.close-events-requires-clause-fuse
-close-events-requires-clause-fuse g c = own-seats (name_of c.args.fuse) c.args.recovered.image c.requires.recovery.1.drive c.args.scripts.now c.args.options c.in_ok-driven.driven c.in_ok-driven.ensures.ok
+close-events-requires-clause-fuse g c =
+    own-seats (name_of c.args.fuse) c.args.recovered.image c.requires.recovery.1.drive c.args.scripts.now c.args.options c.in_ok-driven.driven c.in_ok-driven.seats.items c.in_ok-driven.ensures.ok
 
 pub close-events-requires-clause-all : goal.close-events-requires-clause-all
-close-events-requires-clause-all g c = all-seats (name_of c.args.fuse) c.args.recovered.image c.requires.recovery.1.drive c.args.scripts.now c.args.options c.in_ok-driven.driven c.in_ok-driven.ensures.ok ∙ sym c.requires.ports
+close-events-requires-clause-all g c =
+    all-seats (name_of c.args.fuse) c.args.recovered.image c.requires.recovery.1.drive c.args.scripts.now c.args.options c.in_ok-driven.driven c.in_ok-driven.seats.items c.in_ok-driven.ensures.ok ∙ sym c.requires.ports
 
 pub returns-clause-ok : goal.returns-clause-ok
 returns-clause-ok g c =
+    let fuse = name_of c.args.fuse in
+    let y = c.args.recovered.image in
+    let drive = c.requires.recovery.1.drive in
     let driven = c.in_ok-driven.driven in
+    let seats = c.in_ok-driven.seats.items in
+    let drives = c.in_ok-driven.ensures.ok in
+    let close = c.close-events.ensures in
     record {
-      driven = driven;
-      drives = c.in_ok-driven.ensures.ok;
-      entries = refl;
-      answers = refl;
-      finished = refl;
-      failed = refl;
-      images = refl;
-      happened = λ l limit. (
-        c.close-events.ensures.happened l limit ∙ sum-is (name_of c.args.fuse) c.args.recovered.image c.requires.recovery.1.drive c.args.scripts.now c.args.options driven c.in_ok-driven.ensures.ok l limit,
-        c.close-events.ensures.most l limit,
-      );
+      seats = seats;
+      drives = drives;
+      happened = λ l limit. (close.happened l limit ∙ sum-is fuse y drive c.args.scripts.now c.args.options driven seats drives l limit, close.most l limit);
+      off = λ l p limit own off. let at = off-seat fuse y drive c.args.scripts.now c.args.options driven seats drives l p limit own off in close.off l at.0 limit at.1 at.2;
+      powered = λ p none own. never-off fuse y drive c.args.scripts.now c.args.options driven seats drives none p own;
+      sound = λ p none fine own. no-faults fuse y drive c.args.scripts.now c.args.options driven seats drives none fine p own;
     }

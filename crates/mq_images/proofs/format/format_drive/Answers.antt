@@ -16,5 +16,6 @@ returns c =
             unused = record { doorbell = refl; head = refl; base = refl; slots = λ k low. absurd (omega arith) };
             homes = c.in_ok-meta_blocks.ensures.1;
           })
-          c.in_ok-push.ensures.items;
+          c.in_ok-push.ensures.items
+          c.an_image_fits_its_file.ensures;
     }

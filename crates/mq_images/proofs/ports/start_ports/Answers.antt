@@ -3,6 +3,7 @@ use Rattle.std.specs.List.{remove}
 use Rattle.mq_blocks.specs.Drive.{PortImage}
 use Rattle.mq_blocks.specs.Geometry.{queues_of}
 use Rattle.mq_drive.specs.Emu.{emu_state}
+use Rattle.mq_drive.specs.Emulated.{Counts}
 use Rattle.mq_drive.specs.Seats.{name_of}
 use Rattle.mq_drive.specs.Start.{start_of}
 use Rattle.mq_drive.specs.declared.fuse.FuseSeat.{FuseSeat}
@@ -32,6 +33,6 @@ loop-q-preserved c =
     c.in_ok-new.ensures.state ∙ ap (start_of g (Queue c.loop-q.q) c.remove-image.result (name_of c.args.fuse.now)) c.failing_of-command.ensures in
     let next = more-started g (name_of c.args.fuse.now) c.args.fail c.args.image.ports c.loop-q.q c.loop-q.queues.items c.loop-q.images.items c.loop-q.seats.items c.loop-q.invariant (size-of g c.args.image c.requires.image same) (omega arith)
     c.remove-image.result c.remove-image.ensures.value c.remove-seat.result c.remove-seat.ensures.value
-    c.in_ok-new.field-0 c.push.new.self.items low state (c.in_ok-new.ensures.faults, c.in_ok-new.ensures.tickets.0) c.in_ok-push.ensures.items in
+    c.in_ok-new.field-0 c.push.new.self.items low state (record { faults = c.in_ok-new.ensures.faults; tickets = c.in_ok-new.ensures.tickets.0; executed = ap (λ (n : Counts). n.executed) c.in_ok-new.ensures.counts }) c.in_ok-push.ensures.items in
     subst (λ (l : List PortImage). AreStartedTo g (name_of c.args.fuse.now) c.args.fail c.args.image.ports (c.loop-q.q + 1) c.push.new.self.items l c.remove-seat.new.self.items) (sym c.remove-image.ensures.items)
     (subst (λ (l : List FuseSeat). AreStartedTo g (name_of c.args.fuse.now) c.args.fail c.args.image.ports (c.loop-q.q + 1) c.push.new.self.items (remove c.loop-q.images.items 0) l) (sym c.remove-seat.ensures.items) next)

@@ -16,4 +16,4 @@ returns-clause-ok c =
     let left = c.in_ok-ran.left in
     let close = c.close-events.ensures in
     answers c.args.image c.args.cut (name_of c.in_ok-fuse.fuse) ran.found left.images.items left.seats.items c.close-events.result c.in_ok-fuse.ensures.fuse.0 close.happened close.most close.off c.image.inside.geometry ran.whole c.cut_after.result
-    (ap (λ (x : DriveImage). x.geometry) c.image.view_is) c.cut_after.ensures c.in_ok-ran.ensures.ok
+    (ap (λ (x : DriveImage). x.geometry) c.image.view_is) c.cut_after.ensures c.an_image_fits_its_file.ensures c.in_ok-ran.ensures.ok

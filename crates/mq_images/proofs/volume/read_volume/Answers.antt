@@ -1,30 +1,39 @@
 use Rattle.std.proofs.Common.{◌≡◌, ◌≢◌, List, Option, ℕ, ap, subst}
+use Rattle.std.proofs.lemmas.Result.{err_from_is_err_and}
 use Rattle.mq_image.specs.File.{DriveImage}
+use Rattle.mq_images.specs.Refusals.{refusal_for}
 use Rattle.mq_tree.specs.Corrupt.{Refuses}
 use Rattle.mq_tree.specs.Laid.{IsTreeOf, map_of}
 use Rattle.mq_tree.specs.Volume.{Things}
 use Rattle.mq_tree.specs.declared.corrupt.MountRefusal.TheVariants as mount
-use Rattle.mq_images.proofs.Volumes.{image-refuses, image-wants, mount-refuses, mount-wants}
+use Rattle.mq_images.proofs.Volumes.{image-refuses, mount-refuses, mount-wants}
 use Rattle.mq_images.proofs.volume.read_volume.Goals as goal
 
-pub returns-in-Err-clause-refused : goal.returns-in-Err-clause-refused
-returns-in-Err-clause-refused c = image-refuses c.args.image c.in-Err.fault c.not_readable.result c.in-Err.ensures.refused c.not_readable.ensures
+pub returns-in_err-standing-clause-refused : goal.returns-in_err-standing-clause-refused
+returns-in_err-standing-clause-refused c =
+    let p = err_from_is_err_and c.from_residual.result c.from_residual.ensures.1 in
+    rw (p.1, p.2) (image-refuses c.args.image c.in_err-standing.field-0.0 c.in_err-standing.ensures.refused)
 
-pub returns-in-Err-clause-complete : goal.returns-in-Err-clause-complete
-returns-in-Err-clause-complete c = λ v for. image-wants c.in-Err.fault c.not_readable.result (c.in-Err.ensures.complete for.ds for.top for.read) c.not_readable.ensures
+pub returns-in_err-standing-clause-complete : goal.returns-in_err-standing-clause-complete
+returns-in_err-standing-clause-complete c = λ v for.
+    let p = err_from_is_err_and c.from_residual.result c.from_residual.ensures.1 in
+    rw (p.1, p.2) (ap refusal_for (c.in_err-standing.ensures.complete for.ds for.top for.read))
 
-pub returns-clause-refused : goal.returns-clause-refused
-returns-clause-refused c =
+pub returns-in_err-mount-clause-refused : goal.returns-in_err-mount-clause-refused
+returns-in_err-mount-clause-refused c =
     let g = c.image.inside.geometry in
     let same : g ≡ c.args.image.geometry = ap (λ (x : DriveImage). x.geometry) c.image.view_is in
-    let refuses : Refuses g c.in-Ok.standing.blocks.items c.in-Err-mount.refusal = subst (λ (l : List (Option (List ℕ))). Refuses g l c.in-Err-mount.refusal) c.deref.ensures.value c.in-Err-mount.ensures.cause in
-    let none = subst (λ (l : List (Option (List ℕ))). c.in-Err-mount.refusal ≢ mount.OutOfMemory → (t : Things) → IsTreeOf g (map_of g l) t → ⊥) c.deref.ensures.value c.in-Err-mount.ensures.none in
-    mount-refuses g c.args.image same c.in-Ok.standing c.in-Ok.ensures.ok c.in-Err-mount.refusal c.not_mounted.result refuses none c.not_mounted.ensures.corrupt c.not_mounted.ensures.memory
+    let e = c.in_err-mount.field-0.0 in
+    let refuses : Refuses g c.in_ok-standing.standing.blocks.items e = subst (λ (l : List (Option (List ℕ))). Refuses g l e) c.deref.ensures.value c.in_err-mount.ensures.cause in
+    let none = subst (λ (l : List (Option (List ℕ))). e ≢ mount.OutOfMemory → (t : Things) → IsTreeOf g (map_of g l) t → ⊥) c.deref.ensures.value c.in_err-mount.ensures.none in
+    let p = err_from_is_err_and c.from_residual-in_err-mount.result c.from_residual-in_err-mount.ensures.1 in
+    rw (p.1, p.2) (mount-refuses g c.args.image same c.in_ok-standing.standing c.in_ok-standing.ensures.ok e refuses none)
 
-pub returns-clause-complete : goal.returns-clause-complete
-returns-clause-complete c = λ v for.
+pub returns-in_err-mount-clause-complete : goal.returns-in_err-mount-clause-complete
+returns-in_err-mount-clause-complete c = λ v for.
     let g = c.image.inside.geometry in
     let same : g ≡ c.args.image.geometry = ap (λ (x : DriveImage). x.geometry) c.image.view_is in
-    mount-wants g c.args.image same c.in-Ok.standing c.in-Ok.ensures.ok v c.in-Err-mount.refusal c.not_mounted.result for
-    (subst (λ (l : List (Option (List ℕ))). c.in-Err-mount.refusal ≢ mount.OutOfMemory → (t : Things) → IsTreeOf g (map_of g l) t → ⊥) c.deref.ensures.value c.in-Err-mount.ensures.none)
-    c.not_mounted.ensures.memory
+    let e = c.in_err-mount.field-0.0 in
+    let p = err_from_is_err_and c.from_residual-in_err-mount.result c.from_residual-in_err-mount.ensures.1 in
+    rw (p.1, p.2) (mount-wants g c.args.image same c.in_ok-standing.standing c.in_ok-standing.ensures.ok v e for
+    (subst (λ (l : List (Option (List ℕ))). e ≢ mount.OutOfMemory → (t : Things) → IsTreeOf g (map_of g l) t → ⊥) c.deref.ensures.value c.in_err-mount.ensures.none))

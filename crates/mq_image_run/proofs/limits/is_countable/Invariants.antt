@@ -1,7 +1,7 @@
 use Rattle.std.proofs.Common.{◌≡◌, ℕ, ◌<◌, ◌^◌, Some, length}
 use Rattle.std.specs.Prelude.{slice_get}
 use Rattle.mq_script.specs.Scripts.{Group}
-use Rattle.mq_image_run.proofs.limits.is_short.Given as goal
+use Rattle.mq_image_run.proofs.limits.is_countable.Given as goal
 
 -- the requests of the groups before can be counted
 abbrev pub invariant-loop-group : goal.invariant-loop-group
