@@ -14,4 +14,14 @@ pub mod Shares
 pub mod Rung
 pub mod Reasons
 pub mod Caused
+pub mod Blames
+pub mod Goodness
+pub mod Reached
+pub mod Undone
+pub mod Gained
+pub mod Failures
+pub mod Recoveries
+pub mod Files
 pub mod Saved
+pub mod PortCauses
+pub mod Promise

@@ -13,7 +13,7 @@ use Rattle.mq_files.specs.Group.{file_group}
 use Rattle.mq_journal.specs.Values.{side_values}
 use Rattle.mq_ledger.specs.KnownJournal.{front}
 use Rattle.mq_ledger.specs.State.{port_at}
-use Rattle.mq_legal.specs.Answers.{AreAnswered, AreCaused, IsAcknowledged, IsPortCause}
+use Rattle.mq_legal.specs.Answers.{AreAnswered, AreCaused, IsAcknowledged, IsPortCause, IsUndone}
 use Rattle.mq_legal.specs.Cuts.{IsClean, IsCut, IsRung}
 use Rattle.mq_legal.specs.Histories.{AreOfBytes}
 use Rattle.mq_legal.specs.Legal.{IsLegal, newest}
@@ -22,8 +22,11 @@ use Rattle.mq_calls.specs.declared.answers.Refusal.{Refusal}
 use Rattle.mq_report.specs.Lines.{Line}
 use Rattle.mq_report.specs.declared.line.Told.{Told}
 use Rattle.mq_side.specs.declared.answers.Cause.{Cause}
-use Rattle.mq_recover.specs.Drives.{AreImages, drive_of}
+use Rattle.mq_side.specs.declared.answers.Cause.TheVariants.{Stopped}
+use Rattle.mq_side.specs.declared.answers.Why.{Why}
+use Rattle.mq_recover.specs.Drives.{AreImages, drive_of, faults_on}
 use Rattle.mq_recover.specs.declared.standing.Standing.{Standing}
+use Rattle.mq_run.specs.Laws.{IsBehindStop}
 use Rattle.mq_run.specs.Playing.{IsShort}
 use Rattle.mq_run.specs.Runs.{HasRunScripts}
 use Rattle.mq_run.specs.declared.end.RunEnd.{RunEnd}
@@ -122,3 +125,29 @@ module _ {P : Type 0} (G : Ghosts P) (state : P → PortState) (faults : P → L
       → IsLaid g (map_of g s.blocks.items) v
       → HavePortCauses g e.entries.items reached e.answers.items
       → AreCaused g scripts v s.base e.entries.items reached e.answers.items
+
+  -- Each refusal for a port's cause is backed by a port: what it has gained since the opening is behind the report.
+  abbrev pub RefusalsAreBacked : Type 0
+  RefusalsAreBacked =
+      (g : Geometry) (ports : Ports P) (s : Standing) (scripts : List Script) (finish : Bool) (e : RunEnd P) (t : Told) (r : Refusal) (cause : Cause)
+      → HasRunScripts G state faults g ports s scripts finish e
+      → All (λ script. IsShort script.groups) scripts
+      → Contains e.answers.items t
+      → t.answer ≡ Err r
+      → r.cause ≡ Drive cause
+      → IsBehindStop g cause (faults_on faults ports) (faults_on faults e.ports)
+
+  -- The transaction that stays undone by a refusal is a commit among the lines, of a queue of the drive, and above the
+  -- number that an image of the ports at the end reaches.
+  abbrev pub StoppedTransactionsAreUndone : Type 0
+  StoppedTransactionsAreUndone =
+      (g : Geometry) (ports : Ports P) (s : Standing) (scripts : List Script) (finish : Bool) (e : RunEnd P) (v : Volume) (reached : ℕ)
+      (queues : List PortImage) (root : PortImage) (t : Told) (r : Refusal) (tx : ℕ) (why : Why)
+      → HasRunScripts G state faults g ports s scripts finish e
+      → All (λ script. IsShort script.groups) scripts
+      → AreImages g (drive_of state e.ports) queues root
+      → IsCut g scripts v s.base e.entries.items e.answers.items (shown says g queues root) reached
+      → Contains e.answers.items t
+      → t.answer ≡ Err r
+      → r.cause ≡ Drive (Stopped tx why)
+      → IsUndone g e.entries.items reached tx

@@ -1,2 +1,4 @@
 pub mod Laws
+pub mod Causes
+pub mod Recovering
 pub mod Images

@@ -1,7 +1,10 @@
 // What holds of a run of scripts.
+ghost use Rattle.mq_promise.specs.Causes.{PortCausesHold, RunsAreBacked};
 ghost use Rattle.mq_promise.specs.Images.{RunsKeepTheirPromise};
 ghost use Rattle.mq_promise.specs.Laws.{AcknowledgedNumbersAreDone, DoorbellsAreRung, EndsAreCuts, FinishedEndsAreClean};
-ghost use Rattle.mq_promise.specs.Laws.{RefusalsAreCaused, RunsAreAnswered, RunsAreLegal};
+ghost use Rattle.mq_promise.specs.Laws.{RefusalsAreBacked, RefusalsAreCaused, RunsAreAnswered, RunsAreLegal};
+ghost use Rattle.mq_promise.specs.Laws.{StoppedTransactionsAreUndone};
+ghost use Rattle.mq_promise.specs.Recovering.{EveryInterleavingIsRecovered};
 
 use mq_drive::Port;
 
@@ -35,9 +38,40 @@ pub fn a_refusal_is_caused<P: Port>()
     ensures { RefusalsAreCaused P.Port P.state P.faults }
 {}
 
+/// Each refusal of a run for a port's cause is backed by a port: what it has gained is behind the report.
+pub fn a_refusal_is_backed<P: Port>()
+    ensures { RefusalsAreBacked P.Port P.state P.faults }
+{}
+
+/// A transaction by which a queue was stopped for a refused group is a commit among the lines, and no image of the ports
+/// at the end reaches it.
+pub fn a_stopped_transaction_is_undone<P: Port>()
+    ensures { StoppedTransactionsAreUndone P.Port P.state P.faults }
+{}
+
+/// A refusal of a run on an image for a drive's cause has it in what was asked of the drive: the power went off, where it was
+/// to go off after so many events and all of them happened; or the command failed that was to.
+pub fn a_refusal_on_an_image_is_backed()
+    ensures { RunsAreBacked }
+{}
+
+/// What each refusal of a run on an image for a port's cause says of the history holds, where the command that is to fail
+/// is none of the root's and the ports have fewer faults than a count of 64 bits can say.
+pub fn causes_of_ports_hold()
+    ensures { PortCausesHold }
+{}
+
 /// A run on an image tells a legal list of commits and reads, from the volume and the base that recovery of the old image
 /// gives on, and the answers of its lines; and the new image is a cut of this history, with all that `fsync` has answered.
 /// Where it is told as clean, it is.
 pub fn a_run_on_an_image_keeps_its_promise()
     ensures { RunsKeepTheirPromise }
+{}
+
+/// Along every run of allowed events of the journal, on any number of queues, before, between and after the events:
+/// whatever a power cut leaves is readable and reaches a number at or above each acknowledged one; and recovery of it,
+/// which may be cut and begun again any number of times, leaves on the home blocks the blocks after the transactions up to
+/// this number, and a drive on which the journal may begin again.
+pub fn every_interleaving_is_recovered()
+    ensures { EveryInterleavingIsRecovered }
 {}

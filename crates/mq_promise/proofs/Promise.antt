@@ -1,0 +1,66 @@
+-- What a run of scripts on an image promises.
+use Rattle.std.proofs.Common.{◌≡◌, ◌∙◌, ℕ, List, Option, None, sym, ap, subst}
+use Rattle.std.specs.Prelude.{is_none}
+use Rattle.mq_drive.specs.Emu.{emu_faults, emu_state}
+use Rattle.mq_image.specs.File.{DriveImage}
+use Rattle.mq_image_run.specs.Drives.{emu_ghosts, was_executed}
+use Rattle.mq_image_run.specs.Runs.{IsRunOf}
+use Rattle.mq_image_run.specs.declared.options.RunOptions.{RunOptions}
+use Rattle.mq_image_run.specs.declared.ran.ImageRun.{ImageRun}
+use Rattle.mq_images.specs.Cuts.{row_of}
+use Rattle.mq_images.specs.declared.ports.Failing.{Failing}
+use Rattle.mq_legal.specs.Answers.{AreCaused}
+use Rattle.mq_legal.specs.Histories.{AreOfBytes}
+use Rattle.mq_script.specs.Scripts.{Script}
+use Rattle.mq_promise.specs.Causes.{ArePortCauses, IsOfQueue}
+use Rattle.mq_promise.specs.Images.{KeepsPromise}
+use Rattle.mq_promise.specs.Laws.{HavePortCauses}
+use Rattle.mq_promise.proofs.Caused.{is-caused}
+use Rattle.mq_promise.proofs.PortCauses.{are-backed, are-port-causes, have-port-causes}
+use Rattle.mq_promise.proofs.Saved as saved
+
+module _ (x : DriveImage) (scripts : List Script) (o : RunOptions) (r : ImageRun) (run : IsRunOf x scripts o r) (bytes : AreOfBytes scripts) where
+  -- each refusal has its cause, where what a cause of a port says of the history is given
+  pub caused : HavePortCauses x.geometry r.entries.items (saved.is-a-cut x scripts o r run bytes).0 r.answers.items → AreCaused x.geometry scripts (saved.volume x scripts o r run bytes) r.base r.entries.items (saved.is-a-cut x scripts o r run bytes).0 r.answers.items
+  caused ports =
+      let reached = (saved.is-a-cut x scripts o r run bytes).0 in
+      let standing = saved.standing x scripts o r run bytes in
+      let end = saved.end x scripts o r run bytes in
+      let v = saved.volume x scripts o r run bytes in
+      let entries = saved.entries-are x scripts o r run bytes in
+      let answers = saved.answers-are x scripts o r run bytes in
+      let given : HavePortCauses x.geometry end.entries.items reached end.answers.items =
+      subst (λ ts. HavePortCauses x.geometry end.entries.items reached ts.items) (sym answers) (subst (λ es. HavePortCauses x.geometry es.items reached r.answers.items) (sym entries) ports) in
+      let are : AreCaused x.geometry scripts v standing.base end.entries.items reached end.answers.items = λ t c.
+      is-caused emu_ghosts emu_state emu_faults x.geometry run.stops.drives.ports standing scripts (is_none o.cut) end (saved.ran x scripts o r run bytes) run.short v bytes (saved.laid x scripts o r run bytes) reached t c (λ f cause bad is. given t f cause c bad is) in
+      subst (λ (b : ℕ). AreCaused x.geometry scripts v b r.entries.items reached r.answers.items) (saved.base-is x scripts o r run bytes)
+      (subst (λ ts. AreCaused x.geometry scripts v standing.base r.entries.items reached ts.items) answers
+      (subst (λ es. AreCaused x.geometry scripts v standing.base es.items reached end.answers.items) entries are))
+
+  -- what the causes of ports say of it
+  pub ports-caused : ArePortCauses x o r (saved.is-a-cut x scripts o r run bytes).0
+  ports-caused = (let is = saved.is-a-cut x scripts o r run bytes in are-port-causes x scripts o r run bytes (saved.volume x scripts o r run bytes) is.0 is.1)
+
+  -- so all refusals have their causes without a cut, where the command that is to fail is none of the root's
+  pub caused-uncut : o.cut ≡ None → IsOfQueue x.geometry.queues o.fail → AreCaused x.geometry scripts (saved.volume x scripts o r run bytes) r.base r.entries.items (saved.is-a-cut x scripts o r run bytes).0 r.answers.items
+  caused-uncut no_cut own = (let is = saved.is-a-cut x scripts o r run bytes in caused (have-port-causes x scripts o r run bytes (saved.volume x scripts o r run bytes) is.0 is.1 no_cut own))
+
+  pub keeps-promise : KeepsPromise x scripts o r
+  keeps-promise = record {
+    volume = saved.volume x scripts o r run bytes;
+    starts = saved.starts x scripts o r run bytes;
+    legal = saved.legal-list x scripts o r run bytes;
+    answered = saved.answered x scripts o r run bytes;
+    reached = (saved.is-a-cut x scripts o r run bytes).0;
+    cut = (saved.is-a-cut x scripts o r run bytes).1;
+    file = saved.file-whole x scripts o r run bytes;
+    recovered = saved.file-recovered x scripts o r run bytes;
+    rung = saved.rung x scripts o r run bytes;
+    caused = caused;
+    uncut = caused-uncut;
+    ports = ports-caused;
+    backed = are-backed x scripts o r run bytes;
+    spared = λ none. run.failed ∙ (run.stops.drives.named ∙ ap (λ (f : Option Failing). was_executed f (row_of run.stops.drives.has.end.ports)) none);
+    ended = run.ended;
+    clean = saved.cleaned x scripts o r run bytes;
+  }

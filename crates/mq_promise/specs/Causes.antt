@@ -1,0 +1,88 @@
+-- What refusals for a drive's cause say of the options of a run on an image, and of how it ended.
+use Rattle.std.specs.Prelude.{◌≡◌, ◌⊎◌, ◌<◌, ℕ, true, List, Option, None, Some, Err}
+use Rattle.std.specs.List.{Contains}
+use Rattle.mq_blocks.specs.Geometry.{queues_of}
+use Rattle.mq_calls.specs.declared.answers.CallCause.TheVariants.{Drive}
+use Rattle.mq_calls.specs.declared.answers.Refusal.{Refusal}
+use Rattle.mq_image.specs.File.{DriveImage}
+use Rattle.mq_image_run.specs.Runs.{IsRunOf}
+use Rattle.mq_image_run.specs.declared.options.RunOptions.{RunOptions}
+use Rattle.mq_image_run.specs.declared.ran.ImageRun.{ImageRun}
+use Rattle.mq_images.specs.Views.{view_of}
+use Rattle.mq_images.specs.declared.ports.Failing.{Failing}
+use Rattle.mq_legal.specs.Answers.{IsPortCause, IsUndone}
+use Rattle.mq_legal.specs.Cuts.{IsCut}
+use Rattle.mq_legal.specs.Histories.{AreOfBytes}
+use Rattle.mq_report.specs.declared.line.Last.TheVariants.{Cut}
+use Rattle.mq_report.specs.declared.line.Told.{Told}
+use Rattle.mq_script.specs.Scripts.{Script}
+use Rattle.mq_side.specs.declared.answers.Cause.{Cause}
+use Rattle.mq_side.specs.declared.answers.Cause.TheVariants.{Failed, FailedHome, Off, Stopped}
+use Rattle.mq_side.specs.declared.answers.Why.{Why}
+use Rattle.mq_side.specs.declared.answers.Why.TheVariants as why
+use Rattle.mq_tree.specs.Volume.{Volume}
+
+-- the group was refused for this cause of a drive
+abbrev pub IsRefusedBy : Told → Cause → Type 0
+IsRefusedBy t cause = (r : Refusal) × (t.answer ≡ Err r) × (r.cause ≡ Drive cause)
+
+-- the power was off, in this call or in the one that stopped the queue
+abbrev pub IsOfPower : Cause → Type 0
+IsOfPower Off = Unit {0}
+IsOfPower (Stopped tx why.Off) = Unit {0}
+IsOfPower (Failed tx status) = ⊥
+IsOfPower (FailedHome block status) = ⊥
+IsOfPower (Stopped tx (why.Status status)) = ⊥
+
+-- a command had failed, in this call or in the one that stopped the queue
+abbrev pub IsOfCommand : Cause → Type 0
+IsOfCommand (Failed tx status) = Unit {0}
+IsOfCommand (FailedHome block status) = Unit {0}
+IsOfCommand (Stopped tx (why.Status status)) = Unit {0}
+IsOfCommand cause = ⊥
+
+-- the power was to go off after so many events, and all of them happened
+abbrev pub IsPoweredOff : RunOptions → ImageRun → Type 0
+IsPoweredOff o r = (k : ℕ) × (o.cut ≡ Some k) × (r.last ≡ Cut k)
+
+-- a command was to fail, and was executed
+abbrev pub HasFailedCommand : RunOptions → ImageRun → Type 0
+HasFailedCommand o r = (f : Failing) × (o.fail ≡ Some f) × (r.failed ≡ true)
+
+-- So it is of each refusal for a drive's cause: where no power was to go off and no command failed, there is none. A port
+-- that has refused as many events as a count of 64 bits can say stands behind any refusal: its power was off.
+pub record AreBacked (o : RunOptions) (r : ImageRun) : Type 0 where
+  pub power : (t : Told) (cause : Cause) → Contains r.answers.items t → IsRefusedBy t cause → IsOfPower cause → IsPoweredOff o r
+  pub command : (t : Told) (cause : Cause) → Contains r.answers.items t → IsRefusedBy t cause → IsOfCommand cause
+      → HasFailedCommand o r ⊎ IsPoweredOff o r
+
+abbrev pub RunsAreBacked : Type 0
+RunsAreBacked = (x : DriveImage) (scripts : List Script) (o : RunOptions) (r : ImageRun) → IsRunOf x scripts o r → AreOfBytes scripts → AreBacked o r
+
+-- ---- the causes of ports
+
+-- the command that is to fail, if one is, is told of the port of a queue
+abbrev pub IsOfQueue : (queues : ℕ) → Option Failing → Type 0
+IsOfQueue queues None = Unit {0}
+IsOfQueue queues (Some f) = f.port < queues
+
+-- Of a refusal for a command that failed it is not told more where the power went off, since a port that has refused as
+-- many events as a count of 64 bits can say stands behind any refusal; nor where the command that is to fail is the root's.
+abbrev pub IsUntold : (queues : ℕ) → RunOptions → ImageRun → Cause → Type 0
+IsUntold queues o r cause = IsOfCommand cause × (IsPoweredOff o r ⊎ (IsOfQueue queues o.fail → ⊥))
+
+-- What each refusal for a port's cause says of the history holds else, with the number that the new image reaches; and a
+-- transaction that had stopped a queue is undone always.
+pub record ArePortCauses (x : DriveImage) (o : RunOptions) (r : ImageRun) (reached : ℕ) : Type 0 where
+  pub holds : (t : Told) (cause : Cause) → Contains r.answers.items t → IsRefusedBy t cause
+      → IsPortCause x.geometry r.entries.items reached cause ⊎ IsUntold (queues_of x.geometry) o r cause
+  pub undone : (t : Told) (tx : ℕ) (w : Why) → Contains r.answers.items t → IsRefusedBy t (Stopped tx w)
+      → IsUndone x.geometry r.entries.items reached tx
+
+abbrev pub PortCausesHold : Type 0
+PortCausesHold =
+    (x : DriveImage) (scripts : List Script) (o : RunOptions) (r : ImageRun) (v : Volume) (reached : ℕ)
+    → IsRunOf x scripts o r
+    → AreOfBytes scripts
+    → IsCut x.geometry scripts v r.base r.entries.items r.answers.items (view_of r.image) reached
+    → ArePortCauses x o r reached
