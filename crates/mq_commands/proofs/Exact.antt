@@ -16,9 +16,9 @@ use Rattle.mq_image.specs.declared.fault.FileFault.{FileFault}
 use Rattle.mq_image.proofs.Geometries.{one_shape}
 use Rattle.mq_image.proofs.Unique.{read-same}
 use Rattle.mq_image.proofs.Written.{no-fault, file-shown, ports-shown}
-use Rattle.mq_images.specs.Standing.{RefusesDrive, StandsFor}
+use Rattle.mq_images.specs.Standing.{HasNoVolume, RefusesDrive, StandsFor}
 use Rattle.mq_images.proofs.Standings.{read-refused, whole-refused}
-use Rattle.mq_images.proofs.Volumes.{stands-once, stands-refused}
+use Rattle.mq_images.proofs.Volumes.{stands-none, stands-once, stands-refused}
 use Rattle.mq_outside.specs.Outside.{FilesState, Held, Holds, SinkState, Tells}
 use Rattle.mq_recover.specs.declared.refusal.ImageFault.{ImageFault}
 use Rattle.mq_tree.specs.Trees.{ReadsAs, read_answer}
@@ -58,9 +58,9 @@ lists-done : (x : DriveImage) (v : Volume) → StandsFor x v → (s : ℕ) (t : 
 lists-done x v for _ _ (listed w other) = refl
 lists-done x v for _ _ (not_listed e refuses other) = absurd (stands-refused x v e for refuses other)
 
-lists-refused : (x : DriveImage) (e : ImageFault) → RefusesDrive x e → (s : ℕ) (t : List ℕ) → Lists x s t → s ≡ 3
-lists-refused x e refuses _ _ (listed w for) = absurd (read-refused x for.ds for.top e for.read refuses)
-lists-refused x e refuses _ _ (not_listed f other some) = refl
+lists-none : (x : DriveImage) → HasNoVolume x → (s : ℕ) (t : List ℕ) → Lists x s t → s ≡ 3
+lists-none x none _ _ (listed w for) = absurd (stands-none x w for none)
+lists-none x none _ _ (not_listed e refuses other) = refl
 
 dumps-refused : (x : DriveImage) (e : ImageFault) → RefusesDrive x e → (s : ℕ) (t : List ℕ) → Dumps x s t → s ≡ 3
 dumps-refused x e refuses _ _ (dumped text is) = absurd (whole-refused x is.chains e is.whole refuses)
@@ -84,10 +84,10 @@ shows-none path x v fault for reads _ _ (shown w bytes stands some) = absurd (re
 shows-none path x v fault for reads _ _ (no_file w other stands none) = refl
 shows-none path x v fault for reads _ _ (not_shown e refuses other) = refl
 
-shows-refused : (path : Path) (x : DriveImage) (e : ImageFault) → RefusesDrive x e → (s : ℕ) (t : List ℕ) → ShowsFile path x s t → s ≡ 3
-shows-refused path x e refuses _ _ (shown w bytes for some) = absurd (read-refused x for.ds for.top e for.read refuses)
-shows-refused path x e refuses _ _ (no_file w fault for none) = refl
-shows-refused path x e refuses _ _ (not_shown f other some) = refl
+shows-no-volume : (path : Path) (x : DriveImage) → HasNoVolume x → (s : ℕ) (t : List ℕ) → ShowsFile path x s t → s ≡ 3
+shows-no-volume path x none _ _ (shown w bytes for some) = absurd (stands-none x w for none)
+shows-no-volume path x none _ _ (no_file w fault for missing) = refl
+shows-no-volume path x none _ _ (not_shown e refuses other) = refl
 
 -- ---- the status with which the command ends
 
@@ -132,8 +132,8 @@ image-where Of name bytes x wanted old new before after result ends tells read e
 pub listed-where : (name bytes : List ℕ) (x : DriveImage) (v : Volume) (old new : FilesState) (before after : SinkState) (result : ℕ) → Ends (SaysOfImage Lists) name old new before after result → Tells old.contents name (Some bytes) → IsRead x bytes → StandsFor x v → IsUnlessWanting 0 result
 listed-where name bytes x v old new before after result ends tells read for = image-where Lists name bytes x 0 old new before after result ends tells read (lists-done x v for)
 
-pub unlisted-where : (name bytes : List ℕ) (x : DriveImage) (e : ImageFault) (old new : FilesState) (before after : SinkState) (result : ℕ) → Ends (SaysOfImage Lists) name old new before after result → Tells old.contents name (Some bytes) → IsRead x bytes → RefusesDrive x e → IsUnlessWanting 3 result
-unlisted-where name bytes x e old new before after result ends tells read refuses = image-where Lists name bytes x 3 old new before after result ends tells read (lists-refused x e refuses)
+pub unlisted-where : (name bytes : List ℕ) (x : DriveImage) (old new : FilesState) (before after : SinkState) (result : ℕ) → Ends (SaysOfImage Lists) name old new before after result → Tells old.contents name (Some bytes) → IsRead x bytes → HasNoVolume x → IsUnlessWanting 3 result
+unlisted-where name bytes x old new before after result ends tells read none = image-where Lists name bytes x 3 old new before after result ends tells read (lists-none x none)
 
 pub dumped-where : (name bytes : List ℕ) (x : DriveImage) (chains : ℕ → List Descriptor) (old new : FilesState) (before after : SinkState) (result : ℕ) → Ends (SaysOfImage Dumps) name old new before after result → Tells old.contents name (Some bytes) → IsRead x bytes → AreWhole x.geometry (view_of x) chains → IsUnlessWanting 0 result
 dumped-where name bytes x chains old new before after result ends tells read whole = image-where Dumps name bytes x 0 old new before after result ends tells read (dumps-done x chains whole)
@@ -147,8 +147,8 @@ shown-where path name bytes x v content old new before after result ends tells r
 pub no-file-where : (path : Path) (name bytes : List ℕ) (x : DriveImage) (v : Volume) (fault : Fault) (old new : FilesState) (before after : SinkState) (result : ℕ) → Ends (SaysOfImage (ShowsFile path)) name old new before after result → Tells old.contents name (Some bytes) → IsRead x bytes → StandsFor x v → ReadsAs v path (Err fault) → IsUnlessWanting 3 result
 no-file-where path name bytes x v fault old new before after result ends tells read for reads = image-where (ShowsFile path) name bytes x 3 old new before after result ends tells read (shows-none path x v fault for reads)
 
-pub not-shown-where : (path : Path) (name bytes : List ℕ) (x : DriveImage) (e : ImageFault) (old new : FilesState) (before after : SinkState) (result : ℕ) → Ends (SaysOfImage (ShowsFile path)) name old new before after result → Tells old.contents name (Some bytes) → IsRead x bytes → RefusesDrive x e → IsUnlessWanting 3 result
-not-shown-where path name bytes x e old new before after result ends tells read refuses = image-where (ShowsFile path) name bytes x 3 old new before after result ends tells read (shows-refused path x e refuses)
+pub not-shown-where : (path : Path) (name bytes : List ℕ) (x : DriveImage) (old new : FilesState) (before after : SinkState) (result : ℕ) → Ends (SaysOfImage (ShowsFile path)) name old new before after result → Tells old.contents name (Some bytes) → IsRead x bytes → HasNoVolume x → IsUnlessWanting 3 result
+not-shown-where path name bytes x old new before after result ends tells read none = image-where (ShowsFile path) name bytes x 3 old new before after result ends tells read (shows-no-volume path x none)
 
 -- ---- `format`
 

@@ -2,4 +2,3 @@ pub mod Exact
 pub mod Recoveries
 pub mod Runnings
 pub mod Saying
-pub mod Unfailing

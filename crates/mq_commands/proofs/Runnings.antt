@@ -20,17 +20,18 @@ use Rattle.mq_image_run.specs.Refusals as refusals
 use Rattle.mq_image_run.specs.Runs.{IsRunOf}
 use Rattle.mq_image_run.specs.declared.options.RunOptions.{RunOptions}
 use Rattle.mq_image_run.specs.declared.ran.ImageRun.{ImageRun}
+use Rattle.mq_legal.specs.Cuts.{Starts}
 use Rattle.mq_legal.specs.Laws.{AreSpelled}
 use Rattle.mq_legal.proofs.Spelled.{spelled-bytes}
 use Rattle.mq_promise.specs.Images.{KeepsPromise}
-use Rattle.mq_promise.proofs.Saved.{keeps-promise}
+use Rattle.mq_promise.proofs.Promise.{keeps-promise}
 use Rattle.mq_images.specs.Standing as standings
-use Rattle.mq_images.specs.Standing.{Reads, RefusesDrive, StandsFor}
+use Rattle.mq_images.specs.Standing.{HasNoVolume, Reads, StandsFor}
 use Rattle.mq_images.specs.Views.{view_of}
 use Rattle.mq_images.specs.declared.refusal.StandingRefusal.{StandingRefusal}
 use Rattle.mq_images.specs.declared.refusal.StandingRefusal.TheVariants as standing
 use Rattle.mq_images.proofs.Standings.{read-refused}
-use Rattle.mq_images.proofs.Volumes.{stands-refused}
+use Rattle.mq_images.proofs.Volumes.{stands-none, stands-refused}
 use Rattle.mq_outside.specs.Outside.{FilesState, Held, Holds, SinkState, Tells}
 use Rattle.mq_recover.specs.declared.refusal.ImageFault.{ImageFault}
 use Rattle.mq_recover.proofs.Images.{read-same}
@@ -43,7 +44,6 @@ use Rattle.mq_script.specs.declared.refusal.ScriptRefusal.TheVariants.{At}
 use Rattle.mq_tree.specs.Volume.{Volume}
 use Rattle.mq_commands.proofs.Exact.{not-loaded-status, not-saved-status, of-image, one-held, read-faulty, read-once, refused-status, says-where, still-memory}
 use Rattle.mq_commands.proofs.Saying.{said-as}
-use Rattle.mq_commands.proofs.Unfailing.{never-failed}
 
 -- the end of `run`
 abbrev pub RunEnds : RunOptions → (name : List ℕ) → (names : List (List ℕ)) → (old new : FilesState) → (before after : SinkState) → ℕ → Type 0
@@ -129,7 +129,7 @@ loaded-spelled (name ∷ names) [] old new loaded s low = absurd loaded
 loaded-spelled (name ∷ names) (script ∷ scripts) old new loaded zero low = (loaded.0, loaded.3.spells)
 loaded-spelled (name ∷ names) (script ∷ scripts) old new loaded (suc s) low = loaded-spelled names scripts loaded.1 new loaded.4 s (omega arith)
 
-kept-promise : (o : RunOptions) (names : List (List ℕ)) (x : DriveImage) (scripts : List Script) (r : ImageRun) (old new : FilesState) → AreLoaded names scripts old new → IsRunOf x scripts o r → KeepsPromise x scripts r
+kept-promise : (o : RunOptions) (names : List (List ℕ)) (x : DriveImage) (scripts : List Script) (r : ImageRun) (old new : FilesState) → AreLoaded names scripts old new → IsRunOf x scripts o r → KeepsPromise x scripts o r
 kept-promise o names x scripts r old new loaded run = keeps-promise x scripts o r run (spelled-bytes scripts (loaded-spelled names scripts old new loaded))
 
 pub run-saved : (o : RunOptions) (name : List ℕ) (names : List (List ℕ)) (bytes : List ℕ) (x : DriveImage) (scripts : List Script) (file : List ℕ) (status : ℕ) (text : List ℕ) (old mid read new : FilesState) (before between after : SinkState) (result : ℕ)
@@ -234,6 +234,12 @@ not-refused x v _ for within (above_limit ds top reads above) other = within-non
 not-refused x v _ for within (not_mounted ds top stored reads low stands none corrupt) other = stands-refused x v _ for (standings.RefusesVolume.not_mounted ds top stored reads stands none corrupt) other
 not-refused x v _ for within refusals.RefusesRun.wanting other = other refl
 
+-- a run begins on the volume that stands
+stands-at : (x : DriveImage) (v : Volume) (base : ℕ) → Starts x.geometry (view_of x) base v → StandsFor x v
+stands-at x v base starts =
+    let these = starts.standing in
+    record { ds = starts.ds; top = base; stored = starts.stored; read = starts.read; standing = record { count = these.whole; each = these.each }; laid = starts.laid }
+
 -- ---- which status comes
 
 -- the status is 5, and a command is to fail
@@ -265,7 +271,7 @@ module _ (o : RunOptions) (name : List ℕ) (names : List (List ℕ)) (old new :
     -- either the scripts are run, or why not is said, a fault and want of memory aside
     settled : (Goal : Type 0) (wanted : ℕ) → (IsUnlessWanting wanted result → Goal)
         → ((status : ℕ) (text : List ℕ) → RefusesRunning x texts status text → IsUnlessWanting status result → Goal)
-        → ((r : ImageRun) → length texts ≤ queues_of x.geometry → IsRunOf x texts o r → IsUnlessWanting (run_status r) result → Goal)
+        → ((r : ImageRun) → length texts ≤ queues_of x.geometry → IsRunOf x texts o r → KeepsPromise x texts o r → IsUnlessWanting (run_status r) result → Goal)
         → (status : ℕ) (text : List ℕ) → Runs o name names old new status text → IsUnlessWanting status result → Goal
     settled Goal wanted from none run _ _ (ran other y scripts r mid all load is loaded few of keeps save) ends =
         let image : y ≡ x = one-image other y mid load is in
@@ -273,6 +279,7 @@ module _ (o : RunOptions) (name : List ℕ) (names : List (List ℕ)) (old new :
         run r
         (subst (λ (z : DriveImage). length texts ≤ queues_of z.geometry) image (subst (λ (l : List Script). length l ≤ queues_of y.geometry) same few))
         (subst (λ (z : DriveImage). IsRunOf z texts o r) image (subst (λ (l : List Script). IsRunOf y l o r) same of))
+        (subst (λ (z : DriveImage). KeepsPromise z texts o r) image (subst (λ (l : List Script). KeepsPromise y l o r) same keeps))
         ends
     settled Goal wanted from none run status text (no_image says) ends = from (named wanted status text says ends)
     settled Goal wanted from none run status text (no_scripts other y mid load is refuses) ends =
@@ -308,20 +315,20 @@ module _ (o : RunOptions) (name : List ℕ) (names : List (List ℕ)) (old new :
       pub done-where : length texts ≤ queues_of x.geometry → (v : Volume) (for : StandsFor x v) → AreWithin x for.top → IsFailure o result ⊎ IsUnlessWanting 0 result
       done-where few v for within =
           settled (IsFailure o result ⊎ IsUnlessWanting 0 result) 0 (λ u. inr u) (refused-none v for within few)
-          (λ r less of u. ran-status o (are_wanting r.answers.items) r.failed result (never-failed x texts o r of) u) ends.0 ends.1 ends.2 unless
+          (λ r less of keeps u. ran-status o (are_wanting r.answers.items) r.failed result keeps.spared u) ends.0 ends.1 ends.2 unless
 
       pub too-many-where : queues_of x.geometry < length texts → IsUnlessWanting 2 result
-      too-many-where more = settled (IsUnlessWanting 2 result) 2 (λ u. u) (refused-two more) (λ r few of u. absurd (omega (arith, few, more))) ends.0 ends.1 ends.2 unless
+      too-many-where more = settled (IsUnlessWanting 2 result) 2 (λ u. u) (refused-two more) (λ r few of keeps u. absurd (omega (arith, few, more))) ends.0 ends.1 ends.2 unless
 
-      pub unreadable-where : length texts ≤ queues_of x.geometry → (e : ImageFault) → RefusesDrive x e → IsUnlessWanting 3 result
-      unreadable-where few e refuses =
+      pub no-volume-where : length texts ≤ queues_of x.geometry → HasNoVolume x → IsUnlessWanting 3 result
+      no-volume-where few none =
           settled (IsUnlessWanting 3 result) 3 (λ u. u) (refused-three few)
-          (λ r less of u. absurd (read-refused x of.recovery.ds of.recovery.top e of.recovery.plan.read refuses)) ends.0 ends.1 ends.2 unless
+          (λ r less of keeps u. absurd (stands-none x keeps.volume (stands-at x keeps.volume r.base keeps.starts) none)) ends.0 ends.1 ends.2 unless
 
       pub limit-where : length texts ≤ queues_of x.geometry → (ds : List Descriptor) (top n : ℕ) → Reads x ds top → IsFirstAbove x top n → IsUnlessWanting 3 result
       limit-where few ds top n reads above =
           settled (IsUnlessWanting 3 result) 3 (λ u. u) (refused-three few)
-          (λ r less of u.
+          (λ r less of keeps u.
           absurd (within-none x of.recovered.found.base top n (of.recovery.base ∙ one-top x of.recovery.ds ds of.recovery.top top of.recovery.plan.read reads) of.within above)) ends.0 ends.1 ends.2 unless
 
   pub bad-script-where : (before after : SinkState) → RunEnds o name names old new before after result → HoldBadScript old.contents names → IsUnlessWanting 2 result

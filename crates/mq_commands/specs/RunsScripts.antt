@@ -108,11 +108,11 @@ RefusesName name old new status text = SaysOf (SaysOfImage SaysNothing) name old
 -- history. Or nothing was saved, and why is said: of the image, then of the scripts in order, then of their run,
 -- and then of the save.
 pub data Runs (o : RunOptions) (name : List ℕ) (names : List (List ℕ)) (old new : FilesState) : (status : ℕ) → (text : List ℕ) → Type 0 where
-  ran : (bytes : List ℕ) (x : DriveImage) (scripts : List Script) (r : ImageRun) (mid read : FilesState) → IsLoaded name bytes old mid → IsRead x bytes → AreLoaded names scripts mid read → length scripts ≤ queues_of x.geometry → IsRunOf x scripts o r → KeepsPromise x scripts r → IsSaved name (image_bytes r.image) read new → Runs o name names old new (run_status r) (run_text r)
+  ran : (bytes : List ℕ) (x : DriveImage) (scripts : List Script) (r : ImageRun) (mid read : FilesState) → IsLoaded name bytes old mid → IsRead x bytes → AreLoaded names scripts mid read → length scripts ≤ queues_of x.geometry → IsRunOf x scripts o r → KeepsPromise x scripts o r → IsSaved name (image_bytes r.image) read new → Runs o name names old new (run_status r) (run_text r)
   no_image : {status : ℕ} {text : List ℕ} → RefusesName name old new status text → Runs o name names old new status text
   no_scripts : {status : ℕ} {text : List ℕ} (bytes : List ℕ) (x : DriveImage) (mid : FilesState) → IsLoaded name bytes old mid → IsRead x bytes → RefusesScripts names mid new status text → Runs o name names old new status text
   no_run : {status : ℕ} {text : List ℕ} (bytes : List ℕ) (x : DriveImage) (scripts : List Script) (mid : FilesState) → IsLoaded name bytes old mid → IsRead x bytes → AreLoaded names scripts mid new → RefusesRunning x scripts status text → Runs o name names old new status text
-  unsaved : {status : ℕ} {text : List ℕ} (bytes : List ℕ) (x : DriveImage) (scripts : List Script) (r : ImageRun) (mid read : FilesState) → IsLoaded name bytes old mid → IsRead x bytes → AreLoaded names scripts mid read → length scripts ≤ queues_of x.geometry → IsRunOf x scripts o r → KeepsPromise x scripts r → IsNotSaved name read new status text → Runs o name names old new status text
+  unsaved : {status : ℕ} {text : List ℕ} (bytes : List ℕ) (x : DriveImage) (scripts : List Script) (r : ImageRun) (mid read : FilesState) → IsLoaded name bytes old mid → IsRead x bytes → AreLoaded names scripts mid read → length scripts ≤ queues_of x.geometry → IsRunOf x scripts o r → KeepsPromise x scripts o r → IsNotSaved name read new status text → Runs o name names old new status text
 
 -- ---- what files tell of scripts
 

@@ -6,9 +6,8 @@ ghost use Rattle.mq_image.specs.Drives.{IsDrive, IsRead};
 ghost use Rattle.mq_image.specs.Faults.{HasFault};
 ghost use Rattle.mq_image.specs.File.{DriveImage as Image};
 ghost use Rattle.mq_image.specs.declared.fault.FileFault.{FileFault};
-ghost use Rattle.mq_images.specs.Standing.{RefusesDrive, StandsFor};
+ghost use Rattle.mq_images.specs.Standing.{HasNoVolume, StandsFor};
 ghost use Rattle.mq_outside.specs.Outside.{Tells};
-ghost use Rattle.mq_recover.specs.declared.refusal.ImageFault.{ImageFault};
 ghost use Rattle.mq_tree.specs.Trees.{ReadsAs};
 ghost use Rattle.mq_tree.specs.Volume.{Volume};
 ghost use Rattle.mq_tree.specs.declared.request.Fault.{Fault};
@@ -59,10 +58,10 @@ pub fn ls<F: Files, K: Sink>(alloc: Global, name: &str, files: &mut F, out: &mut
         → Tells (F.state files.old).contents name.now (Some bytes)
         → HasFault bytes (Some e)
         → IsUnlessWanting 3 result }
-    ensures unreadable_where { (bytes : List ℕ) (x : Image) (e : ImageFault)
+    ensures no_volume_where { (bytes : List ℕ) (x : Image)
         → Tells (F.state files.old).contents name.now (Some bytes)
         → IsRead x bytes
-        → RefusesDrive x e
+        → HasNoVolume x
         → IsUnlessWanting 3 result }
     ensures contents { (F.state files.new).contents ≡ (F.state files.old).contents }
 {
@@ -130,10 +129,10 @@ pub fn cat<F: Files, K: Sink>(
         → Tells (F.state files.old).contents name.now (Some bytes)
         → HasFault bytes (Some e)
         → IsUnlessWanting 3 result }
-    ensures unreadable_where { (bytes : List ℕ) (x : Image) (e : ImageFault)
+    ensures no_volume_where { (bytes : List ℕ) (x : Image)
         → Tells (F.state files.old).contents name.now (Some bytes)
         → IsRead x bytes
-        → RefusesDrive x e
+        → HasNoVolume x
         → IsUnlessWanting 3 result }
     ensures contents { (F.state files.new).contents ≡ (F.state files.old).contents }
 {

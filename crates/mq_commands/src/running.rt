@@ -10,9 +10,8 @@ ghost use Rattle.mq_image.specs.Faults.{HasFault};
 ghost use Rattle.mq_image.specs.File.{DriveImage as Image};
 ghost use Rattle.mq_image.specs.declared.fault.FileFault.{FileFault};
 ghost use Rattle.mq_image_run.specs.Limits.{AreWithin, IsFirstAbove};
-ghost use Rattle.mq_images.specs.Standing.{Reads, RefusesDrive, StandsFor};
+ghost use Rattle.mq_images.specs.Standing.{HasNoVolume, Reads, StandsFor};
 ghost use Rattle.mq_outside.specs.Outside.{Tells};
-ghost use Rattle.mq_recover.specs.declared.refusal.ImageFault.{ImageFault};
 ghost use Rattle.mq_script.specs.Scripts.{Script as ReadScript};
 ghost use Rattle.mq_tree.specs.Volume.{Volume};
 
@@ -128,7 +127,7 @@ fn load_scripts<F: Files, K: Sink>(
 // ---- what is said of a run
 
 // Whether memory was wanting for a group.
-fn is_short(told: &Told) -> bool
+fn wants_memory(told: &Told) -> bool
     ensures { result ≡ is_wanting told.now.answer }
 {
     match told.answer {
@@ -141,11 +140,11 @@ fn is_short(told: &Told) -> bool
 }
 
 // Whether memory was wanting for one of the groups.
-fn are_short(answers: &[Told]) -> bool
+fn any_wants_memory(answers: &[Told]) -> bool
     ensures { result ≡ are_wanting answers.now }
 {
     for told in answers {
-        if is_short(told) {
+        if wants_memory(told) {
             return true;
         }
     }
@@ -156,7 +155,7 @@ fn are_short(answers: &[Told]) -> bool
 fn status_of(ran: &ImageRun) -> u8
     ensures { result ≡ run_status ran.now }
 {
-    if are_short(&ran.answers) {
+    if any_wants_memory(&ran.answers) {
         return NO_MEMORY;
     }
     if ran.failed { COMMAND } else { DONE }
@@ -297,12 +296,12 @@ pub fn run<F: Files, K: Sink, R: Threads + Wait + Sync, G: Gate + Sync>(
         → HoldScripts (F.state files.old).contents (map (λ s. s.now) scripts.now) texts
         → queues_of x.geometry < length texts
         → IsUnlessWanting 2 result }
-    ensures unreadable_where { (bytes : List ℕ) (x : Image) (texts : List ReadScript) (e : ImageFault)
+    ensures no_volume_where { (bytes : List ℕ) (x : Image) (texts : List ReadScript)
         → Tells (F.state files.old).contents name.now (Some bytes)
         → IsRead x bytes
         → HoldScripts (F.state files.old).contents (map (λ s. s.now) scripts.now) texts
         → length texts ≤ queues_of x.geometry
-        → RefusesDrive x e
+        → HasNoVolume x
         → IsUnlessWanting 3 result }
     ensures limit_where { (bytes : List ℕ) (x : Image) (texts : List ReadScript) (ds : List Descriptor) (top n : ℕ)
         → Tells (F.state files.old).contents name.now (Some bytes)

@@ -16,7 +16,7 @@ use Rattle.mq_image.specs.File.{DriveImage}
 use Rattle.mq_image.specs.declared.fault.FileFault.{FileFault}
 use Rattle.mq_image_run.specs.Limits.{AreWithin, IsFirstAbove}
 use Rattle.mq_image_run.specs.declared.options.RunOptions.{RunOptions}
-use Rattle.mq_images.specs.Standing.{Reads, RefusesDrive, StandsFor}
+use Rattle.mq_images.specs.Standing.{HasNoVolume, Reads, RefusesDrive, StandsFor}
 use Rattle.mq_images.specs.Views.{view_of}
 use Rattle.mq_outside.specs.Outside.{FilesState, Held, Holds, Tells}
 use Rattle.mq_recover.specs.declared.refusal.ImageFault.{ImageFault}
@@ -31,7 +31,7 @@ use Rattle.mq_tree.specs.declared.request.Fault.{Fault}
 use Rattle.mq_words.specs.declared.command.BlocksOptions.{BlocksOptions}
 use Rattle.mq_words.specs.declared.command.RunOptions.{RunOptions as OptionsOfRun}
 use Rattle.mqfs.specs.Blocks.{IsBlockText}
-use Rattle.mqfs.specs.Decided.{ChainsDecide, FileDecides, ImageDecides, IsRunnable, NumbersDecide, RecoveryDecides, RunDecides, TextDecides, TreeDecides, above_limit, bad_numbers, bad_script, bad_text, good_numbers, good_text, has_chains, has_file, has_no_file, has_standing, has_tree, no_chains, no_drive, no_image, no_standing, no_tree, no_volume, runs_whole, too_many, unreadable, unreadable_drive}
+use Rattle.mqfs.specs.Decided.{ChainsDecide, FileDecides, ImageDecides, IsRunnable, NumbersDecide, RecoveryDecides, RunDecides, TextDecides, TreeDecides, VolumeDecides, above_limit, bad_numbers, bad_script, bad_text, good_numbers, good_text, has_chains, has_file, has_no_file, has_standing, has_tree, is_no_image, no_chains, no_drive, no_image, no_standing, no_tree, no_volume, no_volume_there, none_stands, runs_whole, too_many, unreadable}
 use Rattle.mqfs.specs.Says.{SaysOfBlocks, failing, printed, refused, run_options}
 use Rattle.mqfs.specs.Says as blocks_says
 
@@ -56,22 +56,29 @@ module _ (image : List ℕ) (held : Option Held) (result : ℕ)
   recovery_decided done _ (has_standing bytes x ds top tells read reads) = done bytes x ds top tells read reads
   recovery_decided done status (no_standing image) = image_decided status image
 
-  pub tree_decided : ((bytes : List ℕ) (x : DriveImage) (v : Volume) → Tells held image (Some bytes) → IsRead x bytes → StandsFor x v → IsUnlessWanting 0 result)
-      → (status : ℕ) → TreeDecides image held status → IsUnlessWanting status result
-  tree_decided done _ (has_tree bytes x v tells read for) = done bytes x v tells read for
-  tree_decided done status (no_tree image) = image_decided status image
-
   pub chains_decided : ((bytes : List ℕ) (x : DriveImage) (chains : ℕ → List Descriptor) → Tells held image (Some bytes) → IsRead x bytes → AreWhole x.geometry (view_of x) chains → IsUnlessWanting 0 result)
       → (status : ℕ) → ChainsDecide image held status → IsUnlessWanting status result
   chains_decided done _ (has_chains bytes x chains tells read whole) = done bytes x chains tells read whole
   chains_decided done status (no_chains image) = image_decided status image
+
+module _ (image : List ℕ) (held : Option Held) (result : ℕ)
+    (faulty : (bytes : List ℕ) (e : FileFault) → Tells held image (Some bytes) → HasFault bytes (Some e) → IsUnlessWanting 3 result)
+    (none_there : (bytes : List ℕ) (x : DriveImage) → Tells held image (Some bytes) → IsRead x bytes → HasNoVolume x → IsUnlessWanting 3 result) where
+  volume_decided : (status : ℕ) → VolumeDecides image held status → IsUnlessWanting status result
+  volume_decided _ (is_no_image bytes e tells has) = faulty bytes e tells has
+  volume_decided _ (none_stands bytes x tells read none) = none_there bytes x tells read none
+
+  pub tree_decided : ((bytes : List ℕ) (x : DriveImage) (v : Volume) → Tells held image (Some bytes) → IsRead x bytes → StandsFor x v → IsUnlessWanting 0 result)
+      → (status : ℕ) → TreeDecides image held status → IsUnlessWanting status result
+  tree_decided done _ (has_tree bytes x v tells read for) = done bytes x v tells read for
+  tree_decided done status (no_tree image) = volume_decided status image
 
   pub file_decided : (path : Path) → ((bytes : List ℕ) (x : DriveImage) (v : Volume) (content : List ℕ) → Tells held image (Some bytes) → IsRead x bytes → StandsFor x v → ReadsAs v path (Ok content) → IsUnlessWanting 0 result)
       → ((bytes : List ℕ) (x : DriveImage) (v : Volume) (fault : Fault) → Tells held image (Some bytes) → IsRead x bytes → StandsFor x v → ReadsAs v path (Err fault) → IsUnlessWanting 3 result)
       → (status : ℕ) → FileDecides image path held status → IsUnlessWanting status result
   file_decided path done none _ (has_file bytes x v content tells read for reads) = done bytes x v content tells read for reads
   file_decided path done none _ (has_no_file bytes x v fault tells read for reads) = none bytes x v fault tells read for reads
-  file_decided path done none status (no_volume image) = image_decided status image
+  file_decided path done none status (no_volume image) = volume_decided status image
 
 -- ---- `run`
 
@@ -88,15 +95,15 @@ module _ (image : List ℕ) (names : List (List ℕ)) (options : OptionsOfRun) (
       (faulty : (bytes : List ℕ) (e : FileFault) → Tells held image (Some bytes) → HasFault bytes (Some e) → IsUnlessWanting 3 result)
       (bad : (bytes : List ℕ) (x : DriveImage) → Tells held image (Some bytes) → IsRead x bytes → HoldBadScript held names → IsUnlessWanting 2 result)
       (many : (bytes : List ℕ) (x : DriveImage) (scripts : List Script) → Tells held image (Some bytes) → IsRead x bytes → HoldScripts held names scripts → queues_of x.geometry < length scripts → IsUnlessWanting 2 result)
-      (unread : (bytes : List ℕ) (x : DriveImage) (scripts : List Script) (e : ImageFault) → Tells held image (Some bytes) → IsRead x bytes → HoldScripts held names scripts → length scripts ≤ queues_of x.geometry → RefusesDrive x e → IsUnlessWanting 3 result)
+      (none_there : (bytes : List ℕ) (x : DriveImage) (scripts : List Script) → Tells held image (Some bytes) → IsRead x bytes → HoldScripts held names scripts → length scripts ≤ queues_of x.geometry → HasNoVolume x → IsUnlessWanting 3 result)
       (above : (bytes : List ℕ) (x : DriveImage) (scripts : List Script) (ds : List Descriptor) (top n : ℕ) → Tells held image (Some bytes) → IsRead x bytes → HoldScripts held names scripts → length scripts ≤ queues_of x.geometry → Reads x ds top → IsFirstAbove x top n → IsUnlessWanting 3 result)
       (status : ℕ) → RunDecides image names options held status → IsUnlessWanting status result
-  run_decided faulty bad many unread above _ (no_drive bytes e tells has) = faulty bytes e tells has
-  run_decided faulty bad many unread above _ (bad_script bytes x tells read hold) = bad bytes x tells read hold
-  run_decided faulty bad many unread above _ (too_many bytes x scripts tells read hold more) = many bytes x scripts tells read hold more
-  run_decided faulty bad many unread above _ (unreadable_drive x e has refuses) = unread has.bytes x has.scripts e has.tells has.read has.hold has.few refuses
-  run_decided faulty bad many unread above _ (above_limit x ds top n has reads first) = above has.bytes x has.scripts ds top n has.tells has.read has.hold has.few reads first
-  run_decided faulty bad many unread above _ (runs_whole runs none) = elim (runs_or_fails runs) [ inl fails ↦ absurd (fails.0 (none-to-fail o options same none)) | inr ends ↦ ends ]
+  run_decided faulty bad many none_there above _ (no_drive bytes e tells has) = faulty bytes e tells has
+  run_decided faulty bad many none_there above _ (bad_script bytes x tells read hold) = bad bytes x tells read hold
+  run_decided faulty bad many none_there above _ (too_many bytes x scripts tells read hold more) = many bytes x scripts tells read hold more
+  run_decided faulty bad many none_there above _ (no_volume_there x has none) = none_there has.bytes x has.scripts has.tells has.read has.hold has.few none
+  run_decided faulty bad many none_there above _ (above_limit x ds top n has reads first) = above has.bytes x has.scripts ds top n has.tells has.read has.hold has.few reads first
+  run_decided faulty bad many none_there above _ (runs_whole runs none) = elim (runs_or_fails runs) [ inl fails ↦ absurd (fails.0 (none-to-fail o options same none)) | inr ends ↦ ends ]
 
   pub run_runs : IsRunnable image names held → (result ≡ 5) ⊎ IsUnlessWanting 0 result
   run_runs runs = elim (runs_or_fails runs) [ inl fails ↦ inl fails.1 | inr ends ↦ inr ends ]

@@ -46,7 +46,7 @@ module _ (words : Words) (files new_files : FilesState) (status : ℕ) (text : L
   tells = told_words words files new_files status text say
 
   -- the text was said, or the status is 4 or 6
-  said_or : ((result ≡ status) × (new.contents ≡ appended old.contents text) × (new.faults ≡ old.faults)) ⊎ ((result ≡ 4) ⊎ (result ≡ 6))
+  pub said_or : ((result ≡ status) × (new.contents ≡ appended old.contents text) × (new.faults ≡ old.faults)) ⊎ ((result ≡ 4) ⊎ (result ≡ 6))
   said_or = elim ends [
     | inl e ↦ inl e
     | inr other ↦ elim other [ inl e ↦ inr (inl e.0) | inr e ↦ inr (four-or-six (nat_eq status 4) result e.0) ]

@@ -14,7 +14,7 @@ use Rattle.mq_image.specs.Faults.{HasFault}
 use Rattle.mq_image.specs.File.{DriveImage}
 use Rattle.mq_image.specs.declared.fault.FileFault.{FileFault}
 use Rattle.mq_image_run.specs.Limits.{AreWithin, IsFirstAbove}
-use Rattle.mq_images.specs.Standing.{Reads, RefusesDrive, StandsFor}
+use Rattle.mq_images.specs.Standing.{HasNoVolume, Reads, RefusesDrive, StandsFor}
 use Rattle.mq_images.specs.Views.{view_of}
 use Rattle.mq_outside.specs.Outside.{Held, Tells}
 use Rattle.mq_recover.specs.declared.refusal.ImageFault.{ImageFault}
@@ -45,6 +45,11 @@ pub data ImageDecides (image : List ℕ) (held : Option Held) : ℕ → Type 0 w
   no_image : (bytes : List ℕ) (e : FileFault) → Tells held image (Some bytes) → HasFault bytes (Some e) → ImageDecides image held 3
   unreadable : (bytes : List ℕ) (x : DriveImage) (e : ImageFault) → Tells held image (Some bytes) → IsRead x bytes → RefusesDrive x e → ImageDecides image held 3
 
+-- the file is no image, or no volume stands on the image
+pub data VolumeDecides (image : List ℕ) (held : Option Held) : ℕ → Type 0 where
+  is_no_image : (bytes : List ℕ) (e : FileFault) → Tells held image (Some bytes) → HasFault bytes (Some e) → VolumeDecides image held 3
+  none_stands : (bytes : List ℕ) (x : DriveImage) → Tells held image (Some bytes) → IsRead x bytes → HasNoVolume x → VolumeDecides image held 3
+
 -- the name holds an image, and the others hold scripts, not more than the image has queues
 pub record HasScripts (image : List ℕ) (names : List (List ℕ)) (held : Option Held) (x : DriveImage) : Type 0 where
   pub bytes : List ℕ
@@ -62,13 +67,13 @@ pub record IsRunnable (image : List ℕ) (names : List (List ℕ)) (held : Optio
   pub for : StandsFor x volume
   pub within : AreWithin x for.top
 
--- `run`: the file is no image; or a script is refused, or there are more scripts than queues; or the image is not
--- readable, or above the limit of a run; or the scripts are run, and no command is to fail
+-- `run`: the file is no image; or a script is refused, or there are more scripts than queues; or no volume stands on the
+-- image, or it is above the limit of a run; or the scripts are run, and no command is to fail
 pub data RunDecides (image : List ℕ) (names : List (List ℕ)) (options : RunOptions) (held : Option Held) : ℕ → Type 0 where
   no_drive : (bytes : List ℕ) (e : FileFault) → Tells held image (Some bytes) → HasFault bytes (Some e) → RunDecides image names options held 3
   bad_script : (bytes : List ℕ) (x : DriveImage) → Tells held image (Some bytes) → IsRead x bytes → HoldBadScript held names → RunDecides image names options held 2
   too_many : (bytes : List ℕ) (x : DriveImage) (scripts : List Script) → Tells held image (Some bytes) → IsRead x bytes → HoldScripts held names scripts → queues_of x.geometry < length scripts → RunDecides image names options held 2
-  unreadable_drive : (x : DriveImage) (e : ImageFault) → HasScripts image names held x → RefusesDrive x e → RunDecides image names options held 3
+  no_volume_there : (x : DriveImage) → HasScripts image names held x → HasNoVolume x → RunDecides image names options held 3
   above_limit : (x : DriveImage) (ds : List Descriptor) (top n : ℕ) → HasScripts image names held x → Reads x ds top → IsFirstAbove x top n → RunDecides image names options held 3
   runs_whole : IsRunnable image names held → options.fail ≡ None → RunDecides image names options held 0
 
@@ -77,16 +82,16 @@ pub data RecoveryDecides (image : List ℕ) (held : Option Held) : ℕ → Type 
   has_standing : (bytes : List ℕ) (x : DriveImage) (ds : List Descriptor) (top : ℕ) → Tells held image (Some bytes) → IsRead x bytes → Reads x ds top → RecoveryDecides image held 0
   no_standing : {status : ℕ} → ImageDecides image held status → RecoveryDecides image held status
 
--- `ls`: a volume stands on the image
+-- `ls`: a volume stands on the image, or none does
 pub data TreeDecides (image : List ℕ) (held : Option Held) : ℕ → Type 0 where
   has_tree : (bytes : List ℕ) (x : DriveImage) (v : Volume) → Tells held image (Some bytes) → IsRead x bytes → StandsFor x v → TreeDecides image held 0
-  no_tree : {status : ℕ} → ImageDecides image held status → TreeDecides image held status
+  no_tree : {status : ℕ} → VolumeDecides image held status → TreeDecides image held status
 
--- `cat`: the volume has a file at the path, or none
+-- `cat`: the volume that stands has a file at the path, or none; or no volume stands
 pub data FileDecides (image : List ℕ) (path : Path) (held : Option Held) : ℕ → Type 0 where
   has_file : (bytes : List ℕ) (x : DriveImage) (v : Volume) (content : List ℕ) → Tells held image (Some bytes) → IsRead x bytes → StandsFor x v → ReadsAs v path (Ok content) → FileDecides image path held 0
   has_no_file : (bytes : List ℕ) (x : DriveImage) (v : Volume) (fault : Fault) → Tells held image (Some bytes) → IsRead x bytes → StandsFor x v → ReadsAs v path (Err fault) → FileDecides image path held 3
-  no_volume : {status : ℕ} → ImageDecides image held status → FileDecides image path held status
+  no_volume : {status : ℕ} → VolumeDecides image held status → FileDecides image path held status
 
 -- `dump`: the chains of the image are whole
 pub data ChainsDecide (image : List ℕ) (held : Option Held) : ℕ → Type 0 where

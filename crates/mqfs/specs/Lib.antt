@@ -13,3 +13,4 @@ pub mod Program
 pub mod Restart
 pub mod Runs
 pub mod Says
+pub mod Ran

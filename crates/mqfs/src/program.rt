@@ -3,10 +3,13 @@ ghost use Rattle.std.specs.Prelude.{◌≡◌, ◌≢◌, ◌⊎◌, ℕ, List, 
 ghost use Rattle.std.specs.String.{string_bytes};
 ghost use Rattle.mq_ending.specs.Ending.{EndsWith, IsUnlessWanting};
 ghost use Rattle.mq_outside.specs.Outside.{Rose, appended};
-ghost use Rattle.mq_words.specs.Asked.{Asked, HasScript, HasSmallNumbers, asked, asked_of, blocks};
+ghost use Rattle.mq_promise.specs.Recovering.{EveryInterleavingIsRecovered};
+ghost use Rattle.mq_words.specs.Asked.{Asked, HasScript, HasSmallNumbers, asked, asked_of, blocks, run};
 ghost use Rattle.mq_words.specs.declared.command.BlocksOptions.{BlocksOptions};
+ghost use Rattle.mq_words.specs.declared.command.RunOptions.{RunOptions};
 ghost use Rattle.mqfs.specs.Decided.{Decides, RunsThere};
 ghost use Rattle.mqfs.specs.Program.{AreUnknown, IsDone, IsEndedRun, IsRefusedText, IsSaid, IsStatus, IsToSay, IsTooLong, KeepsNames, TakesFor, usage_line};
+ghost use Rattle.mqfs.specs.Ran.{IsRan};
 ghost use Rattle.mqfs.specs.Says.{Says};
 
 mod cat;
@@ -30,6 +33,7 @@ use mq_calls::Gate;
 use mq_commands::Numbers;
 use mq_ending::{USAGE, say, say_memory};
 use mq_outside::{Files, Sink};
+use mq_promise::every_interleaving_is_recovered;
 use mq_words::{Command, WordsRefusal, read_command};
 use std::alloc::Global;
 use std::sync::Wait;
@@ -165,6 +169,14 @@ pub fn mqfs<F: Files, K: Sink, R: Threads + Wait + Sync, G: Gate + Sync>(
         → asked_of (map string_bytes words.now) ≡ Some (blocks file options save)
         → result ≡ 0
         → IsDone file options save (F.state files.old) (F.state files.new) (K.state out.old) (K.state out.new) }
+    // `run`: at the statuses 0 and 5 the scripts were run, the run keeps its promise, the image that it left is saved, and
+    // its report is the output.
+    ensures ran { (image : List ℕ) (scripts : List (List ℕ)) (options : RunOptions)
+        → asked_of (map string_bytes words.now) ≡ Some (run image scripts options)
+        → (result ≡ 0) ⊎ (result ≡ 5)
+        → IsRan image scripts options result (F.state files.old) (F.state files.new) (K.state out.old) (K.state out.new) }
+    // Of every interleaving of queue events and every power cut between two of them.
+    ensures journal { EveryInterleavingIsRecovered }
     // The words are no command.
     ensures usage { result ≡ 1
         → AreUnknown (map string_bytes words.now)
@@ -195,5 +207,6 @@ pub fn mqfs<F: Files, K: Sink, R: Threads + Wait + Sync, G: Gate + Sync>(
     ensures contents { (result ≡ 1) ⊎ ((result ≡ 2) ⊎ (result ≡ 3))
         → (F.state files.new).contents ≡ (F.state files.old).contents }
 {
+    every_interleaving_is_recovered();
     read_and_run(rt, alloc, words, files, out, gate)
 }

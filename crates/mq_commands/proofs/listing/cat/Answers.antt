@@ -65,14 +65,14 @@ returns-in-Err-clause-refused_where g c = λ bytes e tells has.
     let sink = g.K.Sink.state in
     refused-where (ShowsFile c.args.path.now) c.args.name.now bytes e (files c.args.files.now) (files c.load_or_say.new.files) (sink c.args.out.now) (sink c.load_or_say.new.out) c.in-Err.status (returns-in-Err-clause-ends g c) tells has
 
-pub returns-in-Ok-clause-unreadable_where : goal.returns-in-Ok-clause-unreadable_where
-returns-in-Ok-clause-unreadable_where g c = λ bytes x e tells read refuses.
+pub returns-in-Ok-clause-no_volume_where : goal.returns-in-Ok-clause-no_volume_where
+returns-in-Ok-clause-no_volume_where g c = λ bytes x tells read none.
     let files = g.F.Files.state in
     let sink = g.K.Sink.state in
-    not-shown-where c.args.path.now c.args.name.now bytes x e (files c.args.files.now) (files c.load_or_say.new.files) (sink c.args.out.now) (sink c.say_answer.new.out) c.say_answer.result (returns-in-Ok-clause-ends g c) tells read refuses
+    not-shown-where c.args.path.now c.args.name.now bytes x (files c.args.files.now) (files c.load_or_say.new.files) (sink c.args.out.now) (sink c.say_answer.new.out) c.say_answer.result (returns-in-Ok-clause-ends g c) tells read none
 
-pub returns-in-Err-clause-unreadable_where : goal.returns-in-Err-clause-unreadable_where
-returns-in-Err-clause-unreadable_where g c = λ bytes x e tells read refuses.
+pub returns-in-Err-clause-no_volume_where : goal.returns-in-Err-clause-no_volume_where
+returns-in-Err-clause-no_volume_where g c = λ bytes x tells read none.
     let files = g.F.Files.state in
     let sink = g.K.Sink.state in
-    not-shown-where c.args.path.now c.args.name.now bytes x e (files c.args.files.now) (files c.load_or_say.new.files) (sink c.args.out.now) (sink c.load_or_say.new.out) c.in-Err.status (returns-in-Err-clause-ends g c) tells read refuses
+    not-shown-where c.args.path.now c.args.name.now bytes x (files c.args.files.now) (files c.load_or_say.new.files) (sink c.args.out.now) (sink c.load_or_say.new.out) c.in-Err.status (returns-in-Err-clause-ends g c) tells read none

@@ -1,5 +1,5 @@
 use Rattle.std.proofs.Common.{List, ℕ, Bor, map}
-use Rattle.mq_commands.proofs.Runnings.{bad-script-where, done-where, fault-where, limit-where, too-many-where, unreadable-where}
+use Rattle.mq_commands.proofs.Runnings.{bad-script-where, done-where, fault-where, limit-where, no-volume-where, too-many-where}
 use Rattle.mq_commands.proofs.running.run.Goals as goal
 
 pub returns-clause-done_where : goal.returns-clause-done_where
@@ -26,11 +26,11 @@ returns-clause-too_many_where g c = λ bytes x texts tells read hold more.
     let sink = g.K.Sink.state in
     too-many-where c.args.options c.args.name.now (map (λ (s : Bor (List ℕ)). s.now) c.args.scripts.now) (files c.args.files.now) (files c.run_or_say.new.files) c.run_or_say.result bytes x tells read texts hold (sink c.args.out.now) (sink c.run_or_say.new.out) c.run_or_say.ensures more
 
-pub returns-clause-unreadable_where : goal.returns-clause-unreadable_where
-returns-clause-unreadable_where g c = λ bytes x texts e tells read hold few refuses.
+pub returns-clause-no_volume_where : goal.returns-clause-no_volume_where
+returns-clause-no_volume_where g c = λ bytes x texts tells read hold few none.
     let files = g.F.Files.state in
     let sink = g.K.Sink.state in
-    unreadable-where c.args.options c.args.name.now (map (λ (s : Bor (List ℕ)). s.now) c.args.scripts.now) (files c.args.files.now) (files c.run_or_say.new.files) c.run_or_say.result bytes x tells read texts hold (sink c.args.out.now) (sink c.run_or_say.new.out) c.run_or_say.ensures few e refuses
+    no-volume-where c.args.options c.args.name.now (map (λ (s : Bor (List ℕ)). s.now) c.args.scripts.now) (files c.args.files.now) (files c.run_or_say.new.files) c.run_or_say.result bytes x tells read texts hold (sink c.args.out.now) (sink c.run_or_say.new.out) c.run_or_say.ensures few none
 
 pub returns-clause-limit_where : goal.returns-clause-limit_where
 returns-clause-limit_where g c = λ bytes x texts ds top n tells read hold few reads above.
