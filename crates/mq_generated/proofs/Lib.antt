@@ -1,0 +1,4 @@
+pub mod Workload
+pub mod Lasts
+pub mod Empty
+pub mod Whole

@@ -1,0 +1,73 @@
+// The generated workload on an empty file system.
+ghost use Rattle.std.specs.Prelude.{◌≡◌, ◌≤◌, IfOk};
+ghost use Rattle.mq_generated.specs.Generated.{IsGenerated};
+ghost use Rattle.mq_image.specs.Drives.{IsDrive};
+ghost use Rattle.mq_images.specs.Standing.{StandsFor};
+ghost use Rattle.mq_legal.specs.Legal.{newest as newest_of};
+ghost use Rattle.mq_tree.specs.Counts.{counts_in};
+ghost use Rattle.mq_tree.specs.Volume.{Volume};
+
+use crate::generated::Generated;
+use crate::playing::play;
+use crate::shape::shape;
+use mq_blocks::OutOfMemory;
+use mq_calls::Gate;
+use mq_image::{DriveImage, write_image};
+use mq_images::read_volume;
+use mq_promise::a_run_on_an_image_keeps_its_promise;
+use mq_report::Line;
+use mq_script::workload;
+use mq_tree::{TreeCounts, alike_trees};
+use std::alloc::Global;
+use std::sync::Wait;
+use std::thread::Threads;
+
+// The last number of the lines, or 0.
+fn newest(lines: &[Line]) -> u64
+    ensures { result ≡ newest_of 0 lines.now }
+{
+    let mut number = 0;
+    for line in lines {
+        number = line.number.0;
+    }
+    number
+}
+
+// How much the tree has that stands on an image. Where one stands, the call is refused for want of memory alone.
+fn count(alloc: Global, image: DriveImage) -> Result<TreeCounts, OutOfMemory>
+    requires { IsDrive image }
+    ensures { IfOk result (λ counts. (v : Volume) × StandsFor image v × (counts ≡ counts_in v)) }
+{
+    alike_trees();
+    match read_volume(alloc, image) {
+        Ok(tree) => Ok(tree.counts()),
+        Err(_) => Err(OutOfMemory),
+    }
+}
+
+/// Runs the workload of a seed on the empty file system of a fresh drive, each script on a session and a thread of its
+/// own, cuts the power of the drive once all sessions have ended, and counts what stands then.
+pub fn generate<R: Threads + Wait + Sync, G: Gate + Sync>(
+    rt: &R,
+    alloc: Global,
+    seed: u64,
+    threads: u32,
+    groups: u32,
+    gate: &G,
+) -> Result<Generated, OutOfMemory>
+    requires { (1 ≤ threads) × (threads ≤ 16) }
+    ensures { IfOk result (IsGenerated seed threads groups) }
+{
+    let geometry = shape(threads);
+    a_run_on_an_image_keeps_its_promise();
+    let scripts = workload(alloc, seed, threads, groups)?;
+    let ran = play(rt, alloc, geometry, &scripts, gate)?;
+    let commits = newest(&ran.entries);
+    let file = write_image(alloc, &ran.image)?;
+    let counts = count(alloc, ran.image)?;
+    Ok(Generated {
+        file,
+        commits,
+        counts,
+    })
+}

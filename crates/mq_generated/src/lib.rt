@@ -1,0 +1,11 @@
+//! A run of the generated workload on an empty file system: how much its tree has at the end, and what a cut of the
+//! drive's power leaves there.
+#![tactic(auto)]
+
+mod generated;
+mod generating;
+mod playing;
+mod shape;
+
+pub use generated::Generated;
+pub use generating::generate;
