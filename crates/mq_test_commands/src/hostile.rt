@@ -1,25 +1,27 @@
-// Images with wrong bytes.
+// Images with wrong bytes: each edit of the image that a cut run leaves, and what `recover` says of it.
 use crate::bytes::{Part, edited, empty_image, journal_image};
-use crate::calls::{Call, ends};
+use crate::calls::{Call, NOTHING_FAILS, call_outcome, ends};
 use std::alloc::{AllocError, Global};
 
 // Edits of the image with one transaction in its journal, each with the line that is said of it.
 type Cases<'a> = &'a [(&'a [Part<'a>], &'a str)];
 
-// Whether `dump` says of each edit what it is to say.
+// Whether `recover` and `dump` say of each edit what they are to say, and leave the image as it is.
 fn are_said(alloc: Global, cases: Cases<'_>) -> Result<bool, AllocError> {
     let image = journal_image(alloc)?;
     for (edits, line) in cases {
         let hostile = edited(alloc, &image, edits)?;
-        if !ends(alloc, Call::Dump, &hostile, 3, line)? {
-            return Ok(false);
+        for call in [Call::Recover(None, 0), Call::Dump] {
+            if !ends(alloc, call, &hostile, 3, line)? {
+                return Ok(false);
+            }
         }
     }
     Ok(true)
 }
 
 // The head and the records of the file.
-const WRONG_HEADS: [(&[Part<'static>], &str); 11] = [
+const WRONG_HEADS: [(&[Part<'static>], &str); 12] = [
     (&[(0, &[0])], "image Magic\n"),
     (&[(8, &[2])], "image Version 2\n"),
     (&[(12, &[0])], "image Geometry Queues 0\n"),
@@ -34,6 +36,7 @@ const WRONG_HEADS: [(&[Part<'static>], &str); 11] = [
     (&[(131_144, &[9])], "image Extra 4100\n"),
     (&[(131_144, &[11])], "image Short 176248 172148\n"),
     (&[(135_248, &[0])], "image Order 1\n"),
+    (&[(131_152, &[0])], "image Zero 0\n"),
 ];
 
 #[test]
@@ -90,6 +93,26 @@ const WRONG_DESCRIPTORS: [(&[Part<'static>], &str); 8] = [
 #[test]
 fn wrong_descriptors_are_refused(rt: HostRuntime) -> Result<(), AllocError> {
     assert!(rt; are_said(rt.alloc(), &WRONG_DESCRIPTORS)?);
+    Ok(())
+}
+
+// What is wrong and no cause: a base that covers the transaction, a head that was not moved past it, and a place of the
+// descriptor one lap on, at the same index.
+const TAKEN: [(&[Part<'static>], &str); 3] = [
+    (&[(32, &[1])], "prefix 0\nbase 1\n"),
+    (&[(48, &[0])], "prefix 0\nbase 1\n"),
+    (&[(151_677, &[4])], "prefix 1\nbase 1\n"),
+];
+
+#[test]
+fn other_images_are_recovered(rt: HostRuntime) -> Result<(), AllocError> {
+    let image = journal_image(rt.alloc())?;
+    for (edits, output) in TAKEN {
+        let other = edited(rt.alloc(), &image, edits)?;
+        let call = Call::Recover(None, 0);
+        let found = call_outcome(rt.alloc(), call, Some(other.as_slice()), NOTHING_FAILS)?;
+        assert!(rt; found.is(0, output), "{output}");
+    }
     Ok(())
 }
 

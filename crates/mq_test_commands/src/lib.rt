@@ -12,3 +12,5 @@ mod hostile;
 mod outcomes;
 #[cfg(test)]
 mod recoveries;
+#[cfg(test)]
+mod runs;

@@ -133,8 +133,10 @@ fn what_is_refused_is_not_recovered(rt: HostRuntime) -> Result<(), AllocError> {
         let hostile = edited(rt.alloc(), &image, edits)?;
         assert!(rt; ends(rt.alloc(), call, &hostile, 3, line)?, "{line}");
     }
-    let twice = two_queue_image(rt.alloc(), 1)?;
-    assert!(rt; ends(rt.alloc(), call, &twice, 3, "image Twice 1 queues 0 1\n")?);
+    // The entry before the head of queue 0 and its descriptor have number 4 too.
+    let four = two_queue_image(rt.alloc(), 4)?;
+    let twice = edited(rt.alloc(), &four, &[(448, &[4]), (151_668, &[4])])?;
+    assert!(rt; ends(rt.alloc(), call, &twice, 3, "image Twice 4 queues 0 1\n")?);
     let short = Vec::from_slice(rt.alloc(), image.get(..100).unwrap_or(&[]))?;
     assert!(rt; ends(rt.alloc(), call, &short, 3, "image Short 131148 100\n")?);
     // A base that is near its limit is none of these.

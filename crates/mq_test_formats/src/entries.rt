@@ -4,7 +4,8 @@ ghost use Rattle.mq_blocks.specs.Drive.{depth};
 
 use mq_nvme::{Dwords, Entry, EntryRefusal, WriteReq, read_write, write_of};
 
-fn request() -> WriteReq
+/// The commit request of transaction 1 in slot 6, to block 5.
+pub fn request() -> WriteReq
     ensures slot { result.slot < depth }
     ensures tx { 1 ≤ result.tx }
 {

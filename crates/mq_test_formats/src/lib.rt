@@ -10,6 +10,8 @@ mod entries;
 #[cfg(test)]
 mod fields;
 #[cfg(test)]
+mod greatest;
+#[cfg(test)]
 mod images;
 #[cfg(test)]
 mod scripts;

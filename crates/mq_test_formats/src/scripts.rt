@@ -106,6 +106,10 @@ fn read_and_printed(rt: HostRuntime) -> Result<(), Fail> {
             b"create /f\nwrite /f 0 \"a b\"\nfsync",
             b"create /f\nwrite /f 0 \"a b\"\nfsync\n",
         ),
+        (
+            b"mkdir /a\ncreate /a/f\nwrite /a/f 0 \"hi\"\nfsync\n",
+            b"mkdir /a\ncreate /a/f\nwrite /a/f 0 \"hi\"\nfsync\n",
+        ),
         (b"write / 9 \"\"\nfatomic\n", b"write / 9 \"\"\nfatomic\n"),
         (b"write /f 9 hex:\nask\n", b"write /f 9 \"\"\nask\n"),
         (

@@ -11,24 +11,25 @@ use std::thread::yield_now;
 // How often a session looks whether the other one has come so far.
 const TURNS: u64 = 10_000_000;
 
-// Holds a session at a point until another session has passed a point.
+/// Holds a session at a point until another session has passed a point.
 #[derive(Drop)]
-struct Hold {
+pub struct Hold {
     held: (u32, Point),
     until: (u32, Point),
-    // The other session has passed its point.
+    /// The other session has passed its point.
     passed: AtomicBool,
-    // The held session was let go since it has.
-    let_go: AtomicBool,
+    /// The held session was released since it has.
+    pub released: AtomicBool,
 }
 
 impl Hold {
-    fn new(held: (u32, Point), until: (u32, Point)) -> Hold {
+    /// Holds the first session at its point until the other one has passed its own.
+    pub fn new(held: (u32, Point), until: (u32, Point)) -> Hold {
         Hold {
             held,
             until,
             passed: AtomicBool::new(false),
-            let_go: AtomicBool::new(false),
+            released: AtomicBool::new(false),
         }
     }
 }
@@ -50,7 +51,7 @@ impl Gate for Hold {
             self.passed.store(true, SeqCst);
         }
         if (session, point) == self.held {
-            self.let_go.store(comes(&self.passed), SeqCst);
+            self.released.store(comes(&self.passed), SeqCst);
         }
     }
 }
@@ -81,7 +82,7 @@ fn a_session_goes_on_while_another_is_held(rt: HostRuntime) -> Result<(), Failur
     let scripts = ["mkdir /a\nfatomic\n", "mkdir /b\nfsync\n"];
     let gate = Hold::new((0, Point::Rung), (1, Point::Answered));
     let ran = run_past(&rt, rt.alloc(), &empty, &scripts, PLAIN, &gate)?;
-    assert!(rt; gate.let_go.load(SeqCst));
+    assert!(rt; gate.released.load(SeqCst));
     let one =
         "base 0\ncommit 1 session 0 group 0 fatomic\n  ok\ncommit 2 session 1 group 0 fsync\n  ok\nanswer 0 0 ok 1\nanswer 1 0 ok 2\nclean 2\n";
     let other =
@@ -105,7 +106,7 @@ fn a_failure_stops_other_sessions(rt: HostRuntime) -> Result<(), Failure> {
         fail: Some((0, 3)),
     };
     let ran = run_past(&rt, rt.alloc(), &empty, &scripts, asked, &gate)?;
-    assert!(rt; gate.let_go.load(SeqCst) && ran.failed);
+    assert!(rt; gate.released.load(SeqCst) && ran.failed);
     let one =
         "base 0\nat 0 session 1 group 0 fatomic\n  refused NotFound\ncommit 1 session 0 group 0 fsync\n  ok\n  ok\n  ok\ncommit 2 session 1 group 1 fsync\n  ok\nanswer 0 0 failed 1 640 1\nanswer 1 0 ok 0\nanswer 1 1 stopped 1 2\nstopped tx 1\n";
     let other =

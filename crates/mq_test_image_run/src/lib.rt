@@ -5,6 +5,8 @@
 #[cfg(test)]
 mod areas;
 #[cfg(test)]
+mod checkpoints;
+#[cfg(test)]
 mod cuts;
 #[cfg(test)]
 mod failing;
@@ -17,6 +19,10 @@ mod images;
 #[cfg(test)]
 mod plain;
 #[cfg(test)]
+mod program;
+#[cfg(test)]
 mod refusals;
 #[cfg(test)]
 mod runs;
+#[cfg(test)]
+mod sharing;

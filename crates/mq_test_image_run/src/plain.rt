@@ -1,7 +1,7 @@
 // Runs without a cut in which nothing fails.
 use crate::failure::Failure;
-use crate::images::{empty_file, formatted, lists};
-use crate::runs::{PLAIN, run};
+use crate::images::{dumped, empty_file, formatted, lists};
+use crate::runs::{Asked, PLAIN, run};
 use mq_blocks::Geometry;
 use std::alloc::Global;
 use std::sync::Wait;
@@ -113,7 +113,8 @@ fn scripts_on_other_drives_are_reported(rt: HostRuntime) -> Result<(), Failure> 
     Ok(())
 }
 
-// Without a number the image is as it was. A group adds what it writes, its copies and its descriptor.
+// Without a number the image is as it was. A group adds what it writes, its copies and its descriptor; with a cut after all
+// of its events the copies are not at home.
 #[test]
 fn images_have_what_was_written(rt: HostRuntime) -> Result<(), Failure> {
     let empty = empty_file(rt.alloc())?;
@@ -121,6 +122,16 @@ fn images_have_what_was_written(rt: HostRuntime) -> Result<(), Failure> {
     assert!(rt; empty.len() == 143_448 && ran.file == empty);
     let ran = run(&rt, rt.alloc(), &empty, &[FIRST], PLAIN)?;
     assert_eq!(rt; ran.file.len(), 184_448);
+    let asked = Asked {
+        cut: Some(18),
+        ..PLAIN
+    };
+    let cut = run(&rt, rt.alloc(), &empty, &[FIRST], asked)?;
+    assert_eq!(rt; cut.file.len(), 172_148);
+    assert_eq!(rt;
+        dumped(rt.alloc(), &cut.file)?.as_str(),
+        "base 0\nqueue 0 doorbell 7 head 7\ntx 1 place 5 logged 5 revoked 0\nqueue 1 doorbell 0 head 0\nprefix 1\n"
+    );
     Ok(())
 }
 

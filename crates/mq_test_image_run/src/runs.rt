@@ -9,7 +9,7 @@ use mq_calls::{Gate, Open};
 use mq_image::{read_image, write_image};
 use mq_image_run::{ImageRun, RunOptions, run_image};
 use mq_images::Failing;
-use mq_report::{Told, report};
+use mq_report::{Line, Told, report};
 use mq_script::{End, Script, read_script};
 use std::alloc::Global;
 use std::sync::Wait;
@@ -38,6 +38,8 @@ pub struct Outcome {
     pub report: String,
     /// The greatest number that was acknowledged, or 0: a group that ends with `fsync` was answered `ok` with it.
     pub acknowledged: u64,
+    /// The session of each commit, in number order.
+    pub committed: Vec<u32>,
     /// Whether a command failed.
     pub failed: bool,
     /// The file of the image that is left.
@@ -62,6 +64,16 @@ fn acknowledged(answers: &[Told]) -> u64 {
     greatest
 }
 
+fn committed(alloc: Global, entries: &[Line]) -> Result<Vec<u32>, Failure> {
+    let mut sessions = Vec::new(alloc);
+    for line in entries {
+        if line.commit {
+            sessions.push(line.session)?;
+        }
+    }
+    Ok(sessions)
+}
+
 fn outcome_of(alloc: Global, ran: &ImageRun) -> Result<Outcome, Failure>
     requires { IsDrive ran.now.image }
 {
@@ -69,6 +81,7 @@ fn outcome_of(alloc: Global, ran: &ImageRun) -> Result<Outcome, Failure>
     Ok(Outcome {
         report: String::from_utf8_lossy(alloc, &text)?,
         acknowledged: acknowledged(&ran.answers),
+        committed: committed(alloc, &ran.entries)?,
         failed: ran.failed,
         file: write_image(alloc, &ran.image)?,
     })

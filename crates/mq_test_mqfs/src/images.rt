@@ -48,6 +48,35 @@ fn what_the_plug_left_is_saved(rt: HostRuntime) -> Result<(), AllocError> {
     Ok(())
 }
 
+const HOME_DUMP: &str = "base 2
+queue 0 doorbell 5 head 5
+prefix 0
+";
+
+// The recovery of that image makes 8 events: three home writes, and the store and the flush of the base. It is cut
+// before the first, after the home writes, and not at all; a file that is none, and an image that is none, are refused.
+const RECOVERED: [Step<'static>; 13] = [
+    ("blocks t --save d", 0, "prefix 2\n5 ab\n9 ff\n"),
+    ("recover d --cut 0", 0, "prefix 2\nbase 2\ncut 0\n"),
+    ("dump d", 0, SAVED_DUMP),
+    ("recover --cut=6 d --pick 3", 0, "prefix 2\nbase 2\ncut 6\n"),
+    ("dump d", 0, SAVED_DUMP),
+    ("recover d --cut 8", 0, "prefix 2\nbase 2\n"),
+    ("dump d", 0, HOME_DUMP),
+    ("recover d", 0, "prefix 0\nbase 2\n"),
+    ("recover d --cut 0", 0, "prefix 0\nbase 2\n"),
+    ("dump d", 0, HOME_DUMP),
+    ("ls d", 3, "image Corrupt Layout block 0\n"),
+    ("recover e", 4, "fault load e\n"),
+    ("recover t", 3, "image Short 40 18\n"),
+];
+
+#[test]
+fn an_image_is_recovered(rt: HostRuntime) -> Result<(), AllocError> {
+    assert!(rt; follows(&rt, rt.alloc(), TWO_LINES, &RECOVERED)?);
+    Ok(())
+}
+
 // A text that is refused saves nothing.
 const UNSAVED: [Step<'static>; 2] = [
     ("blocks t --save d", 2, "blocks line 1: Item\n"),

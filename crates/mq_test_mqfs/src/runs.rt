@@ -1,9 +1,12 @@
 // Scripts that are run on images: reports, cuts and their recovery, a command that fails, and scripts that are refused.
 use crate::calls::{Step, ends, follows};
-use std::alloc::AllocError;
+use std::alloc::{AllocError, Global};
 
 // A directory with a file of two bytes: 18 events.
 const SCRIPT: &str = "mkdir /a\ncreate /a/f\nwrite /a/f 0 \"hi\"\nfsync\n";
+
+// The tree that it makes.
+const TREE: &str = "d /\nd /a\nf 2 /a/f\n";
 
 const FORMAT: Step<'static> = ("format d 2 1024 64 256", 0, "formatted\n");
 
@@ -26,13 +29,15 @@ answer 0 0 ok 1
 clean 1
 ";
 
-const RUN: [Step<'static>; 6] = [
+const RUN: [Step<'static>; 8] = [
     FORMAT,
     ("run d t", 0, DONE),
-    ("ls d", 0, "d /\nd /a\nf 2 /a/f\n"),
+    ("ls d", 0, TREE),
     ("cat d /a/f", 0, "hi"),
+    ("cat d /a", 3, "path IsDir\n"),
+    ("cat d /b", 3, "path NotFound\n"),
     ("run d t", 0, AGAIN),
-    ("ls d", 0, "d /\nd /a\nf 2 /a/f\n"),
+    ("ls d", 0, TREE),
 ];
 
 #[test]
@@ -79,22 +84,72 @@ fn a_run_is_cut_early(rt: HostRuntime) -> Result<(), AllocError> {
     Ok(())
 }
 
-// After its last event it stands, and a recovery brings it home.
-const LATE: [Step<'static>; 5] = [
+const CUT_DUMP: &str = "base 0
+queue 0 doorbell 7 head 7
+tx 1 place 5 logged 5 revoked 0
+queue 1 doorbell 0 head 0
+prefix 1
+";
+
+const HOME_DUMP: &str = "base 1
+queue 0 doorbell 7 head 7
+queue 1 doorbell 0 head 0
+prefix 0
+";
+
+// After its last event it stands, and a recovery brings it home, in 12 events: it is cut within a home write, after all
+// of them, and before its last event.
+const LATE: [Step<'static>; 15] = [
     FORMAT,
     (
         "run d t --cut 19",
         0,
         "base 0\ncommit 1 session 0 group 0 fsync\n  ok\n  ok\n  ok\nanswer 0 0 ok 1\ncut 18\n",
     ),
+    ("dump d", 0, CUT_DUMP),
+    ("ls d", 0, TREE),
+    ("recover d --cut 0", 0, "prefix 1\nbase 1\ncut 0\n"),
+    ("dump d", 0, CUT_DUMP),
     ("recover d --cut 5", 0, "prefix 1\nbase 1\ncut 5\n"),
-    ("recover d", 0, "prefix 1\nbase 1\n"),
-    ("ls d", 0, "d /\nd /a\nf 2 /a/f\n"),
+    ("ls d", 0, TREE),
+    (
+        "recover d --cut 10 --pick 5",
+        0,
+        "prefix 1\nbase 1\ncut 10\n",
+    ),
+    ("dump d", 0, CUT_DUMP),
+    ("ls d", 0, TREE),
+    ("recover d --cut 12", 0, "prefix 1\nbase 1\n"),
+    ("dump d", 0, HOME_DUMP),
+    ("ls d", 0, TREE),
+    ("cat d /a/f", 0, "hi"),
 ];
 
 #[test]
 fn a_run_is_cut_late(rt: HostRuntime) -> Result<(), AllocError> {
     assert!(rt; follows(&rt, rt.alloc(), SCRIPT, &LATE)?);
+    Ok(())
+}
+
+// A directory into itself, and names of 255 and of 256 bytes.
+fn long_names(alloc: Global) -> Result<String, AllocError> {
+    let name = String::from_utf8_lossy(alloc, &vec![in alloc; b'x'; 255]?)?;
+    format!(in alloc; "mkdir /a\nrename /a /a/b\nmkdir /{name}\nmkdir /x{name}\nfsync\n")
+}
+
+const LONG_NAMES: [Step<'static>; 2] = [
+    FORMAT,
+    (
+        "run d t",
+        0,
+        "base 0\ncommit 1 session 0 group 0 fsync\n  ok\n  refused Subtree\n  ok\n  refused BadName\nanswer 0 0 ok 1\nclean 1\n",
+    ),
+];
+
+#[test]
+fn names_have_at_most_255_bytes(rt: HostRuntime) -> Result<(), AllocError> {
+    let script = long_names(rt.alloc())?;
+    assert!(rt; follows(&rt, rt.alloc(), &script, &LONG_NAMES)?);
     Ok(())
 }
 
