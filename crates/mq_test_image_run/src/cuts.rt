@@ -99,8 +99,8 @@ fn recoveries_after_cuts_are_cut(rt: HostRuntime) -> Result<(), Failure> {
     Ok(())
 }
 
-// Three groups: a directory with a file, both taken away again, and a file with a byte. They make 46 events.
-const THREE: &str =
+/// Three groups: a directory with a file, both taken away again, and a file with a byte. They make 46 events.
+pub const THREE: &str =
     "mkdir /d\ncreate /d/f\nfsync\nunlink /d/f\nrmdir /d\nfsync\ncreate /g\nwrite /g 0 \"x\"\nfsync\n";
 
 // The tree after so many of them.
@@ -149,11 +149,11 @@ fn a_block_is_revoked(rt: HostRuntime) -> Result<(), Failure> {
     Ok(())
 }
 
-// Scripts of two sessions.
-const PAIR: [&str; 2] = ["mkdir /a\nfsync\n", "mkdir /b\nfsync\n"];
+/// Scripts of two sessions.
+pub const PAIR: [&str; 2] = ["mkdir /a\nfsync\n", "mkdir /b\nfsync\n"];
 
-// The tree after so many of their groups, where the first commit is that of session 0 or not.
-fn tree_of_pair(groups: u64, is_first: bool) -> &'static str {
+/// The tree after so many of their groups, where the first commit is that of session 0 or not.
+pub fn tree_of_pair(groups: u64, is_first: bool) -> &'static str {
     match (groups, is_first) {
         (0, _) => "d /\n",
         (1, true) => "d /\nd /a\n",

@@ -75,19 +75,27 @@ fn two_sessions_end(rt: HostRuntime) -> Result<(), Failure> {
     Ok(())
 }
 
+/// Scripts of two sessions, of which the first is held until the second has answered.
+pub const HELD: [&str; 2] = ["mkdir /a\nfatomic\n", "mkdir /b\nfsync\n"];
+
+/// Their report, where the first commit is that of session 0, and where it is not.
+pub const HELD_REPORTS: [&str; 2] = [
+    "base 0\ncommit 1 session 0 group 0 fatomic\n  ok\ncommit 2 session 1 group 0 fsync\n  ok\nanswer 0 0 ok 1\nanswer 1 0 ok 2\nclean 2\n",
+    "base 0\ncommit 1 session 1 group 0 fsync\n  ok\ncommit 2 session 0 group 0 fatomic\n  ok\nanswer 0 0 ok 2\nanswer 1 0 ok 1\nclean 2\n",
+];
+
 // Sessions that run one after another use up the turns.
 #[test]
 fn a_session_goes_on_while_another_is_held(rt: HostRuntime) -> Result<(), Failure> {
     let empty = empty_file(rt.alloc())?;
-    let scripts = ["mkdir /a\nfatomic\n", "mkdir /b\nfsync\n"];
     let gate = Hold::new((0, Point::Rung), (1, Point::Answered));
-    let ran = run_past(&rt, rt.alloc(), &empty, &scripts, PLAIN, &gate)?;
+    let ran = run_past(&rt, rt.alloc(), &empty, &HELD, PLAIN, &gate)?;
     assert!(rt; gate.released.load(SeqCst));
-    let one =
-        "base 0\ncommit 1 session 0 group 0 fatomic\n  ok\ncommit 2 session 1 group 0 fsync\n  ok\nanswer 0 0 ok 1\nanswer 1 0 ok 2\nclean 2\n";
-    let other =
-        "base 0\ncommit 1 session 1 group 0 fsync\n  ok\ncommit 2 session 0 group 0 fatomic\n  ok\nanswer 0 0 ok 2\nanswer 1 0 ok 1\nclean 2\n";
-    assert!(rt; is_either(&ran, one, other), "{}", ran.report.as_str());
+    assert!(rt;
+        is_either(&ran, HELD_REPORTS[0], HELD_REPORTS[1]),
+        "{}",
+        ran.report.as_str()
+    );
     assert!(rt; lists(rt.alloc(), &ran.file, "d /\nd /a\nd /b\n")?);
     Ok(())
 }

@@ -1,6 +1,7 @@
 // Runs by the program's own call, over files and an output in memory.
+use crate::cuts::{PAIR, THREE, tree_of_pair};
 use crate::failure::Failure;
-use crate::gates::Hold;
+use crate::gates::{HELD, HELD_REPORTS, Hold};
 use mq_calls::{Gate, Open, Point};
 use mq_outside::{MemFiles, MemSink};
 use mqfs::mqfs;
@@ -80,10 +81,7 @@ fn follows<R: Threads + Wait + Sync>(
     Ok(true)
 }
 
-// A directory with a file, both taken away again, and a file with a byte, on the block that was the directory's.
-const THREE: &str =
-    "mkdir /d\ncreate /d/f\nfsync\nunlink /d/f\nrmdir /d\nfsync\ncreate /g\nwrite /g 0 \"x\"\nfsync\n";
-
+// The file's byte is on the block that was the directory's.
 const REVOKED: [Step<'static>; 6] = [
     FORMAT,
     (
@@ -130,28 +128,14 @@ fn the_program_runs_and_recovers(rt: HostRuntime) -> Result<(), Failure> {
 // Sessions that the program runs one after another use up the turns.
 #[test]
 fn the_program_runs_sessions_beside_each_other(rt: HostRuntime) -> Result<(), Failure> {
-    let mut files = files_of(rt.alloc(), "mkdir /a\nfatomic\n", "mkdir /b\nfsync\n")?;
+    let mut files = files_of(rt.alloc(), HELD[0], HELD[1])?;
     let (line, status, output) = FORMAT;
     assert!(rt; call(&rt, rt.alloc(), line, &mut files, &Open)?.is(status, output));
     let gate = Hold::new((0, Point::Rung), (1, Point::Answered));
     let said = call(&rt, rt.alloc(), "run d s t", &mut files, &gate)?;
-    let one =
-        "base 0\ncommit 1 session 0 group 0 fatomic\n  ok\ncommit 2 session 1 group 0 fsync\n  ok\nanswer 0 0 ok 1\nanswer 1 0 ok 2\nclean 2\n";
-    let other =
-        "base 0\ncommit 1 session 1 group 0 fsync\n  ok\ncommit 2 session 0 group 0 fatomic\n  ok\nanswer 0 0 ok 2\nanswer 1 0 ok 1\nclean 2\n";
     assert!(rt; gate.released.load(SeqCst));
-    assert!(rt; said.is(0, one) || said.is(0, other));
+    assert!(rt; said.is(0, HELD_REPORTS[0]) || said.is(0, HELD_REPORTS[1]));
     Ok(())
-}
-
-// The tree after so many groups of two sessions, where the first commit is that of session 0 or not.
-fn tree_of_pair(groups: u64, is_first: bool) -> &'static str {
-    match (groups, is_first) {
-        (0, _) => "d /\n",
-        (1, true) => "d /\nd /a\n",
-        (1, false) => "d /\nd /b\n",
-        _ => "d /\nd /a\nd /b\n",
-    }
 }
 
 // What a recovery prints first, by the prefix that it found.
@@ -159,7 +143,7 @@ const PREFIXES: [&str; 3] = ["prefix 0\n", "prefix 1\n", "prefix 2\n"];
 
 #[test]
 fn the_program_cuts_two_sessions(rt: HostRuntime) -> Result<(), Failure> {
-    let mut files = files_of(rt.alloc(), "mkdir /a\nfsync\n", "mkdir /b\nfsync\n")?;
+    let mut files = files_of(rt.alloc(), PAIR[0], PAIR[1])?;
     let (line, status, output) = FORMAT;
     assert!(rt; call(&rt, rt.alloc(), line, &mut files, &Open)?.is(status, output));
     let ran = call(&rt, rt.alloc(), "run d s t --cut 20", &mut files, &Open)?;
