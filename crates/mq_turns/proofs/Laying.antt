@@ -1,5 +1,5 @@
 -- A new desk: what one view holds at first, and how it lays it down.
-use Rattle.std.proofs.Common.{◌≡◌, ◌⊎◌, ℕ, zero, suc, ◌+◌, ◌-◌, ◌<◌, ◌≤◌, cond, Bool, List, [], ◌∷◌, ◌++◌, map, length, get_or, sym, refl, ap, ◌∙◌, subst, ⊎_elim, inl, inr, arith, Option, Some, None, replicate, eq-eqb, ne_eqb}
+use Rattle.std.proofs.Common.{◌≡◌, ◌⊎◌, ℕ, zero, suc, ◌+◌, ◌-◌, ◌^◌, ◌<◌, ◌≤◌, cond, Bool, List, [], ◌∷◌, ◌++◌, map, length, get_or, sym, refl, ap, ◌∙◌, subst, ⊎_elim, inl, inr, arith, Option, Some, None, replicate, eq-eqb, ne_eqb}
 use mathlib.Core.Logic.{dite}
 use mathlib.Core.Option.{some, some-ne-none, some-injective}
 use native.Mathlib.Decide.{ℕ_discrete}
@@ -137,7 +137,7 @@ module _ {M P Q R E : Type 0} (μ : Meaning P Q R E) (o : Opening P Q R) (chairs
   vacant count = map some (replicate count None)
 
   -- the rule holds of a table without values, whose first view holds each turn
-  pub opens : (words : List ℕ) (count : ℕ) → count ≡ slots o → AreOpenWords count (length o.sides) o.base words → o.base ≤ 4611686018427387904 → 0 < chairs → Starts μ o
+  pub opens : (words : List ℕ) (count : ℕ) → count ≡ slots o → AreOpenWords count (length o.sides) o.base words → o.base ≤ 2 ^ 62 → 0 < chairs → Starts μ o
       → Ruled {M = M} μ o chairs (opening words (replicate count None) (first_view o chairs))
   opens words count is ws small some_chair starts =
       let wide = ws.wide in

@@ -1,5 +1,5 @@
 -- What each kind of step does to the numbers.
-use Rattle.std.proofs.Common.{◌≡◌, ◌≢◌, ℕ, suc, ◌+◌, ◌*◌, ◌<◌, ◌≤◌, List, [], ◌∷◌, ◌++◌, length, get_or, set, sym, refl, ap, ◌∙◌, subst, ⊎_elim, inl, arith, Some}
+use Rattle.std.proofs.Common.{◌≡◌, ◌≢◌, ℕ, suc, ◌+◌, ◌*◌, ◌^◌, ◌<◌, ◌≤◌, List, [], ◌∷◌, ◌++◌, length, get_or, set, sym, refl, ap, ◌∙◌, subst, ⊎_elim, inl, arith, Some}
 use Rattle.std.proofs.Math.Nat.{mul-div-le}
 use mathlib.Core.Logic.{dite}
 use mathlib.Core.Option.{some}
@@ -106,20 +106,20 @@ module _ {M P Q R E : Type 0} (μ : Meaning P Q R E) where
       }
 
   -- there are fewer numbers than all chairs may draw
-  pub room_left : (chairs : ℕ) (K : Known P Q R E) (s : Now M P Q R E) (id : ℕ) (v : ChairView P Q R E) → Numbers μ chairs K s → get_elem? s.views id ≡ some v → length v.drawn < v.parts * allotment chairs → newest K < 9223372036854775808
+  pub room_left : (chairs : ℕ) (K : Known P Q R E) (s : Now M P Q R E) (id : ℕ) (v : ChairView P Q R E) → Numbers μ chairs K s → get_elem? s.views id ≡ some v → length v.drawn < v.parts * allotment chairs → newest K < 2 ^ 63
   room_left chairs K s id v r at room =
       let a = drawn_count (allotment chairs) s.views id v at (λ j u o. (r.each_chair j u o).few) room in
       let b : total (λ u. u.parts) s.views * allotment chairs ≡ chairs * allotment chairs = ap (λ n. n * allotment chairs) r.whole in
-      let c : chairs * allotment chairs ≤ 4611686018427387904 = mul-div-le 4611686018427387904 chairs in
+      let c : chairs * allotment chairs ≤ 2 ^ 62 = mul-div-le (2 ^ 62) chairs in
       let d = r.counted in let e = r.bounds.0 in omega arith
 
   -- no number is above 2^63
-  pub newest_few : (chairs : ℕ) (K : Known P Q R E) (s : Now M P Q R E) → Numbers μ chairs K s → newest K ≤ 9223372036854775808
+  pub newest_few : (chairs : ℕ) (K : Known P Q R E) (s : Now M P Q R E) → Numbers μ chairs K s → newest K ≤ 2 ^ 63
   newest_few chairs K s r =
       let a = total_le (λ u. length u.drawn) (λ u. u.parts * allotment chairs) s.views (λ j u o. (r.each_chair j u o).few) in
       let scaled = total_scaled (λ (u : ChairView P Q R E). u.parts) (allotment chairs) s.views in
       let b : total (λ u. u.parts) s.views * allotment chairs ≡ chairs * allotment chairs = ap (λ n. n * allotment chairs) r.whole in
-      let c : chairs * allotment chairs ≤ 4611686018427387904 = mul-div-le 4611686018427387904 chairs in
+      let c : chairs * allotment chairs ≤ 2 ^ 62 = mul-div-le (2 ^ 62) chairs in
       let d = r.counted in let e = r.bounds.0 in omega arith
 
   -- a step by which L is known, and no number was drawn

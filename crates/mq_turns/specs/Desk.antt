@@ -1,7 +1,7 @@
 -- The rule of the desk, and what each step tells.
 -- Word k, for each slot k, is 1 while a chair holds the turn of the slot and else 0. The word after these is the greatest number
 -- drawn, then comes a mark for each queue, and last the base.
-use Rattle.std.specs.Prelude.{◌≡◌, ◌≢◌, ◌⊎◌, ℕ, zero, suc, ◌+◌, ◌-◌, ◌*◌, ◌/◌, ◌<◌, ◌≤◌, nat_lt, max, Bool, true, cond, List, [], ◌∷◌, ◌++◌, length, slice_index, Option, Some, None}
+use Rattle.std.specs.Prelude.{◌≡◌, ◌≢◌, ◌⊎◌, ℕ, zero, suc, ◌+◌, ◌-◌, ◌*◌, ◌/◌, ◌^◌, ◌<◌, ◌≤◌, nat_lt, max, Bool, true, cond, List, [], ◌∷◌, ◌++◌, length, slice_index, Option, Some, None}
 use mathlib.Core.Option.{some}
 use lib.ListN.{get_elem?}
 use Rattle.atomic_table.specs.Table.{State, Me, Step}
@@ -48,7 +48,7 @@ last_of n (d ∷ ds) = max d.0 (last_of n ds)
 
 -- how many numbers one of so many chairs may draw
 abbrev pub allotment : ℕ → ℕ
-allotment chairs = 4611686018427387904 / chairs
+allotment chairs = 2 ^ 62 / chairs
 
 module _ {P Q R E : Type 0} where
   abbrev pub hand_at : ℕ → ChairView P Q R E → ℕ
@@ -146,7 +146,7 @@ module _ {P Q R E : Type 0} (μ : Meaning P Q R E) where
   pub record Sees (v : ChairView P Q R E) (K : Known P Q R E) : Type 0 where
     pub opening : v.opening ≡ Some K.opening
     pub ok : μ.ok K
-    pub few : newest K ≤ 9223372036854775808
+    pub few : newest K ≤ 2 ^ 63
     pub held : Each (λ h. μ.ok h.1 × Stay (turn_at K.opening h.0) h.1 K) v.held
     pub seen : v.seen ≤ newest K
     pub drew : Each (λ d. IsAt K.opening.base K.log d.0 d.1) v.drawn
@@ -157,7 +157,7 @@ module _ {P Q R E : Type 0} (μ : Meaning P Q R E) where
   -- queue's mark is not above its number
   pub record Covers (e : E) (v : ChairView P Q R E) : Type 0 where
     pub held : (K : Known P Q R E) → Sees v K → (t : Turn) → IsTurn K.opening t → μ.touches K.log e t ≡ true → 0 < times (slot_of K.opening t) v.held
-    pub may : (K : Known P Q R E) → Sees v K → newest K < 9223372036854775808 → μ.may e K
+    pub may : (K : Known P Q R E) → Sees v K → newest K < 2 ^ 63 → μ.may e K
     pub mark : (K : Known P Q R E) → Sees v K → mark_of (μ.queue e) K.claims ≤ suc (newest K)
 
   -- what an entry asks that is read and not drawn
@@ -257,7 +257,7 @@ module _ {M P Q R E : Type 0} (μ : Meaning P Q R E) where
     pub whole : total (λ v. v.parts) s.views ≡ chairs
     pub counted : total (λ v. length v.drawn) s.views ≡ length K.log
     pub once : (n : ℕ) → K.opening.base < n → n ≤ newest K → total (λ v. times n v.drawn) s.views ≡ 1
-    pub bounds : (K.opening.base ≤ 4611686018427387904) × (0 < chairs)
+    pub bounds : (K.opening.base ≤ 2 ^ 62) × (0 < chairs)
     pub each_chair : (j : ℕ) (v : ChairView P Q R E) → get_elem? s.views j ≡ some v → Drawer μ (allotment chairs) K v
 
   -- the other words: the queues' marks and the base; what the chairs read of them, and each charge stands in one view
@@ -282,7 +282,7 @@ module _ {M P Q R E : Type 0} (μ : Meaning P Q R E) where
       × (n ≢ 0 → me' ≡ me)
 
   abbrev pub drew_one : E → At M P Q R E → Sat M P Q R E → ℕ → Sat M P Q R E → Type 0
-  drew_one e st me n me' = ((K : Known P Q R E) × (me' ≡ (after_draw μ e K me.0, me.1)) × (newest K ≡ n) × Sees μ me.0 K) × Below n me.0 × (n < 9223372036854775808) × (me.0.parts ≡ 1 → IsInOrder μ me'.0)
+  drew_one e st me n me' = ((K : Known P Q R E) × (me' ≡ (after_draw μ e K me.0, me.1)) × (newest K ≡ n) × Sees μ me.0 K) × Below n me.0 × (n < 2 ^ 63) × (me.0.parts ≡ 1 → IsInOrder μ me'.0)
 
   abbrev pub looked : Option E → At M P Q R E → Sat M P Q R E → ℕ → Sat M P Q R E → Type 0
   looked o st me n me' = ((K : Known P Q R E) × (me' ≡ (after_look o K me.0, me.1)) × (newest K ≡ n) × Sees μ me.0 K) × Below n me.0 × (me.0.parts ≡ 1 → IsInOrder μ me'.0)

@@ -1,5 +1,5 @@
 -- What is known done, the marks of the queues, and what a chair reads of them.
-use Rattle.std.specs.Prelude.{◌≡◌, ℕ, suc, ◌-◌, ◌<◌, ◌≤◌, ◌&&◌, ◌||◌, nat_eq, nat_le, max, min, Bool, true, false, cond, List, [], ◌∷◌, ◌++◌, length, Option, Some, None}
+use Rattle.std.specs.Prelude.{◌≡◌, ℕ, suc, ◌-◌, ◌^◌, ◌<◌, ◌≤◌, ◌&&◌, ◌||◌, nat_eq, nat_le, max, min, Bool, true, false, cond, List, [], ◌∷◌, ◌++◌, length, Option, Some, None}
 use Rattle.mq_turns.specs.Lists.{Each}
 use Rattle.mq_turns.specs.Meaning.{Meaning, Grows, newest, IsAt}
 use Rattle.mq_turns.specs.declared.rule.Claim.{Claim}
@@ -14,7 +14,7 @@ is_claimed q n (c ∷ cs) = (nat_eq c.queue q && nat_le n c.up_to) || is_claimed
 
 -- the queue's mark
 abbrev pub mark_of : ℕ → List Claim → ℕ
-mark_of q [] = 18446744073709551615
+mark_of q [] = 2 ^ 64 - 1
 mark_of q (c ∷ cs) = cond (nat_eq c.queue q) c.mark (mark_of q cs)
 
 -- what a mark of the queue claims, where n is the newest number: all numbers of the queue below it are done

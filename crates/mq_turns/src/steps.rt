@@ -1,5 +1,5 @@
 // The steps on the table, each with what it needs of the seat.
-ghost use Rattle.std.specs.Prelude.{◌≡◌, ℕ, suc, ◌+◌, ◌*◌, ◌<◌, ◌≤◌, [], ◌∷◌, Option, Some, None, IfSome, IfNone, length};
+ghost use Rattle.std.specs.Prelude.{◌≡◌, ℕ, suc, ◌+◌, ◌*◌, ◌^◌, ◌<◌, ◌≤◌, [], ◌∷◌, Option, Some, None, IfSome, IfNone, length};
 ghost use Rattle.std.specs.Option.{option_map};
 ghost use Rattle.atomic_table.specs.Seated.{TableId};
 ghost use Rattle.mq_turns.specs.Meaning.{newest};
@@ -196,7 +196,7 @@ fn draw_as<M: Machine, N: Told<M::Entry>>(
         × (place.new.me ≡ (after_draw M.meaning entry.now K place.old.me.0, place.old.me.1))
         × (newest K ≡ result)
         × Sees M.meaning place.old.me.0 K }
-    ensures below { Below result place.old.me.0 × (result < 9223372036854775808) }
+    ensures below { Below result place.old.me.0 × (result < 2 ^ 63) }
     ensures order { place.old.me.0.parts ≡ 1 → IsInOrder M.meaning place.new.me.0 }
 {
     let _ = entry;
@@ -223,7 +223,7 @@ pub(crate) fn draw<M: Machine>(
         × (place.new.me ≡ (after_draw M.meaning entry.now K place.old.me.0, place.old.me.1))
         × (newest K ≡ result)
         × Sees M.meaning place.old.me.0 K }
-    ensures below { Below result place.old.me.0 × (result < 9223372036854775808) }
+    ensures below { Below result place.old.me.0 × (result < 2 ^ 63) }
     ensures order { place.old.me.0.parts ≡ 1 → IsInOrder M.meaning place.new.me.0 }
 {
     draw_as::<M, Brand>(top, place, counter, entry)
