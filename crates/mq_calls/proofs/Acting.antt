@@ -3,9 +3,11 @@ use Rattle.std.proofs.Common.{◌≡◌, ℕ, ◌≤◌, List, ◌∷◌, length
 use Rattle.mq_blocks.specs.Drive.{PortState}
 use Rattle.mq_blocks.specs.Geometry.{write_limit}
 use Rattle.mq_blocks.specs.declared.geometry.Geometry.{Geometry}
+use Rattle.mq_checkpoint.specs.Steps.{IsKnownFrom}
 use Rattle.mq_drive.specs.Steps.{Fault}
 use Rattle.mq_drive.specs.declared.port.Port.{Ghosts}
 use Rattle.mq_exec.specs.declared.outcome.Done.{Done}
+use Rattle.mq_files.specs.Group.{file_group}
 use Rattle.mq_files.specs.declared.entry.FileEntry.{FileEntry}
 use Rattle.mq_journal.specs.Draining.{report_of}
 use Rattle.mq_journal.specs.Numbers.{Seat, Shared, reported}
@@ -23,7 +25,7 @@ use Rattle.mq_turns.specs.declared.rule.Reading.{Reading}
 use Rattle.mq_turns.specs.declared.rule.Report.{Report}
 use Rattle.mq_turns.specs.declared.rule.Charge.{Charge}
 use Rattle.mq_turns.specs.declared.rule.Report.TheVariants.{Off, Sent}
-use Rattle.mq_calls.specs.Acts.{Call, Commits, IsCaused, IsKnownFrom, IsOfCall, IsTurnedDown, LacksArea, Rests, WasCutAt, before, cut, drained, kept, memory}
+use Rattle.mq_calls.specs.Acts.{Call, Commits, IsCaused, IsOfCall, IsTurnedDown, LacksArea, Rests, WasCutAt, before, cut, drained, kept, memory}
 use Rattle.mq_calls.specs.Calling.{IsEntryFor}
 use Rattle.mq_calls.specs.Committing.{IsLacking, IsMissed, OnlyReports, ReadsWords, ShowsLack, miss_for, reports_for}
 use Rattle.mq_calls.specs.Drawing.{HasDrawn, IsCommitted}
@@ -95,7 +97,7 @@ module _ {P : Type 0} {G : Ghosts P} where
   charges-of old taken v holds words = words.charged ∙ ap (λ (x : Reads P G). x.charged) holds.reading
 
 module _ {P : Type 0} {G : Ghosts P} (state : P → PortState) (faults : P → List Fault) where
-  pub known-before : (old v : Seat P FileEntry G) (K : Shared P FileEntry G) → v.opening ≡ old.opening → old.seen ≤ v.seen → v.drawn ≡ old.drawn → IsKnownFrom state faults v K → IsKnownFrom state faults old K
+  pub known-before : (old v : Seat P FileEntry G) (K : Shared P FileEntry G) → v.opening ≡ old.opening → old.seen ≤ v.seen → v.drawn ≡ old.drawn → IsKnownFrom state faults file_group v K → IsKnownFrom state faults file_group old K
   known-before old v K opening seen drawn k = record {
     opening = sym opening ∙ k.opening;
     ok = k.ok;

@@ -4,6 +4,7 @@ use Rattle.std.specs.Prelude.{None, Result, Ok, Err}
 use Rattle.mq_blocks.specs.Drive.{PortState}
 use Rattle.mq_drive.specs.Steps.{Fault}
 use Rattle.mq_drive.specs.declared.port.Port.{Ghosts}
+use Rattle.mq_checkpoint.specs.Steps.{IsKnownFrom}
 use Rattle.mq_files.specs.Group.{file_group}
 use Rattle.mq_files.specs.declared.entry.FileEntry.{FileEntry}
 use Rattle.mq_journal.specs.Draining.{report_of}
@@ -18,7 +19,7 @@ use Rattle.mq_side.specs.declared.answers.Cause.TheVariants.{Stopped}
 use Rattle.mq_side.specs.declared.answers.Why.{Why}
 use Rattle.mq_side.specs.declared.side.QueueSide.{QueueSide}
 use Rattle.mq_turns.specs.Desk.{Sees}
-use Rattle.mq_calls.specs.Acts.{IsCaused, IsKnownFrom, drained, kept}
+use Rattle.mq_calls.specs.Acts.{IsCaused, drained, kept}
 use Rattle.mq_calls.specs.Preparing.{cause_kept}
 use Rattle.mq_calls.specs.Runs.{file_values, files}
 
@@ -29,10 +30,10 @@ refusal-same : (c d : Cause) → refusal c ≡ refusal d → c ≡ d
 refusal-same c d e = cc
 
 module _ {P : Type 0} {G : Ghosts P} (state : P → PortState) (faults : P → List Fault) (o : Start P FileEntry G) (q : ℕ) (v : Seat P FileEntry G) (opening : v.opening ≡ Some o) where
-  known-from : (K : Shared P FileEntry G) → Sees (files state faults) v K → IsKnownFrom state faults v K
+  known-from : (K : Shared P FileEntry G) → Sees (files state faults) v K → IsKnownFrom state faults file_group v K
   known-from K sees = record { opening = sees.opening; ok = sees.ok; seen = sees.seen; drew = sees.drew }
 
-  by-drain : (K : Shared P FileEntry G) (s u : QueueSide P FileEntry G) (c : Cause) (r : Result ℕ Cause) → IsKnownFrom state faults v K → IsSide (file_values state faults) file_group q K s → Drains (side_state state faults s) r (side_state state faults u) → DrainCause r (faults s.pmr.port) (faults u.pmr.port) → refusal c ≡ drain_answer r → IsCaused state faults v q c
+  by-drain : (K : Shared P FileEntry G) (s u : QueueSide P FileEntry G) (c : Cause) (r : Result ℕ Cause) → IsKnownFrom state faults file_group v K → IsSide (file_values state faults) file_group q K s → Drains (side_state state faults s) r (side_state state faults u) → DrainCause r (faults s.pmr.port) (faults u.pmr.port) → refusal c ≡ drain_answer r → IsCaused state faults v q c
   by-drain K s u c (Ok n) known side drains cause is = absurd cc
   by-drain K s u c (Err d) known side drains cause is = subst (λ (x : Cause). IsCaused state faults v q x) (sym (refusal-same c d is)) (drained K s u known side drains cause)
 

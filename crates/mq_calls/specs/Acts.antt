@@ -4,6 +4,7 @@ use Rattle.mq_blocks.specs.Drive.{PortState}
 use Rattle.mq_blocks.specs.Geometry.{area_of, write_limit}
 use Rattle.mq_blocks.specs.declared.geometry.Geometry.{Geometry}
 use Rattle.mq_checkpoint.specs.Raised.{HasRefused, Raises}
+use Rattle.mq_checkpoint.specs.Steps.{IsKnownFrom}
 use Rattle.mq_checkpoint.specs.declared.refusal.CheckpointRefusal.{CheckpointRefusal}
 use Rattle.mq_checkpoint.specs.declared.refusal.CheckpointRefusal.TheVariants as checkpoint
 use Rattle.mq_drive.specs.Steps.{Fault}
@@ -21,7 +22,7 @@ use Rattle.mq_pages.specs.declared.page.Write.{Write}
 use Rattle.mq_revoke.specs.Placed.{Placed}
 use Rattle.mq_revoke.specs.Placing.{IsPlacement}
 use Rattle.mq_revoke.specs.declared.placement.Planned.{Planned}
-use Rattle.mq_rules.specs.Rule.{IsOk, IsSide, core_of, history_of, map_now, start_of}
+use Rattle.mq_rules.specs.Rule.{IsSide, core_of, history_of, map_now, start_of}
 use Rattle.mq_side.specs.Commits.{NumberedCommit}
 use Rattle.mq_side.specs.Drained.{DrainCause, Drains}
 use Rattle.mq_side.specs.Side.{side_state}
@@ -34,8 +35,7 @@ use Rattle.mq_side.specs.declared.answers.Why.{Why}
 use Rattle.mq_side.specs.declared.side.QueueSide.{QueueSide}
 use Rattle.mq_tree.specs.declared.request.Reply.{Reply}
 use Rattle.mq_tree.specs.declared.request.Request.{Request}
-use Rattle.mq_turns.specs.Lists.{Each}
-use Rattle.mq_turns.specs.Meaning.{IsAt, newest}
+use Rattle.mq_turns.specs.Meaning.{newest}
 use Rattle.mq_turns.specs.declared.rule.Answer.TheVariants.{Base, Front}
 use Rattle.mq_turns.specs.declared.rule.Report.{Report}
 use Rattle.mq_turns.specs.declared.rule.Report.TheVariants as report
@@ -133,19 +133,11 @@ module _ {P : Type 0} {G : Ghosts P} where
     pub above : limit < count
 
 module _ {P : Type 0} {G : Ghosts P} (state : P → PortState) (faults : P → List Fault) where
-  -- This may have been known on the session's desk from then on: it is by the rule of the desk, no number that the session
-  -- had seen or been told is above it, and each group that the session had drawn is in it with its number.
-  pub record IsKnownFrom (v : Seat P FileEntry G) (K : Shared P FileEntry G) : Type 0 where
-    pub opening : v.opening ≡ Some K.opening
-    pub ok : IsOk (file_values state faults) file_group K
-    pub seen : v.seen ≤ newest K
-    pub drew : Each (λ d. IsAt K.opening.base K.log d.0 d.1) v.drawn
-
   -- By what was known since then, a side that the session held is what lies there; it had kept the failure that is named,
   -- or its drain came to this refusal.
   pub data IsCaused (v : Seat P FileEntry G) (q : ℕ) : Cause → Type 0 where
-    kept : {tx : ℕ} {why : Why} (K : Shared P FileEntry G) (s : QueueSide P FileEntry G) → IsKnownFrom v K → IsSide (file_values state faults) file_group q K s → s.kept ≡ Some (tx, why) → IsCaused v q (Stopped tx why)
-    drained : {c : Cause} (K : Shared P FileEntry G) (s after : QueueSide P FileEntry G) → IsKnownFrom v K → IsSide (file_values state faults) file_group q K s → Drains (side_state state faults s) (Err c) (side_state state faults after) → DrainCause (Err c) (faults s.pmr.port) (faults after.pmr.port) → IsCaused v q c
+    kept : {tx : ℕ} {why : Why} (K : Shared P FileEntry G) (s : QueueSide P FileEntry G) → IsKnownFrom state faults file_group v K → IsSide (file_values state faults) file_group q K s → s.kept ≡ Some (tx, why) → IsCaused v q (Stopped tx why)
+    drained : {c : Cause} (K : Shared P FileEntry G) (s after : QueueSide P FileEntry G) → IsKnownFrom state faults file_group v K → IsSide (file_values state faults) file_group q K s → Drains (side_state state faults s) (Err c) (side_state state faults after) → DrainCause (Err c) (faults s.pmr.port) (faults after.pmr.port) → IsCaused v q c
 
   -- A port's refusal before the group drew a number. It is charged to the port of the queue, and nothing else is.
   pub record Refuses (q : ℕ) (c : Cause) (old new : Seat P FileEntry G) : Type 0 where
@@ -196,7 +188,7 @@ module _ {P : Type 0} {G : Ghosts P} (state : P → PortState) (faults : P → L
   -- queue: by that base there is no room for it beside what the side stores, which the session held.
   pub record LacksArea (g : Geometry) (c : Call) (old new : Seat P FileEntry G) : Type 0 where
     pub known : Shared P FileEntry G
-    pub from : IsKnownFrom old known
+    pub from : IsKnownFrom state faults file_group old known
     pub reads : WordsRead
     pub answers : new.reading.answers ≡ Base reads.base ∷ Front reads.front ∷ old.reading.answers
     pub plan : Placed

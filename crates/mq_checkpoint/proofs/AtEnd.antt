@@ -117,7 +117,7 @@ module _ {P E : Type 0} {G : Ghosts P} (state : P → PortState) (faults : P →
     reached = reached;
     raised_to = record {
       known = st.raised_to.known;
-      since = known_before [] (Front front ∷ []) v u st.raised_to.known m st.raised_to.since;
+      since = known_before state faults group [] (Front front ∷ []) v u st.raised_to.known m st.raised_to.since;
       ok = st.raised_to.ok;
       root = st.raised_to.root;
       flushed = st.raised_to.flushed;

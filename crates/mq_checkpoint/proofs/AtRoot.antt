@@ -172,5 +172,5 @@ module _ {P E : Type 0} {G : Ghosts P} (state : P → PortState) (faults : P →
       off_refused = record {
         port = turn.Root;
         moves = moves_report v w 0 _ (reported_root report.Off) whole;
-        caused = at_root K1 s u (known_seen state faults group v K1 sees1) is (gains_rises PowerOff (faults s.port) (faults u.port) gains);
+        caused = at_root K1 s u tt (known_seen state faults group v K1 sees1) is (gains_rises PowerOff (faults s.port) (faults u.port) gains);
       }

@@ -17,7 +17,7 @@ use Rattle.mq_journal.specs.Numbers.{HoldsSide, IsReported, Seat, Shared, Start,
 use Rattle.mq_pages.specs.declared.page.PageCell.{PageCell}
 use Rattle.mq_rules.specs.Groups.{Group}
 use Rattle.mq_rules.specs.Rule
-use Rattle.mq_rules.specs.Rule.{IsRoot}
+use Rattle.mq_rules.specs.Rule.{IsOfRoot, IsRoot}
 use Rattle.mq_rules.specs.Values.{Values}
 use Rattle.mq_side.specs.Homes.{RootStaysAt}
 use Rattle.mq_side.specs.declared.answers.Cause.{Cause}
@@ -127,9 +127,9 @@ module _ {P E : Type 0} {G : Ghosts P} (state : P → PortState) (faults : P →
     pub refused_held : HoldsOnlyPage state faults group o b c w
     refused_held = report_held state faults group o b c v v1 opening h None zone_there tt below K2 took n.known w w n.sees (report_of c1) n.is
 
-    pub refused_root : IsCauseOf c1 None (faults s.port) (faults u.port) → Sees μ v K2 → IsRefusedBy state faults group [] c1 v w
-    refused_root why seen = record {
+    pub refused_root : IsOfRoot (report_of c1) → IsCauseOf c1 None (faults s.port) (faults u.port) → Sees μ v K2 → IsRefusedBy state faults group [] c1 v w
+    refused_root of_root why seen = record {
       port = turn.Root;
       moves = report_moves state faults group o b c v v1 opening h None zone_there tt below K2 took n.known w w n.sees (report_of c1) n.is;
-      caused = at_root K2 s u (known_seen state faults group v K2 seen) is why;
+      caused = at_root K2 s u of_root (known_seen state faults group v K2 seen) is why;
     }

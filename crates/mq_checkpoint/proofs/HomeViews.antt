@@ -82,8 +82,8 @@ module _ {P E : Type 0} {G : Ghosts P} (state : P → PortState) (faults : P →
   pub bring_seen : (o : Start P E G) (b : ℕ) (c : PageCell) (v : Seat P E G) → v.opening ≡ Some o → HoldsOnlyPage state faults group o b c v → IsDue c v → (K : Shared P E G) → Sees μ v K → IsToBring (Rule.core_of values group K) K.ended b c.version c.last_logged c.home_version
   bring_seen o b c v opening h due K sees = page_waits values group b K c (page_seen o b c v opening h K sees) due.last due.waits (done_front v K c.version sees due.done)
 
-  pub known_seen : (v : Seat P E G) (K : Shared P E G) → Sees μ v K → IsKnownFrom v K
-  known_seen v K sees = record { opening = sees.opening; seen = sees.seen }
+  pub known_seen : (v : Seat P E G) (K : Shared P E G) → Sees μ v K → IsKnownFrom state faults group v K
+  known_seen v K sees = record { opening = sees.opening; ok = sees.ok; seen = sees.seen; drew = sees.drew }
 
   -- ---- the port of the block is taken
 

@@ -1,5 +1,5 @@
 -- Steps of a checkpoint one after another.
-use Rattle.std.proofs.Common.{◌≡◌, ℕ, ◌≤◌, List, [], ◌∷◌, ◌++◌, refl, sym, ap, ◌∙◌, arith}
+use Rattle.std.proofs.Common.{◌≡◌, ℕ, ◌≤◌, List, [], ◌∷◌, ◌++◌, refl, sym, ap, ◌∙◌, subst, arith}
 use Rattle.mq_blocks.specs.Drive.{PortState}
 use Rattle.mq_drive.specs.Steps.{Fault}
 use Rattle.mq_drive.specs.declared.port.Port.{Ghosts}
@@ -7,6 +7,8 @@ use Rattle.mq_pages.specs.declared.page.PageCell.{PageCell}
 use Rattle.mq_journal.specs.Numbers.{Seat, Shared}
 use Rattle.mq_rules.specs.Groups.{Group}
 use Rattle.mq_side.specs.declared.answers.Cause.{Cause}
+use Rattle.mq_turns.specs.Lists.{Each}
+use Rattle.mq_turns.specs.Meaning.{IsAt}
 use Rattle.mq_turns.specs.declared.rule.Answer.{Answer}
 use Rattle.mq_turns.specs.declared.rule.Charge.{Charge}
 use Rattle.mq_turns.specs.declared.turn.Turn.{Turn}
@@ -143,13 +145,18 @@ module _ {P E : Type 0} {G : Ghosts P} where
     charged = ap (λ (z : Seat P E G). z.reading.charged) is;
   }
 
-  pub known_before : (r : List Charge) (f : List Answer) (v u : Seat P E G) (K : Shared P E G) → Moves r f v u → IsKnownFrom u K → IsKnownFrom v K
-  known_before r f v u K m k = record { opening = sym m.opening ∙ k.opening; seen = let a = m.seen in let b = k.seen in omega arith }
-
 module _ {P E : Type 0} {G : Ghosts P} (state : P → PortState) (faults : P → List Fault) (group : Group E) where
+  pub known_before : (r : List Charge) (f : List Answer) (v u : Seat P E G) (K : Shared P E G) → Moves r f v u → IsKnownFrom state faults group u K → IsKnownFrom state faults group v K
+  known_before r f v u K m k = record {
+    opening = sym m.opening ∙ k.opening;
+    ok = k.ok;
+    seen = let a = m.seen in let b = k.seen in omega arith;
+    drew = subst (Each (λ d. IsAt K.opening.base K.log d.0 d.1)) m.drawn k.drew;
+  }
+
   caused_before : (r : List Charge) (f : List Answer) (v u : Seat P E G) (t : Turn) (c : Cause) → Moves r f v u → IsCaused state faults group u t c → IsCaused state faults group v t c
   caused_before r f v u t c m (at_side K s after known is cause) = at_side K s after (known_before r f v u K m known) is cause
-  caused_before r f v u t c m (at_root K s after known is cause) = at_root K s after (known_before r f v u K m known) is cause
+  caused_before r f v u t c m (at_root K s after of_root known is cause) = at_root K s after of_root (known_before r f v u K m known) is cause
 
   pub refused_on : (fronts : List Answer) (c : Cause) (v u w : Seat P E G) → Moves [] [] v u → IsRefusedBy state faults group fronts c u w → IsRefusedBy state faults group fronts c v w
   refused_on fronts c v u w m r = record { port = r.port; moves = moves_on _ fronts v u w m r.moves; caused = caused_before [] [] v u r.port c m r.caused }

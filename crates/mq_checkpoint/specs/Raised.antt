@@ -37,7 +37,7 @@ module _ {P E : Type 0} {G : Ghosts P} (state : P → PortState) (faults : P →
   -- the root is what the rule says.
   pub record IsRaisedTo (base : ℕ) (v : Seat P E G) : Type 0 where
     pub known : Shared P E G
-    pub since : IsKnownFrom v known
+    pub since : IsKnownFrom state faults group v known
     pub ok : IsOk (values state faults group) group (raised base known)
     pub root : Root P G
     pub flushed : (state root.port).base ≡ base

@@ -8,14 +8,15 @@ use Rattle.mq_journal.specs.Numbers.{Seat, Shared}
 use Rattle.mq_journal.specs.Values.{side_values}
 use Rattle.mq_pages.specs.declared.page.PageCell.{PageCell}
 use Rattle.mq_rules.specs.Groups.{Group}
-use Rattle.mq_rules.specs.Rule.{IsRoot, IsSide}
+use Rattle.mq_rules.specs.Rule.{IsOfRoot, IsOk, IsRoot, IsSide}
 use Rattle.mq_side.specs.Drained.{Rises}
 use Rattle.mq_side.specs.declared.answers.Cause.{Cause}
 use Rattle.mq_side.specs.declared.answers.Cause.TheVariants as cause
 use Rattle.mq_side.specs.declared.answers.Why.{Why}
 use Rattle.mq_side.specs.declared.root.Root.{Root}
 use Rattle.mq_side.specs.declared.side.QueueSide.{QueueSide}
-use Rattle.mq_turns.specs.Meaning.{newest}
+use Rattle.mq_turns.specs.Lists.{Each}
+use Rattle.mq_turns.specs.Meaning.{IsAt, newest}
 use Rattle.mq_turns.specs.declared.rule.Answer.{Answer}
 use Rattle.mq_turns.specs.declared.rule.Charge.{Charge}
 use Rattle.mq_turns.specs.declared.turn.Turn.{Turn}
@@ -42,11 +43,6 @@ module _ {P E : Type 0} {G : Ghosts P} where
     pub answers : new.reading.answers ≡ fronts ++ old.reading.answers
     pub charged : new.reading.charged ≡ reports ++ old.reading.charged
 
-  -- This was known on the session's desk, when all that the session had seen was.
-  pub record IsKnownFrom (v : Seat P E G) (K : Shared P E G) : Type 0 where
-    pub opening : v.opening ≡ Some K.opening
-    pub seen : v.seen ≤ newest K
-
 -- A port that was refused has gained faults in the call, or has as many as a count of 64 bits can say; of a failure that
 -- stopped a queue before, the side had kept it.
 abbrev pub IsCauseOf : Cause → Option (ℕ × Why) → List Fault → List Fault → Type 0
@@ -56,11 +52,19 @@ IsCauseOf (cause.FailedHome block status) kept old new = Rises old new
 IsCauseOf (cause.Stopped tx why) kept old new = kept ≡ Some (tx, why)
 
 module _ {P E : Type 0} {G : Ghosts P} (state : P → PortState) (faults : P → List Fault) (group : Group E) where
+  -- This may have been known on the session's desk from then on: it is by the rule of the desk, no number that the session
+  -- had seen or been told is above it, and each group that the session had drawn is in it with its number.
+  pub record IsKnownFrom (v : Seat P E G) (K : Shared P E G) : Type 0 where
+    pub opening : v.opening ≡ Some K.opening
+    pub ok : IsOk (side_values state faults) group K
+    pub seen : v.seen ≤ newest K
+    pub drew : Each (λ d. IsAt K.opening.base K.log d.0 d.1) v.drawn
+
   -- By what was known since then, a side or the root that the session held is what lies there, and its port came to this
   -- refusal.
   pub data IsCaused (v : Seat P E G) : Turn → Cause → Type 0 where
     at_side : {q : ℕ} {c : Cause} (K : Shared P E G) (s after : QueueSide P E G) → IsKnownFrom v K → IsSide (side_values state faults) group q K s → IsCauseOf c s.kept (faults s.pmr.port) (faults after.pmr.port) → IsCaused v (Side q) c
-    at_root : {c : Cause} (K : Shared P E G) (r after : Root P G) → IsKnownFrom v K → IsRoot (side_values state faults) group K r → IsCauseOf c None (faults r.port) (faults after.port) → IsCaused v turn.Root c
+    at_root : {c : Cause} (K : Shared P E G) (r after : Root P G) → IsOfRoot (report_of c) → IsKnownFrom v K → IsRoot (side_values state faults) group K r → IsCauseOf c None (faults r.port) (faults after.port) → IsCaused v turn.Root c
 
   -- The drive refused a call on a port whose turn the session held: that alone was reported.
   pub record IsRefusedBy (fronts : List Answer) (c : Cause) (old new : Seat P E G) : Type 0 where

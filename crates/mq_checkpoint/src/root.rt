@@ -3,7 +3,7 @@ ghost use Rattle.std.specs.Prelude.{◌≡◌, ◌<◌, ◌≤◌, [], length, I
 ghost use Rattle.mq_base.specs.Bases.{BaseOk};
 ghost use Rattle.mq_drive.specs.Steps.{OffCause};
 ghost use Rattle.mq_journal.specs.Numbers.{Shared, machine, values};
-ghost use Rattle.mq_rules.specs.Rule.{IsRefusal, core_of};
+ghost use Rattle.mq_rules.specs.Rule.{IsOfRoot, core_of};
 ghost use Rattle.mq_turns.specs.AtDesk.{AtDesk, view, start_of};
 ghost use Rattle.mq_turns.specs.Desk.{Sees, slot_of};
 ghost use Rattle.mq_turns.specs.Lists.{times};
@@ -28,7 +28,7 @@ pub(crate) fn report_root<P: Port + Drop, G: Groups>(
 )
     requires at { AtDesk desk.now chair.old }
     requires holds { 0 < times (slot_of (start_of desk.now) turn.Root) (view chair.old).held }
-    requires refusal { IsRefusal report }
+    requires of_root { IsOfRoot report }
     requires shows { ShowsRootReport P.state P.faults G.group report root (view chair.old) }
     ensures at { AtDesk desk.now chair.new }
     ensures reported { IsReportedOfRoot P.state P.faults G.group (start_of desk.now) report

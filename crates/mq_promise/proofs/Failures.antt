@@ -36,7 +36,7 @@ use Rattle.mq_report.specs.declared.line.Line.{Line}
 use Rattle.mq_report.specs.declared.line.Told.{Told}
 use Rattle.mq_rules.proofs.Settled.{entry_at}
 use Rattle.mq_rules.specs.Faults.{reports_of}
-use Rattle.mq_rules.specs.Rule.{IsOfPort, IsSide, core_of, doorbell_of, geometry_of, own_of}
+use Rattle.mq_rules.specs.Rule.{IsOfPort, IsOfRoot, IsSide, core_of, doorbell_of, geometry_of, own_of}
 use Rattle.mq_rules.specs.Values.{Values}
 use Rattle.mq_script.specs.Scripts.{Script}
 use Rattle.mq_side.specs.Laws.{Names}
@@ -128,9 +128,9 @@ module _ {P : Type 0} (G : Ghosts P) (state : P → PortState) (faults : P → L
   side-low : (q : ℕ) (cause : Cause) → Contains reports (charge_for (Side q) cause) → q < length K.opening.sides
   side-low q cause c = (holds-of reports K.charges (charge_for (Side q) cause) run.ends.run.end.charges c (IsOfPort (length K.opening.sides)) run.ends.run.end.ok.ports).0
 
-  -- no transaction stays undone on the root's port
-  pub not-of-root : (tx : ℕ) (w : Why) → Contains reports (charge_for turn.Root (Stopped tx w)) → ⊥
-  not-of-root tx w c = (holds-of reports K.charges (charge_for turn.Root (Stopped tx w)) run.ends.run.end.charges c (IsOfPort (length K.opening.sides)) run.ends.run.end.ok.ports).1 refl
+  -- of the root's port only its own refusals are reported: no transaction has failed or stays undone there
+  pub of-root : (cause : Cause) → Contains reports (charge_for turn.Root cause) → IsOfRoot (report_of cause)
+  of-root cause c = (holds-of reports K.charges (charge_for turn.Root cause) run.ends.run.end.charges c (IsOfPort (length K.opening.sides)) run.ends.run.end.ok.ports).1 refl
 
   shows-of : (q : ℕ) (cause : Cause) → Contains reports (charge_for (Side q) cause) → (x : SideAt q) → Shows (doorbell_of values file_group K.opening q) (own_of values file_group q K) (state x.side.pmr.port).doorbell (state x.side.pmr.port).failed x.side.kept (report_of cause)
   shows-of q cause c x =
@@ -222,7 +222,7 @@ module _ {P : Type 0} (G : Ghosts P) (state : P → PortState) (faults : P → L
     stopped-at : (tx : ℕ) (w : Why) (t : Turn) → Contains reports (charge_for t (Stopped tx w)) → (queues : List PortImage) (root : PortImage) (ds : List Descriptor) (top : ℕ) → AreImages g (drive_of state e.ports) queues root → IsRead g (shown says g queues root) ds top → IsUndone g e.entries.items (root.base + length ds) tx
     stopped-at tx w (turn.Page b) c queues root ds top images read = absurd (holds-of reports K.charges (charge_for (turn.Page b) (Stopped tx w)) run.ends.run.end.charges c (IsOfPort (length K.opening.sides)) run.ends.run.end.ok.ports).0
     stopped-at tx w (Side q) c queues root ds top images read = undone q (Stopped tx w) tx c refl queues root ds top images read
-    stopped-at tx w turn.Root c queues root ds top images read = absurd (not-of-root tx w c)
+    stopped-at tx w turn.Root c queues root ds top images read = absurd (of-root (Stopped tx w) c)
 
     -- the transaction that stays undone by a refusal is
     pub stopped-undone : (queues : List PortImage) (root : PortImage) (ds : List Descriptor) (top : ℕ) → AreImages g (drive_of state e.ports) queues root → IsRead g (shown says g queues root) ds top

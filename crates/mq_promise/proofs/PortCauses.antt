@@ -1,12 +1,12 @@
 -- What refusals for a drive's cause say of a run on an image, by the faults that its ports have gained.
-use Rattle.std.proofs.Common.{◌≡◌, ◌⊎◌, ◌∙◌, ℕ, zero, suc, ◌+◌, ◌-◌, ◌<◌, ◌≤◌, ◌^◌, ◌++◌, eqb, Bool, true, false, cond, List, [], ◌∷◌, length, map, Option, Some, None, replicate, inl, inr, refl, sym, ap, subst, arith}
+use Rattle.std.proofs.Common.{◌≡◌, ◌⊎◌, ◌∙◌, ℕ, zero, suc, ◌+◌, ◌-◌, ◌<◌, ◌≤◌, ◌^◌, ◌++◌, true, false, List, [], ◌∷◌, length, map, Option, Some, None, replicate, inl, inr, refl, sym, ap, subst, arith}
 use Rattle.std.specs.Prelude.{Err, Result, is_none, slice_get, slice_index_or}
 use Rattle.std.specs.List.{Contains}
-use Rattle.std.proofs.lemmas.Bool.{cases_lt, ne_eqb, or_left, or_right, true≢false}
+use Rattle.std.proofs.lemmas.Bool.{or_left, or_right, true≢false}
 use Rattle.std.proofs.lemmas.List.{length-map}
 use Rattle.std.proofs.lemmas.Option.{get_or_from_slice_get, slice_get_within}
 use Rattle.mq_blocks.specs.Drive.{FuseName, PortImage, PortState, no_fuse}
-use Rattle.mq_blocks.specs.Geometry.{home_lba, queues_of}
+use Rattle.mq_blocks.specs.Geometry.{home_lba}
 use Rattle.mq_blocks.specs.Journal.{Shown}
 use Rattle.mq_blocks.specs.declared.geometry.Geometry.{Geometry}
 use Rattle.mq_calls.specs.declared.answers.CallCause.TheVariants.{Drive}
@@ -42,6 +42,7 @@ use Rattle.mq_report.specs.declared.line.Last.{Last}
 use Rattle.mq_report.specs.declared.line.Last.TheVariants.{Cut}
 use Rattle.mq_report.specs.declared.line.Told.{Told}
 use Rattle.mq_rules.specs.Faults.{WasGained, named_by}
+use Rattle.mq_rules.specs.Rule.{IsOfRoot}
 use Rattle.mq_run.specs.Runs.{HasRunScripts}
 use Rattle.mq_run.specs.declared.end.RunEnd.{RunEnd}
 use Rattle.mq_script.specs.Scripts.{Script}
@@ -55,11 +56,11 @@ use Rattle.mq_tree.specs.Volume.{Volume}
 use Rattle.mq_turns.specs.Desk.{charged_of}
 use Rattle.mq_turns.specs.declared.turn.Turn.{Turn}
 use Rattle.mq_turns.specs.declared.turn.Turn.TheVariants.{Page, Root, Side}
-use Rattle.mq_promise.specs.Causes.{AreBacked, ArePortCauses, HasFailedCommand, IsOfCommand, IsOfPower, IsOfQueue, IsPoweredOff, IsUntold}
+use Rattle.mq_promise.specs.Causes.{AreBacked, ArePortCauses, HasFailedCommand, IsOfCommand, IsOfPower, IsPoweredOff, IsUntold}
 use Rattle.mq_promise.specs.Laws.{HavePortCauses}
 use Rattle.mq_promise.proofs.Blames.{charge-backed, charge_for, is-charged}
-use Rattle.mq_promise.proofs.Failures.{not-of-root, undone}
-use Rattle.mq_promise.proofs.Gained.{Stands, full-off, gained-stands, failed-by, home-block, never-off, none-failed, off-among, offs_of}
+use Rattle.mq_promise.proofs.Failures.{of-root, undone}
+use Rattle.mq_promise.proofs.Gained.{Stands, full-off, gained-stands, failed-by, home-block, never-off, off-among, offs_of}
 use Rattle.mq_promise.proofs.Pairs.{cons-cases, get-in, in-either, in-get, in-left, in-right, map-get, none-in}
 use Rattle.mq_promise.proofs.Saved as saved
 
@@ -154,21 +155,8 @@ starts-hold Q g fuse fail each none from [] q = none
 starts-hold Q g fuse fail each none from (i ∷ images) zero = each from
 starts-hold Q g fuse fail each none from (i ∷ images) (suc q) = starts-hold Q g fuse fail each none (from + 1) images q
 
-own-or-not : (queues : ℕ) (fail : Option Failing) → IsOfQueue queues fail ⊎ (IsOfQueue queues fail → ⊥)
-own-or-not queues None = inl tt
-own-or-not queues (Some f) = elim (cases_lt f.port queues) [ inl low ↦ inl low | inr high ↦ inr (λ low. omega arith) ]
-
 some-cut : {cut : Option ℕ} {k : ℕ} → cut ≡ None → cut ≡ Some k → ⊥
 some-cut none some = cc
-
--- no command of a port with this number is to fail
-none-named : (fail : Option Failing) (queues : ℕ) → IsOfQueue queues fail → command_of fail queues ≡ None
-none-named None queues own = refl
-none-named (Some f) queues own = by (eqb f.port queues) (ne_eqb f.port queues (λ same. absurd (omega arith)))
-  where
-    by : (b : Bool) → b ≡ false → cond b (Some f.command) None ≡ None
-    by true other = absurd (true≢false other)
-    by false other = refl
 
 last-cut : (k events : ℕ) (finished : Option (Result ℕ CheckpointRefusal)) (last : Last) → IsLast (Some k) events finished last → events ≡ k → last ≡ Cut k
 last-cut k events finished last is many = is ∙ ap (λ (n : ℕ). Cut n) many
@@ -222,12 +210,6 @@ module _ (x : DriveImage) (scripts : List Script) (o : RunOptions) (r : ImageRun
   -- without a cut the power of no port was off
   on-always : o.cut ≡ None → (t : Turn) (p : EmuPort) → IsUnder new t p → offs_of p ≡ 0
   on-always no_cut t p under = never-off p (bound-at (λ f n. f.limit ≡ None) (λ k. run.power ∙ no_cut) refl t p under)
-
-  -- the root's port fails no command where the one that is to fail is a queue's
-  root-sound : IsOfQueue (queues_of g) o.fail → (emu_state new.root).fail ≡ None
-  root-sound own =
-      let none = none-named o.fail run.recovered.image.geometry.queues (subst (λ (z : Geometry). IsOfQueue (queues_of z) o.fail) (sym same) own) in
-      bounds.root.fail ∙ (ap (λ (d : DriveState). d.root.fail) run.stops.drives.started.states ∙ none)
 
   -- ---- the port that is behind a refusal
 
@@ -346,24 +328,24 @@ module _ (x : DriveImage) (scripts : List Script) (o : RunOptions) (r : ImageRun
     role-of Root p under = (role.Root, tt, subst (λ (p : EmuPort). IsPortOf g role.Root (emu_state p)) (sym under) are-ports.root)
 
     abbrev Holds : Cause → Type 0
-    Holds cause = IsPortCause g r.entries.items reached cause ⊎ IsUntold (queues_of g) o r cause
+    Holds cause = IsPortCause g r.entries.items reached cause ⊎ IsUntold o r cause
 
     full : (cause : Cause) (t : Turn) (b : BacksCause g cause t new) → IsOfCommand cause → 2 ^ 64 - 1 ≤ length (emu_faults b.port) → Holds cause
-    full cause t b is many = inr (is, inl (powered-by (off-of cause t b (full-off b.port many))))
+    full cause t b is many = inr (is, powered-by (off-of cause t b (full-off b.port many)))
+
+    of-roots : (cause : Cause) → Contains (charged_of ran.ends.left) (charge_for Root cause) → IsOfRoot (report_of cause)
+    of-roots = of-root emu_ghosts emu_state emu_faults (λ p. refl) g old (saved.standing x scripts o r run bytes) scripts (is_none o.cut) end ran
 
     -- a queue's command fails on the port of no queue but its own
     failed-holds : (tx status : ℕ) (t : Turn) → Contains (charged_of ran.ends.left) (charge_for t (Failed tx status)) → (b : BacksCause g (Failed tx status) t new) → Stands b.port (CommandError tx status) → Holds (Failed tx status)
     failed-holds tx status (Page b) c backs_it stands = absurd backs_it.under
     failed-holds tx status (Side q) c backs_it stands = inl (undone-on q (Failed tx status) tx c refl, stands.3)
-    failed-holds tx status Root c backs_it stands = elim (own-or-not (queues_of g) o.fail) [
-      | inl own ↦ (let sound = subst (λ (p : EmuPort). (emu_state p).fail ≡ None) (sym backs_it.under) (root-sound own) in absurd (none-failed backs_it.port sound (Queued stands.0) stands.1))
-      | inr not ↦ inr (tt, inr not)
-    ]
+    failed-holds tx status Root c backs_it stands = absurd (of-roots (Failed tx status) c)
 
     stopped-at : (tx : ℕ) (w : Why) (t : Turn) → Contains (charged_of ran.ends.left) (charge_for t (Stopped tx w)) → BacksCause g (Stopped tx w) t new → IsUndone g r.entries.items reached tx
     stopped-at tx w (Page b) c backs_it = absurd backs_it.under
     stopped-at tx w (Side q) c backs_it = undone-on q (Stopped tx w) tx c refl
-    stopped-at tx w Root c backs_it = absurd (not-of-root emu_ghosts emu_state emu_faults (λ p. refl) g old (saved.standing x scripts o r run bytes) scripts (is_none o.cut) end ran tx w c)
+    stopped-at tx w Root c backs_it = absurd (of-roots (Stopped tx w) c)
 
     home-holds : (block status : ℕ) (t : Turn) (b : BacksCause g (FailedHome block status) t new) → Stands b.port (HomeError (home_lba g block) status) → Holds (FailedHome block status)
     home-holds block status t b stands = (let port = role-of t b.port b.under in inl (home-block g port.0 b.port stands.0 block port.1 port.2 stands.1 stands.2, stands.3))
@@ -384,9 +366,9 @@ module _ (x : DriveImage) (scripts : List Script) (o : RunOptions) (r : ImageRun
       undone = λ t tx w c by. (let b = backed t by.0 (Stopped tx w) c by.1 by.2 in stopped-at tx w b.turn b.charged b.backs_it);
     }
 
-    -- without a cut, where the command that is to fail is none of the root's, all of it holds
-    pub have-port-causes : o.cut ≡ None → IsOfQueue (queues_of g) o.fail → HavePortCauses g r.entries.items reached r.answers.items
-    have-port-causes no_cut own t f cause c bad is = elim (port-cause cause (backed t f cause c bad is)) [
+    -- without a cut all of it holds
+    pub have-port-causes : o.cut ≡ None → HavePortCauses g r.entries.items reached r.answers.items
+    have-port-causes no_cut t f cause c bad is = elim (port-cause cause (backed t f cause c bad is)) [
       | inl holds ↦ holds
-      | inr untold ↦ elim untold.1 [ inl off ↦ absurd (some-cut no_cut off.1) | inr not ↦ absurd (not own) ]
+      | inr untold ↦ (let off = untold.1 in absurd (some-cut no_cut off.1))
     ]

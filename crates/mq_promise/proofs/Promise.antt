@@ -12,7 +12,7 @@ use Rattle.mq_images.specs.declared.ports.Failing.{Failing}
 use Rattle.mq_legal.specs.Answers.{AreCaused}
 use Rattle.mq_legal.specs.Histories.{AreOfBytes}
 use Rattle.mq_script.specs.Scripts.{Script}
-use Rattle.mq_promise.specs.Causes.{ArePortCauses, IsOfQueue}
+use Rattle.mq_promise.specs.Causes.{ArePortCauses}
 use Rattle.mq_promise.specs.Images.{KeepsPromise}
 use Rattle.mq_promise.specs.Laws.{HavePortCauses}
 use Rattle.mq_promise.proofs.Caused.{is-caused}
@@ -41,9 +41,9 @@ module _ (x : DriveImage) (scripts : List Script) (o : RunOptions) (r : ImageRun
   pub ports-caused : ArePortCauses x o r (saved.is-a-cut x scripts o r run bytes).0
   ports-caused = (let is = saved.is-a-cut x scripts o r run bytes in are-port-causes x scripts o r run bytes (saved.volume x scripts o r run bytes) is.0 is.1)
 
-  -- so all refusals have their causes without a cut, where the command that is to fail is none of the root's
-  pub caused-uncut : o.cut ≡ None → IsOfQueue x.geometry.queues o.fail → AreCaused x.geometry scripts (saved.volume x scripts o r run bytes) r.base r.entries.items (saved.is-a-cut x scripts o r run bytes).0 r.answers.items
-  caused-uncut no_cut own = (let is = saved.is-a-cut x scripts o r run bytes in caused (have-port-causes x scripts o r run bytes (saved.volume x scripts o r run bytes) is.0 is.1 no_cut own))
+  -- so all refusals have their causes without a cut
+  pub caused-uncut : o.cut ≡ None → AreCaused x.geometry scripts (saved.volume x scripts o r run bytes) r.base r.entries.items (saved.is-a-cut x scripts o r run bytes).0 r.answers.items
+  caused-uncut no_cut = (let is = saved.is-a-cut x scripts o r run bytes in caused (have-port-causes x scripts o r run bytes (saved.volume x scripts o r run bytes) is.0 is.1 no_cut))
 
   pub keeps-promise : KeepsPromise x scripts o r
   keeps-promise = record {

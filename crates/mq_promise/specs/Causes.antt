@@ -1,7 +1,6 @@
 -- What refusals for a drive's cause say of the options of a run on an image, and of how it ended.
-use Rattle.std.specs.Prelude.{◌≡◌, ◌⊎◌, ◌<◌, ℕ, true, List, Option, None, Some, Err}
+use Rattle.std.specs.Prelude.{◌≡◌, ◌⊎◌, ℕ, true, List, Some, Err}
 use Rattle.std.specs.List.{Contains}
-use Rattle.mq_blocks.specs.Geometry.{queues_of}
 use Rattle.mq_calls.specs.declared.answers.CallCause.TheVariants.{Drive}
 use Rattle.mq_calls.specs.declared.answers.Refusal.{Refusal}
 use Rattle.mq_image.specs.File.{DriveImage}
@@ -61,21 +60,16 @@ RunsAreBacked = (x : DriveImage) (scripts : List Script) (o : RunOptions) (r : I
 
 -- ---- the causes of ports
 
--- the command that is to fail, if one is, is told of the port of a queue
-abbrev pub IsOfQueue : (queues : ℕ) → Option Failing → Type 0
-IsOfQueue queues None = Unit {0}
-IsOfQueue queues (Some f) = f.port < queues
-
 -- Of a refusal for a command that failed it is not told more where the power went off, since a port that has refused as
--- many events as a count of 64 bits can say stands behind any refusal; nor where the command that is to fail is the root's.
-abbrev pub IsUntold : (queues : ℕ) → RunOptions → ImageRun → Cause → Type 0
-IsUntold queues o r cause = IsOfCommand cause × (IsPoweredOff o r ⊎ (IsOfQueue queues o.fail → ⊥))
+-- many events as a count of 64 bits can say stands behind any refusal.
+abbrev pub IsUntold : RunOptions → ImageRun → Cause → Type 0
+IsUntold o r cause = IsOfCommand cause × IsPoweredOff o r
 
 -- What each refusal for a port's cause says of the history holds else, with the number that the new image reaches; and a
 -- transaction that had stopped a queue is undone always.
 pub record ArePortCauses (x : DriveImage) (o : RunOptions) (r : ImageRun) (reached : ℕ) : Type 0 where
   pub holds : (t : Told) (cause : Cause) → Contains r.answers.items t → IsRefusedBy t cause
-      → IsPortCause x.geometry r.entries.items reached cause ⊎ IsUntold (queues_of x.geometry) o r cause
+      → IsPortCause x.geometry r.entries.items reached cause ⊎ IsUntold o r cause
   pub undone : (t : Told) (tx : ℕ) (w : Why) → Contains r.answers.items t → IsRefusedBy t (Stopped tx w)
       → IsUndone x.geometry r.entries.items reached tx
 

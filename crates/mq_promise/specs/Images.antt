@@ -12,7 +12,7 @@ use Rattle.mq_legal.specs.Answers.{AreAnswered, AreCaused}
 use Rattle.mq_legal.specs.Cuts.{IsClean, IsCut, IsRung, Starts}
 use Rattle.mq_legal.specs.Histories.{AreOfBytes}
 use Rattle.mq_legal.specs.Legal.{IsLegal, newest, volume_at}
-use Rattle.mq_promise.specs.Causes.{AreBacked, ArePortCauses, IsOfQueue}
+use Rattle.mq_promise.specs.Causes.{AreBacked, ArePortCauses}
 use Rattle.mq_promise.specs.Laws.{HavePortCauses}
 use Rattle.mq_promise.specs.Recovering.{HoldsVolume, LeadsTo}
 use Rattle.mq_report.specs.declared.line.Last.TheVariants.{Clean}
@@ -24,10 +24,9 @@ use Rattle.mq_tree.specs.Volume.{Volume}
 -- that `fsync` has answered, and stands for the volume there. Its file is one of an image, and whatever recovery of what is
 -- read of the file leads to has this volume on its home blocks. Each doorbell has gone on by the entries of its queue's
 -- commits in a prefix of the lines, which has each that was answered well. Each refusal has its cause in the scripts and
--- the history, as far as what the causes of ports say of the history holds: all of it holds without a cut, where the
--- command that is to fail is none of the root's, and with a cut as far as it is told. A refusal for a drive's cause has it
--- in what was asked of the drive. Without a cut, and where no command failed, the run ended clean. Where it did, the number
--- that is told is the last one, and the image is clean.
+-- the history, as far as what the causes of ports say of the history holds: all of it holds without a cut, and with one as
+-- far as it is told. A refusal for a drive's cause has it in what was asked of the drive. Without a cut, and where no
+-- command failed, the run ended clean. Where it did, the number that is told is the last one, and the image is clean.
 pub record KeepsPromise (x : DriveImage) (scripts : List Script) (o : RunOptions) (r : ImageRun) : Type 0 where
   pub volume : Volume
   pub starts : Starts x.geometry (view_of x) r.base volume
@@ -42,8 +41,7 @@ pub record KeepsPromise (x : DriveImage) (scripts : List Script) (o : RunOptions
       → IsRung x.geometry scripts volume r.entries.items r.answers.items q ((view_of x).doorbell q) ((view_of r.image).doorbell q)
   pub caused : HavePortCauses x.geometry r.entries.items reached r.answers.items
       → AreCaused x.geometry scripts volume r.base r.entries.items reached r.answers.items
-  pub uncut : o.cut ≡ None → IsOfQueue (queues_of x.geometry) o.fail
-      → AreCaused x.geometry scripts volume r.base r.entries.items reached r.answers.items
+  pub uncut : o.cut ≡ None → AreCaused x.geometry scripts volume r.base r.entries.items reached r.answers.items
   pub ports : ArePortCauses x o r reached
   pub backed : AreBacked o r
   pub spared : o.fail ≡ None → r.failed ≡ false

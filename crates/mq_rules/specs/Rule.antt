@@ -40,18 +40,19 @@ IsPortOf sides (Page b) = ⊥
 IsPortOf sides (Side q) = q < sides
 IsPortOf sides Root = Unit {0}
 
--- a call was refused, for a fault of the port
-abbrev pub IsRefusal : Report → Type 0
-IsRefusal report.Off = Unit {0}
-IsRefusal (report.Failed tx status) = Unit {0}
-IsRefusal (report.FailedHome block status) = Unit {0}
-IsRefusal (report.Stopped tx status) = ⊥
-IsRefusal (report.Sent tx) = ⊥
+-- A call on the root's port, which sends no transaction, was refused, for a fault of the port: the power went off, or a
+-- home write failed.
+abbrev pub IsOfRoot : Report → Type 0
+IsOfRoot report.Off = Unit {0}
+IsOfRoot (report.Failed tx status) = ⊥
+IsOfRoot (report.FailedHome block status) = Unit {0}
+IsOfRoot (report.Stopped tx status) = ⊥
+IsOfRoot (report.Sent tx) = ⊥
 
--- The report is of the port of a side that there is, or of the root's. That a transaction was rung, or stays undone, is
--- reported of sides alone.
+-- The report is of the port of a side that there is, or of the root's. That a transaction was rung, has failed, or stays
+-- undone, is reported of sides alone.
 abbrev pub IsOfPort : ℕ → Charge → Type 0
-IsOfPort sides c = IsPortOf sides c.port × (c.port ≡ Root → IsRefusal c.report)
+IsOfPort sides c = IsPortOf sides c.port × (c.port ≡ Root → IsOfRoot c.report)
 
 abbrev pub numbered : ℕ → Tx → Tx
 numbered n t = record t { number = n }

@@ -136,7 +136,7 @@ returns-in-Ok-Error-clause-refused g c =
     let v1 = view c.take.new.chair in
     let t = c.in-Root.ensures.took in
     let s = c.in-Root.root in
-    refused_root state faults group o b cell v v1 c.requires.at.1 c.requires.page c.args.geometry c.requires.shape c.requires.home c.requires.zone t.0 t.1 s t.3 c.write_home.new.self (view c.report_root.new.chair) (FailedHome b c.in-Ok-Error.status) c.report_root.ensures.reported (error_rises _ _ _ _ c.home.result c.in-Ok-Error.status c.args.copy (Ok c.in-Ok-Error.field-0) c.in-Ok-Error.ensures.home (ap Ok c.in-Ok-Error.field-0-is)) t.2
+    refused_root state faults group o b cell v v1 c.requires.at.1 c.requires.page c.args.geometry c.requires.shape c.requires.home c.requires.zone t.0 t.1 s t.3 c.write_home.new.self (view c.report_root.new.chair) (FailedHome b c.in-Ok-Error.status) c.report_root.ensures.reported tt (error_rises _ _ _ _ c.home.result c.in-Ok-Error.status c.args.copy (Ok c.in-Ok-Error.field-0) c.in-Ok-Error.ensures.home (ap Ok c.in-Ok-Error.field-0-is)) t.2
 
 pub returns-in-Err-clause-left : goal.returns-in-Err-clause-left
 returns-in-Err-clause-left g c =
@@ -164,4 +164,4 @@ returns-in-Err-clause-refused g c =
     let v1 = view c.take.new.chair in
     let t = c.in-Root.ensures.took in
     let s = c.in-Root.root in
-    refused_root state faults group o b cell v v1 c.requires.at.1 c.requires.page c.args.geometry c.requires.shape c.requires.home c.requires.zone t.0 t.1 s t.3 c.write_home.new.self (view c.report_root-in-Err.new.chair) (Off) c.report_root-in-Err.ensures.reported (gains_rises PowerOff _ _ c.in-Err.ensures.home.1) t.2
+    refused_root state faults group o b cell v v1 c.requires.at.1 c.requires.page c.args.geometry c.requires.shape c.requires.home c.requires.zone t.0 t.1 s t.3 c.write_home.new.self (view c.report_root-in-Err.new.chair) (Off) c.report_root-in-Err.ensures.reported tt (gains_rises PowerOff _ _ c.in-Err.ensures.home.1) t.2
