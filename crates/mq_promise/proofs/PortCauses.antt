@@ -1,6 +1,6 @@
 -- What refusals for a drive's cause say of a run on an image, by the faults that its ports have gained.
 use Rattle.std.proofs.Common.{◌≡◌, ◌⊎◌, ◌∙◌, ℕ, zero, suc, ◌+◌, ◌-◌, ◌<◌, ◌≤◌, ◌^◌, ◌++◌, true, false, List, [], ◌∷◌, length, map, Option, Some, None, replicate, inl, inr, refl, sym, ap, subst, arith}
-use Rattle.std.specs.Prelude.{Err, Result, is_none, slice_get, slice_index_or}
+use Rattle.std.specs.Prelude.{Err, Ok, Result, is_none, slice_get, slice_index_or}
 use Rattle.std.specs.List.{Contains}
 use Rattle.std.proofs.lemmas.Bool.{or_left, or_right, true≢false}
 use Rattle.std.proofs.lemmas.List.{length-map}
@@ -24,7 +24,7 @@ use Rattle.mq_drive.specs.declared.role.Role.{Role}
 use Rattle.mq_drive.specs.declared.role.Role.TheVariants as role
 use Rattle.mq_image.specs.File.{DriveImage, queue_ports, root_port}
 use Rattle.mq_image_run.specs.Drives.{emu_ghosts, has_failed}
-use Rattle.mq_image_run.specs.Runs.{IsLast, IsRunOf}
+use Rattle.mq_image_run.specs.Runs.{IsLast, IsRunOf, IsStop}
 use Rattle.mq_image_run.specs.declared.options.RunOptions.{RunOptions}
 use Rattle.mq_image_run.specs.declared.ran.ImageRun.{ImageRun}
 use Rattle.mq_images.specs.Cuts.{row_of}
@@ -38,11 +38,13 @@ use Rattle.mq_legal.specs.Histories.{AreOfBytes}
 use Rattle.mq_recover.specs.Drives.{AreBoundsKept, ArePorts, DriveFaults, DriveState, drive_of, faults_on}
 use Rattle.mq_recover.specs.Recovery.{IsRead}
 use Rattle.mq_checkpoint.specs.declared.refusal.CheckpointRefusal.{CheckpointRefusal}
+use Rattle.mq_checkpoint.specs.declared.refusal.CheckpointRefusal.TheVariants as checkpoint
 use Rattle.mq_report.specs.declared.line.Last.{Last}
 use Rattle.mq_report.specs.declared.line.Last.TheVariants.{Cut}
 use Rattle.mq_report.specs.declared.line.Told.{Told}
 use Rattle.mq_rules.specs.Faults.{WasGained, named_by}
 use Rattle.mq_rules.specs.Rule.{IsOfRoot}
+use Rattle.mq_run.proofs.Stopped.{stop-reported}
 use Rattle.mq_run.specs.Runs.{HasRunScripts}
 use Rattle.mq_run.specs.declared.end.RunEnd.{RunEnd}
 use Rattle.mq_script.specs.Scripts.{Script}
@@ -56,7 +58,7 @@ use Rattle.mq_tree.specs.Volume.{Volume}
 use Rattle.mq_turns.specs.Desk.{charged_of}
 use Rattle.mq_turns.specs.declared.turn.Turn.{Turn}
 use Rattle.mq_turns.specs.declared.turn.Turn.TheVariants.{Page, Root, Side}
-use Rattle.mq_promise.specs.Causes.{AreBacked, ArePortCauses, HasFailedCommand, IsOfCommand, IsOfPower, IsPoweredOff, IsUntold}
+use Rattle.mq_promise.specs.Causes.{AreBacked, ArePortCauses, HasFailedCommand, IsOfCommand, IsOfPower, IsPoweredOff, IsStopOf, IsUntold}
 use Rattle.mq_promise.specs.Laws.{HavePortCauses}
 use Rattle.mq_promise.proofs.Blames.{charge-backed, charge_for, is-charged}
 use Rattle.mq_promise.proofs.Failures.{of-root, undone}
@@ -228,6 +230,15 @@ module _ (x : DriveImage) (scripts : List Script) (o : RunOptions) (r : ImageRun
         backs_it = backs g cause h.0 (faults_on emu_faults old) new (charge-backed emu_ghosts emu_state emu_faults g old (saved.standing x scripts o r run bytes) scripts (is_none o.cut) end ran run.short h.0 cause h.1);
       }
 
+  backed-stop : (why : Cause) → end.finished ≡ Some (Err (checkpoint.Drive why)) → BackedBy why
+  backed-stop why is =
+      let h = stop-reported emu_ghosts emu_state emu_faults g old (saved.standing x scripts o r run bytes) scripts (is_none o.cut) end why ran is in
+      record {
+        turn = h.0;
+        charged = h.1;
+        backs_it = backs g why h.0 (faults_on emu_faults old) new (charge-backed emu_ghosts emu_state emu_faults g old (saved.standing x scripts o r run bytes) scripts (is_none o.cut) end ran run.short h.0 why h.1);
+      }
+
   -- ---- the power
 
   -- a port refused an event for its power
@@ -372,3 +383,28 @@ module _ (x : DriveImage) (scripts : List Script) (o : RunOptions) (r : ImageRun
       | inl holds ↦ holds
       | inr untold ↦ (let off = untold.1 in absurd (some-cut no_cut off.1))
     ]
+
+    -- ---- what stopped the run at its end
+
+    stop-holds : o.cut ≡ None → (why : Cause) → end.finished ≡ Some (Err (checkpoint.Drive why)) → (last : Last) → IsStop why last → IsStopOf g r.entries.items reached last
+    stop-holds no_cut why is = by why (port-cause why (backed-stop why is))
+      where
+        told : (cause : Cause) → Holds cause → IsPortCause g r.entries.items reached cause
+        told cause (inl holds) = holds
+        told cause (inr untold) = (let off = untold.1 in absurd (some-cut no_cut off.1))
+
+        by : (cause : Cause) → Holds cause → (last : Last) → IsStop cause last → IsStopOf g r.entries.items reached last
+        by Off h last stop = absurd stop
+        by (Failed tx status) h last stop = subst (IsStopOf g r.entries.items reached) (sym stop) (told (Failed tx status) h).0
+        by (FailedHome block status) h last stop = subst (IsStopOf g r.entries.items reached) (sym stop) (told (FailedHome block status) h).0
+        by (Stopped tx w) h last stop = subst (IsStopOf g r.entries.items reached) (sym stop) (told (Stopped tx w) h).0
+
+    stopped-by : (cut : Option ℕ) (events : ℕ) (finished : Option (Result ℕ CheckpointRefusal)) (last : Last) → o.cut ≡ cut → end.finished ≡ finished → IsLast cut events finished last → IsStopOf g r.entries.items reached last
+    stopped-by (Some k) events finished last cut is told = subst (IsStopOf g r.entries.items reached) (sym told) tt
+    stopped-by None events (Some (Ok n)) last cut is told = subst (IsStopOf g r.entries.items reached) (sym told) tt
+    stopped-by None events (Some (Err (checkpoint.Drive why))) last cut is told = stop-holds cut why is last told
+    stopped-by None events (Some (Err checkpoint.OutOfMemory)) last cut is told = absurd told
+    stopped-by None events None last cut is told = absurd told
+
+    pub is-stop : IsStopOf g r.entries.items reached r.last
+    is-stop = stopped-by o.cut run.stopped.events end.finished r.last refl refl (subst (λ f. IsLast o.cut run.stopped.events f r.last) (saved.end-finished x scripts o r run bytes) run.last)

@@ -12,11 +12,11 @@ use Rattle.mq_images.specs.declared.ports.Failing.{Failing}
 use Rattle.mq_legal.specs.Answers.{AreCaused}
 use Rattle.mq_legal.specs.Histories.{AreOfBytes}
 use Rattle.mq_script.specs.Scripts.{Script}
-use Rattle.mq_promise.specs.Causes.{ArePortCauses}
+use Rattle.mq_promise.specs.Causes.{ArePortCauses, IsStopOf}
 use Rattle.mq_promise.specs.Images.{KeepsPromise}
 use Rattle.mq_promise.specs.Laws.{HavePortCauses}
 use Rattle.mq_promise.proofs.Caused.{is-caused}
-use Rattle.mq_promise.proofs.PortCauses.{are-backed, are-port-causes, have-port-causes}
+use Rattle.mq_promise.proofs.PortCauses.{are-backed, are-port-causes, have-port-causes, is-stop}
 use Rattle.mq_promise.proofs.Saved as saved
 
 module _ (x : DriveImage) (scripts : List Script) (o : RunOptions) (r : ImageRun) (run : IsRunOf x scripts o r) (bytes : AreOfBytes scripts) where
@@ -45,6 +45,10 @@ module _ (x : DriveImage) (scripts : List Script) (o : RunOptions) (r : ImageRun
   pub caused-uncut : o.cut ≡ None → AreCaused x.geometry scripts (saved.volume x scripts o r run bytes) r.base r.entries.items (saved.is-a-cut x scripts o r run bytes).0 r.answers.items
   caused-uncut no_cut = (let is = saved.is-a-cut x scripts o r run bytes in caused (have-port-causes x scripts o r run bytes (saved.volume x scripts o r run bytes) is.0 is.1 no_cut))
 
+  -- what stopped the run at its end
+  pub stop-told : IsStopOf x.geometry r.entries.items (saved.is-a-cut x scripts o r run bytes).0 r.last
+  stop-told = (let is = saved.is-a-cut x scripts o r run bytes in is-stop x scripts o r run bytes (saved.volume x scripts o r run bytes) is.0 is.1)
+
   pub keeps-promise : KeepsPromise x scripts o r
   keeps-promise = record {
     volume = saved.volume x scripts o r run bytes;
@@ -62,5 +66,6 @@ module _ (x : DriveImage) (scripts : List Script) (o : RunOptions) (r : ImageRun
     backed = are-backed x scripts o r run bytes;
     spared = λ none. run.failed ∙ (run.stops.drives.named ∙ ap (λ (f : Option Failing). was_executed f (row_of run.stops.drives.has.end.ports)) none);
     ended = run.ended;
+    stopped = stop-told;
     clean = saved.cleaned x scripts o r run bytes;
   }

@@ -173,6 +173,9 @@ module _ (x : DriveImage) (scripts : List Script) (o : RunOptions) (r : ImageRun
       (subst (λ told. IsRung g scripts volume r.entries.items told.items q (port_at (drive_of emu_state run.stops.drives.ports).queues q).doorbell (port_at (drive_of emu_state end.ports).queues q).doorbell) answers-are
       (subst (λ es. IsRung g scripts volume es.items end.answers.items q (port_at (drive_of emu_state run.stops.drives.ports).queues q).doorbell (port_at (drive_of emu_state end.ports).queues q).doorbell) entries-are is)))
 
+  pub end-finished : run.stopped.driven.finished ≡ end.finished
+  end-finished = has.finished
+
   finished-is : (n : ℕ) → r.last ≡ Clean n → end.finished ≡ Some (Ok n)
   finished-is n told = sym has.finished ∙ told-clean o.cut run.stopped.events run.stopped.driven.finished r.last n run.last told
 

@@ -1,6 +1,8 @@
 -- What refusals for a drive's cause say of the options of a run on an image, and of how it ended.
-use Rattle.std.specs.Prelude.{◌≡◌, ◌⊎◌, ℕ, true, List, Some, Err}
+use Rattle.std.specs.Prelude.{◌≡◌, ◌⊎◌, ◌<◌, ℕ, true, List, Some, Err}
 use Rattle.std.specs.List.{Contains}
+use Rattle.mq_blocks.specs.Geometry.{homes_of}
+use Rattle.mq_blocks.specs.declared.geometry.Geometry.{Geometry}
 use Rattle.mq_calls.specs.declared.answers.CallCause.TheVariants.{Drive}
 use Rattle.mq_calls.specs.declared.answers.Refusal.{Refusal}
 use Rattle.mq_image.specs.File.{DriveImage}
@@ -12,7 +14,9 @@ use Rattle.mq_images.specs.declared.ports.Failing.{Failing}
 use Rattle.mq_legal.specs.Answers.{IsPortCause, IsUndone}
 use Rattle.mq_legal.specs.Cuts.{IsCut}
 use Rattle.mq_legal.specs.Histories.{AreOfBytes}
-use Rattle.mq_report.specs.declared.line.Last.TheVariants.{Cut}
+use Rattle.mq_report.specs.declared.line.Last.{Last}
+use Rattle.mq_report.specs.declared.line.Last.TheVariants.{Cut, StoppedBlock, StoppedTx}
+use Rattle.mq_report.specs.declared.line.Line.{Line}
 use Rattle.mq_report.specs.declared.line.Told.{Told}
 use Rattle.mq_script.specs.Scripts.{Script}
 use Rattle.mq_side.specs.declared.answers.Cause.{Cause}
@@ -72,6 +76,13 @@ pub record ArePortCauses (x : DriveImage) (o : RunOptions) (r : ImageRun) (reach
       → IsPortCause x.geometry r.entries.items reached cause ⊎ IsUntold o r cause
   pub undone : (t : Told) (tx : ℕ) (w : Why) → Contains r.answers.items t → IsRefusedBy t (Stopped tx w)
       → IsUndone x.geometry r.entries.items reached tx
+
+-- What the last line of a run that was stopped at its end says of the history: the transaction that it names is undone, and
+-- the block is one of the drive.
+abbrev pub IsStopOf : Geometry → List Line → (reached : ℕ) → Last → Type 0
+IsStopOf g lines reached (StoppedTx tx) = IsUndone g lines reached tx
+IsStopOf g lines reached (StoppedBlock block) = block < homes_of g
+IsStopOf g lines reached last = Unit {0}
 
 abbrev pub PortCausesHold : Type 0
 PortCausesHold =

@@ -75,6 +75,10 @@ module _ {P : Type 0} (G : Ghosts P) (state : P → PortState) (faults : P → L
   given : faults_of faults (ports_of end) end.root.port ≡ faults_on faults e.ports
   given = λ i. faults_of faults (sym run.ends.leaves.queues i) (sym run.ends.leaves.root i)
 
+  -- it was reported of a port at the end of the run
+  pub stop-reported : (t : Turn) × Contains (charged_of run.ends.left) (record { port = t; report = report_of why })
+  stop-reported = (named.port, reported)
+
   pub stop-backed : IsBehindStop g why (faults_on faults ports) (faults_on faults e.ports)
   stop-backed = record {
     port = named.port;
