@@ -9,6 +9,7 @@ use Rattle.mq_recover.specs.Drives.{DriveState, view_over}
 use Rattle.mq_recover.specs.Recovery.{IsRead}
 use Rattle.mq_recover.specs.Recover.{content_of}
 use Rattle.mq_recover.specs.declared.copies.CopyPlace.{CopyPlace}
+use Rattle.mq_recover.specs.declared.plan.Recovered.{Recovered}
 use Rattle.mq_recover.specs.declared.standing.Standing.{Standing}
 
 -- the content of a block's copy, if it has one somewhere, else what is at home
@@ -27,3 +28,10 @@ pub record IsStanding (g : Geometry) (d : DriveState) (ds : List Descriptor) (to
 -- the image is readable, and this is what stands
 abbrev pub StandsIn : Geometry → DriveState → Standing → Type 0
 StandsIn g d s = (ds : List Descriptor) × (top : ℕ) × IsRead g (view_over g d) ds top × IsStanding g d ds top s
+
+-- the image is readable, the prefix is the count of the descriptors that stand, and the new base is the
+-- greatest number that the image shows
+pub record Finds (g : Geometry) (d : DriveState) (r : Recovered) : Type 0 where
+  pub ds : List Descriptor
+  pub read : IsRead g (view_over g d) ds r.base
+  pub prefix_is : r.prefix ≡ length ds

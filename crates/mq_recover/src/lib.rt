@@ -17,4 +17,4 @@ pub use laws::{readable_images_are_whole, recovery_may_be_cut};
 pub use plan::Recovered;
 pub use ports::recover;
 pub use refusal::{ChainRefusal, ImageFault, RecoverRefusal};
-pub use standing::{Standing, read_home, stands};
+pub use standing::{Standing, find_prefix, read_home, stands};

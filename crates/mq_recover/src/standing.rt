@@ -5,10 +5,10 @@ ghost use Rattle.mq_blocks.specs.Geometry.{homes_of};
 ghost use Rattle.mq_recover.specs.Drives.{IsQuiescentDrive, drive_of, view_over};
 ghost use Rattle.mq_recover.specs.Recover.{IsSpotOf};
 ghost use Rattle.mq_recover.specs.Refusals.{IsReadableImage, RefusesImage};
-ghost use Rattle.mq_recover.specs.Standing.{newest_of, StandsIn};
+ghost use Rattle.mq_recover.specs.Standing.{Finds, StandsIn, newest_of};
 
 use crate::copies::CopyPlace;
-use crate::plan::{find_copies, read_copy_place};
+use crate::plan::{Recovered, find_copies, read_copy_place};
 use crate::refusal::ImageFault;
 use mq_blocks::{Block, BlockNo, Geometry, OutOfMemory, TxNo};
 use mq_drive::{Port, Ports};
@@ -53,6 +53,29 @@ pub fn stands<P: Port>(
         base: TxNo(ports.root.base()),
         top: found.recovered.base,
     })
+}
+
+/// What a recovery of a drive would find: how many transactions above the base stand, and the new base.
+/// No home block is read, and nothing is written.
+pub fn find_prefix<P: Port>(
+    alloc: Global,
+    geometry: Geometry,
+    ports: &Ports<P>,
+) -> Result<Recovered, ImageFault>
+    requires { IsQuiescentDrive geometry (drive_of P.state ports.now) }
+    ensures ok { IfOk result (Finds geometry (drive_of P.state ports.now)) }
+    ensures refused { IfErr result (λ e. (e ≡ ImageFault.OutOfMemory)
+        ⊎ RefusesImage geometry (drive_of P.state ports.now) e) }
+    ensures exact { (e : ImageFault)
+        → RefusesImage geometry (drive_of P.state ports.now) e
+        → IsErrOf result e ⊎ IsErrOf result ImageFault.OutOfMemory }
+    ensures readable { IfOk result (λ _. IsReadableImage geometry
+        (drive_of P.state ports.now)) }
+    ensures complete { IsReadableImage geometry (drive_of P.state ports.now)
+        → IsOkUnless result ImageFault.OutOfMemory }
+{
+    let found = find_copies(alloc, geometry, ports)?;
+    Ok(found.recovered)
 }
 
 // Reads each home block's copy, else the block at home.
