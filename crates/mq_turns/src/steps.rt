@@ -12,9 +12,9 @@ use crate::plays::{Draw, Free, Look, Reach, Settle, Take, Told};
 use crate::rule::{Knows, Law, Start};
 use crate::turn::Item;
 use atomic_table::{Seat, Shared};
+use crossbeam_utils::Backoff;
 use std::marker::Brand;
 use std::sync::Wait;
-use std::thread;
 
 pub(crate) type Top<M> = Shared<Option<Item<M>>, Knows<M>, Start<M>, Law<M>>;
 
@@ -72,11 +72,12 @@ pub(crate) fn take<M: Machine, R: Wait>(
         × Sees M.meaning place.old.me.0 K
         × Stands M.meaning (turn_at K.opening slot) K result }
 {
+    let backoff = Backoff::new();
     for _ in rt.forever() {
         if let Some(item) = try_take(top, place, slot) {
             return item;
         }
-        thread::yield_now();
+        backoff.snooze();
     }
     unreachable!()
 }
