@@ -17,7 +17,7 @@ use Rattle.mq_side.specs.declared.root.Root.{Root}
 use Rattle.mq_side.specs.declared.side.QueueSide.{QueueSide}
 use Rattle.mq_turns.specs.Lists.{Each}
 use Rattle.mq_turns.specs.Marks.{queues_of, shown}
-use Rattle.mq_turns.specs.Meaning.{newest}
+use Rattle.mq_turns.specs.Meaning.{IsAt, newest}
 use Rattle.mq_turns.specs.Swept.{HasPassed}
 use Rattle.mq_turns.specs.declared.rule.Reading.{Reading}
 use Rattle.mq_turns.specs.declared.turn.Turn.TheVariants.{Side}
@@ -142,6 +142,11 @@ module _ {P E : Type 0} {G : Ghosts P} (state : P → PortState) (faults : P →
           charged = ap (λ (z : Seat P E G). z.reading.charged) is ∙ ap (λ l. reported q (report_of c) ∷ l) r.charged;
         };
         caused = at_side was.taken was.side was.after
-            (record { opening = sym (ap (λ (z : Seat P E G). z.opening) h.is) ∙ was.sees.opening; seen = let a = ap (λ (z : Seat P E G). z.seen) h.is in let b = was.sees.seen in omega arith })
+            (record {
+              opening = sym (ap (λ (z : Seat P E G). z.opening) h.is) ∙ was.sees.opening;
+              ok = was.sees.ok;
+              seen = let a = ap (λ (z : Seat P E G). z.seen) h.is in let b = was.sees.seen in omega arith;
+              drew = subst (Each (λ d. IsAt was.taken.opening.base was.taken.log d.0 d.1)) (ap (λ (z : Seat P E G). z.drawn) h.is) was.sees.drew;
+            })
             was.stood (cause_is c was.side was.after drains gained);
       }
