@@ -1,6 +1,7 @@
 pub mod Blank
 pub mod Chains
 pub mod CutRows
+pub mod HomeBlocks
 pub mod Recoverings
 pub mod Restarts
 pub mod Results

@@ -43,8 +43,7 @@ use Rattle.mq_recover.specs.Steps.{AreHomeWrites, Event, IsCutShort, IsDone, aft
 use Rattle.mq_recover.specs.declared.plan.Recovered.{Recovered}
 use Rattle.mq_recover.specs.declared.refusal.RecoverRefusal.{RecoverRefusal}
 use Rattle.mq_recover.specs.declared.refusal.RecoverRefusal.TheVariants.{Failed, Off}
-use Rattle.mq_recover.specs.declared.standing.Standing.{Standing}
-use Rattle.mq_recover.specs.Standing.{StandsIn}
+use Rattle.mq_recover.specs.Standing.{Finds}
 use Rattle.mq_recover.proofs.Images.{read-same, view-seen}
 use Rattle.mq_recover.proofs.RecoverCuts.{each-stage}
 use Rattle.mq_recover.proofs.Recoveries.{writes-below}
@@ -448,13 +447,13 @@ never-failed g old new r still sound bounds count cause block status is =
     none-failed g old new (zone_of g block) (home_lba g block) status sound bounds both.0 both.1 gains
 
 -- a recovery that its power cut finds what was looked up before
-pub ran-short : (g : Geometry) (d e : DriveState) (before after : DriveFaults) (s : Standing) (r : RecoverRefusal) → r ≡ Off → StandsIn g d s → OnDrive {A = Recovered} (Err r) (λ f. IsCutShort g f d e) → HasDriveCause {A = Recovered} g (Err r) before after
-    → HasRun g d e before after (record { prefix = s.prefix; base = s.top }) false
-ran-short g d e before after s r is stood drive cause =
+pub ran-short : (g : Geometry) (d e : DriveState) (before after : DriveFaults) (found : Recovered) (r : RecoverRefusal) → r ≡ Off → Finds g d found → OnDrive {A = Recovered} (Err r) (λ f. IsCutShort g f d e) → HasDriveCause {A = Recovered} g (Err r) before after
+    → HasRun g d e before after found false
+ran-short g d e before after found r is finds drive cause =
     let short : IsCutShort g Off d e = subst (λ (f : RecoverRefusal). OnDrive {A = Recovered} (Err f) (λ f. IsCutShort g f d e)) is drive in
     let gains : (port : Option ℕ) × OneGains port PowerOff before after = subst (λ (f : RecoverRefusal). HasDriveCause {A = Recovered} g (Err f) before after) is cause in
-    let same = read-same g (view_over g d) stood.0 short.ds stood.1 short.top stood.2 short.read in
-    (short, stood.3.prefix_is ∙ ap length same.0, stood.3.top_is ∙ same.1, gains.0, gains.1)
+    let same = read-same g (view_over g d) finds.ds short.ds found.base short.top finds.read short.read in
+    (short, finds.prefix_is ∙ ap length same.0, same.1, gains.0, gains.1)
 
 -- ---- the answer
 

@@ -1,37 +1,20 @@
 -- What stands on an image does not depend on the drive that starts from it.
-use Rattle.std.proofs.Common.{◌≡◌, ◌⊎◌, inl, inr, ℕ, List, Option, None, refl, sym, ◌∙◌, ap, subst}
+use Rattle.std.proofs.Common.{◌≡◌, ◌⊎◌, inl, inr, ℕ, List, Option, None, refl, sym, subst}
 use Rattle.mq_blocks.specs.Descriptor.{Descriptor}
 use Rattle.mq_blocks.specs.Drive.{FuseName}
-use Rattle.mq_blocks.specs.Journal.{AreWhole, Shown, stands}
+use Rattle.mq_blocks.specs.Journal.{AreWhole, Shown}
 use Rattle.mq_blocks.specs.declared.geometry.Geometry.{Geometry}
 use Rattle.mq_image.specs.File.{DriveImage}
-use Rattle.mq_images.specs.Standing.{IsStandingOf, Reads, RefusesDrive}
+use Rattle.mq_images.specs.Standing.{Reads, RefusesDrive}
 use Rattle.mq_images.specs.Views.{drive_from, view_of}
 use Rattle.mq_images.specs.declared.ports.Failing.{Failing}
 use Rattle.mq_images.proofs.Starting.{started-view}
 use Rattle.mq_recover.specs.Drives.{DriveState}
 use Rattle.mq_recover.specs.Recovery.{IsRead}
 use Rattle.mq_recover.specs.Refusals.{IsReadableImage, RefusesImage}
-use Rattle.mq_recover.specs.Standing.{StandsIn}
 use Rattle.mq_recover.specs.declared.refusal.ImageFault.{ImageFault}
 use Rattle.mq_recover.specs.declared.refusal.ImageFault.TheVariants.{OutOfMemory}
-use Rattle.mq_recover.specs.declared.standing.Standing.{Standing}
 use Rattle.mq_recover.proofs.Images.{image-refused, read-readable, whole-readable}
-
--- what stands on the drive stands on the image
-pub standing-of : (fuse : FuseName) (fail : Option Failing) (x : DriveImage) (d : DriveState) (s : Standing) → d ≡ drive_from fuse fail x → StandsIn x.geometry d s → IsStandingOf x s
-standing-of fuse fail x d s is stood =
-    let view = started-view fuse fail x d is in
-    let held = stood.3 in
-    record {
-      ds = stood.0;
-      top = stood.1;
-      read = subst (λ (i : Shown). IsRead x.geometry i stood.0 stood.1) view stood.2;
-      blocks = record { count = held.whole; each = λ b low. held.blocks_are b low ∙ ap (λ (i : Shown). stands x.geometry i stood.0 b) view };
-      prefix = held.prefix_is;
-      base = held.base_is ∙ ap (λ (i : Shown). i.base) view;
-      top_is = held.top_is;
-    }
 
 pub refuses-of : (fuse : FuseName) (x : DriveImage) (d : DriveState) (e : ImageFault) → d ≡ drive_from fuse None x → (e ≡ OutOfMemory) ⊎ RefusesImage x.geometry d e → (e ≡ OutOfMemory) ⊎ RefusesDrive x e
 refuses-of fuse x d e is (inl memory) = inl memory
@@ -47,9 +30,6 @@ read-refused x ds top e read refused =
     image-refused x.geometry (drive_from refused.fuse None x) e (readable-of refused.fuse None x (drive_from refused.fuse None x) ds top refl read) refused.refuses
 
 -- the same under another name of the geometry
-pub standing-under : (fuse : FuseName) (fail : Option Failing) (g : Geometry) (x : DriveImage) (d : DriveState) (s : Standing) → g ≡ x.geometry → d ≡ drive_from fuse fail x → StandsIn g d s → IsStandingOf x s
-standing-under fuse fail g x d s same is stood = standing-of fuse fail x d s is (subst (λ (h : Geometry). StandsIn h d s) same stood)
-
 pub refuses-under : (fuse : FuseName) (g : Geometry) (x : DriveImage) (d : DriveState) (e : ImageFault) → g ≡ x.geometry → d ≡ drive_from fuse None x → (e ≡ OutOfMemory) ⊎ RefusesImage g d e → (e ≡ OutOfMemory) ⊎ RefusesDrive x e
 refuses-under fuse g x d e same is refused = refuses-of fuse x d e is (subst (λ (h : Geometry). (e ≡ OutOfMemory) ⊎ RefusesImage h d e) same refused)
 

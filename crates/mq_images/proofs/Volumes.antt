@@ -20,7 +20,6 @@ use Rattle.mq_layout.specs.Bits.{bit_of}
 use Rattle.mq_layout.specs.Places.{zone_bitmap}
 use Rattle.mq_recover.specs.declared.refusal.ImageFault.{ImageFault}
 use Rattle.mq_recover.specs.declared.refusal.ImageFault.TheVariants as image
-use Rattle.mq_recover.specs.declared.standing.Standing.{Standing}
 use Rattle.mq_recover.proofs.Images.{read-same}
 use Rattle.mq_tree.specs.Corrupt.{Refuses}
 use Rattle.mq_tree.specs.Laid.{IsLaid, IsTreeOf, is_marked, map_of}
@@ -66,40 +65,40 @@ laid-along g m n v same laid = record {
 tree-of : (g : Geometry) (m : Map) (v : Volume) → IsLaid g m v → IsTreeOf g m (tree v)
 tree-of g m v laid = record { places = layout v; laid = record { volume = v; laid = laid; things = λ path. refl; places = λ path. refl } }
 
-module _ (g : Geometry) (x : DriveImage) (same : g ≡ x.geometry) (s : Standing) (stood : IsStandingOf x s) where
+module _ (g : Geometry) (x : DriveImage) (same : g ≡ x.geometry) (stored : List (Option (List ℕ))) (stood : IsStandingOf x stored) where
   -- what a mount of the blocks that stand finds
-  pub volume-of : (t : Volume) → IsTreeOf g (map_of g s.blocks.items) (tree t) → ((v : Volume) → IsLaid g (map_of g s.blocks.items) v → IsAlike t v) → (v : Volume) × StandsFor x v × IsAlike t v
+  pub volume-of : (t : Volume) → IsTreeOf g (map_of g stored) (tree t) → ((v : Volume) → IsLaid g (map_of g stored) v → IsAlike t v) → (v : Volume) × StandsFor x v × IsAlike t v
   volume-of t found alike =
       let laid = found.places in
       let l = found.laid in (
         l.volume,
-        record { ds = stood.ds; top = stood.top; stored = s.blocks.items; read = stood.read; standing = stood.blocks; laid = subst (λ (h : Geometry). IsLaid h (map_of h s.blocks.items) l.volume) same l.laid },
+        record { ds = stood.ds; top = stood.top; stored = stored; read = stood.read; standing = stood.blocks; laid = subst (λ (h : Geometry). IsLaid h (map_of h stored) l.volume) same l.laid },
         alike l.volume l.laid,
       )
 
   -- a volume that stands is on these blocks
-  pub volume-laid : (v : Volume) → StandsFor x v → IsLaid g (map_of g s.blocks.items) v
+  pub volume-laid : (v : Volume) → StandsFor x v → IsLaid g (map_of g stored) v
   volume-laid v for =
       let once : for.ds ≡ stood.ds = (read-same x.geometry (view_of x) for.ds stood.ds for.top stood.top for.read stood.read).0 in
       let blocks = stood.blocks in
       let others = for.standing in
-      subst (λ (h : Geometry). IsLaid h (map_of h s.blocks.items) v) (sym same)
-      (laid-along x.geometry (map_of x.geometry for.stored) (map_of x.geometry s.blocks.items) v
-      (same-map x.geometry for.stored s.blocks.items (λ b low. others.each b low ∙ ap (λ (ds : List Descriptor). stands x.geometry (view_of x) ds b) once ∙ sym (blocks.each b low)))
+      subst (λ (h : Geometry). IsLaid h (map_of h stored) v) (sym same)
+      (laid-along x.geometry (map_of x.geometry for.stored) (map_of x.geometry stored) v
+      (same-map x.geometry for.stored stored (λ b low. others.each b low ∙ ap (λ (ds : List Descriptor). stands x.geometry (view_of x) ds b) once ∙ sym (blocks.each b low)))
       for.laid)
 
   -- so a mount does not refuse them
-  pub mounts : (v : Volume) (e : MountRefusal) → StandsFor x v → (e ≢ mount.OutOfMemory → (t : Things) → IsTreeOf g (map_of g s.blocks.items) t → ⊥) → e ≢ mount.OutOfMemory → ⊥
-  mounts v e for none other = none other (tree v) (tree-of g (map_of g s.blocks.items) v (volume-laid v for))
+  pub mounts : (v : Volume) (e : MountRefusal) → StandsFor x v → (e ≢ mount.OutOfMemory → (t : Things) → IsTreeOf g (map_of g stored) t → ⊥) → e ≢ mount.OutOfMemory → ⊥
+  mounts v e for none other = none other (tree v) (tree-of g (map_of g stored) v (volume-laid v for))
 
-  pub mount-refuses : (e : MountRefusal) → Refuses g s.blocks.items e → (e ≢ mount.OutOfMemory → (t : Things) → IsTreeOf g (map_of g s.blocks.items) t → ⊥) → RefusesVolume x (refusal_of e)
+  pub mount-refuses : (e : MountRefusal) → Refuses g stored e → (e ≢ mount.OutOfMemory → (t : Things) → IsTreeOf g (map_of g stored) t → ⊥) → RefusesVolume x (refusal_of e)
   mount-refuses (mount.Corrupt cause b) refuses none =
-      not_mounted stood.ds stood.top s.blocks.items stood.read stood.blocks
-      (λ v laid. none (λ e. cc) (tree v) (tree-of g (map_of g s.blocks.items) v (subst (λ (h : Geometry). IsLaid h (map_of h s.blocks.items) v) (sym same) laid)))
-      (subst (λ (h : Geometry). Refuses h s.blocks.items (mount.Corrupt cause b)) same refuses)
+      not_mounted stood.ds stood.top stored stood.read stood.blocks
+      (λ v laid. none (λ e. cc) (tree v) (tree-of g (map_of g stored) v (subst (λ (h : Geometry). IsLaid h (map_of h stored) v) (sym same) laid)))
+      (subst (λ (h : Geometry). Refuses h stored (mount.Corrupt cause b)) same refuses)
   mount-refuses mount.OutOfMemory refuses none = wanting
 
-  pub mount-wants : (v : Volume) (e : MountRefusal) → StandsFor x v → (e ≢ mount.OutOfMemory → (t : Things) → IsTreeOf g (map_of g s.blocks.items) t → ⊥) → refusal_of e ≡ standing.OutOfMemory
+  pub mount-wants : (v : Volume) (e : MountRefusal) → StandsFor x v → (e ≢ mount.OutOfMemory → (t : Things) → IsTreeOf g (map_of g stored) t → ⊥) → refusal_of e ≡ standing.OutOfMemory
   mount-wants v (mount.Corrupt cause b) for none = absurd (mounts v (mount.Corrupt cause b) for none (λ e. cc))
   mount-wants v mount.OutOfMemory for none = refl
 

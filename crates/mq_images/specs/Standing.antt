@@ -12,7 +12,6 @@ use Rattle.mq_images.specs.declared.refusal.StandingRefusal.TheVariants.{Image, 
 use Rattle.mq_recover.specs.Recovery.{IsRead}
 use Rattle.mq_recover.specs.Refusals.{RefusesImage}
 use Rattle.mq_recover.specs.declared.refusal.ImageFault.{ImageFault}
-use Rattle.mq_recover.specs.declared.standing.Standing.{Standing}
 use Rattle.mq_tree.specs.Corrupt.{IsCorrupt}
 use Rattle.mq_tree.specs.Laid.{IsLaid, map_of}
 use Rattle.mq_tree.specs.Volume.{Volume}
@@ -27,15 +26,12 @@ pub record AreStanding (x : DriveImage) (ds : List Descriptor) (stored : List (O
   pub count : length stored ≡ homes_of x.geometry
   pub each : (b : ℕ) → b < homes_of x.geometry → block_at stored b ≡ stands x.geometry (view_of x) ds b
 
--- what recovery reads of the image
-pub record IsStandingOf (x : DriveImage) (s : Standing) : Type 0 where
+-- the image is readable, and these are the home blocks that stand
+pub record IsStandingOf (x : DriveImage) (stored : List (Option (List ℕ))) : Type 0 where
   pub ds : List Descriptor
   pub top : ℕ
   pub read : Reads x ds top
-  pub blocks : AreStanding x ds s.blocks.items
-  pub prefix : s.prefix ≡ length ds
-  pub base : s.base ≡ (view_of x).base
-  pub top_is : s.top ≡ top
+  pub blocks : AreStanding x ds stored
 
 -- the blocks that stand hold this volume
 pub record StandsFor (x : DriveImage) (v : Volume) : Type 0 where

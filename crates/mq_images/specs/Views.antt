@@ -1,12 +1,12 @@
 -- What an image shows, and the drive that starts from it.
-use Rattle.std.specs.Prelude.{ℕ, ◌+◌, List, [], ◌∷◌, Option, Some, None, nat_eq, if◌then◌else◌}
+use Rattle.std.specs.Prelude.{ℕ, ◌+◌, List, [], ◌∷◌, ◌++◌, Option, Some, None, nat_eq, if◌then◌else◌}
 use Rattle.mq_blocks.specs.Drive.{FuseName, PortImage, PortState}
 use Rattle.mq_blocks.specs.Journal.{Shown, shown}
 use Rattle.mq_blocks.specs.declared.geometry.Geometry.{Geometry}
 use Rattle.mq_drive.specs.Start.{number_of, start_of}
 use Rattle.mq_drive.specs.declared.role.Role.{Role}
 use Rattle.mq_drive.specs.declared.role.Role.TheVariants.{Queue, Root}
-use Rattle.mq_image.specs.File.{DriveImage, queue_ports, root_port}
+use Rattle.mq_image.specs.File.{DriveImage, queue_ports, root_port, zones}
 use Rattle.mq_images.specs.declared.ports.Failing.{Failing}
 use Rattle.mq_nvme.specs.Says.{says}
 use Rattle.mq_recover.specs.Drives.{DriveState, drive}
@@ -14,6 +14,10 @@ use Rattle.mq_recover.specs.Drives.{DriveState, drive}
 -- the journal and the home blocks, as recovery sees them
 abbrev pub view_of : DriveImage → Shown
 view_of x = shown says x.geometry (queue_ports x) (root_port x)
+
+-- the home blocks by rising number: the metadata region is the root's, and each zone is behind a queue's journal area
+abbrev pub home_blocks : DriveImage → List (Option (List ℕ))
+home_blocks x = (root_port x).blocks ++ zones x.geometry (queue_ports x)
 
 -- which command of the port with this number is to fail, where some command of it is
 abbrev pub command_of : Option Failing → (port : ℕ) → Option ℕ

@@ -16,7 +16,7 @@ use mq_area::Descriptor;
 use mq_blocks::{Geometry, OutOfMemory, TxNo};
 use mq_drive::{Port, Ports};
 use mq_image::DriveImage;
-use mq_recover::{Chain, ChainRefusal, ImageFault, read_chain, stands};
+use mq_recover::{Chain, ChainRefusal, ImageFault, find_prefix, read_chain};
 use std::alloc::Global;
 
 // Appends a transaction's line.
@@ -190,8 +190,8 @@ fn dump_drive<P: Port>(
     ensures complete { IsReadableImage geometry (drive_of P.state ports.now)
         → IsOkUnless result ImageFault.OutOfMemory }
 {
-    let standing = stands(alloc, geometry, ports)?;
-    Ok(dump_ports(alloc, geometry, ports, standing.prefix)?)
+    let found = find_prefix(alloc, geometry, ports)?;
+    Ok(dump_ports(alloc, geometry, ports, found.prefix)?)
 }
 
 /// The text that tells the words and the chains of an image: its base, for each queue the doorbell, the head and the

@@ -5,6 +5,7 @@
 mod cut;
 mod dump;
 mod format;
+mod homes;
 mod laws;
 mod ports;
 mod recovery;

@@ -1,20 +1,17 @@
-// The drive that starts from an image, one of whose commands may fail, and what stands on it.
-ghost use Rattle.std.specs.Prelude.{◌≡◌, ◌⊎◌, ◌+◌, ◌≤◌, ◌^◌, ℕ, List, IfErr, IfOk, IsErrOf, IsOkUnless, All, None};
+// The drive that starts from an image, one of whose commands may fail.
+ghost use Rattle.std.specs.Prelude.{◌≡◌, ◌+◌, ◌≤◌, ◌^◌, IfOk, All, None};
 ghost use Rattle.std.specs.Option.{ForSome};
-ghost use Rattle.mq_blocks.specs.Descriptor.{Descriptor};
 ghost use Rattle.mq_blocks.specs.Geometry.{queues_of};
 ghost use Rattle.mq_drive.specs.Emu.{drawn_by, emu_faults, emu_state};
 ghost use Rattle.mq_drive.specs.Seats.{name_of, ports_of};
 ghost use Rattle.mq_drive.specs.Start.{IsImageOf, IsRole, start_of};
 ghost use Rattle.mq_image.specs.Drives.{IsDrive};
-ghost use Rattle.mq_images.specs.Standing.{IsStandingOf, Reads, RefusesDrive};
 ghost use Rattle.mq_images.specs.Starts.{AreFreshSeats, AreStarted, IsFreshPort, IsFreshSeat};
 ghost use Rattle.mq_images.specs.Views.{command_of};
 
 use mq_blocks::{Geometry, OutOfMemory, QueueNo};
 use mq_drive::{EmuPort, Fuse, FuseSeat, Ports, Role};
 use mq_image::DriveImage;
-use mq_recover::{ImageFault, Standing, stands};
 use std::alloc::Global;
 
 /// A command of a drive that is to fail: it ends with the status Write Fault. A pair that names no command fails none.
@@ -89,19 +86,4 @@ pub fn start_ports<'f>(
         seed,
     )?;
     Ok(Ports { queues, root })
-}
-
-/// What stands on the home blocks of an image.
-pub fn read_standing(alloc: Global, image: DriveImage) -> Result<Standing, ImageFault>
-    requires { IsDrive image }
-    ensures ok { IfOk result (IsStandingOf image) }
-    ensures refused { IfErr result (λ e. (e ≡ ImageFault.OutOfMemory) ⊎ RefusesDrive image e) }
-    ensures complete { (ds : List Descriptor) (top : ℕ)
-        → Reads image ds top
-        → IsOkUnless result ImageFault.OutOfMemory }
-{
-    let geometry = image.geometry;
-    let (fuse, seats) = drive_power(alloc, geometry, None)?;
-    let ports = start_ports(alloc, &fuse, seats, image, None, 0)?;
-    stands(alloc, geometry, &ports)
 }

@@ -19,7 +19,7 @@ use crate::width::an_image_fits_its_file;
 use mq_blocks::Geometry;
 use mq_drive::{EmuPort, Fuse, FuseSeat, Ports};
 use mq_image::DriveImage;
-use mq_recover::{ImageFault, RecoverRefusal, Recovered, recover, stands};
+use mq_recover::{ImageFault, RecoverRefusal, Recovered, find_prefix, recover};
 use std::alloc::Global;
 
 /// What a recovery leaves of an image, and what it found.
@@ -70,11 +70,7 @@ fn recover_ports(
     ensures complete { IsReadableImage geometry (drive_of emu_state ports.old)
         → IsOkUnless result ImageFault.OutOfMemory }
 {
-    let standing = stands(alloc, geometry, ports)?;
-    let looked = Recovered {
-        prefix: standing.prefix,
-        base: standing.top,
-    };
+    let looked = find_prefix(alloc, geometry, ports)?;
     match recover(alloc, geometry, ports) {
         Ok(found) => Ok(Run { found, whole: true }),
         Err(refusal) => {

@@ -6,7 +6,7 @@ ghost use Rattle.mq_tree.specs.ListText.{list_text};
 ghost use Rattle.mq_tree.specs.Trees.{IsAlike};
 ghost use Rattle.mq_tree.specs.Volume.{Volume};
 
-use crate::ports::read_standing;
+use crate::homes::read_standing;
 use crate::refusal::StandingRefusal;
 use mq_image::DriveImage;
 use mq_tree::{Tree, mount};
@@ -21,8 +21,8 @@ pub fn read_volume(alloc: Global, image: DriveImage) -> Result<Tree, StandingRef
     ensures complete { (v : Volume) → StandsFor image v → IsOkUnless result StandingRefusal.OutOfMemory }
 {
     let geometry = image.geometry;
-    let standing = read_standing(alloc, image)?;
-    Ok(mount(alloc, geometry, &standing.blocks)?)
+    let blocks = read_standing(alloc, image)?;
+    Ok(mount(alloc, geometry, &blocks)?)
 }
 
 /// The text that lists the volume that stands on an image.

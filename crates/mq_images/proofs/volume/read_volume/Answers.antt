@@ -9,25 +9,25 @@ use Rattle.mq_tree.specs.declared.corrupt.MountRefusal.TheVariants as mount
 use Rattle.mq_images.proofs.Volumes.{image-refuses, mount-refuses, mount-wants}
 use Rattle.mq_images.proofs.volume.read_volume.Goals as goal
 
-pub returns-in_err-standing-clause-refused : goal.returns-in_err-standing-clause-refused
-returns-in_err-standing-clause-refused c =
+pub returns-in_err-blocks-clause-refused : goal.returns-in_err-blocks-clause-refused
+returns-in_err-blocks-clause-refused c =
     let p = err_from_is_err_and c.from_residual.result c.from_residual.ensures.1 in
-    rw (p.1, p.2) (image-refuses c.args.image c.in_err-standing.field-0.0 c.in_err-standing.ensures.refused)
+    rw (p.1, p.2) (image-refuses c.args.image c.in_err-blocks.field-0.0 c.in_err-blocks.ensures.refused)
 
-pub returns-in_err-standing-clause-complete : goal.returns-in_err-standing-clause-complete
-returns-in_err-standing-clause-complete c = λ v for.
+pub returns-in_err-blocks-clause-complete : goal.returns-in_err-blocks-clause-complete
+returns-in_err-blocks-clause-complete c = λ v for.
     let p = err_from_is_err_and c.from_residual.result c.from_residual.ensures.1 in
-    rw (p.1, p.2) (ap refusal_for (c.in_err-standing.ensures.complete for.ds for.top for.read))
+    rw (p.1, p.2) (ap refusal_for (c.in_err-blocks.ensures.complete for.ds for.top for.read))
 
 pub returns-in_err-mount-clause-refused : goal.returns-in_err-mount-clause-refused
 returns-in_err-mount-clause-refused c =
     let g = c.image.inside.geometry in
     let same : g ≡ c.args.image.geometry = ap (λ (x : DriveImage). x.geometry) c.image.view_is in
     let e = c.in_err-mount.field-0.0 in
-    let refuses : Refuses g c.in_ok-standing.standing.blocks.items e = subst (λ (l : List (Option (List ℕ))). Refuses g l e) c.deref.ensures.value c.in_err-mount.ensures.cause in
+    let refuses : Refuses g c.in_ok-blocks.blocks.items e = subst (λ (l : List (Option (List ℕ))). Refuses g l e) c.deref.ensures.value c.in_err-mount.ensures.cause in
     let none = subst (λ (l : List (Option (List ℕ))). e ≢ mount.OutOfMemory → (t : Things) → IsTreeOf g (map_of g l) t → ⊥) c.deref.ensures.value c.in_err-mount.ensures.none in
     let p = err_from_is_err_and c.from_residual-in_err-mount.result c.from_residual-in_err-mount.ensures.1 in
-    rw (p.1, p.2) (mount-refuses g c.args.image same c.in_ok-standing.standing c.in_ok-standing.ensures.ok e refuses none)
+    rw (p.1, p.2) (mount-refuses g c.args.image same c.in_ok-blocks.blocks.items c.in_ok-blocks.ensures.ok e refuses none)
 
 pub returns-in_err-mount-clause-complete : goal.returns-in_err-mount-clause-complete
 returns-in_err-mount-clause-complete c = λ v for.
@@ -35,5 +35,5 @@ returns-in_err-mount-clause-complete c = λ v for.
     let same : g ≡ c.args.image.geometry = ap (λ (x : DriveImage). x.geometry) c.image.view_is in
     let e = c.in_err-mount.field-0.0 in
     let p = err_from_is_err_and c.from_residual-in_err-mount.result c.from_residual-in_err-mount.ensures.1 in
-    rw (p.1, p.2) (mount-wants g c.args.image same c.in_ok-standing.standing c.in_ok-standing.ensures.ok v e for
+    rw (p.1, p.2) (mount-wants g c.args.image same c.in_ok-blocks.blocks.items c.in_ok-blocks.ensures.ok v e for
     (subst (λ (l : List (Option (List ℕ))). e ≢ mount.OutOfMemory → (t : Things) → IsTreeOf g (map_of g l) t → ⊥) c.deref.ensures.value c.in_err-mount.ensures.none))

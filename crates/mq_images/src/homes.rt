@@ -1,0 +1,58 @@
+// The home blocks of an image, taken out of its ports.
+ghost use Rattle.std.specs.Prelude.{◌≡◌, ◌⊎◌, ◌≤◌, ◌++◌, ℕ, List, length, drop, IfErr, IfOk, IsOkUnless};
+ghost use Rattle.mq_blocks.specs.Descriptor.{Descriptor};
+ghost use Rattle.mq_image.specs.Drives.{IsDrive};
+ghost use Rattle.mq_images.specs.Standing.{IsStandingOf, Reads, RefusesDrive};
+ghost use Rattle.mq_images.specs.Views.{home_blocks};
+
+use crate::recovery::recover_image;
+use mq_blocks::{Block, OutOfMemory};
+use mq_drive::PortImage;
+use mq_image::DriveImage;
+use mq_recover::ImageFault;
+use std::alloc::Global;
+
+/// What stands on the home blocks of an image: a recovery writes it home, and the home blocks of what it leaves are
+/// taken out. An absent block is zeros.
+pub fn read_standing(alloc: Global, image: DriveImage) -> Result<Vec<Option<Block>>, ImageFault>
+    requires { IsDrive image }
+    ensures ok { IfOk result (λ blocks. IsStandingOf image blocks.items) }
+    ensures refused { IfErr result (λ e. (e ≡ ImageFault.OutOfMemory) ⊎ RefusesDrive image e) }
+    ensures complete { (ds : List Descriptor) (top : ℕ)
+        → Reads image ds top
+        → IsOkUnless result ImageFault.OutOfMemory }
+{
+    let recovered = recover_image(alloc, image, None, 0)?;
+    Ok(take_homes(recovered.image)?)
+}
+
+// The home blocks of an image, by rising number. The boxes move, and the rest of the image is let go.
+fn take_homes(image: DriveImage) -> Result<Vec<Option<Block>>, OutOfMemory>
+    requires { IsDrive image }
+    ensures { IfOk result (λ blocks. blocks.items ≡ home_blocks image) }
+{
+    let DriveImage { geometry, ports } = image;
+    let mut queues = ports;
+    let root = queues.remove(geometry.queues() as usize);
+    let mut blocks = root.blocks;
+    for q in 0..geometry.queues() {
+        let _queue = q;
+        append_zone(&mut blocks, geometry.area(), queues.remove(0))?;
+    }
+    Ok(blocks)
+}
+
+// Appends the blocks of a queue's zone, which lie behind those of its journal area.
+fn append_zone(
+    blocks: &mut Vec<Option<Block>>,
+    area: u32,
+    queue: PortImage,
+) -> Result<(), OutOfMemory>
+    requires { area ≤ length queue.blocks }
+    ensures { IfOk result (λ _. blocks.new.items ≡ blocks.old.items ++ drop area queue.blocks) }
+{
+    let mut stored = queue.blocks;
+    let mut zone = stored.split_off(area as usize)?;
+    blocks.append(&mut zone)?;
+    Ok(())
+}
