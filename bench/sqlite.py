@@ -119,4 +119,5 @@ def main(words):
             print(f"SQLite {sqlite3.sqlite_version}, {name}: {count / best:.0f} groups a second, {1e6 * best / count:.1f} us each")
 
 
-main(sys.argv[1:])
+if __name__ == "__main__":
+    main(sys.argv[1:])
