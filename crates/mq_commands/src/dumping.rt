@@ -14,9 +14,10 @@ ghost use Rattle.mq_outside.specs.Outside.{Tells};
 ghost use Rattle.mq_recover.specs.declared.refusal.ImageFault.{ImageFault};
 
 use crate::answer::{Answer, refuse_drive, refuse_file, say_answer};
+use crate::loading::read_loaded;
 use mq_blocks::OutOfMemory;
 use mq_ending::{DONE, load_or_say};
-use mq_image::{DriveImage, read_image, written_images_are_read};
+use mq_image::{DriveImage, written_images_are_read};
 use mq_images::dump_image;
 use mq_outside::{Files, Sink};
 use std::alloc::Global;
@@ -33,11 +34,11 @@ fn dump_drive(alloc: Global, image: DriveImage) -> Result<Answer, OutOfMemory>
 }
 
 // What `dump` says of the bytes of a file.
-fn dump_bytes(alloc: Global, bytes: &[u8]) -> Result<Answer, OutOfMemory>
-    ensures { IfOk result (λ a. SaysOfImage Dumps bytes.now a.status a.text.items) }
+fn dump_bytes(alloc: Global, bytes: Vec<u8>) -> Result<Answer, OutOfMemory>
+    ensures { IfOk result (λ a. SaysOfImage Dumps bytes.items a.status a.text.items) }
 {
     written_images_are_read();
-    match read_image(alloc, bytes) {
+    match read_loaded(alloc, bytes) {
         Ok(image) => dump_drive(alloc, image),
         Err(fault) => refuse_file(alloc, fault),
     }
@@ -66,7 +67,7 @@ pub fn dump<F: Files, K: Sink>(alloc: Global, name: &str, files: &mut F, out: &m
     ensures contents { (F.state files.new).contents ≡ (F.state files.old).contents }
 {
     match load_or_say(alloc, name, files, out) {
-        Ok(bytes) => say_answer(dump_bytes(alloc, &bytes), out),
+        Ok(bytes) => say_answer(dump_bytes(alloc, bytes), out),
         Err(status) => status,
     }
 }

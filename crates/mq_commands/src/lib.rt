@@ -6,6 +6,7 @@ mod dumping;
 mod formatting;
 mod lines;
 mod listing;
+mod loading;
 mod names;
 mod recovering;
 mod running;

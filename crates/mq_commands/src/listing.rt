@@ -13,9 +13,10 @@ ghost use Rattle.mq_tree.specs.Volume.{Volume};
 ghost use Rattle.mq_tree.specs.declared.request.Fault.{Fault};
 
 use crate::answer::{Answer, refuse_file, refuse_path, refuse_volume, say_answer};
+use crate::loading::read_loaded;
 use mq_blocks::OutOfMemory;
 use mq_ending::{DONE, load_or_say};
-use mq_image::{DriveImage, read_image, written_images_are_read};
+use mq_image::{DriveImage, written_images_are_read};
 use mq_images::{list_volume, read_volume};
 use mq_outside::{Files, Sink};
 use mq_tree::Path;
@@ -33,11 +34,11 @@ fn list_image(alloc: Global, image: DriveImage) -> Result<Answer, OutOfMemory>
 }
 
 // What `ls` says of the bytes of a file.
-fn list_bytes(alloc: Global, bytes: &[u8]) -> Result<Answer, OutOfMemory>
-    ensures { IfOk result (λ a. SaysOfImage Lists bytes.now a.status a.text.items) }
+fn list_bytes(alloc: Global, bytes: Vec<u8>) -> Result<Answer, OutOfMemory>
+    ensures { IfOk result (λ a. SaysOfImage Lists bytes.items a.status a.text.items) }
 {
     written_images_are_read();
-    match read_image(alloc, bytes) {
+    match read_loaded(alloc, bytes) {
         Ok(image) => list_image(alloc, image),
         Err(fault) => refuse_file(alloc, fault),
     }
@@ -66,7 +67,7 @@ pub fn ls<F: Files, K: Sink>(alloc: Global, name: &str, files: &mut F, out: &mut
     ensures contents { (F.state files.new).contents ≡ (F.state files.old).contents }
 {
     match load_or_say(alloc, name, files, out) {
-        Ok(bytes) => say_answer(list_bytes(alloc, &bytes), out),
+        Ok(bytes) => say_answer(list_bytes(alloc, bytes), out),
         Err(status) => status,
     }
 }
@@ -90,11 +91,11 @@ fn show_image(alloc: Global, image: DriveImage, path: &Path) -> Result<Answer, O
 }
 
 // What `cat` says of the bytes of a file.
-fn show_bytes(alloc: Global, bytes: &[u8], path: &Path) -> Result<Answer, OutOfMemory>
-    ensures { IfOk result (λ a. SaysOfImage (ShowsFile path.now) bytes.now a.status a.text.items) }
+fn show_bytes(alloc: Global, bytes: Vec<u8>, path: &Path) -> Result<Answer, OutOfMemory>
+    ensures { IfOk result (λ a. SaysOfImage (ShowsFile path.now) bytes.items a.status a.text.items) }
 {
     written_images_are_read();
-    match read_image(alloc, bytes) {
+    match read_loaded(alloc, bytes) {
         Ok(image) => show_image(alloc, image, path),
         Err(fault) => refuse_file(alloc, fault),
     }
@@ -137,7 +138,7 @@ pub fn cat<F: Files, K: Sink>(
     ensures contents { (F.state files.new).contents ≡ (F.state files.old).contents }
 {
     match load_or_say(alloc, name, files, out) {
-        Ok(bytes) => say_answer(show_bytes(alloc, &bytes, path), out),
+        Ok(bytes) => say_answer(show_bytes(alloc, bytes, path), out),
         Err(status) => status,
     }
 }

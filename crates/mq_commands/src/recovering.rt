@@ -7,7 +7,7 @@ ghost use Rattle.mq_commands.specs.Lines.{number_line};
 ghost use Rattle.mq_commands.specs.Recovers.{IsRecoveredAs, IsRecoveryFile, Recovers, RefusesRecovery, cut_line, recovered_text};
 ghost use Rattle.mq_ending.specs.Ending.{EndsWith, IsUnlessWanting};
 ghost use Rattle.mq_image.specs.Drives.{IsDrive, IsRead};
-ghost use Rattle.mq_image.specs.Faults.{FindsFirst, HasFault};
+ghost use Rattle.mq_image.specs.Faults.{HasFault};
 ghost use Rattle.mq_image.specs.File.{DriveImage as Image, image_bytes};
 ghost use Rattle.mq_image.specs.declared.fault.FileFault.{FileFault as FaultOfFile};
 ghost use Rattle.mq_images.specs.Standing.{Reads, RefusesDrive};
@@ -15,9 +15,10 @@ ghost use Rattle.mq_outside.specs.Outside.{Tells};
 ghost use Rattle.mq_recover.specs.declared.refusal.ImageFault.{ImageFault};
 
 use crate::answer::{Answer, refuse_drive, refuse_file, save_and_say, say_answer};
+use crate::loading::read_loaded;
 use mq_blocks::OutOfMemory;
 use mq_ending::load_or_say;
-use mq_image::{DriveImage, FileFault, read_image, write_image, written_images_are_read};
+use mq_image::{DriveImage, write_image, written_images_are_read};
 use mq_images::{RecoveredImage, recover_image};
 use mq_outside::{Files, Sink};
 use std::alloc::Global;
@@ -67,14 +68,6 @@ fn recovery_of(alloc: Global, recovered: &RecoveredImage) -> Result<Recovery, Ou
     let file = write_image(alloc, &recovered.image)?;
     let text = text_of(alloc, recovered)?;
     Ok(Recovery { file, text })
-}
-
-// The image of the bytes of a file, which are let go.
-fn read_loaded(alloc: Global, bytes: Vec<u8>) -> Result<DriveImage, FileFault>
-    ensures sound { IfOk result (λ x. IsRead x bytes.items) }
-    ensures finds { FindsFirst bytes.items result }
-{
-    read_image(alloc, &bytes)
 }
 
 // Recovers an image, or says why it is not readable.

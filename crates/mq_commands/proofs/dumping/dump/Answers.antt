@@ -1,7 +1,5 @@
-use Rattle.std.proofs.Common.{List, ℕ, sym, subst}
 use Rattle.mq_commands.specs.Commands.{Dumps, SaysOfImage}
 use Rattle.mq_commands.specs.declared.answer.Answer.{Answer}
-use Rattle.mq_ending.specs.Ending.{IsLoaded}
 use Rattle.mq_commands.proofs.Exact.{dumped-where, refused-where, undumped-where}
 use Rattle.mq_commands.proofs.Saying.{not-loaded-same, says, says-not}
 use Rattle.mq_commands.proofs.dumping.dump.Goals as goal
@@ -10,8 +8,8 @@ pub returns-in-Ok-clause-ends : goal.returns-in-Ok-clause-ends
 returns-in-Ok-clause-ends g c =
     let files = g.F.Files.state in
     let sink = g.K.Sink.state in
-    says (λ (a : Answer). a.status) (λ (a : Answer). a.text.items) (SaysOfImage Dumps) c.args.name.now c.deref.result.now (files c.args.files.now) (files c.load_or_say.new.files) (sink c.args.out.now) (sink c.load_or_say.new.out) (sink c.say_answer.new.out) c.dump_bytes.result c.say_answer.result
-    (subst (λ (l : List ℕ). IsLoaded c.args.name.now l (files c.args.files.now) (files c.load_or_say.new.files)) (sym c.deref.ensures.value) c.in-Ok.ensures.ok)
+    says (λ (a : Answer). a.status) (λ (a : Answer). a.text.items) (SaysOfImage Dumps) c.args.name.now c.in-Ok.bytes.items (files c.args.files.now) (files c.load_or_say.new.files) (sink c.args.out.now) (sink c.load_or_say.new.out) (sink c.say_answer.new.out) c.dump_bytes.result c.say_answer.result
+    c.in-Ok.ensures.ok
     c.in-Ok.ensures.silent c.dump_bytes.ensures c.say_answer.ensures
 
 pub returns-in-Ok-clause-contents : goal.returns-in-Ok-clause-contents

@@ -1,7 +1,5 @@
-use Rattle.std.proofs.Common.{List, ℕ, sym, subst}
 use Rattle.mq_commands.specs.Commands.{ShowsFile, SaysOfImage}
 use Rattle.mq_commands.specs.declared.answer.Answer.{Answer}
-use Rattle.mq_ending.specs.Ending.{IsLoaded}
 use Rattle.mq_commands.proofs.Exact.{no-file-where, not-shown-where, refused-where, shown-where}
 use Rattle.mq_commands.proofs.Saying.{not-loaded-same, says, says-not}
 use Rattle.mq_commands.proofs.listing.cat.Goals as goal
@@ -10,8 +8,8 @@ pub returns-in-Ok-clause-ends : goal.returns-in-Ok-clause-ends
 returns-in-Ok-clause-ends g c =
     let files = g.F.Files.state in
     let sink = g.K.Sink.state in
-    says (λ (a : Answer). a.status) (λ (a : Answer). a.text.items) (SaysOfImage (ShowsFile c.args.path.now)) c.args.name.now c.deref.result.now (files c.args.files.now) (files c.load_or_say.new.files) (sink c.args.out.now) (sink c.load_or_say.new.out) (sink c.say_answer.new.out) c.show_bytes.result c.say_answer.result
-    (subst (λ (l : List ℕ). IsLoaded c.args.name.now l (files c.args.files.now) (files c.load_or_say.new.files)) (sym c.deref.ensures.value) c.in-Ok.ensures.ok)
+    says (λ (a : Answer). a.status) (λ (a : Answer). a.text.items) (SaysOfImage (ShowsFile c.args.path.now)) c.args.name.now c.in-Ok.bytes.items (files c.args.files.now) (files c.load_or_say.new.files) (sink c.args.out.now) (sink c.load_or_say.new.out) (sink c.say_answer.new.out) c.show_bytes.result c.say_answer.result
+    c.in-Ok.ensures.ok
     c.in-Ok.ensures.silent c.show_bytes.ensures c.say_answer.ensures
 
 pub returns-in-Ok-clause-contents : goal.returns-in-Ok-clause-contents

@@ -8,9 +8,9 @@ use Rattle.mq_commands.proofs.listing.list_bytes.Goals as goal
 
 pub returns-in-Ok : goal.returns-in-Ok
 returns-in-Ok c =
-    on-ok c.list_image.result (λ (a : Answer). Lists c.in-Ok.image a.status a.text.items) (λ (a : Answer). SaysOfImage Lists c.args.bytes.now a.status a.text.items) c.list_image.ensures (λ a is. is_image c.in-Ok.image c.in-Ok.ensures.sound is)
+    on-ok c.list_image.result (λ (a : Answer). Lists c.in-Ok.image a.status a.text.items) (λ (a : Answer). SaysOfImage Lists c.args.bytes.items a.status a.text.items) c.list_image.ensures (λ a is. is_image c.in-Ok.image c.in-Ok.ensures.sound is)
 
 pub returns-in-Err : goal.returns-in-Err
 returns-in-Err c =
-    refused-as (λ (a : Answer). a.status) (λ (a : Answer). a.text.items) (SaysOfImage Lists c.args.bytes.now) (file_line c.in-Err.fault) (c.in-Err.fault ≢ file.OutOfMemory) c.refuse_file.result c.refuse_file.ensures
-    (λ other. no-image Lists c.args.bytes.now c.in-Err.fault c.written_images_are_read.ensures.first c.in-Err.ensures.finds other)
+    refused-as (λ (a : Answer). a.status) (λ (a : Answer). a.text.items) (SaysOfImage Lists c.args.bytes.items) (file_line c.in-Err.fault) (c.in-Err.fault ≢ file.OutOfMemory) c.refuse_file.result c.refuse_file.ensures
+    (λ other. no-image Lists c.args.bytes.items c.in-Err.fault c.written_images_are_read.ensures.first c.in-Err.ensures.finds other)

@@ -8,9 +8,9 @@ use Rattle.mq_commands.proofs.listing.show_bytes.Goals as goal
 
 pub returns-in-Ok : goal.returns-in-Ok
 returns-in-Ok c =
-    on-ok c.show_image.result (λ (a : Answer). ShowsFile c.args.path.now c.in-Ok.image a.status a.text.items) (λ (a : Answer). SaysOfImage (ShowsFile c.args.path.now) c.args.bytes.now a.status a.text.items) c.show_image.ensures (λ a is. is_image c.in-Ok.image c.in-Ok.ensures.sound is)
+    on-ok c.show_image.result (λ (a : Answer). ShowsFile c.args.path.now c.in-Ok.image a.status a.text.items) (λ (a : Answer). SaysOfImage (ShowsFile c.args.path.now) c.args.bytes.items a.status a.text.items) c.show_image.ensures (λ a is. is_image c.in-Ok.image c.in-Ok.ensures.sound is)
 
 pub returns-in-Err : goal.returns-in-Err
 returns-in-Err c =
-    refused-as (λ (a : Answer). a.status) (λ (a : Answer). a.text.items) (SaysOfImage (ShowsFile c.args.path.now) c.args.bytes.now) (file_line c.in-Err.fault) (c.in-Err.fault ≢ file.OutOfMemory) c.refuse_file.result c.refuse_file.ensures
-    (λ other. no-image (ShowsFile c.args.path.now) c.args.bytes.now c.in-Err.fault c.written_images_are_read.ensures.first c.in-Err.ensures.finds other)
+    refused-as (λ (a : Answer). a.status) (λ (a : Answer). a.text.items) (SaysOfImage (ShowsFile c.args.path.now) c.args.bytes.items) (file_line c.in-Err.fault) (c.in-Err.fault ≢ file.OutOfMemory) c.refuse_file.result c.refuse_file.ensures
+    (λ other. no-image (ShowsFile c.args.path.now) c.args.bytes.items c.in-Err.fault c.written_images_are_read.ensures.first c.in-Err.ensures.finds other)
