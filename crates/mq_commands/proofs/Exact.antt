@@ -17,7 +17,7 @@ use Rattle.mq_image.proofs.Geometries.{one_shape}
 use Rattle.mq_image.proofs.Unique.{read-same}
 use Rattle.mq_image.proofs.Written.{no-fault, file-shown, ports-shown}
 use Rattle.mq_images.specs.Standing.{HasNoVolume, RefusesDrive, StandsFor}
-use Rattle.mq_images.proofs.Standings.{read-refused, whole-refused}
+use Rattle.mq_images.proofs.Standings.{whole-refused}
 use Rattle.mq_images.proofs.Volumes.{stands-none, stands-once, stands-refused}
 use Rattle.mq_outside.specs.Outside.{FilesState, Held, Holds, SinkState, Tells}
 use Rattle.mq_recover.specs.declared.refusal.ImageFault.{ImageFault}

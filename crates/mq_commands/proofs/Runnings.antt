@@ -33,7 +33,6 @@ use Rattle.mq_images.specs.declared.refusal.StandingRefusal.TheVariants as stand
 use Rattle.mq_images.proofs.Standings.{read-refused}
 use Rattle.mq_images.proofs.Volumes.{stands-none, stands-refused}
 use Rattle.mq_outside.specs.Outside.{FilesState, Held, Holds, SinkState, Tells}
-use Rattle.mq_recover.specs.declared.refusal.ImageFault.{ImageFault}
 use Rattle.mq_recover.proofs.Images.{read-same}
 use Rattle.mq_script.specs.Answers.{AgreesAt, Refused}
 use Rattle.mq_script.specs.Reading.{script_in}

@@ -18,10 +18,11 @@ ghost use Rattle.mq_tree.specs.Volume.{Volume};
 use crate::answer::{
     Answer, refuse_file, refuse_script, refuse_scripts, refuse_volume, say_answer,
 };
+use crate::loading::read_loaded;
 use mq_blocks::OutOfMemory;
 use mq_calls::{CallCause, Gate, Refusal};
 use mq_ending::{COMMAND, DONE, NO_MEMORY, load_or_say, save_or_say, say, say_memory};
-use mq_image::{DriveImage, read_image, write_image, written_images_are_read};
+use mq_image::{DriveImage, write_image, written_images_are_read};
 use mq_image_run::{ImageRun, RunOptions, run_image};
 use mq_outside::{Files, Sink};
 use mq_report::{Told, report};
@@ -60,7 +61,7 @@ fn load_image<F: Files, K: Sink>(
         Ok(bytes) => bytes,
         Err(status) => return Err(status),
     };
-    match read_image(alloc, &bytes) {
+    match read_loaded(alloc, bytes) {
         Ok(image) => Ok(image),
         Err(fault) => Err(say_answer(refuse_file(alloc, fault), out)),
     }
