@@ -1,4 +1,5 @@
 pub mod Commands
+pub mod Generates
 pub mod Lines
 pub mod Names
 pub mod Recovers

@@ -4,6 +4,7 @@
 mod answer;
 mod dumping;
 mod formatting;
+mod generating;
 mod lines;
 mod listing;
 mod loading;
@@ -13,6 +14,7 @@ mod running;
 
 pub use dumping::dump;
 pub use formatting::{Numbers, format};
+pub use generating::{Workload, generate};
 pub use listing::{cat, ls};
 pub use recovering::recover;
 pub use running::run;

@@ -14,3 +14,5 @@ mod outcomes;
 mod recoveries;
 #[cfg(test)]
 mod runs;
+#[cfg(test)]
+mod workloads;

@@ -23,5 +23,7 @@ mod runs;
 mod standing;
 #[cfg(test)]
 mod words;
+#[cfg(test)]
+mod workloads;
 
 pub use ports::let_go;

@@ -5,7 +5,7 @@ use std::alloc::AllocError;
 const USAGE: &str = "usage: mqfs blocks|format|run|recover|ls|cat|gen|dump\n";
 
 // Words that are no command, also where `t` holds a text that is read.
-const NO_COMMAND: [&str; 51] = [
+const NO_COMMAND: [&str; 68] = [
     "",
     "blocks",
     "blocks t t",
@@ -14,7 +14,6 @@ const NO_COMMAND: [&str; 51] = [
     "t blocks",
     "help",
     "-h",
-    "gen 1 1 1",
     // a run has one script or more, and names a command by two numbers, of which the second is not 0
     "run",
     "run d",
@@ -52,6 +51,25 @@ const NO_COMMAND: [&str; 51] = [
     "format d +2 1024 64 256",
     "format d 4294967296 1024 64 256",
     "format d 2 1024 64 256 --cut 1",
+    // a workload has 1 to 16 threads with 0 to 10,000 groups each, and no option but one
+    "gen",
+    "gen 7 4",
+    "gen 7 4 0 0",
+    "gen 07 4 0",
+    "gen 7 04 0",
+    "gen 7 4 00",
+    "gen -7 4 0",
+    "gen x 4 0",
+    "gen 9223372036854775808 4 0",
+    "gen 7 0 0",
+    "gen 7 17 0",
+    "gen 7 4294967297 0",
+    "gen 7 4 10001",
+    "gen 7 4 4294967296",
+    "gen 7 4 0 --save",
+    "gen 7 4 0 --save d --save d",
+    "gen 7 4 0 --cut 1",
+    "gen 7 4 0 --pick 1",
     "ls",
     "ls d d",
     "ls --cut 1 d",

@@ -60,7 +60,7 @@ fn names_of_files(rt: HostRuntime) -> Result<(), AllocError> {
 }
 
 // Words that ask for help, and how it begins.
-const HELP: [(&str, &str); 9] = [
+const HELP: [(&str, &str); 10] = [
     ("--help", "mqfs runs "),
     ("--help blocks", "mqfs runs "),
     ("blocks --help", "mqfs blocks FILE "),
@@ -69,6 +69,7 @@ const HELP: [(&str, &str); 9] = [
     ("format --help", "mqfs format IMAGE "),
     ("ls d --help", "mqfs ls IMAGE\n"),
     ("cat --help", "mqfs cat IMAGE PATH\n"),
+    ("gen 7 --help", "mqfs gen SEED THREADS GROUPS "),
     ("dump --help", "mqfs dump IMAGE\n"),
 ];
 

@@ -6,7 +6,7 @@ use Rattle.clap.specs.Words.{App, IsAmong, Kinds, Rule, Text, is_simple, is_simp
 use Rattle.clap.specs.declared.error.kind.ErrorKind.{ErrorKind}
 use Rattle.mq_words.specs.Syntax.{app_for, app_with, name_rule, option_rule, repeated_rules}
 use Rattle.mq_words.specs.declared.verb.Verb.{Verb}
-use Rattle.mq_words.specs.declared.verb.Verb.TheVariants.{Blocks, Format, Run, Recover, Ls, Cat, Dump}
+use Rattle.mq_words.specs.declared.verb.Verb.TheVariants.{Blocks, Format, Run, Recover, Ls, Cat, Gen, Dump}
 
 -- one name more
 pub name_more : (verb : Text) (names : List Text) (name : Text) → with_rule (app_with verb names None []) (name_rule name) ≡ app_with verb (names ++ name ∷ []) None []
@@ -39,6 +39,7 @@ simple_and_free Run = refl
 simple_and_free Recover = refl
 simple_and_free Ls = refl
 simple_and_free Cat = refl
+simple_and_free Gen = refl
 simple_and_free Dump = refl
 
 pub simple : (v : Verb) → is_simple (app_for v) ≡ true
@@ -49,6 +50,7 @@ simple Run = refl
 simple Recover = refl
 simple Ls = refl
 simple Cat = refl
+simple Gen = refl
 simple Dump = refl
 
 -- a kind is among some

@@ -25,6 +25,7 @@ pub data Asked : Type 0 where
   recover : (image : Text) → (cut pick : Option ℕ) → Asked
   ls : (image : Text) → Asked
   cat : (image : Text) → Path → Asked
+  gen : (seed threads groups : ℕ) → (save : Option Text) → Asked
   dump : (image : Text) → Asked
   help : Option Verb → Asked
   version : Asked
@@ -39,8 +40,19 @@ number_end = 2 ^ 63
 abbrev pub word_end : ℕ
 word_end = 2 ^ 32
 
+-- a workload has fewer threads
+abbrev pub threads_end : ℕ
+threads_end = 17
+
+-- each of its threads has fewer groups
+abbrev pub groups_end : ℕ
+groups_end = 10001
+
 abbrev pub below : (limit n : ℕ) → Option ℕ
 below limit n = if nat_lt n limit then Some n else None
+
+abbrev pub from : (least n : ℕ) → Option ℕ
+from least n = if nat_le least n then Some n else None
 
 -- a number below a limit, in decimal digits without a leading zero
 abbrev pub number_within : ℕ → Text → Option ℕ
@@ -102,9 +114,17 @@ abbrev pub cat_by : Option Text → Option Path → Option Asked
 cat_by (Some image) (Some path) = Some (cat image path)
 cat_by _ _ = None
 
+abbrev pub gen_by : (seed threads groups : Option ℕ) → (save : Option Text) → Option Asked
+gen_by (Some seed) (Some threads) (Some groups) save = Some (gen seed threads groups save)
+gen_by _ _ _ _ = None
+
 -- the number of a name that is found
 abbrev pub word_in : Option Text → Option ℕ
 word_in word = option_and_then (number_within word_end) word
+
+-- the same where it is in these bounds
+abbrev pub number_from : (least limit : ℕ) → Option Text → Option ℕ
+number_from least limit word = option_and_then (from least) (option_and_then (number_within limit) word)
 
 -- what is found of a command asks
 abbrev pub asked_by : Verb → List Row → Option Asked
@@ -119,6 +139,9 @@ asked_by verb.Recover rows = recover_by (first_of (codes "image") rows)
     (number_option (first_of (codes "cut") rows)) (number_option (first_of (codes "pick") rows))
 asked_by verb.Ls rows = option_map ls (first_of (codes "image") rows)
 asked_by verb.Cat rows = cat_by (first_of (codes "image") rows) (option_and_then path_within (first_of (codes "path") rows))
+asked_by verb.Gen rows = gen_by (number_from 0 number_end (first_of (codes "seed") rows))
+    (number_from 1 threads_end (first_of (codes "threads") rows)) (number_from 0 groups_end (first_of (codes "groups") rows))
+    (first_of (codes "save") rows)
 asked_by verb.Dump rows = option_map dump (first_of (codes "image") rows)
 
 -- ---- what words ask
@@ -159,6 +182,7 @@ asked (command.Run image scripts options) = run image.now (map (λ s. s.now) scr
 asked (command.Recover image cut pick) = recover image.now cut pick
 asked (command.Ls image) = ls image.now
 asked (command.Cat image path) = cat image.now path
+asked (command.Gen seed threads groups save) = gen seed threads groups (option_map (λ s. s.now) save)
 asked (command.Dump image) = dump image.now
 asked (command.Help verb) = help verb
 asked command.Version = version
@@ -175,10 +199,15 @@ NamesCommand f = (f.port < number_end) × (1 ≤ f.command) × (f.command < numb
 abbrev pub AreSmallOfRun : RunOptions → Type 0
 AreSmallOfRun o = IfSome o.cut (λ n. n < number_end) × IfSome o.pick (λ n. n < number_end) × IfSome o.fail NamesCommand
 
+-- the same of the numbers of `gen`, of which there is at least one thread
+abbrev pub AreSmallOfGen : (seed threads groups : ℕ) → Type 0
+AreSmallOfGen seed threads groups = (seed < number_end) × (1 ≤ threads) × (threads < threads_end) × (groups < groups_end)
+
 abbrev pub HasSmallNumbers : Command → Type 0
 HasSmallNumbers (command.Blocks file options save) = AreSmall options
 HasSmallNumbers (command.Run image scripts options) = AreSmallOfRun options
 HasSmallNumbers (command.Recover image cut pick) = IfSome cut (λ n. n < number_end) × IfSome pick (λ n. n < number_end)
+HasSmallNumbers (command.Gen seed threads groups save) = AreSmallOfGen seed threads groups
 HasSmallNumbers _ = Unit {0}
 
 -- a run has at least one script

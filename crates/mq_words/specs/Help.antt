@@ -12,8 +12,9 @@ program_help =
     ++ (codes "  mqfs recover IMAGE [--cut K] [--pick S]\n"
     ++ (codes "  mqfs ls IMAGE\n"
     ++ (codes "  mqfs cat IMAGE PATH\n"
+    ++ (codes "  mqfs gen SEED THREADS GROUPS [--save NAME]\n"
     ++ (codes "  mqfs dump IMAGE\n\n"
-    ++ (codes "mqfs COMMAND --help says more of a command.\n"))))))))
+    ++ (codes "mqfs COMMAND --help says more of a command.\n")))))))))
 
 unfoldable pub blocks_help : List ℕ
 blocks_help =
@@ -66,6 +67,15 @@ cat_help =
     ++ (codes "begins with a slash. Nothing is saved.\n\n"
     ++ (codes "Example: mqfs cat d /a/f\n")))
 
+unfoldable pub gen_help : List ℕ
+gen_help =
+    codes "mqfs gen SEED THREADS GROUPS [--save NAME]\n\n"
+    ++ (codes "Runs a workload that the number SEED chooses on a fresh drive in memory, each of\n"
+    ++ (codes "1 to 16 THREADS with 0 to 10000 GROUPS of requests, and prints how much the tree\n"
+    ++ (codes "of files then has.\n\n"
+    ++ (codes "  --save NAME  saves the image that a cut at the end of the sessions leaves\n\n"
+    ++ (codes "Example: mqfs gen 7 4 2000\n")))))
+
 unfoldable pub dump_help : List ℕ
 dump_help =
     codes "mqfs dump IMAGE\n\n"
@@ -81,6 +91,7 @@ help_text (Some verb.Run) = run_help
 help_text (Some verb.Recover) = recover_help
 help_text (Some verb.Ls) = ls_help
 help_text (Some verb.Cat) = cat_help
+help_text (Some verb.Gen) = gen_help
 help_text (Some verb.Dump) = dump_help
 
 abbrev pub version_line : List ℕ

@@ -4,7 +4,7 @@ use Rattle.clap.specs.Words.{App, Rule, Text, new_rule}
 use Rattle.clap.specs.Simple.{new_shape}
 use Rattle.clap.specs.declared.builder.action.ArgAction.TheVariants as action
 use Rattle.mq_words.specs.declared.verb.Verb.{Verb}
-use Rattle.mq_words.specs.declared.verb.Verb.TheVariants.{Blocks, Format, Run, Recover, Ls, Cat, Dump}
+use Rattle.mq_words.specs.declared.verb.Verb.TheVariants.{Blocks, Format, Run, Recover, Ls, Cat, Gen, Dump}
 
 -- ---- the commands by name
 
@@ -15,6 +15,7 @@ verb_text Run = codes "run"
 verb_text Recover = codes "recover"
 verb_text Ls = codes "ls"
 verb_text Cat = codes "cat"
+verb_text Gen = codes "gen"
 verb_text Dump = codes "dump"
 
 abbrev pub verb_of : Text → Option Verb
@@ -25,6 +26,7 @@ verb_of word =
     else if bytes_eq word (codes "recover") then Some Recover
     else if bytes_eq word (codes "ls") then Some Ls
     else if bytes_eq word (codes "cat") then Some Cat
+    else if bytes_eq word (codes "gen") then Some Gen
     else if bytes_eq word (codes "dump") then Some Dump
     else None
 
@@ -38,6 +40,7 @@ names_for Run = codes "image" ∷ []
 names_for Recover = codes "image" ∷ []
 names_for Ls = codes "image" ∷ []
 names_for Cat = codes "image" ∷ codes "path" ∷ []
+names_for Gen = codes "seed" ∷ codes "threads" ∷ codes "groups" ∷ []
 names_for Dump = codes "image" ∷ []
 
 -- the name behind these of which it wants one or more words, where it has one
@@ -48,6 +51,7 @@ repeated_for Run = Some (codes "scripts")
 repeated_for Recover = None
 repeated_for Ls = None
 repeated_for Cat = None
+repeated_for Gen = None
 repeated_for Dump = None
 
 -- the options that it takes, each with a value
@@ -58,6 +62,7 @@ options_for Run = codes "cut" ∷ codes "pick" ∷ codes "fail" ∷ []
 options_for Recover = codes "cut" ∷ codes "pick" ∷ []
 options_for Ls = []
 options_for Cat = []
+options_for Gen = codes "save" ∷ []
 options_for Dump = []
 
 -- a name, which has to stand as one word

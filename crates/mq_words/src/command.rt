@@ -70,6 +70,15 @@ pub enum Command<'a> {
         image: &'a str,
         path: Path,
     },
+    Gen {
+        /// What chooses the workload.
+        seed: u64,
+        threads: u32,
+        /// How many groups of requests each thread has, but for its first.
+        groups: u32,
+        /// The name under which the image is saved that the run left.
+        save: Option<&'a str>,
+    },
     Dump {
         image: &'a str,
     },

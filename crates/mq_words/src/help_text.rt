@@ -1,6 +1,6 @@
 // What the program says of itself and of each command.
 ghost use Rattle.std.specs.Prelude.{◌≡◌};
-ghost use Rattle.mq_words.specs.Help.{blocks_help, cat_help, dump_help, format_help, help_text, ls_help, program_help, recover_help, run_help, version_line as version_text};
+ghost use Rattle.mq_words.specs.Help.{blocks_help, cat_help, dump_help, format_help, gen_help, help_text, ls_help, program_help, recover_help, run_help, version_line as version_text};
 
 use crate::verb::Verb;
 
@@ -16,6 +16,7 @@ fn program_text() -> &'static str
   mqfs recover IMAGE [--cut K] [--pick S]
   mqfs ls IMAGE
   mqfs cat IMAGE PATH
+  mqfs gen SEED THREADS GROUPS [--save NAME]
   mqfs dump IMAGE
 
 mqfs COMMAND --help says more of a command.
@@ -112,6 +113,22 @@ Example: mqfs cat d /a/f
 "
 }
 
+#[tactic(auto, unfolding(crate::specs::Help::gen_help))]
+fn gen_text() -> &'static str
+    ensures { result.now ≡ gen_help }
+{
+    "mqfs gen SEED THREADS GROUPS [--save NAME]
+
+Runs a workload that the number SEED chooses on a fresh drive in memory, each of
+1 to 16 THREADS with 0 to 10000 GROUPS of requests, and prints how much the tree
+of files then has.
+
+  --save NAME  saves the image that a cut at the end of the sessions leaves
+
+Example: mqfs gen 7 4 2000
+"
+}
+
 #[tactic(auto, unfolding(crate::specs::Help::dump_help))]
 fn dump_text() -> &'static str
     ensures { result.now ≡ dump_help }
@@ -137,6 +154,7 @@ pub fn help_on(topic: Option<Verb>) -> &'static str
         Some(Verb::Recover) => recover_text(),
         Some(Verb::Ls) => ls_text(),
         Some(Verb::Cat) => cat_text(),
+        Some(Verb::Gen) => gen_text(),
         Some(Verb::Dump) => dump_text(),
     }
 }

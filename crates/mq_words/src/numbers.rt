@@ -1,16 +1,22 @@
 // The numbers of words.
 ghost use Rattle.std.specs.Prelude.{◌≡◌, ◌≤◌, ◌<◌, ◌^◌, None, Some, IfOk, IfSome, MatchResult, option_map};
-ghost use Rattle.mq_words.specs.Asked.{NamesCommand, failing_in, failing_option, number_end, number_option, number_within, word_end, word_in};
+ghost use Rattle.mq_words.specs.Asked.{NamesCommand, failing_in, failing_option, number_end, number_from, number_option, number_within, word_end, word_in};
 
 use crate::command::FailingCommand;
 use crate::refusal::WordsRefusal;
 use mq_text::read_number;
 
 /// The numbers of options are below this one.
-const NUMBER_END: u64 = 1 << 63;
+pub const NUMBER_END: u64 = 1 << 63;
 
 /// The numbers of a geometry are below this one.
 const WORD_END: u64 = 1 << 32;
+
+/// A workload has fewer threads.
+pub const THREADS_END: u64 = 17;
+
+/// Each of its threads has fewer groups.
+pub const GROUPS_END: u64 = 10_001;
 
 /// The number of a word, below a limit.
 fn number_below(limit: u64, word: &str) -> Option<u64>
@@ -76,6 +82,31 @@ pub fn geometry_word(word: Option<&str>) -> Result<u32, WordsRefusal>
     };
     match number_below(WORD_END, word) {
         Some(value) => Ok(value as u32),
+        None => Err(WordsRefusal::Unknown),
+    }
+}
+
+// The number of a word, from a least one on, and below a limit.
+fn number_from_to(least: u64, limit: u64, word: Option<&str>) -> Option<u64>
+    ensures small { IfSome result (λ n. (least ≤ n) × (n < limit)) }
+    ensures reads { result ≡ number_from least limit (option_map (λ s. s.now) word.entry) }
+{
+    let value = number_below(limit, word?)?;
+    if value < least {
+        return None;
+    }
+    Some(value)
+}
+
+/// The number of a name that has to be in these bounds: not below the least, and below the limit.
+pub fn number_in_bounds(least: u64, limit: u64, word: Option<&str>) -> Result<u64, WordsRefusal>
+    ensures small { IfOk result (λ n. (least ≤ n) × (n < limit)) }
+    ensures reads { MatchResult result (λ n. number_from least limit (option_map (λ s. s.now) word.entry) ≡ Some n)
+        (λ e. (e ≡ WordsRefusal.Unknown)
+        × (number_from least limit (option_map (λ s. s.now) word.entry) ≡ None)) }
+{
+    match number_from_to(least, limit, word) {
+        Some(value) => Ok(value),
         None => Err(WordsRefusal::Unknown),
     }
 }

@@ -2,12 +2,15 @@
 ghost use Rattle.std.specs.Prelude.{◌≡◌, ◌≤◌, ◌<◌, ◌⊎◌, None, Some, IfOk, IfSome, MatchResult, length, map, option_map};
 ghost use Rattle.std.specs.String.{string_bytes};
 ghost use Rattle.clap.specs.Words.{all_of, first_of, found_of, rows_of};
-ghost use Rattle.mq_words.specs.Asked.{HasScript, HasSmallNumbers, NamesCommand, Words, asked, asked_after, asked_by, asked_of, failing_option, found_in, number_end, number_option, some_words, word_in};
+ghost use Rattle.mq_words.specs.Asked.{HasScript, HasSmallNumbers, NamesCommand, Words, asked, asked_after, asked_by, asked_of, failing_option, found_in, number_end, number_from, number_option, some_words, word_in};
 ghost use Rattle.mq_words.specs.declared.verb.Verb.TheVariants as verb;
 
 use crate::command::{BlocksOptions, Command, FailingCommand, RunOptions};
 use crate::help::asks_help;
-use crate::numbers::{geometry_word, optional_command, optional_number};
+use crate::numbers::{
+    GROUPS_END, NUMBER_END, THREADS_END, geometry_word, number_in_bounds, optional_command,
+    optional_number,
+};
 use crate::parse::parse;
 use crate::path::path_of;
 use crate::refusal::WordsRefusal;
@@ -62,6 +65,17 @@ fn word(matches: &ArgMatches, id: &str) -> Result<u32, WordsRefusal>
         × (word_in (first_of id.now (rows_of (found_of matches.now))) ≡ None)) }
 {
     geometry_word(found(matches, id))
+}
+
+// A number that has to be in these bounds: not below the least, and below the limit.
+fn bounded(matches: &ArgMatches, id: &str, least: u64, limit: u64) -> Result<u64, WordsRefusal>
+    ensures small { IfOk result (λ n. (least ≤ n) × (n < limit)) }
+    ensures reads { MatchResult result
+        (λ n. number_from least limit (first_of id.now (rows_of (found_of matches.now))) ≡ Some n)
+        (λ e. (e ≡ WordsRefusal.Unknown)
+        × (number_from least limit (first_of id.now (rows_of (found_of matches.now))) ≡ None)) }
+{
+    number_in_bounds(least, limit, found(matches, id))
 }
 
 // The words of a name, of which there is at least one.
@@ -174,6 +188,25 @@ fn cat<'a>(alloc: Global, matches: &ArgMatches<'a>) -> Result<Command<'a>, Words
     Ok(Command::Cat { image, path })
 }
 
+// What is found of `gen` asks.
+fn workload<'a>(matches: &ArgMatches<'a>) -> Result<Command<'a>, WordsRefusal>
+    ensures asks { MatchResult result (λ c. asked_by verb.Gen (rows_of (found_of matches.now)) ≡ Some (asked c))
+        (λ e. (e ≡ WordsRefusal.Unknown)
+        × (asked_by verb.Gen (rows_of (found_of matches.now)) ≡ None)) }
+    ensures small { IfOk result HasSmallNumbers }
+    ensures script { IfOk result HasScript }
+{
+    let seed = bounded(matches, "seed", 0, NUMBER_END)?;
+    let threads = bounded(matches, "threads", 1, THREADS_END)?;
+    let groups = bounded(matches, "groups", 0, GROUPS_END)?;
+    Ok(Command::Gen {
+        seed,
+        threads: threads as u32,
+        groups: groups as u32,
+        save: found(matches, "save"),
+    })
+}
+
 // What is found of a command asks.
 fn command_of<'a>(
     alloc: Global,
@@ -196,6 +229,7 @@ fn command_of<'a>(
             Ok(Command::Ls { image })
         }
         Verb::Cat => cat(alloc, matches),
+        Verb::Gen => workload(matches),
         Verb::Dump => {
             let image = name(matches, "image")?;
             Ok(Command::Dump { image })

@@ -15,6 +15,7 @@ pub fn names<'a>(verb: Verb) -> &'a [&'a str]
         Verb::Recover => &["image"],
         Verb::Ls => &["image"],
         Verb::Cat => &["image", "path"],
+        Verb::Gen => &["seed", "threads", "groups"],
         Verb::Dump => &["image"],
     }
 }
@@ -25,7 +26,13 @@ pub fn repeated<'a>(verb: Verb) -> Option<&'a str>
 {
     match verb {
         Verb::Run => Some("scripts"),
-        Verb::Blocks | Verb::Format | Verb::Recover | Verb::Ls | Verb::Cat | Verb::Dump => None,
+        Verb::Blocks
+        | Verb::Format
+        | Verb::Recover
+        | Verb::Ls
+        | Verb::Cat
+        | Verb::Gen
+        | Verb::Dump => None,
     }
 }
 
@@ -37,6 +44,7 @@ pub fn options<'a>(verb: Verb) -> &'a [&'a str]
         Verb::Blocks => &["cut", "pick", "again", "save"],
         Verb::Run => &["cut", "pick", "fail"],
         Verb::Recover => &["cut", "pick"],
+        Verb::Gen => &["save"],
         Verb::Format | Verb::Ls | Verb::Cat | Verb::Dump => &[],
     }
 }

@@ -11,6 +11,7 @@ pub enum Verb {
     Recover,
     Ls,
     Cat,
+    Gen,
     Dump,
 }
 
@@ -26,6 +27,7 @@ impl Verb {
             Verb::Recover => "recover",
             Verb::Ls => "ls",
             Verb::Cat => "cat",
+            Verb::Gen => "gen",
             Verb::Dump => "dump",
         }
     }
@@ -42,6 +44,7 @@ pub fn read_verb(word: &str) -> Option<Verb>
         "recover" => Some(Verb::Recover),
         "ls" => Some(Verb::Ls),
         "cat" => Some(Verb::Cat),
+        "gen" => Some(Verb::Gen),
         "dump" => Some(Verb::Dump),
         _ => None,
     }

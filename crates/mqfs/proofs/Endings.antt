@@ -137,7 +137,7 @@ zero-or file old new _ _ (load_failed same rose) zero = omega (arith, zero)
 zero-or file old new _ _ (load_too_long same over faults takes) zero = omega (arith, zero)
 zero-or file old new _ _ (load_memory same faults) zero = omega (arith, zero)
 
-zero-or-saved : (name : List ℕ) (old new : FilesState) (status : ℕ) (text : List ℕ) → IsNotSaved name old new status text → status ≡ 0 → ⊥
+pub zero-or-saved : (name : List ℕ) (old new : FilesState) (status : ℕ) (text : List ℕ) → IsNotSaved name old new status text → status ≡ 0 → ⊥
 zero-or-saved name old new _ _ (save_failed other rose taken) zero = omega (arith, zero)
 zero-or-saved name old new _ _ (save_memory same faults taken) zero = omega (arith, zero)
 

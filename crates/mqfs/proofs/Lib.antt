@@ -5,6 +5,7 @@ pub mod Drives
 pub mod Ended
 pub mod Ending
 pub mod Endings
+pub mod Played
 pub mod Ran
 pub mod Events
 pub mod Exits

@@ -2,11 +2,14 @@
 use Rattle.std.proofs.Common.{◌≡◌, ◌≢◌, ◌≤◌, ◌⊎◌, inl, inr, ℕ, suc, Bool, cond, true, false, List, [], ◌∷◌, length, Option, Some, None, refl, sym, ◌∙◌, ap, subst, arith}
 use Rattle.std.specs.Prelude.{option_and_then}
 use Rattle.mq_commands.specs.Commands.{Dumps, Formats, Lists, SaysOfImage, ShowsFile, dumped, formatted, is_image, listed, no_file, no_geometry, no_image, not_dumped, not_listed, not_saved, not_shown, shown, wants_memory}
+use Rattle.mq_commands.specs.Generates.{Generates, SavesUnder, generated}
+use Rattle.mq_commands.specs.Generates as generates
 use Rattle.mq_commands.specs.Recovers.{Recovers, RefusesRecovery, not_recovered, recovered, unsaved}
 use Rattle.mq_commands.specs.Recovers as recovers
 use Rattle.mq_commands.specs.RunsScripts.{AreLoaded, RefusesRunning, RefusesScript, RefusesScripts, Runs, SaysNothing, are_wanting, ran, run_status}
 use Rattle.mq_commands.specs.RunsScripts as runs
 use Rattle.mq_commands.specs.declared.formatting.Numbers.{Numbers}
+use Rattle.mq_commands.specs.declared.generating.Workload.{Workload}
 use Rattle.mq_ending.specs.Ending.{IsLoaded, IsNotLoaded, IsNotSaved, IsSaved, SaysOf, TakesOver, TakesWithin, load_failed, load_memory, load_too_long, loaded, not_loaded, save_failed, save_memory, wanting}
 use Rattle.mq_image.specs.File.{DriveImage, image_bytes}
 use Rattle.mq_image_run.specs.declared.options.RunOptions.{RunOptions}
@@ -15,13 +18,13 @@ use Rattle.mq_script.specs.Scripts.{Script}
 use Rattle.mq_text.specs.Refusals.{RefusesText}
 use Rattle.mq_text.specs.declared.refusal.BlockTextCause.{BlockTextCause}
 use Rattle.mq_tree.specs.Volume.{Path}
-use Rattle.mq_words.specs.Asked.{Asked, Words, asked_of, blocks, cat, dump, format, help, ls, recover, run, version}
+use Rattle.mq_words.specs.Asked.{Asked, Words, asked_of, blocks, cat, dump, format, gen, help, ls, recover, run, version}
 use Rattle.mq_words.specs.declared.command.BlocksOptions.{BlocksOptions}
 use Rattle.mq_words.specs.declared.command.RunOptions.{RunOptions as OptionsOfRun}
 use Rattle.mqfs.specs.Blocks.{refused_line}
 use Rattle.mqfs.specs.Left.{SavesLeft}
 use Rattle.mqfs.specs.Program.{AreUnknown, HoldsTooMuch, IsStatus, IsToSay, KeepsOthers, TakesUpTo, loaded_by, loaded_names, no_command, no_memory, of_command, saved_name, usage_line}
-use Rattle.mqfs.specs.Says.{Says, SaysOfBlocks, SaysOnly, numbers, printed, refused, run_options, said}
+use Rattle.mqfs.specs.Says.{Says, SaysOfBlocks, SaysOnly, asked_workload, numbers, printed, refused, run_options, said}
 use Rattle.mqfs.specs.Says as blocks_says
 use Rattle.mq_text.specs.declared.item.BlockItem.{BlockItem}
 
@@ -158,6 +161,18 @@ told_format n name old new _ _ (formatted g x are empty save) = told_saved [] na
 told_format n name old new _ _ (no_geometry e refuses same) = image (Some name) [] old new (ap (λ (f : FilesState). f.contents) same) (ap (λ (f : FilesState). f.faults) same) (taken-same 0 old new same)
 told_format n name old new status text (not_saved not) = told_not_saved [] name old old new status text refl refl not
 told_format n name old new _ _ (wants_memory same) = memory (Some name) [] old new (keeps (Some name) old new (ap (λ (f : FilesState). f.contents) same)) (ap (λ (f : FilesState). f.faults) same)
+
+-- ---- `gen`
+
+told_under : (save : Option (List ℕ)) (file : List ℕ) (old new : FilesState) → SavesUnder save file old new → Told save [] Nothing Nothing Nothing old new 0
+told_under None file old new same = done None [] old new (ap (λ (f : FilesState). f.contents) same) (ap (λ (f : FilesState). f.faults) same) (taken-same 0 old new same)
+told_under (Some name) file old new save = told_saved [] name file old old new refl refl (within 0 old.taken old.taken refl) save
+
+told_gen : (w : Workload) (save : Option (List ℕ)) (old new : FilesState) (status : ℕ) (text : List ℕ) → Generates w save old new status text → Told save [] Nothing Nothing Nothing old new status
+told_gen w save old new _ _ (generated made is saves) = told_under save made.file.items old new saves
+told_gen w save old new status text (generates.not_saved name made asks is not) =
+    subst (λ (o : Option (List ℕ)). Told o [] Nothing Nothing Nothing old new status) (sym asks) (told_not_saved [] name old old new status text refl refl not)
+told_gen w save old new _ _ (generates.wants_memory same) = memory save [] old new (keeps save old new (ap (λ (f : FilesState). f.contents) same)) (ap (λ (f : FilesState). f.faults) same)
 
 -- ---- `recover`
 
@@ -385,6 +400,7 @@ BadOf (run image scripts options) old new text = Runs (run_options options) imag
 BadOf (recover image cut pick) old new text = Nothing
 BadOf (ls image) old new text = Nothing
 BadOf (cat image path) old new text = Nothing
+BadOf (gen seed threads groups save) old new text = Nothing
 BadOf (dump image) old new text = Nothing
 BadOf (help topic) old new text = Nothing
 BadOf version old new text = Nothing
@@ -401,6 +417,7 @@ told (run image scripts options) old new status text says = told_run (run_option
 told (recover image cut pick) old new status text says = told_recover cut image old new status text says
 told (ls image) old new status text says = told_image (SaysOfImage Lists) (statuses Lists lists) None [] image old new status text says
 told (cat image path) old new status text says = told_image (SaysOfImage (ShowsFile path)) (statuses (ShowsFile path) (shows path)) None [] image old new status text says
+told (gen seed threads groups save) old new status text says = told_gen (asked_workload seed threads groups) save old new status text says
 told (dump image) old new status text says = told_image (SaysOfImage Dumps) (statuses Dumps dumps) None [] image old new status text says
 told (help topic) old new status text says = told_only _ old new status text says
 told version old new status text says = told_only _ old new status text says
@@ -431,6 +448,7 @@ bad_words words (run image scripts options) old new text is bad = inr (image, sc
 bad_words words (recover image cut pick) old new text is bad = absurd bad
 bad_words words (ls image) old new text is bad = absurd bad
 bad_words words (cat image path) old new text is bad = absurd bad
+bad_words words (gen seed threads groups save) old new text is bad = absurd bad
 bad_words words (dump image) old new text is bad = absurd bad
 bad_words words (help topic) old new text is bad = absurd bad
 bad_words words version old new text is bad = absurd bad
@@ -442,6 +460,7 @@ ended_words words (run image scripts options) old new text is ended = (image, sc
 ended_words words (recover image cut pick) old new text is ended = absurd ended
 ended_words words (ls image) old new text is ended = absurd ended
 ended_words words (cat image path) old new text is ended = absurd ended
+ended_words words (gen seed threads groups save) old new text is ended = absurd ended
 ended_words words (dump image) old new text is ended = absurd ended
 ended_words words (help topic) old new text is ended = absurd ended
 ended_words words version old new text is ended = absurd ended

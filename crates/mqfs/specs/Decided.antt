@@ -25,7 +25,7 @@ use Rattle.mq_text.specs.declared.refusal.BlockTextCause.{BlockTextCause}
 use Rattle.mq_tree.specs.Trees.{ReadsAs}
 use Rattle.mq_tree.specs.Volume.{Path, Volume}
 use Rattle.mq_tree.specs.declared.request.Fault.{Fault}
-use Rattle.mq_words.specs.Asked.{Asked, blocks, cat, dump, format, help, ls, recover, run, version}
+use Rattle.mq_words.specs.Asked.{Asked, blocks, cat, dump, format, gen, help, ls, recover, run, version}
 use Rattle.mq_words.specs.declared.command.RunOptions.{RunOptions}
 use Rattle.mqfs.specs.Blocks.{IsBlockText}
 use Rattle.mqfs.specs.Says.{numbers}
@@ -105,6 +105,7 @@ Decides (run image scripts options) held status = RunDecides image scripts optio
 Decides (recover image cut pick) held status = RecoveryDecides image held status
 Decides (ls image) held status = TreeDecides image held status
 Decides (cat image path) held status = FileDecides image path held status
+Decides (gen seed threads groups save) held status = status ≡ 0
 Decides (dump image) held status = ChainsDecide image held status
 Decides (help topic) held status = status ≡ 0
 Decides version held status = status ≡ 0

@@ -8,6 +8,7 @@ pub mod Left
 pub mod Lines
 pub mod Live
 pub mod Parts
+pub mod Played
 pub mod Ports
 pub mod Program
 pub mod Restart

@@ -6,7 +6,7 @@ use Rattle.mq_outside.specs.Outside.{FilesState, Holds, HoldsOver, OthersSame, S
 use Rattle.mq_text.specs.Refusals.{RefusesText}
 use Rattle.mq_text.specs.declared.item.BlockItem.{BlockItem}
 use Rattle.mq_text.specs.declared.refusal.BlockTextCause.{BlockTextCause}
-use Rattle.mq_words.specs.Asked.{Asked, Words, asked_of, blocks, cat, dump, format, help, ls, recover, run, version}
+use Rattle.mq_words.specs.Asked.{Asked, Words, asked_of, blocks, cat, dump, format, gen, help, ls, recover, run, version}
 use Rattle.mq_words.specs.declared.command.BlocksOptions.{BlocksOptions}
 use Rattle.mq_words.specs.declared.command.RunOptions.{RunOptions}
 use Rattle.mqfs.specs.Blocks.{IsBlockText, output_of, refused_line}
@@ -66,6 +66,7 @@ loaded_names (run image scripts options) = image ∷ scripts
 loaded_names (recover image cut pick) = image ∷ []
 loaded_names (ls image) = image ∷ []
 loaded_names (cat image path) = image ∷ []
+loaded_names (gen seed threads groups save) = []
 loaded_names (dump image) = image ∷ []
 loaded_names (help topic) = []
 loaded_names version = []
@@ -82,6 +83,7 @@ saved_name (run image scripts options) = Some image
 saved_name (recover image cut pick) = Some image
 saved_name (ls image) = None
 saved_name (cat image path) = None
+saved_name (gen seed threads groups save) = save
 saved_name (dump image) = None
 saved_name (help topic) = None
 saved_name version = None

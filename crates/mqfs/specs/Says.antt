@@ -2,9 +2,11 @@
 use Rattle.std.specs.Prelude.{◌≡◌, ℕ, List, Option, Some, option_map}
 use Rattle.std.specs.Option.{unwrap_or}
 use Rattle.mq_commands.specs.Commands.{Dumps, Formats, Lists, SaysOfImage, ShowsFile}
+use Rattle.mq_commands.specs.Generates.{Generates}
 use Rattle.mq_commands.specs.Recovers.{Recovers}
 use Rattle.mq_commands.specs.RunsScripts.{Runs}
 use Rattle.mq_commands.specs.declared.formatting.Numbers.{Numbers}
+use Rattle.mq_commands.specs.declared.generating.Workload.{Workload}
 use Rattle.mq_ending.specs.Ending.{IsLoaded, IsNotLoaded, IsNotSaved, SaysOf, memory_line}
 use Rattle.mq_image_run.specs.declared.options.RunOptions.{RunOptions}
 use Rattle.mq_images.specs.declared.ports.Failing.{Failing}
@@ -12,7 +14,7 @@ use Rattle.mq_outside.specs.Outside.{FilesState}
 use Rattle.mq_text.specs.Refusals.{RefusesText}
 use Rattle.mq_text.specs.declared.item.BlockItem.{BlockItem}
 use Rattle.mq_text.specs.declared.refusal.BlockTextCause.{BlockTextCause}
-use Rattle.mq_words.specs.Asked.{Asked, blocks, cat, dump, format, help, ls, recover, run, version}
+use Rattle.mq_words.specs.Asked.{Asked, blocks, cat, dump, format, gen, help, ls, recover, run, version}
 use Rattle.mq_words.specs.Help.{help_text, version_line}
 use Rattle.mq_words.specs.declared.command.BlocksOptions.{BlocksOptions}
 use Rattle.mq_words.specs.declared.command.FailingCommand.{FailingCommand}
@@ -38,6 +40,9 @@ pub data SaysOnly (line : List ℕ) (old new : FilesState) : (status : ℕ) → 
 abbrev pub numbers : (queues area meta zone : ℕ) → Numbers
 numbers queues area meta zone = record { queues = queues; area = area; meta = meta; zone = zone }
 
+abbrev pub asked_workload : (seed threads groups : ℕ) → Workload
+asked_workload seed threads groups = record { seed = seed; threads = threads; groups = groups }
+
 abbrev pub failing : FailingCommand → Failing
 failing f = record { port = f.port; command = f.command }
 
@@ -53,6 +58,7 @@ Says (run image scripts options) old new status text = Runs (run_options options
 Says (recover image cut pick) old new status text = Recovers cut image old new status text
 Says (ls image) old new status text = SaysOf (SaysOfImage Lists) image old new status text
 Says (cat image path) old new status text = SaysOf (SaysOfImage (ShowsFile path)) image old new status text
+Says (gen seed threads groups save) old new status text = Generates (asked_workload seed threads groups) save old new status text
 Says (dump image) old new status text = SaysOf (SaysOfImage Dumps) image old new status text
 Says (help topic) old new status text = SaysOnly (help_text topic) old new status text
 Says version old new status text = SaysOnly version_line old new status text

@@ -4,13 +4,14 @@ ghost use Rattle.std.specs.String.{string_bytes};
 ghost use Rattle.mq_ending.specs.Ending.{EndsWith, IsUnlessWanting};
 ghost use Rattle.mq_outside.specs.Outside.{Rose, appended};
 ghost use Rattle.mq_promise.specs.Recovering.{EveryInterleavingIsRecovered};
-ghost use Rattle.mq_words.specs.Asked.{Asked, HasScript, HasSmallNumbers, asked, asked_of, blocks, run};
+ghost use Rattle.mq_words.specs.Asked.{Asked, HasScript, HasSmallNumbers, asked, asked_of, blocks, gen, run};
 ghost use Rattle.mq_words.specs.declared.command.BlocksOptions.{BlocksOptions};
 ghost use Rattle.mq_words.specs.declared.command.RunOptions.{RunOptions};
 ghost use Rattle.mqfs.specs.Decided.{Decides, RunsThere};
+ghost use Rattle.mqfs.specs.Played.{IsPlayed};
 ghost use Rattle.mqfs.specs.Program.{AreUnknown, IsDone, IsEndedRun, IsRefusedText, IsSaid, IsStatus, IsToSay, IsTooLong, KeepsNames, TakesFor, usage_line};
 ghost use Rattle.mqfs.specs.Ran.{IsRan};
-ghost use Rattle.mqfs.specs.Says.{Says};
+ghost use Rattle.mqfs.specs.Says.{Says, asked_workload};
 
 mod cat;
 mod dump;
@@ -20,6 +21,7 @@ mod ls;
 mod recover;
 mod scripts;
 mod text;
+mod workload;
 
 use self::cat::run_cat;
 use self::dump::run_dump;
@@ -29,8 +31,9 @@ use self::ls::run_ls;
 use self::recover::run_recover;
 use self::scripts::run_scripts;
 use self::text::run_blocks;
+use self::workload::run_workload;
 use mq_calls::Gate;
-use mq_commands::Numbers;
+use mq_commands::{Numbers, Workload};
 use mq_ending::{USAGE, say, say_memory};
 use mq_outside::{Files, Sink};
 use mq_promise::every_interleaving_is_recovered;
@@ -92,6 +95,19 @@ fn run<F: Files, K: Sink, R: Threads + Wait + Sync, G: Gate + Sync>(
         Command::Recover { image, cut, pick } => run_recover(alloc, image, cut, pick, files, out),
         Command::Ls { image } => run_ls(alloc, image, files, out),
         Command::Cat { image, path } => run_cat(alloc, image, &path, files, out),
+        Command::Gen {
+            seed,
+            threads,
+            groups,
+            save,
+        } => {
+            let workload = Workload {
+                seed,
+                threads,
+                groups,
+            };
+            run_workload(rt, alloc, workload, save, files, out, gate)
+        }
         Command::Dump { image } => run_dump(alloc, image, files, out),
         Command::Help(topic) => say_help(topic, out),
         Command::Version => say_version(out),
@@ -128,7 +144,7 @@ fn read_and_run<F: Files, K: Sink, R: Threads + Wait + Sync, G: Gate + Sync>(
 }
 
 /// The program: runs the command of the words, which are those after its name, over files and an
-/// output. The sessions of `run` play their scripts on threads, and pass the gate on their way. The
+/// output. The sessions of `run` and `gen` play their scripts on threads, and pass the gate on their way. The
 /// status is 0 for done, 1 for words that are no command, 2 for a block text or a script that is
 /// refused or for more scripts than queues, 3 for an image, a geometry or a path that is refused, 4
 /// for a fault of a file or the output or a file that is too long, 5 where the command of the drive
@@ -175,6 +191,12 @@ pub fn mqfs<F: Files, K: Sink, R: Threads + Wait + Sync, G: Gate + Sync>(
         → asked_of (map string_bytes words.now) ≡ Some (run image scripts options)
         → (result ≡ 0) ⊎ (result ≡ 5)
         → IsRan image scripts options result (F.state files.old) (F.state files.new) (K.state out.old) (K.state out.new) }
+    // `gen`: at the status 0 the workload was played on an empty file system, the image that a cut of the power left is
+    // saved where a name is given for it, and the output tells how much the tree then has.
+    ensures played { (seed threads groups : ℕ) (save : Option (List ℕ))
+        → asked_of (map string_bytes words.now) ≡ Some (gen seed threads groups save)
+        → result ≡ 0
+        → IsPlayed (asked_workload seed threads groups) save (F.state files.old) (F.state files.new) (K.state out.old) (K.state out.new) }
     // Of every interleaving of queue events and every power cut between two of them.
     ensures journal { EveryInterleavingIsRecovered }
     // The words are no command.

@@ -1,6 +1,7 @@
 use Rattle.std.proofs.Common.{map}
 use Rattle.std.specs.String.{string_bytes}
 use Rattle.mqfs.proofs.Endings.{contents_told, done_told, failed_told, fault_told, names_told, refused_told, said_told, same_told, status_told, takes_told, usage_told, usage-where}
+use Rattle.mqfs.proofs.Played.{played_told}
 use Rattle.mqfs.proofs.Ran.{ran_told}
 use Rattle.mqfs.proofs.program.mqfs.Goals as goal
 
@@ -46,3 +47,8 @@ pub returns-clause-ran : goal.returns-clause-ran
 returns-clause-ran g c = λ image scripts options asks good.
     ran_told image scripts options (g.F.Files.state c.args.files.now) (g.F.Files.state c.read_and_run.new.files) (g.K.Sink.state c.args.out.now) (g.K.Sink.state c.read_and_run.new.out) (map string_bytes c.args.words.now) c.read_and_run.ensures.ends.0 c.read_and_run.ensures.ends.1 c.read_and_run.result
     asks c.read_and_run.ensures.ends.2 c.read_and_run.ensures.ends.3 good
+
+pub returns-clause-played : goal.returns-clause-played
+returns-clause-played g c = λ seed threads groups save asks zero.
+    played_told seed threads groups save (g.F.Files.state c.args.files.now) (g.F.Files.state c.read_and_run.new.files) (g.K.Sink.state c.args.out.now) (g.K.Sink.state c.read_and_run.new.out) (map string_bytes c.args.words.now) c.read_and_run.ensures.ends.0 c.read_and_run.ensures.ends.1 c.read_and_run.result
+    asks c.read_and_run.ensures.ends.2 c.read_and_run.ensures.ends.3 zero

@@ -14,6 +14,9 @@ returns-in-Ls-clause-ends g c = rw c.in-Ls.is c.run_ls.ensures.ends
 pub returns-in-Cat-clause-ends : goal.returns-in-Cat-clause-ends
 returns-in-Cat-clause-ends g c = rw c.in-Cat.is c.run_cat.ensures.ends
 
+pub returns-in-Gen-clause-ends : goal.returns-in-Gen-clause-ends
+returns-in-Gen-clause-ends g c = rw c.in-Gen.is c.run_workload.ensures.ends
+
 pub returns-in-Dump-clause-ends : goal.returns-in-Dump-clause-ends
 returns-in-Dump-clause-ends g c = rw c.in-Dump.is c.run_dump.ensures.ends
 
