@@ -1,27 +1,28 @@
-// A drive under a watch, on which scripts are run.
-ghost use Rattle.std.specs.Prelude.{◌≡◌, ◌+◌, ◌≤◌, IfOk, None, length, map};
+// A drive under a watch, on which two sessions make their calls.
+ghost use Rattle.std.specs.Prelude.{◌≡◌, ◌+◌, ◌≤◌, IfOk, None, map, vec_len};
 ghost use Rattle.std.specs.List.{All};
 ghost use Rattle.mq_blocks.specs.Geometry.{queues_of};
+ghost use Rattle.mq_calls.specs.Sessions.{IsReady};
 ghost use Rattle.mq_drive.specs.Seats.{name_of};
 ghost use Rattle.mq_image.specs.File.{DriveImage as Image};
 ghost use Rattle.mq_images.specs.Recovering.{IsRecoveryOf};
 ghost use Rattle.mq_images.specs.Starts.{AreFreshSeats};
 ghost use Rattle.mq_recover.specs.Drives.{IsQuiescentDrive, drive_of};
 ghost use Rattle.mq_recover.specs.Recovery.{IsStartDrive};
-ghost use Rattle.mq_run.specs.Playing.{IsShort};
+ghost use Rattle.mq_turns.specs.AtDesk.{AtDesk, chairs_of, view};
 
 use crate::hold::Hold;
-use mq_blocks::{Geometry, OutOfMemory, TxNo};
-use mq_calls::{CheckpointRefusal, Gate, find_volume};
+use crate::together::{Answers, Called, call_both};
+use mq_blocks::{Geometry, OutOfMemory};
+use mq_calls::{Mqfs, Session, find_volume};
 use mq_drive::{Fuse, FuseSeat, Port, Ports};
 use mq_images::{
-    RecoveredImage, StandingRefusal, a_recovered_image_starts, format_drive, recover_image,
-    start_ports,
+    CutDrive, RecoveredImage, StandingRefusal, a_recovered_image_starts, cut_ports, format_drive,
+    recover_image, start_ports,
 };
 use mq_recover::ImageFault;
-use mq_report::Told;
-use mq_run::{RunEnd, run_scripts};
-use mq_script::Script;
+use mq_tie::close_desk;
+use mq_tree::Request;
 use mq_watch::{Watch, WatchPort};
 use std::alloc::Global;
 use std::sync::Wait;
@@ -47,6 +48,22 @@ fn watched<'w, P: Port + Drop, W: Watch>(
     })
 }
 
+// The ports below the watch.
+fn unwatched<'w, P: Port + Drop, W: Watch>(
+    alloc: Global,
+    ports: Ports<WatchPort<'w, P, W>>,
+) -> Result<Ports<P>, OutOfMemory> {
+    let Ports { queues, root } = ports;
+    let mut list = Vec::with_capacity(alloc, queues.len())?;
+    for port in queues {
+        list.push(port.into_inner())?;
+    }
+    Ok(Ports {
+        queues: list,
+        root: root.into_inner(),
+    })
+}
+
 /// The empty file system on a drive of this geometry, after a recovery.
 pub fn recovered(alloc: Global, geometry: Geometry) -> Result<RecoveredImage, StandingRefusal>
     ensures { IfOk result (λ r. (x : Image) × IsRecoveryOf x None r) }
@@ -55,27 +72,19 @@ pub fn recovered(alloc: Global, geometry: Geometry) -> Result<RecoveredImage, St
     Ok(recover_image(alloc, image, None, 0)?)
 }
 
-/// What a run answered.
-#[derive(Drop)]
-pub struct Ran {
-    pub answers: Vec<Told>,
-    /// What the checkpoint at the end answered.
-    pub finished: Option<Result<TxNo, CheckpointRefusal>>,
-}
-
-// Runs scripts on the volume of a drive, and ends the run by a checkpoint.
-fn run_over<P: Port + Drop + Send, R: Threads + Wait + Sync, G: Gate + Sync>(
-    rt: &R,
+// A file system over the ports, and its two sessions.
+fn open_pair<P: Port + Drop>(
     alloc: Global,
     geometry: Geometry,
     ports: Ports<P>,
-    scripts: &[Script],
-    gate: &G,
-) -> Result<Ran, StandingRefusal>
+) -> Result<(Mqfs<P>, Vec<Session<P>>), StandingRefusal>
     requires still { IsQuiescentDrive geometry (drive_of P.state ports) }
     requires start { IsStartDrive geometry (drive_of P.state ports) }
-    requires scripts { (1 ≤ length scripts.now) × (length scripts.now ≤ queues_of geometry) }
-    requires short { All (λ s. IsShort s.groups) scripts.now }
+    requires queues { 2 ≤ queues_of geometry }
+    ensures chairs { IfOk result (λ o. chairs_of o.0.desk ≡ 2) }
+    ensures count { IfOk result (λ o. vec_len o.1 ≡ 2) }
+    ensures each { IfOk result (λ o. All (λ s. AtDesk o.0.desk s.chair
+        × IsReady o.0.geometry s.queue s.calls s.held (view s.chair)) o.1.items) }
 {
     let standing = find_volume(alloc, geometry, &ports)?;
     if standing.base.0 > 1 << 62 {
@@ -83,38 +92,82 @@ fn run_over<P: Port + Drop + Send, R: Threads + Wait + Sync, G: Gate + Sync>(
             base: standing.base.0,
         }));
     }
-    match run_scripts(rt, alloc, geometry, ports, standing, scripts, true, gate) {
-        Ok(
-            RunEnd {
-                answers,
-                finished,
-                ..
-            },
-        ) => Ok(Ran { answers, finished }),
+    match Mqfs::open(alloc, geometry, ports, standing, 2) {
+        Ok(opened) => Ok(opened),
         Err((_, full)) => Err(StandingRefusal::from(full)),
     }
 }
 
-/// Runs scripts on the drive that starts from a recovered image, under a watch that is their gate too, and ends the run
-/// by a checkpoint.
+// Ends a file system whose sessions are these two. Gives its ports back.
+fn end_pair<P: Port + Drop>(
+    alloc: Global,
+    files: Mqfs<P>,
+    first: Session<P>,
+    second: Session<P>,
+) -> Result<Ports<P>, OutOfMemory>
+    requires chairs { chairs_of files.desk ≡ 2 }
+    requires first { AtDesk files.desk first.chair
+        × IsReady files.geometry first.queue first.calls first.held (view first.chair) }
+    requires second { AtDesk files.desk second.chair
+        × IsReady files.geometry second.queue second.calls second.held (view second.chair) }
+{
+    let sessions = vec![in alloc; first, second]?;
+    match files.into_desk(alloc, sessions) {
+        Ok((desk, chairs)) => match close_desk(alloc, desk, chairs) {
+            Ok(ended) => Ok(ended.into_ports().0),
+            Err(_) => Err(OutOfMemory),
+        },
+        Err(_) => Err(OutOfMemory),
+    }
+}
+
+// Two sessions make their calls over these ports, which are given back.
+fn run_over<P: Port + Drop + Send, R: Threads + Wait + Sync>(
+    rt: &R,
+    alloc: Global,
+    geometry: Geometry,
+    ports: Ports<P>,
+    groups: &[&[Request]; 2],
+    hold: &Hold,
+) -> Result<(Answers, Ports<P>), StandingRefusal>
+    requires still { IsQuiescentDrive geometry (drive_of P.state ports) }
+    requires start { IsStartDrive geometry (drive_of P.state ports) }
+    requires queues { 2 ≤ queues_of geometry }
+{
+    let (files, mut sessions) = open_pair(alloc, geometry, ports)?;
+    let (Some(second), Some(first)) = (sessions.pop(), sessions.pop()) else {
+        unreachable!()
+    };
+    let Called {
+        first,
+        second,
+        answers,
+    } = call_both(rt, alloc, &files, first, second, groups, hold);
+    let ports = end_pair(alloc, files, first, second)?;
+    Ok((answers, ports))
+}
+
+/// Two sessions make their calls on the drive that starts from a recovered image, under the watch that holds the
+/// checkpoint of the first one. Then its power is cut.
 pub fn run_held<R: Threads + Wait + Sync>(
     rt: &R,
     alloc: Global,
     fuse: &Fuse,
     seats: Vec<FuseSeat>,
     left: RecoveredImage,
-    scripts: &[Script],
+    groups: &[&[Request]; 2],
     hold: &Hold,
-) -> Result<Ran, StandingRefusal>
+) -> Result<(Answers, CutDrive), StandingRefusal>
     requires recovery { (x : Image) × IsRecoveryOf x None left }
     requires seats { AreFreshSeats (name_of fuse.now) (queues_of left.image.geometry + 1) seats.items }
-    requires scripts { (1 ≤ length scripts.now) × (length scripts.now ≤ queues_of left.image.geometry) }
-    requires short { All (λ s. IsShort s.groups) scripts.now }
+    requires queues { 2 ≤ queues_of left.image.geometry }
 {
     let image = left.image;
     let geometry = image.geometry;
     let ports = start_ports(alloc, fuse, seats, image, None, 0)?;
     a_recovered_image_starts();
     let held = watched(alloc, ports, hold)?;
-    run_over(rt, alloc, geometry, held, scripts, hold)
+    let (answers, held) = run_over(rt, alloc, geometry, held, groups, hold)?;
+    let cut = cut_ports(alloc, unwatched(alloc, held)?, 0)?;
+    Ok((answers, cut))
 }

@@ -1,5 +1,5 @@
-// A watch and a gate that hold a home write of the first session until the second session has committed.
-use mq_calls::{Gate, Point};
+// A watch that holds a home write of a checkpoint until a session has committed beside it.
+use mq_blocks::TxNo;
 use mq_drive::Role;
 use mq_watch::{Call, Watch};
 use std::sync::atomic::AtomicBool;
@@ -20,58 +20,50 @@ fn comes(flag: &AtomicBool) -> bool {
     false
 }
 
-/// The first session goes on from its first group once the first group of the second session was answered. This goes on
-/// from that group once the first home write of the root is held, which is let go once its second group was answered.
+/// Holds the first home write of the root until a commit beside it was answered with the number 2. A checkpoint writes
+/// the blocks home in their order: the first one of the root is the least one that waits in a journal area.
 #[derive(Drop)]
 pub struct Hold {
-    /// The first group of the first session was answered.
-    waited: AtomicBool,
-    /// The first group of the second session was answered.
+    // The home write was reached.
+    reached: AtomicBool,
+    // The commit began since the home write was reached.
     begun: AtomicBool,
-    /// The home write is held.
-    held: AtomicBool,
-    /// The second group of the second session was answered.
-    committed: AtomicBool,
-    /// The second session went on since the home write is held.
-    pub went_on: AtomicBool,
-    /// The home write was let go since the second group was answered.
-    pub let_go: AtomicBool,
+    // The commit was answered with its number.
+    answered: AtomicBool,
+    // The home write was let go since the commit was answered.
+    let_go: AtomicBool,
 }
 
 impl Hold {
     pub fn new() -> Hold {
         Hold {
-            waited: AtomicBool::new(false),
+            reached: AtomicBool::new(false),
             begun: AtomicBool::new(false),
-            held: AtomicBool::new(false),
-            committed: AtomicBool::new(false),
-            went_on: AtomicBool::new(false),
+            answered: AtomicBool::new(false),
             let_go: AtomicBool::new(false),
         }
+    }
+
+    /// Waits until the home write is reached, and then begins the commit.
+    pub fn begin(&self) {
+        self.begun.store(comes(&self.reached), SeqCst);
+    }
+
+    /// Tells what the commit was answered.
+    pub fn tell(&self, at: &Option<TxNo>) {
+        self.answered.store(*at == Some(TxNo(2)), SeqCst);
+    }
+
+    /// Whether the commit began since the home write was reached, which was let go since the commit was answered.
+    pub fn has_held(&self) -> bool {
+        self.begun.load(SeqCst) && self.let_go.load(SeqCst)
     }
 }
 
 impl Watch for Hold {
     fn before(&self, role: Role, call: Call) {
-        if role == Role::Root && call == Call::WriteHome && !self.held.swap(true, SeqCst) {
-            self.let_go.store(comes(&self.committed), SeqCst);
-        }
-    }
-}
-
-impl Gate for Hold {
-    fn pass(&self, session: u32, point: Point) {
-        if point != Point::Answered {
-            return;
-        }
-        if session == 0 {
-            if !self.waited.swap(true, SeqCst) {
-                comes(&self.begun);
-            }
-        } else if !self.begun.swap(true, SeqCst) {
-            self.went_on.store(comes(&self.held), SeqCst);
-        } else {
-            self.committed.store(true, SeqCst);
+        if role == Role::Root && call == Call::WriteHome && !self.reached.swap(true, SeqCst) {
+            self.let_go.store(comes(&self.answered), SeqCst);
         }
     }
 }

@@ -4,11 +4,13 @@
 #[cfg(test)]
 mod beside;
 #[cfg(test)]
+mod calls;
+#[cfg(test)]
 mod drive;
 #[cfg(test)]
 mod hold;
 mod ports;
 #[cfg(test)]
-mod scripts;
+mod together;
 
 pub use ports::let_go;

@@ -1,0 +1,12 @@
+use Rattle.mq_calls.specs.Sessions.{IsReady}
+use Rattle.mq_turns.specs.AtDesk.{AtDesk, start_of, view}
+use Rattle.mq_test_calls.proofs.Lists.{all_got}
+use Rattle.mq_test_calls.proofs.Seats.{new_is_ready}
+use Rattle.mq_test_calls.proofs.drive.open_pair.Goals as goal
+
+pub returns-in-Ok-clause-each : goal.returns-in-Ok-clause-each
+returns-in-Ok-clause-each g c =
+    let files = c.in-Ok.opened.0 in
+    all_got (λ s. AtDesk files.desk s.chair × IsReady files.geometry s.queue s.calls s.held (view s.chair)) c.in-Ok.opened.1.items (λ i s at.
+    let new = c.in-Ok.ensures.each i s at in
+    (new.0, new_is_ready c.args.geometry files.geometry (start_of files.desk) i s.queue s.calls s.wanted.items s.held (view s.chair) c.in-Ok.ensures.geometry new.1))
