@@ -33,7 +33,7 @@ use self::scripts::run_scripts;
 use self::text::run_blocks;
 use self::workload::run_workload;
 use mq_calls::Gate;
-use mq_commands::{Numbers, Workload};
+use mq_commands::Numbers;
 use mq_ending::{USAGE, say, say_memory};
 use mq_outside::{Files, Sink};
 use mq_promise::every_interleaving_is_recovered;
@@ -100,14 +100,7 @@ fn run<F: Files, K: Sink, R: Threads + Wait + Sync, G: Gate + Sync>(
             threads,
             groups,
             save,
-        } => {
-            let workload = Workload {
-                seed,
-                threads,
-                groups,
-            };
-            run_workload(rt, alloc, workload, save, files, out, gate)
-        }
+        } => run_workload(rt, alloc, seed, threads, groups, save, files, out, gate),
         Command::Dump { image } => run_dump(alloc, image, files, out),
         Command::Help(topic) => say_help(topic, out),
         Command::Version => say_version(out),
