@@ -1,23 +1,66 @@
-// A session commits while the checkpoint of another session is under way.
+// A session commits while a checkpoint of another session is under way.
 use crate::drive::{recovered, run_held};
 use crate::hold::Hold;
+use crate::together::{Answers, Course, Step};
 use mq_blocks::{Geometry, OutOfMemory, TxNo};
 use mq_drive::PortImage;
 use mq_images::drive_power;
 use mq_script::{Group, read_script};
 use std::alloc::Global;
+use std::sync::Wait;
+use std::thread::Threads;
 
-// The first session makes a directory and a file in it. This writes the home blocks 1, 3, 4, 64 and 65 into the journal
-// area, and the file's block, which is 66, home.
-const FIRST: &str = "mkdir /a\ncreate /a/f\nwrite /a/f 0 \"hi\"\nfsync\n";
+// The first session makes a directory and a file of 900 blocks in it. The blocks of the file that lie in the zone of
+// queue 0, beginning with 66, are written home, and the other ones, which lie in that of queue 1, into the journal
+// area.
+const BEFORE: &str = "mkdir /a\ncreate /a/f\nwrite /a/f 0 fill:61:3686400\nfsync\n";
 
-// The second one overwrites the file.
-const SECOND: &str = "write /a/f 0 \"no\"\nfsync\n";
+// The second one overwrites the first bytes of the file.
+const BESIDE: &str = "write /a/f 0 \"no\"\nfsync\n";
+
+// The first one overwrites all blocks of the file but the first one. They have room in an empty journal area alone.
+const AGAIN: &str = "write /a/f 4096 fill:62:3682304\nfsync\n";
 
 // The one group of a script.
 fn group_of(alloc: Global, text: &str) -> Option<Group> {
     let mut script = read_script(alloc, text.as_bytes()).ok()?;
     script.groups.pop()
+}
+
+// What a run on a fresh drive came to.
+#[derive(Drop)]
+struct Ran {
+    answers: Answers,
+    // Whether the second session's group was answered while the checkpoint was held.
+    was_held: bool,
+    // What a power cut left after it.
+    images: Vec<PortImage>,
+}
+
+// Runs both sessions on a fresh drive, with this step of the first one.
+fn run_beside<R: Threads + Wait + Sync>(rt: &R, alloc: Global, step: Step) -> Option<Ran> {
+    let geometry = Geometry::new(2, 1024, 64, 512).ok()?;
+    let Ok(left) = recovered(alloc, geometry) else {
+        return None;
+    };
+    if left.image.geometry.queues() != 2 {
+        return None;
+    }
+    let before = group_of(alloc, BEFORE)?;
+    let beside = group_of(alloc, BESIDE)?;
+    let course = Course {
+        before: &before.requests,
+        step,
+        beside: &beside.requests,
+    };
+    let (fuse, seats) = drive_power(alloc, left.image.geometry, None).ok()?;
+    let hold = Hold::new();
+    let (answers, cut) = run_held(rt, alloc, &fuse, seats, left, course, &hold).ok()?;
+    Some(Ran {
+        answers,
+        was_held: hold.has_held(),
+        images: cut.images,
+    })
 }
 
 // The first bytes of home block 66: the third one of the zone of queue 0, which lies behind its area of 1,024 blocks.
@@ -31,26 +74,32 @@ fn file_starts_with(images: &[PortImage], bytes: &[u8]) -> bool {
     }
 }
 
-// The checkpoint of the first session is held before its home write of block 1, which is the first one of the root since
-// block 0 never changes. The group of the second session is called then, and answered before the write is let go. The
-// checkpoint answers the number that was drawn before it began. It comes to the file's block with its newer content, and
-// writes that home.
+// The checkpoint of the first session is held before its home write of block 1, which is the first one of the root
+// since block 0 never changes. The group of the second session is called then, and answered before the write is let go.
+// The checkpoint answers the number that was drawn before it began. It comes to the file's block with its newer
+// content, and writes that home.
 #[test]
 fn a_session_commits_during_a_checkpoint(rt: HostRuntime) -> Result<(), OutOfMemory> {
-    let geometry = Geometry::new(2, 1024, 64, 256).expect(&rt, "a geometry");
-    let left = recovered(rt.alloc(), geometry).expect(&rt, "a drive");
-    assert!(rt; left.image.geometry.queues() == 2);
-    let first = group_of(rt.alloc(), FIRST).expect(&rt, "a group");
-    let second = group_of(rt.alloc(), SECOND).expect(&rt, "a group");
-    let groups: [&[_]; 2] = [&first.requests, &second.requests];
-    let (fuse, seats) = drive_power(rt.alloc(), left.image.geometry, None)?;
-    let hold = Hold::new();
-    let ran = run_held(&rt, rt.alloc(), &fuse, seats, left, &groups, &hold);
-    let (answers, cut) = ran.expect(&rt, "a run");
-    assert_eq!(rt; answers.before, Some(TxNo(1)));
-    assert!(rt; hold.has_held());
-    assert_eq!(rt; answers.beside, Some(TxNo(2)));
-    assert_eq!(rt; answers.base, Some(TxNo(1)));
-    assert!(rt; file_starts_with(&cut.images, b"no"));
+    let ran = run_beside(&rt, rt.alloc(), Step::Checkpoint).expect(&rt, "a run");
+    assert!(rt; ran.was_held);
+    assert_eq!(rt; ran.answers.before, Some(TxNo(1)));
+    assert_eq!(rt; ran.answers.beside, Some(TxNo(2)));
+    assert_eq!(rt; ran.answers.step, Some(TxNo(1)));
+    assert!(rt; file_starts_with(&ran.images, b"no"));
+    Ok(())
+}
+
+// The same of the checkpoint that the first session makes inside its commit, since its journal area lacks room. It
+// draws its number after the checkpoint.
+#[test]
+fn a_session_commits_while_another_one_makes_room(rt: HostRuntime) -> Result<(), OutOfMemory> {
+    let again = group_of(rt.alloc(), AGAIN).expect(&rt, "a group");
+    let step = Step::Group(&again.requests);
+    let ran = run_beside(&rt, rt.alloc(), step).expect(&rt, "a run");
+    assert!(rt; ran.was_held);
+    assert_eq!(rt; ran.answers.before, Some(TxNo(1)));
+    assert_eq!(rt; ran.answers.beside, Some(TxNo(2)));
+    assert_eq!(rt; ran.answers.step, Some(TxNo(3)));
+    assert!(rt; file_starts_with(&ran.images, b"no"));
     Ok(())
 }

@@ -12,7 +12,7 @@ ghost use Rattle.mq_recover.specs.Recovery.{IsStartDrive};
 ghost use Rattle.mq_turns.specs.AtDesk.{AtDesk, chairs_of, view};
 
 use crate::hold::Hold;
-use crate::together::{Answers, Called, call_both};
+use crate::together::{Answers, Called, Course, call_both};
 use mq_blocks::{Geometry, OutOfMemory};
 use mq_calls::{Mqfs, Session, find_volume};
 use mq_drive::{Fuse, FuseSeat, Port, Ports};
@@ -22,7 +22,6 @@ use mq_images::{
 };
 use mq_recover::ImageFault;
 use mq_tie::close_desk;
-use mq_tree::Request;
 use mq_watch::{Watch, WatchPort};
 use std::alloc::Global;
 use std::sync::Wait;
@@ -127,7 +126,7 @@ fn run_over<P: Port + Drop + Send, R: Threads + Wait + Sync>(
     alloc: Global,
     geometry: Geometry,
     ports: Ports<P>,
-    groups: &[&[Request]; 2],
+    course: Course,
     hold: &Hold,
 ) -> Result<(Answers, Ports<P>), StandingRefusal>
     requires still { IsQuiescentDrive geometry (drive_of P.state ports) }
@@ -142,12 +141,12 @@ fn run_over<P: Port + Drop + Send, R: Threads + Wait + Sync>(
         first,
         second,
         answers,
-    } = call_both(rt, alloc, &files, first, second, groups, hold);
+    } = call_both(rt, alloc, &files, first, second, course, hold);
     let ports = end_pair(alloc, files, first, second)?;
     Ok((answers, ports))
 }
 
-/// Two sessions make their calls on the drive that starts from a recovered image, under the watch that holds the
+/// Two sessions make their calls on the drive that starts from a recovered image, under the watch that holds a
 /// checkpoint of the first one. Then its power is cut.
 pub fn run_held<R: Threads + Wait + Sync>(
     rt: &R,
@@ -155,7 +154,7 @@ pub fn run_held<R: Threads + Wait + Sync>(
     fuse: &Fuse,
     seats: Vec<FuseSeat>,
     left: RecoveredImage,
-    groups: &[&[Request]; 2],
+    course: Course,
     hold: &Hold,
 ) -> Result<(Answers, CutDrive), StandingRefusal>
     requires recovery { (x : Image) × IsRecoveryOf x None left }
@@ -167,7 +166,7 @@ pub fn run_held<R: Threads + Wait + Sync>(
     let ports = start_ports(alloc, fuse, seats, image, None, 0)?;
     a_recovered_image_starts();
     let held = watched(alloc, ports, hold)?;
-    let (answers, held) = run_over(rt, alloc, geometry, held, groups, hold)?;
+    let (answers, held) = run_over(rt, alloc, geometry, held, course, hold)?;
     let cut = cut_ports(alloc, unwatched(alloc, held)?, 0)?;
     Ok((answers, cut))
 }

@@ -1,4 +1,4 @@
-// Two sessions at once: one commits while the checkpoint of the other one is held.
+// Two sessions at once: one commits while a checkpoint of the other one is held.
 ghost use Rattle.mq_calls.specs.Sessions.{IsReady};
 ghost use Rattle.mq_turns.specs.AtDesk.{AtDesk, view};
 
@@ -16,13 +16,33 @@ use std::alloc::Global;
 use std::sync::Wait;
 use std::thread::{Threads, join};
 
+/// What the first session does when a checkpoint of it is to be held.
+#[derive(Clone, Copy)]
+pub enum Step<'s> {
+    /// It makes the checkpoint.
+    Checkpoint,
+    /// It does this group. Its journal area lacks room for it, so the call makes the checkpoint first.
+    Group(&'s [Request]),
+}
+
+/// What two sessions do.
+#[derive(Clone, Copy)]
+pub struct Course<'s> {
+    /// The first session's group before its step.
+    pub before: &'s [Request],
+    /// The first session's step.
+    pub step: Step<'s>,
+    /// The second session's group, beside that step.
+    pub beside: &'s [Request],
+}
+
 /// What two sessions were answered; `None` is a refusal.
 #[derive(Drop)]
 pub struct Answers {
     /// The number of the first session's group.
     pub before: Option<TxNo>,
-    /// The base of its checkpoint.
-    pub base: Option<TxNo>,
+    /// The base of its checkpoint, or the number of the group that is its step.
+    pub step: Option<TxNo>,
     /// The number of the second session's group.
     pub beside: Option<TxNo>,
 }
@@ -35,8 +55,8 @@ pub struct Called<M: Machine> {
     pub answers: Answers,
 }
 
-// The checkpoint of the first session.
-fn hold_checkpoint<M: Calls, R: Wait>(
+// The checkpoint of a session.
+fn make_checkpoint<M: Calls, R: Wait>(
     rt: &R,
     alloc: Global,
     files: &FileSystem<M>,
@@ -70,7 +90,26 @@ fn commit<M: Calls, R: Wait>(
     (user, at)
 }
 
-// The commit of the second session, once the checkpoint of the first one is held.
+// The step of the first session.
+fn take_step<M: Calls, R: Wait>(
+    rt: &R,
+    alloc: Global,
+    files: &FileSystem<M>,
+    user: User<M>,
+    step: Step,
+) -> (User<M>, Option<TxNo>)
+    requires desk { AtDesk files.now.desk user.chair }
+    requires ready { M.is_ready files.now.geometry user.queue user.calls user.held (view user.chair) }
+    ensures desk { AtDesk files.now.desk result.0.chair }
+    ensures ready { M.is_ready files.now.geometry result.0.queue result.0.calls result.0.held (view result.0.chair) }
+{
+    match step {
+        Step::Checkpoint => make_checkpoint(rt, alloc, files, user),
+        Step::Group(requests) => commit(rt, alloc, files, user, requests),
+    }
+}
+
+// The commit of the second session, once a checkpoint of the first one is held.
 fn commit_beside<M: Calls, R: Wait>(
     rt: &R,
     alloc: Global,
@@ -102,7 +141,7 @@ fn fork<
     files: &FileSystem<M>,
     first: User<M>,
     second: User<M>,
-    groups: &[&[Request]; 2],
+    course: Course,
     hold: &Hold,
 ) -> Called<M>
     requires first { AtDesk files.now.desk first.chair
@@ -114,16 +153,20 @@ fn fork<
     ensures second { AtDesk files.now.desk result.second.chair
         × M.is_ready files.now.geometry result.second.queue result.second.calls result.second.held (view result.second.chair) }
 {
-    let (first, before) = commit(rt, alloc, files, first, groups[0]);
-    let beside = groups[1];
-    let ((first, base), (second, beside)) = join(
+    let Course {
+        before,
+        step,
+        beside,
+    } = course;
+    let (first, before) = commit(rt, alloc, files, first, before);
+    let ((first, step), (second, beside)) = join(
         rt,
         move || -> (User<M>, Option<TxNo>)
             requires { AtDesk files.now.desk first.chair
                 × M.is_ready files.now.geometry first.queue first.calls first.held (view first.chair) }
             ensures { AtDesk files.entry.now.desk result.0.chair
                 × M.is_ready files.entry.now.geometry result.0.queue result.0.calls result.0.held (view result.0.chair) }
-        { hold_checkpoint(rt, alloc, files, first) },
+        { take_step(rt, alloc, files, first, step) },
         move || -> (User<M>, Option<TxNo>)
             requires { AtDesk files.now.desk second.chair
                 × M.is_ready files.now.geometry second.queue second.calls second.held (view second.chair) }
@@ -136,21 +179,21 @@ fn fork<
         second,
         answers: Answers {
             before,
-            base,
+            step,
             beside,
         },
     }
 }
 
-/// The first session does its group and then makes a checkpoint. The second one does its group while the checkpoint is
-/// held.
+/// The first session does its group and then its step, by which it makes a checkpoint. The second one does its group
+/// while the checkpoint is held.
 pub fn call_both<P: Port + Drop + Send, R: Threads + Wait + Sync>(
     rt: &R,
     alloc: Global,
     files: &Mqfs<P>,
     first: Session<P>,
     second: Session<P>,
-    groups: &[&[Request]; 2],
+    course: Course,
     hold: &Hold,
 ) -> Called<FileMachine<P>>
     requires first { AtDesk files.now.desk first.chair
@@ -162,5 +205,5 @@ pub fn call_both<P: Port + Drop + Send, R: Threads + Wait + Sync>(
     ensures second { AtDesk files.now.desk result.second.chair
         × IsReady files.now.geometry result.second.queue result.second.calls result.second.held (view result.second.chair) }
 {
-    fork::<P, FileEntry, FileMachine<P>, R>(rt, alloc, files, first, second, groups, hold)
+    fork::<P, FileEntry, FileMachine<P>, R>(rt, alloc, files, first, second, course, hold)
 }
