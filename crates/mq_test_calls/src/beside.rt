@@ -10,10 +10,13 @@ use std::alloc::Global;
 use std::sync::Wait;
 use std::thread::Threads;
 
-// The first session makes a directory and a file of 900 blocks in it. The blocks of the file that lie in the zone of
-// queue 0, beginning with 66, are written home, and the other ones, which lie in that of queue 1, into the journal
-// area.
-const BEFORE: &str = "mkdir /a\ncreate /a/f\nwrite /a/f 0 fill:61:3686400\nfsync\n";
+// The first session makes a directory and a file in it. This writes the home blocks 1, 3, 4, 64 and 65 into the journal
+// area, and the file's block, which is 66, home.
+const SMALL: &str = "mkdir /a\ncreate /a/f\nwrite /a/f 0 \"hi\"\nfsync\n";
+
+// The same with a file of 900 blocks, in zones of 512. The blocks of the file that lie in the zone of queue 0, beginning
+// with 66, are written home, and the other ones, which lie in that of queue 1, into the journal area.
+const LARGE: &str = "mkdir /a\ncreate /a/f\nwrite /a/f 0 fill:61:3686400\nfsync\n";
 
 // The second one overwrites the first bytes of the file.
 const BESIDE: &str = "write /a/f 0 \"no\"\nfsync\n";
@@ -37,16 +40,22 @@ struct Ran {
     images: Vec<PortImage>,
 }
 
-// Runs both sessions on a fresh drive, with this step of the first one.
-fn run_beside<R: Threads + Wait + Sync>(rt: &R, alloc: Global, step: Step) -> Option<Ran> {
-    let geometry = Geometry::new(2, 1024, 64, 512).ok()?;
+// Runs both sessions on a fresh drive with zones of so many blocks, with this first group and this step of the first one.
+fn run_beside<R: Threads + Wait + Sync>(
+    rt: &R,
+    alloc: Global,
+    zone: u32,
+    before: &str,
+    step: Step,
+) -> Option<Ran> {
+    let geometry = Geometry::new(2, 1024, 64, zone).ok()?;
     let Ok(left) = recovered(alloc, geometry) else {
         return None;
     };
     if left.image.geometry.queues() != 2 {
         return None;
     }
-    let before = group_of(alloc, BEFORE)?;
+    let before = group_of(alloc, before)?;
     let beside = group_of(alloc, BESIDE)?;
     let course = Course {
         before: &before.requests,
@@ -80,7 +89,7 @@ fn file_starts_with(images: &[PortImage], bytes: &[u8]) -> bool {
 // content, and writes that home.
 #[test]
 fn a_session_commits_during_a_checkpoint(rt: HostRuntime) -> Result<(), OutOfMemory> {
-    let ran = run_beside(&rt, rt.alloc(), Step::Checkpoint).expect(&rt, "a run");
+    let ran = run_beside(&rt, rt.alloc(), 256, SMALL, Step::Checkpoint).expect(&rt, "a run");
     assert!(rt; ran.was_held);
     assert_eq!(rt; ran.answers.before, Some(TxNo(1)));
     assert_eq!(rt; ran.answers.beside, Some(TxNo(2)));
@@ -95,7 +104,7 @@ fn a_session_commits_during_a_checkpoint(rt: HostRuntime) -> Result<(), OutOfMem
 fn a_session_commits_while_another_one_makes_room(rt: HostRuntime) -> Result<(), OutOfMemory> {
     let again = group_of(rt.alloc(), AGAIN).expect(&rt, "a group");
     let step = Step::Group(&again.requests);
-    let ran = run_beside(&rt, rt.alloc(), step).expect(&rt, "a run");
+    let ran = run_beside(&rt, rt.alloc(), 512, LARGE, step).expect(&rt, "a run");
     assert!(rt; ran.was_held);
     assert_eq!(rt; ran.answers.before, Some(TxNo(1)));
     assert_eq!(rt; ran.answers.beside, Some(TxNo(2)));
