@@ -62,26 +62,26 @@ device_chance p = record {
 
 -- the same of the port that holds it
 abbrev pub emu_state : EmuPort → PortState
-emu_state p = device_state p.device
+emu_state p = device_state p.device.value
 
 abbrev pub emu_faults : EmuPort → List Fault
-emu_faults p = device_faults p.device
+emu_faults p = device_faults p.device.value
 
 -- the events that happened
 abbrev pub happened_of : EmuPort → ℕ
-happened_of p = p.device.power.happened
+happened_of p = p.device.value.power.happened
 
 -- the tickets that its seat drew, the last first
 abbrev pub drawn_by : EmuPort → List ℕ
-drawn_by p = tickets_of p.device.power.seat
+drawn_by p = tickets_of p.device.value.power.seat
 
 -- the commands that were executed: those of its ring, and these and its home writes together
 abbrev pub counts_of : EmuPort → Counts
-counts_of p = device_counts p.device
+counts_of p = device_counts p.device.value
 
 abbrev pub executed_of : EmuPort → ℕ
-executed_of p = p.device.failing.executed
+executed_of p = p.device.value.failing.executed
 
 -- what it leaves to chance
 abbrev pub chance_of : EmuPort → Chance
-chance_of p = device_chance p.device
+chance_of p = device_chance p.device.value

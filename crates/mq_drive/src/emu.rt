@@ -15,7 +15,8 @@ use std::alloc::Global;
 /// with an error, where it is told which. It may be cut at any time.
 #[derive(Drop)]
 pub struct EmuPort<'f> {
-    device: Device<'f>,
+    // On the heap, so that a port moves as one word.
+    device: Box<Device<'f>>,
 }
 
 impl<'f> EmuPort<'f> {
@@ -51,8 +52,9 @@ impl<'f> EmuPort<'f> {
         ensures counts { IfOk result (λ p. counts_of p ≡ record { completed = 0; executed = 0 }) }
     {
         let power = Power::new(fuse, seat);
+        let device = Device::new(alloc, power, geometry, role, image, fail, seed)?;
         Ok(EmuPort {
-            device: Device::new(alloc, power, geometry, role, image, fail, seed)?,
+            device: Box::new(alloc, device)?,
         })
     }
 
@@ -132,7 +134,8 @@ impl<'f> EmuPort<'f> {
             → 0 < above l (tickets_of result.1)
             → Contains (emu_faults self.entry) PowerOff }
     {
-        self.device.cut(pick)
+        let device = *self.device;
+        device.cut(pick)
     }
 }
 

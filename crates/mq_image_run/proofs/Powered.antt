@@ -58,22 +58,22 @@ errors-powered (Some (Home w)) = (omega arith, refl)
 
 port-powered : (p : EmuPort) → (emu_state p).fuse.limit ≡ None → ArePowered (emu_faults p)
 port-powered p none =
-    let offs = p.device.power.unlimited none in
-    subst (λ (n : ℕ). ArePowered (replicate n PowerOff ++ errors_of p.device.failure)) (sym offs) (errors-powered p.device.failure)
+    let offs = p.device.value.power.unlimited none in
+    subst (λ (n : ℕ). ArePowered (replicate n PowerOff ++ errors_of p.device.value.failure)) (sym offs) (errors-powered p.device.value.failure)
 
 -- so no event was refused for it
 port-never-off : (p : EmuPort) → (emu_state p).fuse.limit ≡ None → Contains (emu_faults p) PowerOff → ⊥
 port-never-off p none off =
-    let offs = p.device.power.unlimited none in
-    let some = some_off p.device.power.offs p.device.failure off in
+    let offs = p.device.value.power.unlimited none in
+    let some = some_off p.device.value.power.offs p.device.value.failure off in
     omega (arith, offs, some)
 
 -- and where the command that is to fail was not executed, there is no fault
 port-sound : (p : EmuPort) → (emu_state p).fuse.limit ≡ None → fails_by (emu_state p).fail (executed_of p) ≡ false → emu_faults p ≡ []
 port-sound p none fails =
-    let offs = p.device.power.unlimited none in
-    let failure : p.device.failure ≡ None = none_of p.device.failure (p.device.failure_counted ∙ (p.device.failing.exact ∙ fails)) in
-    ap (λ (n : ℕ). replicate n PowerOff ++ errors_of p.device.failure) offs ∙ ap errors_of failure
+    let offs = p.device.value.power.unlimited none in
+    let failure : p.device.value.failure ≡ None = none_of p.device.value.failure (p.device.value.failure_counted ∙ (p.device.value.failing.exact ∙ fails)) in
+    ap (λ (n : ℕ). replicate n PowerOff ++ errors_of p.device.value.failure) offs ∙ ap errors_of failure
 
 -- ---- what is behind no report
 

@@ -96,38 +96,38 @@ stands-in offs failure (HomeError lba status) some = let alone = errors-alone (a
 -- ---- a port
 
 abbrev pub offs_of : EmuPort → ℕ
-offs_of p = p.device.power.offs
+offs_of p = p.device.value.power.offs
 
 abbrev pub Stands : EmuPort → Fault → Type 0
-Stands p x = StandsIn p.device.power.offs p.device.failure x
+Stands p x = StandsIn p.device.value.power.offs p.device.value.failure x
 
 -- a fault that it has gained stands
 pub gained-stands : (p : EmuPort) (x : Fault) (old : List Fault) → WasGained (Some x) old (emu_faults p) → Stands p x
-gained-stands p x old gained = let more = gained (alike x) (alike-self x) in stands-in p.device.power.offs p.device.failure x (omega arith)
+gained-stands p x old gained = let more = gained (alike x) (alike-self x) in stands-in p.device.value.power.offs p.device.value.failure x (omega arith)
 
 -- where it has as many faults as a count of 64 bits can say, its power was off
 pub full-off : (p : EmuPort) → 2 ^ 64 - 1 ≤ length (emu_faults p) → 0 < offs_of p
-full-off p full = let many = many-are p.device.power.offs p.device.failure in let few = few-errors p.device.failure in omega arith
+full-off p full = let many = many-are p.device.value.power.offs p.device.value.failure in let few = few-errors p.device.value.failure in omega arith
 
 pub few-faults : (p : EmuPort) → offs_of p ≡ 0 → length (emu_faults p) < 2 ^ 64 - 1
-few-faults p none = let many = many-are p.device.power.offs p.device.failure in let few = few-errors p.device.failure in omega arith
+few-faults p none = let many = many-are p.device.value.power.offs p.device.value.failure in let few = few-errors p.device.value.failure in omega arith
 
 in-offs : (n : ℕ) (xs : List Fault) → 0 < n → Contains (replicate n PowerOff ++ xs) PowerOff
 in-offs zero xs some = absurd (omega arith)
 in-offs (suc n) xs some = (0, omega arith, refl)
 
 pub off-among : (p : EmuPort) → 0 < offs_of p → Contains (emu_faults p) PowerOff
-off-among p some = in-offs p.device.power.offs (errors_of p.device.failure) some
+off-among p some = in-offs p.device.value.power.offs (errors_of p.device.value.failure) some
 
 pub never-off : (p : EmuPort) → (emu_state p).fuse.limit ≡ None → offs_of p ≡ 0
-never-off p none = p.device.power.unlimited none
+never-off p none = p.device.value.power.unlimited none
 
 -- a port of which a write has failed has executed the command that was to fail
-pub failed-by : (p : EmuPort) (f : Failure) → p.device.failure ≡ Some f → fails_by (emu_state p).fail (executed_of p) ≡ true
-failed-by p f is = sym p.device.failing.exact ∙ (sym p.device.failure_counted ∙ ap is_some is)
+pub failed-by : (p : EmuPort) (f : Failure) → p.device.value.failure ≡ Some f → fails_by (emu_state p).fail (executed_of p) ≡ true
+failed-by p f is = sym p.device.value.failing.exact ∙ (sym p.device.value.failure_counted ∙ ap is_some is)
 
 -- where no command of it was to fail, none has
-pub none-failed : (p : EmuPort) → (emu_state p).fail ≡ None → (f : Failure) → p.device.failure ≡ Some f → ⊥
+pub none-failed : (p : EmuPort) → (emu_state p).fail ≡ None → (f : Failure) → p.device.value.failure ≡ Some f → ⊥
 none-failed p none f is = true≢false (sym (failed-by p f is) ∙ ap (λ (n : Option ℕ). fails_by n (executed_of p)) none)
 
 -- ---- a home write that failed
@@ -139,7 +139,7 @@ index-low area_first area_size homes_first lba blocks less = elim (cases_lt lba 
 ]
 
 -- it is of a block of the port, so of a home block
-home-low : (g : Geometry) (role : Role) (p : EmuPort) (block : ℕ) → IsRole g role → IsPortOf g role (emu_state p) → home_lba g block < p.device.homes.first + p.device.homes.size → block < homes_of g
+home-low : (g : Geometry) (role : Role) (p : EmuPort) (block : ℕ) → IsRole g role → IsPortOf g role (emu_state p) → home_lba g block < p.device.value.homes.first + p.device.value.homes.size → block < homes_of g
 home-low g (Queue q) p block low port less =
     let first = port.homes_first in
     let size = port.homes_size in
@@ -151,10 +151,10 @@ home-low g Root p block low port less =
     let size = port.homes_size in
     omega arith
 
-pub home-block : (g : Geometry) (role : Role) (p : EmuPort) (w : HomeWrite) (block : ℕ) → IsRole g role → IsPortOf g role (emu_state p) → p.device.failure ≡ Some (Home w) → w.lba ≡ home_lba g block → block < homes_of g
+pub home-block : (g : Geometry) (role : Role) (p : EmuPort) (w : HomeWrite) (block : ℕ) → IsRole g role → IsPortOf g role (emu_state p) → p.device.value.failure ≡ Some (Home w) → w.lba ≡ home_lba g block → block < homes_of g
 home-block g role p w block low port is lba =
-    let own = p.device.failure_own (Home w) is in
-    let sized = p.device.sized in
-    let index : index_in p.device.area.first p.device.area.size p.device.homes.first w.lba < p.device.area.size + p.device.homes.size = (let high = own.1 in omega arith) in
-    let below = index-low p.device.area.first p.device.area.size p.device.homes.first w.lba p.device.homes.size index in
+    let own = p.device.value.failure_own (Home w) is in
+    let sized = p.device.value.sized in
+    let index : index_in p.device.value.area.first p.device.value.area.size p.device.value.homes.first w.lba < p.device.value.area.size + p.device.value.homes.size = (let high = own.1 in omega arith) in
+    let below = index-low p.device.value.area.first p.device.value.area.size p.device.value.homes.first w.lba p.device.value.homes.size index in
     home-low g role p block low port (omega arith)

@@ -7,7 +7,7 @@ use Rattle.mq_blocks.specs.Journal.{Says, Shown, IsChain, IsQueueChain, AreWhole
 use Rattle.mq_blocks.specs.declared.geometry.Geometry.{Geometry}
 use Rattle.mq_ledger.proofs.Chains.{said-once}
 use Rattle.mq_recover.specs.Recovery.{IsRead}
-use Rattle.mq_recover.specs.Recover.{IsSpotOf, copy_of, content_of}
+use Rattle.mq_recover.specs.Recover.{IsCopyPlaceOf, copy_of, content_of}
 use Rattle.mq_recover.specs.declared.copies.CopyPlace.{CopyPlace}
 use Rattle.mq_recover.proofs.Popped.{falls-under}
 use Rattle.mq_recover.proofs.Readable.{chain-falls}
@@ -259,9 +259,9 @@ read-raised g v i ds top same base head read =
 
 -- ---- what stands
 
-content-along : (g : Geometry) (v i : Shown) (o : Option CopyPlace) (old new : List ℕ) → IsSameLog g v i → IsSpotOf g.queues o → (o ≡ None → new ≡ old) → or_else (content_of i.area g.area o) new ≡ or_else (content_of v.area g.area o) old
+content-along : (g : Geometry) (v i : Shown) (o : Option CopyPlace) (old new : List ℕ) → IsSameLog g v i → IsCopyPlaceOf g.queues o → (o ≡ None → new ≡ old) → or_else (content_of i.area g.area o) new ≡ or_else (content_of v.area g.area o) old
 content-along g v i None old new same own kept = kept refl
-content-along g v i (Some spot) old new same own kept = same.area spot.queue (spot.place % g.area) own (index-below g spot.place)
+content-along g v i (Some source) old new same own kept = same.area source.queue (source.place % g.area) own (index-below g source.place)
 
 -- a block that has a copy stands whatever is at home
 pub stands-along : (g : Geometry) (v i : Shown) (ds : List Descriptor) (x : ℕ) → ((d : Descriptor) → Has ds d → d.queue < g.queues) → IsSameLog g v i → (copy_of ds x ≡ None → i.home x ≡ v.home x) → stands g i ds x ≡ stands g v ds x

@@ -7,7 +7,7 @@ use Rattle.mq_blocks.specs.Machine.{Writes, or_kept}
 use Rattle.mq_blocks.specs.declared.geometry.Geometry.{Geometry}
 use Rattle.mq_recover.specs.Plans.{IsFoundIn, IsPlan}
 use Rattle.mq_recover.specs.Drives.{DriveState, view_over}
-use Rattle.mq_recover.specs.Recover.{content_of, IsSpotOf}
+use Rattle.mq_recover.specs.Recover.{content_of, IsCopyPlaceOf}
 use Rattle.mq_recover.specs.Recovery.{IsRead}
 use Rattle.mq_recover.specs.RecoverHomes.{writes_from, written}
 use Rattle.mq_recover.specs.Steps.{AreHomeWrites}
@@ -19,9 +19,9 @@ use Rattle.mq_recover.proofs.RecoverCopies.{copy-within}
 
 -- ---- the writes of copies
 
-pub writes-some : (area : ℕ → ℕ → List ℕ) (size b : ℕ) (spot : CopyPlace) (copies : List (Option CopyPlace)) (d : Option CopyPlace) (writes more : Writes) (block : List ℕ) → b < length copies → get_or copies b d ≡ Some spot
-    → block ≡ area spot.queue (spot.place % size) → more ≡ writes ++ (b, block) ∷ [] → more ++ writes_from area size (b + 1) (drop (b + 1) copies) ≡ writes ++ writes_from area size b (drop b copies)
-writes-some area size b spot copies d writes more block within is content_is more_is =
+pub writes-some : (area : ℕ → ℕ → List ℕ) (size b : ℕ) (source : CopyPlace) (copies : List (Option CopyPlace)) (d : Option CopyPlace) (writes more : Writes) (block : List ℕ) → b < length copies → get_or copies b d ≡ Some source
+    → block ≡ area source.queue (source.place % size) → more ≡ writes ++ (b, block) ∷ [] → more ++ writes_from area size (b + 1) (drop (b + 1) copies) ≡ writes ++ writes_from area size b (drop b copies)
+writes-some area size b source copies d writes more block within is content_is more_is =
     ap (λ (n : ℕ). more ++ writes_from area size (b + 1) (drop n copies)) (add-one b)
     ∙ ap (λ (l : Writes). l ++ writes_from area size (b + 1) (drop (suc b) copies)) more_is
     ∙ append_assoc writes ((b, block) ∷ []) (writes_from area size (b + 1) (drop (suc b) copies))
@@ -41,7 +41,7 @@ writes-none area size b copies d writes more within is more_is =
 writes-low : (area : ℕ → ℕ → List ℕ) (size b : ℕ) (copies : List (Option CopyPlace)) (x : ℕ) → x < b → written (writes_from area size b copies) x ≡ None
 writes-low area size b [] x low = refl
 writes-low area size b (None ∷ copies) x low = writes-low area size (b + 1) copies x (omega arith)
-writes-low area size b (Some spot ∷ copies) x low =
+writes-low area size b (Some source ∷ copies) x low =
     rw (writes-low area size (b + 1) copies x (omega arith), ne_eqb b x (omega arith)) refl
 
 kept-none : (o : Option (List ℕ)) → or_kept o None ≡ o
@@ -52,9 +52,9 @@ writes-from : (area : ℕ → ℕ → List ℕ) (size b : ℕ) (copies : List (O
 writes-from area size b [] k x is = refl
 writes-from area size b (None ∷ copies) zero x is = writes-low area size (b + 1) copies x (omega arith)
 writes-from area size b (None ∷ copies) (suc k) x is = writes-from area size (b + 1) copies k x (omega arith)
-writes-from area size b (Some spot ∷ copies) zero x is =
+writes-from area size b (Some source ∷ copies) zero x is =
     rw (writes-low area size (b + 1) copies x (omega arith), eq-eqb b x (omega arith)) refl
-writes-from area size b (Some spot ∷ copies) (suc k) x is =
+writes-from area size b (Some source ∷ copies) (suc k) x is =
     rw (ne_eqb b x (omega arith)) (kept-none (written (writes_from area size (b + 1) copies) x) ∙ writes-from area size (b + 1) copies k x (omega arith))
 
 -- what is written to a block is the content of its copy
@@ -69,7 +69,7 @@ writes-rise : (area : ℕ → ℕ → List ℕ) (size b : ℕ) (copies : List (O
 writes-rise area size b [] homes fits = tt
 writes-rise area size b (None ∷ copies) homes fits =
     rising-low b (b + 1) homes (map (λ w. w.0) (writes_from area size (b + 1) copies)) (omega arith) (writes-rise area size (b + 1) copies homes (omega arith))
-writes-rise area size b (Some spot ∷ copies) homes fits = (omega arith, omega arith, writes-rise area size (b + 1) copies homes (omega arith))
+writes-rise area size b (Some source ∷ copies) homes fits = (omega arith, omega arith, writes-rise area size (b + 1) copies homes (omega arith))
 
 -- the writes of the copies that were found are those of the plan
 pub plan-of : (g : Geometry) (d : DriveState) (found : Found) (plan : Plan) → IsFoundIn g d found → plan.writes.items ≡ writes_from (view_over g d).area (area_of g) 0 found.places.items → plan.recovered ≡ found.recovered → IsPlan g d plan
@@ -86,6 +86,6 @@ plan-of g d found plan is writes_are recovered_is =
     }
 
 -- each copy that was found stands in the area of a queue
-pub found-within : (g : Geometry) (d : DriveState) (found : Found) (places : List (Option CopyPlace)) → IsFoundIn g d found → places ≡ found.places.items → (x : ℕ) → IsSpotOf g.queues (get_or places x None)
+pub found-within : (g : Geometry) (d : DriveState) (found : Found) (places : List (Option CopyPlace)) → IsFoundIn g d found → places ≡ found.places.items → (x : ℕ) → IsCopyPlaceOf g.queues (get_or places x None)
 found-within g d found places is same x =
-    subst (IsSpotOf g.queues) (sym (ap (λ (l : List (Option CopyPlace)). get_or l x None) same ∙ is.places_are x)) (copy-within g.queues is.ds x (λ e has. (is.read.prefix.whole e has).0))
+    subst (IsCopyPlaceOf g.queues) (sym (ap (λ (l : List (Option CopyPlace)). get_or l x None) same ∙ is.places_are x)) (copy-within g.queues is.ds x (λ e has. (is.read.prefix.whole e has).0))

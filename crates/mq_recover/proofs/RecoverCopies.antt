@@ -9,7 +9,7 @@ use Rattle.mq_blocks.specs.Descriptor.{Descriptor, AreRising}
 use Rattle.mq_blocks.specs.Geometry.{homes_of}
 use Rattle.mq_blocks.specs.Journal.{Shown, IsChain, Has, is_among, logged_copy, or_else, stands}
 use Rattle.mq_blocks.specs.declared.geometry.Geometry.{Geometry}
-use Rattle.mq_recover.specs.Recover.{spot_at, IsSpotOf, or_place, logged_place, copy_of, forgotten, noted, with_all, AreGood, AreOf, content_of}
+use Rattle.mq_recover.specs.Recover.{copy_place_at, IsCopyPlaceOf, or_place, logged_place, copy_of, forgotten, noted, with_all, AreGood, AreOf, content_of}
 use Rattle.mq_recover.specs.declared.copies.CopyPlace.{CopyPlace}
 
 pub rising-at : (low high : ℕ) (xs : List ℕ) (k d : ℕ) → AreRising low high xs → k < length xs → get_or xs k d < high
@@ -24,10 +24,10 @@ forgotten-next copies bs k b d within is =
     ∙ sym (ap (λ (l : List ℕ). forgotten copies l) (drop-cons bs k d within))
 
 pub noted-next : (copies : List (Option CopyPlace)) (q place : ℕ) (bs : List ℕ) (k b d : ℕ) → k < length bs → b ≡ get_or bs k d
-    → noted (set copies b (Some (spot_at q place))) q (place + 1) (drop (k + 1) bs) ≡ noted copies q place (drop k bs)
+    → noted (set copies b (Some (copy_place_at q place))) q (place + 1) (drop (k + 1) bs) ≡ noted copies q place (drop k bs)
 noted-next copies q place bs k b d within is =
-    ap (λ (n : ℕ). noted (set copies b (Some (spot_at q place))) q (place + 1) (drop n bs)) (add-one k)
-    ∙ ap (λ (n : ℕ). noted (set copies n (Some (spot_at q place))) q (place + 1) (drop (suc k) bs)) is
+    ap (λ (n : ℕ). noted (set copies b (Some (copy_place_at q place))) q (place + 1) (drop n bs)) (add-one k)
+    ∙ ap (λ (n : ℕ). noted (set copies n (Some (copy_place_at q place))) q (place + 1) (drop (suc k) bs)) is
     ∙ sym (ap (λ (l : List ℕ). noted copies q place l) (drop-cons bs k d within))
 
 -- ---- what is taken over
@@ -38,7 +38,7 @@ length-forgotten copies (b ∷ bs) = length-forgotten (set copies b None) bs ∙
 
 pub length-noted : (copies : List (Option CopyPlace)) (q place : ℕ) (bs : List ℕ) → length (noted copies q place bs) ≡ length copies
 length-noted copies q place [] = refl
-length-noted copies q place (b ∷ bs) = length-noted (set copies b (Some (spot_at q place))) q (place + 1) bs ∙ length-set copies b (Some (spot_at q place))
+length-noted copies q place (b ∷ bs) = length-noted (set copies b (Some (copy_place_at q place))) q (place + 1) bs ∙ length-set copies b (Some (copy_place_at q place))
 
 pub length-with_all : (homes : ℕ) (ds : List Descriptor) → length (with_all homes ds) ≡ homes
 length-with_all homes [] = length-replicate homes None
@@ -80,25 +80,25 @@ logged_place-low q place low high (b ∷ bs) x rising below =
     let h = rising.0 in
     rw (other-eq b x (omega arith)) (logged_place-low q (place + 1) (b + 1) high bs x rising.2 (omega arith))
 
-noted-here : (old now rest : Option CopyPlace) (spot : CopyPlace) (b x : ℕ) → b ≡ x → rest ≡ None → now ≡ Some spot → or_place rest now ≡ or_place (if nat_eq b x then Some spot else rest) old
-noted-here old now rest spot b x same none is = rw (same-eq b x same, none) is
+noted-here : (old now rest : Option CopyPlace) (source : CopyPlace) (b x : ℕ) → b ≡ x → rest ≡ None → now ≡ Some source → or_place rest now ≡ or_place (if nat_eq b x then Some source else rest) old
+noted-here old now rest source b x same none is = rw (same-eq b x same, none) is
 
-noted-other : (old now rest : Option CopyPlace) (spot : CopyPlace) (b x : ℕ) → b ≢ x → now ≡ old → or_place rest now ≡ or_place (if nat_eq b x then Some spot else rest) old
-noted-other old now rest spot b x other is = rw (other-eq b x other) (ap (or_place rest) is)
+noted-other : (old now rest : Option CopyPlace) (source : CopyPlace) (b x : ℕ) → b ≢ x → now ≡ old → or_place rest now ≡ or_place (if nat_eq b x then Some source else rest) old
+noted-other old now rest source b x other is = rw (other-eq b x other) (ap (or_place rest) is)
 
 pub noted-at : (low high : ℕ) (copies : List (Option CopyPlace)) (q place : ℕ) (bs : List ℕ) (x : ℕ) → AreRising low high bs → high ≤ length copies
     → get_or (noted copies q place bs) x None ≡ or_place (logged_place q place bs x) (get_or copies x None)
 noted-at low high copies q place [] x rising within = refl
 noted-at low high copies q place (b ∷ bs) x rising within =
-    let spot = spot_at q place in
-    let fits : high ≤ length (set copies b (Some spot)) = omega (arith, length-set copies b (Some spot)) in
+    let source = copy_place_at q place in
+    let fits : high ≤ length (set copies b (Some source)) = omega (arith, length-set copies b (Some source)) in
     let inside : b < length copies = let h = rising.1 in omega arith in
-    noted-at (b + 1) high (set copies b (Some spot)) q (place + 1) bs x rising.2 fits
+    noted-at (b + 1) high (set copies b (Some source)) q (place + 1) bs x rising.2 fits
     ∙ ⊎_elim
-    (λ same. noted-here (get_or copies x None) (get_or (set copies b (Some spot)) x None) (logged_place q (place + 1) bs x) spot b x same
-    (logged_place-low q (place + 1) (b + 1) high bs x rising.2 (omega (arith, same))) (get_or-set_at copies b x (Some spot) None (sym same) inside))
-    (λ other. noted-other (get_or copies x None) (get_or (set copies b (Some spot)) x None) (logged_place q (place + 1) bs x) spot b x other
-    (get_or-set_other copies b x (Some spot) None (λ e. other (sym e))))
+    (λ same. noted-here (get_or copies x None) (get_or (set copies b (Some source)) x None) (logged_place q (place + 1) bs x) source b x same
+    (logged_place-low q (place + 1) (b + 1) high bs x rising.2 (omega (arith, same))) (get_or-set_at copies b x (Some source) None (sym same) inside))
+    (λ other. noted-other (get_or copies x None) (get_or (set copies b (Some source)) x None) (logged_place q (place + 1) bs x) source b x other
+    (get_or-set_other copies b x (Some source) None (λ e. other (sym e))))
     (cases_eq b x)
 
 none-replicate : (n x : ℕ) → get_or (replicate {A = Option CopyPlace} n None) x None ≡ None
@@ -128,10 +128,10 @@ pub content-logged : (area : ℕ → ℕ → List ℕ) (size q place : ℕ) (bs 
 content-logged area size q place [] x = refl
 content-logged area size q place (b ∷ bs) x =
     ap (λ (o : Option (List ℕ)). if nat_eq b x then Some (area q (place % size)) else o) (content-logged area size q (place + 1) bs x)
-    ∙ sym (content-if area size (nat_eq b x) (Some (spot_at q place)) (logged_place q (place + 1) bs x))
+    ∙ sym (content-if area size (nat_eq b x) (Some (copy_place_at q place)) (logged_place q (place + 1) bs x))
 
 else-or : (area : ℕ → ℕ → List ℕ) (size : ℕ) (a b : Option CopyPlace) (home : List ℕ) → or_else (content_of area size (or_place a b)) home ≡ or_else (content_of area size a) (or_else (content_of area size b) home)
-else-or area size (Some spot) b home = refl
+else-or area size (Some source) b home = refl
 else-or area size None b home = refl
 
 else-if : (area : ℕ → ℕ → List ℕ) (size : ℕ) (among : Bool) (a : Option CopyPlace) (home : List ℕ)
@@ -149,25 +149,25 @@ stands-copy g i (d ∷ ds) x =
     ∙ ap (or_else (content_of i.area g.area copy)) (sym (else-if i.area g.area (is_among x d.revoked) (copy_of ds x) (i.home x)))
     ∙ sym (else-or i.area g.area copy (if is_among x d.revoked then None else copy_of ds x) (i.home x))
 
-spot-or : (n : ℕ) (a b : Option CopyPlace) → IsSpotOf n a → IsSpotOf n b → IsSpotOf n (or_place a b)
-spot-or n (Some spot) b here there = here
-spot-or n None b here there = there
+place-or : (n : ℕ) (a b : Option CopyPlace) → IsCopyPlaceOf n a → IsCopyPlaceOf n b → IsCopyPlaceOf n (or_place a b)
+place-or n (Some source) b here there = here
+place-or n None b here there = there
 
-spot-if : (n : ℕ) (t : Bool) (a b : Option CopyPlace) → IsSpotOf n a → IsSpotOf n b → IsSpotOf n (if t then a else b)
-spot-if n true a b here there = here
-spot-if n false a b here there = there
+place-if : (n : ℕ) (t : Bool) (a b : Option CopyPlace) → IsCopyPlaceOf n a → IsCopyPlaceOf n b → IsCopyPlaceOf n (if t then a else b)
+place-if n true a b here there = here
+place-if n false a b here there = there
 
-logged-within : (n q place : ℕ) (bs : List ℕ) (x : ℕ) → q < n → IsSpotOf n (logged_place q place bs x)
+logged-within : (n q place : ℕ) (bs : List ℕ) (x : ℕ) → q < n → IsCopyPlaceOf n (logged_place q place bs x)
 logged-within n q place [] x low = tt
-logged-within n q place (b ∷ bs) x low = spot-if n (nat_eq b x) (Some (spot_at q place)) (logged_place q (place + 1) bs x) low (logged-within n q (place + 1) bs x low)
+logged-within n q place (b ∷ bs) x low = place-if n (nat_eq b x) (Some (copy_place_at q place)) (logged_place q (place + 1) bs x) low (logged-within n q (place + 1) bs x low)
 
 -- copies stand in the areas of the queues that have the transactions
-pub copy-within : (n : ℕ) (ds : List Descriptor) (x : ℕ) → ((d : Descriptor) → Has ds d → d.queue < n) → IsSpotOf n (copy_of ds x)
+pub copy-within : (n : ℕ) (ds : List Descriptor) (x : ℕ) → ((d : Descriptor) → Has ds d → d.queue < n) → IsCopyPlaceOf n (copy_of ds x)
 copy-within n [] x own = tt
 copy-within n (d ∷ ds) x own =
     let copy = logged_place d.queue (d.place - length d.logged) d.logged x in
-    spot-or n copy (if is_among x d.revoked then None else copy_of ds x) (logged-within n d.queue (d.place - length d.logged) d.logged x (own d (inl refl)))
-    (spot-if n (is_among x d.revoked) None (copy_of ds x) tt (copy-within n ds x (λ e has. own e (inr has))))
+    place-or n copy (if is_among x d.revoked then None else copy_of ds x) (logged-within n d.queue (d.place - length d.logged) d.logged x (own d (inl refl)))
+    (place-if n (is_among x d.revoked) None (copy_of ds x) tt (copy-within n ds x (λ e has. own e (inr has))))
 
 pub chain-of : (g : Geometry) (i : Shown) (q number place : ℕ) (ds : List Descriptor) → IsChain g i q number place ds → AreOf q ds
 chain-of g i q number place [] chain = tt

@@ -37,22 +37,22 @@ IsWithinReach g newest d = unwrap_or newest d.place < (d.place - length d.logged
 
 -- ---- copies
 
-abbrev pub spot_at : (queue place : ℕ) → CopyPlace
-spot_at queue place = record { queue = queue; place = place }
+abbrev pub copy_place_at : (queue place : ℕ) → CopyPlace
+copy_place_at queue place = record { queue = queue; place = place }
 
 -- the queue is one of so many
-abbrev pub IsSpotOf : ℕ → Option CopyPlace → Type 0
-IsSpotOf queues None = Unit {0}
-IsSpotOf queues (Some spot) = spot.queue < queues
+abbrev pub IsCopyPlaceOf : ℕ → Option CopyPlace → Type 0
+IsCopyPlaceOf queues None = Unit {0}
+IsCopyPlaceOf queues (Some source) = source.queue < queues
 
 abbrev pub or_place : Option CopyPlace → Option CopyPlace → Option CopyPlace
-or_place (Some spot) old = Some spot
+or_place (Some source) old = Some source
 or_place None old = old
 
 -- where the copy of a block stands among the logged ones, which stand from a place of a queue on
 abbrev pub logged_place : (queue place : ℕ) → List ℕ → ℕ → Option CopyPlace
 logged_place queue place [] x = None
-logged_place queue place (b ∷ bs) x = if nat_eq b x then Some (spot_at queue place) else logged_place queue (place + 1) bs x
+logged_place queue place (b ∷ bs) x = if nat_eq b x then Some (copy_place_at queue place) else logged_place queue (place + 1) bs x
 
 -- where the newest logged copy of a block stands that no later transaction revokes, the newest
 -- descriptor first
@@ -68,7 +68,7 @@ forgotten copies (b ∷ bs) = forgotten (slice_set copies b None) bs
 -- the same where these blocks have copies from a place of a queue on
 abbrev pub noted : List (Option CopyPlace) → (queue place : ℕ) → List ℕ → List (Option CopyPlace)
 noted copies queue place [] = copies
-noted copies queue place (b ∷ bs) = noted (slice_set copies b (Some (spot_at queue place))) queue (place + 1) bs
+noted copies queue place (b ∷ bs) = noted (slice_set copies b (Some (copy_place_at queue place))) queue (place + 1) bs
 
 -- the same after one more transaction
 abbrev pub with_transaction : List (Option CopyPlace) → Descriptor → List (Option CopyPlace)
@@ -96,4 +96,4 @@ AreFalling low high (d ∷ ds) = (low < d.number) × (d.number < high) × AreFal
 -- the content of the copy that stands there, in journal areas of so many blocks
 abbrev pub content_of : (ℕ → ℕ → List ℕ) → ℕ → Option CopyPlace → Option (List ℕ)
 content_of area size None = None
-content_of area size (Some spot) = Some (area spot.queue (spot.place % size))
+content_of area size (Some source) = Some (area source.queue (source.place % size))

@@ -14,7 +14,7 @@ use Rattle.mq_recover.specs.declared.refusal.RecoverRefusal.TheVariants.{Image, 
 abbrev pub writes_from : (ℕ → ℕ → List ℕ) → ℕ → ℕ → List (Option CopyPlace) → Writes
 writes_from area size b [] = []
 writes_from area size b (None ∷ copies) = writes_from area size (b + 1) copies
-writes_from area size b (Some spot ∷ copies) = (b, area spot.queue (spot.place % size)) ∷ writes_from area size (b + 1) copies
+writes_from area size b (Some source ∷ copies) = (b, area source.queue (source.place % size)) ∷ writes_from area size (b + 1) copies
 
 -- what is last written to a block
 abbrev pub written : Writes → ℕ → Option (List ℕ)

@@ -3,7 +3,7 @@ ghost use Rattle.std.specs.Prelude.{◌≡◌, ◌≢◌, ◌⊎◌, ◌<◌, �
 ghost use Rattle.mq_blocks.specs.Geometry.{area_of, homes_of};
 ghost use Rattle.mq_recover.specs.Drives.{IsQuiescentDrive, drive_of, view_over};
 ghost use Rattle.mq_recover.specs.Plans.{AreRead, IsFoundIn, IsPlan, newest_number};
-ghost use Rattle.mq_recover.specs.Recover.{IsSpotOf};
+ghost use Rattle.mq_recover.specs.Recover.{IsCopyPlaceOf};
 ghost use Rattle.mq_recover.specs.RecoverHomes.{writes_from};
 ghost use Rattle.mq_recover.specs.Refusals.{RefusesImage, RefusesSome};
 
@@ -155,16 +155,16 @@ fn read_copies<P: Port>(
 ) -> Result<VecDeque<(BlockNo, Block)>, OutOfMemory>
     requires still { IsQuiescentDrive geometry (drive_of P.state ports.now) }
     requires homes { length copies.now ≡ homes_of geometry }
-    requires own { (x : ℕ) → IsSpotOf geometry.queues (slice_index_or copies.now x None) }
+    requires own { (x : ℕ) → IsCopyPlaceOf geometry.queues (slice_index_or copies.now x None) }
     ensures { IfOk result (λ w. w.items ≡ writes_from
         (view_over geometry (drive_of P.state ports.now)).area
         (area_of geometry) 0 copies.now) }
 {
     let mut writes = VecDeque::new(alloc);
     for (b, copy) in copies.iter().enumerate() {
-        if let Some(spot) = copy {
+        if let Some(source) = copy {
             let mut block = Block::zeroed(alloc)?;
-            read_copy_place(geometry, ports, *spot, &mut block);
+            read_copy_place(geometry, ports, *source, &mut block);
             writes.push_back((BlockNo(b as u32), block))?;
         }
     }
@@ -175,15 +175,15 @@ fn read_copies<P: Port>(
 pub fn read_copy_place<P: Port>(
     geometry: Geometry,
     ports: &Ports<P>,
-    spot: CopyPlace,
+    source: CopyPlace,
     into: &mut Block,
 )
     requires still { IsQuiescentDrive geometry (drive_of P.state ports.now) }
-    requires own { spot.queue < geometry.queues }
+    requires own { source.queue < geometry.queues }
     ensures { into.new ≡ (view_over geometry
-        (drive_of P.state ports.now)).area spot.queue
-        (spot.place % area_of geometry) }
+        (drive_of P.state ports.now)).area source.queue
+        (source.place % area_of geometry) }
 {
-    let port = &ports.queues[spot.queue.0 as usize];
-    read_area(geometry, spot.queue, spot.place, port, into);
+    let port = &ports.queues[source.queue.0 as usize];
+    read_area(geometry, source.queue, source.place, port, into);
 }

@@ -3,7 +3,7 @@ ghost use Rattle.std.specs.Prelude.{◌≡◌, ◌⊎◌, ◌<◌, ℕ, length, 
 ghost use Rattle.mq_blocks.specs.Blocks.{block_at};
 ghost use Rattle.mq_blocks.specs.Geometry.{homes_of};
 ghost use Rattle.mq_recover.specs.Drives.{IsQuiescentDrive, drive_of, view_over};
-ghost use Rattle.mq_recover.specs.Recover.{IsSpotOf};
+ghost use Rattle.mq_recover.specs.Recover.{IsCopyPlaceOf};
 ghost use Rattle.mq_recover.specs.Refusals.{IsReadableImage, RefusesImage};
 ghost use Rattle.mq_recover.specs.Standing.{Finds, StandsIn, newest_of};
 
@@ -87,7 +87,7 @@ fn read_blocks<P: Port>(
 ) -> Result<Vec<Option<Block>>, OutOfMemory>
     requires still { IsQuiescentDrive geometry (drive_of P.state ports.now) }
     requires homes { length copies.now ≡ homes_of geometry }
-    requires own { (x : ℕ) → IsSpotOf geometry.queues (slice_index_or copies.now x None) }
+    requires own { (x : ℕ) → IsCopyPlaceOf geometry.queues (slice_index_or copies.now x None) }
     ensures { IfOk result (λ v. (length v.items ≡ homes_of geometry)
         × ((b : ℕ)
         → b < homes_of geometry
@@ -98,7 +98,7 @@ fn read_blocks<P: Port>(
     for (b, copy) in copies.iter().enumerate() {
         let mut block = Block::zeroed(alloc)?;
         match copy {
-            Some(spot) => read_copy_place(geometry, ports, *spot, &mut block),
+            Some(source) => read_copy_place(geometry, ports, *source, &mut block),
             None => read_home(geometry, ports, BlockNo(b as u32), &mut block),
         }
         blocks.push(Some(block))?;

@@ -64,30 +64,30 @@ less-below (n ∷ p) a r = ap (λ (o : Ordering). ordering_then o (path_cmp p (p
 
 -- ---- items that wait, each with its path
 
-record CopyPlace : Type 0 where
+record PendingItem : Type 0 where
   path : Path
   item : Item
 
-abbrev place : CopyPlace → ℕ
+abbrev place : PendingItem → ℕ
 place s = s.item.entry.inode
 
-record Waits (v : Volume) (s : CopyPlace) : Type 0 where
+record Waits (v : Volume) (s : PendingItem) : Type 0 where
   text : path_of s.item ≡ names_text s.path
   whole : path_text s.path ≡ names_text s.path
   leads : inode_at v (way s.path) ≡ Some (place s)
 
-record Below (spots : List CopyPlace) (p : Path) : Type 0 where
-  spot : CopyPlace
-  among : Contains spots spot
+record Below (pending : List PendingItem) (p : Path) : Type 0 where
+  one : PendingItem
+  among : Contains pending one
   rest : Path
-  is : p ≡ spot.path ++ rest
+  is : p ≡ one.path ++ rest
 
 -- each comes before those after it
-abbrev AreApart : List CopyPlace → Type 0
+abbrev AreApart : List PendingItem → Type 0
 AreApart [] = ⊤
-AreApart (s ∷ spots) = ((t : CopyPlace) → Contains spots t → Before s.path t.path) × AreApart spots
+AreApart (s ∷ pending) = ((t : PendingItem) → Contains pending t → Before s.path t.path) × AreApart pending
 
-apart-append : (xs ys : List CopyPlace) → AreApart xs → AreApart ys → ((s t : CopyPlace) → Contains xs s → Contains ys t → Before s.path t.path) → AreApart (xs ++ ys)
+apart-append : (xs ys : List PendingItem) → AreApart xs → AreApart ys → ((s t : PendingItem) → Contains xs s → Contains ys t → Before s.path t.path) → AreApart (xs ++ ys)
 apart-append [] ys a b h = b
 apart-append (x ∷ xs) ys a b h = (
   λ t c. elim (Contains-append_cases xs ys t c) [
@@ -98,13 +98,13 @@ apart-append (x ∷ xs) ys a b h = (
 )
 
 -- the entries of a directory at this path, where its text is this
-abbrev child : (path : Path) (text : List ℕ) → Entry → CopyPlace
+abbrev child : (path : Path) (text : List ℕ) → Entry → PendingItem
 child path text e = record { path = path ++ e.name ∷ []; item = record { above = text; entry = e } }
 
-abbrev children : (path : Path) (text : List ℕ) → List Entry → List CopyPlace
+abbrev children : (path : Path) (text : List ℕ) → List Entry → List PendingItem
 children path text es = map (child path text) es
 
-children-items : (path : Path) (text : List ℕ) (es : List Entry) → map (λ (s : CopyPlace). s.item) (children path text es) ≡ items_of text es
+children-items : (path : Path) (text : List ℕ) (es : List Entry) → map (λ (s : PendingItem). s.item) (children path text es) ≡ items_of text es
 children-items path text [] = refl
 children-items path text (e ∷ es) = ap (λ (xs : List Item). record { above = text; entry = e } ∷ xs) (children-items path text es)
 
@@ -115,7 +115,7 @@ children-apart path text (e ∷ es) s = (
   λ t c.
       let d = map-cases (child path text) es t c in
       let less = all-contained (λ f. entry_cmp e f ≡ Less) es s.0 d.0 d.1 in
-      subst (λ (x : CopyPlace). Before (path ++ e.name ∷ []) x.path) d.2 (before-names path e.name (d.0).name less),
+      subst (λ (x : PendingItem). Before (path ++ e.name ∷ []) x.path) d.2 (before-names path e.name (d.0).name less),
   children-apart path text es s.1,
 )
 
@@ -130,15 +130,15 @@ whole-more [] name = refl
 whole-more (n ∷ path) name = refl
 
 -- what stands below a directory at a path
-abbrev spots_in : Volume → (path : Path) (text : List ℕ) → ℕ → List CopyPlace
-spots_in v path text d = children path text (entries_in (slots_of (body v d)))
+abbrev pending_in : Volume → (path : Path) (text : List ℕ) → ℕ → List PendingItem
+pending_in v path text d = children path text (entries_in (slots_of (body v d)))
 
 record InDir (v : Volume) (path : Path) (text : List ℕ) (d : ℕ) : Type 0 where
   leads : inode_at v (way path) ≡ Some d
   names : text ≡ names_text path
 
-spots-wait : (v : Volume) (path : Path) (text : List ℕ) (d : ℕ) → IsTree v → InDir v path text d → (s : CopyPlace) → Contains (spots_in v path text d) s → Waits v s
-spots-wait v path text d t h s c =
+pending-wait : (v : Volume) (path : Path) (text : List ℕ) (d : ℕ) → IsTree v → InDir v path text d → (s : PendingItem) → Contains (pending_in v path text d) s → Waits v s
+pending-wait v path text d t h s c =
     let m = map-cases (child path text) (entries_in (slots_of (body v d))) s c in
     let e = m.0 in
     let f = entries-found (slots_of (body v d)) e m.1 in
@@ -149,31 +149,31 @@ spots-wait v path text d t h s c =
       leads = ap (λ (w : Way). inode_at v w) (way-append path (e.name ∷ [])) ∙ next-step v e.name (way path) d e.inode t.names h.leads edge;
     })
 
-spots-apart : (v : Volume) (path : Path) (text : List ℕ) (d : ℕ) → IsTree v → AreApart (spots_in v path text d)
-spots-apart v path text d t = children-apart path text (entries_in (slots_of (body v d))) (entries-sorted (slots_of (body v d)) (t.names d))
+pending-apart : (v : Volume) (path : Path) (text : List ℕ) (d : ℕ) → IsTree v → AreApart (pending_in v path text d)
+pending-apart v path text d t = children-apart path text (entries_in (slots_of (body v d))) (entries-sorted (slots_of (body v d)) (t.names d))
 
 child-split : (path : Path) (name : List ℕ) (rest : Path) (e : Entry) → e.name ≡ name → path ++ name ∷ rest ≡ (path ++ e.name ∷ []) ++ rest
 child-split path name rest e named = sym (append_assoc path (name ∷ []) rest) ∙ ap (λ (n : List ℕ). (path ++ n ∷ []) ++ rest) (sym named)
 
-spot-step : (v : Volume) (path : Path) (text : List ℕ) (d : ℕ) → InDir v path text d → (name : List ℕ) (rest : Path) (i : ℕ) → Step v name (way path) i → Below (spots_in v path text d) (path ++ name ∷ rest)
-spot-step v path text d h name rest i step =
+pending-step : (v : Volume) (path : Path) (text : List ℕ) (d : ℕ) → InDir v path text d → (name : List ℕ) (rest : Path) (i : ℕ) → Step v name (way path) i → Below (pending_in v path text d) (path ++ name ∷ rest)
+pending-step v path text d h name rest i step =
     let here : step.directory ≡ d = same_Some step.directory d (sym step.before ∙ h.leads) in
     let stands = subst (λ (x : ℕ). get_or (slots_of (body v x)) step.edge.place None ≡ Some step.edge.entry) here step.edge.there in
     record {
-      spot = child path text step.edge.entry;
+      one = child path text step.edge.entry;
       among = map-has (child path text) (entries_in (slots_of (body v d))) step.edge.entry (entries-have (slots_of (body v d)) step.edge.place step.edge.entry stands);
       rest = rest;
       is = child-split path name rest step.edge.entry step.edge.named;
     }
 
 -- whatever stands further down is below one of them
-spots-all : (v : Volume) (path : Path) (text : List ℕ) (d : ℕ) → InDir v path text d → (name : List ℕ) (rest : Path) (there : Thing) → tree v (path ++ name ∷ rest) ≡ Some there → Below (spots_in v path text d) (path ++ name ∷ rest)
-spots-all v path text d h name rest there is =
+pending-all : (v : Volume) (path : Path) (text : List ℕ) (d : ℕ) → InDir v path text d → (name : List ℕ) (rest : Path) (there : Thing) → tree v (path ++ name ∷ rest) ≡ Some there → Below (pending_in v path text d) (path ++ name ∷ rest)
+pending-all v path text d h name rest there is =
     let l = thing-leads v (path ++ name ∷ rest) there is in
     let turned : way (path ++ name ∷ rest) ≡ way rest ++ name ∷ way path =
     ap (λ (p : Path). way p) (sym (append_assoc path (name ∷ []) rest)) ∙ way-append (path ++ name ∷ []) rest ∙ ap (λ (w : Way). way rest ++ w) (way-append path (name ∷ [])) in
     let part = leads-part v (way rest) (name ∷ way path) l.0 (ap (λ (w : Way). inode_at v w) (sym turned) ∙ l.1) in
-    spot-step v path text d h name rest part.0 (last-step v name (way path) part.0 part.1)
+    pending-step v path text d h name rest part.0 (last-step v name (way path) part.0 part.1)
 
 -- ---- how far the listing has come
 
@@ -203,80 +203,80 @@ unlisted-less (n ∷ v) (b ∷ seen) (suc i) low size new =
 
 -- The lines that are left are enough: for what waits, and for the names of what was not listed. What was listed has
 -- earlier paths.
-record Ready (v : Volume) (count : ℕ) (spots : List CopyPlace) (seen : List Bool) : Type 0 where
-  waits : (s : CopyPlace) → Contains spots s → Waits v s
-  apart : AreApart spots
+record Ready (v : Volume) (count : ℕ) (pending : List PendingItem) (seen : List Bool) : Type 0 where
+  waits : (s : PendingItem) → Contains pending s → Waits v s
+  apart : AreApart pending
   size : length seen ≡ length v
-  enough : length spots + unlisted v seen ≤ count
-  past : (i : ℕ) → is_seen seen i ≡ true → (p : Path) × (inode_at v (way p) ≡ Some i) × ((s : CopyPlace) → Contains spots s → path_cmp p s.path ≡ Less)
+  enough : length pending + unlisted v seen ≤ count
+  past : (i : ℕ) → is_seen seen i ≡ true → (p : Path) × (inode_at v (way p) ≡ Some i) × ((s : PendingItem) → Contains pending s → path_cmp p s.path ≡ Less)
 
-spot-used : (v : Volume) (s : CopyPlace) → IsTree v → Waits v s → is_used (body v (place s)) ≡ true
-spot-used v s t w = leads-used v t (way s.path) (place s) w.leads
+pending-used : (v : Volume) (s : PendingItem) → IsTree v → Waits v s → is_used (body v (place s)) ≡ true
+pending-used v s t w = leads-used v t (way s.path) (place s) w.leads
 
-spot-unseen : (v : Volume) (count : ℕ) (s : CopyPlace) (spots : List CopyPlace) (seen : List Bool) → IsTree v → Ready v count (s ∷ spots) seen → is_seen seen (place s) ≡ false
-spot-unseen v count s spots seen t r = elim (cases_Bool (is_seen seen (place s))) [
+pending-unseen : (v : Volume) (count : ℕ) (s : PendingItem) (pending : List PendingItem) (seen : List Bool) → IsTree v → Ready v count (s ∷ pending) seen → is_seen seen (place s) ≡ false
+pending-unseen v count s pending seen t r = elim (cases_Bool (is_seen seen (place s))) [
   | inl was ↦
       let p = r.past (place s) was in
-      let w = r.waits s (cons-here s spots s refl) in
+      let w = r.waits s (cons-here s pending s refl) in
       let same : p.0 ≡ s.path = same-way p.0 s.path (one-way v t.named t.once (way p.0) (way s.path) (place s) p.1 w.leads) in
-      less-equal (sym (p.2 s (cons-here s spots s refl)) ∙ ap (λ (q : Path). path_cmp q s.path) same ∙ tied_itself path_total s.path)
+      less-equal (sym (p.2 s (cons-here s pending s refl)) ∙ ap (λ (q : Path). path_cmp q s.path) same ∙ tied_itself path_total s.path)
   | inr new ↦ new
 ]
 
-spot-listed : (v : Volume) (count : ℕ) (s : CopyPlace) (spots : List CopyPlace) (seen : List Bool) → IsTree v → Ready v count (s ∷ spots) seen → unlisted v seen ≡ name_count (body v (place s)) + unlisted v (set seen (place s) true)
-spot-listed v count s spots seen t r = unlisted-less v seen (place s) (used-low v (place s) (spot-used v s t (r.waits s (cons-here s spots s refl)))) r.size (spot-unseen v count s spots seen t r)
+pending-listed : (v : Volume) (count : ℕ) (s : PendingItem) (pending : List PendingItem) (seen : List Bool) → IsTree v → Ready v count (s ∷ pending) seen → unlisted v seen ≡ name_count (body v (place s)) + unlisted v (set seen (place s) true)
+pending-listed v count s pending seen t r = unlisted-less v seen (place s) (used-low v (place s) (pending-used v s t (r.waits s (cons-here s pending s refl)))) r.size (pending-unseen v count s pending seen t r)
 
-spot-left : {R : Type 0} (v : Volume) (s : CopyPlace) (spots : List CopyPlace) (seen : List Bool) → Ready v zero (s ∷ spots) seen → R
-spot-left v s spots seen r = let e = r.enough in absurd (omega arith)
+pending-left : {R : Type 0} (v : Volume) (s : PendingItem) (pending : List PendingItem) (seen : List Bool) → Ready v zero (s ∷ pending) seen → R
+pending-left v s pending seen r = let e = r.enough in absurd (omega arith)
 
 -- the directory of an item that waits
-spot-dir : (v : Volume) (s : CopyPlace) → Waits v s → InDir v s.path (path_of s.item) (place s)
-spot-dir v s w = record { leads = w.leads; names = w.text }
+pending-dir : (v : Volume) (s : PendingItem) → Waits v s → InDir v s.path (path_of s.item) (place s)
+pending-dir v s w = record { leads = w.leads; names = w.text }
 
-abbrev spots_at : Volume → CopyPlace → List CopyPlace
-spots_at v s = spots_in v s.path (path_of s.item) (place s)
+abbrev pending_at : Volume → PendingItem → List PendingItem
+pending_at v s = pending_in v s.path (path_of s.item) (place s)
 
--- a spot below another comes after it
-spot-below : (v : Volume) (s c : CopyPlace) → Contains (spots_at v s) c → (name : List ℕ) × (c.path ≡ s.path ++ name ∷ [])
-spot-below v s c among =
+-- an item below another comes after it
+pending-below : (v : Volume) (s c : PendingItem) → Contains (pending_at v s) c → (name : List ℕ) × (c.path ≡ s.path ++ name ∷ [])
+pending-below v s c among =
     let m = map-cases (child s.path (path_of s.item)) (entries_in (slots_of (body v (place s)))) c among in
-    ((m.0).name, ap (λ (x : CopyPlace). x.path) (sym m.2))
+    ((m.0).name, ap (λ (x : PendingItem). x.path) (sym m.2))
 
-ready-more : (v : Volume) (count : ℕ) (s : CopyPlace) (spots : List CopyPlace) (seen : List Bool) → IsTree v → Ready v (suc count) (s ∷ spots) seen → Ready v count (spots_at v s ++ spots) (set seen (place s) true)
-ready-more v count s spots seen t r =
-    let w = r.waits s (cons-here s spots s refl) in
-    let dir = spot-dir v s w in
-    let here : (c : CopyPlace) → Contains (spots_at v s) c → path_cmp s.path c.path ≡ Less = λ c among.
-    let b = spot-below v s c among in
+ready-more : (v : Volume) (count : ℕ) (s : PendingItem) (pending : List PendingItem) (seen : List Bool) → IsTree v → Ready v (suc count) (s ∷ pending) seen → Ready v count (pending_at v s ++ pending) (set seen (place s) true)
+ready-more v count s pending seen t r =
+    let w = r.waits s (cons-here s pending s refl) in
+    let dir = pending-dir v s w in
+    let here : (c : PendingItem) → Contains (pending_at v s) c → path_cmp s.path c.path ≡ Less = λ c among.
+    let b = pending-below v s c among in
     ap (λ (q : Path). path_cmp s.path q) b.1 ∙ less-below s.path b.0 [] in
-    let after : (c : CopyPlace) → Contains spots c → path_cmp s.path c.path ≡ Less = λ c among. before-less s.path c.path (r.apart.0 c among) in
+    let after : (c : PendingItem) → Contains pending c → path_cmp s.path c.path ≡ Less = λ c among. before-less s.path c.path (r.apart.0 c among) in
     record {
-      waits = λ c among. elim (Contains-append_cases (spots_at v s) spots c among) [
-        | inl new ↦ spots-wait v s.path (path_of s.item) (place s) t dir c new
-        | inr old ↦ r.waits c (cons-there s spots c old)
+      waits = λ c among. elim (Contains-append_cases (pending_at v s) pending c among) [
+        | inl new ↦ pending-wait v s.path (path_of s.item) (place s) t dir c new
+        | inr old ↦ r.waits c (cons-there s pending c old)
       ];
-      apart = apart-append (spots_at v s) spots (spots-apart v s.path (path_of s.item) (place s) t) r.apart.1 (λ c d among other.
-          let b = spot-below v s c among in
+      apart = apart-append (pending_at v s) pending (pending-apart v s.path (path_of s.item) (place s) t) r.apart.1 (λ c d among other.
+          let b = pending-below v s c among in
           let whole : Before (s.path ++ (b.0 ∷ [])) (d.path ++ []) = before-below s.path d.path (b.0 ∷ []) [] (r.apart.0 d other) in
           subst (λ (q : Path). Before q d.path) (sym b.1) (subst (Before (s.path ++ b.0 ∷ [])) (append-nil d.path) whole));
       size = length-set seen (place s) true ∙ r.size;
       enough = (
-          let less = spot-listed v (suc count) s spots seen t r in
-          let all = length-append (spots_at v s) spots in
-          let new : length (spots_at v s) ≡ name_count (body v (place s)) = length-map (entries_in (slots_of (body v (place s)))) (child s.path (path_of s.item)) in
+          let less = pending-listed v (suc count) s pending seen t r in
+          let all = length-append (pending_at v s) pending in
+          let new : length (pending_at v s) ≡ name_count (body v (place s)) = length-map (entries_in (slots_of (body v (place s)))) (child s.path (path_of s.item)) in
           let e = r.enough in
           omega arith
           );
       past = λ i was. elim (cases_eq i (place s)) [
-        | inl same ↦ (s.path, w.leads ∙ ap (λ (x : ℕ). Some x) (sym same), λ c among. elim (Contains-append_cases (spots_at v s) spots c among) [ inl new ↦ here c new | inr old ↦ after c old ])
+        | inl same ↦ (s.path, w.leads ∙ ap (λ (x : ℕ). Some x) (sym same), λ c among. elim (Contains-append_cases (pending_at v s) pending c among) [ inl new ↦ here c new | inr old ↦ after c old ])
         | inr other ↦
             let p = r.past i (sym (get_or-set_other seen (place s) i true false other) ∙ was) in
-            let before = p.2 s (cons-here s spots s refl) in (
+            let before = p.2 s (cons-here s pending s refl) in (
               p.0,
               p.1,
-              λ c among. elim (Contains-append_cases (spots_at v s) spots c among) [
+              λ c among. elim (Contains-append_cases (pending_at v s) pending c among) [
                 | inl new ↦ path_total.trans p.0 s.path c.path before (here c new)
-                | inr old ↦ p.2 c (cons-there s spots c old)
+                | inr old ↦ p.2 c (cons-there s pending c old)
               ],
             )
       ];
@@ -284,13 +284,13 @@ ready-more v count s spots seen t r =
 
 -- ---- what the lines tell
 
-record Told (v : Volume) (spots : List CopyPlace) (text : List ℕ) : Type 0 where
+record Told (v : Volume) (pending : List PendingItem) (text : List ℕ) : Type 0 where
   paths : List Path
   lines : text ≡ lines_at (tree v) paths
   rising : IsStrictlySortedBy path_cmp paths
-  below : (p : Path) → Contains paths p → Below spots p
+  below : (p : Path) → Contains paths p → Below pending p
   found : (p : Path) → Contains paths p → (there : Thing) × (tree v p ≡ Some there)
-  all : (p : Path) (there : Thing) → tree v p ≡ Some there → Below spots p → Contains paths p
+  all : (p : Path) (there : Thing) → tree v p ≡ Some there → Below pending p → Contains paths p
 
 told-none : (v : Volume) → Told v [] []
 unfolding IsStrictlySortedBy
@@ -300,7 +300,7 @@ told-none v = record {
   rising = tt;
   below = λ p c. none-contained p c;
   found = λ p c. none-contained p c;
-  all = λ p there is b. none-contained b.spot b.among;
+  all = λ p there is b. none-contained b.one b.among;
 }
 
 line-is : (path : Path) (text : List ℕ) (b : Body) → is_used b ≡ true → text ≡ path_text path → line_of text b ≡ thing_line path (thing b)
@@ -312,9 +312,9 @@ sorted-cons : (p : Path) (paths : List Path) → ((q : Path) → Contains paths 
 unfolding IsStrictlySortedBy
 sorted-cons p paths h s = (contained-all (λ q. path_cmp p q ≡ Less) paths h, s)
 
-told-more : (v : Volume) (s : CopyPlace) (spots : List CopyPlace) (text : List ℕ) → IsTree v → Waits v s → ((t : CopyPlace) → Contains spots t → Before s.path t.path) → Told v (spots_at v s ++ spots) text → Told v (s ∷ spots) (line_of (path_of s.item) (body v (place s)) ++ text)
-told-more v s spots text t w apart rest =
-    let used = spot-used v s t w in
+told-more : (v : Volume) (s : PendingItem) (pending : List PendingItem) (text : List ℕ) → IsTree v → Waits v s → ((t : PendingItem) → Contains pending t → Before s.path t.path) → Told v (pending_at v s ++ pending) text → Told v (s ∷ pending) (line_of (path_of s.item) (body v (place s)) ++ text)
+told-more v s pending text t w apart rest =
+    let used = pending-used v s t w in
     let here : tree v s.path ≡ thing (body v (place s)) = thing-here v (way s.path) (place s) w.leads in
     let line : line_of (path_of s.item) (body v (place s)) ≡ thing_line s.path (tree v s.path) =
     line-is s.path (path_of s.item) (body v (place s)) used (w.text ∙ sym w.whole) ∙ ap (λ (o : Option Thing). thing_line s.path o) (sym here) in
@@ -324,61 +324,61 @@ told-more v s spots text t w apart rest =
       lines = ap (λ (l : List ℕ). l ++ text) line ∙ ap (λ (l : List ℕ). thing_line s.path (tree v s.path) ++ l) rest.lines;
       rising = sorted-cons s.path rest.paths (λ q c.
           let b = rest.below q c in
-          elim (Contains-append_cases (spots_at v s) spots b.spot b.among) [
+          elim (Contains-append_cases (pending_at v s) pending b.one b.among) [
             | inl new ↦
-                let n = spot-below v s b.spot new in
+                let n = pending-below v s b.one new in
                 let is : q ≡ s.path ++ n.0 ∷ b.rest = b.is ∙ ap (λ (x : Path). x ++ b.rest) n.1 ∙ append_assoc s.path (n.0 ∷ []) b.rest in
                 ap (λ (x : Path). path_cmp s.path x) is ∙ less-below s.path n.0 b.rest
             | inr old ↦
-                let whole = before-below s.path (b.spot).path [] b.rest (apart b.spot old) in
-                before-less s.path q (subst (Before s.path) (sym b.is) (subst (λ (x : Path). Before x ((b.spot).path ++ b.rest)) (append-nil s.path) whole))
+                let whole = before-below s.path (b.one).path [] b.rest (apart b.one old) in
+                before-less s.path q (subst (Before s.path) (sym b.is) (subst (λ (x : Path). Before x ((b.one).path ++ b.rest)) (append-nil s.path) whole))
           ]) rest.rising;
       below = λ q c. elim (cons-cases s.path rest.paths q c) [
-        | inl same ↦ record { spot = s; among = cons-here s spots s refl; rest = []; is = sym same ∙ sym (append-nil s.path) }
+        | inl same ↦ record { one = s; among = cons-here s pending s refl; rest = []; is = sym same ∙ sym (append-nil s.path) }
         | inr there ↦
             let b = rest.below q there in
-            elim (Contains-append_cases (spots_at v s) spots b.spot b.among) [
+            elim (Contains-append_cases (pending_at v s) pending b.one b.among) [
               | inl new ↦
-                  let n = spot-below v s b.spot new in
-                  record { spot = s; among = cons-here s spots s refl; rest = n.0 ∷ b.rest; is = b.is ∙ ap (λ (x : Path). x ++ b.rest) n.1 ∙ append_assoc s.path (n.0 ∷ []) b.rest }
-              | inr old ↦ record { spot = b.spot; among = cons-there s spots b.spot old; rest = b.rest; is = b.is }
+                  let n = pending-below v s b.one new in
+                  record { one = s; among = cons-here s pending s refl; rest = n.0 ∷ b.rest; is = b.is ∙ ap (λ (x : Path). x ++ b.rest) n.1 ∙ append_assoc s.path (n.0 ∷ []) b.rest }
+              | inr old ↦ record { one = b.one; among = cons-there s pending b.one old; rest = b.rest; is = b.is }
             ]
       ];
       found = λ q c. elim (cons-cases s.path rest.paths q c) [
         | inl same ↦ (stands.0, ap (λ (x : Path). tree v x) (sym same) ∙ here ∙ stands.1)
         | inr there ↦ rest.found q there
       ];
-      all = λ q there is b. elim (cons-cases s spots b.spot b.among) [
-        | inl same ↦ told-here v s spots text w rest q there is b.rest (b.is ∙ ap (λ (x : CopyPlace). x.path ++ b.rest) (sym same))
-        | inr old ↦ cons-there s.path rest.paths q (rest.all q there is (record { spot = b.spot; among = Contains-append_right (spots_at v s) spots b.spot old; rest = b.rest; is = b.is }))
+      all = λ q there is b. elim (cons-cases s pending b.one b.among) [
+        | inl same ↦ told-here v s pending text w rest q there is b.rest (b.is ∙ ap (λ (x : PendingItem). x.path ++ b.rest) (sym same))
+        | inr old ↦ cons-there s.path rest.paths q (rest.all q there is (record { one = b.one; among = Contains-append_right (pending_at v s) pending b.one old; rest = b.rest; is = b.is }))
       ];
     }
   where
-    told-here : (v : Volume) (s : CopyPlace) (spots : List CopyPlace) (text : List ℕ) → Waits v s → (rest : Told v (spots_at v s ++ spots) text) → (q : Path) (there : Thing) → tree v q ≡ Some there → (more : Path) → q ≡ s.path ++ more → Contains (s.path ∷ rest.paths) q
-    told-here v s spots text w rest q there is [] e = cons-here s.path rest.paths q (sym (append-nil s.path) ∙ sym e)
-    told-here v s spots text w rest q there is (name ∷ more) e =
-        let b = spots-all v s.path (path_of s.item) (place s) (spot-dir v s w) name more there (ap (λ (x : Path). tree v x) (sym e) ∙ is) in
-        cons-there s.path rest.paths q (rest.all q there is (record { spot = b.spot; among = Contains-append_left (spots_at v s) spots b.spot b.among; rest = b.rest; is = e ∙ b.is }))
+    told-here : (v : Volume) (s : PendingItem) (pending : List PendingItem) (text : List ℕ) → Waits v s → (rest : Told v (pending_at v s ++ pending) text) → (q : Path) (there : Thing) → tree v q ≡ Some there → (more : Path) → q ≡ s.path ++ more → Contains (s.path ∷ rest.paths) q
+    told-here v s pending text w rest q there is [] e = cons-here s.path rest.paths q (sym (append-nil s.path) ∙ sym e)
+    told-here v s pending text w rest q there is (name ∷ more) e =
+        let b = pending-all v s.path (path_of s.item) (place s) (pending-dir v s w) name more there (ap (λ (x : Path). tree v x) (sym e) ∙ is) in
+        cons-there s.path rest.paths q (rest.all q there is (record { one = b.one; among = Contains-append_left (pending_at v s) pending b.one b.among; rest = b.rest; is = e ∙ b.is }))
 
-items-more : (v : Volume) (s : CopyPlace) (spots : List CopyPlace) → map (λ (x : CopyPlace). x.item) (spots_at v s ++ spots) ≡ items_of (path_of s.item) (entries_in (slots_of (body v (place s)))) ++ map (λ (x : CopyPlace). x.item) spots
-items-more v s spots = map-append (λ (x : CopyPlace). x.item) (spots_at v s) spots ∙ ap (λ (xs : List Item). xs ++ map (λ (x : CopyPlace). x.item) spots) (children-items s.path (path_of s.item) (entries_in (slots_of (body v (place s)))))
+items-more : (v : Volume) (s : PendingItem) (pending : List PendingItem) → map (λ (x : PendingItem). x.item) (pending_at v s ++ pending) ≡ items_of (path_of s.item) (entries_in (slots_of (body v (place s)))) ++ map (λ (x : PendingItem). x.item) pending
+items-more v s pending = map-append (λ (x : PendingItem). x.item) (pending_at v s) pending ∙ ap (λ (xs : List Item). xs ++ map (λ (x : PendingItem). x.item) pending) (children-items s.path (path_of s.item) (entries_in (slots_of (body v (place s)))))
 
-told : (count : ℕ) (v : Volume) (spots : List CopyPlace) (seen : List Bool) → IsTree v → Ready v count spots seen → Told v spots (lines count v (map (λ (s : CopyPlace). s.item) spots))
+told : (count : ℕ) (v : Volume) (pending : List PendingItem) (seen : List Bool) → IsTree v → Ready v count pending seen → Told v pending (lines count v (map (λ (s : PendingItem). s.item) pending))
 unfolding lines
 told zero v [] seen t r = told-none v
 told (suc count) v [] seen t r = told-none v
-told zero v (s ∷ spots) seen t r = spot-left v s spots seen r
-told (suc count) v (s ∷ spots) seen t r =
-    let rest = told count v (spots_at v s ++ spots) (set seen (place s) true) t (ready-more v count s spots seen t r) in
-    told-more v s spots (lines count v (items_of (path_of s.item) (entries_in (slots_of (body v (place s)))) ++ map (λ (x : CopyPlace). x.item) spots)) t (r.waits s (cons-here s spots s refl)) r.apart.0 (subst (λ (xs : List Item). Told v (spots_at v s ++ spots) (lines count v xs)) (items-more v s spots) rest)
+told zero v (s ∷ pending) seen t r = pending-left v s pending seen r
+told (suc count) v (s ∷ pending) seen t r =
+    let rest = told count v (pending_at v s ++ pending) (set seen (place s) true) t (ready-more v count s pending seen t r) in
+    told-more v s pending (lines count v (items_of (path_of s.item) (entries_in (slots_of (body v (place s)))) ++ map (λ (x : PendingItem). x.item) pending)) t (r.waits s (cons-here s pending s refl)) r.apart.0 (subst (λ (xs : List Item). Told v (pending_at v s ++ pending) (lines count v xs)) (items-more v s pending) rest)
 
 -- ---- the whole listing
 
 root-dir : (v : Volume) → InDir v [] [] 0
 root-dir v = record { leads = refl; names = refl }
 
-abbrev root_spots : Volume → List CopyPlace
-root_spots v = spots_in v [] [] 0
+abbrev root_pending : Volume → List PendingItem
+root_pending v = pending_in v [] [] 0
 
 root-used : (v : Volume) → IsTree v → is_used (body v 0) ≡ true
 root-used v t = leads-used v t [] 0 refl
@@ -387,15 +387,15 @@ root-used v t = leads-used v t [] 0 refl
 abbrev root_seen : Volume → List Bool
 root_seen v = set (replicate (length v) false) 0 true
 
-root-ready : (v : Volume) → IsTree v → Ready v (slot_count v) (root_spots v) (root_seen v)
+root-ready : (v : Volume) → IsTree v → Ready v (slot_count v) (root_pending v) (root_seen v)
 root-ready v t = record {
-  waits = spots-wait v [] [] 0 t (root-dir v);
-  apart = spots-apart v [] [] 0 t;
+  waits = pending-wait v [] [] 0 t (root-dir v);
+  apart = pending-apart v [] [] 0 t;
   size = length-set (replicate (length v) false) 0 true ∙ length-replicate (length v) false;
   enough = (
       let all = unlisted-all v in
       let less = unlisted-less v (replicate (length v) false) 0 (used-low v 0 (root-used v t)) (length-replicate (length v) false) (all-false (length v) 0) in
-      let new : length (root_spots v) ≡ name_count (body v 0) = length-map (entries_in (slots_of (body v 0))) (child [] []) in
+      let new : length (root_pending v) ≡ name_count (body v 0) = length-map (entries_in (slots_of (body v 0))) (child [] []) in
       omega arith
       );
   past = λ i was. elim (cases_eq i 0) [
@@ -404,14 +404,14 @@ root-ready v t = record {
       ap (λ (x : ℕ). Some x) (sym root),
       λ c among.
           let m = map-cases (child [] []) (entries_in (slots_of (body v 0))) c among in
-          ap (λ (x : CopyPlace). path_cmp [] x.path) (sym m.2),
+          ap (λ (x : PendingItem). path_cmp [] x.path) (sym m.2),
     )
     | inr other ↦ absurd (true≢false (sym was ∙ get_or-set_other (replicate (length v) false) 0 i true false other ∙ all-false (length v) i))
   ];
 }
 
-root-told : (v : Volume) → IsTree v → Told v (root_spots v) (lines (slot_count v) v (items_of [] (entries_in (slots_of (body v 0)))))
-root-told v t = subst (λ (xs : List Item). Told v (root_spots v) (lines (slot_count v) v xs)) (children-items [] [] (entries_in (slots_of (body v 0)))) (told (slot_count v) v (root_spots v) (root_seen v) t (root-ready v t))
+root-told : (v : Volume) → IsTree v → Told v (root_pending v) (lines (slot_count v) v (items_of [] (entries_in (slots_of (body v 0)))))
+root-told v t = subst (λ (xs : List Item). Told v (root_pending v) (lines (slot_count v) v xs)) (children-items [] [] (entries_in (slots_of (body v 0)))) (told (slot_count v) v (root_pending v) (root_seen v) t (root-ready v t))
 
 tree-listing : (v : Volume) → IsTree v → IsListing (tree v) (list_text v)
 tree-listing v t =
@@ -430,14 +430,14 @@ tree-listing v t =
       lines = ap (λ (l : List ℕ). l ++ lines (slot_count v) v (items_of [] (entries_in (slots_of (body v 0))))) (line-is [] (codes "/") (body v 0) (root-used v t) refl) ∙ ap (λ (l : List ℕ). thing_line [] (tree v []) ++ l) r.lines;
     }
   where
-    root-first : (v : Volume) (q : Path) → Below (root_spots v) q → path_cmp [] q ≡ Less
+    root-first : (v : Volume) (q : Path) → Below (root_pending v) q → path_cmp [] q ≡ Less
     root-first v q b =
-        let m = map-cases (child [] []) (entries_in (slots_of (body v 0))) b.spot b.among in
-        ap (λ (x : Path). path_cmp [] x) (b.is ∙ ap (λ (x : CopyPlace). x.path ++ b.rest) (sym m.2))
+        let m = map-cases (child [] []) (entries_in (slots_of (body v 0))) b.one b.among in
+        ap (λ (x : Path). path_cmp [] x) (b.is ∙ ap (λ (x : PendingItem). x.path ++ b.rest) (sym m.2))
 
-    root-all : (v : Volume) (r : Told v (root_spots v) (lines (slot_count v) v (items_of [] (entries_in (slots_of (body v 0)))))) (q : Path) (there : Thing) → tree v q ≡ Some there → Contains ([] ∷ r.paths) q
+    root-all : (v : Volume) (r : Told v (root_pending v) (lines (slot_count v) v (items_of [] (entries_in (slots_of (body v 0)))))) (q : Path) (there : Thing) → tree v q ≡ Some there → Contains ([] ∷ r.paths) q
     root-all v r [] there is = cons-here [] r.paths [] refl
-    root-all v r (name ∷ q) there is = cons-there [] r.paths (name ∷ q) (r.all (name ∷ q) there is (spots-all v [] [] 0 (root-dir v) name q there is))
+    root-all v r (name ∷ q) there is = cons-there [] r.paths (name ∷ q) (r.all (name ∷ q) there is (pending-all v [] [] 0 (root-dir v) name q there is))
 
 pub sound-listing : (g : Geometry) (v : Volume) → IsSound g v → IsListing (tree v) (list_text v)
 sound-listing g v s = tree-listing v (sound-tree g v s)

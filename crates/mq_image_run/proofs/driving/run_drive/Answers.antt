@@ -31,7 +31,7 @@ find_volume-requires-clause-start g c =
 
 pub invariant_of-ports : goal.invariant_of-ports
 invariant_of-ports g c =
-    let d = c.in_ok-ports.ports.root.device in
+    let d = c.in_ok-ports.ports.root.device.value in
     record {
       same_ring = d.same_ring;
       ring = d.ring;

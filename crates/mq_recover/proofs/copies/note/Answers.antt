@@ -1,6 +1,6 @@
 use Rattle.std.proofs.Common.{◌≡◌, length, get_or, Some, ◌∙◌, arith}
 use Rattle.std.proofs.Math.ListN.{length-set}
-use Rattle.mq_recover.specs.Recover.{spot_at}
+use Rattle.mq_recover.specs.Recover.{copy_place_at}
 use Rattle.mq_recover.proofs.RecoverCopies.{rising-at, noted-next}
 use Rattle.mq_recover.proofs.copies.note.Goals as goal
 
@@ -15,5 +15,5 @@ loop-b-preserved c =
     record {
       goes_on = noted-next c.loop-b.copies c.args.queue c.loop-b.place c.args.logged.now c.loop-b.b-index c.b.inside.0 c.b-item.result c.loop-b-test.true is ∙ c.loop-b.invariant.goes_on;
       place_is = omega (arith, c.loop-b.invariant.place_is);
-      same = length-set c.loop-b.copies c.b.inside.0 (Some (spot_at c.args.queue c.loop-b.place)) ∙ c.loop-b.invariant.same;
+      same = length-set c.loop-b.copies c.b.inside.0 (Some (copy_place_at c.args.queue c.loop-b.place)) ∙ c.loop-b.invariant.same;
     }

@@ -9,13 +9,13 @@ use Rattle.mq_drive.proofs.emu.EmuPort.cut.Goals as goal
 pub returns-clause-off : goal.returns-clause-off
 returns-clause-off c = λ l is has.
     subst (λ s. 0 < above l (tickets_of s)) (sym c.cut.ensures.seat)
-    (c.args.self.device.power.off l is (some_off c.args.self.device.power.offs c.args.self.device.failure has))
+    (c.args.self.device.value.power.off l is (some_off c.args.self.device.value.power.offs c.args.self.device.value.failure has))
 
 pub returns-clause-on : goal.returns-clause-on
 returns-clause-on c = λ l is over.
-    contains_first c.args.self.device.power.offs (errors_of c.args.self.device.failure)
-    (c.args.self.device.power.on l is (subst (λ s. 0 < above l (tickets_of s)) c.cut.ensures.seat over))
+    contains_first c.args.self.device.value.power.offs (errors_of c.args.self.device.value.failure)
+    (c.args.self.device.value.power.on l is (subst (λ s. 0 < above l (tickets_of s)) c.cut.ensures.seat over))
 
 pub returns-clause-homes : goal.returns-clause-homes
 returns-clause-homes c = λ l is.
-    ap (λ s. below l (tickets_of s)) c.cut.ensures.seat ∙ sym (c.args.self.device.power.counted l is) ∙ happened-is c.args.self.device
+    ap (λ s. below l (tickets_of s)) c.cut.ensures.seat ∙ sym (c.args.self.device.value.power.counted l is) ∙ happened-is c.args.self.device.value
