@@ -123,7 +123,7 @@ pub record IsLimited (l : ℕ) (s : PortState) : Type 0 where
 one-happened : (c : CutPort) (l : ℕ) → IsCut c → IsLimited l (emu_state c.port) → tally (emu_state c.port) ≤ 2 ^ 64 - 1 → below l (tickets_of c.seat) ≡ tally (emu_state c.port)
 one-happened c l one limited few =
     let s = emu_state c.port in
-    let none : home_errors (emu_faults c.port) ≡ 0 = no-errors (emu_faults c.port) (only_offs c.port.device limited.sound) in
+    let none : home_errors (emu_faults c.port) ≡ 0 = no-errors (emu_faults c.port) (only_offs c.port.device.value limited.sound) in
     one.events l limited.limit
     ∙ ap (λ (e : ℕ). counted s.events (2 * s.begins - (length s.begun - e))) none
     ∙ counted-small s.events (2 * s.begins - (length s.begun - 0)) (omega (arith, few))

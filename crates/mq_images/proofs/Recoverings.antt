@@ -114,7 +114,7 @@ pub none-failed : (g : Geometry) (old new : Ports EmuPort) (port : Option ℕ) (
     → OneGains port (HomeError lba status) (faults_on emu_faults old) (faults_on emu_faults new) → ⊥
 none-failed g old new port lba status sound bounds count before gains =
     let h = has-gained g (HomeError lba status) old new port sound count before gains in
-    no_error [] h.port.device (HomeError lba status) (home_error_is_none lba status) h.gains
+    no_error [] h.port.device.value (HomeError lba status) (home_error_is_none lba status) h.gains
     (ap (λ (s : PortState). s.fail) (sym h.state) ∙ fails h.zone h.own) (λ has. let within = has.1 in omega (arith, within))
   where
     fails : (z : Option ℕ) → IsZone g z → (port_in (drive_of emu_state new) z).fail ≡ None
@@ -372,8 +372,8 @@ module _ (x : DriveImage) (ports : Ports EmuPort) (images : List PortImage) (sea
         limited h.port seat.0 seat.1 seat.2 h.gains fuse.limit fuses refl
       where
         limited : (p : EmuPort) (s : FuseSeat) → Contains seats s → tickets_of s ≡ drawn_by p → Gains PowerOff [] (emu_faults p) → (limit : Option ℕ) → (emu_state p).fuse.limit ≡ limit → fuse.limit ≡ limit → (l : ℕ) × (fuse.limit ≡ Some l) × (s : FuseSeat) × Contains seats s × (0 < above l (tickets_of s))
-        limited p s has tickets gains None own is = absurd (off_unlimited [] p.device gains own)
-        limited p s has tickets gains (Some l) own is = (l, is, s, has, subst (λ (ts : List ℕ). 0 < above l ts) (sym tickets) (off_above [] p.device l gains own))
+        limited p s has tickets gains None own is = absurd (off_unlimited [] p.device.value gains own)
+        limited p s has tickets gains (Some l) own is = (l, is, s, has, subst (λ (ts : List ℕ). 0 < above l ts) (sym tickets) (off_above [] p.device.value l gains own))
 
     -- what a recovery left
     left-by : (old : Ports EmuPort) (found : Recovered) (whole : Bool) → AreSound g old → length old.queues.items ≡ g.queues → HasRun g d e (faults_on emu_faults old) (faults_on emu_faults ports) found whole → IsLeftBy x fuse found whole images seats

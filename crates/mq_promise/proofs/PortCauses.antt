@@ -265,7 +265,7 @@ module _ (x : DriveImage) (scripts : List Script) (o : RunOptions) (r : ImageRun
       off-of cause b.turn b.backs_it (of-power cause b.turn b.backs_it of b.backs_it.stands)
 
   none-refused : o.cut ≡ None → HasRefusedEvent → ⊥
-  none-refused no_cut h = (let at = row-under new h.port h.own in not-off h.port.device.power.offs h.port.device.failure (on-always no_cut at.0 h.port at.1) h.off)
+  none-refused no_cut h = (let at = row-under new h.port h.own in not-off h.port.device.value.power.offs h.port.device.value.failure (on-always no_cut at.0 h.port at.1) h.off)
 
   pub never-of-power : o.cut ≡ None → (t : Told) (f : Refusal) (cause : Cause) → Contains r.answers.items t → t.answer ≡ Err f → f.cause ≡ Drive cause → IsOfPower cause → ⊥
   never-of-power no_cut t f cause c bad is of = none-refused no_cut (power-off t f cause c bad is of)

@@ -46,9 +46,9 @@ counted-small n (suc k) m low is small = elim (cases_lt n (2 ^ 64 - 1)) [
 -- so many events happened on a port where no home write began
 happened-events : (p : EmuPort) (e l : ℕ) → (emu_state p).begins ≡ 0 → (emu_state p).events ≡ counted 0 e → l < 2 ^ 63 → (emu_state p).fuse.limit ≡ Some l → e ≡ below l (drawn_by p)
 happened-events p e l none counts small is =
-    let same = p.device.power.counted l is in
-    let few = p.device.power.seat.apart l in
-    let all = counted-small 0 e (below l (drawn_by p)) (omega arith) (sym counts ∙ sym (happened-alone p.device none) ∙ same) (omega (arith, small, few)) in
+    let same = p.device.value.power.counted l is in
+    let few = p.device.value.power.seat.apart l in
+    let all = counted-small 0 e (below l (drawn_by p)) (omega arith) (sym counts ∙ sym (happened-alone p.device.value none) ∙ same) (omega (arith, small, few)) in
     omega (arith, all)
 
 -- all lines stand where all of them were committed
@@ -62,11 +62,11 @@ all_stand lines (Some k) p doorbell small limit none counts rung =
 -- where the power went off as many stand as are reached by the events that happened
 pub reached_stand : (lines : Lines) (cut : Option ℕ) (old : List Fault) (p : EmuPort) (e n doorbell : ℕ) → IfSome cut (λ k. k < 2 ^ 63) → (emu_state p).fuse.limit ≡ cut → (emu_state p).begins ≡ 0 → (emu_state p).events ≡ counted 0 e
     → Gains PowerOff old (emu_faults p) → IsReached lines e n → e < events_of lines (length lines) → doorbell ≡ rung_after lines e → StandsUnder lines cut (drawn_by p) doorbell n
-reached_stand lines None old p e n doorbell small limit none counts gains reached few rung = absurd (off_unlimited old p.device gains limit)
+reached_stand lines None old p e n doorbell small limit none counts gains reached few rung = absurd (off_unlimited old p.device.value gains limit)
 reached_stand lines (Some k) old p e n doorbell small limit none counts gains reached few rung =
     let is : e ≡ below k (drawn_by p) = happened-events p e k none counts small limit in (
       rung ∙ ap (rung_after lines) is,
-      inr (subst (λ (m : ℕ). IsReached lines m n) is reached, off_above old p.device k gains limit, omega (arith, is, few)),
+      inr (subst (λ (m : ℕ). IsReached lines m n) is reached, off_above old p.device.value k gains limit, omega (arith, is, few)),
     )
 
 -- what the fuse counted, where the root's port drew no ticket
@@ -120,7 +120,7 @@ prefix_within lines (Some k) n is = is.within
 -- no command of a port fails where none is to fail
 pub none_failed : (p : EmuPort) (tx status : ℕ) → (emu_state p).fail ≡ None → Gains (CommandError tx status) [] (emu_faults p) → ⊥
 none_failed p tx status none gains =
-    no_error [] p.device (CommandError tx status) (command_error_is_none tx status) gains none (λ has. let within = has.1 in omega (arith, within))
+    no_error [] p.device.value (CommandError tx status) (command_error_is_none tx status) gains none (λ has. let within = has.1 in omega (arith, within))
 
 -- ---- the causes of a text's refusals
 

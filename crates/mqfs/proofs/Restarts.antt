@@ -138,8 +138,8 @@ first_fault x faults is = sym (ap (λ (l : List (List Fault)). get_or l 0 []) is
 no_off : (items : List EmuPort) (root : EmuPort) (port : Option ℕ) → length items ≡ 1 → (port_at (map emu_state items) 0).fuse.limit ≡ None → (emu_state root).fuse.limit ≡ None → OneGains port PowerOff no_faults (faults_of emu_faults items root) → ⊥
 no_off [] root port one queue_on root_on gains = absurd (omega (arith, one))
 no_off (x ∷ y ∷ xs) root port one queue_on root_on gains = absurd (omega (arith, one))
-no_off (x ∷ []) root None one queue_on root_on gains = off_unlimited [] root.device gains.1 root_on
-no_off (x ∷ []) root (Some zero) one queue_on root_on gains = off_unlimited [] x.device (subst (Gains PowerOff []) (first_fault x gains.1 gains.3) gains.2) queue_on
+no_off (x ∷ []) root None one queue_on root_on gains = off_unlimited [] root.device.value gains.1 root_on
+no_off (x ∷ []) root (Some zero) one queue_on root_on gains = off_unlimited [] x.device.value (subst (Gains PowerOff []) (first_fault x gains.1 gains.3) gains.2) queue_on
 no_off (x ∷ []) root (Some (suc q)) one queue_on root_on gains = let less = gains.0 in absurd (omega (arith, less))
 
 -- where no command fails no home write ends with an error
@@ -147,9 +147,9 @@ no_home_error : (items : List EmuPort) (root : EmuPort) (port : Option ℕ) (lba
     → OneGains port (HomeError lba status) no_faults (faults_of emu_faults items root) → ⊥
 no_home_error [] root port lba status one queue_sound root_sound gains = absurd (omega (arith, one))
 no_home_error (x ∷ y ∷ xs) root port lba status one queue_sound root_sound gains = absurd (omega (arith, one))
-no_home_error (x ∷ []) root None lba status one queue_sound root_sound gains = no_error [] root.device (HomeError lba status) (home_error_is_none lba status) gains.1 root_sound nothing
+no_home_error (x ∷ []) root None lba status one queue_sound root_sound gains = no_error [] root.device.value (HomeError lba status) (home_error_is_none lba status) gains.1 root_sound nothing
 no_home_error (x ∷ []) root (Some zero) lba status one queue_sound root_sound gains =
-    no_error [] x.device (HomeError lba status) (home_error_is_none lba status) (subst (Gains (HomeError lba status) []) (first_fault x gains.1 gains.3) gains.2) queue_sound nothing
+    no_error [] x.device.value (HomeError lba status) (home_error_is_none lba status) (subst (Gains (HomeError lba status) []) (first_fault x gains.1 gains.3) gains.2) queue_sound nothing
 no_home_error (x ∷ []) root (Some (suc q)) lba status one queue_sound root_sound gains = let less = gains.0 in absurd (omega (arith, less))
 
 pub one_port : (items : List EmuPort) (root : EmuPort) (g : Geometry) (f : FuseName) (q r : PortImage) → states emu_state items root ≡ start_drive g f q r → length items ≡ 1

@@ -3,16 +3,16 @@ use Rattle.mq_images.proofs.CutRows.{all-cut, next-cut, none-cut}
 use Rattle.mq_images.proofs.cut.cut_ports.Goals as goal
 
 pub invariant_of-root : goal.invariant_of-root
-invariant_of-root c = search c.args.ports.root.device
+invariant_of-root c = search c.args.ports.root.device.value
 
 pub invariant_of-root-in_err-seats : goal.invariant_of-root-in_err-seats
-invariant_of-root-in_err-seats c = search c.args.ports.root.device
+invariant_of-root-in_err-seats c = search c.args.ports.root.device.value
 
 pub invariant_of-root-in_err-push : goal.invariant_of-root-in_err-push
-invariant_of-root-in_err-push c = search c.args.ports.root.device
+invariant_of-root-in_err-push c = search c.args.ports.root.device.value
 
 pub invariant_of-root-in_err-push-2-2 : goal.invariant_of-root-in_err-push-2-2
-invariant_of-root-in_err-push-2-2 c = search c.args.ports.root.device
+invariant_of-root-in_err-push-2-2 c = search c.args.ports.root.device.value
 
 pub loop-q-init : goal.loop-q-init
 loop-q-init c = none-cut c.args.ports.queues.items c.in_ok-images.images.items c.in_ok-seats.seats.items c.in_ok-images.ensures.items c.in_ok-seats.ensures.items

@@ -16,7 +16,7 @@ pub recover_ports-requires-clause-sound : goal.recover_ports-requires-clause-sou
 recover_ports-requires-clause-sound c = started-sound c.image.inside.geometry (name_of c.args.fuse.now) c.args.image c.in_ok-ports.ports (ap (λ (x : DriveImage). x.geometry) c.image.view_is) c.requires.image c.in_ok-ports.ensures
 
 pub invariant_of-ports : goal.invariant_of-ports
-invariant_of-ports c = search c.recover_ports.new.ports.root.device
+invariant_of-ports c = search c.recover_ports.new.ports.root.device.value
 
 pub returns-in_err-ran-clause-refused : goal.returns-in_err-ran-clause-refused
 returns-in_err-ran-clause-refused c =

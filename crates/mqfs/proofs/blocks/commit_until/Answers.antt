@@ -138,7 +138,7 @@ check_power-requires c status is =
     none_failed q failed.0 status (bounds.fail ∙ ap (λ (s : PortState). s.fail) started.queue) (subst (λ (l : List Fault). Gains (CommandError failed.0 status) l (emu_faults q)) started.none failed.1)
 
 pub invariant_of-queue : goal.invariant_of-queue
-invariant_of-queue c = search c.remove-queue.result.device
+invariant_of-queue c = search c.remove-queue.result.device.value
 
 pub invariant_of-root : goal.invariant_of-root
-invariant_of-root c = search c.commit_text-ports.result.0.root.device
+invariant_of-root c = search c.commit_text-ports.result.0.root.device.value

@@ -37,4 +37,4 @@ only_image-requires c =
     only_memory g f c.args.images.0 c.args.images.1 d c.recover.result items root a c.in-Err.refusal c.requires.on c.in-Err.is
 
 pub invariant_of-ports : goal.invariant_of-ports
-invariant_of-ports c = search c.recover.new.ports.root.device
+invariant_of-ports c = search c.recover.new.ports.root.device.value

@@ -45,10 +45,10 @@ check_power-requires-clause-sound c = λ block status is.
     none_failed g f c.args.images.0 c.args.images.1 d c.recover-answer.result items root a block status is
 
 pub invariant_of-ports : goal.invariant_of-ports
-invariant_of-ports c = search c.in_ok-ports.ports.root.device
+invariant_of-ports c = search c.in_ok-ports.ports.root.device.value
 
 pub invariant_of-ports-in_err-check_power : goal.invariant_of-ports-in_err-check_power
-invariant_of-ports-in_err-check_power c = search c.recover-answer.new.ports.root.device
+invariant_of-ports-in_err-check_power c = search c.recover-answer.new.ports.root.device.value
 
 pub returns-clause-left : goal.returns-clause-left
 returns-clause-left c = λ ds reaches.
