@@ -134,8 +134,7 @@ impl<'f> EmuPort<'f> {
             → 0 < above l (tickets_of result.1)
             → Contains (emu_faults self.entry) PowerOff }
     {
-        let device = *self.device;
-        device.cut(pick)
+        Box::into_inner(self.device).cut(pick)
     }
 }
 
