@@ -8,7 +8,7 @@ use lib.ListN.{get_elem?}
 use lib.Seq.{set-get_or}
 use Rattle.atomic_table.specs.Table.{step, keeps, takes, gives, carried_after, Allows}
 use Rattle.atomic_table.proofs.Lists.{set_again}
-use Rattle.mq_turns.specs.Meaning.{Meaning, Stays, newest, drawn}
+use Rattle.mq_turns.specs.Meaning.{AreLaws, Meaning, Stays, newest, drawn}
 use Rattle.mq_turns.specs.Lists.{Each, times, without}
 use Rattle.mq_turns.specs.Desk.{slots, IsTurn, slot_of, turn_at, holders, Sat, Now, Stay, Sees, Covers, MayRead, Follows, IsInOrder, Below, allotment, after_draw, after_look, Turns, Numbers, Words, Ruled, Stands, taken, settled, reached, freed, drew_one, looked}
 use Rattle.mq_turns.specs.declared.rule.Opening.{Opening}
@@ -196,9 +196,9 @@ module _ {M P Q R E : Type 0} (μ : Meaning P Q R E) (o : Opening P Q R) (chairs
       reads (Some d) K v seen may old = ((seen.ok, grows_now K, may d refl K seen), old)
 
   -- the next number is drawn, with the entry
-  pub draws : (deep id : ℕ) (me : Sat M P Q R E) (word : ℕ) (e : E) → word ≡ deep → deep ≡ slots o → μ.queue e < length o.sides → Covers μ e me.0 → Follows μ e me.0 → length me.0.drawn < me.0.parts * allotment chairs
+  pub draws : AreLaws μ → (deep id : ℕ) (me : Sat M P Q R E) (word : ℕ) (e : E) → word ≡ deep → deep ≡ slots o → μ.queue e < length o.sides → Covers μ e me.0 → Follows μ e me.0 → length me.0.drawn < me.0.parts * allotment chairs
       → Allows Rule deep id me word (λ n. (n + 1) % 2 ^ 64) (drew_one μ e (step deep word 1 0 none) me)
-  draws deep id me word e is wide side may follows room s rk len at fits =
+  draws laws deep id me word e is wide side may follows room s rk len at fits =
       let K : Known P Q R E = rk.0 in
       let L : Known P Q R E = drawn e K in
       let r = rk.2 in
@@ -216,7 +216,7 @@ module _ {M P Q R E : Type 0} (μ : Meaning P Q R E) (o : Opening P Q R) (chairs
       let wrapped : (get_or s.words word 0 + 1) % 2 ^ 64 ≡ suc (newest K) = ap (λ i. (i + 1) % 2 ^ 64) now ∙ (mod-eq_of_lt small ∙ omega arith) in
       let words' : List ℕ = set s.words word (suc (newest K)) in
       let touched : ℕ → Bool = λ k. μ.touches K.log e (turn_at K.opening k) in
-      let ok : μ.ok L = μ.ok_drawn e K r.ok (may.may K seen few) in
+      let ok : μ.ok L = laws.ok_drawn e K r.ok (may.may K seen few) in
       let opening : turn_at K.opening ≡ turn_at o = ap turn_at rk.1 in
       let change : Change μ (turn_at K.opening) (length s.homes) touched K L v = record {
         ok = ok;
@@ -233,7 +233,7 @@ module _ {M P Q R E : Type 0} (μ : Meaning P Q R E) (o : Opening P Q R) (chairs
         subst (λ (i : ℕ). Rule record { words = set s.words word i; homes = s.homes; views = set s.views id w }) (sym wrapped) (
           L,
           rk.1,
-          turns_change μ (turn_at o) touched K L s id v w words' r at change' refl refl refl (length-set s.words word (suc (newest K))) (λ k l. get_or-set_other s.words word k (suc (newest K)) 0 (λ q. omega arith)),
+          turns_change μ (turn_at o) laws touched K L s id v w words' r at change' refl refl refl (length-set s.words word (suc (newest K))) (λ k l. get_or-set_other s.words word k (suc (newest K)) 0 (λ q. omega arith)),
           numbers_draw μ chairs e K s id v w words' n at follows room (let z = get_or-set_same s.words word (suc (newest K)) 0 (omega arith) in ap (λ i. get_or words' i 0) (sym at_end) ∙ z) refl refl refl refl refl refl,
           words_stay μ K L s id v w words' s.homes rk.4 at (length-set s.words word (suc (newest K))) refl (λ j far. get_or-set_other s.words word j (suc (newest K)) 0 (λ q. omega arith)) refl refl (grows_drawn e K) (marked_drawn μ e K rk.4.marked (subst (λ p. μ.queue e < length p.sides) (sym rk.1) side) (may.mark K seen)) refl refl refl,
         ),
@@ -244,9 +244,9 @@ module _ {M P Q R E : Type 0} (μ : Meaning P Q R E) (o : Opening P Q R) (chairs
       some_parts zero drew lt = absurd (omega arith)
       some_parts (suc n) drew lt = omega arith
 
-  pub draws_told : (deep id : ℕ) (me : Sat M P Q R E) (word : ℕ) (e : E) (t : Option E) → word ≡ deep → deep ≡ slots o → μ.queue e < length o.sides → Covers μ e me.0 → Follows μ e me.0 → length me.0.drawn < me.0.parts * allotment chairs → t ≡ Some e
+  pub draws_told : AreLaws μ → (deep id : ℕ) (me : Sat M P Q R E) (word : ℕ) (e : E) (t : Option E) → word ≡ deep → deep ≡ slots o → μ.queue e < length o.sides → Covers μ e me.0 → Follows μ e me.0 → length me.0.drawn < me.0.parts * allotment chairs → t ≡ Some e
       → Allows Rule deep id me word (λ n. (n + 1) % 2 ^ 64) (λ n me'. (d : E) → t ≡ Some d → drew_one μ d (step deep word 1 0 none) me n me')
-  draws_told deep id me word e t is wide side may follows room told s r len at fits = let x = draws deep id me word e is wide side may follows room s r len at fits in
+  draws_told laws deep id me word e t is wide side may follows room told s r len at fits = let x = draws laws deep id me word e is wide side may follows room s r len at fits in
       (x.0, x.1, x.2, x.3, λ d told'. told_one t e d (λ a. drew_one μ a (step deep word 1 0 none) me (get_or s.words word 0) (x.0, carried_after me.1 x.1)) told told' x.4)
 
   pub looks_nothing : (deep id : ℕ) (me : Sat M P Q R E) (word : ℕ) → word ≡ deep → 0 < me.0.parts → Allows Rule deep id me word (λ n. n) (looked μ None (step deep word 0 0 none) me)

@@ -7,7 +7,7 @@ use lib.ListN.{get_elem?, length-map, length-replicate}
 use Rattle.std.specs.Prelude.{slice_get}
 use Rattle.std.proofs.lemmas.Option.{slice_get_within}
 use Rattle.atomic_table.specs.Table.{opening}
-use Rattle.mq_turns.specs.Meaning.{Meaning, opened}
+use Rattle.mq_turns.specs.Meaning.{AreLaws, Meaning, opened}
 use Rattle.mq_turns.specs.Marks.{Reader}
 use Rattle.mq_turns.specs.Lists.{Each, times, without}
 use Rattle.mq_turns.specs.Desk.{slots, turn_at, fresh, slots_from, laying, first_view, others, seated, Stay, Sees, Holder, Drawer, allotment, Ruled, Stands}
@@ -110,12 +110,12 @@ module _ {M P Q R E : Type 0} (μ : Meaning P Q R E) (o : Opening P Q R) where
   all_stand t k j (suc n) x s = ((λ _. s), all_stand t k (suc j) n x s)
 
   -- a value of the opening stands under its slot, for the view that lays
-  pub laid_stands : (parts i n k : ℕ) (t : Turn) (v : ChairView P Q R E) (x : Item M P Q R E) → v ≡ laying o parts i n → n ≡ suc k → turn_at o k ≡ t → Stands μ t (opened o) x → (K : Known P Q R E) → Sees μ v K → Stands μ (turn_at o k) K x
-  laid_stands parts i n k t v x e last is s K seen =
+  pub laid_stands : AreLaws μ → (parts i n k : ℕ) (t : Turn) (v : ChairView P Q R E) (x : Item M P Q R E) → v ≡ laying o parts i n → n ≡ suc k → turn_at o k ≡ t → Stands μ t (opened o) x → (K : Known P Q R E) → Sees μ v K → Stands μ (turn_at o k) K x
+  laid_stands laws parts i n k t v x e last is s K seen =
       let held : v.held ≡ Laid E o 0 n = ap (λ (u : ChairView P Q R E). u.held) e in
       let F : List (ℕ × Known P Q R E) → Type 0 = λ l. Each (λ h. h.0 ≡ k → Stands μ (turn_at o k) h.1 x) l in
       let now : K.opening ≡ o = opening_seen μ o K v (ap (λ (u : ChairView P Q R E). u.opening) e) seen in
-      stands_seen μ K v (turn_at o k) k x seen (laid_holds E o parts i n k v e last) (ap (λ p. turn_at p k) now)
+      stands_seen μ laws K v (turn_at o k) k x seen (laid_holds E o parts i n k v e last) (ap (λ p. turn_at p k) now)
       (subst F (sym held) (all_stand (turn_at o k) k 0 n x (subst (λ u. Stands μ u (opened o) x) (sym is) s)))
 
 module _ {P Q R E : Type 0} (μ : Meaning P Q R E) (o : Opening P Q R) where

@@ -7,7 +7,7 @@ use native.Mathlib.Decide.{ℕ_discrete}
 use lib.ListN.{get_elem?}
 use lib.Seq.{set-get_or}
 use Rattle.atomic_table.specs.Table.{step, keeps, carried_after, Allows}
-use Rattle.mq_turns.specs.Meaning.{Meaning, newest, claimed, written, raised, charged}
+use Rattle.mq_turns.specs.Meaning.{AreLaws, Meaning, newest, claimed, written, raised, charged}
 use Rattle.mq_turns.specs.Lists.{tally, times}
 use Rattle.mq_turns.specs.Marks.{mark_of, claim_of, queues_of, shown, Marked, Reader}
 use Rattle.mq_turns.specs.Desk.{slots, IsTurn, slot_of, turn_at, Sat, Now, Stay, Sees, Turns, Numbers, Words, Ruled}
@@ -100,9 +100,9 @@ module _ {M P Q R E : Type 0} (μ : Meaning P Q R E) (o : Opening P Q R) (chairs
       )
 
   -- a mark is stored, and the queue's numbers below it are known done
-  pub clears : (deep id : ℕ) (me : Sat M P Q R E) (word low : ℕ) → deep ≡ slots o → deep < word → word < suc (deep + length o.sides) → 0 < me.0.parts → 1 ≤ low → 0 < times (slot_of o (Side (word - suc deep))) me.0.held → MayClear μ (word - suc deep) low me.0
+  pub clears : AreLaws μ → (deep id : ℕ) (me : Sat M P Q R E) (word low : ℕ) → deep ≡ slots o → deep < word → word < suc (deep + length o.sides) → 0 < me.0.parts → 1 ≤ low → 0 < times (slot_of o (Side (word - suc deep))) me.0.held → MayClear μ (word - suc deep) low me.0
       → Allows Rule deep id me word (λ _. low) (λ _. cleared μ (step deep word low 0 none) me low)
-  clears deep id me word low count_is lo hi live positive mine may s rk len at fits =
+  clears laws deep id me word low count_is lo hi live positive mine may s rk len at fits =
       let K : Known P Q R E = rk.0 in
       let v : ChairView P Q R E = me.0 in
       let q : ℕ = word - suc deep in
@@ -119,7 +119,7 @@ module _ {M P Q R E : Type 0} (μ : Meaning P Q R E) (o : Opening P Q R) (chairs
         w,
         keeps,
         tt,
-        changes μ o chairs (same_turn (Side q)) K L s id v w words' rk.1 rk.2 rk.3 rk.4 at (len ∙ count_is) (may K seen)
+        changes μ o chairs laws (same_turn (Side q)) K L s id v w words' rk.1 rk.2 rk.3 rk.4 at (len ∙ count_is) (may K seen)
             (λ t apart. stays_claimed μ.touches μ.lies t c K (not_same (Side q) t apart))
             (holds_one μ K.opening (Side q) v (subst (λ p. 0 < times (slot_of p (Side q)) v.held) (sym rk.1) mine))
             refl (length-set s.words word low) (λ k le. get_or-set_other s.words word k low 0 (λ e. omega arith))
@@ -140,9 +140,9 @@ module _ {M P Q R E : Type 0} (μ : Meaning P Q R E) (o : Opening P Q R) (chairs
       )
 
   -- the base is stored
-  pub raises : (deep id : ℕ) (me : Sat M P Q R E) (word base : ℕ) → deep ≡ slots o → word ≡ suc (deep + length o.sides) → 0 < me.0.parts → 0 < times (slot_of o Root) me.0.held → MayRaise μ base me.0
+  pub raises : AreLaws μ → (deep id : ℕ) (me : Sat M P Q R E) (word base : ℕ) → deep ≡ slots o → word ≡ suc (deep + length o.sides) → 0 < me.0.parts → 0 < times (slot_of o Root) me.0.held → MayRaise μ base me.0
       → Allows Rule deep id me word (λ _. base) (λ _. raised_to μ (step deep word base 0 none) me base)
-  raises deep id me word base count_is is live mine may s rk len at fits =
+  raises laws deep id me word base count_is is live mine may s rk len at fits =
       let K : Known P Q R E = rk.0 in
       let v : ChairView P Q R E = me.0 in
       let L : Known P Q R E = raised base K in
@@ -158,7 +158,7 @@ module _ {M P Q R E : Type 0} (μ : Meaning P Q R E) (o : Opening P Q R) (chairs
         w,
         keeps,
         tt,
-        changes μ o chairs (same_turn Root) K L s id v w words' rk.1 rk.2 rk.3 rk.4 at (len ∙ count_is) (may K seen).1
+        changes μ o chairs laws (same_turn Root) K L s id v w words' rk.1 rk.2 rk.3 rk.4 at (len ∙ count_is) (may K seen).1
             (λ t apart. stays_raised μ.touches μ.lies t base K up (not_same Root t apart))
             (holds_one μ K.opening Root v (subst (λ p. 0 < times (slot_of p Root) v.held) (sym rk.1) mine))
             refl (length-set s.words word base) (λ j le. get_or-set_other s.words word j base 0 (λ e. omega arith))
@@ -176,14 +176,14 @@ module _ {M P Q R E : Type 0} (μ : Meaning P Q R E) (o : Opening P Q R) (chairs
       )
 
   -- a load of the counter, at which the chair makes something known of turns that it holds
-  makes_known : (about : Turn → Bool) (K L : Known P Q R E) (s : Now M P Q R E) (id : ℕ) (v w : ChairView P Q R E) (word : ℕ) → K.opening ≡ o → Turns μ (turn_at o) K s → Numbers μ chairs K s → Words μ K s → get_elem? s.views id ≡ some v
+  makes_known : AreLaws μ → (about : Turn → Bool) (K L : Known P Q R E) (s : Now M P Q R E) (id : ℕ) (v w : ChairView P Q R E) (word : ℕ) → K.opening ≡ o → Turns μ (turn_at o) K s → Numbers μ chairs K s → Words μ K s → get_elem? s.views id ≡ some v
       → 0 < v.parts → length s.homes ≡ slots o → μ.ok L → ((t : Turn) → about t ≡ false → Stay μ t K L) → ((t : Turn) → IsTurn K.opening t → about t ≡ true → 0 < times (slot_of K.opening t) v.held) → Rattle.mq_turns.specs.Meaning.Grows K L → L.log ≡ K.log → L.claims ≡ K.claims → L.word ≡ K.word → Marked μ L
       → ((f : Charge → Bool) → charges_in f w + tally f K.charges ≡ charges_in f v + tally f L.charges) → Reader μ L w.reading
       → w.parts ≡ v.parts → w.opening ≡ v.opening → w.session ≡ v.session → w.hand ≡ v.hand → w.seen ≡ v.seen → w.drawn ≡ v.drawn → w.read ≡ v.read → w.held ≡ Rattle.mq_turns.specs.Desk.refreshed (λ k. about (turn_at L.opening k)) L v.held
       → Rule record { words = set s.words word (get_or s.words word 0); homes = s.homes; views = set s.views id w }
-  makes_known about K L s id v w word is t n x at live deep ok stays holds g log claims base marked charges reader parts opening session hand seen drew read held =
+  makes_known laws about K L s id v w word is t n x at live deep ok stays holds g log claims base marked charges reader parts opening session hand seen drew read held =
       subst (λ (ws : List ℕ). Rule record { words = ws; homes = s.homes; views = set s.views id w }) (sym (set-get_or s.words word 0)) (
-      changes μ o chairs about K L s id v w s.words is t n x at deep ok stays holds log refl (λ k le. refl)
+      changes μ o chairs laws about K L s id v w s.words is t n x at deep ok stays holds log refl (λ k le. refl)
       record {
         grows = g;
         marked = marked;
@@ -197,8 +197,8 @@ module _ {M P Q R E : Type 0} (μ : Meaning P Q R E) (o : Opening P Q R) (chairs
       )
 
   -- a notice is given, at a load of the counter
-  pub notes_it : (deep id : ℕ) (me : Sat M P Q R E) (word : ℕ) (x : Notice P) → deep ≡ slots o → 0 < me.0.parts → MayNote μ x me.0 → Allows Rule deep id me word (λ n. n) (noticed μ x (step deep word 0 0 none) me)
-  notes_it deep id me word (notice.Home b n) count_is live may s rk len at fits =
+  pub notes_it : AreLaws μ → (deep id : ℕ) (me : Sat M P Q R E) (word : ℕ) (x : Notice P) → deep ≡ slots o → 0 < me.0.parts → MayNote μ x me.0 → Allows Rule deep id me word (λ n. n) (noticed μ x (step deep word 0 0 none) me)
+  notes_it laws deep id me word (notice.Home b n) count_is live may s rk len at fits =
       let K : Known P Q R E = rk.0 in
       let v : ChairView P Q R E = me.0 in
       let h : ℕ × ℕ = (b, n) in
@@ -209,13 +209,13 @@ module _ {M P Q R E : Type 0} (μ : Meaning P Q R E) (o : Opening P Q R) (chairs
         w,
         keeps,
         tt,
-        makes_known (μ.lies K.opening h) K (written h K) s id v w word rk.1 rk.2 rk.3 rk.4 at live (len ∙ count_is) (may K seen).0
+        makes_known laws (μ.lies K.opening h) K (written h K) s id v w word rk.1 rk.2 rk.3 rk.4 at live (len ∙ count_is) (may K seen).0
             (λ t apart. stays_written μ.touches μ.lies t h K apart) (may K seen).1 g refl refl refl
             record { own = k.own; undone = k.undone; above = k.above; word = k.word }
             (λ f. refl) (reader_grows μ K (written h K) v.reading g (rk.4.each_chair id v at)) refl refl refl refl refl refl refl refl,
         (K, refl, seen),
       )
-  notes_it deep id me word (notice.Page b p) count_is live may s rk len at fits =
+  notes_it laws deep id me word (notice.Page b p) count_is live may s rk len at fits =
       let K : Known P Q R E = rk.0 in
       let v : ChairView P Q R E = me.0 in
       let seen = sees μ o chairs K s id v rk.1 rk.2 rk.3 rk.4 at live in
@@ -226,7 +226,7 @@ module _ {M P Q R E : Type 0} (μ : Meaning P Q R E) (o : Opening P Q R) (chairs
         rereads K s id v (record v.reading { pages = (b, p, K) ∷ v.reading.pages }) word rk.1 rk.2 rk.3 rk.4 at live refl record { low = d.low; swept = d.swept; last = d.last; done = d.done; base = d.base; pages = ((seen.ok, grows_now K, may K seen), d.pages) },
         (K, refl, seen),
       )
-  notes_it deep id me word (notice.Front n) count_is live may s rk len at fits =
+  notes_it laws deep id me word (notice.Front n) count_is live may s rk len at fits =
       let K : Known P Q R E = rk.0 in
       let v : ChairView P Q R E = me.0 in
       let seen = sees μ o chairs K s id v rk.1 rk.2 rk.3 rk.4 at live in
@@ -237,7 +237,7 @@ module _ {M P Q R E : Type 0} (μ : Meaning P Q R E) (o : Opening P Q R) (chairs
         rereads K s id v (record v.reading { answers = Front n ∷ v.reading.answers }) word rk.1 rk.2 rk.3 rk.4 at live refl record { low = d.low; swept = d.swept; last = d.last; done = d.done; base = d.base; pages = d.pages },
         (K, refl, seen),
       )
-  notes_it deep id me word (notice.Charge c) count_is live may s rk len at fits =
+  notes_it laws deep id me word (notice.Charge c) count_is live may s rk len at fits =
       let K : Known P Q R E = rk.0 in
       let v : ChairView P Q R E = me.0 in
       let seen = sees μ o chairs K s id v rk.1 rk.2 rk.3 rk.4 at live in
@@ -248,14 +248,14 @@ module _ {M P Q R E : Type 0} (μ : Meaning P Q R E) (o : Opening P Q R) (chairs
         w,
         keeps,
         tt,
-        makes_known (same_turn c.port) K (charged c K) s id v w word rk.1 rk.2 rk.3 rk.4 at live (len ∙ count_is) (may K seen).0
+        makes_known laws (same_turn c.port) K (charged c K) s id v w word rk.1 rk.2 rk.3 rk.4 at live (len ∙ count_is) (may K seen).0
             (λ t apart. stays_charged μ.touches μ.lies t c K (not_same c.port t apart)) (holds_one μ K.opening c.port v (may K seen).1) g refl refl refl
             record { own = k.own; undone = k.undone; above = k.above; word = k.word }
             (λ f. omega arith) record { low = d.low; swept = d.swept; last = d.last; done = d.done; base = d.base; pages = d.pages } refl refl refl refl refl refl refl refl,
         (K, refl, seen),
       )
 
-  pub notes_told : (deep id : ℕ) (me : Sat M P Q R E) (word : ℕ) (x : Notice P) (t : Option (Notice P)) → deep ≡ slots o → 0 < me.0.parts → MayNote μ x me.0 → t ≡ Some x
+  pub notes_told : AreLaws μ → (deep id : ℕ) (me : Sat M P Q R E) (word : ℕ) (x : Notice P) (t : Option (Notice P)) → deep ≡ slots o → 0 < me.0.parts → MayNote μ x me.0 → t ≡ Some x
       → Allows Rule deep id me word (λ n. n) (λ n me'. (y : Notice P) → t ≡ Some y → noticed μ y (step deep word 0 0 none) me n me')
-  notes_told deep id me word x t count_is live may told s r len at fits = let z = notes_it deep id me word x count_is live may s r len at fits in
+  notes_told laws deep id me word x t count_is live may told s r len at fits = let z = notes_it laws deep id me word x count_is live may s r len at fits in
       (z.0, z.1, z.2, z.3, λ y told'. let same : Some x ≡ Some y = sym told ∙ told' in let is : x ≡ y = cc in subst (λ a. noticed μ a (step deep word 0 0 none) me (get_or s.words word 0) (z.0, carried_after me.1 z.1)) is z.4)

@@ -3,7 +3,7 @@ use Rattle.std.proofs.Common.{◌≡◌, ℕ, ◌<◌, Bool, true, cond, List, [
 use Rattle.std.proofs.lemmas.Bool.{false≢true}
 use mathlib.Core.Logic.{dite}
 use native.Mathlib.Decide.{ℕ_discrete}
-use Rattle.mq_turns.specs.Meaning.{Meaning, Apart, IsAt}
+use Rattle.mq_turns.specs.Meaning.{AreLaws, Meaning, Apart, IsAt}
 use Rattle.mq_turns.specs.Lists.{Each, times}
 use Rattle.mq_turns.specs.Marks.{mark_of}
 use Rattle.mq_turns.specs.Chairs.{holding}
@@ -73,28 +73,28 @@ module _ {P Q R E : Type 0} (μ : Meaning P Q R E) where
   pub mark_stays : (q : ℕ) (L K : Known P Q R E) → Stay μ (Side q) L K → mark_of q K.claims ≡ mark_of q L.claims
   mark_stays q L K s = ap (mark_of q) s.grows.claims ∙ mark_apart q s.grows.claimed L.claims s.claims
 
-  quiet : (base q n : ℕ) (e : E) (newer log : List E) → μ.queue e ≡ q → Apart μ.touches newer log (Side q) → IsAt base (newer ++ log) n e → IsAt base log n e
-  quiet base q n e [] log own a at = at
-  quiet base q n e (x ∷ xs) log own a (inl at) = absurd (false≢true (sym a.0 ∙ (ap (λ y. μ.touches (xs ++ log) y (Side q)) at.1 ∙ (ap (λ p. μ.touches (xs ++ log) e (Side p)) (sym own) ∙ μ.own (xs ++ log) e))))
-  quiet base q n e (x ∷ xs) log own a (inr at) = quiet base q n e xs log own a.1 at
+  quiet : AreLaws μ → (base q n : ℕ) (e : E) (newer log : List E) → μ.queue e ≡ q → Apart μ.touches newer log (Side q) → IsAt base (newer ++ log) n e → IsAt base log n e
+  quiet laws base q n e [] log own a at = at
+  quiet laws base q n e (x ∷ xs) log own a (inl at) = absurd (false≢true (sym a.0 ∙ (ap (λ y. μ.touches (xs ++ log) y (Side q)) at.1 ∙ (ap (λ p. μ.touches (xs ++ log) e (Side p)) (sym own) ∙ laws.own (xs ++ log) e))))
+  quiet laws base q n e (x ∷ xs) log own a (inr at) = quiet laws base q n e xs log own a.1 at
 
   -- no entry of the queue was drawn since
-  pub queue_stays : (q n : ℕ) (e : E) (L K : Known P Q R E) → Stay μ (Side q) L K → μ.queue e ≡ q → IsAt K.opening.base K.log n e → IsAt L.opening.base L.log n e
-  queue_stays q n e L K s own at =
+  pub queue_stays : AreLaws μ → (q n : ℕ) (e : E) (L K : Known P Q R E) → Stay μ (Side q) L K → μ.queue e ≡ q → IsAt K.opening.base K.log n e → IsAt L.opening.base L.log n e
+  queue_stays laws q n e L K s own at =
       let T : ℕ → List E → Type 0 = λ b l. IsAt b l n e in
-      quiet L.opening.base q n e s.grows.newer L.log own s.apart (subst (λ (z : ℕ × List E). T z.0 z.1) (λ i. (ap (λ o. o.base) s.grows.opening i, s.grows.log i)) at)
+      quiet laws L.opening.base q n e s.grows.newer L.log own s.apart (subst (λ (z : ℕ × List E). T z.0 z.1) (λ i. (ap (λ o. o.base) s.grows.opening i, s.grows.log i)) at)
 
 module _ {M P Q R E : Type 0} (μ : Meaning P Q R E) where
   -- what stands by what the chair knew of the turn stands by what is known now
-  pub stands_seen : (K : Known P Q R E) (v : ChairView P Q R E) (t : Turn) (k : ℕ) (x : Item M P Q R E) → Sees μ v K → 0 < times k v.held → turn_at K.opening k ≡ t → Each (λ h. h.0 ≡ k → Stands μ t h.1 x) v.held → Stands μ t K x
-  stands_seen K v t k x s mine is stands =
+  pub stands_seen : AreLaws μ → (K : Known P Q R E) (v : ChairView P Q R E) (t : Turn) (k : ℕ) (x : Item M P Q R E) → Sees μ v K → 0 < times k v.held → turn_at K.opening k ≡ t → Each (λ h. h.0 ≡ k → Stands μ t h.1 x) v.held → Stands μ t K x
+  stands_seen laws K v t k x s mine is stands =
       held_seen μ k (λ N. Stands μ t N x) (Stands μ t K x) v.held (λ j N. μ.ok N × Stay μ (turn_at K.opening j) N K) mine stands s.held
-      (λ N a b. along μ (turn_at K.opening) t N K x (subst (λ u. Stay μ u N K) is a.1) a.0 s.ok b)
+      (λ N a b. along μ (turn_at K.opening) laws t N K x (subst (λ u. Stay μ u N K) is a.1) a.0 s.ok b)
 
   -- what stands after a step of the chair's own stands by what is known now
-  pub stands_renewed : (touched : ℕ → Bool) (L K : Known P Q R E) (v w : ChairView P Q R E) (t : Turn) (k : ℕ) (x : Item M P Q R E) → w.held ≡ refreshed touched L v.held → touched k ≡ true → 0 < times k v.held → turn_at K.opening k ≡ t → Sees μ w K → Stands μ t L x → Stands μ t K x
-  stands_renewed touched L K v w t k x held about mine is s b = let a = stay_renewed μ touched L K v w t k held about mine is s in along μ (turn_at K.opening) t L K x a.1 a.0 s.ok b
+  pub stands_renewed : AreLaws μ → (touched : ℕ → Bool) (L K : Known P Q R E) (v w : ChairView P Q R E) (t : Turn) (k : ℕ) (x : Item M P Q R E) → w.held ≡ refreshed touched L v.held → touched k ≡ true → 0 < times k v.held → turn_at K.opening k ≡ t → Sees μ w K → Stands μ t L x → Stands μ t K x
+  stands_renewed laws touched L K v w t k x held about mine is s b = let a = stay_renewed μ touched L K v w t k held about mine is s in along μ (turn_at K.opening) laws t L K x a.1 a.0 s.ok b
 
   -- the same, where the desk's opening is known
-  pub stands_held : (o : Opening P Q R) (t : Turn) (v : ChairView P Q R E) (x : Item M P Q R E) → v.opening ≡ Some o → IsTurn o t → 0 < times (slot_of o t) v.held → Each (λ h. h.0 ≡ slot_of o t → Stands μ t h.1 x) v.held → (K : Known P Q R E) → Sees μ v K → Stands μ t K x
-  stands_held o t v x opening mine some_held stands K s = stands_seen K v t (slot_of o t) x s some_held (turn_seen μ o K v t opening s mine) stands
+  pub stands_held : AreLaws μ → (o : Opening P Q R) (t : Turn) (v : ChairView P Q R E) (x : Item M P Q R E) → v.opening ≡ Some o → IsTurn o t → 0 < times (slot_of o t) v.held → Each (λ h. h.0 ≡ slot_of o t → Stands μ t h.1 x) v.held → (K : Known P Q R E) → Sees μ v K → Stands μ t K x
+  stands_held laws o t v x opening mine some_held stands K s = stands_seen laws K v t (slot_of o t) x s some_held (turn_seen μ o K v t opening s mine) stands

@@ -7,7 +7,7 @@ use mathlib.Core.Option as maybe
 use native.Mathlib.Decide.{ℕ_discrete}
 use lib.ListN.{get_elem?}
 use Rattle.atomic_table.proofs.Lists.{at_set, at_snoc, set_here, set_else}
-use Rattle.mq_turns.specs.Meaning.{Meaning}
+use Rattle.mq_turns.specs.Meaning.{AreLaws, Meaning}
 use Rattle.mq_blocks.specs.Totals.{total}
 use Rattle.mq_turns.specs.Lists.{Each, tick, times, without}
 use Rattle.mq_turns.specs.Desk.{hand_at, holders, hands, Now, refreshed, Stay, Holder, Turned, Turns, Stands}
@@ -75,16 +75,16 @@ module _ {P Q R E : Type 0} (μ : Meaning P Q R E) (turn : ℕ → Turn) where
 
 module _ {M P Q R E : Type 0} (μ : Meaning P Q R E) (turn : ℕ → Turn) where
   -- a value that nothing touched is what it was
-  pub along : (t : Turn) (K L : Known P Q R E) (x : Item M P Q R E) → Stay μ t K L → μ.ok K → μ.ok L → Stands μ t K x → Stands μ t L x
-  along (Page b) K L (item.Page p) s a b' h = μ.page_along b K L p s a b' h
-  along (Page b) K L (item.Side q) s a b' h = absurd h
-  along (Page b) K L (item.Root r) s a b' h = absurd h
-  along (Side i) K L (item.Page p) s a b' h = absurd h
-  along (Side i) K L (item.Side q) s a b' h = μ.side_along i K L q s a b' h
-  along (Side i) K L (item.Root r) s a b' h = absurd h
-  along Root K L (item.Page p) s a b' h = absurd h
-  along Root K L (item.Side q) s a b' h = absurd h
-  along Root K L (item.Root r) s a b' h = μ.root_along K L r s a b' h
+  pub along : AreLaws μ → (t : Turn) (K L : Known P Q R E) (x : Item M P Q R E) → Stay μ t K L → μ.ok K → μ.ok L → Stands μ t K x → Stands μ t L x
+  along laws (Page b) K L (item.Page p) s a b' h = laws.page_along b K L p s a b' h
+  along laws (Page b) K L (item.Side q) s a b' h = absurd h
+  along laws (Page b) K L (item.Root r) s a b' h = absurd h
+  along laws (Side i) K L (item.Page p) s a b' h = absurd h
+  along laws (Side i) K L (item.Side q) s a b' h = laws.side_along i K L q s a b' h
+  along laws (Side i) K L (item.Root r) s a b' h = absurd h
+  along laws Root K L (item.Page p) s a b' h = absurd h
+  along laws Root K L (item.Side q) s a b' h = absurd h
+  along laws Root K L (item.Root r) s a b' h = laws.root_along K L r s a b' h
 
   -- a turn that neither the step nor the view that changes names
   turn_stays : (K L : Known P Q R E) (s : Now M P Q R E) (words' : List ℕ) (homes' : Homes M P Q R E) (id : ℕ) (v w : ChairView P Q R E) (k : ℕ)
@@ -131,11 +131,11 @@ module _ {M P Q R E : Type 0} (μ : Meaning P Q R E) (turn : ℕ → Turn) where
       (λ k l. turn_stays K K s words' s.homes id v w k at (word k l) refl (same k) (ap (λ h. tick h (suc k)) hand) (λ _ x h. h) (r.each_turn k l))
 
   -- a step on a word that is no turn's, by which L is known
-  pub turns_change : (touched : ℕ → Bool) (K L : Known P Q R E) (s : Now M P Q R E) (id : ℕ) (v w : ChairView P Q R E) (words' : List ℕ) → Turns μ turn K s → get_elem? s.views id ≡ some v
+  pub turns_change : AreLaws μ → (touched : ℕ → Bool) (K L : Known P Q R E) (s : Now M P Q R E) (id : ℕ) (v w : ChairView P Q R E) (words' : List ℕ) → Turns μ turn K s → get_elem? s.views id ≡ some v
       → Change μ turn (length s.homes) touched K L v → w.parts ≡ v.parts → w.hand ≡ v.hand → w.held ≡ refreshed touched L v.held
       → length words' ≡ length s.words → ((k : ℕ) → k < length s.homes → get_or words' k 0 ≡ get_or s.words k 0)
       → Turns μ turn L record { words = words'; homes = s.homes; views = set s.views id w }
-  turns_change touched K L s id v w words' r at c parts hand held wide word =
+  turns_change laws touched K L s id v w words' r at c parts hand held wide word =
       let d = r.each_chair id v at in
       let same : (k : ℕ) → times k w.held ≡ times k v.held = λ k. ap (times k) held ∙ times_refreshed touched L k v.held in
       record {
@@ -145,7 +145,7 @@ module _ {M P Q R E : Type 0} (μ : Meaning P Q R E) (turn : ℕ → Turn) where
         each_turn = λ k l. turn_stays K L s words' s.homes id v w k at (word k l) refl (same k) (ap (λ h. tick h (suc k)) hand)
             (λ z x h. elim (cases_Bool (touched k)) [
               | inl y ↦ absurd (let a = c.mine k l y in let b = total_one (λ u. times k u.held) s.views id v at in omega arith)
-              | inr f ↦ along (turn k) K L x (c.stays k f) r.ok c.ok h
+              | inr f ↦ along laws (turn k) K L x (c.stays k f) r.ok c.ok h
             ]) (r.each_turn k l);
         each_chair = chairs_stay (Holder μ turn (length s.homes) L) s.views id w
             record {

@@ -93,9 +93,12 @@ pub record Meaning (P Q R E : Type 0) : Type 1 where
   pub may : E → Known P Q R E → Type 0
   -- the entry, which is not drawn, has the machine's replies and writes on the map at the newest number
   pub fits : E → Known P Q R E → Type 0
-  -- the laws: an entry changes its own side, a draw keeps the history legal, and a value that nothing touched is what it was
-  pub own : (log : List E) (e : E) → touches log e (Side (queue e)) ≡ true
-  pub ok_drawn : (e : E) (K : Known P Q R E) → ok K → may e K → ok (drawn e K)
-  pub page_along : (b : ℕ) (K L : Known P Q R E) (x : P) → Stays touches lies (Page b) K L → ok K → ok L → page b K x → page b L x
-  pub side_along : (q : ℕ) (K L : Known P Q R E) (x : Q) → Stays touches lies (Side q) K L → ok K → ok L → side q K x → side q L x
-  pub root_along : (K L : Known P Q R E) (x : R) → Stays touches lies Root K L → ok K → ok L → root K x → root L x
+
+-- The laws of what a machine says: an entry changes its own side, a draw keeps the history legal, and a value that nothing
+-- touched is what it was.
+pub record AreLaws {P Q R E : Type 0} (μ : Meaning P Q R E) : Type 0 where
+  pub own : (log : List E) (e : E) → μ.touches log e (Side (μ.queue e)) ≡ true
+  pub ok_drawn : (e : E) (K : Known P Q R E) → μ.ok K → μ.may e K → μ.ok (drawn e K)
+  pub page_along : (b : ℕ) (K L : Known P Q R E) (x : P) → Stays μ.touches μ.lies (Page b) K L → μ.ok K → μ.ok L → μ.page b K x → μ.page b L x
+  pub side_along : (q : ℕ) (K L : Known P Q R E) (x : Q) → Stays μ.touches μ.lies (Side q) K L → μ.ok K → μ.ok L → μ.side q K x → μ.side q L x
+  pub root_along : (K L : Known P Q R E) (x : R) → Stays μ.touches μ.lies Root K L → μ.ok K → μ.ok L → μ.root K x → μ.root L x

@@ -2,7 +2,7 @@
 
 /// The values of a desk, the entries of its history, and what they mean.
 pub trait Machine {
-    ghost use Rattle.mq_turns.specs.Meaning.{Meaning};
+    ghost use Rattle.mq_turns.specs.Meaning.{AreLaws, Meaning};
 
     type Page: Drop;
 
@@ -14,4 +14,8 @@ pub trait Machine {
     type Entry;
 
     ghost meaning: { Meaning Self.Page Self.Side Self.Root Self.Entry };
+
+    /// What is said obeys the laws of a desk. A call does nothing.
+    fn obeys()
+        ensures { AreLaws meaning };
 }

@@ -34,6 +34,7 @@ fn lay_sides<M: Machine>(top: &Top<M>, place: &mut Place<M>, pages: usize, mut s
     ensures seat { (place.new.table_id ≡ place.old.table_id)
         × (place.new.me ≡ (laying (opening_of top.now.key) top.now.key.chairs 0 pages, [])) }
 {
+    M::obeys();
     while let Some(side) = sides.pop() {
         steps::give_back(top, place, pages + sides.len(), Item::Side(side));
     }
@@ -56,6 +57,7 @@ fn lay_pages<M: Machine>(top: &Top<M>, place: &mut Place<M>, mut pages: Vec<M::P
     ensures seat { (place.new.table_id ≡ place.old.table_id)
         × (place.new.me ≡ (laying (opening_of top.now.key) top.now.key.chairs 0 0, [])) }
 {
+    M::obeys();
     while let Some(page) = pages.pop() {
         steps::give_back(top, place, pages.len(), Item::Page(page));
     }
@@ -83,6 +85,7 @@ fn lay_all<M: Machine>(
     ensures seat { (place.new.table_id ≡ place.old.table_id)
         × (place.new.me ≡ (laying (opening_of top.now.key) top.now.key.chairs 0 0, [])) }
 {
+    M::obeys();
     let count = pages.len();
     steps::give_back(top, place, count + sides.len(), Item::Root(root));
     lay_sides(top, place, count, sides);

@@ -201,6 +201,7 @@ fn draw_as<M: Machine, N: Told<M::Entry>>(
     ensures order { place.old.me.0.parts ≡ 1 → IsInOrder M.meaning place.new.me.0 }
 {
     let _ = entry;
+    M::obeys();
     top.fetch_add::<Draw<M, N>>(place, counter, 1)
 }
 

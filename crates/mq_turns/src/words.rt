@@ -54,6 +54,7 @@ pub(crate) fn clear<M: Machine>(top: &Top<M>, place: &mut Place<M>, word: usize,
         ))
         × Sees M.meaning place.old.me.0 K }
 {
+    M::obeys();
     top.store::<Clear<M>>(place, word, low);
 }
 
@@ -86,6 +87,7 @@ pub(crate) fn raise<M: Machine>(top: &Top<M>, place: &mut Place<M>, word: usize,
         × (place.new.me ≡ (after_raise new K place.old.me.0, place.old.me.1))
         × Sees M.meaning place.old.me.0 K }
 {
+    M::obeys();
     top.store::<Raise<M>>(place, word, new);
 }
 
@@ -114,6 +116,7 @@ pub(crate) fn note_home<M: Machine, N: Notifies<M::Page>>(
 {
     let _ = block;
     let _ = number;
+    M::obeys();
     top.load::<Notify<M, N>>(place, word);
 }
 
@@ -142,6 +145,7 @@ pub(crate) fn note_page<M: Machine, N: Notifies<M::Page>>(
 {
     let _ = block;
     let _ = page;
+    M::obeys();
     top.load::<Notify<M, N>>(place, word);
 }
 
@@ -168,6 +172,7 @@ pub(crate) fn note_front<M: Machine, N: Notifies<M::Page>>(
         × Sees M.meaning place.old.me.0 K }
 {
     let _ = front;
+    M::obeys();
     top.load::<Notify<M, N>>(place, word);
 }
 
@@ -194,5 +199,6 @@ pub(crate) fn charge<M: Machine, N: Notifies<M::Page>>(
         × Sees M.meaning place.old.me.0 K }
 {
     let _ = charge;
+    M::obeys();
     top.load::<Notify<M, N>>(place, word);
 }

@@ -18,7 +18,7 @@ give_back-requires-clause-stands g c =
     let p : c.len-count.result ≡ length c.args.top.now.key.pages.value.items = search rules in
     let q : c.len.result ≡ length c.args.top.now.key.sides.value.items = search rules in
     let s = root_laid g.M.Machine.meaning (opening_of c.args.top.now.key) (c.len-count.result + c.len.result) c.args.root (omega arith) c.requires.turns.2 c.requires.starts in
-    laid_stands g.M.Machine.meaning (opening_of c.args.top.now.key) _ _ (slots (opening_of c.args.top.now.key)) (c.len-count.result + c.len.result) Root c.args.place.now.me.0 (item.Root c.args.root) (ap (λ m. m.0) i) (omega arith) s.0 s.1
+    laid_stands g.M.Machine.meaning (opening_of c.args.top.now.key) c.obeys.ensures _ _ (slots (opening_of c.args.top.now.key)) (c.len-count.result + c.len.result) Root c.args.place.now.me.0 (item.Root c.args.root) (ap (λ m. m.0) i) (omega arith) s.0 s.1
 
 pub lay_sides-requires-clause-holds : goal.lay_sides-requires-clause-holds
 lay_sides-requires-clause-holds g c =

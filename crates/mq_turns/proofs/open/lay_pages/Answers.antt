@@ -18,7 +18,7 @@ give_back-requires-clause-stands g c =
     let longer : vec_len c.loop-page.pages ≡ Rattle.std.proofs.Common.suc c.len.result = search rules in
     let short = i.short in
     let s = page_laid g.M.Machine.meaning (opening_of c.args.top.now.key) c.len.result c.in-Some.page (omega arith) at c.requires.starts in
-    laid_stands g.M.Machine.meaning (opening_of c.args.top.now.key) _ _ _ c.len.result (Page c.len.result) c.loop-page.place.me.0 (item.Page c.in-Some.page) (ap (λ m. m.0) i.holds) longer s.0 s.1
+    laid_stands g.M.Machine.meaning (opening_of c.args.top.now.key) c.obeys.ensures _ _ _ c.len.result (Page c.len.result) c.loop-page.place.me.0 (item.Page c.in-Some.page) (ap (λ m. m.0) i.holds) longer s.0 s.1
 
 pub loop-page-preserved : goal.loop-page-preserved
 loop-page-preserved g c =

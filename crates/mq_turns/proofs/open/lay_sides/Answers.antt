@@ -16,7 +16,7 @@ give_back-requires-clause-stands g c =
     let i = c.loop-side.invariant in
     let at = last_pop c.args.top.now.key.sides.value.items c.loop-side.sides.items c.pop.new.self.items c.in-Some.side c.len.result c.in-Some.ensures.items (search rules) i.front in
     let s = side_laid g.M.Machine.meaning (opening_of c.args.top.now.key) (c.args.pages + c.len.result) c.args.pages c.len.result c.in-Some.side c.requires.turns.0 (omega arith) at c.requires.starts in
-    laid_stands g.M.Machine.meaning (opening_of c.args.top.now.key) _ _ _ (c.args.pages + c.len.result) (Side c.len.result) c.loop-side.place.me.0 (item.Side c.in-Some.side) (ap (λ m. m.0) i.holds) (let longer : vec_len c.loop-side.sides ≡ suc c.len.result = search rules in omega arith) s.0 s.1
+    laid_stands g.M.Machine.meaning (opening_of c.args.top.now.key) c.obeys.ensures _ _ _ (c.args.pages + c.len.result) (Side c.len.result) c.loop-side.place.me.0 (item.Side c.in-Some.side) (ap (λ m. m.0) i.holds) (let longer : vec_len c.loop-side.sides ≡ suc c.len.result = search rules in omega arith) s.0 s.1
 
 pub loop-side-preserved : goal.loop-side-preserved
 loop-side-preserved g c =
