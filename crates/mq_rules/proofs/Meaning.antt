@@ -1,31 +1,20 @@
--- The rule of a desk over ports, as a desk asks for it.
+-- The rule of a desk over ports obeys the laws of a desk, and a desk may be opened with it.
 use Rattle.std.proofs.Common.{refl}
 use Rattle.std.proofs.lemmas.Bool.{eq-eqb}
 use Rattle.mq_pages.specs.declared.page.PageCell.{PageCell}
 use Rattle.mq_turns.specs.Chairs.{Starts}
-use Rattle.mq_turns.specs.Meaning.{Meaning}
+use Rattle.mq_turns.specs.Meaning.{AreLaws}
 use Rattle.mq_turns.specs.declared.rule.Opening.{Opening}
 use Rattle.mq_rules.specs.Groups.{Group}
+use Rattle.mq_rules.specs.Meaning.{meaning}
 use Rattle.mq_rules.specs.Opening.{IsFresh}
-use Rattle.mq_rules.specs.Rule
 use Rattle.mq_rules.specs.Values.{Values}
 use Rattle.mq_rules.proofs.Opening.{opening_ruled}
 use Rattle.mq_rules.proofs.Staying.{ok_drawn, page_along, root_along, side_along}
 
 module _ {Q R E : Type 0} (values : Values Q R E) (group : Group E) where
-  abbrev pub meaning : Meaning PageCell Q R E
-  meaning = record {
-    touches = Rule.touches values group;
-    lies = Rule.lies values group;
-    queue = λ e. (group.tx e).queue;
-    session = group.session;
-    group = group.call;
-    ok = Rule.IsOk values group;
-    page = Rule.IsPage values group;
-    side = Rule.IsSide values group;
-    root = Rule.IsRoot values group;
-    may = Rule.May values group;
-    fits = Rule.Fits values group;
+  pub laws : AreLaws (meaning values group)
+  laws = record {
     own = λ log e. eq-eqb (group.tx e).queue (group.tx e).queue refl;
     ok_drawn = ok_drawn values group;
     page_along = λ b K L x s k l h. page_along values group b K L x s h;
@@ -34,5 +23,5 @@ module _ {Q R E : Type 0} (values : Values Q R E) (group : Group E) where
   }
 
   -- the values that a fresh desk is opened with stand for the start
-  pub starts : (o : Opening PageCell Q R) → IsFresh values group o → Starts meaning o
+  pub starts : (o : Opening PageCell Q R) → IsFresh values group o → Starts (meaning values group) o
   starts o fresh = let is = opening_ruled values group o fresh in record { ok = is.ok; pages = is.pages; sides = is.sides; root = is.root }
