@@ -1,16 +1,16 @@
 -- What a vote leaves on its queue's port.
-use Rattle.std.proofs.Common.{◌≡◌, ◌==◌, ℕ, zero, suc, ◌+◌, ◌%◌, ◌<◌, ◌≤◌, Bool, true, false, cond, List, [], ◌∷◌, map, length, refl, sym, ap, ◌∙◌, subst, arith, eq-eqb, Option, Some}
+use Rattle.std.proofs.Common.{◌≡◌, ℕ, zero, suc, ◌+◌, ◌%◌, ◌<◌, ◌≤◌, Bool, true, false, cond, List, [], ◌∷◌, ◌++◌, map, length, refl, sym, ap, ◌∙◌, subst, arith, eq-eqb, Some}
 use Rattle.std.proofs.lemmas.Bool.{eqb-true, false≢true}
 use Rattle.std.proofs.Math.Nat.{mod-add-mod, mod-mod, le-div_iff_mul-le}
 use Rattle.std.specs.Prelude.{slice_get, slice_index_or}
 use Rattle.mq_turns.specs.Chairs.{Starts, holding}
 use Rattle.mq_turns.specs.Desk.{Follows, fresh, allotment}
 use Rattle.mq_turns.specs.Lists.{Each, tick, times}
-use Rattle.mq_turns.specs.Meaning.{newest, drawn, claimed, raised}
+use Rattle.mq_turns.specs.Meaning.{Apart, AreLaws, Stays, newest, drawn, claimed, raised}
 use Rattle.mq_turns.specs.Marks.{mark_of, claim_of}
 use Rattle.mq_turns.specs.Words.{same_turn, after_clear, after_raise}
 use Rattle.mq_turns.specs.Desk.{IsTurn, slot_of, turn_at, refreshed, Stay, Sees, Covers, Stands, after_draw}
-use Rattle.mq_test_turns.specs.Counting.{votes, Counted, counted_along, counting}
+use Rattle.mq_test_turns.specs.Counting.{votes, Counted, counting, vote_touches}
 use Rattle.mq_turns.specs.declared.rule.Opening.{Opening}
 use Rattle.mq_turns.specs.declared.rule.Known.{Known}
 use Rattle.mq_turns.specs.declared.rule.ChairView.{ChairView}
@@ -20,6 +20,28 @@ use Rattle.mq_turns.specs.declared.turn.Item.TheVariants as item
 use Rattle.mq_turns.proofs.Seen.{opening_seen, turn_seen, mark_stays, stands_renewed}
 use Rattle.mq_turns.proofs.Slots.{turn_at_slot}
 use Rattle.mq_turns.proofs.Each.{hit}
+
+module _ {E : Type 0} (queue : E → ℕ) where
+  votes_apart : (q : ℕ) (newer log : List E) → Apart (vote_touches queue) newer log (Side q) → votes queue q (newer ++ log) ≡ votes queue q log
+  votes_apart q [] log a = refl
+  votes_apart q (e ∷ es) log a = let none : tick (queue e) q ≡ 0 = ap (λ b. cond b 1 0) a.0 in let ih = votes_apart q es log a.1 in omega arith
+
+  counted_along : {Q : Type 0} (state : Q → ℕ) (q : ℕ) (K L : Known ℕ Q ℕ E) (x : Q) → Stays (vote_touches queue) (λ o h t. false) (Side q) K L → Counted queue state q K x → Counted queue state q L x
+  counted_along state q K L x s is =
+      let n : votes queue q L.log ≡ votes queue q K.log = ap (votes queue q) s.grows.log ∙ votes_apart q s.grows.newer K.log s.apart in
+      let o = s.grows.opening in
+      let F : ℕ → ℕ → ℕ = λ a b. (a + b) % 18446744073709551616 in
+      is ∙ (λ i. F (slice_index_or (map state (sym o i).sides) q 0) (sym n i))
+
+-- the machine obeys the laws of a desk
+pub laws : {E Q : Type 0} (queue session group : E → ℕ) (state : Q → ℕ) → AreLaws (counting queue session group state)
+laws queue session group state = record {
+  own = λ log e. eq-eqb (queue e) (queue e) refl;
+  ok_drawn = λ e K ok may. tt;
+  page_along = λ b K L x s a c h. tt;
+  side_along = λ q K L x s a c h. counted_along queue state q K L x s h;
+  root_along = λ K L x s a c h. h ∙ sym (s.word refl);
+}
 
 -- each of a few chairs may draw many numbers
 pub allots : (chairs : ℕ) → 0 < chairs → chairs ≤ 16 → 4294967296 ≤ allotment chairs
@@ -139,5 +161,5 @@ module _ {E Q : Type 0} (queue session group : E → ℕ) (state : Q → ℕ) (o
   root_raised M base L K w is sees seen =
       let now : (raised base L).opening ≡ o = opening_seen ν o L v opening sees in
       let about : same_turn Root (turn_at (raised base L).opening (slot_of o Root)) ≡ true = ap (λ p. same_turn Root (turn_at p (slot_of o Root))) now ∙ ap (same_turn Root) (turn_at_slot o Root tt) in
-      stands_renewed {M = M} ν (λ k. same_turn Root (turn_at (raised base L).opening k)) (raised base L) K v w Root (slot_of o Root) (item.Root base)
+      stands_renewed {M = M} ν (laws queue session group state) (λ k. same_turn Root (turn_at (raised base L).opening k)) (raised base L) K v w Root (slot_of o Root) (item.Root base)
       (ap (λ (u : ChairView ℕ Q ℕ E). u.held) is) about root_held (turn_seen ν o K w Root (ap (λ (u : ChairView ℕ Q ℕ E). u.opening) is ∙ opening) seen tt) seen refl

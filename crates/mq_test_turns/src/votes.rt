@@ -66,6 +66,8 @@ impl<P: Port> Machine for Counting<P> {
     ghost use Rattle.mq_test_turns.specs.declared.votes.Vote.{Vote};
 
     ghost meaning = { counting (λ (e : Vote). e.queue) (λ e. e.session) (λ e. e.group) (λ q. P.state q.port) };
+
+    fn obeys() {}
 }
 
 /// What a round saw and drew: the counter before and after the draw, and the front before and after the vote was
