@@ -15,6 +15,7 @@ use Rattle.mq_rules.specs.Rule
 use Rattle.mq_rules.specs.Rule.{IsSide}
 use Rattle.mq_rules.specs.Values.{Values}
 use Rattle.mq_rules.proofs.Telling.{ok_claimed, side_claimed}
+use Rattle.mq_rules.proofs.Meaning.{laws}
 use Rattle.mq_side.specs.declared.root.Root as side
 use Rattle.mq_side.specs.declared.side.QueueSide.{QueueSide}
 use Rattle.mq_side.proofs.Sends.{none_kept}
@@ -209,7 +210,7 @@ module _ {P E : Type 0} {G : Ghosts P} (state : P → PortState) (faults : P →
 
   -- what the session knows of a side that it holds
   pub side_known : (o : Start P E G) (q : ℕ) (s : QueueSide P E G) (v : Seat P E G) → v.opening ≡ Some o → Numbers.HoldsSide state faults group o q s v → (K : Shared P E G) → Sees μ v K → IsSide values group q K s
-  side_known o q s v opening h K sees = stands_held {M = ℕ} μ o (Side q) v (item.Side s) opening h.turn h.holds h.is K sees
+  side_known o q s v opening h K sees = stands_held {M = ℕ} μ (laws values group) o (Side q) v (item.Side s) opening h.turn h.holds h.is K sees
 
   -- ---- a look, and nothing more
 
@@ -283,7 +284,7 @@ module _ {P E : Type 0} {G : Ghosts P} (state : P → PortState) (faults : P →
             record {
               mark = let m = mark_stays μ q L K stays.1 in let n = mark_then in let a = sees.seen in omega arith;
               past = λ le. let m = mark_stays μ q L K stays.1 in let n = mark_then in let a = sees0.seen in omega arith;
-              side = μ.side_along q L K s stays.1 stays.0 sees.ok side_then;
+              side = (laws values group).side_along q L K s stays.1 stays.0 sees.ok side_then;
               sees = record {
                 opening = sym (ap (λ (z : Seat P E G). z.opening) cleared ∙ ap (λ (z : Seat P E G). z.opening) looked) ∙ sees.opening;
                 ok = sees.ok;

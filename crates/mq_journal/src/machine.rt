@@ -36,6 +36,8 @@ impl<P: Port + Drop, G: Groups> Machine for JournalMachine<P, G> {
     ghost use Rattle.mq_journal.specs.Machine.{journal};
 
     ghost meaning = { journal P.state P.faults G.group };
+
+    fn obeys() {}
 }
 
 impl<P: Port + Drop, G: Groups> JournalValues for JournalMachine<P, G> {

@@ -1,6 +1,7 @@
 use Rattle.std.proofs.Common.{◌≡◌, ℕ, ◌+◌, ◌<◌, true, length, sym, refl, ap, subst, ◌∙◌, arith}
 use Rattle.std.proofs.lemmas.Bool.{eq-eqb}
 use Rattle.mq_rules.specs.Rule.{IsSide}
+use Rattle.mq_rules.proofs.Meaning.{laws}
 use Rattle.mq_turns.specs.AtDesk.{view, start_of}
 use Rattle.mq_turns.specs.Chairs.{giving}
 use Rattle.mq_turns.specs.Desk.{slot_of, turn_at}
@@ -53,7 +54,7 @@ give_back-requires-clause-stands g c = λ K sees.
     let there = turn_at_slot o (Side q) c.requires.turn in
     let mine : same_turn (Side q) (turn_at K1.opening slot) ≡ true = ap (λ z. same_turn (Side q) (turn_at z slot)) start ∙ (ap (same_turn (Side q)) there ∙ eq-eqb q q refl) in
     let now = opening_seen μ o K (view c.clear.new.chair) (ap (λ w. w.opening) is ∙ c.requires.at.1) sees in
-    let known = stands_renewed {M = ℕ} μ (λ k. same_turn (Side q) (turn_at L.opening k)) L K v (view c.clear.new.chair) (Side q) slot (item.Side s) (ap (λ w. w.held) is) mine c.requires.holds (ap (λ z. turn_at z slot) now ∙ there) sees (c.requires.shows K1 cleared.2) in
+    let known = stands_renewed {M = ℕ} μ (laws (values state faults group) group) (λ k. same_turn (Side q) (turn_at L.opening k)) L K v (view c.clear.new.chair) (Side q) slot (item.Side s) (ap (λ w. w.held) is) mine c.requires.holds (ap (λ z. turn_at z slot) now ∙ there) sees (c.requires.shows K1 cleared.2) in
     subst (λ z. IsSide (values state faults group) group z K s) (sym c.queue-queue.ensures) known
 
 pub returns-clause-passed : goal.returns-clause-passed
