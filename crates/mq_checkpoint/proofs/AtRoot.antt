@@ -20,6 +20,7 @@ use Rattle.mq_rules.specs.Rule.{IsOk, IsPage, IsRoot}
 use Rattle.mq_rules.specs.Values.{Values}
 use Rattle.mq_rules.proofs.Charging.{charged_more}
 use Rattle.mq_rules.proofs.Telling.{ok_raised, root_charged, root_raised}
+use Rattle.mq_rules.proofs.Meaning.{laws}
 use Rattle.mq_side.specs.Roots.{IsRaiseCut, after_raise}
 use Rattle.mq_side.specs.declared.answers.Cause.TheVariants as cause
 use Rattle.mq_side.specs.declared.root.Root.{Root}
@@ -99,7 +100,7 @@ module _ {P E : Type 0} {G : Ghosts P} (state : P → PortState) (faults : P →
 
   root_now : (K : Shared P E G) → Sees μ v1 K → IsRoot values group K s
   root_now K sees =
-      stands_held {M = ℕ} μ o turn.Root v1 (item.Root s) opening_is tt holds
+      stands_held {M = ℕ} μ (laws values group) o turn.Root v1 (item.Root s) opening_is tt holds
       (subst (Each (λ y. y.0 ≡ slot → IsRoot values group y.1 s)) (sym held_is) ((λ e. is), tt)) K sees
 
   -- with the base stored, or not, the root is what the rule says, whatever is known by now
@@ -138,7 +139,7 @@ module _ {P E : Type 0} {G : Ghosts P} (state : P → PortState) (faults : P →
           let there = turn_at_slot o turn.Root tt in
           let mine : same_turn turn.Root (turn_at K3.opening slot) ≡ true = ap (λ z. same_turn turn.Root (turn_at z slot)) start ∙ ap (same_turn turn.Root) there in
           let now = opening_seen μ o K v2 (ap (λ (w : Seat P E G). w.opening) was ∙ opening_is) sees in
-          stands_renewed {M = ℕ} μ (λ k. same_turn turn.Root (turn_at K3.opening k)) (raised b K3) K v1 v2 turn.Root slot (item.Root u) (ap (λ (w : Seat P E G). w.held) was) mine holds (ap (λ z. turn_at z slot) now ∙ there) sees root_then
+          stands_renewed {M = ℕ} μ (laws values group) (λ k. same_turn turn.Root (turn_at K3.opening k)) (raised b K3) K v1 v2 turn.Root slot (item.Root u) (ap (λ (w : Seat P E G). w.held) was) mine holds (ap (λ z. turn_at z slot) now ∙ there) sees root_then
 
       pub stored_base : (w : Seat P E G) → w ≡ giving slot v2 → IsStored state faults group b v w
       stored_base w gave =

@@ -19,6 +19,7 @@ use Rattle.mq_rules.specs.Groups.{Group}
 use Rattle.mq_rules.specs.Rule
 use Rattle.mq_rules.specs.Rule.{IsOfRoot, IsRoot}
 use Rattle.mq_rules.specs.Values.{Values}
+use Rattle.mq_rules.proofs.Meaning.{laws}
 use Rattle.mq_side.specs.Homes.{RootStaysAt}
 use Rattle.mq_side.specs.declared.answers.Cause.{Cause}
 use Rattle.mq_side.specs.declared.root.Root.{Root}
@@ -118,7 +119,7 @@ module _ {P E : Type 0} {G : Ghosts P} (state : P → PortState) (faults : P →
       pub noted_root : (K : Shared P E G) → Sees μ v2 K → IsRoot values group K u
       noted_root K sees =
           let low = below in
-          stands_held {M = ℕ} μ o turn.Root v2 (item.Root u) (ap (λ (w : Seat P E G). w.opening) noted ∙ took_opening state faults group o b c v v1 opening h None zone_there tt below K2 took) tt noted_holds
+          stands_held {M = ℕ} μ (laws values group) o turn.Root v2 (item.Root u) (ap (λ (w : Seat P E G). w.opening) noted ∙ took_opening state faults group o b c v v1 opening h None zone_there tt below K2 took) tt noted_holds
           (subst (Each (λ x. x.0 ≡ slot → IsRoot values group x.1 u)) (sym held) ((λ e. done K3 sees3 is_so there), ((λ e. absurd (omega arith)), tt))) K sees
 
   -- ---- what a refusal is

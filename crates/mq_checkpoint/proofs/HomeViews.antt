@@ -19,6 +19,7 @@ use Rattle.mq_rules.specs.Values.{Values}
 use Rattle.mq_rules.proofs.Added.{same_port-same}
 use Rattle.mq_rules.proofs.Settled.{front_claimed}
 use Rattle.mq_rules.proofs.Telling.{ok_written, page_waits, page_written}
+use Rattle.mq_rules.proofs.Meaning.{laws}
 use Rattle.mq_side.specs.declared.root.Root.{Root}
 use Rattle.mq_side.specs.declared.side.QueueSide.{QueueSide}
 use Rattle.mq_turns.specs.Chairs.{giving, holding}
@@ -75,7 +76,7 @@ module _ {P E : Type 0} {G : Ghosts P} (state : P → PortState) (faults : P →
   -- the cell in hand is what the rule says, whatever is known by now
   pub page_seen : (o : Start P E G) (b : ℕ) (c : PageCell) (v : Seat P E G) → v.opening ≡ Some o → HoldsOnlyPage state faults group o b c v → (K : Shared P E G) → Sees μ v K → IsPage values group b K c
   page_seen o b c v opening h K sees =
-      stands_held {M = ℕ} μ o (Page b) v (item.Page c) opening h.turn
+      stands_held {M = ℕ} μ (laws values group) o (Page b) v (item.Page c) opening h.turn
       (subst (λ l. 0 < times b l) (sym h.held) (let z = hit b b refl in omega arith))
       (subst (Each (λ x. x.0 ≡ b → IsPage values group b x.1 c)) (sym h.held) ((λ e. h.is), tt)) K sees
 
@@ -117,7 +118,7 @@ module _ {P E : Type 0} {G : Ghosts P} (state : P → PortState) (faults : P →
     -- what was taken is what the rule says, whatever is known by now
     pub port_seen : (x : Item ℕ PageCell (QueueSide P E G) (Root P G) E) → Stands μ t K2 x → (K : Shared P E G) → Sees μ v1 K → Stands μ t K x
     port_seen x stands K sees =
-        stands_held {M = ℕ} μ o t v1 x took_opening mine holds_slot
+        stands_held {M = ℕ} μ (laws values group) o t v1 x took_opening mine holds_slot
         (subst (Each (λ y. y.0 ≡ slot → Stands μ t y.1 x)) (sym took_held) ((λ e. stands), ((λ e. absurd (apart e)), tt))) K sees
 
     -- the home write may be noted

@@ -7,9 +7,10 @@ use Rattle.mq_turns.specs.Meaning.{charged}
 use Rattle.mq_turns.specs.Words.{same_turn}
 use Rattle.mq_turns.specs.declared.turn.Item.TheVariants as item
 use Rattle.mq_turns.specs.declared.turn.Turn.TheVariants.{Root}
+use Rattle.mq_rules.proofs.Meaning.{laws}
 use Rattle.mq_turns.proofs.Seen.{opening_seen, stands_renewed, times_renewed}
 use Rattle.mq_turns.proofs.Slots.{turn_at_slot}
-use Rattle.mq_journal.specs.Numbers.{machine}
+use Rattle.mq_journal.specs.Numbers.{machine, values}
 use Rattle.mq_checkpoint.specs.Raised.{reported_root}
 use Rattle.mq_checkpoint.proofs.root.report_root.Goals as goal
 
@@ -37,7 +38,7 @@ give_back-requires-clause-stands g c = λ K sees.
     let there = turn_at_slot o Root tt in
     let mine : same_turn Root (turn_at K1.opening slot) ≡ true = ap (λ z. same_turn Root (turn_at z slot)) start ∙ ap (same_turn Root) there in
     let now = opening_seen μ o K (view c.charge.new.chair) (ap (λ w. w.opening) noted.1 ∙ c.requires.at.1) sees in
-    stands_renewed {M = ℕ} μ (λ k. same_turn Root (turn_at L.opening k)) L K v (view c.charge.new.chair) Root slot (item.Root c.args.root) (ap (λ w. w.held) noted.1) mine c.requires.holds (ap (λ z. turn_at z slot) now ∙ there) sees (c.requires.shows K1 noted.2)
+    stands_renewed {M = ℕ} μ (laws (values g.P.Port.state g.P.Port.faults g.G.Groups.group) g.G.Groups.group) (λ k. same_turn Root (turn_at L.opening k)) L K v (view c.charge.new.chair) Root slot (item.Root c.args.root) (ap (λ w. w.held) noted.1) mine c.requires.holds (ap (λ z. turn_at z slot) now ∙ there) sees (c.requires.shows K1 noted.2)
 
 pub returns-clause-reported : goal.returns-clause-reported
 returns-clause-reported g c =
