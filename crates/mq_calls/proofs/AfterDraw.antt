@@ -34,6 +34,7 @@ use Rattle.mq_rules.specs.Groups.{Group}
 use Rattle.mq_rules.specs.Rule.{IsPage, numbered, touches}
 use Rattle.mq_rules.specs.Values.{Values}
 use Rattle.mq_rules.proofs.Drawing.{page_drawn}
+use Rattle.mq_rules.proofs.Meaning.{laws}
 use Rattle.mq_side.specs.Commits.{NumberedCommit}
 use Rattle.mq_side.specs.declared.root.Root.{Root}
 use Rattle.mq_side.specs.declared.side.QueueSide.{QueueSide}
@@ -151,7 +152,7 @@ module _ {P E : Type 0} {G : Ghosts P} (state : P → PortState) (faults : P →
 
     page-drawn : (b : ℕ) (c : PageCell) → HoldsPage μ o rest b c → IsAfterStep μ about (drawn e K) (b, c) (b, cell_after t b c)
     page-drawn b c h =
-        let page : IsPage V group b K c = stands_held {M = ℕ} μ o (Page b) rest (item.Page c) opening h.turn h.holds h.is K draws.sees in
+        let page : IsPage V group b K c = stands_held {M = ℕ} μ (laws V group) o (Page b) rest (item.Page c) opening h.turn h.holds h.is K draws.sees in
         let is : about b ≡ changes (group.tx e) b = ap (touches V group K.log e) (turn_seen μ o K rest (Page b) opening draws.sees h.turn) in
         let number : newest K + 1 ≡ n.number = let d = draws.number in omega arith in
         record {

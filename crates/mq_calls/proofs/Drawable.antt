@@ -35,6 +35,7 @@ use Rattle.mq_revoke.specs.declared.placement.Planned.{Planned}
 use Rattle.mq_rules.specs.Rule.{May, core_of, geometry_of, history_of, map_now, start_of, touches}
 use Rattle.mq_rules.specs.Values.{Values}
 use Rattle.mq_rules.proofs.Settled.{front_claimed}
+use Rattle.mq_rules.proofs.Meaning.{laws}
 use Rattle.mq_side.specs.Commits.{IsPlanOf, written_in}
 use Rattle.mq_side.specs.Stored.{FitIs, IsBounded, rows_of}
 use Rattle.mq_side.specs.declared.answers.Fit.TheVariants.{Area, Yes}
@@ -154,7 +155,7 @@ module _ {P : Type 0} {G : Ghosts P} (state : P → PortState) (faults : P → L
 
     -- what the rule of placing asks is what the history says
     told : (K : Shared P FileEntry G) → Sees μ rest K → map (planned_with cells) done.writes.items ≡ map (planned_by (start_of V file_group K.opening) K.opening.base (history_of V file_group K)) done.writes.items
-    told K sees = tells_plans V K cells done.writes.items (λ b c at. cells-now μ o cells rest K b c opening pages-rest sees at) known
+    told K sees = tells_plans V K cells done.writes.items (λ b c at. cells-now μ (laws V file_group) o cells rest K b c opening pages-rest sees at) known
 
     -- it is placed so by what is known
     pub placed-now : (plan : Placed) (front base : ℕ) (K : Shared P FileEntry G) → Sees μ v K → IsPlacement g q front base (map (planned_with cells) done.writes.items) plan → IsPlacement g q front base (planned_at state faults K done.writes.items) plan

@@ -20,6 +20,7 @@ use Rattle.mq_rules.specs.Groups.{Group}
 use Rattle.mq_rules.specs.Rule.{Desk, IsPage, geometry_of, map_now, shape_of}
 use Rattle.mq_rules.specs.Values.{Values}
 use Rattle.mq_rules.proofs.Staying.{good_now}
+use Rattle.mq_rules.proofs.Meaning.{laws}
 use Rattle.mq_side.specs.declared.root.Root.{Root}
 use Rattle.mq_side.specs.declared.side.QueueSide.{QueueSide}
 use Rattle.mq_tree.specs.Laid.{IsLaid}
@@ -63,7 +64,7 @@ module _ {P : Type 0} {G : Ghosts P} (state : P → PortState) (faults : P → L
     shape-is K s = ap (shape_of V file_group) (opening_seen μ o K v opening s) ∙ shape
 
     map-now : (K : Desk V file_group) → Sees μ v K → (b : ℕ) (page : Option (List ℕ)) → held_pages cells b ≡ Some page → map_now V file_group K b ≡ page
-    map-now K s = map-of-cells V file_group cells K (λ b c e. cells-now μ o cells v K b c opening held s e)
+    map-now K s = map-of-cells V file_group cells K (λ b c e. cells-now μ (laws V file_group) o cells v K b c opening held s e)
 
     -- the volume of the map agrees with the pages
     agrees-now : (K : Desk V file_group) → Sees μ v K → (w : Volume) × IsLaid g (map_now V file_group K) w × Agrees g (held_pages cells) w

@@ -8,7 +8,7 @@ use Rattle.mq_pages.proofs.Cells.{rising-push}
 use Rattle.mq_turns.specs.Chairs.{giving, holding}
 use Rattle.mq_turns.specs.Desk.{IsTurn, Sees, Stands, refreshed, turn_at}
 use Rattle.mq_turns.specs.Lists.{Each, times}
-use Rattle.mq_turns.specs.Meaning.{Meaning}
+use Rattle.mq_turns.specs.Meaning.{AreLaws, Meaning}
 use Rattle.mq_turns.specs.declared.rule.Known.{Known}
 use Rattle.mq_turns.specs.declared.rule.Opening.{Opening}
 use Rattle.mq_turns.specs.declared.rule.ChairView.{ChairView}
@@ -23,8 +23,8 @@ use Rattle.mq_calls.proofs.Lists.{above-last, each-block, each-cell, each-front,
 module _ {Q R E : Type 0} (μ : Meaning PageCell Q R E) where
   -- ---- one page
 
-  page-now : (o : Opening PageCell Q R) (v : ChairView PageCell Q R E) (K : Known PageCell Q R E) (b : ℕ) (c : PageCell) → v.opening ≡ Some o → HoldsPage μ o v b c → Sees μ v K → μ.page b K c
-  page-now o v K b c opening h s = stands_held {M = ℕ} μ o (Page b) v (item.Page c) opening h.turn h.holds h.is K s
+  page-now : AreLaws μ → (o : Opening PageCell Q R) (v : ChairView PageCell Q R E) (K : Known PageCell Q R E) (b : ℕ) (c : PageCell) → v.opening ≡ Some o → HoldsPage μ o v b c → Sees μ v K → μ.page b K c
+  page-now laws o v K b c opening h s = stands_held {M = ℕ} μ laws o (Page b) v (item.Page c) opening h.turn h.holds h.is K s
 
   page-beside : (o : Opening PageCell Q R) (v : ChairView PageCell Q R E) (b : ℕ) (c : PageCell) (k : ℕ) (K : Known PageCell Q R E) → b ≢ k → HoldsPage μ o v b c → HoldsPage μ o (holding k K v) b c
   page-beside o v b c k K other h = record {
@@ -49,8 +49,8 @@ module _ {Q R E : Type 0} (μ : Meaning PageCell Q R E) where
 
   -- ---- all pages
 
-  pub cells-now : (o : Opening PageCell Q R) (cells : Cells) (v : ChairView PageCell Q R E) (K : Known PageCell Q R E) (b : ℕ) (c : PageCell) → v.opening ≡ Some o → HoldsPages μ o cells v → Sees μ v K → cell_of cells b ≡ Some c → μ.page b K c
-  cells-now o cells v K b c opening h s e = page-now o v K b c opening (each-cell (HoldsPage μ o v) cells b c h.each e) s
+  pub cells-now : AreLaws μ → (o : Opening PageCell Q R) (cells : Cells) (v : ChairView PageCell Q R E) (K : Known PageCell Q R E) (b : ℕ) (c : PageCell) → v.opening ≡ Some o → HoldsPages μ o cells v → Sees μ v K → cell_of cells b ≡ Some c → μ.page b K c
+  cells-now laws o cells v K b c opening h s e = page-now laws o v K b c opening (each-cell (HoldsPage μ o v) cells b c h.each e) s
 
   pages-beside : (o : Opening PageCell Q R) (cells : Cells) (v : ChairView PageCell Q R E) (k : ℕ) (K : Known PageCell Q R E) → Each (λ x. x.0 ≢ k) cells → HoldsPages μ o cells v → HoldsPages μ o cells (holding k K v)
   pages-beside o cells v k K other h = record {
@@ -176,8 +176,8 @@ module _ {Q R E : Type 0} (μ : Meaning PageCell Q R E) where
       let other = each_map (λ x. x.0 < b) (λ x. x.0 ≢ b) (λ x l same. omega arith) cells (rising-last (b, c) cells h.rising) in
       record { page = parts.1.0; rest = pages-kept o cells v b other front }
 
-  pub last-stands : (M : Type 0) (o : Opening PageCell Q R) (cells : Cells) (v : ChairView PageCell Q R E) (b : ℕ) (c : PageCell) → v.opening ≡ Some o → IsLast o cells v b c → (K : Known PageCell Q R E) → Sees μ v K → Stands {M = M} μ (Page b) K (item.Page c)
-  last-stands M o cells v b c opening last K s = page-now o v K b c opening last.page s
+  pub last-stands : AreLaws μ → (M : Type 0) (o : Opening PageCell Q R) (cells : Cells) (v : ChairView PageCell Q R E) (b : ℕ) (c : PageCell) → v.opening ≡ Some o → IsLast o cells v b c → (K : Known PageCell Q R E) → Sees μ v K → Stands {M = M} μ (Page b) K (item.Page c)
+  last-stands laws M o cells v b c opening last K s = page-now laws o v K b c opening last.page s
 
   -- ---- what is seen
 

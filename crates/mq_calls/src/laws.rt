@@ -16,7 +16,9 @@ use mq_turns::{Desk, Machine};
 /// By whatever may be known by now, each cell that a session holds is what the machine says of its page.
 pub fn held_pages_are_current<M: Machine<Page = PageCell>>()
     ensures { CellsAreCurrent M.meaning }
-{}
+{
+    M::obeys();
+}
 
 /// Over a journal the contents of such cells are those of the map at the newest number.
 pub fn current_pages_are_of_the_map<J: JournalValues>()

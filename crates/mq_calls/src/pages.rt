@@ -52,6 +52,7 @@ pub fn give_back_pages<M: Machine<Page = PageCell>>(
     ensures cells { held.new.cells ≡ [] }
     ensures room { held.new.room ≡ held.old.room }
 {
+    M::obeys();
     while let Some((block, cell)) = held.pop() {
         desk.give_back(chair, Turn::Page(block), Item::Page(cell));
     }

@@ -1,6 +1,8 @@
 use Rattle.std.proofs.Common.{rules, ◌≡◌, ◌∙◌, [], ℕ, refl}
+use Rattle.mq_files.specs.Group.{file_group}
+use Rattle.mq_rules.proofs.Meaning.{laws}
 use Rattle.mq_turns.specs.AtDesk.{start_of, view}
-use Rattle.mq_calls.specs.Runs.{files}
+use Rattle.mq_calls.specs.Runs.{file_values, files}
 use Rattle.mq_calls.proofs.AfterDraw.{left-all, left-last, left-more, left-none, left-rises}
 use Rattle.mq_calls.proofs.Holding.{last-stands}
 use Rattle.mq_calls.proofs.leaving.give_drawn_pages.Goals as goal
@@ -24,7 +26,7 @@ give_back-requires-clause-holds g c = (left-last _ _ _ _ _ _ _ _ _ _ _ _ _ _ c.l
 pub give_back-requires-clause-stands : goal.give_back-requires-clause-stands
 give_back-requires-clause-stands g c = λ K sees.
     let last = left-last (files g.P.Port.state g.P.Port.faults) (start_of c.args.desk.now) c.args.number c.args.plan.now c.args.frees.now _ _ _ _ _ _ _ _ _ c.loop-block.invariant.left c.in-Some.ensures.last in
-    rw c.page_after-cell.ensures.cell (last-stands (files g.P.Port.state g.P.Port.faults) ℕ (start_of c.args.desk.now) _ _ _ _ c.loop-block.invariant.at.1 last K sees)
+    rw c.page_after-cell.ensures.cell (last-stands (files g.P.Port.state g.P.Port.faults) (laws (file_values g.P.Port.state g.P.Port.faults) file_group) ℕ (start_of c.args.desk.now) _ _ _ _ c.loop-block.invariant.at.1 last K sees)
 
 pub loop-block-preserved : goal.loop-block-preserved
 loop-block-preserved g c = record {

@@ -9,7 +9,7 @@ give_back-requires-clause-holds g c = (given-last g.M.Machine.meaning _ _ _ _ _ 
 
 pub give_back-requires-clause-stands : goal.give_back-requires-clause-stands
 give_back-requires-clause-stands g c = λ K sees.
-    last-stands g.M.Machine.meaning ℕ (start_of c.args.desk.now) _ _ _ _ c.loop-block.invariant.at.1 (given-last g.M.Machine.meaning _ _ _ _ _ _ _ _ c.loop-block.invariant.given c.in-Some.ensures.last) K sees
+    last-stands g.M.Machine.meaning c.obeys.ensures ℕ (start_of c.args.desk.now) _ _ _ _ c.loop-block.invariant.at.1 (given-last g.M.Machine.meaning _ _ _ _ _ _ _ _ c.loop-block.invariant.given c.in-Some.ensures.last) K sees
 
 pub loop-block-preserved : goal.loop-block-preserved
 loop-block-preserved g c = record {
