@@ -15,10 +15,9 @@ ghost use Rattle.mq_outside.specs.Outside.{Tells};
 ghost use Rattle.mq_recover.specs.declared.refusal.ImageFault.{ImageFault};
 
 use crate::answer::{Answer, refuse_drive, refuse_file, save_and_say, say_answer};
-use crate::loading::read_loaded;
 use mq_blocks::OutOfMemory;
 use mq_ending::load_or_say;
-use mq_image::{DriveImage, write_image, written_images_are_read};
+use mq_image::{DriveImage, read_image, write_image_over, written_images_are_read};
 use mq_images::{RecoveredImage, recover_image};
 use mq_outside::{Files, Sink};
 use std::alloc::Global;
@@ -60,19 +59,24 @@ fn text_of(alloc: Global, recovered: &RecoveredImage) -> Result<Vec<u8>, OutOfMe
     Ok(text)
 }
 
-// The file of what a recovery left, and what is said of it.
-fn recovery_of(alloc: Global, recovered: &RecoveredImage) -> Result<Recovery, OutOfMemory>
+// The file of what a recovery left, in the memory of these bytes, and what is said of it.
+fn recovery_of(
+    alloc: Global,
+    bytes: Vec<u8>,
+    recovered: &RecoveredImage,
+) -> Result<Recovery, OutOfMemory>
     requires { IsDrive recovered.now.image }
     ensures { IfOk result (λ v. IsRecoveryFile recovered.now v.file.items v.text.items) }
 {
-    let file = write_image(alloc, &recovered.image)?;
+    let file = write_image_over(bytes, &recovered.image)?;
     let text = text_of(alloc, recovered)?;
     Ok(Recovery { file, text })
 }
 
-// Recovers an image, or says why it is not readable.
+// Recovers an image, or says why it is not readable. The file of what that leaves takes the memory of these bytes.
 fn recover_drive(
     alloc: Global,
+    bytes: Vec<u8>,
     image: DriveImage,
     cut: Option<u64>,
     pick: u64,
@@ -86,7 +90,7 @@ fn recover_drive(
         Ok(recovered) => recovered,
         Err(fault) => return Err(refuse_drive(alloc, fault)),
     };
-    match recovery_of(alloc, &recovered) {
+    match recovery_of(alloc, bytes, &recovered) {
         Ok(recovery) => Ok(recovery),
         Err(OutOfMemory) => Err(Err(OutOfMemory)),
     }
@@ -107,8 +111,8 @@ fn recover_bytes(
         a.text.items)) }
 {
     written_images_are_read();
-    match read_loaded(alloc, bytes) {
-        Ok(image) => recover_drive(alloc, image, cut, pick),
+    match read_image(alloc, &bytes) {
+        Ok(image) => recover_drive(alloc, bytes, image, cut, pick),
         Err(fault) => Err(refuse_file(alloc, fault)),
     }
 }

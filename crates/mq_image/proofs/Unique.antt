@@ -1,17 +1,16 @@
 -- The file of an image determines the image, but for blocks of zeros.
-use Rattle.std.proofs.Common.{get_or, ◌≡◌, ℕ, inl, inr, ◌+◌, ◌*◌, ◌^◌, ◌<◌, ◌≤◌, List, [], ◌∷◌, ◌++◌, length, take, drop, map, refl, sym, ap, subst, ◌∙◌, arith, length-append, length-drop}
+use Rattle.std.proofs.Common.{get_or, ◌≡◌, ℕ, inl, inr, ◌+◌, ◌*◌, ◌^◌, ◌<◌, List, [], ◌∷◌, ◌++◌, length, take, drop, map, refl, sym, ap, subst, ◌∙◌, arith, length-append, length-drop}
 use Rattle.std.specs.Prelude.{Option}
 use Rattle.std.specs.Int.{to_le_bytes, from_le_bytes, w32, w64}
 use Rattle.std.specs.List.{All, flat_map}
 use Rattle.std.proofs.lemmas.Bool.{cases_lt}
-use Rattle.std.proofs.lemmas.List.{ext_get_or, get_or-map, get_or-take, get_or_default, length-map, length-take-le, map-append, map-id, take-append-drop}
-use Rattle.std.proofs.lemmas.List.Elements.{All-take}
+use Rattle.std.proofs.lemmas.List.{ext_get_or, get_or-map, get_or-take, length-map, length-take-le, map-append, map-id, take-append-drop}
 use Rattle.std.proofs.lemmas.Nat.{from_le_bytes-to_le_bytes_8}
-use Rattle.mq_blocks.specs.Drive.{PortImage, depth}
-use Rattle.mq_blocks.specs.Geometry.{queues_of, area_of, meta_of, zone_size}
+use Rattle.mq_blocks.specs.Drive.{PortImage}
+use Rattle.mq_blocks.specs.Geometry.{queues_of, area_of, zone_size}
 use Rattle.mq_blocks.specs.Windows.{number_at}
 use Rattle.mq_blocks.specs.declared.geometry.Geometry.{Geometry}
-use Rattle.mq_nvme.specs.Dwords.{AreDwords, dword_bytes}
+use Rattle.mq_nvme.specs.Dwords.{dword_bytes}
 use Rattle.mq_nvme.proofs.Bytes.{dword_bytes-injective}
 use Rattle.mq_image.specs.Drives.{HasWidths, IsDrive, IsRead, emptied, without_blanks}
 use Rattle.mq_image.specs.Faults.{IsGeometryIn}

@@ -14,4 +14,4 @@ pub use fault::FileFault;
 pub use image::DriveImage;
 pub use laws::written_images_are_read;
 pub use read::read_image;
-pub use write::write_image;
+pub use write::{write_image, write_image_over};

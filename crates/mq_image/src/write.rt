@@ -22,10 +22,19 @@ pub fn write_image(alloc: Global, image: &DriveImage) -> Result<Vec<u8>, OutOfMe
     requires { IsDrive image.now }
     ensures { IfOk result (λ v. v.items ≡ image_bytes image.now) }
 {
+    write_image_over(Vec::new(alloc), image)
+}
+
+/// The file of an image, in the memory of bytes that nobody needs any more: those of the file that the image was read
+/// of have about its length.
+pub fn write_image_over(bytes: Vec<u8>, image: &DriveImage) -> Result<Vec<u8>, OutOfMemory>
+    requires { IsDrive image.now }
+    ensures { IfOk result (λ v. v.items ≡ image_bytes image.now) }
+{
     let geometry = image.geometry;
     let queues = geometry.queues() as usize;
     write_ports(
-        alloc,
+        bytes,
         geometry,
         &image.ports[..queues],
         &image.ports[queues],
@@ -33,7 +42,7 @@ pub fn write_image(alloc: Global, image: &DriveImage) -> Result<Vec<u8>, OutOfMe
 }
 
 fn write_ports(
-    alloc: Global,
+    bytes: Vec<u8>,
     geometry: Geometry,
     queues: &[PortImage],
     root: &PortImage,
@@ -45,7 +54,9 @@ fn write_ports(
 {
     let count = count_ports(queues) + count_port(root);
     let length = HEADER + RING * queues.len() + 4 + RECORD * count as usize;
-    let mut file = Vec::with_capacity(alloc, length)?;
+    let mut file = bytes;
+    file.clear();
+    file.reserve_exact(length)?;
     put_header(&mut file, geometry, root.base)?;
     put_rings(&mut file, queues)?;
     put_u32(&mut file, count)?;
