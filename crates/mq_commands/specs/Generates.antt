@@ -1,5 +1,5 @@
 -- What `gen` makes of a workload and of a name, and what it says.
-use Rattle.std.specs.Prelude.{◌≡◌, ℕ, List, ◌++◌, Option, Some, None, codes}
+use Rattle.std.specs.Prelude.{◌≡◌, ℕ, List, ◌++◌, Option, Some, None, is_some, codes}
 use Rattle.std.specs.Fmt.{decimal}
 use Rattle.mq_commands.specs.declared.generating.Workload.{Workload}
 use Rattle.mq_ending.specs.Ending.{IsNotSaved, IsSaved, memory_line}
@@ -17,9 +17,9 @@ generated_line w made =
     generated_head w made.commits
     ++ (codes " dirs " ++ (decimal made.counts.directories ++ (codes " files " ++ (decimal made.counts.files ++ (codes " bytes " ++ (decimal made.counts.bytes ++ codes "\n"))))))
 
--- the workload was played on an empty file system, and this was left
-abbrev pub IsPlayOf : Workload → Generated → Type 0
-IsPlayOf w made = IsGenerated w.seed w.threads w.groups made
+-- the workload was played on an empty file system, and this was left; its file is made where a name is given for it
+abbrev pub IsPlayOf : Workload → (save : Option (List ℕ)) → Generated → Type 0
+IsPlayOf w save made = IsGenerated w.seed w.threads w.groups (is_some save) made
 
 -- a file is saved under a name, where one is given; else nothing changes
 abbrev pub SavesUnder : (save : Option (List ℕ)) → (file : List ℕ) → (old new : FilesState) → Type 0
@@ -29,6 +29,6 @@ SavesUnder (Some name) file old new = IsSaved name file old new
 -- The workload was played, the image that the cut left is saved, where a name is given for it, and the line tells how much
 -- the tree has. Or the image is not saved, and why is said; or memory was wanting.
 pub data Generates (w : Workload) (save : Option (List ℕ)) (old new : FilesState) : (status : ℕ) → (text : List ℕ) → Type 0 where
-  generated : (made : Generated) → IsPlayOf w made → SavesUnder save made.file.items old new → Generates w save old new 0 (generated_line w made)
-  not_saved : {status : ℕ} {text : List ℕ} (name : List ℕ) (made : Generated) → save ≡ Some name → IsPlayOf w made → IsNotSaved name old new status text → Generates w save old new status text
+  generated : (made : Generated) → IsPlayOf w save made → SavesUnder save made.file.items old new → Generates w save old new 0 (generated_line w made)
+  not_saved : {status : ℕ} {text : List ℕ} (name : List ℕ) (made : Generated) → save ≡ Some name → IsPlayOf w save made → IsNotSaved name old new status text → Generates w save old new status text
   wants_memory : new ≡ old → Generates w save old new 6 memory_line

@@ -95,7 +95,8 @@ pub fn generate<F: Files, K: Sink, R: Threads + Wait + Sync, G: Gate + Sync>(
         threads,
         groups,
     } = workload;
-    let made = match mq_generated::generate(rt, alloc, seed, threads, groups, gate) {
+    let keeps = save.is_some();
+    let made = match mq_generated::generate(rt, alloc, seed, threads, groups, keeps, gate) {
         Ok(made) => made,
         Err(_) => return say_memory(out),
     };

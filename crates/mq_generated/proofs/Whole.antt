@@ -1,7 +1,7 @@
 -- What a run on an empty drive comes to whose groups were all answered well: its history, the image that it leaves, and the
 -- tree on that.
 use Rattle.std.proofs.Common.{◌≡◌, ◌∙◌, ℕ, ◌<◌, List, length, sym, ap, subst, arith}
-use Rattle.std.specs.Prelude.{Option, Some, None}
+use Rattle.std.specs.Prelude.{Bool, true, Option, Some, None}
 use Rattle.mq_blocks.specs.Blocks.{block_at, content}
 use Rattle.mq_blocks.specs.Drive.{PortImage}
 use Rattle.mq_blocks.specs.Geometry.{homes_of, queues_of}
@@ -132,9 +132,9 @@ counted g scripts lines x counts h c = c.2 ∙ ap counts_in (stands-once x c.0 (
 
 -- ---- the whole
 
-pub generated : (seed threads groups : ℕ) (g : Geometry) (scripts : List Script) (r : ImageRun) (made : Generated) → RunsKeepTheirPromise → IsShape threads g → scripts ≡ workload_of seed threads groups → IsWholeRun g scripts r
-    → made.file.items ≡ image_bytes r.image → made.commits ≡ newest 0 r.entries.items → (v : Volume) × StandsFor r.image v × (made.counts ≡ counts_in v) → IsGenerated seed threads groups made
-generated seed threads groups g scripts r made keeps shape are run file commits counts =
+pub generated : (seed threads groups : ℕ) (keep_file : Bool) (g : Geometry) (scripts : List Script) (r : ImageRun) (made : Generated) → RunsKeepTheirPromise → IsShape threads g → scripts ≡ workload_of seed threads groups → IsWholeRun g scripts r
+    → (keep_file ≡ true → made.file.items ≡ image_bytes r.image) → made.commits ≡ newest 0 r.entries.items → (v : Volume) × StandsFor r.image v × (made.counts ≡ counts_in v) → IsGenerated seed threads groups keep_file made
+generated seed threads groups keep_file g scripts r made keeps shape are run file commits counts =
     let of : IsWholeRun g (workload_of seed threads groups) r = subst (λ (ss : List Script). IsWholeRun g ss r) are run in
     let w = whole-run g (workload_of seed threads groups) r keeps of (workload-bytes seed threads groups) (workload-end seed threads groups) in
     record {

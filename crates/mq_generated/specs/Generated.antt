@@ -1,5 +1,5 @@
 -- What a run of the generated workload on an empty file system leaves.
-use Rattle.std.specs.Prelude.{◌≡◌, ◌<◌, ◌+◌, ◌^◌, ℕ, true, List, length, None, Some}
+use Rattle.std.specs.Prelude.{◌≡◌, ◌<◌, ◌+◌, ◌^◌, ℕ, Bool, true, List, length, None, Some}
 use Rattle.std.specs.List.{All, Contains}
 use Rattle.mq_blocks.specs.Descriptor.{Descriptor}
 use Rattle.mq_blocks.specs.Geometry.{area_of, meta_of, queues_of, zone_size}
@@ -64,15 +64,15 @@ pub record HoldsAll (g : Geometry) (scripts : List Script) (lines : List Line) (
 -- ---- the whole
 
 -- The workload of this seed was played on an empty file system: what was counted is in the tree after the last number,
--- which tells how many were drawn, and the file is that of an image that holds all of it.
-pub record IsGenerated (seed threads groups : ℕ) (made : Generated) : Type 0 where
+-- which tells how many were drawn, and the file, where it is to be kept, is that of an image that holds all of it.
+pub record IsGenerated (seed threads groups : ℕ) (keeps : Bool) (made : Generated) : Type 0 where
   pub geometry : Geometry
   pub shape : IsShape threads geometry
   pub lines : List Line
   pub history : IsHistory geometry (workload_of seed threads groups) lines
   pub image : DriveImage
   pub left : HoldsAll geometry (workload_of seed threads groups) lines image
-  pub file : made.file.items ≡ image_bytes image
+  pub file : keeps ≡ true → made.file.items ≡ image_bytes image
   pub commits : made.commits ≡ newest 0 lines
   pub counts : made.counts ≡ counts_in (last_volume geometry (workload_of seed threads groups) lines)
 

@@ -1,7 +1,8 @@
 // The generated workload on an empty file system.
-ghost use Rattle.std.specs.Prelude.{◌≡◌, ◌≤◌, IfOk};
+ghost use Rattle.std.specs.Prelude.{◌≡◌, ◌≤◌, true, IfOk};
 ghost use Rattle.mq_generated.specs.Generated.{IsGenerated};
 ghost use Rattle.mq_image.specs.Drives.{IsDrive};
+ghost use Rattle.mq_image.specs.File.{image_bytes};
 ghost use Rattle.mq_images.specs.Standing.{StandsFor};
 ghost use Rattle.mq_legal.specs.Legal.{newest as newest_of};
 ghost use Rattle.mq_tree.specs.Counts.{counts_in};
@@ -45,25 +46,39 @@ fn count(alloc: Global, image: DriveImage) -> Result<TreeCounts, OutOfMemory>
     }
 }
 
+// The file of an image, where it is to be kept.
+fn file_of(alloc: Global, image: &DriveImage, keeps: bool) -> Result<Vec<u8>, OutOfMemory>
+    requires { IsDrive image.now }
+    ensures { IfOk result (λ file. keeps ≡ true → file.items ≡ image_bytes image.now) }
+{
+    if keeps {
+        write_image(alloc, image)
+    } else {
+        Ok(Vec::new(alloc))
+    }
+}
+
 /// Runs the workload of a seed on the empty file system of a fresh drive, each script on a session and a thread of its
-/// own, cuts the power of the drive once all sessions have ended, and counts what stands then.
+/// own, cuts the power of the drive once all sessions have ended, and counts what stands then. The file of the image that
+/// this left is made where `keeps` asks for it.
 pub fn generate<R: Threads + Wait + Sync, G: Gate + Sync>(
     rt: &R,
     alloc: Global,
     seed: u64,
     threads: u32,
     groups: u32,
+    keeps: bool,
     gate: &G,
 ) -> Result<Generated, OutOfMemory>
     requires { (1 ≤ threads) × (threads ≤ 16) }
-    ensures { IfOk result (IsGenerated seed threads groups) }
+    ensures { IfOk result (IsGenerated seed threads groups keeps) }
 {
     let geometry = shape(threads);
     a_run_on_an_image_keeps_its_promise();
     let scripts = workload(alloc, seed, threads, groups)?;
     let ran = play(rt, alloc, geometry, &scripts, gate)?;
     let commits = newest(&ran.entries);
-    let file = write_image(alloc, &ran.image)?;
+    let file = file_of(alloc, &ran.image, keeps)?;
     let counts = count(alloc, ran.image)?;
     Ok(Generated {
         file,

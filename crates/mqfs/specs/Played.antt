@@ -10,6 +10,6 @@ use Rattle.mq_outside.specs.Outside.{FilesState, SinkState, appended}
 -- tree has.
 pub record IsPlayed (w : Workload) (save : Option (List ℕ)) (files new_files : FilesState) (old new : SinkState) : Type 0 where
   pub made : Generated
-  pub play : IsPlayOf w made
+  pub play : IsPlayOf w save made
   pub saved : SavesUnder save made.file.items files new_files
   pub said : new.contents ≡ appended old.contents (generated_line w made)

@@ -4,7 +4,7 @@ use Rattle.mq_commands.specs.Generates.{not_saved, wants_memory}
 use Rattle.mq_ending.specs.Ending.{memory_line}
 use Rattle.mq_ending.proofs.Pieces.{unless_wanting}
 use Rattle.mq_commands.proofs.Exact.{not-saved-status}
-use Rattle.mq_commands.proofs.Workloads.{played-ends}
+use Rattle.mq_commands.proofs.Workloads.{played-ends, played-for}
 use Rattle.mq_commands.proofs.generating.generate.Goals as goal
 
 pub returns-in-Err-clause-ends : goal.returns-in-Err-clause-ends
@@ -18,12 +18,12 @@ returns-in-Ok-save_under-clause-ends g c =
     let files = g.F.Files.state in
     let sink = g.K.Sink.state in
     played-ends c.args.workload (option_map (λ (s : Bor (List ℕ)). s.now) c.args.save) c.in-Ok.made c.deref.result.now c.as_bytes.result.now (files c.args.files.now) (files c.save_under.new.files) (sink c.args.out.now) (sink c.save_under.new.out) (sink c.say.new.out) c.say.result
-    c.in-Ok.ensures c.deref.ensures.value c.in-Ok-save_under.ensures.ok c.in-Ok-save_under.ensures.silent (c.as_bytes.ensures.value ∙ c.in-Ok-line_of.ensures) c.say.ensures
+    (played-for c.args.workload (λ (s : Bor (List ℕ)). s.now) c.args.save c.is_some-keeps.result c.in-Ok.made c.is_some-keeps.ensures c.in-Ok.ensures) c.deref.ensures.value c.in-Ok-save_under.ensures.ok c.in-Ok-save_under.ensures.silent (c.as_bytes.ensures.value ∙ c.in-Ok-line_of.ensures) c.say.ensures
 
 pub returns-clause-ends : goal.returns-clause-ends
 returns-clause-ends g c =
     let refused = c.in-Err-save_under.ensures.refused in
-    (refused.0, refused.1, not_saved refused.2 c.in-Ok.made refused.3 c.in-Ok.ensures refused.4, refused.5)
+    (refused.0, refused.1, not_saved refused.2 c.in-Ok.made refused.3 (played-for c.args.workload (λ (s : Bor (List ℕ)). s.now) c.args.save c.is_some-keeps.result c.in-Ok.made c.is_some-keeps.ensures c.in-Ok.ensures) refused.4, refused.5)
 
 pub returns-clause-done : goal.returns-clause-done
 returns-clause-done g c =

@@ -17,5 +17,5 @@ play-requires-clause-scripts g c κs within =
 
 pub returns : goal.returns
 returns g c =
-    generated c.args.seed c.args.threads c.args.groups c.shape-geometry.result c.deref.result.now c.in_ok-ran.ran _ c.a_run_on_an_image_keeps_its_promise.ensures c.shape-geometry.ensures
+    generated c.args.seed c.args.threads c.args.groups c.args.keeps c.shape-geometry.result c.deref.result.now c.in_ok-ran.ran _ c.a_run_on_an_image_keeps_its_promise.ensures c.shape-geometry.ensures
     (c.deref.ensures.value ∙ c.in_ok-scripts.ensures) c.in_ok-ran.ensures c.in_ok-file.ensures (c.newest-commits.ensures ∙ ap (λ (ls : List Line). newest_of 0 ls) c.deref-2.ensures.value) c.in_ok-counts.ensures
