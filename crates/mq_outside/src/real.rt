@@ -1,7 +1,7 @@
 // Files and a sink over the system. They tell nothing of what they hold.
 ghost use Rattle.std.specs.Prelude.{◌≡◌, ◌<◌, ◌≤◌, ◌++◌, None, length, take, OnOk, IfOk, IfErr, IfSome, IsErr, IsErrOf, MatchResult};
 ghost use Rattle.std.specs.Io.KnownBytes.{Appends, Keeps};
-ghost use Rattle.mq_outside.specs.Outside.{PutCause, load_limit};
+ghost use Rattle.mq_outside.specs.Outside.{LoadCause, LoadTakes, PutCause, SaveCause, load_limit};
 
 use super::counts::counted;
 use super::traits::{Files, LOAD_LIMIT, LoadRefusal, PutRefusal, SaveRefusal, Sink};
@@ -144,7 +144,13 @@ impl<R: rt::Files> RealFiles<R> {
 impl<R: rt::Files> Files for RealFiles<R> {
     ghost state = { λ f. record { contents = None; faults = f.faults; taken = f.taken } };
 
-    fn load(&mut self, alloc: Global, name: &str) -> Result<Vec<u8>, LoadRefusal> {
+    fn load(&mut self, alloc: Global, name: &str) -> Result<Vec<u8>, LoadRefusal>
+        ensures within { IfOk result (λ v. length v.items ≤ load_limit) }
+        ensures cause { LoadCause result self.old.faults self.new.faults }
+        ensures takes { LoadTakes result self.old.taken self.new.taken }
+        ensures all { IfOk result (λ v. (opened : R.File) × IfSome (R.File.Read.remaining opened)
+            (λ rest. v.items ≡ rest)) }
+    {
         let mut bytes = Vec::new(alloc);
         let answer = read_file(&self.rt, name, &mut bytes);
         self.taken = self.taken.saturating_add(bytes.len() as u64);
@@ -158,7 +164,12 @@ impl<R: rt::Files> Files for RealFiles<R> {
         }
     }
 
-    fn save(&mut self, name: &str, bytes: &[u8]) -> Result<(), SaveRefusal> {
+    fn save(&mut self, name: &str, bytes: &[u8]) -> Result<(), SaveRefusal>
+        ensures cause { SaveCause result self.old.faults self.new.faults }
+        ensures takes { self.new.taken ≡ self.old.taken }
+        ensures all { OnOk result ((made : R.File) × (left : R.File)
+            × Appends (R.File.Write.contents made) (R.File.Write.contents left) bytes.now) }
+    {
         match write_file(&self.rt, name, bytes) {
             Ok(_) => Ok(()),
             Err(SaveRefusal::Failed) => {

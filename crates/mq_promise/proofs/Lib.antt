@@ -24,4 +24,5 @@ pub mod Recoveries
 pub mod Files
 pub mod Saved
 pub mod PortCauses
+pub mod Ends
 pub mod Promise

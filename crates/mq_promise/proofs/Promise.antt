@@ -17,6 +17,7 @@ use Rattle.mq_promise.specs.Images.{KeepsPromise}
 use Rattle.mq_promise.specs.Laws.{HavePortCauses}
 use Rattle.mq_promise.proofs.Caused.{is-caused}
 use Rattle.mq_promise.proofs.PortCauses.{are-backed, are-port-causes, have-port-causes, is-stop}
+use Rattle.mq_promise.proofs.Ends.{end-of}
 use Rattle.mq_promise.proofs.Saved as saved
 
 module _ (x : DriveImage) (scripts : List Script) (o : RunOptions) (r : ImageRun) (run : IsRunOf x scripts o r) (bytes : AreOfBytes scripts) where
@@ -66,6 +67,7 @@ module _ (x : DriveImage) (scripts : List Script) (o : RunOptions) (r : ImageRun
     backed = are-backed x scripts o r run bytes;
     spared = λ none. run.failed ∙ (run.stops.drives.named ∙ ap (λ (f : Option Failing). was_executed f (row_of run.stops.drives.has.end.ports)) none);
     ended = run.ended;
+    last = end-of o.cut run.fuse.limit run.stopped.events run.stopped.driven.finished r.last run.power (λ l is. (run.stops.happened l is).1) run.last;
     stopped = stop-told;
     clean = saved.cleaned x scripts o r run bytes;
   }

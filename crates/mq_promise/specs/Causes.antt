@@ -1,5 +1,5 @@
 -- What refusals for a drive's cause say of the options of a run on an image, and of how it ended.
-use Rattle.std.specs.Prelude.{◌≡◌, ◌⊎◌, ◌<◌, ℕ, true, List, Some, Err}
+use Rattle.std.specs.Prelude.{◌≡◌, ◌⊎◌, ◌<◌, ◌≤◌, ℕ, true, List, Option, None, Some, Err}
 use Rattle.std.specs.List.{Contains}
 use Rattle.mq_blocks.specs.Geometry.{homes_of}
 use Rattle.mq_blocks.specs.declared.geometry.Geometry.{Geometry}
@@ -15,7 +15,7 @@ use Rattle.mq_legal.specs.Answers.{IsPortCause, IsUndone}
 use Rattle.mq_legal.specs.Cuts.{IsCut}
 use Rattle.mq_legal.specs.Histories.{AreOfBytes}
 use Rattle.mq_report.specs.declared.line.Last.{Last}
-use Rattle.mq_report.specs.declared.line.Last.TheVariants.{Cut, StoppedBlock, StoppedTx}
+use Rattle.mq_report.specs.declared.line.Last.TheVariants.{Clean, Cut, StoppedBlock, StoppedTx}
 use Rattle.mq_report.specs.declared.line.Line.{Line}
 use Rattle.mq_report.specs.declared.line.Told.{Told}
 use Rattle.mq_script.specs.Scripts.{Script}
@@ -83,6 +83,15 @@ abbrev pub IsStopOf : Geometry → List Line → (reached : ℕ) → Last → Ty
 IsStopOf g lines reached (StoppedTx tx) = IsUndone g lines reached tx
 IsStopOf g lines reached (StoppedBlock block) = block < homes_of g
 IsStopOf g lines reached last = Unit {0}
+
+-- The last line of a run whose power was to go off after so many events tells how many happened, which are not more. Else it
+-- tells the number up to which all stands at home, or what stopped the run at its end.
+abbrev pub IsEndOf : (cut : Option ℕ) → Last → Type 0
+IsEndOf (Some k) last = (e : ℕ) × (last ≡ Cut e) × (e ≤ k)
+IsEndOf None (Clean n) = Unit {0}
+IsEndOf None (StoppedTx tx) = Unit {0}
+IsEndOf None (StoppedBlock block) = Unit {0}
+IsEndOf None (Cut e) = ⊥
 
 abbrev pub PortCausesHold : Type 0
 PortCausesHold =

@@ -12,7 +12,7 @@ use Rattle.mq_legal.specs.Answers.{AreAnswered, AreCaused}
 use Rattle.mq_legal.specs.Cuts.{IsClean, IsCut, IsRung, Starts}
 use Rattle.mq_legal.specs.Histories.{AreOfBytes}
 use Rattle.mq_legal.specs.Legal.{IsLegal, newest, volume_at}
-use Rattle.mq_promise.specs.Causes.{AreBacked, ArePortCauses, IsStopOf}
+use Rattle.mq_promise.specs.Causes.{AreBacked, ArePortCauses, IsEndOf, IsStopOf}
 use Rattle.mq_promise.specs.Laws.{HavePortCauses}
 use Rattle.mq_promise.specs.Recovering.{HoldsVolume, LeadsTo}
 use Rattle.mq_report.specs.declared.line.Last.TheVariants.{Clean}
@@ -26,7 +26,7 @@ use Rattle.mq_tree.specs.Volume.{Volume}
 -- commits in a prefix of the lines, which has each that was answered well. Each refusal has its cause in the scripts and
 -- the history, as far as what the causes of ports say of the history holds: all of it holds without a cut, and with one as
 -- far as it is told. A refusal for a drive's cause has it in what was asked of the drive. Without a cut, and where no
--- command failed, the run ended clean. Where it was stopped at its end, the transaction that its last line names is undone,
+-- command failed, the run ended clean. With a cut the last line tells how many events happened. Where the run was stopped at its end, the transaction that its last line names is undone,
 -- and the block is one of the drive. Where it ended clean, the number that is told is the last one, and the image is clean.
 pub record KeepsPromise (x : DriveImage) (scripts : List Script) (o : RunOptions) (r : ImageRun) : Type 0 where
   pub volume : Volume
@@ -47,6 +47,7 @@ pub record KeepsPromise (x : DriveImage) (scripts : List Script) (o : RunOptions
   pub backed : AreBacked o r
   pub spared : o.fail ≡ None → r.failed ≡ false
   pub ended : o.cut ≡ None → r.failed ≡ false → (n : ℕ) × (r.last ≡ Clean n)
+  pub last : IsEndOf o.cut r.last
   pub stopped : IsStopOf x.geometry r.entries.items reached r.last
   pub clean : (n : ℕ) → r.last ≡ Clean n → (n ≡ newest r.base r.entries.items) × IsClean x.geometry (view_of r.image) n
 

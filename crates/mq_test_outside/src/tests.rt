@@ -101,7 +101,7 @@ fn the_system_loads_what_was_saved(rt: HostRuntime) -> Result<(), AllocError> {
 }
 
 // A name that is absent, one in a folder that is absent, a folder, which is opened and not read, and a
-// name below a file. Files without leave to be read are no case: a test may run with every leave.
+// name below a file.
 #[test]
 fn the_system_fails_where_no_file_can_be(rt: HostRuntime) {
     let alloc = rt.alloc();
@@ -114,6 +114,13 @@ fn the_system_fails_where_no_file_can_be(rt: HostRuntime) {
         assert!(rt; matches!(files.save(name, b"bytes"), Err(SaveRefusal::Failed)));
     }
     assert!(rt; fs::remove_file(&rt, "file").is_ok());
+}
+
+// A file that is opened and may not be read, whatever the leaves of the process: its memory, at the address 0.
+#[test]
+fn the_system_fails_where_a_file_may_not_be_read(rt: HostRuntime) {
+    let answer = RealFiles::new(&rt).load(rt.alloc(), "/proc/self/mem");
+    assert!(rt; matches!(answer, Err(LoadRefusal::Failed)));
 }
 
 // A pipe of this process, which has a name while it is open, and gives its bytes in parts.
