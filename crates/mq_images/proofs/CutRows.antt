@@ -1,6 +1,5 @@
 -- What cuts of the power leave of ports in a row.
-use Rattle.std.proofs.Common.{◌≡◌, ◌<◌, ◌≤◌, ℕ, zero, suc, ◌+◌, ◌-◌, ◌*◌, ◌^◌, min, List, [], ◌∷◌, ◌++◌, All, length, map, get_or, Some, None, refl, sym, ◌∙◌, ap, subst, arith, append_assoc, length-append}
-use Rattle.std.specs.List.{remove}
+use Rattle.std.proofs.Common.{◌≡◌, ◌<◌, ◌≤◌, ℕ, zero, suc, ◌+◌, ◌-◌, ◌*◌, ◌^◌, min, List, [], ◌∷◌, ◌++◌, All, length, map, get_or, Some, None, refl, sym, ◌∙◌, ap, subst, arith}
 use Rattle.std.specs.Prelude.{Contains, slice_get}
 use Rattle.std.proofs.lemmas.List.{map_push}
 use Rattle.std.proofs.lemmas.List.Elements.{All-push}
@@ -15,7 +14,6 @@ use Rattle.mq_drive.specs.declared.emu.EmuPort.{EmuPort}
 use Rattle.mq_drive.specs.declared.fuse.FuseSeat.{FuseSeat}
 use Rattle.mq_drive.proofs.Faults.{command_error_is_none, home_error_is_none, only_offs}
 use Rattle.mq_images.specs.Cuts.{AreCutPorts, CutPort, IsCutPort}
-use Rattle.mq_images.proofs.Rows.{head-of}
 use Rattle.mq_images.proofs.Tally.{tally}
 
 abbrev IsCut : CutPort → Type 0
@@ -23,60 +21,16 @@ IsCut c = IsCutPort c.port c.image c.seat
 
 -- ---- one after another
 
--- the first so many ports are cut, and these are left
-pub record AreCutTo (all : List EmuPort) (n : ℕ) (left : List EmuPort) (images : List PortImage) (seats : List FuseSeat) : Type 0 where
-  pub done : List EmuPort
-  pub parts : all ≡ done ++ left
-  pub count : length done ≡ n
-  pub cut : AreCutPorts done images seats
-
-pub none-cut : (all : List EmuPort) (images : List PortImage) (seats : List FuseSeat) → images ≡ [] → seats ≡ [] → AreCutTo all 0 all images seats
-none-cut all images seats no_image no_seat = record {
-  done = [];
-  parts = refl;
-  count = refl;
-  cut = record { cuts = []; each = λ k d low. absurd (omega arith); ports_are = refl; images_are = no_image; seats_are = no_seat };
-}
-
-pub cut-push : (ports : List EmuPort) (images : List PortImage) (seats : List FuseSeat) (p : EmuPort) (i : PortImage) (s : FuseSeat) → AreCutPorts ports images seats → IsCutPort p i s → AreCutPorts (ports ++ p ∷ []) (images ++ i ∷ []) (seats ++ s ∷ [])
-cut-push ports images seats p i s cut one =
+pub next-cut : (ports : List EmuPort) (images more : List PortImage) (seats others : List FuseSeat) (p : EmuPort) (i : PortImage) (s : FuseSeat) → AreCutPorts ports images seats → IsCutPort p i s → more ≡ images ++ i ∷ [] → others ≡ seats ++ s ∷ [] → AreCutPorts (ports ++ p ∷ []) more others
+next-cut ports images more seats others p i s cut one more-is others-is =
     let c : CutPort = record { port = p; image = i; seat = s } in
     record {
       cuts = cut.cuts ++ c ∷ [];
       each = All-push IsCut cut.cuts c cut.each one;
       ports_are = ap (λ (l : List EmuPort). l ++ p ∷ []) cut.ports_are ∙ sym (map_push (λ (c : CutPort). c.port) cut.cuts c);
-      images_are = ap (λ (l : List PortImage). l ++ i ∷ []) cut.images_are ∙ sym (map_push (λ (c : CutPort). c.image) cut.cuts c);
-      seats_are = ap (λ (l : List FuseSeat). l ++ s ∷ []) cut.seats_are ∙ sym (map_push (λ (c : CutPort). c.seat) cut.cuts c);
+      images_are = more-is ∙ ap (λ (l : List PortImage). l ++ i ∷ []) cut.images_are ∙ sym (map_push (λ (c : CutPort). c.image) cut.cuts c);
+      seats_are = others-is ∙ ap (λ (l : List FuseSeat). l ++ s ∷ []) cut.seats_are ∙ sym (map_push (λ (c : CutPort). c.seat) cut.cuts c);
     }
-
-pub left-some : (all : List EmuPort) (n : ℕ) (left : List EmuPort) (images : List PortImage) (seats : List FuseSeat) → AreCutTo all n left images seats → n < length all → 0 < length left
-left-some all n left images seats to low = let long = ap length to.parts ∙ length-append to.done left in let count = to.count in omega (arith, long, count, low)
-
-pub next-cut : (all : List EmuPort) (n : ℕ) (left later : List EmuPort) (images more : List PortImage) (seats others : List FuseSeat) (p : EmuPort) (i : PortImage) (s : FuseSeat) → AreCutTo all n left images seats → n < length all → p ≡ get_or left 0 p → IsCutPort p i s
-    → later ≡ remove left 0 → more ≡ images ++ i ∷ [] → others ≡ seats ++ s ∷ [] → AreCutTo all (n + 1) later more others
-next-cut all n left later images more seats others p i s to low is one later-is more-is others-is =
-    subst (λ (l : List EmuPort). AreCutTo all (n + 1) l more others) (sym later-is)
-    (subst (λ (l : List PortImage). AreCutTo all (n + 1) (remove left 0) l others) (sym more-is)
-    (subst (λ (l : List FuseSeat). AreCutTo all (n + 1) (remove left 0) (images ++ i ∷ []) l) (sym others-is) (record {
-      done = to.done ++ p ∷ [];
-      parts = to.parts ∙ ap (λ (l : List EmuPort). to.done ++ l) (head-of left p (left-some all n left images seats to low) is) ∙ sym (append_assoc to.done (p ∷ []) (remove left 0));
-      count = length-append to.done (p ∷ []) ∙ ap (λ (k : ℕ). k + 1) to.count;
-      cut = cut-push to.done images seats p i s to.cut one;
-    })))
-
-none-left : (n : ℕ) (done left : List EmuPort) → length done ≡ n → length (done ++ left) ≡ n → done ++ left ≡ done
-none-left n [] [] count long = refl
-none-left n [] (p ∷ left) count long = absurd (omega (arith, count, long))
-none-left n (p ∷ done) left count long = ap (λ (l : List EmuPort). p ∷ l) (none-left (length done) done left refl (omega (arith, count, long)))
-
--- with the root's port, all are
-pub all-cut : (all : List EmuPort) (n : ℕ) (left : List EmuPort) (images more : List PortImage) (seats others : List FuseSeat) (root : EmuPort) (i : PortImage) (s : FuseSeat) → AreCutTo all n left images seats → n ≡ length all → IsCutPort root i s
-    → more ≡ images ++ i ∷ [] → others ≡ seats ++ s ∷ [] → AreCutPorts (all ++ root ∷ []) more others
-all-cut all n left images more seats others root i s to last one more-is others-is =
-    let same : all ≡ to.done = to.parts ∙ none-left n to.done left to.count (sym (ap length to.parts) ∙ sym last) in
-    subst (λ (l : List PortImage). AreCutPorts (all ++ root ∷ []) l others) (sym more-is)
-    (subst (λ (l : List FuseSeat). AreCutPorts (all ++ root ∷ []) (images ++ i ∷ []) l) (sym others-is)
-    (subst (λ (l : List EmuPort). AreCutPorts (l ++ root ∷ []) (images ++ i ∷ []) (seats ++ s ∷ [])) (sym same) (cut-push to.done images seats root i s to.cut one)))
 
 -- ---- what holds of each
 

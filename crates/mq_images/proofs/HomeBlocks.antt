@@ -1,13 +1,12 @@
 -- The home blocks of an image, taken out of its ports, and what they are after a recovery.
-use Rattle.std.proofs.Common.{◌≡◌, ◌<◌, ◌≤◌, inl, inr, ℕ, zero, suc, ◌+◌, ◌-◌, ◌*◌, ◌/◌, Bool, if◌then◌else◌, List, [], ◌∷◌, ◌++◌, All, length, take, drop, get_or, Option, Some, None, refl, sym, ◌∙◌, ap, subst, arith, append_assoc, length-append}
-use Rattle.std.specs.List.{remove}
+use Rattle.std.proofs.Common.{◌≡◌, ◌<◌, inl, inr, ℕ, zero, suc, ◌+◌, ◌-◌, ◌*◌, ◌/◌, Bool, if◌then◌else◌, List, [], ◌∷◌, ◌++◌, All, length, take, drop, get_or, Option, Some, None, refl, sym, ◌∙◌, ap, subst, arith, append_assoc, length-append}
 use Rattle.std.proofs.lemmas.Bool.{cases_lt, lt-ltb, le-ltb}
-use Rattle.std.proofs.lemmas.List.{drop_all, get_or-append_right, get_or-drop, get_or_append_left, length-drop}
+use Rattle.std.proofs.lemmas.List.{get_or-append_right, get_or-drop, get_or_append_left, length-drop, take_at}
 use Rattle.std.proofs.lemmas.Nat.{div_below, mod_below}
 use Rattle.std.proofs.Math.Nat.{mod-add-div'}
 use Rattle.mq_blocks.specs.Blocks.{block_at, content}
 use Rattle.mq_blocks.specs.Drive.{PortImage}
-use Rattle.mq_blocks.specs.Geometry.{homes_of, queues_of, zone_of}
+use Rattle.mq_blocks.specs.Geometry.{homes_of, zone_of}
 use Rattle.mq_blocks.specs.Journal.{home_block, image_at}
 use Rattle.mq_blocks.specs.declared.geometry.Geometry.{Geometry}
 use Rattle.mq_drive.specs.Start.{IsImageOf}
@@ -19,7 +18,6 @@ use Rattle.mq_images.specs.Standing.{IsStandingOf}
 use Rattle.mq_images.specs.Views.{home_blocks, view_of}
 use Rattle.mq_images.specs.declared.recovery.RecoveredImage.{RecoveredImage}
 use Rattle.mq_images.proofs.Restarts.{all-home}
-use Rattle.mq_images.proofs.Rows.{head-of}
 use Rattle.mq_images.proofs.Starting.{queue-in, queues-count}
 
 abbrev Blocks : Type 0
@@ -27,9 +25,8 @@ Blocks = List (Option (List ℕ))
 
 -- ---- zone after zone
 
--- the zones of the first so many ports are taken, and these are left
-pub record AreTakenTo (g : Geometry) (root : Blocks) (all : List PortImage) (n : ℕ) (left : List PortImage) (blocks : Blocks) : Type 0 where
-  pub count : length left + n ≡ length all
+-- the blocks are the root's and then the zones of all ports but those that are left
+pub record AreTakenTo (g : Geometry) (root : Blocks) (all left : List PortImage) (blocks : Blocks) : Type 0 where
   pub areas : All (HasArea g) left
   pub parts : blocks ++ zones g left ≡ root ++ zones g all
 
@@ -50,59 +47,27 @@ queue-zones x drive q d low =
     any-else (s ∷ l) zero d e low = refl
     any-else (s ∷ l) (suc q) d e low = any-else l q d e (omega (arith, low))
 
--- what is left without the root's port
-queues-left : (n : ℕ) (ports : List PortImage) → length ports ≡ n + 1 → remove ports n ≡ take n ports
-queues-left n ports long = ap (λ (l : List PortImage). take n ports ++ l) (drop_all (suc n) ports (omega (arith, long))) ∙ append-none (take n ports)
-  where
-    append-none : (l : List PortImage) → l ++ [] ≡ l
-    append-none [] = refl
-    append-none (p ∷ l) = ap (λ (k : List PortImage). p ∷ k) (append-none l)
-
-pub none-taken : (g : Geometry) (x : DriveImage) (left : List PortImage) (blocks : Blocks) → g ≡ x.geometry → IsDrive x → left ≡ remove x.ports g.queues → blocks ≡ (root_port x).blocks → AreTakenTo g (root_port x).blocks (queue_ports x) 0 left blocks
-none-taken g x left blocks same drive is root =
-    let long : length x.ports ≡ x.geometry.queues + 1 = drive.ports in
-    let rest : left ≡ queue_ports x = is ∙ ap (λ (h : Geometry). remove x.ports h.queues) same ∙ queues-left x.geometry.queues x.ports long in
+-- the last port is the root's
+pub none-taken : (g : Geometry) (x : DriveImage) (left : List PortImage) (root : PortImage) (blocks : Blocks) → g ≡ x.geometry → IsDrive x → x.ports ≡ left ++ root ∷ [] → blocks ≡ root.blocks → AreTakenTo g (root_port x).blocks (queue_ports x) left blocks
+none-taken g x left root blocks same drive parts is =
+    let n : ℕ = x.geometry.queues in
+    let long = ap length parts ∙ length-append left (root ∷ []) in
+    let many = drive.ports in
+    let count : length left ≡ n = omega (arith, long, many) in
+    let rest : queue_ports x ≡ left = ap (take n) parts ∙ take_at left (root ∷ []) n count in
+    let first : n - n ≡ 0 = omega arith in
+    let own : root_port x ≡ root = ap (λ (l : List PortImage). get_or l n no_port) parts ∙ get_or-append_right left (root ∷ []) n n no_port count (omega arith) ∙ ap (λ (k : ℕ). get_or (root ∷ []) k no_port) first in
     let area : All (HasArea g) (queue_ports x) = λ q d low. let l = queue-zones x drive q d low in let a = ap (λ (h : Geometry). h.area) same in omega (arith, l, a) in
-    subst (λ (l : List PortImage). AreTakenTo g (root_port x).blocks (queue_ports x) 0 l blocks) (sym rest)
-    (subst (λ (bs : Blocks). AreTakenTo g (root_port x).blocks (queue_ports x) 0 (queue_ports x) bs) (sym root) (record {
-      count = (let e : length (queue_ports x) + 0 ≡ length (queue_ports x) = omega arith in e);
-      areas = area;
-      parts = refl;
-    }))
+    record {
+      areas = subst (All (HasArea g)) rest area;
+      parts = ap (λ (bs : Blocks). bs ++ zones g left) (is ∙ ap (λ (p : PortImage). p.blocks) (sym own)) ∙ ap (λ (l : List PortImage). (root_port x).blocks ++ zones g l) (sym rest);
+    }
 
--- how many there are, under another name of the geometry
-pub queues-long : (g : Geometry) (x : DriveImage) → g ≡ x.geometry → IsDrive x → length (queue_ports x) ≡ queues_of g
-queues-long g x same drive = queues-count x drive ∙ sym (ap queues_of same)
-
-module _ (g : Geometry) (root : Blocks) (all : List PortImage) (n : ℕ) (left : List PortImage) (blocks : Blocks) (to : AreTakenTo g root all n left blocks) where
-  pub some-left : n < length all → 0 < length left
-  some-left low = let c = to.count in omega (arith, low, c)
-
-  pub next-area : (p : PortImage) → n < length all → p ≡ get_or left 0 p → HasArea g p
-  next-area p low is = subst (HasArea g) (sym is) (to.areas 0 p (some-left low))
-
-  pub next-taken : (p : PortImage) (later : List PortImage) (more : Blocks) → n < length all → p ≡ get_or left 0 p → later ≡ remove left 0 → more ≡ blocks ++ drop g.area p.blocks → AreTakenTo g root all (n + 1) later more
-  next-taken p later more low is later-is more-is =
-      let first : left ≡ p ∷ remove left 0 = head-of left p (some-left low) is in
-      let c = to.count in
-      let long : length left ≡ suc (length (remove left 0)) = ap length first in
-      subst (λ (l : List PortImage). AreTakenTo g root all (n + 1) l more) (sym later-is)
-      (subst (λ (bs : Blocks). AreTakenTo g root all (n + 1) (remove left 0) bs) (sym more-is) (record {
-        count = (let e : length (remove left 0) + (n + 1) ≡ length all = omega (arith, c, long) in e);
-        areas = λ k d below. (subst (All (HasArea g)) first to.areas) (suc k) d (omega (arith, below));
-        parts = append_assoc blocks (drop g.area p.blocks) (zones g (remove left 0)) ∙ ap (λ (l : List PortImage). blocks ++ zones g l) (sym first) ∙ to.parts;
-      }))
-
-  pub all-taken : length all ≤ n → blocks ≡ root ++ zones g all
-  all-taken done = ends left (let c = to.count in omega (arith, done, c)) to.parts
-    where
-      append-none : (l : Blocks) → l ++ [] ≡ l
-      append-none [] = refl
-      append-none (b ∷ l) = ap (λ (k : Blocks). b ∷ k) (append-none l)
-
-      ends : (l : List PortImage) → length l ≡ 0 → blocks ++ zones g l ≡ root ++ zones g all → blocks ≡ root ++ zones g all
-      ends [] none is = sym (append-none blocks) ∙ is
-      ends (p ∷ l) none is = absurd (omega (arith, none))
+pub next-taken : (g : Geometry) (root : Blocks) (all : List PortImage) (p : PortImage) (left : List PortImage) (blocks more : Blocks) → AreTakenTo g root all (p ∷ left) blocks → more ≡ blocks ++ drop g.area p.blocks → AreTakenTo g root all left more
+next-taken g root all p left blocks more to more-is = record {
+  areas = λ k d low. to.areas (suc k) d (omega (arith, low));
+  parts = ap (λ (bs : Blocks). bs ++ zones g left) more-is ∙ append_assoc blocks (drop g.area p.blocks) (zones g left) ∙ to.parts;
+}
 
 -- ---- by their numbers
 

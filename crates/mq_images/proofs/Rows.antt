@@ -19,7 +19,7 @@ use Rattle.mq_images.specs.Views.{port_from, starts_from}
 use Rattle.mq_images.specs.declared.ports.Failing.{Failing}
 
 -- the first of a list, as `remove` gives it
-pub head-of : {A : Type 0} (xs : List A) (x : A) → 0 < length xs → x ≡ get_or xs 0 x → xs ≡ x ∷ remove xs 0
+head-of : {A : Type 0} (xs : List A) (x : A) → 0 < length xs → x ≡ get_or xs 0 x → xs ≡ x ∷ remove xs 0
 head-of [] x some is = absurd (omega arith)
 head-of (y ∷ ys) x some is = ap (λ (z : _). z ∷ ys) (sym is)
 

@@ -32,13 +32,12 @@ pub fn cut_ports(
 ) -> Result<CutDrive, OutOfMemory>
     ensures { IfOk result (λ left. AreCutPorts (row_of ports.entry) left.images.items left.seats.items) }
 {
-    let Ports { mut queues, root } = ports;
-    let count = queues.len();
-    let mut images = Vec::with_capacity(alloc, count + 1)?;
-    let mut seats = Vec::with_capacity(alloc, count + 1)?;
-    for q in 0..count {
-        let _queue = q;
-        let (image, seat) = cut_port(queues.remove(0), pick);
+    let Ports { queues, root } = ports;
+    let count = queues.len() + 1;
+    let mut images = Vec::with_capacity(alloc, count)?;
+    let mut seats = Vec::with_capacity(alloc, count)?;
+    for port in queues {
+        let (image, seat) = cut_port(port, pick);
         images.push(image)?;
         seats.push(seat)?;
     }

@@ -33,11 +33,10 @@ fn take_homes(image: DriveImage) -> Result<Vec<Option<Block>>, OutOfMemory>
 {
     let DriveImage { geometry, ports } = image;
     let mut queues = ports;
-    let root = queues.remove(geometry.queues() as usize);
+    let root = queues.pop().unwrap();
     let mut blocks = root.blocks;
-    for q in 0..geometry.queues() {
-        let _queue = q;
-        append_zone(&mut blocks, geometry.area(), queues.remove(0))?;
+    for queue in queues {
+        append_zone(&mut blocks, geometry.area(), queue)?;
     }
     Ok(blocks)
 }

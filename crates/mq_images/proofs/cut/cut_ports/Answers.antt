@@ -1,33 +1,24 @@
-use Rattle.std.proofs.Common.{arith}
-use Rattle.mq_images.proofs.CutRows.{all-cut, next-cut, none-cut}
+use Rattle.std.proofs.Common.{◌≡◌, ◌∙◌, ◌++◌, ◌∷◌, [], List, ap, append_assoc, arith, subst, sym}
+use Rattle.std.proofs.lemmas.List.{append-nil, nil_from_length}
+use Rattle.std.specs.Vec.Iter.{into_iter_items}
+use Rattle.mq_drive.specs.declared.emu.EmuPort.{EmuPort}
+use Rattle.mq_images.specs.Cuts.{AreCutPorts}
+use Rattle.mq_images.proofs.CutRows.{next-cut}
 use Rattle.mq_images.proofs.cut.cut_ports.Goals as goal
 
-pub invariant_of-root : goal.invariant_of-root
-invariant_of-root c = search c.args.ports.root.device.value
-
-pub invariant_of-root-in_err-seats : goal.invariant_of-root-in_err-seats
-invariant_of-root-in_err-seats c = search c.args.ports.root.device.value
-
-pub invariant_of-root-in_err-push : goal.invariant_of-root-in_err-push
-invariant_of-root-in_err-push c = search c.args.ports.root.device.value
-
-pub invariant_of-root-in_err-push-2-2 : goal.invariant_of-root-in_err-push-2-2
-invariant_of-root-in_err-push-2-2 c = search c.args.ports.root.device.value
-
-pub loop-q-init : goal.loop-q-init
-loop-q-init c = none-cut c.args.ports.queues.items c.in_ok-images.images.items c.in_ok-seats.seats.items c.in_ok-images.ensures.items c.in_ok-seats.ensures.items
-
-pub loop-q-preserved : goal.loop-q-preserved
-loop-q-preserved c =
-    let test = c.loop-q-test.true in
-    let size = c.len-count.ensures in
-    next-cut c.args.ports.queues.items c.loop-q.q c.loop-q.queues.items c.remove.new.self.items c.loop-q.images.items c.push.new.self.items c.loop-q.seats.items c.push-in-loop-q.new.self.items c.remove.result c.cut_port-image.result.0 c.cut_port-image.result.1
-    c.loop-q.invariant (omega (arith, test, size)) c.remove.ensures.value c.cut_port-image.ensures c.remove.ensures.items c.in_ok-push.ensures.items c.in_ok-push-2.ensures.items
+pub loop-port-preserved : goal.loop-port-preserved
+loop-port-preserved c =
+    let done = c.loop-port.yielded in
+    let port = c.in-Some.port in (
+      next-cut done c.loop-port.images.items c.push.new.self.items c.loop-port.seats.items c.push-in-loop-port.new.self.items port c.cut_port-image.result.0 c.cut_port-image.result.1 c.loop-port.invariant.0 c.cut_port-image.ensures c.in_ok-push.ensures.items c.in_ok-push-2.ensures.items,
+      c.loop-port.invariant.1 ∙ ap (λ (l : List EmuPort). done ++ l) c.in-Some.ensures.steps.0 ∙ sym (append_assoc done (port ∷ []) (into_iter_items c.next.new.self)),
+    )
 
 pub returns : goal.returns
 returns c =
-    let test = c.loop-q-test.false in
-    let end = c.loop-q.auto.q-end in
-    let size = c.len-count.ensures in
-    all-cut c.args.ports.queues.items c.loop-q.q c.loop-q.queues.items c.loop-q.images.items c.push-2.new.self.items c.loop-q.seats.items c.push-3.new.self.items c.args.ports.root c.cut_port-image-2.result.0 c.cut_port-image-2.result.1
-    c.loop-q.invariant (omega (arith, test, end, size)) c.cut_port-image-2.ensures c.in_ok-push-3.ensures.items c.in_ok-push-4.ensures.items
+    let done = c.loop-port.yielded in
+    let left = into_iter_items c.loop-port.port-iterator in
+    let none : left ≡ [] = nil_from_length left (let k = c.in-None.ensures.steps in omega (arith, k)) in
+    let all = c.loop-port.invariant.1 ∙ ap (λ (l : List EmuPort). done ++ l) none ∙ append-nil done in
+    subst (λ (l : List EmuPort). AreCutPorts (l ++ c.args.ports.root ∷ []) c.push-2.new.self.items c.push-3.new.self.items) (sym all)
+    (next-cut done c.loop-port.images.items c.push-2.new.self.items c.loop-port.seats.items c.push-3.new.self.items c.args.ports.root c.cut_port-image-2.result.0 c.cut_port-image-2.result.1 c.loop-port.invariant.0 c.cut_port-image-2.ensures c.in_ok-push-3.ensures.items c.in_ok-push-4.ensures.items)

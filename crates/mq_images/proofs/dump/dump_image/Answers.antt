@@ -14,9 +14,6 @@ use Rattle.mq_images.proofs.Standings.{readable-under, refuses-under}
 use Rattle.mq_images.proofs.Starting.{started-view, still-under}
 use Rattle.mq_images.proofs.dump.dump_image.Goals as goal
 
-pub invariant_of-ports : goal.invariant_of-ports
-invariant_of-ports c = search c.in_ok-ports.ports.root.device.value
-
 pub dump_drive-requires : goal.dump_drive-requires
 dump_drive-requires c = still-under (name_of c.in_ok-fuse.fuse) None c.image.inside.geometry c.args.image (drive_of emu_state c.in_ok-ports.ports) c.requires (ap (λ (x : DriveImage). x.geometry) c.image.view_is) c.in_ok-ports.ensures.states
 

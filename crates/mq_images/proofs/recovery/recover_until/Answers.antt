@@ -15,9 +15,6 @@ recover_ports-requires-clause-still c = still-under (name_of c.args.fuse.now) No
 pub recover_ports-requires-clause-sound : goal.recover_ports-requires-clause-sound
 recover_ports-requires-clause-sound c = started-sound c.image.inside.geometry (name_of c.args.fuse.now) c.args.image c.in_ok-ports.ports (ap (λ (x : DriveImage). x.geometry) c.image.view_is) c.requires.image c.in_ok-ports.ensures
 
-pub invariant_of-ports : goal.invariant_of-ports
-invariant_of-ports c = search c.recover_ports.new.ports.root.device.value
-
 pub returns-in_err-ran-clause-refused : goal.returns-in_err-ran-clause-refused
 returns-in_err-ran-clause-refused c =
     let p = err_from_is_err_and c.from_residual-in_err-ran.result c.from_residual-in_err-ran.ensures.1 in
