@@ -3,7 +3,7 @@ use Rattle.std.proofs.Common.{◌≡◌, ◌≢◌, ◌∙◌, ℕ, zero, suc, �
 use Rattle.std.specs.Prelude.{None, Some, Result, Ok, Err, codes}
 use Rattle.std.specs.List.{All, Contains}
 use Rattle.std.proofs.lemmas.Bool.{cases_eq, true≢false}
-use Rattle.mq_blocks.specs.Geometry.{homes_of, queues_of}
+use Rattle.mq_blocks.specs.Geometry.{homes_of, queues_of, write_limit}
 use Rattle.mq_blocks.specs.Journal.{Shown}
 use Rattle.mq_blocks.specs.declared.geometry.Geometry.{Geometry}
 use Rattle.mq_calls.specs.Asking.{IsFirstChange, refusal_at}
@@ -86,7 +86,7 @@ made-sound = group-sound two 0 empty requests (empty-sound two) first-queue smal
 small-writes : (count : ℕ) × Writes two empty made count
 small-writes = sound-writes two empty made (empty-sound two) made-sound
 
-homes-few : homes_of two ≤ 1000
+homes-few : homes_of two ≤ write_limit two
 unfolding two
 homes-few = lit≤ tt
 
@@ -216,10 +216,10 @@ no-swap run = true≢false (sym (ap counts_second (run.0.answered ∙ asked)))
 -- a large group
 pub no-large : (ls : List Line) (reached count : ℕ) → IsCaused two small_scripts empty 0 ls reached (as_large count) → ⊥
 no-large ls reached count h =
-    let is : IsLarge two small_scripts empty 0 ls (as_large count) count = (h.refused (record { cause = TooLarge count 1000; drawn = None }) refl).cause_is.0 in
+    let is : IsLarge two small_scripts empty 0 ls (as_large count) count = (h.refused (record { cause = TooLarge count (write_limit two); drawn = None }) refl).cause_is.0 in
     let few = writes-few two _ _ count is.writes in
     let homes = homes-few in
-    let many : 1000 < count = is.many in
+    let many : write_limit two < count = is.many in
     absurd (omega (arith, few, homes, many))
 
 pub no-changing : (ls : List Line) (reached index : ℕ) → IsCaused two small_scripts empty 0 ls reached (as_changing index) → ⊥

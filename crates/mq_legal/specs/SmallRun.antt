@@ -2,6 +2,7 @@
 -- it.
 use Rattle.std.specs.Prelude.{ℕ, true, false, List, [], ◌∷◌, None, Some, Ok, Err, codes}
 use Rattle.std.proofs.Common.{lit≤}
+use Rattle.mq_blocks.specs.Geometry.{write_limit}
 use Rattle.mq_blocks.specs.declared.geometry.Geometry.{Geometry}
 use Rattle.mq_calls.specs.Asking.{refusal_at}
 use Rattle.mq_calls.specs.declared.answers.CallCause.TheVariants.{Drive, TooLarge}
@@ -66,7 +67,7 @@ as_read = record { number = 0; commit = false; session = 0; group = 0; end = Fsy
 
 -- that the group writes so many blocks
 abbrev pub as_large : ℕ → Told
-as_large count = record { session = 0; group = 0; end = Fsync; answer = Err (record { cause = TooLarge count 1000; drawn = None }) }
+as_large count = record { session = 0; group = 0; end = Fsync; answer = Err (record { cause = TooLarge count (write_limit two); drawn = None }) }
 
 -- that it asks, and a request changes something
 abbrev pub as_changing : ℕ → Told

@@ -113,7 +113,7 @@ abbrev pub last_lba : Geometry → ℕ → Writes → ℕ
 last_lba g place ws = area_lba g 0 (place + length ws)
 
 -- the slot before the new end has the entry of the last item
-pub last_slot : (g : Geometry) (slots : List (List ℕ)) (tx at place : ℕ) (block : List ℕ) (ws : Writes) → length slots ≡ 1024
+pub last_slot : (g : Geometry) (slots : List (List ℕ)) (tx at place : ℕ) (block : List ℕ) (ws : Writes) → length slots ≡ depth
     → get_or (slots_with slots tx at (length (items_from g place block ws)) (items_from g place block ws)) ((at + length ws) % depth) [] ≡ entry_at tx (at + length ws) (last_lba g place ws) []
 last_slot g slots tx at place block [] ring =
     get_or-set_at slots (at % depth) ((at + 0) % depth) (entry_at tx at (area_lba g 0 place) []) [] (ap (λ (n : ℕ). n % depth) (add-zero at)) (omega arith)

@@ -6,7 +6,7 @@ use Rattle.mq_nvme.proofs.Saying.{says-entry}
 use Rattle.mq_blocks.specs.Blocks.{block_at}
 use Rattle.mq_blocks.specs.Descriptor.{Descriptor, IsGood, AreRising, descriptor_bytes}
 use Rattle.mq_blocks.specs.Drive.{PortState, IsQuiescent, index_of, staged_end, depth}
-use Rattle.mq_blocks.specs.Geometry.{area_lba, homes_of}
+use Rattle.mq_blocks.specs.Geometry.{area_lba, homes_of, write_limit}
 use Rattle.mq_blocks.specs.Journal.{Shown, IsChain, logged_copy}
 use Rattle.mq_blocks.specs.Machine.{Writes, Transaction, write_of}
 use Rattle.mq_blocks.specs.declared.geometry.Geometry.{Geometry}
@@ -67,7 +67,7 @@ descriptor_stands area place block (w ∷ ws) stands =
 -- The next transaction on a port that keeps some.
 module _ (g : Geometry) (s : PortState) (next place : ℕ) (ds : List Descriptor) (ts : List Transaction) (keeps : Keeps g s next place ds ts) (one : g.queues ≡ 1)
     (t : Transaction) (number : t.number ≡ length ds + 1) (small : length ds < 2 ^ 63) (low : next < 2 ^ 61) (fits : next + length t.writes < g.area)
-    (few : length t.writes ≤ 1000) (rising : AreRising 0 (homes_of g) (blocks_in t.writes)) where
+    (few : length t.writes ≤ write_limit g) (rising : AreRising 0 (homes_of g) (blocks_in t.writes)) where
   abbrev pub next_descriptor : Descriptor
   next_descriptor = descriptor_for (length ds + 1) next place t.writes
 
@@ -183,7 +183,7 @@ module _ (g : Geometry) (s : PortState) (next place : ℕ) (ds : List Descriptor
   now_port : IsPortOf g (Queue 0) after_it
   unfolding after_line
   now_port =
-      let slots : length (slots_with s.staged (length ds + 1) (staged_end s) (length next_items) next_items) ≡ 1024 =
+      let slots : length (slots_with s.staged (length ds + 1) (staged_end s) (length next_items) next_items) ≡ depth =
       length-slots_with s.staged (length ds + 1) (staged_end s) (length next_items) next_items ∙ keeps.port.staged in
       record {
         queue = keeps.port.queue;

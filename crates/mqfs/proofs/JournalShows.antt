@@ -93,7 +93,7 @@ module _ (g : Geometry) (s new : PortState) (next place : ℕ) (ds : List Descri
   head : q.head ≡ s.head
   head = ⊎_elim (λ same. same ∙ early.head) (λ stored. stored ∙ early.stored) image.head
 
-  slot_same : (k : ℕ) → k < 1024 → IsFlushed new k → get_or q.slots k [] ≡ get_or new.flushed k []
+  slot_same : (k : ℕ) → k < depth → IsFlushed new k → get_or q.slots k [] ≡ get_or new.flushed k []
   slot_same k within flushed = image.slots k (let ring = port.flushed in omega arith) flushed
 
   slot_before : 0 < s.head → get_or q.slots ((q.head - 1) % depth) [] ≡ get_or s.flushed ((s.head - 1) % depth) []

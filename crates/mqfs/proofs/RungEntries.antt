@@ -7,7 +7,7 @@ use Rattle.std.proofs.lemmas.Nat.{mod_below}
 use Rattle.mq_nvme.proofs.Saying.{says-entry}
 use Rattle.mq_nvme.specs.Says.{says}
 use Rattle.mq_blocks.specs.Drive.{PortState, IsQuiescent, depth, staged_end}
-use Rattle.mq_blocks.specs.Geometry.{area_lba}
+use Rattle.mq_blocks.specs.Geometry.{area_lba, write_limit}
 use Rattle.mq_blocks.specs.Journal.{number_limit}
 use Rattle.mq_blocks.specs.Machine.{Writes}
 use Rattle.mq_blocks.specs.declared.geometry.Geometry.{Geometry}
@@ -25,7 +25,7 @@ abbrev IsEntry : Geometry → ℕ → ℕ → List ℕ → Type 0
 IsEntry g tx c entry = (place : ℕ) × (rest : Items) × (entry ≡ entry_at tx c (area_lba g 0 place) rest)
 
 -- each slot that the items take has the entry of one
-each_slot : (g : Geometry) (slots : List (List ℕ)) (tx at place : ℕ) (block : List ℕ) (ws : Writes) (c : ℕ) → length slots ≡ 1024 → length ws ≤ 1000 → at ≤ c → c ≤ at + length ws
+each_slot : (g : Geometry) (slots : List (List ℕ)) (tx at place : ℕ) (block : List ℕ) (ws : Writes) (c : ℕ) → length slots ≡ depth → length ws ≤ write_limit g → at ≤ c → c ≤ at + length ws
     → IsEntry g tx c (get_or (slots_with slots tx at (length (items_from g place block ws)) (items_from g place block ws)) (c % depth) [])
 each_slot g slots tx at place block [] c ring few low high =
     let here : c ≡ at = omega arith in (
@@ -72,7 +72,7 @@ readable_still s new done low same = record {
 }
 
 -- between a ring of the transaction and the store of the head its entries are readable
-pub readable : (g : Geometry) (s new : PortState) (tx place : ℕ) (block : List ℕ) (ws : Writes) → IsPortOf g (Queue 0) s → IsQuiescent s → s.head ≡ s.doorbell → 1 ≤ tx → tx ≤ number_limit → length ws ≤ 1000
+pub readable : (g : Geometry) (s new : PortState) (tx place : ℕ) (block : List ℕ) (ws : Writes) → IsPortOf g (Queue 0) s → IsQuiescent s → s.head ≡ s.doorbell → 1 ≤ tx → tx ≤ number_limit → length ws ≤ write_limit g
     → s.doorbell + length ws + 1 ≤ number_limit → (new.doorbell ≡ s.doorbell) ⊎ IsRung s new tx (items_from g place block ws) → AreReadable s new
 readable g s new tx place block ws port quiet done low high few end (inl same) = readable_still s new done (omega arith) same
 readable g s new tx place block ws port quiet done low high few end (inr rung) =

@@ -4,7 +4,7 @@ use Rattle.std.proofs.Math.Seq.{drop-cons}
 use Rattle.std.proofs.lemmas.List.{get_or_default}
 use Rattle.mq_blocks.specs.Descriptor.{Descriptor, AreRising, descriptor_bytes}
 use Rattle.mq_blocks.specs.Drive.{PortState, PortImage, IsImage, counted, index_of, staged_end, usable_depth}
-use Rattle.mq_blocks.specs.Geometry.{homes_of}
+use Rattle.mq_blocks.specs.Geometry.{homes_of, write_limit}
 use Rattle.mq_blocks.specs.Journal.{shown}
 use Rattle.mq_blocks.specs.Machine.{Writes, Transaction}
 use Rattle.mq_blocks.specs.declared.geometry.Geometry.{Geometry}
@@ -217,7 +217,7 @@ module _ (g : Geometry) (start s : PortState) (lines : Lines) (n next last : ℕ
       let c = few in
       let small : length ds < 2 ^ 63 = omega arith in
       let low_next : next < 2 ^ 61 = omega arith in
-      let few_ws : length ws ≤ 1000 = omega arith in
+      let few_ws : length ws ≤ write_limit g = omega arith in
       let same : after_line s (length ds + 1) (items_of g (length ds + 1) next last ws) ≡ new = (λ i. after_line s (known i + 1) (items_of g (known i + 1) next last ws)) ∙ sym moved in
       let step : Keeps g (after_line s (length ds + 1) (items_of g (length ds + 1) next last ws)) (next + length ws + 1) (next + length ws) (descriptor_for (length ds + 1) next last ws ∷ ds) (transaction_of (n + 1) line ∷ transactions_of lines n) =
       kept g s next last ds (transactions_of lines n) so_far.keeps one (transaction_of (n + 1) line) (let e : n + 1 ≡ length ds + 1 = omega arith in e) small low_next fits few_ws rising before in

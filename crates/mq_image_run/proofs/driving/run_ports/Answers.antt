@@ -5,9 +5,6 @@ use Rattle.mq_image_run.specs.Drives.{emu_ghosts}
 use Rattle.mq_image_run.proofs.Ended.{none-is}
 use Rattle.mq_image_run.proofs.driving.run_ports.Goals as goal
 
-pub invariant_of-t-49 : goal.invariant_of-t-49
-invariant_of-t-49 g c = search c.drop-arg-1.given.0.0.root.device.value
-
 pub returns : goal.returns
 returns g c =
     let end = c.in-Ok.end in

@@ -24,12 +24,3 @@ plain_standing-requires c =
       words = (refl, refl);
     } in
     still-start g (name_of c.in_ok-fuse.fuse) i j (emu_state c.in_ok-queue.queue) (emu_state c.in_ok-root.root) is.0 queue_image root_image c.in_ok-queue.ensures.state c.in_ok-root.ensures.state
-
-pub invariant_of-queue : goal.invariant_of-queue
-invariant_of-queue c = search c.in_ok-queue.queue.device.value
-
-pub invariant_of-root : goal.invariant_of-root
-invariant_of-root c = search c.in_ok-root.root.device.value
-
-pub invariant_of-queue-2 : goal.invariant_of-queue-2
-invariant_of-queue-2 c = search c.in_ok-queue.queue.device.value

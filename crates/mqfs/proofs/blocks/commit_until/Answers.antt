@@ -136,9 +136,3 @@ check_power-requires c status is =
     let bounds = c.commit_text-ports.ensures.bounds p q was got in
     let failed = failed_cause c.commit_text-ports.result.1 c.in-Err.refusal status (emu_faults p) (emu_faults q) (c.commit_text-ports.ensures.cause p q was got) c.in-Err.is is in
     none_failed q failed.0 status (bounds.fail ∙ ap (λ (s : PortState). s.fail) started.queue) (subst (λ (l : List Fault). Gains (CommandError failed.0 status) l (emu_faults q)) started.none failed.1)
-
-pub invariant_of-queue : goal.invariant_of-queue
-invariant_of-queue c = search c.remove-queue.result.device.value
-
-pub invariant_of-root : goal.invariant_of-root
-invariant_of-root c = search c.commit_text-ports.result.0.root.device.value

@@ -80,15 +80,3 @@ returns c =
     let plug : IsLeft lines c.args.cut shown.0 (drive_image g c.in_ok-images.images.0 c.in_ok-images.images.1) =
     is_left lines c.args.cut shown.0 g c.in_ok-images.images.0 c.in_ok-images.images.1 c.text_geometry-geometry.ensures c.in_ok-images.ensures.queue c.in_ok-images.ensures.root shown.2 c.in_ok-images.ensures.doorbell in
     (shown.0, shown.1, output, keeps_left c.args.wanted lines c.args.cut shown.0 (drive_image g c.in_ok-images.images.0 c.in_ok-images.images.1) c.in_ok-kept.left plug c.in_ok-kept.ensures.none c.in_ok-kept.ensures.some)
-
-pub invariant_of-ports : goal.invariant_of-ports
-invariant_of-ports c = search c.in_ok-found.ports.root.device.value
-
-pub invariant_of-ports-in_err-live : goal.invariant_of-ports-in_err-live
-invariant_of-ports-in_err-live c = search c.in_ok-found.ports.root.device.value
-
-pub invariant_of-ports-2 : goal.invariant_of-ports-2
-invariant_of-ports-2 c = search c.in_ok-found.ports.root.device.value
-
-pub invariant_of-ports-in_err-output : goal.invariant_of-ports-in_err-output
-invariant_of-ports-in_err-output c = search c.in_ok-found.ports.root.device.value

@@ -35,6 +35,3 @@ only_image-requires c =
     answered g f c.args.images.0 c.args.images.1 c.in_ok-ports.ports c.recover.new.ports c.recover.result c.requires.one c.requires.queue c.requires.root c.requires.reaches start c.in_ok-ports.ensures.faults
     c.recover.ensures.image c.recover.ensures.cause c.recover.ensures.bounds c.recover.ensures.count in
     only_memory g f c.args.images.0 c.args.images.1 d c.recover.result items root a c.in-Err.refusal c.requires.on c.in-Err.is
-
-pub invariant_of-ports : goal.invariant_of-ports
-invariant_of-ports c = search c.recover.new.ports.root.device.value

@@ -44,12 +44,6 @@ check_power-requires-clause-sound c = λ block status is.
     c.recover-answer.ensures.image c.recover-answer.ensures.cause c.recover-answer.ensures.bounds c.recover-answer.ensures.count in
     none_failed g f c.args.images.0 c.args.images.1 d c.recover-answer.result items root a block status is
 
-pub invariant_of-ports : goal.invariant_of-ports
-invariant_of-ports c = search c.in_ok-ports.ports.root.device.value
-
-pub invariant_of-ports-in_err-check_power : goal.invariant_of-ports-in_err-check_power
-invariant_of-ports-in_err-check_power c = search c.recover-answer.new.ports.root.device.value
-
 pub returns-clause-left : goal.returns-clause-left
 returns-clause-left c = λ ds reaches.
     let g = c.args.geometry in
