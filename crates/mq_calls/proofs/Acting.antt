@@ -27,11 +27,11 @@ use Rattle.mq_turns.specs.declared.rule.Charge.{Charge}
 use Rattle.mq_turns.specs.declared.rule.Report.TheVariants.{Off, Sent}
 use Rattle.mq_calls.specs.Acts.{Call, Commits, IsCaused, IsOfCall, IsTurnedDown, LacksArea, Rests, WasCutAt, before, cut, drained, kept, memory}
 use Rattle.mq_calls.specs.Calling.{IsEntryFor}
-use Rattle.mq_calls.specs.Committing.{IsLacking, IsMissed, OnlyReports, ReadsWords, ShowsLack, miss_for, reports_for}
+use Rattle.mq_calls.specs.Committing.{IsObstacle, IsMissed, OnlyReports, ReadsWords, ShowsObstacle, miss_for, reports_for}
 use Rattle.mq_calls.specs.Drawing.{HasDrawn, IsCommitted}
 use Rattle.mq_calls.specs.declared.answers.CallCause.TheVariants.{Drive}
-use Rattle.mq_calls.specs.declared.committing.Lack.{Lack}
-use Rattle.mq_calls.specs.declared.committing.Lack.TheVariants as lack
+use Rattle.mq_calls.specs.declared.committing.Obstacle.{Obstacle}
+use Rattle.mq_calls.specs.declared.committing.Obstacle.TheVariants as obstacle
 
 -- an entry of the call's group is one of the call, with the group's replies
 pub of-call : (c : Call) (done : Done) (e : FileEntry) → IsEntryFor c done e → IsOfCall c done.replies.items e
@@ -110,10 +110,10 @@ module _ {P : Type 0} {G : Ghosts P} (state : P → PortState) (faults : P → L
   caused-before old v q c opening seen drawn (drained K s after known side drains cause) = drained K s after (known-before old v K opening seen drawn known) side drains cause
 
   -- what is lacked shows on the side
-  pub lack-shown : (g : Geometry) (c : Call) (old : Seat P FileEntry G) (s : QueueSide P FileEntry G) (v : Seat P FileEntry G) (l : Lack) → IsLacking state faults g c old s v l → ShowsLack state faults c.session s v l
-  lack-shown g c old s v lack.Memory lacks = tt
-  lack-shown g c old s v lack.Area lacks = tt
-  lack-shown g c old s v (lack.Drive cause) lacks = lacks.0
+  pub obstacle-shown : (g : Geometry) (c : Call) (old : Seat P FileEntry G) (s : QueueSide P FileEntry G) (v : Seat P FileEntry G) (l : Obstacle) → IsObstacle state faults g c old s v l → ShowsObstacle state faults c.session s v l
+  obstacle-shown g c old s v obstacle.Memory lacks = tt
+  obstacle-shown g c old s v obstacle.Area lacks = tt
+  obstacle-shown g c old s v (obstacle.Drive cause) lacks = lacks.0
 
   -- the plan lacked room, of a session that then took a turn and now reports nothing
   area-lacked : (g : Geometry) (c : Call) (old taken v new : Seat P FileEntry G) → OnlyHolds old taken → new.reading.answers ≡ v.reading.answers → LacksArea state faults g c taken v → LacksArea state faults g c old new
@@ -129,13 +129,13 @@ module _ {P : Type 0} {G : Ghosts P} (state : P → PortState) (faults : P → L
     lacks = k.lacks;
   }
 
-  pub missed-for : (g : Geometry) (c : Call) (s : QueueSide P FileEntry G) (old taken v new : Seat P FileEntry G) (l : Lack) → OnlyHolds old taken → ReadsWords taken v → IsLacking state faults g c taken s v l → OnlyReports (reports_for c.session l v.reading.charged) v new → IsMissed state faults g c old new (miss_for l)
-  missed-for g c s old taken v new lack.Memory holds words lacks only = memory (record { rests = rests-of old taken v new v.reading.charged holds words only; charged = only.charged ∙ charges-of old taken v holds words })
-  missed-for g c s old taken v new lack.Area holds words lacks only = record {
+  pub missed-for : (g : Geometry) (c : Call) (s : QueueSide P FileEntry G) (old taken v new : Seat P FileEntry G) (l : Obstacle) → OnlyHolds old taken → ReadsWords taken v → IsObstacle state faults g c taken s v l → OnlyReports (reports_for c.session l v.reading.charged) v new → IsMissed state faults g c old new (miss_for l)
+  missed-for g c s old taken v new obstacle.Memory holds words lacks only = memory (record { rests = rests-of old taken v new v.reading.charged holds words only; charged = only.charged ∙ charges-of old taken v holds words })
+  missed-for g c s old taken v new obstacle.Area holds words lacks only = record {
     keeps = record { rests = rests-of old taken v new v.reading.charged holds words only; charged = only.charged ∙ charges-of old taken v holds words };
     lacks = area-lacked g c old taken v new holds only.answers lacks;
   }
-  missed-for g c s old taken v new (lack.Drive cause) holds words lacks only =
+  missed-for g c s old taken v new (obstacle.Drive cause) holds words lacks only =
       before (record {
         rests = rests-of old taken v new (reported c.session (report_of cause) ∷ v.reading.charged) holds words only;
         charged = only.charged ∙ ap (λ l. reported c.session (report_of cause) ∷ l) (charges-of old taken v holds words);

@@ -52,13 +52,13 @@ use Rattle.mq_turns.specs.declared.turn.Turn.TheVariants.{Page, Root as RootTurn
 use Rattle.mq_turns.proofs.Each.{each_without}
 use Rattle.mq_turns.proofs.Seen.{opening_seen}
 use Rattle.mq_calls.specs.Acts.{Call, LacksArea, planned_at}
-use Rattle.mq_calls.specs.Committing.{HasRead, HoldsCommit, IsLacking, IsPlacedOn, IsPrepared, LacksRoom}
+use Rattle.mq_calls.specs.Committing.{HasRead, HoldsCommit, IsObstacle, IsPlacedOn, IsPrepared, HasNoRoom}
 use Rattle.mq_calls.specs.Pages.{HoldsPage, HoldsPages}
 use Rattle.mq_calls.specs.Preparing.{IsEntryReady}
 use Rattle.mq_calls.specs.Runs.{IsDoneOnCells, IsDoneOnHeld, file_values, files, geometry_at}
 use Rattle.mq_calls.specs.Sessions.{HasCalled}
-use Rattle.mq_calls.specs.declared.committing.Lack.{Lack}
-use Rattle.mq_calls.specs.declared.committing.Lack.TheVariants as lack
+use Rattle.mq_calls.specs.declared.committing.Obstacle.{Obstacle}
+use Rattle.mq_calls.specs.declared.committing.Obstacle.TheVariants as obstacle
 use Rattle.mq_calls.specs.declared.committing.Ready.{Ready}
 use Rattle.mq_calls.proofs.Acting.{known-before}
 use Rattle.mq_calls.proofs.InHand.{side-apart}
@@ -293,7 +293,7 @@ module _ {P : Type 0} {G : Ghosts P} (state : P → PortState) (faults : P → L
         lacks = subst (λ (x : Geometry). FitIs (area_of x) reads.base (rows_of w.stored.items) (state w.pmr.port) plan Area) drive lacks;
       }
 
-  pub lacks-room : (o : Start P FileEntry G) (g : Geometry) (c : Call) (done : Done) (plan : Placed) (reads : WordsRead) (cells : Cells) (old v : Seat P FileEntry G) (w : QueueSide P FileEntry G) → v.opening ≡ Some o → geometry_at state faults o ≡ g → w.pmr.geometry ≡ g → HoldsCommit state faults o c.session cells w v → IsDoneOnCells g c.session c.requests cells done → length done.writes.items ≤ write_limit g → Changes done.writes.items done.frees.items → HasRead reads old v → IsPlacedOn g c.session reads cells done.writes.items plan → (l : Lack) → LacksRoom state faults c.session reads.base plan w v l → IsLacking state faults g c old w v l
-  lacks-room o g c done plan reads cells old v w opening shape drive holds on few change read placement lack.Memory lacks = absurd lacks
-  lacks-room o g c done plan reads cells old v w opening shape drive holds on few change read placement lack.Area lacks = lacks-area o g c done plan reads cells old v w opening shape drive holds on few change read placement lacks
-  lacks-room o g c done plan reads cells old v w opening shape drive holds on few change read placement (lack.Drive cause) lacks = lacks
+  pub lacks-room : (o : Start P FileEntry G) (g : Geometry) (c : Call) (done : Done) (plan : Placed) (reads : WordsRead) (cells : Cells) (old v : Seat P FileEntry G) (w : QueueSide P FileEntry G) → v.opening ≡ Some o → geometry_at state faults o ≡ g → w.pmr.geometry ≡ g → HoldsCommit state faults o c.session cells w v → IsDoneOnCells g c.session c.requests cells done → length done.writes.items ≤ write_limit g → Changes done.writes.items done.frees.items → HasRead reads old v → IsPlacedOn g c.session reads cells done.writes.items plan → (l : Obstacle) → HasNoRoom state faults c.session reads.base plan w v l → IsObstacle state faults g c old w v l
+  lacks-room o g c done plan reads cells old v w opening shape drive holds on few change read placement obstacle.Memory lacks = absurd lacks
+  lacks-room o g c done plan reads cells old v w opening shape drive holds on few change read placement obstacle.Area lacks = lacks-area o g c done plan reads cells old v w opening shape drive holds on few change read placement lacks
+  lacks-room o g c done plan reads cells old v w opening shape drive holds on few change read placement (obstacle.Drive cause) lacks = lacks

@@ -34,8 +34,8 @@ use Rattle.mq_calls.specs.Calling.{IsEntryFor}
 use Rattle.mq_calls.specs.Pages.{HoldsPages, IsSeen}
 use Rattle.mq_calls.specs.Runs.{files}
 use Rattle.mq_calls.specs.declared.answers.CallCause.TheVariants.{Drive, OutOfMemory}
-use Rattle.mq_calls.specs.declared.committing.Lack.{Lack}
-use Rattle.mq_calls.specs.declared.committing.Lack.TheVariants as lack
+use Rattle.mq_calls.specs.declared.committing.Obstacle.{Obstacle}
+use Rattle.mq_calls.specs.declared.committing.Obstacle.TheVariants as obstacle
 use Rattle.mq_calls.specs.declared.committing.Miss.{Miss}
 use Rattle.mq_calls.specs.declared.committing.Miss.TheVariants as miss
 use Rattle.mq_calls.specs.declared.committing.Ready.{Ready}
@@ -100,23 +100,23 @@ module _ {P : Type 0} {G : Ghosts P} (state : P → PortState) (faults : P → L
 
   -- Why the side of the queue has no room for what is placed so: by this base it does not fit the journal area; or the side
   -- shows what will be reported of its port, and had come to it in hand. No memory is taken.
-  abbrev pub LacksRoom : (queue base : ℕ) → Placed → QueueSide P FileEntry G → Seat P FileEntry G → Lack → Type 0
-  LacksRoom q base plan s v lack.Memory = ⊥
-  LacksRoom q base plan s v lack.Area = FitIs (area_of s.pmr.geometry) base (rows_of s.stored.items) (state s.pmr.port) plan Area
-  LacksRoom q base plan s v (lack.Drive cause) = ShowsReport state faults file_group q (report_of cause) s v × IsCaused state faults v q cause
+  abbrev pub HasNoRoom : (queue base : ℕ) → Placed → QueueSide P FileEntry G → Seat P FileEntry G → Obstacle → Type 0
+  HasNoRoom q base plan s v obstacle.Memory = ⊥
+  HasNoRoom q base plan s v obstacle.Area = FitIs (area_of s.pmr.geometry) base (rows_of s.stored.items) (state s.pmr.port) plan Area
+  HasNoRoom q base plan s v (obstacle.Drive cause) = ShowsReport state faults file_group q (report_of cause) s v × IsCaused state faults v q cause
 
   -- Why the commit of the call is not prepared, and what stands behind that: the plan of its group does not fit the journal
   -- area of the queue; or the side shows what will be reported of its port, and had come to it in hand.
-  abbrev pub IsLacking : Geometry → Call → (old : Seat P FileEntry G) → QueueSide P FileEntry G → Seat P FileEntry G → Lack → Type 0
-  IsLacking g c old s v lack.Memory = Unit {0}
-  IsLacking g c old s v lack.Area = LacksArea state faults g c old v
-  IsLacking g c old s v (lack.Drive cause) = ShowsReport state faults file_group c.session (report_of cause) s v × IsCaused state faults v c.session cause
+  abbrev pub IsObstacle : Geometry → Call → (old : Seat P FileEntry G) → QueueSide P FileEntry G → Seat P FileEntry G → Obstacle → Type 0
+  IsObstacle g c old s v obstacle.Memory = Unit {0}
+  IsObstacle g c old s v obstacle.Area = LacksArea state faults g c old v
+  IsObstacle g c old s v (obstacle.Drive cause) = ShowsReport state faults file_group c.session (report_of cause) s v × IsCaused state faults v c.session cause
 
   -- The side shows what will be reported of its port.
-  abbrev pub ShowsLack : (queue : ℕ) → QueueSide P FileEntry G → Seat P FileEntry G → Lack → Type 0
-  ShowsLack q s v lack.Memory = Unit {0}
-  ShowsLack q s v lack.Area = Unit {0}
-  ShowsLack q s v (lack.Drive cause) = ShowsReport state faults file_group q (report_of cause) s v
+  abbrev pub ShowsObstacle : (queue : ℕ) → QueueSide P FileEntry G → Seat P FileEntry G → Obstacle → Type 0
+  ShowsObstacle q s v obstacle.Memory = Unit {0}
+  ShowsObstacle q s v obstacle.Area = Unit {0}
+  ShowsObstacle q s v (obstacle.Drive cause) = ShowsReport state faults file_group q (report_of cause) s v
 
   -- Why a group that was run on its pages was not done, and what that leaves: its plan did not fit the journal area, or it
   -- was turned down.
@@ -125,13 +125,13 @@ module _ {P : Type 0} {G : Ghosts P} (state : P → PortState) (faults : P → L
   IsMissed g c old new (miss.Refused r) = IsTurnedDown state faults g c old new r.cause r.drawn
 
 -- what is answered where a group is not drawn for this
-abbrev pub miss_for : Lack → Miss
-miss_for lack.Memory = miss.Refused (record { cause = OutOfMemory; drawn = None })
-miss_for lack.Area = miss.AreaFull
-miss_for (lack.Drive cause) = miss.Refused (record { cause = Drive cause; drawn = None })
+abbrev pub miss_for : Obstacle → Miss
+miss_for obstacle.Memory = miss.Refused (record { cause = OutOfMemory; drawn = None })
+miss_for obstacle.Area = miss.AreaFull
+miss_for (obstacle.Drive cause) = miss.Refused (record { cause = Drive cause; drawn = None })
 
 -- what is reported where a group is not drawn for this
-abbrev pub reports_for : ℕ → Lack → List Charge → List Charge
-reports_for q lack.Memory charged = charged
-reports_for q lack.Area charged = charged
-reports_for q (lack.Drive cause) charged = reported q (report_of cause) ∷ charged
+abbrev pub reports_for : ℕ → Obstacle → List Charge → List Charge
+reports_for q obstacle.Memory charged = charged
+reports_for q obstacle.Area charged = charged
+reports_for q (obstacle.Drive cause) charged = reported q (report_of cause) ∷ charged

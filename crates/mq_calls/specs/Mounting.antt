@@ -26,7 +26,7 @@ pub record HoldsVolume (g : Geometry) (d : DriveState) (v : Volume) : Type 0 whe
   pub stands : StandsIn g d standing
   pub laid : IsLaid g (map_of g standing.blocks.items) v
 
--- memory was wanting; or what stands on the ports holds no volume, and this is wrong at this block
+-- memory ran out; or what stands on the ports holds no volume, and this is wrong at this block
 pub data IsNotMounted (g : Geometry) (d : DriveState) : MountRefusal → Type 0 where
   memory : IsNotMounted g d OutOfMemory
   corrupt : {cause : CorruptCause} {b : ℕ} (s : Standing) → StandsIn g d s → IsCorrupt g s.blocks.items cause b → ((v : Volume) → HoldsVolume g d v → ⊥) → IsNotMounted g d (Corrupt cause b)

@@ -6,7 +6,7 @@ use mq_side::{Cause, Prepared};
 
 /// What keeps a group from being drawn.
 #[derive(Drop)]
-pub(crate) enum Lack {
+pub(crate) enum Obstacle {
     Memory,
     /// The journal area has no room for it.
     Area,
@@ -14,14 +14,14 @@ pub(crate) enum Lack {
     Drive(Cause),
 }
 
-impl From<OutOfMemory> for Lack {
+impl From<OutOfMemory> for Obstacle {
     ghost use Rattle.std.specs.Prelude.{◌≡◌};
-    ghost use Rattle.mq_calls.specs.declared.committing.Lack.TheVariants as lack;
+    ghost use Rattle.mq_calls.specs.declared.committing.Obstacle.TheVariants as obstacle;
 
-    ghost from_gives = { λ _ e. e ≡ lack.Memory };
+    ghost from_gives = { λ _ e. e ≡ obstacle.Memory };
 
     fn from(_: OutOfMemory) -> Self {
-        Lack::Memory
+        Obstacle::Memory
     }
 }
 

@@ -7,14 +7,14 @@ ghost use Rattle.mq_turns.specs.Desk.{allotment};
 ghost use Rattle.mq_turns.specs.declared.rule.Report.TheVariants as report;
 ghost use Rattle.mq_calls.specs.Acts.{GoesOn, WasCutAt};
 ghost use Rattle.mq_calls.specs.Calling.{IsAsking, call_of};
-ghost use Rattle.mq_calls.specs.Committing.{HoldsCommit, IsMissed, IsPrepared, OnlyReports, ShowsLack, miss_for, reports_for};
+ghost use Rattle.mq_calls.specs.Committing.{HoldsCommit, IsMissed, IsPrepared, OnlyReports, ShowsObstacle, miss_for, reports_for};
 ghost use Rattle.mq_calls.specs.Drawing.{HasDrawn, IsCommitted, SameSeat};
 ghost use Rattle.mq_calls.specs.Pages.{HoldsOnlyPages, IsSeen};
 ghost use Rattle.mq_calls.specs.Runs.{IsDoneOnCells, files, geometry_at};
 
 use crate::answers::{CallCause, Refusal};
 use crate::asked::Asked;
-use crate::committing::{Lack, Miss, Ready};
+use crate::committing::{Obstacle, Miss, Ready};
 use crate::leaving::give_drawn_pages;
 use crate::machine::FileMachine;
 use crate::pages::give_back_pages;
@@ -78,22 +78,22 @@ fn give_side<P: Port + Drop>(
     chair: &mut Chair<FileMachine<P>>,
     side: QueueSide<P, FileEntry>,
     held: &Held,
-    lack: &Lack,
+    obstacle: &Obstacle,
 )
     requires at { AtDesk desk.now chair.old }
     requires holds { HoldsCommit P.state P.faults (start_of desk.now) side.pmr.queue held.now.cells
         side (view chair.old) }
-    requires shows { ShowsLack P.state P.faults side.pmr.queue side (view chair.old) lack.now }
+    requires shows { ShowsObstacle P.state P.faults side.pmr.queue side (view chair.old) obstacle.now }
     ensures at { AtDesk desk.now chair.new }
     ensures pages { HoldsOnlyPages (files P.state P.faults) (start_of desk.now) held.now.cells (view chair.new) }
-    ensures reports { OnlyReports (reports_for side.pmr.queue lack.now (view chair.old).reading.charged)
+    ensures reports { OnlyReports (reports_for side.pmr.queue obstacle.now (view chair.old).reading.charged)
         (view chair.old) (view chair.new) }
 {
     let _ = held;
-    match lack {
-        Lack::Drive(cause) => report_side(desk, chair, side, report_of(cause)),
-        Lack::Memory => give_back_side(desk, chair, side),
-        Lack::Area => give_back_side(desk, chair, side),
+    match obstacle {
+        Obstacle::Drive(cause) => report_side(desk, chair, side, report_of(cause)),
+        Obstacle::Memory => give_back_side(desk, chair, side),
+        Obstacle::Area => give_back_side(desk, chair, side),
     }
 }
 
@@ -103,34 +103,34 @@ fn give_up<P: Port + Drop>(
     chair: &mut Chair<FileMachine<P>>,
     side: QueueSide<P, FileEntry>,
     held: &mut Held,
-    lack: &Lack,
+    obstacle: &Obstacle,
 )
     requires at { AtDesk desk.now chair.old }
     requires holds { HoldsCommit P.state P.faults (start_of desk.now) side.pmr.queue held.old.cells
         side (view chair.old) }
-    requires shows { ShowsLack P.state P.faults side.pmr.queue side (view chair.old) lack.now }
+    requires shows { ShowsObstacle P.state P.faults side.pmr.queue side (view chair.old) obstacle.now }
     ensures at { AtDesk desk.now chair.new }
     ensures idle { (view chair.new).held ≡ [] }
-    ensures reports { OnlyReports (reports_for side.pmr.queue lack.now (view chair.old).reading.charged)
+    ensures reports { OnlyReports (reports_for side.pmr.queue obstacle.now (view chair.old).reading.charged)
         (view chair.old) (view chair.new) }
     ensures cells { held.new.cells ≡ [] }
     ensures room { held.new.room ≡ held.old.room }
 {
-    give_side(desk, chair, side, held, lack);
+    give_side(desk, chair, side, held, obstacle);
     give_back_pages(desk, chair, held);
 }
 
 // Why a group that is not drawn was not done.
-fn miss_of(lack: Lack) -> Miss
-    ensures { result ≡ miss_for lack }
+fn miss_of(obstacle: Obstacle) -> Miss
+    ensures { result ≡ miss_for obstacle }
 {
-    match lack {
-        Lack::Memory => Miss::Refused(Refusal {
+    match obstacle {
+        Obstacle::Memory => Miss::Refused(Refusal {
             cause: CallCause::OutOfMemory,
             drawn: None,
         }),
-        Lack::Area => Miss::AreaFull,
-        Lack::Drive(cause) => Miss::Refused(Refusal {
+        Obstacle::Area => Miss::AreaFull,
+        Obstacle::Drive(cause) => Miss::Refused(Refusal {
             cause: CallCause::Drive(cause),
             drawn: None,
         }),
@@ -182,9 +182,9 @@ pub(crate) fn commit<P: Port + Drop, R: Wait>(
                 drawn: Some(at),
             })),
         },
-        Err(lack) => {
-            give_up(desk, chair, side, held, &lack);
-            Err(miss_of(lack))
+        Err(obstacle) => {
+            give_up(desk, chair, side, held, &obstacle);
+            Err(miss_of(obstacle))
         }
     }
 }

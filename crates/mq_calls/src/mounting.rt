@@ -15,7 +15,7 @@ use mq_recover::{ImageFault, Standing, stands};
 use mq_tree::MountRefusal;
 use std::alloc::Global;
 
-// What stands on a drive that was recovered, is refused for want of memory alone.
+// What stands on a drive that was recovered, is refused for lack of memory alone.
 fn only_memory(fault: ImageFault) -> MountRefusal
     requires { fault ≡ ImageFault.OutOfMemory }
     ensures { result ≡ MountRefusal.OutOfMemory }

@@ -11,14 +11,14 @@ ghost use Rattle.mq_side.specs.Stored.{FitIs, IsBounded, rows_of};
 ghost use Rattle.mq_side.specs.declared.answers.Fit.TheVariants.{Yes};
 ghost use Rattle.mq_turns.specs.AtDesk.{AtDesk, start_of, view};
 ghost use Rattle.mq_calls.specs.Calling.{IsAsking, IsEntryFor, call_of};
-ghost use Rattle.mq_calls.specs.Committing.{HasRead, HoldsCommit, IsLacking, IsPlacedOn, IsPrepared, LacksRoom, ReadsWords};
+ghost use Rattle.mq_calls.specs.Committing.{HasRead, HoldsCommit, IsObstacle, IsPlacedOn, IsPrepared, HasNoRoom, ReadsWords};
 ghost use Rattle.mq_calls.specs.Pages.{IsSeen};
 ghost use Rattle.mq_calls.specs.Preparing.{IsEntryReady, IsSideOf, KeepsSide, cause_kept};
 ghost use Rattle.mq_calls.specs.Runs.{IsDoneOnCells, files, geometry_at};
-ghost use Rattle.mq_calls.specs.declared.committing.Lack.TheVariants as lack;
+ghost use Rattle.mq_calls.specs.declared.committing.Obstacle.TheVariants as obstacle;
 
 use crate::asked::Asked;
-use crate::committing::{Lack, Ready};
+use crate::committing::{Obstacle, Ready};
 use crate::machine::FileMachine;
 use mq_blocks::{Geometry, OutOfMemory, QueueNo, TxNo};
 use mq_drive::Port;
@@ -84,7 +84,7 @@ fn make_room<P: Port + Drop>(
     side: &mut QueueSide<P, FileEntry>,
     plan: &Placement,
     base: TxNo,
-) -> Result<(), Lack>
+) -> Result<(), Obstacle>
     requires at { AtDesk desk.now chair.now }
     requires side { IsSideOf P.state P.faults (start_of desk.now) side.old (view chair.now) }
     requires seen { IsSeen (files P.state P.faults) (view chair.now) }
@@ -95,15 +95,15 @@ fn make_room<P: Port + Drop>(
     ensures none { OnOk result (side.new.kept ≡ None) }
     ensures fits { OnOk result (FitIs (area_of side.new.pmr.geometry) base
         (rows_of side.new.stored.items) (P.state side.new.pmr.port) plan.now Yes) }
-    ensures lacks { IfErr result (LacksRoom P.state P.faults side.old.pmr.queue base plan.now
+    ensures lacks { IfErr result (HasNoRoom P.state P.faults side.old.pmr.queue base plan.now
         side.new (view chair.now)) }
 {
     match side.fits(plan, base) {
         Fit::Yes => Ok(()),
-        Fit::Area => Err(Lack::Area),
+        Fit::Area => Err(Obstacle::Area),
         Fit::Ring => match drain_held(desk, chair, side) {
             Ok(()) => Ok(()),
-            Err(cause) => Err(Lack::Drive(cause)),
+            Err(cause) => Err(Obstacle::Drive(cause)),
         },
     }
 }
@@ -116,7 +116,7 @@ fn prepare<P: Port + Drop>(
     done: &Done,
     plan: &Placement,
     reads: Reads,
-) -> Result<Ready, Lack>
+) -> Result<Ready, Obstacle>
     requires plan { IsPlanOf (homes_of side.old.pmr.geometry) (blocks_in done.now.writes.items) plan.now }
     requires few { length done.now.writes.items ≤ write_limit side.old.pmr.geometry }
     ensures keeps { KeepsSide side.old side.new }
@@ -124,10 +124,10 @@ fn prepare<P: Port + Drop>(
     ensures kept { side.new.kept ≡ side.old.kept }
     ensures done { side.new.done ≡ side.old.done }
     ensures ready { IfOk result (IsEntryReady P.state (call_of asked.now) done.now plan.now reads side.new) }
-    ensures lacks { IfErr result (λ e. e ≡ lack.Memory) }
+    ensures lacks { IfErr result (λ e. e ≡ obstacle.Memory) }
 {
     if !side.is_bounded(plan) {
-        return Err(Lack::Memory);
+        return Err(Obstacle::Memory);
     }
     let prepared = side.prepare(alloc, &done.writes, plan)?;
     let entry = FileEntry::new(
@@ -154,7 +154,7 @@ pub(crate) fn make_ready<P: Port + Drop>(
     held: &Held,
     done: &Done,
     into: &mut Placement,
-) -> Result<Ready, Lack>
+) -> Result<Ready, Obstacle>
     requires at { AtDesk desk.now chair.old }
     requires geometry { geometry_at P.state P.faults (start_of desk.now) ≡ side.old.pmr.geometry }
     requires queue { side.old.pmr.queue ≡ asked.now.queue }
@@ -171,11 +171,11 @@ pub(crate) fn make_ready<P: Port + Drop>(
         side.new (view chair.new) }
     ensures ready { IfOk result (IsPrepared P.state P.faults (start_of desk.now) (call_of asked.now) done.now
         into.new (view chair.old) side.new (view chair.new)) }
-    ensures lacks { IfErr result (IsLacking P.state P.faults side.old.pmr.geometry (call_of asked.now)
+    ensures lacks { IfErr result (IsObstacle P.state P.faults side.old.pmr.geometry (call_of asked.now)
         (view chair.old) side.new (view chair.new)) }
 {
     if let Some(cause) = kept_cause(side) {
-        return Err(Lack::Drive(cause));
+        return Err(Obstacle::Drive(cause));
     }
     a_done_group_may_be_drawn();
     let Reads { front, base } = read_words(desk, chair);

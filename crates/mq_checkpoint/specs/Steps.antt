@@ -72,7 +72,7 @@ module _ {P E : Type 0} {G : Ghosts P} (state : P → PortState) (faults : P →
     pub moves : Moves (record { port = port; report = report_of c } ∷ []) fronts old new
     pub caused : IsCaused old port c
 
-  -- For want of memory nothing is reported.
+  -- For lack of memory nothing is reported.
   abbrev pub Refuses : List Answer → CheckpointRefusal → Seat P E G → Seat P E G → Type 0
   Refuses fronts refused.OutOfMemory old new = Moves [] fronts old new
   Refuses fronts (refused.Drive c) old new = IsRefusedBy fronts c old new

@@ -173,7 +173,7 @@ same-scripts held (name ∷ names) (s ∷ scripts) (t ∷ texts) old new same ho
     let one : s ≡ t = cc in
     ap (λ (u : Script). u ∷ scripts) one ∙ ap (λ (l : List Script). t ∷ l) (same-scripts held names scripts texts loaded.1 new (loaded.2.contents ∙ same) hold.3 loaded.4)
 
--- a script that the files tell is refused for a fault or for want of memory alone
+-- a script that the files tell is refused for a fault or for lack of memory alone
 script-held : (held : Option Held) (name bytes : List ℕ) (script : Script) (old new : FilesState) (status : ℕ) (text : List ℕ) (wanted result : ℕ) → old.contents ≡ held → Tells held name (Some bytes) → script_in bytes ≡ Ok script
     → RefusesScript name old new status text → IsUnlessWanting status result → IsUnlessWanting wanted result
 script-held held name bytes script old new status text wanted result same tells is (not_loaded not) ends = not-loaded-status name old new status text wanted result not ends
@@ -190,7 +190,7 @@ scripts-held held (name ∷ names) [] old new status text wanted result same hol
 scripts-held held (name ∷ names) (t ∷ texts) old new status text wanted result same hold (inl refuses) ends = script-held held name hold.0 t old new status text wanted result same hold.1 hold.2 refuses ends
 scripts-held held (name ∷ names) (t ∷ texts) old new status text wanted result same hold (inr later) ends = scripts-held held names texts later.2 new status text wanted result (later.3.contents ∙ same) hold.3 later.5 ends
 
--- scripts are refused with status 2, a fault and want of memory aside
+-- scripts are refused with status 2, a fault and lack of memory aside
 script-two : (name : List ℕ) (old new : FilesState) (status : ℕ) (text : List ℕ) (result : ℕ) → RefusesScript name old new status text → IsUnlessWanting status result → IsUnlessWanting 2 result
 script-two name old new status text result (not_loaded not) ends = not-loaded-status name old new status text 2 result not ends
 script-two name old new _ _ result (refused bytes at load bad) ends = ends
@@ -267,7 +267,7 @@ module _ (o : RunOptions) (name : List ℕ) (names : List (List ℕ)) (old new :
   bad-status bad status text (unsaved other y scripts r mid all load is loaded few of keeps not) ends = absurd (bad-unloaded old.contents names scripts mid all load.contents bad loaded)
 
   module _ (texts : List Script) (hold : HoldScripts old.contents names texts) where
-    -- either the scripts are run, or why not is said, a fault and want of memory aside
+    -- either the scripts are run, or why not is said, a fault and lack of memory aside
     settled : (Goal : Type 0) (wanted : ℕ) → (IsUnlessWanting wanted result → Goal)
         → ((status : ℕ) (text : List ℕ) → RefusesRunning x texts status text → IsUnlessWanting status result → Goal)
         → ((r : ImageRun) → length texts ≤ queues_of x.geometry → IsRunOf x texts o r → KeepsPromise x texts o r → IsUnlessWanting (run_status r) result → Goal)

@@ -27,7 +27,7 @@ SavesUnder None file old new = new ≡ old
 SavesUnder (Some name) file old new = IsSaved name file old new
 
 -- The workload was played, the image that the cut left is saved, where a name is given for it, and the line tells how much
--- the tree has. Or the image is not saved, and why is said; or memory was wanting.
+-- the tree has. Or the image is not saved, and why is said; or memory ran out.
 pub data Generates (w : Workload) (save : Option (List ℕ)) (old new : FilesState) : (status : ℕ) → (text : List ℕ) → Type 0 where
   generated : (made : Generated) → IsPlayOf w save made → SavesUnder save made.file.items old new → Generates w save old new 0 (generated_line w made)
   not_saved : {status : ℕ} {text : List ℕ} (name : List ℕ) (made : Generated) → save ≡ Some name → IsPlayOf w save made → IsNotSaved name old new status text → Generates w save old new status text

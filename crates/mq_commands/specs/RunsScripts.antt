@@ -39,7 +39,7 @@ AreLoaded (name ∷ names) [] old new = ⊥
 AreLoaded (name ∷ names) (script ∷ scripts) old new =
     (text : List ℕ) × (mid : FilesState) × IsLoaded name text old mid × IsScriptIn text script × AreLoaded names scripts mid new
 
--- a name gives no script: it is not loaded, or its text is refused at a line, or memory was wanting
+-- a name gives no script: it is not loaded, or its text is refused at a line, or memory ran out
 pub data RefusesScript (name : List ℕ) (old new : FilesState) : (status : ℕ) → (text : List ℕ) → Type 0 where
   not_loaded : {status : ℕ} {text : List ℕ} → IsNotLoaded name old new status text → RefusesScript name old new status text
   refused : (bytes : List ℕ) (at : Refused) → IsLoaded name bytes old new → script_in bytes ≡ Err at → RefusesScript name old new 2 (script_line name at.line at.cause)
@@ -55,7 +55,7 @@ RefusesScripts (name ∷ names) old new status text =
 -- ---- runs
 
 -- The scripts are not run on the image: there are more than it has queues; or the image is refused, and this is why; or
--- memory was wanting.
+-- memory ran out.
 pub data RefusesRunning (x : DriveImage) (scripts : List Script) : (status : ℕ) → (text : List ℕ) → Type 0 where
   too_many : queues_of x.geometry < length scripts → RefusesRunning x scripts 2 (scripts_line (length scripts) (queues_of x.geometry))
   not_run : (e : StandingRefusal) → length scripts ≤ queues_of x.geometry → RefusesRun x e → e ≢ standing.OutOfMemory → RefusesRunning x scripts 3 (volume_line e)
@@ -67,17 +67,17 @@ is_memory (cause.TooLarge count limit) = false
 is_memory (cause.Changes index) = false
 is_memory (cause.Drive why) = false
 
--- memory was wanting for a group
+-- memory ran out for a group
 abbrev pub is_wanting : Result ℕ Refusal → Bool
 is_wanting (Ok number) = false
 is_wanting (Err refusal) = is_memory refusal.cause
 
--- memory was wanting for one of the groups
+-- memory ran out for one of the groups
 abbrev pub are_wanting : List Told → Bool
 are_wanting [] = false
 are_wanting (told ∷ answers) = is_wanting told.answer || are_wanting answers
 
--- 6 where memory was wanting for a group; else 5 where the command that was to fail was executed
+-- 6 where memory ran out for a group; else 5 where the command that was to fail was executed
 abbrev pub run_status : ImageRun → ℕ
 run_status r = if are_wanting r.answers.items then 6 else if r.failed then 5 else 0
 

@@ -109,7 +109,7 @@ pub fn refuse_scripts(alloc: Global, count: usize, queues: u32) -> Result<Answer
     })
 }
 
-/// Says an answer, or that memory was wanting for it.
+/// Says an answer, or that memory ran out for it.
 pub fn say_answer<K: Sink>(answer: Result<Answer, OutOfMemory>, out: &mut K) -> u8
     ensures { MatchResult answer (λ a. EndsWith a.status a.text.items result (K.state out.old) (K.state out.new))
         (λ _. EndsWith 6 memory_line result (K.state out.old) (K.state out.new)) }

@@ -41,7 +41,7 @@ fn empty_file(alloc: Global, geometry: Geometry) -> Result<Vec<u8>, OutOfMemory>
     write_image(alloc, &image)
 }
 
-// Says why the numbers are no geometry, or that memory was wanting for that.
+// Says why the numbers are no geometry, or that memory ran out for that.
 fn say_refused<K: Sink>(alloc: Global, refusal: GeometryRefusal, out: &mut K) -> u8
     ensures { EndsWith 3 (geometry_line refusal) result (K.state out.old) (K.state out.new)
         ⊎ EndsWith 6 memory_line result (K.state out.old) (K.state out.new) }

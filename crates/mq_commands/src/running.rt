@@ -127,7 +127,7 @@ fn load_scripts<F: Files, K: Sink>(
 
 // ---- what is said of a run
 
-// Whether memory was wanting for a group.
+// Whether memory ran out for a group.
 fn wants_memory(told: &Told) -> bool
     ensures { result ≡ is_wanting told.now.answer }
 {
@@ -140,7 +140,7 @@ fn wants_memory(told: &Told) -> bool
     }
 }
 
-// Whether memory was wanting for one of the groups.
+// Whether memory ran out for one of the groups.
 fn any_wants_memory(answers: &[Told]) -> bool
     ensures { result ≡ are_wanting answers.now }
 {

@@ -22,7 +22,7 @@ save_line name = named_line (codes "fault save ") name
 
 -- ---- the end
 
--- A text was to be said with a status. It was, or the sink failed, or memory was wanting, which
+-- A text was to be said with a status. It was, or the sink failed, or memory ran out, which
 -- doesn't go before 4.
 abbrev pub EndsWith : (status : ℕ) (text : List ℕ) (result : ℕ) (old new : SinkState) → Type 0
 EndsWith status text result old new =
@@ -30,7 +30,7 @@ EndsWith status text result old new =
     ⊎ (((result ≡ 4) × AppendsPrefix old.contents new.contents text × Rose old.faults new.faults)
     ⊎ ((result ≡ if nat_eq status 4 then 4 else 6) × AppendsPrefix old.contents new.contents text × (new.faults ≡ old.faults)))
 
--- the status is this one, or a fault or want of memory went before it
+-- the status is this one, or a fault or lack of memory went before it
 abbrev pub IsUnlessWanting : ℕ → ℕ → Type 0
 IsUnlessWanting s result = (result ≡ s) ⊎ ((result ≡ 4) ⊎ (result ≡ 6))
 

@@ -23,7 +23,7 @@ pub const FAULT: u8 = 4;
 /// A command of the drive failed that was told to.
 pub const COMMAND: u8 = 5;
 
-/// Memory was wanting.
+/// Memory ran out.
 pub const NO_MEMORY: u8 = 6;
 
 // The status after a text was put, or not.
@@ -47,7 +47,7 @@ pub fn say<K: Sink>(status: u8, text: &[u8], out: &mut K) -> u8
     ended(status, put_all(out, text))
 }
 
-/// Says that memory was wanting.
+/// Says that memory ran out.
 pub fn say_memory<K: Sink>(out: &mut K) -> u8
     ensures { EndsWith 6 memory_line result (K.state out.old) (K.state out.new) }
 {

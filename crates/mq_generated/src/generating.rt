@@ -34,7 +34,7 @@ fn newest(lines: &[Line]) -> u64
     number
 }
 
-// How much the tree has that stands on an image. Where one stands, the call is refused for want of memory alone.
+// How much the tree has that stands on an image. Where one stands, the call is refused for lack of memory alone.
 fn count(alloc: Global, image: DriveImage) -> Result<TreeCounts, OutOfMemory>
     requires { IsDrive image }
     ensures { IfOk result (λ counts. (v : Volume) × StandsFor image v × (counts ≡ counts_in v)) }

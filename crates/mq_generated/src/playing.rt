@@ -45,7 +45,7 @@ fn are_good(answers: &[Told]) -> bool
 }
 
 /// Runs scripts on the empty file system of a fresh drive, each on a session and a thread of its own, with power for more
-/// events than any run makes and no failing command. A group that is refused is answered as want of memory.
+/// events than any run makes and no failing command. A group that is refused is answered as out of memory.
 pub fn play<R: Threads + Wait + Sync, G: Gate + Sync>(
     rt: &R,
     alloc: Global,

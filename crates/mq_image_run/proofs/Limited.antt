@@ -70,13 +70,13 @@ refuses-image x (Twice n a b) (inr is) = not_readable (Twice n a b) is
 refuses-image x (Limit n) (inl e) = absurd (cc)
 refuses-image x (Limit n) (inr is) = not_readable (Limit n) is
 
--- ---- where nothing but memory is wanting
+-- ---- where nothing but memory runs out
 
 not-above : (x : DriveImage) (n base : ℕ) → AreWithin x base → IsFirstAbove x base n → ⊥
 not-above x n base within (above, inl is) = let low = within.base_low in omega (arith, above, is, low)
 not-above x n base within (above, inr at) = let low = within.doorbells at.0 at.1 in let is = at.3 in omega (arith, above, is, low)
 
--- an image that is within the limits and stands for a volume is refused for want of memory alone
+-- an image that is within the limits and stands for a volume is refused for lack of memory alone
 pub only-wanting : (x : DriveImage) (v : Volume) (e : StandingRefusal) (for : StandsFor x v) → AreWithin x for.top → RefusesRun x e → e ≡ OutOfMemory
 only-wanting x v _ for within (not_readable e refuses) = absurd (read-refused x for.ds for.top e for.read refuses)
 only-wanting x v _ for within (above_limit ds top read first) =

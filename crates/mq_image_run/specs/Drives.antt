@@ -104,7 +104,7 @@ abbrev pub HoldsNone : FuseName → Option Failing → DriveImage → CorruptCau
 HoldsNone fuse fail y cause block =
     (ports : Ports EmuPort) × AreStarted fuse fail y ports × IsNotMounted y.geometry (drive_of emu_state ports) (mount.Corrupt cause block)
 
--- why no script is run: memory is wanting, or no volume stands
+-- why no script is run: memory runs out, or no volume stands
 abbrev pub IsNotDriven : FuseName → Option Failing → DriveImage → StandingRefusal → Type 0
 IsNotDriven fuse fail y OutOfMemory = Unit {0}
 IsNotDriven fuse fail y (Corrupt cause block) = HoldsNone fuse fail y cause block

@@ -79,7 +79,7 @@ fn put_prefix(alloc: Global, text: &mut Vec<u8>, prefix: u64) -> Result<(), OutO
     Ok(())
 }
 
-// The chain of a readable queue is refused for want of memory alone.
+// The chain of a readable queue is refused for lack of memory alone.
 fn only_memory(refusal: ChainRefusal) -> OutOfMemory
     requires { refusal ≡ ChainRefusal.OutOfMemory }
 {

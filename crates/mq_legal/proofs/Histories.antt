@@ -12,7 +12,7 @@ use Rattle.mq_files.specs.declared.entry.FileEntry.{FileEntry}
 use Rattle.mq_ledger.specs.History.{change_of}
 use Rattle.mq_legal.proofs.Laying.{sound-laid}
 use Rattle.mq_legal.proofs.Quiet.{moves-change, moves-stay}
-use Rattle.mq_legal.specs.Histories.{AllDo, AreLinesOf, none, commit, read, AreOfBytes, ChangesOn, IsCommitOf, IsQuiet, IsReadOf, RunsOn, StaysOn, TellsOf, map_after, volume_through}
+use Rattle.mq_legal.specs.Histories.{AllDo, AreLinesOf, none, commit, read, AreOfBytes, ChangesOn, IsCommitOf, WritesNothing, IsReadOf, RunsOn, StaysOn, TellsOf, map_after, volume_through}
 use Rattle.mq_legal.specs.Legal.{AllWriteFew, IsRun, IsStep, WritesFew, group_of, newest, next, number_after, volume_at}
 use Rattle.mq_pages.specs.declared.page.Write.{Write}
 use Rattle.mq_report.specs.Lines.{Line}
@@ -41,15 +41,15 @@ does-on g m v e laid does =
     let runs = ran-on g m v e laid does.ran in
     record { runs = runs; changes = moves-change g v (volume_after g v e) (written_by e) (freed_by e) runs.moves does.changes }
 
-quiet-moves : (g : Geometry) (v w : Volume) (e : FileEntry) → IsQuiet e → Moves g v w (written_by e) (freed_by e) → Moves g v w [] []
+quiet-moves : (g : Geometry) (v w : Volume) (e : FileEntry) → WritesNothing e → Moves g v w (written_by e) (freed_by e) → Moves g v w [] []
 quiet-moves g v w e quiet moves = subst (λ (fs : List ℕ). Moves g v w [] fs) quiet.frees (subst (λ (ws : List Write). Moves g v w ws (freed_by e)) quiet.writes moves)
 
-pub stays-on-map : (g : Geometry) (m n : Map) (v : Volume) (e : FileEntry) → IsLaid g m v → Asks g m e → IsQuiet e → IsLaid g n (volume_after g v e) → StaysOn g v e
+pub stays-on-map : (g : Geometry) (m n : Map) (v : Volume) (e : FileEntry) → IsLaid g m v → Asks g m e → WritesNothing e → IsLaid g n (volume_after g v e) → StaysOn g v e
 stays-on-map g m n v e laid asks quiet there =
     let runs = asks-on g m v e laid asks in
     record { runs = runs; stays = moves-stay g m n v (volume_after g v e) laid there (quiet-moves g v (volume_after g v e) e quiet runs.moves) }
 
-pub stays-on : (g : Geometry) (m : Map) (v : Volume) (e : FileEntry) → IsLaid g m v → Asks g m e → IsQuiet e → All HasBytes e.requests → StaysOn g v e
+pub stays-on : (g : Geometry) (m : Map) (v : Volume) (e : FileEntry) → IsLaid g m v → Asks g m e → WritesNothing e → All HasBytes e.requests → StaysOn g v e
 stays-on g m v e laid asks quiet low =
     let there = sound-laid g (volume_after g v e) (group-sound g e.session v e.requests laid.sound asks.ran.queue low) in
     stays-on-map g m there.0 v e laid asks quiet there.1
@@ -110,7 +110,7 @@ writes-few : (g : Geometry) (scripts : List Script) (v : Volume) (e : FileEntry)
 writes-few g scripts v e l t runs few =
     subst (λ (w : Volume). WritesFew g v w) (next-is g scripts v e l t) (length (written_by e), record { writes = written_by e; frees = freed_by e; moves = runs.moves; many = refl }, few)
 
-read-few : (g : Geometry) (e : FileEntry) → IsQuiet e → length (written_by e) ≤ write_limit g
+read-few : (g : Geometry) (e : FileEntry) → WritesNothing e → length (written_by e) ≤ write_limit g
 read-few g e quiet = let l = ap length quiet.writes in omega (arith, l)
 
 -- the map after a commit is that of the next volume, and after a read that of the same

@@ -52,7 +52,7 @@ pub record StaysOn (g : Geometry) (v : Volume) (e : FileEntry) : Type 0 where
   pub stays : volume_after g v e ≡ v
 
 -- the entry neither writes nor frees
-pub record IsQuiet (e : FileEntry) : Type 0 where
+pub record WritesNothing (e : FileEntry) : Type 0 where
   pub writes : written_by e ≡ []
   pub frees : freed_by e ≡ []
 
@@ -84,7 +84,7 @@ pub record IsReadOf (g : Geometry) (scripts : List Script) (m : Map) (n : ℕ) (
   pub number : l.number ≡ n
   pub tells : TellsOf scripts l e
   pub asks : Asks g m e
-  pub quiet : IsQuiet e
+  pub quiet : WritesNothing e
 
 -- The lines, from this map and number on: the commits of the entries, one after another, and between them the reads.
 pub data AreLinesOf (g : Geometry) (scripts : List Script) : Map → ℕ → List FileEntry → List Line → Type 0 where

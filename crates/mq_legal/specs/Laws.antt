@@ -12,7 +12,7 @@ use Rattle.mq_files.specs.declared.entry.FileEntry.{FileEntry}
 use Rattle.mq_ledger.specs.History as ledger
 use Rattle.mq_legal.specs.Answers.{AreAnswered, AreCaused, HasCommit, IsCaused, IsAcknowledged, IsOf, is_good}
 use Rattle.mq_legal.specs.Cuts.{IsClean, IsCut, IsRung, ShowsVolume, Starts, is_on}
-use Rattle.mq_legal.specs.Histories.{AllDo, AreLinesOf, AreOfBytes, ChangesOn, IsQuiet, RunsOn, StaysOn, map_after, volume_through}
+use Rattle.mq_legal.specs.Histories.{AllDo, AreLinesOf, AreOfBytes, ChangesOn, WritesNothing, RunsOn, StaysOn, map_after, volume_through}
 use Rattle.mq_legal.specs.Legal.{AllWriteFew, IsLegal, IsRun, Writes, newest, volume_at}
 use Rattle.mq_legal.specs.SmallRun.{as_changing, as_failed, as_large, as_read, asking_scripts, only_asking, small_answers, small_lines, small_scripts, small_told, stopped_ask, swapped, two, well_asked}
 use Rattle.mq_report.specs.Lines.{Line}
@@ -155,7 +155,7 @@ QuietEntriesStay =
     (g : Geometry) (m : Map) (v : Volume) (e : FileEntry)
     → IsLaid g m v
     → Asks g m e
-    → IsQuiet e
+    → WritesNothing e
     → All HasBytes e.requests
     → StaysOn g v e
 
@@ -165,7 +165,7 @@ QuietEntriesStayOnMaps =
     (g : Geometry) (m n : Map) (v : Volume) (e : FileEntry)
     → IsLaid g m v
     → Asks g m e
-    → IsQuiet e
+    → WritesNothing e
     → IsLaid g n (volume_after g v e)
     → StaysOn g v e
 

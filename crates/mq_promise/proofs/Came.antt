@@ -22,7 +22,7 @@ use Rattle.mq_files.specs.declared.entry.FileEntry.{FileEntry}
 use Rattle.mq_journal.specs.Draining.{report_of}
 use Rattle.mq_journal.specs.Numbers.{Seat, Shared, reported}
 use Rattle.mq_legal.specs.Answers.{is_good, number_in}
-use Rattle.mq_legal.specs.Histories.{IsQuiet}
+use Rattle.mq_legal.specs.Histories.{WritesNothing}
 use Rattle.mq_report.specs.declared.line.Line.{Line}
 use Rattle.mq_run.specs.Lines.{end_of}
 use Rattle.mq_run.specs.Playing.{Comes, IsDone, IsNotDone, IsReadLine, call_at, is_durable}
@@ -57,7 +57,7 @@ module _ {P : Type 0} {G : Ghosts P} where
     pub number : newest known ≡ n
     pub drawn : new.drawn ≡ old.drawn
     pub read : new.read ≡ (entry, known) ∷ old.read
-    pub quiet : IsQuiet entry
+    pub quiet : WritesNothing entry
     pub charges : List Charge
     pub charged : new.reading.charged ≡ charges ++ old.reading.charged
 

@@ -15,7 +15,7 @@ use Rattle.mq_files.specs.Entries.{written_by}
 use Rattle.mq_files.specs.declared.entry.FileEntry.{FileEntry}
 use Rattle.mq_journal.specs.Numbers.{Seat, Shared, reported}
 use Rattle.mq_legal.specs.Answers.{is_good, number_in}
-use Rattle.mq_legal.specs.Histories.{IsQuiet}
+use Rattle.mq_legal.specs.Histories.{WritesNothing}
 use Rattle.mq_report.specs.declared.line.Line.{Line}
 use Rattle.mq_report.specs.declared.line.Told.{Told}
 use Rattle.mq_run.specs.Lines.{end_of}
@@ -93,7 +93,7 @@ module _ {P : Type 0} {G : Ghosts P} where
     pub call : entry.call ≡ l.group
     pub requests : entry.requests ≡ group.requests
     pub replies : entry.replies ≡ l.replies
-    pub quiet : IsQuiet entry
+    pub quiet : WritesNothing entry
 
   pub record ToldAt (session : ℕ) (groups : List Group) (lines : List Line) (v : Seat P FileEntry G) (k : ℕ) (t : Told) : Type 0 where
     pub group : Group

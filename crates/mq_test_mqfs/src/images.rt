@@ -31,7 +31,7 @@ fn an_image_is_formatted_and_told(rt: HostRuntime) -> Result<(), AllocError> {
     Ok(())
 }
 
-// The image that the plug left, with and without a cut. No tree stands on it.
+// The image that the cut left, with and without a cut. No tree stands on it.
 const SAVED: [Step<'static>; 7] = [
     ("blocks t --save d", 0, "prefix 2\n5 ab\n9 ff\n"),
     ("dump d", 0, SAVED_DUMP),

@@ -1,5 +1,5 @@
 pub mod Ending
-pub mod Spots
+pub mod EntryPlaces
 pub mod Stored
 pub mod Legality
 pub mod Running

@@ -28,7 +28,7 @@ use Rattle.mq_tie.specs.Legal.{map_at, numbered}
 use Rattle.mq_tie.specs.Runs.{IsKnownDone, IsRun, history_of, ports_of, run_machine, run_values}
 use Rattle.mq_tie.specs.Stored.{AreWithin, HasStored, IsNoted, entries_at, stored_by}
 use Rattle.mq_tie.specs.declared.ended.Ended.{Ended}
-use Rattle.mq_tie.specs.declared.ended.Spot.{Spot}
+use Rattle.mq_tie.specs.declared.ended.EntryPlace.{EntryPlace}
 use Rattle.mq_tie.proofs.Ending.{ended_marks, ended_parts}
 use Rattle.mq_tie.proofs.Legality.{is-commit, is-read, map-newest}
 use Rattle.mq_tie.proofs.Stored.{StoreAll, at-low, at-place, has-stored, noted-history, stored-many, within}
@@ -124,7 +124,7 @@ module _ {P E : Type 0} {G : Ghosts P} (state : P → PortState) (faults : P →
     pub order-stored : (n : ℕ) → m - k < n → n ≤ m - k + k → HasStored (stored_by ds) n
     order-stored = rw (same, last, count-is) all-stored
 
-    module _ (ss : List (QueueSide P E G)) (os : List Spot) (same_sides : ss ≡ sides) (long : length os ≡ k) (noted : (n : ℕ) → m - k < n → n ≤ m - k + k → IsNoted (stored_by ds) (m - k) os n) where
+    module _ (ss : List (QueueSide P E G)) (os : List EntryPlace) (same_sides : ss ≡ sides) (long : length os ≡ k) (noted : (n : ℕ) → m - k < n → n ≤ m - k + k → IsNoted (stored_by ds) (m - k) os n) where
       pub in-order : entries_at (stored_by ss) os ≡ numbered (suc K.opening.base) (reverse K.log)
       in-order =
           let at = first in

@@ -18,11 +18,11 @@ use Rattle.mq_rules.proofs.Opening.{at_map}
 use Rattle.mq_side.specs.declared.drawn.Drawn.{Drawn}
 use Rattle.mq_side.specs.declared.side.QueueSide.{QueueSide}
 use Rattle.mq_turns.specs.Meaning.{IsAt}
-use Rattle.mq_tie.specs.declared.ended.Spot.{Spot}
+use Rattle.mq_tie.specs.declared.ended.EntryPlace.{EntryPlace}
 use Rattle.mq_tie.specs.Legal.{numbered}
 use Rattle.mq_tie.specs.Stored.{AreWithin, HasStored, IsNoted, drawn_at, entries_at, stored_by}
 use Rattle.mq_tie.proofs.Ending.{there}
-use Rattle.mq_tie.proofs.Spots.{Reads, entries-numbered, reads-all}
+use Rattle.mq_tie.proofs.EntryPlaces.{Reads, entries-numbered, reads-all}
 
 -- ---- members of a list
 
@@ -144,13 +144,13 @@ at-each base (x ∷ xs) n lo hi = elim (cases_lt (base + length xs) n) [
 
 module _ {P E : Type 0} {G : Ghosts P} (sides : List (QueueSide P E G)) where
   -- what is found is in the list of a side that there is
-  pub record InSide (s : Spot) (d : Drawn E) : Type 0 where
+  pub record InSide (s : EntryPlace) (d : Drawn E) : Type 0 where
     pub side : QueueSide P E G
     pub inside : s.queue < length sides
     pub at : slice_get sides s.queue ≡ Some side
     pub place : slice_get side.stored.items s.place ≡ Some d
 
-  pub in-side : (s : Spot) (d : Drawn E) → drawn_at (stored_by sides) s ≡ Some d → InSide s d
+  pub in-side : (s : EntryPlace) (d : Drawn E) → drawn_at (stored_by sides) s ≡ Some d → InSide s d
   in-side s d e = elim (cases_lt s.queue (length sides)) [
     | inl inside ↦
         let w = there sides s.queue inside in
@@ -164,8 +164,8 @@ module _ {P E : Type 0} {G : Ghosts P} (sides : List (QueueSide P E G)) where
   ]
 
   -- what is read there is what is stored there
-  pub at-spot : (q : ℕ) (w : QueueSide P E G) → q < length sides → w ≡ get_or sides q w → (ds : List (Drawn E)) → ds ≡ w.stored.items → (p : ℕ) (d : Drawn E) → p < length ds → d ≡ get_or ds p d → drawn_at (stored_by sides) (record { queue = q; place = p }) ≡ Some d
-  at-spot q w inside side_is ds list_is p d short is =
+  pub at-entry_place : (q : ℕ) (w : QueueSide P E G) → q < length sides → w ≡ get_or sides q w → (ds : List (Drawn E)) → ds ≡ w.stored.items → (p : ℕ) (d : Drawn E) → p < length ds → d ≡ get_or ds p d → drawn_at (stored_by sides) (record { queue = q; place = p }) ≡ Some d
+  at-entry_place q w inside side_is ds list_is p d short is =
       let side : slice_get sides q ≡ Some w = slice_get_read sides (length sides) q w refl inside side_is in
       let list : get_or (stored_by sides) q [] ≡ w.stored.items = (at_map (λ s. s.stored.items) sides q w [] side).0 in
       ap (λ xs. slice_get xs p) (list ∙ sym list_is) ∙ slice_get_read ds (length ds) p d refl short is
@@ -177,33 +177,33 @@ module _ {P E : Type 0} {G : Ghosts P} (sides : List (QueueSide P E G)) where
       let list : get_or (stored_by sides) q [] ≡ w.stored.items = (at_map (λ s. s.stored.items) sides q w [] side).0 in
       slice_get_within ds p d (ap (λ xs. slice_get xs p) (list_is ∙ sym list) ∙ e)
 
-  -- a spot that is read out of an order of which all is found
-  module _ (order : List Spot) (at : ℕ) (all : length (entries_at (stored_by sides) order) ≡ length order) (inside : at < length order) (spot : Spot) (is : spot ≡ get_or order at spot) where
+  -- a entry_place that is read out of an order of which all is found
+  module _ (order : List EntryPlace) (at : ℕ) (all : length (entries_at (stored_by sides) order) ≡ length order) (inside : at < length order) (entry_place : EntryPlace) (is : entry_place ≡ get_or order at entry_place) where
     read : Reads (stored_by sides) order at
     read = reads-all (stored_by sides) order all at inside
 
-    same_spot : spot ≡ read.spot
-    same_spot = is ∙ get_or_from_slice_get order at read.spot spot read.at
+    same_entry_place : entry_place ≡ read.entry_place
+    same_entry_place = is ∙ get_or_from_slice_get order at read.entry_place entry_place read.at
 
-    here : drawn_at (stored_by sides) spot ≡ Some read.drawn
-    here = ap (drawn_at (stored_by sides)) same_spot ∙ read.found
+    here : drawn_at (stored_by sides) entry_place ≡ Some read.drawn
+    here = ap (drawn_at (stored_by sides)) same_entry_place ∙ read.found
 
-    pub spot-inside : spot.queue < length sides
-    spot-inside = (in-side spot read.drawn here).inside
+    pub entry_place-inside : entry_place.queue < length sides
+    entry_place-inside = (in-side entry_place read.drawn here).inside
 
-    module _ (w : QueueSide P E G) (side_is : w ≡ get_or sides spot.queue w) (ds : List (Drawn E)) (list_is : ds ≡ w.stored.items) where
-      found : slice_get ds spot.place ≡ Some read.drawn
+    module _ (w : QueueSide P E G) (side_is : w ≡ get_or sides entry_place.queue w) (ds : List (Drawn E)) (list_is : ds ≡ w.stored.items) where
+      found : slice_get ds entry_place.place ≡ Some read.drawn
       found =
-          let s = in-side spot read.drawn here in
-          let same : w ≡ s.side = side_is ∙ get_or_from_slice_get sides spot.queue s.side w s.at in
-          ap (λ xs. slice_get xs spot.place) (list_is ∙ ap (λ u. u.stored.items) same) ∙ s.place
+          let s = in-side entry_place read.drawn here in
+          let same : w ≡ s.side = side_is ∙ get_or_from_slice_get sides entry_place.queue s.side w s.at in
+          ap (λ xs. slice_get xs entry_place.place) (list_is ∙ ap (λ u. u.stored.items) same) ∙ s.place
 
-      pub spot-place : spot.place < length ds
-      spot-place = slice_get_within ds spot.place read.drawn found
+      pub entry_place-place : entry_place.place < length ds
+      entry_place-place = slice_get_within ds entry_place.place read.drawn found
 
-      pub spot-is : (d : Drawn E) → d ≡ get_or ds spot.place d → slice_get (entries_at (stored_by sides) order) at ≡ Some (d.number, d.entry)
-      spot-is d e =
-          let same : d ≡ read.drawn = e ∙ get_or_from_slice_get ds spot.place read.drawn d found in
+      pub entry_place-is : (d : Drawn E) → d ≡ get_or ds entry_place.place d → slice_get (entries_at (stored_by sides) order) at ≡ Some (d.number, d.entry)
+      entry_place-is d e =
+          let same : d ≡ read.drawn = e ∙ get_or_from_slice_get ds entry_place.place read.drawn d found in
           read.is ∙ ap (λ x. Some (x.number, x.entry)) (sym same)
 
 module _ {Q R E : Type 0} (values : Values Q R E) (group : Group E) where
@@ -267,7 +267,7 @@ module _ {P R E : Type 0} {G : Ghosts P} (values : Values (QueueSide P E G) R E)
     list-at q w e = (at_map (λ s. s.stored.items) sides q w [] e).0
 
     -- what is stored has its number in the history
-    pub stored-at : (s : Spot) (d : Drawn E) → drawn_at lists s ≡ Some d → IsAt base log d.number d.entry
+    pub stored-at : (s : EntryPlace) (d : Drawn E) → drawn_at lists s ≡ Some d → IsAt base log d.number d.entry
     stored-at s d e =
         let w = in-side sides s d e in
         let listed = ap (λ ys. slice_get ys s.place) (sym (turned s.queue w.side w.at)) ∙ get-map pair w.side.stored.items s.place d w.place in
@@ -278,13 +278,13 @@ module _ {P R E : Type 0} {G : Ghosts P} (values : Values (QueueSide P E G) R E)
     at-stored n e at =
         let q = (group.tx e).queue in
         let w = there sides (group.tx e).queue (all.own n e at) in
-        let spot = get-among _ (n, e) (among-reverse _ (n, e) (at-own values group base log n e at)) in
-        let listed = ap (λ ys. slice_get ys spot.0) (turned (group.tx e).queue w.0 w.1) ∙ spot.1 in
-        let d = map-get pair w.0.stored.items spot.0 (n, e) listed in
+        let entry_place = get-among _ (n, e) (among-reverse _ (n, e) (at-own values group base log n e at)) in
+        let listed = ap (λ ys. slice_get ys entry_place.0) (turned (group.tx e).queue w.0 w.1) ∙ entry_place.1 in
+        let d = map-get pair w.0.stored.items entry_place.0 (n, e) listed in
         record {
-          spot = record { queue = (group.tx e).queue; place = spot.0 };
+          entry_place = record { queue = (group.tx e).queue; place = entry_place.0 };
           drawn = d.0;
-          found = ap (λ ds. slice_get ds spot.0) (list-at (group.tx e).queue w.0 w.1) ∙ d.1;
+          found = ap (λ ds. slice_get ds entry_place.0) (list-at (group.tx e).queue w.0 w.1) ∙ d.1;
           number = ap (λ (y : ℕ × E). y.0) d.2;
         }
 
@@ -305,7 +305,7 @@ module _ {P R E : Type 0} {G : Ghosts P} (values : Values (QueueSide P E G) R E)
         many ∙ ap (λ j. length (Rule.entries_of values group j base log)) at) ∙ own-all values group base log (length sides) all.own
 
     -- where each number is noted, this is the history in number order
-    pub noted-history : (order : List Spot) → length order ≡ length log → ((n : ℕ) → base < n → n ≤ base + length log → IsNoted lists base order n) → entries_at lists order ≡ numbered (suc base) (reverse log)
+    pub noted-history : (order : List EntryPlace) → length order ≡ length log → ((n : ℕ) → base < n → n ≤ base + length log → IsNoted lists base order n) → entries_at lists order ≡ numbered (suc base) (reverse log)
     noted-history order many noted =
         let long = length-reverse log in
         entries-numbered lists order (reverse log) (suc base) (many ∙ sym long) (λ i l.
@@ -314,10 +314,10 @@ module _ {P R E : Type 0} {G : Ghosts P} (values : Values (QueueSide P E G) R E)
         let number = m.number in
         let back : m.drawn.number - suc base ≡ i = omega arith in
         record {
-          spot = m.spot;
+          entry_place = m.entry_place;
           at = ap (slice_get order) (sym place) ∙ m.at;
           drawn = m.drawn;
           found = m.found;
           number = m.number;
-          entry = ap (slice_get (reverse log)) (sym back) ∙ at-place base log m.drawn.number m.drawn.entry (stored-at m.spot m.drawn m.found);
+          entry = ap (slice_get (reverse log)) (sym back) ∙ at-place base log m.drawn.number m.drawn.entry (stored-at m.entry_place m.drawn m.found);
         })

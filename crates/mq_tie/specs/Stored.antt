@@ -3,42 +3,42 @@ use Rattle.std.specs.Prelude.{◌≡◌, ◌<◌, ◌≤◌, ℕ, suc, ◌+◌, 
 use Rattle.mq_drive.specs.declared.port.Port.{Ghosts}
 use Rattle.mq_side.specs.declared.drawn.Drawn.{Drawn}
 use Rattle.mq_side.specs.declared.side.QueueSide.{QueueSide}
-use Rattle.mq_tie.specs.declared.ended.Spot.{Spot}
+use Rattle.mq_tie.specs.declared.ended.EntryPlace.{EntryPlace}
 
 -- of each queue, the oldest first
 abbrev pub stored_by : {P E : Type 0} {G : Ghosts P} → List (QueueSide P E G) → List (List (Drawn E))
 stored_by sides = map (λ s. s.stored.items) sides
 
 -- what is stored there
-abbrev pub drawn_at : {E : Type 0} → List (List (Drawn E)) → Spot → Option (Drawn E)
+abbrev pub drawn_at : {E : Type 0} → List (List (Drawn E)) → EntryPlace → Option (Drawn E)
 drawn_at lists s = slice_get (slice_index_or lists s.queue []) s.place
 
--- the entries that are stored at these spots, each with its number
+-- the entries that are stored at these entry_places, each with its number
 abbrev pub with_found : {E : Type 0} → Option (Drawn E) → List (ℕ × E) → List (ℕ × E)
 with_found None hs = hs
 with_found (Some d) hs = (d.number, d.entry) ∷ hs
 
-abbrev pub entries_at : {E : Type 0} → List (List (Drawn E)) → List Spot → List (ℕ × E)
+abbrev pub entries_at : {E : Type 0} → List (List (Drawn E)) → List EntryPlace → List (ℕ × E)
 entries_at lists [] = []
 entries_at lists (s ∷ ss) = with_found (drawn_at lists s) (entries_at lists ss)
 
 module _ {E : Type 0} (lists : List (List (Drawn E))) where
   -- the numbers of all that is stored follow the base, and there are at most so many
   abbrev pub AreWithin : (base count : ℕ) → Type 0
-  AreWithin base count = (s : Spot) (d : Drawn E) → drawn_at lists s ≡ Some d → (base < d.number) × (d.number ≤ base + count)
+  AreWithin base count = (s : EntryPlace) (d : Drawn E) → drawn_at lists s ≡ Some d → (base < d.number) × (d.number ≤ base + count)
 
   -- the entry of the number is stored
   pub record HasStored (n : ℕ) : Type 0 where
-    pub spot : Spot
+    pub entry_place : EntryPlace
     pub drawn : Drawn E
-    pub found : drawn_at lists spot ≡ Some drawn
+    pub found : drawn_at lists entry_place ≡ Some drawn
     pub number : drawn.number ≡ n
 
   -- it is noted where the entry of the number is stored
-  pub record IsNoted (base : ℕ) (order : List Spot) (n : ℕ) : Type 0 where
+  pub record IsNoted (base : ℕ) (order : List EntryPlace) (n : ℕ) : Type 0 where
     pub above : base < n
-    pub spot : Spot
-    pub at : slice_get order (n - suc base) ≡ Some spot
+    pub entry_place : EntryPlace
+    pub at : slice_get order (n - suc base) ≡ Some entry_place
     pub drawn : Drawn E
-    pub found : drawn_at lists spot ≡ Some drawn
+    pub found : drawn_at lists entry_place ≡ Some drawn
     pub number : drawn.number ≡ n

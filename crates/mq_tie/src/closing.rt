@@ -76,7 +76,7 @@ pub fn close<P: Port + Drop, G: Groups>(
     })
 }
 
-/// A desk that could not be closed, for want of memory.
+/// A desk that could not be closed, for lack of memory.
 #[derive(Drop)]
 pub enum Unclosed<M: Machine> {
     /// It stands as it was, with its chairs.

@@ -9,7 +9,7 @@ use mq_side::{QueueSide, Root};
 
 /// Where an entry is stored: the queue, and the place among those that were drawn on it, the oldest first.
 #[derive(Clone, Copy, Debug, PartialEq, Eq)]
-pub(crate) struct Spot {
+pub(crate) struct EntryPlace {
     pub(crate) queue: usize,
     pub(crate) place: usize,
 }
@@ -30,7 +30,7 @@ pub struct Ended<P: Port, E> {
     pub base: TxNo,
     pub(crate) sides: Vec<QueueSide<P, E>>,
     // where the entry of each number is stored
-    pub(crate) order: Vec<Spot>,
+    pub(crate) order: Vec<EntryPlace>,
     // room for the queues' ports
     pub(crate) queues: Vec<P>,
     ghost found: { length (entries_at (stored_by sides.items) order.items) ≡ length order.items },

@@ -3,7 +3,7 @@ ghost use Rattle.std.specs.Prelude.{◌≡◌, ◌+◌, ◌<◌, ◌≤◌, ◌^
 ghost use Rattle.std.specs.List.{sum_by};
 ghost use Rattle.mq_tie.specs.Stored.{AreWithin, HasStored, IsNoted, drawn_at, stored_by};
 
-use crate::ended::Spot;
+use crate::ended::EntryPlace;
 use mq_blocks::OutOfMemory;
 use mq_drive::Port;
 use mq_side::QueueSide;
@@ -22,7 +22,7 @@ pub fn count_stored<P: Port, E>(sides: &[QueueSide<P, E>]) -> usize
 }
 
 // Notes where the entries of one queue are stored, each by its number.
-fn note_queue<P: Port, E>(order: &mut Vec<Spot>, sides: &[QueueSide<P, E>], queue: usize, base: u64)
+fn note_queue<P: Port, E>(order: &mut Vec<EntryPlace>, sides: &[QueueSide<P, E>], queue: usize, base: u64)
     requires queue { queue < length sides.now }
     requires within { AreWithin (stored_by sides.now) base (vec_len order.old) }
     ensures length { vec_len order.new ≡ vec_len order.old }
@@ -36,7 +36,7 @@ fn note_queue<P: Port, E>(order: &mut Vec<Spot>, sides: &[QueueSide<P, E>], queu
     let stored = sides[queue].stored();
     for place in 0..stored.len() {
         let number = stored[place].number;
-        order[(number.0 - base - 1) as usize] = Spot { queue, place };
+        order[(number.0 - base - 1) as usize] = EntryPlace { queue, place };
     }
 }
 
@@ -46,7 +46,7 @@ pub fn order_of<P: Port, E>(
     sides: &[QueueSide<P, E>],
     count: usize,
     base: u64,
-) -> Result<Vec<Spot>, OutOfMemory>
+) -> Result<Vec<EntryPlace>, OutOfMemory>
     requires within { AreWithin (stored_by sides.now) base count }
     requires all { (n : ℕ) → base < n → n ≤ base + count → HasStored (stored_by sides.now) n }
     ensures count { IfOk result (λ r. vec_len r ≡ count) }
@@ -55,7 +55,7 @@ pub fn order_of<P: Port, E>(
         → n ≤ base + count
         → IsNoted (stored_by sides.now) base r.items n) }
 {
-    let mut order = vec![in alloc; Spot { queue: 0, place: 0 }; count]?;
+    let mut order = vec![in alloc; EntryPlace { queue: 0, place: 0 }; count]?;
     for queue in 0..sides.len() {
         note_queue(&mut order, sides, queue, base);
     }

@@ -32,8 +32,8 @@ impl<P: Port, E> Ended<P, E> {
         requires { at < length (history_of self.now) }
         ensures { slice_get (history_of self.now) at ≡ Some (result.now.number, result.now.entry) }
     {
-        let spot = self.order[at];
-        &self.sides[spot.queue].stored()[spot.place]
+        let entry_place = self.order[at];
+        &self.sides[entry_place.queue].stored()[entry_place.place]
     }
 }
 

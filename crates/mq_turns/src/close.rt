@@ -177,7 +177,7 @@ fn unload_root<M: Machine>(mut closed: Closed<Option<Item<M>>, Global>, last: us
     root
 }
 
-/// A desk that could not be ended, for want of memory, with its chairs, as they were.
+/// A desk that could not be ended, for lack of memory, with its chairs, as they were.
 type Unended<M> = (Desk<M>, Vec<Chair<M>>, OutOfMemory);
 
 impl<M: Machine> Desk<M> {

@@ -40,7 +40,7 @@ pub enum Command<'a> {
     Blocks {
         file: &'a str,
         options: BlocksOptions,
-        /// The name under which the image is saved that the plug left.
+        /// The name under which the image is saved that the cut left.
         save: Option<&'a str>,
     },
     Format {

@@ -1,4 +1,4 @@
--- The image that the plug leaves of the drive of a block text.
+-- The image that the cut leaves of the drive of a block text.
 use Rattle.std.proofs.Common.{◌≡◌, ℕ, Bool, true, false, List, [], ◌∷◌, take, get_or, Option, None, refl, sym, ◌∙◌, ap, subst, arith}
 use Rattle.std.specs.declared.vec.Vec.{Vec}
 use Rattle.mq_blocks.specs.Drive.{PortImage}

@@ -187,7 +187,7 @@ answered g f q r start new result one queue root reaches is none image cause bou
 }
 
 module _ {A : Type 0} (g : Geometry) (f : FuseName) (q r : PortImage) (d : DriveState) (result : Result A RecoverRefusal) (items : List EmuPort) (root : EmuPort) (a : IsAnswered g f q r d result items root) where
-  -- a refusal of the image is want of memory
+  -- a refusal of the image is lack of memory
   pub image_memory : (c : ImageFault) → result ≡ Err (Image c) → c ≡ fault.OutOfMemory
   image_memory c is =
       let has = subst (λ (x : Result A RecoverRefusal). OnImage x (λ c. (states emu_state items root ≡ d) × ((c ≡ fault.OutOfMemory) ⊎ RefusesImage g d c))) is a.image in
@@ -215,7 +215,7 @@ module _ {A : Type 0} (g : Geometry) (f : FuseName) (q r : PortImage) (d : Drive
       no_off items root cause.0 a.count (ap (λ (n : FuseName). n.limit) (queue_bound.fuse ∙ ap (λ (s : DriveState). (port_at s.queues 0).fuse) a.start) ∙ on)
       (ap (λ (n : FuseName). n.limit) (a.bounds.root.fuse ∙ ap (λ (s : DriveState). s.root.fuse) a.start) ∙ on) cause.1
 
-  -- with such power only memory is wanting
+  -- with such power only memory runs out
   pub only_memory : (e : RecoverRefusal) → f.limit ≡ None → result ≡ Err e → e ≡ Image fault.OutOfMemory
   only_memory (Image c) on is = ap Image (image_memory c is)
   only_memory Off on is = absurd (never_off on is)

@@ -361,7 +361,7 @@ module _ (o : RunOptions) (name : List ℕ) (names : List (List ℕ)) (old new :
       not-four (inr (inl five)) four = omega (arith, five, four)
       not-four (inr (inr six)) four = omega (arith, six, four)
 
--- the status of a run, by whether memory was wanting and by whether a command failed
+-- the status of a run, by whether memory ran out and by whether a command failed
 abbrev code-of : (memory fails : Bool) → ℕ
 code-of memory fails = cond memory 6 (cond fails 5 0)
 

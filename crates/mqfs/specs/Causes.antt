@@ -16,7 +16,7 @@ abbrev pub text_refusal : Refusal → TextRefusal
 text_refusal Off = text.Off
 text_refusal (Failed status) = text.Failed status
 
--- a text's refusal is its line's, or want of memory, which is no fault
+-- a text's refusal is its line's, or lack of memory, which is no fault
 abbrev pub HasTextCause : {A : Type 0} → Result A TextRefusal → List Fault → List Fault → Type 0
 HasTextCause (Ok _) old new = new ≡ old
 HasTextCause (Err text.Off) old new = Gains PowerOff old new

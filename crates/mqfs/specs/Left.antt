@@ -1,4 +1,4 @@
--- The image that the plug leaves of the drive of a block text.
+-- The image that the cut leaves of the drive of a block text.
 use Rattle.std.specs.Prelude.{◌≡◌, ℕ, Bool, true, false, List, [], ◌∷◌, Option, Some, None}
 use Rattle.std.specs.declared.vec.Vec.{Vec}
 use Rattle.mq_blocks.specs.Drive.{PortImage}

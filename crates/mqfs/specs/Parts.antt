@@ -7,7 +7,7 @@ use Rattle.mq_text.specs.declared.refusal.BlockTextRefusal.{BlockTextRefusal}
 use Rattle.mq_text.specs.declared.refusal.BlockTextRefusal.TheVariants.{At, OutOfMemory}
 use Rattle.mqfs.specs.Blocks.{refused_line}
 
--- what is said of a text that is not run, or that memory was wanting for that
+-- what is said of a text that is not run, or that memory ran out for that
 abbrev pub EndsRefused : BlockTextRefusal → (result : ℕ) → (old new : SinkState) → Type 0
 EndsRefused (At line cause) result old new = EndsWith 2 (refused_line line cause) result old new ⊎ EndsWith 6 memory_line result old new
 EndsRefused OutOfMemory result old new = EndsWith 6 memory_line result old new

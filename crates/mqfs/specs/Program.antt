@@ -22,7 +22,7 @@ abbrev pub usage_line : List ℕ
 usage_line = codes "usage: mqfs blocks|format|run|recover|ls|cat|gen|dump\n"
 
 -- What there is to say to the words, and with which status: the usage line, what there is to say of what they ask, or
--- that memory was wanting to read them.
+-- that memory ran out to read them.
 pub data IsToSay (words : Words) (old new : FilesState) : (status : ℕ) → (text : List ℕ) → Type 0 where
   no_command : AreUnknown words → new ≡ old → IsToSay words old new 1 usage_line
   of_command : {status : ℕ} {text : List ℕ} (a : Asked) → asked_of words ≡ Some a → Says a old new status text → IsToSay words old new status text

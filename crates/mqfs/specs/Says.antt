@@ -23,7 +23,7 @@ use Rattle.mqfs.specs.Blocks.{IsBlockText, output_of, refused_line}
 use Rattle.mqfs.specs.Cuts.{IsPrefixAt}
 use Rattle.mqfs.specs.Left.{SavesLeft}
 
--- `blocks`: The file holds a text, and the output is that of the lines that stand after the cut; the image that the plug
+-- `blocks`: The file holds a text, and the output is that of the lines that stand after the cut; the image that the cut
 -- left is saved before, where a name for it is given. Or the text is refused; or it is not loaded, or the image not
 -- saved.
 pub data SaysOfBlocks (file : List ℕ) (options : BlocksOptions) (save : Option (List ℕ)) (old new : FilesState) : (status : ℕ) → (text : List ℕ) → Type 0 where

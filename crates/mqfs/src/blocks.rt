@@ -85,7 +85,7 @@ fn fresh_image(alloc: Global, geometry: Geometry, role: Role) -> Result<PortImag
     })
 }
 
-// Where no command fails, a text is refused by its power or for want of memory.
+// Where no command fails, a text is refused by its power or for lack of memory.
 fn check_power(refusal: TextRefusal) -> Result<(), OutOfMemory>
     requires { (status : ℕ) → refusal ≡ TextRefusal.Failed status → ⊥ }
     ensures { OnOk result (refusal ≡ TextRefusal.Off) }
@@ -136,7 +136,7 @@ fn commit_until(
     }
 }
 
-/// Commits a text on a fresh drive, and pulls the plug after so many events of the queue's port, or
+/// Commits a text on a fresh drive, and cuts the power after so many events of the queue's port, or
 /// at the end: what stays of the queue's port and of the root's.
 fn commit_fresh(
     alloc: Global,
@@ -170,7 +170,7 @@ fn commit_fresh(
 pub struct TextRun {
     /// What is printed.
     pub output: Vec<u8>,
-    /// The file of the image that the plug left, where it is wanted.
+    /// The file of the image that the cut left, where it is wanted.
     pub left: Option<Vec<u8>>,
 }
 
@@ -219,9 +219,9 @@ fn left_of(
     Ok((images, Some(file)))
 }
 
-/// Commits a text on a fresh drive, pulls the plug after so many events or at the end, recovers, and
+/// Commits a text on a fresh drive, cuts the power after so many events or at the end, recovers, and
 /// prints what stands. A first recovery is itself cut, where it is told after how many events. What
-/// the cuts leave of what is uncertain follows from `pick`. The image that the plug left is kept as
+/// the cuts leave of what is uncertain follows from `pick`. The image that the cut left is kept as
 /// a file, where it is wanted.
 fn run_text(
     alloc: Global,
@@ -253,7 +253,7 @@ fn run_text(
     Ok(TextRun { output, left })
 }
 
-/// What `mqfs blocks` makes of the bytes of a block text, with the file of the image that the plug
+/// What `mqfs blocks` makes of the bytes of a block text, with the file of the image that the cut
 /// left, where it is wanted.
 pub fn run_bytes(
     alloc: Global,

@@ -141,7 +141,7 @@ fn read_and_run<F: Files, K: Sink, R: Threads + Wait + Sync, G: Gate + Sync>(
 /// status is 0 for done, 1 for words that are no command, 2 for a block text or a script that is
 /// refused or for more scripts than queues, 3 for an image, a geometry or a path that is refused, 4
 /// for a fault of a file or the output or a file that is too long, 5 where the command of the drive
-/// was executed that `run` was told to let fail, and 6 for want of memory.
+/// was executed that `run` was told to let fail, and 6 for lack of memory.
 pub fn mqfs<F: Files, K: Sink, R: Threads + Wait + Sync, G: Gate + Sync>(
     rt: &R,
     alloc: Global,

@@ -63,7 +63,7 @@ fn save_left<F: Files, K: Sink>(
     save_or_say(name, &file, files, out)
 }
 
-// Saves what the plug left, where that is asked, and then says what is printed.
+// Saves what the cut left, where that is asked, and then says what is printed.
 fn finish<F: Files, K: Sink>(run: TextRun, save: Option<&str>, files: &mut F, out: &mut K) -> u8
     ensures { EndsRun run.left run.output.items (option_map (λ s. s.now) save.entry)
         (F.state files.old) (F.state files.new) result (K.state out.old) (K.state out.new) }
@@ -75,7 +75,7 @@ fn finish<F: Files, K: Sink>(run: TextRun, save: Option<&str>, files: &mut F, ou
     }
 }
 
-/// Runs `blocks FILE` with its options. What the plug left is saved before anything is printed.
+/// Runs `blocks FILE` with its options. What the cut left is saved before anything is printed.
 pub fn run_blocks<F: Files, K: Sink>(
     alloc: Global,
     file: &str,

@@ -5,10 +5,10 @@ use Rattle.mq_turns.specs.Desk.{slot_of}
 use Rattle.mq_turns.specs.declared.rule.Report.TheVariants.{Off, Sent}
 use Rattle.mq_turns.specs.declared.turn.Turn.TheVariants.{Side}
 use Rattle.mq_calls.specs.Calling.{call_of}
-use Rattle.mq_calls.specs.Committing.{IsLacking, IsMissed, OnlyReports, ShowsLack, reports_for}
+use Rattle.mq_calls.specs.Committing.{IsObstacle, IsMissed, OnlyReports, ShowsObstacle, reports_for}
 use Rattle.mq_calls.specs.Runs.{IsDoneOnCells, files}
 use Rattle.mq_calls.specs.declared.committing.Miss.{Miss}
-use Rattle.mq_calls.proofs.Acting.{committed-of, cut-of, holds-more, lack-shown, missed-for}
+use Rattle.mq_calls.proofs.Acting.{committed-of, cut-of, holds-more, obstacle-shown, missed-for}
 use Rattle.mq_calls.proofs.GoingOn.{goes-drawn, goes-holds, goes-reports, goes-then, goes-words}
 use Rattle.mq_calls.proofs.InHand.{commit-taken, side-above}
 use Rattle.mq_calls.proofs.drawing.commit.Goals as goal
@@ -55,8 +55,8 @@ give_up-requires-clause-shows g c =
     let fs = g.P.Port.faults in
     let v = view c.make_ready.new.chair in
     let same = c.in-Err.ensures.keeps.queue ∙ c.take_side-side.ensures.queue in
-    subst (λ (q : ℕ). ShowsLack st fs q c.make_ready.new.side v c.in-Err.lack) (sym same)
-    (lack-shown st fs c.take_side-side.result.pmr.geometry (call_of c.args.asked.now) (view c.take_side-side.new.chair) c.make_ready.new.side v c.in-Err.lack c.in-Err.ensures.lacks)
+    subst (λ (q : ℕ). ShowsObstacle st fs q c.make_ready.new.side v c.in-Err.obstacle) (sym same)
+    (obstacle-shown st fs c.take_side-side.result.pmr.geometry (call_of c.args.asked.now) (view c.take_side-side.new.chair) c.make_ready.new.side v c.in-Err.obstacle c.in-Err.ensures.lacks)
 
 pub returns-in-Err-clause-missed : goal.returns-in-Err-clause-missed
 returns-in-Err-clause-missed g c =
@@ -67,10 +67,10 @@ returns-in-Err-clause-missed g c =
     let old = view c.args.chair.now in
     let taken = view c.take_side-side.new.chair in
     let same = c.in-Err.ensures.keeps.queue ∙ c.take_side-side.ensures.queue in
-    let reports = subst (λ (q : ℕ). OnlyReports (reports_for q c.in-Err.lack (view c.make_ready.new.chair).reading.charged) (view c.make_ready.new.chair) (view c.give_up.new.chair)) same c.give_up.ensures.reports in
+    let reports = subst (λ (q : ℕ). OnlyReports (reports_for q c.in-Err.obstacle (view c.make_ready.new.chair).reading.charged) (view c.make_ready.new.chair) (view c.give_up.new.chair)) same c.give_up.ensures.reports in
     let shape = c.take_side-side.ensures.geometry ∙ c.requires.geometry in
-    let lacks = subst (λ (x : Geometry). IsLacking st fs x (call_of c.args.asked.now) taken c.make_ready.new.side (view c.make_ready.new.chair) c.in-Err.lack) shape c.in-Err.ensures.lacks in
-    let r = missed-for st fs c.args.geometry (call_of c.args.asked.now) c.make_ready.new.side old taken (view c.make_ready.new.chair) (view c.give_up.new.chair) c.in-Err.lack (holds-more (slot_of o (Side c.args.asked.now.queue)) t.known old taken t.is) c.in-Err.ensures.words lacks reports in
+    let lacks = subst (λ (x : Geometry). IsObstacle st fs x (call_of c.args.asked.now) taken c.make_ready.new.side (view c.make_ready.new.chair) c.in-Err.obstacle) shape c.in-Err.ensures.lacks in
+    let r = missed-for st fs c.args.geometry (call_of c.args.asked.now) c.make_ready.new.side old taken (view c.make_ready.new.chair) (view c.give_up.new.chair) c.in-Err.obstacle (holds-more (slot_of o (Side c.args.asked.now.queue)) t.known old taken t.is) c.in-Err.ensures.words lacks reports in
     subst (λ (m : Miss). IsMissed st fs c.args.geometry (call_of c.args.asked.now) old (view c.give_up.new.chair) m) (sym c.miss_of.ensures) r
 
 pub returns-in-Ok-draw_group-clause-goes : goal.returns-in-Ok-draw_group-clause-goes
@@ -98,4 +98,4 @@ returns-in-Err-clause-goes g c =
     let taken = view c.take_side-side.new.chair in
     let v = view c.make_ready.new.chair in
     let first = goes-holds old taken (holds-more (slot_of (start_of c.args.desk.now) (Side c.args.asked.now.queue)) t.known old taken t.is) in
-    goes-then old v (view c.give_up.new.chair) (goes-then old taken v first (goes-words taken v c.in-Err.ensures.words)) (goes-reports (reports_for c.make_ready.new.side.pmr.queue c.in-Err.lack v.reading.charged) v (view c.give_up.new.chair) c.give_up.ensures.reports)
+    goes-then old v (view c.give_up.new.chair) (goes-then old taken v first (goes-words taken v c.in-Err.ensures.words)) (goes-reports (reports_for c.make_ready.new.side.pmr.queue c.in-Err.obstacle v.reading.charged) v (view c.give_up.new.chair) c.give_up.ensures.reports)

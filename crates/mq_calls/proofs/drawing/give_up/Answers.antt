@@ -17,4 +17,4 @@ returns-clause-idle g c =
 pub returns-clause-reports : goal.returns-clause-reports
 returns-clause-reports g c =
     let v = view c.args.chair.now in
-    reports-left g.P.Port.state g.P.Port.faults (blocks_of c.args.held.now.cells) (reports_for c.args.side.pmr.queue c.args.lack.now v.reading.charged) v (view c.give_side.new.chair) (view c.give_back_pages.new.chair) c.give_side.ensures.reports c.give_back_pages.ensures.gave
+    reports-left g.P.Port.state g.P.Port.faults (blocks_of c.args.held.now.cells) (reports_for c.args.side.pmr.queue c.args.obstacle.now v.reading.charged) v (view c.give_side.new.chair) (view c.give_back_pages.new.chair) c.give_side.ensures.reports c.give_back_pages.ensures.gave

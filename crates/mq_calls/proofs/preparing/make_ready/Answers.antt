@@ -10,7 +10,7 @@ use Rattle.mq_pages.specs.declared.page.Write.{Write}
 use Rattle.mq_side.specs.Commits.{IsPlanOf}
 use Rattle.mq_turns.specs.AtDesk.{start_of, view}
 use Rattle.mq_calls.specs.Calling.{call_of}
-use Rattle.mq_calls.specs.Committing.{IsPlacedOn, IsPrepared, LacksRoom}
+use Rattle.mq_calls.specs.Committing.{IsPlacedOn, IsPrepared, HasNoRoom}
 use Rattle.mq_calls.specs.Preparing.{IsEntryReady}
 use Rattle.mq_calls.proofs.Causes.{kept-refused}
 use Rattle.mq_calls.proofs.Drawable.{called-on, fits-still, is-prepared, lacks-room, plan-of, writes-rise}
@@ -116,8 +116,8 @@ returns-in_err-make_room-clause-lacks g c =
     let holds = commit-side st fs o q cells s w v side (commit-read st fs o q cells s old v words.held c.read_words-front.ensures.seen c.requires.holds) in
     let on = subst (λ (ws : List Write). IsPlacedOn c.geometry-geometry.result q reads cells ws plan) c.deref.ensures.value c.in_ok-place.ensures.placed in
     let here = subst (λ (x : Geometry). IsPlacedOn x q reads cells c.args.done.now.writes.items plan) c.geometry-geometry.ensures on in
-    let lack = c.in_err-make_room.field-0.0 in
-    let room = subst (λ (n : ℕ). LacksRoom st fs n reads.base plan w v lack) c.requires.queue c.in_err-make_room.ensures.lacks in
-    let lacks = lacks-room st fs o s.pmr.geometry (call_of c.args.asked.now) c.args.done.now plan reads cells old v w opening c.requires.geometry c.make_room.ensures.keeps.geometry holds c.requires.done c.requires.few c.requires.changes c.read_words-front.ensures.read here lack room in
+    let obstacle = c.in_err-make_room.field-0.0 in
+    let room = subst (λ (n : ℕ). HasNoRoom st fs n reads.base plan w v obstacle) c.requires.queue c.in_err-make_room.ensures.lacks in
+    let lacks = lacks-room st fs o s.pmr.geometry (call_of c.args.asked.now) c.args.done.now plan reads cells old v w opening c.requires.geometry c.make_room.ensures.keeps.geometry holds c.requires.done c.requires.few c.requires.changes c.read_words-front.ensures.read here obstacle room in
     let p = err_from_is_err_and c.from_residual-in_err-make_room.result c.from_residual-in_err-make_room.ensures.1 in
     rw (p.1, p.2) lacks

@@ -2,12 +2,12 @@ use Rattle.std.proofs.Common.{◌≡◌, ◌-◌, ◌<◌, ◌≤◌, ℕ, suc, 
 use Rattle.std.proofs.lemmas.List.{length-set}
 use Rattle.std.specs.Prelude.{vec_len}
 use Rattle.mq_tie.specs.Stored.{drawn_at, stored_by}
-use Rattle.mq_tie.proofs.Spots.{HasPlace, has-place, note-kept, note-next}
-use Rattle.mq_tie.proofs.Stored.{at-end, at-spot}
+use Rattle.mq_tie.proofs.EntryPlaces.{HasPlace, has-place, note-kept, note-next}
+use Rattle.mq_tie.proofs.Stored.{at-end, at-entry_place}
 use Rattle.mq_tie.proofs.order.note_queue.Goals as goal
 
 found : (g : _) (c : goal.After-struct_known-1 g) → drawn_at (stored_by c.args.sides.now) (record { queue = c.args.queue; place = c.loop-place.place }) ≡ Some c.index-stored-place.result
-found g c = at-spot c.args.sides.now c.args.queue c.index-sides-queue.result c.requires.queue c.index-sides-queue.is c.stored-stored.result.now c.stored-stored.ensures c.loop-place.place c.index-stored-place.result c.loop-place-test.true c.index-stored-place.is
+found g c = at-entry_place c.args.sides.now c.args.queue c.index-sides-queue.result c.requires.queue c.index-sides-queue.is c.stored-stored.result.now c.stored-stored.ensures c.loop-place.place c.index-stored-place.result c.loop-place-test.true c.index-stored-place.is
 
 number_is : (g : _) (c : goal.After-struct_known-1 g) → c.number.inside.0 ≡ c.index-stored-place.result.number
 number_is g c = c.number.view_is ∙ ap (λ d. d.number) (sym c.index-stored-place.is)
@@ -28,7 +28,7 @@ index_mut-requires g c = subst (λ (n : ℕ). n - c.args.base - 1 < vec_len c.lo
 
 pub loop-place-preserved : goal.loop-place-preserved
 loop-place-preserved g c =
-    let stands = at-spot c.args.sides.now c.args.queue c.index-sides-queue.result c.requires.queue c.index-sides-queue.is c.stored-stored.result.now c.stored-stored.ensures c.loop-place.place c.index-stored-place.result c.loop-place-test.true c.index-stored-place.is in
+    let stands = at-entry_place c.args.sides.now c.args.queue c.index-sides-queue.result c.requires.queue c.index-sides-queue.is c.stored-stored.result.now c.stored-stored.ensures c.loop-place.place c.index-stored-place.result c.loop-place-test.true c.index-stored-place.is in
     let w = c.requires.within _ c.index-stored-place.result stands in
     let place = has-place c.args.base c.index-stored-place.result.number (vec_len c.loop-place.order) (vec_len c.args.order.now) (length c.loop-place.order.items) (length c.args.order.now.items) w.0 w.1 c.args.order.now.ok.0 c.loop-place.invariant.long c.loop-place.order.ok.0 in
     let same : c.number.inside.0 ≡ c.index-stored-place.result.number = c.number.view_is ∙ ap (λ d. d.number) (sym c.index-stored-place.is) in

@@ -24,6 +24,6 @@ loop-queue-preserved g c = record {
 pub returns-clause-noted : goal.returns-clause-noted
 returns-clause-noted g c = λ n lo hi.
     let h = c.requires.all n lo hi in
-    let w = in-side c.args.sides.now h.spot h.drawn h.found in
+    let w = in-side c.args.sides.now h.entry_place h.drawn h.found in
     let inside = w.inside in
-    subst (λ (m : ℕ). IsNoted (stored_by c.args.sides.now) c.args.base c.loop-queue.order.items m) h.number (c.loop-queue.invariant.noted h.spot.queue h.spot.place h.drawn (omega arith) h.found)
+    subst (λ (m : ℕ). IsNoted (stored_by c.args.sides.now) c.args.base c.loop-queue.order.items m) h.number (c.loop-queue.invariant.noted h.entry_place.queue h.entry_place.place h.drawn (omega arith) h.found)

@@ -6,7 +6,7 @@ use Rattle.std.proofs.lemmas.Option.{same_Some}
 use mathlib.Core.Logic.{dite}
 use native.Mathlib.Decide.{ℕ_discrete}
 use Rattle.mq_side.specs.declared.drawn.Drawn.{Drawn}
-use Rattle.mq_tie.specs.declared.ended.Spot.{Spot}
+use Rattle.mq_tie.specs.declared.ended.EntryPlace.{EntryPlace}
 use Rattle.mq_tie.specs.Legal.{numbered}
 use Rattle.mq_tie.specs.Stored.{IsNoted, drawn_at, entries_at, with_found}
 
@@ -27,33 +27,33 @@ get-set-other (x ∷ xs) (suc i) (suc j) a n = get-set-other xs i j a (λ e. n (
 -- ---- notes
 
 module _ {E : Type 0} (lists : List (List (Drawn E))) (base : ℕ) where
-  pub noted-here : (order : List Spot) (s : Spot) (d : Drawn E) → drawn_at lists s ≡ Some d → base < d.number → d.number ≤ base + length order → IsNoted lists base (set order (d.number - suc base) s) d.number
+  pub noted-here : (order : List EntryPlace) (s : EntryPlace) (d : Drawn E) → drawn_at lists s ≡ Some d → base < d.number → d.number ≤ base + length order → IsNoted lists base (set order (d.number - suc base) s) d.number
   noted-here order s d found above low = record {
     above = above;
-    spot = s;
+    entry_place = s;
     at = get-set-same order (d.number - suc base) s (omega arith);
     drawn = d;
     found = found;
     number = refl;
   }
 
-  pub noted-kept : (order : List Spot) (s : Spot) (d : Drawn E) → drawn_at lists s ≡ Some d → base < d.number → d.number ≤ base + length order → (n : ℕ) → IsNoted lists base order n → IsNoted lists base (set order (d.number - suc base) s) n
+  pub noted-kept : (order : List EntryPlace) (s : EntryPlace) (d : Drawn E) → drawn_at lists s ≡ Some d → base < d.number → d.number ≤ base + length order → (n : ℕ) → IsNoted lists base order n → IsNoted lists base (set order (d.number - suc base) s) n
   noted-kept order s d found above low n is = dite (ℕ_discrete n d.number)
       (λ e. subst (λ m. IsNoted lists base (set order (d.number - suc base) s) m) (sym e) (noted-here order s d found above low))
       (λ ne.
       let past = is.above in
       record {
         above = is.above;
-        spot = is.spot;
+        entry_place = is.entry_place;
         at = get-set-other order (d.number - suc base) (n - suc base) s (λ e. ne (omega arith)) ∙ is.at;
         drawn = is.drawn;
         found = is.found;
         number = is.number;
       })
 
-  -- one more spot is noted
-  module _ (order : List Spot) (queue place : ℕ) (d : Drawn E) (found : drawn_at lists (record { queue = queue; place = place }) ≡ Some d) (above : base < d.number) (low : d.number ≤ base + length order) (i : ℕ) (at : i ≡ d.number - suc base) where
-    abbrev later : List Spot
+  -- one more entry_place is noted
+  module _ (order : List EntryPlace) (queue place : ℕ) (d : Drawn E) (found : drawn_at lists (record { queue = queue; place = place }) ≡ Some d) (above : base < d.number) (low : d.number ≤ base + length order) (i : ℕ) (at : i ≡ d.number - suc base) where
+    abbrev later : List EntryPlace
     later = set order i (record { queue = queue; place = place })
 
     same_list : set order (d.number - suc base) (record { queue = queue; place = place }) ≡ later
@@ -74,18 +74,18 @@ module _ {E : Type 0} (lists : List (List (Drawn E))) (base : ℕ) where
 -- ---- the list
 
 module _ {E : Type 0} (lists : List (List (Drawn E))) where
-  -- the i-th spot has the i-th entry, with its number
-  pub record Matches (order : List Spot) (es : List E) (n i : ℕ) : Type 0 where
-    pub spot : Spot
-    pub at : slice_get order i ≡ Some spot
+  -- the i-th entry_place has the i-th entry, with its number
+  pub record Matches (order : List EntryPlace) (es : List E) (n i : ℕ) : Type 0 where
+    pub entry_place : EntryPlace
+    pub at : slice_get order i ≡ Some entry_place
     pub drawn : Drawn E
-    pub found : drawn_at lists spot ≡ Some drawn
+    pub found : drawn_at lists entry_place ≡ Some drawn
     pub number : drawn.number ≡ n + i
     pub entry : slice_get es i ≡ Some drawn.entry
 
-  matches-rest : (s : Spot) (order : List Spot) (e : E) (es : List E) (n i : ℕ) → Matches (s ∷ order) (e ∷ es) n (suc i) → Matches order es (suc n) i
+  matches-rest : (s : EntryPlace) (order : List EntryPlace) (e : E) (es : List E) (n i : ℕ) → Matches (s ∷ order) (e ∷ es) n (suc i) → Matches order es (suc n) i
   matches-rest s order e es n i m = record {
-    spot = m.spot;
+    entry_place = m.entry_place;
     at = m.at;
     drawn = m.drawn;
     found = m.found;
@@ -93,24 +93,24 @@ module _ {E : Type 0} (lists : List (List (Drawn E))) where
     entry = m.entry;
   }
 
-  pub entries-numbered : (order : List Spot) (es : List E) (n : ℕ) → length order ≡ length es → ((i : ℕ) → i < length es → Matches order es n i) → entries_at lists order ≡ numbered n es
+  pub entries-numbered : (order : List EntryPlace) (es : List E) (n : ℕ) → length order ≡ length es → ((i : ℕ) → i < length es → Matches order es n i) → entries_at lists order ≡ numbered n es
   entries-numbered [] [] n many each = refl
   entries-numbered [] (e ∷ es) n many each = absurd (omega arith)
   entries-numbered (s ∷ order) [] n many each = absurd (omega arith)
   entries-numbered (s ∷ order) (e ∷ es) n many each =
       let m = each 0 (omega arith) in
-      let here : drawn_at lists s ≡ Some m.drawn = let at : s ≡ m.spot = (let a = m.at in cc) in ap (drawn_at lists) at ∙ m.found in
+      let here : drawn_at lists s ≡ Some m.drawn = let at : s ≡ m.entry_place = (let a = m.at in cc) in ap (drawn_at lists) at ∙ m.found in
       let is : m.drawn.number ≡ n = let k = m.number in omega arith in
       let same : m.drawn.entry ≡ e = (let a = m.entry in cc) in
       let rest = entries-numbered order es (suc n) (omega arith) (λ i l. matches-rest s order e es n i (each (suc i) (omega arith))) in
       ap (λ o. with_found o (entries_at lists order)) here ∙ ((λ i. (is i, same i) ∷ entries_at lists order) ∙ ap (λ hs. (n, e) ∷ hs) rest)
 
-  -- spots that are all found make a list of as many entries
-  pub found-length : (order : List Spot) (hs : List (ℕ × E)) → entries_at lists order ≡ hs → length hs ≡ length order → length (entries_at lists order) ≡ length order
+  -- entry_places that are all found make a list of as many entries
+  pub found-length : (order : List EntryPlace) (hs : List (ℕ × E)) → entries_at lists order ≡ hs → length hs ≡ length order → length (entries_at lists order) ≡ length order
   found-length order hs is many = ap length is ∙ many
 
-  -- no more are found than there are spots
-  few-found : (order : List Spot) → length (entries_at lists order) ≤ length order
+  -- no more are found than there are entry_places
+  few-found : (order : List EntryPlace) → length (entries_at lists order) ≤ length order
   few-found [] = omega arith
   few-found (s ∷ order) = few (drawn_at lists s) (entries_at lists order) (length order) (few-found order) where
     few : (o : Option (Drawn E)) (hs : List (ℕ × E)) (n : ℕ) → length hs ≤ n → length (with_found o hs) ≤ suc n
@@ -118,18 +118,18 @@ module _ {E : Type 0} (lists : List (List (Drawn E))) where
     few (Some d) hs n l = omega arith
 
   -- where all are, each is found at its place
-  pub record Reads (order : List Spot) (i : ℕ) : Type 0 where
-    pub spot : Spot
-    pub at : slice_get order i ≡ Some spot
+  pub record Reads (order : List EntryPlace) (i : ℕ) : Type 0 where
+    pub entry_place : EntryPlace
+    pub at : slice_get order i ≡ Some entry_place
     pub drawn : Drawn E
-    pub found : drawn_at lists spot ≡ Some drawn
+    pub found : drawn_at lists entry_place ≡ Some drawn
     pub is : slice_get (entries_at lists order) i ≡ Some (drawn.number, drawn.entry)
 
-  reads-first : (s : Spot) (order : List Spot) (o : Option (Drawn E)) → drawn_at lists s ≡ o → length (with_found o (entries_at lists order)) ≡ suc (length order) → (d : Drawn E) × (o ≡ Some d)
+  reads-first : (s : EntryPlace) (order : List EntryPlace) (o : Option (Drawn E)) → drawn_at lists s ≡ o → length (with_found o (entries_at lists order)) ≡ suc (length order) → (d : Drawn E) × (o ≡ Some d)
   reads-first s order None at all = let few = few-found order in absurd (omega arith)
   reads-first s order (Some d) at all = (d, refl)
 
-  pub reads-all : (order : List Spot) → length (entries_at lists order) ≡ length order → (i : ℕ) → i < length order → Reads order i
+  pub reads-all : (order : List EntryPlace) → length (entries_at lists order) ≡ length order → (i : ℕ) → i < length order → Reads order i
   reads-all [] all i l = absurd (omega arith)
   reads-all (s ∷ order) all i l =
       let first = reads-first s order (drawn_at lists s) refl all in
@@ -137,11 +137,11 @@ module _ {E : Type 0} (lists : List (List (Drawn E))) where
       let rest : length (entries_at lists order) ≡ length order = let m = ap length here in omega arith in
       reads-at s order first.0 first.1 here (reads-all order rest) i l
     where
-      reads-at : (s : Spot) (order : List Spot) (d : Drawn E) → drawn_at lists s ≡ Some d → entries_at lists (s ∷ order) ≡ (d.number, d.entry) ∷ entries_at lists order → ((i : ℕ) → i < length order → Reads order i) → (i : ℕ) → i < length (s ∷ order) → Reads (s ∷ order) i
-      reads-at s order d found here rest zero l = record { spot = s; at = refl; drawn = d; found = found; is = ap (λ hs. slice_get hs 0) here }
+      reads-at : (s : EntryPlace) (order : List EntryPlace) (d : Drawn E) → drawn_at lists s ≡ Some d → entries_at lists (s ∷ order) ≡ (d.number, d.entry) ∷ entries_at lists order → ((i : ℕ) → i < length order → Reads order i) → (i : ℕ) → i < length (s ∷ order) → Reads (s ∷ order) i
+      reads-at s order d found here rest zero l = record { entry_place = s; at = refl; drawn = d; found = found; is = ap (λ hs. slice_get hs 0) here }
       reads-at s order d found here rest (suc i) l =
           let m = rest i (omega arith) in
-          record { spot = m.spot; at = m.at; drawn = m.drawn; found = m.found; is = ap (λ hs. slice_get hs (suc i)) here ∙ m.is }
+          record { entry_place = m.entry_place; at = m.at; drawn = m.drawn; found = m.found; is = ap (λ hs. slice_get hs (suc i)) here ∙ m.is }
 
 -- ---- the place of a number
 
