@@ -14,7 +14,7 @@ ghost use Rattle.mq_calls.specs.Runs.{IsDoneOnCells, files, geometry_at};
 
 use crate::answers::{CallCause, Refusal};
 use crate::asked::Asked;
-use crate::committing::{Obstacle, Miss, Ready};
+use crate::committing::{Miss, Obstacle, Ready};
 use crate::leaving::give_drawn_pages;
 use crate::machine::FileMachine;
 use crate::pages::give_back_pages;

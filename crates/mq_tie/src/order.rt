@@ -22,7 +22,12 @@ pub fn count_stored<P: Port, E>(sides: &[QueueSide<P, E>]) -> usize
 }
 
 // Notes where the entries of one queue are stored, each by its number.
-fn note_queue<P: Port, E>(order: &mut Vec<EntryPlace>, sides: &[QueueSide<P, E>], queue: usize, base: u64)
+fn note_queue<P: Port, E>(
+    order: &mut Vec<EntryPlace>,
+    sides: &[QueueSide<P, E>],
+    queue: usize,
+    base: u64,
+)
     requires queue { queue < length sides.now }
     requires within { AreWithin (stored_by sides.now) base (vec_len order.old) }
     ensures length { vec_len order.new ≡ vec_len order.old }
