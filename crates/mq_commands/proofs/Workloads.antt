@@ -1,5 +1,5 @@
 -- What `gen` says where the workload was played.
-use Rattle.std.proofs.Common.{◌≡◌, ◌∙◌, sym, ℕ, List, Option, Some, None, Bool, refl, subst}
+use Rattle.std.proofs.Common.{◌≡◌, ℕ, List, Option, Some, None, Bool, subst}
 use Rattle.std.specs.Prelude.{is_some, option_map}
 use Rattle.mq_commands.specs.Generates.{Generates, IsPlayOf, SavesUnder, generated, generated_line}
 use Rattle.mq_commands.specs.declared.generating.Workload.{Workload}

@@ -1,11 +1,12 @@
-use Rattle.std.proofs.Common.{◌≢◌}
-use Rattle.std.specs.Prelude.{IfOk}
+use Rattle.std.proofs.Common.{◌≢◌, List, ℕ, subst}
+use Rattle.std.specs.Prelude.{Err, IfOk}
 use Rattle.mq_commands.specs.Commands.{SaysOfImage, is_image}
 use Rattle.mq_commands.specs.Lines.{file_line}
 use Rattle.mq_commands.specs.Recovers.{IsRecoveredAs, RefusesRecovery}
 use Rattle.mq_commands.specs.declared.answer.Answer.{Answer}
 use Rattle.mq_commands.specs.declared.recovering.Recovery.{Recovery}
 use Rattle.mq_image.specs.Drives.{IsRead}
+use Rattle.mq_image.specs.Faults.{FindsFirst}
 use Rattle.mq_image.specs.File.{DriveImage}
 use Rattle.mq_image.specs.declared.fault.FileFault.TheVariants as file
 use Rattle.mq_images.proofs.Results.{on-err}
@@ -15,14 +16,14 @@ use Rattle.mq_commands.proofs.recovering.recover_bytes.Goals as goal
 pub returns-in-Ok-clause-ok : goal.returns-in-Ok-clause-ok
 returns-in-Ok-clause-ok c =
     on-ok c.recover_drive.result (λ (v : Recovery). IsRecoveredAs c.in-Ok.image c.args.cut v.file.items v.text.items) (λ (v : Recovery). (x : DriveImage) × IsRead x c.args.bytes.items × IsRecoveredAs x c.args.cut v.file.items v.text.items) c.recover_drive.ensures.ok
-    (λ v is. (c.in-Ok.image, c.in-Ok.ensures.sound, is))
+    (λ v is. (c.in-Ok.image, subst (IsRead c.in-Ok.image) c.deref.ensures.value c.in-Ok.ensures.sound, is))
 
 pub returns-in-Ok-clause-refused : goal.returns-in-Ok-clause-refused
 returns-in-Ok-clause-refused c =
     on-err c.recover_drive.result (λ answer. IfOk answer (λ (a : Answer). RefusesRecovery c.in-Ok.image a.status a.text.items)) (λ answer. IfOk answer (λ (a : Answer). SaysOfImage RefusesRecovery c.args.bytes.items a.status a.text.items)) c.recover_drive.ensures.refused
-    (λ answer is. on-ok answer (λ (a : Answer). RefusesRecovery c.in-Ok.image a.status a.text.items) (λ (a : Answer). SaysOfImage RefusesRecovery c.args.bytes.items a.status a.text.items) is (λ a of. is_image c.in-Ok.image c.in-Ok.ensures.sound of))
+    (λ answer is. on-ok answer (λ (a : Answer). RefusesRecovery c.in-Ok.image a.status a.text.items) (λ (a : Answer). SaysOfImage RefusesRecovery c.args.bytes.items a.status a.text.items) is (λ a of. is_image c.in-Ok.image (subst (IsRead c.in-Ok.image) c.deref.ensures.value c.in-Ok.ensures.sound) of))
 
 pub returns-in-Err-clause-refused : goal.returns-in-Err-clause-refused
 returns-in-Err-clause-refused c =
     refused-as (λ (a : Answer). a.status) (λ (a : Answer). a.text.items) (SaysOfImage RefusesRecovery c.args.bytes.items) (file_line c.in-Err.fault) (c.in-Err.fault ≢ file.OutOfMemory) c.refuse_file.result c.refuse_file.ensures
-    (λ other. no-image RefusesRecovery c.args.bytes.items c.in-Err.fault c.written_images_are_read.ensures.first c.in-Err.ensures.finds other)
+    (λ other. no-image RefusesRecovery c.args.bytes.items c.in-Err.fault c.written_images_are_read.ensures.first (subst (λ (l : List ℕ). FindsFirst {X = DriveImage} l (Err c.in-Err.fault)) c.deref.ensures.value c.in-Err.ensures.finds) other)
