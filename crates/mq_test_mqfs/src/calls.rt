@@ -16,7 +16,7 @@ pub fn words_of(alloc: Global, words: &[&str]) -> Result<Vec<String>, AllocError
 }
 
 // The words of a line, which are parted by spaces.
-fn words_in(alloc: Global, line: &str) -> Result<Vec<String>, AllocError> {
+pub fn words_in(alloc: Global, line: &str) -> Result<Vec<String>, AllocError> {
     let mut all = Vec::new(alloc);
     for word in line.split_whitespace() {
         all.push(String::from_str(alloc, word)?)?;
@@ -24,10 +24,17 @@ fn words_in(alloc: Global, line: &str) -> Result<Vec<String>, AllocError> {
     Ok(all)
 }
 
-// Files with the one name `t`, of which the calls listed fail.
-fn file_t(alloc: Global, text: &[u8], fail: &[u64]) -> Result<MemFiles, AllocError> {
-    let name = String::from_str(alloc, "t")?;
-    let names = vec![in alloc; (name, Vec::from_slice(alloc, text)?)]?;
+// Files of which `t` holds this text, and `s` a script of two groups that leaves the tree as it was. The calls listed
+// fail.
+fn files_of(alloc: Global, text: &[u8], fail: &[u64]) -> Result<MemFiles, AllocError> {
+    let script = b"mkdir /c\nfsync\nrmdir /c\nfsync\n";
+    let names = vec![in alloc;
+        (String::from_str(alloc, "t")?, Vec::from_slice(alloc, text)?),
+        (
+            String::from_str(alloc, "s")?,
+            Vec::from_slice(alloc, script)?
+        ),
+    ]?;
     Ok(MemFiles::new(alloc, names, Vec::from_slice(alloc, fail)?))
 }
 
@@ -66,7 +73,7 @@ pub fn outcome_with<R: Threads + Wait + Sync>(
     text: &[u8],
     failing: Failing<'_>,
 ) -> Result<Outcome, AllocError> {
-    let mut files = file_t(alloc, text, failing.loads)?;
+    let mut files = files_of(alloc, text, failing.loads)?;
     let mut out = MemSink::new(alloc, Vec::from_slice(alloc, failing.puts)?);
     let status = mqfs(rt, alloc, words, &mut files, &mut out, &Open);
     let output = Vec::from_slice(alloc, out.written())?;
@@ -118,21 +125,31 @@ pub fn words_end<R: Threads + Wait + Sync>(
 // The words of a call, and how it has to end.
 pub type Step<'a> = (&'a str, u8, &'a str);
 
-// Whether calls one after another over the same files end so, where `t` holds this text.
+// What calls one after another over the same files leave, where `t` holds this text and each call ends so.
+pub fn files_after<R: Threads + Wait + Sync>(
+    rt: &R,
+    alloc: Global,
+    text: &str,
+    steps: &[Step<'_>],
+) -> Result<Option<MemFiles>, AllocError> {
+    let mut files = files_of(alloc, text.as_bytes(), &[])?;
+    for (line, status, output) in steps {
+        let words = words_in(alloc, line)?;
+        let mut out = MemSink::new(alloc, Vec::new(alloc));
+        let found = mqfs(rt, alloc, &words, &mut files, &mut out, &Open);
+        if found != *status || out.written() != output.as_bytes() {
+            return Ok(None);
+        }
+    }
+    Ok(Some(files))
+}
+
+// Whether each of these calls ends so.
 pub fn follows<R: Threads + Wait + Sync>(
     rt: &R,
     alloc: Global,
     text: &str,
     steps: &[Step<'_>],
 ) -> Result<bool, AllocError> {
-    let mut files = file_t(alloc, text.as_bytes(), &[])?;
-    for (line, status, output) in steps {
-        let words = words_in(alloc, line)?;
-        let mut out = MemSink::new(alloc, Vec::new(alloc));
-        let found = mqfs(rt, alloc, &words, &mut files, &mut out, &Open);
-        if found != *status || out.written() != output.as_bytes() {
-            return Ok(false);
-        }
-    }
-    Ok(true)
+    Ok(files_after(rt, alloc, text, steps)?.is_some())
 }

@@ -20,6 +20,8 @@ mod refusals;
 #[cfg(test)]
 mod runs;
 #[cfg(test)]
+mod saved;
+#[cfg(test)]
 mod standing;
 #[cfg(test)]
 mod words;

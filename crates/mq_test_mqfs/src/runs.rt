@@ -3,14 +3,14 @@ use crate::calls::{Step, ends, follows};
 use std::alloc::{AllocError, Global};
 
 // A directory with a file of two bytes: 18 events.
-const SCRIPT: &str = "mkdir /a\ncreate /a/f\nwrite /a/f 0 \"hi\"\nfsync\n";
+pub const SCRIPT: &str = "mkdir /a\ncreate /a/f\nwrite /a/f 0 \"hi\"\nfsync\n";
 
 // The tree that it makes.
 const TREE: &str = "d /\nd /a\nf 2 /a/f\n";
 
-const FORMAT: Step<'static> = ("format d 2 1024 64 256", 0, "formatted\n");
+pub const FORMAT: Step<'static> = ("format d 2 1024 64 256", 0, "formatted\n");
 
-const DONE: &str = "base 0
+pub const DONE: &str = "base 0
 commit 1 session 0 group 0 fsync
   ok
   ok
@@ -46,21 +46,10 @@ fn a_script_is_run(rt: HostRuntime) -> Result<(), AllocError> {
     Ok(())
 }
 
-// A script of no group leaves the image as it is.
-const NOTHING: [Step<'static>; 3] = [
-    FORMAT,
-    ("run d t", 0, "base 0\nclean 0\n"),
-    ("ls d", 0, "d /\n"),
-];
-
-#[test]
-fn a_script_of_no_group(rt: HostRuntime) -> Result<(), AllocError> {
-    assert!(rt; follows(&rt, rt.alloc(), "", &NOTHING)?);
-    Ok(())
-}
-
-// Before its doorbell write the transaction does not survive.
-const EARLY: [Step<'static>; 7] = [
+// Before its doorbell write the transaction does not survive, and its number is drawn again. Behind it the number is not,
+// and a recovery moves base and head past it, in 4 events; where the head is stored and not flushed, the transaction
+// survives or not.
+const EARLY: [Step<'static>; 21] = [
     FORMAT,
     (
         "run d t --cut 0",
@@ -76,7 +65,48 @@ const EARLY: [Step<'static>; 7] = [
     ("recover d", 0, "prefix 0\nbase 0\n"),
     ("ls d", 0, "d /\n"),
     ("run d t", 0, DONE),
+    ("format e 2 1024 64 256", 0, "formatted\n"),
+    ("run e t --cut 16", 0, RUNG),
+    ("recover e --cut 3", 0, "prefix 0\nbase 1\ncut 3\n"),
+    ("run e t", 0, SECOND),
+    FORMAT,
+    ("run d t --cut 16", 0, RUNG),
+    ("recover d --cut 4", 0, "prefix 0\nbase 1\n"),
+    FORMAT,
+    ("run d t --cut 17 --pick 3", 0, STORED),
+    ("recover d", 0, "prefix 1\nbase 1\n"),
+    ("ls d", 0, TREE),
+    FORMAT,
+    ("run d t --cut 17 --pick 4", 0, STORED),
+    ("recover d", 0, "prefix 0\nbase 1\n"),
 ];
+
+const RUNG: &str = "base 0
+commit 1 session 0 group 0 fsync
+  ok
+  ok
+  ok
+answer 0 0 off 1
+cut 16
+";
+
+const STORED: &str = "base 0
+commit 1 session 0 group 0 fsync
+  ok
+  ok
+  ok
+answer 0 0 off 1
+cut 17
+";
+
+const SECOND: &str = "base 1
+commit 2 session 0 group 0 fsync
+  ok
+  ok
+  ok
+answer 0 0 ok 2
+clean 2
+";
 
 #[test]
 fn a_run_is_cut_early(rt: HostRuntime) -> Result<(), AllocError> {
@@ -153,7 +183,8 @@ fn names_have_at_most_255_bytes(rt: HostRuntime) -> Result<(), AllocError> {
     Ok(())
 }
 
-const FAILED: [Step<'static>; 3] = [
+// A command that fails. It ends with the 12th event; with a cut the power goes off before this, then, or never.
+const FAILED: [Step<'static>; 9] = [
     FORMAT,
     (
         "run d t --fail 0:3",
@@ -161,6 +192,24 @@ const FAILED: [Step<'static>; 3] = [
         "base 0\ncommit 1 session 0 group 0 fsync\n  ok\n  ok\n  ok\nanswer 0 0 failed 1 640 1\nstopped tx 1\n",
     ),
     ("recover d", 0, "prefix 0\nbase 1\n"),
+    FORMAT,
+    (
+        "run d t --fail 0:3 --cut 11",
+        0,
+        "base 0\ncommit 1 session 0 group 0 fsync\n  ok\n  ok\n  ok\nanswer 0 0 off 1\ncut 11\n",
+    ),
+    FORMAT,
+    (
+        "run d t --cut 12 --fail 0:3",
+        5,
+        "base 0\ncommit 1 session 0 group 0 fsync\n  ok\n  ok\n  ok\nanswer 0 0 off 1\ncut 12\n",
+    ),
+    FORMAT,
+    (
+        "run d t --fail 0:3 --cut 17",
+        5,
+        "base 0\ncommit 1 session 0 group 0 fsync\n  ok\n  ok\n  ok\nanswer 0 0 failed 1 640 1\ncut 16\n",
+    ),
 ];
 
 #[test]

@@ -60,13 +60,15 @@ fn names_of_files(rt: HostRuntime) -> Result<(), AllocError> {
 }
 
 // Words that ask for help, and how it begins.
-const HELP: [(&str, &str); 10] = [
+const HELP: [(&str, &str); 12] = [
     ("--help", "mqfs runs "),
     ("--help blocks", "mqfs runs "),
     ("blocks --help", "mqfs blocks FILE "),
     ("blocks t --cut --help", "mqfs blocks FILE "),
     ("blocks t t --seed --help 1", "mqfs blocks FILE "),
     ("format --help", "mqfs format IMAGE "),
+    ("run --help", "mqfs run IMAGE "),
+    ("recover --help", "mqfs recover IMAGE "),
     ("ls d --help", "mqfs ls IMAGE\n"),
     ("cat --help", "mqfs cat IMAGE PATH\n"),
     ("gen 7 --help", "mqfs gen SEED THREADS GROUPS "),

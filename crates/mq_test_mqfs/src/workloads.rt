@@ -1,5 +1,5 @@
 // Generated workloads: what they come to, and the image that one leaves.
-use crate::calls::{Failing, Step, ends, follows, outcome_with, words_of};
+use crate::calls::{Step, ends, follows};
 use std::alloc::AllocError;
 
 const FOUR: &str = "threads 4 groups 0 commits 4 dirs 4 files 0 bytes 0\n";
@@ -119,24 +119,5 @@ const COUNTED: [Step<'static>; 4] = [
 #[test]
 fn the_tree_of_a_workload(rt: HostRuntime) -> Result<(), AllocError> {
     assert!(rt; follows(&rt, rt.alloc(), "", &COUNTED)?);
-    Ok(())
-}
-
-// Where the save fails, its line is all that is said; where the output fails, the image is saved.
-#[test]
-fn a_workload_is_saved_before_its_line_is_said(rt: HostRuntime) -> Result<(), AllocError> {
-    let words = words_of(rt.alloc(), &["gen", "7", "1", "0", "--save", "t"])?;
-    let no_save = Failing {
-        loads: &[1],
-        puts: &[],
-    };
-    let found = outcome_with(&rt, rt.alloc(), &words, b"old", no_save)?;
-    assert!(rt; found.is(4, b"fault save t\n"));
-    let no_put = Failing {
-        loads: &[],
-        puts: &[1],
-    };
-    let found = outcome_with(&rt, rt.alloc(), &words, b"old", no_put)?;
-    assert!(rt; found.status == 4 && found.output.is_empty() && !found.is_kept);
     Ok(())
 }
