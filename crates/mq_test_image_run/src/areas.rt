@@ -1,8 +1,7 @@
-// Runs that write one block again and again.
+// Runs by the program's own call that write one block again and again.
 use crate::failure::Failure;
-use crate::images::{dumped, formatted, lists};
-use crate::runs::{Asked, PLAIN, run};
-use mq_blocks::Geometry;
+use crate::program::{call, files_of};
+use mq_calls::Open;
 use std::alloc::Global;
 
 // A script that makes a file, and then writes its block so many times, each in a group of its own.
@@ -15,25 +14,28 @@ fn rewrites(alloc: Global, times: u64) -> Result<String, Failure> {
     Ok(text)
 }
 
+// The drive has one queue.
+const FORMAT: &str = "format d 1 1024 64 256";
+
 // An area of 1,024 blocks holds the copies and descriptors of 401 groups, and not those of 601: a checkpoint is made
 // between them. With a cut none is made at the end.
 #[test]
 fn areas_are_filled(rt: HostRuntime) -> Result<(), Failure> {
-    let empty = formatted(rt.alloc(), Geometry::new(1, 1024, 64, 256)?)?;
     for (times, fits) in [(400, true), (600, false)] {
         let script = rewrites(rt.alloc(), times)?;
-        let ran = run(&rt, rt.alloc(), &empty, &[script.as_str()], PLAIN)?;
+        let mut files = files_of(rt.alloc(), script.as_str(), "")?;
         let number = times + 1;
-        let end = format!(in rt.alloc(); "\nanswer 0 {times} ok {number}\nclean {number}\n")?;
-        assert!(rt; ran.report.ends_with(end.as_str()) && ran.acknowledged == number);
-        assert!(rt; lists(rt.alloc(), &ran.file, "d /\nf 4096 /f\n")?);
-        let asked = Asked {
-            cut: Some(1_000_000),
-            ..PLAIN
-        };
-        let cut = run(&rt, rt.alloc(), &empty, &[script.as_str()], asked)?;
-        assert!(rt; dumped(rt.alloc(), &cut.file)?.starts_with("base 0\n") == fits);
-        assert!(rt; lists(rt.alloc(), &cut.file, "d /\nf 4096 /f\n")?);
+        for (line, last) in [("run d s", "clean"), ("run d s --cut 1000000", "cut")] {
+            call(&rt, rt.alloc(), FORMAT, &mut files, &Open)?;
+            let ran = call(&rt, rt.alloc(), line, &mut files, &Open)?;
+            let answer = format!(in rt.alloc(); "\nanswer 0 {times} ok {number}\n{last} ")?;
+            let report = String::from_utf8_lossy(rt.alloc(), &ran.output)?;
+            assert!(rt; ran.status == 0 && report.contains(answer.as_str()));
+            let listed = call(&rt, rt.alloc(), "ls d", &mut files, &Open)?;
+            assert!(rt; listed.is(0, "d /\nf 4096 /f\n"));
+        }
+        let dumped = call(&rt, rt.alloc(), "dump d", &mut files, &Open)?;
+        assert!(rt; dumped.begins("base 0\n") == fits);
     }
     Ok(())
 }

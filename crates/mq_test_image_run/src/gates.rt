@@ -1,7 +1,6 @@
 // Sessions on threads, one of which a gate holds until another one has come to a point.
 use crate::failure::Failure;
 use crate::images::{empty_file, lists, recovered};
-use crate::plain::FIRST;
 use crate::runs::{Asked, Outcome, PLAIN, run, run_past};
 use mq_calls::{Gate, Point};
 use std::sync::atomic::AtomicBool;
@@ -100,26 +99,35 @@ fn a_session_goes_on_while_another_is_held(rt: HostRuntime) -> Result<(), Failur
     Ok(())
 }
 
-// The second session changes something only after the first one's command has failed. The first one's second group is not
-// carried out.
+/// Scripts of two sessions, of which the second changes something only after the first one's command has failed. The
+/// first one's second group is not carried out.
+pub const STOPPED: [&str; 2] = [
+    "mkdir /a\ncreate /a/f\nwrite /a/f 0 \"hi\"\nfsync\nmkdir /c\nfsync\n",
+    "unlink /x\nfatomic\nmkdir /b\nfsync\n",
+];
+
+/// Their report, where the read comes first, and where it does not.
+pub const STOPPED_REPORTS: [&str; 2] = [
+    "base 0\nat 0 session 1 group 0 fatomic\n  refused NotFound\ncommit 1 session 0 group 0 fsync\n  ok\n  ok\n  ok\ncommit 2 session 1 group 1 fsync\n  ok\nanswer 0 0 failed 1 640 1\nanswer 1 0 ok 0\nanswer 1 1 stopped 1 2\nstopped tx 1\n",
+    "base 0\ncommit 1 session 0 group 0 fsync\n  ok\n  ok\n  ok\nat 1 session 1 group 0 fatomic\n  refused NotFound\ncommit 2 session 1 group 1 fsync\n  ok\nanswer 0 0 failed 1 640 1\nanswer 1 0 ok 1\nanswer 1 1 stopped 1 2\nstopped tx 1\n",
+];
+
 #[test]
 fn a_failure_stops_other_sessions(rt: HostRuntime) -> Result<(), Failure> {
     let empty = empty_file(rt.alloc())?;
-    let first = format!(in rt.alloc(); "{FIRST}mkdir /c\nfsync\n")?;
-    let scripts = [first.as_str(), "unlink /x\nfatomic\nmkdir /b\nfsync\n"];
     let gate = Hold::new((1, Point::Answered), (0, Point::Answered));
     let asked = Asked {
         cut: None,
         pick: 0,
         fail: Some((0, 3)),
     };
-    let ran = run_past(&rt, rt.alloc(), &empty, &scripts, asked, &gate)?;
+    let ran = run_past(&rt, rt.alloc(), &empty, &STOPPED, asked, &gate)?;
     assert!(rt; gate.released.load(SeqCst) && ran.failed);
-    let one =
-        "base 0\nat 0 session 1 group 0 fatomic\n  refused NotFound\ncommit 1 session 0 group 0 fsync\n  ok\n  ok\n  ok\ncommit 2 session 1 group 1 fsync\n  ok\nanswer 0 0 failed 1 640 1\nanswer 1 0 ok 0\nanswer 1 1 stopped 1 2\nstopped tx 1\n";
-    let other =
-        "base 0\ncommit 1 session 0 group 0 fsync\n  ok\n  ok\n  ok\nat 1 session 1 group 0 fatomic\n  refused NotFound\ncommit 2 session 1 group 1 fsync\n  ok\nanswer 0 0 failed 1 640 1\nanswer 1 0 ok 1\nanswer 1 1 stopped 1 2\nstopped tx 1\n";
-    assert!(rt; is_either(&ran, one, other), "{}", ran.report.as_str());
+    assert!(rt;
+        is_either(&ran, STOPPED_REPORTS[0], STOPPED_REPORTS[1]),
+        "{}",
+        ran.report.as_str()
+    );
     let left = recovered(rt.alloc(), &ran.file, None, 0)?;
     assert_eq!(rt; (left.prefix, left.base), (0, 2));
     assert!(rt; lists(rt.alloc(), &left.file, "d /\n")?);
