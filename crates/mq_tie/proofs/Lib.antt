@@ -6,3 +6,4 @@ pub mod Running
 pub mod Ports
 pub mod Charges
 pub mod Backed
+pub mod Rings

@@ -6,3 +6,4 @@ pub mod Runs
 pub mod Closed
 pub mod Ports
 pub mod Backed
+pub mod Rings

@@ -11,5 +11,6 @@ mod reading;
 pub use closing::{Unclosed, close, close_desk};
 pub use ended::Ended;
 pub use laws::{
-    a_closed_desk_keeps_its_ports, a_desk_ends_in_a_lawful_state, what_was_reported_is_backed,
+    a_closed_desk_keeps_its_ports, a_desk_ends_in_a_lawful_state,
+    an_ended_desk_rang_once_for_each_commit, what_was_reported_is_backed,
 };
