@@ -105,5 +105,5 @@ module _ {P E : Type 0} {G : Ghosts P} (state : P → PortState) (faults : P →
   rang-once =
       let is : IsSide values group q K at.0 = run.end.sides_stand q at.0 at.1 in
       let side : RangOnceEach (own_of values group q K) (faults at.0.pmr.port) (port_of values group K.opening q) (state at.0.pmr.port) =
-          rang (part_of values group q K) (side_state state faults at.0) is.says.is (at-none (λ (w : QueueSide P E G). state w.pmr.port) K.opening.sides q) in
+      rang (part_of values group q K) (side_state state faults at.0) is.says.is (at-none (λ (w : QueueSide P E G). state w.pmr.port) K.opening.sides q) in
       subst (λ (z : List Tx × List Fault × PortState × PortState). RangOnceEach z.0 z.1 z.2 z.3) (λ i. (txs-are i, sym faults-are i, opened-is i, sym new-is i)) side
