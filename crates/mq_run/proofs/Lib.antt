@@ -9,3 +9,4 @@ pub mod Seats
 pub mod KeptPorts
 pub mod Finished
 pub mod Stopped
+pub mod Rings

@@ -4,3 +4,4 @@ pub mod Lines
 pub mod Runs
 pub mod Seating
 pub mod Laws
+pub mod Rings

@@ -13,5 +13,8 @@ mod running;
 mod together;
 
 pub use end::RunEnd;
-pub use laws::{a_finished_run_is_clean, a_run_keeps_its_ports, a_stopped_run_is_backed};
+pub use laws::{
+    a_finished_run_is_clean, a_run_keeps_its_ports, a_run_rings_once_for_each_commit,
+    a_stopped_run_is_backed,
+};
 pub use running::run_scripts;
