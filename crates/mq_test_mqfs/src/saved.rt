@@ -262,7 +262,8 @@ fn hostile_images_are_refused(rt: HostRuntime) -> Result<(), AllocError> {
     let image = image_after(&rt, rt.alloc(), SCRIPT, &CUT_RUN)?;
     assert!(rt; are_refused(&rt, rt.alloc(), &image, &HOSTILE)?);
     let short = [(&[][..], ALL, "image Short 131148 100\n")];
-    let head = image.get(..100).unwrap_or(&[]);
+    let empty = image_after(&rt, rt.alloc(), "", &NOTHING)?;
+    let head = empty.get(..100).unwrap_or(&[]);
     assert!(rt; are_refused(&rt, rt.alloc(), head, &short)?);
     let high = edited(rt.alloc(), &image, &[(32, HIGH)])?;
     assert!(rt;
