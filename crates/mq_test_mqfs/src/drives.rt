@@ -194,11 +194,11 @@ struct Looked {
 }
 
 // Looks at two ports, and changes nothing.
-fn look_at(
+fn look_at<'f>(
     alloc: Global,
     geometry: Geometry,
-    queue: &EmuPort<'_>,
-    root: &EmuPort<'_>,
+    queue: &EmuPort<'f>,
+    root: &EmuPort<'f>,
 ) -> (
     Result<Chain, ChainRefusal>,
     Result<Option<PlainStanding>, OutOfMemory>,
