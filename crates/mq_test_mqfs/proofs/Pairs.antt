@@ -1,5 +1,5 @@
 -- The two ports of a drive of one queue.
-use Rattle.std.proofs.Common.{◌≡◌, List, Some, subst, arith}
+use Rattle.std.proofs.Common.{◌≡◌, Some, subst, arith}
 use Rattle.std.specs.Prelude.{slice_get}
 use Rattle.mq_blocks.specs.Drive.{IsQuiescent}
 use Rattle.mq_blocks.specs.declared.geometry.Geometry.{Geometry}
