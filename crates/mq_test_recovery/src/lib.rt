@@ -5,8 +5,10 @@
 mod chain;
 mod lists;
 mod ports;
+mod small;
 mod standing;
 #[cfg(test)]
 mod tests;
 
+pub use small::{Stored, small_standing};
 pub use standing::{PlainStanding, plain_standing};

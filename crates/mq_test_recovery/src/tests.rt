@@ -1,21 +1,12 @@
 // What stands on a small drive, by the blocks of its queue.
-ghost use Rattle.std.specs.Prelude.{◌≡◌, ◌<◌, ◌≤◌, ◌+◌, length, IfOk};
+ghost use Rattle.std.specs.Prelude.{◌<◌, ◌≤◌, ◌+◌, length};
 ghost use Rattle.mq_blocks.specs.Descriptor.{list_limit};
 
-use crate::{PlainStanding, plain_standing};
+use crate::{PlainStanding, Stored, small_standing};
 use mq_area::{Descriptor, write_descriptor};
-use mq_blocks::{Block, BlockNo, Geometry, OutOfMemory, QueueNo, RING_DEPTH};
-use mq_drive::{EmuPort, Fuse, PortImage, Role};
+use mq_blocks::{Block, BlockNo, OutOfMemory};
 use mq_nvme::{Entry, WriteReq, write_of};
 use std::alloc::Global;
-
-// A block of the queue's port by its index there: those of the area are below 1024, and home block
-// 16 is at 1024.
-#[derive(Drop)]
-struct Stored {
-    index: usize,
-    block: Block,
-}
 
 fn filled(alloc: Global, index: usize, byte: u8) -> Result<Stored, OutOfMemory> {
     let mut block = Block::zeroed(alloc)?;
@@ -74,63 +65,6 @@ fn commit(tx: u64, lba: u64) -> Entry
     })
 }
 
-fn no_blocks(alloc: Global, count: usize) -> Result<Vec<Option<Block>>, OutOfMemory>
-    ensures { IfOk result (λ v. length v.items ≡ count) }
-{
-    Ok((0..count).map(|_| None).collect(alloc)?)
-}
-
-fn stored_blocks(
-    alloc: Global,
-    count: usize,
-    stored: Vec<Stored>,
-) -> Result<Vec<Option<Block>>, OutOfMemory>
-    ensures { IfOk result (λ v. length v.items ≡ count) }
-{
-    let mut blocks = no_blocks(alloc, count)?;
-    for s in stored {
-        if s.index < blocks.len() {
-            blocks[s.index] = Some(s.block);
-        }
-    }
-    Ok(blocks)
-}
-
-// What stands on a drive of one queue with this entry in each slot.
-fn standing(
-    alloc: Global,
-    head: u64,
-    doorbell: u64,
-    entry: Entry,
-    stored: Vec<Stored>,
-) -> Result<Option<PlainStanding>, OutOfMemory> {
-    let geometry = match Geometry::new(1, 1024, 16, 240) {
-        Ok(geometry) => geometry,
-        Err(_) => return Ok(None),
-    };
-    let queue = PortImage {
-        doorbell,
-        head,
-        base: 0,
-        slots: vec![in alloc; entry; RING_DEPTH as usize]?,
-        blocks: stored_blocks(alloc, 1264, stored)?,
-    };
-    let root = PortImage {
-        doorbell: 0,
-        head: 0,
-        base: 0,
-        slots: Vec::new(alloc),
-        blocks: stored_blocks(alloc, 16, Vec::new(alloc))?,
-    };
-    let (fuse, mut seats) = Fuse::new(alloc, None, 2)?;
-    let seat = seats.remove(0);
-    let role = Role::Queue(QueueNo(0));
-    let queue = EmuPort::new(alloc, &fuse, seat, geometry, role, queue, None, 0)?;
-    let seat = seats.remove(0);
-    let root = EmuPort::new(alloc, &fuse, seat, geometry, Role::Root, root, None, 0)?;
-    plain_standing(alloc, geometry, &queue, &root)
-}
-
 // Whether the bytes of a home block are all this one.
 fn holds(standing: &PlainStanding, b: usize, byte: u8) -> bool {
     match standing.blocks.get(b) {
@@ -142,7 +76,9 @@ fn holds(standing: &PlainStanding, b: usize, byte: u8) -> bool {
 #[test]
 fn nothing_stands_on_a_fresh_drive(rt: HostRuntime) -> Result<(), OutOfMemory> {
     let alloc = rt.alloc();
-    let found = standing(alloc, 0, 0, Entry::zeroed(), Vec::new(alloc))?.expect(&rt, "readable");
+    let found = small_standing(alloc, 0, 0, Entry::zeroed(), Vec::new(alloc))?.expect(
+        &rt, "readable",
+    );
     assert_eq!(rt; found.prefix, 0);
     assert_eq!(rt; found.blocks.len(), 256);
     assert!(rt; holds(&found, 5, 0));
@@ -153,7 +89,7 @@ fn nothing_stands_on_a_fresh_drive(rt: HostRuntime) -> Result<(), OutOfMemory> {
 #[test]
 fn the_newest_copy_stands_or_the_home_block(rt: HostRuntime) -> Result<(), OutOfMemory> {
     let alloc = rt.alloc();
-    let found = standing(alloc, 5, 5, commit(2, 4), two(alloc, 2)?)?.expect(&rt, "readable");
+    let found = small_standing(alloc, 5, 5, commit(2, 4), two(alloc, 2)?)?.expect(&rt, "readable");
     assert_eq!(rt; found.prefix, 2);
     assert!(rt; holds(&found, 5, 3));
     assert!(rt; holds(&found, 20, 9));
@@ -164,7 +100,7 @@ fn the_newest_copy_stands_or_the_home_block(rt: HostRuntime) -> Result<(), OutOf
 #[test]
 fn entries_from_head_to_doorbell_change_nothing(rt: HostRuntime) -> Result<(), OutOfMemory> {
     let alloc = rt.alloc();
-    let found = standing(alloc, 5, 7, commit(2, 4), two(alloc, 2)?)?.expect(&rt, "readable");
+    let found = small_standing(alloc, 5, 7, commit(2, 4), two(alloc, 2)?)?.expect(&rt, "readable");
     assert_eq!(rt; found.prefix, 2);
     assert!(rt; holds(&found, 5, 3));
     assert!(rt; holds(&found, 20, 9));
@@ -174,7 +110,7 @@ fn entries_from_head_to_doorbell_change_nothing(rt: HostRuntime) -> Result<(), O
 #[test]
 fn a_gap_ends_the_prefix(rt: HostRuntime) -> Result<(), OutOfMemory> {
     let alloc = rt.alloc();
-    let found = standing(alloc, 5, 5, commit(3, 4), two(alloc, 3)?)?.expect(&rt, "readable");
+    let found = small_standing(alloc, 5, 5, commit(3, 4), two(alloc, 3)?)?.expect(&rt, "readable");
     assert_eq!(rt; found.prefix, 1);
     assert!(rt; holds(&found, 5, 1));
     assert!(rt; holds(&found, 20, 2));
@@ -184,9 +120,9 @@ fn a_gap_ends_the_prefix(rt: HostRuntime) -> Result<(), OutOfMemory> {
 #[test]
 fn an_image_that_is_not_readable_has_none(rt: HostRuntime) -> Result<(), OutOfMemory> {
     let alloc = rt.alloc();
-    assert!(rt; standing(alloc, 6, 5, commit(2, 4), two(alloc, 2)?)?.is_none());
-    assert!(rt; standing(alloc, 5, 5, commit(2, 3), two(alloc, 2)?)?.is_none());
-    assert!(rt; standing(alloc, 5, 5, commit(3, 4), two(alloc, 2)?)?.is_none());
-    assert!(rt; standing(alloc, 5, 5, Entry::zeroed(), two(alloc, 2)?)?.is_none());
+    assert!(rt; small_standing(alloc, 6, 5, commit(2, 4), two(alloc, 2)?)?.is_none());
+    assert!(rt; small_standing(alloc, 5, 5, commit(2, 3), two(alloc, 2)?)?.is_none());
+    assert!(rt; small_standing(alloc, 5, 5, commit(3, 4), two(alloc, 2)?)?.is_none());
+    assert!(rt; small_standing(alloc, 5, 5, Entry::zeroed(), two(alloc, 2)?)?.is_none());
     Ok(())
 }
