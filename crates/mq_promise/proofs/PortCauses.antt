@@ -58,7 +58,7 @@ use Rattle.mq_tree.specs.Volume.{Volume}
 use Rattle.mq_turns.specs.Desk.{charged_of}
 use Rattle.mq_turns.specs.declared.turn.Turn.{Turn}
 use Rattle.mq_turns.specs.declared.turn.Turn.TheVariants.{Page, Root, Side}
-use Rattle.mq_promise.specs.Causes.{AreBacked, ArePortCauses, HasFailedCommand, IsOfCommand, IsOfPower, IsPoweredOff, IsStopOf, IsUntold}
+use Rattle.mq_promise.specs.Causes.{AreBacked, ArePortCauses, HasFailedCommand, HaveCountedAll, IsOfCommand, IsOfPower, IsPoweredOff, IsStopOf, IsUntold}
 use Rattle.mq_promise.specs.Laws.{HavePortCauses}
 use Rattle.mq_promise.proofs.Blames.{charge-backed, charge_for, is-charged}
 use Rattle.mq_promise.proofs.Failures.{of-root, undone}
@@ -156,9 +156,6 @@ starts-hold : (Q : FuseName → Option ℕ → Type 0) (g : Geometry) (fuse : Fu
 starts-hold Q g fuse fail each none from [] q = none
 starts-hold Q g fuse fail each none from (i ∷ images) zero = each from
 starts-hold Q g fuse fail each none from (i ∷ images) (suc q) = starts-hold Q g fuse fail each none (from + 1) images q
-
-some-cut : {cut : Option ℕ} {k : ℕ} → cut ≡ None → cut ≡ Some k → ⊥
-some-cut none some = cc
 
 last-cut : (k events : ℕ) (finished : Option (Result ℕ CheckpointRefusal)) (last : Last) → IsLast (Some k) events finished last → events ≡ k → last ≡ Cut k
 last-cut k events finished last is many = is ∙ ap (λ (n : ℕ). Cut n) many
@@ -292,21 +289,28 @@ module _ (x : DriveImage) (scripts : List Script) (o : RunOptions) (r : ImageRun
           let none = bound-at (λ f n. n ≡ None) (λ k. ap (λ (z : Option Failing). command_of z k) is) refl t p under in
           absurd (true≢false (sym fails ∙ ap (λ (n : Option ℕ). fails_by n (executed_of p)) none))
 
-  of-command : (cause : Cause) (t : Turn) (b : BacksCause g cause t new) → IsOfCommand cause → (2 ^ 64 - 1 ≤ length (emu_faults b.port)) ⊎ Stands b.port (fault-for g cause) → HasFailedCommand o r ⊎ HasRefusedEvent
-  of-command cause t b is (inl many) = inr (off-of cause t b (full-off b.port many))
+  of-command : (cause : Cause) (t : Turn) (b : BacksCause g cause t new) → IsOfCommand cause → (2 ^ 64 - 1 ≤ length (emu_faults b.port)) ⊎ Stands b.port (fault-for g cause) → HasFailedCommand o r ⊎ HaveCountedAll (row_of new)
+  of-command cause t b is (inl many) = inr (b.port, under-row new t b.port b.under, many)
   of-command (Failed tx status) t b is (inr stands) = inl (has-command t b.port b.under (failed-by b.port (Queued stands.0) stands.1))
   of-command (FailedHome block status) t b is (inr stands) = inl (has-command t b.port b.under (failed-by b.port (Home stands.0) stands.1))
   of-command (Stopped tx (why.Status status)) t b is (inr stands) = inl (has-command t b.port b.under (failed-by b.port (Queued stands.0) stands.1))
   of-command (Stopped tx why.Off) t b is (inr stands) = absurd is
   of-command Off t b is (inr stands) = absurd is
 
-  -- a command has failed for a group only where one was to fail, and was executed; or a port refused an event for its power
-  pub command-failed : (t : Told) (f : Refusal) (cause : Cause) → Contains r.answers.items t → t.answer ≡ Err f → f.cause ≡ Drive cause → IsOfCommand cause → HasFailedCommand o r ⊎ HasRefusedEvent
+  -- a command has failed for a group only where one was to fail, and was executed; or a port counts no more faults
+  pub command-failed : (t : Told) (f : Refusal) (cause : Cause) → Contains r.answers.items t → t.answer ≡ Err f → f.cause ≡ Drive cause → IsOfCommand cause → HasFailedCommand o r ⊎ HaveCountedAll (row_of new)
   command-failed t f cause c bad is of = (let b = backed t f cause c bad is in of-command cause b.turn b.backs_it of b.backs_it.stands)
 
-  uncut-command : o.cut ≡ None → HasFailedCommand o r ⊎ HasRefusedEvent → HasFailedCommand o r
+  -- its power was off
+  refused-by : HaveCountedAll (row_of new) → HasRefusedEvent
+  refused-by (p, own, many) = record { port = p; own = own; off = off-among p (full-off p many) }
+
+  none-full : o.cut ≡ None → HaveCountedAll (row_of new) → ⊥
+  none-full no_cut h = none-refused no_cut (refused-by h)
+
+  uncut-command : o.cut ≡ None → HasFailedCommand o r ⊎ HaveCountedAll (row_of new) → HasFailedCommand o r
   uncut-command no_cut (inl h) = h
-  uncut-command no_cut (inr off) = absurd (none-refused no_cut off)
+  uncut-command no_cut (inr full) = absurd (none-full no_cut full)
 
   -- without a cut, a refusal for a drive's cause is for a command that failed
   pub uncut-is-of-command : o.cut ≡ None → (t : Told) (f : Refusal) (cause : Cause) → Contains r.answers.items t → t.answer ≡ Err f → f.cause ≡ Drive cause → IsOfCommand cause × HasFailedCommand o r
@@ -316,10 +320,10 @@ module _ (x : DriveImage) (scripts : List Script) (o : RunOptions) (r : ImageRun
   uncut-is-of-command no_cut t f (FailedHome block status) c bad is = (tt, uncut-command no_cut (command-failed t f (FailedHome block status) c bad is tt))
   uncut-is-of-command no_cut t f (Stopped tx (why.Status status)) c bad is = (tt, uncut-command no_cut (command-failed t f (Stopped tx (why.Status status)) c bad is tt))
 
-  pub are-backed : AreBacked o r
+  pub are-backed : AreBacked o r (row_of new)
   are-backed = record {
     power = λ t cause c by of. powered-by (power-off t by.0 cause c by.1 by.2 of);
-    command = λ t cause c by of. elim (command-failed t by.0 cause c by.1 by.2 of) [ inl failed ↦ inl failed | inr off ↦ inr (powered-by off) ];
+    command = λ t cause c by of. command-failed t by.0 cause c by.1 by.2 of;
   }
 
   -- ---- what the cause says of the history
@@ -339,10 +343,10 @@ module _ (x : DriveImage) (scripts : List Script) (o : RunOptions) (r : ImageRun
     role-of Root p under = (role.Root, tt, subst (λ (p : EmuPort). IsPortOf g role.Root (emu_state p)) (sym under) are-ports.root)
 
     abbrev Holds : Cause → Type 0
-    Holds cause = IsPortCause g r.entries.items reached cause ⊎ IsUntold o r cause
+    Holds cause = IsPortCause g r.entries.items reached cause ⊎ IsUntold (row_of new) cause
 
     full : (cause : Cause) (t : Turn) (b : BacksCause g cause t new) → IsOfCommand cause → 2 ^ 64 - 1 ≤ length (emu_faults b.port) → Holds cause
-    full cause t b is many = inr (is, powered-by (off-of cause t b (full-off b.port many)))
+    full cause t b is many = inr (is, (b.port, under-row new t b.port b.under, many))
 
     of-roots : (cause : Cause) → Contains (charged_of ran.ends.left) (charge_for Root cause) → IsOfRoot (report_of cause)
     of-roots = of-root emu_ghosts emu_state emu_faults (λ p. refl) g old (saved.standing x scripts o r run bytes) scripts (is_none o.cut) end ran
@@ -371,18 +375,22 @@ module _ (x : DriveImage) (scripts : List Script) (o : RunOptions) (r : ImageRun
       | inr stands ↦ inl (stopped-at tx (why.Status status) b.turn b.charged b.backs_it, stands.3)
     ]
 
-    pub are-port-causes : ArePortCauses x o r reached
+    pub are-port-causes : ArePortCauses x r (row_of new) reached
     are-port-causes = record {
       holds = λ t cause c by. port-cause cause (backed t by.0 cause c by.1 by.2);
       undone = λ t tx w c by. (let b = backed t by.0 (Stopped tx w) c by.1 by.2 in stopped-at tx w b.turn b.charged b.backs_it);
     }
 
-    -- without a cut all of it holds
-    pub have-port-causes : o.cut ≡ None → HavePortCauses g r.entries.items reached r.answers.items
-    have-port-causes no_cut t f cause c bad is = elim (port-cause cause (backed t f cause c bad is)) [
+    -- where each port counts its faults all of it holds
+    pub have-port-causes : (HaveCountedAll (row_of new) → ⊥) → HavePortCauses g r.entries.items reached r.answers.items
+    have-port-causes none t f cause c bad is = elim (port-cause cause (backed t f cause c bad is)) [
       | inl holds ↦ holds
-      | inr untold ↦ (let off = untold.1 in absurd (some-cut no_cut off.1))
+      | inr untold ↦ absurd (none untold.1)
     ]
+
+    -- so it does without a cut
+    pub have-uncut : o.cut ≡ None → HavePortCauses g r.entries.items reached r.answers.items
+    have-uncut no_cut = have-port-causes (none-full no_cut)
 
     -- ---- what stopped the run at its end
 
@@ -391,7 +399,7 @@ module _ (x : DriveImage) (scripts : List Script) (o : RunOptions) (r : ImageRun
       where
         told : (cause : Cause) → Holds cause → IsPortCause g r.entries.items reached cause
         told cause (inl holds) = holds
-        told cause (inr untold) = (let off = untold.1 in absurd (some-cut no_cut off.1))
+        told cause (inr untold) = absurd (none-full no_cut untold.1)
 
         by : (cause : Cause) → Holds cause → (last : Last) → IsStop cause last → IsStopOf g r.entries.items reached last
         by Off h last stop = absurd stop

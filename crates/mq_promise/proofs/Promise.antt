@@ -12,11 +12,11 @@ use Rattle.mq_images.specs.declared.ports.Failing.{Failing}
 use Rattle.mq_legal.specs.Answers.{AreCaused}
 use Rattle.mq_legal.specs.Histories.{AreOfBytes}
 use Rattle.mq_script.specs.Scripts.{Script}
-use Rattle.mq_promise.specs.Causes.{ArePortCauses, IsStopOf}
+use Rattle.mq_promise.specs.Causes.{ArePortCauses, HaveCountedAll, IsStopOf, ports_of}
 use Rattle.mq_promise.specs.Images.{KeepsPromise}
 use Rattle.mq_promise.specs.Laws.{HavePortCauses}
 use Rattle.mq_promise.proofs.Caused.{is-caused}
-use Rattle.mq_promise.proofs.PortCauses.{are-backed, are-port-causes, have-port-causes, is-stop}
+use Rattle.mq_promise.proofs.PortCauses.{are-backed, are-port-causes, have-port-causes, have-uncut, is-stop}
 use Rattle.mq_promise.proofs.Ends.{end-of}
 use Rattle.mq_promise.proofs.Saved as saved
 
@@ -39,12 +39,16 @@ module _ (x : DriveImage) (scripts : List Script) (o : RunOptions) (r : ImageRun
       (subst (λ es. AreCaused x.geometry scripts v standing.base es.items reached end.answers.items) entries are))
 
   -- what the causes of ports say of it
-  pub ports-caused : ArePortCauses x o r (saved.is-a-cut x scripts o r run bytes).0
-  ports-caused = (let is = saved.is-a-cut x scripts o r run bytes in are-port-causes x scripts o r run bytes (saved.volume x scripts o r run bytes) is.0 is.1)
+  pub ports-caused : (again : IsRunOf x scripts o r) → ArePortCauses x r (ports_of again) (saved.is-a-cut x scripts o r run bytes).0
+  ports-caused again = (let is = saved.is-a-cut x scripts o r run bytes in are-port-causes x scripts o r again bytes (saved.volume x scripts o r run bytes) is.0 is.1)
 
-  -- so all refusals have their causes without a cut
+  -- so all refusals have their causes where each port counts its faults
+  caused-counted : (again : IsRunOf x scripts o r) → (HaveCountedAll (ports_of again) → ⊥) → AreCaused x.geometry scripts (saved.volume x scripts o r run bytes) r.base r.entries.items (saved.is-a-cut x scripts o r run bytes).0 r.answers.items
+  caused-counted again none = (let is = saved.is-a-cut x scripts o r run bytes in caused (have-port-causes x scripts o r again bytes (saved.volume x scripts o r run bytes) is.0 is.1 none))
+
+  -- and without a cut
   pub caused-uncut : o.cut ≡ None → AreCaused x.geometry scripts (saved.volume x scripts o r run bytes) r.base r.entries.items (saved.is-a-cut x scripts o r run bytes).0 r.answers.items
-  caused-uncut no_cut = (let is = saved.is-a-cut x scripts o r run bytes in caused (have-port-causes x scripts o r run bytes (saved.volume x scripts o r run bytes) is.0 is.1 no_cut))
+  caused-uncut no_cut = (let is = saved.is-a-cut x scripts o r run bytes in caused (have-uncut x scripts o r run bytes (saved.volume x scripts o r run bytes) is.0 is.1 no_cut))
 
   -- what stopped the run at its end
   pub stop-told : IsStopOf x.geometry r.entries.items (saved.is-a-cut x scripts o r run bytes).0 r.last
@@ -63,8 +67,9 @@ module _ (x : DriveImage) (scripts : List Script) (o : RunOptions) (r : ImageRun
     rung = saved.rung x scripts o r run bytes;
     caused = caused;
     uncut = caused-uncut;
+    counted = caused-counted;
     ports = ports-caused;
-    backed = are-backed x scripts o r run bytes;
+    backed = λ again. are-backed x scripts o r again bytes;
     spared = λ none. run.failed ∙ (run.stops.drives.named ∙ ap (λ (f : Option Failing). was_executed f (row_of run.stops.drives.has.end.ports)) none);
     ended = run.ended;
     last = end-of o.cut run.fuse.limit run.stopped.events run.stopped.driven.finished r.last run.power (λ l is. (run.stops.happened l is).1) run.last;

@@ -1,14 +1,17 @@
 -- What refusals for a drive's cause say of the options of a run on an image, and of how it ended.
-use Rattle.std.specs.Prelude.{◌≡◌, ◌⊎◌, ◌<◌, ◌≤◌, ℕ, true, List, Option, None, Some, Err}
+use Rattle.std.specs.Prelude.{◌≡◌, ◌⊎◌, ◌<◌, ◌≤◌, ◌-◌, ◌^◌, ℕ, true, List, length, Option, None, Some, Err}
 use Rattle.std.specs.List.{Contains}
 use Rattle.mq_blocks.specs.Geometry.{homes_of}
 use Rattle.mq_blocks.specs.declared.geometry.Geometry.{Geometry}
 use Rattle.mq_calls.specs.declared.answers.CallCause.TheVariants.{Drive}
 use Rattle.mq_calls.specs.declared.answers.Refusal.{Refusal}
+use Rattle.mq_drive.specs.Emu.{emu_faults}
+use Rattle.mq_drive.specs.declared.emu.EmuPort.{EmuPort}
 use Rattle.mq_image.specs.File.{DriveImage}
 use Rattle.mq_image_run.specs.Runs.{IsRunOf}
 use Rattle.mq_image_run.specs.declared.options.RunOptions.{RunOptions}
 use Rattle.mq_image_run.specs.declared.ran.ImageRun.{ImageRun}
+use Rattle.mq_images.specs.Cuts.{row_of}
 use Rattle.mq_images.specs.Views.{view_of}
 use Rattle.mq_images.specs.declared.ports.Failing.{Failing}
 use Rattle.mq_legal.specs.Answers.{IsPortCause, IsUndone}
@@ -52,28 +55,35 @@ IsPoweredOff o r = (k : ℕ) × (o.cut ≡ Some k) × (r.last ≡ Cut k)
 abbrev pub HasFailedCommand : RunOptions → ImageRun → Type 0
 HasFailedCommand o r = (f : Failing) × (o.fail ≡ Some f) × (r.failed ≡ true)
 
--- So it is of each refusal for a drive's cause: where no power was to go off and no command failed, there is none. A port
--- that has refused as many events as a count of 64 bits can say stands behind any refusal: its power was off.
-pub record AreBacked (o : RunOptions) (r : ImageRun) : Type 0 where
+-- the ports of the drive at the end of a run, before the cut of their power
+abbrev pub ports_of : {x : DriveImage} {scripts : List Script} {o : RunOptions} {r : ImageRun} → IsRunOf x scripts o r → List EmuPort
+ports_of run = row_of run.stops.drives.has.end.ports
+
+-- One of the ports has as many faults as a count of 64 bits can say. It counts none from there on, so it stands behind any
+-- refusal.
+abbrev pub HaveCountedAll : List EmuPort → Type 0
+HaveCountedAll ports = (p : EmuPort) × Contains ports p × (2 ^ 64 - 1 ≤ length (emu_faults p))
+
+-- So it is of each refusal for a drive's cause: where no power was to go off and no command failed, there is none.
+pub record AreBacked (o : RunOptions) (r : ImageRun) (ports : List EmuPort) : Type 0 where
   pub power : (t : Told) (cause : Cause) → Contains r.answers.items t → IsRefusedBy t cause → IsOfPower cause → IsPoweredOff o r
   pub command : (t : Told) (cause : Cause) → Contains r.answers.items t → IsRefusedBy t cause → IsOfCommand cause
-      → HasFailedCommand o r ⊎ IsPoweredOff o r
+      → HasFailedCommand o r ⊎ HaveCountedAll ports
 
 abbrev pub RunsAreBacked : Type 0
-RunsAreBacked = (x : DriveImage) (scripts : List Script) (o : RunOptions) (r : ImageRun) → IsRunOf x scripts o r → AreOfBytes scripts → AreBacked o r
+RunsAreBacked = (x : DriveImage) (scripts : List Script) (o : RunOptions) (r : ImageRun) → (run : IsRunOf x scripts o r) → AreOfBytes scripts → AreBacked o r (ports_of run)
 
 -- ---- the causes of ports
 
--- Of a refusal for a command that failed it is not told more where the power went off, since a port that has refused as
--- many events as a count of 64 bits can say stands behind any refusal.
-abbrev pub IsUntold : RunOptions → ImageRun → Cause → Type 0
-IsUntold o r cause = IsOfCommand cause × IsPoweredOff o r
+-- Of a refusal for a command that failed no more is told where one of the ports counts no more faults.
+abbrev pub IsUntold : List EmuPort → Cause → Type 0
+IsUntold ports cause = IsOfCommand cause × HaveCountedAll ports
 
 -- What each refusal for a port's cause says of the history holds else, with the number that the new image reaches; and a
 -- transaction that had stopped a queue is undone always.
-pub record ArePortCauses (x : DriveImage) (o : RunOptions) (r : ImageRun) (reached : ℕ) : Type 0 where
+pub record ArePortCauses (x : DriveImage) (r : ImageRun) (ports : List EmuPort) (reached : ℕ) : Type 0 where
   pub holds : (t : Told) (cause : Cause) → Contains r.answers.items t → IsRefusedBy t cause
-      → IsPortCause x.geometry r.entries.items reached cause ⊎ IsUntold o r cause
+      → IsPortCause x.geometry r.entries.items reached cause ⊎ IsUntold ports cause
   pub undone : (t : Told) (tx : ℕ) (w : Why) → Contains r.answers.items t → IsRefusedBy t (Stopped tx w)
       → IsUndone x.geometry r.entries.items reached tx
 
@@ -96,7 +106,7 @@ IsEndOf None (Cut e) = ⊥
 abbrev pub PortCausesHold : Type 0
 PortCausesHold =
     (x : DriveImage) (scripts : List Script) (o : RunOptions) (r : ImageRun) (v : Volume) (reached : ℕ)
-    → IsRunOf x scripts o r
+    → (run : IsRunOf x scripts o r)
     → AreOfBytes scripts
     → IsCut x.geometry scripts v r.base r.entries.items r.answers.items (view_of r.image) reached
-    → ArePortCauses x o r reached
+    → ArePortCauses x r (ports_of run) reached

@@ -12,7 +12,7 @@ use Rattle.mq_legal.specs.Answers.{AreAnswered, AreCaused}
 use Rattle.mq_legal.specs.Cuts.{IsClean, IsCut, IsRung, Starts}
 use Rattle.mq_legal.specs.Histories.{AreOfBytes}
 use Rattle.mq_legal.specs.Legal.{IsLegal, newest, volume_at}
-use Rattle.mq_promise.specs.Causes.{AreBacked, ArePortCauses, IsEndOf, IsStopOf}
+use Rattle.mq_promise.specs.Causes.{AreBacked, ArePortCauses, HaveCountedAll, IsEndOf, IsStopOf, ports_of}
 use Rattle.mq_promise.specs.Laws.{HavePortCauses}
 use Rattle.mq_promise.specs.Recovering.{HoldsVolume, LeadsTo}
 use Rattle.mq_report.specs.declared.line.Last.TheVariants.{Clean}
@@ -24,8 +24,8 @@ use Rattle.mq_tree.specs.Volume.{Volume}
 -- that `fsync` has answered, and stands for the volume there. Its file is one of an image, and whatever recovery of what is
 -- read of the file leads to has this volume on its home blocks. Each doorbell has gone on by the entries of its queue's
 -- commits in a prefix of the lines, which has each that was answered well. Each refusal has its cause in the scripts and
--- the history, as far as what the causes of ports say of the history holds: all of it holds without a cut, and with one as
--- far as it is told. A refusal for a drive's cause has it in what was asked of the drive. Without a cut, and where no
+-- the history, as far as what the causes of ports say of the history holds: all of it holds without a cut, and with one
+-- unless a port has as many faults as a count of 64 bits can say. A refusal for a drive's cause has it in what was asked of the drive. Without a cut, and where no
 -- command failed, the run ended clean. With a cut the last line tells how many events happened. Where the run was stopped at its end, the transaction that its last line names is undone,
 -- and the block is one of the drive. Where it ended clean, the number that is told is the last one, and the image is clean.
 pub record KeepsPromise (x : DriveImage) (scripts : List Script) (o : RunOptions) (r : ImageRun) : Type 0 where
@@ -43,8 +43,10 @@ pub record KeepsPromise (x : DriveImage) (scripts : List Script) (o : RunOptions
   pub caused : HavePortCauses x.geometry r.entries.items reached r.answers.items
       → AreCaused x.geometry scripts volume r.base r.entries.items reached r.answers.items
   pub uncut : o.cut ≡ None → AreCaused x.geometry scripts volume r.base r.entries.items reached r.answers.items
-  pub ports : ArePortCauses x o r reached
-  pub backed : AreBacked o r
+  pub counted : (run : IsRunOf x scripts o r) → (HaveCountedAll (ports_of run) → ⊥)
+      → AreCaused x.geometry scripts volume r.base r.entries.items reached r.answers.items
+  pub ports : (run : IsRunOf x scripts o r) → ArePortCauses x r (ports_of run) reached
+  pub backed : (run : IsRunOf x scripts o r) → AreBacked o r (ports_of run)
   pub spared : o.fail ≡ None → r.failed ≡ false
   pub ended : o.cut ≡ None → r.failed ≡ false → (n : ℕ) × (r.last ≡ Clean n)
   pub last : IsEndOf o.cut r.last

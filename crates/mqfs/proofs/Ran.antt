@@ -65,6 +65,7 @@ module _ (image : List ℕ) (names : List (List ℕ)) (options : RunOptions) (fi
     loaded = load;
     read = is;
     scripts_are = loaded;
+    run = of;
     promise = keeps;
     saved = save;
     said = out;

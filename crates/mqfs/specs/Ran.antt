@@ -4,6 +4,7 @@ use Rattle.mq_commands.specs.RunsScripts.{AreLoaded, run_status, run_text}
 use Rattle.mq_ending.specs.Ending.{IsLoaded, IsSaved}
 use Rattle.mq_image.specs.Drives.{IsRead}
 use Rattle.mq_image.specs.File.{DriveImage, image_bytes}
+use Rattle.mq_image_run.specs.Runs.{IsRunOf}
 use Rattle.mq_image_run.specs.declared.ran.ImageRun.{ImageRun}
 use Rattle.mq_outside.specs.Outside.{FilesState, SinkState, appended}
 use Rattle.mq_promise.specs.Images.{KeepsPromise}
@@ -12,7 +13,7 @@ use Rattle.mq_words.specs.declared.command.RunOptions.{RunOptions}
 use Rattle.mqfs.specs.Says.{run_options}
 
 -- The name of the image held a file that is read as an image, and the other names held scripts. A run of these scripts on
--- this image keeps its promise. The name holds the file of the image that it left now, and its report was said. The status
+-- this image was made, and keeps its promise. The name holds the file of the image that it left now, and its report was said. The status
 -- is 5 where the command that was to fail was executed.
 pub record IsRan (image : List ℕ) (names : List (List ℕ)) (options : RunOptions) (result : ℕ) (files new_files : FilesState) (old new : SinkState) : Type 0 where
   pub bytes : List ℕ
@@ -24,6 +25,7 @@ pub record IsRan (image : List ℕ) (names : List (List ℕ)) (options : RunOpti
   pub loaded : IsLoaded image bytes files mid
   pub read : IsRead x bytes
   pub scripts_are : AreLoaded names scripts mid all
+  pub run : IsRunOf x scripts (run_options options) r
   pub promise : KeepsPromise x scripts (run_options options) r
   pub saved : IsSaved image (image_bytes r.image) all new_files
   pub said : new.contents ≡ appended old.contents (run_text r)
