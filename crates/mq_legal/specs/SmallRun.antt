@@ -1,7 +1,7 @@
 -- A run of one group that makes a directory and a file, on an empty file system of two queues, and what might be told of
 -- it.
+use lib.Dec.{lit≤}
 use Rattle.std.specs.Prelude.{ℕ, true, false, List, [], ◌∷◌, None, Some, Ok, Err, codes}
-use Rattle.std.proofs.Common.{lit≤}
 use Rattle.mq_blocks.specs.Geometry.{write_limit}
 use Rattle.mq_blocks.specs.declared.geometry.Geometry.{Geometry}
 use Rattle.mq_calls.specs.Asking.{refusal_at}

@@ -25,9 +25,10 @@ use Rattle.mq_tree.specs.Volume.{Volume}
 -- read of the file leads to has this volume on its home blocks. Each doorbell has gone on by the entries of its queue's
 -- commits in a prefix of the lines, which has each that was answered well. Each refusal has its cause in the scripts and
 -- the history, as far as what the causes of ports say of the history holds: all of it holds without a cut, and with one
--- unless a port has as many faults as a count of 64 bits can say. A refusal for a drive's cause has it in what was asked of the drive. Without a cut, and where no
--- command failed, the run ended clean. With a cut the last line tells how many events happened. Where the run was stopped at its end, the transaction that its last line names is undone,
--- and the block is one of the drive. Where it ended clean, the number that is told is the last one, and the image is clean.
+-- unless a port has as many faults as a count of 64 bits can say. A refusal for a drive's cause has it in what was asked
+-- of the drive. Without a cut, and where no command failed, the run ended clean. With a cut the last line tells how many
+-- events happened. Where the run was stopped at its end, the transaction that its last line names is undone, and the block
+-- is one of the drive. Where it ended clean, the number that is told is the last one, and the image is clean.
 pub record KeepsPromise (x : DriveImage) (scripts : List Script) (o : RunOptions) (r : ImageRun) : Type 0 where
   pub volume : Volume
   pub starts : Starts x.geometry (view_of x) r.base volume

@@ -39,7 +39,7 @@ abbrev pub IsSaid : Words → (files new_files : FilesState) → (old new : Sink
 IsSaid words files new_files old new status = (text : List ℕ) × IsToSay words files new_files status text × (new.contents ≡ appended old.contents text)
 
 -- The file held a block text. What was said is the output of the lines that stand after the cut, and the image that the
--- plug left is saved where a name for it is given.
+-- cut left is saved where a name for it is given.
 abbrev pub IsDone : (file : List ℕ) → BlocksOptions → (save : Option (List ℕ)) → (files new_files : FilesState) → (old new : SinkState) → Type 0
 IsDone file options save files new_files old new =
     (bytes : List ℕ) × (lines : List (List BlockItem)) × (p : ℕ) × (loaded : FilesState)
