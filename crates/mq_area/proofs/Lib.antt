@@ -1,5 +1,5 @@
-pub mod Descriptors
-pub mod Exact
-pub mod Rising
-pub mod Sound
-pub mod Written
+pub mod DescriptorRising
+pub mod DescriptorWritten
+pub mod ReadingDescriptors
+pub mod ReadingExact
+pub mod ReadingSound

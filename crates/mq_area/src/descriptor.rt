@@ -2,21 +2,21 @@
 use mq_blocks::{BlockNo, QueueNo, TxNo};
 use std::marker::Model;
 
-/// The descriptor of a transaction, which stands right behind the copies of its logged blocks in
-/// the journal area of its queue.
+/// The descriptor of a transaction, which stands right after the copies of its logged blocks in the
+/// journal area of its queue.
 #[derive(Drop)]
 pub struct Descriptor {
     pub queue: u32,
     pub number: u64,
     /// Where the descriptor stands, as an absolute count of blocks of its queue's area.
     pub place: u64,
-    /// The place of the descriptor before it of the same queue, or 0.
+    /// The place of the previous descriptor of the same queue, or 0.
     pub prev_place: u64,
     /// The number of that descriptor, or 0.
     pub prev_number: u64,
     /// The home blocks whose copies stand before the descriptor, in rising order.
     pub logged: Vec<BlockNo>,
-    /// The home blocks whose earlier copies count no more, in rising order.
+    /// The home blocks whose earlier copies no longer count, in rising order.
     pub revoked: Vec<BlockNo>,
 }
 
@@ -39,7 +39,7 @@ impl Model for Descriptor {
 /// What is known of the place of a descriptor before it is read.
 #[derive(Clone, Copy, Debug, PartialEq, Eq)]
 pub enum PlaceIs {
-    /// The place is this one, counted round the area.
+    /// The place modulo the area is this one.
     Index(u32),
     /// The place is this one.
     Exact(u64),

@@ -11,7 +11,7 @@ use mq_blocks::bytes::{u32_at, u64_at};
 /// The bytes before the two lists.
 pub const HEADER: usize = 56;
 
-/// "MQFSDSC1", the least byte first.
+/// "MQFSDSC1", little endian.
 const MAGIC: u64 = 0x3143_5344_5346_514d;
 
 /// The fields before the lists, as they stand in a block.
@@ -28,7 +28,7 @@ pub struct Header {
     pub revoked: u32,
 }
 
-/// The header that the bytes of a block show, whatever it says.
+/// The header in the bytes of a block, which is not checked.
 #[tactic(auto, unfolding(crate::specs::Reading::header_of))]
 pub fn read_header(block: &[u8]) -> Header
     requires { HEADER ≤ length block.now }
@@ -83,7 +83,7 @@ pub fn check_header(h: &Header, area: u32, at: &Expect) -> Result<(), Descriptor
     Ok(())
 }
 
-/// Whether a place is the one that is expected, in an area of so many blocks.
+/// Whether a place is the one that is expected, in an area of the given number of blocks.
 fn is_placed(area: u32, expected: PlaceIs, place: u64) -> bool
     requires { 0 < area }
     ensures { IsTrue result ↔ IsPlaced area expected place }
@@ -97,7 +97,7 @@ fn is_placed(area: u32, expected: PlaceIs, place: u64) -> bool
     }
 }
 
-/// Whether the descriptor before it is before it.
+/// Whether the previous descriptor that it names is before it.
 fn follows(h: &Header) -> bool
     ensures { IsTrue result ↔ Follows h.now }
 {

@@ -6,7 +6,7 @@ ghost use Rattle.mq_area.specs.Reading.{StopsAt, GoodRevoked, IsZero, IsListRefu
 use crate::refusal::DescriptorRefusal;
 use mq_blocks::BlockNo;
 
-/// The first entry of a list that is no home block or does not rise.
+/// The first entry of a list that is no home block or is not above the entry before it.
 fn first_unordered(homes: u32, list: &[BlockNo]) -> Option<usize>
     ensures { MatchOption result (AreRising 0 homes list.now) (StopsAt (AreRising 0 homes) list.now) }
 {
@@ -48,8 +48,8 @@ fn is_at(list: &[BlockNo], place: usize, b: u32) -> bool
     found.0 == b
 }
 
-/// The first entry of the revoked blocks that is no home block, does not rise or is logged. The
-/// two lists are gone through side by side, since both rise.
+/// The first entry of the revoked blocks that is no home block, is not above the entry before it,
+/// or is logged. Both lists rise, so one pass over the two is enough.
 fn first_unfit(homes: u32, logged: &[BlockNo], revoked: &[BlockNo]) -> Option<usize>
     requires { AreRising 0 homes logged.now }
     ensures { MatchOption result (GoodRevoked homes logged.now revoked.now)
@@ -70,7 +70,7 @@ fn first_unfit(homes: u32, logged: &[BlockNo], revoked: &[BlockNo]) -> Option<us
     None
 }
 
-/// Tests the two lists entry by entry, and names the first that may not stand there.
+/// Tests the two lists entry by entry, and names the first that is not allowed there.
 pub fn check_lists(
     homes: u32,
     logged: &[BlockNo],

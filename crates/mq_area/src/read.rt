@@ -12,7 +12,7 @@ use mq_blocks::{Block, Geometry};
 use std::alloc::Global;
 
 /// The descriptor that a block holds, where it is the one that is expected. Where it is not, the
-/// refusal names the first test that failed. Memory is taken for the two lists alone.
+/// refusal names the first test that failed. Only the two lists take memory.
 pub fn read_descriptor(
     alloc: Global,
     geometry: Geometry,

@@ -5,18 +5,18 @@ use mq_blocks::OutOfMemory;
 /// found there.
 #[derive(Clone, Copy, Debug, PartialEq, Eq)]
 pub enum DescriptorRefusal {
-    /// The first eight bytes are others.
+    /// The first eight bytes are not the magic number.
     Magic { found: u64 },
     Version { found: u32 },
     Queue { found: u32 },
     Number { found: u64 },
     Place { found: u64 },
-    /// The descriptor before it is not before it.
+    /// The previous descriptor that it names is not before it.
     Previous { place: u64, number: u64 },
-    /// There are too many blocks, or more than places before the descriptor.
+    /// There are too many blocks, or more copies than places before the descriptor.
     Counts { logged: u32, revoked: u32 },
-    /// This entry, counted over both lists, is no home block, does not rise, or is revoked and
-    /// logged.
+    /// This entry, counted over both lists, is no home block, is not above the entry before it, or
+    /// is both revoked and logged.
     List { index: u32, found: u64 },
     /// The byte at this offset, after the lists, is not zero.
     Rest { offset: u32 },

@@ -3,13 +3,13 @@ use Rattle.std.proofs.Common.{◌≡◌, ℕ, ◌≤◌, true, Bool, List, [], �
 use Rattle.mq_ledger.specs.History.{map_after, last, upto, IsAt}
 use Rattle.mq_ledger.specs.KnownJournal.{KnownJournal, LogOk, front}
 use Rattle.mq_ledger.specs.declared.tx.Tx.{Tx}
-use Rattle.mq_ledger.proofs.Values.{last_upto_more}
-use Rattle.mq_core.proofs.Fronts.{part_more}
-use Rattle.mq_core.proofs.Growth.{front_low}
+use Rattle.mq_ledger.proofs.History.{last_upto_more}
+use Rattle.mq_core.proofs.HistoryFronts.{part_more}
+use Rattle.mq_core.proofs.KnownJournalGrowth.{front_low}
 use Rattle.mq_base.specs.Bases.{BaseOk, IsAtHome, WroteDirectly}
 use Rattle.mq_base.specs.Grown.{HasGrown, grown_to}
-use Rattle.mq_core.proofs.Bases.{at_append}
-use Rattle.mq_base.proofs.Newer.{part_longer, upto_older}
+use Rattle.mq_core.proofs.HistoryBases.{at_append}
+use Rattle.mq_base.proofs.HistoryNewer.{part_longer, upto_older}
 
 pub directly_later : (newer h : List Tx) (x n : ℕ) → WroteDirectly h x n → WroteDirectly (newer ++ h) x n
 directly_later newer h x n w = record { tx = w.tx; before = w.before; at = at_append w.tx w.before newer h w.at; number = w.number; among = w.among }

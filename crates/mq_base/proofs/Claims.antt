@@ -4,11 +4,11 @@ use Rattle.std.proofs.lemmas.Bool.{cases_lt, and_from}
 use Rattle.mq_ledger.specs.History.{part_of, all_of, AreNumbered, IsAt}
 use Rattle.mq_ledger.specs.KnownJournal.{KnownJournal, LogOk, front}
 use Rattle.mq_ledger.specs.declared.tx.Tx.{Tx}
-use Rattle.mq_ledger.proofs.Values.{at_most}
-use Rattle.mq_core.proofs.Fronts.{part-all}
+use Rattle.mq_ledger.proofs.History.{at_most}
+use Rattle.mq_core.proofs.HistoryFronts.{part-all}
 use Rattle.mq_base.specs.Claims.{IsDoneTo, AreDoneTo}
 use Rattle.mq_base.specs.Grown.{HasGrown, grown_to}
-use Rattle.mq_base.proofs.Newer.{part_longer, at_older}
+use Rattle.mq_base.proofs.HistoryNewer.{part_longer, at_older}
 
 all_from : (w : Tx → List Tx → Bool) (h : List Tx) → ((t : Tx) (ts : List Tx) → IsAt t ts h → w t ts ≡ true) → all_of w h ≡ true
 all_from w [] each = refl

@@ -1,7 +1,7 @@
-pub mod Newer
+pub mod HistoryNewer
 pub mod Bases
-pub mod Openings
+pub mod BasesOpenings
 pub mod Pages
 pub mod Claims
-pub mod Roots
-pub mod HomeWrites
+pub mod BasesRoots
+pub mod PagesHomeWrites

@@ -7,7 +7,7 @@ use Rattle.mq_blocks.specs.Machine.{Map, write_of, or_kept, after}
 use Rattle.mq_ledger.specs.History.{changes, map_after, last, last_logged, upto}
 use Rattle.mq_ledger.specs.KnownJournal.{KnownJournal, LogOk, front}
 use Rattle.mq_ledger.specs.declared.tx.Tx.{Tx}
-use Rattle.mq_ledger.proofs.Values.{last-changed, last-same, last_le, last_at, last_settled, value_settled, unchanged, among_written, write_of-append, changes_direct, changes_logged}
+use Rattle.mq_ledger.proofs.History.{last-changed, last-same, last_le, last_at, last_settled, value_settled, unchanged, among_written, write_of-append, changes_direct, changes_logged}
 use Rattle.mq_base.specs.Bases.{BaseOk, AreAtHome, IsAtHome, WroteDirectly}
 use Rattle.mq_base.specs.Grown.{HasGrown}
 use Rattle.mq_base.specs.Pages.{is_ended, last_ended, last_direct, due_by, home_number, IsNumbered, IsBrought, AreBrought}

@@ -11,7 +11,7 @@ use Rattle.mq_core.specs.Events.{begin_home, end_home}
 use Rattle.mq_base.specs.Bases.{AreAtHome, BaseOk, RootStands}
 use Rattle.mq_base.specs.Claims.{AreDoneTo, IsDoneTo}
 use Rattle.mq_base.specs.Grown.{HasGrown}
-use Rattle.mq_base.specs.Pages.{AreBrought, IsBrought, IsNumbered, IsToBring, due_by, home_number, told}
+use Rattle.mq_base.specs.Pages.{AreBrought, IsBrought, IsNumbered, IsToBring, due_by, home_number, known_after}
 
 -- ---- what is known grows
 
@@ -189,7 +189,7 @@ RootHomeWritesBegin =
     → RootOk k p
     → RootOk k (begin_home k.geometry x block p)
 
--- it ends, and is not yet told: the block is at home with its bytes
+-- it ends, and this is not yet known: the block is at home with its bytes
 abbrev pub HomeWritesEnd : Type 0
 HomeWritesEnd =
     (k : KnownJournal) (ended : List (ℕ × ℕ)) (x version logged home : ℕ) (block : List ℕ)
@@ -212,13 +212,13 @@ RootHomeWritesEnd =
     → RootOk k (end_home k.geometry x block p)
     × Certainly (end_home k.geometry x block p) (home_index k.geometry x) block
 
--- It is told, where its bytes were the page's content: the history, its port, and each other port.
+-- It becomes known, where its bytes were the page's content: the history, its port, and each other port.
 abbrev pub ToldLogsHold : Type 0
 ToldLogsHold =
     (k : KnownJournal) (ended : List (ℕ × ℕ)) (x version logged home : ℕ)
     → LogOk k
     → IsToBring k ended x version logged home
-    → LogOk (told k ended x version) × HasGrown k (told k ended x version)
+    → LogOk (known_after k ended x version) × HasGrown k (known_after k ended x version)
 
 abbrev pub ToldSidesHold : Type 0
 ToldSidesHold =
@@ -229,7 +229,7 @@ ToldSidesHold =
     → map_after k.start k.history x ≡ Some block
     → zone_of k.geometry x ≡ Some q
     → SideOk k q txs p
-    → SideOk (told k ended x version) q txs (end_home k.geometry x block p)
+    → SideOk (known_after k ended x version) q txs (end_home k.geometry x block p)
 
 abbrev pub ToldRootsHold : Type 0
 ToldRootsHold =
@@ -240,7 +240,7 @@ ToldRootsHold =
     → zone_of k.geometry x ≡ None
     → x < homes_of k.geometry
     → RootOk k p
-    → RootOk (told k ended x version) (end_home k.geometry x block p)
+    → RootOk (known_after k ended x version) (end_home k.geometry x block p)
 
 abbrev pub OtherSidesHold : Type 0
 OtherSidesHold =
@@ -249,7 +249,7 @@ OtherSidesHold =
     → IsToBring k ended x version logged home
     → zone_of k.geometry x ≢ Some q
     → SideOk k q txs p
-    → SideOk (told k ended x version) q txs p
+    → SideOk (known_after k ended x version) q txs p
 
 abbrev pub OtherRootsHold : Type 0
 OtherRootsHold =
@@ -258,15 +258,15 @@ OtherRootsHold =
     → IsToBring k ended x version logged home
     → zone_of k.geometry x ≢ None
     → RootOk k p
-    → RootOk (told k ended x version) p
+    → RootOk (known_after k ended x version) p
 
 -- and the page, whose third number is its version now
 abbrev pub ToldPagesAreNumbered : Type 0
 ToldPagesAreNumbered =
     (k : KnownJournal) (ended : List (ℕ × ℕ)) (x version logged home : ℕ)
     → IsToBring k ended x version logged home
-    → (home_number (told k ended x version) ((x, version) ∷ ended) x ≡ version)
-    × IsNumbered (told k ended x version) x version logged version
+    → (home_number (known_after k ended x version) ((x, version) ∷ ended) x ≡ version)
+    × IsNumbered (known_after k ended x version) x version logged version
 
 -- ---- the root
 

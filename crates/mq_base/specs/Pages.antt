@@ -80,5 +80,5 @@ pub record IsToBring (k : KnownJournal) (ended : List (ℕ × ℕ)) (x version l
   pub done : version ≤ front k
 
 -- it is known besides that a home write of the block ended, with the content of the number
-abbrev pub told : KnownJournal → List (ℕ × ℕ) → ℕ → ℕ → KnownJournal
-told k ended x version = record k { due = due_by k.base ((x, version) ∷ ended) }
+abbrev pub known_after : KnownJournal → List (ℕ × ℕ) → ℕ → ℕ → KnownJournal
+known_after k ended x version = record k { due = due_by k.base ((x, version) ∷ ended) }

@@ -19,16 +19,16 @@ pub fn a_base_stays()
     ensures on { GrowthGoesOn }
 {}
 
-/// A number from the first base up to the front, whose whole map is kept at home, is a base. So is the
-/// base at an opening, and the greater one of two bases.
+/// A number from the first base up to the front, whose whole map is kept at home, is a base. So are the
+/// base at an opening and the greater of two bases.
 pub fn a_kept_map_is_a_base()
     ensures kept { KeptMapsAreBases }
     ensures first { FirstBasesAreBases }
     ensures greater { GreaterBasesAreBases }
 {}
 
-/// A number up to the front becomes a base page by page, by rising blocks, while others draw, settle
-/// and write home.
+/// A number up to the front becomes a base page by page, in rising order of blocks, while others draw,
+/// settle and write home.
 pub fn pages_make_a_base()
     ensures begin { PagesBegin }
     ensures next { PagesGoOn }
@@ -55,7 +55,7 @@ pub fn done_queues_reach_the_front()
 {}
 
 /// The numbers of a page's cell - the last change of its block, the last that logged it, and the last
-/// whose content came home - are what a base asks of a page.
+/// whose content came home - are what the definition of a base needs of a page.
 pub fn a_cell_is_numbered()
     ensures { CellsAreNumbered }
 {}
@@ -67,9 +67,9 @@ pub fn a_waiting_page_was_logged_last()
     ensures above { WaitingPagesAreAboveBases }
 {}
 
-/// A home write of a waiting page leaves its port as it has to be, of a queue and of the root: once it
-/// has begun, also where it then fails or is cut off; and once it has ended, when the block is certainly
-/// at home with the bytes that were written.
+/// A home write of a waiting page keeps the invariant of its port, of a queue as of the root: once it
+/// has begun, even if it then fails or is cut off; and once it has ended, when the block certainly holds
+/// at home the bytes that were written.
 pub fn a_home_write_keeps_its_port()
     ensures begin { HomeWritesBegin }
     ensures begin_root { RootHomeWritesBegin }
@@ -78,7 +78,7 @@ pub fn a_home_write_keeps_its_port()
 {}
 
 /// Once it is known that a page's content was written home, the history, the page, its port and each
-/// other port are as they have to be.
+/// other port keep their invariants.
 pub fn a_home_write_is_told()
     ensures log { ToldLogsHold }
     ensures side { ToldSidesHold }

@@ -1,8 +1,16 @@
-pub mod Addresses
-pub mod Among
-pub mod Counts
-mod Examples
-pub mod Readings
+pub mod GeometryAddresses
+pub mod JournalAmong
+pub mod DriveCounts
+mod JournalExamples
+pub mod Options
+pub mod WindowsReadings
 pub mod Totals
 pub mod Windows
-pub mod Written
+pub mod WindowsWritten
+pub mod DriveBegun
+pub mod DriveQuiescent
+pub mod DriveRemainders
+pub mod DescriptorRising
+pub mod DriveSaturation
+pub mod BlocksZeros
+pub mod GeometryZones

@@ -7,7 +7,7 @@ use Rattle.byteorder.specs.Endian.{little_number}
 use Rattle.byteorder.specs.Numbers.{little_number-reads_back, little_from-take, length-bytes_low_first}
 use Rattle.mq_blocks.specs.Descriptor.{list_bytes}
 use Rattle.mq_blocks.specs.Windows.{window, written, number_at, numbers, Shows}
-use Rattle.mq_blocks.proofs.Readings.{window-add, number_at-drop}
+use Rattle.mq_blocks.proofs.WindowsReadings.{window-add, number_at-drop}
 
 -- ---- parts
 

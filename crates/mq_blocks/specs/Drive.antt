@@ -19,8 +19,8 @@ depth = 1024
 abbrev pub usable_depth : ℕ
 usable_depth = 1023
 
--- which event fuse it is: after how many events the power goes off, where that is told, and the numbers
--- that tell the fuse from all others
+-- which event fuse it is: the number of events after which the power goes off, if one is given, and the
+-- numbers that distinguish the fuse from all others
 pub record FuseName : Type 0 where
   pub limit : Option ℕ
   pub table : List ℕ
@@ -63,8 +63,8 @@ pub record PortState : Type 0 where
   pub rings : ℕ
   pub begins : ℕ
   pub events : ℕ
-  -- what no call changes: the fuse of its power, and which of its commands and home writes ends with
-  -- an error, counted from 1, where that is told
+  -- what no call changes: the fuse of its power, and which of its commands and home writes ends with an
+  -- error, counted from 1, if one is given
   pub fuse : FuseName
   pub fail : Option ℕ
 

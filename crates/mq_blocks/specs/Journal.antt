@@ -9,8 +9,8 @@ use Rattle.mq_blocks.specs.declared.geometry.Geometry.{Geometry}
 
 -- what a write entry says: its transaction's number, the Lba that it writes, and whether it is the
 -- transaction's last
-abbrev pub Says : Type 0
-Says = ℕ × ℕ × Bool
+abbrev pub WriteFields : Type 0
+WriteFields = ℕ × ℕ × Bool
 
 -- an image as recovery sees it: words, entries by queue and slot, area blocks by queue and index,
 -- home blocks
@@ -18,7 +18,7 @@ pub record Shown : Type 0 where
   pub base : ℕ
   pub head : ℕ → ℕ
   pub doorbell : ℕ → ℕ
-  pub entry : ℕ → ℕ → Option Says
+  pub entry : ℕ → ℕ → Option WriteFields
   pub area : ℕ → ℕ → List ℕ
   pub home : ℕ → List ℕ
 
@@ -33,7 +33,7 @@ home_block g queues root b None = block_at root.blocks b
 home_block g queues root b (Some q) = block_at (image_at queues q).blocks (g.area + (b - (g.meta + q * g.zone)))
 
 -- the images of all ports together, where `says` reads an entry
-abbrev pub shown : (List ℕ → Option Says) → Geometry → List PortImage → PortImage → Shown
+abbrev pub shown : (List ℕ → Option WriteFields) → Geometry → List PortImage → PortImage → Shown
 shown says g queues root = record {
   base = root.base;
   head = λ q. (image_at queues q).head;
@@ -87,7 +87,7 @@ pub record IsQueueChain (g : Geometry) (i : Shown) (q : ℕ) (ds : List Descript
   pub chain : IsChain g i q number place ds
   pub reach : AreInReach g place ds
   -- the entries from head to doorbell are readable, and the last is a commit request
-  pub rung : (c : ℕ) → i.head q ≤ c → c < i.doorbell q → (s : Says) × (i.entry q (c % depth) ≡ Some s) × (s.0 ≤ number_limit)
+  pub rung : (c : ℕ) → i.head q ≤ c → c < i.doorbell q → (s : WriteFields) × (i.entry q (c % depth) ≡ Some s) × (s.0 ≤ number_limit)
   pub rung_whole : i.head q < i.doorbell q → (n : ℕ) × (l : ℕ) × IsCommit i q (i.doorbell q - 1) n l
 
 abbrev pub Has : List Descriptor → Descriptor → Type 0
@@ -145,7 +145,7 @@ pub record Reaches (g : Geometry) (i : Shown) (ds : List Descriptor) : Type 0 wh
 -- head to doorbell
 pub record ShowsNumber (g : Geometry) (i : Shown) (chains : ℕ → List Descriptor) (n : ℕ) : Type 0 where
   pub where_from : (n ≡ i.base) ⊎ (((q : ℕ) × (d : Descriptor) × (q < g.queues) × Has (chains q) d × (d.number ≡ n))
-      ⊎ ((q : ℕ) × (c : ℕ) × (s : Says) × (q < g.queues) × (i.head q ≤ c) × (c < i.doorbell q) × (i.entry q (c % depth) ≡ Some s) × (s.0 ≡ n)))
+      ⊎ ((q : ℕ) × (c : ℕ) × (s : WriteFields) × (q < g.queues) × (i.head q ≤ c) × (c < i.doorbell q) × (i.entry q (c % depth) ≡ Some s) × (s.0 ≡ n)))
 
 -- the greatest number that a readable image shows
 pub record IsTop (g : Geometry) (i : Shown) (chains : ℕ → List Descriptor) (top : ℕ) : Type 0 where

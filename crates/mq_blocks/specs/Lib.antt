@@ -7,3 +7,4 @@ pub mod Machine
 pub mod Ports
 pub mod Totals
 pub mod Windows
+pub mod Copies

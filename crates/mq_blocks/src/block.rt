@@ -7,7 +7,7 @@ ghost use Rattle.mq_blocks.specs.contracts.block.Block.{the_row};
 use std::alloc::{AllocError, AllocFailed, Global};
 use std::marker::Model;
 
-/// Memory that a call needed was not to be had.
+/// Memory that a call needed could not be allocated.
 #[derive(Clone, Copy, Debug, PartialEq, Eq, Hash)]
 pub struct OutOfMemory;
 
@@ -71,14 +71,14 @@ impl Block {
         &mut self.bytes
     }
 
-    /// Takes over the bytes of another block.
+    /// Copies the bytes of another block into this one.
     pub fn copy_from(&mut self, other: &Block)
         ensures { self.new ≡ other.now }
     {
         *self.bytes = *other.bytes;
     }
 
-    /// Makes all bytes zero.
+    /// Sets every byte to zero.
     #[tactic(auto, unfolding(crate::specs::Blocks::zeros))]
     pub fn clear(&mut self)
         ensures { self.new ≡ zeros }
@@ -86,7 +86,7 @@ impl Block {
         *self.bytes = [0; 4096];
     }
 
-    /// Makes all bytes this one.
+    /// Sets every byte to this value.
     #[tactic(auto, unfolding(crate::specs::Blocks::filled))]
     pub fn fill(&mut self, byte: u8)
         ensures { self.new ≡ filled byte }

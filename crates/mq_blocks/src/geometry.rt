@@ -20,7 +20,7 @@ pub struct Geometry {
     ghost homes_high: { meta + queues * zone ≤ 32768 },
 }
 
-/// Why four numbers are no geometry.
+/// Why four numbers are not a geometry: the first that is out of its range.
 #[derive(Clone, Copy, Debug, PartialEq, Eq)]
 pub enum GeometryRefusal {
     Queues { found: u32 },
@@ -68,42 +68,42 @@ impl Geometry {
         self.queues
     }
 
-    /// The blocks of one queue's journal area.
+    /// The number of blocks of one queue's journal area.
     pub fn area(&self) -> u32
         ensures { result ≡ area_of self.now }
     {
         self.area
     }
 
-    /// The blocks of the metadata region, which are the first home blocks.
+    /// The number of blocks of the metadata region, which are the first home blocks.
     pub fn meta(&self) -> u32
         ensures { result ≡ meta_of self.now }
     {
         self.meta
     }
 
-    /// The home blocks of one queue's zone.
+    /// The number of home blocks of one queue's zone.
     pub fn zone(&self) -> u32
         ensures { result ≡ zone_size self.now }
     {
         self.zone
     }
 
-    /// The most blocks that one transaction writes.
+    /// The most blocks that one transaction may write.
     pub fn write_limit(&self) -> u32
         ensures { result ≡ write_limit self.now }
     {
         1000
     }
 
-    /// All home blocks.
+    /// The number of home blocks.
     pub fn homes(&self) -> u32
         ensures { result ≡ homes_of self.now }
     {
         self.meta + self.queues * self.zone
     }
 
-    /// Where a home block lies.
+    /// The address of a home block in the namespace.
     pub fn home(&self, b: BlockNo) -> Lba
         requires { b < homes_of self.now }
         ensures { result ≡ home_lba self.now b }
@@ -122,8 +122,8 @@ impl Geometry {
         Some(QueueNo((b.0 - self.meta) / self.zone))
     }
 
-    /// Where a place of a queue's journal area lies. Places are absolute counts of blocks, and go
-    /// round the area.
+    /// The address of a place of a queue's journal area. Places are absolute counts of blocks,
+    /// which wrap around the area.
     pub fn area_lba(&self, q: QueueNo, place: u64) -> Lba
         requires { q < queues_of self.now }
         ensures { result ≡ area_lba self.now q place }

@@ -1,7 +1,7 @@
 // The numbers by which blocks, queues and transactions go.
 use std::marker::Model;
 
-/// A home block: a block of the file system's own range, counted from 0.
+/// The number of a home block, which is a block of the file system's own range, counted from 0.
 #[derive(Clone, Copy, Debug, PartialEq, Eq, Hash, PartialOrd, Ord)]
 pub struct BlockNo(pub u32);
 
@@ -17,7 +17,7 @@ impl Model for BlockNo {
     ghost inverse = { λ n. record { 0 = n } };
 }
 
-/// A logical block of namespace 1, which has 4,096 bytes.
+/// The address of a logical block of namespace 1, which has 4,096 bytes.
 #[derive(Clone, Copy, Debug, PartialEq, Eq, Hash, PartialOrd, Ord)]
 pub struct Lba(pub u32);
 
@@ -33,7 +33,7 @@ impl Model for Lba {
     ghost inverse = { λ n. record { 0 = n } };
 }
 
-/// A queue, counted from 0.
+/// The number of a queue, counted from 0.
 #[derive(Clone, Copy, Debug, PartialEq, Eq, Hash, PartialOrd, Ord)]
 pub struct QueueNo(pub u32);
 

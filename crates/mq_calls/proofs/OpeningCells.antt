@@ -13,7 +13,7 @@ use Rattle.mq_layout.specs.Places.{zone_bitmap}
 use Rattle.mq_layout.proofs.EmptyLaws.{zeros-bit}
 use Rattle.mq_pages.specs.declared.page.PageCell.{PageCell}
 use Rattle.mq_tree.specs.Laid.{is_marked, map_of}
-use Rattle.mq_tree.proofs.Maps.{zone-low}
+use Rattle.mq_tree.proofs.LaidMaps.{zone-low}
 use Rattle.mq_calls.specs.Opening.{first_cell, first_cells}
 
 abbrev Stored : Type 0

@@ -1,9 +1,8 @@
 -- A desk that is opened over ports on which nothing has happened yet is fresh.
-use Rattle.std.proofs.Common.{◌≡◌, ℕ, ◌+◌, ◌<◌, Bool, cond, List, [], ◌∷◌, length, get_or, map, refl, sym, ap, subst, ◌∙◌, inl, inr, arith}
+use Rattle.std.proofs.Common.{◌≡◌, ℕ, ◌+◌, ◌<◌, List, [], ◌∷◌, length, get_or, map, refl, sym, ap, subst, ◌∙◌, inl, inr, arith}
 use Rattle.std.specs.Prelude.{Option, Some, None, slice_get}
 use Rattle.std.specs.List.{All}
 use Rattle.std.specs.Option.{option_map}
-use Rattle.std.proofs.lemmas.Bool.{eq-eqb}
 use Rattle.std.proofs.lemmas.List.{length-map}
 use Rattle.std.proofs.lemmas.List.FromFn.{length-map-range_with_len}
 use Rattle.std.proofs.lemmas.Option.{get_or_from_slice_get, slice_get-map, slice_get_within}
@@ -13,7 +12,7 @@ use Rattle.mq_blocks.specs.Geometry.{homes_of, queues_of}
 use Rattle.mq_blocks.specs.Machine.{Map}
 use Rattle.mq_blocks.specs.declared.geometry.Geometry.{Geometry}
 use Rattle.mq_drive.specs.Faults.{count_of}
-use Rattle.mq_drive.specs.Steps.{Fault}
+use Rattle.mq_drive.specs.Steps.{PortFault}
 use Rattle.mq_drive.specs.declared.port.Port.{Ghosts}
 use Rattle.mq_drive.specs.declared.port.Ports.{Ports}
 use Rattle.mq_files.specs.Group.{CarriesVolume, file_group}
@@ -31,15 +30,15 @@ use Rattle.mq_recover.specs.Recovery.{IsStartDrive}
 use Rattle.mq_recover.specs.declared.standing.Standing.{Standing}
 use Rattle.mq_rules.specs.Rule as rule
 use Rattle.mq_rules.proofs.Opening.{at_map}
-use Rattle.mq_side.proofs.Completes.{bound_now}
-use Rattle.mq_side.specs.Counts.{unless_same}
+use Rattle.mq_side.proofs.DrainedCompletes.{bound_now}
 use Rattle.mq_side.specs.Side.{AreRungsOf, IsKept}
 use Rattle.mq_side.specs.Stored.{rows_of}
 use Rattle.mq_side.specs.Told.{IsTold}
 use Rattle.mq_side.specs.declared.answers.Why.{Why}
 use Rattle.mq_side.specs.declared.side.QueueSide.{QueueSide}
+use Rattle.mq_side.proofs.Counts.{same-none}
 use Rattle.mq_tree.specs.Laid.{map_of}
-use Rattle.mq_tree.proofs.Maps.{mapped}
+use Rattle.mq_tree.proofs.LaidMaps.{mapped}
 use Rattle.mq_turns.specs.Desk.{fresh}
 use Rattle.mq_calls.specs.Opening.{IsEquipped, IsNewSession, IsNewSide, IsOpenedOver, IsUncalled, MayOpen, first_cells, stored_map}
 use Rattle.mq_calls.specs.Runs.{file_values, geometry_at}
@@ -48,11 +47,8 @@ use Rattle.mq_calls.proofs.OpeningState.{count-is, first-contents, first-numbers
 
 -- ---- the record of a new side
 
-none-waits : (a b n : ℕ) → a ≡ b → unless_same a b n ≡ 0
-none-waits a b n e = ap (λ (c : Bool). cond c 0 n) (eq-eqb a b e)
-
-module _ {P E : Type 0} {G : Ghosts P} (state : P → PortState) (faults : P → List Fault) where
-  new-says : (g : Geometry) (q from word : ℕ) (port : PortState) (first : List Fault) (s : QueueSide P E G)
+module _ {P E : Type 0} {G : Ghosts P} (state : P → PortState) (faults : P → List PortFault) where
+  new-says : (g : Geometry) (q from word : ℕ) (port : PortState) (first : List PortFault) (s : QueueSide P E G)
       → from ≡ (state s.pmr.port).doorbell → port ≡ state s.pmr.port → first ≡ faults s.pmr.port → IsNewSide state g q s
       → Says state faults (record { geometry = g; queue = q; start = from; opened = port; first = first; word = word; txs = []; reports = [] }) s
   new-says g q from word port first s bell same told n =
@@ -63,8 +59,8 @@ module _ {P E : Type 0} {G : Ghosts P} (state : P → PortState) (faults : P →
       let pending = ap length idle.pending in
       let posted = ap length idle.posted in
       let rung = ap length n.rung in
-      let bell_waits = none-waits (state s.pmr.port).doorbell (from + 0) 4 bell_end in
-      let head_waits = none-waits (state s.pmr.port).head s.pmr.done.end 2 (idle.head ∙ sym end) in
+      let bell_waits = same-none (state s.pmr.port).doorbell (from + 0) 4 bell_end in
+      let head_waits = same-none (state s.pmr.port).head s.pmr.done.end 2 (idle.head ∙ sym end) in
       let events = ap (λ (p : PortState). p.events) same in
       record {
         is = record {
@@ -111,7 +107,7 @@ first-shape : {P E : Type 0} {G : Ghosts P} (state : P → PortState) (g least :
 first-shape state g least [] new some = absurd (omega arith)
 first-shape state g least (s ∷ ss) new some = (new 0 s refl).geometry
 
-module _ {P : Type 0} {G : Ghosts P} (state : P → PortState) (faults : P → List Fault) where
+module _ {P : Type 0} {G : Ghosts P} (state : P → PortState) (faults : P → List PortFault) where
   pub opened-over : (g : Geometry) (ports : Ports P) (s : Standing) (o : Start P FileEntry G)
       → MayOpen g (drive_of state ports) s
       → o.pages ≡ first_cells g s.blocks.items s.base → o.base ≡ s.base → map (λ q. q.pmr.port) o.sides ≡ ports.queues.items → o.root.port ≡ ports.root

@@ -14,7 +14,7 @@ use Rattle.mq_ledger.specs.Written.{journal_entries}
 use Rattle.mq_pages.specs.declared.page.PageCell.{PageCell}
 use Rattle.mq_recover.specs.Drives.{DriveState}
 use Rattle.mq_recover.specs.Recovery.{started}
-use Rattle.mq_rules.specs.Groups.{Group}
+use Rattle.mq_rules.specs.Groups.{GroupView}
 use Rattle.mq_rules.specs.Opening.{state_of}
 use Rattle.mq_rules.specs.Rule.{shape_of}
 use Rattle.mq_rules.specs.Values.{Values}
@@ -107,7 +107,7 @@ idle-each g state ports root start at q p e =
 
 -- ---- the state
 
-module _ {Q R E : Type 0} (values : Values Q R E) (group : Group E) where
+module _ {Q R E : Type 0} (values : Values Q R E) (group : GroupView E) where
   pub state-is : (g : Geometry) (d : DriveState) (start : List (Option (List ℕ))) (o : Opening PageCell Q R)
       → shape_of values group o ≡ g → map (λ c. c.content) o.pages ≡ start → o.base ≡ d.root.base → map values.port o.sides ≡ d.queues → values.root o.root ≡ d.root → length d.queues ≡ g.queues
       → state_of values group o ≡ started g d start

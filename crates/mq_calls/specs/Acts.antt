@@ -7,7 +7,7 @@ use Rattle.mq_checkpoint.specs.Raised.{HasRefused, Raises}
 use Rattle.mq_checkpoint.specs.Steps.{IsKnownFrom}
 use Rattle.mq_checkpoint.specs.declared.refusal.CheckpointRefusal.{CheckpointRefusal}
 use Rattle.mq_checkpoint.specs.declared.refusal.CheckpointRefusal.TheVariants as checkpoint
-use Rattle.mq_drive.specs.Steps.{Fault}
+use Rattle.mq_drive.specs.Steps.{PortFault}
 use Rattle.mq_drive.specs.declared.port.Port.{Ghosts}
 use Rattle.mq_exec.specs.declared.outcome.Done.{Done}
 use Rattle.mq_files.specs.Entries.{Changes, freed_by, written_by}
@@ -36,7 +36,7 @@ use Rattle.mq_side.specs.declared.side.QueueSide.{QueueSide}
 use Rattle.mq_tree.specs.declared.request.Reply.{Reply}
 use Rattle.mq_tree.specs.declared.request.Request.{Request}
 use Rattle.mq_turns.specs.Meaning.{newest}
-use Rattle.mq_turns.specs.declared.rule.Answer.TheVariants.{Base, Front}
+use Rattle.mq_turns.specs.declared.rule.MarkAnswer.TheVariants.{Base, Front}
 use Rattle.mq_turns.specs.declared.rule.Report.{Report}
 use Rattle.mq_turns.specs.declared.rule.Report.TheVariants as report
 use Rattle.mq_calls.specs.Runs.{file_values}
@@ -81,7 +81,7 @@ module _ {P : Type 0} {G : Ghosts P} where
 
   -- The session read its group's entry at this number, the newest at that moment and not below any that it had seen.
   -- Nothing was reported.
-  pub record Reads (c : Call) (replies : List Reply) (at : ℕ) (e : FileEntry) (old new : Seat P FileEntry G) : Type 0 where
+  pub record ReadsGroup (c : Call) (replies : List Reply) (at : ℕ) (e : FileEntry) (old new : Seat P FileEntry G) : Type 0 where
     pub is : IsOfCall c replies e
     pub known : Shared P FileEntry G
     pub number : newest known ≡ at
@@ -94,7 +94,7 @@ module _ {P : Type 0} {G : Ghosts P} where
   -- It read a group that neither writes nor frees.
   pub record ReadsOnly (c : Call) (replies : List Reply) (at : ℕ) (old new : Seat P FileEntry G) : Type 0 where
     pub entry : FileEntry
-    pub reads : Reads c replies at entry old new
+    pub reads : ReadsGroup c replies at entry old new
     pub writes : written_by entry ≡ []
     pub frees : freed_by entry ≡ []
 
@@ -127,12 +127,12 @@ module _ {P : Type 0} {G : Ghosts P} where
     pub replies : List Reply
     pub at : ℕ
     pub entry : FileEntry
-    pub reads : Reads c replies at entry old new
+    pub reads : ReadsGroup c replies at entry old new
     pub limit_is : limit ≡ write_limit g
     pub count_is : count ≡ length (written_by entry)
     pub above : limit < count
 
-module _ {P : Type 0} {G : Ghosts P} (state : P → PortState) (faults : P → List Fault) where
+module _ {P : Type 0} {G : Ghosts P} (state : P → PortState) (faults : P → List PortFault) where
   -- By what was known since then, a side that the session held is what lies there; it had kept the failure that is named,
   -- or its drain came to this refusal.
   pub data IsCaused (v : Seat P FileEntry G) (q : ℕ) : Cause → Type 0 where

@@ -3,7 +3,7 @@ use Rattle.std.specs.Prelude.{◌≡◌, ◌<◌, ◌≤◌, ℕ, Bool, List, []
 use Rattle.mq_blocks.specs.Drive.{PortState}
 use Rattle.mq_blocks.specs.Geometry.{queues_of}
 use Rattle.mq_blocks.specs.declared.geometry.Geometry.{Geometry}
-use Rattle.mq_drive.specs.Steps.{Fault}
+use Rattle.mq_drive.specs.Steps.{PortFault}
 use Rattle.mq_drive.specs.declared.port.Port.{Ghosts}
 use Rattle.mq_exec.specs.declared.outcome.Done.{Done}
 use Rattle.mq_files.specs.Plans.{IsEntryOf}
@@ -38,7 +38,7 @@ module _ {P : Type 0} {G : Ghosts P} where
     pub called : HasCalled a.calls v
 
   -- It holds the pages on which the call's group is done, and no other turn.
-  pub record IsHolding (state : P → PortState) (faults : P → List Fault) (o : Start P FileEntry G) (g : Geometry) (a : Asked) (cells : HeldCells) (v : Seat P FileEntry G) (done : Done) : Type 0 where
+  pub record IsHolding (state : P → PortState) (faults : P → List PortFault) (o : Start P FileEntry G) (g : Geometry) (a : Asked) (cells : HeldCells) (v : Seat P FileEntry G) (done : Done) : Type 0 where
     pub asks : IsAsking g a v
     pub pages : HoldsOnlyPages (files state faults) o cells.cells v
     pub seen : IsSeen (files state faults) v

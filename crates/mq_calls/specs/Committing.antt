@@ -4,7 +4,7 @@ use Rattle.std.specs.Prelude.{◌≡◌, ◌<◌, ◌≤◌, ◌+◌, ℕ, List,
 use Rattle.mq_blocks.specs.Drive.{PortState}
 use Rattle.mq_blocks.specs.Geometry.{area_of}
 use Rattle.mq_blocks.specs.declared.geometry.Geometry.{Geometry}
-use Rattle.mq_drive.specs.Steps.{Fault}
+use Rattle.mq_drive.specs.Steps.{PortFault}
 use Rattle.mq_drive.specs.declared.port.Port.{Ghosts}
 use Rattle.mq_exec.specs.declared.outcome.Done.{Done}
 use Rattle.mq_files.specs.Entries.{tx_of}
@@ -26,7 +26,7 @@ use Rattle.mq_side.specs.declared.answers.Fit.TheVariants.{Area}
 use Rattle.mq_side.specs.declared.side.QueueSide.{QueueSide}
 use Rattle.mq_turns.specs.Desk.{Follows, slot_of}
 use Rattle.mq_turns.specs.Lists.{tick, times}
-use Rattle.mq_turns.specs.declared.rule.Answer.TheVariants.{Base, Front}
+use Rattle.mq_turns.specs.declared.rule.MarkAnswer.TheVariants.{Base, Front}
 use Rattle.mq_turns.specs.declared.rule.Charge.{Charge}
 use Rattle.mq_turns.specs.declared.turn.Turn.TheVariants.{Side}
 use Rattle.mq_calls.specs.Acts.{Call, IsAreaFull, IsCaused, IsTurnedDown, LacksArea}
@@ -77,7 +77,7 @@ module _ {P : Type 0} {G : Ghosts P} where
     pub answers : new.reading.answers ≡ old.reading.answers
     pub charged : new.reading.charged ≡ reports
 
-module _ {P : Type 0} {G : Ghosts P} (state : P → PortState) (faults : P → List Fault) where
+module _ {P : Type 0} {G : Ghosts P} (state : P → PortState) (faults : P → List PortFault) where
   -- It holds the pages of these cells and the side of its queue, and no other turn; and something may be known by now.
   pub record HoldsCommit (o : Start P FileEntry G) (q : ℕ) (cells : Cells) (s : QueueSide P FileEntry G) (v : Seat P FileEntry G) : Type 0 where
     pub pages : HoldsPages (files state faults) o cells v

@@ -4,7 +4,7 @@ use Rattle.std.specs.List.{All, AllZip}
 use Rattle.mq_blocks.specs.Drive.{PortState}
 use Rattle.mq_blocks.specs.Machine.{Map}
 use Rattle.mq_blocks.specs.declared.geometry.Geometry.{Geometry}
-use Rattle.mq_drive.specs.Steps.{Fault}
+use Rattle.mq_drive.specs.Steps.{PortFault}
 use Rattle.mq_drive.specs.declared.port.Port.{Ghosts}
 use Rattle.mq_exec.specs.declared.outcome.Done.{Done}
 use Rattle.mq_files.specs.Plans.{DoneOn}
@@ -14,8 +14,8 @@ use Rattle.mq_journal.specs.Machine.{journal}
 use Rattle.mq_journal.specs.Numbers.{Draws, Seat, Start}
 use Rattle.mq_pages.specs.Held.{Cells, cell_of}
 use Rattle.mq_pages.specs.declared.page.PageCell.{PageCell}
-use Rattle.mq_rules.specs.Groups.{Group}
-use Rattle.mq_rules.specs.Rule.{Desk, IsPage, map_now, numbered}
+use Rattle.mq_rules.specs.Groups.{GroupView}
+use Rattle.mq_rules.specs.Rule.{DeskState, IsPage, map_now, numbered}
 use Rattle.mq_rules.specs.Values.{Values}
 use Rattle.mq_side.specs.Commits.{NumberedCommit}
 use Rattle.mq_side.specs.declared.side.QueueSide.{QueueSide}
@@ -84,17 +84,17 @@ module _ {Q R E : Type 0} (μ : Meaning PageCell Q R E) where
       → ((k : ℕ) → times k v.held ≡ times k cells + tick slot k)
       → (giving slot (giving_pages (blocks_of cells) v)).held ≡ []
 
-module _ {Q R E : Type 0} (values : Values Q R E) (group : Group E) where
+module _ {Q R E : Type 0} (values : Values Q R E) (group : GroupView E) where
   -- what such cells hold is what the map at the newest number says
   abbrev pub PagesAreOfTheMap : Type 0
   PagesAreOfTheMap =
-      (cells : Cells) (K : Desk values group)
+      (cells : Cells) (K : DeskState values group)
       → ((b : ℕ) (c : PageCell) → cell_of cells b ≡ Some c → IsPage values group b K c)
       → (b : ℕ) (page : Option (List ℕ))
       → held_pages cells b ≡ Some page
       → map_now values group K b ≡ page
 
-module _ {P : Type 0} {G : Ghosts P} (state : P → PortState) (faults : P → List Fault) (o : Start P FileEntry G) where
+module _ {P : Type 0} {G : Ghosts P} (state : P → PortState) (faults : P → List PortFault) (o : Start P FileEntry G) where
   -- where the session holds the pages, a group that is done on them is done on the map at the newest number, whatever is
   -- known by now
   abbrev pub DoneGroupsStand : Type 0
@@ -114,7 +114,7 @@ ReadingGroupsChangeNothing =
     → DoneOn g session m requests done
     → (done.writes.items ≡ []) × (done.frees.items ≡ [])
 
-module _ {P E : Type 0} {G : Ghosts P} (state : P → PortState) (faults : P → List Fault) (group : Group E) (s : QueueSide P E G) where
+module _ {P E : Type 0} {G : Ghosts P} (state : P → PortState) (faults : P → List PortFault) (group : GroupView E) (s : QueueSide P E G) where
   -- Pages that a session holds when it draws a number stay held, each with the cell that the transaction of the entry makes
   -- of its own.
   abbrev pub DrawnPagesAreHeld : Type 0

@@ -4,7 +4,7 @@ use Rattle.mq_blocks.specs.Blocks.{block_at}
 use Rattle.mq_blocks.specs.Drive.{PortState}
 use Rattle.mq_blocks.specs.Geometry.{homes_of}
 use Rattle.mq_blocks.specs.declared.geometry.Geometry.{Geometry}
-use Rattle.mq_drive.specs.Steps.{Fault}
+use Rattle.mq_drive.specs.Steps.{PortFault}
 use Rattle.mq_drive.specs.declared.port.Port.{Ghosts}
 use Rattle.mq_drive.specs.declared.port.Ports.{Ports}
 use Rattle.mq_files.specs.declared.entry.FileEntry.{FileEntry}
@@ -31,7 +31,7 @@ pub data IsNotMounted (g : Geometry) (d : DriveState) : MountRefusal → Type 0 
   memory : IsNotMounted g d OutOfMemory
   corrupt : {cause : CorruptCause} {b : ℕ} (s : Standing) → StandsIn g d s → IsCorrupt g s.blocks.items cause b → ((v : Volume) → HoldsVolume g d v → ⊥) → IsNotMounted g d (Corrupt cause b)
 
-module _ {P : Type 0} {G : Ghosts P} (state : P → PortState) (faults : P → List Fault) where
+module _ {P : Type 0} {G : Ghosts P} (state : P → PortState) (faults : P → List PortFault) where
   -- The desk was opened over what stands on the ports, which is what they have at home, and holds a volume.
   pub record IsMountedOver (g : Geometry) (ports : Ports P) (o : Start P FileEntry G) : Type 0 where
     pub standing : Standing

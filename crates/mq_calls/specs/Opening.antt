@@ -5,7 +5,7 @@ use Rattle.mq_blocks.specs.Drive.{PortState}
 use Rattle.mq_blocks.specs.Geometry.{homes_of}
 use Rattle.mq_blocks.specs.declared.geometry.Geometry.{Geometry}
 use Rattle.mq_drive.specs.Start.{IsPortOf}
-use Rattle.mq_drive.specs.Steps.{Fault}
+use Rattle.mq_drive.specs.Steps.{PortFault}
 use Rattle.mq_drive.specs.declared.port.Port.{Ghosts}
 use Rattle.mq_drive.specs.declared.port.Ports.{Ports}
 use Rattle.mq_drive.specs.declared.role.Role.TheVariants.{Queue}
@@ -72,7 +72,7 @@ module _ {P E : Type 0} {G : Ghosts P} (state : P → PortState) where
     pub done : s.done ≡ 0
     pub kept : s.kept ≡ None
 
-module _ {P : Type 0} {G : Ghosts P} (state : P → PortState) (faults : P → List Fault) where
+module _ {P : Type 0} {G : Ghosts P} (state : P → PortState) (faults : P → List PortFault) where
   -- What a desk was opened with over these ports: the map in its cells, and the ports, each where it was.
   pub record IsOpenedOver (g : Geometry) (ports : Ports P) (s : Standing) (o : Start P FileEntry G) : Type 0 where
     pub base : o.base ≡ s.base

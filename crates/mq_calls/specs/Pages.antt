@@ -1,9 +1,10 @@
 -- The pages that a session holds.
-use Rattle.std.specs.Prelude.{◌≡◌, ◌<◌, ℕ, Bool, true, false, List, [], ◌∷◌, ◌++◌, map, reverse}
+use Rattle.std.specs.Prelude.{◌≡◌, ◌<◌, ℕ, Bool, true, false, List, ◌++◌, map, reverse}
+use Rattle.mq_journal.specs.Laws.{without_each}
 use Rattle.mq_pages.specs.Held.{Cells, IsRising}
 use Rattle.mq_pages.specs.declared.page.PageCell.{PageCell}
 use Rattle.mq_turns.specs.Desk.{IsTurn, Sees}
-use Rattle.mq_turns.specs.Lists.{Each, times, without}
+use Rattle.mq_turns.specs.Lists.{Each, times}
 use Rattle.mq_turns.specs.Meaning.{Meaning}
 use Rattle.mq_turns.specs.declared.rule.Known.{Known}
 use Rattle.mq_turns.specs.declared.rule.Opening.{Opening}
@@ -19,12 +20,6 @@ pub record AddsCells (blocks : List ℕ) (old new : Cells) : Type 0 where
   pub added : Cells
   pub blocks_are : blocks_of added ≡ blocks
   pub is : new ≡ old ++ added
-
-module _ {A : Type 0} where
-  -- what is held but for these slots
-  abbrev pub without_each : List ℕ → List (ℕ × A) → List (ℕ × A)
-  without_each [] held = held
-  without_each (k ∷ ks) held = without k (without_each ks held)
 
 module _ {Q R E : Type 0} where
   -- the session takes turns of pages, the last taken first, and gives these pages back

@@ -1,7 +1,7 @@
 -- The steps by which a group is prepared on the side of its queue.
 use Rattle.std.specs.Prelude.{◌≡◌, ◌<◌, ℕ, List, Option, Some, None, vec_len, vec_capacity}
 use Rattle.mq_blocks.specs.Drive.{PortState}
-use Rattle.mq_drive.specs.Steps.{Fault}
+use Rattle.mq_drive.specs.Steps.{PortFault}
 use Rattle.mq_drive.specs.declared.port.Port.{Ghosts}
 use Rattle.mq_exec.specs.declared.outcome.Done.{Done}
 use Rattle.mq_files.specs.Group.{file_group}
@@ -41,7 +41,7 @@ module _ {P : Type 0} {G : Ghosts P} (state : P → PortState) where
     pub reserved : vec_len s.stored < vec_capacity s.stored
     pub bounds : IsBounded (rows_of s.stored.items) (state s.pmr.port) plan
 
-module _ {P : Type 0} {G : Ghosts P} (state : P → PortState) (faults : P → List Fault) where
+module _ {P : Type 0} {G : Ghosts P} (state : P → PortState) (faults : P → List PortFault) where
   -- the session holds it as the side of its queue
   abbrev pub IsSideOf : Start P FileEntry G → QueueSide P FileEntry G → Seat P FileEntry G → Type 0
   IsSideOf o s v = HoldsSide state faults file_group o s.pmr.queue s v

@@ -2,7 +2,7 @@
 use Rattle.std.specs.Prelude.{ℕ, List}
 use Rattle.mq_blocks.specs.Drive.{PortState}
 use Rattle.mq_blocks.specs.declared.geometry.Geometry.{Geometry}
-use Rattle.mq_drive.specs.Steps.{Fault}
+use Rattle.mq_drive.specs.Steps.{PortFault}
 use Rattle.mq_drive.specs.declared.port.Port.{Ghosts}
 use Rattle.mq_exec.specs.Outcomes.{AreKnown, Answers}
 use Rattle.mq_exec.specs.declared.outcome.Done.{Done}
@@ -15,7 +15,7 @@ use Rattle.mq_journal.specs.Machine.{journal}
 use Rattle.mq_journal.specs.Values.{side_values}
 use Rattle.mq_pages.specs.Held.{Cells}
 use Rattle.mq_pages.specs.declared.page.PageCell.{PageCell}
-use Rattle.mq_rules.specs.Rule.{Desk, geometry_of, map_now, shape_of}
+use Rattle.mq_rules.specs.Rule.{DeskState, geometry_of, map_now, shape_of}
 use Rattle.mq_rules.specs.Values.{Values}
 use Rattle.mq_side.specs.declared.root.Root.{Root}
 use Rattle.mq_side.specs.declared.side.QueueSide.{QueueSide}
@@ -30,7 +30,7 @@ use Rattle.mq_turns.specs.declared.rule.ChairView.{ChairView}
 abbrev pub IsDoneOnCells : Geometry → (session : ℕ) → List Request → Cells → Done → Type 0
 IsDoneOnCells g session requests cells done = Answers g session (held_pages cells) requests (IsDone done)
 
-module _ {P : Type 0} {G : Ghosts P} (state : P → PortState) (faults : P → List Fault) where
+module _ {P : Type 0} {G : Ghosts P} (state : P → PortState) (faults : P → List PortFault) where
   -- what the sides and the root show, and what the values and the groups mean
   abbrev pub file_values : Values (QueueSide P FileEntry G) (Root P G) FileEntry
   file_values = side_values state faults
@@ -46,4 +46,4 @@ module _ {P : Type 0} {G : Ghosts P} (state : P → PortState) (faults : P → L
   -- at the newest number.
   pub record IsDoneOnHeld (session : ℕ) (requests : List Request) (cells : Cells) (v : ChairView PageCell (QueueSide P FileEntry G) (Root P G) FileEntry) (done : Done) : Type 0 where
     pub known : AreKnown (held_pages cells) done
-    pub does : (K : Desk file_values file_group) → Sees files v K → DoneOn (geometry_of file_values file_group K) session (map_now file_values file_group K) requests done
+    pub does : (K : DeskState file_values file_group) → Sees files v K → DoneOn (geometry_of file_values file_group K) session (map_now file_values file_group K) requests done

@@ -3,7 +3,7 @@ use Rattle.std.specs.Prelude.{◌≡◌, ◌≤◌, ℕ, Bool, true, false, List
 use Rattle.mq_blocks.specs.Drive.{PortState}
 use Rattle.mq_blocks.specs.Geometry.{queues_of}
 use Rattle.mq_blocks.specs.declared.geometry.Geometry.{Geometry}
-use Rattle.mq_drive.specs.Steps.{Fault}
+use Rattle.mq_drive.specs.Steps.{PortFault}
 use Rattle.mq_drive.specs.declared.port.Port.{Ghosts}
 use Rattle.mq_files.specs.Group.{file_group}
 use Rattle.mq_files.specs.declared.entry.FileEntry.{FileEntry}
@@ -20,7 +20,7 @@ abbrev pub drawn_at : (at : ℕ) → (drew : Bool) → Option ℕ
 drawn_at at true = Some at
 drawn_at at false = None
 
-module _ {P : Type 0} {G : Ghosts P} (state : P → PortState) (faults : P → List Fault) where
+module _ {P : Type 0} {G : Ghosts P} (state : P → PortState) (faults : P → List PortFault) where
   -- The group is a commit in the history at the number, or a read there; and the session knows every number up to it to be
   -- done.
   pub record IsDurable (g : Geometry) (c : Call) (at : ℕ) (drew : Bool) (replies : List Reply) (old new : Seat P FileEntry G) : Type 0 where

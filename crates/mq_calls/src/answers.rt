@@ -8,9 +8,9 @@ use mq_tree::Reply;
 pub struct Answer {
     /// The number of its transaction, or the number at which it was read.
     pub at: TxNo,
-    /// It drew that number: it changed something.
+    /// Whether the group drew that number, which it does if it changed something.
     pub drew: bool,
-    /// What was answered to its requests, in their order.
+    /// The replies to its requests, in their order.
     pub replies: Vec<Reply>,
 }
 
@@ -22,13 +22,14 @@ pub struct Refusal {
     pub drawn: Option<TxNo>,
 }
 
-/// What a refusal comes from.
+/// The cause of a refusal.
 #[derive(Clone, Copy, Debug, PartialEq, Eq)]
 pub enum CallCause {
     OutOfMemory,
     /// The group writes more blocks than one transaction may.
     TooLarge { count: u32, limit: u32 },
-    /// A request of a group that only reads would change something: the first that does, counted from 0.
+    /// A request of a group that may only read would change something. The index is that of the first
+    /// such request, counted from 0.
     Changes { index: u32 },
     /// A port refused.
     Drive(Cause),

@@ -96,10 +96,10 @@ impl<P: Port + Drop> Mqfs<P> {
         })
     }
 
-    /// Asks a group of requests of which none may change the tree. It is read at the newest number that the
-    /// session finds: the replies are those of the volume that all groups drawn up to there have left, also of
-    /// groups that a power cut may still undo. Where a request may change the tree, it answers so at once, and
-    /// the session is as it was, but that it has made one call more.
+    /// Executes a group of requests none of which may change the tree. It is read at the newest number that
+    /// the session finds: the replies are those of the volume that all groups drawn up to there have left,
+    /// including groups that a power cut may still undo. If a request may change the tree, the call is
+    /// refused at once, and the only change to the session is that it has made one more call.
     pub fn ask<R: Wait>(
         &self,
         rt: &R,

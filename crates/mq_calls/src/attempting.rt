@@ -125,8 +125,8 @@ impl<P: Port + Drop> Mqfs<P> {
         })
     }
 
-    /// Does the group of a call, once: takes the pages that it looks at, runs it, and commits or reads it. All
-    /// turns are given back.
+    /// Executes the group of a call once: takes the pages that it looks at, runs it, and commits or reads
+    /// it. All turns are given back.
     pub(crate) fn attempt<R: Wait>(
         &self,
         rt: &R,

@@ -162,10 +162,10 @@ impl<P: Port + Drop> Mqfs<P> {
         }
     }
 
-    /// Does a group as one transaction, which a power cut keeps whole or drops whole. It survives once an
-    /// `fsync` with a number not below the answer's has succeeded. A group that changes nothing draws no
-    /// number, and is answered the number at which it was read. Where the journal area of the queue lacks room
-    /// for it, a checkpoint is made first.
+    /// Executes a group as one transaction, which a power cut keeps whole or drops whole. It survives once
+    /// an `fsync` with a number not below the answer's has succeeded. A group that changes nothing draws no
+    /// number; its answer has the number at which it was read. If the journal area of the queue has too
+    /// little room for the group, a checkpoint is made first.
     pub fn fatomic<R: Wait, G: Gate>(
         &self,
         rt: &R,
@@ -204,8 +204,8 @@ impl<P: Port + Drop> Mqfs<P> {
         }
     }
 
-    /// Does a group as `fatomic` does, and waits until every number up to the answer's is done: all of them
-    /// survive a power cut from then on, also those of other sessions.
+    /// Executes a group as `fatomic` does, and waits until every number up to the answer's is done: from
+    /// then on all of them survive a power cut, including those of other sessions.
     pub fn fsync<R: Wait, G: Gate>(
         &self,
         rt: &R,

@@ -29,7 +29,8 @@ fn leave<P: Port + Drop>(
 }
 
 impl<P: Port + Drop> Mqfs<P> {
-    /// The desk, and the chairs of all its sessions, in their order. Out of memory gives all back as it was.
+    /// The desk, and the chairs of all its sessions, in their order. On out of memory everything is given
+    /// back as it was.
     pub fn into_desk(
         self,
         alloc: Global,

@@ -138,7 +138,7 @@ fn miss_of(obstacle: Obstacle) -> Miss
 }
 
 /// Draws and sends a group that changes something. The session holds the group's pages; it takes the side
-/// of its queue, and gives all back. The error tells why it was not done, and which number was drawn.
+/// of its queue, and gives all turns back. The error says why it was not done, and which number was drawn.
 pub(crate) fn commit<P: Port + Drop, R: Wait>(
     rt: &R,
     alloc: Global,

@@ -1,15 +1,16 @@
 // Points of a call at which its caller may wait.
 
-/// A point that a call has come to. The session holds no turn there.
+/// A point that a call has reached. The session holds no turn there.
 #[derive(Clone, Copy, Debug, PartialEq, Eq)]
 pub enum Point {
     /// The commit was rung, and all turns are given back.
     Rung,
-    /// The call is about to answer, a refusal too.
+    /// The call is about to return, with an answer or a refusal.
     Answered,
 }
 
-/// What a call passes on its way. A test can hold a session there; it can't change what the call does.
+/// The hook that a call passes at fixed points. A test can hold a session there; it can't change what
+/// the call does.
 pub trait Gate {
     fn pass(&self, session: u32, point: Point);
 }

@@ -13,7 +13,7 @@ use mq_rules::JournalValues;
 use mq_side::QueueSide;
 use mq_turns::{Desk, Machine};
 
-/// By whatever may be known by now, each cell that a session holds is what the machine says of its page.
+/// Whatever is known by now, each cell that a session holds is what the machine says of its page.
 pub fn held_pages_are_current<M: Machine<Page = PageCell>>()
     ensures { CellsAreCurrent M.meaning }
 {
@@ -43,7 +43,7 @@ pub fn a_done_group_stands<P: Port + Drop>(desk: &Desk<FileMachine<P>>)
     let _ = desk;
 }
 
-/// A group of requests of which none may change the tree writes nothing and frees nothing.
+/// A group of requests none of which may change the tree writes nothing and frees nothing.
 pub fn a_reading_group_changes_nothing()
     ensures { ReadingGroupsChangeNothing }
 {}

@@ -16,9 +16,9 @@ use mq_pages::{Held, Write};
 use mq_revoke::Placement;
 use mq_turns::{Chair, Desk, Item, Turn};
 
-/// Makes of each page that is held what the group with this number makes of it, and gives all of them back,
-/// the greatest block first. The contents that were written are moved into their pages. What a page becomes
-/// does not depend on the queue, so the transaction is named with queue 0. It takes no memory.
+/// Applies the group with this number to each page that is held, and gives all of them back, the greatest
+/// block first. The contents that were written are moved into their pages. What a page becomes does not
+/// depend on the queue, so the transaction is named with queue 0. It takes no memory.
 pub(crate) fn give_drawn_pages<P: Port + Drop>(
     desk: &Desk<FileMachine<P>>,
     chair: &mut Chair<FileMachine<P>>,

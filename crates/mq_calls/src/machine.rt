@@ -19,7 +19,7 @@ impl Groups for FileGroups {
 /// queues, and entries groups of file requests.
 pub type FileMachine<P> = JournalMachine<P, FileGroups>;
 
-/// A machine over a drive, whose shape the values tell that a desk is opened with.
+/// A machine over a drive, whose shape follows from the values that a desk is opened with.
 pub trait Shaped: Machine {
     ghost use Rattle.mq_blocks.specs.declared.geometry.Geometry.{Geometry};
     ghost use Rattle.mq_turns.specs.declared.rule.Opening.{Opening};

@@ -15,7 +15,7 @@ use mq_recover::{ImageFault, Standing, stands};
 use mq_tree::MountRefusal;
 use std::alloc::Global;
 
-// What stands on a drive that was recovered, is refused for lack of memory alone.
+// The tree on a drive that was recovered is refused only as out of memory.
 fn only_memory(fault: ImageFault) -> MountRefusal
     requires { fault ≡ ImageFault.OutOfMemory }
     ensures { result ≡ MountRefusal.OutOfMemory }
@@ -26,7 +26,7 @@ fn only_memory(fault: ImageFault) -> MountRefusal
     }
 }
 
-/// What stands on the ports of a drive that was recovered, where it is a file system: what `Mqfs::open` asks for.
+/// What stands on the ports of a drive that was recovered, if it is a file system. `Mqfs::open` needs this.
 pub fn find_volume<P: Port>(
     alloc: Global,
     geometry: Geometry,
@@ -49,8 +49,8 @@ pub fn find_volume<P: Port>(
 }
 
 impl<P: Port + Drop> Mqfs<P> {
-    /// A file system over the ports of a drive that was recovered, where what stands on them is one, with so
-    /// many sessions, the i-th on the i-th queue. A refusal gives the ports back as they were. Nothing is
+    /// Opens the file system that stands on the ports of a drive that was recovered, with `sessions`
+    /// sessions, the i-th on the i-th queue. A refusal gives the ports back as they were. Nothing is
     /// written.
     pub fn mount(
         alloc: Global,

@@ -97,9 +97,9 @@ fn open_desk<P: Port + Drop>(
 }
 
 impl<P: Port + Drop> Mqfs<P> {
-    /// A file system over the ports of a drive that was recovered, whose map is that of what stands there,
-    /// with so many sessions, the i-th on the i-th queue. What stands there is moved, and not copied. Out
-    /// of memory gives the ports back.
+    /// Opens a file system over the ports of a drive that was recovered, whose map is that of what stands
+    /// there, with `sessions` sessions, the i-th on the i-th queue. What stands there is moved, and not
+    /// copied. On out of memory the ports are given back.
     pub fn open(
         alloc: Global,
         geometry: Geometry,

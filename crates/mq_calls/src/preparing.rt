@@ -77,7 +77,8 @@ fn place(
     }
 }
 
-// Sees that the side has room for what is placed so. Where its ring lacks room, it is drained.
+// Makes sure that the side has room for what is placed so. If its ring has too little room, it is
+// drained.
 fn make_room<P: Port + Drop>(
     desk: &Desk<FileMachine<P>>,
     chair: &Chair<FileMachine<P>>,
@@ -144,7 +145,7 @@ fn prepare<P: Port + Drop>(
 }
 
 /// Places the blocks of a group by a front and a base that it reads, makes room for them on the side of
-/// its queue, and prepares its commit. The session holds the side and the group's pages all the while.
+/// its queue, and prepares its commit. The session holds the side and the group's pages throughout.
 pub(crate) fn make_ready<P: Port + Drop>(
     alloc: Global,
     desk: &Desk<FileMachine<P>>,

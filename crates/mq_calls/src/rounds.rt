@@ -20,8 +20,8 @@ use mq_turns::{Chair, Desk};
 use std::alloc::Global;
 use std::sync::Wait;
 
-// Runs the group on the pages that are held, until it lacks none. The pages stay held, also where memory
-// is wanting.
+// Runs the group on the pages that are held, until none is missing. The pages stay held even if memory
+// runs out.
 fn run_in_rounds<P: Port + Drop, R: Wait>(
     rt: &R,
     alloc: Global,
@@ -60,9 +60,9 @@ fn run_in_rounds<P: Port + Drop, R: Wait>(
 }
 
 /// What a group of requests of a session comes to. It begins with the pages of the wanted blocks, and takes
-/// those that the group lacks; their blocks are wanted from then on. The chair then holds just the pages of
-/// the wanted blocks. What the group comes to is decided by these pages alone, and nobody else changes them:
-/// so it stands for whatever is drawn meanwhile. Out of memory leaves the chair with no turn.
+/// those that the group misses; their blocks are wanted from then on. The chair then holds just the pages
+/// of the wanted blocks. What the group comes to is decided by these pages alone, and nobody else changes
+/// them, so the outcome holds whatever is drawn meanwhile. On out of memory the chair is left with no turn.
 pub fn run_held<P: Port + Drop, R: Wait>(
     rt: &R,
     alloc: Global,

@@ -10,9 +10,9 @@ use mq_side::Cause;
 use mq_turns::{Chair, Desk};
 use std::sync::Wait;
 
-/// Drains the side of each queue, one after another, by rising queue: every number up to `at` is then known to
-/// be done. The first refusal ends it, and the queues above are not drained. The chair holds one turn at a
-/// time, and none in the end.
+/// Drains the side of each queue, one after another, in rising order of queues: every number up to `at` is
+/// then known to be done. The first refusal ends it, and the queues above are not drained. The chair holds
+/// one turn at a time, and none in the end.
 pub(crate) fn drain_all<R: Wait, P: Port + Drop, G: Groups>(
     rt: &R,
     desk: &Desk<JournalMachine<P, G>>,

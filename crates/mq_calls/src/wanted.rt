@@ -36,9 +36,9 @@ fn are_above(blocks: &[BlockNo], wanted: &[BlockNo]) -> bool
     last.0 < first.0
 }
 
-/// Takes the pages of further blocks, for a chair that holds just the pages of the wanted ones. Where one
-/// of the blocks is below the last that is wanted, all pages are given back, and those of the larger set
-/// taken, so that the chair takes its turns in rising order. Out of memory leaves all as it was.
+/// Takes the pages of further blocks, for a chair that holds just the pages of the wanted ones. If one of
+/// the blocks is below the last that is wanted, all pages are given back, and those of the larger set
+/// taken, so that the chair takes its turns in rising order. On out of memory everything is as it was.
 pub(crate) fn take_more<M: Machine<Page = PageCell>, R: Wait>(
     rt: &R,
     desk: &Desk<M>,

@@ -1,12 +1,12 @@
 -- The pages that a checkpoint has passed, and the one that it holds.
 use Rattle.std.specs.Prelude.{◌≡◌, ◌⊎◌, ◌<◌, ◌≤◌, ℕ, List, [], ◌∷◌, length, Option, None, Some}
 use Rattle.mq_blocks.specs.Drive.{PortState}
-use Rattle.mq_drive.specs.Steps.{Fault}
+use Rattle.mq_drive.specs.Steps.{PortFault}
 use Rattle.mq_drive.specs.declared.port.Port.{Ghosts}
 use Rattle.mq_journal.specs.Numbers.{Seat, Shared, Start, values}
 use Rattle.mq_ledger.specs.KnownJournal.{front}
 use Rattle.mq_pages.specs.declared.page.PageCell.{PageCell}
-use Rattle.mq_rules.specs.Groups.{Group}
+use Rattle.mq_rules.specs.Groups.{GroupView}
 use Rattle.mq_rules.specs.Rule.{IsPage, core_of}
 
 -- the cell once the content of its last change is at home
@@ -31,7 +31,7 @@ module _ {P E : Type 0} {G : Ghosts P} where
     pub waits : c.home_version < c.version
     pub done : c.version ≤ v.reading.done
 
-module _ {P E : Type 0} {G : Ghosts P} (state : P → PortState) (faults : P → List Fault) (group : Group E) where
+module _ {P E : Type 0} {G : Ghosts P} (state : P → PortState) (faults : P → List PortFault) (group : GroupView E) where
   -- By what was known then, the base was done and so was the page's last change, and the base needed no home write of
   -- the page: where the block is in the map, and its last change logged it and is not above the base, its content is at
   -- home.

@@ -2,24 +2,24 @@
 use Rattle.std.specs.Prelude.{◌≡◌, ◌⊎◌, ◌≤◌, ℕ, List, [], ◌∷◌, ◌++◌}
 use Rattle.mq_blocks.specs.Drive.{PortState, IsBoundKept}
 use Rattle.mq_base.specs.Bases.{BaseOk, RootStands}
-use Rattle.mq_drive.specs.Steps.{Fault}
+use Rattle.mq_drive.specs.Steps.{PortFault}
 use Rattle.mq_drive.specs.declared.port.Port.{Ghosts}
 use Rattle.mq_journal.specs.Numbers.{Seat, Shared, Start, machine, values}
 use Rattle.mq_ledger.specs.KnownJournal.{KnownJournal}
 use Rattle.mq_pages.specs.declared.page.PageCell.{PageCell}
-use Rattle.mq_rules.specs.Groups.{Group}
+use Rattle.mq_rules.specs.Groups.{GroupView}
 use Rattle.mq_rules.specs.Rule.{IsOk, IsRoot}
 use Rattle.mq_side.specs.declared.root.Root.{Root}
 use Rattle.mq_turns.specs.Chairs.{giving}
 use Rattle.mq_turns.specs.Desk.{Below, Sees, slot_of}
 use Rattle.mq_turns.specs.Meaning.{charged, raised}
 use Rattle.mq_turns.specs.Words.{after_notice}
-use Rattle.mq_turns.specs.declared.rule.Answer.TheVariants.{Front}
+use Rattle.mq_turns.specs.declared.rule.MarkAnswer.TheVariants.{Front}
 use Rattle.mq_turns.specs.declared.rule.Charge.{Charge}
 use Rattle.mq_turns.specs.declared.rule.Notice.TheVariants as notice
 use Rattle.mq_turns.specs.declared.rule.Report.{Report}
 use Rattle.mq_turns.specs.declared.turn.Turn.TheVariants as turn
-use Rattle.mq_checkpoint.specs.Steps.{IsKnownFrom, Refuses}
+use Rattle.mq_checkpoint.specs.Steps.{IsKnownFrom, RefusesCheckpoint}
 use Rattle.mq_checkpoint.specs.declared.refusal.CheckpointRefusal.{CheckpointRefusal}
 
 -- Whatever is known, by which this is a base: a root that stood before stands after. The port keeps its fuse, and the
@@ -32,7 +32,7 @@ pub record KeepsStanding (base : ℕ) (old new : PortState) : Type 0 where
 abbrev pub reported_root : Report → Charge
 reported_root r = record { port = turn.Root; report = r }
 
-module _ {P E : Type 0} {G : Ghosts P} (state : P → PortState) (faults : P → List Fault) (group : Group E) where
+module _ {P E : Type 0} {G : Ghosts P} (state : P → PortState) (faults : P → List PortFault) (group : GroupView E) where
   -- At a moment of this call the root, which the session held, had flushed this base, and the word was raised to it: so
   -- the root is what the rule says.
   pub record IsRaisedTo (base : ℕ) (v : Seat P E G) : Type 0 where
@@ -82,4 +82,4 @@ module _ {P E : Type 0} {G : Ghosts P} (state : P → PortState) (faults : P →
 
   -- It was refused before its front was read, or after.
   abbrev pub HasRefused : CheckpointRefusal → Seat P E G → Seat P E G → Type 0
-  HasRefused r old new = Refuses state faults group [] r old new ⊎ ((front : ℕ) × Refuses state faults group (Front front ∷ []) r old new)
+  HasRefused r old new = RefusesCheckpoint state faults group [] r old new ⊎ ((front : ℕ) × RefusesCheckpoint state faults group (Front front ∷ []) r old new)

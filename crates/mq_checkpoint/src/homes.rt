@@ -5,7 +5,7 @@ ghost use Rattle.mq_journal.specs.Numbers.{values};
 ghost use Rattle.mq_rules.specs.Rule.{shape_of};
 ghost use Rattle.mq_turns.specs.AtDesk.{AtDesk, view, start_of};
 ghost use Rattle.mq_checkpoint.specs.Pages.{HoldsOnlyPage, IsDue, at_home};
-ghost use Rattle.mq_checkpoint.specs.Steps.{IsRefusedBy, Moves};
+ghost use Rattle.mq_checkpoint.specs.Steps.{IsRefusedBy, MovesOn};
 
 use crate::root::report_root;
 use mq_blocks::{Block, BlockNo, Geometry, QueueNo};
@@ -42,7 +42,7 @@ pub(crate) fn write_by_side<R: Wait, P: Port + Drop, G: Groups>(
         (at_home cell.now) (view chair.new)) }
     ensures left { OnErr result (HoldsOnlyPage P.state P.faults G.group (start_of desk.now) block
         cell.now (view chair.new)) }
-    ensures moves { OnOk result (Moves [] [] (view chair.old) (view chair.new)) }
+    ensures moves { OnOk result (MovesOn [] [] (view chair.old) (view chair.new)) }
     ensures refused { IfErr result (λ c. IsRefusedBy P.state P.faults G.group [] c
         (view chair.old) (view chair.new)) }
 {
@@ -88,7 +88,7 @@ pub(crate) fn write_by_root<R: Wait, P: Port + Drop, G: Groups>(
         (at_home cell.now) (view chair.new)) }
     ensures left { OnErr result (HoldsOnlyPage P.state P.faults G.group (start_of desk.now) block
         cell.now (view chair.new)) }
-    ensures moves { OnOk result (Moves [] [] (view chair.old) (view chair.new)) }
+    ensures moves { OnOk result (MovesOn [] [] (view chair.old) (view chair.new)) }
     ensures refused { IfErr result (λ c. IsRefusedBy P.state P.faults G.group [] c
         (view chair.old) (view chair.new)) }
 {
@@ -135,7 +135,7 @@ pub(crate) fn write_home<R: Wait, P: Port + Drop, G: Groups>(
         (at_home cell.now) (view chair.new)) }
     ensures left { OnErr result (HoldsOnlyPage P.state P.faults G.group (start_of desk.now) block
         cell.now (view chair.new)) }
-    ensures moves { OnOk result (Moves [] [] (view chair.old) (view chair.new)) }
+    ensures moves { OnOk result (MovesOn [] [] (view chair.old) (view chair.new)) }
     ensures refused { IfErr result (λ c. IsRefusedBy P.state P.faults G.group [] c
         (view chair.old) (view chair.new)) }
 {

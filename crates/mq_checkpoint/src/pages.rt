@@ -5,7 +5,7 @@ ghost use Rattle.mq_journal.specs.Numbers.{values};
 ghost use Rattle.mq_rules.specs.Rule.{shape_of};
 ghost use Rattle.mq_turns.specs.AtDesk.{AtDesk, view, start_of};
 ghost use Rattle.mq_checkpoint.specs.Pages.{AreNoted, HoldsOnlyPage, IsAtHome, IsCopyOf, IsNoted};
-ghost use Rattle.mq_checkpoint.specs.Steps.{IsRefusedBy, Moves, Refuses};
+ghost use Rattle.mq_checkpoint.specs.Steps.{IsRefusedBy, MovesOn, RefusesCheckpoint};
 
 use crate::homes::write_home;
 use crate::refusal::CheckpointRefusal;
@@ -56,7 +56,7 @@ fn settle_page<R: Wait, P: Port + Drop, G: Groups>(
     ensures page { HoldsOnlyPage P.state P.faults G.group (start_of desk.now) block cell.now
         (view chair.new) }
     ensures settled { IfOk result (λ n. (cell.now.version ≤ n) × (n ≤ (view chair.new).reading.done)) }
-    ensures moves { OnOk result (Moves [] [] (view chair.old) (view chair.new)) }
+    ensures moves { OnOk result (MovesOn [] [] (view chair.old) (view chair.new)) }
     ensures refused { IfErr result (λ c. IsRefusedBy P.state P.faults G.group [] c
         (view chair.old) (view chair.new)) }
 {
@@ -88,8 +88,8 @@ fn write_waiting<R: Wait, P: Port + Drop, G: Groups>(
         (view chair.new) }
     ensures version { cell.new.version ≡ cell.old.version }
     ensures brought { OnOk result (IsAtHome cell.new) }
-    ensures moves { OnOk result (Moves [] [] (view chair.old) (view chair.new)) }
-    ensures refused { IfErr result (λ r. Refuses P.state P.faults G.group [] r
+    ensures moves { OnOk result (MovesOn [] [] (view chair.old) (view chair.new)) }
+    ensures refused { IfErr result (λ r. RefusesCheckpoint P.state P.faults G.group [] r
         (view chair.old) (view chair.new)) }
 {
     let Some(copy) = copy_waiting(alloc, cell)? else {
@@ -124,8 +124,8 @@ fn bring_held<R: Wait, P: Port + Drop, G: Groups>(
     ensures settled { IfOk result (λ n. n ≤ (view chair.new).reading.done) }
     ensures changed { OnOk result (cell.new.version ≤ (view chair.new).reading.done) }
     ensures brought { OnOk result (IsAtHome cell.new) }
-    ensures moves { OnOk result (Moves [] [] (view chair.old) (view chair.new)) }
-    ensures refused { IfErr result (λ r. Refuses P.state P.faults G.group [] r
+    ensures moves { OnOk result (MovesOn [] [] (view chair.old) (view chair.new)) }
+    ensures refused { IfErr result (λ r. RefusesCheckpoint P.state P.faults G.group [] r
         (view chair.old) (view chair.new)) }
 {
     let done = settle_page(rt, desk, chair, geometry, block, cell, done)?;
@@ -133,9 +133,9 @@ fn bring_held<R: Wait, P: Port + Drop, G: Groups>(
     Ok(done)
 }
 
-/// Takes the page of the block, makes sure that its last change is done, writes it home where it waits for
-/// that, notes it and gives it back. All numbers up to `done` are known to be done before, and all up to the
-/// answered one after it.
+/// Takes the page of the block, makes sure that its last change is done, writes it home if it waits for
+/// that, notes it and gives it back. All numbers up to `done` are known to be done before the call, and all
+/// up to the returned one after it.
 pub(crate) fn bring_page<R: Wait, P: Port + Drop, G: Groups>(
     rt: &R,
     desk: &Desk<JournalMachine<P, G>>,
@@ -158,8 +158,8 @@ pub(crate) fn bring_page<R: Wait, P: Port + Drop, G: Groups>(
     ensures noted { OnOk result ((base : ℕ)
         → base ≤ (view chair.old).reading.done
         → IsNoted P.state P.faults G.group base block (view chair.new).reading.pages) }
-    ensures moves { OnOk result (Moves [] [] (view chair.old) (view chair.new)) }
-    ensures refused { IfErr result (λ r. Refuses P.state P.faults G.group [] r
+    ensures moves { OnOk result (MovesOn [] [] (view chair.old) (view chair.new)) }
+    ensures refused { IfErr result (λ r. RefusesCheckpoint P.state P.faults G.group [] r
         (view chair.old) (view chair.new)) }
 {
     let Item::Page(mut cell) = desk.take(rt, chair, Turn::Page(block)) else {
@@ -197,8 +197,8 @@ pub(crate) fn bring_pages<R: Wait, P: Port + Drop, G: Groups>(
     ensures idle { (view chair.new).held ≡ [] }
     ensures noted { OnOk result (AreNoted P.state P.faults G.group base (homes_of geometry)
         (view chair.new).reading.pages) }
-    ensures moves { OnOk result (Moves [] [] (view chair.old) (view chair.new)) }
-    ensures refused { IfErr result (λ r. Refuses P.state P.faults G.group [] r
+    ensures moves { OnOk result (MovesOn [] [] (view chair.old) (view chair.new)) }
+    ensures refused { IfErr result (λ r. RefusesCheckpoint P.state P.faults G.group [] r
         (view chair.old) (view chair.new)) }
 {
     let mut done = base;

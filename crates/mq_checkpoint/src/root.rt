@@ -18,8 +18,8 @@ use mq_side::{Cause, Root};
 use mq_turns::{Chair, Charge, Desk, Item, Report, Turn};
 use std::sync::Wait;
 
-/// Enters a refusal in the account of the root's port, and gives the root back. With the report the root has
-/// to be what the rule says, whatever is known by now.
+/// Enters a refusal in the account of the root's port, and gives the root back. With the report, the root
+/// must satisfy the rule of the desk, whatever is known by now.
 pub(crate) fn report_root<P: Port + Drop, G: Groups>(
     desk: &Desk<JournalMachine<P, G>>,
     chair: &mut Chair<JournalMachine<P, G>>,
@@ -56,7 +56,7 @@ fn store<P: Port>(root: &mut Root<P>, base: TxNo) -> Result<(), Off>
 }
 
 /// Takes the root, stores and flushes the base where the root's is below it, raises the base word to the
-/// root's base, and gives the root back. The answer is the root's base.
+/// root's base, and gives the root back. Returns the root's base.
 pub(crate) fn raise_to<R: Wait, P: Port + Drop, G: Groups>(
     rt: &R,
     desk: &Desk<JournalMachine<P, G>>,

@@ -5,7 +5,7 @@ ghost use Rattle.mq_turns.specs.Desk.{Below, Sees};
 ghost use Rattle.mq_turns.specs.Lists.{Each};
 ghost use Rattle.mq_turns.specs.Meaning.{newest};
 ghost use Rattle.mq_journal.specs.Numbers.{Shared, machine};
-ghost use Rattle.mq_checkpoint.specs.Steps.{IsRefusedBy, Moves};
+ghost use Rattle.mq_checkpoint.specs.Steps.{IsRefusedBy, MovesOn};
 
 use mq_blocks::{QueueNo, TxNo};
 use mq_drive::Port;
@@ -14,8 +14,9 @@ use mq_side::Cause;
 use mq_turns::{Chair, Desk};
 use std::sync::Wait;
 
-/// Drains the side of each queue, one after another, by rising queue: every number up to `at` is then known
-/// to be done. The first refusal ends it. The chair holds no side and not the root, neither before nor after.
+/// Drains the side of each queue, one after another, in rising order of queues: every number up to `at` is
+/// then known to be done. The first refusal ends it. The chair holds no side and not the root, neither
+/// before nor after.
 pub(crate) fn drain_all<R: Wait, P: Port + Drop, G: Groups>(
     rt: &R,
     desk: &Desk<JournalMachine<P, G>>,
@@ -31,7 +32,7 @@ pub(crate) fn drain_all<R: Wait, P: Port + Drop, G: Groups>(
     ensures at { AtDesk desk.now chair.new }
     ensures done { OnOk result (at ≤ (view chair.new).reading.done) }
     ensures held { (view chair.new).held ≡ (view chair.old).held }
-    ensures moves { OnOk result (Moves [] [] (view chair.old) (view chair.new)) }
+    ensures moves { OnOk result (MovesOn [] [] (view chair.old) (view chair.new)) }
     ensures refused { IfErr result (λ c. IsRefusedBy P.state P.faults G.group [] c
         (view chair.old) (view chair.new)) }
 {
@@ -41,8 +42,8 @@ pub(crate) fn drain_all<R: Wait, P: Port + Drop, G: Groups>(
     Ok(())
 }
 
-/// Looks at the number drawn last, and drains all sides: all numbers up to the answered one are then known to
-/// be done.
+/// Looks at the number drawn last, and drains all sides: all numbers up to the returned one are then known
+/// to be done.
 pub(crate) fn settle<R: Wait, P: Port + Drop, G: Groups>(
     rt: &R,
     desk: &Desk<JournalMachine<P, G>>,
@@ -60,7 +61,7 @@ pub(crate) fn settle<R: Wait, P: Port + Drop, G: Groups>(
     ensures below { IfOk result (λ n. Below n (view chair.old)) }
     ensures done { IfOk result (λ n. n ≤ (view chair.new).reading.done) }
     ensures held { (view chair.new).held ≡ (view chair.old).held }
-    ensures moves { OnOk result (Moves [] [] (view chair.old) (view chair.new)) }
+    ensures moves { OnOk result (MovesOn [] [] (view chair.old) (view chair.new)) }
     ensures refused { IfErr result (λ c. IsRefusedBy P.state P.faults G.group [] c
         (view chair.old) (view chair.new)) }
 {

@@ -1,5 +1,5 @@
-pub mod Exact
-pub mod Recoveries
-pub mod Runnings
-pub mod Saying
-pub mod Workloads
+pub mod CommandsExact
+pub mod CommandsSaying
+pub mod Generates
+pub mod Recovers
+pub mod RunsScripts

@@ -34,8 +34,8 @@ IsRecoveredAs x limit file text = (r : RecoveredImage) × IsRecoveryOf x limit r
 pub data RefusesRecovery (x : DriveImage) : (status : ℕ) → (text : List ℕ) → Type 0 where
   not_recovered : (e : ImageFault) → RefusesDrive x e → RefusesRecovery x 3 (drive_line e)
 
--- The image that the name held was recovered with power for so many events, where that is told, and the name holds
--- what that left; or nothing was saved, and why is said.
+-- The image that the name held was recovered with power for `limit` events, if that is given, and the name
+-- holds what that left; or nothing was saved, and the reason is printed.
 pub data Recovers (limit : Option ℕ) (name : List ℕ) (old new : FilesState) : (status : ℕ) → (text : List ℕ) → Type 0 where
   recovered : (bytes : List ℕ) (x : DriveImage) (r : RecoveredImage) (mid : FilesState) → IsLoaded name bytes old mid → IsRead x bytes → IsRecoveryOf x limit r → IsSaved name (image_bytes r.image) mid new → Recovers limit name old new 0 (recovered_text r)
   refused : {status : ℕ} {text : List ℕ} → SaysOf (SaysOfImage RefusesRecovery) name old new status text → Recovers limit name old new status text

@@ -18,7 +18,7 @@ use mq_script::{ScriptCause, ScriptRefusal};
 use mq_tree::Fault;
 use std::alloc::Global;
 
-/// A text, and the status with which the command ends that says it.
+/// The text that a command prints, and the status with which it ends.
 #[derive(Drop)]
 pub struct Answer {
     pub status: u8,
@@ -35,7 +35,7 @@ fn refused(line: String) -> Answer
     }
 }
 
-/// The answer to bytes that are no image.
+/// The answer to bytes that are not an image file.
 pub fn refuse_file(alloc: Global, fault: FileFault) -> Result<Answer, OutOfMemory>
     ensures { IfOk result (λ a. (a.status ≡ 3)
         × (a.text.items ≡ file_line fault)
@@ -71,7 +71,7 @@ pub fn refuse_volume(alloc: Global, refusal: StandingRefusal) -> Result<Answer, 
     Ok(refused(line_of_volume(alloc, refusal)?))
 }
 
-/// The answer to a path of no file.
+/// The answer to a path that names no file.
 pub fn refuse_path(alloc: Global, fault: Fault) -> Result<Answer, OutOfMemory>
     ensures { IfOk result (λ a. (a.status ≡ 3) × (a.text.items ≡ path_line fault)) }
 {
@@ -109,7 +109,7 @@ pub fn refuse_scripts(alloc: Global, count: usize, queues: u32) -> Result<Answer
     })
 }
 
-/// Says an answer, or that memory ran out for it.
+/// Prints an answer, or that memory ran out.
 pub fn say_answer<K: Sink>(answer: Result<Answer, OutOfMemory>, out: &mut K) -> u8
     ensures { MatchResult answer (λ a. EndsWith a.status a.text.items result (K.state out.old) (K.state out.new))
         (λ _. EndsWith 6 memory_line result (K.state out.old) (K.state out.new)) }
@@ -120,7 +120,7 @@ pub fn say_answer<K: Sink>(answer: Result<Answer, OutOfMemory>, out: &mut K) -> 
     }
 }
 
-/// Saves a file, and then says a text; where it is not saved, why is said.
+/// Saves a file, and then prints a text, or the reason why the file was not saved.
 pub fn save_and_say<F: Files, K: Sink>(
     name: &str,
     file: &[u8],

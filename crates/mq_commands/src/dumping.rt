@@ -3,7 +3,7 @@ ghost use Rattle.std.specs.Prelude.{◌≡◌, ℕ, List, IfOk, Some};
 ghost use Rattle.mq_blocks.specs.Descriptor.{Descriptor};
 ghost use Rattle.mq_blocks.specs.Journal.{AreWhole};
 ghost use Rattle.mq_commands.specs.Commands.{Dumps, SaysOfImage};
-ghost use Rattle.mq_ending.specs.Ending.{EndsWith, IsUnlessWanting, SaysOf};
+ghost use Rattle.mq_ending.specs.Ending.{EndsWith, IsUnlessFailed, SaysOf};
 ghost use Rattle.mq_image.specs.Drives.{IsDrive, IsRead};
 ghost use Rattle.mq_image.specs.Faults.{HasFault};
 ghost use Rattle.mq_image.specs.File.{DriveImage as Image};
@@ -44,7 +44,7 @@ fn dump_bytes(alloc: Global, bytes: Vec<u8>) -> Result<Answer, OutOfMemory>
     }
 }
 
-/// `dump NAME`: tells the words and the chains of the image that the name holds. Nothing is saved.
+/// `dump NAME`: prints the words and the chains of the image that the name holds. Nothing is saved.
 pub fn dump<F: Files, K: Sink>(alloc: Global, name: &str, files: &mut F, out: &mut K) -> u8
     ensures ends { (status : ℕ)
         × (text : List ℕ)
@@ -54,16 +54,16 @@ pub fn dump<F: Files, K: Sink>(alloc: Global, name: &str, files: &mut F, out: &m
         → Tells (F.state files.old).contents name.now (Some bytes)
         → IsRead x bytes
         → AreWhole x.geometry (view_of x) chains
-        → IsUnlessWanting 0 result }
+        → IsUnlessFailed 0 result }
     ensures refused_where { (bytes : List ℕ) (e : FileFault)
         → Tells (F.state files.old).contents name.now (Some bytes)
         → HasFault bytes (Some e)
-        → IsUnlessWanting 3 result }
+        → IsUnlessFailed 3 result }
     ensures unreadable_where { (bytes : List ℕ) (x : Image) (e : ImageFault)
         → Tells (F.state files.old).contents name.now (Some bytes)
         → IsRead x bytes
         → RefusesDrive x e
-        → IsUnlessWanting 3 result }
+        → IsUnlessFailed 3 result }
     ensures contents { (F.state files.new).contents ≡ (F.state files.old).contents }
 {
     match load_or_say(alloc, name, files, out) {

@@ -3,7 +3,7 @@ ghost use Rattle.std.specs.Prelude.{◌≡◌, ◌⊎◌, ℕ, List, IfErr, IfOk
 ghost use Rattle.mq_blocks.specs.declared.geometry.Geometry.{Geometry as Shape};
 ghost use Rattle.mq_commands.specs.Commands.{Formats, RefusesNumbers, numbers_of};
 ghost use Rattle.mq_commands.specs.Lines.{geometry_line};
-ghost use Rattle.mq_ending.specs.Ending.{EndsWith, IsUnlessWanting, memory_line};
+ghost use Rattle.mq_ending.specs.Ending.{EndsWith, IsUnlessFailed, memory_line};
 ghost use Rattle.mq_image.specs.File.{DriveImage, image_bytes};
 ghost use Rattle.mq_images.specs.Empty.{IsEmptyDrive};
 
@@ -16,7 +16,7 @@ use mq_images::format_drive;
 use mq_outside::{Files, Sink};
 use std::alloc::Global;
 
-/// The numbers of a geometry, which may be none.
+/// The four numbers of a geometry, which may be out of range.
 #[derive(Clone, Copy, Debug, PartialEq, Eq)]
 pub struct Numbers {
     pub queues: u32,
@@ -52,8 +52,8 @@ fn say_refused<K: Sink>(alloc: Global, refusal: GeometryRefusal, out: &mut K) ->
     }
 }
 
-/// `format NAME QUEUES AREA META ZONE`: makes the name hold the image of a fresh drive with the empty file system.
-/// Nothing is said before the image is saved, but the line of a refusal.
+/// `format NAME QUEUES AREA META ZONE`: makes the name hold the image of a fresh drive with the empty file
+/// system. Before the image is saved, only the line of a refusal is printed.
 pub fn format<F: Files, K: Sink>(
     alloc: Global,
     name: &str,
@@ -65,8 +65,8 @@ pub fn format<F: Files, K: Sink>(
         × (text : List ℕ)
         × Formats numbers name.now (F.state files.old) (F.state files.new) status text
         × EndsWith status text result (K.state out.old) (K.state out.new) }
-    ensures done_where { (g : Shape) → numbers_of g ≡ numbers → IsUnlessWanting 0 result }
-    ensures refused_where { (e : GeometryRefusal) → RefusesNumbers numbers e → IsUnlessWanting 3 result }
+    ensures done_where { (g : Shape) → numbers_of g ≡ numbers → IsUnlessFailed 0 result }
+    ensures refused_where { (e : GeometryRefusal) → RefusesNumbers numbers e → IsUnlessFailed 3 result }
 {
     let geometry = match shape(numbers) {
         Ok(geometry) => geometry,

@@ -2,7 +2,7 @@
 ghost use Rattle.std.specs.Prelude.{◌≡◌, ◌≤◌, ℕ, List, IfErr, IfOk, Some, option_map};
 ghost use Rattle.std.specs.String.{string_bytes};
 ghost use Rattle.mq_commands.specs.Generates.{Generates, SavesUnder, generated_head, generated_line};
-ghost use Rattle.mq_ending.specs.Ending.{EndsWith, IsNotSaved, IsUnlessWanting};
+ghost use Rattle.mq_ending.specs.Ending.{EndsWith, IsNotSaved, IsUnlessFailed};
 
 use mq_calls::Gate;
 use mq_ending::{DONE, save_or_say, say, say_memory};
@@ -13,13 +13,13 @@ use std::alloc::{AllocError, Global};
 use std::sync::Wait;
 use std::thread::Threads;
 
-/// Which workload it is.
+/// The parameters of a generated workload.
 #[derive(Clone, Copy, Debug, PartialEq, Eq)]
 pub struct Workload {
-    /// What the generators of its threads are made of.
+    /// The seed of the generators of its threads.
     pub seed: u64,
     pub threads: u32,
-    /// How many groups each thread has, but for its first.
+    /// The number of groups of each thread, not counting its first.
     pub groups: u32,
 }
 
@@ -71,9 +71,10 @@ fn save_under<F: Files, K: Sink>(
     }
 }
 
-/// `gen SEED THREADS GROUPS [--save NAME]`: runs the workload on the empty file system of a fresh drive in memory, each of
-/// its scripts on a session and a thread of its own, saves what a cut of the power at the end of the sessions leaves, where
-/// a name is given for it, and says how much the tree then has. Nothing is said before the image is saved.
+/// `gen SEED THREADS GROUPS [--save NAME]`: runs the workload on the empty file system of a fresh drive in
+/// memory, each of its scripts on a session and a thread of its own, saves what a cut of the power at the
+/// end of the sessions leaves, if a name is given for it, and prints how many files, directories and bytes
+/// the tree then has. Nothing is printed before the image is saved.
 pub fn generate<F: Files, K: Sink, R: Threads + Wait + Sync, G: Gate + Sync>(
     rt: &R,
     alloc: Global,
@@ -88,7 +89,7 @@ pub fn generate<F: Files, K: Sink, R: Threads + Wait + Sync, G: Gate + Sync>(
         × (text : List ℕ)
         × Generates workload (option_map (λ s. s.now) save.entry) (F.state files.old) (F.state files.new) status text
         × EndsWith status text result (K.state out.old) (K.state out.new) }
-    ensures done { IsUnlessWanting 0 result }
+    ensures done { IsUnlessFailed 0 result }
 {
     let Workload {
         seed,

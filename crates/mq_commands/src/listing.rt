@@ -1,7 +1,7 @@
 // `ls` and `cat`: the tree that stands on an image, and the bytes of its files.
 ghost use Rattle.std.specs.Prelude.{◌≡◌, ℕ, List, IfOk, Err, Ok, Some};
 ghost use Rattle.mq_commands.specs.Commands.{Lists, SaysOfImage, ShowsFile};
-ghost use Rattle.mq_ending.specs.Ending.{EndsWith, IsUnlessWanting, SaysOf};
+ghost use Rattle.mq_ending.specs.Ending.{EndsWith, IsUnlessFailed, SaysOf};
 ghost use Rattle.mq_image.specs.Drives.{IsDrive, IsRead};
 ghost use Rattle.mq_image.specs.Faults.{HasFault};
 ghost use Rattle.mq_image.specs.File.{DriveImage as Image};
@@ -54,16 +54,16 @@ pub fn ls<F: Files, K: Sink>(alloc: Global, name: &str, files: &mut F, out: &mut
         → Tells (F.state files.old).contents name.now (Some bytes)
         → IsRead x bytes
         → StandsFor x v
-        → IsUnlessWanting 0 result }
+        → IsUnlessFailed 0 result }
     ensures refused_where { (bytes : List ℕ) (e : FileFault)
         → Tells (F.state files.old).contents name.now (Some bytes)
         → HasFault bytes (Some e)
-        → IsUnlessWanting 3 result }
+        → IsUnlessFailed 3 result }
     ensures no_volume_where { (bytes : List ℕ) (x : Image)
         → Tells (F.state files.old).contents name.now (Some bytes)
         → IsRead x bytes
         → HasNoVolume x
-        → IsUnlessWanting 3 result }
+        → IsUnlessFailed 3 result }
     ensures contents { (F.state files.new).contents ≡ (F.state files.old).contents }
 {
     match load_or_say(alloc, name, files, out) {
@@ -101,8 +101,8 @@ fn show_bytes(alloc: Global, bytes: Vec<u8>, path: &Path) -> Result<Answer, OutO
     }
 }
 
-/// `cat NAME PATH`: says the bytes of a file of the tree that stands on the image that the name holds. Nothing is
-/// saved.
+/// `cat NAME PATH`: prints the bytes of a file of the tree that stands on the image that the name holds.
+/// Nothing is saved.
 pub fn cat<F: Files, K: Sink>(
     alloc: Global,
     name: &str,
@@ -119,22 +119,22 @@ pub fn cat<F: Files, K: Sink>(
         → IsRead x bytes
         → StandsFor x v
         → ReadsAs v path.now (Ok content)
-        → IsUnlessWanting 0 result }
+        → IsUnlessFailed 0 result }
     ensures no_file_where { (bytes : List ℕ) (x : Image) (v : Volume) (fault : Fault)
         → Tells (F.state files.old).contents name.now (Some bytes)
         → IsRead x bytes
         → StandsFor x v
         → ReadsAs v path.now (Err fault)
-        → IsUnlessWanting 3 result }
+        → IsUnlessFailed 3 result }
     ensures refused_where { (bytes : List ℕ) (e : FileFault)
         → Tells (F.state files.old).contents name.now (Some bytes)
         → HasFault bytes (Some e)
-        → IsUnlessWanting 3 result }
+        → IsUnlessFailed 3 result }
     ensures no_volume_where { (bytes : List ℕ) (x : Image)
         → Tells (F.state files.old).contents name.now (Some bytes)
         → IsRead x bytes
         → HasNoVolume x
-        → IsUnlessWanting 3 result }
+        → IsUnlessFailed 3 result }
     ensures contents { (F.state files.new).contents ≡ (F.state files.old).contents }
 {
     match load_or_say(alloc, name, files, out) {

@@ -6,7 +6,7 @@ ghost use Rattle.mq_image.specs.Faults.{FindsFirst};
 use mq_image::{DriveImage, FileFault, read_image};
 use std::alloc::Global;
 
-/// The image of the bytes of a file. They are let go before anything is made of the image.
+/// The image of the bytes of a file. They are freed before anything is made of the image.
 pub fn read_loaded(alloc: Global, bytes: Vec<u8>) -> Result<DriveImage, FileFault>
     ensures sound { IfOk result (λ x. IsRead x bytes.items) }
     ensures finds { FindsFirst bytes.items result }

@@ -5,7 +5,7 @@ ghost use Rattle.mq_blocks.specs.Descriptor.{Descriptor};
 ghost use Rattle.mq_commands.specs.Commands.{SaysOfImage};
 ghost use Rattle.mq_commands.specs.Lines.{number_line};
 ghost use Rattle.mq_commands.specs.Recovers.{IsRecoveredAs, IsRecoveryFile, Recovers, RefusesRecovery, cut_line, recovered_text};
-ghost use Rattle.mq_ending.specs.Ending.{EndsWith, IsUnlessWanting};
+ghost use Rattle.mq_ending.specs.Ending.{EndsWith, IsUnlessFailed};
 ghost use Rattle.mq_image.specs.Drives.{IsDrive, IsRead};
 ghost use Rattle.mq_image.specs.Faults.{HasFault};
 ghost use Rattle.mq_image.specs.File.{DriveImage as Image, image_bytes};
@@ -142,10 +142,10 @@ fn recover_or_say<F: Files, K: Sink>(
     }
 }
 
-/// `recover NAME [--cut K] [--pick S]`: recovers the image that the name holds, and saves what the recovery left, also
-/// where that is the same. The power of the drive goes off after so many events, where that is told, and what the cut
-/// leaves of what is uncertain then follows from `pick`. Nothing is said before the image is saved, but the line of a
-/// refusal.
+/// `recover NAME [--cut K] [--pick S]`: recovers the image that the name holds, and saves what the recovery
+/// left, even if that is the same. The power of the drive goes off after `cut` events, if one is given, and
+/// what the cut leaves of what is uncertain then follows from `pick`. Before the image is saved, only the
+/// line of a refusal is printed.
 pub fn recover<F: Files, K: Sink>(
     alloc: Global,
     name: &str,
@@ -163,16 +163,16 @@ pub fn recover<F: Files, K: Sink>(
         → Tells (F.state files.old).contents name.now (Some bytes)
         → IsRead x bytes
         → Reads x ds top
-        → IsUnlessWanting 0 result }
+        → IsUnlessFailed 0 result }
     ensures refused_where { (bytes : List ℕ) (e : FaultOfFile)
         → Tells (F.state files.old).contents name.now (Some bytes)
         → HasFault bytes (Some e)
-        → IsUnlessWanting 3 result }
+        → IsUnlessFailed 3 result }
     ensures unreadable_where { (bytes : List ℕ) (x : Image) (e : ImageFault)
         → Tells (F.state files.old).contents name.now (Some bytes)
         → IsRead x bytes
         → RefusesDrive x e
-        → IsUnlessWanting 3 result }
+        → IsUnlessFailed 3 result }
 {
     recover_or_say(alloc, name, cut, pick, files, out)
 }

@@ -4,7 +4,7 @@ ghost use Rattle.std.specs.Option.{ForSome};
 ghost use Rattle.mq_blocks.specs.Descriptor.{Descriptor};
 ghost use Rattle.mq_blocks.specs.Geometry.{queues_of};
 ghost use Rattle.mq_commands.specs.RunsScripts.{AreLoaded, HoldBadScript, HoldScripts, IsRunAs, IsRunFile, IsScriptIn, RefusesName, RefusesRunning, RefusesScript, RefusesScripts, Runs, are_wanting, is_wanting, run_status};
-ghost use Rattle.mq_ending.specs.Ending.{EndsWith, IsLoaded, IsNotSaved, IsSaved, IsUnlessWanting};
+ghost use Rattle.mq_ending.specs.Ending.{EndsWith, IsLoaded, IsNotSaved, IsSaved, IsUnlessFailed};
 ghost use Rattle.mq_image.specs.Drives.{IsDrive, IsRead};
 ghost use Rattle.mq_image.specs.Faults.{HasFault};
 ghost use Rattle.mq_image.specs.File.{DriveImage as Image};
@@ -255,9 +255,9 @@ fn run_or_say<F: Files, K: Sink, R: Threads + Wait + Sync, G: Gate + Sync>(
     }
 }
 
-/// `run NAME SCRIPT.. [--cut K] [--pick S] [--fail Q:N]`: recovers the image that the name holds, runs the scripts that
-/// the other names hold, each on a session and a thread of its own, and saves what that left. Nothing is said before the
-/// image is saved, but the line of a refusal.
+/// `run NAME SCRIPT.. [--cut K] [--pick S] [--fail Q:N]`: recovers the image that the name holds, runs the
+/// scripts that the other names hold, each on a session and a thread of its own, and saves what that left.
+/// Before the image is saved, only the line of a refusal is printed.
 pub fn run<F: Files, K: Sink, R: Threads + Wait + Sync, G: Gate + Sync>(
     rt: &R,
     alloc: Global,
@@ -281,29 +281,29 @@ pub fn run<F: Files, K: Sink, R: Threads + Wait + Sync, G: Gate + Sync>(
         → length texts ≤ queues_of x.geometry
         → (for : StandsFor x v)
         → AreWithin x for.top
-        → ((options.fail ≢ None) × (result ≡ 5)) ⊎ IsUnlessWanting 0 result }
+        → ((options.fail ≢ None) × (result ≡ 5)) ⊎ IsUnlessFailed 0 result }
     ensures refused_where { (bytes : List ℕ) (e : FileFault)
         → Tells (F.state files.old).contents name.now (Some bytes)
         → HasFault bytes (Some e)
-        → IsUnlessWanting 3 result }
+        → IsUnlessFailed 3 result }
     ensures bad_script_where { (bytes : List ℕ) (x : Image)
         → Tells (F.state files.old).contents name.now (Some bytes)
         → IsRead x bytes
         → HoldBadScript (F.state files.old).contents (map (λ s. s.now) scripts.now)
-        → IsUnlessWanting 2 result }
+        → IsUnlessFailed 2 result }
     ensures too_many_where { (bytes : List ℕ) (x : Image) (texts : List ReadScript)
         → Tells (F.state files.old).contents name.now (Some bytes)
         → IsRead x bytes
         → HoldScripts (F.state files.old).contents (map (λ s. s.now) scripts.now) texts
         → queues_of x.geometry < length texts
-        → IsUnlessWanting 2 result }
+        → IsUnlessFailed 2 result }
     ensures no_volume_where { (bytes : List ℕ) (x : Image) (texts : List ReadScript)
         → Tells (F.state files.old).contents name.now (Some bytes)
         → IsRead x bytes
         → HoldScripts (F.state files.old).contents (map (λ s. s.now) scripts.now) texts
         → length texts ≤ queues_of x.geometry
         → HasNoVolume x
-        → IsUnlessWanting 3 result }
+        → IsUnlessFailed 3 result }
     ensures limit_where { (bytes : List ℕ) (x : Image) (texts : List ReadScript) (ds : List Descriptor) (top n : ℕ)
         → Tells (F.state files.old).contents name.now (Some bytes)
         → IsRead x bytes
@@ -311,7 +311,7 @@ pub fn run<F: Files, K: Sink, R: Threads + Wait + Sync, G: Gate + Sync>(
         → length texts ≤ queues_of x.geometry
         → Reads x ds top
         → IsFirstAbove x top n
-        → IsUnlessWanting 3 result }
+        → IsUnlessFailed 3 result }
 {
     run_or_say(rt, alloc, name, scripts, options, files, out, gate)
 }

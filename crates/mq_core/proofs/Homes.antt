@@ -15,13 +15,13 @@ use Rattle.mq_ledger.specs.Items.{item_at}
 use Rattle.mq_ledger.specs.KnownJournal.{KnownJournal, LogOk, front}
 use Rattle.mq_ledger.specs.Sides.{Certainly, IsDone, SideOk, RootOk, home_index, place_index}
 use Rattle.mq_ledger.specs.declared.tx.Tx.{Tx}
-use Rattle.mq_blocks.proofs.Among.{apart-not_among}
-use Rattle.mq_ledger.proofs.Values.{last_at, last_settled, changes_direct}
+use Rattle.mq_blocks.proofs.JournalAmong.{apart-not_among}
+use Rattle.mq_ledger.proofs.History.{last_at, last_settled, changes_direct}
 use Rattle.mq_core.specs.Events.{begin_home, end_home}
 use Rattle.mq_core.specs.Homes.{IsLoggedLast}
-use Rattle.mq_core.proofs.Commands.{apart_along}
-use Rattle.mq_core.proofs.Ports.{index-place, index-zone, zone-apart}
-use Rattle.mq_core.proofs.Sources.{direct_in, direct-zone}
+use Rattle.mq_core.proofs.SidesCommands.{apart_along}
+use Rattle.mq_core.proofs.EventsPorts.{index-place, index-zone, zone-apart}
+use Rattle.mq_core.proofs.KnownJournalSources.{direct_in, direct-zone}
 
 -- the port with other contents and home writes
 abbrev pub written_to : PortState → List (Option (List ℕ)) → List Bool → List HomeWrite → ℕ → PortState

@@ -1,28 +1,28 @@
-pub mod Fronts
-pub mod Commands
-pub mod Ports
-pub mod Sources
-pub mod SideEvents
-pub mod SideCommands
-pub mod Growth
+pub mod HistoryFronts
+pub mod SidesCommands
+pub mod EventsPorts
+pub mod KnownJournalSources
+pub mod EventsSides
+pub mod EventsSideCommands
+pub mod KnownJournalGrowth
 pub mod Homes
-pub mod Bases
+pub mod HistoryBases
 mod StatePorts
 pub mod StateEvents
 pub mod StateBases
-mod Goodness
-mod Reading
-pub mod Cuts
-pub mod Safe
-pub mod Runs
-mod Lifts
-mod Insides
-mod Settling
-pub mod HomeWrites
-mod Tellings
-mod HomeCalls
-mod BaseTests
-mod Running
-mod StartStates
-mod Examples
-mod Revocations
+mod ItemsGoodness
+mod ItemsReading
+pub mod StateCuts
+pub mod StateSafe
+pub mod MachineFacts
+mod MachineLifts
+mod Within
+mod Settled
+pub mod DriveHomeWrites
+mod EventsTellings
+mod HomesCalls
+mod Bases
+mod MachineRunning
+mod Start
+mod MachineExamples
+mod MachineRevocations

@@ -11,9 +11,9 @@ use Rattle.mq_ledger.specs.KnownJournal.{KnownJournal, front}
 use Rattle.mq_ledger.specs.Sides.{RootOk, AreHome, IsKept, home_index}
 use Rattle.mq_ledger.specs.State.{State, Facts, IsUnder, port_at, port_of, known_of, front_of, start_map}
 use Rattle.mq_ledger.specs.declared.tx.Tx.{Tx}
-use Rattle.mq_ledger.proofs.Values.{last-changed, last-same, last_settled, value_settled, unchanged, map_written, write_of-append, written_among}
+use Rattle.mq_ledger.proofs.History.{last-changed, last-same, last_settled, value_settled, unchanged, map_written, write_of-append, written_among}
 use Rattle.mq_core.specs.Events.{store_base, flush_base, MayStoreBase}
-use Rattle.mq_core.proofs.Bases.{log_based, side_based}
+use Rattle.mq_core.proofs.HistoryBases.{log_based, side_based}
 use Rattle.mq_core.proofs.StateEvents.{zone-queue}
 
 -- a block whose last change, above the base, logged it is in the map

@@ -8,17 +8,18 @@ use Rattle.mq_blocks.specs.Geometry.{homes_of, zone_of, home_lba}
 use Rattle.mq_blocks.specs.Journal.{is_among}
 use Rattle.mq_blocks.specs.declared.command.HomeWrite.{HomeWrite}
 use Rattle.mq_blocks.specs.declared.geometry.Geometry.{Geometry}
+use Rattle.mq_blocks.proofs.DriveBegun.{begun_new}
 use Rattle.mq_ledger.specs.History.{blocks_of, changes, last, of_queue, IsAt}
 use Rattle.mq_ledger.specs.Items.{Entries}
 use Rattle.mq_ledger.specs.KnownJournal.{LogOk, front, draw_known, MayDraw}
 use Rattle.mq_ledger.specs.Sides.{SideOk, RootOk, home_index, home_index_in}
 use Rattle.mq_ledger.specs.State.{State, Facts, IsUnder, port_at, port_of, from_at, known_of, front_of}
 use Rattle.mq_ledger.specs.declared.tx.Tx.{Tx}
-use Rattle.mq_ledger.proofs.Values.{last_le, last-same}
-use Rattle.mq_ledger.proofs.Entries.{of_queue-own, of_queue-other}
+use Rattle.mq_ledger.proofs.History.{last_le, last-same}
+use Rattle.mq_ledger.proofs.Items.{of_queue-own, of_queue-other}
 use Rattle.mq_core.specs.Events.{with_port, us_of, draw, clear, acknowledge, write_home, home_done, begin_home, end_home, content_at, unchanged_by, without, HasRoom, MayClear, MayWriteHome}
-use Rattle.mq_core.proofs.Ports.{index-zone, index-root, zone-apart}
-use Rattle.mq_core.proofs.Growth.{front_drawn, side_drawn, root_drawn, log_drawn, side_extends}
+use Rattle.mq_core.proofs.EventsPorts.{index-zone, index-root, zone-apart}
+use Rattle.mq_core.proofs.KnownJournalGrowth.{front_drawn, side_drawn, root_drawn, log_drawn, side_extends}
 use Rattle.mq_core.specs.Homes.{IsLoggedLast}
 use Rattle.mq_core.proofs.Homes.{side_written, root_written, else_begin, else_end}
 use Rattle.mq_core.proofs.StatePorts.{port_keeps, port_front, port_same}
@@ -44,7 +45,7 @@ draw_keeps e s t f may room mark =
     let same = front_drawn k t f.log may.number new in
     let low = f.log.word_high in
     let base = f.log.word_low in
-    let past : s.root.base < t.number = (let w : k.word ≤ k.base + length k.history = omega (arith, low, Rattle.mq_core.proofs.Growth.front_low k) in omega (arith, may.number)) in
+    let past : s.root.base < t.number = (let w : k.word ≤ k.base + length k.history = omega (arith, low, Rattle.mq_core.proofs.KnownJournalGrowth.front_low k) in omega (arith, may.number)) in
     record {
       log = log_drawn k t f.log may new;
       ports = f.ports;
@@ -194,13 +195,6 @@ begun_append lba [] w h = absurd (false≢true h)
 begun_append lba (v ∷ ws) w h = elim (cases_Bool (eqb v.lba lba)) [
   | inl same ↦ rw same refl
   | inr other ↦ rw other (begun_append lba ws w (rw other at h))
-]
-
-begun_new : (lba : ℕ) (ws : List HomeWrite) (w : HomeWrite) → w.lba ≡ lba → holds_write lba (ws ++ w ∷ []) ≡ true
-begun_new lba [] w e = rw (eq-eqb w.lba lba e) refl
-begun_new lba (v ∷ ws) w e = elim (cases_Bool (eqb v.lba lba)) [
-  | inl same ↦ rw same refl
-  | inr other ↦ rw other (begun_new lba ws w e)
 ]
 
 begun_left : (lba other : ℕ) (ws : List HomeWrite) → lba ≢ other → holds_write lba ws ≡ true → holds_write lba (without_last other ws) ≡ true

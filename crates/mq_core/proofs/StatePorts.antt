@@ -11,14 +11,14 @@ use Rattle.mq_ledger.specs.KnownJournal.{KnownJournal, front}
 use Rattle.mq_ledger.specs.Sides.{SideOk, home_index}
 use Rattle.mq_ledger.specs.State.{State, Facts, IsUnder, is_done, port_at, port_of, from_at, known_of, front_of}
 use Rattle.mq_ledger.specs.declared.tx.Tx.{Tx}
-use Rattle.mq_ledger.proofs.Values.{last_at, changes_direct}
+use Rattle.mq_ledger.proofs.History.{last_at, changes_direct}
 use Rattle.mq_core.specs.Events.{with_port, us_of, stage, flush, ring, complete, fail_command, store_head, stage_side, complete_side, fail_side, command_with, MayStage, MayRing, MayEnd, MayStoreHead}
-use Rattle.mq_core.proofs.Commands.{own_with}
-use Rattle.mq_core.proofs.Sources.{late}
-use Rattle.mq_core.proofs.Fronts.{DoneMore}
-use Rattle.mq_core.proofs.Growth.{front_more, log_more, side_more, root_more}
-use Rattle.mq_core.proofs.SideEvents.{side_stage, side_flush, side_store_head}
-use Rattle.mq_core.proofs.SideCommands.{side_ring, side_complete, side_fail, apart_home, posted_late}
+use Rattle.mq_core.proofs.SidesCommands.{own_with}
+use Rattle.mq_core.proofs.KnownJournalSources.{late}
+use Rattle.mq_core.proofs.HistoryFronts.{DoneMore}
+use Rattle.mq_core.proofs.KnownJournalGrowth.{front_more, log_more, side_more, root_more}
+use Rattle.mq_core.proofs.EventsSides.{side_stage, side_flush, side_store_head}
+use Rattle.mq_core.proofs.EventsSideCommands.{side_ring, side_complete, side_fail, apart_home, posted_late}
 
 pub port_same : (ports : List PortState) (q : ℕ) (p : PortState) → q < length ports → port_at (set ports q p) q ≡ p
 port_same ports q p l = get_or-set_same ports q p _ l

@@ -31,7 +31,7 @@ abbrev pub post_none : State → ℕ → List PortState → Bool
 post_none s b [] = true
 post_none s b (p ∷ ps) = if writes_none s b p.posted then post_none s b ps else false
 
--- this was written last, and is in no doubt but for what posted commands write
+-- this was written last, and is certain except for what posted commands write
 pub record Holds (p : PortState) (lba : ℕ) (content : List ℕ) : Type 0 where
   pub certain : slice_index_or p.certain (index_of p lba) false ≡ true
   pub is : block_at p.blocks (index_of p lba) ≡ content

@@ -27,7 +27,7 @@ pub enum Event {
     FlushHead { queue: QueueNo },
     /// The queue's mark: each of its numbers that isn't done is at or above it.
     Clear { queue: QueueNo, low: u64 },
-    /// All numbers up to this one are done, and whoever asked is told.
+    /// All numbers up to this one are done, and this is acknowledged to the caller.
     Acknowledge { number: TxNo },
     /// A home write of the block's content begins.
     WriteHome { block: BlockNo },
@@ -42,17 +42,17 @@ pub enum Event {
 /// Why an event does not happen.
 #[derive(Clone, Copy, Debug, PartialEq, Eq)]
 pub enum CoreRefusal {
-    /// The event at this index of a list is not allowed in the state that it meets. Of a single event
-    /// the index is 0.
+    /// The event at this index of a list is not allowed in the state that it meets. For a single
+    /// event the index is 0.
     NotAllowed { index: u64 },
-    /// Memory was not to be had. The event may be allowed.
+    /// Memory ran out. The event may be allowed.
     OutOfMemory,
 }
 
 impl CoreRefusal {
     ghost use Rattle.mq_core.specs.Answers.{refusal_at};
 
-    /// The refusal of the event at an index of a list, where this is the event's own.
+    /// This refusal of a single event, as that of the event at an index of a list.
     pub fn at(self, index: u64) -> CoreRefusal
         ensures { result ≡ refusal_at index self }
     {

@@ -145,7 +145,7 @@ pub fn same_content(stored: &Option<Content>, block: &Content) -> bool
     }
 }
 
-/// One more, up to the greatest number of 64 bits.
+/// The number plus 1, but at most 2^64 - 1.
 pub fn bump(n: u64) -> u64
     ensures { result ≡ counted n 1 }
 {
@@ -202,7 +202,7 @@ pub fn are_from(commands: &[PlainCommand], low: u64) -> bool
     true
 }
 
-/// Takes the command of a count out, if there is one.
+/// Removes the command of a count, and returns it if there is one.
 pub fn take_count(commands: &mut Vec<PlainCommand>, count: u64) -> Option<PlainCommand>
     ensures some { IfSome result (λ c. (holds_count count commands.old.items ≡ true)
         × (command_with count commands.old.items ≡ c)
@@ -235,7 +235,7 @@ pub fn last_write(begun: &[PlainHomeWrite], lba: Lba) -> Option<usize>
     None
 }
 
-/// Takes the last home write of a block out, if there is one.
+/// Removes the last home write of a block, if there is one.
 pub fn drop_last(begun: &mut Vec<PlainHomeWrite>, lba: Lba)
     ensures { begun.new.items ≡ without_last lba begun.old.items }
 {
@@ -244,7 +244,7 @@ pub fn drop_last(begun: &mut Vec<PlainHomeWrite>, lba: Lba)
     }
 }
 
-/// So many blocks that were never written, and then these.
+/// `empty` blocks that were never written, and then these.
 pub fn behind_empty(
     alloc: Global,
     empty: usize,
@@ -261,8 +261,8 @@ pub fn behind_empty(
 }
 
 impl PlainPort {
-    /// A port where nothing has happened yet: a queue's, or the root's where none is named. It has
-    /// these home blocks, of which `None` is a block of zeros.
+    /// A port where nothing has happened yet: that of a queue, or the root's if no queue is named. It
+    /// has these home blocks, of which `None` is a block of zeros.
     pub fn fresh(
         alloc: Global,
         geometry: Geometry,
@@ -326,7 +326,7 @@ impl PlainPort {
         (self.area_size + (lba.0 - self.homes_first)) as usize
     }
 
-    /// Writes a block: it holds this content, and is in no doubt.
+    /// Writes a block, which then holds this content with certainty.
     fn write(&mut self, lba: Lba, block: Content)
         requires { IsWithin self.old lba }
         ensures { self.new ≡ after_write self.old lba block }
@@ -395,8 +395,8 @@ impl PlainPort {
         self.doorbell + self.pending.len() as u64
     }
 
-    /// Whether all that was drawn is rung and no command has failed, where the queue's transactions end
-    /// at this count.
+    /// Whether everything that was drawn is rung and no command has failed, where the queue's
+    /// transactions end at this count.
     pub fn is_rung_to(&self, end: u64) -> bool
         ensures { IsTrue result ↔ ((self.now.doorbell ≡ end) × (self.now.failed ≡ [])) }
     {
@@ -413,7 +413,7 @@ impl PlainPort {
         u64::from(USABLE_DEPTH) - (self.staged_end() - self.head)
     }
 
-    /// Whether something is drawn that isn't rung, and it is wholly staged, where the queue's
+    /// Whether something is drawn that isn't rung, and all of it is staged, where the queue's
     /// transactions end at this count.
     pub fn is_staged_to(&self, end: u64) -> bool
         requires { staged_end self.now < 2 ^ 64 }
@@ -422,7 +422,7 @@ impl PlainPort {
         self.doorbell < end && self.staged_end() == end
     }
 
-    /// Whether it is flushed too.
+    /// Whether `is_staged_to` holds, and what is staged is flushed, too.
     pub fn is_flushed_to(&self, end: u64) -> bool
         requires { staged_end self.now < 2 ^ 64 }
         ensures { IsTrue result ↔ IsFlushedTo end self.now }
@@ -512,7 +512,7 @@ impl PlainPort {
         &self.posted
     }
 
-    /// Whether this was written last to a block, and the block is in no doubt but for what posted
+    /// Whether this was written last to a block, and the block is certain except for what posted
     /// commands write.
     pub fn holds(&self, lba: Lba, content: &Content) -> bool
         requires { IsWithin self.now lba }
@@ -546,7 +546,7 @@ impl PlainPort {
         self.events = bump(self.events);
     }
 
-    /// Stores the head, where every command below it is completed with success.
+    /// Stores the head, if every command below it is completed with success.
     pub fn try_store_head(&mut self, head: u64) -> Result<(), CoreRefusal>
         ensures { Answers (IsCompletedTo head self.old)
             (after_store_head self.old head) self.old self.new result }

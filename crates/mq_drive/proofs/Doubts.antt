@@ -1,4 +1,4 @@
--- Which blocks are in doubt.
+-- Which blocks are uncertain.
 use Rattle.std.proofs.Common.{◌≡◌, ◌≢◌, ◌<◌, ℕ, zero, suc, Bool, true, false, List, [], ◌∷◌, length, get_or, set, Option, Some, None, is_some, refl, sym, ◌∙◌, ap, subst, arith, eqb, eq-eqb, true≢false}
 use Rattle.std.proofs.lemmas.List.{get_or-set_other}
 use Rattle.std.proofs.Math.ListN.{length-set}
@@ -11,24 +11,20 @@ still_false (f ∷ fs) zero (suc j) is = is
 still_false (f ∷ fs) (suc i) zero is = is
 still_false (f ∷ fs) (suc i) (suc j) is = still_false fs i j is
 
--- what another write that begins or fails leaves in doubt
+-- what another write that begins or fails leaves uncertain
 pub doubt_begin : (doubt : Option ℕ) (flags more : List Bool) (i : ℕ) → more ≡ set flags i false
     → ForSome doubt (λ k. (k < length flags) × (get_or flags k false ≡ false)) → ForSome doubt (λ k. (k < length more) × (get_or more k false ≡ false))
 doubt_begin doubt flags more i is old k some =
     let long : length more ≡ length flags = ap length is ∙ length-set flags i false in
     (let within = (old k some).0 in omega (arith, long, within), ap (λ (l : List Bool). get_or l k false) is ∙ still_false flags i k (old k some).1)
 
--- what a completed write of another block leaves in doubt
+-- what a completed write of another block leaves uncertain
 pub doubt_complete : (doubt : Option ℕ) (flags more : List Bool) (i : ℕ) → more ≡ set flags i true → (doubt ≡ Some i → ⊥)
     → ForSome doubt (λ k. (k < length flags) × (get_or flags k false ≡ false)) → ForSome doubt (λ k. (k < length more) × (get_or more k false ≡ false))
 doubt_complete doubt flags more i is apart old k some =
     let long : length more ≡ length flags = ap length is ∙ length-set flags i true in
     let other : k ≢ i = λ at. apart (some ∙ ap (λ (n : ℕ). Some n) at) in
     (let within = (old k some).0 in omega (arith, long, within), ap (λ (l : List Bool). get_or l k false) is ∙ get_or-set_other flags i k true false other ∙ (old k some).1)
-
-pub none_of : {A : Type 0} (o : Option A) → is_some o ≡ false → o ≡ None
-none_of None is = refl
-none_of (Some x) is = absurd (true≢false is)
 
 pub none_while : {A : Type 0} (o : Option A) (n : ℕ) → ForSome o (λ x. 0 < n) → n ≡ 0 → o ≡ None
 none_while None n some is = refl

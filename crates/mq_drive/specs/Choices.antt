@@ -10,7 +10,7 @@ use Rattle.mq_blocks.specs.Drive.{PortState, PortImage, depth, staged_end, index
 use Rattle.mq_blocks.specs.declared.command.Command.{Command}
 use Rattle.mq_blocks.specs.declared.command.HomeWrite.{HomeWrite}
 use Rattle.mq_nvme.specs.Completion.{status_of}
-use Rattle.mq_drive.specs.Steps.{Fault, Ends}
+use Rattle.mq_drive.specs.Steps.{PortFault, Ends}
 use Rattle.mq_drive.specs.declared.port.Off.{Off}
 use Rattle.mq_drive.specs.declared.port.Step.{Step}
 use Rattle.mq_drive.specs.declared.port.Step.TheVariants.{Idle, Done}
@@ -63,14 +63,14 @@ without s lba r = record r {
 }
 
 -- the command that has ended is the chosen one of those that were posted
-pub record IsChosen (old : PortState) (faults : List Fault) (r : Chance) (c : List ℕ) (new : PortState) (more : List Fault) (q : Chance) : Type 0 where
+pub record IsChosen (old : PortState) (faults : List PortFault) (r : Chance) (c : List ℕ) (new : PortState) (more : List PortFault) (q : Chance) : Type 0 where
   pub ends : Ends old faults c new more
   pub at : ends.at ≡ (chosen (length old.posted) r.order).0
   pub success : status_of c ≡ 0 → q ≡ record (without old ends.command.lba r) { order = (chosen (length old.posted) r.order).1 }
   pub error : status_of c ≢ 0 → q ≡ record r { order = (chosen (length old.posted) r.order).1; failed = r.failed ++ ends.command ∷ [] }
 
 -- what a step takes of chance
-abbrev pub StepChooses : PortState → List Fault → Chance → Result Step Off → PortState → List Fault → Chance → Type 0
+abbrev pub StepChooses : PortState → List PortFault → Chance → Result Step Off → PortState → List PortFault → Chance → Type 0
 StepChooses old faults r (Ok (Done c)) new more q = IsChosen old faults r c new more q
 StepChooses old faults r (Ok Idle) new more q = q ≡ r
 StepChooses old faults r (Err _) new more q = q ≡ r
@@ -134,12 +134,12 @@ by_count (c ∷ failed) posted = with_command c (by_count failed posted)
 abbrev pub writes_of : List Command → List HomeWrite
 writes_of commands = map (λ c. record { lba = c.lba; block = c.block }) commands
 
--- the writes whose blocks are in doubt
+-- the writes whose blocks are uncertain
 abbrev pub in_doubt : PortState → Chance → List HomeWrite
 in_doubt s r = writes_of (by_count r.failed s.posted) ++ r.begun
 
 -- The image that a cut leaves. A new generator chooses the slots that are staged and not flushed, by
--- count, then the head and the base, where stored and not flushed, and then the blocks in doubt.
+-- count, then the head and the base, where stored and not flushed, and then the uncertain blocks.
 abbrev pub cut_of : PortState → Chance → (pick : ℕ) → PortImage
 cut_of s r pick =
     let slots = torn_slots (staged_end s - s.flushed_end) s.flushed_end s.staged s.flushed (generator_of pick r.number) in

@@ -5,7 +5,7 @@ use Rattle.mq_blocks.specs.Drive.{PortState}
 use Rattle.mq_drive.specs.Choices.{Chance}
 use Rattle.mq_drive.specs.Emulated.{Counts}
 use Rattle.mq_drive.specs.Roles.{queue_in}
-use Rattle.mq_drive.specs.Steps.{Fault, PowerOff}
+use Rattle.mq_drive.specs.Steps.{PortFault, PowerOff}
 use Rattle.mq_drive.specs.Failures.{failed_of, unended_of, errors_of, while_in}
 use Rattle.mq_drive.specs.Seats.{fuse_of, tickets_of}
 use Rattle.mq_drive.specs.declared.device.Device.{Device}
@@ -40,7 +40,7 @@ device_state p = record {
 }
 
 -- each refused event, and at most one error
-abbrev pub device_faults : Device → List Fault
+abbrev pub device_faults : Device → List PortFault
 device_faults p = replicate p.power.offs PowerOff ++ errors_of p.failure
 
 -- how many commands it executed
@@ -64,7 +64,7 @@ device_chance p = record {
 abbrev pub emu_state : EmuPort → PortState
 emu_state p = device_state p.device.value
 
-abbrev pub emu_faults : EmuPort → List Fault
+abbrev pub emu_faults : EmuPort → List PortFault
 emu_faults p = device_faults p.device.value
 
 -- the events that happened

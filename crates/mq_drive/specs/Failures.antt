@@ -3,7 +3,7 @@
 use Rattle.std.specs.Prelude.{ℕ, ◌==◌, if◌then◌else◌, List, [], ◌∷◌, Option, Some, None}
 use Rattle.mq_blocks.specs.declared.command.Command.{Command}
 use Rattle.mq_blocks.specs.declared.command.HomeWrite.{HomeWrite}
-use Rattle.mq_drive.specs.Steps.{Fault, CommandError, HomeError}
+use Rattle.mq_drive.specs.Steps.{PortFault, CommandError, HomeError}
 use Rattle.mq_drive.specs.declared.failing.Failure.{Failure}
 use Rattle.mq_drive.specs.declared.failing.Failure.TheVariants.{Queued, Home}
 
@@ -17,7 +17,7 @@ unended_of None = []
 unended_of (Some (Queued c)) = []
 unended_of (Some (Home w)) = w ∷ []
 
-abbrev pub errors_of : Option Failure → List Fault
+abbrev pub errors_of : Option Failure → List PortFault
 errors_of None = []
 errors_of (Some (Queued c)) = CommandError c.tx 640 ∷ []
 errors_of (Some (Home w)) = HomeError w.lba 640 ∷ []
@@ -27,12 +27,12 @@ abbrev pub written_by : Failure → ℕ
 written_by (Queued c) = c.lba
 written_by (Home w) = w.lba
 
--- what has failed, as long as a block is in doubt for it
+-- what has failed, as long as a block is uncertain because of it
 abbrev pub while_in : {A : Type 0} → (doubt : Option ℕ) → List A → List A
 while_in None failed = []
 while_in (Some k) failed = failed
 
--- the block that is in doubt still, once a write of the block at this place has completed
+-- the block that is still uncertain, once a write of the block at this place has completed
 abbrev pub doubt_after : Option ℕ → (at : ℕ) → Option ℕ
 doubt_after None at = None
 doubt_after (Some k) at = if k == at then None else Some k

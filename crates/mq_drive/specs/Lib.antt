@@ -10,6 +10,7 @@ pub mod Limits
 pub mod Roles
 pub mod Seats
 pub mod Slots
+pub mod Sound
 pub mod Start
 pub mod Steps
 pub mod Views

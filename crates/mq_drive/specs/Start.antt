@@ -69,7 +69,7 @@ start_of g role i fuse fail = record {
   fail = fail;
 }
 
--- each port has a generator of its own, and no block is in doubt
+-- each port has a generator of its own, and no block is uncertain
 abbrev pub chance_at_start : Geometry → Role → (seed : ℕ) → Chance
 chance_at_start g role seed = record {
   number = number_of g role;

@@ -11,8 +11,8 @@ use mq_blocks::Block;
 use rand_core::utils::NextWord;
 use rand_pcg::Lcg128Xsl64;
 
-/// Blocks as last completed, and which of them are certain but for posted commands. The write that
-/// ended with an error leaves the block at `doubt` in doubt, until a later write of it completes.
+/// Blocks as last completed, and which of them are certain, posted commands aside. The write that
+/// ended with an error leaves the block at `doubt` uncertain, until a later write of it completes.
 #[derive(Drop)]
 pub struct Blocks {
     stored: Vec<Option<Block>>,
@@ -45,7 +45,7 @@ impl Blocks {
         read_block(&self.stored, k, into);
     }
 
-    /// A write of the block has completed: it ends the doubt of that block.
+    /// A write of the block has completed: if the block was uncertain, it no longer is.
     pub fn complete(&mut self, k: usize, block: Block)
         requires { k < length self.old.stored.items }
         ensures blocks { self.new.stored.items ≡ slice_set self.old.stored.items k (Some block) }
@@ -99,7 +99,7 @@ impl Blocks {
         put_block(&mut self.stored, k, block);
     }
 
-    /// Which block the write that ended with an error leaves in doubt, if it does.
+    /// The block that the write that ended with an error leaves uncertain, if there is one.
     pub fn doubt(&self) -> Option<usize>
         ensures { result ≡ self.now.doubt }
     {

@@ -15,7 +15,7 @@ use mq_nvme::Entry;
 use rand_pcg::Lcg128Xsl64;
 use std::collections::VecDeque;
 
-/// Of each slot of the counts from `from` up to `to`, in order, chooses the flushed bytes, the
+/// For each slot of the counts from `from` up to `to`, in order, chooses the flushed bytes, the
 /// staged ones, or any.
 pub fn tear_slots(
     flushed: &mut Vec<Entry>,
@@ -40,7 +40,7 @@ pub fn tear_slots(
     }
 }
 
-/// Of each block that a posted command writes or that the failed command leaves in doubt, by count,
+/// For each block that a posted command writes or that the failed command leaves uncertain, by count,
 /// chooses what it holds.
 pub fn tear_commands(
     blocks: &mut Blocks,
@@ -139,7 +139,7 @@ fn tear_failed(
     }
 }
 
-/// Of the block of a home write that is in doubt, chooses what it holds.
+/// For the block of a home write that is uncertain, chooses what it holds.
 pub fn tear_home(
     blocks: &mut Blocks,
     area: Extent,

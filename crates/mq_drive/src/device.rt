@@ -1,15 +1,11 @@
 // What a port in memory keeps, and how it changes.
-ghost use Rattle.std.specs.Prelude.{◌≡◌, ◌<◌, ◌≤◌, ◌+◌, ◌-◌, ◌*◌, ◌/◌, ◌%◌, ◌^◌, ℕ, List, [], ◌∷◌, length, true, false, is_some, IfOk};
-ghost use Rattle.std.specs.Prelude.{OnOk, OnErr, All, IsSome, IsNone, IsTrue, ◌↔◌, slice_index_or, Some, None, Contains};
-ghost use Rattle.std.specs.Option.{ForSome, option_to_list};
+ghost use Rattle.std.specs.Prelude.{◌≡◌, ◌<◌, ◌≤◌, ◌-◌, ◌/◌, ◌%◌, ◌^◌, ℕ, [], true, false, IfOk, OnOk, OnErr, All, IsSome, IsNone, IsTrue, ◌↔◌, Some, None, Contains};
 ghost use Rattle.std.specs.VecDeque.{deque_capacity};
-ghost use Rattle.mq_blocks.specs.Drive.{AreCounted, AreCounted-prop, depth, usable_depth};
+ghost use Rattle.mq_blocks.specs.Drive.{depth, usable_depth};
 ghost use Rattle.mq_drive.specs.Fuse.{above, below, earlier};
 ghost use Rattle.mq_drive.specs.Emulated.{phase_after};
-ghost use Rattle.mq_drive.specs.Failures.{written_by};
-ghost use Rattle.mq_drive.specs.Happened.{happened_by, happened_in};
-ghost use Rattle.mq_drive.specs.Roles.{slots_of, queue_in, id_of};
-ghost use Rattle.mq_drive.specs.Slots.{AreSettled, AreStaged, AreStaged-prop, index_in};
+ghost use Rattle.mq_drive.specs.Happened.{happened_in};
+ghost use Rattle.mq_drive.specs.Sound.{IsSound, IsSound-prop};
 
 use crate::blocks::Blocks;
 use crate::cut::{tear_commands, tear_home, tear_slots};
@@ -34,7 +30,7 @@ fn phase_after(completions: u64) -> bool
     completions / RING_DEPTH as u64 % 2 == 0
 }
 
-/// A port in memory: its parts, and what holds of them.
+/// A port in memory: its parts, and their invariants.
 #[derive(Drop)]
 pub struct Device<'f> {
     role: Role,
@@ -62,42 +58,36 @@ pub struct Device<'f> {
     power: Power<'f>,
     failing: Failing,
     order: Lcg128Xsl64,
-    ghost same_ring: { length flushed.items ≡ length staged.items },
-    ghost ring: { length staged.items ≡ slots_of role },
-    ghost settled: { AreSettled flushed.items staged.items flushed_end (doorbell + length pending.items) },
-    ghost flushed_low: { doorbell ≤ flushed_end },
-    ghost flushed_high: { flushed_end ≤ doorbell + length pending.items },
-    ghost pending_room: { usable_depth ≤ deque_capacity pending },
-    ghost posted_room: { usable_depth ≤ deque_capacity posted },
-    ghost pending_ring: { 0 < length pending.items → length staged.items ≡ depth },
-    ghost pending_few: { 0 < length pending.items → doorbell + length pending.items - head ≤ usable_depth },
-    ghost pending_last: { 0 < length pending.items → doorbell + length pending.items ≤ 2 ^ 63 },
-    ghost pending_order: { 0 < length pending.items → stored_head ≤ doorbell },
-    ghost pending_counted: { AreStaged doorbell pending.items } by { AreStaged-prop doorbell pending.items },
-    ghost pending_own: { All (λ c. (area.first ≤ c.lba)
-        × (index_in area.first area.size homes.first c.lba < length blocks.stored.items)) pending.items },
-    ghost posted_counted: { AreCounted stored_head doorbell posted.items } by { AreCounted-prop stored_head doorbell posted.items },
-    ghost posted_own: { All (λ c. (area.first ≤ c.lba)
-        × (index_in area.first area.size homes.first c.lba < length blocks.stored.items)) posted.items },
-    ghost heads: { head ≤ stored_head },
-    ghost sized: { area.size + homes.size ≡ length blocks.stored.items },
-    ghost area_before: { area.first + area.size ≤ homes.first },
-    ghost queue_base: { IsSome (queue_in role) → (base ≡ 0) × (stored_base ≡ 0) },
-    ghost root_words: { IsNone (queue_in role) → (doorbell ≡ 0) × (head ≡ 0) × (stored_head ≡ 0) },
-    ghost homes_end: { homes.first + homes.size ≤ 2 ^ 32 },
-    ghost id_small: { id < 2 ^ 16 },
-    ghost id_is: { id ≡ id_of (queue_in role) },
-    ghost events_counted: { power.happened ≡ happened_by events begins (length (option_to_list under_way)) },
-    ghost failure_counted: { is_some failure ≡ failing.failed },
-    ghost failure_own: { ForSome failure (λ f. (area.first ≤ written_by f)
-        × (index_in area.first area.size homes.first (written_by f) < length blocks.stored.items)) },
-    ghost failure_doubt: { ForSome failure (λ f. ForSome blocks.doubt (λ k. index_in area.first
-        area.size homes.first (written_by f) ≡ k)) },
-    ghost under_way_last: { ForSome under_way (λ w. 0 < power.offs) },
-    ghost under_way_own: { ForSome under_way (λ w. (area.first ≤ w.lba)
-        × (index_in area.first area.size homes.first w.lba < length blocks.stored.items)) },
-    ghost under_way_doubt: { ForSome under_way (λ w. slice_index_or blocks.certain.items
-        (index_in area.first area.size homes.first w.lba) false ≡ false) },
+    ghost sound: { IsSound
+        (record { role = role; id = id; area = area; homes = homes })
+        (record { flushed = flushed.items; staged = staged.items; flushed_end = flushed_end })
+        (record {
+          pending = pending.items;
+          pending_capacity = deque_capacity pending;
+          posted = posted.items;
+          posted_capacity = deque_capacity posted;
+        })
+        (record {
+          doorbell = doorbell;
+          head = head;
+          stored_head = stored_head;
+          base = base;
+          stored_base = stored_base;
+        })
+        (record {
+          stored = blocks.stored.items;
+          certain = blocks.certain.items;
+          doubt = blocks.doubt;
+          failure = failure;
+          under_way = under_way;
+        })
+        (record {
+          events = events;
+          begins = begins;
+          happened = power.happened;
+          offs = power.offs;
+          failed = failing.failed;
+        }) } by { IsSound-prop },
 }
 
 impl<'f> Device<'f> {

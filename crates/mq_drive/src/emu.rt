@@ -12,7 +12,7 @@ use std::alloc::Global;
 
 /// A port of an emulated drive. It executes the posted commands in an order that a generator
 /// chooses. Its power is that of a fuse, which other ports may share, and one of its commands ends
-/// with an error, where it is told which. It may be cut at any time.
+/// with an error, if one is chosen. It may be cut at any time.
 #[derive(Drop)]
 pub struct EmuPort<'f> {
     // On the heap, so that a port moves as one word.
@@ -58,8 +58,8 @@ impl<'f> EmuPort<'f> {
         })
     }
 
-    /// How many events of this port happened, a home write's two among them. It stays at 2^64 - 1
-    /// once there.
+    /// The number of events of this port that happened, a home write's two among them. It stays at
+    /// 2^64 - 1 once there.
     pub fn events(&self) -> u64
         ensures is { result ≡ happened_of self.now }
         ensures homes { result ≡ happened_in (emu_state self.now) (emu_faults self.now) }
@@ -86,7 +86,7 @@ impl<'f> EmuPort<'f> {
         self.device.events()
     }
 
-    /// Whether the command that is to fail was executed. It has ended with an error then, and no
+    /// Whether the command that is to fail was executed. If so, it has ended with an error, and no
     /// other has.
     pub fn failed(&self) -> bool
         ensures named { result ≡ fails_by (emu_state self.now).fail (executed_of self.now) }
@@ -108,8 +108,8 @@ impl<'f> EmuPort<'f> {
     ghost use Rattle.mq_drive.specs.Seats.{fuse_of, tickets_of};
     ghost use Rattle.mq_drive.specs.Start.{IsPortOf, IsImageOf};
 
-    /// What a cut of the power leaves: all that is certain, and of the rest what `pick` and the
-    /// port's number choose. It gives the port's seat back.
+    /// Cuts the power. Returns what that leaves, which is all that is certain, and of the rest what
+    /// `pick` and the port's number choose, and the port's seat.
     pub fn cut(self, pick: u64) -> (PortImage, FuseSeat)
         ensures image { IsImage (emu_state self.entry) result.0 }
         ensures quiet { IsQuiescent (emu_state self.entry) → result.0 ≡ image_of (emu_state self.entry) }

@@ -26,7 +26,7 @@ pub fn block_index(area: Extent, homes: Extent, lba: Lba) -> usize
     }
 }
 
-/// The number of a role's port: the queue's, or of the root the count of queues.
+/// The number of a role's port: that of the queue, or the number of queues for the root.
 pub fn port_number(role: Role, geometry: Geometry) -> u32
     ensures { result ≡ number_of geometry role }
 {
@@ -36,7 +36,7 @@ pub fn port_number(role: Role, geometry: Geometry) -> u32
     }
 }
 
-/// The identifier of a submission queue: the queue's number plus 1; of the root 0.
+/// The identifier of a submission queue: the queue's number plus 1, or 0 for the root.
 pub fn queue_id(role: Role, geometry: Geometry) -> u32
     requires { IsRole geometry role }
     ensures small { result < 2 ^ 16 }

@@ -15,7 +15,7 @@ pub enum Failure {
     Home(HomeWrite),
 }
 
-/// The failed command, or the home write that failed, as long as a block is in doubt for it.
+/// The failed command, or the home write that failed, as long as a block is uncertain because of it.
 pub fn parts_of(
     failure: Option<Failure>,
     doubt: Option<usize>,
@@ -33,8 +33,8 @@ pub fn parts_of(
     }
 }
 
-/// The commands that a port executed, home writes among them, and which of them fails, counted from
-/// 1, where that is told. The count stays at 2^64 - 1 once there.
+/// The number of commands that a port executed, home writes among them, and which of them fails, counted
+/// from 1, if one is given. The count stays at 2^64 - 1 once there.
 #[derive(Drop)]
 pub struct Failing {
     named: Option<u64>,
@@ -57,7 +57,7 @@ impl Failing {
         }
     }
 
-    /// Counts one command. It answers whether this is the one that fails.
+    /// Counts one command, and returns whether it is the one that fails.
     pub fn next(&mut self) -> bool
         ensures named { self.new.named ≡ self.old.named }
         ensures executed { self.new.executed ≡ counted self.old.executed 1 }

@@ -5,8 +5,8 @@ use crate::{HomeStep, Off, Port, Role, Step};
 use mq_blocks::{Block, Lba};
 use mq_nvme::Entry;
 
-/// A port whose power is off for one of its changing calls: that call answers `Off` and does not
-/// reach the port below. Every other call goes on. A step that is idle is no changing call.
+/// A port whose power is off for one of its changing calls: that call returns `Off` and does not
+/// reach the port below. Every other call goes on. An idle step is not a changing call.
 #[derive(Drop)]
 pub struct FlakyPort<P: Port> {
     port: P,
@@ -52,7 +52,7 @@ impl<P: Port> FlakyPort<P> {
     ghost use Rattle.mq_drive.specs.Flaky.{with_refused};
     ghost use Rattle.mq_drive.specs.Steps.{PowerOff};
 
-    // Counts a changing call, and answers whether it is the one to refuse.
+    // Counts a changing call, and returns whether it is the one to refuse.
     fn is_refused(&mut self) -> bool
         ensures port { self.new.port ≡ self.old.port }
         ensures yes { IsTrue result

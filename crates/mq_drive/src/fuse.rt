@@ -1,4 +1,4 @@
-// The power of a drive, which lasts for so many events of all its ports together.
+// The power of a drive, which lasts for the given number of events of all its ports together.
 ghost use Rattle.std.specs.Prelude.{◌≡◌, ◌<◌, ◌≤◌, ◌+◌, ◌^◌, ℕ, [], ◌∷◌, length, vec_capacity, true, false, IfOk, OnOk, OnErr, All, Some, None, Contains};
 ghost use Rattle.std.specs.Option.{ForSome};
 ghost use Rattle.mq_drive.specs.Fuse.{above, below, earlier, fresh};
@@ -14,9 +14,9 @@ type Counter = Shared<(), Tickets, Rating, Law>;
 
 type Place = Seat<(), Tickets>;
 
-/// What switches the power of a drive off after so many events, where that is told. Ports in
-/// different threads share one by `&`. Its one word is a counter from which each event draws a
-/// ticket: the event happens where the ticket is below the limit.
+/// Switches the power of a drive off after a number of events, if one is given. Ports in different
+/// threads share one by `&`. Its one word is a counter from which each event draws a ticket: the
+/// event happens where the ticket is below the limit.
 #[derive(Drop)]
 pub struct Fuse {
     table: Table<(), Tickets, Rating, Law, Global>,
@@ -47,7 +47,7 @@ pub struct FuseSeat {
 impl Fuse {
     ghost use Rattle.mq_drive.specs.Seats.{name_of, ports_of, fuse_of, tickets_of};
 
-    /// A fuse that lets `limit` events happen, or all, and so many seats for it.
+    /// A fuse that lets `limit` events happen, or all of them if there is no limit, and its seats.
     pub fn new(
         alloc: Global,
         limit: Option<u64>,
@@ -70,7 +70,8 @@ impl Fuse {
         Ok((Fuse { table, limit }, seats))
     }
 
-    /// How many events of all seats happened, where there is a limit, else 0. It takes all seats.
+    /// Closes the fuse, for which it needs all seats. Returns the number of events that happened if
+    /// there is a limit, else 0.
     pub fn close(self, seats: Vec<FuseSeat>) -> u64
         requires fuse { All (λ s. fuse_of s ≡ name_of self) seats.items }
         requires all { length seats.items ≡ ports_of self }
@@ -102,7 +103,7 @@ impl Fuse {
     }
 }
 
-// Puts so many seats into a list with room for them.
+// Puts the given number of seats into a list with room for them.
 fn seat_all(
     shared: &Counter,
     place: Place,

@@ -3,9 +3,9 @@ use mq_blocks::Block;
 use mq_nvme::Entry;
 use std::marker::Model;
 
-/// The content of a port after a power cut: words, ring and blocks. A queue's blocks are those of
-/// its journal area and then of its zone, the root's are the metadata region; `None` is a block of
-/// zeros. A queue has as many slots as a ring is deep, and base 0; the root has no slots, doorbell 0 and head 0.
+/// The content of a port after a power cut: words, ring and blocks. A queue's blocks are those of its
+/// journal area and then of its zone, the root's are the metadata region; `None` is a block of zeros. A
+/// queue has `RING_DEPTH` slots, and base 0; the root has no slots, doorbell 0 and head 0.
 #[derive(Drop)]
 pub struct PortImage {
     pub doorbell: u64,

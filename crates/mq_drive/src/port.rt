@@ -5,13 +5,13 @@ ghost use Rattle.mq_blocks.specs.Drive.{PortState, Owns, IsHome, IsFlushed, IsCe
 ghost use Rattle.mq_blocks.specs.Drive.{after_flush, after_ring, after_store_head, after_store_base, usable_depth};
 ghost use Rattle.mq_nvme.specs.Entry.{tx_of, lba_of};
 ghost use Rattle.mq_drive.specs.Roles.{role_of};
-ghost use Rattle.mq_drive.specs.Steps.{Fault, StepGives, HomeGives, OffCause, IsOwnWrite};
+ghost use Rattle.mq_drive.specs.Steps.{PortFault, StepGives, HomeGives, OffCause, IsOwnWrite};
 
 use crate::Role;
 use mq_blocks::{Block, Lba};
 use mq_nvme::{Completion, Entry};
 
-/// The power is off: the event did not happen. Of a home write, it may have begun.
+/// The power is off: the event did not happen. A home write may have begun.
 #[derive(Clone, Copy, Debug, PartialEq, Eq)]
 pub struct Off;
 
@@ -31,13 +31,13 @@ pub enum HomeStep {
     Error { status: u16 },
 }
 
-/// A part of the drive, as one thread drives it. Each changing call is one event, a home write two;
-/// reads are none, and neither is a step that is idle. No call takes memory.
+/// A part of the drive, as one thread drives it. Each changing call is one event, and a home write
+/// is two; reads and idle steps are no events. No call takes memory.
 pub trait Port {
     ghost state: { Self → PortState };
 
     // The faults so far, in no order: each is there as often as it came.
-    ghost faults: { Self → List Fault };
+    ghost faults: { Self → List PortFault };
 
     fn role(&self) -> Role
         ensures { result ≡ role_of (state self.now).queue };
@@ -45,20 +45,20 @@ pub trait Port {
     fn doorbell(&self) -> u64
         ensures { result ≡ (state self.now).doorbell };
 
-    /// The head; where one was stored and not flushed, the flushed or the stored one.
+    /// The head. If one was stored and not flushed, this is the flushed or the stored one.
     fn head(&self) -> u64
         ensures { (result ≡ (state self.now).head) ⊎ (result ≡ (state self.now).stored_head) };
 
-    /// The base word, as `head`.
+    /// The base word, with the same uncertainty as `head`.
     fn base(&self) -> u64
         ensures { (result ≡ (state self.now).base) ⊎ (result ≡ (state self.now).stored_base) };
 
-    /// The entry in a slot; where it is not flushed, any bytes.
+    /// The entry in a slot, or any bytes if it is not flushed.
     fn read_slot(&self, slot: u32) -> Entry
         requires { slot < length (state self.now).flushed }
         ensures { IsFlushed (state self.now) slot → result ≡ slice_index_or (state self.now).flushed slot [] };
 
-    /// A block; where it is uncertain, any bytes.
+    /// Reads a block, or any bytes if it is uncertain.
     fn read_block(&self, lba: Lba, into: &mut Block)
         requires { Owns (state self.now) lba }
         ensures { IsCertain (state self.now) (index_of (state self.now) lba)

@@ -7,8 +7,8 @@ ghost use Rattle.mq_drive.specs.Seats.{name_of, fuse_of, tickets_of, Happens, Is
 use crate::store::bump;
 use crate::{Fuse, FuseSeat, Off};
 
-/// The power of a port, by its seat of a fuse. The counts of the events that happened and of those
-/// that did not stay at 2^64 - 1 once there.
+/// The power of a port, by its seat of a fuse. It counts the events that happened and those that
+/// did not; each count stays at 2^64 - 1 once there.
 #[derive(Drop)]
 pub struct Power<'f> {
     fuse: &'f Fuse,
@@ -38,7 +38,7 @@ impl<'f> Power<'f> {
         }
     }
 
-    /// One event, where the power is on.
+    /// One event, which happens if the power is on.
     pub fn event(&mut self) -> Result<(), Off>
         ensures fuse { fuse_of self.new.seat ≡ fuse_of self.old.seat }
         ensures happens { OnOk result ((self.new.happened ≡ counted self.old.happened 1)
@@ -60,7 +60,7 @@ impl<'f> Power<'f> {
         Ok(())
     }
 
-    /// How many events happened.
+    /// The number of events that happened.
     pub fn happened(&self) -> u64
         ensures { result ≡ self.now.happened }
     {

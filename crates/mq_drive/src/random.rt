@@ -16,7 +16,7 @@ pub fn generator(seed: u64, number: u32) -> Lcg128Xsl64
     Lcg128Xsl64::seed_from_u64(seed.wrapping_add(u64::from(number)))
 }
 
-/// An index below `n`. Where there is a choice, it takes one word of the generator.
+/// An index below `n`. If there is a choice, it takes one word of the generator.
 #[tactic(auto, unfolding(crate::specs::Choices::chosen))]
 pub fn choose(rng: &mut Lcg128Xsl64, n: usize) -> usize
     requires { 0 < n }
@@ -29,7 +29,7 @@ pub fn choose(rng: &mut Lcg128Xsl64, n: usize) -> usize
     (rng.next_word() % n as u64) as usize
 }
 
-/// One of two words. Where they differ, it takes one word of the generator.
+/// One of two words. If they differ, it takes one word of the generator.
 #[tactic(auto, unfolding(crate::specs::Choices::either_of))]
 pub fn either(rng: &mut Lcg128Xsl64, old: u64, new: u64) -> u64
     ensures one { (result ≡ old) ⊎ (result ≡ new) }

@@ -10,7 +10,7 @@ use mq_blocks::{Block, Command, RING_DEPTH};
 use mq_nvme::Entry;
 use std::collections::VecDeque;
 
-/// One more, up to the greatest number of 64 bits.
+/// The number plus 1, but at most 2^64 - 1.
 pub fn bump(n: u64) -> u64
     ensures { result ≡ counted n 1 }
 {
@@ -55,7 +55,7 @@ pub fn read_block(blocks: &Vec<Option<Block>>, k: usize, into: &mut Block)
     }
 }
 
-/// Adds a command where there is room.
+/// Adds a command, for which there is room.
 pub fn add(commands: &mut VecDeque<Command>, command: Command)
     requires { deque_len commands.old < deque_capacity commands.old }
     ensures items { commands.new.items ≡ commands.old.items ++ command ∷ [] }
@@ -67,7 +67,7 @@ pub fn add(commands: &mut VecDeque<Command>, command: Command)
     }
 }
 
-/// Moves all commands behind those that are there, where there is room.
+/// Appends all commands to those that are there, for which there is room.
 pub fn add_all(commands: &mut VecDeque<Command>, more: &mut VecDeque<Command>)
     requires { deque_len commands.old + deque_len more.old ≤ deque_capacity commands.old }
     ensures items { commands.new.items ≡ commands.old.items ++ more.old.items }
@@ -81,7 +81,7 @@ pub fn add_all(commands: &mut VecDeque<Command>, more: &mut VecDeque<Command>)
     }
 }
 
-/// Takes the command at an index out.
+/// Removes the command at an index, and returns it.
 pub fn take_at(commands: &mut VecDeque<Command>, at: usize) -> Command
     requires { at < deque_len commands.old }
     ensures item { slice_get commands.old.items at ≡ Some result }

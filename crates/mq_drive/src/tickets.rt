@@ -7,13 +7,13 @@ use std::collections::LinkedList;
 
 /// What a seat knows. No value of it is made.
 pub struct Tickets {
-    /// How many seats it stands for.
+    /// The number of seats that it stands for.
     pub seats: u64,
     /// The tickets that it drew, the last first.
     pub drawn: LinkedList<u64>,
 }
 
-/// What the rule is told when the fuse is made.
+/// What the rule of the table knows when the fuse is made.
 #[derive(Drop)]
 pub struct Rating {
     pub limit: u64,

@@ -30,9 +30,9 @@ EndsWith status text result old new =
     ⊎ (((result ≡ 4) × AppendsPrefix old.contents new.contents text × Rose old.faults new.faults)
     ⊎ ((result ≡ if nat_eq status 4 then 4 else 6) × AppendsPrefix old.contents new.contents text × (new.faults ≡ old.faults)))
 
--- the status is this one, or a fault or lack of memory went before it
-abbrev pub IsUnlessWanting : ℕ → ℕ → Type 0
-IsUnlessWanting s result = (result ≡ s) ⊎ ((result ≡ 4) ⊎ (result ≡ 6))
+-- the status is this one, or a fault or out of memory went before it
+abbrev pub IsUnlessFailed : ℕ → ℕ → Type 0
+IsUnlessFailed s result = (result ≡ s) ⊎ ((result ≡ 4) ⊎ (result ≡ 6))
 
 -- ---- loads
 

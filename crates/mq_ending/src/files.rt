@@ -6,7 +6,7 @@ use crate::says::{say_memory, say_named};
 use mq_outside::{Files, LoadRefusal, SaveRefusal, Sink};
 use std::alloc::Global;
 
-/// The bytes that a name holds; where there are none to be had, why is said, and the status answered.
+/// The bytes that a name holds. If they cannot be loaded, prints why and returns the status.
 pub fn load_or_say<F: Files, K: Sink>(
     alloc: Global,
     name: &str,
@@ -28,7 +28,7 @@ pub fn load_or_say<F: Files, K: Sink>(
     }
 }
 
-/// Makes a name hold the bytes; where it can't, why is said, and the status answered.
+/// Makes a name hold the bytes. If that fails, prints why and returns the status.
 pub fn save_or_say<F: Files, K: Sink>(
     name: &str,
     bytes: &[u8],

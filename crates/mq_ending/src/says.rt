@@ -8,7 +8,7 @@ use mq_outside::{PutRefusal, Sink, put_all};
 /// Everything was done.
 pub const DONE: u8 = 0;
 
-/// The words are no command.
+/// The words of the command line are no command.
 pub const USAGE: u8 = 1;
 
 /// A text is refused.
@@ -20,7 +20,7 @@ pub const IMAGE: u8 = 3;
 /// A file or the output failed, or a file is too long.
 pub const FAULT: u8 = 4;
 
-/// A command of the drive failed that was told to.
+/// The command of the drive failed that had to fail.
 pub const COMMAND: u8 = 5;
 
 /// Memory ran out.
@@ -40,14 +40,14 @@ fn ended(status: u8, put: Result<(), PutRefusal>) -> u8
     }
 }
 
-/// Says a text, and answers the status.
+/// Prints a text, and returns the status.
 pub fn say<K: Sink>(status: u8, text: &[u8], out: &mut K) -> u8
     ensures { EndsWith status text.now result (K.state out.old) (K.state out.new) }
 {
     ended(status, put_all(out, text))
 }
 
-/// Says that memory ran out.
+/// Prints that memory ran out.
 pub fn say_memory<K: Sink>(out: &mut K) -> u8
     ensures { EndsWith 6 memory_line result (K.state out.old) (K.state out.new) }
 {
@@ -67,8 +67,8 @@ fn put_named<K: Sink>(out: &mut K, first: &[u8], name: &[u8]) -> Result<(), PutR
     put_all(out, b"\n")
 }
 
-/// Says a word and a name, with the status of a fault. It takes no memory, so that the fault is told where there is
-/// none.
+/// Prints a word and a name, with the status of a fault. It takes no memory, so that a fault is reported
+/// even if there is none.
 pub fn say_named<K: Sink>(first: &[u8], name: &[u8], out: &mut K) -> u8
     ensures { EndsWith 4 (named_line first.now name.now) result (K.state out.old) (K.state out.new) }
 {

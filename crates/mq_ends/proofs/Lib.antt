@@ -1,7 +1,7 @@
-pub mod Directs
-pub mod Marks
-pub mod Assembly
-pub mod States
-pub mod Guards
-pub mod Tops
-pub mod Finding
+pub mod SidesDirects
+pub mod PartsMarks
+pub mod PartsAssembly
+pub mod PartsStates
+pub mod PartsGuards
+pub mod JournalTops
+pub mod Found

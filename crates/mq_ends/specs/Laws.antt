@@ -12,10 +12,10 @@ use Rattle.mq_ledger.specs.Written.{journal_entries}
 use Rattle.mq_ledger.specs.declared.tx.Tx.{Tx}
 use Rattle.mq_core.specs.Events.{MayStoreBase, MayWriteHome}
 use Rattle.mq_recover.specs.Drives.{DriveState, view_over}
-use Rattle.mq_recover.specs.Recovery.{IsRead}
+use Rattle.mq_recover.specs.Recovery.{IsReadPrefix}
 use Rattle.mq_recover.specs.Refusals.{IsReadableImage}
 use Rattle.mq_recover.specs.Standing.{StandsIn}
-use Rattle.mq_recover.specs.Steps.{IsDone}
+use Rattle.mq_recover.specs.Steps.{HasRecovered}
 use Rattle.mq_recover.specs.declared.standing.Standing.{Standing}
 use Rattle.mq_base.specs.Bases.{BaseOk}
 use Rattle.mq_base.specs.Pages.{IsToBring}
@@ -77,7 +77,7 @@ FactsHaveParts =
     → Facts e s
     → AreParts (parts_of e s) × AreMarks (parts_of e s) s.marks
 
--- which are the state again, but for home writes under way, and know what the state does
+-- which are the state again, except for home writes under way, and know what the state does
 abbrev pub PartsAreTheState : Type 0
 PartsAreTheState =
     (e : Entries) (s : State)
@@ -122,7 +122,7 @@ ReadingsFindAPrefix =
     → AreParts p
     → p.entries ≡ journal_entries
     → IsCutOf p d
-    → IsRead p.geometry (view_over p.geometry d) ds top
+    → IsReadPrefix p.geometry (view_over p.geometry d) ds top
     → Finds p (d.root.base + length ds) (stands p.geometry (view_over p.geometry d) ds)
 
 -- what `stands` answers
@@ -142,7 +142,7 @@ RecoveriesFindAPrefix =
     → AreParts p
     → p.entries ≡ journal_entries
     → IsCutOf p d
-    → IsDone p.geometry d prefix base new
+    → HasRecovered p.geometry d prefix base new
     → Finds p (d.root.base + prefix) (view_over p.geometry new).home
 
 -- and no image shows a number above the last one, so that the base after a recovery isn't above it
@@ -152,5 +152,5 @@ TopsWereDrawn =
     → AreParts p
     → p.entries ≡ journal_entries
     → IsCutOf p d
-    → IsRead p.geometry (view_over p.geometry d) ds top
+    → IsReadPrefix p.geometry (view_over p.geometry d) ds top
     → top ≤ p.base + length p.history

@@ -7,9 +7,10 @@ ghost use Rattle.mq_ends.specs.Laws.{WaitingPagesMayGoHome, BasesMayBeStored};
 ghost use Rattle.mq_ends.specs.Laws.{CutsAreReadable, ReadingsFindAPrefix, StandingsFindAPrefix};
 ghost use Rattle.mq_ends.specs.Laws.{RecoveriesFindAPrefix, TopsWereDrawn};
 
-/// What holds of the history, of each port by itself and of both bases makes one lawful state: whatever a
-/// power cut leaves of the ports is readable, reaches a number from the front to the newest one, and stands
-/// for the map after this number. The marks may be the words, or each queue's least number that isn't done.
+/// The facts about the history, about each port by itself and about both bases make one lawful state:
+/// whatever a power cut leaves of the ports is readable, reaches a number from the front to the newest one,
+/// and stands for the map after this number. The marks may be the words, or each queue's least number that
+/// isn't done.
 pub fn parts_are_lawful()
     ensures facts { PartsHaveTheFacts }
     ensures lawful { PartsAreLawful }
@@ -30,8 +31,8 @@ pub fn a_lawful_state_has_parts()
     ensures state { PartsAreTheState }
 {}
 
-/// A page that waits for its home write may be written home, and a base may be stored, as far as the
-/// machine is asked.
+/// A page that waits for its home write may be written home, and a base may be stored, by the rules of the
+/// machine.
 pub fn parts_allow_home_writes_and_bases()
     ensures page { WaitingPagesMayGoHome }
     ensures base { BasesMayBeStored }

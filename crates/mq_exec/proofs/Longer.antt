@@ -6,25 +6,25 @@ use Rattle.std.proofs.lemmas.Bool.{cases_lt}
 use Rattle.std.proofs.lemmas.List.{drop_all, get_or_append_left, length-append, length-drop, take_all}
 use Rattle.std.proofs.lemmas.List.Elements.{All-contains, Contains-append_cases, Contains-append_right}
 use Rattle.std.proofs.lemmas.Option.{slice_get-get_or}
-use Rattle.mq_blocks.proofs.Among.{among-contains, contains-among}
+use Rattle.mq_blocks.proofs.JournalAmong.{among-contains, contains-among}
 use Rattle.mq_blocks.specs.Geometry.{queues_of}
 use Rattle.mq_blocks.specs.declared.geometry.Geometry.{Geometry}
 use Rattle.mq_exec.specs.Longer.{IsRewriting, LooksLonger, longer_needs, part, picked}
 use Rattle.mq_exec.specs.Overwrites.{blocks_at, past_place}
 use Rattle.mq_exec.specs.Plans.{HoldsPlaces, IsRefused, PlansRewrite}
 use Rattle.mq_exec.specs.declared.rewrite.Rewriting.{Rewriting}
-use Rattle.mq_exec.proofs.Coming.{carried-enough, carried-few}
-use Rattle.mq_exec.proofs.Rewriting.{at-listed, listed-at}
+use Rattle.mq_exec.proofs.PlansComing.{carried-enough, carried-few}
+use Rattle.mq_exec.proofs.OverwritesRewriting.{at-listed, listed-at}
 use Rattle.mq_inodes.specs.Fits.{Agrees}
 use Rattle.mq_inodes.specs.Opened.{IsOpened, IsWithin}
 use Rattle.mq_inodes.specs.Pages.{Pages}
 use Rattle.mq_inodes.specs.Picks.{ArePicked}
 use Rattle.mq_inodes.specs.Files.{IsFileOf}
 use Rattle.mq_inodes.specs.declared.opened.Opened.{Opened}
-use Rattle.mq_inodes.proofs.Becoming.{carries-sound}
-use Rattle.mq_inodes.proofs.Contents.{file-size}
-use Rattle.mq_inodes.proofs.Held.{used-held}
-use Rattle.mq_inodes.proofs.LinkedGrown.{picked-enough}
+use Rattle.mq_inodes.proofs.EditsBecoming.{carries-sound}
+use Rattle.mq_inodes.proofs.Files.{file-size}
+use Rattle.mq_inodes.proofs.PagesHeld.{used-held}
+use Rattle.mq_inodes.proofs.OpenedLinkedGrown.{picked-enough}
 use Rattle.mq_inodes.proofs.Sound.{sound-count}
 use Rattle.mq_layout.specs.Places.{file_limit}
 use Rattle.mq_layout.specs.declared.inode.Inode.{Inode}

@@ -1,4 +1,4 @@
--- Pages that a group lacks, as they are listed before any of them is there.
+-- Pages that a group misses, as they are listed before any of them is there.
 use Rattle.std.specs.Prelude.{◌≡◌, ◌<◌, ◌⊎◌, ℕ, List, ◌++◌, None}
 use Rattle.std.specs.List.{Contains}
 use Rattle.mq_blocks.specs.Geometry.{homes_of}
@@ -14,7 +14,7 @@ use Rattle.mq_tree.specs.Requests.{step}
 use Rattle.mq_tree.specs.Volume.{Volume}
 use Rattle.mq_tree.specs.declared.request.Request.{Request}
 
--- what is lacked stands behind what was listed before
+-- the missing pages come after what was listed before
 abbrev pub IsListed : Missing → (before after : List ℕ) → Type 0
 IsListed (Need blocks) before after = after ≡ before ++ blocks.items
 IsListed OutOfMemory before after = ⊥

@@ -9,13 +9,13 @@ use Rattle.mq_inodes.specs.Fits.{Agrees}
 use Rattle.mq_inodes.specs.Pages.{Pages, over}
 use Rattle.mq_pages.specs.declared.page.Kind.TheVariants.{Data}
 use Rattle.mq_pages.specs.declared.page.Write.{Write}
-use Rattle.mq_tree.specs.Laid.{Shows}
+use Rattle.mq_tree.specs.Laid.{ShowsPage}
 use Rattle.mq_tree.specs.Volume.{Volume, is_taken}
 
 -- what is written is what the volume shows afterwards, and not before
 pub record IsWritten (g : Geometry) (v w : Volume) (x : Write) : Type 0 where
-  pub now : Shows g w x.block x.content
-  pub new : Shows g v x.block x.content → ⊥
+  pub now : ShowsPage g w x.block x.content
+  pub new : ShowsPage g v x.block x.content → ⊥
   pub kind : (x.kind ≡ Data) ↔ IsOfFile w x.block
 
 -- a block that had content and has none afterwards

@@ -44,18 +44,18 @@ abbrev pub Answers : Geometry → (queue : ℕ) → Pages → List Request → O
 Answers g q pages requests (Done done) = AreKnown pages done × ((v : Volume) → Agrees g pages v → IsDone g q v requests done)
 Answers g q pages requests (Need blocks) = IsRequested g pages (λ b. (v : Volume) → Agrees g pages v → GroupLooks g q v requests b) blocks.items
 
--- just the blocks that are lacked, each once and by rising block
+-- exactly the missing blocks, each once and in rising order
 pub record AreEachOnce (lacked named : List ℕ) : Type 0 where
   pub rise : AllPairs (λ b c. b < c) named
   pub all : (b : ℕ) → Contains lacked b → Contains named b
   pub only : (b : ℕ) → Contains named b → Contains lacked b
 
--- the outcome where these blocks are lacked
+-- the outcome where these blocks are missing
 abbrev pub NamesThem : (lacked : List ℕ) → Outcome → Type 0
 NamesThem lacked (Done done) = ⊥
 NamesThem lacked (Need named) = AreEachOnce lacked named.items
 
--- and where something is lacked, and blocks beside it
+-- and where something is missing, and blocks besides
 abbrev pub NeedsOf : Missing → (ahead : List ℕ) → Outcome → Type 0
 NeedsOf (NeedOf blocks) ahead outcome = NamesThem (blocks.items ++ ahead) outcome
 NeedsOf Wanting ahead outcome = ⊥

@@ -20,7 +20,7 @@ use Rattle.mq_inodes.specs.declared.opened.Opened.{Opened}
 use Rattle.mq_inodes.specs.declared.working.Working.{Working}
 use Rattle.mq_layout.specs.Places.{file_limit, inode_bitmap, inode_block, inodes_of, names_limit}
 use Rattle.mq_layout.specs.Slots.{Entry}
-use Rattle.mq_tree.specs.Requests.{In, Lost, Root, Target, Verdict, carried_out, count_names, entry_needs, freed, is_below, linked, make, refused, rename, resized, target, unlinked, unused}
+use Rattle.mq_tree.specs.Requests.{In, Lost, Root, RequestTarget, Verdict, carried_out, count_names, entry_needs, freed, is_below, linked, make, refused, rename, resized, target, unlinked, unused}
 use Rattle.mq_tree.specs.Sound.{blocks_for}
 use Rattle.mq_tree.specs.Volume.{Body, Free, File, Dir, Path, Volume, body, find, slots_of, way}
 use Rattle.mq_tree.specs.declared.request.Fault.{Fault}
@@ -140,7 +140,7 @@ on_body act d name i (File bytes) = act d name i bytes
 on_body act d name i (Dir slots) = refused IsDir
 
 -- what a request comes to that works on a file: on its directory, its name, its inode and its bytes
-abbrev pub on_file : Volume → (act : ℕ → List ℕ → ℕ → List ℕ → Verdict) → Target → Verdict
+abbrev pub on_file : Volume → (act : ℕ → List ℕ → ℕ → List ℕ → Verdict) → RequestTarget → Verdict
 on_file v act Root = refused IsDir
 on_file v act (Lost fault) = refused fault
 on_file v act (In d name None) = refused NotFound

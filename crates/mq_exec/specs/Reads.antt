@@ -42,9 +42,9 @@ pub record IsNamed (v : Volume) (path : Path) (s : Subject) : Type 0 where
   pub answers : (reply : Body → Reply) → asked v reply path ≡ Says (reply (body v s.number))
 
 -- what a path was found to name, or why each request that reads is refused
-abbrev pub IsFound : Volume → Path → Result Subject Fault → Type 0
-IsFound v path (Ok s) = IsNamed v path s
-IsFound v path (Err fault) = (reply : Body → Reply) → asked v reply path ≡ refused fault
+abbrev pub IsNamedOrRefused : Volume → Path → Result Subject Fault → Type 0
+IsNamedOrRefused v path (Ok s) = IsNamed v path s
+IsNamedOrRefused v path (Err fault) = (reply : Body → Reply) → asked v reply path ≡ refused fault
 
 -- good names lead past the block
 pub record NamesLeadPast (g : Geometry) (v : Volume) (path : Path) (b : ℕ) : Type 0 where

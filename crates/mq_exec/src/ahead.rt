@@ -1,4 +1,4 @@
-// Which pages a group lacks, as far as they can be told before any of them is there.
+// Which pages a group misses, as far as this can be determined before any of them is there.
 ghost use Rattle.std.specs.Prelude.{◌≡◌, ◌<◌, false, true, IfOk, OnOk};
 ghost use Rattle.std.specs.List.{All, Contains};
 ghost use Rattle.mq_blocks.specs.Geometry.{queues_of};
@@ -9,10 +9,10 @@ ghost use Rattle.mq_inodes.specs.Fits.{IsPossible};
 ghost use Rattle.mq_inodes.specs.MissingPages.{HasVolume, OfEach};
 ghost use Rattle.mq_inodes.specs.Pages.{held_pages, pages_of};
 ghost use Rattle.mq_tree.specs.Kept.{HasBytes};
-ghost use Rattle.mq_tree.specs.Requests.{is_change};
+ghost use Rattle.mq_tree.specs.Requests.{is_change, is_named};
 
 use crate::answer::answer;
-use crate::change::{look_at_bytes, step};
+use crate::change::step;
 use crate::make::{carry_make, draft_make, wanted};
 use crate::named_inode::is_good_path;
 use crate::view::View;
@@ -21,7 +21,7 @@ use mq_inodes::{Missing, Working};
 use mq_tree::{Path, Request, changes};
 use std::alloc::Global;
 
-/// Whether the pages behind a request that lacks some may be told.
+/// Whether the pages after a request with missing pages can be determined.
 pub fn may_go_on(request: &Request) -> bool {
     match request {
         Request::Mkdir(_) | Request::Create(_) => true,
@@ -29,7 +29,7 @@ pub fn may_go_on(request: &Request) -> bool {
     }
 }
 
-/// Adds what is lacked to a list.
+/// Adds the missing pages to a list.
 fn list(lack: Missing, lacked: &mut Vec<BlockNo>) -> Result<(), OutOfMemory>
     ensures { OnOk result (IsListed lack lacked.old.items lacked.new.items) }
 {
@@ -58,7 +58,7 @@ fn list_absent(
     }
 }
 
-/// Lists what a request lacks that reads.
+/// Lists the pages that a request misses that reads.
 fn list_read(
     alloc: Global,
     working: &Working,
@@ -77,7 +77,8 @@ fn list_read(
     }
 }
 
-/// Makes an empty file or directory, and lists what that lacks. `false` where the pages behind it cannot be told.
+/// Makes an empty file or directory, and lists the pages that it misses. `false` where the pages after it
+/// cannot be determined.
 fn make_unseen(
     alloc: Global,
     working: &mut Working,
@@ -111,8 +112,8 @@ fn make_unseen(
     Ok(true)
 }
 
-/// Does a request that makes nothing, and lists what it lacks. Behind one that reads the pages are as before,
-/// also where it lacks some. `false` where the pages behind it cannot be told.
+/// Does a request that makes nothing, and lists the pages that it misses. After one that reads, the pages
+/// are as before, even if it misses some. `false` where the pages after it cannot be determined.
 fn pass(
     alloc: Global,
     working: &mut Working,
@@ -122,7 +123,7 @@ fn pass(
 ) -> Result<bool, OutOfMemory>
     requires possible { HasVolume working.old }
     requires queue { queue < queues_of working.old.geometry }
-    requires bytes { HasBytes request.now }
+    ensures bytes { is_named request.now ≡ true → HasBytes request.now }
     ensures adds { IfOk result (λ _. AddsOf working.old queue request.now lacked.old.items lacked.new.items) }
     ensures goes { IfOk result (λ goes. goes ≡ true → GoesOn queue request.now working.old working.new) }
 {
@@ -139,7 +140,8 @@ fn pass(
     }
 }
 
-/// Does one request, and lists what it lacks. `false` where the pages behind it cannot be told.
+/// Does one request, and lists the pages that it misses. `false` where the pages after it cannot be
+/// determined.
 fn go_on(
     alloc: Global,
     working: &mut Working,
@@ -149,7 +151,7 @@ fn go_on(
 ) -> Result<bool, OutOfMemory>
     requires possible { HasVolume working.old }
     requires queue { queue < queues_of working.old.geometry }
-    requires bytes { HasBytes request.now }
+    ensures bytes { is_named request.now ≡ true → HasBytes request.now }
     ensures adds { IfOk result (λ _. AddsOf working.old queue request.now lacked.old.items lacked.new.items) }
     ensures goes { IfOk result (λ goes. goes ≡ true → GoesOn queue request.now working.old working.new) }
 {
@@ -160,9 +162,9 @@ fn go_on(
     }
 }
 
-/// Absent pages at which a group looks: what its requests lack, up to one behind which the pages cannot be told.
-/// They can be told behind one that reads, and behind one that makes a file or a directory and lacks no more
-/// than blocks that it takes, and that of the inode.
+/// The missing pages at which a group looks: those that its requests miss, up to the first request after
+/// which the pages cannot be determined. They can be determined after one that reads, and after one that
+/// makes a file or a directory and misses only blocks that it takes, and that of the inode.
 pub fn look_ahead(
     alloc: Global,
     geometry: Geometry,
@@ -178,7 +180,6 @@ pub fn look_ahead(
     let mut working = Working::new(alloc, geometry, view.held);
     let mut lacked = Vec::new(alloc);
     for request in requests {
-        look_at_bytes(request);
         if !go_on(alloc, &mut working, queue, request, &mut lacked)? {
             return Ok(lacked);
         }

@@ -50,7 +50,7 @@ fn read(
     Ok(Reply::Data(Bytes(bytes)))
 }
 
-/// The size of a file, or how many names a directory has.
+/// The size of a file, or the number of names in a directory.
 fn stat(alloc: Global, working: &Working, s: &Subject) -> Result<Reply, Missing>
     requires possible { HasVolume working.now }
     requires subject { OfEach working.now (λ v. IsInodeOf v s.now) }

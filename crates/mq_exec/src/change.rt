@@ -16,7 +16,7 @@ use crate::rename::rename;
 use crate::rewrite::write;
 use crate::truncate::truncate;
 use mq_blocks::QueueNo;
-use mq_inodes::{Missing, Working, are_bytes};
+use mq_inodes::{Missing, Working};
 use mq_tree::{Fault, Reply, Request, changes};
 use std::alloc::Global;
 
@@ -38,15 +38,6 @@ fn is_named(request: &Request) -> bool
     }
 }
 
-/// Says of a request that what it writes are bytes.
-pub fn look_at_bytes(request: &Request)
-    ensures { HasBytes request.now }
-{
-    if let Request::Write(_, _, bytes) = request {
-        are_bytes(&bytes.0);
-    }
-}
-
 /// Does a request that changes, whose names are good.
 fn change(
     alloc: Global,
@@ -58,6 +49,7 @@ fn change(
     requires queue { queue < queues_of working.old.geometry }
     requires names { is_named_of request.now ≡ true }
     requires changes { is_change request.now ≡ true }
+    ensures bytes { HasBytes request.now }
     ensures over { OnOk result (IsOver working.old working.new) }
     ensures ok { IfOk result (λ reply. OfEach working.old
         (λ v. ComesTo working.old.geometry v
@@ -77,7 +69,7 @@ fn change(
     }
 }
 
-/// Does one request. Where something is lacked the pages are no more to be used.
+/// Does one request. If a page is missing, the pages must not be used afterwards.
 pub fn step(
     alloc: Global,
     working: &mut Working,
@@ -86,6 +78,7 @@ pub fn step(
 ) -> Result<Reply, Missing>
     requires possible { HasVolume working.old }
     requires queue { queue < queues_of working.old.geometry }
+    ensures bytes { is_named_of request.now ≡ true → HasBytes request.now }
     ensures over { OnOk result (IsOver working.old working.new) }
     ensures ok { IfOk result (λ reply. OfEach working.old
         (λ v. ComesTo working.old.geometry v

@@ -21,7 +21,7 @@ pub struct Found {
     pub inode: Inode,
 }
 
-/// The file that a path names, or why each request that changes a file is refused there.
+/// The file that a path names, or why a request that changes a file is refused there.
 pub fn find_file(
     alloc: Global,
     working: &Working,

@@ -8,7 +8,7 @@ ghost use Rattle.mq_inodes.specs.Fits.{IsPossible};
 ghost use Rattle.mq_inodes.specs.Pages.{held_pages};
 
 use crate::ahead::{look_ahead, may_go_on};
-use crate::change::{look_at_bytes, step};
+use crate::change::step;
 use crate::outcome::{Done, Outcome};
 use crate::view::View;
 use mq_blocks::{BlockNo, Geometry, OutOfMemory, QueueNo};
@@ -19,7 +19,8 @@ use std::alloc::Global;
 /// The requests of a long group.
 const LONG: usize = 4;
 
-/// The outcome where something is lacked, and these blocks beside it. Each block is named once, by rising block.
+/// The outcome where a page is missing, and these blocks besides. Each block is named once, in rising
+/// order.
 fn stopped(lack: Missing, mut ahead: Vec<BlockNo>) -> Result<Outcome, OutOfMemory>
     ensures { IfOk result (NeedsOf lack ahead.items) }
 {
@@ -34,8 +35,8 @@ fn stopped(lack: Missing, mut ahead: Vec<BlockNo>) -> Result<Outcome, OutOfMemor
     }
 }
 
-/// What else a group lacks where this request is the first that lacks pages. Only long groups are looked
-/// through, and only where the pages behind that request may be told.
+/// The other pages that a group misses where this request is the first that misses some. Only long groups
+/// are looked through, and only where the pages after that request can be determined.
 fn ahead_of(
     alloc: Global,
     geometry: Geometry,
@@ -71,7 +72,6 @@ pub fn run(
     let mut working = Working::new(alloc, geometry, view.held);
     let mut replies = Vec::with_capacity(alloc, requests.len())?;
     for request in requests {
-        look_at_bytes(request);
         match step(alloc, &mut working, queue, request) {
             Ok(reply) => replies.push(reply)?,
             Err(lack) => {

@@ -1,5 +1,5 @@
 //! Requests on the pages of the file system that a session holds: what they answer and change, and which
-//! pages they lack. Requests and replies are copied here, too.
+//! pages they miss. Requests and replies are copied here, too.
 #![tactic(auto)]
 
 mod ahead;

@@ -32,7 +32,8 @@ pub struct Creation {
     pub unused: Option<u32>,
 }
 
-/// The blocks that making looks at last: those that it takes, and that of the inode.
+/// The blocks that are looked at last when a file or directory is made: those that it takes, and that of
+/// the inode.
 pub fn wanted(
     alloc: Global,
     geometry: Geometry,
@@ -46,8 +47,8 @@ pub fn wanted(
     Ok(blocks)
 }
 
-/// What making a file or a directory takes, or why it is refused, where it is not yet looked at the blocks
-/// that it looks at last.
+/// What making a file or a directory takes, or why it is refused, before the blocks that come last are
+/// looked at.
 pub fn draft_make(
     alloc: Global,
     working: &Working,
@@ -127,7 +128,7 @@ fn plan_make(
     Ok(Ok(creation))
 }
 
-/// Makes what was planned. Where the block of the inode is absent it stays so.
+/// Makes what was planned. If the block of the inode is absent, it stays absent.
 pub fn carry_make(
     alloc: Global,
     working: &mut Working,

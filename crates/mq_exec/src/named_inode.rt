@@ -1,7 +1,7 @@
 // What a path names.
 ghost use Rattle.std.specs.Prelude.{◌≡◌, IfErr, IfOk};
 ghost use Rattle.std.specs.List.{list_all};
-ghost use Rattle.mq_exec.specs.Reads.{IsFound, NamesLeadPast, number_of};
+ghost use Rattle.mq_exec.specs.Reads.{IsNamedOrRefused, NamesLeadPast, number_of};
 ghost use Rattle.mq_inodes.specs.MissingPages.{HasVolume, MissingOf, OfEach};
 ghost use Rattle.mq_layout.specs.Names.{is_name};
 
@@ -10,7 +10,7 @@ use mq_layout::{Inode, is_good_name};
 use mq_tree::{Fault, Path};
 use std::alloc::Global;
 
-/// An inode, and what it says.
+/// The number of an inode, and its fields.
 #[derive(Clone, Copy)]
 pub struct Subject {
     pub number: u32,
@@ -29,7 +29,7 @@ pub fn is_good_path(path: &Path) -> bool
     true
 }
 
-/// The inode that a request reads there.
+/// The inode that a request reads at its path.
 fn number_at(target: Target) -> Result<u32, Fault>
     ensures { result ≡ number_of target }
 {
@@ -47,7 +47,7 @@ pub fn find_subject(
     path: &Path,
 ) -> Result<Result<Subject, Fault>, Missing>
     requires { HasVolume working.now }
-    ensures ok { IfOk result (λ found. OfEach working.now (λ v. IsFound v path.now found)) }
+    ensures ok { IfOk result (λ found. OfEach working.now (λ v. IsNamedOrRefused v path.now found)) }
     ensures lack { IfErr result (MissingOf working.now
         (λ v b. NamesLeadPast working.now.geometry v path.now b)) }
 {

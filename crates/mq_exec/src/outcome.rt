@@ -3,16 +3,16 @@ use mq_blocks::BlockNo;
 use mq_pages::Write;
 use mq_tree::Reply;
 
-/// A group that was done, or pages that it lacks.
+/// A group that was done, or the pages that it misses.
 #[derive(Drop)]
 pub enum Outcome {
     Done(Done),
-    /// Absent pages at which the group looks, at least one, by rising block.
+    /// Absent pages at which the group looks, at least one, in rising order of blocks.
     Need(Vec<BlockNo>),
 }
 
-/// The replies of a group, and its change: blocks that it writes, by rising block, and blocks that it
-/// frees, rising.
+/// The replies of a group, and its change: the blocks that it writes and those that it frees, both in
+/// rising order.
 #[derive(Drop)]
 pub struct Done {
     pub replies: Vec<Reply>,

@@ -24,7 +24,7 @@ use mq_layout::{Inode, inode_bitmap, zone_bitmap};
 use mq_tree::{Fault, Path, Reply};
 use std::alloc::Global;
 
-/// The directory that loses a name, and the inode that goes.
+/// The directory that loses a name, and the inode that is freed.
 #[derive(Drop)]
 pub struct Removal {
     pub directory: Opened,
@@ -40,7 +40,7 @@ fn bitmap_of(geometry: Geometry, b: BlockNo) -> BlockNo
     zone_bitmap(geometry, QueueNo(zone))
 }
 
-/// Adds a block, but not where it was the last one added.
+/// Adds a block unless it was the last one added.
 fn push_new(blocks: &mut Vec<BlockNo>, b: BlockNo) -> Result<(), OutOfMemory>
     ensures there { OnOk result (Contains blocks.new.items b) }
     ensures kept { OnOk result ((x : ℕ) → Contains blocks.old.items x → Contains blocks.new.items x) }
@@ -95,8 +95,8 @@ pub fn bitmaps(
     Ok(bitmaps)
 }
 
-/// That all is known that changes where an inode is freed: its blocks, the bitmaps of their zones, and
-/// the bitmap of inodes.
+/// Checks that all pages are known that change when an inode is freed: its blocks, the bitmaps of
+/// their zones, and the bitmap of inodes.
 fn look_to_free(alloc: Global, working: &Working, o: &Opened) -> Result<(), Missing>
     requires possible { HasVolume working.now }
     requires opened { OfEach working.now (λ v. IsOpened working.now.geometry v o.now) }
@@ -222,7 +222,7 @@ pub fn unlink(alloc: Global, working: &mut Working, path: &Path) -> Result<Reply
     Ok(Reply::Ok)
 }
 
-/// Removes a directory without names.
+/// Removes an empty directory.
 pub fn rmdir(alloc: Global, working: &mut Working, path: &Path) -> Result<Reply, Missing>
     requires possible { HasVolume working.old }
     requires names { list_all is_name path.now ≡ true }

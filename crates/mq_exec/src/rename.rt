@@ -31,7 +31,7 @@ pub struct Renaming {
     pub picks: Vec<BlockNo>,
 }
 
-/// Whether the second path has the names of the first, and more.
+/// Whether the first path is a proper prefix of the second.
 fn is_below(path: &Path, below: &Path) -> bool
     ensures { result ≡ is_below_of path.now below.now }
 {
@@ -46,7 +46,7 @@ fn is_below(path: &Path, below: &Path) -> bool
     true
 }
 
-/// What stands at a path, with its directory; or why it can't move.
+/// What is at a path, with its directory, or why it can't be moved.
 fn plan_source(
     alloc: Global,
     working: &Working,
@@ -75,7 +75,7 @@ fn plan_source(
     Ok(Ok((d, i)))
 }
 
-/// How many blocks a name more takes, once another is gone from this directory or that.
+/// The number of blocks that one more name takes in `into`, once the old name is gone from `from`.
 fn move_need(working: &Working, from: u32, into: u32, blocks: &[BlockNo]) -> u32
     requires held { AreDirsAt (pages_of working.now) blocks.now }
     requires few { length blocks.now ≤ 1036 }
@@ -87,7 +87,7 @@ fn move_need(working: &Working, from: u32, into: u32, blocks: &[BlockNo]) -> u32
     working.link_need(blocks)
 }
 
-/// Whether there is no room for a name more then.
+/// Whether there is then no room in `into` for one more name.
 fn is_full(working: &Working, from: u32, into: u32, blocks: &[BlockNo]) -> bool
     requires held { AreDirsAt (pages_of working.now) blocks.now }
     requires few { length blocks.now ≤ 1036 }

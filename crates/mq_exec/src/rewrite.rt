@@ -15,6 +15,7 @@ ghost use Rattle.mq_layout.specs.Names.{is_name};
 ghost use Rattle.mq_layout.specs.Places.{inode_block as inode_block_of};
 ghost use Rattle.mq_tree.specs.Looks.{LooksAt};
 ghost use Rattle.mq_tree.specs.Requests.{Verdict, resized, target as target_of, write as write_of};
+ghost use Rattle.mq_tree.specs.Sound.{AreBytes};
 ghost use Rattle.mq_tree.specs.Volume.{Volume, way};
 ghost use Rattle.mq_tree.specs.declared.request.Fault.TheVariants.{NoSpace};
 ghost use Rattle.mq_tree.specs.declared.request.Request.TheVariants.{Write};
@@ -36,7 +37,7 @@ pub struct Rewriting {
     pub size: u64,
 }
 
-/// The size of a file after so many bytes were written at an offset.
+/// The size of a file after `count` bytes were written at an offset.
 fn size_after(size: u64, at: u64, count: u64) -> u64
     requires { at + count < 2 ^ 64 }
     ensures { result ≡ (if count == 0 then size else max size (at + count)) }
@@ -48,7 +49,7 @@ fn size_after(size: u64, at: u64, count: u64) -> u64
     }
 }
 
-/// The place behind that of the last of so many bytes at an offset.
+/// The index after that of the last block that `count` bytes at an offset touch.
 fn past_place(at: usize, count: usize) -> usize
     requires { at + count ≤ 4243456 }
     ensures { result ≡ past_place_of at count }
@@ -60,7 +61,7 @@ fn past_place(at: usize, count: usize) -> usize
     }
 }
 
-/// The blocks that a file has at so many bytes from an offset on.
+/// The blocks of a file that hold `count` bytes from an offset on.
 fn touched(blocks: &[BlockNo], at: usize, count: usize) -> &[BlockNo]
     requires { at + count ≤ 4243456 }
     ensures { result.now ≡ blocks_at blocks.now (at / 4096) (past_place_of at count) }
@@ -70,8 +71,8 @@ fn touched(blocks: &[BlockNo], at: usize, count: usize) -> &[BlockNo]
     &blocks[first..past]
 }
 
-/// What it takes that a file gets this size, which is not below its own, and other bytes at an offset.
-/// `None` where there are not enough free blocks.
+/// What giving a file this size, which is not below its own, and other bytes at an offset takes. `None`
+/// if there are too few free blocks.
 pub fn plan_longer(
     alloc: Global,
     working: &Working,
@@ -149,7 +150,7 @@ fn overwrite(
     Ok(())
 }
 
-/// Carries out what was planned: the file gets the blocks that it lacks, the bytes at the offset, and its
+/// Carries out what was planned: the file gets the blocks that it needs, the bytes at the offset, and its
 /// new size.
 pub fn carry_rewrite(
     alloc: Global,
@@ -205,6 +206,7 @@ pub fn write(
     requires possible { HasVolume working.old }
     requires queue { queue < queues_of working.old.geometry }
     requires names { list_all is_name path.now ≡ true }
+    ensures bytes { AreBytes bytes.now }
     ensures over { OnOk result (IsOver working.old working.new) }
     ensures ok { IfOk result (λ reply. OfEach working.old
         (λ v. ComesTo working.old.geometry v

@@ -38,7 +38,7 @@ pub struct Cutting {
     pub size: u64,
 }
 
-/// The blocks of a file past so many, and that of its pointers where it needs none any more.
+/// The blocks of a file after the first `count`, and that of its pointers if it is no longer needed.
 fn gone(alloc: Global, file: &Opened, count: u32) -> Result<Vec<BlockNo>, OutOfMemory>
     requires { count ≤ length file.now.blocks.items }
     ensures { IfOk result (λ blocks. blocks.items ≡ gone_from file.now count) }
@@ -50,7 +50,7 @@ fn gone(alloc: Global, file: &Opened, count: u32) -> Result<Vec<BlockNo>, OutOfM
     Ok(blocks)
 }
 
-/// Fills up a file with zeros.
+/// Extends a file with zeros.
 fn fill(
     alloc: Global,
     working: &mut Working,
@@ -79,8 +79,8 @@ fn fill(
     Ok(Reply::Ok)
 }
 
-/// That all is known that changes where a file is cut: its blocks from that of the first byte that goes
-/// on, and the bitmaps of the zones of those that are freed.
+/// Checks that all pages are known that change when a file is cut: its blocks from that of the first
+/// byte that is cut off, and the bitmaps of the zones of those that are freed.
 fn look_to_cut(alloc: Global, working: &Working, file: &Opened, size: u64) -> Result<(), Missing>
     requires possible { HasVolume working.now }
     requires opened { OfEach working.now (λ v. IsOpened working.now.geometry v file.now) }
@@ -117,7 +117,7 @@ fn plan_cut(alloc: Global, working: &Working, found: &Found, size: u64) -> Resul
     Ok(Cutting { file, size })
 }
 
-/// Writes zeros behind the last byte of a file of this size, up to the end of its block.
+/// Writes zeros after the last byte of a file of this size, up to the end of its block.
 fn blank(
     alloc: Global,
     working: &mut Working,
@@ -176,7 +176,7 @@ fn shorten(alloc: Global, working: &mut Working, found: &Found, size: u64) -> Re
     Ok(Reply::Ok)
 }
 
-/// Cuts a file to this size, or fills it with zeros up to it.
+/// Cuts a file to this size, or extends it with zeros up to it.
 pub fn truncate(
     alloc: Global,
     working: &mut Working,

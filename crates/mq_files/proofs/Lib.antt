@@ -1,6 +1,6 @@
-pub mod Written
-pub mod Changing
-pub mod Doing
-pub mod Ruling
-pub mod Settled
-mod Searching
+pub mod LawsWritten
+pub mod LawsChanging
+pub mod Entries
+pub mod LawsRuling
+pub mod PagesSettled
+mod JournalSearching

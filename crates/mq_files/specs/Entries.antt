@@ -74,7 +74,7 @@ pub record Does (g : Geometry) (m : Map) (e : FileEntry) : Type 0 where
   pub next : IsLaid g (after m (change_of (tx_of e))) (volume_after g ran.volume e)
 
 -- It ran and isn't drawn: it changes nothing, or too much for one transaction.
-pub record Asks (g : Geometry) (m : Map) (e : FileEntry) : Type 0 where
+pub record RanUndrawn (g : Geometry) (m : Map) (e : FileEntry) : Type 0 where
   pub ran : Ran g m e
   pub undrawn : IsUndrawn g (written_by e) (freed_by e)
   pub placed : IsAllLogged e

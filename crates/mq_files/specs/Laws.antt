@@ -7,7 +7,7 @@ use Rattle.mq_blocks.specs.Journal.{number_limit}
 use Rattle.mq_blocks.specs.Machine.{Map}
 use Rattle.mq_blocks.specs.declared.geometry.Geometry.{Geometry}
 use Rattle.mq_exec.specs.declared.outcome.Done.{Done}
-use Rattle.mq_files.specs.Entries.{Asks, Changes, Does, IsAllLogged, IsUndrawn, tx_by, tx_of, written_by}
+use Rattle.mq_files.specs.Entries.{RanUndrawn, Changes, Does, IsAllLogged, IsUndrawn, tx_by, tx_of, written_by}
 use Rattle.mq_files.specs.Group.{file_group}
 use Rattle.mq_files.specs.Plans.{DoneOn, HasNumber, IsEntryOf, IsPlanned, map_known, planned_by, planned_with}
 use Rattle.mq_files.specs.declared.entry.FileEntry.{FileEntry}
@@ -20,7 +20,7 @@ use Rattle.mq_revoke.specs.Placed.{Placed}
 use Rattle.mq_revoke.specs.Placing.{IsPlacement}
 use Rattle.mq_revoke.specs.declared.placement.Planned.{Planned}
 use Rattle.mq_rules.specs.Cells.{cell_after}
-use Rattle.mq_rules.specs.Rule.{Desk, Fits, IsPage, May, core_of, geometry_of, history_of, map_now, numbered, start_of}
+use Rattle.mq_rules.specs.Rule.{DeskState, Fits, IsPage, May, core_of, geometry_of, history_of, map_now, numbered, start_of}
 use Rattle.mq_rules.specs.Values.{Values}
 use Rattle.mq_side.specs.Commits.{IsPlanOf, commit_by, commit_of_tx}
 use Rattle.mq_tree.specs.declared.request.Request.{Request}
@@ -96,7 +96,7 @@ DoneGroupsAsk =
     → e.session < queues_of g
     → IsUndrawn g done.writes.items done.frees.items
     → IsAllLogged e
-    → Asks g m e
+    → RanUndrawn g m e
 
 -- ---- what a drawn group makes of a page
 
@@ -113,7 +113,7 @@ module _ {Q R : Type 0} (values : Values Q R FileEntry) where
   -- a planned group may be drawn by the rule of the desk
   abbrev pub DoneGroupsMay : Type 0
   DoneGroupsMay =
-      (K : Desk values file_group) (requests : List Request) (done : Done) (e : FileEntry)
+      (K : DeskState values file_group) (requests : List Request) (done : Done) (e : FileEntry)
       → DoneOn (geometry_of values file_group K) e.session (map_now values file_group K) requests done
       → IsEntryOf e.session requests done e
       → Changes done.writes.items done.frees.items
@@ -125,7 +125,7 @@ module _ {Q R : Type 0} (values : Values Q R FileEntry) where
   -- and one that isn't drawn may be read
   abbrev pub DoneGroupsFit : Type 0
   DoneGroupsFit =
-      (K : Desk values file_group) (requests : List Request) (done : Done) (e : FileEntry)
+      (K : DeskState values file_group) (requests : List Request) (done : Done) (e : FileEntry)
       → DoneOn (geometry_of values file_group K) e.session (map_now values file_group K) requests done
       → IsEntryOf e.session requests done e
       → e.session < queues_of (geometry_of values file_group K)
@@ -138,7 +138,7 @@ module _ {Q R : Type 0} (values : Values Q R FileEntry) where
   -- the cells of the pages that a session holds are what the rule of placing asks for
   abbrev pub PagesTellPlans : Type 0
   PagesTellPlans =
-      (K : Desk values file_group) (cells : Cells) (writes : List Write)
+      (K : DeskState values file_group) (cells : Cells) (writes : List Write)
       → ((b : ℕ) (c : PageCell) → cell_of cells b ≡ Some c → IsPage values file_group b K c)
       → ((w : Write) → Contains writes w → (c : PageCell) × (cell_of cells w.block ≡ Some c))
       → map (planned_with cells) writes ≡ map (planned_by (start_of values file_group K.opening) K.opening.base (history_of values file_group K)) writes

@@ -20,21 +20,21 @@ pub struct Reads {
     pub base: TxNo,
 }
 
-/// A group of requests as it was drawn, or as it was read: what was asked, what was answered, and where
-/// its writes go.
+/// A group of requests as it was drawn, or as it was read: the requests, the replies, and where its
+/// writes go.
 #[derive(Drop)]
 pub struct FileEntry {
     pub session: u32,
-    /// The session's calls are counted from 0.
+    /// The number of the call among those of the session, counted from 0.
     pub call: u64,
-    /// The caller waits until the group is done.
+    /// Whether the caller waits until the group is done.
     pub durable: bool,
     pub requests: Requests,
     pub replies: Replies,
     pub placed: Placed,
-    /// What they were placed by; of a group that isn't drawn, zeros.
+    /// The front and the base by which the blocks were placed; zeros for a group that isn't drawn.
     pub reads: Reads,
-    /// What it writes and frees. Proofs alone have it.
+    /// What it writes and frees. It exists in proofs only.
     pub writes: Snapshot<Vec<Write>>,
     pub frees: Snapshot<Vec<BlockNo>>,
 }

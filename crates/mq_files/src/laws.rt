@@ -22,8 +22,9 @@ pub fn an_entry_tells_its_commit()
     ensures plan { EntriesTellPlans }
 {}
 
-/// A group that was done on a map, and changed something, does on it what its entry says: it is answered
-/// so, its transaction writes and frees just what it changes, and the next volume lies on the map after it.
+/// A group that was done on a map, and changed something, does on it what its entry says: the replies are
+/// the entry's, its transaction writes and frees just what it changes, and the next volume lies on the map
+/// after it.
 pub fn a_done_group_does()
     ensures { DoneGroupsDo }
 {}

@@ -10,7 +10,7 @@ use mq_tree::{Reply, Request};
 use std::alloc::Global;
 use std::marker::Model;
 
-/// What a group asks, in order.
+/// The requests of a group, in order.
 #[derive(Drop)]
 pub struct Requests(pub Vec<Request>);
 
@@ -23,7 +23,7 @@ impl Model for Requests {
     ghost view = { λ r. r.0.items };
 }
 
-/// What it was answered, in the order of the requests.
+/// The replies to a group, in the order of its requests.
 #[derive(Drop)]
 pub struct Replies(pub Vec<Reply>);
 
@@ -43,7 +43,7 @@ pub struct Placed {
     pub logged: Blocks,
     /// What is written to its home block by the queue itself.
     pub direct: Blocks,
-    /// The direct blocks whose earlier copies count no more.
+    /// The direct blocks whose earlier copies no longer count.
     pub revoked: Blocks,
 }
 

@@ -77,8 +77,8 @@ fn page_with(
     }
 }
 
-/// What the transaction of a group makes of the page of a block. A session goes through the pages that it
-/// holds from the greatest block on, and gives each back. The content of a write is moved into its page.
+/// The page of a block after the transaction of a group. A session goes through the pages that it holds
+/// from the greatest block down, and gives each back. The content of a write is moved into its page.
 pub fn page_after(
     block: BlockNo,
     cell: PageCell,

@@ -27,7 +27,8 @@ fn plan_write(held: &Held, write: &Write) -> Planned
     }
 }
 
-/// What the rule of placing asks of each block that a group writes, by the pages that its session holds.
+/// For each block that a group writes, what the rule of placement needs to know, from the pages that its
+/// session holds.
 pub fn plan_writes(
     alloc: Global,
     held: &Held,

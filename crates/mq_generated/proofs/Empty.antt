@@ -6,23 +6,21 @@ use Rattle.mq_blocks.specs.Blocks.{block_at}
 use Rattle.mq_blocks.specs.Descriptor.{Descriptor}
 use Rattle.mq_blocks.specs.Drive.{depth}
 use Rattle.mq_blocks.specs.Geometry.{homes_of, meta_of, queues_of}
-use Rattle.mq_blocks.specs.Journal.{AreWhole, Has, IsQueueChain, IsTop, Says, Shown, stands}
+use Rattle.mq_blocks.specs.Journal.{AreWhole, Has, IsQueueChain, IsTop, WriteFields, Shown, stands}
 use Rattle.mq_blocks.specs.declared.geometry.Geometry.{Geometry}
 use Rattle.mq_layout.specs.Empty.{empty_block}
 use Rattle.mq_layout.proofs.EmptyLaws.{empty-zeros}
 use Rattle.mq_legal.specs.Cuts.{Starts}
-use Rattle.mq_recover.specs.Recovery.{IsRead}
-use Rattle.mq_recover.proofs.Images.{read-same}
+use Rattle.mq_legal.proofs.CutsStarting.{no_chains}
+use Rattle.mq_recover.specs.Recovery.{IsReadPrefix}
+use Rattle.mq_recover.proofs.DrivesImages.{read-same}
 use Rattle.mq_tree.specs.Empty.{empty_volume}
 use Rattle.mq_tree.specs.Laid.{IsPage, map_of}
 use Rattle.mq_tree.specs.Volume.{Volume}
-use Rattle.mq_tree.proofs.Empties.{empty-laid}
-use Rattle.mq_tree.proofs.Maps.{mapped}
-use Rattle.mq_tree.proofs.Mounting.{past-page, zeros-page}
-use Rattle.mq_tree.proofs.Unique.{volume-once}
-
-abbrev no_chains : ℕ → List Descriptor
-no_chains q = []
+use Rattle.mq_tree.proofs.Empty.{empty-laid}
+use Rattle.mq_tree.proofs.LaidMaps.{mapped}
+use Rattle.mq_tree.proofs.DecodedMounting.{past-page, zeros-page}
+use Rattle.mq_tree.proofs.LaidUnique.{volume-once}
 
 module _ (g : Geometry) (i : Shown) (base_is : i.base ≡ 0) (heads : (q : ℕ) → q < queues_of g → i.head q ≡ 0) (bells : (q : ℕ) → q < queues_of g → i.doorbell q ≡ 0) where
   no-chain : (q : ℕ) → q < queues_of g → IsQueueChain g i q []
@@ -53,7 +51,7 @@ module _ (g : Geometry) (i : Shown) (base_is : i.base ≡ 0) (heads : (q : ℕ) 
     once = λ q r l h other d e has. absurd has;
   }
 
-  at-most : (m : ℕ) → (m ≡ i.base) ⊎ (((q : ℕ) × (d : Descriptor) × (q < g.queues) × Has [] d × (d.number ≡ m)) ⊎ ((q : ℕ) × (c : ℕ) × (s : Says) × (q < g.queues) × (i.head q ≤ c) × (c < i.doorbell q) × (i.entry q (c % depth) ≡ Some s) × (s.0 ≡ m))) → m ≤ 0
+  at-most : (m : ℕ) → (m ≡ i.base) ⊎ (((q : ℕ) × (d : Descriptor) × (q < g.queues) × Has [] d × (d.number ≡ m)) ⊎ ((q : ℕ) × (c : ℕ) × (s : WriteFields) × (q < g.queues) × (i.head q ≤ c) × (c < i.doorbell q) × (i.entry q (c % depth) ≡ Some s) × (s.0 ≡ m))) → m ≤ 0
   at-most m (inl e) = omega (arith, e)
   at-most m (inr (inl has)) = absurd has.3
   at-most m (inr (inr rung)) = let bell = bells rung.0 rung.3 in let under = rung.5 in absurd (omega (arith, bell, under))
@@ -65,7 +63,7 @@ module _ (g : Geometry) (i : Shown) (base_is : i.base ≡ 0) (heads : (q : ℕ) 
     greatest = λ m shows. at-most m shows.where_from;
   }
 
-  reads-nothing : IsRead g i [] 0
+  reads-nothing : IsReadPrefix g i [] 0
   reads-nothing = record {
     chains = no_chains;
     whole = no-chains-whole;

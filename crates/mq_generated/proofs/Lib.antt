@@ -1,4 +1,4 @@
-pub mod Workload
-pub mod Lasts
+pub mod GeneratedWorkload
+pub mod GeneratedLasts
 pub mod Empty
-pub mod Whole
+pub mod GeneratedWhole

@@ -15,7 +15,7 @@ use Rattle.mq_legal.specs.Answers.{IsLineOf, is_good}
 use Rattle.mq_legal.specs.Cuts.{HasEntries, ShowsVolume}
 use Rattle.mq_legal.specs.Groups.{IsGroup, group_at, groups_of}
 use Rattle.mq_legal.specs.Legal.{IsLegal, newest, volume_at}
-use Rattle.mq_recover.specs.Recovery.{IsRead}
+use Rattle.mq_recover.specs.Recovery.{IsReadPrefix}
 use Rattle.mq_report.specs.Lines.{Line}
 use Rattle.mq_report.specs.declared.line.Told.{Told}
 use Rattle.mq_script.specs.Scripts.{Script}
@@ -56,7 +56,7 @@ pub record HoldsAll (g : Geometry) (scripts : List Script) (lines : List Line) (
   pub drive : IsDrive x
   pub ds : List Descriptor
   pub top : ℕ
-  pub read : IsRead g (view_of x) ds top
+  pub read : IsReadPrefix g (view_of x) ds top
   pub reaches : newest 0 lines ≡ (view_of x).base + length ds
   pub stand : ShowsVolume g (view_of x) ds (last_volume g scripts lines)
   pub rung : (q : ℕ) → q < queues_of g → HasEntries g scripts q (empty_volume g) lines ((view_of x).doorbell q)

@@ -34,7 +34,8 @@ fn newest(lines: &[Line]) -> u64
     number
 }
 
-// How much the tree has that stands on an image. Where one stands, the call is refused for lack of memory alone.
+// The counts of the tree that stands on an image. Where one stands, the call is refused only as out of
+// memory.
 fn count(alloc: Global, image: DriveImage) -> Result<TreeCounts, OutOfMemory>
     requires { IsDrive image }
     ensures { IfOk result (λ counts. (v : Volume) × StandsFor image v × (counts ≡ counts_in v)) }
@@ -58,9 +59,9 @@ fn file_of(alloc: Global, image: &DriveImage, keeps: bool) -> Result<Vec<u8>, Ou
     }
 }
 
-/// Runs the workload of a seed on the empty file system of a fresh drive, each script on a session and a thread of its
-/// own, cuts the power of the drive once all sessions have ended, and counts what stands then. The file of the image that
-/// this left is made where `keeps` asks for it.
+/// Runs the workload of a seed on the empty file system of a fresh drive, each script on a session and a
+/// thread of its own, cuts the power of the drive once all sessions have ended, and counts what stands
+/// then. The file of the image that this left is made only if `keeps` is set.
 pub fn generate<R: Threads + Wait + Sync, G: Gate + Sync>(
     rt: &R,
     alloc: Global,

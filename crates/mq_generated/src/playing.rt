@@ -14,8 +14,8 @@ use std::alloc::Global;
 use std::sync::Wait;
 use std::thread::Threads;
 
-/// The power goes off after more events than any run makes, so once all sessions have ended, and without a checkpoint.
-/// No command fails.
+/// The power goes off after more events than any run makes, so after all sessions have ended, and without a
+/// checkpoint. No command fails.
 const TO_THE_END: RunOptions = RunOptions {
     cut: Some(1 << 63),
     pick: 0,

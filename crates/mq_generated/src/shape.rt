@@ -6,13 +6,13 @@ use mq_blocks::Geometry;
 
 const AREA: u32 = 1024;
 
-/// So many blocks of metadata more than there are queues: a bitmap for each of them, the superblock, the bitmap of the
+/// The number of blocks of metadata beside a bitmap for each queue: the superblock, the bitmap of the
 /// inodes, and 16 blocks of the inode table.
 const MORE_META: u32 = 18;
 
 const ZONE: u32 = 256;
 
-/// The geometry of a drive with a queue for each of so many threads.
+/// The geometry of a drive with a queue for each thread.
 pub fn shape(threads: u32) -> Geometry
     requires { (1 ≤ threads) × (threads ≤ 16) }
     ensures { IsShape threads result }

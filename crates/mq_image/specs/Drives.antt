@@ -3,15 +3,16 @@ use Rattle.std.specs.Prelude.{◌≡◌, ◌<◌, ℕ, ◌+◌, ◌^◌, List, l
 use Rattle.std.specs.List.{All}
 use Rattle.mq_blocks.specs.Drive.{PortImage}
 use Rattle.mq_blocks.specs.Geometry.{queues_of}
+use Rattle.mq_blocks.specs.Journal.{no_image}
 use Rattle.mq_drive.specs.Start.{IsImageOf}
 use Rattle.mq_drive.specs.declared.role.Role.TheVariants.{Queue, Root}
 use Rattle.mq_nvme.specs.Dwords.{AreDwords}
-use Rattle.mq_image.specs.File.{DriveImage, HasBytes, image_bytes, kept, namespace, no_port, queue_ports, root_port}
+use Rattle.mq_image.specs.File.{DriveImage, IsBlockSized, image_bytes, kept, namespace, queue_ports, root_port}
 
 -- one port for each role of the geometry, each with the slots, blocks and zeros of its role
 pub record IsDrive (x : DriveImage) : Type 0 where
   pub ports : length x.ports ≡ queues_of x.geometry + 1
-  pub queues : (q : ℕ) → q < queues_of x.geometry → IsImageOf x.geometry (Queue q) (slice_index_or x.ports q no_port)
+  pub queues : (q : ℕ) → q < queues_of x.geometry → IsImageOf x.geometry (Queue q) (slice_index_or x.ports q no_image)
   pub root : IsImageOf x.geometry Root (root_port x)
 
 -- the words, the slots and the blocks of a port fit their places in the file
@@ -20,7 +21,7 @@ pub record HasWidths (p : PortImage) : Type 0 where
   pub head : p.head < 2 ^ 64
   pub base : p.base < 2 ^ 64
   pub slots : All (λ e. AreDwords 16 e) p.slots
-  pub blocks : All HasBytes p.blocks
+  pub blocks : All IsBlockSized p.blocks
 
 -- a port with each block of zeros absent
 abbrev pub without_blanks : PortImage → PortImage

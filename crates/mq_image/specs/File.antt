@@ -6,6 +6,7 @@ use Rattle.mq_blocks.specs.Descriptor.{list_bytes}
 use Rattle.mq_blocks.specs.Drive.{PortImage}
 use Rattle.mq_blocks.specs.Geometry.{queues_of, area_of, meta_of, zone_size}
 use Rattle.mq_blocks.specs.declared.geometry.Geometry.{Geometry}
+use Rattle.mq_blocks.specs.Journal.{no_image}
 use Rattle.mq_nvme.specs.Dwords.{dword_bytes}
 
 -- a drive after its power was cut: the images of the queues' ports in order, and then of the root's
@@ -13,19 +14,16 @@ pub record DriveImage : Type 0 where
   pub geometry : Geometry
   pub ports : List PortImage
 
--- what stands in a list of ports past its end
-abbrev pub no_port : PortImage
-no_port = record { doorbell = 0; head = 0; base = 0; slots = []; blocks = [] }
-
 abbrev pub queue_ports : DriveImage → List PortImage
 queue_ports x = take (queues_of x.geometry) x.ports
 
 abbrev pub root_port : DriveImage → PortImage
-root_port x = slice_index_or x.ports (queues_of x.geometry) no_port
+root_port x = slice_index_or x.ports (queues_of x.geometry) no_image
 
-abbrev pub HasBytes : Option (List ℕ) → Type 0
-HasBytes None = Unit {0}
-HasBytes (Some block) = length block ≡ 4096
+-- a block that is there has 4,096 bytes
+abbrev pub IsBlockSized : Option (List ℕ) → Type 0
+IsBlockSized None = Unit {0}
+IsBlockSized (Some block) = length block ≡ 4096
 
 -- ---- blocks, by their Lba
 

@@ -3,7 +3,7 @@ use Rattle.std.specs.Prelude.{◌≡◌, ◌<◌, ◌≤◌, ◌^◌, ℕ, ◌+�
 use Rattle.std.specs.List.{All}
 use Rattle.mq_blocks.specs.Windows.{window}
 use Rattle.mq_image.specs.Faults.{record_fault}
-use Rattle.mq_image.specs.File.{HasBytes, kept, one_of, record_bytes, record_count, records}
+use Rattle.mq_image.specs.File.{IsBlockSized, kept, one_of, record_bytes, record_count, records}
 use Rattle.mq_image.specs.declared.fault.FileFault.{FileFault}
 use Rattle.mq_image.specs.declared.place.Place.{Place}
 
@@ -31,7 +31,7 @@ pub record IsNext (file : List ℕ) (old new : Place) (block : Option (List ℕ)
   pub end : new.at + 4100 * new.left ≡ old.at + 4100 * old.left
   pub count : old.left ≡ one_of block + new.left
   pub kept_is : kept block ≡ block
-  pub bytes : HasBytes block
+  pub bytes : IsBlockSized block
 
 -- the next blocks were read
 pub record IsSpan (file : List ℕ) (old new : Place) (blocks : List (Option (List ℕ))) : Type 0 where
@@ -43,4 +43,4 @@ pub record IsSpan (file : List ℕ) (old new : Place) (blocks : List (Option (Li
   pub end : new.at + 4100 * new.left ≡ old.at + 4100 * old.left
   pub count : old.left ≡ record_count blocks + new.left
   pub kept_is : map kept blocks ≡ blocks
-  pub bytes : All HasBytes blocks
+  pub bytes : All IsBlockSized blocks

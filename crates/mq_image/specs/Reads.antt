@@ -5,8 +5,9 @@ use Rattle.mq_blocks.specs.Drive.{PortImage, depth}
 use Rattle.mq_blocks.specs.Geometry.{queues_of, area_of, meta_of, zone_size}
 use Rattle.mq_blocks.specs.Windows.{window}
 use Rattle.mq_blocks.specs.declared.geometry.Geometry.{Geometry}
+use Rattle.mq_blocks.specs.Journal.{no_image}
 use Rattle.mq_image.specs.Drives.{HasWidths}
-use Rattle.mq_image.specs.File.{all_blocks, areas, namespace, no_port, ring_bytes, zones}
+use Rattle.mq_image.specs.File.{all_blocks, areas, namespace, ring_bytes, zones}
 use Rattle.mq_image.specs.Places.{IsInside, IsSpan, fault_left}
 use Rattle.mq_image.specs.declared.place.Place.{Place}
 
@@ -53,8 +54,8 @@ with_zone p zone = record p { blocks = p.blocks ++ zone }
 -- the zones of the first so many ports were read, and the others have none yet
 pub record AreZonesRead (g : Geometry) (file : List ℕ) (count : ℕ) (old new : Place) (before ports : List PortImage) : Type 0 where
   pub count_is : length ports ≡ length before
-  pub done : (k : ℕ) → k < count → IsQueuePort g (slice_index_or ports k no_port)
-  pub rest : (k : ℕ) → count ≤ k → k < length ports → IsAreaPort g (slice_index_or ports k no_port)
+  pub done : (k : ℕ) → k < count → IsQueuePort g (slice_index_or ports k no_image)
+  pub rest : (k : ℕ) → count ≤ k → k < length ports → IsAreaPort g (slice_index_or ports k no_image)
   pub size : length (zones g ports) ≡ count * zone_size g
   pub span : IsSpan file old new (zones g ports)
   pub areas_are : areas g ports ≡ all_blocks before
@@ -72,8 +73,8 @@ pub record IsRootPort (g : Geometry) (base : ℕ) (p : PortImage) : Type 0 where
 -- all ports were read
 pub record ArePortsRead (g : Geometry) (base : ℕ) (file : List ℕ) (old new : Place) (ports : List PortImage) : Type 0 where
   pub count_is : length ports ≡ queues_of g + 1
-  pub queues : (q : ℕ) → q < queues_of g → IsQueuePort g (slice_index_or ports q no_port)
-  pub root : IsRootPort g base (slice_index_or ports (queues_of g) no_port)
+  pub queues : (q : ℕ) → q < queues_of g → IsQueuePort g (slice_index_or ports q no_image)
+  pub root : IsRootPort g base (slice_index_or ports (queues_of g) no_image)
   pub past : IsPast file old new old.size
-  pub span : IsSpan file old new (namespace g (take (queues_of g) ports) (slice_index_or ports (queues_of g) no_port))
+  pub span : IsSpan file old new (namespace g (take (queues_of g) ports) (slice_index_or ports (queues_of g) no_image))
   pub rings : flat_map ring_bytes (take (queues_of g) ports) ≡ window file 40 (65552 * queues_of g)

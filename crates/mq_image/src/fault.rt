@@ -5,9 +5,9 @@ use std::alloc::{AllocError, AllocFailed};
 /// Why bytes are not the file of an image: the first test that failed, and what was found there.
 #[derive(Clone, Copy, Debug, PartialEq, Eq)]
 pub enum FileFault {
-    /// The file ends before its parts, as far as their lengths are known.
+    /// The file is too short for its parts, as far as their lengths are known.
     Short { need: u64, have: u64 },
-    /// The first eight bytes are others.
+    /// The first eight bytes are not the magic number.
     Magic,
     Version { found: u32 },
     Geometry(GeometryRefusal),
@@ -19,7 +19,7 @@ pub enum FileFault {
     Order { index: u32 },
     /// This block is all zeros.
     Zero { lba: u32 },
-    /// So many bytes stand behind the last block.
+    /// This many bytes follow the last block.
     Extra { bytes: u64 },
     OutOfMemory,
 }

@@ -10,25 +10,25 @@ use crate::fault::FileFault;
 use mq_blocks::Geometry;
 use mq_blocks::bytes::{u32_at, u64_at};
 
-/// The bytes before the rings.
+/// The number of bytes before the rings.
 pub const HEADER: usize = 40;
 
-/// The bytes of a queue's words and ring.
+/// The number of bytes of a queue's words and ring.
 pub const RING: usize = 65_552;
 
-/// The bytes of a block and its Lba.
+/// The number of bytes of a block and its Lba.
 pub const RECORD: usize = 4_100;
 
 pub const MAGIC: &[u8; 8] = b"MQFSIMG1";
 
-/// What the head of a file says.
+/// The header of a file.
 #[derive(Clone, Copy)]
 pub struct Header {
     pub geometry: Geometry,
     pub base: u64,
 }
 
-/// Refuses what does not pass.
+/// Refuses with this fault unless the test passes.
 pub fn check(passes: bool, fault: FileFault) -> Result<(), FileFault>
     ensures { Finds (unless passes fault) result }
 {
@@ -43,7 +43,7 @@ pub fn check_length(file: &[u8], need: u64) -> Result<(), FileFault>
     check(need <= have, FileFault::Short { need, have })
 }
 
-/// Refuses bytes behind the last block.
+/// Refuses bytes after the last block.
 pub fn check_extra(file: &[u8], end: usize) -> Result<(), FileFault>
     requires { end ≤ length file.now }
     ensures { Finds (extra_fault end file.now) result }
@@ -52,7 +52,7 @@ pub fn check_extra(file: &[u8], end: usize) -> Result<(), FileFault>
     check(file.len() <= end, FileFault::Extra { bytes })
 }
 
-/// The geometry in the head of a file.
+/// The geometry in the header of a file.
 fn read_geometry(file: &[u8]) -> Result<Geometry, FileFault>
     requires { HEADER ≤ length file.now }
     ensures is { IfOk result (IsGeometryIn file.now) }
@@ -67,7 +67,7 @@ fn read_geometry(file: &[u8]) -> Result<Geometry, FileFault>
     Ok(Geometry::new(queues, area, meta, zone)?)
 }
 
-/// The head of a file.
+/// The header of a file, or its first fault.
 #[tactic(auto, unfolding(crate::specs::Faults::header_fault))]
 pub fn read_header(file: &[u8]) -> Result<Header, FileFault>
     ensures none { IfOk result (λ h. header_fault (Ok h.geometry) file.now ≡ None) }
@@ -114,7 +114,7 @@ pub fn read_count(file: &[u8], geometry: Geometry) -> Result<u32, FileFault>
     Ok(count)
 }
 
-/// The blocks of the namespace.
+/// The number of blocks of the namespace.
 pub fn namespace_size(geometry: Geometry) -> u32
     ensures is { result ≡ blocks_of_drive geometry }
     ensures most { result ≤ 294912 }

@@ -2,7 +2,7 @@
 ghost use Rattle.std.specs.Prelude.{◌≡◌, ◌≤◌, ◌<◌, ◌+◌, ◌*◌, ◌^◌, ◌++◌, ℕ, [], None, Some, length, IfOk, IfErr, MatchResult};
 ghost use Rattle.std.specs.List.{All, list_all};
 ghost use Rattle.mq_blocks.specs.Windows.{window, number_at};
-ghost use Rattle.mq_image.specs.File.{records, record_bytes, is_blank, HasBytes};
+ghost use Rattle.mq_image.specs.File.{records, record_bytes, is_blank, IsBlockSized};
 ghost use Rattle.mq_image.specs.Faults.{Finds, Refuses};
 ghost use Rattle.mq_image.specs.Places.{IsInside, IsNext, IsSpan, fault_left, rest_of};
 
@@ -12,17 +12,17 @@ use mq_blocks::bytes::{put, u32_at};
 use mq_blocks::{Block, OutOfMemory};
 use std::alloc::Global;
 
-/// How far the blocks of a file are read.
+/// How far the blocks of a file have been read.
 #[derive(Clone, Copy)]
 pub struct Place {
     /// The offset of the next record.
     at: usize,
-    /// The records that are still to come, and the index of the next.
+    /// The number of records that are still to come, and the index of the next.
     left: u32,
     index: u32,
     /// The next block of the namespace.
     lba: u32,
-    /// The blocks of the namespace.
+    /// The number of blocks of the namespace.
     size: u32,
 }
 
@@ -43,7 +43,7 @@ fn copy_block(alloc: Global, bytes: &[u8]) -> Result<Block, OutOfMemory>
 }
 
 impl Place {
-    /// Before the first of so many records.
+    /// The place before the first of `count` records.
     pub fn new(at: usize, count: u32, size: u32) -> Place
         ensures { result ≡ record { at = at; left = count; index = 0; lba = 0; size = size } }
     {
@@ -90,7 +90,7 @@ impl Place {
         Ok(Some(block))
     }
 
-    /// The next blocks of the namespace, so many, with room for more.
+    /// The next `count` blocks of the namespace, with room for more.
     pub fn span(
         &mut self,
         alloc: Global,
@@ -111,7 +111,7 @@ impl Place {
         Ok(blocks)
     }
 
-    /// The offset behind the last record, once the whole namespace is read.
+    /// The offset after the last record, once the whole namespace is read.
     pub fn end(&self) -> Result<usize, FileFault>
         ensures { MatchResult result (λ end. (self.now.left ≡ 0) × (end ≡ self.now.at))
             (λ e. (0 < self.now.left)

@@ -3,9 +3,9 @@ ghost use Rattle.std.specs.Prelude.{◌≡◌, ◌⊎◌, ◌<◌, ◌≤◌, �
 ghost use Rattle.std.specs.Prelude.{length, slice_index_or, slice_set};
 ghost use Rattle.std.specs.List.{All};
 ghost use Rattle.mq_blocks.specs.Geometry.{queues_of, area_of, zone_size, blocks_of_drive};
+ghost use Rattle.mq_blocks.specs.Journal.{no_image};
 ghost use Rattle.mq_image.specs.Drives.{IsRead};
 ghost use Rattle.mq_image.specs.Faults.{FindsFirst, HasFault, IsGeometryIn, Refuses, RefusesIn, fault_of};
-ghost use Rattle.mq_image.specs.File.{no_port};
 ghost use Rattle.mq_image.specs.Places.{IsInside, fault_left};
 ghost use Rattle.mq_image.specs.Reads.{AreAreasRead, ArePortsRead, AreZonesRead, IsAreaPort, IsAreaRead, with_zone};
 
@@ -19,8 +19,8 @@ use mq_blocks::{Block, Geometry};
 use mq_drive::PortImage;
 use std::alloc::Global;
 
-/// The image whose file these bytes are. Where they are none, the fault is the first test that
-/// failed. Each block is copied once, and a block of zeros takes no memory.
+/// The image whose file these bytes are. If they are not such a file, the fault names the first
+/// test that failed. Each block is copied once, and a block of zeros takes no memory.
 pub fn read_image(alloc: Global, bytes: &[u8]) -> Result<DriveImage, FileFault>
     ensures sound { IfOk result (λ x. IsRead x bytes.now) }
     ensures finds { FindsFirst bytes.now result }
@@ -137,7 +137,7 @@ fn read_queues(
     Ok(ports)
 }
 
-// The blocks of the zones, behind those of the areas.
+// The blocks of the zones, after those of the areas.
 fn read_zones(
     alloc: Global,
     file: &[u8],
@@ -167,7 +167,7 @@ fn add_zone(
 ) -> Result<(), FileFault>
     requires { queue < length ports.old.items }
     ensures ports { IfOk result (λ _. ports.new.items ≡ slice_set ports.old.items queue
-        (with_zone (slice_index_or ports.old.items queue no_port) zone.items)) }
+        (with_zone (slice_index_or ports.old.items queue no_image) zone.items)) }
     ensures refused { IfErr result (λ e. e ≡ FileFault.OutOfMemory) }
 {
     extend_port(&mut ports[queue], zone)

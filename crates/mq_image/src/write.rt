@@ -25,8 +25,8 @@ pub fn write_image(alloc: Global, image: &DriveImage) -> Result<Vec<u8>, OutOfMe
     write_image_over(Vec::new(alloc), image)
 }
 
-/// The file of an image, in the memory of bytes that nobody needs any more: those of the file that the image was read
-/// of have about its length.
+/// The file of an image, in the memory of bytes that are no longer needed: those of the file from which the
+/// image was read have about the same length.
 pub fn write_image_over(bytes: Vec<u8>, image: &DriveImage) -> Result<Vec<u8>, OutOfMemory>
     requires { IsDrive image.now }
     ensures { IfOk result (λ v. v.items ≡ image_bytes image.now) }
@@ -184,7 +184,7 @@ fn put_record(file: &mut Vec<u8>, lba: u32, block: &Option<Block>) -> Result<(),
     Ok(())
 }
 
-// Appends the blocks from an Lba on, and answers the Lba behind them.
+// Appends the blocks from an Lba on, and returns the Lba after them.
 fn put_span(file: &mut Vec<u8>, lba: u32, blocks: &[Option<Block>]) -> Result<u32, OutOfMemory>
     requires { lba + length blocks.now < 2 ^ 32 }
     ensures bytes { IfOk result (λ _. file.new.items ≡ file.old.items ++ records lba blocks.now) }
@@ -210,7 +210,7 @@ fn zone_blocks(port: &PortImage, area: u32) -> &[Option<Block>]
     &port.blocks[area as usize..]
 }
 
-// Appends the blocks of the areas, and answers the Lba behind them.
+// Appends the blocks of the areas, and returns the Lba after them.
 fn put_areas(
     file: &mut Vec<u8>,
     geometry: Geometry,

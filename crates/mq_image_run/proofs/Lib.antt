@@ -1,8 +1,8 @@
-pub mod Counting
-pub mod Mounting
-pub mod Ended
-pub mod Limited
-pub mod Named
-pub mod Powered
+pub mod ScriptsCounting
+pub mod DrivesMounting
+pub mod RunsEnded
+pub mod Refusals
+pub mod DrivesNamed
+pub mod RunsPowered
 pub mod Seats
-pub mod Images
+pub mod DrivesImages

@@ -14,12 +14,12 @@ use Rattle.mq_drive.specs.declared.fuse.FuseSeat.{FuseSeat}
 use Rattle.mq_image.specs.Drives.{IsDrive}
 use Rattle.mq_image.specs.File.{DriveImage}
 use Rattle.mq_images.specs.Cuts.{CutPort, IsCutPort, row_of}
-use Rattle.mq_images.proofs.CutRows.{seats-long, seats-own}
-use Rattle.mq_images.proofs.Recoverings.{row-each, row-long}
-use Rattle.mq_images.proofs.Starting.{start-queue}
+use Rattle.mq_images.proofs.CutsRows.{seats-long, seats-own}
+use Rattle.mq_images.proofs.CutsRecoverings.{row-each, row-long}
+use Rattle.mq_images.proofs.Views.{start-queue}
 use Rattle.mq_ledger.specs.State.{port_at}
 use Rattle.mq_recover.specs.Drives.{DriveState, drive_of}
-use Rattle.mq_recover.proofs.Zones.{IsZone, port_in}
+use Rattle.mq_recover.proofs.DrivesZones.{IsZone, port_in}
 use Rattle.mq_script.specs.Scripts.{Script}
 use Rattle.mq_image_run.specs.Drives.{IsDriven, events_on}
 use Rattle.mq_image_run.specs.declared.driving.Driven.{Driven}
@@ -31,12 +31,12 @@ mapped (q ∷ ps) zero p at = ap emu_state at
 mapped (q ∷ ps) (suc k) p at = mapped ps k p at
 
 -- the cut of a port in a row
-cut-of : (cs : List CutPort) → All (λ c. IsCutPort c.port c.image c.seat) cs → (k : ℕ) (p : EmuPort) → k < length cs → get_or (map (λ (c : CutPort). c.port) cs) k p ≡ p
-    → (c : CutPort) × Contains (map (λ (c : CutPort). c.seat) cs) c.seat × (c.port ≡ p) × IsCutPort c.port c.image c.seat
-cut-of [] each k p low at = absurd (omega (arith, low))
-cut-of (c ∷ cs) each zero p low at = (c, (0, omega arith, refl), at, each 0 c (omega arith))
-cut-of (c ∷ cs) each (suc k) p low at =
-    let rest = cut-of cs (λ j d less. each (suc j) d (omega (arith, less))) k p (omega (arith, low)) at in
+cut-of : (pick : ℕ) (cs : List CutPort) → All (λ c. IsCutPort pick c.port c.image c.seat) cs → (k : ℕ) (p : EmuPort) → k < length cs → get_or (map (λ (c : CutPort). c.port) cs) k p ≡ p
+    → (c : CutPort) × Contains (map (λ (c : CutPort). c.seat) cs) c.seat × (c.port ≡ p) × IsCutPort pick c.port c.image c.seat
+cut-of pick [] each k p low at = absurd (omega (arith, low))
+cut-of pick (c ∷ cs) each zero p low at = (c, (0, omega arith, refl), at, each 0 c (omega arith))
+cut-of pick (c ∷ cs) each (suc k) p low at =
+    let rest = cut-of pick cs (λ j d less. each (suc j) d (omega (arith, less))) k p (omega (arith, low)) at in
     let within = rest.1.1 in
     (rest.0, (suc rest.1.0, omega (arith, within), rest.1.2), rest.2, rest.3)
 
@@ -59,10 +59,10 @@ module _ (fuse : FuseName) (y : DriveImage) (drive : IsDrive y) (scripts : List 
   fuses = row-each y.geometry driven.has.end.ports count (λ s. s.fuse ≡ fuse) bound
 
   pub own-seats : All (λ s. fuse_of s ≡ fuse) seats
-  own-seats = seats-own row d.images.items seats driven.has.cut fuse fuses
+  own-seats = seats-own o.pick row d.images.items seats driven.has.cut fuse fuses
 
   pub all-seats : length seats ≡ queues_of y.geometry + 1
-  all-seats = seats-long row d.images.items seats driven.has.cut ∙ row-long y.geometry driven.has.end.ports count
+  all-seats = seats-long o.pick row d.images.items seats driven.has.cut ∙ row-long y.geometry driven.has.end.ports count
 
   -- a port that the row contains has the fuse of the drive
   pub own-fuse : (p : EmuPort) → Contains row p → (emu_state p).fuse ≡ fuse
@@ -75,14 +75,14 @@ module _ (fuse : FuseName) (y : DriveImage) (drive : IsDrive y) (scripts : List 
       let has : Contains (map (λ (c : CutPort). c.port) cut.cuts) p = subst (λ (ps : List EmuPort). Contains ps p) cut.ports_are own in
       let within = has.1 in
       let long = length-map cut.cuts (λ (c : CutPort). c.port) in
-      let one = cut-of cut.cuts cut.each has.0 p (omega (arith, within, long)) has.2 in
+      let one = cut-of o.pick cut.cuts cut.each has.0 p (omega (arith, within, long)) has.2 in
       let limited : (emu_state one.0.port).fuse.limit ≡ Some l = ap (λ (q : EmuPort). (emu_state q).fuse.limit) one.2 ∙ (ap (λ (f : FuseName). f.limit) (own-fuse p own) ∙ limit) in
       let more : 0 < above l (tickets_of one.0.seat) = one.3.off l limited (subst (λ (q : EmuPort). Contains (emu_faults q) PowerOff) (sym one.2) off) in
       (one.0.seat, subst (λ (ss : List FuseSeat). Contains ss one.0.seat) (sym cut.seats_are) one.1, more)
 
   -- the tickets of all seats that are below the limit are the events that happened on all ports
   module _ (l : ℕ) (limit : fuse.limit ≡ Some l) where
-    sum : (cs : List CutPort) → All (λ c. IsCutPort c.port c.image c.seat) cs → ((k : ℕ) (s : PortState) → k < length cs → (get_or (map emu_state (map (λ (c : CutPort). c.port) cs)) k s).fuse ≡ fuse)
+    sum : (cs : List CutPort) → All (λ c. IsCutPort o.pick c.port c.image c.seat) cs → ((k : ℕ) (s : PortState) → k < length cs → (get_or (map emu_state (map (λ (c : CutPort). c.port) cs)) k s).fuse ≡ fuse)
         → total (λ s. below l (tickets_of s)) (map (λ (c : CutPort). c.seat) cs) ≡ events_on (map (λ (c : CutPort). c.port) cs)
     sum [] each of = refl
     sum (c ∷ cs) each of =

@@ -16,7 +16,7 @@ use Rattle.mq_drive.specs.declared.port.Port.{Ghosts}
 use Rattle.mq_drive.specs.declared.port.Ports.{Ports}
 use Rattle.mq_image.specs.File.{DriveImage}
 use Rattle.mq_images.specs.Cuts.{AreCutPorts, row_of}
-use Rattle.mq_images.specs.Starts.{AreStarted}
+use Rattle.mq_images.specs.Starts.{AreSeeded, AreStarted}
 use Rattle.mq_images.specs.declared.ports.Failing.{Failing}
 use Rattle.mq_images.specs.declared.refusal.StandingRefusal.{StandingRefusal}
 use Rattle.mq_images.specs.declared.refusal.StandingRefusal.TheVariants.{Corrupt, Image, OutOfMemory}
@@ -45,7 +45,7 @@ executed_at [] port = 0
 executed_at (p ∷ ps) zero = executed_of p
 executed_at (p ∷ ps) (suc port) = executed_at ps port
 
--- the command that is told, counted from 1, is among those that its port has executed
+-- the given command, counted from 1, is among those that its port has executed
 abbrev pub was_executed : Option Failing → List EmuPort → Bool
 was_executed None ports = false
 was_executed (Some f) ports = fails_by (Some f.command) (executed_at ports f.port)
@@ -62,7 +62,7 @@ emu_ghosts = ghosts
 
 -- The scripts were run over these ports and over what stands on them; without a cut the run ended with a checkpoint. The
 -- ports that came back are those of the drive still, each with its fuse and its failing command. Then the power of all of
--- them was cut, and their seats came back.
+-- them was cut with the pick that was asked for, and their seats came back.
 pub record HasDriven (g : Geometry) (ports : Ports EmuPort) (standing : Standing) (scripts : List Script) (o : RunOptions) (d : Driven) (seats : List FuseSeat) : Type 0 where
   pub end : RunEnd EmuPort
   pub ran : HasRunScripts emu_ghosts emu_state emu_faults g ports standing scripts (is_none o.cut) end
@@ -72,14 +72,16 @@ pub record HasDriven (g : Geometry) (ports : Ports EmuPort) (standing : Standing
   pub answers : d.answers ≡ end.answers
   pub finished : d.finished ≡ end.finished
   pub failed : d.failed ≡ has_failed (row_of end.ports)
-  pub cut : AreCutPorts (row_of end.ports) d.images.items seats
+  pub cut : AreCutPorts o.pick (row_of end.ports) d.images.items seats
 
--- This was done on the drive that starts from the image, with the power and the failing command that were asked for, over
--- the volume that stands there. No port had executed a command at the start: so the command that was to fail is that of
--- this number, on the port of this number, that was executed since.
+-- This was done on the drive that starts from the image, with the power, the failing command and the pick that were asked
+-- for, over the volume that stands there: the pick is the seed of what each port left to chance at the start. No port had
+-- executed a command then: so the command that was to fail is that of this number, on the port of this number, that was
+-- executed since.
 pub record IsDriven (fuse : FuseName) (y : DriveImage) (scripts : List Script) (o : RunOptions) (d : Driven) (seats : List FuseSeat) : Type 0 where
   pub ports : Ports EmuPort
   pub started : AreStarted fuse o.fail y ports
+  pub seeded : AreSeeded y.geometry o.pick ports
   pub standing : Standing
   pub stands : StandsIn y.geometry (drive_of emu_state ports) standing
   pub opens : MayOpen y.geometry (drive_of emu_state ports) standing

@@ -12,9 +12,9 @@ use Rattle.mq_tree.specs.Laid.{IsLaid, map_of}
 use Rattle.mq_tree.specs.Volume.{Volume}
 use Rattle.mq_image_run.specs.Limits.{AreWithin, IsFirstAbove}
 
--- The image is not readable, and this is the first cause; or its greatest number or a doorbell is above the limit of a
--- run; or the blocks that stand hold no volume, and this is wrong at this block; or memory ran out, as it is counted
--- also where the groups or requests of a script are too many to be counted in 32 bits.
+-- The image is not readable, and this is the first cause; or its greatest number or a doorbell is above the
+-- limit of a run; or the blocks that stand hold no volume, and this is wrong at this block; or memory ran
+-- out, which is also the refusal if a script has too many groups or requests to be counted in 32 bits.
 pub data RefusesRun (x : DriveImage) : StandingRefusal → Type 0 where
   not_readable : (e : ImageFault) → RefusesDrive x e → RefusesRun x (Image e)
   above_limit : {n : ℕ} (ds : List Descriptor) (top : ℕ) → Reads x ds top → IsFirstAbove x top n → RefusesRun x (Image (Limit n))

@@ -31,12 +31,12 @@ use std::alloc::Global;
 use std::sync::Wait;
 use std::thread::Threads;
 
-/// What scripts that were run on a drive report, and what a cut of its power left.
+/// The report of scripts that were run on a drive, and what a cut of its power left.
 #[derive(Drop)]
 pub struct Driven {
     pub entries: Vec<Line>,
     pub answers: Vec<Told>,
-    /// What the checkpoint at the end answered, where one was asked for.
+    /// The result of the checkpoint at the end, if one was asked for.
     pub finished: Option<Result<TxNo, CheckpointRefusal>>,
     /// Whether the command that was to fail was executed.
     pub failed: bool,

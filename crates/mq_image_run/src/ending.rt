@@ -20,8 +20,8 @@ fn stop_of(cause: Cause) -> Last
     }
 }
 
-/// How a run ended, whose power was to go off or not, by how many events happened and by what the checkpoint at the end
-/// answered. Where the power was not to go off, it stayed on.
+/// How a run ended: by whether its power had to go off, by the number of events that happened, and by the
+/// result of the checkpoint at the end. If the power did not have to go off, it stayed on.
 pub fn last_of(
     cut: Option<u64>,
     events: u64,

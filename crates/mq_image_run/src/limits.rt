@@ -9,7 +9,8 @@ use mq_blocks::TxNo;
 use mq_image::DriveImage;
 use mq_script::Script;
 
-/// A run begins with no number and no doorbell above this one, so that none of its own outgrows the journal's.
+/// A run begins with no number and no doorbell above this one, so that none of its own exceeds the limits
+/// of the journal.
 const RUN_LIMIT: u64 = 1 << 62;
 
 // Whether groups and requests of a script can be counted in 32 bits.
@@ -41,8 +42,8 @@ pub fn are_countable(scripts: &[Script]) -> bool
     true
 }
 
-/// The base that a recovery found, where it is above the limit of a run, and else the doorbell of the first queue where
-/// that is.
+/// The base that a recovery found if it is above the limit of a run, else the doorbell of the first queue
+/// whose doorbell is.
 pub fn first_above(image: &DriveImage, base: TxNo) -> Option<u64>
     requires { IsDrive image.now }
     ensures { MatchOption result (AreWithin image.now base) (IsFirstAbove image.now base) }

@@ -12,9 +12,9 @@ pub struct ImageRun {
     pub base: TxNo,
     /// The commits and the reads, in the order of a report.
     pub entries: Vec<Line>,
-    /// What each group was answered, by session and group.
+    /// The answer to each group, by session and group.
     pub answers: Vec<Told>,
     pub last: Last,
-    /// Whether the command that was to fail was executed, and so has failed.
+    /// Whether the command that had to fail was executed, and so has failed.
     pub failed: bool,
 }

@@ -19,11 +19,11 @@ use std::alloc::Global;
 use std::sync::Wait;
 use std::thread::Threads;
 
-/// What scripts that were run on a drive came to, and how many events happened.
+/// The result of scripts that were run on a drive, and the number of events that happened.
 #[derive(Drop)]
 pub struct Stopped {
     pub driven: Driven,
-    /// How many events happened, where the fuse has a limit, else 0.
+    /// The number of events that happened if the fuse has a limit, else 0.
     pub events: u64,
 }
 

@@ -1,12 +1,13 @@
 -- What a power cut leaves of the ports of a drive, and how a recovery through them ended.
-use Rattle.std.specs.Prelude.{◌≡◌, ◌<◌, ℕ, ◌+◌, Bool, true, false, List, [], ◌∷◌, ◌++◌, All, Contains, length, map, Option, Some, None}
+use Rattle.std.specs.Prelude.{◌≡◌, ◌<◌, ℕ, ◌+◌, Bool, true, false, List, [], ◌∷◌, ◌++◌, All, Contains, length, map, Option, Some, None, is_none}
 use Rattle.mq_blocks.specs.Descriptor.{Descriptor}
 use Rattle.mq_blocks.specs.Drive.{FuseName, IsImage, IsQuiescent, PortImage, image_of}
 use Rattle.mq_blocks.specs.Geometry.{queues_of}
 use Rattle.mq_blocks.specs.Machine.{Writes}
 use Rattle.mq_blocks.specs.Totals.{total}
 use Rattle.mq_blocks.specs.declared.geometry.Geometry.{Geometry}
-use Rattle.mq_drive.specs.Emu.{drawn_by, emu_faults, emu_state}
+use Rattle.mq_drive.specs.Choices.{cut_of}
+use Rattle.mq_drive.specs.Emu.{chance_of, drawn_by, emu_faults, emu_state}
 use Rattle.mq_drive.specs.Fuse.{above, below}
 use Rattle.mq_drive.specs.Happened.{happened_in}
 use Rattle.mq_drive.specs.Seats.{fuse_of, tickets_of}
@@ -19,17 +20,21 @@ use Rattle.mq_drive.specs.declared.role.Role.{Role}
 use Rattle.mq_image.specs.Drives.{IsDrive}
 use Rattle.mq_image.specs.File.{DriveImage}
 use Rattle.mq_images.specs.Recovering.{IsAllHome, IsStillStanding, IsToRecover, events_of}
+use Rattle.mq_images.specs.Starts.{AreSeeded, AreStarted}
 use Rattle.mq_images.specs.Views.{view_of}
+use Rattle.mq_images.specs.declared.recovery.RecoveredImage.{RecoveredImage}
 use Rattle.mq_ledger.specs.State.{port_at}
-use Rattle.mq_recover.specs.Drives.{DriveFaults, DriveState, drive_of}
+use Rattle.mq_recover.specs.Drives.{DriveFaults, DriveState, drive_of, faults_on}
 use Rattle.mq_recover.specs.RecoverCauses.{OneGains}
-use Rattle.mq_recover.specs.Steps.{IsCutShort, IsDone}
+use Rattle.mq_recover.specs.Steps.{IsCutShort, HasRecovered}
 use Rattle.mq_recover.specs.declared.plan.Recovered.{Recovered}
 use Rattle.mq_recover.specs.declared.refusal.RecoverRefusal.TheVariants.{Off}
 
--- a cut left this image of the port, and its seat came back
-pub record IsCutPort (p : EmuPort) (i : PortImage) (s : FuseSeat) : Type 0 where
+-- A cut left this image of the port, and its seat came back. The pick, with what the port leaves to chance, chooses the
+-- image among those that a cut may leave.
+pub record IsCutPort (pick : ℕ) (p : EmuPort) (i : PortImage) (s : FuseSeat) : Type 0 where
   pub image : IsImage (emu_state p) i
+  pub chosen : i ≡ cut_of (emu_state p) (chance_of p) pick
   pub quiet : IsQuiescent (emu_state p) → i ≡ image_of (emu_state p)
   pub role : (g : Geometry) (role : Role) → IsPortOf g role (emu_state p) → IsImageOf g role i
   pub fuse : fuse_of s ≡ (emu_state p).fuse
@@ -44,10 +49,10 @@ pub record CutPort : Type 0 where
   pub image : PortImage
   pub seat : FuseSeat
 
--- cuts left these images of ports in a row, and their seats came back
-pub record AreCutPorts (ports : List EmuPort) (images : List PortImage) (seats : List FuseSeat) : Type 0 where
+-- cuts with one pick left these images of ports in a row, and their seats came back
+pub record AreCutPorts (pick : ℕ) (ports : List EmuPort) (images : List PortImage) (seats : List FuseSeat) : Type 0 where
   pub cuts : List CutPort
-  pub each : All (λ c. IsCutPort c.port c.image c.seat) cuts
+  pub each : All (λ c. IsCutPort pick c.port c.image c.seat) cuts
   pub ports_are : ports ≡ map (λ c. c.port) cuts
   pub images_are : images ≡ map (λ c. c.image) cuts
   pub seats_are : seats ≡ map (λ c. c.seat) cuts
@@ -66,7 +71,7 @@ pub record AreSound (g : Geometry) (ports : Ports EmuPort) : Type 0 where
 -- A recovery through ports without faults is done, with no fault; or it was cut by the power of one port, and what it
 -- was to find was looked up before.
 abbrev pub HasRun : Geometry → (old new : DriveState) → (before after : DriveFaults) → Recovered → (whole : Bool) → Type 0
-HasRun g old new before after found true = IsDone g old found.prefix found.base new × (after ≡ before)
+HasRun g old new before after found true = HasRecovered g old found.prefix found.base new × (after ≡ before)
 HasRun g old new before after found false =
     (short : IsCutShort g Off old new) × (found.prefix ≡ length short.ds) × (found.base ≡ short.top) × (port : Option ℕ) × OneGains port PowerOff before after
 
@@ -98,3 +103,21 @@ pub record IsLeftBy (x : DriveImage) (fuse : FuseName) (found : Recovered) (whol
   pub own : All (λ s. fuse_of s ≡ fuse) seats
   pub count : length seats ≡ queues_of x.geometry + 1
   pub ends : EndsBy x ds top (events_of x writes top) fuse.limit whole (with_ports x images) seats
+
+-- Whence the images came that a recovery left: the drive started from the image, with this pick as the seed of what its
+-- ports left to chance; it was recovered, whole or until its power went off; and cuts with the same pick left these images
+-- of its ports. No clause states what the recovery left to chance.
+pub record IsPicked (x : DriveImage) (pick : ℕ) (fuse : FuseName) (found : Recovered) (whole : Bool) (images : List PortImage) (seats : List FuseSeat) : Type 0 where
+  pub old : Ports EmuPort
+  pub started : AreStarted fuse None x old
+  pub seeded : AreSeeded x.geometry pick old
+  pub new : Ports EmuPort
+  pub ran : HasRun x.geometry (drive_of emu_state old) (drive_of emu_state new) (faults_on emu_faults old) (faults_on emu_faults new) found whole
+  pub cut : AreCutPorts pick (row_of new) images seats
+
+-- the same of a recovery whose power lasts for `limit` events, if that is given
+pub record IsPickedRecovery (x : DriveImage) (limit : Option ℕ) (pick : ℕ) (r : RecoveredImage) : Type 0 where
+  pub fuse : FuseName
+  pub power : fuse.limit ≡ limit
+  pub seats : List FuseSeat
+  pub picked : IsPicked x pick fuse r.found (is_none r.cut) r.image.ports seats

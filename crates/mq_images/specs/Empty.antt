@@ -5,10 +5,11 @@ use Rattle.mq_blocks.specs.Blocks.{zeros}
 use Rattle.mq_blocks.specs.Drive.{PortImage}
 use Rattle.mq_blocks.specs.Geometry.{area_of, homes_of, queues_of}
 use Rattle.mq_blocks.specs.declared.geometry.Geometry.{Geometry}
+use Rattle.mq_blocks.specs.Journal.{no_image}
 use Rattle.mq_drive.specs.Start.{IsImageOf}
 use Rattle.mq_drive.specs.declared.role.Role.TheVariants.{Queue}
 use Rattle.mq_image.specs.Drives.{HasWidths, IsDrive}
-use Rattle.mq_image.specs.File.{DriveImage, no_port}
+use Rattle.mq_image.specs.File.{DriveImage}
 use Rattle.mq_images.specs.Views.{view_of}
 use Rattle.mq_layout.specs.Empty.{empty_block}
 use Rattle.mq_nvme.specs.Entry.{blank}
@@ -25,7 +26,7 @@ pub record IsEmptyDrive (g : Geometry) (x : DriveImage) : Type 0 where
   pub geometry_is : x.geometry ≡ g
   pub drive : IsDrive x
   pub widths : All HasWidths x.ports
-  pub unused : (k : ℕ) → k ≤ queues_of g → IsUnused (slice_index_or x.ports k no_port)
+  pub unused : (k : ℕ) → k ≤ queues_of g → IsUnused (slice_index_or x.ports k no_image)
   pub areas : (q k : ℕ) → q < queues_of g → k < area_of g → (view_of x).area q k ≡ zeros
   pub homes : (b : ℕ) → b < homes_of g → (view_of x).home b ≡ empty_block g b
 
@@ -38,4 +39,4 @@ pub record IsBlankQueue (g : Geometry) (q : ℕ) (p : PortImage) : Type 0 where
 -- the ports of all queues, so
 pub record AreBlankQueues (g : Geometry) (count : ℕ) (ports : List PortImage) : Type 0 where
   pub count_is : length ports ≡ count
-  pub each : (q : ℕ) → q < count → IsBlankQueue g q (slice_index_or ports q no_port)
+  pub each : (q : ℕ) → q < count → IsBlankQueue g q (slice_index_or ports q no_image)

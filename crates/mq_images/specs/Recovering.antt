@@ -57,15 +57,15 @@ pub record IsStillStanding (x : DriveImage) (ds : List Descriptor) (top : ℕ) (
   pub over : (((view_of y).base ≡ (view_of x).base) × (left ≡ ds)) ⊎ (((view_of y).base ≡ top) × (left ≡ []))
   pub alike : (b : ℕ) → b < homes_of x.geometry → stands x.geometry (view_of y) left b ≡ stands x.geometry (view_of x) ds b
 
--- How a recovery of so many events ends whose power lasts for so many, where that is told: whole where it lasts for
--- all of them, else cut after those for which it lasts.
+-- How a recovery of `events` events ends whose power lasts for `limit` events, if that is given: whole if
+-- it lasts for all of them, else cut after those for which it lasts.
 abbrev pub EndsAs : (x : DriveImage) → (ds : List Descriptor) → (top events : ℕ) → (limit cut : Option ℕ) → (y : DriveImage) → Type 0
 EndsAs x ds top events limit None y = ForSome limit (λ l. events ≤ l) × IsAllHome x ds top y
 EndsAs x ds top events limit (Some k) y = (limit ≡ Some k) × (k < events) × IsStillStanding x ds top y
 
--- What is left of an image by a recovery whose power lasts for so many events, where that is told, and that it fits its
--- file; the prefix and the new base that it found, which are those of the image; and after how many events it was cut,
--- where it was.
+-- What is left of an image by a recovery whose power lasts for `limit` events, if that is given, and that
+-- it fits its file; the prefix and the new base that it found, which are those of the image; and the number
+-- of events after which it was cut, if it was.
 pub record IsRecoveryOf (x : DriveImage) (limit : Option ℕ) (r : RecoveredImage) : Type 0 where
   pub ds : List Descriptor
   pub top : ℕ

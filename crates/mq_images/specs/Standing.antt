@@ -9,7 +9,7 @@ use Rattle.mq_image.specs.File.{DriveImage}
 use Rattle.mq_images.specs.Views.{drive_from, view_of}
 use Rattle.mq_images.specs.declared.refusal.StandingRefusal.{StandingRefusal}
 use Rattle.mq_images.specs.declared.refusal.StandingRefusal.TheVariants.{Image, Corrupt, OutOfMemory}
-use Rattle.mq_recover.specs.Recovery.{IsRead}
+use Rattle.mq_recover.specs.Recovery.{IsReadPrefix}
 use Rattle.mq_recover.specs.Refusals.{RefusesImage}
 use Rattle.mq_recover.specs.declared.refusal.ImageFault.{ImageFault}
 use Rattle.mq_tree.specs.Corrupt.{IsCorrupt}
@@ -19,7 +19,7 @@ use Rattle.mq_tree.specs.Volume.{Volume}
 -- the image is readable: these are the descriptors of its prefix, newest first, and this is the greatest number that
 -- it shows
 abbrev pub Reads : DriveImage → List Descriptor → ℕ → Type 0
-Reads x ds top = IsRead x.geometry (view_of x) ds top
+Reads x ds top = IsReadPrefix x.geometry (view_of x) ds top
 
 -- these home blocks, of which an absent one is zeros, are those that stand by these descriptors
 pub record AreStanding (x : DriveImage) (ds : List Descriptor) (stored : List (Option (List ℕ))) : Type 0 where

@@ -12,13 +12,14 @@ use std::alloc::Global;
 pub struct CutDrive {
     /// What was certain on each port, and what was chosen of the rest: with a geometry, the image of a drive.
     pub images: Vec<PortImage>,
-    /// The seats of the ports, with one ticket for each event that a port tried to make: what `Fuse::close` asks for.
+    /// The seats of the ports, with one ticket for each event that a port tried to make. `Fuse::close`
+    /// needs them.
     pub seats: Vec<FuseSeat>,
 }
 
-// What a cut of the power leaves of a port, and its seat.
+// What a cut of the power leaves of a port by this pick, and its seat.
 fn cut_port(port: EmuPort<'_>, pick: u64) -> (PortImage, FuseSeat)
-    ensures { IsCutPort port.entry result.0 result.1 }
+    ensures { IsCutPort pick port.entry result.0 result.1 }
 {
     port.cut(pick)
 }
@@ -30,7 +31,7 @@ pub fn cut_ports(
     ports: Ports<EmuPort<'_>>,
     pick: u64,
 ) -> Result<CutDrive, OutOfMemory>
-    ensures { IfOk result (λ left. AreCutPorts (row_of ports.entry) left.images.items left.seats.items) }
+    ensures { IfOk result (λ left. AreCutPorts pick (row_of ports.entry) left.images.items left.seats.items) }
 {
     let Ports { queues, root } = ports;
     let count = queues.len() + 1;

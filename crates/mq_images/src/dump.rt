@@ -79,7 +79,7 @@ fn put_prefix(alloc: Global, text: &mut Vec<u8>, prefix: u64) -> Result<(), OutO
     Ok(())
 }
 
-// The chain of a readable queue is refused for lack of memory alone.
+// The chain of a readable queue is refused only as out of memory.
 fn only_memory(refusal: ChainRefusal) -> OutOfMemory
     requires { refusal ≡ ChainRefusal.OutOfMemory }
 {
@@ -155,7 +155,7 @@ fn put_queues<P: Port>(
     Ok(())
 }
 
-// The words and the chains of a readable drive, of which so many transactions stand.
+// The words and the chains of a readable drive, of which the given number of transactions stand.
 fn dump_ports<P: Port>(
     alloc: Global,
     geometry: Geometry,
@@ -194,8 +194,8 @@ fn dump_drive<P: Port>(
     Ok(dump_ports(alloc, geometry, ports, found.prefix)?)
 }
 
-/// The text that tells the words and the chains of an image: its base, for each queue the doorbell, the head and the
-/// transactions of its chain, newest first, and how many transactions stand.
+/// The text that shows the words and the chains of an image: its base, for each queue the doorbell, the
+/// head and the transactions of its chain, newest first, and how many transactions stand.
 pub fn dump_image(alloc: Global, image: DriveImage) -> Result<Vec<u8>, ImageFault>
     requires { IsDrive image }
     ensures ok { IfOk result (λ text. IsDump image text.items) }

@@ -12,8 +12,8 @@ use mq_image::DriveImage;
 use mq_recover::ImageFault;
 use std::alloc::Global;
 
-/// What stands on the home blocks of an image: a recovery writes it home, and the home blocks of what it leaves are
-/// taken out. An absent block is zeros.
+/// What stands on the home blocks of an image. A recovery of the image runs, and the home blocks are taken
+/// out of what it leaves. An absent block is zeros.
 pub fn read_standing(alloc: Global, image: DriveImage) -> Result<Vec<Option<Block>>, ImageFault>
     requires { IsDrive image }
     ensures ok { IfOk result (λ blocks. IsStandingOf image blocks.items) }
@@ -26,7 +26,8 @@ pub fn read_standing(alloc: Global, image: DriveImage) -> Result<Vec<Option<Bloc
     Ok(take_homes(recovered.image)?)
 }
 
-// The home blocks of an image, by rising number. The boxes move, and the rest of the image is let go.
+// The home blocks of an image, in rising order of numbers. The boxes are moved, and the rest of the image
+// is dropped.
 fn take_homes(image: DriveImage) -> Result<Vec<Option<Block>>, OutOfMemory>
     requires { IsDrive image }
     ensures { IfOk result (λ blocks. blocks.items ≡ home_blocks image) }
@@ -41,7 +42,7 @@ fn take_homes(image: DriveImage) -> Result<Vec<Option<Block>>, OutOfMemory>
     Ok(blocks)
 }
 
-// Appends the blocks of a queue's zone, which lie behind those of its journal area.
+// Appends the blocks of a queue's zone, which lie after those of its journal area.
 fn append_zone(
     blocks: &mut Vec<Option<Block>>,
     area: u32,

@@ -4,9 +4,9 @@ ghost use Rattle.mq_images.specs.Laws.{RecoveredDrivesHaveTheDoorbells, Recovere
 ghost use Rattle.mq_images.specs.Laws.{RecoveredDrivesHaveNoPrefix, RecoveredDrivesHoldTheBlocks};
 ghost use Rattle.mq_images.specs.Laws.{RecoveredDrivesHoldTheVolume};
 
-/// A journal may start on the ports of the drive that starts from the image that a whole recovery left, whichever of
-/// its commands is to fail: each port has one image, the base is the one that the recovery found, and each doorbell is
-/// where it was before the recovery.
+/// A journal may start on the ports of the drive that starts from the image that a whole recovery left,
+/// whichever of its commands has to fail: each port has one image, the base is the one that the recovery
+/// found, and each doorbell is where it was before the recovery.
 pub fn a_recovered_image_starts()
     ensures still { RecoveredDrivesAreStill }
     ensures start { RecoveredDrivesMayStart }

@@ -6,7 +6,7 @@ ghost use Rattle.mq_drive.specs.Emu.{drawn_by, emu_faults, emu_state};
 ghost use Rattle.mq_drive.specs.Seats.{name_of, ports_of};
 ghost use Rattle.mq_drive.specs.Start.{IsImageOf, IsRole, start_of};
 ghost use Rattle.mq_image.specs.Drives.{IsDrive};
-ghost use Rattle.mq_images.specs.Starts.{AreFreshSeats, AreStarted, IsFreshPort, IsFreshSeat};
+ghost use Rattle.mq_images.specs.Starts.{AreFreshSeats, AreSeeded, AreStarted, IsFreshPort, IsFreshSeat};
 ghost use Rattle.mq_images.specs.Views.{command_of};
 
 use mq_blocks::{Geometry, OutOfMemory, QueueNo};
@@ -14,7 +14,8 @@ use mq_drive::{EmuPort, Fuse, FuseSeat, Ports, Role};
 use mq_image::DriveImage;
 use std::alloc::Global;
 
-/// A command of a drive that is to fail: it ends with the status Write Fault. A pair that names no command fails none.
+/// A command of a drive that has to fail: it ends with the status Write Fault. If no command has these
+/// numbers, none fails.
 #[derive(Clone, Copy)]
 pub struct Failing {
     /// The number of its port: that of a queue, from 0 on, or of the root, which comes after all queues.
@@ -33,7 +34,8 @@ fn failing_of(fail: Option<Failing>, port: u32) -> Option<u64>
     }
 }
 
-/// A fuse that lets `limit` events happen, or all, with a seat for each port of a drive.
+/// A fuse that lets `limit` events happen, or all of them if there is no limit, with a seat for each port
+/// of a drive.
 pub fn drive_power(
     alloc: Global,
     geometry: Geometry,
@@ -46,9 +48,9 @@ pub fn drive_power(
     Fuse::new(alloc, limit, geometry.queues() + 1)
 }
 
-/// The ports of a drive that starts from an image, with the power of a fuse and with a seat of it for each port, the
-/// root's last. The command that is told, of the port that it names, is to fail. `seed` and a port's number choose the
-/// order in which posted commands are executed.
+/// The ports of a drive that starts from an image, with the power of a fuse and with a seat of it for each
+/// port, the root's last. The command `fail` of the port that it names, if one is given, has to fail. `seed`
+/// and a port's number choose the order in which posted commands are executed.
 pub fn start_ports<'f>(
     alloc: Global,
     fuse: &'f Fuse,
@@ -59,7 +61,8 @@ pub fn start_ports<'f>(
 ) -> Result<Ports<EmuPort<'f>>, OutOfMemory>
     requires seats { AreFreshSeats (name_of fuse.now) (queues_of image.geometry + 1) seats.items }
     requires image { IsDrive image }
-    ensures { IfOk result (AreStarted (name_of fuse.now) fail image) }
+    ensures drive { IfOk result (AreStarted (name_of fuse.now) fail image) }
+    ensures chance { IfOk result (AreSeeded image.geometry seed) }
 {
     let DriveImage { geometry, ports } = image;
     let mut images = ports;

@@ -6,7 +6,7 @@ ghost use Rattle.mq_blocks.specs.Geometry.{queues_of};
 ghost use Rattle.mq_drive.specs.Emu.{emu_faults, emu_state};
 ghost use Rattle.mq_drive.specs.Seats.{name_of};
 ghost use Rattle.mq_image.specs.Drives.{IsDrive};
-ghost use Rattle.mq_images.specs.Cuts.{AreSound, HasRun, IsLeftBy};
+ghost use Rattle.mq_images.specs.Cuts.{AreSound, HasRun, IsLeftBy, IsPicked, IsPickedRecovery};
 ghost use Rattle.mq_images.specs.Recovering.{IsRecoveryOf};
 ghost use Rattle.mq_images.specs.Standing.{Reads, RefusesDrive};
 ghost use Rattle.mq_images.specs.Starts.{AreFreshSeats};
@@ -29,7 +29,7 @@ pub struct RecoveredImage {
     pub image: DriveImage,
     /// The number of transactions that stood above the old base, and the greatest number that the image showed.
     pub found: Recovered,
-    /// After how many events the recovery was cut, where it was.
+    /// The number of events after which the recovery was cut, if it was.
     pub cut: Option<u64>,
 }
 
@@ -96,6 +96,8 @@ fn recover_until(
     requires image { IsDrive image }
     ensures ok { IfOk result (λ r. IsLeftBy image (name_of fuse.now) r.0.found r.0.whole r.1.images.items
         r.1.seats.items) }
+    ensures chosen { IfOk result (λ r. IsPicked image pick (name_of fuse.now) r.0.found r.0.whole
+        r.1.images.items r.1.seats.items) }
     ensures refused { IfErr result (λ e. (e ≡ ImageFault.OutOfMemory) ⊎ RefusesDrive image e) }
     ensures complete { (ds : List Descriptor) (top : ℕ)
         → Reads image ds top
@@ -108,8 +110,8 @@ fn recover_until(
     Ok((ran, left))
 }
 
-/// Recovers the drive that starts from an image. Its power goes off after so many events, where that is told, and what
-/// the cut leaves of what is uncertain then follows from `pick`.
+/// Recovers the drive that starts from an image. Its power goes off after `cut` events, if one is given,
+/// and what the cut leaves of what is uncertain then follows from `pick`.
 pub fn recover_image(
     alloc: Global,
     image: DriveImage,
@@ -119,6 +121,7 @@ pub fn recover_image(
     requires image { IsDrive image }
     requires cut { ForSome cut (λ k. k ≤ 2 ^ 63) }
     ensures ok { IfOk result (IsRecoveryOf image cut) }
+    ensures chosen { IfOk result (IsPickedRecovery image cut pick) }
     ensures refused { IfErr result (λ e. (e ≡ ImageFault.OutOfMemory) ⊎ RefusesDrive image e) }
     ensures complete { (ds : List Descriptor) (top : ℕ)
         → Reads image ds top

@@ -2,7 +2,7 @@
 ghost use Rattle.std.specs.Prelude.{◌≡◌, ◌<◌, ◌^◌, ℕ};
 ghost use Rattle.std.specs.List.{All};
 ghost use Rattle.mq_image.specs.Drives.{HasWidths};
-ghost use Rattle.mq_image.specs.File.{HasBytes};
+ghost use Rattle.mq_image.specs.File.{IsBlockSized};
 ghost use Rattle.mq_nvme.specs.Dwords.{AreDwords};
 
 use mq_blocks::Block;
@@ -10,8 +10,9 @@ use mq_drive::PortImage;
 use mq_image::DriveImage;
 use mq_nvme::Entry;
 
-/// The numbers and blocks of an image in memory have the widths that its file gives them, since their types have them.
-/// It changes nothing: each word and each slot is looked at once, and of each block that it is there.
+/// The numbers and blocks of an image in memory have the widths that its file gives them, since their types
+/// have them. A call changes nothing: it looks once at each word, each slot and whether each block is
+/// present.
 pub fn an_image_fits_its_file(image: &DriveImage)
     ensures { All (λ p. HasWidths p) image.now.ports }
 {
@@ -39,7 +40,7 @@ fn slots_fit(slots: &[Entry])
 }
 
 fn blocks_fit(blocks: &[Option<Block>])
-    ensures { All HasBytes blocks.now }
+    ensures { All IsBlockSized blocks.now }
 {
     for block in blocks {
         block_fits(block);
@@ -47,7 +48,7 @@ fn blocks_fit(blocks: &[Option<Block>])
 }
 
 fn block_fits(block: &Option<Block>)
-    ensures { HasBytes block.now }
+    ensures { IsBlockSized block.now }
 {
     if let Some(block) = block {
         let _bytes = block.bytes();

@@ -5,7 +5,7 @@ use Rattle.std.specs.List.{All}
 use Rattle.std.proofs.lemmas.Bool.{cases_eq, eq-eqb, le-ltb, lt-ltb, ltb-false, ltb-true, ne_eqb, true≢false}
 use Rattle.std.proofs.lemmas.Bool.Decides.{nat_tests}
 use Rattle.std.proofs.lemmas.List.{get_or_default, length-append}
-use Rattle.mq_blocks.proofs.Among.{at-among}
+use Rattle.mq_blocks.proofs.JournalAmong.{at-among}
 use Rattle.mq_blocks.specs.Geometry.{queues_of}
 use Rattle.mq_blocks.specs.Journal.{is_among}
 use Rattle.mq_blocks.specs.declared.geometry.Geometry.{Geometry}
@@ -17,17 +17,17 @@ use Rattle.mq_inodes.specs.Pages.{IsHeld, Pages, pages_of}
 use Rattle.mq_inodes.specs.Picks.{ArePicked}
 use Rattle.mq_inodes.specs.declared.opened.Opened.{Opened}
 use Rattle.mq_inodes.specs.declared.working.Working.{Working}
-use Rattle.mq_inodes.proofs.Becoming.{becomes-self, becomes-then}
-use Rattle.mq_inodes.proofs.Getting.{indirect-high, more-within, no-indirect, some-indirect}
-use Rattle.mq_inodes.proofs.LocalTaken.{longer, with_indirect}
-use Rattle.mq_inodes.proofs.LocalVolumes.{one_more-is, pointed-is, pointed-not}
-use Rattle.mq_inodes.proofs.Picking.{IsTakenMore, block-more, picks-apart, picks-first, picks-free, picks-rest, pointers-more}
+use Rattle.mq_inodes.proofs.EditsBecoming.{becomes-self, becomes-then}
+use Rattle.mq_inodes.proofs.GrowingByOne.{indirect-high, more-within, no-indirect, some-indirect}
+use Rattle.mq_inodes.proofs.ChangesTaken.{longer, with_indirect}
+use Rattle.mq_inodes.proofs.ChangesVolumes.{one_more-is, pointed-is, pointed-not}
+use Rattle.mq_inodes.proofs.Picks.{IsTakenMore, block-more, picks-apart, picks-first, picks-free, picks-rest, pointers-more}
 use Rattle.mq_layout.specs.Places.{inode_block, inodes_of, zone_bitmap}
 use Rattle.mq_layout.specs.declared.inode.Inode.{Inode}
 use Rattle.mq_tree.specs.Free.{first_of, grown, needs, one_more, order, with_block, with_pointers}
 use Rattle.mq_tree.specs.Laid.{inode_of, or_zero}
 use Rattle.mq_tree.specs.Volume.{Node, Volume, body, node}
-use Rattle.mq_tree.proofs.KeepUses.{node-here}
+use Rattle.mq_tree.proofs.FreeUses.{node-here}
 
 -- ---- one block
 

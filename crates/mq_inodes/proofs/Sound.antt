@@ -5,7 +5,7 @@ use Rattle.mq_layout.specs.Places.{inodes_of}
 use Rattle.mq_tree.specs.Sound.{IsBody, IsSound, blocks_for}
 use Rattle.mq_tree.specs.Volume.{File, Volume, body, is_used, node}
 use Rattle.mq_tree.specs.Uses.{AreUses}
-use Rattle.mq_tree.proofs.KeepVolumes.{used-low as used-inside}
+use Rattle.mq_tree.proofs.SoundVolumes.{used-low as used-inside}
 
 pub sound-uses : (g : Geometry) (v : Volume) → IsSound g v → AreUses g v
 sound-uses g v sound = record { zones = sound.zones; apart = sound.apart }

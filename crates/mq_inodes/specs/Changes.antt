@@ -12,14 +12,14 @@ use Rattle.mq_layout.specs.Bits.{bit_of, pointer_of}
 use Rattle.mq_layout.specs.Inodes.{inode_bytes}
 use Rattle.mq_layout.specs.Places.{inode_bitmap, inode_block, inode_place, zone_bitmap}
 use Rattle.mq_layout.specs.declared.inode.Inode.{Inode}
-use Rattle.mq_tree.specs.Laid.{IsPage, IsVacant, Shows, ShowsUse, inode_of, zone_block}
+use Rattle.mq_tree.specs.Laid.{IsPage, IsVacant, ShowsPage, ShowsUse, inode_of, zone_block}
 use Rattle.mq_tree.specs.Volume.{File, Use, Part, Pointers, Volume, block_in, body, has_block, is_used, node}
 
 -- what is known of a block fits the volume
 abbrev pub FitsAt : Geometry → Option (Option (List ℕ)) → Volume → ℕ → Type 0
 FitsAt g None v b = ⊤
 FitsAt g (Some None) v b = IsVacant g v b
-FitsAt g (Some (Some page)) v b = Shows g v b page
+FitsAt g (Some (Some page)) v b = ShowsPage g v b page
 
 -- The pages fit the volume, except perhaps at these blocks.
 abbrev pub FitsBut : Geometry → Pages → Volume → (blocks : List ℕ) → Type 0
@@ -36,7 +36,7 @@ AreOthers v w i = (x : ℕ) → x ≢ i → node w x ≡ node v x
 
 -- The volumes show the same pages at a block, and have none there alike.
 pub record SameAt (g : Geometry) (v w : Volume) (b : ℕ) : Type 0 where
-  pub shows : (page : List ℕ) → Shows g v b page ↔ Shows g w b page
+  pub shows : (page : List ℕ) → ShowsPage g v b page ↔ ShowsPage g w b page
   pub vacant : IsVacant g v b ↔ IsVacant g w b
 
 -- the block has a part of a file

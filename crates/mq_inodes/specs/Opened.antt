@@ -1,5 +1,5 @@
 -- Inodes that requests change: what is known of them, and what may be done.
-use Rattle.std.specs.Prelude.{◌≡◌, ◌≢◌, ◌≤◌, ◌<◌, ◌+◌, ◌*◌, ℕ, List, length, take, slice_index, slice_index_or, slice_set, Option, Some, None, is_some, nat_lt, if◌then◌else◌}
+use Rattle.std.specs.Prelude.{◌≡◌, ◌≢◌, ◌≤◌, ◌<◌, ◌+◌, ◌*◌, ℕ, List, length, slice_index, slice_index_or, slice_set, Option, Some, None, is_some, nat_lt}
 use Rattle.mq_blocks.specs.Geometry.{queues_of}
 use Rattle.mq_blocks.specs.declared.geometry.Geometry.{Geometry}
 use Rattle.mq_inodes.specs.Edits.{Becomes}
@@ -12,7 +12,7 @@ use Rattle.mq_layout.specs.Slots.{Entry, IsEntry}
 use Rattle.mq_tree.specs.Free.{grown, needs}
 use Rattle.mq_tree.specs.Laid.{inode_of}
 use Rattle.mq_tree.specs.Requests.{link_needs, unused}
-use Rattle.mq_tree.specs.Volume.{Body, Free, File, Dir, Node, Volume, body, node}
+use Rattle.mq_tree.specs.Volume.{Body, Free, File, Dir, Volume, body, node, cut_node}
 
 -- what is known of the inode is what the volume has
 pub record IsOpened (g : Geometry) (v : Volume) (o : Opened) : Type 0 where
@@ -89,10 +89,6 @@ pub record MayCut (g : Geometry) (v : Volume) (o : Opened) (count : ℕ) (bytes 
   pub few : count ≤ length o.blocks.items
   pub size : length now ≤ file_limit
   pub same : (k : ℕ) → k < 4096 * count → slice_index bytes k ≡ slice_index now k
-
--- a file with so many of its blocks, and these bytes
-abbrev pub cut_node : Node → (count : ℕ) → List ℕ → Node
-cut_node n count bytes = record { body = File bytes; blocks = take count n.blocks; indirect = if nat_lt 12 count then n.indirect else None }
 
 abbrev pub cut_file : Volume → ℕ → (count : ℕ) → List ℕ → Volume
 cut_file v i count bytes = slice_set v i (cut_node (node v i) count bytes)

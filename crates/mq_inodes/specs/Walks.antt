@@ -14,7 +14,7 @@ use Rattle.mq_layout.specs.Places.{inode_block}
 use Rattle.mq_layout.specs.Slots.{Entry}
 use Rattle.mq_tree.specs.Looks.{Leads}
 use Rattle.mq_inodes.specs.declared.working.Working.{Working}
-use Rattle.mq_tree.specs.Requests.{Target as Named, Root as AtRoot, Lost as AtFault, In as AtName, unused}
+use Rattle.mq_tree.specs.Requests.{RequestTarget, Root as AtRoot, Lost as AtFault, In as AtName, unused}
 use Rattle.mq_tree.specs.Volume.{Dir, Volume, Way, body, find, has_block, node, slots_of}
 
 abbrev pub IsDirectory : Volume → ℕ → Type 0
@@ -26,13 +26,13 @@ last_of [] = []
 last_of (name ∷ way) = name
 
 -- what a path with this way was found to name
-abbrev pub named : Way → Target → Named
+abbrev pub named : Way → Target → RequestTarget
 named way Root = AtRoot
 named way (Lost fault) = AtFault fault
 named way (In directory found) = AtName directory (last_of way) found
 
 -- and the same of its place
-abbrev pub placed : Way → Place → Named
+abbrev pub placed : Way → Place → RequestTarget
 placed way PlacedRoot = AtRoot
 placed way (PlacedLost fault) = AtFault fault
 placed way (PlacedIn directory found free) = AtName directory.number (last_of way) found

@@ -14,7 +14,7 @@ use mq_blocks::OutOfMemory;
 use mq_layout::Inode;
 use std::alloc::Global;
 
-/// What an inode without blocks says.
+/// The fields of an inode without blocks.
 fn empty_inode(is_directory: bool) -> Inode
     ensures { result ≡ inode_of (record { body = empty_body is_directory; blocks = []; indirect = None }) }
 {

@@ -15,10 +15,10 @@ use mq_blocks::{Block, BlockNo, OutOfMemory};
 use mq_layout::{FILE_LIMIT, Inode, pointer};
 use std::alloc::Global;
 
-/// The pointers in an inode.
+/// The number of pointers in an inode.
 pub const DIRECT: u32 = 12;
 
-/// How many blocks so many bytes take.
+/// The number of blocks that `size` bytes take.
 pub fn count_for(size: u64) -> u32
     requires { size ≤ 4243456 }
     ensures is { result ≡ blocks_for size }
@@ -27,7 +27,8 @@ pub fn count_for(size: u64) -> u32
     ((size + 4095) / 4096) as u32
 }
 
-/// How many blocks are taken to have so many, where more than twelve need a block of pointers.
+/// The number of blocks that have to be taken to go from `have` to `want` blocks. More than twelve
+/// need a block of pointers, too.
 pub fn needs(have: u32, want: u32) -> u32
     requires { want < 2 ^ 31 }
     ensures { result ≡ needs_of have want }
@@ -47,7 +48,7 @@ fn push_pointers(blocks: &mut Vec<BlockNo>, page: &Block, count: u32) -> Result<
     Ok(())
 }
 
-/// Up to the first twelve.
+/// The direct blocks of an inode, at most twelve.
 fn direct_blocks(alloc: Global, inode: &Inode, count: u32) -> Result<Vec<BlockNo>, OutOfMemory>
     requires { length inode.now.direct ≡ 12 }
     ensures { IfOk result (λ blocks. blocks.items ≡ take count inode.now.direct) }
@@ -60,7 +61,7 @@ fn direct_blocks(alloc: Global, inode: &Inode, count: u32) -> Result<Vec<BlockNo
 }
 
 impl<'a> Working<'a> {
-    /// The blocks of an inode, in order. The block of pointers is looked at where there is one.
+    /// The blocks of an inode, in order. The block of pointers is looked at if there is one.
     pub(crate) fn blocks(
         &self,
         alloc: Global,

@@ -15,7 +15,7 @@ use std::alloc::Global;
 const BLOCK: usize = 4096;
 
 impl<'a> Working<'a> {
-    /// So many bytes of held blocks, one after another, from an offset in the first of them on.
+    /// `count` bytes of consecutive held blocks, from an offset in the first of them on.
     fn gather(
         &self,
         alloc: Global,
@@ -42,7 +42,7 @@ impl<'a> Working<'a> {
         Ok(bytes)
     }
 
-    /// The bytes of a file from an offset on, at most so many.
+    /// The bytes of a file from an offset on, at most `count`.
     pub fn bytes(
         &self,
         alloc: Global,

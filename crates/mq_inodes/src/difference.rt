@@ -33,8 +33,8 @@ fn is_filled(held: &Held, b: BlockNo) -> bool
 }
 
 impl<'a> Working<'a> {
-    /// The blocks that are written, and those that are freed, by rising block: those that were put
-    /// otherwise than the view has them. Their content is not copied.
+    /// The blocks that are written, and those that are freed, in rising order: those whose state
+    /// differs from that in the view. Their content is not copied.
     pub fn difference(self, alloc: Global) -> Result<(Vec<Write>, Vec<BlockNo>), OutOfMemory>
         ensures differs { IfOk result (λ found. Differs (view_of self.entry)
             (changed_of self.entry) found.0.items found.1.items) }

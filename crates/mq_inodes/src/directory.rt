@@ -17,7 +17,7 @@ use mq_layout::{Inode, NAMES_LIMIT, SLOTS_PER_BLOCK};
 use mq_tree::Name;
 use std::alloc::Global;
 
-/// The blocks of a directory without room for a name more.
+/// The number of blocks of a full directory.
 const FULL: usize = 1036;
 
 impl<'a> Working<'a> {
@@ -32,7 +32,7 @@ impl<'a> Working<'a> {
         }
     }
 
-    /// That these blocks are known, or those of them that are absent.
+    /// Checks that these blocks are known; the error lists those that are absent.
     pub fn look_for_all(&self, alloc: Global, blocks: &[BlockNo]) -> Result<(), Missing>
         ensures ok { OnOk result (All (λ b. pages_of self.now b ≢ None) blocks.now) }
         ensures lack { IfErr result (MissingPages (pages_of self.now) (Contains blocks.now)) }
@@ -49,7 +49,7 @@ impl<'a> Working<'a> {
         Err(Missing::Need(absent))
     }
 
-    /// That these blocks are held, or those of them that are absent.
+    /// Checks that these blocks are held; the error lists those that are absent.
     pub(crate) fn look_for(&self, alloc: Global, blocks: &[BlockNo]) -> Result<(), Missing>
         requires { All (λ b. pages_of self.now b ≢ Some None) blocks.now }
         ensures ok { OnOk result (All (IsHeld (pages_of self.now)) blocks.now) }
@@ -90,7 +90,7 @@ impl<'a> Working<'a> {
         None
     }
 
-    /// The inode under a name. Where there is none, the first unused slot, counted over the blocks.
+    /// The inode under a name. If there is none, the first unused slot, counted over the blocks.
     pub(crate) fn search_names(&self, blocks: &[BlockNo], name: &[u8]) -> (Option<u32>, Option<u32>)
         requires held { AreDirsAt (pages_of self.now) blocks.now }
         requires few { length blocks.now ≤ 1036 }
@@ -111,7 +111,7 @@ impl<'a> Working<'a> {
         (None, unused)
     }
 
-    /// How many names there are.
+    /// The number of names.
     pub fn count(&self, blocks: &[BlockNo]) -> u32
         requires held { AreDirsAt (pages_of self.now) blocks.now }
         requires few { length blocks.now ≤ 1036 }
@@ -124,9 +124,9 @@ impl<'a> Working<'a> {
         count
     }
 
-    /// Whether there is no room for a name more. The names are counted only where there are as many blocks
+    /// Whether there is no room for one more name. The names are counted only if there are as many blocks
     /// as a full directory has.
-    #[tactic(auto, using(crate::proofs::Directories::room_below))]
+    #[tactic(auto, using(crate::proofs::Dirs::room_below))]
     pub fn is_full(&self, blocks: &[BlockNo]) -> bool
         requires held { AreDirsAt (pages_of self.now) blocks.now }
         requires few { length blocks.now ≤ 1036 }

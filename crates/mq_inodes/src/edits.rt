@@ -1,5 +1,6 @@
 // Edits of single pages. Each takes the content out, changes it and puts it again.
-ghost use Rattle.std.specs.Prelude.{◌≡◌, ◌<◌, ◌≤◌, ◌+◌, ◌*◌, length, OnOk, Some, None};
+ghost use Rattle.std.specs.Prelude.{◌≡◌, ◌<◌, ◌≤◌, ◌+◌, ◌*◌, ℕ, length, slice_index, OnOk, Some, None};
+ghost use Rattle.mq_blocks.specs.Windows.{written};
 ghost use Rattle.mq_inodes.specs.Changes.{IsBlockMarked, IsInodeMarked, IsInodePut, IsPointerPut, IsTakenIn, IsTextPut};
 ghost use Rattle.mq_inodes.specs.Edits.{IsKindPut, IsOver, IsZoneKindPut, KeepsKinds};
 ghost use Rattle.mq_inodes.specs.Pages.{IsHeld, pages_of};
@@ -10,8 +11,6 @@ ghost use Rattle.mq_layout.specs.Names.{IsName};
 ghost use Rattle.mq_layout.specs.Places.{inode_bitmap as inode_bitmap_of, inode_block as inode_block_of, inodes_of};
 ghost use Rattle.mq_layout.specs.Slots.{slot_bytes};
 ghost use Rattle.mq_pages.specs.declared.page.Kind.TheVariants.{Data, Meta};
-ghost use Rattle.mq_tree.specs.Laid.{IsPage};
-ghost use Rattle.mq_tree.specs.Sound.{AreBytes};
 
 use crate::working::Working;
 use mq_blocks::bytes::put;
@@ -23,18 +22,13 @@ use mq_layout::{
 use mq_pages::Kind;
 use std::alloc::Global;
 
-/// Says of a block that it has 4,096 bytes.
-pub fn look_at(block: &Block)
-    ensures { IsPage block.now }
+/// Writes bytes from a place of a page on.
+fn write_text(page: &mut [u8], from: usize, text: &[u8])
+    requires { from + length text.now ≤ length page.old }
+    ensures is { page.new ≡ written page.old from text.now }
+    ensures bytes { (k : ℕ) → slice_index page.new k < 256 }
 {
-    are_bytes(block.bytes());
-}
-
-/// Says of each byte that it is one.
-pub fn are_bytes(bytes: &[u8])
-    ensures { AreBytes bytes.now }
-{
-    let _bytes = bytes;
+    put(page, from, text);
 }
 
 impl<'a> Working<'a> {
@@ -56,11 +50,10 @@ impl<'a> Working<'a> {
         let bitmap = zone_bitmap(self.geometry, QueueNo(place / zone));
         let mut marks = self.lift(alloc, bitmap)?;
         set_bit(&mut marks, place % zone, value);
-        look_at(&marks);
         self.put(bitmap, Kind::Meta, marks)
     }
 
-    /// Takes a free block: its bit is set, and zeros stand there.
+    /// Takes a free block: sets its bit, and fills it with zeros.
     pub(crate) fn take(&mut self, alloc: Global, b: BlockNo, kind: Kind) -> Result<(), OutOfMemory>
         requires marks { IsMarkable self.old.geometry (pages_of self.old) b }
         requires free { pages_of self.old b ≡ Some None }
@@ -89,11 +82,10 @@ impl<'a> Working<'a> {
         let bitmap = inode_bitmap(self.geometry);
         let mut marks = self.lift(alloc, bitmap)?;
         set_bit(&mut marks, i, value);
-        look_at(&marks);
         self.put(bitmap, Kind::Meta, marks)
     }
 
-    /// Writes what an inode says.
+    /// Writes the fields of an inode.
     pub fn put_inode(&mut self, alloc: Global, i: u32, inode: &Inode) -> Result<(), OutOfMemory>
         requires low { i < inodes_of self.old.geometry }
         requires form { IsInode inode.now }
@@ -106,7 +98,6 @@ impl<'a> Working<'a> {
         let b = inode_block(self.geometry, i);
         let mut table = self.lift(alloc, b)?;
         write_inode(&mut table, inode_place(i), inode);
-        look_at(&table);
         self.put(b, Kind::Meta, table)
     }
 
@@ -126,7 +117,6 @@ impl<'a> Working<'a> {
     {
         let mut pointers = self.lift(alloc, p)?;
         set_pointer(&mut pointers, at, b.0);
-        look_at(&pointers);
         self.put(p, Kind::Meta, pointers)
     }
 
@@ -149,7 +139,6 @@ impl<'a> Working<'a> {
     {
         let mut slots = self.lift(alloc, b)?;
         write_slot(&mut slots, at, inode, name);
-        look_at(&slots);
         self.put(b, Kind::Meta, slots)
     }
 
@@ -169,7 +158,6 @@ impl<'a> Working<'a> {
     {
         let mut slots = self.lift(alloc, b)?;
         clear_slot(&mut slots, at);
-        look_at(&slots);
         self.put(b, Kind::Meta, slots)
     }
 
@@ -188,8 +176,7 @@ impl<'a> Working<'a> {
         ensures put { OnOk result (IsTextPut (pages_of self.old) (pages_of self.new) b from text.now) }
     {
         let mut page = self.lift(alloc, b)?;
-        put(page.bytes_mut(), from, text);
-        look_at(&page);
+        write_text(page.bytes_mut(), from, text);
         self.put(b, Kind::Data, page)
     }
 }

@@ -20,7 +20,7 @@ use std::alloc::Global;
 
 const BLOCK: u64 = 4096;
 
-/// The kind under which the blocks of a file or directory are put.
+/// The kind of the blocks of this file or directory.
 fn kind_in(inode: &Inode) -> Kind
     ensures { result ≡ kind_in_of inode.now }
 {
@@ -31,7 +31,7 @@ fn kind_in(inode: &Inode) -> Kind
     }
 }
 
-/// Adds a block behind so many to what an inode says.
+/// Adds a block after the first `count` to the fields of an inode.
 fn lengthen(inode: &mut Inode, count: u32, b: BlockNo)
     requires twelve { length inode.old.direct ≡ 12 }
     requires size { inode.old.size + 4096 < 2 ^ 64 }

@@ -12,7 +12,7 @@ use mq_layout::{Inode, inode_block, inode_place, read_inode};
 use std::alloc::Global;
 
 impl<'a> Working<'a> {
-    /// What an inode says.
+    /// The fields of an inode.
     pub fn inode(&self, alloc: Global, i: u32) -> Result<Inode, Missing>
         requires low { i < inodes_of self.now.geometry }
         requires possible { HasVolume self.now }

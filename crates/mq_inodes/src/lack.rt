@@ -4,7 +4,7 @@ ghost use Rattle.std.specs.Prelude.{◌≡◌, [], ◌∷◌, IfOk};
 use mq_blocks::{BlockNo, OutOfMemory};
 use std::alloc::{AllocError, AllocFailed, Global};
 
-/// What a request lacks: pages that are absent and at which it looks, or memory.
+/// What a request misses: absent pages at which it looks, or memory.
 #[derive(Drop)]
 pub enum Missing {
     Need(Vec<BlockNo>),

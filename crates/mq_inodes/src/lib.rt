@@ -1,5 +1,5 @@
 //! The pages that a session holds as a file system: inodes, directories and files, free blocks, what
-//! requests change in them, and which pages they lack.
+//! requests change in them, and which pages they miss.
 #![tactic(auto)]
 
 mod bare;
@@ -22,7 +22,6 @@ mod walk;
 mod working;
 
 pub use blocks::{DIRECT, count_for, needs};
-pub use edits::are_bytes;
 pub use lack::Missing;
 pub use opened::{Opened, name_need};
 pub use walk::{DIRECTORY, Place, Target};

@@ -49,7 +49,7 @@ impl<'a> Working<'a> {
         None
     }
 
-    /// A name of a directory goes.
+    /// Removes a name from a directory.
     pub fn unlink_name(
         &mut self,
         alloc: Global,
@@ -83,7 +83,7 @@ impl<'a> Working<'a> {
         )
     }
 
-    /// A directory gets a name: in its first unused slot, or in the first of a block more.
+    /// Adds a name to a directory: in its first unused slot, or in the first slot of one more block.
     pub fn link_name(
         &mut self,
         alloc: Global,
@@ -113,7 +113,8 @@ impl<'a> Working<'a> {
         self.link_name_at(alloc, o, inode, name, picks, unused)
     }
 
-    /// A directory gets a name: in its first unused slot, which is this one, or in the first of a block more.
+    /// Adds a name to a directory: in its first unused slot, which is this one, or in the first slot of one
+    /// more block.
     pub fn link_name_at(
         &mut self,
         alloc: Global,

@@ -17,7 +17,7 @@ use mq_blocks::BlockNo;
 use mq_layout::Inode;
 use std::alloc::Global;
 
-/// The number of an inode, what it says, and its blocks in order.
+/// The number of an inode, its fields, and its blocks in order.
 #[derive(Drop)]
 pub struct Opened {
     pub number: u32,
@@ -25,7 +25,8 @@ pub struct Opened {
     pub blocks: Vec<BlockNo>,
 }
 
-/// How many blocks a directory with these blocks takes for a name more, where this is its first unused slot.
+/// The number of blocks that a directory with these blocks takes for one more name, if this is its first
+/// unused slot.
 pub fn name_need(blocks: &[BlockNo], unused: Option<u32>) -> u32
     requires { length blocks.now ≤ 1036 }
     ensures { result ≡ entry_needs (length blocks.now) unused }
@@ -61,7 +62,7 @@ impl<'a> Working<'a> {
         })
     }
 
-    /// A file, with its block of pointers held where it has one.
+    /// A file, with its block of pointers held if it has one.
     pub fn open_file(&self, alloc: Global, number: u32, inode: &Inode) -> Result<Opened, Missing>
         requires possible { HasVolume self.now }
         requires file { OfEach self.now (λ v. IsFileOf v number inode.now) }
@@ -78,7 +79,7 @@ impl<'a> Working<'a> {
         })
     }
 
-    /// How many blocks a directory takes for a name more.
+    /// The number of blocks that a directory takes for one more name.
     pub fn link_need(&self, blocks: &[BlockNo]) -> u32
         requires held { AreDirsAt (pages_of self.now) blocks.now }
         requires few { length blocks.now ≤ 1036 }

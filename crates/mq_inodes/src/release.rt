@@ -1,5 +1,5 @@
 // Blocks and inodes that are freed.
-ghost use Rattle.std.specs.Prelude.{◌≡◌, ◌<◌, ◌≤◌, ℕ, List, [], ◌∷◌, drop, length, OnOk};
+ghost use Rattle.std.specs.Prelude.{◌≡◌, ◌<◌, ◌≤◌, ℕ, List, [], ◌∷◌, drop, length, slice_index, OnOk};
 ghost use Rattle.std.specs.List.{All};
 ghost use Rattle.mq_inodes.specs.Edits.{Becomes, Carries, IsOver};
 ghost use Rattle.mq_inodes.specs.Opened.{HoldsPointers, IsOpened, IsReleasable, MayCut, cut_file};
@@ -11,18 +11,18 @@ ghost use Rattle.mq_tree.specs.Requests.{freed};
 ghost use Rattle.mq_tree.specs.Volume.{Volume};
 
 use crate::blocks::DIRECT;
-use crate::edits::look_at;
 use crate::opened::Opened;
 use crate::working::Working;
+use mq_blocks::bytes::put;
 use mq_blocks::{Block, BlockNo, OutOfMemory};
-use mq_layout::{Inode, set_pointer};
+use mq_layout::Inode;
 use mq_pages::Kind;
 use std::alloc::Global;
 
-/// The pointers in a block of pointers.
+/// The number of pointers in a block of pointers.
 const POINTERS: u32 = 1024;
 
-/// What a free inode says.
+/// The fields of a free inode.
 const FREE: Inode = Inode {
     kind: 0,
     links: 0,
@@ -33,16 +33,26 @@ const FREE: Inode = Inode {
 
 /// Clears the pointers from this one on.
 fn clear_pointers(page: &mut Block, from: u32)
+    ensures whole { length page.new ≡ 4096 }
+    ensures bytes { (k : ℕ) → slice_index page.new k < 256 }
     ensures left { (k : ℕ) → k < 1024 → k < from → pointer_of page.new k ≡ pointer_of page.old k }
     ensures cut { (k : ℕ) → k < 1024 → from ≤ k → pointer_of page.new k ≡ 0 }
 {
-    look_at(page);
+    clear_pointers_of(page.bytes_mut(), from);
+}
+
+fn clear_pointers_of(block: &mut [u8], from: u32)
+    requires { length block.old ≡ 4096 }
+    ensures bytes { (k : ℕ) → slice_index block.new k < 256 }
+    ensures left { (k : ℕ) → k < 1024 → k < from → pointer_of block.new k ≡ pointer_of block.old k }
+    ensures cut { (k : ℕ) → k < 1024 → from ≤ k → pointer_of block.new k ≡ 0 }
+{
     for k in from..POINTERS {
-        set_pointer(page, k, 0);
+        put(block, 4 * k as usize, &0u32.to_le_bytes());
     }
 }
 
-/// What an inode says that has so many blocks left, and this size.
+/// The fields of an inode that has `count` blocks left, and this size.
 fn cut_inode(inode: &Inode, count: u32, size: u64) -> Inode
     requires { length inode.now.direct ≡ 12 }
     ensures { IsCutInode inode.now result count size }
@@ -62,7 +72,7 @@ fn cut_inode(inode: &Inode, count: u32, size: u64) -> Inode
 }
 
 impl<'a> Working<'a> {
-    /// Frees a block: its bit is cleared, and nothing stands there.
+    /// Frees a block: clears its bit, and marks its page as free.
     fn release_one(&mut self, alloc: Global, b: BlockNo) -> Result<(), OutOfMemory>
         requires { IsReleasable self.old.geometry (pages_of self.old) b }
         ensures { OnOk result (Releases self.old self.new (b ∷ [])) }
@@ -82,7 +92,7 @@ impl<'a> Working<'a> {
         Ok(())
     }
 
-    /// Frees the blocks of an inode from this one on, and that of its pointers where it needs none any more.
+    /// Frees the blocks of an inode from this one on, and that of its pointers if it is no longer needed.
     fn release_from(&mut self, alloc: Global, o: &Opened, count: u32) -> Result<(), OutOfMemory>
         requires few { count ≤ length o.now.blocks.items }
         requires blocks { All (IsReleasable self.old.geometry (pages_of self.old))
@@ -99,8 +109,8 @@ impl<'a> Working<'a> {
         Ok(())
     }
 
-    /// Clears the pointers past so many blocks, where there are more than twelve. Where the file had no
-    /// more, the page stays as it was.
+    /// Clears the pointers after the first `count` blocks, if there are more than twelve. If the file had
+    /// no more blocks than that, the page stays as it was.
     fn cut_pointers(
         &mut self,
         alloc: Global,
@@ -116,7 +126,6 @@ impl<'a> Working<'a> {
         }
         let mut pointers = self.lift(alloc, p)?;
         clear_pointers(&mut pointers, count - DIRECT);
-        look_at(&pointers);
         self.put(p, Kind::Meta, pointers)
     }
 
@@ -141,7 +150,7 @@ impl<'a> Working<'a> {
         self.put_inode(alloc, o.number, &FREE)
     }
 
-    /// Cuts a file to so many of its blocks, and to this size.
+    /// Cuts a file to its first `count` blocks, and to this size.
     pub fn cut(
         &mut self,
         alloc: Global,

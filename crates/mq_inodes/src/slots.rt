@@ -14,7 +14,7 @@ use mq_layout::SLOTS_PER_BLOCK;
 use mq_tree::Name;
 use std::alloc::Global;
 
-/// The bytes of a slot, and where its name stands in it.
+/// The number of bytes of a slot, and the offset of its name.
 const SLOT: usize = 272;
 
 const NAME: usize = 16;
@@ -58,7 +58,7 @@ pub fn find_in(block: &Block, name: &[u8]) -> Option<u32>
     None
 }
 
-/// How many names there are.
+/// The number of names.
 pub fn count_in(block: &Block) -> u32
     requires { IsDirBlock block.now }
     ensures is { result ≡ count_names (slots_in block.now) }
@@ -87,7 +87,8 @@ pub fn unused_in(block: &Block) -> Option<u32>
     None
 }
 
-/// The first unused slot of the blocks before, or that of this block, of which so many slots stand before.
+/// The first unused slot of the blocks before, else that of this block, whose slots are numbered from
+/// `first` on.
 pub fn unused_after(found: Option<u32>, first: u32, block: &Block) -> Option<u32>
     requires form { IsDirBlock block.now }
     requires few { first ≤ 15540 }

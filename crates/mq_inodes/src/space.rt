@@ -17,7 +17,7 @@ use mq_blocks::{Block, BlockNo, Geometry, OutOfMemory, QueueNo};
 use mq_layout::{first_clear, zone_bitmap};
 use std::alloc::Global;
 
-/// Adds the free blocks of a zone by its bitmap, up to so many picks.
+/// Adds the free blocks of a zone by its bitmap, up to `count` picks in all.
 fn push_free(
     geometry: Geometry,
     marks: &Block,
@@ -45,7 +45,8 @@ fn push_free(
 }
 
 impl<'a> Working<'a> {
-    /// Adds the free blocks of a zone, up to so many picks. Where there are so many it isn't looked at.
+    /// Adds the free blocks of a zone, up to `count` picks in all. If there are that many already, the
+    /// bitmap isn't looked at.
     fn search(
         &self,
         alloc: Global,
@@ -72,7 +73,7 @@ impl<'a> Working<'a> {
         Ok(())
     }
 
-    /// The first free blocks, up to so many.
+    /// The first free blocks, at most `count`.
     fn found(&self, alloc: Global, queue: QueueNo, count: u32) -> Result<Vec<BlockNo>, Missing>
         requires possible { HasVolume self.now }
         requires queue { queue < queues_of self.now.geometry }
@@ -93,8 +94,8 @@ impl<'a> Working<'a> {
         Ok(picks)
     }
 
-    /// The first so many free blocks: of the zone of the queue, then of the other zones by rising zone.
-    /// `None` where fewer are free. The bitmaps are looked at up to where there are enough.
+    /// The first `count` free blocks: of the zone of the queue, then of the other zones in rising
+    /// order. `None` if fewer are free. No further bitmap is looked at once there are enough.
     pub fn pick(
         &self,
         alloc: Global,

@@ -25,8 +25,8 @@ impl<'a> Working<'a> {
         Ok(())
     }
 
-    /// A free inode becomes an empty file or directory. Where the block of the inode is absent it stays so,
-    /// and the pages are those of the volume with that inode all the same.
+    /// A free inode becomes an empty file or directory. If the block of the inode is absent, it stays
+    /// absent, and the pages are still those of the volume with that inode.
     pub fn make_unseen_inode(
         &mut self,
         alloc: Global,

@@ -30,7 +30,7 @@ pub enum Place {
     Root,
     /// Nothing: walking to it is refused.
     Lost(Fault),
-    /// Its last name in a directory, with the inode that is found under it. Where there is none, with the
+    /// Its last name in a directory, with the inode that is found under it. If there is none, also the
     /// first unused slot of the directory.
     In {
         directory: Opened,
@@ -53,7 +53,7 @@ impl<'a> Working<'a> {
         Ok(self.find(&blocks, &name.0))
     }
 
-    /// Into the directory under a name of a directory.
+    /// Enters the directory under a name of a directory.
     fn enter(&self, alloc: Global, d: u32, name: &Name) -> Result<Result<u32, Fault>, Missing>
         requires possible { HasVolume self.now }
         requires dir { OfEach self.now (λ v. IsDirectory v d) }
@@ -73,7 +73,7 @@ impl<'a> Working<'a> {
         }
     }
 
-    /// Through all these names, from the root on.
+    /// Follows all these names, from the root on.
     fn walk(&self, alloc: Global, names: &[Name]) -> Result<Result<u32, Fault>, Missing>
         requires { HasVolume self.now }
         ensures ok { IfOk result (λ end. OfEach self.now (λ v. end ≡ walk_of v (way names.now))) }

@@ -20,8 +20,8 @@ pub enum Page<'a> {
     Held(&'a Block),
 }
 
-/// The content of a block that was changed, and whether it is metadata. Of a block of the metadata region
-/// the kind isn't looked at.
+/// The content of a block that was changed, and whether it is metadata. For a block of the metadata
+/// region the kind isn't looked at.
 #[derive(Drop)]
 pub struct Change {
     pub kind: Kind,
@@ -95,7 +95,7 @@ impl<'a> Working<'a> {
         Ok(())
     }
 
-    /// Puts that a block is free.
+    /// Marks a block as free.
     #[tactic(auto, unfolding(crate::specs::Pages::pages_of, crate::specs::Pages::view_of, crate::specs::Pages::kinds_of))]
     pub(crate) fn put_free(&mut self, b: BlockNo) -> Result<(), OutOfMemory>
         ensures view { OnOk result (IsSameView self.old self.new) }

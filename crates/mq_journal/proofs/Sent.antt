@@ -1,11 +1,12 @@
 -- A side whose commit was sent, or whose send was cut.
-use Rattle.std.proofs.Common.{◌≡◌, ◌⊎◌, ℕ, zero, suc, ◌+◌, ◌-◌, ◌≤◌, ◌^◌, min, Bool, cond, List, ◌∷◌, length, sym, refl, ap, subst, ◌∙◌, inl, inr, arith}
+use Rattle.std.proofs.Common.{◌≡◌, ◌⊎◌, ℕ, suc, ◌-◌, ◌≤◌, ◌^◌, Bool, cond, List, ◌∷◌, length, sym, refl, ap, subst, ◌∙◌, inl, inr, arith}
 use Rattle.std.specs.Prelude.{None, Some}
 use Rattle.std.proofs.lemmas.Bool.{lt-ltb, le-ltb}
 use Rattle.mq_blocks.specs.Drive.{PortState, IsBoundKept, counted}
 use Rattle.mq_blocks.specs.declared.geometry.Geometry.{Geometry}
+use Rattle.mq_blocks.proofs.DriveSaturation.{counted-next}
 use Rattle.mq_drive.specs.Faults.{AreMore, count_of}
-use Rattle.mq_drive.specs.Steps.{Fault, Gains, PowerOff}
+use Rattle.mq_drive.specs.Steps.{PortFault, Gains, PowerOff}
 use Rattle.mq_drive.specs.declared.port.Port.{Ghosts}
 use Rattle.mq_ledger.specs.History.{IsAt}
 use Rattle.mq_ledger.specs.Items.{end_of}
@@ -13,11 +14,11 @@ use Rattle.mq_ledger.specs.KnownJournal.{KnownJournal}
 use Rattle.mq_ledger.specs.declared.tx.Tx.{Tx}
 use Rattle.mq_pmr.specs.Runs.{Items}
 use Rattle.mq_rules.specs.Faults.{AreCharged, IsBacked, of_kind, reports_of}
-use Rattle.mq_rules.specs.Groups.{Group}
+use Rattle.mq_rules.specs.Groups.{GroupView}
 use Rattle.mq_rules.specs.Rule
 use Rattle.mq_rules.specs.Rule.{IsOk, IsSide}
 use Rattle.mq_rules.specs.Values.{Values}
-use Rattle.mq_rules.proofs.Charging.{charged_more}
+use Rattle.mq_rules.proofs.Faults.{charged_more}
 use Rattle.mq_side.specs.Commits.{NumberedCommit}
 use Rattle.mq_side.specs.Counts.{SendCounts}
 use Rattle.mq_side.specs.Sent.{IsCutAt, RingsAll, Sends, after_send}
@@ -27,20 +28,15 @@ use Rattle.mq_side.specs.Told.{KeepsTold}
 use Rattle.mq_side.specs.declared.answers.Why.TheVariants.{Off}
 use Rattle.mq_side.specs.declared.root.Root.{Root}
 use Rattle.mq_side.specs.declared.side.QueueSide.{QueueSide}
-use Rattle.mq_side.proofs.Completes.{bound_then, gains_rises}
-use Rattle.mq_side.proofs.Telling.{one_more}
+use Rattle.mq_side.proofs.DrainedCompletes.{bound_then, gains_rises}
+use Rattle.mq_side.proofs.Told.{one_more}
 use Rattle.mq_turns.specs.declared.rule.Report.{Report}
 use Rattle.mq_turns.specs.declared.rule.Report.TheVariants as report
 use Rattle.mq_turns.specs.declared.turn.Turn.TheVariants.{Side}
 use Rattle.mq_journal.specs.Numbers
 use Rattle.mq_journal.specs.Numbers.{HasNumbered, Shared}
 use Rattle.mq_journal.specs.Values.{IsRecord, Shows, ShowsAll, entries_in, rung_of}
-use Rattle.mq_journal.proofs.Showing.{shows_still}
-
--- one more is counted
-counted-next : (n k : ℕ) → counted n (suc k) ≡ counted (counted n k) 1
-counted-next n zero = refl
-counted-next n (suc k) = counted-next (min (n + 1) (2 ^ 64 - 1)) k
+use Rattle.mq_journal.proofs.ValuesShowing.{shows_still}
 
 -- the newest is not rung; and it is
 before_newest : (start : ℕ) (t : Tx) (ts : List Tx) (doorbell : ℕ) → doorbell ≡ end_of start ts → rung_of start (t ∷ ts) doorbell ≡ length ts
@@ -50,7 +46,7 @@ after_newest : (start : ℕ) (t : Tx) (ts : List Tx) (doorbell : ℕ) → doorbe
 after_newest start t ts doorbell at = rw (le-ltb doorbell (end_of start (t ∷ ts)) (omega arith)) refl
 
 -- a port that gained an `Off` stands behind a refusal for it
-pub off_backed : (g : Geometry) (first old new : List Fault) → AreMore first old → Gains PowerOff old new → (2 ^ 64 - 1 ≤ length new) ⊎ IsBacked g report.Off first old new
+pub off_backed : (g : Geometry) (first old new : List PortFault) → AreMore first old → Gains PowerOff old new → (2 ^ 64 - 1 ≤ length new) ⊎ IsBacked g report.Off first old new
 off_backed g first old new since (inl one) = inr (record {
   more = λ f. let a = one_more PowerOff old new f one in omega arith;
   kind = λ f. let a = one_more PowerOff old new (of_kind f) one in omega arith;
@@ -58,14 +54,14 @@ off_backed g first old new since (inl one) = inr (record {
 })
 off_backed g first old new since (inr full) = inl (let a = full.0 in let b : length new ≡ length old = ap length full.1 in omega arith)
 
-pub gained_more : (old new : List Fault) (x : Fault) → Gains x old new → AreMore old new
+pub gained_more : (old new : List PortFault) (x : PortFault) → Gains x old new → AreMore old new
 gained_more old new x (inl one) f = let a = one_more x old new f one in omega arith
 gained_more old new x (inr full) f = let b : count_of f new ≡ count_of f old = ap (count_of f) full.1 in omega arith
 
-pub gained_longer : (old new : List Fault) → Gains PowerOff old new → length old ≤ length new
+pub gained_longer : (old new : List PortFault) → Gains PowerOff old new → length old ≤ length new
 gained_longer old new gains = (gains_rises PowerOff old new gains).0
 
-module _ {P E : Type 0} {G : Ghosts P} (state : P → PortState) (faults : P → List Fault) (group : Group E) (q : ℕ) (K : Shared P E G) (s u : QueueSide P E G) (n : NumberedCommit) (ok : IsOk (Numbers.values state faults group) group K) (has : HasNumbered state faults group q K s n) where
+module _ {P E : Type 0} {G : Ghosts P} (state : P → PortState) (faults : P → List PortFault) (group : GroupView E) (q : ℕ) (K : Shared P E G) (s u : QueueSide P E G) (n : NumberedCommit) (ok : IsOk (Numbers.values state faults group) group K) (has : HasNumbered state faults group q K s n) where
   abbrev values : Values (QueueSide P E G) (Root P G) E
   values = Numbers.values state faults group
 

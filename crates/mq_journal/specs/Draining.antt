@@ -1,9 +1,9 @@
 -- A queue's side is taken, drained and given back.
 use Rattle.std.specs.Prelude.{◌≡◌, ◌<◌, ◌≤◌, ◌-◌, ◌^◌, ℕ, min, nat_le, if◌then◌else◌, List, ◌∷◌, Option, Some, None, Result, Ok, Err, OnOk}
 use Rattle.mq_blocks.specs.Drive.{PortState}
-use Rattle.mq_drive.specs.Steps.{Fault}
+use Rattle.mq_drive.specs.Steps.{PortFault}
 use Rattle.mq_drive.specs.declared.port.Port.{Ghosts}
-use Rattle.mq_rules.specs.Groups.{Group}
+use Rattle.mq_rules.specs.Groups.{GroupView}
 use Rattle.mq_rules.specs.Rule.{IsSide}
 use Rattle.mq_side.specs.Drained.{DrainCause, Drains}
 use Rattle.mq_side.specs.Side.{side_state}
@@ -64,11 +64,11 @@ mark_after (Err (cause.Stopped tx why)) = tx
 
 module _ {P E : Type 0} {G : Ghosts P} where
   -- The refusal was reported of the queue's port. Nothing else of what it knows has changed.
-  abbrev pub Refuses : ℕ → Cause → Seat P E G → Seat P E G → Type 0
-  Refuses q c old new =
+  abbrev pub RefusesDrain : ℕ → Cause → Seat P E G → Seat P E G → Type 0
+  RefusesDrain q c old new =
       new ≡ record old { hand = 0; reading = record old.reading { charged = reported q (report_of c) ∷ old.reading.charged } }
 
-module _ {P E : Type 0} {G : Ghosts P} (state : P → PortState) (faults : P → List Fault) (group : Group E) where
+module _ {P E : Type 0} {G : Ghosts P} (state : P → PortState) (faults : P → List PortFault) (group : GroupView E) where
   -- ---- one side in hand
 
   -- Whatever is known: with the claim that the queue's numbers below this one are done, the side is what the rule says.

@@ -1,9 +1,9 @@
 -- A side that a session takes and keeps in hand from step to step.
 use Rattle.std.specs.Prelude.{◌≡◌, ℕ, List, Result, Ok, Err}
 use Rattle.mq_blocks.specs.Drive.{PortState}
-use Rattle.mq_drive.specs.Steps.{Fault}
+use Rattle.mq_drive.specs.Steps.{PortFault}
 use Rattle.mq_drive.specs.declared.port.Port.{Ghosts}
-use Rattle.mq_rules.specs.Groups.{Group}
+use Rattle.mq_rules.specs.Groups.{GroupView}
 use Rattle.mq_rules.specs.Rule.{IsSide}
 use Rattle.mq_side.specs.Drained.{DrainCause, Drains}
 use Rattle.mq_side.specs.Side.{side_state}
@@ -26,7 +26,7 @@ abbrev pub drain_answer : Result ℕ Cause → Result (Unit {0}) Cause
 drain_answer (Ok done) = Ok tt
 drain_answer (Err cause) = Err cause
 
-module _ {P E : Type 0} {G : Ghosts P} (state : P → PortState) (faults : P → List Fault) (group : Group E) where
+module _ {P E : Type 0} {G : Ghosts P} (state : P → PortState) (faults : P → List PortFault) (group : GroupView E) where
   -- The session has taken the side's turn: by what was known then, the side is what the rule says. Nothing else of the
   -- session changes.
   pub record TakesSide (o : Start P E G) (q : ℕ) (s : QueueSide P E G) (old new : Seat P E G) : Type 0 where
@@ -35,7 +35,7 @@ module _ {P E : Type 0} {G : Ghosts P} (state : P → PortState) (faults : P →
     pub sees : Sees (Numbers.machine state faults group) old known
     pub side : IsSide (Numbers.values state faults group) group q known s
 
-module _ {P E : Type 0} {G : Ghosts P} (state : P → PortState) (faults : P → List Fault) where
+module _ {P E : Type 0} {G : Ghosts P} (state : P → PortState) (faults : P → List PortFault) where
   -- A drain of the side came to this, and it was answered so.
   pub record IsDrainOf (old new : QueueSide P E G) (answer : Result (Unit {0}) Cause) : Type 0 where
     pub result : Result ℕ Cause

@@ -1,9 +1,9 @@
 -- What a session knows of a side that it holds, from step to step, in one statement each.
 use Rattle.std.specs.Prelude.{◌≡◌, ◌≢◌, ℕ, List, [], ◌∷◌, Some}
 use Rattle.mq_blocks.specs.Drive.{PortState}
-use Rattle.mq_drive.specs.Steps.{Fault}
+use Rattle.mq_drive.specs.Steps.{PortFault}
 use Rattle.mq_drive.specs.declared.port.Port.{Ghosts}
-use Rattle.mq_rules.specs.Groups.{Group}
+use Rattle.mq_rules.specs.Groups.{GroupView}
 use Rattle.mq_rules.specs.Rule.{IsSide}
 use Rattle.mq_side.specs.Commits.{NumberedCommit}
 use Rattle.mq_side.specs.declared.answers.Cause.TheVariants.{Stopped}
@@ -25,12 +25,12 @@ pub record HaveSameParts {P E : Type 0} {G : Ghosts P} (s u : QueueSide P E G) :
   pub kept : u.kept ≡ s.kept
 
 module _ {A : Type 0} where
-  -- what is held but for these slots
+  -- what is held except for these slots
   abbrev pub without_each : List ℕ → List (ℕ × A) → List (ℕ × A)
   without_each [] held = held
   without_each (k ∷ ks) held = without k (without_each ks held)
 
-module _ {P E : Type 0} {G : Ghosts P} (state : P → PortState) (faults : P → List Fault) (group : Group E) (s : QueueSide P E G) where
+module _ {P E : Type 0} {G : Ghosts P} (state : P → PortState) (faults : P → List PortFault) (group : GroupView E) (s : QueueSide P E G) where
   -- it holds the side while it takes the turn of another slot
   abbrev pub SidesStayAtTake : Type 0
   SidesStayAtTake =
@@ -47,7 +47,7 @@ module _ {P E : Type 0} {G : Ghosts P} (state : P → PortState) (faults : P →
       → HoldsSide state faults group o q s v
       → HoldsSide state faults group o q s (giving k v)
 
-  -- also where a number was drawn on it
+  -- the same if a number was drawn on it
   abbrev pub NumberedSidesStay : Type 0
   NumberedSidesStay =
       (o : Start P E G) (q k : ℕ) (n : NumberedCommit) (v : Seat P E G)

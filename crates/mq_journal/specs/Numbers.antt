@@ -3,11 +3,11 @@ use Rattle.std.specs.Prelude.{◌≡◌, ◌<◌, ◌≤◌, ◌^◌, ◌+◌, �
 use Rattle.mq_blocks.specs.Drive.{PortState, staged_end, usable_depth}
 use Rattle.mq_blocks.specs.Geometry.{area_of}
 use Rattle.mq_blocks.specs.Journal.{number_limit}
-use Rattle.mq_drive.specs.Steps.{Fault, Gains, PowerOff}
+use Rattle.mq_drive.specs.Steps.{PortFault, Gains, PowerOff}
 use Rattle.mq_drive.specs.declared.port.Port.{Ghosts}
 use Rattle.mq_pages.specs.declared.page.PageCell.{PageCell}
 use Rattle.mq_revoke.specs.Placed.{Placed}
-use Rattle.mq_rules.specs.Groups.{Group}
+use Rattle.mq_rules.specs.Groups.{GroupView}
 use Rattle.mq_rules.specs.Rule.{IsSide, May, touches}
 use Rattle.mq_rules.specs.Values.{Part, Values}
 use Rattle.mq_side.specs.Commits.{NumberedCommit, commit_of_tx, items_of, size_of}
@@ -50,7 +50,7 @@ Seat P E G = ChairView PageCell (QueueSide P E G) (Root P G) E
 abbrev pub reported : ℕ → Report → Charge
 reported q r = record { port = Side q; report = r }
 
-module _ {P E : Type 0} {G : Ghosts P} (state : P → PortState) (faults : P → List Fault) (group : Group E) where
+module _ {P E : Type 0} {G : Ghosts P} (state : P → PortState) (faults : P → List PortFault) (group : GroupView E) where
   abbrev pub values : Values (QueueSide P E G) (Root P G) E
   values = side_values state faults
 
@@ -111,8 +111,8 @@ module _ {P E : Type 0} {G : Ghosts P} (state : P → PortState) (faults : P →
     pub has : Each (λ h. h.0 ≡ slot_of o (Side q) → HasNumbered q h.1 s n) v.held
 
   -- something may be known by now
-  abbrev pub IsSeen : Seat P E G → Type 0
-  IsSeen v = (K : Shared P E G) × Sees machine v K
+  abbrev pub IsSomeKnown : Seat P E G → Type 0
+  IsSomeKnown v = (K : Shared P E G) × Sees machine v K
 
   -- of all but that side
   abbrev pub SeesRest : Start P E G → ℕ → Seat P E G → Shared P E G → Type 0

@@ -4,7 +4,7 @@ use Rattle.std.specs.Prelude.{◌≡◌, ◌≢◌, ◌⊎◌, ◌<◌, ◌≤�
 use Rattle.mq_blocks.specs.Drive.{PortState, IsBoundKept, counted}
 use Rattle.mq_blocks.specs.declared.command.Command.{Command}
 use Rattle.mq_blocks.specs.declared.geometry.Geometry.{Geometry}
-use Rattle.mq_drive.specs.Steps.{Fault}
+use Rattle.mq_drive.specs.Steps.{PortFault}
 use Rattle.mq_drive.specs.declared.port.Port.{Ghosts}
 use Rattle.mq_ledger.specs.History.{IsAt}
 use Rattle.mq_ledger.specs.Items.{end_of}
@@ -52,8 +52,8 @@ pub record IsRecord (p : Part) (s : SideState) : Type 0 where
   pub bound : IsBoundKept p.opened s.port
 
 -- Where it keeps no failure, all that was drawn is rung.
-abbrev pub IsWhole : Part → SideState → Type 0
-IsWhole p s = s.kept ≡ None → s.port.doorbell ≡ end_of p.start p.txs
+abbrev pub IsRungUnlessKept : Part → SideState → Type 0
+IsRungUnlessKept p s = s.kept ≡ None → s.port.doorbell ≡ end_of p.start p.txs
 
 -- it says so too with another base word
 pub record_later : (p : Part) (word : ℕ) (s : SideState) → IsRecord p s → IsRecord (record p { word = word }) s
@@ -121,11 +121,11 @@ least_geometry = record {
   homes_high = lit≤ tt;
 }
 
-module _ {P E : Type 0} {G : Ghosts P} (state : P → PortState) (faults : P → List Fault) where
+module _ {P E : Type 0} {G : Ghosts P} (state : P → PortState) (faults : P → List PortFault) where
   -- what a side's record says, with what it stores of the transactions
   pub record Says (p : Part) (s : QueueSide P E G) : Type 0 where
     pub is : IsRecord p (side_state state faults s)
-    pub whole : IsWhole p (side_state state faults s)
+    pub whole : IsRungUnlessKept p (side_state state faults s)
     pub stored : AreStored p.txs s.stored.items
     pub shows : ShowsAll p.start p.txs (side_state state faults s) p.reports
 

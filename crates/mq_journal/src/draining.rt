@@ -4,8 +4,8 @@ ghost use Rattle.mq_turns.specs.AtDesk.{AtDesk, view, start_of};
 ghost use Rattle.mq_turns.specs.Desk.{IsTurn, slot_of};
 ghost use Rattle.mq_turns.specs.Lists.{Each, times};
 ghost use Rattle.mq_turns.specs.declared.turn.Turn.TheVariants.{Side};
-ghost use Rattle.mq_journal.specs.Draining.{IsAnswered, IsPassed, Refuses, ShowsBelow, WasDrained, answer_upto, mark_after, named_above, report_of, status_of};
-ghost use Rattle.mq_journal.specs.Numbers.{HoldsSide, IsReported, IsSeen, ShowsReport};
+ghost use Rattle.mq_journal.specs.Draining.{IsAnswered, IsPassed, RefusesDrain, ShowsBelow, WasDrained, answer_upto, mark_after, named_above, report_of, status_of};
+ghost use Rattle.mq_journal.specs.Numbers.{HoldsSide, IsReported, IsSomeKnown, ShowsReport};
 
 use crate::machine::{Groups, JournalMachine};
 use crate::reporting::report_side;
@@ -125,7 +125,7 @@ fn drain_side<P: Port + Drop, G: Groups>(
     requires at { AtDesk desk.now chair.old }
     requires side { HoldsSide P.state P.faults G.group (start_of desk.now) side.pmr.queue side
         (view chair.old) }
-    requires known { IsSeen P.state P.faults G.group (view chair.old) }
+    requires known { IsSomeKnown P.state P.faults G.group (view chair.old) }
     requires limit { at < 2 ^ 64 - 1 }
     ensures at { AtDesk desk.now chair.new }
     ensures answered { IsAnswered P.state P.faults G.group (start_of desk.now) at side
@@ -144,8 +144,8 @@ fn drain_side<P: Port + Drop, G: Groups>(
 
 /// Takes the side of a queue, completes until nothing is posted, stores and flushes the head past all
 /// that is done, stores the queue's mark, and gives the side back. A failure of a number up to `at` is
-/// reported of the queue's port and answered; one of a greater number is kept and not answered. `Off` is
-/// always answered.
+/// reported of the queue's port and returned; one of a greater number is kept and not returned. `Off` is
+/// always returned.
 pub fn drain<R: Wait, P: Port + Drop, G: Groups>(
     rt: &R,
     desk: &Desk<JournalMachine<P, G>>,
@@ -159,7 +159,7 @@ pub fn drain<R: Wait, P: Port + Drop, G: Groups>(
     requires seen { at ≤ (view chair.old).seen }
     ensures at { AtDesk desk.now chair.new }
     ensures drained { WasDrained P.state P.faults G.group queue at (view chair.old) (view chair.new) result }
-    ensures refused { IfErr result (λ c. Refuses queue c
+    ensures refused { IfErr result (λ c. RefusesDrain queue c
         (view chair.old) (view chair.new)) }
 {
     let item = desk.take(rt, chair, Turn::Side(queue));

@@ -8,7 +8,7 @@ ghost use Rattle.mq_turns.specs.Lists.{Each};
 ghost use Rattle.mq_turns.specs.declared.turn.Turn.TheVariants.{Side};
 ghost use Rattle.mq_journal.specs.Draining.{report_of};
 ghost use Rattle.mq_journal.specs.Held.{IsDrainOf, SameSide, TakesSide};
-ghost use Rattle.mq_journal.specs.Numbers.{HoldsSide, IsResting, IsSeen, ShowsReport, values};
+ghost use Rattle.mq_journal.specs.Numbers.{HoldsSide, IsResting, IsSomeKnown, ShowsReport, values};
 
 use crate::machine::{Groups, JournalMachine};
 use mq_blocks::QueueNo;
@@ -35,7 +35,7 @@ pub fn take_side<R: Wait, P: Port + Drop, G: Groups>(
     ensures geometry { result.pmr.geometry ≡ shape_of (values P.state P.faults G.group) G.group
         (start_of desk.now) }
     ensures side { HoldsSide P.state P.faults G.group (start_of desk.now) queue result (view chair.new) }
-    ensures known { IsSeen P.state P.faults G.group (view chair.new) }
+    ensures known { IsSomeKnown P.state P.faults G.group (view chair.new) }
 {
     let item = desk.take(rt, chair, Turn::Side(queue));
     let Item::Side(side) = item else {
@@ -62,9 +62,9 @@ pub fn give_back_side<P: Port + Drop, G: Groups>(
     desk.give_back(chair, Turn::Side(queue), Item::Side(side));
 }
 
-/// Completes until nothing is posted, and stores and flushes the head past all that is done. The side stays
-/// in hand, and the session makes no step on the desk, which with the chair is there for the contract alone:
-/// the queue's mark is not stored, and a refusal is not reported. After `Off` the call may be made again.
+/// Completes until nothing is posted, and stores and flushes the head past all that is done. The session
+/// keeps holding the side and makes no step on the desk; the contract alone needs desk and chair. So the
+/// queue's mark is not stored, and a refusal is not reported. After `Off` the call may be made again.
 pub fn drain_held<P: Port + Drop, G: Groups>(
     desk: &Desk<JournalMachine<P, G>>,
     chair: &Chair<JournalMachine<P, G>>,
@@ -73,7 +73,7 @@ pub fn drain_held<P: Port + Drop, G: Groups>(
     requires at { AtDesk desk.now chair.now }
     requires side { HoldsSide P.state P.faults G.group (start_of desk.now) side.old.pmr.queue side.old
         (view chair.now) }
-    requires known { IsSeen P.state P.faults G.group (view chair.now) }
+    requires known { IsSomeKnown P.state P.faults G.group (view chair.now) }
     ensures side { HoldsSide P.state P.faults G.group (start_of desk.now) side.old.pmr.queue side.new
         (view chair.now) }
     ensures parts { SameSide side.old side.new }

@@ -19,7 +19,7 @@ pub fn a_held_side_stays<P: Port + Drop, G: Groups>(side: &QueueSide<P, G::Entry
     let _ = side;
 }
 
-/// By whatever may be known by now, a side that a session holds is what the rule says.
+/// Whatever is known by now, a side that a session holds is what the rule says.
 pub fn a_held_side_is_current<P: Port + Drop, G: Groups>(side: &QueueSide<P, G::Entry>)
     ensures { HeldSidesAreCurrent P.state P.faults G.group side.now }
 {

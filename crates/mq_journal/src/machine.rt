@@ -7,14 +7,15 @@ use mq_side::{QueueSide, Root};
 use mq_turns::Machine;
 use std::marker::PhantomData;
 
-/// A kind of groups of requests: what is drawn for a group, and what it does to the map of home blocks.
+/// A kind of groups of requests: the entry that is drawn for a group, and what it does to the map of
+/// home blocks.
 pub trait Groups {
-    ghost use Rattle.mq_rules.specs.Groups.{Group};
+    ghost use Rattle.mq_rules.specs.Groups.{GroupView};
 
     /// A group, with its replies and its writes.
     type Entry: Drop;
 
-    ghost group: { Group Self.Entry };
+    ghost group: { GroupView Self.Entry };
 }
 
 /// The machine over ports of this kind, for these groups. A page is the cell of a home block, a side the

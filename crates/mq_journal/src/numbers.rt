@@ -37,9 +37,9 @@ fn mark_next<'e, P: Port + Drop, G: Groups>(
 }
 
 /// Draws the next number for a group whose commit is prepared, and notes it in the side of its queue, which
-/// the chair holds. Looks, stores the queue's mark where nothing of the queue is undone, draws, stores the
-/// entry and fills the descriptor. It takes no memory and never refuses. The pages may be given back at
-/// once; the side goes back once the commit is sent, or its send was cut.
+/// the chair holds. Reads the newest number, stores the queue's mark if nothing of the queue is undone,
+/// draws, stores the entry and fills the descriptor. It takes no memory and never refuses. The pages may be
+/// given back at once; the side may be given back once the commit is sent, or its send was cut.
 pub fn number<P: Port + Drop, G: Groups>(
     desk: &Desk<JournalMachine<P, G>>,
     chair: &mut Chair<JournalMachine<P, G>>,

@@ -11,8 +11,8 @@ use mq_drive::Port;
 use mq_side::QueueSide;
 use mq_turns::{Chair, Charge, Desk, Item, Report, Turn};
 
-/// Enters a report in the account of the port of a queue's side, and gives the side back. With the report
-/// the side has to be what the rule says, whatever is known by now.
+/// Enters a report in the account of the port of a queue's side, and gives the side back. With the
+/// report, the side must satisfy the rule of the desk, whatever is known by now.
 pub fn report_side<P: Port + Drop, G: Groups>(
     desk: &Desk<JournalMachine<P, G>>,
     chair: &mut Chair<JournalMachine<P, G>>,

@@ -1,14 +1,15 @@
 -- What the blocks of an empty file system show.
-use Rattle.std.proofs.Common.{get_or, ◌≡◌, ◌≢◌, ℕ, zero, suc, ◌+◌, ◌-◌, ◌*◌, ◌/◌, ◌%◌, ◌^◌, ◌<◌, ◌≤◌, List, ◌∷◌, length, replicate, drop, refl, sym, ap, subst, ◌∙◌, arith, lit<, lit≤, inl, inr}
+use Rattle.std.proofs.Common.{get_or, ◌≡◌, ◌≢◌, ℕ, zero, suc, ◌+◌, ◌-◌, ◌*◌, ◌/◌, ◌%◌, ◌^◌, ◌<◌, ◌≤◌, List, ◌∷◌, replicate, drop, refl, sym, ap, subst, ◌∙◌, arith, lit<, lit≤, inl, inr}
 use Rattle.std.specs.Prelude.{None}
 use Rattle.std.specs.List.{All}
 use Rattle.std.proofs.Math.Nat.{div-eq_of_lt, one-le-pow, pow-suc, zero-div}
 use Rattle.std.proofs.lemmas.Bool.{cases_lt, eq-eqb, ne_eqb}
-use Rattle.std.proofs.lemmas.List.{get_or-drop, get_or-replicate, length-replicate}
+use Rattle.std.proofs.lemmas.List.{get_or-drop, get_or-replicate}
 use Rattle.mq_blocks.specs.Blocks.{zeros}
 use Rattle.mq_blocks.specs.Windows.{written, Shows}
 use Rattle.mq_blocks.specs.declared.geometry.Geometry.{Geometry}
 use Rattle.mq_blocks.proofs.Windows.{shows-all}
+use Rattle.mq_blocks.proofs.BlocksZeros.{length-zeros, zeros-at}
 use Rattle.mq_layout.specs.Bits.{bit_of}
 use Rattle.mq_layout.specs.Empty.{empty_block, empty_root, free_inode}
 use Rattle.mq_layout.specs.Fields.{zero_bytes}
@@ -16,16 +17,8 @@ use Rattle.mq_layout.specs.Inodes.{IsInode, ShowsInode, inode_bytes}
 use Rattle.mq_layout.specs.Places.{inode_bitmap, table_first}
 use Rattle.mq_layout.specs.Slots.{ShowsSlot}
 use Rattle.mq_layout.specs.Superblock.{super_bytes}
-use Rattle.mq_layout.proofs.Laws.{inode-kept, inode-written}
-use Rattle.mq_layout.proofs.Zeros.{length-zero_bytes, zero_bytes-at}
-
-length-zeros : length zeros ≡ 4096
-unfolding zeros
-length-zeros = length-replicate {A = ℕ} 4096 0
-
-zeros-at : (k : ℕ) → get_or zeros k 0 ≡ 0
-unfolding zeros zero_bytes
-zeros-at k = zero_bytes-at 4096 k
+use Rattle.mq_layout.proofs.SlotsLaws.{inode-kept, inode-written}
+use Rattle.mq_layout.proofs.FieldsZeros.{length-zero_bytes, zero_bytes-at}
 
 shows-zeros : (p n : ℕ) → p + n ≤ 4096 → Shows zeros p (zero_bytes n)
 shows-zeros p n h =

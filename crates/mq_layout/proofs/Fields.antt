@@ -3,7 +3,7 @@ use Rattle.std.proofs.Common.{get_or, ◌≡◌, ℕ, ◌+◌, ◌<◌, ◌≤�
 use Rattle.std.specs.Prelude.{Option, Some, None, Result, Ok, Err, IfOk, IsOk}
 use Rattle.std.specs.Int.{to_le_bytes, w16, w32, w64}
 use Rattle.mq_blocks.specs.Windows.{number_at, Shows}
-use Rattle.mq_blocks.proofs.Readings.{bytes-number_at_2, bytes-number_at_4, bytes-number_at_8}
+use Rattle.mq_blocks.proofs.WindowsReadings.{bytes-number_at_2, bytes-number_at_4, bytes-number_at_8}
 use Rattle.mq_blocks.proofs.Windows.{shows-all}
 use Rattle.mq_layout.specs.Fields.{Finds, field, first}
 use Rattle.mq_layout.specs.declared.refusal.LayoutCause.{LayoutCause}

@@ -1,5 +1,5 @@
 // Bitmaps, and blocks of pointers.
-ghost use Rattle.std.specs.Prelude.{◌≡◌, ◌≢◌, ◌<◌, ◌≤◌, ◌*◌, ℕ, MatchOption, length, if◌then◌else◌};
+ghost use Rattle.std.specs.Prelude.{◌≡◌, ◌≢◌, ◌<◌, ◌≤◌, ◌+◌, ◌*◌, ℕ, MatchOption, length, slice_index, if◌then◌else◌};
 ghost use Rattle.std.specs.Int.{to_le_bytes, w32};
 ghost use Rattle.mq_blocks.specs.Windows.{written};
 ghost use Rattle.mq_layout.specs.Bits.{AreSet, IsFirstClear, bit_of, pointer_of};
@@ -17,7 +17,7 @@ pub fn bit(block: &Block, at: u32) -> bool
 }
 
 /// The first bit of a bitmap that is clear, of those from `from` on and below `end`. A full byte is
-/// passed at once.
+/// skipped in one step.
 pub fn first_clear(block: &Block, from: u32, end: u32) -> Option<u32>
     requires { end ≤ 32768 }
     ensures { MatchOption result (AreSet block.now from end) (IsFirstClear block.now from end) }
@@ -39,6 +39,7 @@ pub fn first_clear(block: &Block, from: u32, end: u32) -> Option<u32>
 pub fn set_bit(into: &mut Block, at: u32, value: bool)
     requires { at < 32768 }
     ensures whole { length into.new ≡ 4096 }
+    ensures bytes { (k : ℕ) → slice_index into.new k < 256 }
     ensures set { bit_of into.new at ≡ (if value then 1 else 0) }
     ensures others { (k : ℕ) → k ≢ at → bit_of into.new k ≡ bit_of into.old k }
 {
@@ -47,6 +48,7 @@ pub fn set_bit(into: &mut Block, at: u32, value: bool)
 
 fn set_bit_of(block: &mut [u8], at: usize, value: bool)
     requires { at < 8 * length block.old }
+    ensures bytes { (k : ℕ) → slice_index block.new k < 256 }
     ensures set { bit_of block.new at ≡ (if value then 1 else 0) }
     ensures others { (k : ℕ) → k ≢ at → bit_of block.new k ≡ bit_of block.old k }
 {
@@ -69,7 +71,17 @@ pub fn pointer(block: &Block, at: u32) -> u32
 /// Sets a pointer of an indirect block.
 pub fn set_pointer(into: &mut Block, at: u32, value: u32)
     requires { at < 1024 }
-    ensures { into.new ≡ written into.old (4 * at) (to_le_bytes w32 value) }
+    ensures whole { length into.new ≡ 4096 }
+    ensures bytes { (k : ℕ) → slice_index into.new k < 256 }
+    ensures is { into.new ≡ written into.old (4 * at) (to_le_bytes w32 value) }
 {
-    put(into.bytes_mut(), 4 * at as usize, &value.to_le_bytes());
+    set_pointer_of(into.bytes_mut(), 4 * at as usize, value);
+}
+
+fn set_pointer_of(block: &mut [u8], at: usize, value: u32)
+    requires { at + 4 ≤ length block.old }
+    ensures bytes { (k : ℕ) → slice_index block.new k < 256 }
+    ensures is { block.new ≡ written block.old at (to_le_bytes w32 value) }
+{
+    put(block, at, &value.to_le_bytes());
 }

@@ -10,25 +10,26 @@ use crate::refusal::{LayoutCause, LayoutRefusal, check, check_no_pointers, check
 use mq_blocks::Block;
 use mq_blocks::bytes::{put, u16_at, u32_at, u64_at};
 
-/// The bytes of an inode.
+/// The number of bytes of an inode.
 const SIZE: usize = 128;
 
-/// What an inode says.
+/// The fields of an inode.
 #[derive(Clone, Copy, Debug, PartialEq, Eq)]
 pub struct Inode {
     /// 0 for a free inode, 1 for a file, 2 for a directory.
     pub kind: u8,
-    /// The slots that name it.
+    /// The number of slots that name it.
     pub links: u16,
     /// In bytes.
     pub size: u64,
-    /// The first twelve blocks, or 0.
+    /// The first twelve blocks; 0 where there is none.
     pub direct: [u32; 12],
-    /// The block with the pointers to the others, or 0.
+    /// The block with the pointers to the others, or 0 if there is none.
     pub indirect: u32,
 }
 
-/// The inode at a place of a block of the inode table. Which pointers have to be 0 is not tested.
+/// The inode at a place of a block of the inode table. It is not tested whether unused pointers are
+/// 0.
 pub fn read_inode(block: &Block, at: u32) -> Result<Inode, LayoutRefusal>
     requires { at < 32 }
     ensures sound { IfOk result (ShowsInode block.now at) }
@@ -105,7 +106,9 @@ fn check_fields(inode: &Inode, block: &[u8], start: usize) -> Result<(), LayoutR
 pub fn write_inode(into: &mut Block, at: u32, inode: &Inode)
     requires at { at < 32 }
     requires form { IsInode inode.now }
-    ensures { into.new ≡ written into.old (128 * at) (inode_bytes inode.now) }
+    ensures whole { length into.new ≡ 4096 }
+    ensures bytes { (k : ℕ) → slice_index into.new k < 256 }
+    ensures is { into.new ≡ written into.old (128 * at) (inode_bytes inode.now) }
 {
     put_inode(into.bytes_mut(), SIZE * at as usize, inode);
 }
@@ -113,7 +116,8 @@ pub fn write_inode(into: &mut Block, at: u32, inode: &Inode)
 fn put_inode(block: &mut [u8], start: usize, inode: &Inode)
     requires inside { start + 128 ≤ length block.old }
     requires twelve { length inode.now.direct ≡ 12 }
-    ensures { block.new ≡ written block.old start (inode_bytes inode.now) }
+    ensures bytes { (k : ℕ) → slice_index block.new k < 256 }
+    ensures is { block.new ≡ written block.old start (inode_bytes inode.now) }
 {
     put(block, start, &[inode.kind, 0]);
     put(block, start + 2, &inode.links.to_le_bytes());

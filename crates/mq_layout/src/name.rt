@@ -3,7 +3,7 @@ ghost use Rattle.std.specs.Prelude.{◌≡◌, ◌↔◌, IsTrue};
 ghost use Rattle.std.specs.List.{list_all};
 ghost use Rattle.mq_layout.specs.Names.{IsName, is_letter, is_name};
 
-/// The most bytes of a name.
+/// The greatest number of bytes of a name.
 const NAME_LIMIT: usize = 255;
 
 fn are_letters(name: &[u8]) -> bool

@@ -10,15 +10,15 @@ use mq_blocks::{BlockNo, Geometry, QueueNo};
 /// The greatest size of a file in bytes: 12 blocks, and 1,024 through the indirect block.
 pub const FILE_LIMIT: u64 = 4_243_456;
 
-/// The most names in a directory.
+/// The greatest number of names in a directory.
 pub const NAMES_LIMIT: u32 = 15_540;
 
 pub const INODES_PER_BLOCK: u32 = 32;
 
-/// The slots of a directory's block.
+/// The number of slots of a directory's block.
 pub const SLOTS_PER_BLOCK: u32 = 15;
 
-/// The pointers of an indirect block.
+/// The number of pointers of an indirect block.
 pub const POINTERS_PER_BLOCK: u32 = 1024;
 
 pub const SUPERBLOCK: BlockNo = BlockNo(0);
@@ -61,7 +61,7 @@ pub fn inode_block(geometry: Geometry, inode: u32) -> BlockNo
     BlockNo(table_first(geometry).0 + inode / INODES_PER_BLOCK)
 }
 
-/// Where in that block it stands.
+/// The place of an inode in its block of the inode table.
 pub fn inode_place(inode: u32) -> u32
     ensures is { result ≡ inode_place_of inode }
     ensures inside { result < 32 }

@@ -7,7 +7,7 @@ use mq_blocks::bytes::u32_at;
 /// What is wrong with a field.
 #[derive(Clone, Copy, Debug, PartialEq, Eq)]
 pub enum LayoutCause {
-    /// The first eight bytes of the superblock are others.
+    /// The first eight bytes of the superblock are not the magic number.
     Magic,
     Version,
     /// The superblock is that of another geometry.
@@ -16,11 +16,12 @@ pub enum LayoutCause {
     Kind,
     /// A used inode has not one link, or a free one has links.
     Links,
-    /// A size is above the limit, a directory's is not whole blocks, or a free inode's is not 0.
+    /// A size is above the limit, a directory's is not a multiple of the block size, or a free
+    /// inode's is not 0.
     Size,
-    /// A byte, or a pointer, has to be 0.
+    /// A byte or a pointer that must be 0 is not.
     Zero,
-    /// A slot is neither unused nor used.
+    /// The byte that says whether a slot is used has neither value.
     Used,
     /// The name in a slot has no bytes.
     Length,
@@ -46,7 +47,7 @@ pub fn refused(cause: LayoutCause, offset: usize) -> LayoutRefusal
     }
 }
 
-/// Refuses a field that is not right.
+/// Refuses the field at this offset unless it is right.
 pub fn check(cause: LayoutCause, offset: usize, right: bool) -> Result<(), LayoutRefusal>
     requires { offset < 4096 }
     ensures { Finds (field cause offset right) result }
@@ -58,7 +59,7 @@ pub fn check(cause: LayoutCause, offset: usize, right: bool) -> Result<(), Layou
     }
 }
 
-/// Refuses the first of so many bytes from `from` on that is not 0.
+/// Refuses the first of `count` bytes from `from` on that is not 0.
 pub fn check_zeros(block: &[u8], from: usize, count: usize) -> Result<(), LayoutRefusal>
     requires whole { length block.now ≡ 4096 }
     requires inside { from + count ≤ 4096 }
@@ -72,7 +73,7 @@ pub fn check_zeros(block: &[u8], from: usize, count: usize) -> Result<(), Layout
     Ok(())
 }
 
-/// Refuses the first of so many pointers from `from` on that is not 0.
+/// Refuses the first of `count` pointers from `from` on that is not 0.
 pub fn check_no_pointers(block: &[u8], from: usize, count: usize) -> Result<(), LayoutRefusal>
     requires whole { length block.now ≡ 4096 }
     requires inside { from + 4 * count ≤ 4096 }

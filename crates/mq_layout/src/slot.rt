@@ -11,7 +11,7 @@ use crate::refusal::{LayoutCause, LayoutRefusal, check, check_zeros, refused};
 use mq_blocks::Block;
 use mq_blocks::bytes::{put, u32_at};
 
-/// The bytes of a slot.
+/// The number of bytes of a slot.
 const SIZE: usize = 272;
 
 /// A used slot. Its name is the `length` bytes from offset `272 * at + 16` of the block.
@@ -76,7 +76,9 @@ fn check_used(block: &[u8], start: usize) -> Result<(), LayoutRefusal>
 pub fn write_slot(into: &mut Block, at: u32, inode: u32, name: &[u8])
     requires at { at < 15 }
     requires name { IsName name.now }
-    ensures { into.new ≡ written into.old (272 * at)
+    ensures whole { length into.new ≡ 4096 }
+    ensures bytes { (k : ℕ) → slice_index into.new k < 256 }
+    ensures is { into.new ≡ written into.old (272 * at)
         (slot_bytes (record { inode = inode; name = name.now })) }
 {
     put_slot(into.bytes_mut(), SIZE * at as usize, inode, name);
@@ -85,7 +87,8 @@ pub fn write_slot(into: &mut Block, at: u32, inode: u32, name: &[u8])
 fn put_slot(block: &mut [u8], start: usize, inode: u32, name: &[u8])
     requires inside { start + 272 ≤ length block.old }
     requires few { length name.now ≤ 255 }
-    ensures { block.new ≡ written block.old start (slot_bytes (record { inode = inode; name = name.now })) }
+    ensures bytes { (k : ℕ) → slice_index block.new k < 256 }
+    ensures is { block.new ≡ written block.old start (slot_bytes (record { inode = inode; name = name.now })) }
 {
     put(block, start, &inode.to_le_bytes());
     put(block, start + 4, &[1, name.len() as u8]);
@@ -97,14 +100,17 @@ fn put_slot(block: &mut [u8], start: usize, inode: u32, name: &[u8])
 /// Makes a slot unused.
 pub fn clear_slot(into: &mut Block, at: u32)
     requires { at < 15 }
-    ensures { into.new ≡ written into.old (272 * at) (zero_bytes 272) }
+    ensures whole { length into.new ≡ 4096 }
+    ensures bytes { (k : ℕ) → slice_index into.new k < 256 }
+    ensures is { into.new ≡ written into.old (272 * at) (zero_bytes 272) }
 {
     put_zeros(into.bytes_mut(), SIZE * at as usize, SIZE);
 }
 
 fn put_zeros(block: &mut [u8], from: usize, count: usize)
     requires { from + count ≤ length block.old }
-    ensures { block.new ≡ written block.old from (zero_bytes count) }
+    ensures bytes { (k : ℕ) → slice_index block.new k < 256 }
+    ensures is { block.new ≡ written block.old from (zero_bytes count) }
 {
     block[from..from + count].fill(0);
 }

@@ -12,7 +12,7 @@ use mq_blocks::{Block, Geometry};
 
 const MAGIC: &[u8; 8] = b"MQFSSUP1";
 
-/// Accepts the superblock of this geometry alone.
+/// Accepts only the superblock of this geometry.
 pub fn read_super(geometry: Geometry, block: &Block) -> Result<(), LayoutRefusal>
     ensures sound { IfOk result (λ _. block.now ≡ super_bytes geometry) }
     ensures complete { block.now ≡ super_bytes geometry → IsOk result }

@@ -1,14 +1,14 @@
-pub mod Chains
-pub mod Values
-pub mod Entries
-pub mod Queues
+pub mod JournalChains
+pub mod History
+pub mod Items
+pub mod HistoryQueues
 pub mod Written
-mod Marks
-mod Rows
-mod Lists
-mod Stagings
-mod Ledgers
-mod Lookups
-mod Stages
-mod Nexts
-mod Draws
+mod TablesMarks
+mod TablesRows
+mod RecordsLists
+mod ItemsStagings
+pub mod TablesLedgers
+mod RecordsLookups
+mod RecordsStages
+mod RecordsNexts
+mod RecordsDraws

@@ -1,5 +1,5 @@
 -- An entry of the drive is read as it was written.
-use Rattle.mq_nvme.proofs.Saying.{says-entry}
+use Rattle.mq_nvme.proofs.Says.{says-entry}
 use Rattle.mq_ledger.specs.Items.{AreRead}
 use Rattle.mq_ledger.specs.Written.{journal_entries}
 

@@ -7,7 +7,7 @@ use Rattle.std.specs.Prelude.{◌≡◌, ◌<◌, ◌≤◌, ℕ, ◌+◌, ◌-�
 use Rattle.mq_blocks.specs.Descriptor.{Descriptor, descriptor_bytes}
 use Rattle.mq_blocks.specs.Drive.{depth}
 use Rattle.mq_blocks.specs.Geometry.{area_lba, home_lba}
-use Rattle.mq_blocks.specs.Journal.{Says}
+use Rattle.mq_blocks.specs.Journal.{WriteFields}
 use Rattle.mq_blocks.specs.Machine.{Writes}
 use Rattle.mq_blocks.specs.declared.command.Command.{Command}
 use Rattle.mq_blocks.specs.declared.geometry.Geometry.{Geometry}
@@ -16,11 +16,11 @@ use Rattle.mq_ledger.specs.declared.tx.Tx.{Tx}
 
 -- how entries are written, for a slot, and how they are read
 pub record Entries : Type 0 where
-  pub entry : ℕ → Says → List ℕ
-  pub says : List ℕ → Option Says
+  pub entry : ℕ → WriteFields → List ℕ
+  pub says : List ℕ → Option WriteFields
 
 -- a slot, and what an entry may say in it
-pub record MaySay (n : ℕ) (s : Says) : Type 0 where
+pub record MaySay (n : ℕ) (s : WriteFields) : Type 0 where
   pub slot : n < depth
   pub number_low : 1 ≤ s.0
   pub number_high : s.0 < 2 ^ 64
@@ -28,7 +28,7 @@ pub record MaySay (n : ℕ) (s : Says) : Type 0 where
 
 -- what was written is read again
 abbrev pub AreRead : Entries → Type 0
-AreRead e = (slot : ℕ) (s : Says) → MaySay slot s → e.says (e.entry slot s) ≡ Some s
+AreRead e = (slot : ℕ) (s : WriteFields) → MaySay slot s → e.says (e.entry slot s) ≡ Some s
 
 -- what an entry writes: a place of its queue's journal area, or a home block
 pub data Target : Type 0 where
@@ -49,7 +49,7 @@ lba_of g q (AtPlace place) = area_lba g q place
 lba_of g q (AtHome x) = home_lba g x
 
 -- what its entry says
-abbrev pub said_of : Geometry → ℕ → Item → Says
+abbrev pub said_of : Geometry → ℕ → Item → WriteFields
 said_of g q i = (i.number, lba_of g q i.target, i.commit)
 
 -- its write command

@@ -103,7 +103,7 @@ pub record AreTables (s : Ledger) (newest settled : List Latest) (queue_rows : L
   pub front_high : s.front ≤ s.base + length s.history
   pub each : (t : Tx) (ts : List Tx) → IsAt t ts s.history → IsTx s.geometry t
   pub start_size : length s.start ≡ homes_of s.geometry
-  pub froms_size : length s.starts ≡ s.geometry.queues
+  pub starts_size : length s.starts ≡ s.geometry.queues
   pub newest_is : AreLatest s.start s.base s.history (homes_of s.geometry) newest
   pub settled_is : AreLatest s.start s.base (upto s.front s.history) (homes_of s.geometry) settled
   pub lanes_size : length queue_rows ≡ s.geometry.queues

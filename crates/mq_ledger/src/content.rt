@@ -57,7 +57,7 @@ impl Blocks {
     }
 }
 
-/// The same bytes.
+/// A copy of the bytes.
 pub fn copy_content(alloc: Global, content: &Content) -> Result<Content, OutOfMemory>
     ensures { IfOk result (λ c. c ≡ content.now) }
 {

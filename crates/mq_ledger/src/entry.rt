@@ -1,8 +1,8 @@
 // What an entry says.
 use std::marker::Model;
 
-/// An entry as the machine has it, in plain words: its transaction's number, the Lba that it writes, and whether it is the
-/// transaction's last.
+/// An entry as the machine has it, as plain numbers: its transaction's number, the Lba that it
+/// writes, and whether it is the transaction's last.
 #[derive(Clone, Copy)]
 pub struct PlainEntry {
     pub number: u64,

@@ -11,7 +11,7 @@ ghost use Rattle.mq_ledger.specs.Records.{Every};
 use crate::{Content, Tx};
 use mq_blocks::{BlockNo, Geometry, QueueNo};
 
-/// What stands for a block in a list.
+/// An item of a list that names a block.
 trait OfBlock {
     ghost block_of: { Self → ℕ };
 
@@ -50,7 +50,7 @@ fn is_rising<T: OfBlock>(list: &[T], high: u32) -> bool
     true
 }
 
-/// Whether a block is one of those of a list, where they rise.
+/// Whether a block is in a list, whose blocks rise.
 fn has_block<T: OfBlock>(list: &[T], block: BlockNo) -> bool
     requires { IsAscending (map T.block_of list.now) }
     ensures { IsTrue result ↔ (is_among block (map T.block_of list.now) ≡ true) }
@@ -67,7 +67,7 @@ pub fn is_listed(blocks: &[BlockNo], block: BlockNo) -> bool
     has_block(blocks, block)
 }
 
-/// Whether one of these writes is of a block, where their blocks rise.
+/// Whether one of these writes is of a block. Their blocks rise.
 fn is_written(writes: &[(BlockNo, Content)], block: BlockNo) -> bool
     requires { IsAscending (blocks_of writes.now) }
     ensures { IsTrue result ↔ (is_among block (blocks_of writes.now) ≡ true) }
@@ -189,7 +189,7 @@ fn fits_together(geometry: Geometry, tx: &Tx) -> bool
         && are_written(revoked, direct)
 }
 
-/// Whether a transaction keeps to what holds of each by itself.
+/// Whether a transaction meets the conditions that need no history.
 pub fn is_transaction(geometry: Geometry, tx: &Tx) -> bool
     ensures { IsTrue result ↔ IsTx geometry tx.now }
 {

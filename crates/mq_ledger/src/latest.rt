@@ -17,7 +17,8 @@ pub enum Place {
     Free,
     /// Where it stood at the start.
     Start,
-    /// In the transaction of this number, behind so many writes: the logged ones are first.
+    /// In the transaction of this number, after `at` of its writes, of which the logged ones come
+    /// first.
     Written { number: u64, at: usize },
 }
 
@@ -30,7 +31,7 @@ pub struct Latest {
     pub place: Place,
 }
 
-/// One more change of a block: a copy, or not.
+/// Takes in one more change of a block, which is a copy or not.
 fn put(table: &mut [Latest], number: u64, copied: bool, place: Place, block: BlockNo)
     requires { block < length table.old }
     ensures { table.new ≡ put_mark number copied place block table.old }
@@ -53,7 +54,7 @@ fn mark_freed(table: &mut [Latest], number: u64, blocks: &[BlockNo])
     }
 }
 
-/// Writes of a transaction that stand behind so many others of it.
+/// Takes in the writes of a transaction that stand after `before` others of it.
 fn mark_writes(
     table: &mut [Latest],
     number: u64,
@@ -126,8 +127,7 @@ pub fn numbered(history: &[Tx], base: u64, number: u64) -> &Tx
     &history[(number - base - 1) as usize]
 }
 
-/// What stands at a place, where these are the home blocks at the start, and the transactions after
-/// them.
+/// The content at a place, given the home blocks at the start and the transactions after them.
 pub fn find<'a>(
     start: &'a [Option<Content>],
     base: u64,

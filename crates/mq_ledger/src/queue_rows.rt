@@ -10,13 +10,13 @@ use std::marker::Model;
 #[derive(Clone, Copy)]
 pub struct Row {
     pub number: u64,
-    /// The count behind its entries.
+    /// The count after its entries.
     pub end: u64,
-    /// The place behind its descriptor.
+    /// The place after its descriptor.
     pub next: u64,
 }
 
-/// Where a transaction ends: the count behind its entries on its queue.
+/// Where a transaction ends: the count after its entries on its queue.
 #[derive(Clone, Copy, Debug, PartialEq, Eq)]
 pub struct QueueEnd {
     pub queue: QueueNo,
@@ -83,7 +83,8 @@ impl QueueRows {
         self.rows[at - 1]
     }
 
-    /// How many of the transactions end at or before a count. Those behind it are passed.
+    /// The number of transactions that end at or before a count. The search goes over those that
+    /// end after it.
     pub fn ended(&self, count: u64) -> usize
         ensures is { result ≡ rows_from (ends_by count) (reverse self.now) }
         ensures bound { result ≤ length self.now }
@@ -95,7 +96,8 @@ impl QueueRows {
         at
     }
 
-    /// How many of the transactions have a number up to this one. Those above it are passed.
+    /// The number of transactions with a number up to this one. The search goes over those above
+    /// it.
     pub fn up_to(&self, number: u64) -> usize
         ensures is { result ≡ rows_from (is_up_to number) (reverse self.now) }
         ensures bound { result ≤ length self.now }

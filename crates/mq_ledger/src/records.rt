@@ -24,15 +24,15 @@ use mq_blocks::{BlockNo, Geometry, OutOfMemory, QueueNo, TxNo};
 use std::alloc::Global;
 use std::marker::Model;
 
-/// The blocks of the journal area that a descriptor takes, each with an entry.
+/// The number of blocks of the journal area that a descriptor takes, each with an entry.
 pub const DESCRIPTOR_BLOCKS: u64 = 1;
 
 /// The greatest number of a transaction.
 const LIMIT: u64 = 1 << 63;
 
-/// A history, and up to which number it is done. Beside the transactions stand the last change of
-/// each home block, after all of them and after the done ones, and the counts and places of each
-/// queue, so that no question takes a pass over the whole history.
+/// A history, and the number up to which it is done. Beside the transactions stand the last change of
+/// each home block, after all of them and after the done ones, and the counts and places of each queue,
+/// so that no query needs a pass over the whole history.
 #[derive(Drop)]
 pub struct Ledger {
     geometry: Geometry,
@@ -40,7 +40,7 @@ pub struct Ledger {
     base: u64,
     starts: Vec<u64>,
     history: Vec<Tx>,
-    /// The count behind each transaction's entries.
+    /// The count after each transaction's entries.
     ends: Vec<u64>,
     front: u64,
     newest: Vec<Latest>,
@@ -59,7 +59,7 @@ impl Model for Ledger {
     ghost invariant = { HasTables };
 }
 
-/// A number so many times.
+/// A list that repeats a number.
 pub fn repeated(alloc: Global, number: u64, times: usize) -> Result<Vec<u64>, OutOfMemory>
     ensures { IfOk result (λ v. v.items ≡ replicate times number) }
 {
@@ -76,7 +76,7 @@ fn empty_queue_rows(alloc: Global, queues: usize) -> Result<Vec<QueueRows>, OutO
     Ok(queue_rows)
 }
 
-/// The row of a transaction behind another's.
+/// The row of a transaction that follows this row.
 fn row_after(before: Row, tx: &Tx) -> Row
     requires counts { before.end + (writes tx.now + descriptor_blocks tx.now) ≤ number_limit }
     requires places { before.next + length tx.now.logged < 2 ^ 62 }
@@ -203,7 +203,7 @@ impl Ledger {
         find(&self.start, self.base, &self.history, block, place)
     }
 
-    /// The count behind a queue's entries.
+    /// The count after the last entry of a queue.
     pub fn end(&self, queue: QueueNo) -> u64
         requires { queue < self.now.geometry.queues }
         ensures is { result ≡ end_of (from_of self.now queue) (own self.now queue) }
@@ -212,7 +212,7 @@ impl Ledger {
         self.row(queue).end
     }
 
-    /// The place behind those of a queue.
+    /// The place after the last one of a queue.
     pub fn next_place(&self, queue: QueueNo) -> u64
         requires { queue < self.now.geometry.queues }
         ensures is { result ≡ next (own self.now queue) }
@@ -221,8 +221,8 @@ impl Ledger {
         self.row(queue).next
     }
 
-    /// The place behind those of a queue's transactions up to a number. The queue's transactions
-    /// above the number are passed.
+    /// The place after those of a queue's transactions up to a number. The search goes over the queue's
+    /// transactions above the number.
     pub fn covered_place(&self, queue: QueueNo, word: TxNo) -> u64
         requires { queue < self.now.geometry.queues }
         ensures is { result ≡ next (upto word (own self.now queue)) }
@@ -231,8 +231,8 @@ impl Ledger {
         self.row_at(queue, self.up_to(queue, word.0)).next
     }
 
-    /// Whether a count stands behind a whole transaction of a queue, or before all. The queue's
-    /// transactions behind the count are passed.
+    /// Whether a count stands right after a whole transaction of a queue, or before all. The search
+    /// goes over the queue's transactions after the count.
     pub fn is_end(&self, queue: QueueNo, count: u64) -> bool
         requires { queue < self.now.geometry.queues }
         ensures { IsTrue result ↔ IsEnd (from_of self.now queue) (own self.now queue) count }
@@ -240,8 +240,8 @@ impl Ledger {
         self.row_at(queue, self.ended(queue, count)).end == count
     }
 
-    /// Whether each transaction of a queue that ends behind the head has a number at or above the
-    /// mark. These are passed.
+    /// Whether each transaction of a queue that ends after the head has a number at or above the mark.
+    /// The search goes over these.
     pub fn is_clear(&self, queue: QueueNo, head: u64, mark: u64) -> bool
         requires { queue < self.now.geometry.queues }
         ensures { IsTrue result ↔ IsClear self.now queue head mark }
@@ -250,8 +250,8 @@ impl Ledger {
         at == self.len(queue) || self.number_at(queue, at) >= mark
     }
 
-    /// The entry of a count of a queue, with its write. The queue's transactions behind the count are
-    /// passed.
+    /// The entry of a count of a queue, with its write. The search goes over the queue's transactions
+    /// after the count.
     pub fn entry(&self, alloc: Global, queue: QueueNo, count: u64) -> Result<Staged, OutOfMemory>
         requires queue { queue < self.now.geometry.queues }
         requires low { from_of self.now queue ≤ count }
@@ -315,7 +315,7 @@ impl Ledger {
         Ok(())
     }
 
-    /// Whether the history allows that a transaction follows it, where this number is the flushed base.
+    /// Whether the history may be followed by this transaction, if this number is the flushed base.
     pub fn may_draw(&self, tx: &Tx, word: TxNo) -> bool
         ensures { (k : KnownJournal) → IsKnown self.now word k → (IsTrue result ↔ MayDraw k tx.now) }
     {
@@ -377,7 +377,7 @@ impl Ledger {
         self.queue_rows[queue.0 as usize].number(at)
     }
 
-    /// How many of a queue's transactions end at or before a count.
+    /// The number of a queue's transactions that end at or before a count.
     fn ended(&self, queue: QueueNo, count: u64) -> usize
         requires { queue < self.now.geometry.queues }
         ensures is { result ≡ length (below (from_of self.now queue) count (own self.now queue)) }
@@ -387,7 +387,7 @@ impl Ledger {
         self.queue_rows[queue.0 as usize].ended(count)
     }
 
-    /// How many of a queue's transactions have a number up to this one.
+    /// The number of a queue's transactions with a number up to this one.
     fn up_to(&self, queue: QueueNo, number: u64) -> usize
         requires { queue < self.now.geometry.queues }
         ensures is { result ≡ length (upto number (own self.now queue)) }
@@ -396,7 +396,7 @@ impl Ledger {
         self.queue_rows[queue.0 as usize].up_to(number)
     }
 
-    /// The row behind all transactions of a queue.
+    /// The row after all transactions of a queue.
     fn row(&self, queue: QueueNo) -> Row
         requires { queue < self.now.geometry.queues }
         ensures is { result ≡ row_of (from_of self.now queue) (own self.now queue) }

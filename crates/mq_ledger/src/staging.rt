@@ -55,7 +55,7 @@ fn logged_blocks(alloc: Global, writes: &[(BlockNo, Content)]) -> Result<Vec<Blo
     Ok(blocks)
 }
 
-/// The block of a transaction's descriptor, where this row ends before it.
+/// The block of a transaction's descriptor, if the queue before the transaction ends with this row.
 fn describe(alloc: Global, geometry: Geometry, tx: &Tx, before: Row) -> Result<Content, OutOfMemory>
     requires form { IsTx geometry tx.now }
     requires places { before.next + length tx.now.logged < 2 ^ 62 }
@@ -78,8 +78,8 @@ fn describe(alloc: Global, geometry: Geometry, tx: &Tx, before: Row) -> Result<C
     Ok(Content(Vec::from_slice(alloc, block.bytes())?))
 }
 
-/// What is staged for an entry of a transaction, where this row ends before it. Its copies come
-/// first, then its direct writes, then its descriptor.
+/// What is staged for an entry of a transaction, if the queue before the transaction ends with this
+/// row. Its copies come first, then its direct writes, then its descriptor.
 pub fn stage_entry(
     alloc: Global,
     geometry: Geometry,

@@ -11,7 +11,7 @@ pub struct Tx {
     pub logged: Writes,
     /// What is written to its home block by the queue itself.
     pub direct: Writes,
-    /// The blocks whose earlier copies count no more.
+    /// The blocks whose earlier copies no longer count.
     pub revoked: Blocks,
     /// The blocks that are free from here on.
     pub freed: Blocks,

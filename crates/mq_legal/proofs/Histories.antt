@@ -7,18 +7,18 @@ use Rattle.mq_blocks.specs.Geometry.{write_limit}
 use Rattle.mq_blocks.specs.Machine.{Map, after}
 use Rattle.mq_blocks.specs.declared.geometry.Geometry.{Geometry}
 use Rattle.mq_exec.specs.Moves.{Moves}
-use Rattle.mq_files.specs.Entries.{Asks, Does, Ran, freed_by, tx_of, volume_after, written_by}
+use Rattle.mq_files.specs.Entries.{RanUndrawn, Does, Ran, freed_by, tx_of, volume_after, written_by}
 use Rattle.mq_files.specs.declared.entry.FileEntry.{FileEntry}
 use Rattle.mq_ledger.specs.History.{change_of}
-use Rattle.mq_legal.proofs.Laying.{sound-laid}
-use Rattle.mq_legal.proofs.Quiet.{moves-change, moves-stay}
+use Rattle.mq_legal.proofs.Laid.{sound-laid}
+use Rattle.mq_legal.proofs.MovesQuiet.{moves-change, moves-stay}
 use Rattle.mq_legal.specs.Histories.{AllDo, AreLinesOf, none, commit, read, AreOfBytes, ChangesOn, IsCommitOf, WritesNothing, IsReadOf, RunsOn, StaysOn, TellsOf, map_after, volume_through}
 use Rattle.mq_legal.specs.Legal.{AllWriteFew, IsRun, IsStep, WritesFew, group_of, newest, next, number_after, volume_at}
 use Rattle.mq_pages.specs.declared.page.Write.{Write}
 use Rattle.mq_report.specs.Lines.{Line}
 use Rattle.mq_script.specs.Scripts.{Script}
-use Rattle.mq_tree.proofs.KeepSteps.{group-sound}
-use Rattle.mq_tree.proofs.Unique.{volume-once}
+use Rattle.mq_tree.proofs.KeptSteps.{group-sound}
+use Rattle.mq_tree.proofs.LaidUnique.{volume-once}
 use Rattle.mq_tree.specs.Kept.{HasBytes}
 use Rattle.mq_tree.specs.Laid.{IsLaid}
 use Rattle.mq_tree.specs.Requests.{after_group, replies}
@@ -30,7 +30,7 @@ use Rattle.mq_tree.specs.Volume.{Volume}
 ran-on : (g : Geometry) (m : Map) (v : Volume) (e : FileEntry) → IsLaid g m v → Ran g m e → RunsOn g v e
 ran-on g m v e laid ran = subst (λ (w : Volume). RunsOn g w e) (volume-once g m ran.volume v ran.laid laid) (record { queue = ran.queue; answered = ran.answered; moves = ran.moves })
 
-pub asks-on : (g : Geometry) (m : Map) (v : Volume) (e : FileEntry) → IsLaid g m v → Asks g m e → RunsOn g v e
+pub asks-on : (g : Geometry) (m : Map) (v : Volume) (e : FileEntry) → IsLaid g m v → RanUndrawn g m e → RunsOn g v e
 asks-on g m v e laid asks = ran-on g m v e laid asks.ran
 
 does-laid : (g : Geometry) (m : Map) (v : Volume) (e : FileEntry) → IsLaid g m v → Does g m e → IsLaid g (after m (change_of (tx_of e))) (volume_after g v e)
@@ -44,12 +44,12 @@ does-on g m v e laid does =
 quiet-moves : (g : Geometry) (v w : Volume) (e : FileEntry) → WritesNothing e → Moves g v w (written_by e) (freed_by e) → Moves g v w [] []
 quiet-moves g v w e quiet moves = subst (λ (fs : List ℕ). Moves g v w [] fs) quiet.frees (subst (λ (ws : List Write). Moves g v w ws (freed_by e)) quiet.writes moves)
 
-pub stays-on-map : (g : Geometry) (m n : Map) (v : Volume) (e : FileEntry) → IsLaid g m v → Asks g m e → WritesNothing e → IsLaid g n (volume_after g v e) → StaysOn g v e
+pub stays-on-map : (g : Geometry) (m n : Map) (v : Volume) (e : FileEntry) → IsLaid g m v → RanUndrawn g m e → WritesNothing e → IsLaid g n (volume_after g v e) → StaysOn g v e
 stays-on-map g m n v e laid asks quiet there =
     let runs = asks-on g m v e laid asks in
     record { runs = runs; stays = moves-stay g m n v (volume_after g v e) laid there (quiet-moves g v (volume_after g v e) e quiet runs.moves) }
 
-pub stays-on : (g : Geometry) (m : Map) (v : Volume) (e : FileEntry) → IsLaid g m v → Asks g m e → WritesNothing e → All HasBytes e.requests → StaysOn g v e
+pub stays-on : (g : Geometry) (m : Map) (v : Volume) (e : FileEntry) → IsLaid g m v → RanUndrawn g m e → WritesNothing e → All HasBytes e.requests → StaysOn g v e
 stays-on g m v e laid asks quiet low =
     let there = sound-laid g (volume_after g v e) (group-sound g e.session v e.requests laid.sound asks.ran.queue low) in
     stays-on-map g m there.0 v e laid asks quiet there.1

@@ -10,8 +10,8 @@ use Rattle.mq_calls.specs.Asking.{IsFirstChange, refusal_at}
 use Rattle.mq_calls.specs.declared.answers.CallCause.TheVariants.{Drive, TooLarge}
 use Rattle.mq_calls.specs.declared.answers.Refusal.{Refusal}
 use Rattle.mq_layout.specs.Names.{is_name}
-use Rattle.mq_legal.proofs.Moving.{sound-writes, writes-few}
-use Rattle.mq_legal.proofs.Starting.{run-ends}
+use Rattle.mq_legal.proofs.LegalMoving.{sound-writes, writes-few}
+use Rattle.mq_legal.proofs.CutsStarting.{run-ends}
 use Rattle.mq_legal.specs.Answers.{AreAnswered, AreCaused, IsAcknowledged, IsCaused, IsLarge, IsOf, IsPrefixAnswered, IsRefusedFor, group_told, Names as NamesLine, number_in}
 use Rattle.mq_legal.specs.Cuts.{IsClean, IsCut, IsRung}
 use Rattle.mq_legal.specs.Groups.{IsGroup}
@@ -23,8 +23,8 @@ use Rattle.mq_script.specs.Scripts.{Script}
 use Rattle.mq_script.specs.declared.group.End.TheVariants.{Ask, Fsync}
 use Rattle.mq_side.specs.declared.answers.Cause.TheVariants.{Failed, Stopped}
 use Rattle.mq_side.specs.declared.answers.Why.{Why}
-use Rattle.mq_tree.proofs.Empties.{empty-sound}
-use Rattle.mq_tree.proofs.KeepSteps.{group-sound}
+use Rattle.mq_tree.proofs.Empty.{empty-sound}
+use Rattle.mq_tree.proofs.KeptSteps.{group-sound}
 use Rattle.mq_tree.specs.Empty.{empty_volume}
 use Rattle.mq_tree.specs.Kept.{HasBytes}
 use Rattle.mq_tree.specs.Requests.{after_group, replies, step}

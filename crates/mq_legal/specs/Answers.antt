@@ -140,7 +140,7 @@ IsCause g scripts v base lines reached t (Changes index) = IsChanging scripts t 
 IsCause g scripts v base lines reached t (Drive cause) = IsPortCause g lines reached cause
 IsCause g scripts v base lines reached t cause = Unit {0}
 
--- `ask` is refused for lack of memory, and for a request that may change something
+-- `ask` is refused because memory ran out, and for a request that may change something
 abbrev pub MayRefuseAsk : CallCause → Type 0
 MayRefuseAsk OutOfMemory = Unit {0}
 MayRefuseAsk (Changes index) = Unit {0}

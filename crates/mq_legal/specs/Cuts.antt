@@ -9,7 +9,7 @@ use Rattle.mq_blocks.specs.Machine.{Map}
 use Rattle.mq_blocks.specs.declared.geometry.Geometry.{Geometry}
 use Rattle.mq_legal.specs.Answers.{IsAcknowledged, IsOf, is_good}
 use Rattle.mq_legal.specs.Legal.{Writes, newest, next, volume_at}
-use Rattle.mq_recover.specs.Recovery.{IsRead}
+use Rattle.mq_recover.specs.Recovery.{IsReadPrefix}
 use Rattle.mq_report.specs.Lines.{Line}
 use Rattle.mq_report.specs.declared.line.Told.{Told}
 use Rattle.mq_script.specs.Scripts.{Script}
@@ -26,7 +26,7 @@ pub record AreHomeContents (g : Geometry) (i : Shown) (ds : List Descriptor) (st
 -- recovery of the image gives this base, and leaves this volume on the home blocks
 pub record Starts (g : Geometry) (i : Shown) (base : ℕ) (v : Volume) : Type 0 where
   pub ds : List Descriptor
-  pub read : IsRead g i ds base
+  pub read : IsReadPrefix g i ds base
   pub stored : List (Option (List ℕ))
   pub standing : AreHomeContents g i ds stored
   pub laid : IsLaid g (map_of g stored) v
@@ -45,7 +45,7 @@ pub record ShowsVolume (g : Geometry) (i : Shown) (ds : List Descriptor) (v : Vo
 pub record IsCut (g : Geometry) (scripts : List Script) (v : Volume) (base : ℕ) (lines : List Line) (answers : List Told) (i : Shown) (r : ℕ) : Type 0 where
   pub ds : List Descriptor
   pub top : ℕ
-  pub read : IsRead g i ds top
+  pub read : IsReadPrefix g i ds top
   pub reaches : r ≡ i.base + length ds
   pub least : base ≤ r
   pub most : r ≤ newest base lines
@@ -92,5 +92,5 @@ pub record IsRung (g : Geometry) (scripts : List Script) (v : Volume) (lines : L
 -- doorbell.
 pub record IsClean (g : Geometry) (i : Shown) (n : ℕ) : Type 0 where
   pub base_is : i.base ≡ n
-  pub read : IsRead g i [] n
+  pub read : IsReadPrefix g i [] n
   pub heads : (q : ℕ) → q < queues_of g → i.head q ≡ i.doorbell q

@@ -5,7 +5,7 @@ use Rattle.mq_blocks.specs.Geometry.{queues_of, write_limit}
 use Rattle.mq_blocks.specs.Machine.{Map, after}
 use Rattle.mq_blocks.specs.declared.geometry.Geometry.{Geometry}
 use Rattle.mq_exec.specs.Moves.{Moves}
-use Rattle.mq_files.specs.Entries.{Asks, Does, freed_by, tx_of, volume_after, written_by}
+use Rattle.mq_files.specs.Entries.{RanUndrawn, Does, freed_by, tx_of, volume_after, written_by}
 use Rattle.mq_files.specs.declared.entry.FileEntry.{FileEntry}
 use Rattle.mq_ledger.specs.History.{change_of}
 use Rattle.mq_legal.specs.Groups.{IsGroup, group_at}
@@ -83,7 +83,7 @@ pub record IsReadOf (g : Geometry) (scripts : List Script) (m : Map) (n : ℕ) (
   pub commit : l.commit ≡ false
   pub number : l.number ≡ n
   pub tells : TellsOf scripts l e
-  pub asks : Asks g m e
+  pub asks : RanUndrawn g m e
   pub quiet : WritesNothing e
 
 -- The lines, from this map and number on: the commits of the entries, one after another, and between them the reads.

@@ -6,7 +6,7 @@ use Rattle.mq_blocks.specs.Geometry.{homes_of}
 use Rattle.mq_blocks.specs.Journal.{Shown, number_limit, stands}
 use Rattle.mq_blocks.specs.Machine.{Map}
 use Rattle.mq_blocks.specs.declared.geometry.Geometry.{Geometry}
-use Rattle.mq_files.specs.Entries.{Asks, volume_after}
+use Rattle.mq_files.specs.Entries.{RanUndrawn, volume_after}
 use Rattle.mq_files.specs.Group.{file_group}
 use Rattle.mq_files.specs.declared.entry.FileEntry.{FileEntry}
 use Rattle.mq_ledger.specs.History as ledger
@@ -42,7 +42,7 @@ VolumesHaveOneMap =
     → (b : ℕ)
     → m b ≡ n b
 
--- also where the map is the same block by block
+-- the same if the maps only agree block by block
 abbrev pub MapsHaveOneVolume : Type 0
 MapsHaveOneVolume =
     (g : Geometry) (m n : Map) (v w : Volume)
@@ -146,7 +146,7 @@ abbrev pub EntriesAskOnTheVolume : Type 0
 EntriesAskOnTheVolume =
     (g : Geometry) (m : Map) (v : Volume) (e : FileEntry)
     → IsLaid g m v
-    → Asks g m e
+    → RanUndrawn g m e
     → RunsOn g v e
 
 -- and left it as it was where it neither writes nor frees, and what its requests write are bytes
@@ -154,7 +154,7 @@ abbrev pub QuietEntriesStay : Type 0
 QuietEntriesStay =
     (g : Geometry) (m : Map) (v : Volume) (e : FileEntry)
     → IsLaid g m v
-    → Asks g m e
+    → RanUndrawn g m e
     → WritesNothing e
     → All HasBytes e.requests
     → StaysOn g v e
@@ -164,7 +164,7 @@ abbrev pub QuietEntriesStayOnMaps : Type 0
 QuietEntriesStayOnMaps =
     (g : Geometry) (m n : Map) (v : Volume) (e : FileEntry)
     → IsLaid g m v
-    → Asks g m e
+    → RanUndrawn g m e
     → WritesNothing e
     → IsLaid g n (volume_after g v e)
     → StaysOn g v e
@@ -228,7 +228,7 @@ EachRunHasACut =
     → ((n : ℕ) → IsAcknowledged scripts answers n → n ≤ newest base lines)
     → (i : Shown) × IsCut g scripts v base lines answers i (newest base lines) × IsClean g i (newest base lines) × ((q : ℕ) → i.doorbell q ≡ bells q)
 
--- ---- a small run, and what may not be told of it
+-- ---- a small run, and wrong reports of it
 
 abbrev pub TheSmallRunIsLegal : Type 0
 TheSmallRunIsLegal = IsLegal two small_scripts (empty_volume two) 0 small_lines
@@ -332,7 +332,7 @@ module _ {Q R : Type 0} (values : Values Q R FileEntry) where
   abbrev pub LogsDo : Type 0
   LogsDo =
       (g : Geometry) (start : Map) (base : ℕ) (es : List FileEntry)
-      → rule.IsLegal values file_group g start base es
+      → rule.IsLegalHistory values file_group g start base es
       → AllDo g start (reverse es)
 
   -- and lead to the map after its transactions

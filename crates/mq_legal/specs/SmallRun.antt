@@ -1,5 +1,5 @@
--- A run of one group that makes a directory and a file, on an empty file system of two queues, and what might be told of
--- it.
+-- A run of one group that makes a directory and a file, on an empty file system of two queues, and
+-- wrong reports of it.
 use lib.Dec.{lit≤}
 use Rattle.std.specs.Prelude.{ℕ, true, false, List, [], ◌∷◌, None, Some, Ok, Err, codes}
 use Rattle.mq_blocks.specs.Geometry.{write_limit}
@@ -59,7 +59,7 @@ small_told = record { session = 0; group = 0; end = Fsync; answer = Ok 1 }
 abbrev pub small_answers : List Told
 small_answers = small_told ∷ []
 
--- ---- what may not be told
+-- ---- wrong reports
 
 -- the commit as a read
 abbrev pub as_read : Line

@@ -19,7 +19,7 @@ ghost use Rattle.mq_legal.specs.Laws.{SpelledScriptsAreOfBytes, LogsDo, LogsLead
 use mq_files::FileEntry;
 use mq_rules::JournalValues;
 
-/// A sound volume lies on a map, and on one alone, on which no other volume lies. Where a volume stands on
+/// A sound volume lies on exactly one map, and no other volume lies on that map. Where a volume stands on
 /// an image, each block of each of its maps does.
 pub fn a_volume_has_one_map()
     ensures some { SoundVolumesLie }
@@ -28,14 +28,15 @@ pub fn a_volume_has_one_map()
     ensures stands { StandingVolumesStand }
 {}
 
-/// From one sound volume to another so many blocks are written, and no more than there are home blocks.
+/// A change from one sound volume to another writes a definite number of blocks, which is at most the
+/// number of home blocks.
 pub fn a_change_has_a_count()
     ensures some { ChangesHaveACount }
     ensures few { ChangesAreOfHomes }
 {}
 
 /// A run has a commit for each number from the base on to the last, and no other numbers; they never fall
-/// along the lines. A commit that was answered well has moved the doorbell of its queue.
+/// along the lines. A commit that was answered `ok` has moved the doorbell of its queue.
 pub fn each_number_has_its_commit()
     ensures commit { EachNumberHasACommit }
     ensures within { LinesHaveNumbersWithin }
@@ -44,8 +45,8 @@ pub fn each_number_has_its_commit()
 {}
 
 /// An image starts a run with one base and one volume. What a run leaves starts the next one with the
-/// volume for which the cut stands, and with no greater base than the last number. There are such images:
-/// each sound volume starts a run, and each run that ends in one has a clean cut.
+/// volume for which the cut stands, and with a base not above the last number. There are such images: each
+/// sound volume starts a run, and each run that ends in one has a clean cut.
 pub fn a_run_goes_on()
     ensures once { ImagesStartOnce }
     ensures next { CutsStartTheNextRun }
@@ -74,7 +75,7 @@ pub fn a_log_is_a_history<J: JournalValues<Entry = FileEntry>>()
     ensures leads { LogsLead J.values }
 {}
 
-/// What scripts write that texts spell are bytes.
+/// What the scripts that are spelled by texts write are bytes.
 pub fn spelled_scripts_are_of_bytes()
     ensures { SpelledScriptsAreOfBytes }
 {}

@@ -61,7 +61,7 @@ impl Completion {
     }
 }
 
-/// What the completion of a command says.
+/// The content of the completion of a command.
 #[derive(Clone, Copy, Debug, PartialEq, Eq)]
 pub struct Ended {
     /// The submission queue's head.
@@ -95,7 +95,7 @@ pub fn completion_of(ended: &Ended) -> Completion
 }
 
 /// The status of a completed command, which is 0 for success.
-#[tactic(auto, using(crate::proofs::Readings::status_is))]
+#[tactic(auto, using(crate::proofs::FieldReadings::status_is))]
 pub fn status_of(completion: &Completion) -> u16
     ensures { result ≡ status_of completion.now }
 {

@@ -48,7 +48,7 @@ impl Entry {
     }
 
     /// The number of the transaction, of dwords 2 and 3.
-    #[tactic(auto, using(crate::proofs::Readings::whole), unfolding(crate::specs::Entry::tx_of, crate::specs::Field::get_field, crate::specs::Field::bits_of))]
+    #[tactic(auto, using(crate::proofs::FieldReadings::whole), unfolding(crate::specs::Entry::tx_of, crate::specs::Field::get_field, crate::specs::Field::bits_of))]
     pub fn tx(&self) -> u64
         ensures { result ≡ tx_of self.now }
     {
@@ -56,7 +56,7 @@ impl Entry {
     }
 
     /// The starting logical block, of dwords 10 and 11.
-    #[tactic(auto, using(crate::proofs::Readings::whole), unfolding(crate::specs::Entry::lba_of, crate::specs::Field::get_field, crate::specs::Field::bits_of))]
+    #[tactic(auto, using(crate::proofs::FieldReadings::whole), unfolding(crate::specs::Entry::lba_of, crate::specs::Field::get_field, crate::specs::Field::bits_of))]
     pub fn lba(&self) -> u64
         ensures { result ≡ lba_of self.now }
     {

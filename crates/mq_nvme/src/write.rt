@@ -30,14 +30,14 @@ pub struct WriteReq {
     pub commit: bool,
 }
 
-/// Why an entry is no such write, by what stands there instead.
+/// Why an entry is no such write, with what was found instead.
 #[derive(Clone, Copy, Debug, PartialEq, Eq)]
 pub enum EntryRefusal {
     Opcode { found: u32 },
     Namespace { found: u32 },
     /// The zero-based number of logical blocks.
     Count { found: u32 },
-    /// A dword of which some other bit is wrong, and its value.
+    /// A dword in which some other bit is wrong, and its value.
     Flags { dword: u32, value: u32 },
 }
 
@@ -82,7 +82,7 @@ pub fn read_write(entry: &Entry) -> Result<WriteReq, EntryRefusal>
 }
 
 // The request of an entry that is not refused.
-#[tactic(auto, using(crate::proofs::Readings::slot_is), unfolding(crate::specs::Entry::request_of))]
+#[tactic(auto, using(crate::proofs::FieldReadings::slot_is), unfolding(crate::specs::Entry::request_of))]
 fn request(entry: &Entry) -> WriteReq
     requires { refusal_of entry.now ≡ None }
     ensures fields { result ≡ request_of entry.now }
@@ -110,7 +110,7 @@ fn refusal(entry: &Entry) -> Option<EntryRefusal>
 }
 
 // The refusal of what isn't a write of one logical block to namespace 1.
-#[tactic(auto, using(crate::proofs::Readings::block_fields), unfolding(crate::specs::Entry::block_rules))]
+#[tactic(auto, using(crate::proofs::FieldReadings::block_fields), unfolding(crate::specs::Entry::block_rules))]
 fn block_refusal(entry: &Entry) -> Option<EntryRefusal>
     ensures { result ≡ first_refusal block_rules entry.now }
 {
@@ -138,7 +138,7 @@ fn is_plain(entry: &Entry) -> bool
 }
 
 // The refusal by the rest of the dwords that all commands have.
-#[tactic(auto, using(crate::proofs::Readings::slot_is), unfolding(crate::specs::Entry::common_rules))]
+#[tactic(auto, using(crate::proofs::FieldReadings::slot_is), unfolding(crate::specs::Entry::common_rules))]
 fn common_refusal(entry: &Entry) -> Option<EntryRefusal>
     ensures { result ≡ first_refusal common_rules entry.now }
 {

@@ -27,7 +27,7 @@ fn take_copy(taken: &mut u64, alloc: Global, bytes: &[u8]) -> Result<Vec<u8>, Lo
     }
 }
 
-/// Files in memory, of which chosen calls fail. To load an absent name fails too.
+/// Files in memory, of which chosen calls fail. A load of an absent name fails, too.
 #[derive(Drop)]
 pub struct MemFiles {
     alloc: Global,
@@ -37,8 +37,8 @@ pub struct MemFiles {
 }
 
 impl MemFiles {
-    /// Files with these names and their bytes; of two with one name, the first counts. `fail`
-    /// lists the calls that are to fail, counted from 1 over loads and saves alike.
+    /// Files with these names and their bytes; of two with one name, the first counts. `fail` lists
+    /// the calls that have to fail, counted from 1 over loads and saves alike.
     pub fn new(alloc: Global, names: Vec<(String, Vec<u8>)>, fail: Vec<u64>) -> MemFiles
         ensures contents { (⟦<MemFiles as Files>⟧.state result).contents ≡ Some (held_in names.items) }
         ensures fail { result.schedule.fail ≡ fail }

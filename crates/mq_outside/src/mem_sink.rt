@@ -30,7 +30,7 @@ pub struct MemSink {
 }
 
 impl MemSink {
-    /// An empty sink. `fail` lists the puts that are to fail, counted from 1.
+    /// An empty sink. `fail` lists the puts that have to fail, counted from 1.
     pub fn new(alloc: Global, fail: Vec<u64>) -> MemSink
         ensures written { (⟦<MemSink as Sink>⟧.state result).contents ≡ Some [] }
         ensures fail { result.schedule.fail ≡ fail }

@@ -94,7 +94,7 @@ fn write_whole<W: Write>(file: &mut W, bytes: &[u8]) -> Result<(), SaveRefusal>
     Ok(())
 }
 
-// Writes all the bytes to a writer that was to be made, and hands it back.
+// Writes all the bytes to a writer, if it could be made, and gives it back.
 fn write_made<W: Write + Drop>(made: io::Result<W>, bytes: &[u8]) -> Result<W, SaveRefusal>
     ensures refused { IsErr made → IsErr result }
     ensures all { IfOk made (λ old. IfOk result
@@ -110,7 +110,7 @@ fn write_made<W: Write + Drop>(made: io::Result<W>, bytes: &[u8]) -> Result<W, S
     }
 }
 
-// Makes the file with this name hold the bytes, and hands it back. On success a file was made, and
+// Makes the file with this name hold the bytes, and gives it back. On success a file was made, and
 // all the bytes were written to it.
 fn write_file<R: rt::Files>(rt: &R, name: &str, bytes: &[u8]) -> Result<R::File, SaveRefusal>
     ensures all { IfOk result (λ new. (made : R.File) × Appends (R.File.Write.contents made)
@@ -201,7 +201,7 @@ fn write_some<W: Write>(writer: &mut W, bytes: &[u8]) -> Result<usize, PutRefusa
     Err(PutRefusal::Failed)
 }
 
-/// A writer of std, as standard output. A write that takes nothing is a fault.
+/// A writer of std, as standard output. A write that accepts no byte is a fault.
 #[derive(Drop)]
 pub struct RealSink<W: Write> {
     writer: W,

@@ -1,7 +1,7 @@
 // What a command asks of files and of its output.
 use std::alloc::Global;
 
-/// The most bytes that one load gives.
+/// The greatest number of bytes that one load gives.
 pub const LOAD_LIMIT: u64 = 2_147_483_648;
 
 /// Why a load gave no bytes.
@@ -26,7 +26,7 @@ pub enum PutRefusal {
     OutOfMemory,
 }
 
-/// Files by name. A count stands still at `u64::MAX`.
+/// Files by name. A count that has reached `u64::MAX` stays there.
 pub trait Files {
     ghost use Rattle.std.specs.Prelude.{◌≡◌, ◌≤◌, IfOk, MatchResult, length};
     ghost use Rattle.mq_outside.specs.Outside.{FilesState, Holds, LoadCause, LoadRefused, LoadTakes, SaveCause, Saves};
@@ -50,7 +50,7 @@ pub trait Files {
         ensures takes { (state self.new).taken ≡ (state self.old).taken };
 }
 
-/// Output, taken a piece at a time. A count stands still at `u64::MAX`.
+/// Output, taken a piece at a time. A count that has reached `u64::MAX` stays there.
 pub trait Sink {
     ghost use Rattle.std.specs.Prelude.{◌≡◌, ◌<◌, ◌≤◌, IfOk, MatchResult, length, take};
     ghost use Rattle.mq_outside.specs.Outside.{PutCause, SinkState, appended};
@@ -58,7 +58,7 @@ pub trait Sink {
     // The bytes written so far, and how many calls failed.
     ghost state: { Self → SinkState };
 
-    /// Appends the first bytes of the piece, and answers how many.
+    /// Appends the first bytes of the piece, and returns how many.
     fn put(&mut self, bytes: &[u8]) -> Result<usize, PutRefusal>
         requires { 0 < length bytes.now }
         ensures some { IfOk result (λ n. (1 ≤ n) × (n ≤ length bytes.now)) }

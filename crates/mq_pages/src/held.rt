@@ -9,7 +9,8 @@ use mq_blocks::{BlockNo, OutOfMemory};
 use std::alloc::Global;
 use std::marker::Model;
 
-/// Cells that were lifted out of the shared table, by rising block. Room for them is taken once.
+/// Cells that were taken out of the shared table, in rising order of blocks. Room for them is
+/// allocated once.
 #[derive(Drop)]
 pub struct Held {
     cells: Vec<(BlockNo, PageCell)>,
@@ -28,7 +29,7 @@ impl Model for Held {
 }
 
 impl Held {
-    /// Nothing held, with room for so many cells.
+    /// An empty list, with room for `room` cells.
     pub fn new(alloc: Global, room: u32) -> Result<Held, OutOfMemory>
         ensures empty { IfOk result (λ h. h.cells ≡ []) }
         ensures room { IfOk result (λ h. h.room ≡ room) }

@@ -14,7 +14,7 @@ pub struct PageCell {
     pub home_version: TxNo,
 }
 
-/// Whether a block has metadata of the file system, or the bytes of a file.
+/// Whether a block holds metadata of the file system or the bytes of a file.
 #[derive(Clone, Copy, Debug, PartialEq, Eq, Hash)]
 pub enum Kind {
     Meta,

@@ -6,7 +6,7 @@ use crate::{ShadowPage, Write};
 use mq_blocks::OutOfMemory;
 use std::alloc::Global;
 
-/// Copies of all these writes, in their order. Where memory is wanting, none is left.
+/// Copies of all these writes, in their order. If memory runs out, no copy is left.
 pub fn shadow(alloc: Global, writes: &[Write]) -> Result<Vec<ShadowPage>, OutOfMemory>
     ensures { IfOk result (λ pages. pages.items ≡ map shadow_of writes.now) }
 {

@@ -1,8 +1,8 @@
-pub mod Completing
-pub mod Counting
-pub mod Fitting
-pub mod Holding
-pub mod Owning
-pub mod Staging
-pub mod Walking
-pub mod Writing
+pub mod Completion
+pub mod QueueCounting
+pub mod QueueFitting
+pub mod QueueOwning
+pub mod Ring
+pub mod RungsWalking
+pub mod Runs
+pub mod Written

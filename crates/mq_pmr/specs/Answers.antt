@@ -2,7 +2,7 @@
 use Rattle.std.specs.Prelude.{◌≡◌, ◌≢◌, ℕ, ◌%◌, List, [], Result, Ok, Err, Some, slice_get}
 use Rattle.mq_blocks.specs.Drive.{PortState, after_done, after_failed, depth}
 use Rattle.mq_blocks.specs.declared.command.Command.{Command}
-use Rattle.mq_drive.specs.Steps.{Fault, PowerOff, CommandError, Gains}
+use Rattle.mq_drive.specs.Steps.{PortFault, PowerOff, CommandError, Gains}
 use Rattle.mq_drive.specs.declared.port.Off.{Off}
 use Rattle.mq_pmr.specs.declared.took.Took.{Took}
 use Rattle.mq_pmr.specs.declared.took.Took.TheVariants.{Idle, One, Bad}
@@ -23,7 +23,7 @@ pub record EndsBadly (old : PortState) (tx : ℕ) (new : PortState) : Type 0 whe
   pub tx_is : tx ≡ command.tx
   pub is : new ≡ after_failed old at command
 
-abbrev pub TookGives : PortState → List Fault → Result Took Off → PortState → List Fault → Type 0
+abbrev pub TookGives : PortState → List PortFault → Result Took Off → PortState → List PortFault → Type 0
 TookGives old faults (Ok Idle) new more = (old.posted ≡ []) × (new ≡ old) × (more ≡ faults)
 TookGives old faults (Ok (One slot)) new more = EndsWell old slot new × (more ≡ faults)
 TookGives old faults (Ok (Bad tx status)) new more = EndsBadly old tx new × (status ≢ 0) × Gains (CommandError tx status) faults more

@@ -37,6 +37,6 @@ after_some s tx k items = record s {
 }
 
 -- the port has the blocks to which the items go
-abbrev pub AreOwn : PortState → Items → Type 0
-AreOwn s [] = Unit {0}
-AreOwn s (i ∷ is) = Owns s i.0 × AreOwn s is
+abbrev pub OwnsAll : PortState → Items → Type 0
+OwnsAll s [] = Unit {0}
+OwnsAll s (i ∷ is) = Owns s i.0 × OwnsAll s is

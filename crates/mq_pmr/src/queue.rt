@@ -11,7 +11,7 @@ ghost use Rattle.mq_nvme.specs.Entry.{entry_of};
 ghost use Rattle.mq_pmr.specs.Answers.{TookGives};
 ghost use Rattle.mq_pmr.specs.Queue.{Fits, IsRingOf, after_head};
 ghost use Rattle.mq_pmr.specs.Rungs.{AreEnds, AreEnds-prop, is_clear, last_leading, left_after};
-ghost use Rattle.mq_pmr.specs.Runs.{AreOwn, after_some};
+ghost use Rattle.mq_pmr.specs.Runs.{OwnsAll, after_some};
 ghost use Rattle.mq_pmr.specs.Ring.{IsHeld, AreWhole, AreWhole-prop, AreOf, AreCertain, KeepsBefore};
 ghost use Rattle.mq_pmr.specs.Written.{IsWritten};
 
@@ -69,7 +69,7 @@ pub struct PmrQueue<P: Port> {
     ghost reserved: { usable_depth ≤ deque_capacity rung },
 }
 
-/// Takes the first item out of items that stand in reverse.
+/// Removes the first item from a list in reverse order.
 fn take_first(reversed: &mut Vec<(Lba, Block)>) -> (Lba, Block)
     requires { 0 < length reversed.old.items }
     ensures { reverse reversed.old.items ≡ result ∷ reverse reversed.new.items }
@@ -82,7 +82,7 @@ fn take_first(reversed: &mut Vec<(Lba, Block)>) -> (Lba, Block)
 
 impl<P: Port> PmrQueue<P> {
     /// The queue of a port on which nothing is under way. Its records take memory, and no other call
-    /// does. A refusal hands the port back as it was.
+    /// does. A refusal gives the port back as it was.
     pub fn open(
         alloc: Global,
         port: P,
@@ -135,14 +135,14 @@ impl<P: Port> PmrQueue<P> {
         self.geometry
     }
 
-    /// The queue of the drive that it is.
+    /// The number of this queue on the drive.
     pub fn queue(&self) -> QueueNo
         ensures { result ≡ self.now.queue }
     {
         self.queue
     }
 
-    /// How many entries may be staged.
+    /// The number of further entries that may be staged.
     pub fn room(&self) -> u32
         ensures { result ≡ usable_depth - (staged_end (P.state self.now.port) - (P.state self.now.port).head) }
     {
@@ -204,7 +204,7 @@ impl<P: Port> PmrQueue<P> {
             (staged_end (P.state self.old.port) - (P.state self.old.port).head) }
         requires end { staged_end (P.state self.old.port) + length items.old.items ≤ number_limit }
         requires empty { (P.state self.old.port).pending ≡ [] }
-        requires own { AreOwn (P.state self.old.port) items.old.items }
+        requires own { OwnsAll (P.state self.old.port) items.old.items }
         ensures ok { OnOk result (P.state self.new.port ≡ after_some (P.state self.old.port) tx
             (length items.old.items) items.old.items) }
         ensures off { OnErr result ((k : ℕ)
@@ -237,7 +237,7 @@ impl<P: Port> PmrQueue<P> {
             (staged_end (P.state self.old.port) - (P.state self.old.port).head) }
         requires end { staged_end (P.state self.old.port) + length items.old.items ≤ number_limit }
         requires empty { (P.state self.old.port).pending ≡ [] }
-        requires own { AreOwn (P.state self.old.port) (reverse items.old.items) }
+        requires own { OwnsAll (P.state self.old.port) (reverse items.old.items) }
         ensures ok { OnOk result (P.state self.new.port ≡ after_some (P.state self.old.port) tx
             (length items.old.items) (reverse items.old.items)) }
         ensures off { OnErr result ((k : ℕ)
@@ -334,9 +334,9 @@ impl<P: Port> PmrQueue<P> {
         }
     }
 
-    /// Stores the head past each leading transaction all of whose commands have ended with success,
-    /// and flushes it. Answers the number of the last transaction before the head that was rung since
-    /// the queue was opened, or 0. Where the flushed head stands there already there is no event.
+    /// Stores the head past each leading transaction all of whose commands have ended with success, and
+    /// flushes it. Returns the number of the last transaction before the head that was rung since the
+    /// queue was opened, or 0. If the flushed head is there already, no event happens.
     pub fn advance_head(&mut self) -> Result<TxNo, Off>
         ensures done { self.new.done ≡ last_leading
             (is_clear (P.state self.old.port)) self.old.done self.old.rung.items }

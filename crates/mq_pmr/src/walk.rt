@@ -11,7 +11,7 @@ use crate::slots::SlotRecord;
 use mq_blocks::RING_DEPTH;
 use std::collections::VecDeque;
 
-/// The entry at a count was staged.
+/// Notes that the entry at a count was staged.
 pub fn note_staged(slots: &mut Vec<SlotRecord>, at: u64, tx: u64)
     requires { length slots.old.items ≡ depth }
     ensures { slots.new.items ≡ slice_set slots.old.items (at % depth) (record { tx = tx; done = false }) }
@@ -19,7 +19,7 @@ pub fn note_staged(slots: &mut Vec<SlotRecord>, at: u64, tx: u64)
     slots[(at % RING_DEPTH as u64) as usize] = SlotRecord { tx, done: false };
 }
 
-/// The command in a slot has ended with success.
+/// Notes that the command in a slot has ended with success.
 pub fn note_done(slots: &mut Vec<SlotRecord>, slot: usize)
     requires ring { length slots.old.items ≡ depth }
     requires slot { slot < depth }
@@ -39,7 +39,7 @@ pub fn tx_of_slot(slots: &Vec<SlotRecord>, slot: usize) -> u64
     slots[slot].tx
 }
 
-/// Adds a transaction where there is room.
+/// Adds a transaction, for which there is room.
 pub fn add_rung(rung: &mut VecDeque<Rung>, next: Rung)
     requires { deque_len rung.old < deque_capacity rung.old }
     ensures items { rung.new.items ≡ rung.old.items ++ next ∷ [] }
@@ -51,7 +51,7 @@ pub fn add_rung(rung: &mut VecDeque<Rung>, next: Rung)
     }
 }
 
-/// Passes the done entries up to a count, and answers whether all of them are done.
+/// Moves past the done entries up to a count, and returns whether all of them are done.
 pub fn pass_to(slots: &Vec<SlotRecord>, passed: &mut u64, end: u64) -> bool
     requires { length slots.now.items ≡ depth }
     ensures up { passed.old ≤ passed.new }
@@ -69,7 +69,7 @@ pub fn pass_to(slots: &Vec<SlotRecord>, passed: &mut u64, end: u64) -> bool
     true
 }
 
-/// Passes the transactions that lead and are done, and notes the last of them.
+/// Moves past the leading transactions that are done, and notes the last of them.
 pub fn pass_done(
     slots: &Vec<SlotRecord>,
     passed: &mut u64,

@@ -11,7 +11,7 @@ use Rattle.std.proofs.lemmas.List.Sorted.{IsPermutation-keeps}
 use Rattle.std.proofs.lemmas.Option.{same_Some, get_or_from_slice_get, slice_get_within}
 use Rattle.mq_run.specs.Lines.{joined}
 use Rattle.mq_turns.specs.Lists.{Each, times}
-use Rattle.mq_turns.proofs.Each.{miss}
+use Rattle.mq_turns.proofs.Lists.{miss}
 
 -- where a swap of a and b took the element at m from
 abbrev From : ℕ → ℕ → ℕ → ℕ → Type 0

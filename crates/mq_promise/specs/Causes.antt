@@ -51,9 +51,20 @@ IsOfCommand cause = ⊥
 abbrev pub IsPoweredOff : RunOptions → ImageRun → Type 0
 IsPoweredOff o r = (k : ℕ) × (o.cut ≡ Some k) × (r.last ≡ Cut k)
 
--- a command was to fail, and was executed
-abbrev pub HasFailedCommand : RunOptions → ImageRun → Type 0
-HasFailedCommand o r = (f : Failing) × (o.fail ≡ Some f) × (r.failed ≡ true)
+-- a commit among the lines has this number, and is of the session of this queue
+abbrev pub IsQueueCommit : List Line → (n queue : ℕ) → Type 0
+IsQueueCommit lines n queue = (line : Line) × Contains lines line × (line.commit ≡ true) × (line.number ≡ n) × (line.session ≡ queue)
+
+-- The port with this number is that of the queue of the transaction that the cause names. For a home write no port is
+-- named.
+abbrev pub IsPortOfCause : List Line → (port : ℕ) → Cause → Type 0
+IsPortOfCause lines port (Failed tx status) = IsQueueCommit lines tx port
+IsPortOfCause lines port (Stopped tx why) = IsQueueCommit lines tx port
+IsPortOfCause lines port cause = Unit {0}
+
+-- a command had to fail, on the port of the cause's transaction if it names one, and was executed
+abbrev pub HasFailedCommand : RunOptions → ImageRun → Cause → Type 0
+HasFailedCommand o r cause = (f : Failing) × (o.fail ≡ Some f) × (r.failed ≡ true) × IsPortOfCause r.entries.items f.port cause
 
 -- the ports of the drive at the end of a run, before the cut of their power
 abbrev pub ports_of : {x : DriveImage} {scripts : List Script} {o : RunOptions} {r : ImageRun} → IsRunOf x scripts o r → List EmuPort
@@ -68,7 +79,7 @@ HaveCountedAll ports = (p : EmuPort) × Contains ports p × (2 ^ 64 - 1 ≤ leng
 pub record AreBacked (o : RunOptions) (r : ImageRun) (ports : List EmuPort) : Type 0 where
   pub power : (t : Told) (cause : Cause) → Contains r.answers.items t → IsRefusedBy t cause → IsOfPower cause → IsPoweredOff o r
   pub command : (t : Told) (cause : Cause) → Contains r.answers.items t → IsRefusedBy t cause → IsOfCommand cause
-      → HasFailedCommand o r ⊎ HaveCountedAll ports
+      → HasFailedCommand o r cause ⊎ HaveCountedAll ports
 
 abbrev pub RunsAreBacked : Type 0
 RunsAreBacked = (x : DriveImage) (scripts : List Script) (o : RunOptions) (r : ImageRun) → (run : IsRunOf x scripts o r) → AreOfBytes scripts → AreBacked o r (ports_of run)

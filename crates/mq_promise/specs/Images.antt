@@ -19,16 +19,18 @@ use Rattle.mq_report.specs.declared.line.Last.TheVariants.{Clean}
 use Rattle.mq_script.specs.Scripts.{Script}
 use Rattle.mq_tree.specs.Volume.{Volume}
 
--- Recovery of the old image gives the base and leaves a volume. The lines are a legal list from there on, and the answers
--- are those of its lines. The new image is a cut of this history: it is readable, reaches a number that is not below any
--- that `fsync` has answered, and stands for the volume there. Its file is one of an image, and whatever recovery of what is
--- read of the file leads to has this volume on its home blocks. Each doorbell has gone on by the entries of its queue's
--- commits in a prefix of the lines, which has each that was answered well. Each refusal has its cause in the scripts and
--- the history, as far as what the causes of ports say of the history holds: all of it holds without a cut, and with one
--- unless a port has as many faults as a count of 64 bits can say. A refusal for a drive's cause has it in what was asked
--- of the drive. Without a cut, and where no command failed, the run ended clean. With a cut the last line tells how many
--- events happened. Where the run was stopped at its end, the transaction that its last line names is undone, and the block
--- is one of the drive. Where it ended clean, the number that is told is the last one, and the image is clean.
+-- Recovery of the old image gives the base and leaves a volume. The lines are a legal list from there on,
+-- and the answers are those of its lines. The new image is a cut of this history: it is readable, reaches a
+-- number that is not below any that `fsync` has answered, and stands for the volume there. Its file is one
+-- of an image, and whatever recovery of what is read of the file leads to has this volume on its home
+-- blocks. Each doorbell has gone on by the entries of its queue's commits in a prefix of the lines, which
+-- has each that was answered `ok`. Each refusal has its cause in the scripts and the history, as far as
+-- what the causes of ports say of the history holds: all of it holds without a cut, and with one unless a
+-- port has as many faults as a count of 64 bits can say. A refusal for a drive's cause comes from what was
+-- asked of the drive. Without a cut, and if no command failed, the run ended clean. With a cut the last
+-- line gives the number of events that happened. If the run was stopped at its end, the transaction that
+-- its last line names is undone, and the block is one of the drive. If it ended clean, the number in the
+-- last line is the last one, and the image is clean.
 pub record KeepsPromise (x : DriveImage) (scripts : List Script) (o : RunOptions) (r : ImageRun) : Type 0 where
   pub volume : Volume
   pub starts : Starts x.geometry (view_of x) r.base volume

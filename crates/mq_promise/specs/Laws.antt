@@ -6,7 +6,7 @@ use Rattle.mq_blocks.specs.Drive.{PortImage, PortState}
 use Rattle.mq_blocks.specs.Geometry.{queues_of}
 use Rattle.mq_blocks.specs.Journal.{shown}
 use Rattle.mq_blocks.specs.declared.geometry.Geometry.{Geometry}
-use Rattle.mq_drive.specs.Steps.{Fault}
+use Rattle.mq_drive.specs.Steps.{PortFault}
 use Rattle.mq_drive.specs.declared.port.Port.{Ghosts}
 use Rattle.mq_drive.specs.declared.port.Ports.{Ports}
 use Rattle.mq_files.specs.Group.{file_group}
@@ -48,7 +48,7 @@ HavePortCauses g lines reached answers =
     → r.cause ≡ Drive cause
     → IsPortCause g lines reached cause
 
-module _ {P : Type 0} (G : Ghosts P) (state : P → PortState) (faults : P → List Fault) where
+module _ {P : Type 0} (G : Ghosts P) (state : P → PortState) (faults : P → List PortFault) where
   -- The lines of a run are a legal list from the base and the volume that lay on the home blocks at the opening, where the
   -- groups can be counted in 32 bits and the scripts write bytes.
   abbrev pub RunsAreLegal : Type 0

@@ -18,7 +18,7 @@ use Rattle.mq_ledger.specs.Written.{journal_entries}
 use Rattle.mq_recover.specs.Drives.{AreImages, DriveState, view_over}
 use Rattle.mq_recover.specs.Recovery.{IsStartDrive}
 use Rattle.mq_recover.specs.Refusals.{IsReadableImage}
-use Rattle.mq_recover.specs.Steps.{IsCutShort, IsDone}
+use Rattle.mq_recover.specs.Steps.{IsCutShort, HasRecovered}
 use Rattle.mq_recover.specs.declared.refusal.RecoverRefusal.{RecoverRefusal}
 use Rattle.mq_tree.specs.Laid.{IsLaid}
 use Rattle.mq_tree.specs.Volume.{Volume}
@@ -28,7 +28,7 @@ use Rattle.mq_tree.specs.Volume.{Volume}
 -- Recovery of a drive leads to this one: it is done at once; or the drive cuts it short, the power goes off, and recovery of
 -- an image that this leaves leads there.
 pub data RecoversTo (g : Geometry) (new : DriveState) : DriveState → Type 0 where
-  at_once : {old : DriveState} (prefix base : ℕ) → IsDone g old prefix base new → RecoversTo g new old
+  at_once : {old : DriveState} (prefix base : ℕ) → HasRecovered g old prefix base new → RecoversTo g new old
   again : {old : DriveState} (e : RecoverRefusal) (mid start : DriveState) → IsCutShort g e old mid
       → AreImages g mid (map image_of start.queues) (image_of start.root) → RecoversTo g new start → RecoversTo g new old
 

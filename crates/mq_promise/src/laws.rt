@@ -26,8 +26,8 @@ pub fn a_run_is_cut<P: Port>()
     ensures clean { FinishedEndsAreClean P.Port P.state P.faults }
 {}
 
-/// The doorbell of each queue has gone on by the entries of its commits in a prefix of the lines, which has every commit
-/// that was answered well.
+/// The doorbell of each queue has gone on by the entries of its commits in a prefix of the lines, which has
+/// every commit that was answered `ok`.
 pub fn a_run_is_rung<P: Port>()
     ensures { DoorbellsAreRung P.Port P.state P.faults }
 {}
@@ -38,7 +38,8 @@ pub fn a_refusal_is_caused<P: Port>()
     ensures { RefusalsAreCaused P.Port P.state P.faults }
 {}
 
-/// Each refusal of a run for a port's cause is backed by a port: what it has gained is behind the report.
+/// Each refusal of a run for a port's cause is backed by a port: a fault that it has gained is the cause of
+/// the report, or it has as many as a count of 64 bits can say.
 pub fn a_refusal_is_backed<P: Port>()
     ensures { RefusalsAreBacked P.Port P.state P.faults }
 {}
@@ -49,21 +50,23 @@ pub fn a_stopped_transaction_is_undone<P: Port>()
     ensures { StoppedTransactionsAreUndone P.Port P.state P.faults }
 {}
 
-/// A refusal of a run on an image for a drive's cause has it in what was asked of the drive: the power went off, where it was
-/// to go off after so many events and all of them happened; or the command failed that was to.
+/// A refusal of a run on an image for a drive's cause comes from what was asked of the drive: the power
+/// went off, since it had to go off after a number of events and all of them happened; or the command
+/// failed that had to fail, on the port of the queue whose transaction the refusal names, or a port has as
+/// many faults as a count of 64 bits can say.
 pub fn a_refusal_on_an_image_is_backed()
     ensures { RunsAreBacked }
 {}
 
-/// What each refusal of a run on an image for a port's cause says of the history holds, where the command that is to fail
-/// is none of the root's and the ports have fewer faults than a count of 64 bits can say.
+/// What each refusal of a run on an image for a port's cause says of the history holds, if the command that
+/// has to fail is none of the root's and the ports have fewer faults than a count of 64 bits can say.
 pub fn causes_of_ports_hold()
     ensures { PortCausesHold }
 {}
 
-/// A run on an image tells a legal list of commits and reads, from the volume and the base that recovery of the old image
-/// gives on, and the answers of its lines; and the new image is a cut of this history, with all that `fsync` has answered.
-/// Where it is told as clean, it is.
+/// A run on an image reports a legal list of commits and reads, from the volume and the base that recovery
+/// of the old image gives on, and the answers of its lines; and the new image is a cut of this history,
+/// with all that `fsync` has answered. If the report says that it is clean, it is.
 pub fn a_run_on_an_image_keeps_its_promise()
     ensures { RunsKeepTheirPromise }
 {}

@@ -5,10 +5,11 @@ use Rattle.mq_blocks.specs.Descriptor.{AreRising}
 use Rattle.mq_blocks.specs.Geometry.{homes_of, area_of}
 use Rattle.mq_blocks.specs.Machine.{Writes, or_kept}
 use Rattle.mq_blocks.specs.declared.geometry.Geometry.{Geometry}
+use Rattle.mq_blocks.proofs.DescriptorRising.{rising-lower}
 use Rattle.mq_recover.specs.Plans.{IsFoundIn, IsPlan}
 use Rattle.mq_recover.specs.Drives.{DriveState, view_over}
 use Rattle.mq_recover.specs.Recover.{content_of, IsCopyPlaceOf}
-use Rattle.mq_recover.specs.Recovery.{IsRead}
+use Rattle.mq_recover.specs.Recovery.{IsReadPrefix}
 use Rattle.mq_recover.specs.RecoverHomes.{writes_from, written}
 use Rattle.mq_recover.specs.Steps.{AreHomeWrites}
 use Rattle.mq_recover.specs.declared.copies.CopyPlace.{CopyPlace}
@@ -61,14 +62,10 @@ writes-from area size b (Some source ∷ copies) (suc k) x is =
 pub writes-at : (area : ℕ → ℕ → List ℕ) (size : ℕ) (copies : List (Option CopyPlace)) (x : ℕ) → written (writes_from area size 0 copies) x ≡ content_of area size (get_or copies x None)
 writes-at area size copies x = writes-from area size 0 copies x x (omega arith)
 
-rising-low : (low more high : ℕ) (xs : List ℕ) → low ≤ more → AreRising more high xs → AreRising low high xs
-rising-low low more high [] fits rising = tt
-rising-low low more high (x ∷ xs) fits rising = let h = rising.0 in (omega (arith, h, fits), rising.1, rising.2)
-
 writes-rise : (area : ℕ → ℕ → List ℕ) (size b : ℕ) (copies : List (Option CopyPlace)) (homes : ℕ) → b + length copies ≤ homes → AreRising b homes (map (λ w. w.0) (writes_from area size b copies))
 writes-rise area size b [] homes fits = tt
 writes-rise area size b (None ∷ copies) homes fits =
-    rising-low b (b + 1) homes (map (λ w. w.0) (writes_from area size (b + 1) copies)) (omega arith) (writes-rise area size (b + 1) copies homes (omega arith))
+    rising-lower b (b + 1) homes (map (λ w. w.0) (writes_from area size (b + 1) copies)) (omega arith) (writes-rise area size (b + 1) copies homes (omega arith))
 writes-rise area size b (Some source ∷ copies) homes fits = (omega arith, omega arith, writes-rise area size (b + 1) copies homes (omega arith))
 
 -- the writes of the copies that were found are those of the plan
@@ -77,7 +74,7 @@ plan-of g d found plan is writes_are recovered_is =
     let area = (view_over g d).area in
     record {
       ds = is.ds;
-      read = subst (λ (r : Recovered). IsRead g (view_over g d) is.ds r.base) (sym recovered_is) is.read;
+      read = subst (λ (r : Recovered). IsReadPrefix g (view_over g d) is.ds r.base) (sym recovered_is) is.read;
       writes = subst (AreHomeWrites g d is.ds) (sym writes_are) (record {
         rising = writes-rise area (area_of g) 0 found.places.items (homes_of g) (let n = is.whole in omega (arith, n));
         copies = λ x. writes-at area (area_of g) found.places.items x ∙ ap (content_of area (area_of g)) (is.places_are x);

@@ -6,12 +6,13 @@ use Rattle.std.proofs.lemmas.List.{get_or-set_other}
 use Rattle.std.proofs.Math.ListN.{length-set}
 use Rattle.std.specs.Prelude.{nat_eq, if◌then◌else◌}
 use Rattle.mq_blocks.specs.Blocks.{block_at, content}
-use Rattle.mq_blocks.specs.Drive.{PortState, IsQuiescent, index_of, holds_write, without_last, after_begin, after_end}
+use Rattle.mq_blocks.specs.Drive.{PortState, IsQuiescent, index_of, without_last, after_begin, after_end}
 use Rattle.mq_blocks.specs.Geometry.{homes_of, home_lba, zone_of}
 use Rattle.mq_blocks.specs.Journal.{or_else}
 use Rattle.mq_blocks.specs.Machine.{Writes, or_kept}
 use Rattle.mq_blocks.specs.declared.command.HomeWrite.{HomeWrite}
 use Rattle.mq_blocks.specs.declared.geometry.Geometry.{Geometry}
+use Rattle.mq_blocks.proofs.DriveBegun.{begun_new}
 use Rattle.mq_ledger.specs.Sides.{home_index}
 use Rattle.mq_ledger.specs.State.{port_at}
 use Rattle.mq_drive.specs.Start.{IsPortOf, area_size_of}
@@ -19,7 +20,7 @@ use Rattle.mq_drive.specs.declared.role.Role.{Role}
 use Rattle.mq_recover.specs.Drives.{DriveState, ArePorts}
 use Rattle.mq_recover.specs.RecoverHomes.{written, AreBelow, after_home}
 use Rattle.mq_recover.specs.Steps.{BeginHome, EndHome, at_home, after_event, after_events, home_events}
-use Rattle.mq_recover.proofs.Zones.{IsZone, port_in, role_in, home_in, zone-cases, zone-is, ports-in, ports-of, at-count, at-here, at-apart, placed-at, place-apart}
+use Rattle.mq_recover.proofs.DrivesZones.{IsZone, port_in, role_in, home_in, zone-cases, zone-is, ports-in, ports-of, at-count, at-here, at-apart, placed-at, place-apart}
 
 -- ---- ports after home writes
 
@@ -77,19 +78,11 @@ certain-set (s ∷ ss) zero (suc k) h = h
 certain-set (s ∷ ss) (suc i) zero h = h
 certain-set (s ∷ ss) (suc i) (suc k) h = certain-set ss i k h
 
-holds-last : (lba : ℕ) (bs : List HomeWrite) (w : HomeWrite) → w.lba ≡ lba → holds_write lba (bs ++ w ∷ []) ≡ true
-holds-last lba [] w is = rw (eq-eqb w.lba lba is) refl
-holds-last lba (b ∷ bs) w is = either (nat_eq b.lba lba) (holds_write lba (bs ++ w ∷ [])) (holds-last lba bs w is)
-  where
-    either : (t h : Bool) → h ≡ true → (if t then true else h) ≡ true
-    either true h is = refl
-    either false h is = is
-
 -- a home write that begins and ends is not under way
 ends-last : (lba : ℕ) (bs : List HomeWrite) (w : HomeWrite) → w.lba ≡ lba → without_last lba (bs ++ w ∷ []) ≡ bs
 ends-last lba [] w is = rw (eq-eqb w.lba lba is) refl
 ends-last lba (b ∷ bs) w is =
-    ap (λ (t : Bool). if t then b ∷ without_last lba (bs ++ w ∷ []) else (if nat_eq b.lba lba then bs ++ w ∷ [] else b ∷ bs ++ w ∷ [])) (holds-last lba bs w is)
+    ap (λ (t : Bool). if t then b ∷ without_last lba (bs ++ w ∷ []) else (if nat_eq b.lba lba then bs ++ w ∷ [] else b ∷ bs ++ w ∷ [])) (begun_new lba bs w is)
     ∙ ap (λ (l : List HomeWrite). b ∷ l) (ends-last lba bs w is)
 
 later-home : (s : PortState) (lba : ℕ) (block : List ℕ) → IsWrittenHome s (after_home s lba block)

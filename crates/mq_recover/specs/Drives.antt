@@ -6,7 +6,7 @@ use Rattle.mq_blocks.specs.Journal.{Shown, shown, image_at}
 use Rattle.mq_blocks.specs.declared.geometry.Geometry.{Geometry}
 use Rattle.mq_ledger.specs.State.{port_at}
 use Rattle.mq_drive.specs.Start.{IsPortOf, HasWords}
-use Rattle.mq_drive.specs.Steps.{Fault}
+use Rattle.mq_drive.specs.Steps.{PortFault}
 use Rattle.mq_drive.specs.declared.port.Ports.{Ports}
 use Rattle.mq_drive.specs.declared.role.Role.{Role}
 use Rattle.mq_drive.specs.declared.role.Role.TheVariants.{Queue, Root}
@@ -70,12 +70,12 @@ pub record AreBoundsKept (g : Geometry) (old new : DriveState) : Type 0 where
 
 -- the faults of all ports
 pub record DriveFaults : Type 0 where
-  pub queues : List (List Fault)
-  pub root : List Fault
+  pub queues : List (List PortFault)
+  pub root : List PortFault
 
-abbrev pub faults_of : {P : Type 0} → (P → List Fault) → List P → P → DriveFaults
+abbrev pub faults_of : {P : Type 0} → (P → List PortFault) → List P → P → DriveFaults
 faults_of faults queues root = record { queues = map faults queues; root = faults root }
 
 -- the faults of the ports of a drive
-abbrev pub faults_on : {P : Type 0} → (P → List Fault) → Ports P → DriveFaults
+abbrev pub faults_on : {P : Type 0} → (P → List PortFault) → Ports P → DriveFaults
 faults_on faults ports = faults_of faults ports.queues.items ports.root

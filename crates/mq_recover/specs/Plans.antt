@@ -7,7 +7,7 @@ use Rattle.mq_blocks.specs.declared.geometry.Geometry.{Geometry}
 use Rattle.mq_recover.specs.Drives.{DriveState, view_over}
 use Rattle.mq_recover.specs.Ends.{chain_at}
 use Rattle.mq_recover.specs.Recover.{copy_of, AreFalling, AreGood, AreOf}
-use Rattle.mq_recover.specs.Recovery.{IsRead}
+use Rattle.mq_recover.specs.Recovery.{IsReadPrefix}
 use Rattle.mq_recover.specs.Refusals.{AreReadable}
 use Rattle.mq_recover.specs.Steps.{AreHomeWrites}
 use Rattle.mq_recover.specs.declared.copies.Copies.{Copies}
@@ -53,7 +53,7 @@ pub record AreRead (g : Geometry) (d : DriveState) (read : QueuesRead) : Type 0 
 -- the image is readable, and this is where the copies stand of the descriptors of its prefix
 pub record IsFoundIn (g : Geometry) (d : DriveState) (found : Found) : Type 0 where
   pub ds : List Descriptor
-  pub read : IsRead g (view_over g d) ds found.recovered.base
+  pub read : IsReadPrefix g (view_over g d) ds found.recovered.base
   pub whole : length found.places.items ≡ homes_of g
   pub places_are : (x : ℕ) → slice_index_or found.places.items x None ≡ copy_of ds x
   pub prefix_is : found.recovered.prefix ≡ length ds
@@ -62,6 +62,6 @@ pub record IsFoundIn (g : Geometry) (d : DriveState) (found : Found) : Type 0 wh
 -- base is the greatest number that the image shows, and the prefix is counted.
 pub record IsPlan (g : Geometry) (d : DriveState) (plan : Plan) : Type 0 where
   pub ds : List Descriptor
-  pub read : IsRead g (view_over g d) ds plan.recovered.base
+  pub read : IsReadPrefix g (view_over g d) ds plan.recovered.base
   pub writes : AreHomeWrites g d ds plan.writes.items
   pub prefix_is : plan.recovered.prefix ≡ length ds

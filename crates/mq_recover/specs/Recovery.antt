@@ -12,7 +12,7 @@ use Rattle.mq_ledger.specs.Written.{journal_entries}
 
 -- An image is readable: the descriptors of its prefix, newest first, and the greatest number that it
 -- shows.
-pub record IsRead (g : Geometry) (i : Shown) (ds : List Descriptor) (top : ℕ) : Type 0 where
+pub record IsReadPrefix (g : Geometry) (i : Shown) (ds : List Descriptor) (top : ℕ) : Type 0 where
   pub chains : ℕ → List Descriptor
   pub whole : AreWhole g i chains
   pub prefix : IsPrefix g i chains ds
@@ -37,7 +37,7 @@ pub record IsRecovered (g : Geometry) (old : DriveState) (ds : List Descriptor) 
 abbrev pub StandsAs : (g : Geometry) (old : DriveState) (ds : List Descriptor) (top : ℕ) (new : DriveState) → Type 0
 StandsAs g old ds top new =
     (queues : List PortImage) (root : PortImage) → AreImages g new queues root
-    → (es : List Descriptor) × IsRead g (shown says g queues root) es top
+    → (es : List Descriptor) × IsReadPrefix g (shown says g queues root) es top
     × (((root.base ≡ old.root.base) × (es ≡ ds)) ⊎ ((root.base ≡ top) × (es ≡ [])))
     × ((b : ℕ) → b < homes_of g → stands g (shown says g queues root) es b ≡ stands g (view_over g old) ds b)
 

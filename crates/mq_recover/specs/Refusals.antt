@@ -6,7 +6,7 @@ use Rattle.mq_blocks.specs.Blocks.{block_at}
 use Rattle.mq_blocks.specs.Descriptor.{Descriptor}
 use Rattle.mq_blocks.specs.Drive.{PortState, depth, usable_depth}
 use Rattle.mq_blocks.specs.Geometry.{area_lba, area_of}
-use Rattle.mq_blocks.specs.Journal.{Has, Says, number_limit}
+use Rattle.mq_blocks.specs.Journal.{Has, WriteFields, number_limit}
 use Rattle.mq_blocks.specs.declared.geometry.Geometry.{Geometry}
 use Rattle.mq_nvme.specs.Entry.{refusal_of}
 use Rattle.mq_nvme.specs.Says.{says}
@@ -105,7 +105,7 @@ IsWholeChain g s q base number lba ds =
 
 -- the entry of a count is a request whose number is within the limit
 abbrev pub IsRung : PortState → ℕ → Type 0
-IsRung s count = (r : Says) × (says (entry_at s count) ≡ Some r) × (r.0 ≤ number_limit)
+IsRung s count = (r : WriteFields) × (says (entry_at s count) ≡ Some r) × (r.0 ≤ number_limit)
 
 abbrev pub AreRung : PortState → (from to : ℕ) → Type 0
 AreRung s from to = (count : ℕ) → from ≤ count → count < to → IsRung s count
@@ -127,8 +127,8 @@ pub data RefusesRung (s : PortState) : ChainRefusal → Type 0 where
 
 -- the greatest number of the entries from one count on and below another, or 0 where there are none
 pub record IsGreatest (s : PortState) (from to number : ℕ) : Type 0 where
-  pub above : (count : ℕ) (r : Says) → from ≤ count → count < to → says (entry_at s count) ≡ Some r → r.0 ≤ number
-  pub shown : (number ≡ 0) ⊎ ((count : ℕ) × (r : Says) × (from ≤ count) × (count < to) × (says (entry_at s count) ≡ Some r) × (r.0 ≡ number))
+  pub above : (count : ℕ) (r : WriteFields) → from ≤ count → count < to → says (entry_at s count) ≡ Some r → r.0 ≤ number
+  pub shown : (number ≡ 0) ⊎ ((count : ℕ) × (r : WriteFields) × (from ≤ count) × (count < to) × (says (entry_at s count) ≡ Some r) × (r.0 ≡ number))
 
 -- ---- a queue
 

@@ -6,7 +6,7 @@ use Rattle.mq_blocks.specs.Geometry.{homes_of}
 use Rattle.mq_blocks.specs.Journal.{or_else, stands}
 use Rattle.mq_blocks.specs.declared.geometry.Geometry.{Geometry}
 use Rattle.mq_recover.specs.Drives.{DriveState, view_over}
-use Rattle.mq_recover.specs.Recovery.{IsRead}
+use Rattle.mq_recover.specs.Recovery.{IsReadPrefix}
 use Rattle.mq_recover.specs.Recover.{content_of}
 use Rattle.mq_recover.specs.declared.copies.CopyPlace.{CopyPlace}
 use Rattle.mq_recover.specs.declared.plan.Recovered.{Recovered}
@@ -27,11 +27,11 @@ pub record IsStanding (g : Geometry) (d : DriveState) (ds : List Descriptor) (to
 
 -- the image is readable, and this is what stands
 abbrev pub StandsIn : Geometry → DriveState → Standing → Type 0
-StandsIn g d s = (ds : List Descriptor) × (top : ℕ) × IsRead g (view_over g d) ds top × IsStanding g d ds top s
+StandsIn g d s = (ds : List Descriptor) × (top : ℕ) × IsReadPrefix g (view_over g d) ds top × IsStanding g d ds top s
 
 -- the image is readable, the prefix is the count of the descriptors that stand, and the new base is the
 -- greatest number that the image shows
 pub record Finds (g : Geometry) (d : DriveState) (r : Recovered) : Type 0 where
   pub ds : List Descriptor
-  pub read : IsRead g (view_over g d) ds r.base
+  pub read : IsReadPrefix g (view_over g d) ds r.base
   pub prefix_is : r.prefix ≡ length ds

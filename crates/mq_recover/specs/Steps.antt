@@ -9,7 +9,7 @@ use Rattle.mq_ledger.specs.State.{port_at}
 use Rattle.mq_recover.specs.Drives.{DriveState, ArePorts, at_queue, at_root, view_over}
 use Rattle.mq_recover.specs.Recover.{copy_of, content_of}
 use Rattle.mq_recover.specs.RecoverHomes.{written}
-use Rattle.mq_recover.specs.Recovery.{IsRead, IsRecovered, StandsAs, IsStartDrive}
+use Rattle.mq_recover.specs.Recovery.{IsReadPrefix, IsRecovered, StandsAs, IsStartDrive}
 use Rattle.mq_recover.specs.declared.refusal.RecoverRefusal.{RecoverRefusal}
 use Rattle.mq_recover.specs.declared.refusal.RecoverRefusal.TheVariants.{Image, Off, Failed}
 
@@ -81,16 +81,16 @@ pub record AreBegunAs (g : Geometry) (old new : DriveState) : Type 0 where
 -- A whole recovery: the prefix of the image at entry, and its greatest number, which is the new base.
 -- Over it nothing is left to bring home, no home write of this recovery is under way, and the pure
 -- machine may start.
-pub record IsDone (g : Geometry) (old : DriveState) (found base : ℕ) (new : DriveState) : Type 0 where
+pub record HasRecovered (g : Geometry) (old : DriveState) (found base : ℕ) (new : DriveState) : Type 0 where
   pub ds : List Descriptor
-  pub read : IsRead g (view_over g old) ds base
+  pub read : IsReadPrefix g (view_over g old) ds base
   pub writes : Writes
   pub home_writes : AreHomeWrites g old ds writes
   pub prefix_is : found ≡ length ds
   pub events : new ≡ after_events g old (recovery_events old writes base)
   pub recovered : IsRecovered g old ds base new
   pub stands : StandsAs g old ds base new
-  pub again : IsRead g (view_over g new) [] base
+  pub again : IsReadPrefix g (view_over g new) [] base
   pub begun : AreBegunAs g old new
   pub start : IsStartDrive g new
 
@@ -98,7 +98,7 @@ pub record IsDone (g : Geometry) (old : DriveState) (found base : ℕ) (new : Dr
 pub record IsCutShort (g : Geometry) (refusal : RecoverRefusal) (old new : DriveState) : Type 0 where
   pub ds : List Descriptor
   pub top : ℕ
-  pub read : IsRead g (view_over g old) ds top
+  pub read : IsReadPrefix g (view_over g old) ds top
   pub writes : Writes
   pub home_writes : AreHomeWrites g old ds writes
   pub events : StopsAt g refusal old (recovery_events old writes top) new

@@ -53,8 +53,8 @@ pub struct Newest {
     pub lba: u64,
 }
 
-/// The chain of the queue whose port it is: the transactions above the base that the entry before
-/// the head and the descriptors lead to. Each block of the chain is read once.
+/// The chain of the queue of this port: the transactions above the base that the entry before the
+/// head and the descriptors lead to. Each block of the chain is read once.
 pub fn read_chain<P: Port>(
     alloc: Global,
     geometry: Geometry,

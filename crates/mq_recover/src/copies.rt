@@ -29,8 +29,9 @@ pub struct Copies {
     pub prefix: u64,
 }
 
-// Goes through the chains of all queues by rising number, and finds the copies of the transactions
-// right above the base, as far as there is no gap. What comes after a gap is tested all the same.
+// Goes through the chains of all queues in rising order of numbers, and finds the copies of the
+// transactions right above the base, as far as there is no gap. What comes after a gap is tested
+// all the same.
 pub fn place_copies(
     alloc: Global,
     geometry: Geometry,

@@ -5,14 +5,14 @@ ghost use Rattle.mq_blocks.specs.Drive.{image_of};
 ghost use Rattle.mq_blocks.specs.Journal.{AreWhole};
 ghost use Rattle.mq_blocks.specs.declared.geometry.Geometry.{Geometry};
 ghost use Rattle.mq_recover.specs.Drives.{DriveState, AreImages, view_over};
-ghost use Rattle.mq_recover.specs.Recovery.{IsRead, IsRecovered};
+ghost use Rattle.mq_recover.specs.Recovery.{IsReadPrefix, IsRecovered};
 ghost use Rattle.mq_recover.specs.Refusals.{IsReadableImage, RefusesImage};
 ghost use Rattle.mq_recover.specs.Steps.{IsCutShort, IsAgain};
 ghost use Rattle.mq_recover.specs.declared.refusal.ImageFault.{ImageFault};
 ghost use Rattle.mq_recover.specs.declared.refusal.RecoverRefusal.{RecoverRefusal};
 
-/// An image is readable exactly where its transactions are whole, and then it has no cause to be
-/// refused.
+/// An image is readable exactly where its transactions are whole, and then there is no cause to refuse
+/// it.
 pub fn readable_images_are_whole()
     ensures whole { (g : Geometry) (d : DriveState) (image : IsReadableImage g d)
         → AreWhole g (view_over g d) image.chains }
@@ -33,7 +33,7 @@ pub fn recovery_may_be_cut()
     ensures { (g : Geometry) (refusal : RecoverRefusal) (old new start later : DriveState) (ds : List Descriptor)
         (top : ℕ) (cut : IsCutShort g refusal old new)
         → AreImages g new (map image_of start.queues) (image_of start.root)
-        → IsRead g (view_over g start) ds top
+        → IsReadPrefix g (view_over g start) ds top
         → IsRecovered g start ds top later
         → IsAgain g old cut.ds cut.top start ds top later }
 {}

@@ -93,7 +93,7 @@ pub fn find_copies<P: Port>(
     })
 }
 
-// What all queues show over this base, by rising queue.
+// What all queues show over this base, in rising order of queues.
 fn read_queues<P: Port>(
     alloc: Global,
     geometry: Geometry,

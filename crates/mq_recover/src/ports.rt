@@ -4,7 +4,7 @@ ghost use Rattle.std.specs.Prelude.{◌≡◌, ◌⊎◌, length, IfOk, IsErrOf}
 ghost use Rattle.mq_recover.specs.Drives.{AreBoundsKept, IsQuiescentDrive, drive_of, faults_on};
 ghost use Rattle.mq_recover.specs.RecoverCauses.{HasDriveCause, OnImage, OnDrive, UnlessImage};
 ghost use Rattle.mq_recover.specs.Refusals.{IsReadableImage, RefusesImage};
-ghost use Rattle.mq_recover.specs.Steps.{IsDone, IsCutShort};
+ghost use Rattle.mq_recover.specs.Steps.{HasRecovered, IsCutShort};
 
 use crate::homes::{move_heads, raise_base, write_homes};
 use crate::plan::{Recovered, make_plan};
@@ -14,16 +14,16 @@ use mq_drive::{Port, Ports};
 use std::alloc::Global;
 
 /// Recovers a drive through its ports: the home blocks become what stands, in rising order, then the
-/// base becomes the greatest number that the image shows, and then each head goes to its doorbell, by
-/// rising queue. All reads and checks come first, and all memory is taken then. After `Off` and
-/// `Failed` the call may be made again on what a power cut leaves.
+/// base becomes the greatest number that the image shows, and then each head goes to its doorbell, in
+/// rising order of queues. All reads and checks come first, and all memory is taken then. After `Off`
+/// and `Failed` the call may be made again on what a power cut leaves.
 pub fn recover<P: Port>(
     alloc: Global,
     geometry: Geometry,
     ports: &mut Ports<P>,
 ) -> Result<Recovered, RecoverRefusal>
     requires { IsQuiescentDrive geometry (drive_of P.state ports.old) }
-    ensures ok { IfOk result (λ r. IsDone geometry
+    ensures ok { IfOk result (λ r. HasRecovered geometry
         (drive_of P.state ports.old) r.prefix r.base
         (drive_of P.state ports.new)) }
     ensures image { OnImage result (λ fault. (drive_of P.state ports.new ≡ drive_of P.state ports.old)

@@ -8,7 +8,7 @@ use std::alloc::{AllocError, AllocFailed};
 /// Why the chain of a queue can't be read.
 #[derive(Clone, Copy, Debug, PartialEq, Eq)]
 pub enum ChainRefusal {
-    /// The head is above the doorbell, too far below it, or the doorbell is above its limit.
+    /// The head is above the doorbell or too far below it, or the doorbell is above its limit.
     Words,
     /// The entry before the head, or one from head to doorbell, is no request.
     Entry(EntryRefusal),
@@ -23,7 +23,7 @@ pub enum ChainRefusal {
         number: u64,
         cause: DescriptorRefusal,
     },
-    /// The oldest place is a lap or more before the newest.
+    /// The oldest place is at least the size of the area before the newest.
     Span {
         oldest: u64,
         newest: u64,
@@ -110,7 +110,7 @@ impl<T: Drop> From<AllocFailed<T>> for ImageFault {
     }
 }
 
-/// Why recovery was not done.
+/// Why recovery did not complete.
 #[derive(Clone, Copy, Debug, PartialEq, Eq)]
 pub enum RecoverRefusal {
     /// Nothing was changed.

@@ -1,6 +1,6 @@
-mod Back
-mod Cutting
-mod Gathering
-mod Plain
-mod Reading
-mod Spelling
+mod Lines
+mod Reports
+mod TextsBack
+mod TextsCutting
+mod TextsGathering
+mod TextsPlain

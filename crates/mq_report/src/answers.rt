@@ -9,7 +9,7 @@ use mq_blocks::{OutOfMemory, TxNo};
 use mq_calls::{CallCause, Refusal};
 use mq_side::Cause;
 
-/// Writes what the drive did to a group that had drawn this number.
+/// Writes why the drive refused a group that had drawn this number.
 fn put_cause(out: &mut Vec<u8>, cause: Cause, drawn: Option<TxNo>) -> Result<(), OutOfMemory>
     ensures { OnOk result (out.new.items ≡ out.old.items ++ after_spaces (answer_words (drive_answer cause drawn))) }
 {

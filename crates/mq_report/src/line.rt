@@ -9,10 +9,10 @@ use std::marker::Model;
 #[derive(Drop)]
 pub struct Line {
     pub number: TxNo,
-    /// It drew the number.
+    /// Whether the group drew the number.
     pub commit: bool,
     pub session: u32,
-    /// The groups of a session are counted from 0.
+    /// The number of the group among those of the session, counted from 0.
     pub group: u32,
     pub end: End,
     /// In the order of the requests.
@@ -34,7 +34,7 @@ impl Model for Line {
     } };
 }
 
-/// What a group was answered: the number of its line, or why it was refused.
+/// The answer to a group: the number of its line, or why it was refused.
 #[derive(Clone, Copy, Debug, PartialEq, Eq)]
 pub struct Told {
     pub session: u32,
@@ -46,12 +46,12 @@ pub struct Told {
 /// How a run ended.
 #[derive(Clone, Copy, Debug, PartialEq, Eq)]
 pub enum Last {
-    /// All is at home up to this number, which is the base.
+    /// Everything up to this number, which is the base, was written home.
     Clean(TxNo),
-    /// The power was cut after so many events.
+    /// The power was cut after this number of events.
     Cut(u64),
-    /// The last checkpoint was refused, for a command of this transaction.
+    /// The checkpoint at the end was refused, because a command of this transaction failed.
     StoppedTx(TxNo),
-    /// It was refused for the home write of this block.
+    /// The checkpoint at the end was refused, because the home write of this block failed.
     StoppedBlock(BlockNo),
 }

@@ -24,7 +24,7 @@ fn fault_name(fault: Fault) -> &'static [u8]
     }
 }
 
-/// Writes how many bytes there are, and two digits for each.
+/// Writes the number of bytes, and two digits for each.
 fn put_bytes(alloc: Global, out: &mut Vec<u8>, bytes: &[u8]) -> Result<(), OutOfMemory>
     ensures { OnOk result (out.new.items ≡ out.old.items ++ after_spaces (data_words bytes.now)) }
 {

@@ -1,4 +1,3 @@
 pub mod Placing
-mod Drawing
-pub mod Unique
-pub mod Counting
+mod Guard
+pub mod Placed

@@ -9,6 +9,7 @@ use Rattle.mq_blocks.specs.Descriptor.{AreRising}
 use Rattle.mq_blocks.specs.Geometry.{homes_of, zone_of}
 use Rattle.mq_blocks.specs.Journal.{is_among}
 use Rattle.mq_blocks.specs.declared.geometry.Geometry.{Geometry}
+use Rattle.mq_blocks.proofs.DescriptorRising.{rising-lower}
 use Rattle.mq_revoke.specs.Placing.{IsDirect, IsCopied, AreThose, IsPlacement, AreInOrder}
 use Rattle.mq_revoke.specs.declared.placement.Planned.{Planned}
 
@@ -82,10 +83,6 @@ among-where p (v ∷ ws) w (suc k) l e passes =
       | inr fails ↦ rw fails rest
     ]
 
-rising-lower : (low mid high : ℕ) (xs : List ℕ) → low ≤ mid → AreRising mid high xs → AreRising low high xs
-rising-lower low mid high [] le r = tt
-rising-lower low mid high (x ∷ xs) le r = (omega (arith, le, r.0), r.1, r.2)
-
 where-rising : (low high : ℕ) (p : Planned → Bool) (ws : List Planned) → AreRising low high (map (λ w. w.block) ws) → AreRising low high (blocks_where p ws)
 where-rising low high p [] r = tt
 where-rising low high p (w ∷ ws) r = elim (cases_Bool (p w)) [
@@ -123,10 +120,6 @@ where-few p (w ∷ ws) = elim (cases_Bool (p w)) [
 ]
 
 -- ---- a rising list is short
-
-pub rising-few : (low high : ℕ) (xs : List ℕ) → AreRising low high xs → length xs ≤ high - low
-rising-few low high [] r = omega arith
-rising-few low high (x ∷ xs) r = omega (arith, r.0, r.1, rising-few (x + 1) high xs r.2)
 
 -- ---- writes in order
 

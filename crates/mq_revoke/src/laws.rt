@@ -11,7 +11,8 @@ ghost use Rattle.mq_revoke.specs.declared.placement.Planned.{Planned};
 ghost use Rattle.mq_blocks.specs.Geometry.{write_limit};
 
 /// A transaction that is placed by a plan may be drawn where the rest of the guard holds. Front and base
-/// may have been read earlier: a lesser front writes less directly, and a lesser base revokes more.
+/// may have been read earlier: with a smaller front less is written directly, and with a smaller base
+/// more is revoked.
 pub fn a_plan_meets_the_guard()
     ensures { (k : KnownJournal) (t : Tx) (writes : List Planned) (read_front read_base : ℕ)
         → AreInOrder k.geometry writes
@@ -24,7 +25,7 @@ pub fn a_plan_meets_the_guard()
         → MayDraw k t }
 {}
 
-/// The same writes have one placement alone.
+/// The same writes have exactly one placement.
 pub fn a_placement_is_the_only_one()
     ensures { (g : Geometry) (queue front base : ℕ) (writes : List Planned) (p r : Placed)
         → IsPlacement g queue front base writes p

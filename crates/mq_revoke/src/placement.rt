@@ -11,9 +11,9 @@ use std::marker::Model;
 #[derive(Clone, Copy, Debug, PartialEq, Eq)]
 pub struct Planned {
     pub block: BlockNo,
-    /// It holds bytes of a file, and no metadata.
+    /// Whether it holds bytes of a file, not metadata.
     pub is_data: bool,
-    /// It was free before the transaction.
+    /// Whether it was free before the transaction.
     pub was_free: bool,
     /// The last transaction that changed it, or the base where none has.
     pub version: TxNo,
@@ -49,7 +49,7 @@ pub struct Placement {
     pub logged: Vec<BlockNo>,
     /// What is written to its home block by the queue itself.
     pub direct: Vec<BlockNo>,
-    /// The direct blocks whose earlier copies count no more.
+    /// The direct blocks whose earlier copies no longer count.
     pub revoked: Vec<BlockNo>,
 }
 
@@ -64,7 +64,7 @@ impl Model for Placement {
     ghost invariant = { λ p. HasRoom (vec_capacity p.logged) (vec_capacity p.direct) (vec_capacity p.revoked) };
 }
 
-/// A transaction writes more blocks than one may.
+/// A transaction writes more blocks than a transaction may write.
 #[derive(Clone, Copy, Debug, PartialEq, Eq)]
 pub struct TooLarge {
     pub count: u32,
@@ -106,8 +106,8 @@ fn add(blocks: &mut Vec<BlockNo>, block: BlockNo)
 }
 
 /// Places the blocks that a transaction of the queue writes, by a front and a base: all transactions up
-/// to the front are done, and no copy up to the base counts any more. More writes than a transaction may
-/// have on this drive are too many. What the plan held before is dropped.
+/// to the front are done, and no copy up to the base counts any longer. The call is refused if there are
+/// more writes than a transaction may have on this drive. The former content of the plan is dropped.
 pub fn plan(
     writes: &[Planned],
     geometry: Geometry,

@@ -1,9 +1,9 @@
-pub mod Added
-mod Along
-pub mod Staying
-pub mod Settled
-pub mod Telling
+pub mod FaultsAdded
+mod HistoryAlong
+pub mod RuleStaying
+pub mod RuleSettled
+pub mod RuleTelling
 pub mod Opening
 pub mod Meaning
-pub mod Drawing
-pub mod Charging
+pub mod Cells
+pub mod Faults

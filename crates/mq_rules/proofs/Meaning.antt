@@ -5,14 +5,14 @@ use Rattle.mq_pages.specs.declared.page.PageCell.{PageCell}
 use Rattle.mq_turns.specs.Chairs.{Starts}
 use Rattle.mq_turns.specs.Meaning.{AreLaws}
 use Rattle.mq_turns.specs.declared.rule.Opening.{Opening}
-use Rattle.mq_rules.specs.Groups.{Group}
+use Rattle.mq_rules.specs.Groups.{GroupView}
 use Rattle.mq_rules.specs.Meaning.{meaning}
 use Rattle.mq_rules.specs.Opening.{IsFresh}
 use Rattle.mq_rules.specs.Values.{Values}
 use Rattle.mq_rules.proofs.Opening.{opening_ruled}
-use Rattle.mq_rules.proofs.Staying.{ok_drawn, page_along, root_along, side_along}
+use Rattle.mq_rules.proofs.RuleStaying.{ok_drawn, page_along, root_along, side_along}
 
-module _ {Q R E : Type 0} (values : Values Q R E) (group : Group E) where
+module _ {Q R E : Type 0} (values : Values Q R E) (group : GroupView E) where
   pub laws : AreLaws (meaning values group)
   laws = record {
     own = λ log e. eq-eqb (group.tx e).queue (group.tx e).queue refl;

@@ -6,15 +6,15 @@ use lib.ListN.{length-map}
 use Rattle.mq_blocks.specs.Drive.{PortState}
 use Rattle.mq_blocks.specs.declared.geometry.Geometry.{Geometry}
 use Rattle.mq_drive.specs.Faults.{count_of}
-use Rattle.mq_drive.specs.Steps.{Fault}
+use Rattle.mq_drive.specs.Steps.{PortFault}
 use Rattle.mq_ledger.specs.KnownJournal.{KnownJournal, LogOk}
 use Rattle.mq_ledger.specs.Sides.{SideOk, AreHome}
 use Rattle.mq_ledger.specs.State.{State, Facts, known_of, no_port}
 use Rattle.mq_ledger.specs.Written.{journal_entries}
-use Rattle.mq_core.proofs.Growth.{side_moved}
-use Rattle.mq_core.proofs.Runs.{start_facts}
+use Rattle.mq_core.proofs.KnownJournalGrowth.{side_moved}
+use Rattle.mq_core.proofs.MachineFacts.{start_facts}
 use Rattle.mq_base.specs.Bases.{BaseOk}
-use Rattle.mq_base.proofs.Openings.{first_base}
+use Rattle.mq_base.proofs.BasesOpenings.{first_base}
 use Rattle.mq_pages.specs.declared.page.PageCell.{PageCell}
 use Rattle.mq_turns.specs.Meaning.{opened}
 use Rattle.mq_turns.specs.declared.rule.Known.{Known}
@@ -22,12 +22,12 @@ use Rattle.mq_turns.specs.declared.rule.Opening.{Opening}
 use Rattle.mq_turns.specs.declared.turn.Turn.{Turn}
 use Rattle.mq_turns.specs.declared.turn.Turn.TheVariants.{Side, Root}
 use Rattle.mq_rules.specs.Faults.{AreCharged, of_kind}
-use Rattle.mq_rules.specs.Groups.{Group}
+use Rattle.mq_rules.specs.Groups.{GroupView}
 use Rattle.mq_rules.specs.Opening.{state_of, IsFresh, IsRuled}
 use Rattle.mq_rules.specs.Rule
 use Rattle.mq_rules.specs.Values.{Values}
 
-nothing_charged : (g : Geometry) (t : Turn) (old new : List Fault) → old ≡ new → AreCharged g t [] old new
+nothing_charged : (g : Geometry) (t : Turn) (old new : List PortFault) → old ≡ new → AreCharged g t [] old new
 nothing_charged g t old new same = inr (record {
   more = λ f. let e = ap (count_of f) same in omega arith;
   counts = λ f. let e = ap (count_of (of_kind f)) same in omega arith;
@@ -39,7 +39,7 @@ at_map f [] i x d e = absurd (cc)
 at_map f (y ∷ ys) zero x d e = let same : y ≡ x = cc in (ap f same, omega arith)
 at_map f (y ∷ ys) (suc i) x d e = let ih = at_map f ys i x d e in (ih.0, let lt = ih.1 in omega arith)
 
-module _ {Q R E : Type 0} (values : Values Q R E) (group : Group E) (o : Opening PageCell Q R) (fresh : IsFresh values group o) where
+module _ {Q R E : Type 0} (values : Values Q R E) (group : GroupView E) (o : Opening PageCell Q R) (fresh : IsFresh values group o) where
   abbrev s : State
   s = state_of values group o
 

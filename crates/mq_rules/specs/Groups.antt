@@ -6,7 +6,7 @@ use Rattle.mq_ledger.specs.History.{change_of}
 use Rattle.mq_ledger.specs.declared.tx.Tx.{Tx}
 
 -- The entry of a group says who asked, what it writes and frees, and what it answered.
-pub record Group (E : Type 0) : Type 1 where
+pub record GroupView (E : Type 0) : Type 1 where
   -- its session, and its place among the session's groups
   pub session : E → ℕ
   pub call : E → ℕ

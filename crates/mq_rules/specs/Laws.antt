@@ -6,7 +6,7 @@ use Rattle.mq_ledger.specs.KnownJournal.{front}
 use Rattle.mq_ledger.specs.declared.tx.Tx.{Tx}
 use Rattle.mq_base.specs.Bases.{BaseOk}
 use Rattle.mq_base.specs.Grown.{HasGrown}
-use Rattle.mq_base.specs.Pages.{IsNumbered, IsToBring, WasBrought, told}
+use Rattle.mq_base.specs.Pages.{IsNumbered, IsToBring, WasBrought, known_after}
 use Rattle.mq_pages.specs.declared.page.PageCell.{PageCell}
 use Rattle.mq_turns.specs.Marks.{is_claimed}
 use Rattle.mq_turns.specs.Meaning as history
@@ -17,24 +17,24 @@ use Rattle.mq_turns.specs.declared.rule.Opening.{Opening}
 use Rattle.mq_turns.specs.declared.turn.Turn.TheVariants.{Page, Side, Root}
 use Rattle.mq_rules.specs.Cells.{cell_after}
 use Rattle.mq_rules.specs.Faults.{AreCharged, IsBacked}
-use Rattle.mq_rules.specs.Groups.{Group}
+use Rattle.mq_rules.specs.Groups.{GroupView}
 use Rattle.mq_rules.specs.Opening.{IsFresh, IsRuled}
-use Rattle.mq_rules.specs.Rule.{Desk, Stay, IsOfPort, IsOk, IsPage, IsSide, IsRoot, May, core_of, faults_of, geometry_of, map_now, next_tx, part_of, touches}
+use Rattle.mq_rules.specs.Rule.{DeskState, Stay, IsOfPort, IsOk, IsPage, IsSide, IsRoot, May, core_of, faults_of, geometry_of, map_now, next_tx, part_of, touches}
 use Rattle.mq_rules.specs.Values.{Values}
 
-module _ {Q R E : Type 0} (values : Values Q R E) (group : Group E) where
+module _ {Q R E : Type 0} (values : Values Q R E) (group : GroupView E) where
   -- ---- what is known grows, and nothing of it is about the value
 
   abbrev pub PagesStay : Type 0
   PagesStay =
-      (b : ℕ) (K L : Desk values group) (c : PageCell)
+      (b : ℕ) (K L : DeskState values group) (c : PageCell)
       → Stay values group (Page b) K L
       → IsPage values group b K c
       → IsPage values group b L c
 
   abbrev pub SidesStay : Type 0
   SidesStay =
-      (q : ℕ) (K L : Desk values group) (w : Q)
+      (q : ℕ) (K L : DeskState values group) (w : Q)
       → Stay values group (Side q) K L
       → IsOk values group K
       → IsOk values group L
@@ -43,7 +43,7 @@ module _ {Q R E : Type 0} (values : Values Q R E) (group : Group E) where
 
   abbrev pub RootsStay : Type 0
   RootsStay =
-      (K L : Desk values group) (r : R)
+      (K L : DeskState values group) (r : R)
       → Stay values group Root K L
       → IsOk values group K
       → IsOk values group L
@@ -54,7 +54,7 @@ module _ {Q R E : Type 0} (values : Values Q R E) (group : Group E) where
 
   abbrev pub DrawsAreRuled : Type 0
   DrawsAreRuled =
-      (e : E) (K : Desk values group)
+      (e : E) (K : DeskState values group)
       → IsOk values group K
       → May values group e K
       → IsOk values group (drawn e K)
@@ -68,7 +68,7 @@ module _ {Q R E : Type 0} (values : Values Q R E) (group : Group E) where
   -- a page says what the transaction made of it
   abbrev pub PagesShowDraws : Type 0
   PagesShowDraws =
-      (b : ℕ) (e : E) (K : Desk values group) (c : PageCell)
+      (b : ℕ) (e : E) (K : DeskState values group) (c : PageCell)
       → IsOk values group K
       → IsPage values group b K c
       → IsPage values group b (drawn e K) (cell_after (next_tx values group e K) b c)
@@ -76,7 +76,7 @@ module _ {Q R E : Type 0} (values : Values Q R E) (group : Group E) where
   -- groups run on the map at the newest number
   abbrev pub MapsStayGood : Type 0
   MapsStayGood =
-      (K : Desk values group)
+      (K : DeskState values group)
       → IsOk values group K
       → group.good (geometry_of values group K) (map_now values group K)
 
@@ -89,27 +89,27 @@ module _ {Q R E : Type 0} (values : Values Q R E) (group : Group E) where
 
   abbrev pub JournalsGrow : Type 0
   JournalsGrow =
-      (K L : Desk values group)
+      (K L : DeskState values group)
       → Grows K L
       → HasGrown (core_of values group K) (core_of values group L)
 
-  -- a home write that is noted has been told
+  -- a home write that is noted is known to the journal
   abbrev pub NotesAreTold : Type 0
   NotesAreTold =
-      (b n : ℕ) (K : Desk values group)
-      → core_of values group (written (b, n) K) ≡ told (core_of values group K) K.ended b n
+      (b n : ℕ) (K : DeskState values group)
+      → core_of values group (written (b, n) K) ≡ known_after (core_of values group K) K.ended b n
 
   -- a cell's numbers are those of a page
   abbrev pub CellsAreNumbered : Type 0
   CellsAreNumbered =
-      (b : ℕ) (K : Desk values group) (c : PageCell)
+      (b : ℕ) (K : DeskState values group) (c : PageCell)
       → IsPage values group b K c
       → IsNumbered (core_of values group K) b c.version c.last_logged c.home_version
 
   -- they say that it waits for a home write
   abbrev pub CellsWait : Type 0
   CellsWait =
-      (b : ℕ) (K : Desk values group) (c : PageCell)
+      (b : ℕ) (K : DeskState values group) (c : PageCell)
       → IsPage values group b K c
       → c.last_logged ≡ c.version
       → c.home_version < c.version
@@ -120,7 +120,7 @@ module _ {Q R E : Type 0} (values : Values Q R E) (group : Group E) where
   -- home write then.
   abbrev pub NotedPagesWereBrought : Type 0
   NotedPagesWereBrought =
-      (base b : ℕ) (K L : Desk values group) (c : PageCell)
+      (base b : ℕ) (K L : DeskState values group) (c : PageCell)
       → IsOk values group K
       → Grows K L
       → base ≤ front (core_of values group K)
@@ -134,7 +134,7 @@ module _ {Q R E : Type 0} (values : Values Q R E) (group : Group E) where
   -- of a claim no more than that its numbers were drawn
   abbrev pub ClaimsAreRuled : Type 0
   ClaimsAreRuled =
-      (c : Claim) (K : Desk values group)
+      (c : Claim) (K : DeskState values group)
       → IsOk values group K
       → c.up_to ≤ newest K
       → IsOk values group (claimed c K)
@@ -142,7 +142,7 @@ module _ {Q R E : Type 0} (values : Values Q R E) (group : Group E) where
   -- the side shows that they are done
   abbrev pub SidesShowClaims : Type 0
   SidesShowClaims =
-      (c : Claim) (K : Desk values group) (w : Q)
+      (c : Claim) (K : DeskState values group) (w : Q)
       → IsOk values group K
       → IsSide values group c.queue K w
       → ((t : Tx) (ts : List Tx)
@@ -156,7 +156,7 @@ module _ {Q R E : Type 0} (values : Values Q R E) (group : Group E) where
 
   abbrev pub HomeWritesAreRuled : Type 0
   HomeWritesAreRuled =
-      (b version logged home : ℕ) (K : Desk values group)
+      (b version logged home : ℕ) (K : DeskState values group)
       → IsOk values group K
       → IsToBring (core_of values group K) K.ended b version logged home
       → IsOk values group (written (b, version) K)
@@ -164,7 +164,7 @@ module _ {Q R E : Type 0} (values : Values Q R E) (group : Group E) where
   -- its page says so
   abbrev pub PagesShowHomeWrites : Type 0
   PagesShowHomeWrites =
-      (b : ℕ) (K : Desk values group) (c : PageCell)
+      (b : ℕ) (K : DeskState values group) (c : PageCell)
       → IsPage values group b K c
       → IsToBring (core_of values group K) K.ended b c.version c.last_logged c.home_version
       → IsPage values group b (written (b, c.version) K) (record c { home_version = c.version })
@@ -173,7 +173,7 @@ module _ {Q R E : Type 0} (values : Values Q R E) (group : Group E) where
 
   abbrev pub RaisesAreRuled : Type 0
   RaisesAreRuled =
-      (b : ℕ) (K : Desk values group)
+      (b : ℕ) (K : DeskState values group)
       → IsOk values group K
       → BaseOk (core_of values group K) b
       → K.word ≤ b
@@ -182,7 +182,7 @@ module _ {Q R E : Type 0} (values : Values Q R E) (group : Group E) where
   -- the root has flushed it
   abbrev pub RootsShowRaises : Type 0
   RootsShowRaises =
-      (b : ℕ) (K : Desk values group) (r : R)
+      (b : ℕ) (K : DeskState values group) (r : R)
       → IsOk values group K
       → IsRoot values group K r
       → K.word ≤ b
@@ -193,7 +193,7 @@ module _ {Q R E : Type 0} (values : Values Q R E) (group : Group E) where
 
   abbrev pub ChargesAreRuled : Type 0
   ChargesAreRuled =
-      (c : Charge) (K : Desk values group)
+      (c : Charge) (K : DeskState values group)
       → IsOk values group K
       → IsOfPort (length K.opening.sides) c
       → IsOk values group (charged c K)
@@ -201,7 +201,7 @@ module _ {Q R E : Type 0} (values : Values Q R E) (group : Group E) where
   -- a side stays what it is whose record says so, and whose port has gained a fault of its kind
   abbrev pub SidesShowCharges : Type 0
   SidesShowCharges =
-      (c : Charge) (q : ℕ) (K : Desk values group) (w u : Q)
+      (c : Charge) (q : ℕ) (K : DeskState values group) (w u : Q)
       → c.port ≡ Side q
       → IsSide values group q K u
       → values.says (part_of values group q (charged c K)) u
@@ -212,7 +212,7 @@ module _ {Q R E : Type 0} (values : Values Q R E) (group : Group E) where
   -- and the root
   abbrev pub RootsShowCharges : Type 0
   RootsShowCharges =
-      (c : Charge) (K : Desk values group) (r s : R)
+      (c : Charge) (K : DeskState values group) (r s : R)
       → c.port ≡ Root
       → IsRoot values group K s
       → AreCharged (geometry_of values group K) Root K.charges (values.root_faults K.opening.root) (values.root_faults r)
@@ -224,11 +224,11 @@ module _ {Q R E : Type 0} (values : Values Q R E) (group : Group E) where
   -- A number up to which every entry is claimed to be done is not above the front.
   abbrev pub ClaimsReachTheFront : Type 0
   ClaimsReachTheFront =
-      (n : ℕ) (K : Desk values group)
+      (n : ℕ) (K : DeskState values group)
       → IsOk values group K
       → n ≤ newest K
       → ((m : ℕ) (e : E)
-      → history.IsAt K.opening.base K.log m e
+      → history.HasNumberAt K.opening.base K.log m e
       → m ≤ n
       → is_claimed (group.tx e).queue m K.claims ≡ true)
       → n ≤ front (core_of values group K)

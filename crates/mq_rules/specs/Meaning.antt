@@ -1,11 +1,11 @@
 -- The rule of a desk over ports, as a desk asks for it.
 use Rattle.mq_pages.specs.declared.page.PageCell.{PageCell}
 use Rattle.mq_turns.specs.Meaning.{Meaning}
-use Rattle.mq_rules.specs.Groups.{Group}
+use Rattle.mq_rules.specs.Groups.{GroupView}
 use Rattle.mq_rules.specs.Rule
 use Rattle.mq_rules.specs.Values.{Values}
 
-module _ {Q R E : Type 0} (values : Values Q R E) (group : Group E) where
+module _ {Q R E : Type 0} (values : Values Q R E) (group : GroupView E) where
   abbrev pub meaning : Meaning PageCell Q R E
   meaning = record {
     touches = Rule.touches values group;

@@ -5,11 +5,11 @@ use Rattle.mq_ledger.specs.Written.{journal_entries}
 use Rattle.mq_pages.specs.declared.page.PageCell.{PageCell}
 use Rattle.mq_turns.specs.Meaning.{opened}
 use Rattle.mq_turns.specs.declared.rule.Opening.{Opening}
-use Rattle.mq_rules.specs.Groups.{Group}
+use Rattle.mq_rules.specs.Groups.{GroupView}
 use Rattle.mq_rules.specs.Rule.{IsOk, IsPage, IsSide, IsRoot, part_of, shape_of, start_of}
 use Rattle.mq_rules.specs.Values.{Values}
 
-module _ {Q R E : Type 0} (values : Values Q R E) (group : Group E) where
+module _ {Q R E : Type 0} (values : Values Q R E) (group : GroupView E) where
   -- the journal whose map, ports and root these are
   abbrev pub state_of : Opening PageCell Q R → State
   state_of o = record {

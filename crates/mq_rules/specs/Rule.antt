@@ -5,7 +5,7 @@ use Rattle.mq_blocks.specs.Drive.{PortState, IsBoundKept}
 use Rattle.mq_blocks.specs.Geometry.{zone_of}
 use Rattle.mq_blocks.specs.Machine.{Map}
 use Rattle.mq_blocks.specs.declared.geometry.Geometry.{Geometry}
-use Rattle.mq_drive.specs.Steps.{Fault}
+use Rattle.mq_drive.specs.Steps.{PortFault}
 use Rattle.mq_ledger.specs.History.{changes, map_after, last, last_logged, of_queue}
 use Rattle.mq_ledger.specs.KnownJournal.{KnownJournal, LogOk, MayDraw}
 use Rattle.mq_ledger.specs.Sides.{SideOk}
@@ -26,7 +26,7 @@ use Rattle.mq_turns.specs.declared.rule.Report.TheVariants as report
 use Rattle.mq_turns.specs.declared.turn.Turn.{Turn}
 use Rattle.mq_turns.specs.declared.turn.Turn.TheVariants.{Page, Side, Root}
 use Rattle.mq_rules.specs.Faults.{AreCharged, reports_of}
-use Rattle.mq_rules.specs.Groups.{Group}
+use Rattle.mq_rules.specs.Groups.{GroupView}
 use Rattle.mq_rules.specs.Values.{Part, Values}
 
 abbrev pub same_port : Option ℕ → Option ℕ → Bool
@@ -35,10 +35,10 @@ same_port None None = true
 same_port _ _ = false
 
 -- the turn is that of a port, where there are so many sides
-abbrev pub IsPortOf : ℕ → Turn → Type 0
-IsPortOf sides (Page b) = ⊥
-IsPortOf sides (Side q) = q < sides
-IsPortOf sides Root = Unit {0}
+abbrev pub IsPortTurn : ℕ → Turn → Type 0
+IsPortTurn sides (Page b) = ⊥
+IsPortTurn sides (Side q) = q < sides
+IsPortTurn sides Root = Unit {0}
 
 -- A call on the root's port, which sends no transaction, was refused, for a fault of the port: the power went off, or a
 -- home write failed.
@@ -52,14 +52,14 @@ IsOfRoot (report.Sent tx) = ⊥
 -- The report is of the port of a side that there is, or of the root's. That a transaction was rung, has failed, or stays
 -- undone, is reported of sides alone.
 abbrev pub IsOfPort : ℕ → Charge → Type 0
-IsOfPort sides c = IsPortOf sides c.port × (c.port ≡ Root → IsOfRoot c.report)
+IsOfPort sides c = IsPortTurn sides c.port × (c.port ≡ Root → IsOfRoot c.report)
 
 abbrev pub numbered : ℕ → Tx → Tx
 numbered n t = record t { number = n }
 
-module _ {Q R E : Type 0} (values : Values Q R E) (group : Group E) where
-  abbrev pub Desk : Type 0
-  Desk = Known PageCell Q R E
+module _ {Q R E : Type 0} (values : Values Q R E) (group : GroupView E) where
+  abbrev pub DeskState : Type 0
+  DeskState = Known PageCell Q R E
 
   -- ---- the opening
 
@@ -72,13 +72,13 @@ module _ {Q R E : Type 0} (values : Values Q R E) (group : Group E) where
   abbrev pub port_of : Opening PageCell Q R → ℕ → PortState
   port_of o q = slice_index_or (map values.port o.sides) q no_port
 
-  abbrev pub faults_of : Opening PageCell Q R → ℕ → List Fault
+  abbrev pub faults_of : Opening PageCell Q R → ℕ → List PortFault
   faults_of o q = slice_index_or (map values.faults o.sides) q []
 
   abbrev pub shape_of : Opening PageCell Q R → Geometry
   shape_of o = values.geometry o.sides o.root
 
-  abbrev pub geometry_of : Desk → Geometry
+  abbrev pub geometry_of : DeskState → Geometry
   geometry_of K = shape_of K.opening
 
   -- ---- the history
@@ -87,15 +87,15 @@ module _ {Q R E : Type 0} (values : Values Q R E) (group : Group E) where
   history base [] = []
   history base (e ∷ es) = numbered (base + length es + 1) (group.tx e) ∷ history base es
 
-  abbrev pub history_of : Desk → List Tx
+  abbrev pub history_of : DeskState → List Tx
   history_of K = history K.opening.base K.log
 
   -- the map at the newest number
-  abbrev pub map_now : Desk → Map
+  abbrev pub map_now : DeskState → Map
   map_now K = map_after (start_of K.opening) (history_of K)
 
   -- what is known on the desk, as the journal says it
-  abbrev pub core_of : Desk → KnownJournal
+  abbrev pub core_of : DeskState → KnownJournal
   core_of K = record {
     geometry = geometry_of K;
     entries = journal_entries;
@@ -108,7 +108,7 @@ module _ {Q R E : Type 0} (values : Values Q R E) (group : Group E) where
     word = K.word;
   }
 
-  abbrev pub own_of : ℕ → Desk → List Tx
+  abbrev pub own_of : ℕ → DeskState → List Tx
   own_of q K = of_queue q (history_of K)
 
   -- the entries of a queue, each with its number
@@ -118,19 +118,19 @@ module _ {Q R E : Type 0} (values : Values Q R E) (group : Group E) where
 
   -- groups ran one after another, each on the map that those before it left, the first on the map at the opening, and
   -- the blocks of each were placed by the rule
-  abbrev pub IsLegal : Geometry → Map → ℕ → List E → Type 0
-  IsLegal g start base [] = group.good g start
-  IsLegal g start base (e ∷ es) =
+  abbrev pub IsLegalHistory : Geometry → Map → ℕ → List E → Type 0
+  IsLegalHistory g start base [] = group.good g start
+  IsLegalHistory g start base (e ∷ es) =
       group.does g (map_after start (history base es)) e
       × group.placed g start base (history base es) e
-      × IsLegal g start base es
+      × IsLegalHistory g start base es
 
   -- The history is legal, each claim is of a drawn number, the base word is a base, and each report is of a port.
-  pub record IsOk (K : Desk) : Type 0 where
+  pub record IsOk (K : DeskState) : Type 0 where
     pub log : LogOk (core_of K)
     pub claims : Each (λ c. c.up_to ≤ newest K) K.claims
     pub base : BaseOk (core_of K) K.word
-    pub legal : IsLegal (geometry_of K) (start_of K.opening) K.opening.base K.log
+    pub legal : IsLegalHistory (geometry_of K) (start_of K.opening) K.opening.base K.log
     pub ports : Each (IsOfPort (length K.opening.sides)) K.charges
 
   -- ---- what changes what
@@ -148,19 +148,19 @@ module _ {Q R E : Type 0} (values : Values Q R E) (group : Group E) where
   lies o h Root = same_port (zone_of (shape_of o) h.0) None
 
   -- what is known grew, and nothing of it is about the turn
-  abbrev pub Stay : Turn → Desk → Desk → Type 0
+  abbrev pub Stay : Turn → DeskState → DeskState → Type 0
   Stay = Stays touches lies
 
   -- ---- values
 
-  pub record IsPage (b : ℕ) (K : Desk) (c : PageCell) : Type 0 where
+  pub record IsPage (b : ℕ) (K : DeskState) (c : PageCell) : Type 0 where
     pub content : c.content ≡ map_now K b
     pub version : c.version ≡ last K.opening.base (history_of K) b
     pub last_logged : c.last_logged ≡ last_logged K.opening.base (history_of K) b
     pub home_version : c.home_version ≡ home_number (core_of K) K.ended b
 
   -- what the side's record speaks of
-  abbrev pub part_of : ℕ → Desk → Part
+  abbrev pub part_of : ℕ → DeskState → Part
   part_of q K = record {
     geometry = geometry_of K;
     queue = q;
@@ -174,7 +174,7 @@ module _ {Q R E : Type 0} (values : Values Q R E) (group : Group E) where
 
   -- The port's entries are those of all transactions of its queue, the groups are stored, and the port has gained the
   -- faults of what was reported of it.
-  pub record IsSide (q : ℕ) (K : Desk) (w : Q) : Type 0 where
+  pub record IsSide (q : ℕ) (K : DeskState) (w : Q) : Type 0 where
     pub port : SideOk (core_of K) q (own_of q K) (values.port w)
     pub stored : values.stored w ≡ entries_of q K.opening.base K.log
     pub says : values.says (part_of q K) w
@@ -182,7 +182,7 @@ module _ {Q R E : Type 0} (values : Values Q R E) (group : Group E) where
 
   -- The flushed and the stored base are bases, not below the base word. The port has the fuse that it had at the opening,
   -- and the same of its home writes fails.
-  pub record IsRoot (K : Desk) (r : R) : Type 0 where
+  pub record IsRoot (K : DeskState) (r : R) : Type 0 where
     pub says : values.root_says (geometry_of K) r
     pub port : RootStands (core_of K) (values.root r)
     pub bound : IsBoundKept (values.root K.opening.root) (values.root r)
@@ -191,15 +191,15 @@ module _ {Q R E : Type 0} (values : Values Q R E) (group : Group E) where
   -- ---- draws
 
   -- the next transaction
-  abbrev pub next_tx : E → Desk → Tx
+  abbrev pub next_tx : E → DeskState → Tx
   next_tx e K = numbered (newest K + 1) (group.tx e)
 
   -- The journal allows the transaction, the group ran on the map at the newest number, and its blocks are placed by the
   -- rule.
-  pub record May (e : E) (K : Desk) : Type 0 where
+  pub record May (e : E) (K : DeskState) : Type 0 where
     pub draw : MayDraw (core_of K) (next_tx e K)
     pub does : group.does (geometry_of K) (map_now K) e
     pub placed : group.placed (geometry_of K) (start_of K.opening) K.opening.base (history_of K) e
 
-  abbrev pub Fits : E → Desk → Type 0
+  abbrev pub Fits : E → DeskState → Type 0
   Fits e K = group.asks (geometry_of K) (map_now K) e

@@ -2,7 +2,7 @@
 use Rattle.std.specs.Prelude.{◌≤◌, ℕ, List}
 use Rattle.mq_blocks.specs.Drive.{PortState}
 use Rattle.mq_blocks.specs.declared.geometry.Geometry.{Geometry}
-use Rattle.mq_drive.specs.Steps.{Fault}
+use Rattle.mq_drive.specs.Steps.{PortFault}
 use Rattle.mq_ledger.specs.declared.tx.Tx.{Tx}
 use Rattle.mq_turns.specs.declared.rule.Report.{Report}
 
@@ -13,7 +13,7 @@ pub record Part : Type 0 where
   -- the doorbell of its port at the opening; its whole port there, and the faults of the port
   pub start : ℕ
   pub opened : PortState
-  pub first : List Fault
+  pub first : List PortFault
   -- the base word
   pub word : ℕ
   -- the transactions of its queue, newest first
@@ -25,12 +25,12 @@ pub record Values (Q R E : Type 0) : Type 1 where
   -- of a side: its port, the faults of the port, in no order, the entries that it stores, each with its number, newest
   -- first, and what the rest of its record says
   pub port : Q → PortState
-  pub faults : Q → List Fault
+  pub faults : Q → List PortFault
   pub stored : Q → List (ℕ × E)
   pub says : Part → Q → Type 0
   -- of the root: its port, the faults of the port, and what the rest of its record says of the shape of the drive
   pub root : R → PortState
-  pub root_faults : R → List Fault
+  pub root_faults : R → List PortFault
   pub root_says : Geometry → R → Type 0
   -- the shape of the drive, by the sides and the root that a desk was opened with
   pub geometry : List Q → R → Geometry

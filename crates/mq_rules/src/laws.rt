@@ -10,7 +10,7 @@ ghost use Rattle.mq_rules.specs.Laws.{ChargesAreRuled, SidesShowCharges, RootsSh
 
 use crate::values::JournalValues;
 
-/// A page, a side or the root is by what is known later what it was, where nothing of that is about it.
+/// A page, a side or the root still satisfies its rule when more is known, if nothing of that is about it.
 pub fn values_stay<J: JournalValues>()
     ensures page { PagesStay J.values J.group }
     ensures side { SidesStay J.values J.group }
@@ -26,14 +26,14 @@ pub fn a_draw_keeps_the_rule<J: JournalValues>()
     ensures map { MapsStayGood J.values J.group }
 {}
 
-/// What a desk is opened with over a journal in which nothing was drawn is what the rule says of it, so
-/// that a desk may be made of it.
+/// The values with which a desk is opened over a journal in which nothing was drawn satisfy the rule, so
+/// that a desk may be made of them.
 pub fn an_opening_is_ruled<J: JournalValues>()
     ensures { OpeningsAreRuled J.values J.group }
 {}
 
-/// What the journal knows grows with what is known on the desk. A noted home write has been told, and the
-/// numbers of a cell are those of a page.
+/// What the journal knows grows with what is known on the desk. A noted home write is known to the journal,
+/// and the numbers of a cell are those of a page.
 pub fn the_journal_grows_with_the_desk<J: JournalValues>()
     ensures grows { JournalsGrow J.values J.group }
     ensures told { NotesAreTold J.values J.group }
@@ -62,9 +62,9 @@ pub fn a_raised_base_keeps_the_rule<J: JournalValues>()
     ensures root { RootsShowRaises J.values J.group }
 {}
 
-/// A report may be made of each port; it changes nothing else that is asked. The side or the root stays what it is
-/// where its port has gained a fault of the kind that is charged to it, and the named one since the
-/// opening; a side, where its own record says so, too.
+/// A report may be made of each port; it changes nothing else that the rule needs. The side or the root
+/// keeps its rule if its port has gained a fault of the kind that is charged to it, and the named one since
+/// the opening; a side, if its own record says so, too.
 pub fn charges_keep_the_rule<J: JournalValues>()
     ensures ok { ChargesAreRuled J.values J.group }
     ensures side { SidesShowCharges J.values J.group }

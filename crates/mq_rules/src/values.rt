@@ -2,7 +2,7 @@
 
 /// What the sides and the root on a desk show, and what a group does.
 pub trait JournalValues {
-    ghost use Rattle.mq_rules.specs.Groups.{Group};
+    ghost use Rattle.mq_rules.specs.Groups.{GroupView};
     ghost use Rattle.mq_rules.specs.Values.{Values};
 
     type Side: Drop;
@@ -14,5 +14,5 @@ pub trait JournalValues {
 
     ghost values: { Values Self.Side Self.Root Self.Entry };
 
-    ghost group: { Group Self.Entry };
+    ghost group: { GroupView Self.Entry };
 }

@@ -10,7 +10,7 @@ use Rattle.std.proofs.lemmas.List.Sums.{sum_by-append, sum_by-cons}
 use Rattle.mq_blocks.specs.Drive.{PortState}
 use Rattle.mq_blocks.specs.declared.geometry.Geometry.{Geometry}
 use Rattle.mq_calls.specs.declared.answers.Refusal.{Refusal}
-use Rattle.mq_drive.specs.Steps.{Fault}
+use Rattle.mq_drive.specs.Steps.{PortFault}
 use Rattle.mq_drive.specs.declared.port.Port.{Ghosts}
 use Rattle.mq_drive.specs.declared.port.Ports.{Ports}
 use Rattle.mq_files.specs.Group.{file_group}
@@ -33,7 +33,7 @@ use Rattle.mq_tie.specs.Rings.{RangOnceEach, txs_in}
 use Rattle.mq_tie.specs.Runs.{history_of, ports_of}
 use Rattle.mq_tie.specs.declared.ended.Ended.{Ended}
 use Rattle.mq_tie.proofs.Rings as closed
-use Rattle.mq_tie.proofs.Running.{same-ports}
+use Rattle.mq_tie.proofs.Runs.{same-ports}
 use Rattle.mq_run.specs.Lines.{AreCommitLines, IsNotAfter, joined, more, none}
 use Rattle.mq_run.specs.Playing.{Comes, Plays, begins, goes}
 use Rattle.mq_run.specs.Rings.{AreCommitsOf, HasRungOnceEach, is_commit_of}
@@ -135,7 +135,7 @@ none-counted q n (l ∷ ls) h =
     let all = sum_by-cons (commit_at q n) l ls in
     omega arith
 
-not-after : (l m : Line) → IsNotAfter l m → l.number ≤ m.number
+pub not-after : (l m : Line) → IsNotAfter l m → l.number ≤ m.number
 not-after l m (inl lt) = omega arith
 not-after l m (inr (inl h)) = let is = h.0 in omega arith
 not-after l m (inr (inr (inl h))) = let is = h.0 in omega arith
@@ -216,7 +216,7 @@ commit-numbers q (h ∷ hs) _ (more {l = l} {ls = ls} line rest) =
 
 -- ---- the lines of what was read
 
-module _ {P : Type 0} {G : Ghosts P} (state : P → PortState) (faults : P → List Fault) (g : Geometry) (session : ℕ) where
+module _ {P : Type 0} {G : Ghosts P} (state : P → PortState) (faults : P → List PortFault) (g : Geometry) (session : ℕ) where
   comes-read : (k : ℕ) (group : Group) (answer : Result ℕ Refusal) (ls : List Line) (old new : Seat P FileEntry G) → Comes state faults g session k group answer ls old new → NoCommits ls
   comes-read k group (Ok at) [] old new c = tt
   comes-read k group (Ok at) (l ∷ []) old new c = (c.1.commit, tt)
@@ -235,7 +235,7 @@ joined-read (t ∷ ts) each = no-commits-append t.reads _ (each 0 t refl) (joine
 
 -- ---- a run
 
-module _ {P : Type 0} (G : Ghosts P) (state : P → PortState) (faults : P → List Fault) (g : Geometry) (ports : Ports P) (s : Standing) (scripts : List Script) (finish : Bool) (e : RunEnd P) (q : ℕ)
+module _ {P : Type 0} (G : Ghosts P) (state : P → PortState) (faults : P → List PortFault) (g : Geometry) (ports : Ports P) (s : Standing) (scripts : List Script) (finish : Bool) (e : RunEnd P) (q : ℕ)
     (run : HasRunScripts G state faults g ports s scripts finish e) where
   abbrev o : Start P FileEntry G
   o = run.opening
@@ -293,6 +293,6 @@ module _ {P : Type 0} (G : Ghosts P) (state : P → PortState) (faults : P → L
   rang-once lt = record {
     commits = are-commits;
     rang =
-        subst (λ (z : List Fault × List PortState × List PortState). RangOnceEach (txs_in file_group q (history_of end)) z.0 (port_at z.1 q) (port_at z.2 q)) (λ i. (with-faults i, taken i, given i))
+        subst (λ (z : List PortFault × List PortState × List PortState). RangOnceEach (txs_in file_group q (history_of end)) z.0 (port_at z.1 q) (port_at z.2 q)) (λ i. (with-faults i, taken i, given i))
         (closed.rang-once state faults file_group o run.ends.left end q run.ends.run (let m = many in omega arith));
   }

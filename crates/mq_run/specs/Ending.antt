@@ -3,7 +3,7 @@ use Rattle.std.specs.Prelude.{◌≡◌, ◌≤◌, ℕ, Bool, true, false, List
 use Rattle.mq_blocks.specs.Drive.{PortState}
 use Rattle.mq_checkpoint.specs.Raised.{HasRefused, Raises}
 use Rattle.mq_checkpoint.specs.declared.refusal.CheckpointRefusal.{CheckpointRefusal}
-use Rattle.mq_drive.specs.Steps.{Fault}
+use Rattle.mq_drive.specs.Steps.{PortFault}
 use Rattle.mq_drive.specs.declared.port.Port.{Ghosts}
 use Rattle.mq_files.specs.Group.{file_group}
 use Rattle.mq_files.specs.declared.entry.FileEntry.{FileEntry}
@@ -26,7 +26,7 @@ module _ {P : Type 0} {G : Ghosts P} where
     pub later : old.seen ≤ new.seen
     pub each : Each (λ v. Below new.seen v) others
 
-module _ {P : Type 0} {G : Ghosts P} (state : P → PortState) (faults : P → List Fault) where
+module _ {P : Type 0} {G : Ghosts P} (state : P → PortState) (faults : P → List PortFault) where
   -- what the checkpoint at the end answered, where one was asked for
   abbrev pub Finishes : Option (Result ℕ CheckpointRefusal) → List (Seat P FileEntry G) → Seat P FileEntry G → Seat P FileEntry G → Type 0
   Finishes None others old new = new ≡ old

@@ -3,7 +3,7 @@ use Rattle.std.specs.Prelude.{◌≡◌, ℕ, Bool, List, Err, Ok, Some}
 use Rattle.mq_blocks.specs.Drive.{PortState}
 use Rattle.mq_blocks.specs.declared.geometry.Geometry.{Geometry}
 use Rattle.mq_checkpoint.specs.declared.refusal.CheckpointRefusal.TheVariants.{Drive}
-use Rattle.mq_drive.specs.Steps.{Fault}
+use Rattle.mq_drive.specs.Steps.{PortFault}
 use Rattle.mq_drive.specs.declared.port.Port.{Ghosts}
 use Rattle.mq_drive.specs.declared.port.Ports.{Ports}
 use Rattle.mq_journal.specs.Draining.{report_of}
@@ -27,7 +27,7 @@ pub record IsBehindStop (g : Geometry) (why : Cause) (old new : DriveFaults) : T
   pub port : Turn
   pub behind : IsBehindAt g port (report_of why) old new
 
-module _ {P : Type 0} (G : Ghosts P) (state : P → PortState) (faults : P → List Fault) where
+module _ {P : Type 0} (G : Ghosts P) (state : P → PortState) (faults : P → List PortFault) where
   -- the ports that a run gives back are those of the drive, each with its fuse and its failing command
   abbrev pub RunsKeepTheirPorts : Type 0
   RunsKeepTheirPorts =

@@ -9,7 +9,7 @@ use Rattle.mq_calls.specs.Calling.{call_by}
 use Rattle.mq_calls.specs.Synchronizing.{IsDurable, IsNotDurable}
 use Rattle.mq_calls.specs.declared.answers.Answer.{Answer}
 use Rattle.mq_calls.specs.declared.answers.Refusal.{Refusal}
-use Rattle.mq_drive.specs.Steps.{Fault}
+use Rattle.mq_drive.specs.Steps.{PortFault}
 use Rattle.mq_drive.specs.declared.port.Port.{Ghosts}
 use Rattle.mq_files.specs.declared.entry.FileEntry.{FileEntry}
 use Rattle.mq_journal.specs.Numbers.{Seat}
@@ -85,7 +85,7 @@ abbrev pub AreLines : (session k : ℕ) → End → Result Answer Refusal → Li
 AreLines session k end (Ok a) lines = AreLinesAt session k end a.at a.drew a.replies.items lines
 AreLines session k end (Err r) lines = lines ≡ []
 
-module _ {P : Type 0} {G : Ghosts P} (state : P → PortState) (faults : P → List Fault) where
+module _ {P : Type 0} {G : Ghosts P} (state : P → PortState) (faults : P → List PortFault) where
   -- the group was done as its end asks
   abbrev pub IsDone : Geometry → End → Call → (at : ℕ) → (drew : Bool) → List Reply → Seat P FileEntry G → Seat P FileEntry G → Type 0
   IsDone g Fsync c at drew replies old new = IsDurable state faults g c at drew replies old new

@@ -3,7 +3,7 @@ use Rattle.std.specs.Prelude.{◌≡◌, ◌<◌, ◌&&◌, ℕ, Bool, List, map
 use Rattle.std.specs.List.{filter}
 use Rattle.mq_blocks.specs.Drive.{PortState}
 use Rattle.mq_blocks.specs.declared.geometry.Geometry.{Geometry}
-use Rattle.mq_drive.specs.Steps.{Fault}
+use Rattle.mq_drive.specs.Steps.{PortFault}
 use Rattle.mq_drive.specs.declared.port.Port.{Ghosts}
 use Rattle.mq_drive.specs.declared.port.Ports.{Ports}
 use Rattle.mq_files.specs.Group.{file_group}
@@ -29,7 +29,7 @@ is_commit_of q l = l.commit && nat_eq l.session q
 abbrev pub AreCommitsOf : ℕ → List Line → List Tx → Type 0
 AreCommitsOf q lines txs = map (λ l. l.number) (filter (is_commit_of q) lines) ≡ map (λ t. t.number) (reverse txs)
 
-module _ {P : Type 0} (state : P → PortState) (faults : P → List Fault) where
+module _ {P : Type 0} (state : P → PortState) (faults : P → List PortFault) where
   -- In a run over these ports with this history, the port of a queue rang once for each commit of the report that its session
   -- sent. Home writes aside, at most 2n + 4 events happened on it for each commit of n entries, and one for each of its
   -- faults, unless these are as many as a count of 64 bits can say.
@@ -37,7 +37,7 @@ module _ {P : Type 0} (state : P → PortState) (faults : P → List Fault) wher
     pub commits : AreCommitsOf q e.entries.items (txs_in file_group q history)
     pub rang : RangOnceEach (txs_in file_group q history) (faults_at (faults_on faults e.ports) q) (port_at (drive_of state ports).queues q) (port_at (drive_of state e.ports).queues q)
 
-module _ {P : Type 0} (G : Ghosts P) (state : P → PortState) (faults : P → List Fault) where
+module _ {P : Type 0} (G : Ghosts P) (state : P → PortState) (faults : P → List PortFault) where
   -- each port of a queue that a run gives back has rung so
   abbrev pub RunsRingOnce : Type 0
   RunsRingOnce =

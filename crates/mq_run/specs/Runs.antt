@@ -5,7 +5,7 @@ use Rattle.std.specs.List.Sorted.{IsPermutation}
 use Rattle.mq_blocks.specs.Drive.{PortState}
 use Rattle.mq_blocks.specs.declared.geometry.Geometry.{Geometry}
 use Rattle.mq_calls.specs.Opening.{IsOpenedOver}
-use Rattle.mq_drive.specs.Steps.{Fault}
+use Rattle.mq_drive.specs.Steps.{PortFault}
 use Rattle.mq_drive.specs.declared.port.Port.{Ghosts}
 use Rattle.mq_drive.specs.declared.port.Ports.{Ports}
 use Rattle.mq_files.specs.Group.{file_group}
@@ -48,7 +48,7 @@ module _ {P : Type 0} {G : Ghosts P} where
     pub lines : IsPermutation (commits ++ joined reads) e.entries.items
     pub order : AllPairs IsNotAfter e.entries.items
 
-module _ {P : Type 0} {G : Ghosts P} (state : P → PortState) (faults : P → List Fault) where
+module _ {P : Type 0} {G : Ghosts P} (state : P → PortState) (faults : P → List PortFault) where
   -- Where it was asked for, the first session heard of what the others knew, and made a checkpoint. Then the desk was
   -- closed: the ports, the cells and the history are those that it had at the end.
   pub record EndsSo (opening : Start P FileEntry G) (tracks : List (Track P G)) (finish : Bool) (e : RunEnd P) : Type 0 where
@@ -58,7 +58,7 @@ module _ {P : Type 0} {G : Ghosts P} (state : P → PortState) (faults : P → L
     pub run : HasRun state faults file_group opening left end
     pub leaves : Leaves end (map (λ t. t.told) tracks) (map (λ t. t.reads) tracks) e
 
-module _ {P : Type 0} (G : Ghosts P) (state : P → PortState) (faults : P → List Fault) where
+module _ {P : Type 0} (G : Ghosts P) (state : P → PortState) (faults : P → List PortFault) where
   -- Each session has played its script, from the opening of a desk over these ports; and then the run ended.
   pub record HasRunScripts (g : Geometry) (ports : Ports P) (s : Standing) (scripts : List Script) (finish : Bool) (e : RunEnd P) : Type 0 where
     pub opening : Start P FileEntry G

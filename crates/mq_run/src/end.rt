@@ -9,11 +9,11 @@ use mq_report::{Line, Told};
 /// What a run of scripts leaves, and what it reports.
 #[derive(Drop)]
 pub struct RunEnd<P: Port> {
-    /// The ports of the drive, as they are once nobody holds anything.
+    /// The ports of the drive, once no chair holds anything.
     pub ports: Ports<P>,
     /// The commits and the reads, by number, the commit before the reads, and these by session and group.
     pub entries: Vec<Line>,
-    /// What each group was answered, by session and group.
+    /// The answer to each group, by session and group.
     pub answers: Vec<Told>,
     /// The cells of the home blocks.
     pub pages: Vec<PageCell>,
@@ -21,6 +21,6 @@ pub struct RunEnd<P: Port> {
     pub placed: Vec<Placed>,
     /// The last number drawn, or the base at the opening.
     pub next: TxNo,
-    /// What the checkpoint at the end answered, where one was asked for.
+    /// The result of the checkpoint at the end, if one was asked for.
     pub finished: Option<Result<TxNo, CheckpointRefusal>>,
 }

@@ -41,8 +41,8 @@ fn tell_first<P: Port + Drop>(files: &Mqfs<P>, first: &mut Session<P>, others: &
     }
 }
 
-/// Makes a checkpoint by the first session, where one is asked for. It hears of what the others know before,
-/// and so the base covers every number that was drawn.
+/// Makes a checkpoint by the first session, if one is asked for. Before that it learns what the other
+/// sessions know, so that the base covers every number that was drawn.
 pub(crate) fn finish<P: Port + Drop, R: Wait>(
     rt: &R,
     alloc: Global,
@@ -71,7 +71,7 @@ pub(crate) fn finish<P: Port + Drop, R: Wait>(
     }
 }
 
-/// Ends the desk of a file system, all of whose sessions these are. Out of memory drops all.
+/// Ends the desk of a file system, all of whose sessions these are. On out of memory everything is dropped.
 pub(crate) fn end_run<P: Port + Drop>(
     alloc: Global,
     files: Mqfs<P>,
@@ -162,7 +162,7 @@ fn take_apart<P: Port + Drop>(
     })
 }
 
-/// Ends a run whose sessions have played their scripts. Out of memory drops all.
+/// Ends a run whose sessions have played their scripts. On out of memory everything is dropped.
 pub(crate) fn end_scripts<P: Port + Drop, R: Wait>(
     rt: &R,
     alloc: Global,

@@ -4,20 +4,21 @@ ghost use Rattle.mq_run.specs.Rings.{RunsRingOnce};
 
 use mq_drive::Port;
 
-/// The ports that a run gives back are those of the drive still: each is the port of its role, with the fuse that it had
-/// before, and the same of its commands and home writes fails.
+/// The ports that a run gives back are still those of the drive: each is the port of its role, with the
+/// fuse that it had before, and the same of its commands and home writes fails.
 pub fn a_run_keeps_its_ports<P: Port>()
     ensures { RunsKeepTheirPorts P.Port P.state P.faults }
 {}
 
-/// Where the checkpoint at the end of a run answers a base, that is the last number drawn, and the base of the root's
-/// port: so no transaction is above it.
+/// If the checkpoint at the end of a run returns a base, that is the last number drawn, and the base of the
+/// root's port, so that no transaction is above it.
 pub fn a_finished_run_is_clean<P: Port>()
     ensures { FinishedRunsAreClean P.Port P.state P.faults }
 {}
 
-/// Where the drive refused the checkpoint at the end of a run, one of its ports is behind it: since the run began it has
-/// gained the fault that the refusal names, or it has as many faults as a count of 64 bits can say.
+/// Where the drive refused the checkpoint at the end of a run, one of its ports is the cause: since the run
+/// began it has gained the fault that the refusal names, or it has as many faults as a count of 64 bits can
+/// say.
 pub fn a_stopped_run_is_backed<P: Port>()
     ensures { StopsAreBacked P.Port P.state P.faults }
 {}

@@ -53,7 +53,7 @@ fn commit_line(alloc: Global, drawn: &Drawn<FileEntry>) -> Result<Line, OutOfMem
     })
 }
 
-/// The lines of the commits, in number order, with room for so many lines more.
+/// The lines of the commits, in number order, with room for `more` further lines.
 pub(crate) fn commit_lines<P: Port>(
     alloc: Global,
     ended: &Ended<P, FileEntry>,
@@ -93,7 +93,7 @@ pub(crate) fn placements<P: Port>(
     Ok(all)
 }
 
-/// How many items there are in all lists, or `usize::MAX` where there are more.
+/// The number of items in all lists, or `usize::MAX` if there are more.
 pub(crate) fn count_all<T>(lists: &[Vec<T>]) -> usize {
     let mut count: usize = 0;
     for list in lists {
@@ -102,7 +102,7 @@ pub(crate) fn count_all<T>(lists: &[Vec<T>]) -> usize {
     count
 }
 
-/// The items of all lists behind these, one list's after another's.
+/// The items of all lists after these, one list after another.
 pub(crate) fn gather<T: Drop>(lists: Vec<Vec<T>>, first: Vec<T>) -> Result<Vec<T>, OutOfMemory>
     ensures { IfOk result (λ all. all.items ≡ first.items ++ joined (map (λ l. l.items) lists.items)) }
 {

@@ -54,7 +54,8 @@ fn seat<P: Port + Drop>(
 }
 
 /// A file system over the ports of a drive that was recovered, and a runner for each script. All memory for
-/// what the runners are told is taken before the file system is opened. Out of memory gives the ports back.
+/// the answers to the runners is taken before the file system is opened. On out of memory the ports are
+/// given back.
 pub(crate) fn open_runners<P: Port + Drop>(
     alloc: Global,
     geometry: Geometry,

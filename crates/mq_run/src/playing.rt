@@ -114,8 +114,8 @@ fn add_line(
     }
 }
 
-/// A session asks the groups of its script one after another, until an answer ends it, and keeps what it is told
-/// and the lines of what it reads. It takes no memory for them.
+/// A session executes the groups of its script one after another, until an answer ends it, and keeps the
+/// answers and the lines of what it reads. It takes no memory for them.
 pub(crate) fn play<P: Port + Drop, R: Wait, G: Gate>(
     rt: &R,
     alloc: Global,

@@ -3,7 +3,7 @@ use mq_calls::User;
 use mq_report::{Line, Told};
 use mq_turns::Machine;
 
-/// A session, what its groups were answered so far, and the lines of those that were read.
+/// A session, the answers to its groups so far, and the lines of those that were read.
 #[derive(Drop)]
 pub(crate) struct Runner<M: Machine> {
     pub(crate) user: User<M>,

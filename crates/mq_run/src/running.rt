@@ -21,8 +21,8 @@ use std::sync::Wait;
 use std::thread::Threads;
 
 /// Runs scripts, each on a session of its own and a thread of its own, over the ports of a drive that was
-/// recovered, and ends the run; with `finish` by a checkpoint. Out of memory gives the ports back as they were
-/// where nothing was run yet, and else nothing: the ports are dropped with the desk.
+/// recovered, and ends the run; with `finish` by a checkpoint. On out of memory the ports are given back as
+/// they were if nothing was run yet; else they are dropped with the desk.
 pub fn run_scripts<P: Port + Drop + Send, R: Threads + Wait + Sync, G: Gate + Sync>(
     rt: &R,
     alloc: Global,

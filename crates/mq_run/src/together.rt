@@ -17,8 +17,8 @@ use std::alloc::Global;
 use std::sync::Wait;
 use std::thread::{Threads, for_each_mut};
 
-/// A machine on whose sessions scripts are played. By it the threads are forked over any entries: all that they
-/// ask of these is that they may be sent from one to another.
+/// A machine on whose sessions scripts are played. With this trait the threads are forked over entries of
+/// any type, of which they need only that they may be sent to another thread.
 trait Scripted: Shaped {
     ghost use Rattle.std.specs.Prelude.{ℕ, List};
     ghost use Rattle.mq_blocks.specs.declared.geometry.Geometry.{Geometry};

@@ -4,19 +4,11 @@ use Rattle.std.specs.List.{list_all}
 use Rattle.mq_text.specs.Text.{hex_text}
 use Rattle.mq_tree.specs.declared.request.Request.{Request}
 use Rattle.mq_tree.specs.declared.request.Request.TheVariants.{Mkdir, Create, Write, Truncate, Unlink, Rmdir, Rename, Read, List as ListOf, Stat}
+use Rattle.mq_tree.specs.Listings.{path_text}
 use Rattle.mq_script.specs.Lines.{is_plain}
 use Rattle.mq_script.specs.Scripts.{Group, Script}
 use Rattle.mq_script.specs.declared.group.End.{End}
 use Rattle.mq_script.specs.declared.group.End.TheVariants.{Fsync, Fatomic, Ask}
-
--- each name after a slash
-abbrev pub names_text : List (List ℕ) → List ℕ
-names_text [] = []
-names_text (name ∷ names) = 47 ∷ name ++ names_text names
-
-abbrev pub path_text : List (List ℕ) → List ℕ
-path_text [] = codes "/"
-path_text (name ∷ names) = names_text (name ∷ names)
 
 -- two digits for each byte
 abbrev pub pairs_text : List ℕ → List ℕ

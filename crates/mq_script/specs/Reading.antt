@@ -13,7 +13,7 @@ use Rattle.mq_script.specs.declared.refusal.ScriptCause.TheVariants.{Size, Open}
 abbrev pub without_line_feed : List ℕ → List ℕ
 without_line_feed text = if bytes_eq (drop (length text - 1) text) (codes "\n") then take (length text - 1) text else text
 
--- the lines, each ended by a line feed, which the last may lack
+-- the lines, each ended by a line feed, which may be missing from the last
 abbrev pub lines_of : List ℕ → List (List ℕ)
 lines_of [] = []
 lines_of (b ∷ bs) = slice_split (λ c. c == 10) (without_line_feed (b ∷ bs))

@@ -5,8 +5,9 @@ use Rattle.mq_text.specs.Refusals.{ended}
 use Rattle.mq_text.specs.Text.{hex_text}
 use Rattle.mq_tree.specs.declared.request.Request.{Request}
 use Rattle.mq_tree.specs.declared.request.Request.TheVariants.{Mkdir, Create, Write, Truncate, Unlink, Rmdir, Rename, Read, List as ListOf, Stat}
+use Rattle.mq_tree.specs.Listings.{path_text}
 use Rattle.mq_script.specs.Grammar.{AreBytes, IsNumber, IsPath}
-use Rattle.mq_script.specs.Printing.{is_quotable, pairs_text, path_text, request_text}
+use Rattle.mq_script.specs.Printing.{is_quotable, pairs_text, request_text}
 use Rattle.mq_script.specs.Scripts.{Group, Script}
 use Rattle.mq_script.specs.declared.group.End.{End}
 use Rattle.mq_script.specs.declared.group.End.TheVariants.{Fsync, Fatomic, Ask}
@@ -73,7 +74,7 @@ SpellAll lines [] = lines ≡ []
 SpellAll lines (g ∷ groups) =
     (asked : List (List ℕ)) × (rest : List (List ℕ)) × AskAll asked g.requests × (lines ≡ asked ++ end_word g.end ∷ rest) × SpellAll rest groups
 
--- each line ends with a line feed, which the last may lack
+-- each line ends with a line feed, which may be missing from the last
 abbrev pub AreLines : List ℕ → List (List ℕ) → Type 0
 AreLines text lines = (text ≡ ended 10 lines) ⊎ (text ++ 10 ∷ [] ≡ ended 10 lines)
 

@@ -10,10 +10,11 @@ use crate::refusal::{LineRefusal, ScriptCause};
 use mq_tree::Bytes;
 use std::alloc::Global;
 
-/// The most bytes that a byte and a count may stand for, which is the most that a file has.
+/// The greatest count in data of the form of a byte and a count, which is the greatest size of a
+/// file.
 const FILL_LIMIT: u64 = 4_243_456;
 
-/// What stands before a quote at the end, which is the only one.
+/// The bytes before the quote at the end of the text, which is the only quote.
 fn read_quoted(alloc: Global, text: &[u8]) -> Result<Bytes, LineRefusal>
     ensures { Agrees (ok_or (quoted_in text.now) not_data) result }
 {

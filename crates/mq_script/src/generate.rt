@@ -31,7 +31,7 @@ fn directory(alloc: Global, thread: u32) -> Result<Path, OutOfMemory>
     Ok(Path(names))
 }
 
-/// The path of a file in it.
+/// The path of a file in the directory of a thread.
 fn file(alloc: Global, thread: u32, number: u64) -> Result<Path, OutOfMemory>
     ensures { IfOk result (λ path. path ≡ file_of thread number) }
 {

@@ -2,7 +2,7 @@
 use mq_tree::Request;
 use std::marker::Model;
 
-/// What is asked of a group once its requests are executed.
+/// How a group ends: what it needs beside the execution of its requests.
 #[derive(Clone, Copy, Debug, PartialEq, Eq)]
 pub enum End {
     /// The group is one transaction, and durable before the answer.

@@ -5,7 +5,7 @@ ghost use Rattle.mq_script.specs.Printing.{script_text};
 ghost use Rattle.mq_script.specs.Reading.{script_in};
 ghost use Rattle.mq_script.specs.Scripts.{Script};
 
-/// A script that was printed is read again as it was, where its text is not too long.
+/// Reading the text of a printed script gives the script, if the text is not too long.
 pub fn printed_scripts_are_read()
     ensures { (script : Script)
         → IsScript script

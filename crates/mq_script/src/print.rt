@@ -2,7 +2,8 @@
 ghost use Rattle.std.specs.Prelude.{◌≡◌, ◌<◌, ◌++◌, ◌∷◌, IfOk, OnOk, decimal};
 ghost use Rattle.std.specs.List.{list_all};
 ghost use Rattle.mq_text.specs.Text.{hex_digit};
-ghost use Rattle.mq_script.specs.Printing.{names_text, path_text, pairs_text, is_quotable, data_text};
+ghost use Rattle.mq_tree.specs.Listings.{names_text, path_text};
+ghost use Rattle.mq_script.specs.Printing.{pairs_text, is_quotable, data_text};
 ghost use Rattle.mq_script.specs.Printing.{request_text, end_text, requests_text, groups_text, script_text};
 
 use crate::group::{End, Group, Script};
@@ -70,7 +71,7 @@ fn are_quotable(bytes: &[u8]) -> bool
     bytes.iter().all(|b| *b >= b' ' && *b <= b'~' && *b != b'"')
 }
 
-/// Writes a space and data, between quotes where they may stand there.
+/// Writes a space and data, between quotes if they may stand there.
 fn put_data(out: &mut Vec<u8>, bytes: &[u8]) -> Result<(), OutOfMemory>
     ensures { OnOk result (out.new.items ≡ out.old.items ++ 32 ∷ data_text bytes.now) }
 {

@@ -11,7 +11,7 @@ use mq_text::cut_at;
 use std::alloc::{AllocError, Global};
 use std::mem;
 
-/// The most bytes of a script.
+/// The greatest number of bytes of a script.
 const SIZE_LIMIT: usize = 16_777_216;
 
 /// The lines of a text.

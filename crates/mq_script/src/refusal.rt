@@ -32,7 +32,7 @@ pub enum ScriptCause {
 pub enum ScriptRefusal {
     /// The first line that is refused, counted from 1, and its first cause.
     At { line: u32, cause: ScriptCause },
-    /// Memory was not to be had. The script may be good.
+    /// Memory ran out. The script may be good.
     OutOfMemory,
 }
 

@@ -1,7 +1,8 @@
 -- What a transaction writes, on its way into the ring.
 use Rattle.std.specs.Prelude.{◌≡◌, ◌⊎◌, ◌↔◌, ℕ, ◌+◌, true, List, [], ◌∷◌, ◌++◌, length, if◌then◌else◌}
+use Rattle.mq_blocks.specs.Copies.{copies_at, directs_of}
 use Rattle.mq_blocks.specs.Descriptor.{Descriptor, AreRising, AreApart, descriptor_bytes}
-use Rattle.mq_blocks.specs.Geometry.{area_lba, home_lba}
+use Rattle.mq_blocks.specs.Geometry.{area_lba}
 use Rattle.mq_blocks.specs.Journal.{is_among}
 use Rattle.mq_blocks.specs.Machine.{Writes}
 use Rattle.mq_blocks.specs.declared.geometry.Geometry.{Geometry}
@@ -88,15 +89,6 @@ commit_of t us = record {
 }
 
 -- ---- what goes into the ring
-
--- the copies of the logged blocks, from a place on
-abbrev pub copies_at : Geometry → ℕ → ℕ → Writes → Items
-copies_at g q place [] = []
-copies_at g q place (w ∷ ws) = (area_lba g q place, w.1) ∷ copies_at g q (place + 1) ws
-
-abbrev pub directs_of : Geometry → Writes → Items
-directs_of g [] = []
-directs_of g (w ∷ ws) = (home_lba g w.0, w.1) ∷ directs_of g ws
 
 -- the copies of the logged blocks, then the direct blocks, and the descriptor last
 abbrev pub items_of : Geometry → NumberedCommit → Items

@@ -2,7 +2,7 @@
 use Rattle.std.specs.Prelude.{◌≡◌, ◌≢◌, ◌⊎◌, ◌<◌, ◌≤◌, ◌-◌, ◌^◌, ◌++◌, ℕ, Bool, true, false, List, [], ◌∷◌, length, map, Option, Some, None, Result, Ok, Err, nat_le, if◌then◌else◌}
 use Rattle.mq_blocks.specs.Drive.{IsBoundKept}
 use Rattle.mq_blocks.specs.declared.command.Command.{Command}
-use Rattle.mq_drive.specs.Steps.{Fault, CommandError, PowerOff, Gains}
+use Rattle.mq_drive.specs.Steps.{PortFault, CommandError, PowerOff, Gains}
 use Rattle.mq_drive.specs.declared.port.Off.{Off}
 use Rattle.mq_ledger.specs.KnownJournal.{KnownJournal, LogOk}
 use Rattle.mq_ledger.specs.declared.tx.Tx.{Tx}
@@ -33,15 +33,15 @@ kept_after kept [] = kept
 kept_after kept (f ∷ fs) = kept_after (kept_with kept f.0 f.1) fs
 
 -- each is one more fault
-abbrev pub AreGained : Failures → List Fault → List Fault → Type 0
+abbrev pub AreGained : Failures → List PortFault → List PortFault → Type 0
 AreGained [] old new = new ≡ old
-AreGained (f ∷ fs) old new = (mid : List Fault) × Gains (CommandError f.0 f.1) old mid × AreGained fs mid new
+AreGained (f ∷ fs) old new = (mid : List PortFault) × Gains (CommandError f.0 f.1) old mid × AreGained fs mid new
 
 abbrev pub numbers_of : List Command → List ℕ
 numbers_of cs = map (λ c. c.tx) cs
 
 -- These failures and no others were taken, and the faults came to these by them.
-pub record Takes (old : SideState) (failures : Failures) (faults : List Fault) (new : SideState) : Type 0 where
+pub record Takes (old : SideState) (failures : Failures) (faults : List PortFault) (new : SideState) : Type 0 where
   pub failed : numbers_of new.port.failed ≡ numbers_of old.port.failed ++ map (λ f. f.0) failures
   pub gained : AreGained failures old.faults faults
   pub kept : new.kept ≡ kept_after old.kept failures
@@ -66,13 +66,13 @@ pub record SameEnds (old new : SideState) : Type 0 where
   pub rings : new.port.rings ≡ old.port.rings
   pub bound : IsBoundKept old.port new.port
 
-abbrev pub CompletesTo : Failures → List Fault → Result Bool Off → SideState → Type 0
+abbrev pub CompletesTo : Failures → List PortFault → Result Bool Off → SideState → Type 0
 CompletesTo failures faults (Ok failed) new = (new.port.posted ≡ []) × (new.faults ≡ faults) × HasTaken failures failed
 CompletesTo failures faults (Err _) new = Gains PowerOff faults new.faults
 
 pub record Completes (old : SideState) (result : Result Bool Off) (new : SideState) : Type 0 where
   pub failures : Failures
-  pub faults : List Fault
+  pub faults : List PortFault
   pub takes : Takes old failures faults new
   pub ends : CompletesTo failures faults result new
   pub same : SameEnds old new
@@ -108,7 +108,7 @@ pub record IsDrained (old new : SideState) : Type 0 where
   pub head : new.port.head ≡ new.passed.end
   pub done : new.done ≡ new.passed.tx
 
-abbrev pub DrainsTo : SideState → Failures → List Fault → Result ℕ Cause → SideState → Type 0
+abbrev pub DrainsTo : SideState → Failures → List PortFault → Result ℕ Cause → SideState → Type 0
 DrainsTo old failures faults (Ok n) new =
     (failures ≡ []) × (new.kept ≡ None) × (n ≡ new.done) × (new.faults ≡ faults) × IsDrained old new
 DrainsTo old failures faults (Err (Failed tx status)) new =
@@ -120,7 +120,7 @@ DrainsTo old failures faults (Err (FailedHome block status)) new = ⊥
 
 pub record Drains (old : SideState) (result : Result ℕ Cause) (new : SideState) : Type 0 where
   pub failures : Failures
-  pub faults : List Fault
+  pub faults : List PortFault
   pub takes : Takes old failures faults new
   pub ends : DrainsTo old failures faults result new
   pub geometry : new.geometry ≡ old.geometry
@@ -136,11 +136,11 @@ IsWhole old new =
     → new.port.head ≡ new.port.doorbell
 
 -- there are more faults, or as many as a count of 64 bits can say
-abbrev pub Rises : List Fault → List Fault → Type 0
+abbrev pub Rises : List PortFault → List PortFault → Type 0
 Rises old new = (length old ≤ length new) × ((length old < length new) ⊎ (2 ^ 64 - 1 ≤ length old))
 
 -- `Off` and `Failed` come only where there are more faults
-abbrev pub DrainCause : Result ℕ Cause → List Fault → List Fault → Type 0
+abbrev pub DrainCause : Result ℕ Cause → List PortFault → List PortFault → Type 0
 DrainCause (Ok n) old new = new ≡ old
 DrainCause (Err cause.Off) old new = Rises old new
 DrainCause (Err (Failed tx status)) old new = Rises old new

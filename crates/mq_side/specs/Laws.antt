@@ -137,17 +137,17 @@ Reaching =
     → n ≡ number_before us
 
 -- the answer names this transaction
-abbrev pub Names : Cause → ℕ → Type 0
-Names (Failed tx status) n = tx ≡ n
-Names (Stopped tx w) n = tx ≡ n
-Names cause.Off n = ⊥
-Names (FailedHome block status) n = ⊥
+abbrev pub NamesTransaction : Cause → ℕ → Type 0
+NamesTransaction (Failed tx status) n = tx ≡ n
+NamesTransaction (Stopped tx w) n = tx ≡ n
+NamesTransaction cause.Off n = ⊥
+NamesTransaction (FailedHome block status) n = ⊥
 
 -- Of a failure, each transaction of the queue before the one that is named is done.
 abbrev pub DoneBefore : Type 0
 DoneBefore =
     (k : KnownJournal) (q : ℕ) (us : List Tx) (old new : SideState) (c : Cause) (n : ℕ) → LogOk k
-    → IsQueueSide k q us old → Drains old (Err c) new → Stays old new → Names c n
+    → IsQueueSide k q us old → Drains old (Err c) new → Stays old new → NamesTransaction c n
     → (t : Tx) (ts : List Tx) → IsAt t ts us → t.number < n → t.number ≤ new.done
 
 -- Each transaction up to the last that is done has all its entries below the flushed head.

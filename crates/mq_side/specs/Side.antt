@@ -3,7 +3,7 @@ use Rattle.std.specs.Prelude.{◌≡◌, ◌≢◌, ◌⊎◌, ◌≤◌, ℕ, L
 use Rattle.mq_blocks.specs.Drive.{PortState}
 use Rattle.mq_blocks.specs.declared.command.Command.{Command}
 use Rattle.mq_blocks.specs.declared.geometry.Geometry.{Geometry}
-use Rattle.mq_drive.specs.Steps.{Fault}
+use Rattle.mq_drive.specs.Steps.{PortFault}
 use Rattle.mq_drive.specs.declared.port.Port.{Ghosts}
 use Rattle.mq_ledger.specs.History.{IsAt}
 use Rattle.mq_ledger.specs.Items.{end_of}
@@ -22,7 +22,7 @@ pub record SideState : Type 0 where
   pub geometry : Geometry
   pub queue : ℕ
   pub port : PortState
-  pub faults : List Fault
+  pub faults : List PortFault
   -- the records of its ring: the last transaction that was passed, and those that were rung after it
   pub passed : Rung
   pub rung : List Rung
@@ -31,7 +31,7 @@ pub record SideState : Type 0 where
   -- the failure that it keeps
   pub kept : Option (ℕ × Why)
 
-abbrev pub side_state : {P : Type 0} {E : Type 0} {G : Ghosts P} → (P → PortState) → (P → List Fault) → QueueSide P E G → SideState
+abbrev pub side_state : {P : Type 0} {E : Type 0} {G : Ghosts P} → (P → PortState) → (P → List PortFault) → QueueSide P E G → SideState
 side_state state faults s = record {
   geometry = s.pmr.geometry;
   queue = s.pmr.queue;

@@ -13,13 +13,13 @@ pub enum Why {
     Off,
 }
 
-/// Why the drive did not do what was asked.
+/// Why the drive did not execute a call.
 #[derive(Clone, Copy, Debug, PartialEq, Eq)]
 pub enum Cause {
     /// The power is off.
     Off,
-    /// A command failed in this call. Of the transactions with a failed command this is the least, with
-    /// the status that was first taken of it.
+    /// A command failed in this call. Of the transactions with a failed command, this is the one with
+    /// the smallest number, with the first status that was seen of it.
     Failed { tx: TxNo, status: u16 },
     /// A home write of this block failed.
     FailedHome { block: BlockNo, status: u16 },

@@ -1,9 +1,10 @@
 // A transaction's writes: prepared, and then numbered.
 ghost use Rattle.std.specs.Prelude.{◌≡◌, ◌<◌, ◌≤◌, ◌+◌, ◌++◌, ◌∷◌, ◌^◌, ℕ, true, [], length, reverse, vec_len, vec_capacity, IfOk};
+ghost use Rattle.mq_blocks.specs.Copies.{copies_at, directs_of};
 ghost use Rattle.mq_blocks.specs.Geometry.{queues_of, homes_of};
 ghost use Rattle.mq_blocks.specs.Journal.{is_among};
 ghost use Rattle.mq_ledger.specs.History.{blocks_of};
-ghost use Rattle.mq_side.specs.Commits.{copies_at, directs_of, items_of};
+ghost use Rattle.mq_side.specs.Commits.{items_of};
 ghost use Rattle.mq_side.specs.Parts.{writes_of};
 ghost use Rattle.mq_side.specs.Sent.{AreInZone};
 
@@ -13,7 +14,7 @@ use mq_pages::ShadowPage;
 use std::marker::Model;
 
 /// A transaction that is ready to be drawn: shadows of its writes, and all the memory that its commit
-/// takes.
+/// needs.
 #[derive(Drop)]
 pub struct Prepared {
     // what goes into the journal area, and what goes home

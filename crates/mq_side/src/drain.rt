@@ -44,7 +44,7 @@ fn answer(failed: bool, done: TxNo, kept: Option<(TxNo, Why)>) -> Result<TxNo, C
 }
 
 impl<P: Port, E> QueueSide<P, E> {
-    // Completes until nothing is posted. Answers whether a command failed.
+    // Completes until nothing is posted. Returns whether a command failed.
     fn complete(&mut self) -> Result<bool, Off>
         ensures completes { Completes (side_state P.state P.faults self.old) result
             (side_state P.state P.faults self.new) }

@@ -5,7 +5,7 @@ use mq_blocks::TxNo;
 #[derive(Drop)]
 pub struct Drawn<E> {
     pub number: TxNo,
-    /// The place behind its descriptor in the journal area of the queue.
+    /// The place after its descriptor in the journal area of the queue.
     pub next: u64,
     pub entry: E,
 }

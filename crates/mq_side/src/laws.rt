@@ -1,7 +1,7 @@
 // What holds of a side while others draw, and where a claim is made.
 ghost use Rattle.mq_side.specs.Laws.{Opening, Planning, Fitting, Numbering, Storing, OwnDraw, OtherDraws, DrawCounts, HasItems, Claiming, Changing, Reaching, DoneBefore, BelowHead, Bound};
 
-/// A side on which nothing was drawn is one of a journal whose history has nothing of its queue.
+/// A side on which nothing was drawn is a side of a journal whose history has no transaction of its queue.
 pub fn a_new_side_is_one()
     ensures { Opening }
 {}
@@ -11,9 +11,9 @@ pub fn a_placement_is_a_plan()
     ensures { Planning }
 {}
 
-/// A transaction that fits has the room that a draw asks for. A draw leaves a side of the grown history,
-/// also of another queue. What is numbered next is the transaction's commit, and its items are those of the
-/// entries that come next.
+/// A transaction that fits has the room that a draw needs. After a draw each side, including those of other
+/// queues, is a side of the grown history. What is numbered next is the transaction's commit, and its items
+/// are those of the entries that come next.
 pub fn a_draw_keeps_sides()
     ensures fitting { Fitting }
     ensures numbering { Numbering }
@@ -29,7 +29,7 @@ pub fn a_number_is_stored<E>()
 {}
 
 /// What is known of the journal may change: more may be known to be done, of the side's own queue up to the
-/// last number of which the side knows it. Of all else that may change, only what holds of the port speaks.
+/// last number of which the side knows it. Beyond that, a side depends only on the facts about its port.
 pub fn a_claim_keeps_sides()
     ensures done { Claiming }
     ensures changed { Changing }

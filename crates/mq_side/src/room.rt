@@ -9,7 +9,7 @@ use mq_drive::Port;
 use mq_ledger::DESCRIPTOR_BLOCKS;
 use mq_revoke::Placement;
 
-// The place behind the last transaction.
+// The place after the last transaction.
 pub(crate) fn next_place<E>(stored: &[Drawn<E>]) -> u64
     ensures { result ≡ next_in (rows_of stored.now) }
 {
@@ -29,7 +29,7 @@ pub(crate) fn newest<E>(stored: &[Drawn<E>]) -> TxNo
     }
 }
 
-// The place behind the last transaction that a base covers.
+// The place after the last transaction that a base covers.
 fn covered<E>(stored: &[Drawn<E>], base: TxNo) -> u64
     ensures { result ≡ covered_in base (rows_of stored.now) }
 {
@@ -45,7 +45,7 @@ fn covered<E>(stored: &[Drawn<E>], base: TxNo) -> u64
 
 impl<P: Port, E> QueueSide<P, E> {
     /// Whether a transaction that is placed so stays within the bounds of numbers, below 2^62 with its
-    /// places and at most 2^63 with its counts. A queue that has come so far takes no more.
+    /// places and at most 2^63 with its counts. A queue that has reached these bounds takes no more.
     pub fn is_bounded(&self, plan: &Placement) -> bool
         ensures { IsTrue result ↔ IsBounded (rows_of self.now.stored.items)
             (P.state self.now.pmr.port) plan.now }

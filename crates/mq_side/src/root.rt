@@ -33,7 +33,7 @@ impl<P: Port> Root<P> {
         }
     }
 
-    /// The base as it is flushed.
+    /// The base as it was last flushed.
     pub fn base(&self) -> TxNo
         ensures { result ≡ (P.state self.now.port).base }
     {

@@ -4,7 +4,7 @@ ghost use Rattle.mq_blocks.specs.Drive.{PortState, staged_end, after_flush, afte
 ghost use Rattle.mq_blocks.specs.Geometry.{queues_of};
 ghost use Rattle.mq_blocks.specs.Journal.{number_limit};
 ghost use Rattle.mq_drive.specs.Steps.{OffCause};
-ghost use Rattle.mq_pmr.specs.Runs.{AreOwn, after_some};
+ghost use Rattle.mq_pmr.specs.Runs.{OwnsAll, after_some};
 ghost use Rattle.mq_side.specs.Commits.{items_of, size_of};
 ghost use Rattle.mq_side.specs.Counts.{SendCounts};
 ghost use Rattle.mq_side.specs.Side.{side_state};
@@ -28,7 +28,7 @@ fn ring_all<P: Port>(
         (staged_end (P.state ring.old.port) - (P.state ring.old.port).head) }
     requires end { staged_end (P.state ring.old.port) + length items.old.items ≤ number_limit }
     requires empty { (P.state ring.old.port).pending ≡ [] }
-    requires own { AreOwn (P.state ring.old.port) items.old.items }
+    requires own { OwnsAll (P.state ring.old.port) items.old.items }
     ensures ok { OnOk result (P.state ring.new.port ≡ after_send (P.state ring.old.port) tx items.old.items) }
     ensures rung { OnOk result (ring.new.rung.items ≡ ring.old.rung.items ++ (record {
       tx = tx;

@@ -1,7 +1,7 @@
 // A queue's side.
 ghost use Rattle.std.specs.Prelude.{◌≡◌, ◌↔◌, [], ◌≤◌, ◌^◌, IfOk, IfErr, IsTrue, None};
 ghost use Rattle.mq_blocks.specs.Drive.{staged_end};
-ghost use Rattle.mq_side.specs.Quiet.{IsQuiet};
+ghost use Rattle.mq_side.specs.Quiet.{IsClearUnlessKept};
 ghost use Rattle.mq_side.specs.Stored.{rows_of, next_in};
 
 use crate::{Drawn, Why};
@@ -10,10 +10,10 @@ use mq_drive::Port;
 use mq_pmr::PmrQueue;
 use std::alloc::Global;
 
-/// A queue's ring, the transactions that were drawn on the queue, and how far it has come: the last
-/// number of which it knows that it is done, and the failure that it keeps.
+/// A queue's ring, the transactions that were drawn on the queue, the last number of which the side
+/// knows that it is done, and the failure that it keeps.
 ///
-/// An entry is kept for each transaction, of a type that the side knows nothing of.
+/// An entry is kept for each transaction, of a type about which the side knows nothing.
 #[derive(Drop)]
 pub struct QueueSide<P: Port, E> {
     pub(crate) pmr: PmrQueue<P>,
@@ -21,7 +21,7 @@ pub struct QueueSide<P: Port, E> {
     pub(crate) stored: Vec<Drawn<E>>,
     pub(crate) done: TxNo,
     pub(crate) kept: Option<(TxNo, Why)>,
-    ghost quiet: { IsQuiet kept (P.state pmr.port) },
+    ghost clear: { IsClearUnlessKept kept (P.state pmr.port) },
     ghost places: { next_in (rows_of stored.items) ≤ 2 ^ 62 },
 }
 
@@ -58,7 +58,7 @@ impl<P: Port, E> QueueSide<P, E> {
         self.pmr.geometry()
     }
 
-    /// The queue of the drive that it is the side of.
+    /// The number of its queue on the drive.
     pub fn queue(&self) -> QueueNo
         ensures { result ≡ self.now.pmr.queue }
     {

@@ -40,7 +40,8 @@ struct Ran {
     images: Vec<PortImage>,
 }
 
-// Runs both sessions on a fresh drive with zones of so many blocks, with this first group and this step of the first one.
+// Runs both sessions on a fresh drive with zones of the given number of blocks, with this first group and
+// this step of the first one.
 fn run_beside<R: Threads + Wait + Sync>(
     rt: &R,
     alloc: Global,
@@ -72,7 +73,8 @@ fn run_beside<R: Threads + Wait + Sync>(
     })
 }
 
-// The first bytes of home block 66: the third one of the zone of queue 0, which lies behind its area of 1,024 blocks.
+// The first bytes of home block 66: the third one of the zone of queue 0, which lies after its area of
+// 1,024 blocks.
 fn file_starts_with(images: &[PortImage], bytes: &[u8]) -> bool {
     match images.first() {
         Some(image) => match image.blocks.get(1024 + 2) {
@@ -83,10 +85,10 @@ fn file_starts_with(images: &[PortImage], bytes: &[u8]) -> bool {
     }
 }
 
-// The checkpoint of the first session is held before its home write of block 1, which is the first one of the root
-// since block 0 never changes. The group of the second session is called then, and answered before the write is let go.
-// The checkpoint answers the number that was drawn before it began. It comes to the file's block with its newer
-// content, and writes that home.
+// The checkpoint of the first session is held before its home write of block 1, which is the first one of
+// the root since block 0 never changes. The group of the second session is called then, and answered before
+// the write is let go. The checkpoint returns the number that was drawn before it began. It comes to the
+// file's block with its newer content, and writes that home.
 #[test]
 fn a_session_commits_during_a_checkpoint(rt: HostRuntime) -> Result<(), OutOfMemory> {
     let ran = run_beside(&rt, rt.alloc(), 256, SMALL, Step::Checkpoint).expect(&rt, "a run");
@@ -98,8 +100,8 @@ fn a_session_commits_during_a_checkpoint(rt: HostRuntime) -> Result<(), OutOfMem
     Ok(())
 }
 
-// The same of the checkpoint that the first session makes inside its commit, since its journal area lacks room. It
-// draws its number after the checkpoint.
+// The same of the checkpoint that the first session makes inside its commit, since its journal area has too
+// little room. It draws its number after the checkpoint.
 #[test]
 fn a_session_commits_while_another_one_makes_room(rt: HostRuntime) -> Result<(), OutOfMemory> {
     let again = group_of(rt.alloc(), AGAIN).expect(&rt, "a group");

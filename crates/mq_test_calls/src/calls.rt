@@ -8,8 +8,8 @@ use mq_tree::Request;
 use std::alloc::Global;
 use std::sync::Wait;
 
-/// A machine whose sessions commit and make checkpoints. By it the threads are forked over any machine: all that they
-/// ask of its entries is that they may be sent from one to another.
+/// A machine whose sessions commit and make checkpoints. With this trait the threads are forked over any
+/// machine, of whose entries they need only that they may be sent to another thread.
 pub trait Calls: Shaped {
     ghost use Rattle.std.specs.Prelude.{ℕ};
     ghost use Rattle.mq_blocks.specs.declared.geometry.Geometry.{Geometry};
@@ -19,7 +19,7 @@ pub trait Calls: Shaped {
     ghost is_ready: { Geometry → ℕ → ℕ → HeldCells
         → ChairView Self.Page Self.Side Self.Root Self.Entry → Type 0 };
 
-    /// Does a group by `fsync`. Answers its number, where it was done.
+    /// Executes a group by `fsync`. Returns its number if it was done.
     fn fsync<R: Wait>(
         rt: &R,
         alloc: Global,
@@ -34,7 +34,7 @@ pub trait Calls: Shaped {
         ensures ready { is_ready files.now.geometry user.new.queue user.new.calls user.new.held
             (view user.new.chair) };
 
-    /// Makes a checkpoint. Answers the base, where it was made.
+    /// Makes a checkpoint. Returns the base if it was made.
     fn checkpoint<R: Wait>(
         rt: &R,
         alloc: Global,

@@ -21,7 +21,7 @@ use std::thread::{Threads, join};
 pub enum Step<'s> {
     /// It makes the checkpoint.
     Checkpoint,
-    /// It does this group. Its journal area lacks room for it, so the call makes the checkpoint first.
+    /// It executes this group. Its journal area has no room for it, so the call makes the checkpoint first.
     Group(&'s [Request]),
 }
 

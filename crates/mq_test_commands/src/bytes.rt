@@ -25,7 +25,7 @@ fn put_parts(file: &mut Vec<u8>, parts: &[Part<'_>], count: usize) -> Result<(),
     Ok(())
 }
 
-// A block behind its address.
+// A block after its address.
 fn put_record(file: &mut Vec<u8>, lba: [u8; 4], parts: &[Part<'_>]) -> Result<(), AllocError> {
     file.extend_from_slice(&lba)?;
     put_parts(file, parts, 4096)
@@ -118,8 +118,8 @@ fn put_journal(file: &mut Vec<u8>) -> Result<(), AllocError> {
     put_record(file, [5, 0, 0, 0], &descriptor)
 }
 
-// The ring of queue 1: a copy and a descriptor of a transaction of this number, and behind the head a request of
-// transaction 3.
+// The ring of queue 1: a copy and a descriptor of a transaction of this number, and after the head a
+// request of transaction 3.
 fn put_second_ring(file: &mut Vec<u8>, number: u8) -> Result<(), AllocError> {
     put_parts(file, &[(0, &[3]), (8, &[2])], 16)?;
     put_entry(file, number, 0, 0, [0, 4], 1)?;

@@ -149,7 +149,7 @@ const CORRUPT: [(&[Part<'static>], &str); 8] = [
     (&[(131_152, &[3])], "image Corrupt Unmarked block 1\n"),
     (&[(131_152, &[15])], "image Corrupt Unreached block 1\n"),
     (&[(135_252, &[3])], "image Corrupt Unmarked block 3\n"),
-    // a byte behind the file's end
+    // a byte after the file's end
     (&[(168_054, &[1])], "image Corrupt Tail block 66\n"),
 ];
 

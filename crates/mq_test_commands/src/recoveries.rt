@@ -59,8 +59,9 @@ fn a_number_that_does_not_stand_is_given_up(rt: HostRuntime) -> Result<(), Alloc
     Ok(())
 }
 
-// Whether a recovery that is cut after so many of its 14 events says so, leaves an image that lists as before, and a
-// second recovery of that leaves what a whole one leaves. The picks differ from cut to cut.
+// Whether a recovery that is cut after the given number of its 14 events says so, leaves an image that
+// lists as before, and a second recovery of that leaves what a whole one leaves. The picks differ from cut
+// to cut.
 fn is_cut(alloc: Global, image: &[u8], whole: &[u8], events: u32) -> Result<bool, AllocError> {
     let pick = u64::from(events);
     let output = format!(in alloc; "prefix 2\nbase 3\ncut {events}\n")?;

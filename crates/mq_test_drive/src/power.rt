@@ -27,8 +27,9 @@ fn root_calls(port: &mut EmuPort<'_>, block: Block) -> u64
     3
 }
 
-// How many of three calls happened with power for so many events, how many events did, whether the port
-// has failed, and what a cut leaves. The pick 1 takes what is written of a home write that is under way.
+// How many of three calls happened with power for the given number of events, how many events did,
+// whether the port has failed, and what a cut leaves. The pick 1 takes what is written of a home write
+// that is under way.
 fn calls_until(
     rt: &impl Abort,
     alloc: Global,

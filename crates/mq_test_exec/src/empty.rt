@@ -190,7 +190,7 @@ fn what_comes_and_goes_in_a_group_is_not_written(rt: HostRuntime) {
     assert!(rt; are_as_told(rt.alloc(), geometry, &[make, come_and_go]));
 }
 
-/// A directory with a name of so many bytes is made.
+/// A directory with a name of the given number of bytes is made.
 fn long_name(alloc: Global, count: usize) -> Result<Request, OutOfMemory> {
     let mut names = Vec::new(alloc);
     names.push(Name(vec![in alloc; b'x'; count]?))?;
@@ -268,8 +268,8 @@ fn each_fault_and_each_reply_is_given(rt: HostRuntime) -> Result<(), OutOfMemory
     Ok(())
 }
 
-/// Three blocks and a second block of inodes are asked for together, behind the block of the root's inode and
-/// two bitmaps.
+/// Three blocks and a second block of inodes are asked for together, after the block of the root's inode
+/// and two bitmaps.
 #[test]
 fn a_long_group_asks_for_what_it_makes_at_once(rt: HostRuntime) -> Result<(), OutOfMemory> {
     let alloc = rt.alloc();

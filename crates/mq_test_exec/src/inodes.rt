@@ -74,7 +74,7 @@ fn answered<T: Drop>(answer: Result<T, Missing>) -> Result<T, OutOfMemory> {
     }
 }
 
-/// Whether just this page is lacked.
+/// Whether exactly this page is missing.
 fn lacks<T: Drop>(answer: Result<T, Missing>, b: u32) -> bool {
     match answer {
         Err(Missing::Need(blocks)) => blocks.as_slice() == [BlockNo(b)].as_slice(),

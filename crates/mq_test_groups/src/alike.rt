@@ -88,7 +88,7 @@ fn bent_of(stretch: u64) -> Bent {
     }
 }
 
-// Runs so many groups on an empty file system.
+// Runs the given number of groups on an empty file system.
 fn run_all(
     alloc: Global,
     geometry: Geometry,
@@ -172,8 +172,8 @@ fn change_all(alloc: Global, twins: &mut Twins, is_made: bool) -> Result<(), Wro
     Ok(())
 }
 
-// A directory gets and loses many names, with a zone of so many blocks. Then how many blocks it had, and
-// whether it had one of pointers.
+// A directory gets and loses many names, with a zone of the given number of blocks. Then how many blocks
+// it had, and whether it had one of pointers.
 fn blocks_of_many(alloc: Global, zone: u32) -> Result<(usize, bool), Wrong> {
     let Ok(geometry) = Geometry::new(1, 1024, 10, zone) else {
         return Err(Wrong::Geometry);

@@ -184,7 +184,7 @@ impl Choices {
         Ok(Request::Rename(from, Path(names)))
     }
 
-    // An offset or a size, mostly of at most so many blocks.
+    // An offset or a size, mostly of at most the given number of blocks.
     fn offset(&mut self, blocks: u64) -> u64 {
         match self.below(480) {
             0 => FILE_LIMIT.saturating_sub(self.below(3)),
@@ -243,7 +243,7 @@ impl Choices {
         }
     }
 
-    // A request on a volume whose zones have so many blocks.
+    // A request on a volume whose zones have the given number of blocks.
     pub fn request(
         &mut self,
         alloc: Global,

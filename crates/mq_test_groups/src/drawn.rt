@@ -94,7 +94,7 @@ fn draw_slots(homes: &mut [Option<Block>], slots: &[Option<NamedInode>], blocks:
     }
 }
 
-// The bytes of a file, with zeros behind them.
+// The bytes of a file, with zeros after them.
 fn draw_bytes(homes: &mut [Option<Block>], bytes: &[u8], blocks: &[BlockNo]) {
     let mut rest = bytes;
     for b in blocks {

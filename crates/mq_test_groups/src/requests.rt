@@ -103,7 +103,7 @@ fn is_answer(reply: &Reply, answer: Answer<'_>) -> bool {
     }
 }
 
-/// Whether an inode has so many blocks, and this one with pointers.
+/// Whether an inode has the given number of blocks, and this one with pointers.
 fn has_blocks(volume: &Volume, inode: usize, count: usize, pointers: Option<u32>) -> bool {
     match volume.nodes().get(inode) {
         Some(node) => node.blocks().len() == count && node.indirect().map(|b| b.0) == pointers,
@@ -163,8 +163,8 @@ fn is_as_told(
     }
 }
 
-/// Follows steps on an empty file system of one queue, with 32 inodes, and a zone of so many blocks from block
-/// 4 on.
+/// Follows steps on an empty file system of one queue, with 32 inodes, and a zone of the given number of
+/// blocks from block 4 on.
 fn follow(
     rt: &impl Abort,
     alloc: Global,

@@ -79,8 +79,8 @@ fn bytes_are(alloc: Global, base: u64, byte: u64) -> Result<String, Failure> {
     )?)
 }
 
-// Whether a cut after so many events leaves the file as a group left it, and no earlier one than the last that was
-// acknowledged.
+// Whether a cut after the given number of events leaves the file as a group left it, and no earlier one
+// than the last that was acknowledged.
 fn is_kept<R: Threads + Wait + Sync>(
     rt: &R,
     alloc: Global,

@@ -7,7 +7,7 @@ use std::alloc::Global;
 use std::sync::Wait;
 use std::thread::Threads;
 
-// What is asked for with a cut after so many events. The picks differ from cut to cut.
+// What is asked for with a cut after the given number of events. The picks differ from cut to cut.
 fn cut_after(events: u32) -> Asked {
     Asked {
         cut: Some(events),
@@ -25,9 +25,9 @@ fn first_report(alloc: Global, events: u32) -> Result<String, Failure> {
     )?)
 }
 
-// Whether a recovery may find this prefix and leave this base, where the power went off after so many of the events:
-// 7 entries are staged, the 8th flushes them, the 9th rings, 7 more complete them, and the last two store the head and
-// flush it.
+// Whether a recovery may find this prefix and leave this base, where the power went off after the given
+// number of the events: 7 entries are staged, the 8th flushes them, the 9th rings, 7 more complete them,
+// and the last two store the head and flush it.
 fn may_find(events: u32, prefix: u64, base: u64) -> bool {
     match events {
         0..=8 => (prefix, base) == (0, 0),
@@ -103,7 +103,7 @@ fn recoveries_after_cuts_are_cut(rt: HostRuntime) -> Result<(), Failure> {
 pub const THREE: &str =
     "mkdir /d\ncreate /d/f\nfsync\nunlink /d/f\nrmdir /d\nfsync\ncreate /g\nwrite /g 0 \"x\"\nfsync\n";
 
-// The tree after so many of them.
+// The tree after the given number of them.
 fn tree_after(groups: u64) -> &'static str {
     match groups {
         1 => "d /\nd /d\nf 0 /d/f\n",
@@ -152,7 +152,7 @@ fn a_block_is_revoked(rt: HostRuntime) -> Result<(), Failure> {
 /// Scripts of two sessions.
 pub const PAIR: [&str; 2] = ["mkdir /a\nfsync\n", "mkdir /b\nfsync\n"];
 
-/// The tree after so many of their groups, where the first commit is that of session 0 or not.
+/// The tree after the given number of their groups, where the first commit is that of session 0 or not.
 pub fn tree_of_pair(groups: u64, is_first: bool) -> &'static str {
     match (groups, is_first) {
         (0, _) => "d /\n",
@@ -162,7 +162,8 @@ pub fn tree_of_pair(groups: u64, is_first: bool) -> &'static str {
     }
 }
 
-// Whether the two sessions with a cut after so many events leave a tree with all that was acknowledged.
+// Whether the two sessions with a cut after the given number of events leave a tree with all that was
+// acknowledged.
 fn pair_is_cut<R: Threads + Wait + Sync>(
     rt: &R,
     alloc: Global,

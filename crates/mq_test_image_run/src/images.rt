@@ -51,7 +51,7 @@ pub struct Recovery {
     pub file: Vec<u8>,
 }
 
-/// A recovery of an image, whose power may go off after so many events.
+/// A recovery of an image, whose power may go off after the given number of events.
 pub fn recovered(
     alloc: Global,
     file: &[u8],

@@ -41,7 +41,7 @@ const REFUSED: [(&[Part], Failure); 5] = [
         Failure::Limit(9_223_372_036_854_775_809),
     ),
     (&[(65_592, &[3]), (65_600, &[5])], Failure::Words),
-    // the superblock, behind the six blocks of the area
+    // the superblock, after the six blocks of the area
     (&[(155_752, &[0])], Failure::Corrupt(CorruptCause::Layout)),
 ];
 

@@ -33,7 +33,7 @@ fn add_files(alloc: Global, text: &mut String, prefix: &str, count: u64) -> Resu
     Ok(())
 }
 
-// The tree after so many groups of each session.
+// The tree after the given number of groups of each session.
 fn tree_after(alloc: Global, groups: [u64; 2]) -> Result<String, Failure> {
     let mut text = String::from_str(alloc, "d /\n")?;
     for (name, count) in [(NAMES[0], groups[0]), (NAMES[1], groups[1])] {
@@ -71,7 +71,8 @@ fn holds(alloc: Global, file: &[u8], ran: &Outcome, count: u64) -> Result<bool, 
     lists(alloc, file, tree.as_str())
 }
 
-// Whether a cut after so many events leaves the tree after some of the first commits, and all that are acknowledged.
+// Whether a cut after the given number of events leaves the tree after some of the first commits, and all
+// that are acknowledged.
 fn is_kept<R: Threads + Wait + Sync>(
     rt: &R,
     alloc: Global,

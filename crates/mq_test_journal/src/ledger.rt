@@ -19,7 +19,7 @@ fn fresh(alloc: Global) -> Result<Option<Ledger>, OutOfMemory> {
     Ok(Some(Ledger::start(alloc, geometry, &blocks, TxNo(3))?))
 }
 
-// Draws a transaction where the ledger allows it, and answers whether it does.
+// Draws a transaction where the ledger allows it, and returns whether it does.
 fn draw(ledger: &mut Ledger, tx: Tx, word: u64) -> Result<bool, OutOfMemory> {
     if !ledger.may_draw(&tx, TxNo(word)) || !is_transaction(ledger.geometry(), &tx) {
         return Ok(false);
@@ -67,7 +67,7 @@ fn seen(ledger: &Ledger, block: u32) -> [u64; 6] {
     ]
 }
 
-// Of a queue: the count and the place behind its transactions.
+// Of a queue: the count and the place after its transactions.
 fn ends(ledger: &Ledger, queue: u32) -> [u64; 2] {
     if queue >= ledger.geometry().queues() {
         return [0; 2];
@@ -170,7 +170,7 @@ fn tables_follow_the_history(rt: HostRuntime) -> Result<(), OutOfMemory> {
     Ok(())
 }
 
-// Queues: the count and the place behind their transactions.
+// Queues: the count and the place after their transactions.
 const ENDS: [(u32, [u64; 2]); 2] = [(0, [5, 5]), (1, [3, 2])];
 
 // Words, and the place up to which they cover queue 0.

@@ -159,7 +159,7 @@ fn add_checkpoint(events: &mut Vec<Event>, base: u64) -> Result<(), OutOfMemory>
     Ok(())
 }
 
-// The events of so many transactions, with a checkpoint after each fiftieth.
+// The events of the given number of transactions, with a checkpoint after each fiftieth.
 fn events_of_many(alloc: Global, count: u64) -> Result<Vec<Event>, OutOfMemory> {
     let mut events = Vec::new(alloc);
     for number in 1..count.saturating_add(1) {

@@ -31,7 +31,7 @@ fn draw(alloc: Global, events: &mut Vec<Event>, plan: Plan<'_>) -> Result<(), Ou
     Ok(())
 }
 
-// What is drawn on a queue, so many entries, is staged, flushed and rung.
+// What is drawn on a queue, the given number of entries, is staged, flushed and rung.
 fn post(events: &mut Vec<Event>, queue: QueueNo, entries: u32) -> Result<(), OutOfMemory> {
     for _ in 0..entries {
         events.push(Event::Stage { queue })?;

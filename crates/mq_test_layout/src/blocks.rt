@@ -27,7 +27,7 @@ fn is_used(blocks: &[Option<Block>], b: u32) -> bool {
     }
 }
 
-/// Whether this block is zeros but for its first bytes.
+/// Whether this block has these first bytes, and zeros after them.
 fn begins(alloc: Global, blocks: &[Option<Block>], b: usize, bytes: &[u8; 3]) -> bool {
     match blocks.get(b) {
         Some(Some(block)) => is_with(alloc, block, 0, bytes),

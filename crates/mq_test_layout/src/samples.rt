@@ -1,4 +1,4 @@
-// Blocks of zeros but for some bytes, and the bytes of a superblock, an inode and a slot.
+// Blocks of zeros except for some bytes, and the bytes of a superblock, an inode and a slot.
 ghost use Rattle.std.specs.Prelude.{◌≤◌, ◌+◌, length};
 
 use mq_blocks::bytes::put;
@@ -29,7 +29,7 @@ pub fn two() -> Option<Geometry> {
     Geometry::new(2, 1024, 64, 256).ok()
 }
 
-/// A block of zeros but for these bytes.
+/// A block of zeros except for these bytes.
 pub fn with(alloc: Global, at: usize, bytes: &[u8]) -> Result<Block, OutOfMemory>
     requires { at + length bytes.now ≤ 4096 }
 {
@@ -38,7 +38,7 @@ pub fn with(alloc: Global, at: usize, bytes: &[u8]) -> Result<Block, OutOfMemory
     Ok(block)
 }
 
-/// Whether a block is zeros but for these bytes.
+/// Whether a block is zeros except for these bytes.
 pub fn is_with(alloc: Global, block: &Block, at: usize, bytes: &[u8]) -> bool
     requires { at + length bytes.now ≤ 4096 }
 {

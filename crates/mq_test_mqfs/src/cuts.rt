@@ -8,8 +8,8 @@ use std::ops::Range;
 use std::sync::Wait;
 use std::thread::Threads;
 
-// Whether what is printed of a text after so many events is as it must be, also where the recovery is cut. With one
-// of the picks it is not.
+// Whether what is printed of a text after the given number of events is as it must be, even if the recovery
+// is cut. With one of the picks it is not.
 fn cut_is_right<R: Threads + Wait + Sync>(
     rt: &R,
     alloc: Global,

@@ -70,7 +70,7 @@ fn power_of_two(
     Ok((fuse, queue, root))
 }
 
-// An image of zeros of a port with so many slots and blocks.
+// An image of zeros of a port with the given number of slots and blocks.
 fn fresh_image(alloc: Global, slots: usize, count: usize) -> Result<PortImage, OutOfMemory>
     ensures { IfOk result (λ i. (i.doorbell ≡ 0) × (i.head ≡ 0) × (i.base ≡ 0)) }
 {
@@ -167,7 +167,7 @@ fn fresh_images(alloc: Global, geometry: Geometry) -> Result<(PortImage, PortIma
     }
 }
 
-// What a cut after so many events leaves of a fresh drive on which a text is committed.
+// What a cut after the given number of events leaves of a fresh drive on which a text is committed.
 fn committed(
     alloc: Global,
     text: &BlockText,
@@ -319,7 +319,7 @@ fn are_same(these: &[Block], those: &[Block]) -> bool {
     true
 }
 
-// Whether all find what recovery found and left: so many transactions, and these home blocks.
+// Whether all find what recovery found and left: the given number of transactions, and these home blocks.
 fn find_the_same(looked: &Looked, prefix: u64, homes: &[Block]) -> bool {
     let (Ok(standing), Ok(chain)) = (&looked.standing, &looked.chain) else {
         return false;
@@ -336,7 +336,7 @@ fn find_the_same(looked: &Looked, prefix: u64, homes: &[Block]) -> bool {
         && chain.transactions.len() as u64 == prefix
 }
 
-// Whether all find the same where a text is cut after so many events.
+// Whether all find the same where a text is cut after the given number of events.
 fn agree(alloc: Global, text: &BlockText, events: u64, pick: u64) -> Result<bool, Unfit>
     requires { IsGoodText text.now }
 {

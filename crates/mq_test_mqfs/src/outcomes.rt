@@ -99,7 +99,7 @@ const ONE: &str = "prefix 1\n5 ab\n7 01\n";
 
 const BOTH: &str = "prefix 2\n5 ab\n9 ff\n";
 
-// What is printed of them where they are cut after so many events, with this pick.
+// What is printed of them where they are cut after the given number of events, with this pick.
 fn cut_after<R: Threads + Wait + Sync>(
     rt: &R,
     alloc: Global,
@@ -110,7 +110,7 @@ fn cut_after<R: Threads + Wait + Sync>(
     Ok(outcome_of(rt, alloc, &line, TWO_LINES.as_bytes())?.output)
 }
 
-// The same where a first recovery is cut after so many events.
+// The same where a first recovery is cut after the given number of events.
 fn cut_again<R: Threads + Wait + Sync>(
     rt: &R,
     alloc: Global,

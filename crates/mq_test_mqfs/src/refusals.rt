@@ -4,7 +4,7 @@ use std::alloc::AllocError;
 
 const USAGE: &str = "usage: mqfs blocks|format|run|recover|ls|cat|gen|dump\n";
 
-// Words that are no command, also where `t` holds a text that is read.
+// Words that are no command, even if `t` holds a text that is read.
 const NO_COMMAND: [&str; 68] = [
     "",
     "blocks",

@@ -100,8 +100,9 @@ const LOGGED_FULL: &[u8] = &[
     1, 0, 0, 0, 2, 0, 0, 0, 3, 0, 0, 0, 4, 0, 0, 0, 16, 0, 0, 0, 18, 0, 0, 0, 19, 0, 0, 0, 0,
 ];
 
-// Calls where `t` holds a text, how many bytes `d` has then, and what stands at some places: lists of descriptors, the
-// place of a block that was written directly, and home blocks behind their places. Where `e` is made too, it is the same.
+// Calls where `t` holds a text, how many bytes `d` has then, and what stands at some places: lists of
+// descriptors, the place of a block that was written directly, and home blocks after their places. Where
+// `e` is made too, it is the same.
 const IMAGES: [(&str, &[Step<'static>], usize, &[Part<'static>]); 8] = [
     ("", &NOTHING, 143_448, &[]),
     ("unlink /x\nfsync\n", &UNCHANGED, 143_448, &[]),
@@ -141,7 +142,7 @@ const IMAGES: [(&str, &[Step<'static>], usize, &[Part<'static>]); 8] = [
     ),
 ];
 
-// Whether `d` has so many bytes and these parts, and is as `e` where there is one.
+// Whether `d` has the given number of bytes and these parts, and is as `e` where there is one.
 fn is_saved(files: &MemFiles, length: usize, parts: &[Part<'_>]) -> bool {
     let image = files.get("d").unwrap_or(&[]);
     for (at, bytes) in parts {

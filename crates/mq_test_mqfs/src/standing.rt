@@ -22,7 +22,8 @@ pub fn all_events(text: &BlockText) -> u64 {
     events
 }
 
-// How many lines stand after so many events, and how many may: the next one too where its events end with the next.
+// How many lines stand after the given number of events, and how many may: the next one too where its
+// events end with the next.
 fn lines_after(text: &BlockText, events: u64) -> (usize, usize) {
     let mut end: u64 = 0;
     let mut lines: usize = 0;
@@ -63,7 +64,7 @@ fn blocks_after(
     Ok(blocks)
 }
 
-// What is printed where so many lines stand.
+// What is printed where the given number of lines stand.
 fn output_after(alloc: Global, text: &BlockText, count: usize) -> Result<Vec<u8>, AllocError> {
     let blocks = blocks_after(alloc, text, count)?;
     let first = format!(in alloc; "prefix {count}\n")?;
@@ -77,7 +78,7 @@ fn output_after(alloc: Global, text: &BlockText, count: usize) -> Result<Vec<u8>
     Ok(output)
 }
 
-// Whether what is printed after so many events is as it must be.
+// Whether what is printed after the given number of events is as it must be.
 pub fn is_right(
     alloc: Global,
     text: &BlockText,

@@ -8,7 +8,7 @@ const ONE: &str = "prefix 1\n5 ab\n7 01\n";
 
 const BOTH: &str = "prefix 2\n5 ab\n9 ff\n";
 
-// Options stand anywhere behind the command, with their value as the next word or behind `=`.
+// Options stand anywhere after the command, with their value as the next word or after `=`.
 const FORMS: [(&str, &str); 12] = [
     ("blocks t --cut 10", ONE),
     ("blocks t --cut=10", ONE),
@@ -32,7 +32,7 @@ fn options_stand_anywhere(rt: HostRuntime) -> Result<(), AllocError> {
     Ok(())
 }
 
-// Names that no file has: a lone `-` is one, and so is any word behind `--`.
+// Names that no file has: a lone `-` is one, and so is any word after `--`.
 const NAMES: [(&str, &str); 4] = [
     ("blocks -", "fault load -\n"),
     ("blocks -- --cut", "fault load --cut\n"),

@@ -1,4 +1,4 @@
-pub mod Blocks
-pub mod Cells
-pub mod Maps
-pub mod Noting
+pub mod EmptyBlocks
+pub mod LaidMaps
+pub mod LiftedCells
+pub mod LiftedNoting

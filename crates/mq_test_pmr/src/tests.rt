@@ -6,7 +6,7 @@ ghost use Rattle.mq_drive.specs.Emu.{emu_state};
 ghost use Rattle.mq_drive.specs.Seats.{name_of, fuse_of, tickets_of};
 ghost use Rattle.mq_drive.specs.Start.{IsPortOf};
 ghost use Rattle.mq_drive.specs.declared.role.Role.TheVariants.{Queue};
-ghost use Rattle.mq_pmr.specs.Runs.{AreOwn};
+ghost use Rattle.mq_pmr.specs.Runs.{OwnsAll};
 
 use mq_blocks::{Block, Geometry, GeometryRefusal, Lba, OutOfMemory, QueueNo, TxNo};
 use mq_drive::{EmuPort, FlakyPort, Fuse, FuseSeat, Off, Port, PortImage, Role};
@@ -89,7 +89,7 @@ fn items(alloc: Global, count: u32) -> Result<Vec<(Lba, Block)>, OutOfMemory>
     ensures own { IfOk result (λ v. (s : PortState)
         → s.area_first ≡ 0
         → s.area_size ≡ 1024
-        → AreOwn s v.items) }
+        → OwnsAll s v.items) }
     ensures len { IfOk result (λ v. length v.items ≡ count) }
 {
     let mut items = Vec::new(alloc);
@@ -104,7 +104,7 @@ fn items(alloc: Global, count: u32) -> Result<Vec<(Lba, Block)>, OutOfMemory>
 // What a case does with its queue, and what it finds there.
 #[derive(Clone, Copy)]
 enum Move {
-    // A transaction of so many items is staged.
+    // A transaction of the given number of items is staged.
     Stages { tx: u64, count: u32 },
     // It is staged and rung.
     Commits { tx: u64, count: u32 },
@@ -147,7 +147,7 @@ impl<P: Port> Tried<P> {
         }
     }
 
-    // Stages a transaction of so many items, and answers whether that was done.
+    // Stages a transaction of the given number of items, and returns whether that was done.
     fn stage(&mut self, alloc: Global, tx: u64, count: u32) -> bool
         requires { 1 ≤ tx }
         ensures staged { result ≡ true → IsSome self.new.queue.staged }
@@ -169,7 +169,7 @@ impl<P: Port> Tried<P> {
         }
     }
 
-    // Stages a transaction and rings it, and answers whether that was done.
+    // Stages a transaction and rings it, and returns whether that was done.
     fn commit(&mut self, alloc: Global, tx: u64, count: u32) -> bool
         requires { 1 ≤ tx }
     {
@@ -185,7 +185,7 @@ impl<P: Port> Tried<P> {
         self.queue.complete_one()
     }
 
-    // Completes so many commands with success, and answers whether none is left.
+    // Completes the given number of commands with success, and returns whether none is left.
     fn drain(&mut self, count: u32) -> bool {
         for _ in 0..count {
             match self.complete() {
@@ -214,7 +214,7 @@ impl<P: Port> Tried<P> {
     }
 }
 
-// Makes a move, and answers whether all went as it says.
+// Makes a move, and returns whether all went as it says.
 fn follows<P: Port>(tried: &mut Tried<P>, alloc: Global, next: Move) -> bool {
     match next {
         Move::Stages { tx, count } => tx >= 1 && tried.stage(alloc, tx, count),
@@ -247,7 +247,7 @@ fn follows_all<P: Port>(tried: &mut Tried<P>, alloc: Global, moves: &[Move]) -> 
     true
 }
 
-// Makes moves over a port that refuses one changing call, and answers whether all went as they say.
+// Makes moves over a port that refuses one changing call, and returns whether all went as they say.
 // The call is counted from 1; 0 is none.
 fn tries<P: Port>(
     alloc: Global,

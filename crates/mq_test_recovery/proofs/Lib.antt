@@ -1,4 +1,4 @@
-pub mod Homes
-pub mod Looking
-pub mod Rows
-pub mod Started
+pub mod DriveHomes
+pub mod PlainLooking
+pub mod PlainRows
+pub mod Start

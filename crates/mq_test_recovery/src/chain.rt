@@ -2,7 +2,7 @@
 ghost use Rattle.std.specs.Prelude.{◌≡◌, ◌<◌, ◌≤◌, ◌-◌, ◌%◌, ◌^◌, ℕ, true, length, IfOk, IfSome, IsTrue, Some};
 ghost use Rattle.mq_blocks.specs.Drive.{depth, usable_depth};
 ghost use Rattle.mq_blocks.specs.Geometry.{area_lba};
-ghost use Rattle.mq_blocks.specs.Journal.{Says, IsChain, AreInReach, Holds, IsCommit, IsQueueChain, number_limit};
+ghost use Rattle.mq_blocks.specs.Journal.{WriteFields, IsChain, AreInReach, Holds, IsCommit, IsQueueChain, number_limit};
 ghost use Rattle.mq_test_recovery.specs.Plain.{AreOf, IsChainFrom};
 ghost use Rattle.mq_drive.specs.Views.{IsQuiescentPair, view_of};
 
@@ -55,7 +55,7 @@ fn is_rung<P: Port>(geometry: Geometry, queue: &P, root: &P, head: u64, doorbell
         → (c : ℕ)
         → head ≤ c
         → c < doorbell
-        → (s : Says)
+        → (s : WriteFields)
         × ((view_of geometry (P.state queue.now) (P.state root.now)).entry 0 (c % depth) ≡ Some s)
         × (s.0 ≤ number_limit) }
     ensures whole { IsTrue result

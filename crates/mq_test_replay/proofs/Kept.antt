@@ -6,8 +6,7 @@ use Rattle.std.proofs.lemmas.Bool.{cases_lt}
 use Rattle.std.proofs.lemmas.List.{map-append}
 use Rattle.mq_blocks.specs.Drive.{PortState, AreCounted, AreFrom, depth, after_done, after_failed}
 use Rattle.mq_blocks.specs.declared.command.Command.{Command}
-use Rattle.mq_nvme.specs.Completion.{identifier_of}
-use Rattle.mq_nvme.specs.Field.{place, get_field, bits_of}
+use Rattle.mq_blocks.proofs.DriveRemainders.{slots_apart}
 use Rattle.mq_test_replay.specs.Kept.{Fits, Kept, counts_of}
 use Rattle.mq_test_replay.specs.declared.port_run.PortRun.{PortRun}
 
@@ -59,17 +58,13 @@ rising low high (c ∷ cs) zero (suc j) counted before less =
     omega (arith, rest.0)
 rising low high (c ∷ cs) (suc i) (suc j) counted before less = rising (c.count + 1) high cs i j counted.1.1 (omega (arith, before)) (omega (arith, less))
 
--- counts that are less than a ring apart have different slots
-apart_slots : (a b : ℕ) → a < b → b < a + depth → a % depth ≡ b % depth → ⊥
-apart_slots a b less near same = omega (arith, less, near, same)
-
 not_before : (low high : ℕ) (cs : List Command) (i j : ℕ) → AreCounted low high cs → high ≤ low + depth → i < length (counts_of cs) → j < length (counts_of cs)
     → get_or (counts_of cs) i 0 % depth ≡ get_or (counts_of cs) j 0 % depth → i < j → ⊥
 not_before low high cs i j counted near i_less j_less same before =
     let more = rising low high cs i j counted before j_less in
     let at_i = bounded low high cs i counted i_less in
     let at_j = bounded low high cs j counted j_less in
-    apart_slots (get_or (counts_of cs) i 0) (get_or (counts_of cs) j 0) more (omega (arith, at_i.0, at_j.1, near)) same
+    slots_apart (get_or (counts_of cs) i 0) (get_or (counts_of cs) j 0) more (omega (arith, at_i.0, at_j.1, near)) same
 
 -- so a slot names one of the commands
 pub one_slot : (low high : ℕ) (cs : List Command) (i j : ℕ) → AreCounted low high cs → high ≤ low + depth → i < length (counts_of cs) → j < length (counts_of cs)
@@ -96,13 +91,6 @@ from_counts low [] all = tt
 from_counts low (c ∷ cs) all = (all 0 (omega arith), from_counts low cs (λ j less. all (suc j) (omega (arith, less))))
 
 -- ---- the command of a completion
-
-identifier_is : (c : List ℕ) → get_field (place 3 0 16) c ≡ identifier_of c
-unfolding get_field bits_of identifier_of
-identifier_is c = omega arith
-
-pub slot_is : (c : List ℕ) (slot count : ℕ) → slot ≡ get_field (place 3 0 16) c → identifier_of c ≡ count % depth → slot ≡ count % depth
-slot_is c slot count got is = got ∙ identifier_is c ∙ is
 
 pub none_found : (cs : List Command) (l : List ℕ) (at slot : ℕ) (c : Command) → l ≡ counts_of cs → slice_get cs at ≡ Some c → slot ≡ c.count % depth
     → ((j : ℕ) → j < length l → get_or l j 0 % depth ≡ slot → ⊥) → ⊥

@@ -1,4 +1,4 @@
+pub mod HistoryValues
 pub mod Kept
-pub mod Opened
-pub mod Rising
-pub mod Values
+pub mod ScriptsRising
+pub mod StartOpened

@@ -1,7 +1,8 @@
 -- What the entries of a transaction write, and where.
 use Rattle.std.specs.Prelude.{◌≡◌, ◌<◌, ◌≤◌, ℕ, ◌+◌, ◌^◌, List, [], ◌∷◌, ◌++◌, length, All}
+use Rattle.mq_blocks.specs.Copies.{copies_at, directs_of}
 use Rattle.mq_blocks.specs.Descriptor.{descriptor_bytes, list_limit}
-use Rattle.mq_blocks.specs.Geometry.{homes_of, queues_of, area_lba, home_lba, write_limit}
+use Rattle.mq_blocks.specs.Geometry.{homes_of, queues_of, area_lba, write_limit}
 use Rattle.mq_blocks.specs.Machine.{Writes}
 use Rattle.mq_blocks.specs.declared.geometry.Geometry.{Geometry}
 use Rattle.mq_ledger.specs.Items.{next, number_before, place_before, descriptor_for}
@@ -26,17 +27,7 @@ pub record MayWrite (g : Geometry) (t : Tx) (p : Place) : Type 0 where
   pub logged : AreWrites g t.logged
   pub direct : AreWrites g t.direct
 
--- copies in the journal area, from a place on
-abbrev pub copies_from : Geometry → ℕ → ℕ → Writes → List (ℕ × List ℕ)
-copies_from g q place [] = []
-copies_from g q place (w ∷ ws) = (area_lba g q place, w.1) ∷ copies_from g q (place + 1) ws
-
--- blocks at home
-abbrev pub homes_from : Geometry → Writes → List (ℕ × List ℕ)
-homes_from g [] = []
-homes_from g (w ∷ ws) = (home_lba g w.0, w.1) ∷ homes_from g ws
-
 -- where these transactions stand before it on its queue
 abbrev pub items_of : Geometry → Tx → List Tx → List (ℕ × List ℕ)
 items_of g t txs =
-    copies_from g t.queue (next txs) t.logged ++ homes_from g t.direct ++ (area_lba g t.queue (next txs + length t.logged), descriptor_bytes (descriptor_for t txs)) ∷ []
+    copies_at g t.queue (next txs) t.logged ++ directs_of g t.direct ++ (area_lba g t.queue (next txs + length t.logged), descriptor_bytes (descriptor_for t txs)) ∷ []

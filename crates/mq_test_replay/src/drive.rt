@@ -53,7 +53,7 @@ struct Side {
     // the number of the drawn transaction, and its entries that aren't staged, the last first
     number: u64,
     entries: Vec<(Lba, Block)>,
-    // the counts behind the transactions
+    // the counts after the transactions
     ends: Vec<u64>,
 }
 

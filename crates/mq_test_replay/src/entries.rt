@@ -1,18 +1,19 @@
 // The entries of a transaction, as the machine's definitions say.
 ghost use Rattle.std.specs.Prelude.{◌≡◌, ◌<◌, ◌≤◌, ◌+◌, ◌++◌, ◌∷◌, ◌^◌, [], ℕ, List, All, length, IfOk, IsTrue};
+ghost use Rattle.mq_blocks.specs.Copies.{copies_at, directs_of};
 ghost use Rattle.mq_blocks.specs.Geometry.{homes_of, queues_of};
 ghost use Rattle.mq_blocks.specs.Descriptor.{descriptor_bytes};
 ghost use Rattle.mq_ledger.specs.History.{blocks_of};
 ghost use Rattle.mq_ledger.specs.Items.{descriptor_for};
 ghost use Rattle.mq_ledger.specs.declared.tx.Tx.{Tx as Text};
-ghost use Rattle.mq_test_replay.specs.Entries.{IsAfter, MayWrite, AreWrites, copies_from, homes_from, items_of};
+ghost use Rattle.mq_test_replay.specs.Entries.{IsAfter, MayWrite, AreWrites, items_of};
 
 use mq_area::{Descriptor, write_descriptor};
 use mq_blocks::{Block, BlockNo, Geometry, LIST_LIMIT, Lba, OutOfMemory, QueueNo};
 use mq_core::{Content, Tx};
 use std::alloc::Global;
 
-/// What the transactions of a queue leave for the next one: the place behind their last block, and
+/// What the transactions of a queue leave for the next one: the place after their last block, and
 /// number and place of their last descriptor.
 #[derive(Clone, Copy, Debug, PartialEq, Eq)]
 pub struct Place {
@@ -68,7 +69,7 @@ fn add_copies(
     requires queue { queue < queues_of geometry }
     requires writes { AreWrites geometry writes.now }
     requires place { place + length writes.now < 2 ^ 62 }
-    ensures { IfOk result (λ _. items.new.items ≡ items.old.items ++ copies_from geometry queue place writes.now) }
+    ensures { IfOk result (λ _. items.new.items ≡ items.old.items ++ copies_at geometry queue place writes.now) }
 {
     let mut place = place;
     for write in writes {
@@ -87,7 +88,7 @@ fn add_homes(
     items: &mut Vec<(Lba, Block)>,
 ) -> Result<(), OutOfMemory>
     requires writes { AreWrites geometry writes.now }
-    ensures { IfOk result (λ _. items.new.items ≡ items.old.items ++ homes_from geometry writes.now) }
+    ensures { IfOk result (λ _. items.new.items ≡ items.old.items ++ directs_of geometry writes.now) }
 {
     for write in writes {
         let content = &write.1;

@@ -187,7 +187,8 @@ pub struct Found {
     pub left: Left,
 }
 
-/// Looks at a drive, recovers it, where its power lasts for so many events, and cuts it.
+/// Looks at a drive, recovers it, where its power lasts for the given number of events, and cuts
+/// it.
 pub fn recovered(
     alloc: Global,
     geometry: Geometry,

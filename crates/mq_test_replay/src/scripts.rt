@@ -18,7 +18,7 @@ use std::alloc::Global;
 #[derive(Drop)]
 enum Wish {
     Event(Event),
-    /// What is drawn on a queue ends, in at most so many events.
+    /// What is drawn on a queue ends, in at most the given number of events.
     Finish {
         queue: QueueNo,
         most: u32,
@@ -405,7 +405,7 @@ fn planned(journal: &Journal, block: BlockNo, is_data: bool) -> Planned
     }
 }
 
-/// Tries so many events, until the power is off.
+/// Tries the given number of events, until the power is off.
 pub fn random_events(
     alloc: Global,
     journal: &mut Journal,

@@ -26,8 +26,7 @@ fn replies(alloc: Global) -> Result<Vec<Reply>, OutOfMemory> {
     Ok(replies)
 }
 
-fn refused(group: u32, cause: CallCause, drawn: Option<TxNo>) -> Told {
-    let answer = Err(Refusal { cause, drawn });
+fn told(group: u32, answer: Result<TxNo, Refusal>) -> Told {
     Told {
         session: 0,
         group,
@@ -36,7 +35,16 @@ fn refused(group: u32, cause: CallCause, drawn: Option<TxNo>) -> Told {
     }
 }
 
-fn printed(alloc: Global) -> Result<Vec<u8>, OutOfMemory> {
+fn refused(group: u32, cause: CallCause, drawn: Option<TxNo>) -> Told {
+    told(group, Err(Refusal { cause, drawn }))
+}
+
+fn refused_by_drive(group: u32, cause: Cause, drawn: Option<TxNo>) -> Told {
+    refused(group, CallCause::Drive(cause), drawn)
+}
+
+// A commit with a reply of each kind, and a read without replies.
+fn entries(alloc: Global) -> Result<Vec<Line>, OutOfMemory> {
     let mut entries = Vec::new(alloc);
     entries.push(Line {
         number: TxNo(8),
@@ -54,49 +62,39 @@ fn printed(alloc: Global) -> Result<Vec<u8>, OutOfMemory> {
         end: End::Ask,
         replies: Vec::new(alloc),
     })?;
-    let answers = [
-        Told {
-            session: 0,
-            group: 0,
-            end: End::Fsync,
-            answer: Ok(TxNo(8)),
-        },
-        refused(
-            1,
-            CallCause::Drive(Cause::Failed {
-                tx: TxNo(9),
-                status: 640,
-            }),
-            None,
-        ),
-        refused(
-            2,
-            CallCause::TooLarge {
-                count: 1001,
-                limit: 1000,
-            },
-            None,
-        ),
+    Ok(entries)
+}
+
+// A group that was done, and then one for each cause of a refusal.
+fn answers() -> [Told; 8] {
+    let failed = Cause::Failed {
+        tx: TxNo(9),
+        status: 640,
+    };
+    let failed_home = Cause::FailedHome {
+        block: BlockNo(5),
+        status: 640,
+    };
+    let too_large = CallCause::TooLarge {
+        count: 1001,
+        limit: 1000,
+    };
+    [
+        told(0, Ok(TxNo(8))),
+        refused_by_drive(1, failed, None),
+        refused(2, too_large, None),
         refused(3, CallCause::Changes { index: 4 }, None),
         refused(4, CallCause::OutOfMemory, None),
-        refused(5, CallCause::Drive(Cause::Off), Some(TxNo(10))),
-        refused(
-            6,
-            CallCause::Drive(Cause::FailedHome {
-                block: BlockNo(5),
-                status: 640,
-            }),
-            None,
-        ),
-        refused(7, CallCause::Drive(Cause::Off), None),
-    ];
-    report(
-        alloc,
-        TxNo(7),
-        &entries,
-        &answers,
-        &Last::StoppedBlock(BlockNo(77)),
-    )
+        refused_by_drive(5, Cause::Off, Some(TxNo(10))),
+        refused_by_drive(6, failed_home, None),
+        refused_by_drive(7, Cause::Off, None),
+    ]
+}
+
+fn printed(alloc: Global) -> Result<Vec<u8>, OutOfMemory> {
+    let entries = entries(alloc)?;
+    let last = Last::StoppedBlock(BlockNo(77));
+    report(alloc, TxNo(7), &entries, &answers(), &last)
 }
 
 #[test]

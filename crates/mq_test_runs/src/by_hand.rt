@@ -53,7 +53,7 @@ fn found_on(alloc: Global, geometry: Geometry, left: Left) -> Result<Found, Refu
     recovered(alloc, geometry, left, None, 0)
 }
 
-// Whether a recovery has found so many transactions, and raised the base to this number.
+// Whether a recovery has found the given number of transactions, and raised the base to this number.
 fn is_answer(answer: Result<Recovered, RecoverRefusal>, prefix: u64, base: u64) -> bool {
     let base = TxNo(base);
     answer == Ok(Recovered { prefix, base })
@@ -83,7 +83,7 @@ fn hold(left: &Left, geometry: Geometry, bytes: &[(u32, u8)]) -> bool {
     true
 }
 
-// A transaction of so many entries logs these blocks.
+// A transaction of the given number of entries logs these blocks.
 fn logs<'a>(number: u64, queue: u32, logged: &'a [(u32, u8)]) -> Step<'a> {
     let entries = (logged.len() % 1000) as u32 + 1;
     Step::Send(Plan::logs(number, queue, logged), entries)

@@ -123,8 +123,8 @@ fn ends_right(
     Ok(is_last(last.answer, base, is_second) && are_held(&last.left, geometry, map))
 }
 
-// Whether recovery makes of what a cut left what it must, also where it is cut after so many events and
-// begun again.
+// Whether recovery makes of what a cut left what it must, even if it is cut after the given number of
+// events and begun again.
 pub fn is_right(
     alloc: Global,
     geometry: Geometry,

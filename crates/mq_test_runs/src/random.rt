@@ -16,7 +16,7 @@ struct Shape {
     fail: Option<(u32, u64)>,
 }
 
-// The run, with power for so many events.
+// The run, with power for the given number of events.
 fn run(alloc: Global, shape: Shape, limit: u64, pick: u64) -> Result<Ran, Refused> {
     let Some(start) = begin(alloc, shape.geometry, &TAKEN, true)? else {
         return Err(Refused::NotReady);
@@ -76,8 +76,8 @@ struct Look {
     tally: Tally,
 }
 
-// Looks at what is left of a run that is cut after so many events: it is recovered, and where `again` says
-// so that recovery is cut and begun again.
+// Looks at what is left of a run that is cut after the given number of events: it is recovered, and where
+// `again` says so that recovery is cut and begun again.
 fn look_at(
     alloc: Global,
     shape: Shape,
@@ -95,9 +95,9 @@ fn look_at(
     })
 }
 
-// Cuts a run after so many events, twice: what is left is recovered by a recovery that is cut and begun
-// again, and with another pick by one whole recovery. Adds what it finds, and answers whether the power
-// went off.
+// Cuts a run after the given number of events, twice: what is left is recovered by a recovery that is cut
+// and begun again, and with another pick by one whole recovery. Adds what it finds, and returns whether
+// the power went off.
 fn cut_after(alloc: Global, shape: Shape, limit: u64, sum: &mut Sum) -> Result<bool, Refused> {
     let other = limit.saturating_add(5000);
     let again = look_at(alloc, shape, limit, Some(limit % 7), other)?;

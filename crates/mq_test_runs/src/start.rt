@@ -24,7 +24,7 @@ pub fn begin(
     }))
 }
 
-/// Power that lasts for so many events.
+/// Power that lasts for the given number of events.
 pub fn power(limit: Option<u64>) -> Power {
     Power {
         limit,

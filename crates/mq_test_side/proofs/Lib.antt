@@ -1,2 +1,2 @@
-mod Changes
-mod Sending
+mod CommitsSending
+mod DescriptorChanges

@@ -25,7 +25,7 @@ pub enum Went {
     Cut,
     /// It has no room.
     Lacks(Fit),
-    /// It was not begun: a failure is kept, its blocks are none, or memory is short.
+    /// It was not begun: a failure is kept, it has no blocks, or memory ran out.
     Refused,
 }
 
@@ -45,7 +45,7 @@ pub struct Driven<P: Port> {
     ghost zone: { zone_size geometry ≡ 240 },
 }
 
-// The place behind the last transaction that was drawn.
+// The place after the last transaction that was drawn.
 fn next_place(stored: &[Drawn<u64>]) -> u64
     ensures { result ≡ next_in (rows_of stored.now) }
 {
@@ -56,7 +56,7 @@ fn next_place(stored: &[Drawn<u64>]) -> u64
 }
 
 impl<P: Port> Driven<P> {
-    /// A port that is not opened for want of memory comes back.
+    /// When memory runs out, the port is not opened, and the caller gets it back.
     pub fn open(alloc: Global, port: P, geometry: Geometry) -> Result<Driven<P>, P>
         requires queues { queues_of geometry ≡ 1 }
         requires meta { meta_of geometry ≡ 16 }
@@ -176,7 +176,7 @@ impl<P: Port> Driven<P> {
         self.side.done()
     }
 
-    /// Whether the entries of so many transactions are stored, in their order.
+    /// Whether the entries of the given number of transactions are stored, in their order.
     pub fn has_stored(&self, count: usize) -> bool {
         let stored = self.side.stored();
         stored.len() == count

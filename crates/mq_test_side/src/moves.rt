@@ -74,7 +74,7 @@ fn writes_home<P: Port>(
     }
 }
 
-// Makes a move, and answers whether all went as it says.
+// Makes a move, and returns whether all went as it says.
 fn follows<P: Port>(driven: &mut Driven<P>, alloc: Global, next: Move) -> bool {
     match next {
         Move::Commits {
@@ -102,8 +102,8 @@ fn follows_all<P: Port>(driven: &mut Driven<P>, alloc: Global, moves: &[Move]) -
     true
 }
 
-// Makes moves over a port that refuses one changing call, and answers whether all went as they say.
-// The call is counted from 1; 0 is none.
+// Makes moves over a port that refuses one changing call, and returns whether all went as they say. The
+// call is counted from 1; 0 is none.
 fn tries<P: Port>(
     alloc: Global,
     geometry: Geometry,

@@ -26,7 +26,7 @@ struct Rooted<P: Port> {
 }
 
 impl<P: Port> Rooted<P> {
-    // Raises the base where it is not below the stored one, and answers whether that went so.
+    // Raises the base where it is not below the stored one, and returns whether that went so.
     fn raise(&mut self, base: u64, wanted: Result<(), Off>) -> bool {
         TxNo(base) >= self.root.stored() && self.root.raise_base(TxNo(base)) == wanted
     }
@@ -64,7 +64,7 @@ fn follows_all<P: Port>(rooted: &mut Rooted<P>, alloc: Global, moves: &[Move]) -
     true
 }
 
-// Makes moves over a port that refuses one changing call, and answers whether all went as they say.
+// Makes moves over a port that refuses one changing call, and returns whether all went as they say.
 fn tries<P: Port>(alloc: Global, port: P, refuse: u64, moves: &[Move]) -> (P, bool)
     requires { IsSmallRoot (P.state port) }
 {

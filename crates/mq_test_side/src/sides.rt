@@ -105,7 +105,7 @@ fn several_transactions_are_drained_at_once(rt: HostRuntime) -> Result<(), OutOf
     Ok(())
 }
 
-// A transaction that lacks room, by a base.
+// A transaction for which there is no room, by a base.
 fn lacks(tx: u8, from: u32, to: u32, base: u64, fit: Fit) -> Move {
     Move::Commits {
         tx,

@@ -1,4 +1,4 @@
-pub mod Below
-pub mod Lists
-pub mod Ranges
-pub mod Renaming
+pub mod FreeRanges
+pub mod PlainLists
+pub mod RequestsBelow
+pub mod RequestsRenaming

@@ -13,7 +13,7 @@ const BLOCK: usize = 4096;
 /// The pointers that stand in an inode.
 pub const DIRECT: usize = 12;
 
-// How many blocks so many bytes take.
+// How many blocks the given number of bytes take.
 pub fn blocks_for(size: usize) -> usize
     requires { size < 2 ^ 63 }
     ensures { result ≡ blocks_for size }

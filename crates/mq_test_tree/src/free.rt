@@ -81,7 +81,8 @@ impl Volume {
         self.first_from(next, zones * geometry.zone())
     }
 
-    // The first free block: of the queue's own zone, or of the other zones by rising number.
+    // The first free block: of the queue's own zone, or of the other zones in rising order of
+    // numbers.
     pub(crate) fn first_in_order(&self, geometry: Geometry, queue: QueueNo) -> Option<BlockNo>
         requires { queue < queues_of geometry }
         ensures { result ≡ first_of self.now (order geometry queue) }
@@ -114,7 +115,7 @@ impl Volume {
         self.with_block(i, b)
     }
 
-    // Gives an inode so many blocks more, each the first that is free then.
+    // Gives an inode the given number of further blocks, each the first that is free then.
     pub(crate) fn grown(
         &mut self,
         geometry: Geometry,
@@ -134,8 +135,8 @@ impl Volume {
         Ok(())
     }
 
-    // A file with these bytes. It takes the blocks that it lacks; those past the end are freed, and
-    // the block of pointers where it is not needed.
+    // A file with these bytes. It takes the blocks that it still needs; those past the end are
+    // freed, and the block of pointers where it is not needed.
     pub(crate) fn resized(
         &mut self,
         geometry: Geometry,

@@ -2,7 +2,8 @@
 ghost use Rattle.std.specs.Prelude.{◌≡◌, ◌<◌, ◌^◌, ◌++◌, length, ◌∷◌, [], Some, None, IfOk, OnOk};
 ghost use Rattle.mq_tree.specs.Volume.{has_block, is_block, is_used, slots_of};
 ghost use Rattle.mq_blocks.specs.Journal.{is_among};
-ghost use Rattle.mq_test_tree.specs.Bodies.{body_of, file_node};
+ghost use Rattle.mq_test_tree.specs.Bodies.{body_of};
+ghost use Rattle.mq_tree.specs.Volume.{cut_node};
 
 use crate::bytes::DIRECT;
 use crate::entry::NamedInode;
@@ -36,7 +37,8 @@ impl Model for Node {
 
     ghost Value = { Node };
 
-    ghost use Rattle.mq_test_tree.specs.Bodies.{body_of, file_node};
+    ghost use Rattle.mq_test_tree.specs.Bodies.{body_of};
+    ghost use Rattle.mq_tree.specs.Volume.{cut_node};
 
     ghost view = { λ n. record { body = body_of n.body; blocks = n.blocks.items; indirect = n.indirect } };
 }
@@ -150,10 +152,10 @@ impl Node {
         Ok(())
     }
 
-    // A file with these bytes, which keeps so many blocks, and the block of pointers where it is
-    // needed.
+    // A file with these bytes, which keeps the given number of blocks, and the block of pointers
+    // where it is needed.
     pub(crate) fn set_file(&mut self, bytes: Vec<u8>, count: usize)
-        ensures { self.new ≡ file_node self.old count bytes.items }
+        ensures { self.new ≡ cut_node self.old count bytes.items }
     {
         self.body = Body::File(bytes);
         self.blocks.truncate(count);

@@ -152,7 +152,7 @@ impl Volume {
         }
     }
 
-    // Keeps so many blocks of an inode, which becomes a file with these bytes.
+    // Keeps the given number of blocks of an inode, which becomes a file with these bytes.
     pub(crate) fn with_file(&mut self, i: u32, bytes: Vec<u8>, count: usize)
         ensures { self.new ≡ with_file self.old i bytes.items count }
     {

@@ -17,9 +17,9 @@ use Rattle.mq_turns.specs.declared.rule.ChairView.{ChairView}
 use Rattle.mq_turns.specs.declared.turn.Turn.{Turn}
 use Rattle.mq_turns.specs.declared.turn.Turn.TheVariants.{Page, Side, Root}
 use Rattle.mq_turns.specs.declared.turn.Item.TheVariants as item
-use Rattle.mq_turns.proofs.Seen.{opening_seen, turn_seen, mark_stays, stands_renewed}
-use Rattle.mq_turns.proofs.Slots.{turn_at_slot}
-use Rattle.mq_turns.proofs.Each.{hit}
+use Rattle.mq_turns.proofs.DeskSeen.{opening_seen, turn_seen, mark_stays, stands_renewed}
+use Rattle.mq_turns.proofs.DeskSlots.{turn_at_slot}
+use Rattle.mq_turns.proofs.Lists.{hit}
 
 module _ {E : Type 0} (queue : E → ℕ) where
   votes_apart : (q : ℕ) (newer log : List E) → Apart (vote_touches queue) newer log (Side q) → votes queue q (newer ++ log) ≡ votes queue q log

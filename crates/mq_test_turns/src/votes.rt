@@ -177,7 +177,7 @@ fn raise_to<P: Port, R: Wait>(
 
 type Opened = (Desk<Counting<Word>>, Vec<Chair<Counting<Word>>>);
 
-// A desk with so many sides, whose ports stand at 0. Its root is the base.
+// A desk with the given number of sides, whose ports stand at 0. Its root is the base.
 fn opened(alloc: Global, sides: u32, base: u64, chairs: u32) -> Result<Opened, OutOfMemory>
     requires { (0 < chairs) × (chairs ≤ 16) × (base ≤ 2 ^ 62) }
     ensures many { IfOk result (λ d. 4294967296 ≤ allotment (chairs_of d.0)) }

@@ -55,7 +55,7 @@ fn three_steps<P: Port>(port: &mut P) -> [Result<Step, Off>; 3] {
     [first, second, third]
 }
 
-/// Each call of a queue's port but the write of a home block.
+/// Each call of a queue's port except the write of a home block.
 pub fn queue_calls<P: Port>(port: &mut P, blocks: (Block, Block), into: Block) -> Answers
     requires { IsStarted (P.state port.old) }
 {

@@ -46,7 +46,7 @@ impl Watch for Hold {
     }
 }
 
-// Flushes the root while the queue's flush is held. Answers whether it was held.
+// Flushes the root while the queue's flush is held. Returns whether it was held.
 fn flush_while_held<P: Port>(hold: &Hold, port: &mut P) -> (bool, Result<(), Off>) {
     let is_held = comes(&hold.held);
     let flushed = port.flush();

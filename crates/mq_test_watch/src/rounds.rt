@@ -87,8 +87,8 @@ fn told_of_queue(alloc: Global, calls: usize) -> Result<Vec<Told>, OutOfMemory> 
     Ok(told)
 }
 
-// Whether a queue with power for so many events answers under a watch as without one, and whether the watch
-// is told of this.
+// Whether a queue with power for the given number of events answers under a watch as without one, and
+// whether the watch is told of this.
 fn is_watched(
     rt: &impl Abort,
     alloc: Global,

@@ -2,12 +2,13 @@
 use Rattle.std.proofs.Common.{◌≡◌, ℕ, Option, Some, None, ◌<◌, ◌≤◌, ◌⊎◌, eqb, List, [], ◌∷◌, ◌++◌, sym, ◌∙◌, ap, subst, refl, inl, inr, arith, append_assoc, append-nil}
 use Rattle.std.specs.Prelude.{map}
 use Rattle.std.specs.List.{slice_split}
+use Rattle.std.proofs.lemmas.Option.{same_Some}
 use Rattle.mq_text.specs.declared.item.BlockItem.{BlockItem}
 use Rattle.mq_text.specs.declared.refusal.BlockTextCause.{BlockTextCause}
 use Rattle.mq_text.specs.declared.refusal.BlockTextCause.TheVariants.{Empty, Item, Block, Twice, Area}
 use Rattle.mq_text.specs.Refusals.{RefusesWord, RefusesItem, PassesArea, RefusesLine}
 use Rattle.mq_text.specs.Text.{block_of, item_text, line_text, places_of, IsGoodItem, IsUnnamed, AreGoodItems, IsGoodLine, AreGoodLines, IsGoodText}
-use Rattle.mq_text.proofs.TextItems.{none-some, some-same, item_text_injective, good_form, block_low, item_some}
+use Rattle.mq_text.proofs.TextItems.{none-some, item_text_injective, good_form, block_low, item_some}
 use Rattle.mq_text.proofs.TextLines.{unnamed_before, good_at}
 use Rattle.mq_text.proofs.TextParts.{items_avoid, split_part, words_of_line, good_items}
 
@@ -178,7 +179,7 @@ same_viewed before text c d (inl p) (inr (inl q)) = absurd (q.some p.1)
 same_viewed before text c d (inl p) (inr (inr q)) = absurd (line_some q.1.line q.1.good (sym q.1.spelled ∙ p.1))
 same_viewed before text c d (inr (inl p)) (inl q) = absurd (p.some q.1)
 same_viewed before text c d (inr (inl p)) (inr (inl q)) =
-    some-same c d (words_same text p.before q.before (Some c) (Some d) p.good q.good (refused_words text c p) (refused_words text d q)).1
+    same_Some c d (words_same text p.before q.before (Some c) (Some d) p.good q.good (refused_words text c p) (refused_words text d q)).1
 same_viewed before text c d (inr (inl p)) (inr (inr q)) = absurd (good_no_item text q.1.line c q.1.good q.1.spelled p)
 same_viewed before text c d (inr (inr p)) (inl q) = absurd (line_some p.1.line p.1.good (sym p.1.spelled ∙ q.1))
 same_viewed before text c d (inr (inr p)) (inr (inl q)) = absurd (good_no_item text p.1.line d p.1.good p.1.spelled q)

@@ -28,9 +28,6 @@ hex_at text back b v f e =
 pub none-some : {A : Type 0} (x : A) → ◌≡◌ {A = Option A} None (Some x) → ⊥
 none-some x e = cc
 
-pub some-same : {A : Type 0} (x y : A) → ◌≡◌ {A = Option A} (Some x) (Some y) → x ≡ y
-some-same x y e = cc
-
 -- a text that is no item
 pub no_item :
     (text : List ℕ) (r : Option (ℕ × ℕ)) (f : Option ℕ) → ((b v : ℕ) → b < 2 ^ 64 → v ≤ 255 → text ≡ set_text b v → r ≡ Some (b, v)) → ((b : ℕ) → b < 2 ^ 64 → text ≡ free_text b → f ≡ Some b)

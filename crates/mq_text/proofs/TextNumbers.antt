@@ -16,7 +16,7 @@ AreDigits ds = (i : ℕ) → i < length ds → IsInRange 48 57 (get_or ds i 0)
 abbrev pub IsNumeral : List ℕ → Type 0
 IsNumeral t = (0 < length t) × (get_or t 0 0 ≡ 48 → length t ≡ 1) × AreDigits t
 
-own : IsNumeralModel AreDigits (digits_value 10)
+pub own : IsNumeralModel AreDigits (digits_value 10)
 own = numerals_by_value _ tells_by_index
 
 -- of the written numbers only 0 begins with a zero

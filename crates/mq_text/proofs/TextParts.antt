@@ -3,8 +3,7 @@ use Rattle.std.proofs.Common.{◌≡◌, ◌≢◌, ℕ, Bool, true, false, eqb,
 use Rattle.std.specs.Prelude.{map}
 use Rattle.std.specs.Fmt.{decimal}
 use Rattle.std.specs.List.{All, AllByRecursion, onto_first, slice_split, join_with_byte}
-use Rattle.std.proofs.lemmas.Bool.{eq-eqb, eqb-false}
-use Rattle.std.proofs.lemmas.Bool.Decides.{eqb_tells}
+use Rattle.std.proofs.lemmas.Bool.{eq-eqb, eqb-false, ne_eqb}
 use Rattle.std.proofs.lemmas.List.Elements.{All-cons, All-append}
 use Rattle.std.proofs.lemmas.List.Splits.{slice_split_none, slice_split_at, join_with_byte-slice_split, length-slice_split}
 use Rattle.mq_text.specs.declared.item.BlockItem.{BlockItem}
@@ -18,14 +17,8 @@ use Rattle.mq_text.proofs.TextNumbers.{decimal_digits}
 abbrev pub Avoids : ℕ → List ℕ → Type 0
 Avoids at text = All (λ x. eqb x at ≡ false) text
 
-differs : (x at : ℕ) → x ≢ at → eqb x at ≡ false
-differs x at h = elim (eqb_tells x at) [ inl p ↦ absurd (h p.1) | inr q ↦ q.0 ]
-
 apart : (x at : ℕ) → at < x → eqb x at ≡ false
-apart x at h = differs x at (omega arith)
-
-same : (n : ℕ) → eqb n n ≡ true
-same n = eq-eqb n n refl
+apart x at h = ne_eqb x at (omega arith)
 
 pub avoids_none : (at : ℕ) → Avoids at []
 avoids_none at = λ k d h. absurd (omega arith)
@@ -63,14 +56,14 @@ pub split_ended : (at : ℕ) (xs : List (List ℕ)) (t : List ℕ) → AllByRecu
 split_ended at [] t h = refl
 split_ended at (x ∷ xs) t h =
     ap (slice_split (λ b. eqb b at)) (append_assoc x (at ∷ ended at xs) t)
-    ∙ slice_split_at (λ b. eqb b at) x at (ended at xs ++ t) h.0 (same at) ∙ ap (λ l. x ∷ l) (split_ended at xs t h.1)
+    ∙ slice_split_at (λ b. eqb b at) x at (ended at xs ++ t) h.0 (eq-eqb at at refl) ∙ ap (λ l. x ∷ l) (split_ended at xs t h.1)
 
 -- a text has a part
 pub split_some : (p : ℕ → Bool) (text : List ℕ) → slice_split p text ≡ [] → ⊥
 split_some p text e = let n : length (slice_split p text) ≡ 0 = ap length e in omega (arith, length-slice_split p text)
 
 avoids_plain : (at : ℕ) (part : List ℕ) → All (λ b. b ≢ at) part → Avoids at part
-avoids_plain at part plain = λ k d h. differs (get_or part k d) at (plain k d h)
+avoids_plain at part plain = λ k d h. ne_eqb (get_or part k d) at (plain k d h)
 
 plain_avoids : (at : ℕ) (part : List ℕ) → Avoids at part → All (λ b. b ≢ at) part
 plain_avoids at part avoids = λ k d h. eqb-false (get_or part k d) at (avoids k d h)
@@ -86,7 +79,7 @@ split_part at text xs part avoid is =
       | inr e ↦ (
         slice_split (λ b. eqb b at) is.rest,
         ap (slice_split (λ b. eqb b at)) e ∙ split_ended at xs (part ++ at ∷ is.rest) avoid
-            ∙ ap (λ l. xs ++ l) (slice_split_at (λ b. eqb b at) part at is.rest avoids (same at)),
+            ∙ ap (λ l. xs ++ l) (slice_split_at (λ b. eqb b at) part at is.rest avoids (eq-eqb at at refl)),
         λ none. absurd (split_some (λ b. eqb b at) is.rest none),
       )
     ]
@@ -132,7 +125,7 @@ part_of_split at text xs part rest e =
 pub split_of_join : (at : ℕ) (x : List ℕ) (xs : List (List ℕ)) → Avoids at x → AllByRecursion (Avoids at) xs → slice_split (λ b. eqb b at) (join_with_byte at (x ∷ xs)) ≡ x ∷ xs
 split_of_join at x [] a as' = slice_split_none (λ b. eqb b at) x a
 split_of_join at x (y ∷ ys) a as' =
-    slice_split_at (λ b. eqb b at) x at (join_with_byte at (y ∷ ys)) a (same at) ∙ ap (λ t. x ∷ t) (split_of_join at y ys as'.0 as'.1)
+    slice_split_at (λ b. eqb b at) x at (join_with_byte at (y ∷ ys)) a (eq-eqb at at refl) ∙ ap (λ t. x ∷ t) (split_of_join at y ys as'.0 as'.1)
 
 -- a line is its words, joined by spaces
 join_words : (items : List BlockItem) → join_with_byte 32 (map item_text items) ≡ line_text items

@@ -93,7 +93,7 @@ pub record RefusesText (bytes : List ℕ) (number : ℕ) (cause : BlockTextCause
   pub counted : number ≡ length before + 1
   pub refused : RefusesLine before text cause
 
--- a refusal at a line tells its number and its cause; that of want of memory tells nothing
+-- A refusal at a line tells its number and its cause. When memory runs out, nothing is told of the text.
 abbrev pub IsRefused : (ℕ → BlockTextCause → Type 0) → BlockTextRefusal → Type 0
 IsRefused holds (At line cause) = holds line cause
 IsRefused holds OutOfMemory = Unit {0}

@@ -46,7 +46,7 @@ EndsInItem ([] ∷ []) = ⊥
 EndsInItem ((i ∷ is) ∷ []) = Unit {0}
 EndsInItem (l ∷ m ∷ ls) = EndsInItem (m ∷ ls)
 
--- the bytes spell the lines; the last line feed may lack where the last line has an item
+-- the bytes spell the lines; the last line feed may be missing if the last line has an item
 abbrev pub IsTextOf : List ℕ → List (List BlockItem) → Type 0
 IsTextOf bytes lines = (bytes ≡ text_of lines) ⊎ ((bytes ++ 10 ∷ [] ≡ text_of lines) × EndsInItem lines)
 

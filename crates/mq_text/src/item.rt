@@ -11,7 +11,7 @@ use mq_blocks::BlockNo;
 /// What a line does with one block.
 #[derive(Clone, Copy, Debug, PartialEq, Eq)]
 pub enum BlockItem {
-    /// Each byte of the block becomes this one.
+    /// Every byte of the block is set to this one.
     Set(BlockNo, u8),
     Free(BlockNo),
 }

@@ -26,7 +26,7 @@ impl Model for BlockLine {
 impl BlockLine {
     ghost use Rattle.mq_text.specs.Text.{sets_in};
 
-    /// How many items set a block.
+    /// The number of items that set a block.
     pub fn sets(&self) -> usize
         ensures { result ≡ sets_in self.now }
     {

@@ -3,7 +3,7 @@ ghost use Rattle.std.specs.Prelude.{◌≡◌, ◌<◌, ◌≤◌, ◌+◌, ◌-
 ghost use Rattle.std.specs.Int.{IsInRange};
 ghost use Rattle.mq_text.specs.Text.{number_text};
 
-/// Decimal digits, with no zero in front of others.
+/// Whether a text is decimal digits without leading zeros.
 fn is_numeral(text: &[u8]) -> bool
     ensures { IsTrue result
         ↔ ((0 < length text.now)
@@ -19,7 +19,7 @@ fn is_numeral(text: &[u8]) -> bool
     text.iter().all(|b| b.is_ascii_digit())
 }
 
-/// The number with one more digit after its others.
+/// The number with one more digit at its end, if it is below 2^64.
 fn with_digit(number: u64, digit: u8) -> Option<u64>
     requires digit { IsInRange 48 57 digit }
     ensures some { IfSome result (λ n. (n < 2 ^ 64) × (n ≡ number * 10 + (digit - 48))) }

@@ -42,7 +42,7 @@ impl BlockTextCause {
 pub enum BlockTextRefusal {
     /// The first line that is refused, counted from 1, and its first cause.
     At { line: u32, cause: BlockTextCause },
-    /// Memory was not to be had. The text may be good.
+    /// Memory ran out. The text may be good.
     OutOfMemory,
 }
 

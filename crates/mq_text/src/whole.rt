@@ -24,10 +24,10 @@ impl Model for BlockText {
     ghost view = { λ t. t.0.items };
 }
 
-/// The blocks of the smallest journal area, which a whole text must fit.
+/// The number of blocks of the smallest journal area, which a whole text must fit.
 const PLACES: usize = 1024;
 
-/// The text without the line feed at its end, where it has one.
+/// The text without the line feed at its end, if it has one.
 fn without_last_line_feed(text: &[u8]) -> &[u8]
     ensures { (text.now ≡ result.now ++ 10 ∷ [])
         ⊎ ((text.now ≡ result.now) × ((front : List ℕ) → text.now ≡ front ++ 10 ∷ [] → ⊥)) }

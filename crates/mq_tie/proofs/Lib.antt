@@ -1,9 +1,9 @@
-pub mod Ending
-pub mod EntryPlaces
+pub mod EndedParts
+pub mod StoredEntryPlaces
 pub mod Stored
-pub mod Legality
-pub mod Running
+pub mod Legal
+pub mod Runs
 pub mod Ports
-pub mod Charges
+pub mod BackedCharges
 pub mod Backed
 pub mod Rings

@@ -3,15 +3,15 @@ use Rattle.std.proofs.Common.{◌≡◌, ℕ, zero, suc, ◌+◌, ◌-◌, ◌^�
 use Rattle.std.specs.Prelude.{reverse, slice_get, slice_index_or}
 use Rattle.std.proofs.lemmas.List.{length-reverse, reverse-append}
 use Rattle.mq_blocks.specs.Drive.{PortState, counted}
-use Rattle.mq_drive.specs.Steps.{Fault}
+use Rattle.mq_drive.specs.Steps.{PortFault}
 use Rattle.mq_drive.specs.declared.port.Port.{Ghosts}
 use Rattle.mq_journal.specs.Numbers.{Seat, Shared, Start}
-use Rattle.mq_journal.specs.Values.{AreFew, IsRecord, rung_of}
+use Rattle.mq_journal.specs.Values.{AreFew, IsRecord, rung_of, side_values}
 use Rattle.mq_ledger.specs.History.{of_queue}
 use Rattle.mq_ledger.specs.State.{no_port, port_at}
 use Rattle.mq_ledger.specs.declared.tx.Tx.{Tx}
 use Rattle.mq_recover.specs.Drives.{faults_of}
-use Rattle.mq_rules.specs.Groups.{Group}
+use Rattle.mq_rules.specs.Groups.{GroupView}
 use Rattle.mq_rules.specs.Rule.{IsSide, doorbell_of, own_of, part_of, port_of}
 use Rattle.mq_rules.specs.Rule as rule
 use Rattle.mq_rules.specs.Values.{Part, Values}
@@ -25,10 +25,10 @@ use Rattle.mq_tie.specs.Closed.{HasRun}
 use Rattle.mq_tie.specs.Legal.{numbered}
 use Rattle.mq_tie.specs.Ports.{opened_states}
 use Rattle.mq_tie.specs.Rings.{RangOnceEach, txs_in}
-use Rattle.mq_tie.specs.Runs.{history_of, ports_of, run_values}
+use Rattle.mq_tie.specs.Runs.{history_of, ports_of}
 use Rattle.mq_tie.specs.declared.ended.Ended.{Ended}
-use Rattle.mq_tie.proofs.Ports.{found}
-use Rattle.mq_tie.proofs.Running.{same-ports}
+use Rattle.mq_tie.proofs.EndedParts.{there as found}
+use Rattle.mq_tie.proofs.Runs.{same-ports}
 
 -- ---- the history as transactions
 
@@ -46,7 +46,7 @@ newest-first n e es =
     ∙ (reverse-append (numbered n (reverse es)) ((n + length (reverse es), e) ∷ [])
     ∙ ap (λ (k : ℕ). (n + k, e) ∷ reverse (numbered n (reverse es))) (length-reverse es)))
 
-module _ {Q R E : Type 0} (values : Values Q R E) (group : Group E) where
+module _ {Q R E : Type 0} (values : Values Q R E) (group : GroupView E) where
   txs-of-log : (base : ℕ) (log : List E) → map (λ h. rule.numbered h.0 (group.tx h.1)) (reverse (numbered (suc base) (reverse log))) ≡ rule.history values group base log
   txs-of-log base [] = refl
   txs-of-log base (e ∷ es) =
@@ -71,9 +71,9 @@ rang p s is start = record {
   events = few-events p s is.few;
 }
 
-module _ {P E : Type 0} {G : Ghosts P} (state : P → PortState) (faults : P → List Fault) (group : Group E) (o : Start P E G) (views : List (Seat P E G)) (r : Ended P E G) (q : ℕ) (run : HasRun state faults group o views r) (lt : q < length o.sides) where
+module _ {P E : Type 0} {G : Ghosts P} (state : P → PortState) (faults : P → List PortFault) (group : GroupView E) (o : Start P E G) (views : List (Seat P E G)) (r : Ended P E G) (q : ℕ) (run : HasRun state faults group o views r) (lt : q < length o.sides) where
   abbrev values : Values (QueueSide P E G) (Root P G) E
-  values = run_values state faults group
+  values = side_values state faults
 
   abbrev K : Shared P E G
   K = run.end.known
@@ -106,4 +106,4 @@ module _ {P E : Type 0} {G : Ghosts P} (state : P → PortState) (faults : P →
       let is : IsSide values group q K at.0 = run.end.sides_stand q at.0 at.1 in
       let side : RangOnceEach (own_of values group q K) (faults at.0.pmr.port) (port_of values group K.opening q) (state at.0.pmr.port) =
       rang (part_of values group q K) (side_state state faults at.0) is.says.is (at-none (λ (w : QueueSide P E G). state w.pmr.port) K.opening.sides q) in
-      subst (λ (z : List Tx × List Fault × PortState × PortState). RangOnceEach z.0 z.1 z.2 z.3) (λ i. (txs-are i, sym faults-are i, opened-is i, sym new-is i)) side
+      subst (λ (z : List Tx × List PortFault × PortState × PortState). RangOnceEach z.0 z.1 z.2 z.3) (λ i. (txs-are i, sym faults-are i, opened-is i, sym new-is i)) side

@@ -11,18 +11,19 @@ use mathlib.Core.Logic.{dite}
 use native.Mathlib.Decide.{ℕ_discrete}
 use Rattle.mq_drive.specs.declared.port.Port.{Ghosts}
 use Rattle.mq_journal.specs.Values.{entries_in}
-use Rattle.mq_rules.specs.Groups.{Group}
+use Rattle.mq_rules.specs.Groups.{GroupView}
 use Rattle.mq_rules.specs.Rule
 use Rattle.mq_rules.specs.Values.{Values}
 use Rattle.mq_rules.proofs.Opening.{at_map}
 use Rattle.mq_side.specs.declared.drawn.Drawn.{Drawn}
 use Rattle.mq_side.specs.declared.side.QueueSide.{QueueSide}
-use Rattle.mq_turns.specs.Meaning.{IsAt}
+use Rattle.mq_turns.specs.Meaning.{HasNumberAt}
+use Rattle.mq_turns.proofs.Meaning.{at_bounds}
 use Rattle.mq_tie.specs.declared.ended.EntryPlace.{EntryPlace}
 use Rattle.mq_tie.specs.Legal.{numbered}
 use Rattle.mq_tie.specs.Stored.{AreWithin, HasStored, IsNoted, drawn_at, entries_at, stored_by}
-use Rattle.mq_tie.proofs.Ending.{there}
-use Rattle.mq_tie.proofs.EntryPlaces.{Reads, entries-numbered, reads-all}
+use Rattle.mq_tie.proofs.EndedParts.{there}
+use Rattle.mq_tie.proofs.StoredEntryPlaces.{Reads, entries-numbered, reads-all}
 
 -- ---- members of a list
 
@@ -107,11 +108,6 @@ sum-of h f (x ∷ xs) q each =
 
 -- ---- a number's place in the history
 
-pub at-low : {E : Type 0} (base : ℕ) (es : List E) (n : ℕ) (e : E) → IsAt base es n e → (base < n) × (n ≤ base + length es)
-at-low base [] n e at = absurd at
-at-low base (x ∷ xs) n e (inl same) = let is = same.0 in (omega arith, omega arith)
-at-low base (x ∷ xs) n e (inr deeper) = let r = at-low base xs n e deeper in (r.0, omega arith)
-
 get-left : {A : Type 0} (xs ys : List A) (i : ℕ) (x : A) → slice_get xs i ≡ Some x → slice_get (xs ++ ys) i ≡ Some x
 get-left [] ys i x e = absurd (cc)
 get-left (z ∷ xs) ys zero x e = e
@@ -124,7 +120,7 @@ get-last (z ∷ xs) x zero e = absurd (omega arith)
 get-last (z ∷ xs) x (suc i) e = get-last xs x i (omega arith)
 
 -- it stands there, the oldest first
-pub at-place : {E : Type 0} (base : ℕ) (es : List E) (n : ℕ) (e : E) → IsAt base es n e → slice_get (reverse es) (n - suc base) ≡ Some e
+pub at-place : {E : Type 0} (base : ℕ) (es : List E) (n : ℕ) (e : E) → HasNumberAt base es n e → slice_get (reverse es) (n - suc base) ≡ Some e
 at-place base [] n e at = absurd at
 at-place base (x ∷ xs) n e (inl same) =
     let long = length-reverse xs in
@@ -133,7 +129,7 @@ at-place base (x ∷ xs) n e (inl same) =
 at-place base (x ∷ xs) n e (inr deeper) = ap (λ ys. slice_get ys (n - suc base)) (reverse-append (x ∷ []) xs) ∙ get-left (reverse xs) (x ∷ []) (n - suc base) e (at-place base xs n e deeper)
 
 -- each number up to the newest has an entry
-pub at-each : {E : Type 0} (base : ℕ) (es : List E) (n : ℕ) → base < n → n ≤ base + length es → (e : E) × IsAt base es n e
+pub at-each : {E : Type 0} (base : ℕ) (es : List E) (n : ℕ) → base < n → n ≤ base + length es → (e : E) × HasNumberAt base es n e
 at-each base [] n lo hi = absurd (omega arith)
 at-each base (x ∷ xs) n lo hi = elim (cases_lt (base + length xs) n) [
   | inl new ↦ (x, inl (omega arith, refl))
@@ -177,7 +173,7 @@ module _ {P E : Type 0} {G : Ghosts P} (sides : List (QueueSide P E G)) where
       let list : get_or (stored_by sides) q [] ≡ w.stored.items = (at_map (λ s. s.stored.items) sides q w [] side).0 in
       slice_get_within ds p d (ap (λ xs. slice_get xs p) (list_is ∙ sym list) ∙ e)
 
-  -- a entry_place that is read out of an order of which all is found
+  -- a place of an entry that is read out of an order of which all is found
   module _ (order : List EntryPlace) (at : ℕ) (all : length (entries_at (stored_by sides) order) ≡ length order) (inside : at < length order) (entry_place : EntryPlace) (is : entry_place ≡ get_or order at entry_place) where
     read : Reads (stored_by sides) order at
     read = reads-all (stored_by sides) order all at inside
@@ -206,11 +202,11 @@ module _ {P E : Type 0} {G : Ghosts P} (sides : List (QueueSide P E G)) where
           let same : d ≡ read.drawn = e ∙ get_or_from_slice_get ds entry_place.place read.drawn d found in
           read.is ∙ ap (λ x. Some (x.number, x.entry)) (sym same)
 
-module _ {Q R E : Type 0} (values : Values Q R E) (group : Group E) where
+module _ {Q R E : Type 0} (values : Values Q R E) (group : GroupView E) where
   abbrev own : ℕ → ℕ → List E → List (ℕ × E)
   own = Rule.entries_of values group
 
-  own-at : (q base : ℕ) (es : List E) (x : ℕ × E) → Among x (own q base es) → IsAt base es x.0 x.1
+  own-at : (q base : ℕ) (es : List E) (x : ℕ × E) → Among x (own q base es) → HasNumberAt base es x.0 x.1
   own-at q base [] x m = absurd m
   own-at q base (e ∷ es) x m = elim (cases_Bool (eqb (group.tx e).queue q)) [
     | inl is ↦
@@ -222,7 +218,7 @@ module _ {Q R E : Type 0} (values : Values Q R E) (group : Group E) where
     | inr is ↦ let m' : Among x (own q base es) = rw is at m in inr (own-at q base es x m')
   ]
 
-  at-own : (base : ℕ) (es : List E) (n : ℕ) (e : E) → IsAt base es n e → Among (n, e) (own (group.tx e).queue base es)
+  at-own : (base : ℕ) (es : List E) (n : ℕ) (e : E) → HasNumberAt base es n e → Among (n, e) (own (group.tx e).queue base es)
   at-own base [] n e at = absurd at
   at-own base (x ∷ xs) n e (inl same) =
       let is = same.0 in
@@ -235,7 +231,7 @@ module _ {Q R E : Type 0} (values : Values Q R E) (group : Group E) where
   ]
 
   -- each entry is one queue's
-  own-all : (base : ℕ) (es : List E) (n : ℕ) → ((m : ℕ) (e : E) → IsAt base es m e → (group.tx e).queue < n) → sum_from (λ q. length (own q base es)) 0 n ≡ length es
+  own-all : (base : ℕ) (es : List E) (n : ℕ) → ((m : ℕ) (e : E) → HasNumberAt base es m e → (group.tx e).queue < n) → sum_from (λ q. length (own q base es)) 0 n ≡ length es
   own-all base [] n low = sum-none 0 n
   own-all base (x ∷ xs) n low =
       let rest = own-all base xs n (λ m e at. low m e (inr at)) in
@@ -247,11 +243,11 @@ module _ {Q R E : Type 0} (values : Values Q R E) (group : Group E) where
       let more = sum-more (λ q. length (own q base (x ∷ xs))) (λ q. length (own q base xs)) (group.tx x).queue 0 n (omega arith) (let l = low (suc (base + length xs)) x (inl (refl, refl)) in omega arith) here others in
       omega arith
 
-module _ {P R E : Type 0} {G : Ghosts P} (values : Values (QueueSide P E G) R E) (group : Group E) (base : ℕ) (log : List E) (sides : List (QueueSide P E G)) where
+module _ {P R E : Type 0} {G : Ghosts P} (values : Values (QueueSide P E G) R E) (group : GroupView E) (base : ℕ) (log : List E) (sides : List (QueueSide P E G)) where
   -- the sides store the history
   pub record StoreAll : Type 0 where
     pub each : (q : ℕ) (w : QueueSide P E G) → slice_get sides q ≡ Some w → entries_in w.stored.items ≡ Rule.entries_of values group q base log
-    pub own : (n : ℕ) (e : E) → IsAt base log n e → (group.tx e).queue < length sides
+    pub own : (n : ℕ) (e : E) → HasNumberAt base log n e → (group.tx e).queue < length sides
 
   module _ (all : StoreAll) where
     abbrev lists : List (List (Drawn E))
@@ -267,14 +263,14 @@ module _ {P R E : Type 0} {G : Ghosts P} (values : Values (QueueSide P E G) R E)
     list-at q w e = (at_map (λ s. s.stored.items) sides q w [] e).0
 
     -- what is stored has its number in the history
-    pub stored-at : (s : EntryPlace) (d : Drawn E) → drawn_at lists s ≡ Some d → IsAt base log d.number d.entry
+    pub stored-at : (s : EntryPlace) (d : Drawn E) → drawn_at lists s ≡ Some d → HasNumberAt base log d.number d.entry
     stored-at s d e =
         let w = in-side sides s d e in
         let listed = ap (λ ys. slice_get ys s.place) (sym (turned s.queue w.side w.at)) ∙ get-map pair w.side.stored.items s.place d w.place in
         own-at values group s.queue base log (d.number, d.entry) (among-back _ _ (among-get _ s.place _ listed))
 
     -- each entry of the history is stored
-    pub at-stored : (n : ℕ) (e : E) → IsAt base log n e → HasStored lists n
+    pub at-stored : (n : ℕ) (e : E) → HasNumberAt base log n e → HasStored lists n
     at-stored n e at =
         let q = (group.tx e).queue in
         let w = there sides (group.tx e).queue (all.own n e at) in
@@ -289,7 +285,7 @@ module _ {P R E : Type 0} {G : Ghosts P} (values : Values (QueueSide P E G) R E)
         }
 
     pub within : AreWithin lists base (length log)
-    within s d e = at-low base log d.number d.entry (stored-at s d e)
+    within s d e = at_bounds base log d.number d.entry (stored-at s d e)
 
     pub has-stored : (n : ℕ) → base < n → n ≤ base + length log → HasStored lists n
     has-stored n lo hi = let e = at-each base log n lo hi in at-stored n e.0 e.1

@@ -1,28 +1,29 @@
 -- How a desk over the ports of a journal is closed.
 use Rattle.std.specs.Prelude.{◌≡◌, List, map}
 use Rattle.mq_blocks.specs.Drive.{PortState}
-use Rattle.mq_drive.specs.Steps.{Fault}
+use Rattle.mq_drive.specs.Steps.{PortFault}
 use Rattle.mq_drive.specs.declared.port.Port.{Ghosts}
 use Rattle.mq_journal.specs.Numbers.{Seat, Start}
-use Rattle.mq_rules.specs.Groups.{Group}
+use Rattle.mq_journal.specs.Machine.{journal}
+use Rattle.mq_rules.specs.Groups.{GroupView}
 use Rattle.mq_side.specs.declared.side.QueueSide.{QueueSide}
 use Rattle.mq_turns.specs.AtDesk.{start_of, view}
-use Rattle.mq_turns.specs.Chairs.{Ended as DeskEnded}
+use Rattle.mq_turns.specs.Chairs.{DeskEnded}
 use Rattle.mq_turns.specs.Meaning.{Meaning}
 use Rattle.mq_turns.specs.declared.desk.Chair.{Chair}
 use Rattle.mq_turns.specs.declared.desk.Desk.{Desk}
 use Rattle.mq_turns.specs.declared.machine.Machine.{Ghosts as MachineGhosts}
-use Rattle.mq_tie.specs.Runs.{IsRun, ports_of, run_machine}
+use Rattle.mq_tie.specs.Runs.{IsRun, ports_of}
 use Rattle.mq_tie.specs.declared.closing.Unclosed.{Unclosed}
 use Rattle.mq_tie.specs.declared.closing.Unclosed.TheVariants as unclosed
 use Rattle.mq_tie.specs.declared.ended.Ended.{Ended}
 
-module _ {P E : Type 0} {G : Ghosts P} (state : P → PortState) (faults : P → List Fault) (group : Group E) where
+module _ {P E : Type 0} {G : Ghosts P} (state : P → PortState) (faults : P → List PortFault) (group : GroupView E) where
   -- A desk that was opened so, with chairs of these views, has ended with the values of the run: it is what is said of a run by
   -- what was known together at the end. The sides have the ports and the done numbers.
   pub record HasRun (o : Start P E G) (views : List (Seat P E G)) (r : Ended P E G) : Type 0 where
     pub sides : List (QueueSide P E G)
-    pub end : DeskEnded (run_machine state faults group) o views r.pages.items sides r.root r.next r.base
+    pub end : DeskEnded (journal state faults group) o views r.pages.items sides r.root r.next r.base
     pub ports : ports_of r ≡ map (λ s. s.pmr.port) sides
     pub done : r.done.items ≡ map (λ s. s.done) sides
     pub run : IsRun state faults group end.known views r

@@ -7,13 +7,13 @@ use Rattle.mq_ledger.specs.Written.{journal_entries}
 use Rattle.mq_base.specs.Pages.{due_by}
 use Rattle.mq_ends.specs.Parts.{Parts}
 use Rattle.mq_turns.specs.Marks.{is_claimed}
-use Rattle.mq_rules.specs.Groups.{Group}
-use Rattle.mq_rules.specs.Rule.{Desk, IsOk, IsSide, IsRoot, core_of, geometry_of, history_of}
+use Rattle.mq_rules.specs.Groups.{GroupView}
+use Rattle.mq_rules.specs.Rule.{DeskState, IsOk, IsSide, IsRoot, core_of, geometry_of, history_of}
 use Rattle.mq_rules.specs.Values.{Values}
 
-module _ {Q R E : Type 0} (values : Values Q R E) (group : Group E) where
+module _ {Q R E : Type 0} (values : Values Q R E) (group : GroupView E) where
   -- what is known on the desk, over these ports of the queues and of the root
-  abbrev pub parts_over : Desk values group → List PortState → PortState → List ℕ → Parts
+  abbrev pub parts_over : DeskState values group → List PortState → PortState → List ℕ → Parts
   parts_over K ports root acknowledged = record {
     geometry = geometry_of values group K;
     entries = journal_entries;
@@ -29,11 +29,11 @@ module _ {Q R E : Type 0} (values : Values Q R E) (group : Group E) where
     acknowledged = acknowledged;
   }
 
-  abbrev pub parts : Desk values group → List Q → R → List ℕ → Parts
+  abbrev pub parts : DeskState values group → List Q → R → List ℕ → Parts
   parts K sides root acknowledged = parts_over K (map values.port sides) (values.root root) acknowledged
 
   -- The values are what the rule says of them, and each acknowledged number is known to be done.
-  pub record HasEnded (K : Desk values group) (all : List Q) (top : R) (told : List ℕ) : Type 0 where
+  pub record HasEnded (K : DeskState values group) (all : List Q) (top : R) (told : List ℕ) : Type 0 where
     pub ok : IsOk values group K
     pub many : length all ≡ (geometry_of values group K).queues
     pub sides : (q : ℕ) (w : Q) → slice_get all q ≡ Some w → IsSide values group q K w

@@ -13,7 +13,7 @@ stored_by sides = map (λ s. s.stored.items) sides
 abbrev pub drawn_at : {E : Type 0} → List (List (Drawn E)) → EntryPlace → Option (Drawn E)
 drawn_at lists s = slice_get (slice_index_or lists s.queue []) s.place
 
--- the entries that are stored at these entry_places, each with its number
+-- the entries that are stored at these places, each with its number
 abbrev pub with_found : {E : Type 0} → Option (Drawn E) → List (ℕ × E) → List (ℕ × E)
 with_found None hs = hs
 with_found (Some d) hs = (d.number, d.entry) ∷ hs

@@ -1,9 +1,10 @@
 // The end of a run: one history out of what the sides of all queues store.
 ghost use Rattle.std.specs.Prelude.{◌≡◌, [], IfOk, IfErr, length, map};
 ghost use Rattle.std.specs.List.{All};
+ghost use Rattle.mq_journal.specs.Machine.{journal};
 ghost use Rattle.mq_turns.specs.AtDesk.{AtDesk, chairs_of, start_of, view};
-ghost use Rattle.mq_turns.specs.Chairs.{Ended as DeskEnded};
-ghost use Rattle.mq_tie.specs.Runs.{IsRun, CanEnd, ports_of, run_machine};
+ghost use Rattle.mq_turns.specs.Chairs.{DeskEnded};
+ghost use Rattle.mq_tie.specs.Runs.{IsRun, CanEnd, ports_of};
 ghost use Rattle.mq_tie.specs.Closed.{HasRun, StaysOpen};
 
 use crate::ended::Ended;
@@ -26,8 +27,8 @@ fn done_of<P: Port, E>(alloc: Global, sides: &[QueueSide<P, E>]) -> Result<Vec<T
     Ok(done)
 }
 
-/// Ends a run over what its desk had when it ended. All memory is taken before anything moves: a refusal
-/// gives all back as it was.
+/// Ends a run over what its desk had when it ended. All memory is taken before anything moves, so that a
+/// refusal gives everything back as it was.
 pub fn close<P: Port + Drop, G: Groups>(
     alloc: Global,
     parts: Parts<JournalMachine<P, G>>,
@@ -41,7 +42,7 @@ pub fn close<P: Port + Drop, G: Groups>(
     ensures ports { IfOk result (λ r. ports_of r ≡ map (λ s. s.pmr.port) parts.sides.items) }
     ensures done { IfOk result (λ r. r.done.items ≡ map (λ s. s.done) parts.sides.items) }
     ensures run { IfOk result (λ r. (o : _) (views : _)
-        (end : DeskEnded (run_machine P.state P.faults G.group) o views parts.pages.items parts.sides.items parts.root
+        (end : DeskEnded (journal P.state P.faults G.group) o views parts.pages.items parts.sides.items parts.root
         parts.next parts.base)
         → IsRun P.state P.faults G.group end.known views r) }
     ensures err { IfErr result (λ e. e.0 ≡ parts) }
@@ -76,12 +77,12 @@ pub fn close<P: Port + Drop, G: Groups>(
     })
 }
 
-/// A desk that could not be closed, for lack of memory.
+/// A desk that could not be closed because memory ran out.
 #[derive(Drop)]
 pub enum Unclosed<M: Machine> {
-    /// It stands as it was, with its chairs.
+    /// The desk is as it was, with its chairs.
     Desk(Desk<M>, Vec<Chair<M>>),
-    /// It has ended, and this is what it had. `close` may be tried again.
+    /// The desk has ended, and this is what it had. `close` may be tried again.
     Parts(Parts<M>),
 }
 
@@ -95,7 +96,7 @@ pub fn close_desk<P: Port + Drop, G: Groups>(
     requires all { length chairs.items ≡ chairs_of desk }
     ensures run { IfOk result (λ r. HasRun P.state P.faults G.group (start_of desk)
         (map (λ ch. view ch) chairs.items) r) }
-    ensures err { IfErr result (λ e. StaysOpen (run_machine P.state P.faults G.group) desk chairs.items e.0) }
+    ensures err { IfErr result (λ e. StaysOpen (journal P.state P.faults G.group) desk chairs.items e.0) }
 {
     match desk.into_parts(alloc, chairs) {
         Ok(parts) => match close(alloc, parts) {

@@ -14,15 +14,15 @@ pub(crate) struct EntryPlace {
     pub(crate) place: usize,
 }
 
-/// What a run leaves, once nobody holds anything: the ports, the cells of the home blocks, and the history in
-/// number order. Each entry is stored once, in the side of its queue, and no entry was copied.
+/// What a run leaves, once no chair holds anything: the ports, the cells of the home blocks, and the
+/// history in number order. Each entry is stored once, in the side of its queue, and no entry was copied.
 #[derive(Drop)]
 pub struct Ended<P: Port, E> {
     /// The cells of the home blocks.
     pub pages: Vec<PageCell>,
     /// The root.
     pub root: Root<P>,
-    /// Of each queue, the last number of which its side knows that it is done, or 0.
+    /// For each queue, the last number of which its side knows that it is done, or 0.
     pub done: Vec<TxNo>,
     /// The last number drawn, or the base at the opening.
     pub next: TxNo,

@@ -8,15 +8,15 @@ use mq_drive::Port;
 use mq_journal::Groups;
 use mq_rules::JournalValues;
 
-/// Where nobody holds anything, what is known on a desk, its sides and its root are parts of one lawful
+/// When no chair holds anything, what is known on a desk, its sides and its root are parts of one lawful
 /// state of the machine, with the words of the marks as its marks.
 pub fn a_desk_ends_in_a_lawful_state<J: JournalValues>()
     ensures parts { DesksEndAsParts J.values J.group }
     ensures marks { WordsAreMarks J.values J.group }
 {}
 
-/// A desk that was closed gives back the ports that it was opened with: each is the port of its role still, with
-/// the same fuse, and the same of its commands and home writes fails.
+/// A desk that was closed gives back the ports that it was opened with: each is still the port of its role,
+/// with the same fuse, and the same of its commands and home writes fails.
 pub fn a_closed_desk_keeps_its_ports<P: Port, G: Groups>()
     ensures { RunsKeepTheirPorts P.Port P.state P.faults G.group }
 {}

@@ -9,7 +9,7 @@ use mq_drive::Port;
 use mq_side::QueueSide;
 use std::alloc::Global;
 
-/// How many entries the sides store.
+/// The number of entries that the sides store.
 pub fn count_stored<P: Port, E>(sides: &[QueueSide<P, E>]) -> usize
     requires few { sum_by (λ s. length s.stored.items) sides.now < 2 ^ 64 }
     ensures { result ≡ sum_by (λ s. length s.stored.items) sides.now }
@@ -45,7 +45,7 @@ fn note_queue<P: Port, E>(
     }
 }
 
-/// Where the entry of each number above the base is stored, for so many numbers.
+/// Where the entry of each number above the base is stored, for `count` numbers.
 pub fn order_of<P: Port, E>(
     alloc: Global,
     sides: &[QueueSide<P, E>],

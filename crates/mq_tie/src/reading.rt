@@ -20,7 +20,7 @@ fn unmake_sides<P: Port, E: Drop>(sides: Vec<QueueSide<P, E>>, ports: &mut Vec<P
 }
 
 impl<P: Port, E> Ended<P, E> {
-    /// How many entries the history has.
+    /// The number of entries of the history.
     pub fn count(&self) -> usize
         ensures { result ≡ length (history_of self.now) }
     {

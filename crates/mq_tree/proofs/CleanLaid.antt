@@ -17,13 +17,14 @@ use Rattle.mq_layout.proofs.EmptyLaws.{zeros-free}
 use Rattle.mq_tree.specs.Clean.{HasPointers, IsClean, IsDirBlock, IsInZone}
 use Rattle.mq_tree.specs.Decoded.{Stored, body_of, byte_of, count_of, entry_of, node_of, part, pointer_to, slot_of, table_of, the_inode, volume_in}
 use Rattle.mq_tree.specs.Empty.{ArePages}
-use Rattle.mq_tree.specs.Laid.{IsLaid, InodeMarks, Shows, ShowsPart, ShowsPointers, ShowsRegion, ShowsTable, ShowsUse, ShowsZone, Table, inode_of, kind_of, links_of, map_of, or_zero, padded, region, size_of, zone_block}
+use Rattle.mq_tree.specs.Laid.{IsLaid, InodeMarks, ShowsPage, ShowsPart, ShowsPointers, ShowsRegion, ShowsTable, ShowsUse, ShowsZone, Table, inode_of, kind_of, links_of, map_of, or_zero, padded, region, size_of, zone_block}
 use Rattle.mq_tree.specs.Sound.{AreBytes, AreEntries, IsBody, IsNode, IsSound, blocks_for}
 use Rattle.mq_tree.specs.Volume.{Body, File, Dir, Node, Use, Part, Pointers, block_in, body, free_node, is_taken, node}
-use Rattle.mq_tree.proofs.Decoding.{body-dir, body-file, body-free, body-in, indirect-found, length-table, length-volume, node-in, node-past, part-found, pointer-far, pointer-near, table-at, table-past, taken-use}
-use Rattle.mq_tree.proofs.Maps.{mapped, unmapped, zone-low, zone-place, zone-rest}
-use Rattle.mq_tree.proofs.Regions.{region-inode_marks, region-marks, region-table, region-zone}
-use Rattle.mq_tree.proofs.Unique.{padded-at}
+use Rattle.mq_tree.proofs.Decoded.{body-dir, body-file, body-free, body-in, indirect-found, length-table, length-volume, node-in, node-past, part-found, pointer-far, pointer-near, table-at, table-past, taken-use}
+use Rattle.mq_tree.proofs.LaidMaps.{mapped, unmapped, zone-low, zone-place, zone-rest}
+use Rattle.mq_tree.proofs.LaidRegions.{region-inode_marks, region-marks, region-table, region-zone}
+use Rattle.mq_tree.proofs.LaidUnique.{padded-at}
+use Rattle.mq_tree.proofs.Empty.{free-inode}
 
 -- ---- one inode
 
@@ -230,10 +231,6 @@ all-zeros : (page : List ℕ) → length page ≡ 4096 → ((k : ℕ) → slice_
 unfolding zeros
 all-zeros page whole each = same_lists page (replicate 4096 0) (whole ∙ sym (length-replicate {A = ℕ} 4096 0)) (λ k d l. get_or_default page k d 0 l ∙ each k ∙ sym (get_or-replicate {A = ℕ} 4096 k 0 d (omega arith)))
 
-free-inode : inode_of free_node ≡ free_inode
-unfolding padded
-free-inode = refl
-
 table-clean : (g : Geometry) (s : Stored) (block : ℕ) → ArePages s → IsClean g s → table_first g + block < meta_of g → ShowsTable (volume_in g s) block (block_at s (table_first g + block))
 table-clean g s block pages clean low k small = elim (cases_lt (32 * block + k) (inodes_of g)) [
   | inl inside ↦
@@ -302,7 +299,7 @@ clean-laid g s pages clean = record {
   shown = λ b page e.
       let p = mapped g s b page e in
       let same = sym p.is in
-      subst (λ x. Shows g (volume_in g s) b x) same (
+      subst (λ x. ShowsPage g (volume_in g s) b x) same (
         pages b,
         elim (cases_lt b (meta_of g)) [
           | inl low ↦ meta-shows g s b pages clean low

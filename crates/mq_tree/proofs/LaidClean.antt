@@ -1,6 +1,6 @@
 -- A volume that lies on the map of stored blocks is the one that they say, and they are clean.
-use Rattle.std.proofs.Common.{get_or, ◌≡◌, ℕ, ◌+◌, ◌-◌, ◌*◌, ◌/◌, ◌%◌, ◌<◌, ◌≤◌, List, length, Bool, false, cond, refl, sym, ap, subst, ◌∙◌, arith, inl, inr}
-use Rattle.std.specs.Prelude.{Option, Some, None, is_some, nat_lt, slice_get, if◌then◌else◌}
+use Rattle.std.proofs.Common.{get_or, ◌≡◌, ℕ, ◌+◌, ◌-◌, ◌*◌, ◌/◌, ◌%◌, ◌<◌, ◌≤◌, List, length, Bool, cond, refl, sym, ap, subst, ◌∙◌, arith, inl, inr}
+use Rattle.std.specs.Prelude.{Option, Some, None, nat_lt, slice_get, if◌then◌else◌}
 use Rattle.std.proofs.lemmas.Bool.{and_left, cases_lt, le-ltb, lt-ltb}
 use Rattle.std.proofs.lemmas.List.{get_or_default, get_or_past, same_lists}
 use Rattle.std.proofs.lemmas.List.FromFn.{fill_by_all}
@@ -14,19 +14,20 @@ use Rattle.mq_layout.specs.Inodes.{ShowsInode, inode_bytes}
 use Rattle.mq_layout.specs.Places.{inode_bitmap, inode_block, inode_place, inodes_of, table_first, zone_bitmap}
 use Rattle.mq_layout.specs.Slots.{Entry, ShowsSlot}
 use Rattle.mq_layout.specs.declared.inode.Inode.{Inode}
-use Rattle.mq_layout.proofs.Zeros.{length-zero_bytes, zero_bytes-at}
+use Rattle.mq_layout.proofs.FieldsZeros.{length-zero_bytes, zero_bytes-at}
 use Rattle.mq_blocks.proofs.Windows.{shows-at}
+use Rattle.mq_blocks.proofs.Options.{none-of}
 use Rattle.mq_tree.specs.Empty.{ArePages}
 use Rattle.mq_tree.specs.Clean.{HasPointers, IsClean, IsDirBlock, IsInZone, IsTable}
 use Rattle.mq_tree.specs.Decoded.{Stored, body_of, byte_of, count_of, entry_of, node_of, part, pointer_to, table_of, the_inode, volume_in}
 use Rattle.mq_tree.specs.Laid.{IsLaid, ShowsMarks, ShowsPart, ShowsPointers, ShowsRegion, ZoneMarks, inode_marked, inode_of, kind_of, map_of, or_zero, padded, region, size_of, zone_block, zone_marked}
 use Rattle.mq_tree.specs.Sound.{IsBody, IsNode, blocks_for}
 use Rattle.mq_tree.specs.Volume.{Body, Free, File, Dir, Node, Volume, Part, Pointers, body, free_node, is_taken, is_used, node}
-use Rattle.mq_tree.proofs.Decoding.{body-dir, body-file, body-free, inode-decoded, length-volume, node-in, node-past, pointer-far, pointer-near, slot-decoded}
-use Rattle.mq_tree.proofs.Maps.{mapped}
-use Rattle.mq_tree.proofs.Regions.{region-inode_marks, region-marks, table-holds}
-use Rattle.mq_tree.proofs.Unique.{body-few, node-parts, padded-at, some-when, table-shows}
-use Rattle.mq_tree.proofs.Uses.{page-of, some-of}
+use Rattle.mq_tree.proofs.Decoded.{body-dir, body-file, body-free, inode-decoded, length-volume, node-in, node-past, pointer-far, pointer-near, slot-decoded}
+use Rattle.mq_tree.proofs.LaidMaps.{mapped}
+use Rattle.mq_tree.proofs.LaidRegions.{region-inode_marks, region-marks, table-holds}
+use Rattle.mq_tree.proofs.LaidUnique.{body-few, node-parts, padded-at, some-when, table-shows}
+use Rattle.mq_tree.proofs.LaidUses.{page-of, some-of}
 
 -- ---- one inode
 
@@ -44,10 +45,6 @@ record Held (s : Stored) (n : Node) : Type 0 where
 -- the indirect block, where there are more than twelve
 indirect-is : (n : Node) → IsNode n → 12 < length n.blocks → n.indirect ≡ Some (or_zero n.indirect)
 indirect-is n good many = let x = some-when n.indirect (good.indirect ∙ lt-ltb 12 (length n.blocks) many) in x.1 ∙ ap (λ (b : ℕ). Some b) (sym (ap or_zero x.1))
-
-indirect-none : (o : Option ℕ) → is_some o ≡ false → o ≡ None
-indirect-none None e = refl
-indirect-none (Some b) e = absurd (cc)
 
 far-pointer : (s : Stored) (n : Node) (k : ℕ) → Held s n → 12 < length n.blocks → 12 ≤ k → k < 1036 → pointer_to s (inode_of n) k ≡ get_or n.blocks k 0
 far-pointer s n k h many high low =
@@ -72,7 +69,7 @@ the-blocks s n h =
 the-indirect : (n : Node) → IsNode n → cond (nat_lt 12 (count_of (inode_of n))) (Some (or_zero n.indirect)) None ≡ n.indirect
 the-indirect n good = elim (cases_lt 12 (length n.blocks)) [
   | inl many ↦ let y = lt-ltb 12 (length n.blocks) many in let c = the-count n good in ap (λ (t : Bool). cond t (Some (or_zero n.indirect)) None) (ap (λ (k : ℕ). nat_lt 12 k) c ∙ y) ∙ sym (indirect-is n good many)
-  | inr few ↦ let y = le-ltb 12 (length n.blocks) few in let c = the-count n good in ap (λ (t : Bool). cond t (Some (or_zero n.indirect)) None) (ap (λ (k : ℕ). nat_lt 12 k) c ∙ y) ∙ sym (indirect-none n.indirect (good.indirect ∙ y))
+  | inr few ↦ let y = le-ltb 12 (length n.blocks) few in let c = the-count n good in ap (λ (t : Bool). cond t (Some (or_zero n.indirect)) None) (ap (λ (k : ℕ). nat_lt 12 k) c ∙ y) ∙ sym (none-of n.indirect (good.indirect ∙ y))
 ]
 
 -- the page of a part is what its pointer leads to
@@ -219,7 +216,7 @@ laid-pointers g s v i laid =
           subst (λ b. IsInZone g b) (sym (the-pointer s n k h inside)) (laid.sound.zones (Part i k) (get_or n.blocks k 0) (slice_get-get_or n.blocks k 0 inside));
       direct = λ k past low. padded-at 12 n.blocks k low ∙ get_or_past n.blocks k 0 (omega arith);
       many = λ many. laid.sound.zones (Pointers i) (or_zero n.indirect) (indirect-is n h.good (omega arith));
-      few = λ few. ap or_zero (indirect-none n.indirect (h.good.indirect ∙ le-ltb 12 (length n.blocks) (omega arith)));
+      few = λ few. ap or_zero (none-of n.indirect (h.good.indirect ∙ le-ltb 12 (length n.blocks) (omega arith)));
       rest = λ k many past low. far-pointer s n k h (omega arith) (omega arith) low ∙ get_or_past n.blocks k 0 (omega arith);
     }
 

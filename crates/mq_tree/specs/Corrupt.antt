@@ -118,7 +118,7 @@ IsCorrupt g s Unreached b = IsUnreached g s b
 IsCorrupt g s Kind b = BadKind g s b
 IsCorrupt g s Tail b = HasTail g s b
 
--- want of memory says nothing
+-- A call that runs out of memory says nothing about the volume.
 abbrev pub Refuses : Geometry → Stored → MountRefusal → Type 0
 Refuses g s (Corrupt cause b) = IsCorrupt g s cause b
 Refuses g s OutOfMemory = Unit {0}

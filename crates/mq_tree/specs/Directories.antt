@@ -49,7 +49,7 @@ pub record HasTwin (s : Stored) (n : Inode) (b : ℕ) : Type 0 where
   pub apart : k ≢ l
   pub is : b ≡ pointer_to s n (k / 15)
 
--- a directory is refused for such a name, or for want of memory
+-- A directory is refused because it has such a name, or because the call runs out of memory.
 abbrev pub RefusesTwin : Stored → Inode → MountRefusal → Type 0
 RefusesTwin s n (Corrupt cause b) = (cause ≡ Twin) × HasTwin s n b
 RefusesTwin s n OutOfMemory = Unit {0}

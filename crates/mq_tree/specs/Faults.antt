@@ -1,4 +1,4 @@
--- Which requests are refused, and why: for what stands at their paths, or for want of room.
+-- Which requests are refused, and why: for what stands at their paths, or because there is no room.
 use Rattle.std.specs.Prelude.{◌≡◌, ◌≢◌, ◌<◌, ◌≤◌, ◌⊎◌, ℕ, ◌+◌, List, [], ◌∷◌, ◌++◌, length, Option, Some, None, true, false}
 use Rattle.mq_blocks.specs.declared.geometry.Geometry.{Geometry}
 use Rattle.mq_layout.specs.Places.{file_limit, names_limit}

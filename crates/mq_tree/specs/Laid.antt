@@ -128,8 +128,8 @@ ShowsRegion g v b Zone page = ShowsZone v b page
 ShowsRegion g v b Outside page = ⊥
 
 -- the volume has this page at the block
-abbrev pub Shows : Geometry → Volume → (b : ℕ) → List ℕ → Type 0
-Shows g v b page = IsPage page × ShowsRegion g v b (region g b) page
+abbrev pub ShowsPage : Geometry → Volume → (b : ℕ) → List ℕ → Type 0
+ShowsPage g v b page = IsPage page × ShowsRegion g v b (region g b) page
 
 -- the volume has no page at the block
 abbrev pub IsVacant : Geometry → Volume → ℕ → Type 0
@@ -141,7 +141,7 @@ IsVacant g v b = (meta_of g ≤ b) × (is_taken v b ≡ false)
 -- has no block the volume has none.
 pub record IsLaid (g : Geometry) (map : Map) (v : Volume) : Type 0 where
   pub sound : IsSound g v
-  pub shown : (b : ℕ) (page : List ℕ) → map b ≡ Some page → Shows g v b page
+  pub shown : (b : ℕ) (page : List ℕ) → map b ≡ Some page → ShowsPage g v b page
   pub vacant : (b : ℕ) → map b ≡ None → IsVacant g v b
 
 -- tree, layout and map agree

@@ -122,7 +122,7 @@ pub data LooksAt (g : Geometry) (q : ℕ) (v : Volume) (r : Request) (b : ℕ) :
   -- where it takes or frees an inode, that inode's block and the bitmap of inodes
   taken_inode : (i : ℕ) → TakesInode g q v r i → b ≡ inode_block g i → LooksAt g q v r b
   marks : (i : ℕ) → TakesInode g q v r i → b ≡ inode_bitmap g → LooksAt g q v r b
-  -- the bitmap of inodes also where it has none, or has no space for a new name
+  -- the bitmap of inodes, even if no inode is free or there is no space for a new name
   no_inodes : (step g q v r).reply ≡ Refused NoInodes → b ≡ inode_bitmap g → LooksAt g q v r b
   no_space : is_making r ≡ true → (step g q v r).reply ≡ Refused NoSpace → b ≡ inode_bitmap g → LooksAt g q v r b
   -- the bitmap of each zone of which it frees a block

@@ -67,17 +67,17 @@ walk v (name ∷ way) = go_on v name (walk v way)
 
 -- What a path names: the root; nothing, where walking to it is refused; or a name in a directory, with
 -- the inode under it.
-pub data Target : Type 0 where
-  Root : Target
-  Lost : Fault → Target
-  In : (directory : ℕ) (name : List ℕ) (found : Option ℕ) → Target
+pub data RequestTarget : Type 0 where
+  Root : RequestTarget
+  Lost : Fault → RequestTarget
+  In : (directory : ℕ) (name : List ℕ) (found : Option ℕ) → RequestTarget
 
-abbrev pub target_in : Volume → List ℕ → Result ℕ Fault → Target
+abbrev pub target_in : Volume → List ℕ → Result ℕ Fault → RequestTarget
 target_in v name (Err fault) = Lost fault
 target_in v name (Ok d) = In d name (find name (slots_of (body v d)))
 
 -- through all its names but the last
-abbrev pub target : Volume → Way → Target
+abbrev pub target : Volume → Way → RequestTarget
 target v [] = Root
 target v (name ∷ way) = target_in v name (walk v way)
 
@@ -136,8 +136,8 @@ abbrev pub spliced : ℕ → (new : List ℕ) → List ℕ → List ℕ
 spliced at [] bytes = bytes
 spliced at (x ∷ xs) bytes = cut_to at bytes ++ (x ∷ xs) ++ drop (at + length (x ∷ xs)) bytes
 
--- The file with these bytes. It takes the blocks that it lacks; those past the end are freed, and the
--- block of pointers where it is not needed.
+-- The file with these bytes. It takes the blocks that it still needs; those past the end are freed, and
+-- the block of pointers where it is not needed.
 abbrev pub resized : Geometry → (queue : ℕ) → Volume → ℕ → List ℕ → Volume
 resized g q v i bytes =
     let count = blocks_for (length bytes) in
@@ -160,7 +160,7 @@ abbrev pub make_free : Geometry → (queue : ℕ) → Volume → Body → (d : �
 make_free g q v new d name None = refused NoInodes
 make_free g q v new d name (Some i) = Makes (link_needs (node v d)) (linked g q (slice_set v i (record { body = new; blocks = []; indirect = None })) d (record { inode = i; name = name }))
 
-abbrev pub make : Geometry → (queue : ℕ) → Volume → Body → Target → Verdict
+abbrev pub make : Geometry → (queue : ℕ) → Volume → Body → RequestTarget → Verdict
 make g q v new Root = refused Exists
 make g q v new (Lost fault) = refused fault
 make g q v new (In d name (Some i)) = refused Exists
@@ -175,7 +175,7 @@ write_in g q v i at new Free = refused NotFound
 write_in g q v i at new (File bytes) = set_bytes g q v i (at + length new) (spliced at new bytes)
 write_in g q v i at new (Dir slots) = refused IsDir
 
-abbrev pub write : Geometry → (queue : ℕ) → Volume → (at : ℕ) → List ℕ → Target → Verdict
+abbrev pub write : Geometry → (queue : ℕ) → Volume → (at : ℕ) → List ℕ → RequestTarget → Verdict
 write g q v at new Root = refused IsDir
 write g q v at new (Lost fault) = refused fault
 write g q v at new (In d name None) = refused NotFound
@@ -186,7 +186,7 @@ truncate_in g q v i size Free = refused NotFound
 truncate_in g q v i size (File bytes) = set_bytes g q v i size (cut_to size bytes)
 truncate_in g q v i size (Dir slots) = refused IsDir
 
-abbrev pub truncate : Geometry → (queue : ℕ) → Volume → (size : ℕ) → Target → Verdict
+abbrev pub truncate : Geometry → (queue : ℕ) → Volume → (size : ℕ) → RequestTarget → Verdict
 truncate g q v size Root = refused IsDir
 truncate g q v size (Lost fault) = refused fault
 truncate g q v size (In d name None) = refused NotFound
@@ -197,7 +197,7 @@ unlink_in v d name i Free = refused NotFound
 unlink_in v d name i (File bytes) = Makes 0 (freed (unlinked v d name) i)
 unlink_in v d name i (Dir slots) = refused IsDir
 
-abbrev pub unlink : Volume → Target → Verdict
+abbrev pub unlink : Volume → RequestTarget → Verdict
 unlink v Root = refused IsDir
 unlink v (Lost fault) = refused fault
 unlink v (In d name None) = refused NotFound
@@ -208,7 +208,7 @@ rmdir_in v d name i Free = refused NotFound
 rmdir_in v d name i (File bytes) = refused NotDir
 rmdir_in v d name i (Dir slots) = if nat_eq (count_names slots) 0 then Makes 0 (freed (unlinked v d name) i) else refused NotEmpty
 
-abbrev pub rmdir : Volume → Target → Verdict
+abbrev pub rmdir : Volume → RequestTarget → Verdict
 rmdir v Root = refused BadName
 rmdir v (Lost fault) = refused fault
 rmdir v (In d name None) = refused NotFound
@@ -225,13 +225,13 @@ is_below (name ∷ path) (other ∷ below) = bytes_eq name other && is_below pat
 abbrev pub move_in : Geometry → (queue : ℕ) → (without : Volume) → ℕ → (d : ℕ) → (name : List ℕ) → Verdict
 move_in g q w i d name = if nat_le names_limit (count_names (slots_of (body w d))) then refused TooBig else Makes (link_needs (node w d)) (linked g q w d (record { inode = i; name = name }))
 
-abbrev pub move : Geometry → (queue : ℕ) → (without : Volume) → ℕ → Target → Verdict
+abbrev pub move : Geometry → (queue : ℕ) → (without : Volume) → ℕ → RequestTarget → Verdict
 move g q w i Root = refused Exists
 move g q w i (Lost fault) = refused fault
 move g q w i (In d name (Some j)) = refused Exists
 move g q w i (In d name None) = move_in g q w i d name
 
-abbrev pub rename : Geometry → (queue : ℕ) → Volume → (from to : Path) → Target → Verdict
+abbrev pub rename : Geometry → (queue : ℕ) → Volume → (from to : Path) → RequestTarget → Verdict
 rename g q v from to Root = refused Subtree
 rename g q v from to (Lost fault) = refused fault
 rename g q v from to (In d name None) = refused NotFound
@@ -265,7 +265,7 @@ stat_in (File bytes) = Size (length bytes)
 stat_in (Dir slots) = Count (count_names slots)
 
 -- what such a request says of what its path names
-abbrev pub asks : Volume → (Body → Reply) → Target → Verdict
+abbrev pub asks : Volume → (Body → Reply) → RequestTarget → Verdict
 asks v reply Root = Says (reply (body v 0))
 asks v reply (Lost fault) = refused fault
 asks v reply (In d name None) = refused NotFound
@@ -289,17 +289,17 @@ act g q v (Stat p) = asks v stat_in (target v (way p))
 abbrev pub verdict : Geometry → (queue : ℕ) → Volume → Request → Verdict
 verdict g q v r = if is_named r then act g q v r else refused BadName
 
-pub record Outcome : Type 0 where
+pub record RequestOutcome : Type 0 where
   pub reply : Reply
   pub next : Volume
 
 -- More blocks than are free are refused last.
-abbrev pub carried_out : Geometry → Volume → Verdict → Outcome
+abbrev pub carried_out : Geometry → Volume → Verdict → RequestOutcome
 carried_out g v (Says reply) = record { reply = reply; next = v }
 carried_out g v (Makes blocks next) = if nat_lt (free_blocks g v) blocks then record { reply = Refused NoSpace; next = v } else record { reply = Done; next = next }
 
 -- a request of a session on this queue
-unfoldable pub step : Geometry → (queue : ℕ) → Volume → Request → Outcome
+unfoldable pub step : Geometry → (queue : ℕ) → Volume → Request → RequestOutcome
 step g q v r = carried_out g v (verdict g q v r)
 
 -- one request of a group after another: the replies, and the volume at the end

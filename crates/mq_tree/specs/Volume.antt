@@ -1,5 +1,5 @@
 -- What a file system holds, by inode numbers: the tree together with its layout.
-use Rattle.std.specs.Prelude.{ℕ, ◌+◌, Bool, true, false, ◌||◌, List, [], ◌∷◌, reverse, slice_get, slice_index_or, Option, Some, None, option_and_then, if◌then◌else◌, nat_eq}
+use Rattle.std.specs.Prelude.{ℕ, ◌+◌, Bool, true, false, ◌||◌, List, [], ◌∷◌, reverse, slice_get, slice_index_or, Option, Some, None, option_and_then, if◌then◌else◌, nat_eq, take, nat_lt}
 use Rattle.std.specs.Str.{bytes_eq}
 use Rattle.mq_blocks.specs.Journal.{is_among}
 use Rattle.mq_layout.specs.Slots.{Entry}
@@ -23,6 +23,10 @@ Volume = List Node
 
 abbrev pub free_node : Node
 free_node = record { body = Free; blocks = []; indirect = None }
+
+-- a file with so many of its blocks, and these bytes
+abbrev pub cut_node : Node → (count : ℕ) → List ℕ → Node
+cut_node n count bytes = record { body = File bytes; blocks = take count n.blocks; indirect = if nat_lt 12 count then n.indirect else None }
 
 abbrev pub node : Volume → ℕ → Node
 node v i = slice_index_or v i free_node

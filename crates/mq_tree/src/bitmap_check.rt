@@ -16,7 +16,7 @@ use crate::stored::{corrupt, stored_block};
 use mq_blocks::{Block, Geometry, QueueNo};
 use mq_layout::{Inode, bit, inode_bitmap, zone_bitmap};
 
-/// What is wrong with a mark that is not as it should be.
+/// The cause for a bit that is not as it should be.
 fn mark_cause(is_used: bool) -> CorruptCause
     ensures { result ≡ (if is_used then NotMarked else NotReached) }
 {

@@ -14,7 +14,7 @@ use mq_blocks::{Block, Geometry};
 use mq_layout::Inode;
 use std::alloc::Global;
 
-/// Marks a block as used, and says whether it was before.
+/// Marks a block as used, and returns whether it was before.
 fn claim(seen: &mut Vec<bool>, b: u32) -> bool
     requires { b < length seen.old.items }
     ensures was { result ≡ slice_index_or seen.old.items b false }
@@ -25,7 +25,7 @@ fn claim(seen: &mut Vec<bool>, b: u32) -> bool
     was
 }
 
-/// Which home blocks are used, where none is used twice.
+/// Which home blocks are used. Refuses a block that is used twice.
 pub fn claim_blocks(
     alloc: Global,
     geometry: Geometry,

@@ -15,7 +15,7 @@ pub enum CorruptCause {
     Shared,
     /// A name stands twice in a directory.
     Twin,
-    /// A bit is set, or an inode is used, and no path leads there.
+    /// A bit is set or an inode is used, but no path leads there.
     Unreached,
     /// A slot names no used inode, or the root; or inode 0 is no directory.
     Kind,

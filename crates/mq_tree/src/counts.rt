@@ -6,10 +6,10 @@ ghost use Rattle.mq_tree.specs.Trees.{body_kept, kept};
 use crate::contents::InodeContent;
 use crate::tree::Tree;
 
-/// How many directories and files there are, and how many bytes all files have together.
+/// The number of directories and of files, and the number of bytes of all files together.
 #[derive(Clone, Copy, Debug, PartialEq, Eq)]
 pub struct TreeCounts {
-    /// Without the root.
+    /// The number of directories, without the root.
     pub directories: u64,
     pub files: u64,
     pub bytes: u64,

@@ -36,7 +36,7 @@ impl Directory {
         }
     }
 
-    /// Adds a name, and says whether it was not there.
+    /// Adds a name, and returns whether it was not there before.
     pub fn add(&mut self, alloc: Global, name: &[u8], inode: u32) -> Result<bool, OutOfMemory>
         ensures { IfOk result (λ is_new. MatchBool is_new (Adds self.old self.new name.now inode)
             (Has self.old name.now)) }
@@ -53,7 +53,7 @@ impl Directory {
         self.links.get(name).copied()
     }
 
-    /// How many names there are.
+    /// The number of names.
     pub fn len(&self) -> usize
         ensures { result ≡ length (entries_in self.now) }
     {

@@ -15,7 +15,7 @@ use crate::table::DIRECTORY;
 use mq_blocks::{Block, Geometry};
 use mq_layout::{Inode, SLOTS_PER_BLOCK, read_slot};
 
-/// Whether the slots of a block, and the bytes behind them, are in their form.
+/// Whether the slots of a block, and the bytes after them, are in their form.
 fn is_dir_block(block: &Block) -> bool
     ensures { MatchBool result (IsDirBlock block.now) (IsBadBlock block.now) }
 {

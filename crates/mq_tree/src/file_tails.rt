@@ -16,7 +16,7 @@ use mq_layout::Inode;
 /// The kind of a file.
 pub const FILE: u8 = 1;
 
-/// The last block of a file, where a byte past the end is not 0.
+/// The last block of a file, if a byte past the end is not 0.
 fn bad_end(blocks: &[Option<Block>], zero: &Block, inode: &Inode) -> Option<u32>
     requires zero { zero.now ≡ zeros }
     requires form { IsInode inode.now }

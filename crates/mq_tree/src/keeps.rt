@@ -62,8 +62,8 @@ pub fn files_are_rewritten()
     ensures cut { (size : ℕ) (old : List ℕ) → IsCut size old (cut_to size old) }
 {}
 
-/// The file at the path of an `Unlink`, or the directory without names at that of an `Rmdir`, is
-/// gone, and nothing else changes in the tree.
+/// The file at the path of an `Unlink`, or the empty directory at that of an `Rmdir`, is gone, and
+/// nothing else changes in the tree.
 pub fn things_are_removed()
     ensures unlink { (g : Geometry) (queue : ℕ) (v : Volume) (path : Path)
         → IsSound g v
@@ -119,8 +119,8 @@ pub fn replies_are_those_of_the_tree()
         → IsListed g queue v path }
 {}
 
-/// A request is refused exactly for what stands at its paths, or for want of room where nothing there
-/// is in the way.
+/// A request is refused exactly for what stands at its paths, or, where nothing there is in the way,
+/// because there is no room.
 pub fn refusals_are_those_of_the_tree()
     ensures names { (g : Geometry) (queue : ℕ) (v : Volume) (r : Request)
         → is_named r ≡ false

@@ -30,7 +30,7 @@ pub fn one_tree()
         → (t path ≡ u path) × (a path ≡ c path) }
 {}
 
-/// The blocks of an empty file system have the tree with the root alone.
+/// The tree of the blocks of an empty file system has only the root.
 pub fn empty_tree()
     ensures laid { (g : Geometry) (stored : List (Option (List ℕ)))
         → ArePages stored

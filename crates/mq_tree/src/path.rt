@@ -13,7 +13,7 @@ impl Model for Name {
     ghost view = { λ n. n.0.items };
 }
 
-/// The names from the root on. Without names it is the path of the root.
+/// The names from the root on; none for the path of the root.
 #[derive(Drop)]
 pub struct Path(pub Vec<Name>);
 

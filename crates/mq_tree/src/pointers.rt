@@ -14,10 +14,10 @@ use crate::stored::{corrupt, stored_block};
 use mq_blocks::{Block, Geometry};
 use mq_layout::{FILE_LIMIT, Inode, POINTERS_PER_BLOCK, inode_block, pointer};
 
-/// The pointers in an inode.
+/// The number of pointers in an inode.
 pub const DIRECT: u32 = 12;
 
-/// How many blocks an inode has.
+/// The number of blocks that an inode has.
 pub fn block_count(inode: &Inode) -> u32
     requires { IsInode inode.now }
     ensures is { result ≡ count_of inode.now }
@@ -39,7 +39,7 @@ pub fn pointer_at(blocks: &[Option<Block>], zero: &Block, inode: &Inode, place: 
     pointer(stored_block(blocks, zero, inode.indirect), place - DIRECT)
 }
 
-/// Whether a pointer that has to be there leads into a zone, or one that has not is 0.
+/// Whether a pointer leads into a zone if it is wanted, and else is 0.
 fn is_right(geometry: Geometry, pointer: u32, wanted: bool) -> bool
     ensures { MatchBool result (IsRight geometry wanted pointer) (IsRight geometry wanted pointer → ⊥) }
 {
@@ -117,7 +117,7 @@ fn check_inode(
     Ok(())
 }
 
-/// Each inode has just the pointers for its blocks, each into a zone.
+/// Checks that each inode has exactly the pointers for its blocks, each into a zone.
 pub fn check_pointers(
     geometry: Geometry,
     blocks: &[Option<Block>],

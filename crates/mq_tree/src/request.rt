@@ -4,28 +4,29 @@ ghost use Rattle.mq_tree.specs.Requests.{is_change};
 
 use crate::path::{Bytes, Names, Path};
 
-/// What a session asks of the file system. Offsets and sizes are counts of bytes.
+/// A request to the file system. Offsets and sizes are counts of bytes.
 #[derive(Drop)]
 pub enum Request {
-    /// A new directory.
+    /// Makes a new directory.
     Mkdir(Path),
-    /// A new file without bytes.
+    /// Makes a new empty file.
     Create(Path),
-    /// These bytes at this offset of a file, which is filled with zeros up to there.
+    /// Writes these bytes at this offset of a file, which is extended with zeros up to there if it is
+    /// shorter.
     Write(Path, u64, Bytes),
-    /// A file cut to this size, or filled with zeros up to it.
+    /// Cuts a file to this size, or extends it with zeros up to it.
     Truncate(Path, u64),
-    /// A file is gone.
+    /// Removes a file.
     Unlink(Path),
-    /// A directory without names is gone.
+    /// Removes an empty directory.
     Rmdir(Path),
-    /// What stands at the first path moves to the second, with all that is below it.
+    /// Moves what is at the first path to the second, with everything below it.
     Rename(Path, Path),
-    /// The bytes of a file from an offset on, and no more than so many.
+    /// Reads the bytes of a file from an offset on, at most this many.
     Read(Path, u64, u64),
     /// The names in a directory.
     List(Path),
-    /// The size of a file, or how many names a directory has.
+    /// The size of a file, or the number of names in a directory.
     Stat(Path),
 }
 
@@ -34,11 +35,11 @@ pub enum Request {
 pub enum Reply {
     Ok,
     Data(Bytes),
-    /// In rising order of bytes.
+    /// The names in a directory, in rising order of bytes.
     Names(Names),
     /// The size of a file in bytes.
     File(u64),
-    /// How many names a directory has.
+    /// The number of names in a directory.
     Dir(u64),
     Refused(Fault),
 }
@@ -51,11 +52,11 @@ pub enum Fault {
     NotDir,
     IsDir,
     NotEmpty,
-    /// A name is not good, or the root was to be removed.
+    /// A name is not good, or the root would be removed.
     BadName,
     /// A file would be longer than 4,243,456 bytes, or a directory would have more than 15,540 names.
     TooBig,
-    /// The root was to be moved, or a directory into itself.
+    /// The root would be moved, or a directory would be moved into itself.
     Subtree,
     NoSpace,
     NoInodes,

@@ -11,7 +11,7 @@ use crate::stored::stored_block;
 use mq_blocks::Block;
 use mq_layout::{Inode, SLOTS_PER_BLOCK, read_slot};
 
-/// What a used slot says.
+/// The fields of a used slot.
 #[derive(Clone, Copy)]
 pub struct Link<'a> {
     pub inode: u32,

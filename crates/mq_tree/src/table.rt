@@ -131,7 +131,7 @@ fn is_zero(block: &Block) -> bool
     true
 }
 
-/// The blocks of the inode table past that of the last inode.
+/// Checks that the blocks of the inode table after the first 1,024 are zeros.
 fn check_rest(
     geometry: Geometry,
     blocks: &[Option<Block>],
@@ -167,7 +167,7 @@ fn check_root(
     Err(corrupt(CorruptCause::Kind, inode_block(geometry, 0).0))
 }
 
-/// All inodes, where superblock, bitmaps and inode table are in their forms and inode 0 is a directory.
+/// All inodes, if superblock, bitmaps and inode table have the right form and inode 0 is a directory.
 pub fn read_table(
     alloc: Global,
     geometry: Geometry,

@@ -40,7 +40,7 @@ impl Tree {
         Tree { contents }
     }
 
-    /// What the inodes are, by number.
+    /// The contents of the inodes, by number.
     pub(crate) fn contents(&self) -> &[InodeContent]
         ensures is { kept result.now ≡ self.now }
         ensures countable { IsCountable (kept result.now) }
@@ -48,14 +48,14 @@ impl Tree {
         &self.contents
     }
 
-    /// How many inodes there are.
+    /// The number of inodes.
     pub(crate) fn count(&self) -> usize
         ensures { result ≡ length self.now }
     {
         self.contents.len()
     }
 
-    /// What the inode in this place of the list is, where there is one.
+    /// The content of the inode at this place of the list, if there is one.
     fn content_at(&self, place: usize) -> Option<&InodeContent>
         ensures { MatchOption result (body self.now place ≡ Free)
             (λ content. body self.now place ≡ body_kept content.now) }
@@ -63,7 +63,7 @@ impl Tree {
         self.contents.get(place)
     }
 
-    /// What an inode is, where there is one of this number.
+    /// The content of the inode of this number, if there is one.
     pub(crate) fn content(&self, inode: u32) -> Option<&InodeContent>
         ensures { MatchOption result (body self.now inode ≡ Free)
             (λ content. body self.now inode ≡ body_kept content.now) }
@@ -71,7 +71,7 @@ impl Tree {
         self.content_at(inode as usize)
     }
 
-    /// How many names the inode in this place of the list has.
+    /// The number of names of the inode at this place of the list.
     pub(crate) fn name_count(&self, place: usize) -> usize
         ensures { result ≡ name_count (body self.now place) }
     {
@@ -91,7 +91,7 @@ impl Tree {
         }
     }
 
-    /// Whether an inode is a directory, into which a walk goes.
+    /// The inode itself, if it is a directory that a walk may enter.
     fn enter(&self, inode: u32) -> Result<u32, Fault>
         ensures { result ≡ into_dir inode (body self.now inode) }
     {

@@ -36,7 +36,7 @@ impl Walk {
         Ok(Walk { seen, order })
     }
 
-    /// Adds an inode, and says whether it was not seen before.
+    /// Adds an inode, and returns whether it was not seen before.
     fn find(&mut self, inode: u32) -> Result<bool, OutOfMemory>
         requires { inode < length self.old.seen.items }
         ensures { IfOk result (λ is_new. Finds is_new inode self.old.seen.items self.old.order.items self.new.seen.items self.new.order.items) }
@@ -90,7 +90,7 @@ fn visit(
     Ok(())
 }
 
-/// Which inodes paths lead to, where one slot alone names each.
+/// The inodes to which paths lead. Refuses an inode that is named by two slots.
 pub fn walk_all(
     alloc: Global,
     geometry: Geometry,
@@ -118,7 +118,7 @@ pub fn walk_all(
     Ok(walk.seen)
 }
 
-/// Each used inode is one to which a path leads.
+/// Checks that a path leads to each used inode.
 pub fn check_reached(
     geometry: Geometry,
     blocks: &[Option<Block>],

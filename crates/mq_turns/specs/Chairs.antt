@@ -2,7 +2,7 @@
 use Rattle.std.specs.Prelude.{◌≡◌, ℕ, ◌<◌, ◌≤◌, Bool, List, ◌∷◌, length, slice_get, Some}
 use Rattle.mq_turns.specs.Lists.{Each, tally, times, without}
 use Rattle.mq_turns.specs.Marks.{Marked, DoneTo}
-use Rattle.mq_turns.specs.Meaning.{Meaning, Grows, opened, newest, IsAt}
+use Rattle.mq_turns.specs.Meaning.{Meaning, Grows, opened, newest, HasNumberAt}
 use Rattle.mq_turns.specs.Desk.{drawn_of, read_of, charged_of, IsInOrder}
 use Rattle.mq_turns.specs.declared.rule.Charge.{Charge}
 use Rattle.mq_turns.specs.declared.rule.Opening.{Opening}
@@ -27,7 +27,7 @@ module _ {P Q R E : Type 0} (μ : Meaning P Q R E) where
 
   -- What a desk that has ended shows: there is one history, which is legal. The values are what it says, each number is one
   -- draw of a chair, what the chairs read was the machine's at its number, and along each chair's groups the numbers are in order.
-  pub record Ended (o : Opening P Q R) (views : List (ChairView P Q R E)) (pages : List P) (sides : List Q) (root : R) (next base : ℕ) : Type 0 where
+  pub record DeskEnded (o : Opening P Q R) (views : List (ChairView P Q R E)) (pages : List P) (sides : List Q) (root : R) (next base : ℕ) : Type 0 where
     pub known : Known P Q R E
     pub opening : known.opening ≡ o
     pub ok : μ.ok known
@@ -38,7 +38,7 @@ module _ {P Q R E : Type 0} (μ : Meaning P Q R E) where
     pub all_sides : length sides ≡ length o.sides
     pub sides_stand : (q : ℕ) (x : Q) → slice_get sides q ≡ Some x → μ.side q known x
     pub root_stands : μ.root known root
-    pub drew : Each (λ d. IsAt known.opening.base known.log d.0 d.1) (drawn_of views)
+    pub drew : Each (λ d. HasNumberAt known.opening.base known.log d.0 d.1) (drawn_of views)
     pub once : (n : ℕ) → o.base < n → n ≤ next → times n (drawn_of views) ≡ 1
     pub read : Each (λ r. μ.ok r.1 × Grows r.1 known × μ.fits r.0 r.1) (read_of views)
     pub ordered : Each (IsInOrder μ) views

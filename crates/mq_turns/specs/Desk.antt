@@ -7,7 +7,7 @@ use lib.ListN.{get_elem?}
 use Rattle.atomic_table.specs.Table.{State, Me, Step}
 use Rattle.mq_blocks.specs.Totals.{total}
 use Rattle.mq_turns.specs.Lists.{Each, Sorted, tally, tick, times, without}
-use Rattle.mq_turns.specs.Meaning.{Meaning, Stays, Grows, opened, newest, drawn, IsAt}
+use Rattle.mq_turns.specs.Meaning.{Meaning, Stays, Grows, opened, newest, drawn, HasNumberAt}
 use Rattle.mq_turns.specs.Marks.{mark_of, unread, read_first, read_both, Marked, Reader}
 use Rattle.mq_turns.specs.declared.rule.Charge.{Charge}
 use Rattle.mq_turns.specs.declared.rule.Opening.{Opening}
@@ -149,7 +149,7 @@ module _ {P Q R E : Type 0} (μ : Meaning P Q R E) where
     pub few : newest K ≤ 2 ^ 63
     pub held : Each (λ h. μ.ok h.1 × Stay (turn_at K.opening h.0) h.1 K) v.held
     pub seen : v.seen ≤ newest K
-    pub drew : Each (λ d. IsAt K.opening.base K.log d.0 d.1) v.drawn
+    pub drew : Each (λ d. HasNumberAt K.opening.base K.log d.0 d.1) v.drawn
     pub marked : Marked μ K
     pub reader : Reader μ K v.reading
 
@@ -207,7 +207,7 @@ module _ {P Q R E : Type 0} (μ : Meaning P Q R E) where
 -- ---- the rule
 
 module _ {P Q R E : Type 0} (μ : Meaning P Q R E) where
-  -- a view, as far as turns go: what it holds is what was known then, but for what others can't touch
+  -- a view, as far as turns go: what it holds is what was known then, except for what others can't touch
   pub record Holder (turn : ℕ → Turn) (slots : ℕ) (K : Known P Q R E) (v : ChairView P Q R E) : Type 0 where
     pub idle : v.parts ≡ 0 → v.held ≡ []
     pub hand : (k : ℕ) → v.hand ≡ suc k → 0 < times k v.held
@@ -218,7 +218,7 @@ module _ {P Q R E : Type 0} (μ : Meaning P Q R E) where
     pub few : length v.drawn ≤ v.parts * most
     pub opening : v.parts ≢ 0 → v.opening ≡ Some K.opening
     pub seen : v.seen ≤ newest K
-    pub drew : Each (λ d. IsAt K.opening.base K.log d.0 d.1) v.drawn
+    pub drew : Each (λ d. HasNumberAt K.opening.base K.log d.0 d.1) v.drawn
     pub read : Each (λ r. μ.ok r.1 × Grows r.1 K × μ.fits r.0 r.1) v.read
     -- of one chair; where chairs became one, each was in order before
     pub order : v.parts ≡ 1 → IsInOrder μ v

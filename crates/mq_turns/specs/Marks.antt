@@ -1,7 +1,7 @@
 -- What is known done, the marks of the queues, and what a chair reads of them.
 use Rattle.std.specs.Prelude.{◌≡◌, ℕ, suc, ◌-◌, ◌^◌, ◌<◌, ◌≤◌, ◌&&◌, ◌||◌, nat_eq, nat_le, max, min, Bool, true, false, cond, List, [], ◌∷◌, ◌++◌, length, Option, Some, None}
 use Rattle.mq_turns.specs.Lists.{Each}
-use Rattle.mq_turns.specs.Meaning.{Meaning, Grows, newest, IsAt}
+use Rattle.mq_turns.specs.Meaning.{Meaning, Grows, newest, HasNumberAt}
 use Rattle.mq_turns.specs.declared.rule.Claim.{Claim}
 use Rattle.mq_turns.specs.declared.rule.Opening.{Opening}
 use Rattle.mq_turns.specs.declared.rule.Known.{Known}
@@ -50,16 +50,16 @@ module _ {P Q R E : Type 0} where
 module _ {P Q R E : Type 0} (μ : Meaning P Q R E) where
   -- all numbers up to n of the first queues are done
   abbrev pub DoneBelow : ℕ → ℕ → Known P Q R E → Type 0
-  DoneBelow queues n K = (m : ℕ) (e : E) → IsAt K.opening.base K.log m e → m ≤ n → μ.queue e < queues → is_claimed (μ.queue e) m K.claims ≡ true
+  DoneBelow queues n K = (m : ℕ) (e : E) → HasNumberAt K.opening.base K.log m e → m ≤ n → μ.queue e < queues → is_claimed (μ.queue e) m K.claims ≡ true
 
   -- all numbers up to n are done
   abbrev pub DoneTo : ℕ → Known P Q R E → Type 0
-  DoneTo n K = (m : ℕ) (e : E) → IsAt K.opening.base K.log m e → m ≤ n → is_claimed (μ.queue e) m K.claims ≡ true
+  DoneTo n K = (m : ℕ) (e : E) → HasNumberAt K.opening.base K.log m e → m ≤ n → is_claimed (μ.queue e) m K.claims ≡ true
 
   -- each number of a queue that isn't done is at or above its mark
   pub record Marked (K : Known P Q R E) : Type 0 where
-    pub own : (n : ℕ) (e : E) → IsAt K.opening.base K.log n e → μ.queue e < length K.opening.sides
-    pub undone : (n : ℕ) (e : E) → IsAt K.opening.base K.log n e → is_claimed (μ.queue e) n K.claims ≡ false → mark_of (μ.queue e) K.claims ≤ n
+    pub own : (n : ℕ) (e : E) → HasNumberAt K.opening.base K.log n e → μ.queue e < length K.opening.sides
+    pub undone : (n : ℕ) (e : E) → HasNumberAt K.opening.base K.log n e → is_claimed (μ.queue e) n K.claims ≡ false → mark_of (μ.queue e) K.claims ≤ n
     pub above : (q : ℕ) → 1 ≤ mark_of q K.claims
     pub word : K.opening.base ≤ K.word
 

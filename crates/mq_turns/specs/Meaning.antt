@@ -9,9 +9,9 @@ use Rattle.mq_turns.specs.declared.rule.Charge.{Charge}
 use Rattle.mq_turns.specs.declared.rule.Opening.{Opening}
 
 -- the entry e has the number n in the history, of which the first entry has the number after the base
-abbrev pub IsAt : {E : Type 0} → ℕ → List E → ℕ → E → Type 0
-IsAt base [] n e = ⊥
-IsAt base (x ∷ xs) n e = ((n ≡ suc (base + length xs)) × (x ≡ e)) ⊎ IsAt base xs n e
+abbrev pub HasNumberAt : {E : Type 0} → ℕ → List E → ℕ → E → Type 0
+HasNumberAt base [] n e = ⊥
+HasNumberAt base (x ∷ xs) n e = ((n ≡ suc (base + length xs)) × (x ≡ e)) ⊎ HasNumberAt base xs n e
 
 module _ {P Q R E : Type 0} where
   -- nothing was drawn, claimed, written home or charged

@@ -3,7 +3,7 @@ use Rattle.std.specs.Prelude.{◌≡◌, ℕ, ◌-◌, ◌<◌, ◌≤◌, min, 
 use Rattle.mq_turns.specs.Meaning.{Meaning, newest}
 use Rattle.mq_turns.specs.Marks.{mark_of, DoneTo}
 use Rattle.mq_turns.specs.Desk.{Sees, Below}
-use Rattle.mq_turns.specs.declared.rule.Answer.TheVariants.{Front}
+use Rattle.mq_turns.specs.declared.rule.MarkAnswer.TheVariants.{Front}
 use Rattle.mq_turns.specs.declared.rule.Opening.{Opening}
 use Rattle.mq_turns.specs.declared.rule.Known.{Known}
 use Rattle.mq_turns.specs.declared.rule.Reading.{Reading}
@@ -15,7 +15,7 @@ least_below n [] = n
 least_below n (m ∷ ms) = min (least_below n ms) (m - 1)
 
 module _ {P Q R E : Type 0} where
-  -- the chair after a read of the counter, but for its sweep over the marks
+  -- the chair after a read of the counter, except for its sweep over the marks
   abbrev pub after_count : ℕ → ChairView P Q R E → ChairView P Q R E
   after_count n v = record v { seen = n; reading = record v.reading { swept = 0; low = 0 } }
 

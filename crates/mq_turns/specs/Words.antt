@@ -4,7 +4,7 @@ use Rattle.mq_turns.specs.Lists.{times}
 use Rattle.mq_turns.specs.Meaning.{Meaning, newest, claimed, written, raised, charged}
 use Rattle.mq_turns.specs.Marks.{mark_of, claim_of, queues_of, shown, DoneTo}
 use Rattle.mq_turns.specs.Desk.{IsTurn, slot_of, turn_at, refreshed, Sat, At, Sees}
-use Rattle.mq_turns.specs.declared.rule.Answer.TheVariants.{Front, Base}
+use Rattle.mq_turns.specs.declared.rule.MarkAnswer.TheVariants.{Front, Base}
 use Rattle.mq_turns.specs.declared.rule.Known.{Known}
 use Rattle.mq_turns.specs.declared.rule.ChairView.{ChairView}
 use Rattle.mq_turns.specs.declared.rule.Notice.{Notice}

@@ -29,7 +29,7 @@ impl<M: Machine> Desk<M> {
         }
     }
 
-    /// Waits until the turn is free, and takes what lies there. A chair takes its turns in rising
+    /// Waits until the turn is free, and takes it with its value. A chair takes its turns in rising
     /// order. This is the only call that waits.
     pub fn take<R: Wait>(&self, rt: &R, chair: &mut Chair<M>, turn: Turn) -> Item<M>
         requires at { AtDesk self.now chair.old }
@@ -44,7 +44,7 @@ impl<M: Machine> Desk<M> {
         steps::take(rt, &self.table.shared, &mut chair.place, self.slot(turn))
     }
 
-    /// Gives a turn back, with a value that is what the chair knows of it.
+    /// Gives a turn back, with a value that agrees with what the chair knows of it.
     pub fn give_back(&self, chair: &mut Chair<M>, turn: Turn, item: Item<M>)
         requires at { AtDesk self.now chair.old }
         requires turn { IsTurn (start_of self.now) turn }
@@ -60,7 +60,7 @@ impl<M: Machine> Desk<M> {
     }
 
     /// The greatest number drawn so far. An entry that is given as `read` is not drawn: its replies
-    /// are the machine's on the map at the answered number, and the chair keeps it.
+    /// are the machine's on the map at the returned number, and the chair keeps it.
     pub fn look(&self, chair: &mut Chair<M>, read: Option<&M::Entry>) -> TxNo
         requires at { AtDesk self.now chair.old }
         requires read { IfSome read (λ e. MayRead M.meaning e.now (view chair.old)

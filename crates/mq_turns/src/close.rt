@@ -4,7 +4,7 @@ ghost use Rattle.std.specs.Slots.{slots_items, slots_filled, slots_len, IsFull};
 ghost use Rattle.mq_blocks.specs.Totals.{total};
 ghost use Rattle.mq_turns.specs.Lists.{Each};
 ghost use Rattle.mq_turns.specs.Desk.{drawn_of, read_of, charged_of, IsInOrder};
-ghost use Rattle.mq_turns.specs.Chairs.{Ended};
+ghost use Rattle.mq_turns.specs.Chairs.{DeskEnded};
 ghost use Rattle.mq_turns.specs.Closing.{HasPages, HasSides, HasRoot, ArePages, AreSides, IsRoot};
 ghost use Rattle.mq_turns.specs.AtDesk.{AtDesk, view, start_of, chairs_of};
 
@@ -177,16 +177,16 @@ fn unload_root<M: Machine>(mut closed: Closed<Option<Item<M>>, Global>, last: us
     root
 }
 
-/// A desk that could not be ended, for lack of memory, with its chairs, as they were.
+/// A desk that could not be ended because memory ran out, with its chairs, as they were.
 type Unended<M> = (Desk<M>, Vec<Chair<M>>, OutOfMemory);
 
 impl<M: Machine> Desk<M> {
-    /// Ends a desk, all of whose chairs hold nothing. All memory is taken first: a refusal leaves all
-    /// as it was.
+    /// Ends a desk, all of whose chairs hold nothing. All memory is taken first, so that a refusal
+    /// leaves everything as it was.
     pub fn into_parts(self, alloc: Global, chairs: Vec<Chair<M>>) -> Result<Parts<M>, Unended<M>>
         requires theirs { All (λ ch. AtDesk self ch × ((view ch).held ≡ [])) chairs.items }
         requires all { length chairs.items ≡ chairs_of self }
-        ensures ok { IfOk result (λ p. Ended M.meaning (start_of self)
+        ensures ok { IfOk result (λ p. DeskEnded M.meaning (start_of self)
             (map (λ ch. view ch) chairs.items) p.pages.items p.sides.items p.root p.next p.base) }
         ensures err { IfErr result (λ e. (e.0 ≡ self) × (e.1 ≡ chairs)) }
     {

@@ -23,7 +23,7 @@ pub struct Desk<M: Machine> {
     ghost some: { 0 < table.shared.key.chairs },
 }
 
-/// A seat at a desk, for one thread at a time, with what the thread knows by it.
+/// A seat at a desk, for one thread at a time, with what the thread knows.
 #[derive(Drop)]
 pub struct Chair<M: Machine> {
     pub(crate) place: Place<M>,

@@ -6,10 +6,10 @@ mod calls;
 mod close;
 mod desk;
 mod machine;
-mod marks;
 mod notes;
 mod open;
 mod plays;
+mod progress;
 mod rule;
 mod steps;
 mod turn;
@@ -19,6 +19,7 @@ pub use close::Parts;
 pub use desk::{Chair, Desk};
 pub use machine::Machine;
 pub use rule::{
-    Answer, ChairView, Charge, Claim, Known, Knows, Law, Notice, Opening, Reading, Report, Start,
+    ChairView, Charge, Claim, Known, Knows, Law, MarkAnswer, Notice, Opening, Reading, Report,
+    Start,
 };
 pub use turn::{Item, Turn};

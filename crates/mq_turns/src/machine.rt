@@ -10,12 +10,12 @@ pub trait Machine {
 
     type Root: Drop;
 
-    /// A transaction: what was asked, the replies, and what it writes.
+    /// A transaction: the requests, the replies, and what it writes.
     type Entry;
 
     ghost meaning: { Meaning Self.Page Self.Side Self.Root Self.Entry };
 
-    /// What is said obeys the laws of a desk. A call does nothing.
+    /// The definitions of this trait obey the laws of a desk. A call does nothing.
     fn obeys()
         ensures { AreLaws meaning };
 }

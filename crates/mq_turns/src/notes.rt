@@ -14,8 +14,8 @@ use mq_blocks::{BlockNo, TxNo};
 use std::marker::Brand;
 
 impl<M: Machine> Desk<M> {
-    /// Notes that a home write of the block ended, with the content of the number. The chair holds
-    /// the block's page and the port that wrote it. Nothing but a load happens: the note is for
+    /// Notes that a home write of the block ended, with the content of the number. The chair holds the
+    /// block's page and the port that wrote it. At run time this is only a load: the note is for
     /// proofs, and other chairs know of it from then on.
     pub fn note_home(&self, chair: &mut Chair<M>, block: BlockNo, number: TxNo)
         requires at { AtDesk self.now chair.old }
@@ -29,8 +29,8 @@ impl<M: Machine> Desk<M> {
         words::note_home::<M, Brand>(&self.table.shared, &mut chair.place, counter, block, number);
     }
 
-    /// Notes what the page is by all that is known now, before it is given back. The chair keeps the
-    /// note. Nothing but a load happens.
+    /// Notes the state of the page by all that is known now, before the page is given back. The chair
+    /// keeps the note. At run time this is only a load.
     pub fn note_page(&self, chair: &mut Chair<M>, block: BlockNo, page: &M::Page)
         requires at { AtDesk self.now chair.old }
         requires may { MayNote M.meaning (notice.Page block page.now) (view chair.old) }
@@ -43,9 +43,9 @@ impl<M: Machine> Desk<M> {
         words::note_page::<M, Brand>(&self.table.shared, &mut chair.place, counter, block, page);
     }
 
-    /// Enters in the account of a port what the chair reports of it: a refusal that it answers, or that
-    /// a transaction was rung. The chair holds the port, which has to show what was reported by the
-    /// time that it is given back. Nothing but a load happens.
+    /// Enters in the account of a port what the chair reports of it: a refusal that it returns, or that
+    /// a transaction was rung. The chair holds the port, which must show what was reported by the time
+    /// that it is given back. At run time this is only a load.
     pub fn charge(&self, chair: &mut Chair<M>, charge: &Charge)
         requires at { AtDesk self.now chair.old }
         requires may { MayNote M.meaning (notice.Charge charge.now) (view chair.old) }

@@ -131,7 +131,7 @@ fn first_words(
     Ok(words)
 }
 
-/// A desk that could not be made, for lack of memory: the pages, sides and root come back.
+/// A desk that could not be made because memory ran out: the pages, sides and root come back.
 type Unopened<M> = (
     Vec<<M as Machine>::Page>,
     Vec<<M as Machine>::Side>,

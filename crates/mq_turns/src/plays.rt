@@ -10,7 +10,7 @@ use crate::turn::Item;
 use atomic_table::{Join, Play, Split};
 use std::marker::{Brand, PhantomData};
 
-/// The entry that a step is of. Each call picks it.
+/// The entry of a step. Each call chooses it.
 pub(crate) trait Told<E> {
     ghost told: { Option E };
 }
@@ -19,7 +19,7 @@ impl<E> Told<E> for Brand {
     ghost told = { None };
 }
 
-/// The notice that a step gives. Each call picks it.
+/// The notice that a step gives. Each call chooses it.
 pub(crate) trait Notifies<P> {
     ghost notice: { Option (Notice P) };
 }

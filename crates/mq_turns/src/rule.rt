@@ -7,7 +7,7 @@ use std::collections::LinkedList;
 use std::marker::PhantomData;
 use std::snapshot::Snapshot;
 
-/// The values that a desk was opened with, and its base. Proofs alone have one.
+/// The values that a desk was opened with, and its base. It exists in proofs only.
 pub struct Opening<P, Q, R> {
     pub pages: LinkedList<P>,
     pub sides: LinkedList<Q>,
@@ -15,7 +15,7 @@ pub struct Opening<P, Q, R> {
     pub base: u64,
 }
 
-/// What all chairs know together. It only grows. Proofs alone have one.
+/// What all chairs know together. It only grows. It exists in proofs only.
 pub struct Known<P, Q, R, E> {
     pub opening: Opening<P, Q, R>,
     /// The entries drawn, the newest first. The first that was drawn has the number after the base.
@@ -30,7 +30,7 @@ pub struct Known<P, Q, R, E> {
     pub charges: LinkedList<Charge>,
 }
 
-/// What the store of a queue's mark makes known. Proofs alone have one.
+/// What the store of a queue's mark makes known. It exists in proofs only.
 pub struct Claim {
     pub queue: QueueNo,
     /// The queue's numbers up to this one are done.
@@ -63,48 +63,48 @@ pub struct Charge {
     pub report: Report,
 }
 
-/// What a chair was answered of marks and base. Proofs alone have one.
-pub enum Answer {
+/// What a chair has read of marks and base. It exists in proofs only.
+pub enum MarkAnswer {
     /// A front.
     Front(TxNo),
     /// A base.
     Base(TxNo),
 }
 
-/// What a chair notes at a step of its own. Proofs alone have one.
+/// What a chair notes at a step of its own. It exists in proofs only.
 pub enum Notice<P> {
     /// A home write of the block ended, with the content of the number.
     Home(BlockNo, TxNo),
-    /// The page is what it is by all that is known now.
+    /// The state of the page by all that is known now.
     Page(BlockNo, P),
     Charge(Charge),
-    /// All numbers up to this one are done: the front that it is answered.
+    /// All numbers up to this one are done: the front that the chair reads.
     Front(TxNo),
 }
 
-/// What a chair read of marks and base, and what it noted. Proofs alone have one.
+/// What a chair read of marks and base, and what it noted. It exists in proofs only.
 pub struct Reading<P, Q, R, E> {
-    /// How many queues its sweep over the marks has passed.
+    /// The number of queues that its sweep over the marks has passed.
     pub swept: u64,
-    /// Up to which number the entries of these queues are done.
+    /// The number up to which the entries of these queues are done.
     pub low: u64,
-    /// Up to which number all entries are done, as it found at the end of a sweep.
+    /// The number up to which all entries are done, as it found at the end of a sweep.
     pub done: u64,
     /// The greatest base that it knows of.
     pub base: u64,
     /// Pages that it noted, with what was known then, the newest first.
     pub pages: LinkedList<(BlockNo, P, Known<P, Q, R, E>)>,
-    /// The fronts and bases that it was answered, the newest first.
-    pub answers: LinkedList<Answer>,
+    /// The fronts and bases that it has read, the newest first.
+    pub answers: LinkedList<MarkAnswer>,
     /// What it reported of ports, the newest first.
     pub charged: LinkedList<Charge>,
 }
 
-/// What a chair knows. Proofs alone have one.
+/// What a chair knows. It exists in proofs only.
 pub struct ChairView<P, Q, R, E> {
-    /// How many chairs it stands for: 1, and none for a note.
+    /// The number of chairs that it stands for: 1, and 0 for a note.
     pub parts: u64,
-    /// How its desk was opened; none where it stands for no chair.
+    /// How its desk was opened; none if it stands for no chair.
     pub opening: Option<Opening<P, Q, R>>,
     /// The chair's place in the list that `Desk::new` gave.
     pub session: u64,

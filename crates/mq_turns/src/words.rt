@@ -91,7 +91,8 @@ pub(crate) fn raise<M: Machine>(top: &Top<M>, place: &mut Place<M>, word: usize,
     top.store::<Raise<M>>(place, word, new);
 }
 
-/// Notes that a home write of the block ended, with the content of the number. Each call picks the notice.
+/// Notes that a home write of the block ended, with the content of the number. Each call chooses the
+/// notice.
 pub(crate) fn note_home<M: Machine, N: Notifies<M::Page>>(
     top: &Top<M>,
     place: &mut Place<M>,
@@ -120,7 +121,7 @@ pub(crate) fn note_home<M: Machine, N: Notifies<M::Page>>(
     top.load::<Notify<M, N>>(place, word);
 }
 
-/// Notes what the page is. Each call picks the notice.
+/// Notes the state of the page. Each call chooses the notice.
 pub(crate) fn note_page<M: Machine, N: Notifies<M::Page>>(
     top: &Top<M>,
     place: &mut Place<M>,
@@ -149,7 +150,7 @@ pub(crate) fn note_page<M: Machine, N: Notifies<M::Page>>(
     top.load::<Notify<M, N>>(place, word);
 }
 
-/// Keeps a front that the chair is answered. Each call picks the notice.
+/// Keeps a front that the chair has read. Each call chooses the notice.
 pub(crate) fn note_front<M: Machine, N: Notifies<M::Page>>(
     top: &Top<M>,
     place: &mut Place<M>,
@@ -176,7 +177,7 @@ pub(crate) fn note_front<M: Machine, N: Notifies<M::Page>>(
     top.load::<Notify<M, N>>(place, word);
 }
 
-/// Enters a report of a port in its account. Each call picks the notice.
+/// Enters a report of a port in its account. Each call chooses the notice.
 pub(crate) fn charge<M: Machine, N: Notifies<M::Page>>(
     top: &Top<M>,
     place: &mut Place<M>,

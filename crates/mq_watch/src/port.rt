@@ -6,9 +6,9 @@ use mq_blocks::{Block, Lba};
 use mq_drive::{HomeStep, Off, Port, Role, Step};
 use mq_nvme::Entry;
 
-/// A port that tells a watch of each changing call before it passes the call on. A step is one that changes,
-/// also where it turns out idle; the watch isn't told of reads. Its state and its faults are those of the
-/// port below, so that each call has the contract of `Port` by what the port below does.
+/// A port that tells a watch of each changing call before it passes the call on. A step counts as a
+/// changing call even if it turns out idle; the watch isn't told of reads. Its state and its faults are
+/// those of the port below, so that each call has the contract of `Port` by what the port below does.
 #[derive(Drop)]
 pub struct WatchPort<'w, P: Port, W: Watch> {
     port: P,

@@ -13,8 +13,8 @@ pub enum Call {
     WriteHome,
 }
 
-/// What is told of each changing call of a port, on the thread that makes it and right before it is passed
-/// on. A test can hold the call there; it can't change what the call does.
+/// The hook that is called for each changing call of a port, on the thread that makes it and right before
+/// it is passed on. A test can hold the call there; it can't change what the call does.
 pub trait Watch {
     fn before(&self, role: Role, call: Call);
 }

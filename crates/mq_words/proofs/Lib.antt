@@ -1,2 +1,2 @@
-pub mod Apps
-pub mod Asks
+pub mod Asked
+pub mod SyntaxApps

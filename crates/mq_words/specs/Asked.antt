@@ -8,7 +8,7 @@ use Rattle.mq_words.specs.Syntax.{app_for, verb_of}
 use Rattle.mq_words.specs.declared.command.BlocksOptions.{BlocksOptions}
 use Rattle.mq_words.specs.declared.command.Command.{Command}
 use Rattle.mq_words.specs.declared.command.FailingCommand.{FailingCommand}
-use Rattle.mq_words.specs.declared.command.RunOptions.{RunOptions}
+use Rattle.mq_words.specs.declared.command.RunFlags.{RunFlags}
 use Rattle.mq_words.specs.declared.command.Command.TheVariants as command
 use Rattle.mq_words.specs.declared.verb.Verb.{Verb}
 use Rattle.mq_words.specs.declared.verb.Verb.TheVariants as verb
@@ -21,7 +21,7 @@ Words = List Text
 pub data Asked : Type 0 where
   blocks : (file : Text) → BlocksOptions → (save : Option Text) → Asked
   format : (image : Text) → (queues area meta zone : ℕ) → Asked
-  run : (image : Text) → (scripts : List Text) → RunOptions → Asked
+  run : (image : Text) → (scripts : List Text) → RunFlags → Asked
   recover : (image : Text) → (cut pick : Option ℕ) → Asked
   ls : (image : Text) → Asked
   cat : (image : Text) → Path → Asked
@@ -196,7 +196,7 @@ abbrev pub NamesCommand : FailingCommand → Type 0
 NamesCommand f = (f.port < number_end) × (1 ≤ f.command) × (f.command < number_end)
 
 -- the same of the options of `run`
-abbrev pub AreSmallOfRun : RunOptions → Type 0
+abbrev pub AreSmallOfRun : RunFlags → Type 0
 AreSmallOfRun o = IfSome o.cut (λ n. n < number_end) × IfSome o.pick (λ n. n < number_end) × IfSome o.fail NamesCommand
 
 -- the same of the numbers of `gen`, of which there is at least one thread

@@ -1,15 +1,15 @@
-// What words ask.
+// The command that the words of the command line spell.
 use crate::verb::Verb;
 use mq_tree::Path;
 
 /// The numbers of the options of `blocks`.
 #[derive(Clone, Copy)]
 pub struct BlocksOptions {
-    /// After how many events the power goes off.
+    /// The number of events after which the power goes off.
     pub cut: Option<u64>,
-    /// Where the draws of what is uncertain at the cut come from.
+    /// The seed of the choice of what is uncertain at the cut.
     pub pick: Option<u64>,
-    /// After how many events of a first recovery the power goes off again.
+    /// The number of events of a first recovery after which the power goes off again.
     pub again: Option<u64>,
 }
 
@@ -24,23 +24,23 @@ pub struct FailingCommand {
 
 /// The numbers of the options of `run`.
 #[derive(Clone, Copy)]
-pub struct RunOptions {
-    /// After how many events the power goes off.
+pub struct RunFlags {
+    /// The number of events after which the power goes off.
     pub cut: Option<u64>,
-    /// Where the draws of what is uncertain at the cut, and of the order in which commands end,
-    /// come from.
+    /// The seed of the choice of what is uncertain at the cut, and of the order in which commands
+    /// end.
     pub pick: Option<u64>,
-    /// Which command ends with an error.
+    /// The command that ends with an error.
     pub fail: Option<FailingCommand>,
 }
 
-/// What words ask.
+/// The command that words spell.
 #[derive(Drop)]
 pub enum Command<'a> {
     Blocks {
         file: &'a str,
         options: BlocksOptions,
-        /// The name under which the image is saved that the cut left.
+        /// The name under which the image that the cut left is saved.
         save: Option<&'a str>,
     },
     Format {
@@ -54,13 +54,13 @@ pub enum Command<'a> {
         image: &'a str,
         /// The names of the scripts, of which there is at least one.
         scripts: Vec<&'a str>,
-        options: RunOptions,
+        options: RunFlags,
     },
     Recover {
         image: &'a str,
-        /// After how many events the power goes off.
+        /// The number of events after which the power goes off.
         cut: Option<u64>,
-        /// Where the draws of what is uncertain at the cut come from.
+        /// The seed of the choice of what is uncertain at the cut.
         pick: Option<u64>,
     },
     Ls {
@@ -71,12 +71,12 @@ pub enum Command<'a> {
         path: Path,
     },
     Gen {
-        /// What chooses the workload.
+        /// The seed of the workload.
         seed: u64,
         threads: u32,
-        /// How many groups of requests each thread has, but for its first.
+        /// The number of groups of requests of each thread, not counting its first.
         groups: u32,
-        /// The name under which the image is saved that the run left.
+        /// The name under which the image that the run left is saved.
         save: Option<&'a str>,
     },
     Dump {

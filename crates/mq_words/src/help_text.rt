@@ -142,7 +142,7 @@ Example: mqfs dump d
 "
 }
 
-/// What is said of a command, or of the program.
+/// The help on a command, or on the program.
 pub fn help_on(topic: Option<Verb>) -> &'static str
     ensures { result.now ≡ help_text topic }
 {

@@ -12,7 +12,7 @@ mod refusal;
 mod syntax;
 mod verb;
 
-pub use command::{BlocksOptions, Command, FailingCommand, RunOptions};
+pub use command::{BlocksOptions, Command, FailingCommand, RunFlags};
 pub use help_text::{help_on, version_line};
 pub use read::read_command;
 pub use refusal::WordsRefusal;

@@ -6,16 +6,16 @@ use crate::command::FailingCommand;
 use crate::refusal::WordsRefusal;
 use mq_text::read_number;
 
-/// The numbers of options are below this one.
+/// The exclusive upper limit of the numbers of options.
 pub const NUMBER_END: u64 = 1 << 63;
 
-/// The numbers of a geometry are below this one.
+/// The exclusive upper limit of the numbers of a geometry.
 const WORD_END: u64 = 1 << 32;
 
-/// A workload has fewer threads.
+/// The exclusive upper limit of the number of threads of a workload.
 pub const THREADS_END: u64 = 17;
 
-/// Each of its threads has fewer groups.
+/// The exclusive upper limit of the number of groups of each of its threads.
 pub const GROUPS_END: u64 = 10_001;
 
 /// The number of a word, below a limit.
@@ -28,7 +28,7 @@ fn number_below(limit: u64, word: &str) -> Option<u64>
     }
 }
 
-/// The number of an option, where the option is given.
+/// The number of an option, if the option is given.
 pub fn optional_number(word: Option<&str>) -> Result<Option<u64>, WordsRefusal>
     ensures small { IfOk result (λ o. IfSome o (λ n. n < number_end)) }
     ensures reads { MatchResult result (λ n. number_option (option_map (λ s. s.now) word.entry) ≡ Some n)
@@ -57,7 +57,7 @@ fn failing_command(word: &str) -> Option<FailingCommand>
     Some(FailingCommand { port, command })
 }
 
-/// The command of a port that an option names, where the option is given.
+/// The command of a port that an option names, if the option is given.
 pub fn optional_command(word: Option<&str>) -> Result<Option<FailingCommand>, WordsRefusal>
     ensures small { IfOk result (λ o. IfSome o NamesCommand) }
     ensures reads { MatchResult result (λ f. failing_option (option_map (λ s. s.now) word.entry) ≡ Some f)
@@ -98,7 +98,7 @@ fn number_from_to(least: u64, limit: u64, word: Option<&str>) -> Option<u64>
     Some(value)
 }
 
-/// The number of a name that has to be in these bounds: not below the least, and below the limit.
+/// The number of a word that must not be below `least` and must be below `limit`.
 pub fn number_in_bounds(least: u64, limit: u64, word: Option<&str>) -> Result<u64, WordsRefusal>
     ensures small { IfOk result (λ n. (least ≤ n) × (n < limit)) }
     ensures reads { MatchResult result (λ n. number_from least limit (option_map (λ s. s.now) word.entry) ≡ Some n)

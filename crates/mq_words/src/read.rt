@@ -5,7 +5,7 @@ ghost use Rattle.clap.specs.Words.{all_of, first_of, found_of, rows_of};
 ghost use Rattle.mq_words.specs.Asked.{HasScript, HasSmallNumbers, NamesCommand, Words, asked, asked_after, asked_by, asked_of, failing_option, found_in, number_end, number_from, number_option, some_words, word_in};
 ghost use Rattle.mq_words.specs.declared.verb.Verb.TheVariants as verb;
 
-use crate::command::{BlocksOptions, Command, FailingCommand, RunOptions};
+use crate::command::{BlocksOptions, Command, FailingCommand, RunFlags};
 use crate::help::asks_help;
 use crate::numbers::{
     GROUPS_END, NUMBER_END, THREADS_END, geometry_word, number_in_bounds, optional_command,
@@ -156,7 +156,7 @@ fn run<'a>(alloc: Global, matches: &ArgMatches<'a>) -> Result<Command<'a>, Words
     Ok(Command::Run {
         image,
         scripts,
-        options: RunOptions { cut, pick, fail },
+        options: RunFlags { cut, pick, fail },
     })
 }
 
@@ -269,7 +269,7 @@ fn read_other<'a>(word: &str) -> Result<Command<'a>, WordsRefusal>
     }
 }
 
-/// What the words after the program's name ask.
+/// The command that the words after the program's name spell.
 pub fn read_command<'a>(alloc: Global, words: &'a [String]) -> Result<Command<'a>, WordsRefusal>
     ensures asks { MatchResult result (λ c. asked_of (map string_bytes words.now) ≡ Some (asked c))
         (λ e. (e ≡ WordsRefusal.OutOfMemory) ⊎ ((e ≡ WordsRefusal.Unknown)

@@ -4,9 +4,9 @@ use std::alloc::AllocError;
 /// Why words are not read.
 #[derive(Clone, Copy, Debug, PartialEq, Eq)]
 pub enum WordsRefusal {
-    /// They are no command.
+    /// The words are no command.
     Unknown,
-    /// Memory was not to be had. They may be a command.
+    /// Memory ran out. The words may be a command.
     OutOfMemory,
 }
 

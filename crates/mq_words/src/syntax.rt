@@ -4,7 +4,7 @@ ghost use Rattle.mq_words.specs.Syntax.{names_for, options_for, repeated_for};
 
 use crate::verb::Verb;
 
-/// The names that a command wants, in order, each of which is one word.
+/// The positional arguments of a command, in order, each of which is one word.
 pub fn names<'a>(verb: Verb) -> &'a [&'a str]
     ensures { map (λ s. s.now) result.now ≡ names_for verb }
 {
@@ -20,7 +20,7 @@ pub fn names<'a>(verb: Verb) -> &'a [&'a str]
     }
 }
 
-/// The name behind these of which it wants one or more words, where it has one.
+/// The last positional argument of a command, if it is one that takes one or more words.
 pub fn repeated<'a>(verb: Verb) -> Option<&'a str>
     ensures { option_map (λ s. s.now) result ≡ repeated_for verb }
 {
@@ -36,7 +36,7 @@ pub fn repeated<'a>(verb: Verb) -> Option<&'a str>
     }
 }
 
-/// The options that it takes, each with a value.
+/// The options of a command, each of which takes a value.
 pub fn options<'a>(verb: Verb) -> &'a [&'a str]
     ensures { map (λ s. s.now) result.now ≡ options_for verb }
 {

@@ -11,7 +11,7 @@ use Rattle.mqfs.specs.Live.{AreMarks, marked}
 use Rattle.mq_text.specs.Text.{AreGoodItems, AreGoodLines, IsGoodItem, IsUnnamed}
 use Rattle.mq_text.specs.declared.item.BlockItem.{BlockItem}
 use Rattle.mq_text.specs.declared.item.BlockItem.TheVariants.{Set, Free}
-use Rattle.mqfs.proofs.Fills.{Fill, named_is}
+use Rattle.mqfs.proofs.LinesFills.{Fill, named_is}
 
 abbrev Lines : Type 0
 Lines = List (List BlockItem)

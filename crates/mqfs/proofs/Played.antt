@@ -7,7 +7,7 @@ use Rattle.mq_words.specs.Asked.{Asked, Words, asked_of, gen}
 use Rattle.mqfs.specs.Played.{IsPlayed}
 use Rattle.mqfs.specs.Program.{IsToSay, no_command, no_memory, of_command}
 use Rattle.mqfs.specs.Says.{Says, asked_workload}
-use Rattle.mqfs.proofs.Endings.{said_or, zero-or-saved}
+use Rattle.mqfs.proofs.ProgramEndings.{said_or, zero-or-saved}
 
 module _ (seed threads groups : ℕ) (save : Option (List ℕ)) (files new_files : FilesState) (old new : SinkState) where
   played_of : (status : ℕ) (text : List ℕ) → Generates (asked_workload seed threads groups) save files new_files status text → status ≡ 0 → new.contents ≡ appended old.contents text → IsPlayed (asked_workload seed threads groups) save files new_files old new

@@ -10,11 +10,11 @@ use Rattle.mq_image.specs.File.{DriveImage}
 use Rattle.mq_outside.specs.Outside.{FilesState, SinkState, appended}
 use Rattle.mq_script.specs.Scripts.{Script}
 use Rattle.mq_words.specs.Asked.{Asked, Words, asked_of, run}
-use Rattle.mq_words.specs.declared.command.RunOptions.{RunOptions}
+use Rattle.mq_words.specs.declared.command.RunFlags.{RunFlags}
 use Rattle.mqfs.specs.Program.{IsToSay, no_command, no_memory, of_command}
 use Rattle.mqfs.specs.Ran.{IsRan}
 use Rattle.mqfs.specs.Says.{Says, run_options}
-use Rattle.mqfs.proofs.Endings.{said_or}
+use Rattle.mqfs.proofs.ProgramEndings.{said_or}
 
 -- the status of a run that was saved
 abbrev IsRunStatus : ℕ → Type 0
@@ -53,7 +53,7 @@ none-run x scripts _ _ (too_many more) good = elim good [ inl e ↦ omega (arith
 none-run x scripts _ _ (not_run e few refuses other) good = elim good [ inl e ↦ omega (arith, e) | inr e ↦ omega (arith, e) ]
 none-run x scripts _ _ runs.RefusesRunning.wanting good = elim good [ inl e ↦ omega (arith, e) | inr e ↦ omega (arith, e) ]
 
-module _ (image : List ℕ) (names : List (List ℕ)) (options : RunOptions) (files new_files : FilesState) (old new : SinkState) where
+module _ (image : List ℕ) (names : List (List ℕ)) (options : RunFlags) (files new_files : FilesState) (old new : SinkState) where
   ran_of : (status : ℕ) (text : List ℕ) → Runs (run_options options) image names files new_files status text → IsRunStatus status → new.contents ≡ appended old.contents text → IsRan image names options status files new_files old new
   ran_of _ _ (ran bytes x scripts r mid all load is loaded few of keeps save) good out = record {
     bytes = bytes;

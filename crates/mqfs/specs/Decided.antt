@@ -1,5 +1,5 @@
--- Which status what is asked ends with, by what the files hold, where nothing fails and memory is not wanting: one
--- definition for each command.
+-- The status with which each command ends, by what the files hold, where nothing fails and memory does not
+-- run out: one definition for each command.
 use Rattle.std.specs.Prelude.{◌≡◌, ◌<◌, ◌≤◌, ℕ, List, length, Option, None, Some, Ok, Err}
 use Rattle.mq_blocks.specs.Descriptor.{Descriptor}
 use Rattle.mq_blocks.specs.Geometry.{queues_of}
@@ -26,7 +26,7 @@ use Rattle.mq_tree.specs.Trees.{ReadsAs}
 use Rattle.mq_tree.specs.Volume.{Path, Volume}
 use Rattle.mq_tree.specs.declared.request.Fault.{Fault}
 use Rattle.mq_words.specs.Asked.{Asked, blocks, cat, dump, format, gen, help, ls, recover, run, version}
-use Rattle.mq_words.specs.declared.command.RunOptions.{RunOptions}
+use Rattle.mq_words.specs.declared.command.RunFlags.{RunFlags}
 use Rattle.mqfs.specs.Blocks.{IsBlockText}
 use Rattle.mqfs.specs.Says.{numbers}
 
@@ -69,7 +69,7 @@ pub record IsRunnable (image : List ℕ) (names : List (List ℕ)) (held : Optio
 
 -- `run`: the file is no image; or a script is refused, or there are more scripts than queues; or no volume stands on the
 -- image, or it is above the limit of a run; or the scripts are run, and no command is to fail
-pub data RunDecides (image : List ℕ) (names : List (List ℕ)) (options : RunOptions) (held : Option Held) : ℕ → Type 0 where
+pub data RunDecides (image : List ℕ) (names : List (List ℕ)) (options : RunFlags) (held : Option Held) : ℕ → Type 0 where
   no_drive : (bytes : List ℕ) (e : FileFault) → Tells held image (Some bytes) → HasFault bytes (Some e) → RunDecides image names options held 3
   bad_script : (bytes : List ℕ) (x : DriveImage) → Tells held image (Some bytes) → IsRead x bytes → HoldBadScript held names → RunDecides image names options held 2
   too_many : (bytes : List ℕ) (x : DriveImage) (scripts : List Script) → Tells held image (Some bytes) → IsRead x bytes → HoldScripts held names scripts → queues_of x.geometry < length scripts → RunDecides image names options held 2

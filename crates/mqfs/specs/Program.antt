@@ -8,7 +8,7 @@ use Rattle.mq_text.specs.declared.item.BlockItem.{BlockItem}
 use Rattle.mq_text.specs.declared.refusal.BlockTextCause.{BlockTextCause}
 use Rattle.mq_words.specs.Asked.{Asked, Words, asked_of, blocks, cat, dump, format, gen, help, ls, recover, run, version}
 use Rattle.mq_words.specs.declared.command.BlocksOptions.{BlocksOptions}
-use Rattle.mq_words.specs.declared.command.RunOptions.{RunOptions}
+use Rattle.mq_words.specs.declared.command.RunFlags.{RunFlags}
 use Rattle.mqfs.specs.Blocks.{IsBlockText, output_of, refused_line}
 use Rattle.mqfs.specs.Cuts.{IsPrefixAt}
 use Rattle.mqfs.specs.Left.{SavesLeft}
@@ -55,7 +55,7 @@ IsRefusedText words files old new =
 -- The words are those of `run`, which ended with this status, and its text was said.
 abbrev pub IsEndedRun : (status : ℕ) → Words → (files new_files : FilesState) → (old new : SinkState) → Type 0
 IsEndedRun status words files new_files old new =
-    (image : List ℕ) × (scripts : List (List ℕ)) × (options : RunOptions) × (text : List ℕ)
+    (image : List ℕ) × (scripts : List (List ℕ)) × (options : RunFlags) × (text : List ℕ)
     × (asked_of words ≡ Some (run image scripts options)) × Runs (run_options options) image scripts files new_files status text × (new.contents ≡ appended old.contents text)
 
 -- the names that are loaded

@@ -9,13 +9,13 @@ use Rattle.mq_image_run.specs.declared.ran.ImageRun.{ImageRun}
 use Rattle.mq_outside.specs.Outside.{FilesState, SinkState, appended}
 use Rattle.mq_promise.specs.Images.{KeepsPromise}
 use Rattle.mq_script.specs.Scripts.{Script}
-use Rattle.mq_words.specs.declared.command.RunOptions.{RunOptions}
+use Rattle.mq_words.specs.declared.command.RunFlags.{RunFlags}
 use Rattle.mqfs.specs.Says.{run_options}
 
 -- The name of the image held a file that is read as an image, and the other names held scripts. A run of these scripts on
 -- this image was made, and keeps its promise. The name holds the file of the image that it left now, and its report was
 -- said. The status is 5 where the command that was to fail was executed.
-pub record IsRan (image : List ℕ) (names : List (List ℕ)) (options : RunOptions) (result : ℕ) (files new_files : FilesState) (old new : SinkState) : Type 0 where
+pub record IsRan (image : List ℕ) (names : List (List ℕ)) (options : RunFlags) (result : ℕ) (files new_files : FilesState) (old new : SinkState) : Type 0 where
   pub bytes : List ℕ
   pub x : DriveImage
   pub scripts : List Script

@@ -18,7 +18,7 @@ use Rattle.mq_words.specs.Asked.{Asked, blocks, cat, dump, format, gen, help, ls
 use Rattle.mq_words.specs.Help.{help_text, version_line}
 use Rattle.mq_words.specs.declared.command.BlocksOptions.{BlocksOptions}
 use Rattle.mq_words.specs.declared.command.FailingCommand.{FailingCommand}
-use Rattle.mq_words.specs.declared.command.RunOptions.{RunOptions as OptionsOfRun}
+use Rattle.mq_words.specs.declared.command.RunFlags.{RunFlags}
 use Rattle.mqfs.specs.Blocks.{IsBlockText, output_of, refused_line}
 use Rattle.mqfs.specs.Cuts.{IsPrefixAt}
 use Rattle.mqfs.specs.Left.{SavesLeft}
@@ -47,7 +47,7 @@ abbrev pub failing : FailingCommand → Failing
 failing f = record { port = f.port; command = f.command }
 
 -- draws come from 0 where no pick is given
-abbrev pub run_options : OptionsOfRun → RunOptions
+abbrev pub run_options : RunFlags → RunOptions
 run_options o = record { cut = o.cut; pick = unwrap_or o.pick 0; fail = option_map failing o.fail }
 
 -- what there is to say of what is asked, by what the files show before and after

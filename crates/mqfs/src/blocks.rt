@@ -85,7 +85,7 @@ fn fresh_image(alloc: Global, geometry: Geometry, role: Role) -> Result<PortImag
     })
 }
 
-// Where no command fails, a text is refused by its power or for lack of memory.
+// Where no command fails, a text is refused by its power or as out of memory.
 fn check_power(refusal: TextRefusal) -> Result<(), OutOfMemory>
     requires { (status : ℕ) → refusal ≡ TextRefusal.Failed status → ⊥ }
     ensures { OnOk result (refusal ≡ TextRefusal.Off) }
@@ -136,8 +136,8 @@ fn commit_until(
     }
 }
 
-/// Commits a text on a fresh drive, and cuts the power after so many events of the queue's port, or
-/// at the end: what stays of the queue's port and of the root's.
+/// Commits a text on a fresh drive, and cuts the power after `cut` events of the queue's port, or at
+/// the end. Returns what stays of the queue's port and of the root's.
 fn commit_fresh(
     alloc: Global,
     geometry: Geometry,
@@ -165,12 +165,12 @@ fn commit_fresh(
     Ok((queue.0, root.0))
 }
 
-/// What `mqfs blocks` makes of a text.
+/// The result of `mqfs blocks` for a text.
 #[derive(Drop)]
 pub struct TextRun {
-    /// What is printed.
+    /// The text that is printed.
     pub output: Vec<u8>,
-    /// The file of the image that the cut left, where it is wanted.
+    /// The file of the image that the cut left, if it is asked for.
     pub left: Option<Vec<u8>>,
 }
 
@@ -219,10 +219,10 @@ fn left_of(
     Ok((images, Some(file)))
 }
 
-/// Commits a text on a fresh drive, cuts the power after so many events or at the end, recovers, and
-/// prints what stands. A first recovery is itself cut, where it is told after how many events. What
-/// the cuts leave of what is uncertain follows from `pick`. The image that the cut left is kept as
-/// a file, where it is wanted.
+/// Commits a text on a fresh drive, cuts the power after `cut` events or at the end, recovers, and
+/// prints what stands. A first recovery is itself cut after `again` events, if that is given. What
+/// the cuts leave of what is uncertain follows from `pick`. The image that the cut left is kept as a
+/// file, if it is asked for.
 fn run_text(
     alloc: Global,
     text: &BlockText,
@@ -253,8 +253,8 @@ fn run_text(
     Ok(TextRun { output, left })
 }
 
-/// What `mqfs blocks` makes of the bytes of a block text, with the file of the image that the cut
-/// left, where it is wanted.
+/// The result of `mqfs blocks` for the bytes of a block text, with the file of the image that the
+/// cut left, if it is asked for.
 pub fn run_bytes(
     alloc: Global,
     bytes: &[u8],

@@ -98,7 +98,7 @@ pub fn commit_lines<P: Port>(
     Ok(())
 }
 
-// Commits the lines through the queue of a port, and hands the port back.
+// Commits the lines through the queue of a port, and gives the port back.
 fn commit_through<P: Port>(
     alloc: Global,
     geometry: Geometry,
@@ -165,7 +165,7 @@ fn put_one<P: Port>(ports: &mut Vec<P>, port: P)
     }
 }
 
-/// Commits the lines of a text through the one queue of a clean drive, and hands the ports back.
+/// Commits the lines of a text through the one queue of a clean drive, and gives the ports back.
 pub fn commit_text<P: Port>(
     alloc: Global,
     geometry: Geometry,

@@ -1,7 +1,7 @@
 // One line of a text, committed as a transaction through a queue.
 ghost use Rattle.std.specs.Prelude.{◌≡◌, ◌<◌, ◌≤◌, ◌+◌, ◌^◌, ℕ, [], length, OnOk, OnErr, slice_index_or};
 ghost use Rattle.mq_blocks.specs.Drive.{PortState, IsQuiescent, depth, index_of, staged_end, usable_depth};
-ghost use Rattle.mq_pmr.specs.Runs.{AreOwn};
+ghost use Rattle.mq_pmr.specs.Runs.{OwnsAll};
 ghost use Rattle.mqfs.specs.Causes.{HasCause};
 ghost use Rattle.mqfs.specs.Cuts.{HasEnded, IsCut};
 ghost use Rattle.mqfs.specs.Runs.{AreApart, AreDistinct, after_all, after_line};
@@ -48,7 +48,7 @@ pub fn complete_all<P: Port>(queue: &mut PmrQueue<P>) -> Result<(), Refusal>
 
 /// Commits one transaction: its writes are staged, flushed, rung and executed, and the head is
 /// stored past them and flushed.
-#[tactic(auto, using(crate::proofs::Lines::apart_posted), unfolding(crate::specs::Runs::after_line))]
+#[tactic(auto, using(crate::proofs::RunsLines::apart_posted), unfolding(crate::specs::Runs::after_line))]
 pub fn commit_line<P: Port>(
     queue: &mut PmrQueue<P>,
     tx: TxNo,
@@ -64,7 +64,7 @@ pub fn commit_line<P: Port>(
         → k < depth
         → slice_index_or (P.state queue.old.port).flushed k [] ≡ slice_index_or
         (P.state queue.old.port).staged k [] }
-    requires own { AreOwn (P.state queue.old.port) items.items }
+    requires own { OwnsAll (P.state queue.old.port) items.items }
     requires distinct { AreDistinct (index_of (P.state queue.old.port)) items.items }
     requires rung { queue.old.rung.items ≡ [] }
     ensures ok { OnOk result (P.state queue.new.port ≡ after_line (P.state queue.old.port) tx items.items) }

@@ -49,7 +49,7 @@ pub fn live_marks(alloc: Global, text: &BlockText, count: u64) -> Result<Vec<boo
     Ok(marks)
 }
 
-/// The live blocks by rising number, each with the first byte of its home block.
+/// The live blocks in rising order of numbers, each with the first byte of its home block.
 pub fn live_blocks<P: Port>(
     alloc: Global,
     geometry: Geometry,

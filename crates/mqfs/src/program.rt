@@ -1,12 +1,12 @@
 // The program: the command that words ask, over files and an output.
 ghost use Rattle.std.specs.Prelude.{◌≡◌, ◌≢◌, ◌⊎◌, ℕ, List, None, Option, Some, map};
 ghost use Rattle.std.specs.String.{string_bytes};
-ghost use Rattle.mq_ending.specs.Ending.{EndsWith, IsUnlessWanting};
+ghost use Rattle.mq_ending.specs.Ending.{EndsWith, IsUnlessFailed};
 ghost use Rattle.mq_outside.specs.Outside.{Rose, appended};
 ghost use Rattle.mq_promise.specs.Recovering.{EveryInterleavingIsRecovered};
 ghost use Rattle.mq_words.specs.Asked.{Asked, HasScript, HasSmallNumbers, asked, asked_of, blocks, gen, run};
 ghost use Rattle.mq_words.specs.declared.command.BlocksOptions.{BlocksOptions};
-ghost use Rattle.mq_words.specs.declared.command.RunOptions.{RunOptions};
+ghost use Rattle.mq_words.specs.declared.command.RunFlags.{RunFlags};
 ghost use Rattle.mqfs.specs.Decided.{Decides, RunsThere};
 ghost use Rattle.mqfs.specs.Played.{IsPlayed};
 ghost use Rattle.mqfs.specs.Program.{AreUnknown, IsDone, IsEndedRun, IsRefusedText, IsSaid, IsStatus, IsToSay, IsTooLong, KeepsNames, TakesFor, usage_line};
@@ -62,9 +62,9 @@ fn run<F: Files, K: Sink, R: Threads + Wait + Sync, G: Gate + Sync>(
         × EndsWith status text result (K.state out.old) (K.state out.new) }
     ensures decided { (status : ℕ)
         → Decides (asked command.entry) (F.state files.old).contents status
-        → IsUnlessWanting status result }
+        → IsUnlessFailed status result }
     ensures runs { RunsThere (asked command.entry) (F.state files.old).contents
-        → (result ≡ 5) ⊎ IsUnlessWanting 0 result }
+        → (result ≡ 5) ⊎ IsUnlessFailed 0 result }
 {
     match command {
         Command::Blocks {
@@ -123,11 +123,11 @@ fn read_and_run<F: Files, K: Sink, R: Threads + Wait + Sync, G: Gate + Sync>(
     ensures decided { (a : Asked) (status : ℕ)
         → asked_of (map string_bytes words.now) ≡ Some a
         → Decides a (F.state files.old).contents status
-        → IsUnlessWanting status result }
+        → IsUnlessFailed status result }
     ensures runs { (a : Asked)
         → asked_of (map string_bytes words.now) ≡ Some a
         → RunsThere a (F.state files.old).contents
-        → (result ≡ 5) ⊎ IsUnlessWanting 0 result }
+        → (result ≡ 5) ⊎ IsUnlessFailed 0 result }
 {
     match read_command(alloc, words) {
         Ok(command) => run(rt, alloc, command, files, out, gate),
@@ -141,7 +141,7 @@ fn read_and_run<F: Files, K: Sink, R: Threads + Wait + Sync, G: Gate + Sync>(
 /// status is 0 for done, 1 for words that are no command, 2 for a block text or a script that is
 /// refused or for more scripts than queues, 3 for an image, a geometry or a path that is refused, 4
 /// for a fault of a file or the output or a file that is too long, 5 where the command of the drive
-/// was executed that `run` was told to let fail, and 6 for lack of memory.
+/// was executed that `run` had to let fail, and 6 for out of memory.
 pub fn mqfs<F: Files, K: Sink, R: Threads + Wait + Sync, G: Gate + Sync>(
     rt: &R,
     alloc: Global,
@@ -166,13 +166,13 @@ pub fn mqfs<F: Files, K: Sink, R: Threads + Wait + Sync, G: Gate + Sync>(
     ensures decided { (a : Asked) (status : ℕ)
         → asked_of (map string_bytes words.now) ≡ Some a
         → Decides a (F.state files.old).contents status
-        → IsUnlessWanting status result }
+        → IsUnlessFailed status result }
     // Where a run is asked whose scripts are read, not more than queues, on an image within the limits on which a volume
     // stands, the status is 0 or 5, 4 and 6 aside.
     ensures runs { (a : Asked)
         → asked_of (map string_bytes words.now) ≡ Some a
         → RunsThere a (F.state files.old).contents
-        → (result ≡ 5) ⊎ IsUnlessWanting 0 result }
+        → (result ≡ 5) ⊎ IsUnlessFailed 0 result }
     // `blocks`: the output is that of the lines that stand, of the text that the file holds.
     ensures done { (file : List ℕ) (options : BlocksOptions) (save : Option (List ℕ))
         → asked_of (map string_bytes words.now) ≡ Some (blocks file options save)
@@ -180,7 +180,7 @@ pub fn mqfs<F: Files, K: Sink, R: Threads + Wait + Sync, G: Gate + Sync>(
         → IsDone file options save (F.state files.old) (F.state files.new) (K.state out.old) (K.state out.new) }
     // `run`: at the statuses 0 and 5 the scripts were run, the run keeps its promise, the image that it left is saved, and
     // its report is the output.
-    ensures ran { (image : List ℕ) (scripts : List (List ℕ)) (options : RunOptions)
+    ensures ran { (image : List ℕ) (scripts : List (List ℕ)) (options : RunFlags)
         → asked_of (map string_bytes words.now) ≡ Some (run image scripts options)
         → (result ≡ 0) ⊎ (result ≡ 5)
         → IsRan image scripts options result (F.state files.old) (F.state files.new) (K.state out.old) (K.state out.new) }
@@ -197,7 +197,7 @@ pub fn mqfs<F: Files, K: Sink, R: Threads + Wait + Sync, G: Gate + Sync>(
         → AreUnknown (map string_bytes words.now)
         × ((K.state out.new).contents ≡ appended (K.state out.old).contents usage_line)
         × (F.state files.new ≡ F.state files.old) }
-    ensures usage_where { AreUnknown (map string_bytes words.now) → IsUnlessWanting 1 result }
+    ensures usage_where { AreUnknown (map string_bytes words.now) → IsUnlessFailed 1 result }
     // The words are those of `blocks`, and the file holds bytes that are refused; or they are those of `run`, and a
     // script is refused, or there are more than queues.
     ensures refused { result ≡ 2

@@ -7,6 +7,7 @@ ghost use Rattle.mq_drive.specs.Emu.{emu_state, emu_faults, drawn_by};
 ghost use Rattle.mq_drive.specs.Seats.{name_of, fuse_of, tickets_of};
 ghost use Rattle.mq_drive.specs.Start.{IsImageOf, start_of};
 ghost use Rattle.mq_drive.specs.declared.role.Role.TheVariants.{Queue, Root};
+ghost use Rattle.mq_images.specs.Starts.{AreSeeded};
 ghost use Rattle.mq_recover.specs.Drives.{IsQuiescentDrive, drive, view_over, drive_of, faults_on};
 ghost use Rattle.mqfs.specs.Restart.{IsLeftOf, cut_view, no_faults};
 
@@ -16,7 +17,7 @@ use mq_drive::{EmuPort, Fuse, FuseSeat, Port, PortImage, Ports, Role};
 use mq_recover::{ImageFault, RecoverRefusal, Recovered, recover, stands};
 use std::alloc::Global;
 
-// Where no port has a fault and the image is readable, memory is all that can be wanting.
+// Where no port has a fault and the image is readable, only memory can run out.
 fn only_image(refusal: RecoverRefusal) -> OutOfMemory
     requires { refusal ≡ RecoverRefusal.Image ImageFault.OutOfMemory }
 {
@@ -44,7 +45,7 @@ fn check_power(answer: Result<Recovered, RecoverRefusal>) -> Result<(), OutOfMem
     }
 }
 
-// Where the image is readable, memory is all that can be wanting.
+// Where the image is readable, only memory can run out.
 fn only_memory(fault: ImageFault) -> OutOfMemory
     requires { fault ≡ ImageFault.OutOfMemory }
 {
@@ -76,7 +77,7 @@ fn read_prefix<P: Port>(
 }
 
 /// A drive of one queue that starts from what stayed of its queue's port and of the root's, with the
-/// power of a fuse.
+/// power of a fuse. `pick` and a port's number choose the order in which posted commands are executed.
 pub fn restarted<'f>(
     alloc: Global,
     fuse: &'f Fuse,
@@ -95,6 +96,7 @@ pub fn restarted<'f>(
         (start_of geometry Root images.1 (name_of fuse.now) None)) }
     ensures faults { IfOk result (λ p. faults_on emu_faults p ≡ no_faults) }
     ensures tickets { IfOk result (λ p. drawn_by p.root ≡ []) }
+    ensures chance { IfOk result (AreSeeded geometry pick) }
 {
     let mut queues = Vec::with_capacity(alloc, 1)?;
     let role = Role::Queue(QueueNo(0));
@@ -112,8 +114,8 @@ pub fn restarted<'f>(
     Ok(Ports { queues, root })
 }
 
-/// Recovers what stayed of a drive of one queue, on which the power stays on: how many transactions
-/// stood, and its ports.
+/// Recovers what stayed of a drive of one queue, on which the power stays on. Returns the number of
+/// transactions that stood, and its ports.
 pub fn recover_images<'f>(
     alloc: Global,
     fuse: &'f Fuse,
@@ -181,9 +183,9 @@ fn recover_until(
     Ok((prefix, (queue_image, root_image)))
 }
 
-/// Recovers what stayed of a drive of one queue until its power goes off again, after so many events
-/// or at the end, where it is told after how many; else nothing is done. The answer is how many
-/// transactions stood, where that was looked at, and what stays of its ports then.
+/// If `again` is given, recovers what stayed of a drive of one queue until its power goes off again,
+/// after that many events or at the end; else does nothing. Returns the number of transactions that
+/// stood, if that was looked at, and what then stays of its ports.
 pub fn recover_first(
     alloc: Global,
     geometry: Geometry,

@@ -13,7 +13,7 @@ use mq_revoke::Placement;
 use mq_turns::Chair;
 use std::alloc::Global;
 
-/// What the sessions take memory for.
+/// The parts of the sessions that take memory.
 pub fn equip(
     alloc: Global,
     geometry: Geometry,

@@ -41,8 +41,8 @@ pub fn unmake_sides<P: Port, E: Drop>(sides: Vec<QueueSide<P, E>>, ports: &mut V
     sides.destroy_empty();
 }
 
-/// The sides of all queues over their ports, and the room that the ports had. Out of memory gives the
-/// ports back.
+/// The sides of all queues over their ports, and the room that the ports had. On out of memory the
+/// ports are given back.
 pub fn open_sides<P: Port, E: Drop>(
     alloc: Global,
     geometry: Geometry,

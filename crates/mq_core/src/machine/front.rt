@@ -5,7 +5,7 @@ ghost use Rattle.mq_core.specs.Settled.{IsNextDone, IsSettled, settled};
 use crate::PlainPort;
 use mq_ledger::Ledger;
 
-/// Whether the transaction after the front is there, and the flushed head of its queue is past it.
+/// Whether there is a transaction after the front, and the flushed head of its queue is past it.
 fn is_next_done(ledger: &Ledger, ports: &[PlainPort]) -> bool
     requires { length ports.now ≡ ledger.now.geometry.queues }
     ensures { IsTrue result ↔ IsNextDone ledger.now ports.now }
@@ -16,7 +16,7 @@ fn is_next_done(ledger: &Ledger, ports: &[PlainPort]) -> bool
     }
 }
 
-/// Brings the front forward, as far as all is done.
+/// Advances the front as far as all transactions are done.
 pub fn settle_all(ledger: &mut Ledger, ports: &[PlainPort])
     requires ports { length ports.now ≡ ledger.old.geometry.queues }
     requires done { IsSettled ledger.old ports.now }

@@ -83,7 +83,7 @@ pub fn holds_block(blocks: &[BlockNo], block: BlockNo) -> bool
     false
 }
 
-/// Drops a block wherever it stands.
+/// Removes a block from a list, wherever it stands.
 pub fn drop_block(blocks: &mut Vec<BlockNo>, block: BlockNo)
     ensures { blocks.new.items ≡ filter (λ x. not (nat_eq x block)) blocks.old.items }
 {

@@ -15,7 +15,7 @@ use crate::CoreRefusal;
 use mq_blocks::{BlockNo, QueueNo, TxNo};
 use mq_ledger::{DESCRIPTOR_BLOCKS, Ledger, Tx};
 
-/// Whether this number changed a block last. Of a block that is no home block it didn't.
+/// Whether this number changed a block last; false for a block that is no home block.
 pub fn is_last_change(ledger: &Ledger, block: BlockNo, number: TxNo) -> bool
     ensures { result ≡ (nat_lt block (homes_of ledger.now.geometry) && nat_eq
         (last ledger.now.base ledger.now.history block) number) }
@@ -108,7 +108,7 @@ impl Core {
         Ok(())
     }
 
-    /// All numbers up to this one are done, and whoever asked is told.
+    /// All numbers up to this one are done, and this is acknowledged to the caller.
     pub fn acknowledge(&mut self, number: TxNo) -> Result<(), CoreRefusal>
         ensures { Answers (IsAllowed plain (Acknowledge number) self.old)
             (happens plain (Acknowledge number) self.old) self.old self.new result }

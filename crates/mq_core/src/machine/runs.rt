@@ -9,7 +9,7 @@ use crate::{CoreRefusal, Event};
 use std::alloc::Global;
 
 impl Core {
-    /// Makes an event happen, where it is allowed.
+    /// Makes an event happen, if it is allowed.
     pub fn apply(&mut self, alloc: Global, event: Event) -> Result<(), CoreRefusal>
         ensures { Answers (IsAllowed plain event self.old)
             (happens plain event self.old) self.old self.new result }
@@ -36,8 +36,8 @@ impl Core {
     }
 
     /// Makes events happen one after another, up to the first that is not allowed. The machine is
-    /// lawful before, after and between them. A refusal names the index of its event, and gives the
-    /// machine up.
+    /// lawful before, after and between them. A refusal names the index of its event, and drops the
+    /// machine.
     pub fn run(alloc: Global, start: Core, events: Vec<Event>) -> Result<Core, CoreRefusal>
         ensures done { IfOk result (λ c. c ≡ run plain events.items start) }
         ensures allowed { IfOk result (λ c. AreAllowed plain events.items start) }

@@ -1,7 +1,7 @@
 // `cat`: the bytes of a file of the tree of an image.
 ghost use Rattle.std.specs.Prelude.{◌≡◌, ℕ, List};
 ghost use Rattle.mq_commands.specs.Commands.{SaysOfImage, ShowsFile};
-ghost use Rattle.mq_ending.specs.Ending.{EndsWith, IsUnlessWanting, SaysOf};
+ghost use Rattle.mq_ending.specs.Ending.{EndsWith, IsUnlessFailed, SaysOf};
 ghost use Rattle.mqfs.specs.Decided.{FileDecides};
 
 use mq_commands::cat;
@@ -23,7 +23,7 @@ pub fn run_cat<F: Files, K: Sink>(
         × EndsWith status text result (K.state out.old) (K.state out.new) }
     ensures decided { (status : ℕ)
         → FileDecides image.now path.now (F.state files.old).contents status
-        → IsUnlessWanting status result }
+        → IsUnlessFailed status result }
 {
     cat(alloc, image, path, files, out)
 }

@@ -1,7 +1,7 @@
 // `dump`: the words and the chains of an image.
 ghost use Rattle.std.specs.Prelude.{◌≡◌, ℕ, List};
 ghost use Rattle.mq_commands.specs.Commands.{Dumps, SaysOfImage};
-ghost use Rattle.mq_ending.specs.Ending.{EndsWith, IsUnlessWanting, SaysOf};
+ghost use Rattle.mq_ending.specs.Ending.{EndsWith, IsUnlessFailed, SaysOf};
 ghost use Rattle.mqfs.specs.Decided.{ChainsDecide};
 
 use mq_commands::dump;
@@ -16,7 +16,7 @@ pub fn run_dump<F: Files, K: Sink>(alloc: Global, image: &str, files: &mut F, ou
         × EndsWith status text result (K.state out.old) (K.state out.new) }
     ensures decided { (status : ℕ)
         → ChainsDecide image.now (F.state files.old).contents status
-        → IsUnlessWanting status result }
+        → IsUnlessFailed status result }
 {
     dump(alloc, image, files, out)
 }

@@ -1,7 +1,7 @@
 // `format`: a new image with the empty file system.
 ghost use Rattle.std.specs.Prelude.{ℕ, List};
 ghost use Rattle.mq_commands.specs.Commands.{Formats};
-ghost use Rattle.mq_ending.specs.Ending.{EndsWith, IsUnlessWanting};
+ghost use Rattle.mq_ending.specs.Ending.{EndsWith, IsUnlessFailed};
 ghost use Rattle.mqfs.specs.Decided.{NumbersDecide};
 
 use mq_commands::{Numbers, format};
@@ -20,7 +20,7 @@ pub fn run_format<F: Files, K: Sink>(
         × (text : List ℕ)
         × Formats numbers image.now (F.state files.old) (F.state files.new) status text
         × EndsWith status text result (K.state out.old) (K.state out.new) }
-    ensures decided { (status : ℕ) → NumbersDecide numbers status → IsUnlessWanting status result }
+    ensures decided { (status : ℕ) → NumbersDecide numbers status → IsUnlessFailed status result }
 {
     format(alloc, image, numbers, files, out)
 }

@@ -7,14 +7,14 @@ use mq_ending::{DONE, say};
 use mq_outside::Sink;
 use mq_words::{Verb, help_on, version_line};
 
-/// Says what a command does, or the program.
+/// Prints the help on a command, or on the program.
 pub fn say_help<K: Sink>(topic: Option<Verb>, out: &mut K) -> u8
     ensures { EndsWith 0 (help_text topic) result (K.state out.old) (K.state out.new) }
 {
     say(DONE, help_on(topic).as_bytes(), out)
 }
 
-/// Says the program's name and version.
+/// Prints the program's name and version.
 pub fn say_version<K: Sink>(out: &mut K) -> u8
     ensures { EndsWith 0 version_text result (K.state out.old) (K.state out.new) }
 {

@@ -1,7 +1,7 @@
 // `ls`: the tree of an image.
 ghost use Rattle.std.specs.Prelude.{◌≡◌, ℕ, List};
 ghost use Rattle.mq_commands.specs.Commands.{Lists, SaysOfImage};
-ghost use Rattle.mq_ending.specs.Ending.{EndsWith, IsUnlessWanting, SaysOf};
+ghost use Rattle.mq_ending.specs.Ending.{EndsWith, IsUnlessFailed, SaysOf};
 ghost use Rattle.mqfs.specs.Decided.{TreeDecides};
 
 use mq_commands::ls;
@@ -16,7 +16,7 @@ pub fn run_ls<F: Files, K: Sink>(alloc: Global, image: &str, files: &mut F, out:
         × EndsWith status text result (K.state out.old) (K.state out.new) }
     ensures decided { (status : ℕ)
         → TreeDecides image.now (F.state files.old).contents status
-        → IsUnlessWanting status result }
+        → IsUnlessFailed status result }
 {
     ls(alloc, image, files, out)
 }

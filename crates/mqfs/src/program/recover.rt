@@ -1,7 +1,7 @@
 // `recover`: an image, recovered and saved.
 ghost use Rattle.std.specs.Prelude.{◌<◌, ℕ, List, IfSome};
 ghost use Rattle.mq_commands.specs.Recovers.{Recovers};
-ghost use Rattle.mq_ending.specs.Ending.{EndsWith, IsUnlessWanting};
+ghost use Rattle.mq_ending.specs.Ending.{EndsWith, IsUnlessFailed};
 ghost use Rattle.mq_words.specs.Asked.{number_end};
 ghost use Rattle.mqfs.specs.Decided.{RecoveryDecides};
 
@@ -9,7 +9,7 @@ use mq_commands::recover;
 use mq_outside::{Files, Sink};
 use std::alloc::Global;
 
-/// Runs `recover IMAGE` with its options. Draws come from 0 where no pick is given.
+/// Runs `recover IMAGE` with its options. If no pick is given, it is 0.
 pub fn run_recover<F: Files, K: Sink>(
     alloc: Global,
     image: &str,
@@ -25,7 +25,7 @@ pub fn run_recover<F: Files, K: Sink>(
         × EndsWith status text result (K.state out.old) (K.state out.new) }
     ensures decided { (status : ℕ)
         → RecoveryDecides image.now (F.state files.old).contents status
-        → IsUnlessWanting status result }
+        → IsUnlessFailed status result }
 {
     recover(alloc, image, cut, pick.unwrap_or(0), files, out)
 }

@@ -1,7 +1,7 @@
 // `run`: scripts of requests, run on an image.
 ghost use Rattle.std.specs.Prelude.{◌≡◌, ◌⊎◌, ◌≤◌, ℕ, List, length, map};
 ghost use Rattle.mq_commands.specs.RunsScripts.{Runs};
-ghost use Rattle.mq_ending.specs.Ending.{EndsWith, IsUnlessWanting};
+ghost use Rattle.mq_ending.specs.Ending.{EndsWith, IsUnlessFailed};
 ghost use Rattle.mq_words.specs.Asked.{AreSmallOfRun};
 ghost use Rattle.mqfs.specs.Decided.{IsRunnable, RunDecides};
 ghost use Rattle.mqfs.specs.Says.{failing, run_options};
@@ -11,7 +11,7 @@ use mq_commands::run;
 use mq_image_run::RunOptions;
 use mq_images::Failing;
 use mq_outside::{Files, Sink};
-use mq_words::{FailingCommand, RunOptions as Options};
+use mq_words::{FailingCommand, RunFlags};
 use std::alloc::Global;
 use std::sync::Wait;
 use std::thread::Threads;
@@ -27,7 +27,7 @@ fn failing_of(command: FailingCommand) -> Failing
 }
 
 // What the options ask of a run. Draws come from 0 where no pick is given.
-fn options_of(options: Options) -> RunOptions
+fn options_of(options: RunFlags) -> RunOptions
     ensures { result ≡ run_options options }
 {
     RunOptions {
@@ -46,7 +46,7 @@ pub fn run_scripts<F: Files, K: Sink, R: Threads + Wait + Sync, G: Gate + Sync>(
     alloc: Global,
     image: &str,
     scripts: &[&str],
-    options: Options,
+    options: RunFlags,
     files: &mut F,
     out: &mut K,
     gate: &G,
@@ -59,9 +59,9 @@ pub fn run_scripts<F: Files, K: Sink, R: Threads + Wait + Sync, G: Gate + Sync>(
         × EndsWith status text result (K.state out.old) (K.state out.new) }
     ensures decided { (status : ℕ)
         → RunDecides image.now (map (λ s. s.now) scripts.now) options (F.state files.old).contents status
-        → IsUnlessWanting status result }
+        → IsUnlessFailed status result }
     ensures runs { IsRunnable image.now (map (λ s. s.now) scripts.now) (F.state files.old).contents
-        → (result ≡ 5) ⊎ IsUnlessWanting 0 result }
+        → (result ≡ 5) ⊎ IsUnlessFailed 0 result }
 {
     run(
         rt,

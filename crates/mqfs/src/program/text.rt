@@ -1,7 +1,7 @@
 // `blocks`: a block text, committed, cut from power, recovered and printed.
 ghost use Rattle.std.specs.Prelude.{◌≡◌, ◌⊎◌, ℕ, List, IfErr, IfOk, option_map};
 ghost use Rattle.std.specs.String.{string_bytes};
-ghost use Rattle.mq_ending.specs.Ending.{EndsWith, IsUnlessWanting, memory_line};
+ghost use Rattle.mq_ending.specs.Ending.{EndsWith, IsUnlessFailed, memory_line};
 ghost use Rattle.mq_words.specs.Asked.{AreSmall};
 ghost use Rattle.mqfs.specs.Blocks.{refused_line};
 ghost use Rattle.mqfs.specs.Decided.{TextDecides};
@@ -23,7 +23,7 @@ fn refusal_text(alloc: Global, line: u32, cause: BlockTextCause) -> Result<Strin
     format!(in alloc; "blocks line {line}: {name}\n")
 }
 
-// Says why a block text is refused, or that memory was not to be had for that.
+// Prints why a block text is refused, or that memory ran out for that.
 fn say_refused<K: Sink>(alloc: Global, line: u32, cause: BlockTextCause, out: &mut K) -> u8
     ensures { EndsWith 2 (refused_line line cause) result (K.state out.old) (K.state out.new)
         ⊎ EndsWith 6 memory_line result (K.state out.old) (K.state out.new) }
@@ -34,7 +34,7 @@ fn say_refused<K: Sink>(alloc: Global, line: u32, cause: BlockTextCause, out: &m
     }
 }
 
-// Says why a block text is not run, or that memory was not to be had for that.
+// Prints why a block text is not run, or that memory ran out for that.
 fn say_refusal<K: Sink>(alloc: Global, refusal: BlockTextRefusal, out: &mut K) -> u8
     ensures { EndsRefused refusal result (K.state out.old) (K.state out.new) }
 {
@@ -91,7 +91,7 @@ pub fn run_blocks<F: Files, K: Sink>(
         × EndsWith status text result (K.state out.old) (K.state out.new) }
     ensures decided { (status : ℕ)
         → TextDecides file.now (F.state files.old).contents status
-        → IsUnlessWanting status result }
+        → IsUnlessFailed status result }
 {
     let bytes = match load_or_say(alloc, file, files, out) {
         Ok(bytes) => bytes,

@@ -1,7 +1,7 @@
 // `gen`: a generated workload.
 ghost use Rattle.std.specs.Prelude.{◌≡◌, ◌≤◌, ℕ, List, option_map};
 ghost use Rattle.mq_commands.specs.Generates.{Generates};
-ghost use Rattle.mq_ending.specs.Ending.{EndsWith, IsUnlessWanting};
+ghost use Rattle.mq_ending.specs.Ending.{EndsWith, IsUnlessFailed};
 ghost use Rattle.mqfs.specs.Says.{asked_workload};
 
 use mq_calls::Gate;
@@ -28,7 +28,7 @@ pub fn run_workload<F: Files, K: Sink, R: Threads + Wait + Sync, G: Gate + Sync>
         × (text : List ℕ)
         × Generates (asked_workload seed threads groups) (option_map (λ s. s.now) save.entry) (F.state files.old) (F.state files.new) status text
         × EndsWith status text result (K.state out.old) (K.state out.new) }
-    ensures decided { (status : ℕ) → status ≡ 0 → IsUnlessWanting status result }
+    ensures decided { (status : ℕ) → status ≡ 0 → IsUnlessFailed status result }
 {
     let workload = Workload {
         seed,

@@ -1,5 +1,5 @@
 use Rattle.std.proofs.Common.{◌∙◌, ℕ, List, [], ◌∷◌, ◌++◌, sym, ap}
-use Rattle.mq_blocks.proofs.Readings.{numbers-none, numbers-more}
+use Rattle.mq_blocks.proofs.WindowsReadings.{numbers-none, numbers-more}
 use Rattle.mq_area.proofs.bytes.read_list.Goals as goal
 
 pub loop-i-init : goal.loop-i-init

@@ -1,6 +1,6 @@
 use Rattle.std.proofs.Common.{◌∙◌, ◌≡◌, ◌<◌, ◌≤◌, ◌⊎◌, inl, inr, length, get_or, sym, arith}
 use Rattle.std.proofs.lemmas.List.{get_or_read}
-use Rattle.mq_area.proofs.Rising.{unfit-stop, logged-stop, unlogged-step, below-next, rising-step, next_above-step}
+use Rattle.mq_area.proofs.DescriptorRising.{unfit-stop, logged-stop, unlogged-step, below-next, rising-step, next_above-step}
 use Rattle.mq_area.proofs.lists.first_unfit.Goals as goal
 use Rattle.mq_area.proofs.lists.first_unfit.Goals.{then-b-low-via-then-b-low, then-b-low-via-else-b-low+then-b-homes}
 

@@ -1,6 +1,6 @@
 use Rattle.std.proofs.Common.{◌≡◌, ℕ, ◌<◌, ◌≤◌, length, take, get_or}
 use Rattle.mq_blocks.specs.Descriptor.{AreRising, AreApart}
-use Rattle.mq_area.proofs.Rising.{next_above}
+use Rattle.mq_area.proofs.DescriptorRising.{next_above}
 use Rattle.mq_area.proofs.lists.first_unfit.Given as goal
 
 abbrev pub invariant-loop-i : goal.invariant-loop-i

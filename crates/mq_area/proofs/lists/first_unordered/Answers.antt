@@ -1,6 +1,6 @@
 use Rattle.std.proofs.Common.{◌∙◌, ◌≡◌, ◌<◌, ◌≤◌, ◌⊎◌, inl, inr, length, get_or, sym, arith}
 use Rattle.std.proofs.lemmas.List.{get_or_read}
-use Rattle.mq_area.proofs.Rising.{unordered-stop, rising-step, next_above-step}
+use Rattle.mq_area.proofs.DescriptorRising.{unordered-stop, rising-step, next_above-step}
 use Rattle.mq_area.proofs.lists.first_unordered.Goals as goal
 use Rattle.mq_area.proofs.lists.first_unordered.Goals.{then-b-low-via-then-b-low, then-b-low-via-else-b-low+then-b-homes}
 

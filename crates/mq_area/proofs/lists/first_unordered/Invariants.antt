@@ -1,6 +1,6 @@
 use Rattle.std.proofs.Common.{◌≡◌, take}
 use Rattle.mq_blocks.specs.Descriptor.{AreRising}
-use Rattle.mq_area.proofs.Rising.{next_above}
+use Rattle.mq_area.proofs.DescriptorRising.{next_above}
 use Rattle.mq_area.proofs.lists.first_unordered.Given as goal
 
 abbrev pub invariant-loop-i : goal.invariant-loop-i

@@ -1,5 +1,5 @@
 use Rattle.std.proofs.Common.{refl}
-use Rattle.mq_area.proofs.Sound.{few-along, accepts-along}
+use Rattle.mq_area.proofs.ReadingSound.{few-along, accepts-along}
 use Rattle.mq_area.proofs.read.read_bytes.Goals as goal
 
 pub check_lists-requires : goal.check_lists-requires

@@ -1,4 +1,4 @@
-use Rattle.mq_area.proofs.Exact.{complete-of, exact-of}
+use Rattle.mq_area.proofs.ReadingExact.{complete-of, exact-of}
 use Rattle.mq_area.proofs.read.read_descriptor.Goals as goal
 
 pub returns-clause-complete : goal.returns-clause-complete

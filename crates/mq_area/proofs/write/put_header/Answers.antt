@@ -1,7 +1,7 @@
 use Rattle.std.proofs.Common.{◌≡◌, length, subst, rules}
 use Rattle.mq_blocks.specs.Descriptor.{Descriptor, header_bytes}
 use Rattle.mq_blocks.specs.Windows.{written}
-use Rattle.mq_area.proofs.Written.{header-written}
+use Rattle.mq_area.proofs.DescriptorWritten.{header-written}
 use Rattle.mq_area.proofs.write.put_header.Goals as goal
 
 pub returns : goal.returns

@@ -2,8 +2,8 @@ use Rattle.std.proofs.Common.{◌≡◌, ◌+◌, ◌-◌, ◌*◌, ◌≤◌, �
 use Rattle.std.proofs.lemmas.List.{length-take-le, length-drop, length-replicate}
 use Rattle.mq_blocks.specs.Descriptor.{Descriptor, descriptor_bytes, header_bytes, list_bytes, list_limit}
 use Rattle.mq_blocks.specs.Windows.{written}
-use Rattle.mq_area.proofs.Written.{descriptor-written}
-use Rattle.mq_blocks.proofs.Written.{put_mid-written}
+use Rattle.mq_area.proofs.DescriptorWritten.{descriptor-written}
+use Rattle.mq_blocks.proofs.WindowsWritten.{put_mid-written}
 use Rattle.mq_area.proofs.write.write_bytes.Goals as goal
 use borrow.Rule.Slice.PartMut.{put_mid}
 

@@ -1,5 +1,5 @@
 use Rattle.mq_base.proofs.Bases.{base_later}
-use Rattle.mq_base.proofs.Roots.{grown_word, log_raised, side_raised, stands_raised}
+use Rattle.mq_base.proofs.BasesRoots.{grown_word, log_raised, side_raised, stands_raised}
 use Rattle.mq_base.proofs.laws.a_base_is_raised.Goals as goal
 
 pub returns : goal.returns

@@ -1,4 +1,4 @@
-use Rattle.mq_base.proofs.Roots.{stands_stored, stands_flushed}
+use Rattle.mq_base.proofs.BasesRoots.{stands_stored, stands_flushed}
 use Rattle.mq_base.proofs.laws.a_base_is_stored.Goals as goal
 
 pub returns : goal.returns

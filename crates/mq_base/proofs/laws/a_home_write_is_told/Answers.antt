@@ -1,4 +1,4 @@
-use Rattle.mq_base.proofs.HomeWrites.{log_brought, grown_brought, side_brought, root_brought, side_else, root_else, home_number_with, numbers_brought}
+use Rattle.mq_base.proofs.PagesHomeWrites.{log_brought, grown_brought, side_brought, root_brought, side_else, root_else, home_number_with, numbers_brought}
 use Rattle.mq_base.proofs.laws.a_home_write_is_told.Goals as goal
 
 pub returns : goal.returns

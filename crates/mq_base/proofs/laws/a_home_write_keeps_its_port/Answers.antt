@@ -1,4 +1,4 @@
-use Rattle.mq_base.proofs.HomeWrites.{logged_last, side_began, root_began, side_ended, root_ended, came_home, root_came}
+use Rattle.mq_base.proofs.PagesHomeWrites.{logged_last, side_began, root_began, side_ended, root_ended, came_home, root_came}
 use Rattle.mq_base.proofs.laws.a_home_write_keeps_its_port.Goals as goal
 
 pub returns : goal.returns

@@ -1,4 +1,4 @@
-use Rattle.mq_base.proofs.Openings.{base_due, first_base, greater_base}
+use Rattle.mq_base.proofs.BasesOpenings.{base_due, first_base, greater_base}
 use Rattle.mq_base.proofs.laws.a_kept_map_is_a_base.Goals as goal
 
 pub returns : goal.returns

@@ -1,5 +1,5 @@
 use Rattle.std.proofs.Common.{arith}
-use Rattle.mq_base.proofs.HomeWrites.{above_base, logged_last}
+use Rattle.mq_base.proofs.PagesHomeWrites.{above_base, logged_last}
 use Rattle.mq_base.proofs.laws.a_waiting_page_was_logged_last.Goals as goal
 
 pub returns : goal.returns

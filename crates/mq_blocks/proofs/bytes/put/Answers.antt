@@ -1,5 +1,5 @@
 use Rattle.std.proofs.Common.{arith}
-use Rattle.mq_blocks.proofs.Written.{put_mid-written}
+use Rattle.mq_blocks.proofs.WindowsWritten.{put_mid-written}
 use Rattle.mq_blocks.proofs.bytes.put.Goals as goal
 
 pub returns : goal.returns

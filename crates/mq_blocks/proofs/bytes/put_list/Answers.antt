@@ -1,6 +1,6 @@
 use Rattle.std.proofs.Common.{◌∙◌, ◌<◌, length, refl, sym, arith}
 use Rattle.std.proofs.lemmas.List.{get_or_read}
-use Rattle.mq_blocks.proofs.Written.{list-written, written-nothing}
+use Rattle.mq_blocks.proofs.WindowsWritten.{list-written, written-nothing}
 use Rattle.mq_blocks.proofs.bytes.put_list.Goals as goal
 
 pub loop-i-init : goal.loop-i-init

@@ -1,4 +1,4 @@
-use Rattle.mq_blocks.proofs.Addresses.{areas_apart, places_apart, kinds_apart, in_size}
+use Rattle.mq_blocks.proofs.GeometryAddresses.{areas_apart, places_apart, kinds_apart, in_size}
 use Rattle.mq_blocks.proofs.laws.addresses_are_apart.Goals as goal
 
 pub returns-clause-areas : goal.returns-clause-areas

@@ -8,9 +8,9 @@ use Rattle.mq_turns.specs.declared.rule.Report.TheVariants as report
 use Rattle.mq_calls.specs.Leaving.{cells_after}
 use Rattle.mq_calls.specs.Pages.{HoldsPages}
 use Rattle.mq_calls.specs.Runs.{files}
-use Rattle.mq_calls.proofs.AfterDraw.{drawn-held, entry-leaves, numbered-left}
-use Rattle.mq_calls.proofs.Further.{cells-below}
-use Rattle.mq_calls.proofs.Sent.{cut-at, has-drawn}
+use Rattle.mq_calls.proofs.LeavingAfterDraw.{drawn-held, entry-leaves, numbered-left}
+use Rattle.mq_calls.proofs.WantedFurther.{cells-below}
+use Rattle.mq_calls.proofs.DrawingSent.{cut-at, has-drawn}
 use Rattle.mq_calls.proofs.drawing.draw_group.Goals as goal
 
 pub give_drawn_pages-requires-clause-pages : goal.give_drawn_pages-requires-clause-pages

@@ -1,5 +1,5 @@
 use Rattle.mq_turns.specs.AtDesk.{start_of, view}
-use Rattle.mq_calls.proofs.Sent.{pages-given, pages-reported}
+use Rattle.mq_calls.proofs.DrawingSent.{pages-given, pages-reported}
 use Rattle.mq_calls.proofs.drawing.give_side.Goals as goal
 
 pub returns-in-Drive-clause-pages : goal.returns-in-Drive-clause-pages

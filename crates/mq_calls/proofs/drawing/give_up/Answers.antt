@@ -5,8 +5,8 @@ use Rattle.mq_turns.specs.AtDesk.{start_of, view}
 use Rattle.mq_calls.specs.Committing.{reports_for}
 use Rattle.mq_calls.specs.Pages.{blocks_of}
 use Rattle.mq_calls.specs.Runs.{files}
-use Rattle.mq_calls.proofs.NotDrawn.{given-empty}
-use Rattle.mq_calls.proofs.Sent.{reports-left}
+use Rattle.mq_calls.proofs.PagesNotDrawn.{given-empty}
+use Rattle.mq_calls.proofs.DrawingSent.{reports-left}
 use Rattle.mq_calls.proofs.drawing.give_up.Goals as goal
 
 pub returns-clause-idle : goal.returns-clause-idle

@@ -1,5 +1,5 @@
 use Rattle.mq_turns.specs.AtDesk.{start_of}
-use Rattle.mq_calls.proofs.Finding.{done-now}
+use Rattle.mq_calls.proofs.RunsFinding.{done-now}
 use Rattle.mq_calls.proofs.laws.a_done_group_stands.Goals as goal
 
 pub returns : goal.returns

@@ -1,4 +1,4 @@
-use Rattle.mq_calls.proofs.Unchanged.{nothing-changes}
+use Rattle.mq_calls.proofs.RequestsUnchanged.{nothing-changes}
 use Rattle.mq_calls.proofs.laws.a_reading_group_changes_nothing.Goals as goal
 
 pub returns : goal.returns

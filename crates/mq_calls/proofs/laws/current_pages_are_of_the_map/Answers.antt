@@ -1,4 +1,4 @@
-use Rattle.mq_calls.proofs.Finding.{map-of-cells}
+use Rattle.mq_calls.proofs.RunsFinding.{map-of-cells}
 use Rattle.mq_calls.proofs.laws.current_pages_are_of_the_map.Goals as goal
 
 pub returns : goal.returns

@@ -1,4 +1,4 @@
-use Rattle.mq_calls.proofs.AfterDraw.{drawn-held}
+use Rattle.mq_calls.proofs.LeavingAfterDraw.{drawn-held}
 use Rattle.mq_calls.proofs.laws.drawn_pages_are_held.Goals as goal
 
 pub returns : goal.returns

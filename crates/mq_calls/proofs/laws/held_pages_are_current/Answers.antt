@@ -1,4 +1,4 @@
-use Rattle.mq_calls.proofs.Holding.{cells-now}
+use Rattle.mq_calls.proofs.PagesHolding.{cells-now}
 use Rattle.mq_calls.proofs.laws.held_pages_are_current.Goals as goal
 
 pub returns : goal.returns

@@ -1,4 +1,4 @@
-use Rattle.mq_calls.proofs.Holding.{pages-beside-all, pages-after, pages-kept-all, pages-renewed}
+use Rattle.mq_calls.proofs.PagesHolding.{pages-beside-all, pages-after, pages-kept-all, pages-renewed}
 use Rattle.mq_calls.proofs.laws.held_pages_stay.Goals as goal
 
 pub returns : goal.returns

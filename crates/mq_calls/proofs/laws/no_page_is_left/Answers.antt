@@ -1,4 +1,4 @@
-use Rattle.mq_calls.proofs.AfterDraw.{nothing-left}
+use Rattle.mq_calls.proofs.LeavingAfterDraw.{nothing-left}
 use Rattle.mq_calls.proofs.laws.no_page_is_left.Goals as goal
 
 pub returns : goal.returns

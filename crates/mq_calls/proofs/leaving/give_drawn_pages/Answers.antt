@@ -3,8 +3,8 @@ use Rattle.mq_files.specs.Group.{file_group}
 use Rattle.mq_rules.proofs.Meaning.{laws}
 use Rattle.mq_turns.specs.AtDesk.{start_of, view}
 use Rattle.mq_calls.specs.Runs.{file_values, files}
-use Rattle.mq_calls.proofs.AfterDraw.{left-all, left-last, left-more, left-none, left-rises}
-use Rattle.mq_calls.proofs.Holding.{last-stands}
+use Rattle.mq_calls.proofs.LeavingAfterDraw.{left-all, left-last, left-more, left-none, left-rises}
+use Rattle.mq_calls.proofs.PagesHolding.{last-stands}
 use Rattle.mq_calls.proofs.leaving.give_drawn_pages.Goals as goal
 
 pub loop-block-init : goal.loop-block-init

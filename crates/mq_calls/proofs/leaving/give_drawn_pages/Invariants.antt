@@ -1,7 +1,7 @@
 use Rattle.std.proofs.Common.{◌≡◌, length}
 use Rattle.mq_turns.specs.AtDesk.{AtDesk, start_of, view}
 use Rattle.mq_calls.specs.Runs.{files}
-use Rattle.mq_calls.proofs.AfterDraw.{HasLeft}
+use Rattle.mq_calls.proofs.LeavingAfterDraw.{HasLeft}
 use Rattle.mq_calls.proofs.leaving.give_drawn_pages.Given as goal
 
 abbrev pub invariant-loop-block : goal.invariant-loop-block

@@ -1,11 +1,11 @@
 use Rattle.std.proofs.Common.{◌≢◌, ℕ, List, [], Option, subst}
 use Rattle.mq_recover.specs.Drives.{drive_of}
-use Rattle.mq_recover.proofs.Images.{memory-alone, read-readable}
+use Rattle.mq_recover.proofs.DrivesImages.{memory-alone, read-readable}
 use Rattle.mq_tree.specs.Corrupt.{Refuses}
 use Rattle.mq_tree.specs.Laid.{IsTreeOf, map_of}
 use Rattle.mq_tree.specs.Volume.{Things, tree}
 use Rattle.mq_tree.specs.declared.corrupt.MountRefusal.TheVariants as mount
-use Rattle.mq_calls.proofs.StartReads.{opens, refuses, start-read, wanting}
+use Rattle.mq_calls.proofs.MountingStartReads.{opens, refuses, start-read, wanting}
 use Rattle.mq_calls.proofs.mounting.find_volume.Goals as goal
 
 pub only_memory-requires : goal.only_memory-requires

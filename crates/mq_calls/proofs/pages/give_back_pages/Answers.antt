@@ -1,7 +1,7 @@
 use Rattle.std.proofs.Common.{rules, ◌≡◌, ◌∙◌, [], ℕ}
 use Rattle.mq_turns.specs.AtDesk.{start_of, view}
-use Rattle.mq_calls.proofs.Holding.{last-stands}
-use Rattle.mq_calls.proofs.Taking.{given-all, given-last, given-more}
+use Rattle.mq_calls.proofs.PagesHolding.{last-stands}
+use Rattle.mq_calls.proofs.PagesTaking.{given-all, given-last, given-more}
 use Rattle.mq_calls.proofs.pages.give_back_pages.Goals as goal
 
 pub give_back-requires-clause-holds : goal.give_back-requires-clause-holds

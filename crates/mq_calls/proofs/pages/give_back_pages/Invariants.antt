@@ -1,6 +1,6 @@
 use Rattle.std.proofs.Common.{◌≡◌, length}
 use Rattle.mq_turns.specs.AtDesk.{AtDesk, start_of, view}
-use Rattle.mq_calls.proofs.Taking.{HasGiven}
+use Rattle.mq_calls.proofs.PagesTaking.{HasGiven}
 use Rattle.mq_calls.proofs.pages.give_back_pages.Given as goal
 
 abbrev pub invariant-loop-block : goal.invariant-loop-block

@@ -1,7 +1,7 @@
 use Rattle.std.proofs.Common.{◌≡◌, ◌<◌, ℕ, List, get_or, refl, sym, subst, ◌∙◌, arith}
 use Rattle.mq_turns.specs.AtDesk.{start_of, view}
-use Rattle.mq_calls.proofs.Holding.{cells-above}
-use Rattle.mq_calls.proofs.Taking.{next-above, taken-more, taken-none}
+use Rattle.mq_calls.proofs.PagesHolding.{cells-above}
+use Rattle.mq_calls.proofs.PagesTaking.{next-above, taken-more, taken-none}
 use Rattle.mq_calls.proofs.pages.take_pages.Goals as goal
 
 pub loop-block-init : goal.loop-block-init

@@ -1,6 +1,6 @@
 use Rattle.std.proofs.Common.{◌≡◌}
 use Rattle.mq_turns.specs.AtDesk.{AtDesk, start_of, view}
-use Rattle.mq_calls.proofs.Taking.{HasTaken}
+use Rattle.mq_calls.proofs.PagesTaking.{HasTaken}
 use Rattle.mq_calls.proofs.pages.take_pages.Given as goal
 
 abbrev pub invariant-loop-block : goal.invariant-loop-block

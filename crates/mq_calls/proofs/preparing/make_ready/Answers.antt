@@ -12,9 +12,9 @@ use Rattle.mq_turns.specs.AtDesk.{start_of, view}
 use Rattle.mq_calls.specs.Calling.{call_of}
 use Rattle.mq_calls.specs.Committing.{IsPlacedOn, IsPrepared, HasNoRoom}
 use Rattle.mq_calls.specs.Preparing.{IsEntryReady}
-use Rattle.mq_calls.proofs.Causes.{kept-refused}
-use Rattle.mq_calls.proofs.Drawable.{called-on, fits-still, is-prepared, lacks-room, plan-of, writes-rise}
-use Rattle.mq_calls.proofs.InHand.{commit-prepared, commit-read, commit-side}
+use Rattle.mq_calls.proofs.ActsCauses.{kept-refused}
+use Rattle.mq_calls.proofs.CommittingDrawable.{called-on, fits-still, is-prepared, lacks-room, plan-of, writes-rise}
+use Rattle.mq_calls.proofs.CommittingInHand.{commit-prepared, commit-read, commit-side}
 use Rattle.mq_calls.proofs.preparing.make_ready.Goals as goal
 
 pub returns-in-Some-clause-lacks : goal.returns-in-Some-clause-lacks

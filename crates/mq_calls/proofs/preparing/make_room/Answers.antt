@@ -1,5 +1,5 @@
 use Rattle.mq_turns.specs.AtDesk.{start_of, view}
-use Rattle.mq_calls.proofs.Causes.{drain-caused}
+use Rattle.mq_calls.proofs.ActsCauses.{drain-caused}
 use Rattle.mq_calls.proofs.preparing.make_room.Goals as goal
 
 pub returns-in-Err-clause-lacks : goal.returns-in-Err-clause-lacks

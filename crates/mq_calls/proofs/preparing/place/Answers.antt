@@ -3,7 +3,7 @@ use Rattle.mq_blocks.specs.Descriptor.{AreRising}
 use Rattle.mq_blocks.specs.Geometry.{homes_of}
 use Rattle.mq_revoke.specs.Placing.{AreInOrder}
 use Rattle.mq_revoke.specs.declared.placement.Planned.{Planned}
-use Rattle.mq_calls.proofs.Drawable.{blocks-planned}
+use Rattle.mq_calls.proofs.CommittingDrawable.{blocks-planned}
 use Rattle.mq_calls.proofs.preparing.place.Goals as goal
 
 pub plan-requires : goal.plan-requires

@@ -2,7 +2,7 @@ use Rattle.std.proofs.Common.{sym, subst}
 use Rattle.mq_turns.specs.AtDesk.{start_of, view}
 use Rattle.mq_turns.specs.Desk.{Sees}
 use Rattle.mq_calls.specs.Runs.{files}
-use Rattle.mq_calls.proofs.InHand.{has-read, sees-base}
+use Rattle.mq_calls.proofs.CommittingInHand.{has-read, sees-base}
 use Rattle.mq_calls.proofs.preparing.read_words.Goals as goal
 
 pub returns-clause-read : goal.returns-clause-read

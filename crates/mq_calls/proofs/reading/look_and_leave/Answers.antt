@@ -1,6 +1,6 @@
 use Rattle.mq_turns.specs.AtDesk.{start_of, view}
 use Rattle.mq_calls.specs.Runs.{files}
-use Rattle.mq_calls.proofs.NotDrawn.{looked-left}
+use Rattle.mq_calls.proofs.PagesNotDrawn.{looked-left}
 use Rattle.mq_calls.proofs.reading.look_and_leave.Goals as goal
 
 pub returns-clause-looked : goal.returns-clause-looked

@@ -3,7 +3,7 @@ use Rattle.mq_files.specs.Plans.{IsEntryOf}
 use Rattle.mq_turns.specs.AtDesk.{start_of, view}
 use Rattle.mq_turns.specs.declared.rule.ChairView.{ChairView}
 use Rattle.mq_calls.specs.Runs.{files}
-use Rattle.mq_calls.proofs.NotDrawn.{comes-after, given-empty, may-be-read}
+use Rattle.mq_calls.proofs.PagesNotDrawn.{comes-after, given-empty, may-be-read}
 use Rattle.mq_calls.proofs.reading.read_group.Goals as goal
 
 pub look_and_leave-requires-clause-read : goal.look_and_leave-requires-clause-read

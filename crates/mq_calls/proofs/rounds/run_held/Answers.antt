@@ -3,7 +3,7 @@ use Rattle.mq_blocks.specs.Geometry.{homes_of}
 use Rattle.mq_turns.specs.AtDesk.{start_of, view}
 use Rattle.mq_calls.specs.Runs.{files}
 use Rattle.mq_calls.specs.Wanted.{AreWanted, HoldsWanted}
-use Rattle.mq_calls.proofs.Further.{alone, held-none, looked-none, more-held, nothing-held, room-alone}
+use Rattle.mq_calls.proofs.WantedFurther.{alone, held-none, looked-none, more-held, nothing-held, room-alone}
 use Rattle.mq_calls.proofs.rounds.run_held.Goals as goal
 
 pub take_pages-requires-clause-room : goal.take_pages-requires-clause-room

@@ -9,8 +9,8 @@ use Rattle.mq_inodes.specs.Pages.{held_pages}
 use Rattle.mq_pages.specs.Held.{HeldCells}
 use Rattle.mq_turns.specs.AtDesk.{start_of, view}
 use Rattle.mq_calls.specs.Wanted.{AreTogether}
-use Rattle.mq_calls.proofs.Finding.{possible-now}
-use Rattle.mq_calls.proofs.Missing.{round-smaller}
+use Rattle.mq_calls.proofs.RunsFinding.{possible-now}
+use Rattle.mq_calls.proofs.WantedMissing.{round-smaller}
 use Rattle.mq_calls.proofs.rounds.run_in_rounds.Goals as goal
 
 pub run-requires-clause-possible : goal.run-requires-clause-possible

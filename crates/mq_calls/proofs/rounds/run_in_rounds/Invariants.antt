@@ -4,7 +4,7 @@ use Rattle.mq_blocks.specs.Geometry.{homes_of}
 use Rattle.mq_turns.specs.AtDesk.{AtDesk, start_of, view}
 use Rattle.mq_calls.specs.Runs.{files}
 use Rattle.mq_calls.specs.Wanted.{AreWanted, HoldsWanted, IsSameSession}
-use Rattle.mq_calls.proofs.Missing.{missing}
+use Rattle.mq_calls.proofs.WantedMissing.{missing}
 use Rattle.mq_calls.proofs.rounds.run_in_rounds.Given as goal
 
 abbrev pub invariant-rounds : goal.invariant-rounds

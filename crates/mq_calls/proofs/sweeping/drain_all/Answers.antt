@@ -3,7 +3,7 @@ use Rattle.std.proofs.lemmas.Result.{err_from_is_err_and}
 use Rattle.mq_turns.specs.AtDesk.{start_of, view}
 use Rattle.mq_turns.specs.Desk.{slot_of}
 use Rattle.mq_turns.specs.declared.turn.Turn.TheVariants.{Side}
-use Rattle.mq_calls.proofs.Drains.{all-drained, drained-idle, drained-next, drained-none, drained-seen, names-upto, passes-hand, refused}
+use Rattle.mq_calls.proofs.SweepingDrains.{all-drained, drained-idle, drained-next, drained-none, drained-seen, names-upto, passes-hand, refused}
 use Rattle.mq_calls.proofs.sweeping.drain_all.Goals as goal
 
 pub loop-queue-init : goal.loop-queue-init

@@ -1,6 +1,6 @@
 use Rattle.std.proofs.Common.{◌∙◌, Some, sym, ap}
 use Rattle.std.proofs.lemmas.Bool.{ltb-true}
-use Rattle.mq_calls.proofs.Counting.{all-above}
+use Rattle.mq_calls.proofs.PagesCounting.{all-above}
 use Rattle.mq_calls.proofs.wanted.are_above.Goals as goal
 
 pub returns : goal.returns

@@ -2,7 +2,7 @@ use Rattle.std.proofs.Common.{◌≡◌, ◌<◌, ℕ, List, [], length, sym, ap
 use Rattle.std.specs.List.{All}
 use Rattle.mq_turns.specs.AtDesk.{start_of, view}
 use Rattle.mq_calls.specs.Wanted.{AreWanted, HoldsWanted}
-use Rattle.mq_calls.proofs.Further.{alone, held-low-all, more-held, nothing-held, room-above, room-alone, together-wanted}
+use Rattle.mq_calls.proofs.WantedFurther.{alone, held-low-all, more-held, nothing-held, room-above, room-alone, together-wanted}
 use Rattle.mq_calls.proofs.wanted.take_more.Goals as goal
 
 -- all further blocks are above what is wanted

@@ -2,7 +2,7 @@ use Rattle.std.proofs.Common.{◌≡◌, ◌+◌, length, refl, sym, ap, subst, 
 use Rattle.std.specs.Prelude.{Ok, Err}
 use Rattle.mq_journal.specs.Numbers.{HoldsSide, machine, values}
 use Rattle.mq_rules.specs.Rule.{IsSide}
-use Rattle.mq_side.proofs.Completes.{gains_rises}
+use Rattle.mq_side.proofs.DrainedCompletes.{gains_rises}
 use Rattle.mq_drive.specs.Steps.{PowerOff}
 use Rattle.mq_side.specs.declared.answers.Cause.TheVariants.{FailedHome, Off}
 use Rattle.mq_turns.specs.AtDesk.{view, start_of}
@@ -12,9 +12,9 @@ use Rattle.mq_turns.specs.Words.{after_notice}
 use Rattle.mq_turns.specs.declared.rule.Notice.TheVariants as notice
 use Rattle.mq_turns.specs.declared.rule.Report.TheVariants as report
 use Rattle.mq_journal.specs.Numbers.{reported}
-use Rattle.mq_checkpoint.proofs.BySide.{below, failed, is_home, noted_side, off, refused_held, refused_side, turn_of, zone_there}
-use Rattle.mq_checkpoint.proofs.HomeSide.{error_rises}
-use Rattle.mq_checkpoint.proofs.HomeViews.{home_held, home_moves, may_home}
+use Rattle.mq_checkpoint.proofs.StepsBySide.{below, failed, is_home, noted_side, off, refused_held, refused_side, turn_of, zone_there}
+use Rattle.mq_checkpoint.proofs.RaisedHomeSide.{error_rises}
+use Rattle.mq_checkpoint.proofs.PagesHomeViews.{home_held, home_moves, may_home}
 use Rattle.std.specs.Prelude.{Some}
 use Rattle.mq_checkpoint.proofs.homes.write_by_side.Goals as goal
 

@@ -1,7 +1,7 @@
 use Rattle.std.proofs.Common.{[]}
 use Rattle.std.proofs.lemmas.Result.{err_from_is_err_and}
 use Rattle.mq_turns.specs.AtDesk.{view}
-use Rattle.mq_checkpoint.proofs.Moving.{moves_on, refuses_on}
+use Rattle.mq_checkpoint.proofs.Steps.{moves_on, refuses_on}
 use Rattle.mq_checkpoint.proofs.pages.bring_held.Goals as goal
 
 pub returns-in_err-write_waiting-clause-refused : goal.returns-in_err-write_waiting-clause-refused

@@ -1,9 +1,9 @@
 use Rattle.std.proofs.Common.{◌≡◌, ◌∷◌, [], ap, subst, sym, ◌∙◌, ◌<◌, arith}
 use Rattle.mq_turns.specs.AtDesk.{view, start_of}
 use Rattle.mq_checkpoint.specs.Pages.{IsNoted}
-use Rattle.mq_checkpoint.proofs.HomeViews.{page_seen}
-use Rattle.mq_checkpoint.proofs.Moving.{moves_note, moves_on, moves_turn, refuses_on, refuses_still}
-use Rattle.mq_checkpoint.proofs.Visits.{noted_now, page_kept, taken_page}
+use Rattle.mq_checkpoint.proofs.PagesHomeViews.{page_seen}
+use Rattle.mq_checkpoint.proofs.Steps.{moves_note, moves_on, moves_turn, refuses_on, refuses_still}
+use Rattle.mq_checkpoint.proofs.PagesVisits.{noted_now, page_kept, taken_page}
 use Rattle.mq_checkpoint.proofs.pages.bring_page.Goals as goal
 
 pub bring_held-requires-clause-page : goal.bring_held-requires-clause-page

@@ -2,8 +2,8 @@ use Rattle.std.proofs.Common.{◌+◌, ◌≤◌, [], subst, sym, arith}
 use Rattle.std.proofs.lemmas.Result.{err_from_is_err_and}
 use Rattle.mq_turns.specs.AtDesk.{view}
 use Rattle.mq_checkpoint.specs.Pages.{AreNoted, IsNoted}
-use Rattle.mq_checkpoint.proofs.Moving.{moves_none, moves_on, refuses_on}
-use Rattle.mq_checkpoint.proofs.Visits.{noted_next, noted_none}
+use Rattle.mq_checkpoint.proofs.Steps.{moves_none, moves_on, refuses_on}
+use Rattle.mq_checkpoint.proofs.PagesVisits.{noted_next, noted_none}
 use Rattle.mq_checkpoint.proofs.pages.bring_pages.Goals as goal
 
 pub loop-block-init : goal.loop-block-init

@@ -1,7 +1,7 @@
 use Rattle.std.proofs.Common.{◌≡◌, ◌≤◌, []}
 use Rattle.mq_turns.specs.AtDesk.{AtDesk, view}
 use Rattle.mq_checkpoint.specs.Pages.{AreNoted}
-use Rattle.mq_checkpoint.specs.Steps.{Moves}
+use Rattle.mq_checkpoint.specs.Steps.{MovesOn}
 use Rattle.mq_checkpoint.proofs.pages.bring_pages.Given as goal
 
 abbrev pub invariant-loop-block : goal.invariant-loop-block
@@ -10,5 +10,5 @@ invariant-loop-block g l = record {
   idle : (view l.chair).held ≡ [];
   done : l.done ≤ (view l.chair).reading.done;
   noted : AreNoted g.P.Port.state g.P.Port.faults g.G.Groups.group l.fn.base l.block (view l.chair).reading.pages;
-  moves : Moves [] [] (view l.fn.chair) (view l.chair);
+  moves : MovesOn [] [] (view l.fn.chair) (view l.chair);
 }

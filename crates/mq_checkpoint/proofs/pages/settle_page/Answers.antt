@@ -1,5 +1,5 @@
 use Rattle.mq_turns.specs.AtDesk.{view, start_of}
-use Rattle.mq_checkpoint.proofs.Visits.{if_ok_both, page_kept, version_looked}
+use Rattle.mq_checkpoint.proofs.PagesVisits.{if_ok_both, page_kept, version_looked}
 use Rattle.mq_checkpoint.proofs.pages.settle_page.Goals as goal
 
 pub returns-clause-page : goal.returns-clause-page

@@ -1,7 +1,7 @@
 use Rattle.std.proofs.Common.{◌≡◌, max, sym, ◌∙◌, arith}
 use Rattle.std.proofs.lemmas.Result.{err_from_is_err_and}
 use Rattle.mq_turns.specs.AtDesk.{view, start_of}
-use Rattle.mq_checkpoint.proofs.AtEnd.{base_of_pages, front_known, front_moves, looked_low, raises, refused_last, refused_pages, whole_moves}
+use Rattle.mq_checkpoint.proofs.StepsAtEnd.{base_of_pages, front_known, front_moves, looked_low, raises, refused_last, refused_pages, whole_moves}
 use Rattle.mq_checkpoint.proofs.raising.checkpoint.Goals as goal
 
 pub returns-in_err-bring_pages-clause-refused : goal.returns-in_err-bring_pages-clause-refused

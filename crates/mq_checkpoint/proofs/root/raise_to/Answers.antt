@@ -1,5 +1,5 @@
 use Rattle.mq_turns.specs.AtDesk.{view, start_of}
-use Rattle.mq_checkpoint.proofs.AtRoot.{may_raise, off_refused, off_root, raised_root, stored_base}
+use Rattle.mq_checkpoint.proofs.RaisedAtRoot.{may_raise, off_refused, off_root, raised_root, stored_base}
 use Rattle.mq_checkpoint.proofs.root.raise_to.Goals as goal
 
 pub raise-requires-clause-may : goal.raise-requires-clause-may

@@ -8,8 +8,8 @@ use Rattle.mq_turns.specs.Words.{same_turn}
 use Rattle.mq_turns.specs.declared.turn.Item.TheVariants as item
 use Rattle.mq_turns.specs.declared.turn.Turn.TheVariants.{Root}
 use Rattle.mq_rules.proofs.Meaning.{laws}
-use Rattle.mq_turns.proofs.Seen.{opening_seen, stands_renewed, times_renewed}
-use Rattle.mq_turns.proofs.Slots.{turn_at_slot}
+use Rattle.mq_turns.proofs.DeskSeen.{opening_seen, stands_renewed, times_renewed}
+use Rattle.mq_turns.proofs.DeskSlots.{turn_at_slot}
 use Rattle.mq_journal.specs.Numbers.{machine, values}
 use Rattle.mq_checkpoint.specs.Raised.{reported_root}
 use Rattle.mq_checkpoint.proofs.root.report_root.Goals as goal

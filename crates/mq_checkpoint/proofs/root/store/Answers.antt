@@ -1,5 +1,5 @@
 use Rattle.std.proofs.Common.{◌≡◌, max, ◌∙◌}
-use Rattle.mq_checkpoint.proofs.AtRoot.{stands_after}
+use Rattle.mq_checkpoint.proofs.RaisedAtRoot.{stands_after}
 use Rattle.mq_checkpoint.proofs.root.store.Goals as goal
 
 pub returns-clause-stands : goal.returns-clause-stands

@@ -1,7 +1,7 @@
 use Rattle.std.proofs.Common.{length, arith}
 use Rattle.std.proofs.lemmas.Result.{err_from_is_err_and}
 use Rattle.mq_turns.specs.AtDesk.{start_of, view}
-use Rattle.mq_checkpoint.proofs.Drains.{drained_above, drained_held, drained_moves, drained_next, drained_none, drained_refused, drained_seen}
+use Rattle.mq_checkpoint.proofs.StepsDrains.{drained_above, drained_held, drained_moves, drained_next, drained_none, drained_refused, drained_seen}
 use Rattle.mq_checkpoint.proofs.sweeping.drain_all.Goals as goal
 
 pub loop-queue-init : goal.loop-queue-init

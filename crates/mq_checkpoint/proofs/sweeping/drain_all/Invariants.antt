@@ -1,5 +1,5 @@
 use Rattle.mq_turns.specs.AtDesk.{AtDesk, view}
-use Rattle.mq_checkpoint.proofs.Drains.{HasDrained}
+use Rattle.mq_checkpoint.proofs.StepsDrains.{HasDrained}
 use Rattle.mq_checkpoint.proofs.sweeping.drain_all.Given as goal
 
 abbrev pub invariant-loop-queue : goal.invariant-loop-queue

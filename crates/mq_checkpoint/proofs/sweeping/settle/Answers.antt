@@ -2,7 +2,7 @@ use Rattle.std.proofs.Common.{◌≡◌, [], rules}
 use Rattle.std.proofs.lemmas.Result.{err_from_is_err_and}
 use Rattle.mq_turns.specs.AtDesk.{view}
 use Rattle.mq_turns.specs.Meaning.{newest}
-use Rattle.mq_checkpoint.proofs.Moving.{moves_look, refused_on}
+use Rattle.mq_checkpoint.proofs.Steps.{moves_look, refused_on}
 use Rattle.mq_checkpoint.proofs.sweeping.settle.Goals as goal
 
 pub returns-in_err-drain_all-clause-refused : goal.returns-in_err-drain_all-clause-refused

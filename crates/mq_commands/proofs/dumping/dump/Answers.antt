@@ -1,7 +1,7 @@
 use Rattle.mq_commands.specs.Commands.{Dumps, SaysOfImage}
 use Rattle.mq_commands.specs.declared.answer.Answer.{Answer}
-use Rattle.mq_commands.proofs.Exact.{dumped-where, refused-where, undumped-where}
-use Rattle.mq_commands.proofs.Saying.{not-loaded-same, says, says-not}
+use Rattle.mq_commands.proofs.CommandsExact.{dumped-where, refused-where, undumped-where}
+use Rattle.mq_commands.proofs.CommandsSaying.{not-loaded-same, says, says-not}
 use Rattle.mq_commands.proofs.dumping.dump.Goals as goal
 
 pub returns-in-Ok-clause-ends : goal.returns-in-Ok-clause-ends

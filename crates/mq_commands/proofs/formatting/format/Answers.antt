@@ -1,8 +1,8 @@
 use Rattle.std.proofs.Common.{refl, ◌∙◌}
 use Rattle.mq_commands.specs.Commands.{wants_memory}
 use Rattle.mq_ending.specs.Ending.{memory_line}
-use Rattle.mq_commands.proofs.Exact.{formatted-where, no-geometry-where}
-use Rattle.mq_commands.proofs.Saying.{formats, no-numbers}
+use Rattle.mq_commands.proofs.CommandsExact.{formatted-where, no-geometry-where}
+use Rattle.mq_commands.proofs.CommandsSaying.{formats, no-numbers}
 use Rattle.mq_commands.proofs.formatting.format.Goals as goal
 
 pub returns-in-Err-clause-ends : goal.returns-in-Err-clause-ends

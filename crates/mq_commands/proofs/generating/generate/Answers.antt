@@ -2,9 +2,9 @@ use Rattle.std.proofs.Common.{List, ℕ, Bor, refl, ◌∙◌}
 use Rattle.std.specs.Prelude.{option_map}
 use Rattle.mq_commands.specs.Generates.{not_saved, wants_memory}
 use Rattle.mq_ending.specs.Ending.{memory_line}
-use Rattle.mq_ending.proofs.Pieces.{unless_wanting}
-use Rattle.mq_commands.proofs.Exact.{not-saved-status}
-use Rattle.mq_commands.proofs.Workloads.{played-ends, played-for}
+use Rattle.mq_ending.proofs.Ending.{unless_wanting}
+use Rattle.mq_commands.proofs.CommandsExact.{not-saved-status}
+use Rattle.mq_commands.proofs.Generates.{played-ends, played-for}
 use Rattle.mq_commands.proofs.generating.generate.Goals as goal
 
 pub returns-in-Err-clause-ends : goal.returns-in-Err-clause-ends

@@ -4,7 +4,7 @@ use Rattle.mq_commands.specs.Lines.{volume_line}
 use Rattle.mq_commands.specs.declared.answer.Answer.{Answer}
 use Rattle.mq_images.specs.declared.refusal.StandingRefusal.TheVariants as standing
 use Rattle.mq_tree.specs.ListText.{list_text}
-use Rattle.mq_commands.proofs.Saying.{refused-as, said-as}
+use Rattle.mq_commands.proofs.CommandsSaying.{refused-as, said-as}
 use Rattle.mq_commands.proofs.listing.list_image.Goals as goal
 
 pub returns-in-Ok : goal.returns-in-Ok

@@ -1,14 +1,15 @@
 use Rattle.std.proofs.Common.{◌≢◌}
+use Rattle.std.proofs.lemmas.Result.{IfOk-weaker}
 use Rattle.mq_commands.specs.Commands.{ShowsFile, SaysOfImage, is_image}
 use Rattle.mq_commands.specs.Lines.{file_line}
 use Rattle.mq_commands.specs.declared.answer.Answer.{Answer}
 use Rattle.mq_image.specs.declared.fault.FileFault.TheVariants as file
-use Rattle.mq_commands.proofs.Saying.{no-image, on-ok, refused-as}
+use Rattle.mq_commands.proofs.CommandsSaying.{no-image, refused-as}
 use Rattle.mq_commands.proofs.listing.show_bytes.Goals as goal
 
 pub returns-in-Ok : goal.returns-in-Ok
 returns-in-Ok c =
-    on-ok c.show_image.result (λ (a : Answer). ShowsFile c.args.path.now c.in-Ok.image a.status a.text.items) (λ (a : Answer). SaysOfImage (ShowsFile c.args.path.now) c.args.bytes.items a.status a.text.items) c.show_image.ensures (λ a is. is_image c.in-Ok.image c.in-Ok.ensures.sound is)
+    IfOk-weaker c.show_image.result (λ (a : Answer). ShowsFile c.args.path.now c.in-Ok.image a.status a.text.items) (λ (a : Answer). SaysOfImage (ShowsFile c.args.path.now) c.args.bytes.items a.status a.text.items) (λ a is. is_image c.in-Ok.image c.in-Ok.ensures.sound is) c.show_image.ensures
 
 pub returns-in-Err : goal.returns-in-Err
 returns-in-Err c =

@@ -3,7 +3,7 @@ use Rattle.mq_commands.specs.Commands.{ShowsFile, not_shown}
 use Rattle.mq_commands.specs.Lines.{path_line, volume_line}
 use Rattle.mq_commands.specs.declared.answer.Answer.{Answer}
 use Rattle.mq_images.specs.declared.refusal.StandingRefusal.TheVariants as standing
-use Rattle.mq_commands.proofs.Saying.{refused-as, refused-as-two, said-as, shows, shows-none}
+use Rattle.mq_commands.proofs.CommandsSaying.{refused-as, refused-as-two, said-as, shows, shows-none}
 use Rattle.mq_commands.proofs.listing.show_image.Goals as goal
 
 pub returns-in-Err : goal.returns-in-Err

@@ -1,4 +1,4 @@
-use Rattle.mq_commands.proofs.Recoveries.{done-where, fault-where, unreadable-where}
+use Rattle.mq_commands.proofs.Recovers.{done-where, fault-where, unreadable-where}
 use Rattle.mq_commands.proofs.recovering.recover.Goals as goal
 
 pub returns-clause-done_where : goal.returns-clause-done_where

@@ -1,5 +1,6 @@
 use Rattle.std.proofs.Common.{◌≢◌, List, ℕ, subst}
 use Rattle.std.specs.Prelude.{Err, IfOk}
+use Rattle.std.proofs.lemmas.Result.{IfOk-weaker, IfErr-weaker}
 use Rattle.mq_commands.specs.Commands.{SaysOfImage, is_image}
 use Rattle.mq_commands.specs.Lines.{file_line}
 use Rattle.mq_commands.specs.Recovers.{IsRecoveredAs, RefusesRecovery}
@@ -9,19 +10,18 @@ use Rattle.mq_image.specs.Drives.{IsRead}
 use Rattle.mq_image.specs.Faults.{FindsFirst}
 use Rattle.mq_image.specs.File.{DriveImage}
 use Rattle.mq_image.specs.declared.fault.FileFault.TheVariants as file
-use Rattle.mq_images.proofs.Results.{on-err}
-use Rattle.mq_commands.proofs.Saying.{no-image, on-ok, refused-as}
+use Rattle.mq_commands.proofs.CommandsSaying.{no-image, refused-as}
 use Rattle.mq_commands.proofs.recovering.recover_bytes.Goals as goal
 
 pub returns-in-Ok-clause-ok : goal.returns-in-Ok-clause-ok
 returns-in-Ok-clause-ok c =
-    on-ok c.recover_drive.result (λ (v : Recovery). IsRecoveredAs c.in-Ok.image c.args.cut v.file.items v.text.items) (λ (v : Recovery). (x : DriveImage) × IsRead x c.args.bytes.items × IsRecoveredAs x c.args.cut v.file.items v.text.items) c.recover_drive.ensures.ok
-    (λ v is. (c.in-Ok.image, subst (IsRead c.in-Ok.image) c.deref.ensures.value c.in-Ok.ensures.sound, is))
+    IfOk-weaker c.recover_drive.result (λ (v : Recovery). IsRecoveredAs c.in-Ok.image c.args.cut v.file.items v.text.items) (λ (v : Recovery). (x : DriveImage) × IsRead x c.args.bytes.items × IsRecoveredAs x c.args.cut v.file.items v.text.items) (λ v is. (c.in-Ok.image, subst (IsRead c.in-Ok.image) c.deref.ensures.value c.in-Ok.ensures.sound, is))
+    c.recover_drive.ensures.ok
 
 pub returns-in-Ok-clause-refused : goal.returns-in-Ok-clause-refused
 returns-in-Ok-clause-refused c =
-    on-err c.recover_drive.result (λ answer. IfOk answer (λ (a : Answer). RefusesRecovery c.in-Ok.image a.status a.text.items)) (λ answer. IfOk answer (λ (a : Answer). SaysOfImage RefusesRecovery c.args.bytes.items a.status a.text.items)) c.recover_drive.ensures.refused
-    (λ answer is. on-ok answer (λ (a : Answer). RefusesRecovery c.in-Ok.image a.status a.text.items) (λ (a : Answer). SaysOfImage RefusesRecovery c.args.bytes.items a.status a.text.items) is (λ a of. is_image c.in-Ok.image (subst (IsRead c.in-Ok.image) c.deref.ensures.value c.in-Ok.ensures.sound) of))
+    IfErr-weaker c.recover_drive.result (λ answer. IfOk answer (λ (a : Answer). RefusesRecovery c.in-Ok.image a.status a.text.items)) (λ answer. IfOk answer (λ (a : Answer). SaysOfImage RefusesRecovery c.args.bytes.items a.status a.text.items)) (λ answer is. IfOk-weaker answer (λ (a : Answer). RefusesRecovery c.in-Ok.image a.status a.text.items) (λ (a : Answer). SaysOfImage RefusesRecovery c.args.bytes.items a.status a.text.items) (λ a of. is_image c.in-Ok.image (subst (IsRead c.in-Ok.image) c.deref.ensures.value c.in-Ok.ensures.sound) of) is)
+    c.recover_drive.ensures.refused
 
 pub returns-in-Err-clause-refused : goal.returns-in-Err-clause-refused
 returns-in-Err-clause-refused c =

@@ -3,7 +3,7 @@ use Rattle.mq_commands.specs.Lines.{drive_line}
 use Rattle.mq_commands.specs.Recovers.{RefusesRecovery, not_recovered}
 use Rattle.mq_commands.specs.declared.answer.Answer.{Answer}
 use Rattle.mq_recover.specs.declared.refusal.ImageFault.TheVariants as image
-use Rattle.mq_commands.proofs.Saying.{refused-as}
+use Rattle.mq_commands.proofs.CommandsSaying.{refused-as}
 use Rattle.mq_commands.proofs.recovering.recover_drive.Goals as goal
 
 pub returns-in-Err-clause-refused : goal.returns-in-Err-clause-refused

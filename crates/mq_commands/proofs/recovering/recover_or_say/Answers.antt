@@ -1,5 +1,5 @@
 use Rattle.mq_commands.specs.declared.answer.Answer.{Answer}
-use Rattle.mq_commands.proofs.Recoveries.{not-loaded-ends, refused-ends, saved-ends}
+use Rattle.mq_commands.proofs.Recovers.{not-loaded-ends, refused-ends, saved-ends}
 use Rattle.mq_commands.proofs.recovering.recover_or_say.Goals as goal
 
 pub returns-in-Err : goal.returns-in-Err

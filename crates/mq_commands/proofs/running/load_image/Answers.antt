@@ -4,7 +4,7 @@ use Rattle.mq_commands.specs.Lines.{file_line}
 use Rattle.mq_commands.specs.RunsScripts.{SaysNothing}
 use Rattle.mq_commands.specs.declared.answer.Answer.{Answer}
 use Rattle.mq_image.specs.declared.fault.FileFault.TheVariants as file
-use Rattle.mq_commands.proofs.Saying.{no-image, refused-as, says}
+use Rattle.mq_commands.proofs.CommandsSaying.{no-image, refused-as, says}
 use Rattle.mq_commands.proofs.running.load_image.Goals as goal
 
 pub returns-in-Err-read_loaded-clause-refused : goal.returns-in-Err-read_loaded-clause-refused

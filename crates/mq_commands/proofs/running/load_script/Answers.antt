@@ -4,7 +4,7 @@ use Rattle.mq_commands.specs.RunsScripts as runs
 use Rattle.mq_commands.specs.declared.answer.Answer.{Answer}
 use Rattle.mq_ending.specs.Ending.{EndsWith, IsLoaded, memory_line}
 use Rattle.mq_outside.specs.Outside.{SinkState}
-use Rattle.mq_commands.proofs.Runnings.{script-says}
+use Rattle.mq_commands.proofs.RunsScripts.{script-says}
 use Rattle.mq_commands.proofs.running.load_script.Goals as goal
 
 pub returns-in-Err-clause-refused : goal.returns-in-Err-clause-refused

@@ -2,7 +2,7 @@ use Rattle.std.proofs.Common.{[], ◌+◌, Bor, List, ℕ, map, drop, get_or, re
 use Rattle.mq_commands.specs.RunsScripts.{RefusesScripts}
 use Rattle.mq_ending.specs.Ending.{EndsWith}
 use Rattle.mq_outside.specs.Outside.{SinkState}
-use Rattle.mq_commands.proofs.Runnings.{Goes, goes-all, goes-first, goes-on, next-name, no-names}
+use Rattle.mq_commands.proofs.RunsScripts.{Goes, goes-all, goes-first, goes-on, next-name, no-names}
 use Rattle.mq_commands.proofs.running.load_scripts.Goals as goal
 
 pub loop-name-init : goal.loop-name-init

@@ -1,5 +1,5 @@
 use Rattle.std.proofs.Common.{◌≡◌, drop, map}
-use Rattle.mq_commands.proofs.Runnings.{Goes}
+use Rattle.mq_commands.proofs.RunsScripts.{Goes}
 use Rattle.mq_commands.proofs.running.load_scripts.Given as goal
 
 -- nothing is said so far, and the names that are left lead to the same end

@@ -1,5 +1,5 @@
 use Rattle.std.proofs.Common.{List, ℕ, Bor, map}
-use Rattle.mq_commands.proofs.Runnings.{bad-script-where, done-where, fault-where, limit-where, no-volume-where, too-many-where}
+use Rattle.mq_commands.proofs.RunsScripts.{bad-script-where, done-where, fault-where, limit-where, no-volume-where, too-many-where}
 use Rattle.mq_commands.proofs.running.run.Goals as goal
 
 pub returns-clause-done_where : goal.returns-clause-done_where

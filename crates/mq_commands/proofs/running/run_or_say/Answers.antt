@@ -4,7 +4,7 @@ use Rattle.mq_commands.specs.declared.answer.Answer.{Answer}
 use Rattle.mq_ending.specs.Ending.{EndsWith}
 use Rattle.mq_outside.specs.Outside.{SinkState}
 use Rattle.mq_script.specs.Scripts.{Script}
-use Rattle.mq_commands.proofs.Runnings.{run-refused, run-saved, some-loaded}
+use Rattle.mq_commands.proofs.RunsScripts.{run-refused, run-saved, some-loaded}
 use Rattle.mq_commands.proofs.running.run_or_say.Goals as goal
 
 pub returns-in-Err : goal.returns-in-Err

@@ -5,8 +5,8 @@ use Rattle.mq_commands.specs.RunsScripts.{RefusesRunning, not_run}
 use Rattle.mq_commands.specs.declared.answer.Answer.{Answer}
 use Rattle.mq_image.specs.File.{DriveImage}
 use Rattle.mq_images.specs.declared.refusal.StandingRefusal.TheVariants as standing
-use Rattle.mq_commands.proofs.Runnings.{many-refused}
-use Rattle.mq_commands.proofs.Saying.{refused-as}
+use Rattle.mq_commands.proofs.RunsScripts.{many-refused}
+use Rattle.mq_commands.proofs.CommandsSaying.{refused-as}
 use Rattle.mq_commands.proofs.running.run_scripts.Goals as goal
 
 pub returns-then-scripts-queues-clause-refused : goal.returns-then-scripts-queues-clause-refused

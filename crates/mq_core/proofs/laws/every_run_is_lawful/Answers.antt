@@ -1,4 +1,4 @@
-use Rattle.mq_core.proofs.Runs.{run_is_lawful}
+use Rattle.mq_core.proofs.MachineFacts.{run_is_lawful}
 use Rattle.mq_core.proofs.laws.every_run_is_lawful.Goals as goal
 
 pub returns : goal.returns

@@ -1,4 +1,4 @@
-use Rattle.mq_core.proofs.StartStates.{start_is}
+use Rattle.mq_core.proofs.Start.{start_is}
 use Rattle.mq_core.proofs.laws.starts.Goals as goal
 
 pub returns : goal.returns

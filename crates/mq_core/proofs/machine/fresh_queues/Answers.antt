@@ -2,7 +2,7 @@ use Rattle.std.proofs.Common.{◌≡◌, ℕ, suc, ◌+◌, ◌-◌, ◌*◌, �
 use Rattle.mq_blocks.specs.Drive.{PortState}
 use Rattle.mq_blocks.specs.declared.geometry.Geometry.{Geometry}
 use Rattle.mq_core.specs.Start.{fresh_port, fresh_ports, port_over}
-use Rattle.mq_core.proofs.StartStates.{fresh_more}
+use Rattle.mq_core.proofs.Start.{fresh_more}
 use Rattle.mq_core.proofs.machine.fresh_queues.Goals as goal
 
 part_is : (g : Geometry) (blocks homes : List (Option (List ℕ))) (q meta zone again : ℕ) → meta ≡ g.meta → zone ≡ g.zone → again ≡ g.zone → homes ≡ take (meta + q * zone + again - (meta + q * zone)) (drop (meta + q * zone) blocks)

@@ -2,7 +2,7 @@ use Rattle.std.proofs.Common.{◌≡◌, ◌+◌, ◌-◌, ◌<◌, [], length, 
 use Rattle.std.proofs.lemmas.Bool.{eqb-true, eqb-false}
 use Rattle.std.proofs.lemmas.List.{drop_all}
 use Rattle.mq_blocks.specs.Drive.{holds_write}
-use Rattle.mq_core.proofs.HomeWrites.{none_at, last_at, none_left}
+use Rattle.mq_core.proofs.DriveHomeWrites.{none_at, last_at, none_left}
 use Rattle.mq_core.proofs.port.last_write.Goals as goal
 use Rattle.mq_core.proofs.port.last_write.Goals.{After-writes}
 

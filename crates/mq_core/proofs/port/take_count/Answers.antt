@@ -3,7 +3,7 @@ use Rattle.std.specs.List.{remove}
 use Rattle.mq_blocks.specs.declared.command.Command.{Command}
 use Rattle.mq_ledger.specs.Sides.{holds_count}
 use Rattle.mq_core.specs.Events.{index_with}
-use Rattle.mq_core.proofs.Commands.{with_at}
+use Rattle.mq_core.proofs.SidesCommands.{with_at}
 use Rattle.mq_core.proofs.port.take_count.Goals as goal
 
 pub returns-clause-some : goal.returns-clause-some

@@ -4,8 +4,8 @@ use Rattle.std.specs.Option.{option_to_list}
 use Rattle.mq_blocks.specs.declared.command.Command.{Command}
 use Rattle.mq_drive.specs.Choices.{writes_of, by_count}
 use Rattle.mq_drive.specs.Slots.{index_in}
-use Rattle.mq_drive.proofs.Chances.{block_step}
-use Rattle.mq_drive.proofs.Tearing.{IsOwn, IsOther, first_of}
+use Rattle.mq_drive.proofs.Choices.{block_step}
+use Rattle.mq_drive.proofs.SlotsTearing.{IsOwn, IsOther, first_of}
 use Rattle.mq_drive.proofs.cut.tear_commands.Goals as goal
 
 pub tear_earlier-failed-requires : goal.tear_earlier-failed-requires

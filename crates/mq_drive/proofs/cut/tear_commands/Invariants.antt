@@ -2,7 +2,7 @@ use Rattle.std.proofs.Common.{◌≡◌, ℕ, length, true, false, All, Some, No
 use Rattle.std.specs.Option.{ForSome, option_to_list}
 use Rattle.mq_drive.specs.Choices.{torn_blocks, writes_of, by_count}
 use Rattle.mq_drive.specs.Slots.{index_in}
-use Rattle.mq_drive.proofs.Tearing.{IsOwn, IsOther}
+use Rattle.mq_drive.proofs.SlotsTearing.{IsOwn, IsOther}
 use Rattle.mq_drive.proofs.cut.tear_commands.Given as goal
 
 -- the commands that are left are among the first ones, a certain block that none of these writes is

@@ -3,7 +3,7 @@ use Rattle.std.proofs.Math.ListN.{length-set}
 use Rattle.std.proofs.lemmas.List.{get_or-set_other}
 use Rattle.mq_blocks.specs.Drive.{depth}
 use Rattle.mq_drive.specs.Choices.{torn, next_slot, torn_slots}
-use Rattle.mq_drive.proofs.Chances.{slots_step}
+use Rattle.mq_drive.proofs.Choices.{slots_step}
 use Rattle.mq_drive.proofs.cut.tear_slots.Goals as goal
 
 pub loop-count-preserved : goal.loop-count-preserved

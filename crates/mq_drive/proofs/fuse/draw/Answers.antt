@@ -1,4 +1,4 @@
-use Rattle.mq_drive.proofs.Fusing.{draws}
+use Rattle.mq_drive.proofs.FuseSteps.{draws}
 use Rattle.mq_drive.proofs.fuse.draw.Goals as goal
 
 pub fetch_add-requires : goal.fetch_add-requires

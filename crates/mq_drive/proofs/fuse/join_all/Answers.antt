@@ -1,8 +1,8 @@
 use Rattle.std.proofs.Common.{rules, ◌≡◌, ◌+◌, [], ◌∷◌, length, Some, ◌∙◌, ap, arith, length-append}
 use Rattle.std.proofs.lemmas.List.Elements.{All-pop}
 use Rattle.mq_drive.specs.Fuse.{above, below}
-use Rattle.mq_drive.proofs.Counts.{below-append, above-append}
-use Rattle.mq_drive.proofs.Fusing.{joins}
+use Rattle.mq_drive.proofs.FuseCounts.{below-append, above-append}
+use Rattle.mq_drive.proofs.FuseSteps.{joins}
 use Rattle.mq_blocks.proofs.Totals.{total_last}
 use Rattle.mq_drive.proofs.fuse.join_all.Goals as goal
 

@@ -1,5 +1,5 @@
 use Rattle.std.proofs.Common.{arith, ap}
-use Rattle.mq_drive.proofs.Fusing.{splits}
+use Rattle.mq_drive.proofs.FuseSteps.{splits}
 use Rattle.mq_drive.proofs.fuse.seat_all.Goals as goal
 
 pub split_seat-requires : goal.split_seat-requires

@@ -1,6 +1,6 @@
 use Rattle.std.proofs.Common.{rules, ◌≡◌, ◌≢◌, ◌%◌}
 use Rattle.mq_drive.specs.Choices.{next_slot}
-use Rattle.mq_drive.proofs.Chances.{torn_old, torn_new, torn_next}
+use Rattle.mq_drive.proofs.Choices.{torn_old, torn_new, torn_next}
 use Rattle.mq_drive.proofs.random.either_entry.Goals as goal
 
 pub returns-in-0 : goal.returns-in-0

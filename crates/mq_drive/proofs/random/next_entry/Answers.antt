@@ -1,5 +1,5 @@
 use Rattle.mq_drive.specs.Choices.{next_bytes}
-use Rattle.mq_drive.proofs.Chances.{slot_is}
+use Rattle.mq_drive.proofs.Choices.{slot_is}
 use Rattle.mq_drive.proofs.random.next_entry.Goals as goal
 
 pub returns : goal.returns

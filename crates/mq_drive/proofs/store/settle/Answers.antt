@@ -1,5 +1,5 @@
 use Rattle.std.proofs.Common.{arith}
-use Rattle.mq_drive.proofs.Settling.{settled_all}
+use Rattle.mq_drive.proofs.Slots.{settled_all}
 use Rattle.mq_drive.proofs.store.settle.Goals as goal
 
 pub returns : goal.returns

@@ -1,6 +1,7 @@
 use Rattle.std.proofs.Common.{◌≡◌, ℕ, List, [], ◌∷◌, ◌++◌, Option, ◌∙◌, ap}
+use Rattle.std.proofs.lemmas.Result.{MatchResult-weaker}
 use Rattle.mq_outside.specs.Outside.{appended}
-use Rattle.mq_ending.proofs.Pieces.{match_result, on_err, appended_twice, prefix_next, prefix_longer}
+use Rattle.mq_ending.proofs.Ending.{on_err, appended_twice, prefix_next, prefix_longer}
 use Rattle.mq_ending.proofs.says.put_named.Goals as goal
 
 pub returns-in_err-put_all-2-clause-wrote : goal.returns-in_err-put_all-2-clause-wrote
@@ -22,7 +23,7 @@ returns-clause-wrote g c =
     let three : Option (List ℕ) = (state c.put_all-3.new.sink).contents in
     let first : one ≡ appended old c.args.first.now = c.in_ok-put_all.ensures.wrote in
     let second : two ≡ appended one c.args.name.now = c.in_ok-put_all-2.ensures.wrote in
-    match_result c.put_all-3.result c.put_all-3.ensures.wrote
+    MatchResult-weaker c.put_all-3.result c.put_all-3.ensures.wrote
     (λ x is. is ∙ ap (λ (o : Option (List ℕ)). appended o (10 ∷ [])) second ∙ appended_twice one c.args.name.now (10 ∷ [])
     ∙ ap (λ (o : Option (List ℕ)). appended o (c.args.name.now ++ 10 ∷ [])) first ∙ appended_twice old c.args.first.now (c.args.name.now ++ 10 ∷ []))
     (λ e prefix. prefix_next old one three c.args.first.now (c.args.name.now ++ 10 ∷ []) first (prefix_next one two three c.args.name.now (10 ∷ []) second prefix))

@@ -1,5 +1,5 @@
 use Rattle.std.proofs.Common.{refl}
-use Rattle.mq_ends.proofs.States.{marks_from_facts, parts_from}
+use Rattle.mq_ends.proofs.PartsStates.{marks_from_facts, parts_from}
 use Rattle.mq_ends.proofs.laws.a_lawful_state_has_parts.Goals as goal
 
 pub returns : goal.returns

@@ -1,4 +1,4 @@
-use Rattle.mq_ends.proofs.Marks.{mark_least, mark_undone, marks_length}
+use Rattle.mq_ends.proofs.PartsMarks.{mark_least, mark_undone, marks_length}
 use Rattle.mq_ends.proofs.laws.marks_are_the_least_undone.Goals as goal
 
 pub returns : goal.returns

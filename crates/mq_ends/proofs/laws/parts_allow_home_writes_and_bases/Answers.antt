@@ -1,6 +1,6 @@
-use Rattle.mq_base.proofs.HomeWrites.{logged_last}
+use Rattle.mq_base.proofs.PagesHomeWrites.{logged_last}
 use Rattle.mq_ends.specs.Parts.{known}
-use Rattle.mq_ends.proofs.Guards.{may_store_base, may_write_home}
+use Rattle.mq_ends.proofs.PartsGuards.{may_store_base, may_write_home}
 use Rattle.mq_ends.proofs.laws.parts_allow_home_writes_and_bases.Goals as goal
 
 pub returns : goal.returns

@@ -1,4 +1,4 @@
-use Rattle.mq_ends.proofs.Assembly.{facts_with, front_reached, lawful, lawful_with}
+use Rattle.mq_ends.proofs.PartsAssembly.{facts_with, front_reached, lawful, lawful_with}
 use Rattle.mq_ends.proofs.laws.parts_are_lawful.Goals as goal
 
 pub returns : goal.returns

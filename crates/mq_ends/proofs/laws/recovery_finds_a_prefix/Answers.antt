@@ -1,4 +1,4 @@
-use Rattle.mq_ends.proofs.Finding.{readable, reads_prefix, recovers_prefix, stands_prefix, top_low}
+use Rattle.mq_ends.proofs.Found.{readable, reads_prefix, recovers_prefix, stands_prefix, top_low}
 use Rattle.mq_ends.proofs.laws.recovery_finds_a_prefix.Goals as goal
 
 pub returns : goal.returns

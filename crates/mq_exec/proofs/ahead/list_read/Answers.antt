@@ -1,7 +1,7 @@
 use Rattle.std.proofs.lemmas.Result.{on_ok_weaker}
 use Rattle.mq_exec.specs.Reads.{LooksAlways}
-use Rattle.mq_exec.proofs.LookingAhead.{adds-listed}
-use Rattle.mq_exec.proofs.Unseen.{adds-none}
+use Rattle.mq_exec.proofs.AheadLacking.{adds-listed}
+use Rattle.mq_exec.proofs.PlansUnseen.{adds-none}
 use Rattle.mq_inodes.specs.MissingPages.{OfEach}
 use Rattle.mq_inodes.specs.Pages.{pages_of}
 use Rattle.mq_exec.proofs.ahead.list_read.Goals as goal

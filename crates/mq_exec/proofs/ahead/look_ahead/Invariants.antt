@@ -1,5 +1,5 @@
 use Rattle.std.proofs.Common.{drop}
-use Rattle.mq_exec.proofs.LookingAhead.{IsAhead}
+use Rattle.mq_exec.proofs.AheadLacking.{IsAhead}
 use Rattle.mq_inodes.specs.Pages.{held_pages}
 use Rattle.mq_exec.proofs.ahead.look_ahead.Given as goal
 

@@ -1,8 +1,8 @@
 use Rattle.std.proofs.Common.{◌≡◌, ℕ, Bool, List, sym, subst, ◌∙◌}
 use Rattle.std.specs.List.{Contains}
 use Rattle.mq_exec.specs.Plans.{make_request, wanted}
-use Rattle.mq_exec.proofs.LookingAhead.{adds-listed}
-use Rattle.mq_exec.proofs.Unseen.{adds-none, adds-weaker, goes-bad, goes-refused, makes-on, making-looks, noted-ready}
+use Rattle.mq_exec.proofs.AheadLacking.{adds-listed}
+use Rattle.mq_exec.proofs.PlansUnseen.{adds-none, adds-weaker, goes-bad, goes-refused, makes-on, making-looks, noted-ready}
 use Rattle.mq_inodes.specs.Bare.{empty_body}
 use Rattle.mq_inodes.specs.MissingPages.{OfEach}
 use Rattle.mq_inodes.specs.Pages.{pages_of}

@@ -1,11 +1,12 @@
 use Rattle.std.proofs.Common.{sym}
 use Rattle.mq_exec.specs.Reads.{LooksAlways}
-use Rattle.mq_exec.proofs.LookingAhead.{adds-listed}
-use Rattle.mq_exec.proofs.Unseen.{adds-none, adds-weaker, goes-same, steps-on}
+use Rattle.mq_exec.proofs.AheadLacking.{adds-listed}
+use Rattle.mq_exec.proofs.ReadsStepping.{reads-bytes}
+use Rattle.mq_exec.proofs.PlansUnseen.{adds-none, adds-weaker, goes-same, steps-on}
 use Rattle.mq_inodes.specs.MissingPages.{OfEach}
 use Rattle.mq_inodes.specs.Pages.{pages_of}
 use Rattle.mq_tree.specs.Looks.{Looks}
-use Rattle.mq_tree.proofs.KeepSteps.{reading-same}
+use Rattle.mq_tree.proofs.KeptSteps.{reading-same}
 use Rattle.mq_exec.proofs.ahead.pass.Goals as goal
 
 pub returns-then-not-changes-clause-adds : goal.returns-then-not-changes-clause-adds
@@ -24,9 +25,12 @@ returns-in-Ok-clause-adds c =
     adds-none (pages_of w) (λ b. OfEach w (λ v. Looks w.geometry c.args.queue v c.args.request.now b)) c.args.lacked.now.items
 
 pub returns-in-Ok-clause-goes : goal.returns-in-Ok-clause-goes
-returns-in-Ok-clause-goes c goes = steps-on c.args.queue c.args.request.now c.in-Ok.field-0 c.args.working.now c.step.new.working c.requires.queue c.requires.bytes c.in-Ok.ensures.over c.in-Ok.ensures.ok
+returns-in-Ok-clause-goes c goes = steps-on c.args.queue c.args.request.now c.in-Ok.field-0 c.args.working.now c.step.new.working c.requires.queue c.in-Ok.ensures.bytes c.in-Ok.ensures.over c.in-Ok.ensures.ok
 
 pub returns-clause-adds : goal.returns-clause-adds
 returns-clause-adds c =
     let w = c.args.working.now in
     adds-listed (pages_of w) (λ b. OfEach w (λ v. Looks w.geometry c.args.queue v c.args.request.now b)) c.in-Err.lack c.args.lacked.now.items c.list.new.lacked.items c.in-Err.ensures.lack c.in_ok-list-in-Err.ensures
+
+pub returns-then-not-changes-clause-bytes : goal.returns-then-not-changes-clause-bytes
+returns-then-not-changes-clause-bytes c good = reads-bytes c.args.request.now (sym c.if-not-changes.ensures)

@@ -1,12 +1,12 @@
 use Rattle.std.proofs.Common.{sym, ap, subst, ◌∙◌, refl}
 use Rattle.std.proofs.lemmas.Result.{IfErr-weaker, IfOk-weaker, err_from_is_err_and}
 use Rattle.mq_exec.specs.Reads.{LooksAlways, LooksInDir, NamesLeadPast, Reads, path_of}
-use Rattle.mq_exec.proofs.Answering.{found-named, found-refused, list-looks, named-reads, names-look, read-looks, stat-looks}
+use Rattle.mq_exec.proofs.ReadsAnswering.{found-named, found-refused, list-looks, named-reads, names-look, read-looks, stat-looks}
 use Rattle.mq_inodes.specs.Fits.{Agrees}
 use Rattle.mq_inodes.specs.MissingPages.{MissingOf, OfEach}
 use Rattle.mq_inodes.specs.Pages.{pages_of}
 use Rattle.mq_inodes.specs.Files.{LooksInFile}
-use Rattle.mq_inodes.proofs.Lacking.{lacks-weaker}
+use Rattle.mq_inodes.proofs.MissingPages.{lacks-weaker}
 use Rattle.mq_tree.specs.Volume.{Volume}
 use Rattle.mq_tree.specs.declared.request.Request.{Request}
 use Rattle.mq_tree.specs.declared.request.Request.TheVariants.{Read, List as ListOf, Stat}

@@ -1,7 +1,8 @@
-use Rattle.std.proofs.Common.{sym}
+use Rattle.std.proofs.Common.{sym, ◌∙◌}
+use Rattle.std.proofs.lemmas.Bool.{true≢false}
 use Rattle.std.proofs.lemmas.Result.{IfOk-weaker}
 use Rattle.mq_exec.specs.Plans.{ComesTo}
-use Rattle.mq_exec.proofs.Stepping.{comes-read, lack-named, lack-read}
+use Rattle.mq_exec.proofs.ReadsStepping.{comes-read, lack-named, lack-read, reads-bytes}
 use Rattle.mq_inodes.specs.MissingPages.{OfEach}
 use Rattle.mq_tree.specs.Requests.{verdict}
 use Rattle.mq_exec.proofs.change.step.Goals as goal
@@ -16,3 +17,9 @@ returns-then-not-changes-clause-lack c = lack-read c.args.working.now c.args.que
 
 pub returns-clause-lack : goal.returns-clause-lack
 returns-clause-lack c = lack-named c.args.working.now c.args.queue c.args.request.now c.change.result (sym c.if-not-is_named.ensures) c.change.ensures.lack
+
+pub returns-then-not-changes-clause-bytes : goal.returns-then-not-changes-clause-bytes
+returns-then-not-changes-clause-bytes c good = reads-bytes c.args.request.now (sym c.if-not-changes.ensures)
+
+pub returns-then-not-is_named-clause-bytes : goal.returns-then-not-is_named-clause-bytes
+returns-then-not-is_named-clause-bytes c good = absurd (true≢false (sym good ∙ sym c.if-not-is_named.ensures))

@@ -1,10 +1,10 @@
 use Rattle.std.proofs.Common.{◌≡◌}
 use Rattle.std.proofs.lemmas.Result.{err_from_is_err_and}
-use Rattle.mq_exec.proofs.Targets.{found-file, past-inode, under, under-low}
+use Rattle.mq_exec.proofs.PlansTargets.{found-file, past-inode, under, under-low}
 use Rattle.mq_inodes.specs.Fits.{Agrees}
 use Rattle.mq_inodes.specs.Pages.{pages_of}
 use Rattle.mq_inodes.specs.Walks.{LeadsPast}
-use Rattle.mq_inodes.proofs.Lacking.{lacks-weaker}
+use Rattle.mq_inodes.proofs.MissingPages.{lacks-weaker}
 use Rattle.mq_layout.specs.Places.{inode_block}
 use Rattle.mq_tree.specs.Volume.{Volume, way}
 use Rattle.mq_exec.proofs.file.find_file.Goals as goal

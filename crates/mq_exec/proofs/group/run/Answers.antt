@@ -3,10 +3,10 @@ use Rattle.mq_exec.specs.Outcomes.{Answers, NeedsOf}
 use Rattle.mq_inodes.specs.Pages.{changed_of, held_pages, view_of}
 use Rattle.std.proofs.Common.{◌≡◌, ℕ, sym, ◌∙◌}
 use Rattle.std.specs.Prelude.{None}
-use Rattle.mq_exec.proofs.Leading.{run-moves}
-use Rattle.mq_exec.proofs.Running.{run-more, run-none, run-possible, run-replies}
-use Rattle.mq_exec.proofs.Looking.{run-stops}
-use Rattle.mq_exec.proofs.Resting.{differs-freed, differs-rest, differs-written, over-known, run-leads}
+use Rattle.mq_exec.proofs.MovesLeading.{run-moves}
+use Rattle.mq_exec.proofs.Outcomes.{run-more, run-none, run-possible, run-replies}
+use Rattle.mq_exec.proofs.AheadLooking.{run-stops}
+use Rattle.mq_exec.proofs.MovesResting.{differs-freed, differs-rest, differs-written, over-known, run-leads}
 use Rattle.mq_tree.specs.Requests.{after_group}
 use Rattle.mq_exec.proofs.group.run.Goals as goal
 
@@ -24,13 +24,13 @@ returns-in-Err c =
     let held = held_pages c.args.view.now.held.now.cells in
     let ahead = c.in_ok-ahead-in-Err.ahead.items in
     IfOk-weaker c.stopped.result (NeedsOf c.in-Err.lack ahead) (λ outcome. Answers g q held c.args.requests.now outcome)
-    (λ outcome is. run-stops g q held c.new-working.result c.loop-request.working c.args.requests.now c.loop-request.request-index c.request-item.result c.loop-request.replies.items c.in-Err.lack ahead outcome c.new-working.ensures.geometry c.requires.queue c.look_at_bytes.ensures
+    (λ outcome is. run-stops g q held c.new-working.result c.loop-request.working c.args.requests.now c.loop-request.request-index c.request-item.result c.loop-request.replies.items c.in-Err.lack ahead outcome c.new-working.ensures.geometry c.requires.queue c.in-Err.ensures.bytes
     c.loop-request-test.true c.request-item.is c.new-working.ensures.pages c.requires.possible c.loop-request.invariant c.in-Err.ensures.lack c.in_ok-ahead-in-Err.ensures is) c.stopped.ensures
 
 pub loop-request-preserved : goal.loop-request-preserved
 loop-request-preserved c =
     run-more c.args.geometry c.args.queue (held_pages c.args.view.now.held.now.cells) c.new-working.result c.loop-request.working c.step.new.working c.args.requests.now c.loop-request.request-index c.request-item.result c.in-Ok.reply c.loop-request.replies.items c.push.new.self.items
-    c.new-working.ensures.geometry c.requires.queue c.look_at_bytes.ensures c.loop-request-test.true c.request-item.is c.in_ok-push-in-Ok.ensures.items c.in-Ok.ensures.over c.in-Ok.ensures.ok c.loop-request.invariant
+    c.new-working.ensures.geometry c.requires.queue c.in-Ok.ensures.bytes c.loop-request-test.true c.request-item.is c.in_ok-push-in-Ok.ensures.items c.in-Ok.ensures.over c.in-Ok.ensures.ok c.loop-request.invariant
 
 pub returns : goal.returns
 returns c =

@@ -1,5 +1,5 @@
 use Rattle.std.proofs.Common.{drop}
-use Rattle.mq_exec.proofs.Running.{IsRun}
+use Rattle.mq_exec.proofs.Outcomes.{IsRun}
 use Rattle.mq_inodes.specs.Pages.{held_pages}
 use Rattle.mq_exec.proofs.group.run.Given as goal
 

@@ -1,4 +1,4 @@
-use Rattle.mq_exec.proofs.LocalMoves.{moves-once}
+use Rattle.mq_exec.proofs.MovesLocal.{moves-once}
 use Rattle.mq_exec.proofs.laws.a_change_is_determined.Goals as goal
 
 pub returns : goal.returns

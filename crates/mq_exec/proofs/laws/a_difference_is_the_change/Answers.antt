@@ -1,4 +1,4 @@
-use Rattle.mq_exec.proofs.LocalMoves.{differs-moves}
+use Rattle.mq_exec.proofs.MovesLocal.{differs-moves}
 use Rattle.mq_exec.proofs.laws.a_difference_is_the_change.Goals as goal
 
 pub returns : goal.returns

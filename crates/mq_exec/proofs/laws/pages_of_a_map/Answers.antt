@@ -1,4 +1,4 @@
-use Rattle.mq_inodes.proofs.Lifting.{laid-agrees}
+use Rattle.mq_inodes.proofs.PagesLifting.{laid-agrees}
 use Rattle.mq_exec.proofs.laws.pages_of_a_map.Goals as goal
 
 pub returns : goal.returns

@@ -10,9 +10,9 @@ use Rattle.mq_inodes.specs.Edits.{Carries}
 use Rattle.mq_inodes.specs.Opened.{IsTakeable}
 use Rattle.mq_layout.specs.Places.{inode_block}
 use Rattle.mq_tree.specs.Volume.{Path}
-use Rattle.mq_exec.proofs.Linkable.{last-name, link-at, name-added}
-use Rattle.mq_exec.proofs.Creations.{made-link, made-linkable, made-slots}
-use Rattle.mq_inodes.proofs.Becoming.{becomes-then, carries-sound}
+use Rattle.mq_exec.proofs.OpenedLinkable.{last-name, link-at, name-added}
+use Rattle.mq_exec.proofs.PlansCreations.{made-link, made-linkable, made-slots}
+use Rattle.mq_inodes.proofs.EditsBecoming.{becomes-then, carries-sound}
 use Rattle.mq_exec.proofs.make.carry_make.Goals as goal
 
 pub link_name_at-requires-clause-possible : goal.link_name_at-requires-clause-possible

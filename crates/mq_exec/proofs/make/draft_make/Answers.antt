@@ -3,13 +3,13 @@ use Rattle.std.specs.Prelude.{Option}
 use Rattle.std.proofs.lemmas.Result.{err_from_is_err_and}
 use Rattle.mq_exec.specs.Plans.{make_request}
 use Rattle.mq_exec.specs.declared.make.Creation.{Creation}
-use Rattle.mq_exec.proofs.CreationPlans.{make-few, make-marks, make-past, make-searched, make-wanted, need-at, planned, plans-make, ready}
-use Rattle.mq_exec.proofs.NewNames.{held-place, new-placed}
+use Rattle.mq_exec.proofs.PlansCreationLooks.{make-few, make-marks, make-past, make-searched, make-wanted, need-at, planned, plans-make, ready}
+use Rattle.mq_exec.proofs.WalksNewNames.{held-place, new-placed}
 use Rattle.mq_inodes.specs.Pages.{pages_of}
 use Rattle.mq_inodes.specs.Picks.{IsSearched}
 use Rattle.mq_inodes.specs.Bare.{empty_body}
 use Rattle.mq_inodes.specs.Walks.{LeadsPast}
-use Rattle.mq_inodes.proofs.Lacking.{lacks-each}
+use Rattle.mq_inodes.proofs.MissingPages.{lacks-each}
 use Rattle.mq_layout.specs.Places.{inode_bitmap}
 use Rattle.mq_tree.specs.Free.{free_blocks}
 use Rattle.mq_tree.specs.Looks.{LooksAt}

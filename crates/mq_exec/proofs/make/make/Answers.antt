@@ -1,9 +1,9 @@
 use Rattle.std.proofs.Common.{Bool}
 use Rattle.std.proofs.lemmas.Result.{err_from_is_err_and}
 use Rattle.mq_exec.specs.Plans.{make_request}
-use Rattle.mq_exec.proofs.Coming.{comes-carried, comes-refused}
+use Rattle.mq_exec.proofs.PlansComing.{comes-carried, comes-refused}
 use Rattle.mq_inodes.specs.Bare.{empty_body}
-use Rattle.mq_inodes.proofs.Lacking.{lacks-each}
+use Rattle.mq_inodes.proofs.MissingPages.{lacks-each}
 use Rattle.mq_tree.specs.Looks.{LooksAt}
 use Rattle.mq_tree.specs.Requests.{make as make_of, target as target_of}
 use Rattle.mq_tree.specs.Volume.{way}

@@ -2,11 +2,11 @@ use Rattle.std.proofs.Common.{◌≡◌, Bool, ℕ, List, false, subst, ◌∙�
 use Rattle.std.specs.List.{Contains}
 use Rattle.std.proofs.lemmas.Result.{err_from_is_err_and}
 use Rattle.mq_exec.specs.Plans.{make_request, wanted}
-use Rattle.mq_exec.proofs.Creations.{seen-make}
+use Rattle.mq_exec.proofs.PlansCreations.{seen-make}
 use Rattle.mq_inodes.specs.Bare.{empty_body}
 use Rattle.mq_inodes.specs.MissingPages.{OfEach}
 use Rattle.mq_inodes.specs.Pages.{pages_of}
-use Rattle.mq_inodes.proofs.Lacking.{lacks-weaker}
+use Rattle.mq_inodes.proofs.MissingPages.{lacks-weaker}
 use Rattle.mq_tree.specs.Looks.{LooksAt}
 use Rattle.mq_exec.proofs.make.plan_make.Goals as goal
 

@@ -2,11 +2,11 @@ use Rattle.std.proofs.Common.{sym, ◌≡◌, true}
 use Rattle.std.specs.List.{list_all}
 use Rattle.std.proofs.lemmas.Result.{err_from_is_err_and}
 use Rattle.mq_exec.specs.Reads.{NamesLeadPast}
-use Rattle.mq_exec.proofs.Naming.{number-low, number-named, number-past}
+use Rattle.mq_exec.proofs.ReadsNaming.{number-low, number-named, number-past}
 use Rattle.mq_inodes.specs.Fits.{Agrees}
 use Rattle.mq_inodes.specs.Pages.{pages_of}
 use Rattle.mq_inodes.specs.Walks.{LeadsPast}
-use Rattle.mq_inodes.proofs.Lacking.{lacks-weaker}
+use Rattle.mq_inodes.proofs.MissingPages.{lacks-weaker}
 use Rattle.mq_layout.specs.Names.{is_name}
 use Rattle.mq_layout.specs.Places.{inode_block}
 use Rattle.mq_tree.specs.Volume.{Volume, way}

@@ -1,4 +1,4 @@
-use Rattle.mq_exec.proofs.Freeing.{bitmaps-all, bitmaps-more, bitmaps-only, bitmaps-start}
+use Rattle.mq_exec.proofs.RemovesFreeing.{bitmaps-all, bitmaps-more, bitmaps-only, bitmaps-start}
 use Rattle.mq_exec.proofs.remove.bitmaps.Goals as goal
 
 pub loop-b-init : goal.loop-b-init

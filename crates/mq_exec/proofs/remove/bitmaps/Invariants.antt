@@ -1,4 +1,4 @@
-use Rattle.mq_exec.proofs.Freeing.{AreBitmaps}
+use Rattle.mq_exec.proofs.RemovesFreeing.{AreBitmaps}
 use Rattle.mq_exec.proofs.remove.bitmaps.Given as goal
 
 abbrev pub invariant-loop-b : goal.invariant-loop-b

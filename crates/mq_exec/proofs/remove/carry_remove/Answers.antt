@@ -1,12 +1,12 @@
 use Rattle.std.proofs.Common.{◌≡◌, ◌-◌, ℕ, List, sym, ap, subst, ◌∙◌, length}
 use Rattle.std.specs.Prelude.{slice_get}
 use Rattle.std.proofs.lemmas.Result.{on_ok_weaker}
-use Rattle.mq_exec.proofs.Linkable.{last-name}
-use Rattle.mq_exec.proofs.RemoveCarried.{gone-carried, may-free, name-there, removed}
+use Rattle.mq_exec.proofs.OpenedLinkable.{last-name}
+use Rattle.mq_exec.proofs.PlansRemoveCarried.{gone-carried, may-free, name-there, removed}
 use Rattle.mq_inodes.specs.Dirs.{AreDirsAt}
 use Rattle.mq_inodes.specs.Opened.{MayUnlink}
 use Rattle.mq_inodes.specs.Pages.{pages_of}
-use Rattle.mq_inodes.proofs.Becoming.{carries-sound}
+use Rattle.mq_inodes.proofs.EditsBecoming.{carries-sound}
 use Rattle.mq_inodes.specs.Walks.{last_of}
 use Rattle.mq_tree.specs.Volume.{Path, way}
 use Rattle.mq_exec.proofs.remove.carry_remove.Goals as goal

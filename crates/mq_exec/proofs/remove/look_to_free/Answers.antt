@@ -2,11 +2,11 @@ use Rattle.std.proofs.Common.{◌≡◌, ◌∙◌}
 use Rattle.std.proofs.lemmas.Result.{IfErr-weaker, on_ok_weaker}
 use Rattle.std.specs.List.{Contains}
 use Rattle.mq_exec.specs.Removes.{LooksFreed}
-use Rattle.mq_exec.proofs.Freeing.{all-looked, all_of, marks-held, may-release, owned-zones}
+use Rattle.mq_exec.proofs.RemovesFreeing.{all-looked, all_of, marks-held, may-release, owned-zones}
 use Rattle.mq_inodes.specs.Fits.{Agrees}
 use Rattle.mq_inodes.specs.MissingPages.{MissingOf}
 use Rattle.mq_inodes.specs.Pages.{pages_of}
-use Rattle.mq_inodes.proofs.Lacking.{lacks-weaker}
+use Rattle.mq_inodes.proofs.MissingPages.{lacks-weaker}
 use Rattle.mq_tree.specs.Volume.{Volume}
 use Rattle.mq_exec.proofs.remove.look_to_free.Goals as goal
 

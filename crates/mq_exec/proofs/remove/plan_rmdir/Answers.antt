@@ -1,16 +1,16 @@
 use Rattle.std.proofs.Common.{◌≡◌, ℕ, refl, sym, ap, subst, ◌∙◌, List}
 use Rattle.std.proofs.lemmas.Result.{err_from_is_err_and}
 use Rattle.mq_exec.specs.Removes.{LooksFreed}
-use Rattle.mq_exec.proofs.Answering.{past-looks}
-use Rattle.mq_exec.proofs.Removing.{bare-other, plans, rmdir-file, rmdir-makes}
-use Rattle.mq_exec.proofs.RemoveLooks.{dir-freed}
-use Rattle.mq_exec.proofs.Targets.{file-says, past-above, past-dir, past-inode, under, under-low}
+use Rattle.mq_exec.proofs.ReadsAnswering.{past-looks}
+use Rattle.mq_exec.proofs.PlansRemoving.{bare-other, plans, rmdir-file, rmdir-makes}
+use Rattle.mq_exec.proofs.RemovesLooks.{dir-freed}
+use Rattle.mq_exec.proofs.PlansTargets.{file-says, past-above, past-dir, past-inode, under, under-low}
 use Rattle.mq_inodes.specs.Dirs.{slots_at}
 use Rattle.mq_inodes.specs.Fits.{Agrees}
 use Rattle.mq_inodes.specs.Pages.{Pages, pages_of}
 use Rattle.mq_inodes.specs.Walks.{LeadsPast, LooksIn}
-use Rattle.mq_inodes.proofs.Directories.{kind-dir}
-use Rattle.mq_inodes.proofs.Lacking.{lacks-weaker}
+use Rattle.mq_inodes.proofs.Dirs.{kind-dir}
+use Rattle.mq_inodes.proofs.MissingPages.{lacks-weaker}
 use Rattle.mq_layout.specs.Places.{inode_block}
 use Rattle.mq_tree.specs.Looks.{LooksAt}
 use Rattle.mq_tree.specs.Requests.{count_names}

@@ -2,14 +2,14 @@ use Rattle.std.proofs.Common.{◌≡◌, ℕ, subst, refl}
 use Rattle.std.specs.Prelude.{Some}
 use Rattle.std.proofs.lemmas.Result.{err_from_is_err_and}
 use Rattle.mq_exec.specs.Removes.{LooksFreed}
-use Rattle.mq_exec.proofs.Answering.{past-looks}
-use Rattle.mq_exec.proofs.Removing.{file-other, plans, unlink-makes, unlink-refused}
-use Rattle.mq_exec.proofs.RemoveLooks.{file-freed, file-gone, file-pointers}
-use Rattle.mq_exec.proofs.Targets.{file-found, file-refused, found-under, past-above}
+use Rattle.mq_exec.proofs.ReadsAnswering.{past-looks}
+use Rattle.mq_exec.proofs.PlansRemoving.{file-other, plans, unlink-makes, unlink-refused}
+use Rattle.mq_exec.proofs.RemovesLooks.{file-freed, file-gone, file-pointers}
+use Rattle.mq_exec.proofs.PlansTargets.{file-found, file-refused, found-under, past-above}
 use Rattle.mq_inodes.specs.Fits.{Agrees}
 use Rattle.mq_inodes.specs.Pages.{pages_of}
 use Rattle.mq_inodes.specs.Walks.{LeadsPast, LooksIn}
-use Rattle.mq_inodes.proofs.Lacking.{lacks-weaker}
+use Rattle.mq_inodes.proofs.MissingPages.{lacks-weaker}
 use Rattle.mq_tree.specs.Looks.{LooksAt}
 use Rattle.mq_tree.specs.Requests.{target}
 use Rattle.mq_tree.specs.Volume.{Volume, node, way}

@@ -1,4 +1,4 @@
-use Rattle.mq_exec.proofs.Coming.{comes-carried, comes-refused}
+use Rattle.mq_exec.proofs.PlansComing.{comes-carried, comes-refused}
 use Rattle.mq_tree.specs.Requests.{rmdir as rmdir_of, target as target_of}
 use Rattle.mq_tree.specs.Volume.{way}
 use Rattle.mq_exec.proofs.remove.rmdir.Goals as goal

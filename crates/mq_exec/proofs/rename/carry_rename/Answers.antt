@@ -3,9 +3,9 @@ use Rattle.std.specs.Prelude.{slice_get}
 use Rattle.std.specs.List.{All}
 use Rattle.std.proofs.lemmas.Result.{on_ok_weaker}
 use Rattle.mq_blocks.specs.declared.geometry.Geometry.{Geometry}
-use Rattle.mq_exec.proofs.Linkable.{last-name}
-use Rattle.mq_exec.proofs.RemoveCarried.{name-there}
-use Rattle.mq_exec.proofs.Renamed.{old-gone, rename-linkable, rename-possible, renamed}
+use Rattle.mq_exec.proofs.OpenedLinkable.{last-name}
+use Rattle.mq_exec.proofs.PlansRemoveCarried.{name-there}
+use Rattle.mq_exec.proofs.PlansRenamed.{old-gone, rename-linkable, rename-possible, renamed}
 use Rattle.mq_inodes.specs.Opened.{IsTakeable}
 use Rattle.mq_inodes.specs.Pages.{IsHeld, pages_of}
 use Rattle.mq_inodes.specs.Walks.{last_of}

@@ -1,6 +1,6 @@
 use Rattle.std.proofs.Common.{ap, length, arith}
 use Rattle.mq_tree.specs.Volume.{Path}
-use Rattle.mq_exec.proofs.Below.{names-past, not-longer}
+use Rattle.mq_exec.proofs.RequestsBelow.{names-past, not-longer}
 use Rattle.mq_exec.proofs.rename.is_below.Goals as goal
 
 pub returns-then-len : goal.returns-then-len

@@ -1,14 +1,14 @@
 use Rattle.std.proofs.Common.{ℕ, List, subst, ◌∙◌}
 use Rattle.std.specs.List.{Contains}
 use Rattle.std.proofs.lemmas.Result.{err_from_is_err_and}
-use Rattle.mq_exec.proofs.NewNames.{new-name, new-past}
-use Rattle.mq_exec.proofs.RenamingPlans.{full-there, holds-rename, moving, need-there, plans-rename, rename-few, rename-full, rename-past_from, rename-past_to, rename-searched, rename-taken, source-under}
-use Rattle.mq_exec.proofs.Targets.{past-above}
+use Rattle.mq_exec.proofs.WalksNewNames.{new-name, new-past}
+use Rattle.mq_exec.proofs.PlansRenaming.{full-there, holds-rename, moving, need-there, plans-rename, rename-few, rename-full, rename-past_from, rename-past_to, rename-searched, rename-taken, source-under}
+use Rattle.mq_exec.proofs.PlansTargets.{past-above}
 use Rattle.mq_inodes.specs.MissingPages.{OfEach}
 use Rattle.mq_inodes.specs.Pages.{pages_of}
 use Rattle.mq_inodes.specs.Picks.{IsSearched}
 use Rattle.mq_inodes.specs.Walks.{LeadsPast, LooksIn}
-use Rattle.mq_inodes.proofs.Lacking.{lacks-each, lacks-weaker}
+use Rattle.mq_inodes.proofs.MissingPages.{lacks-each, lacks-weaker}
 use Rattle.mq_tree.specs.Looks.{LooksAt}
 use Rattle.mq_tree.specs.Volume.{way}
 use Rattle.mq_tree.specs.declared.request.Request.TheVariants.{Rename}

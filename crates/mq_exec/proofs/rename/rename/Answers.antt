@@ -1,4 +1,4 @@
-use Rattle.mq_exec.proofs.Coming.{comes-carried}
+use Rattle.mq_exec.proofs.PlansComing.{comes-carried}
 use Rattle.mq_tree.specs.Requests.{rename as rename_of, target as target_of}
 use Rattle.mq_tree.specs.Volume.{way}
 use Rattle.mq_exec.proofs.rename.rename.Goals as goal

@@ -2,11 +2,11 @@ use Rattle.std.proofs.Common.{◌≡◌, ◌<◌, ◌≤◌, ◌/◌, ℕ, List,
 use Rattle.mq_blocks.specs.declared.geometry.Geometry.{Geometry}
 use Rattle.mq_exec.specs.Overwrites.{AreApart, IsOverwritten, past_place}
 use Rattle.mq_exec.specs.Plans.{HoldsPlaces}
-use Rattle.mq_exec.proofs.Carrying.{mid-apart, mid-becomes, mid-form, mid-held, mid-inside, mid-stays, mid-table, regrown-of}
+use Rattle.mq_exec.proofs.OverwritesCarrying.{mid-apart, mid-becomes, mid-form, mid-held, mid-inside, mid-stays, mid-table, regrown-of}
 use Rattle.mq_inodes.specs.Changes.{IsInodePut}
 use Rattle.mq_inodes.specs.Pages.{pages_of}
-use Rattle.mq_inodes.proofs.Becoming.{carries-sound, over-then}
-use Rattle.mq_inodes.proofs.Linking.{on_ok-both}
+use Rattle.mq_inodes.proofs.EditsBecoming.{carries-sound, over-then}
+use Rattle.mq_inodes.proofs.EditsLinking.{on_ok-both}
 use Rattle.mq_exec.proofs.rewrite.carry_rewrite.Goals as goal
 
 pub overwrite-requires-clause-inside : goal.overwrite-requires-clause-inside

@@ -3,11 +3,11 @@ use Rattle.std.specs.Prelude.{Some}
 use Rattle.std.proofs.lemmas.List.{get_or_default}
 use Rattle.mq_pages.specs.declared.page.Kind.TheVariants.{Data}
 use Rattle.mq_exec.specs.Overwrites.{IsOverwritten, past_place}
-use Rattle.mq_exec.proofs.Overwriting.{over-more, over-none, past-first, still-held, text-slice}
+use Rattle.mq_exec.proofs.Overwrites.{over-more, over-none, past-first, still-held, text-slice}
 use Rattle.mq_inodes.specs.Changes.{IsTextPut}
 use Rattle.mq_inodes.specs.Edits.{IsKindPut}
 use Rattle.mq_inodes.specs.Pages.{IsHeld, pages_of}
-use Rattle.mq_inodes.proofs.Becoming.{over-self, over-then}
+use Rattle.mq_inodes.proofs.EditsBecoming.{over-self, over-then}
 use Rattle.mq_exec.proofs.rewrite.overwrite.Goals as goal
 
 pub loop-place-init : goal.loop-place-init

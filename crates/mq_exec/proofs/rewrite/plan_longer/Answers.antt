@@ -6,11 +6,11 @@ use Rattle.mq_exec.specs.Longer.{LooksLonger, indirect, short}
 use Rattle.mq_exec.specs.Overwrites.{blocks_at, past_place}
 use Rattle.mq_exec.specs.declared.rewrite.Rewriting.{Rewriting}
 use Rattle.mq_exec.proofs.Longer.{longer-few, longer-need, longer-plan, all-left, wanted-looks, wanted-places}
-use Rattle.mq_exec.proofs.Linkable.{takeables}
+use Rattle.mq_exec.proofs.OpenedLinkable.{takeables}
 use Rattle.mq_inodes.specs.MissingPages.{OfEach}
 use Rattle.mq_inodes.specs.Pages.{IsHeld, pages_of}
 use Rattle.mq_inodes.specs.Picks.{ArePicked, IsSearched}
-use Rattle.mq_inodes.proofs.Lacking.{lacks-each, lacks-weaker}
+use Rattle.mq_inodes.proofs.MissingPages.{lacks-each, lacks-weaker}
 use Rattle.mq_layout.specs.Places.{inode_block}
 use Rattle.mq_tree.specs.Volume.{node}
 use Rattle.mq_exec.proofs.rewrite.plan_longer.Goals as goal

@@ -1,12 +1,12 @@
 use Rattle.std.proofs.Common.{◌<◌, ◌≤◌, ◌+◌, length, refl, arith}
 use Rattle.std.proofs.lemmas.Result.{err_from_is_err_and}
 use Rattle.mq_exec.specs.Longer.{LooksLonger}
-use Rattle.mq_exec.proofs.Answering.{past-looks}
-use Rattle.mq_exec.proofs.Coming.{comes-carried, comes-refused}
-use Rattle.mq_exec.proofs.Targets.{file-found, file-refused}
-use Rattle.mq_exec.proofs.Writing.{size-is, write-big, write-looks, write-refused, writing, written-spliced}
+use Rattle.mq_exec.proofs.ReadsAnswering.{past-looks}
+use Rattle.mq_exec.proofs.PlansComing.{comes-carried, comes-refused}
+use Rattle.mq_exec.proofs.PlansTargets.{file-found, file-refused}
+use Rattle.mq_exec.proofs.PlansWriting.{size-is, write-big, write-looks, write-refused, writing, written-spliced}
 use Rattle.mq_inodes.specs.Walks.{LeadsPast}
-use Rattle.mq_inodes.proofs.Lacking.{lacks-each}
+use Rattle.mq_inodes.proofs.MissingPages.{lacks-each}
 use Rattle.mq_tree.specs.Looks.{LooksAt}
 use Rattle.mq_tree.specs.Requests.{spliced, target as target_of, write as write_of}
 use Rattle.mq_tree.specs.Volume.{way}

@@ -2,7 +2,7 @@ use Rattle.std.proofs.Common.{◌≤◌, ◌/◌, ℕ, List, length, refl, sym, 
 use Rattle.std.specs.List.{All}
 use Rattle.std.proofs.lemmas.Result.{on_ok_weaker}
 use Rattle.mq_exec.specs.Plans.{HoldsPlaces}
-use Rattle.mq_exec.proofs.Shortening.{blank-keeps, cut-limit, holds-along, mid-becomes_cut, mid-cut}
+use Rattle.mq_exec.proofs.Cuts.{blank-keeps, cut-limit, holds-along, mid-becomes_cut, mid-cut}
 use Rattle.mq_inodes.specs.Opened.{IsReleasable}
 use Rattle.mq_inodes.specs.Pages.{pages_of}
 use Rattle.mq_tree.specs.Requests.{cut_to}

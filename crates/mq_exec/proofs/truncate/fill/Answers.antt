@@ -1,5 +1,5 @@
-use Rattle.mq_exec.proofs.Coming.{comes-carried, comes-refused}
-use Rattle.mq_exec.proofs.Filling.{filled-at, truncate-makes}
+use Rattle.mq_exec.proofs.PlansComing.{comes-carried, comes-refused}
+use Rattle.mq_exec.proofs.LongerFilling.{filled-at, truncate-makes}
 use Rattle.mq_tree.specs.Requests.{cut_to, resized, truncate_in}
 use Rattle.mq_tree.specs.Volume.{body}
 use Rattle.mq_tree.specs.declared.request.Fault.TheVariants.{NoSpace}

@@ -2,12 +2,12 @@ use Rattle.std.proofs.Common.{◌/◌, ℕ, List, ◌++◌, ap, ◌∙◌}
 use Rattle.std.specs.List.{Contains}
 use Rattle.std.proofs.lemmas.Result.{IfErr-weaker, on_ok_weaker}
 use Rattle.mq_exec.specs.Cuts.{LooksCut}
-use Rattle.mq_exec.proofs.GoneBlocks.{IsCutSought, gone-release, gone-zones, last-held, sought-looks}
+use Rattle.mq_exec.proofs.CutsGoneBlocks.{IsCutSought, gone-release, gone-zones, last-held, sought-looks}
 use Rattle.mq_inodes.specs.MissingPages.{MissingOf, OfEach}
 use Rattle.mq_inodes.specs.Pages.{pages_of}
 use Rattle.mq_inodes.specs.Released.{gone_from}
-use Rattle.mq_inodes.proofs.Lacking.{lacks-weaker}
-use Rattle.mq_inodes.proofs.Releasing.{rest-all}
+use Rattle.mq_inodes.proofs.MissingPages.{lacks-weaker}
+use Rattle.mq_inodes.proofs.Released.{rest-all}
 use Rattle.mq_tree.specs.Sound.{blocks_for}
 use Rattle.mq_exec.proofs.truncate.look_to_cut.Goals as goal
 

@@ -3,10 +3,10 @@ use Rattle.std.specs.Prelude.{Some}
 use Rattle.std.proofs.lemmas.Result.{err_from_is_err_and}
 use Rattle.mq_exec.specs.Cuts.{LooksCut, pointers}
 use Rattle.mq_exec.specs.declared.truncate.Cutting.{Cutting}
-use Rattle.mq_exec.proofs.GoneBlocks.{gone-drop, gone-indirect}
-use Rattle.mq_exec.proofs.Shortening.{cut-limit, plans-cut}
+use Rattle.mq_exec.proofs.CutsGoneBlocks.{gone-drop, gone-indirect}
+use Rattle.mq_exec.proofs.Cuts.{cut-limit, plans-cut}
 use Rattle.mq_inodes.specs.Pages.{IsHeld, pages_of}
-use Rattle.mq_inodes.proofs.Lacking.{lacks-each}
+use Rattle.mq_inodes.proofs.MissingPages.{lacks-each}
 use Rattle.mq_layout.specs.Places.{inode_block}
 use Rattle.mq_tree.specs.Sound.{blocks_for}
 use Rattle.mq_tree.specs.Volume.{node}

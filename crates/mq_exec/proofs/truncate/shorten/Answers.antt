@@ -1,4 +1,4 @@
-use Rattle.mq_exec.proofs.Shortening.{cut-comes}
+use Rattle.mq_exec.proofs.Cuts.{cut-comes}
 use Rattle.mq_exec.proofs.truncate.shorten.Goals as goal
 
 pub returns-clause-ok : goal.returns-clause-ok

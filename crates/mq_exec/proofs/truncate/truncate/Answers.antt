@@ -3,15 +3,15 @@ use Rattle.std.proofs.lemmas.Result.{IfErr-weaker, IfOk-weaker, err_from_is_err_
 use Rattle.mq_exec.specs.Cuts.{LooksCut}
 use Rattle.mq_exec.specs.Longer.{LooksLonger}
 use Rattle.mq_exec.specs.Plans.{ComesTo}
-use Rattle.mq_exec.proofs.Answering.{past-looks}
-use Rattle.mq_exec.proofs.Coming.{comes-refused}
-use Rattle.mq_exec.proofs.Filling.{truncate-big}
-use Rattle.mq_exec.proofs.Targets.{file-found, file-refused}
-use Rattle.mq_exec.proofs.TruncateLooks.{cut-looks, filled-looks, sized-found, truncate-found, truncate-refused}
+use Rattle.mq_exec.proofs.ReadsAnswering.{past-looks}
+use Rattle.mq_exec.proofs.PlansComing.{comes-refused}
+use Rattle.mq_exec.proofs.LongerFilling.{truncate-big}
+use Rattle.mq_exec.proofs.PlansTargets.{file-found, file-refused}
+use Rattle.mq_exec.proofs.PlansTruncateLooks.{cut-looks, filled-looks, sized-found, truncate-found, truncate-refused}
 use Rattle.mq_inodes.specs.MissingPages.{MissingOf, OfEach}
 use Rattle.mq_inodes.specs.Walks.{LeadsPast}
-use Rattle.mq_inodes.proofs.Contents.{file-size}
-use Rattle.mq_inodes.proofs.Lacking.{lacks-each}
+use Rattle.mq_inodes.proofs.Files.{file-size}
+use Rattle.mq_inodes.proofs.MissingPages.{lacks-each}
 use Rattle.mq_tree.specs.Looks.{LooksAt}
 use Rattle.mq_tree.specs.Requests.{Verdict, carried_out, target, truncate}
 use Rattle.mq_tree.specs.Volume.{node, way}

@@ -1,4 +1,4 @@
-use Rattle.mq_files.proofs.Doing.{asks}
+use Rattle.mq_files.proofs.Entries.{asks}
 use Rattle.mq_files.proofs.laws.a_done_group_asks.Goals as goal
 
 pub returns : goal.returns

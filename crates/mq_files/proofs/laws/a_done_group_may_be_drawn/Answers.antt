@@ -1,4 +1,4 @@
-use Rattle.mq_files.proofs.Doing.{drawn, few, in_order, meets, placement, ps, told}
+use Rattle.mq_files.proofs.Entries.{drawn, few, in_order, meets, placement, ps, told}
 use Rattle.mq_files.proofs.laws.a_done_group_may_be_drawn.Goals as goal
 
 pub returns : goal.returns

@@ -1,4 +1,4 @@
-use Rattle.mq_files.proofs.Doing.{done_planned, done_rises}
+use Rattle.mq_files.proofs.Entries.{done_planned, done_rises}
 use Rattle.mq_files.proofs.laws.a_done_group_may_be_prepared.Goals as goal
 
 pub returns : goal.returns

@@ -1,4 +1,4 @@
-use Rattle.mq_files.proofs.Ruling.{fits, may}
+use Rattle.mq_files.proofs.LawsRuling.{fits, may}
 use Rattle.mq_files.proofs.laws.a_group_meets_the_rule.Goals as goal
 
 pub returns : goal.returns

@@ -1,4 +1,4 @@
-use Rattle.mq_files.proofs.Doing.{tells_commit, tells_plan}
+use Rattle.mq_files.proofs.Entries.{tells_commit, tells_plan}
 use Rattle.mq_files.proofs.laws.an_entry_tells_its_commit.Goals as goal
 
 pub returns : goal.returns

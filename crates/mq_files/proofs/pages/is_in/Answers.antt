@@ -2,7 +2,7 @@ use Rattle.std.proofs.Common.{ℕ, subst, ◌∙◌, rules}
 use Rattle.std.specs.List.Sorted.{IsBinarySearchResult}
 use Rattle.std.specs.Ordering.{nat_cmp}
 use Rattle.std.proofs.lemmas.List.Sorted.{answers_always}
-use Rattle.mq_files.proofs.Searching.{searched}
+use Rattle.mq_files.proofs.JournalSearching.{searched}
 use Rattle.mq_files.proofs.pages.is_in.Goals as goal
 
 pub returns : goal.returns

@@ -3,7 +3,7 @@ use Rattle.std.specs.Prelude.{Some, None}
 use Rattle.mq_blocks.specs.Journal.{is_among}
 use Rattle.mq_files.specs.Pages.{page_with}
 use Rattle.mq_revoke.specs.Placed.{Placed}
-use Rattle.mq_files.proofs.Settled.{left_none, left_some, page_none, page_some}
+use Rattle.mq_files.proofs.PagesSettled.{left_none, left_some, page_none, page_some}
 use Rattle.mq_files.proofs.pages.page_after.Goals as goal
 
 pub returns-in-Some-clause-cell : goal.returns-in-Some-clause-cell

@@ -1,4 +1,4 @@
-use Rattle.mq_files.proofs.Ruling.{tells_plans}
+use Rattle.mq_files.proofs.LawsRuling.{tells_plans}
 use Rattle.mq_files.proofs.planning.held_pages_tell_plans.Goals as goal
 
 pub returns : goal.returns

@@ -2,8 +2,8 @@ use Rattle.std.proofs.Common.{◌≡◌, ◌∙◌, ◌≤◌, ℕ, List, length
 use Rattle.mq_legal.specs.Legal.{newest as newest_of}
 use Rattle.mq_report.specs.Lines.{Line}
 use Rattle.mq_script.specs.Workloads.{workload_of}
-use Rattle.mq_generated.proofs.Whole.{generated}
-use Rattle.mq_generated.proofs.Workload.{workload-count}
+use Rattle.mq_generated.proofs.GeneratedWhole.{generated}
+use Rattle.mq_generated.proofs.GeneratedWorkload.{workload-count}
 use Rattle.mq_generated.proofs.generating.generate.Goals as goal
 
 -- a script for each queue

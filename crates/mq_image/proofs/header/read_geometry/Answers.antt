@@ -1,5 +1,5 @@
 use Rattle.std.proofs.lemmas.Result.{err_from_is_err_and}
-use Rattle.mq_image.proofs.Geometries.{geometry_refused}
+use Rattle.mq_image.proofs.FaultsGeometries.{geometry_refused}
 use Rattle.mq_image.proofs.header.read_geometry.Goals as goal
 
 pub returns-in_err-new-clause-refused : goal.returns-in_err-new-clause-refused

@@ -1,7 +1,7 @@
 use Rattle.std.proofs.Common.{refl}
-use Rattle.mq_image.proofs.Geometries.{some_shape}
-use Rattle.mq_image.proofs.Unique.{read-same}
-use Rattle.mq_image.proofs.Written.{no-fault}
+use Rattle.mq_image.proofs.FaultsGeometries.{some_shape}
+use Rattle.mq_image.proofs.FileUnique.{read-same}
+use Rattle.mq_image.proofs.FileWritten.{no-fault}
 use Rattle.mq_image.proofs.laws.written_images_are_read.Goals as goal
 
 pub returns-clause-fault : goal.returns-clause-fault

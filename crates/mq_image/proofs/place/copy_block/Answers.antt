@@ -1,6 +1,6 @@
 use Rattle.std.proofs.Common.{◌∙◌, sym, ap, length}
-use Rattle.mq_blocks.proofs.Written.{written-all}
-use Rattle.mq_image.proofs.Nexts.{length-zeros}
+use Rattle.mq_blocks.proofs.WindowsWritten.{written-all}
+use Rattle.mq_blocks.proofs.BlocksZeros.{length-zeros}
 use Rattle.mq_image.proofs.place.copy_block.Goals as goal
 
 pub returns : goal.returns

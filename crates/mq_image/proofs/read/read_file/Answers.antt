@@ -1,9 +1,9 @@
 use Rattle.std.proofs.Common.{get_or, ◌<◌, ◌∙◌, ℕ, sym, ap, arith}
 use Rattle.std.proofs.lemmas.Result.{err_from_is_err_and}
 use Rattle.mq_image.specs.Faults.{extra_fault}
-use Rattle.mq_image.proofs.Assemblies.{file-read}
-use Rattle.mq_image.proofs.Nexts.{refuses-along}
-use Rattle.mq_image.proofs.Refusals.{header-refuses, length-refuses, block-refuses, extra-refuses, end-refuses, block-is, block-none, end-is, none-faulty}
+use Rattle.mq_image.proofs.ReadsAssemblies.{file-read}
+use Rattle.mq_image.proofs.PlacesNexts.{refuses-along}
+use Rattle.mq_image.proofs.Faults.{header-refuses, length-refuses, block-refuses, extra-refuses, end-refuses, block-is, block-none, end-is, none-faulty}
 use Rattle.mq_image.proofs.read.read_file.Goals as goal
 
 pub returns-in_err-header-clause-finds : goal.returns-in_err-header-clause-finds

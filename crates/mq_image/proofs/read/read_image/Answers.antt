@@ -1,4 +1,4 @@
-use Rattle.mq_image.proofs.Refusals.{exact-of, finds-first}
+use Rattle.mq_image.proofs.Faults.{exact-of, finds-first}
 use Rattle.mq_image.proofs.read.read_image.Goals as goal
 
 pub returns-clause-finds : goal.returns-clause-finds

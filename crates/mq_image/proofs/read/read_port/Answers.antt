@@ -1,5 +1,5 @@
 use Rattle.std.proofs.Common.{get_or, ℕ, ◌<◌, ◌∙◌, refl, arith}
-use Rattle.mq_image.proofs.Readings.{ring-read, word-below}
+use Rattle.mq_image.proofs.ReadsAreas.{ring-read, word-below}
 use Rattle.mq_image.proofs.read.read_port.Goals as goal
 
 pub returns : goal.returns

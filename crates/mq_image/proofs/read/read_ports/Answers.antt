@@ -1,5 +1,5 @@
 use Rattle.std.proofs.Common.{◌∙◌, refl, ap, length, arith}
-use Rattle.mq_image.proofs.Assemblies.{ports-read}
+use Rattle.mq_image.proofs.ReadsAssemblies.{ports-read}
 use Rattle.mq_image.proofs.read.read_ports.Goals as goal
 
 pub returns : goal.returns

@@ -3,8 +3,8 @@ use Rattle.std.proofs.Math.Nat.{mul-le-mul_right}
 use Rattle.std.proofs.lemmas.Result.{err_from_is_err_and}
 use Rattle.mq_blocks.specs.Geometry.{queues_of, area_of}
 use Rattle.mq_image.specs.Reads.{AreAreasRead}
-use Rattle.mq_image.proofs.Nexts.{refuses-along}
-use Rattle.mq_image.proofs.Readings.{areas-none, areas-more}
+use Rattle.mq_image.proofs.PlacesNexts.{refuses-along}
+use Rattle.mq_image.proofs.ReadsAreas.{areas-none, areas-more}
 use Rattle.mq_image.proofs.read.read_queues.Goals as goal
 
 pub loop-queue-init : goal.loop-queue-init

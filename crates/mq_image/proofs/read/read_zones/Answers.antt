@@ -4,8 +4,8 @@ use Rattle.std.proofs.lemmas.Result.{err_from_is_err_and}
 use Rattle.mq_blocks.specs.Drive.{PortImage}
 use Rattle.mq_blocks.specs.Geometry.{queues_of, zone_size}
 use Rattle.mq_image.specs.Reads.{AreZonesRead}
-use Rattle.mq_image.proofs.Nexts.{refuses-along}
-use Rattle.mq_image.proofs.Zones.{zones-none, zones-more}
+use Rattle.mq_image.proofs.PlacesNexts.{refuses-along}
+use Rattle.mq_image.proofs.ReadsZones.{zones-none, zones-more}
 use Rattle.mq_image.proofs.read.read_zones.Goals as goal
 
 pub loop-queue-init : goal.loop-queue-init

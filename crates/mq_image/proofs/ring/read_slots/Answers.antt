@@ -4,7 +4,7 @@ use Rattle.std.proofs.lemmas.List.{append-nil, length_push}
 use Rattle.std.proofs.lemmas.List.Concat.{flat_map-append}
 use Rattle.std.proofs.lemmas.List.Elements.{All-push}
 use Rattle.mq_blocks.specs.Windows.{window}
-use Rattle.mq_blocks.proofs.Readings.{window-add}
+use Rattle.mq_blocks.proofs.WindowsReadings.{window-add}
 use Rattle.mq_nvme.specs.Dwords.{AreDwords, dword_bytes}
 use Rattle.mq_image.proofs.ring.read_slots.Goals as goal
 

@@ -1,8 +1,8 @@
 use Rattle.std.proofs.Common.{◌≡◌, ◌<◌, ◌∙◌, ◌+◌, ap, length, take, arith, length-append}
 use Rattle.mq_blocks.specs.Drive.{PortImage}
 use Rattle.mq_image.specs.File.{all_blocks, record_count}
-use Rattle.mq_image.proofs.Spans.{record_count-append}
-use Rattle.mq_image.proofs.Writings.{count-none, flat-more, flat-room}
+use Rattle.mq_image.proofs.PlacesSpans.{record_count-append}
+use Rattle.mq_image.proofs.File.{count-none, flat-more, flat-room}
 use Rattle.mq_image.proofs.write.count_ports.Goals as goal
 
 pub loop-port-init : goal.loop-port-init

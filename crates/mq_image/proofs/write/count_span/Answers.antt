@@ -1,5 +1,5 @@
 use Rattle.std.proofs.Common.{◌<◌, length, arith}
-use Rattle.mq_image.proofs.Writings.{count-none, count-more}
+use Rattle.mq_image.proofs.File.{count-none, count-more}
 use Rattle.mq_image.proofs.write.count_span.Goals as goal
 
 pub loop-block-init : goal.loop-block-init

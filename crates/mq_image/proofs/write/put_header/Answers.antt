@@ -1,4 +1,4 @@
-use Rattle.mq_image.proofs.Writings.{header-put}
+use Rattle.mq_image.proofs.File.{header-put}
 use Rattle.mq_image.proofs.write.put_header.Goals as goal
 
 pub returns : goal.returns

@@ -1,6 +1,6 @@
 use Rattle.std.proofs.Common.{◌∙◌, ap}
 use Rattle.mq_blocks.specs.Drive.{PortImage}
-use Rattle.mq_image.proofs.Writings.{ring-put}
+use Rattle.mq_image.proofs.File.{ring-put}
 use Rattle.mq_image.proofs.write.put_ring.Goals as goal
 
 pub returns : goal.returns

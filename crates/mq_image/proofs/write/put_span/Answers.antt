@@ -1,5 +1,5 @@
 use Rattle.std.proofs.Common.{◌<◌, length, arith}
-use Rattle.mq_image.proofs.Writings.{records-none, span-put}
+use Rattle.mq_image.proofs.File.{records-none, span-put}
 use Rattle.mq_image.proofs.write.put_span.Goals as goal
 
 pub loop-k-init : goal.loop-k-init

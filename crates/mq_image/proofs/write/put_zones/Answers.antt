@@ -1,7 +1,7 @@
 use Rattle.std.proofs.Common.{◌≡◌, ◌<◌, ◌∙◌, ℕ, add-zero, sym, ap, length, drop, arith}
 use Rattle.mq_blocks.specs.Drive.{PortImage}
 use Rattle.mq_blocks.specs.Geometry.{area_of}
-use Rattle.mq_image.proofs.Writings.{flat-room, records-none, part-put, part-length}
+use Rattle.mq_image.proofs.File.{flat-room, records-none, part-put, part-length}
 use Rattle.mq_image.proofs.write.put_zones.Goals as goal
 
 pub loop-port-init : goal.loop-port-init

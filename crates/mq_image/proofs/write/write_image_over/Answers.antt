@@ -2,7 +2,7 @@ use Rattle.std.proofs.Common.{get_or, ◌≡◌, ◌≤◌, ◌∙◌, List, ℕ
 use Rattle.mq_blocks.specs.Drive.{PortImage}
 use Rattle.mq_blocks.specs.Geometry.{queues_of}
 use Rattle.mq_image.specs.File.{DriveImage, namespace}
-use Rattle.mq_image.proofs.Writings.{drive-sized}
+use Rattle.mq_image.proofs.File.{drive-sized}
 use Rattle.mq_image.proofs.write.write_image_over.Goals as goal
 
 pub write_ports-requires-clause-size : goal.write_ports-requires-clause-size

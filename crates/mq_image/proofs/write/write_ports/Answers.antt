@@ -2,7 +2,7 @@ use Rattle.std.proofs.Common.{◌≡◌, ◌∙◌, ◌+◌, ◌++◌, List, ℕ
 use Rattle.std.specs.Prelude.{Option}
 use Rattle.mq_blocks.specs.Drive.{PortImage}
 use Rattle.mq_image.specs.File.{header_bytes, namespace, record_count, records}
-use Rattle.mq_image.proofs.Writings.{file-put, namespace-count, namespace-length}
+use Rattle.mq_image.proofs.File.{file-put, namespace-count, namespace-length}
 use Rattle.mq_image.proofs.write.write_ports.Goals as goal
 
 pub count_ports-requires : goal.count_ports-requires

@@ -2,7 +2,7 @@ use Rattle.std.proofs.Common.{Bool, refl, subst}
 use Rattle.mq_drive.specs.Emu.{emu_faults, emu_state}
 use Rattle.mq_run.specs.Runs.{HasRunScripts}
 use Rattle.mq_image_run.specs.Drives.{emu_ghosts}
-use Rattle.mq_image_run.proofs.Ended.{none-is}
+use Rattle.mq_image_run.proofs.RunsEnded.{none-is}
 use Rattle.mq_image_run.proofs.driving.run_ports.Goals as goal
 
 pub returns : goal.returns

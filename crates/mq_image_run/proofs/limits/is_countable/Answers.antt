@@ -1,6 +1,6 @@
 use Rattle.std.proofs.Common.{◌≡◌, ◌∙◌, ◌<◌, ◌≤◌, ◌^◌, List, ap, arith, get_or, length, subst}
 use Rattle.mq_script.specs.Scripts.{Group, Script}
-use Rattle.mq_image_run.proofs.Counting.{long-group}
+use Rattle.mq_image_run.proofs.ScriptsCounting.{long-group}
 use Rattle.mq_image_run.proofs.limits.is_countable.Goals as goal
 
 pub returns-then-len-2-clause-exact : goal.returns-then-len-2-clause-exact

@@ -1,5 +1,5 @@
 use Rattle.std.proofs.lemmas.Result.{err_from_is_err_and}
-use Rattle.mq_image_run.proofs.Limited.{refuses-image, refuses-limit}
+use Rattle.mq_image_run.proofs.Refusals.{refuses-image, refuses-limit}
 use Rattle.mq_image_run.proofs.running.recover_within.Goals as goal
 
 pub returns-in_err-recovered-clause-refused : goal.returns-in_err-recovered-clause-refused

@@ -4,10 +4,10 @@ use Rattle.mq_drive.specs.Seats.{name_of}
 use Rattle.mq_image.specs.File.{DriveImage}
 use Rattle.mq_image_run.specs.Refusals.{wanting}
 use Rattle.mq_image_run.specs.Runs.{IsLast}
-use Rattle.mq_image_run.proofs.Ended.{clean-last}
-use Rattle.mq_image_run.proofs.Images.{run-drive}
-use Rattle.mq_image_run.proofs.Limited.{refuses-drive}
-use Rattle.mq_image_run.proofs.Powered.{not-refused, not-stopped}
+use Rattle.mq_image_run.proofs.RunsEnded.{clean-last}
+use Rattle.mq_image_run.proofs.DrivesImages.{run-drive}
+use Rattle.mq_image_run.proofs.Refusals.{refuses-drive}
+use Rattle.mq_image_run.proofs.RunsPowered.{not-refused, not-stopped}
 use Rattle.mq_image_run.proofs.running.run_countable.Goals as goal
 
 pub returns-in_err-fuse-clause-refused : goal.returns-in_err-fuse-clause-refused

@@ -1,8 +1,8 @@
 use Rattle.std.proofs.Common.{◌≡◌}
+use Rattle.std.proofs.lemmas.Result.{IfErr-weaker}
 use Rattle.mq_images.specs.declared.refusal.StandingRefusal.TheVariants.{OutOfMemory}
-use Rattle.mq_images.proofs.Results.{on-err}
 use Rattle.mq_image_run.specs.Refusals.{RefusesRun, wanting}
-use Rattle.mq_image_run.proofs.Limited.{only-wanting}
+use Rattle.mq_image_run.proofs.Refusals.{only-wanting}
 use Rattle.mq_image_run.proofs.running.run_image.Goals as goal
 
 pub returns-then-not-are_countable-clause-refused : goal.returns-then-not-are_countable-clause-refused
@@ -12,4 +12,4 @@ pub returns-clause-long : goal.returns-clause-long
 returns-clause-long g c = λ long. absurd (long (c.are_countable.ensures.short c.if-not-are_countable.false))
 
 pub returns-clause-complete : goal.returns-clause-complete
-returns-clause-complete g c = λ v for within. on-err c.run_countable.result (RefusesRun c.args.image) (λ e. e ≡ OutOfMemory) c.run_countable.ensures.refused (λ e. only-wanting c.args.image v e for within)
+returns-clause-complete g c = λ v for within. IfErr-weaker c.run_countable.result (RefusesRun c.args.image) (λ e. e ≡ OutOfMemory) (λ e. only-wanting c.args.image v e for within) c.run_countable.ensures.refused

@@ -1,6 +1,6 @@
 use Rattle.std.proofs.Common.{◌∙◌, sym}
 use Rattle.mq_drive.specs.Seats.{name_of}
-use Rattle.mq_image_run.proofs.Powered.{never-off, no-faults}
+use Rattle.mq_image_run.proofs.RunsPowered.{never-off, no-faults}
 use Rattle.mq_image_run.proofs.Seats.{all-seats, off-seat, own-seats, sum-is}
 use Rattle.mq_image_run.proofs.stopping.run_to_stop.Goals as goal
 

@@ -1,5 +1,5 @@
 use Rattle.mq_recover.specs.Drives.{drive_of, view_over}
-use Rattle.mq_images.proofs.Chains.{queues-none, queues-put}
+use Rattle.mq_images.proofs.DumpChains.{queues-none, queues-put}
 use Rattle.mq_images.proofs.dump.put_queues.Goals as goal
 
 pub loop-queue-init : goal.loop-queue-init

@@ -3,8 +3,8 @@ use Rattle.mq_blocks.specs.Drive.{IsQuiescent}
 use Rattle.mq_drive.specs.Start.{IsPortOf}
 use Rattle.mq_drive.specs.declared.role.Role.TheVariants.{Queue}
 use Rattle.mq_recover.specs.Drives.{drive_of}
-use Rattle.mq_recover.proofs.QueueReads.{port-own}
-use Rattle.mq_images.proofs.Chains.{base-own, chain-memory, chain-own}
+use Rattle.mq_recover.proofs.DrivesQueueReads.{port-own}
+use Rattle.mq_images.proofs.DumpChains.{base-own, chain-memory, chain-own}
 use Rattle.mq_images.proofs.dump.readable_chain.Goals as goal
 
 pub read_chain-requires-clause-port : goal.read_chain-requires-clause-port

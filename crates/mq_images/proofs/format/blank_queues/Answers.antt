@@ -1,4 +1,4 @@
-use Rattle.mq_images.proofs.Blank.{blank-more}
+use Rattle.mq_images.proofs.Empty.{blank-more}
 use Rattle.mq_images.proofs.format.blank_queues.Goals as goal
 
 pub loop-q-preserved : goal.loop-q-preserved

@@ -1,7 +1,7 @@
 use Rattle.std.proofs.Common.{◌≡◌, length, refl, ap, arith}
 use Rattle.mq_blocks.specs.Drive.{PortImage}
 use Rattle.mq_blocks.specs.Geometry.{meta_of}
-use Rattle.mq_images.proofs.Blank.{formatted}
+use Rattle.mq_images.proofs.Empty.{formatted}
 use Rattle.mq_images.proofs.format.format_drive.Goals as goal
 
 pub returns : goal.returns

@@ -1,5 +1,5 @@
 use Rattle.std.proofs.lemmas.Result.{err_from_is_err_and}
-use Rattle.mq_images.proofs.HomeBlocks.{recovered-stand}
+use Rattle.mq_images.proofs.ViewsHomeBlocks.{recovered-stand}
 use Rattle.mq_images.proofs.homes.read_standing.Goals as goal
 
 pub returns-in_err-recovered-clause-complete : goal.returns-in_err-recovered-clause-complete

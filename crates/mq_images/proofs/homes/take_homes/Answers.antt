@@ -3,7 +3,7 @@ use Rattle.std.specs.Option.{option_to_list}
 use Rattle.std.specs.Vec.Iter.{into_iter_items}
 use Rattle.mq_blocks.specs.Drive.{PortImage}
 use Rattle.mq_image.specs.File.{DriveImage, queue_ports, root_port}
-use Rattle.mq_images.proofs.HomeBlocks.{AreTakenTo, next-taken, none-taken}
+use Rattle.mq_images.proofs.ViewsHomeBlocks.{AreTakenTo, next-taken, none-taken}
 use Rattle.mq_images.proofs.homes.take_homes.Goals as goal
 use Rattle.mq_images.proofs.homes.take_homes.Goals.{In-Some}
 

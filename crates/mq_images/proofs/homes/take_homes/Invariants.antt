@@ -1,6 +1,6 @@
 use Rattle.std.specs.Vec.Iter.{into_iter_items}
 use Rattle.mq_image.specs.File.{queue_ports, root_port}
-use Rattle.mq_images.proofs.HomeBlocks.{AreTakenTo}
+use Rattle.mq_images.proofs.ViewsHomeBlocks.{AreTakenTo}
 use Rattle.mq_images.proofs.homes.take_homes.Given as goal
 
 abbrev pub invariant-loop-queue : goal.invariant-loop-queue

@@ -1,4 +1,4 @@
-use Rattle.mq_images.proofs.Restarts.{blocks-stand, none-above, volume-stands}
+use Rattle.mq_images.proofs.StandingRestarts.{blocks-stand, none-above, volume-stands}
 use Rattle.mq_images.proofs.laws.a_recovered_image_holds_what_stood.Goals as goal
 
 pub returns : goal.returns

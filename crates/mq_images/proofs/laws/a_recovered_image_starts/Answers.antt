@@ -1,4 +1,4 @@
-use Rattle.mq_images.proofs.Restarts.{base-found, doorbells-kept, may-start, still}
+use Rattle.mq_images.proofs.StandingRestarts.{base-found, doorbells-kept, may-start, still}
 use Rattle.mq_images.proofs.laws.a_recovered_image_starts.Goals as goal
 
 pub returns : goal.returns

@@ -1,6 +1,6 @@
 use Rattle.mq_drive.specs.Emu.{emu_faults, emu_state}
 use Rattle.mq_recover.specs.Drives.{drive_of, faults_on}
-use Rattle.mq_images.proofs.Recoverings.{never-failed, ran-short}
+use Rattle.mq_images.proofs.CutsRecoverings.{never-failed, ran-short}
 use Rattle.mq_images.proofs.recovery.recover_ports.Goals as goal
 
 pub check_power-requires : goal.check_power-requires

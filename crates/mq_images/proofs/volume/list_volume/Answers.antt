@@ -1,7 +1,7 @@
 use Rattle.std.proofs.Common.{◌∙◌}
 use Rattle.std.proofs.lemmas.Result.{err_from_is_err_and}
 use Rattle.mq_images.specs.Standing.{wanting}
-use Rattle.mq_tree.proofs.Alike.{alike-text}
+use Rattle.mq_tree.proofs.VolumeAlike.{alike-text}
 use Rattle.mq_images.proofs.volume.list_volume.Goals as goal
 
 pub returns-in_err-tree-clause-complete : goal.returns-in_err-tree-clause-complete

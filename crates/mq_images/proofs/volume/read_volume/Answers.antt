@@ -6,7 +6,7 @@ use Rattle.mq_tree.specs.Corrupt.{Refuses}
 use Rattle.mq_tree.specs.Laid.{IsTreeOf, map_of}
 use Rattle.mq_tree.specs.Volume.{Things}
 use Rattle.mq_tree.specs.declared.corrupt.MountRefusal.TheVariants as mount
-use Rattle.mq_images.proofs.Volumes.{image-refuses, mount-refuses, mount-wants}
+use Rattle.mq_images.proofs.StandingVolumes.{image-refuses, mount-refuses, mount-wants}
 use Rattle.mq_images.proofs.volume.read_volume.Goals as goal
 
 pub returns-in_err-blocks-clause-refused : goal.returns-in_err-blocks-clause-refused

@@ -1,5 +1,5 @@
 use Rattle.std.proofs.Common.{Bool, cond, sym, ap}
-use Rattle.mq_inodes.proofs.EmptyInodes.{empty-is}
+use Rattle.mq_inodes.proofs.BareEmptyInodes.{empty-is}
 use Rattle.mq_inodes.proofs.bare.empty_inode.Goals as goal
 
 pub returns-then-is_directory : goal.returns-then-is_directory

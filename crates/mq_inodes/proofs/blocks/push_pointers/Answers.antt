@@ -1,5 +1,5 @@
 use Rattle.mq_layout.specs.Bits.{pointer_of}
-use Rattle.mq_inodes.proofs.Nodes.{table-push}
+use Rattle.mq_inodes.proofs.LaidNodes.{table-push}
 use Rattle.mq_inodes.proofs.blocks.push_pointers.Goals as goal
 
 pub loop-k-preserved : goal.loop-k-preserved

@@ -2,7 +2,7 @@ use Rattle.std.proofs.Common.{arith, ap, List}
 use Rattle.std.specs.Prelude.{Option}
 use Rattle.mq_layout.specs.Slots.{Entry}
 use Rattle.mq_tree.specs.Requests.{count_names}
-use Rattle.mq_inodes.proofs.Entries.{count-unused, count-used, drop-all}
+use Rattle.mq_inodes.proofs.DirsEntries.{count-unused, count-used, drop-all}
 use Rattle.mq_inodes.proofs.slots.count_in.Goals as goal
 use Rattle.mq_inodes.proofs.slots.count_in.Goals.{in-Some, in_default}
 

@@ -2,7 +2,7 @@ use Rattle.std.proofs.Common.{sym, ap, ◌∙◌, List}
 use Rattle.std.specs.Prelude.{Option}
 use Rattle.mq_layout.specs.Slots.{Entry}
 use Rattle.mq_tree.specs.Volume.{find}
-use Rattle.mq_inodes.proofs.Entries.{drop-all, find-hit, find-pass, find-unused}
+use Rattle.mq_inodes.proofs.DirsEntries.{drop-all, find-hit, find-pass, find-unused}
 use Rattle.mq_inodes.proofs.slots.find_in.Goals as goal
 use Rattle.mq_inodes.proofs.slots.find_in.Goals.{in-Some+else-eq, in_default}
 

@@ -2,7 +2,7 @@ use Rattle.std.proofs.Common.{sym, ap, ◌∙◌, List}
 use Rattle.std.specs.Prelude.{Option}
 use Rattle.mq_layout.specs.Slots.{Entry}
 use Rattle.mq_tree.specs.Volume.{slot_number}
-use Rattle.mq_inodes.proofs.Entries.{drop-all, number-hit, number-pass, number-unused}
+use Rattle.mq_inodes.proofs.DirsEntries.{drop-all, number-hit, number-pass, number-unused}
 use Rattle.mq_inodes.proofs.slots.number_in.Goals as goal
 use Rattle.mq_inodes.proofs.slots.number_in.Goals.{in-Some+else-eq, in_default}
 

@@ -2,8 +2,8 @@ use Rattle.std.proofs.Common.{sym, ap, ◌∙◌, ◌≡◌, ◌++◌, List, ℕ
 use Rattle.std.specs.Prelude.{Option, Vec}
 use Rattle.mq_layout.specs.Slots.{Entry}
 use Rattle.mq_inodes.specs.Dirs.{names_of, slots_in}
-use Rattle.mq_inodes.proofs.Entries.{drop-all, names-unused, names-used}
-use Rattle.mq_inodes.proofs.Sorting.{name-pushed, names-end}
+use Rattle.mq_inodes.proofs.DirsEntries.{drop-all, names-unused, names-used}
+use Rattle.mq_inodes.proofs.DirsSorting.{name-pushed, names-end}
 use Rattle.mq_inodes.proofs.slots.push_names.Goals as goal
 use Rattle.mq_inodes.proofs.slots.push_names.Goals.{in-Some+in_ok-from_slice+in_ok-push, in_default}
 

@@ -2,7 +2,7 @@ use Rattle.std.proofs.Common.{sym, ap, ◌∙◌, List}
 use Rattle.std.specs.Prelude.{Option}
 use Rattle.mq_layout.specs.Slots.{Entry}
 use Rattle.mq_tree.specs.Requests.{unused}
-use Rattle.mq_inodes.proofs.Entries.{drop-all, unused-free, unused-used}
+use Rattle.mq_inodes.proofs.DirsEntries.{drop-all, unused-free, unused-used}
 use Rattle.mq_inodes.proofs.slots.unused_in.Goals as goal
 
 pub returns-in-None-clause-is : goal.returns-in-None-clause-is

@@ -1,8 +1,8 @@
 use Rattle.std.proofs.Common.{◌≡◌, ◌+◌, ◌*◌, ◌++◌, ◌∷◌, [], ℕ, List, ap, ◌∙◌, arith, length, length-append}
 use Rattle.mq_blocks.specs.Geometry.{zone_size}
 use Rattle.mq_tree.specs.Laid.{zone_block}
-use Rattle.mq_inodes.proofs.Marking.{marks-clear, marks-set}
-use Rattle.mq_inodes.proofs.Searching.{picked, picked-enough, picked-free, picked-passed}
+use Rattle.mq_inodes.proofs.FitsMarking.{marks-clear, marks-set}
+use Rattle.mq_inodes.proofs.PicksSearching.{picked, picked-enough, picked-free, picked-passed}
 use Rattle.mq_inodes.proofs.space.push_free.Goals as goal
 
 pub returns-in_default : goal.returns-in_default

@@ -1,6 +1,6 @@
 use Rattle.std.proofs.Common.{◌≡◌, ◌-◌, ◌≤◌, length}
 use Rattle.mq_blocks.specs.Geometry.{zone_size}
-use Rattle.mq_inodes.proofs.Searching.{picked}
+use Rattle.mq_inodes.proofs.PicksSearching.{picked}
 use Rattle.mq_tree.specs.Laid.{ShowsMarks, zone_block, zone_marked}
 use Rattle.mq_tree.specs.Volume.{Volume}
 use Rattle.mq_inodes.proofs.space.push_free.Given as goal

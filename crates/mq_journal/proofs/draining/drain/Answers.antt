@@ -5,7 +5,7 @@ use Rattle.mq_turns.specs.Desk.{Sees, slot_of}
 use Rattle.mq_turns.specs.declared.turn.Turn.TheVariants.{Side}
 use Rattle.mq_journal.specs.Draining.{IsPassed, mark_after, report_of}
 use Rattle.mq_journal.specs.Numbers.{HoldsSide, IsReported, machine}
-use Rattle.mq_journal.proofs.Refusing.{on_ok_both, passes, refuses, taken_holds, taken_seen}
+use Rattle.mq_journal.proofs.DrainingRefusing.{on_ok_both, passes, refuses, taken_holds, taken_seen}
 use Rattle.mq_journal.proofs.draining.drain.Goals as goal
 
 pub drain_side-requires-clause-side : goal.drain_side-requires-clause-side

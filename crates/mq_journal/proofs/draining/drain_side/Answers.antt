@@ -7,8 +7,8 @@ use Rattle.mq_turns.specs.Marks.{claim_of}
 use Rattle.mq_turns.specs.Meaning.{charged, claimed, newest}
 use Rattle.mq_journal.specs.Draining.{IsPassed, mark_after, report_of}
 use Rattle.mq_journal.specs.Numbers.{reported, values}
-use Rattle.mq_journal.proofs.Marking.{side_known}
-use Rattle.mq_journal.proofs.Refusing.{low_of, shows_all, shows_below, shows_refusal}
+use Rattle.mq_journal.proofs.NumbersMarking.{side_known}
+use Rattle.mq_journal.proofs.DrainingRefusing.{low_of, shows_all, shows_below, shows_refusal}
 use Rattle.mq_journal.proofs.draining.drain_side.Goals as goal
 
 pub pass-requires-clause-shows : goal.pass-requires-clause-shows

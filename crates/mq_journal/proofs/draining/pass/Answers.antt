@@ -11,10 +11,10 @@ use Rattle.mq_turns.specs.Meaning.{claimed, newest}
 use Rattle.mq_turns.specs.Words.{after_clear, same_turn}
 use Rattle.mq_turns.specs.declared.turn.Item.TheVariants as item
 use Rattle.mq_turns.specs.declared.turn.Turn.TheVariants.{Side}
-use Rattle.mq_turns.proofs.Seen.{opening_seen, stands_renewed, times_renewed}
-use Rattle.mq_turns.proofs.Slots.{turn_at_slot}
+use Rattle.mq_turns.proofs.DeskSeen.{opening_seen, stands_renewed, times_renewed}
+use Rattle.mq_turns.proofs.DeskSlots.{turn_at_slot}
 use Rattle.mq_journal.specs.Numbers.{machine, values}
-use Rattle.mq_journal.proofs.Marking.{may_mark}
+use Rattle.mq_journal.proofs.NumbersMarking.{may_mark}
 use Rattle.mq_journal.proofs.draining.pass.Goals as goal
 
 pub clear-requires-clause-may : goal.clear-requires-clause-may

@@ -5,7 +5,7 @@ use Rattle.mq_turns.specs.Meaning.{charged}
 use Rattle.mq_journal.specs.Numbers.{reported, values}
 use Rattle.mq_turns.specs.AtDesk.{view, start_of}
 use Rattle.mq_journal.specs.Draining.{IsPassed}
-use Rattle.mq_journal.proofs.Refusing.{above_at, mark_named}
+use Rattle.mq_journal.proofs.DrainingRefusing.{above_at, mark_named}
 use Rattle.mq_journal.proofs.draining.stop.Goals as goal
 
 pub pass-requires-clause-shows : goal.pass-requires-clause-shows

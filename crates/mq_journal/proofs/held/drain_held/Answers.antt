@@ -1,9 +1,9 @@
 use Rattle.std.proofs.Common.{refl}
 use Rattle.std.specs.Prelude.{Ok, Err}
 use Rattle.mq_turns.specs.AtDesk.{view, start_of}
-use Rattle.mq_journal.proofs.InHand.{holds_drained, rests}
-use Rattle.mq_journal.proofs.Marking.{side_known}
-use Rattle.mq_journal.proofs.Refusing.{shows_refusal}
+use Rattle.mq_journal.proofs.LawsInHand.{holds_drained, rests}
+use Rattle.mq_journal.proofs.NumbersMarking.{side_known}
+use Rattle.mq_journal.proofs.DrainingRefusing.{shows_refusal}
 use Rattle.mq_journal.proofs.held.drain_held.Goals as goal
 
 pub returns-in-Ok-clause-side : goal.returns-in-Ok-clause-side

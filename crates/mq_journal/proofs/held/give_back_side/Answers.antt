@@ -4,7 +4,7 @@ use Rattle.mq_turns.specs.AtDesk.{view, start_of}
 use Rattle.mq_turns.specs.Chairs.{giving}
 use Rattle.mq_turns.specs.Lists.{times}
 use Rattle.mq_journal.specs.Numbers.{values}
-use Rattle.mq_journal.proofs.Marking.{side_known}
+use Rattle.mq_journal.proofs.NumbersMarking.{side_known}
 use Rattle.mq_journal.proofs.held.give_back_side.Goals as goal
 
 pub give_back-requires-clause-holds : goal.give_back-requires-clause-holds

@@ -3,9 +3,9 @@ use Rattle.mq_rules.specs.Rule.{shape_of}
 use Rattle.mq_turns.specs.AtDesk.{view, start_of}
 use Rattle.mq_turns.specs.Desk.{Sees, slot_of}
 use Rattle.mq_turns.specs.declared.turn.Turn.TheVariants.{Side}
-use Rattle.mq_turns.proofs.Seen.{opening_seen}
+use Rattle.mq_turns.proofs.DeskSeen.{opening_seen}
 use Rattle.mq_journal.specs.Numbers.{HoldsSide, machine, values}
-use Rattle.mq_journal.proofs.Refusing.{taken_holds, taken_seen}
+use Rattle.mq_journal.proofs.DrainingRefusing.{taken_holds, taken_seen}
 use Rattle.mq_journal.proofs.held.take_side.Goals as goal
 
 pub returns-clause-took : goal.returns-clause-took

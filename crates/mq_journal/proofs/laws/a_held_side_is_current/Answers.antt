@@ -1,4 +1,4 @@
-use Rattle.mq_journal.proofs.InHand.{held_is_current}
+use Rattle.mq_journal.proofs.LawsInHand.{held_is_current}
 use Rattle.mq_journal.proofs.laws.a_held_side_is_current.Goals as goal
 
 pub returns : goal.returns

@@ -1,4 +1,4 @@
-use Rattle.mq_journal.proofs.Keeping.{numbered_stays, prepared_stays, stays_at_give_back, stays_at_reads, stays_at_take}
+use Rattle.mq_journal.proofs.LawsKeeping.{numbered_stays, prepared_stays, stays_at_give_back, stays_at_reads, stays_at_take}
 use Rattle.mq_journal.proofs.laws.a_held_side_stays.Goals as goal
 
 pub returns : goal.returns

@@ -1,4 +1,4 @@
-use Rattle.mq_journal.proofs.InHand.{kept_shows}
+use Rattle.mq_journal.proofs.LawsInHand.{kept_shows}
 use Rattle.mq_journal.proofs.laws.a_kept_failure_is_shown.Goals as goal
 
 pub returns : goal.returns

@@ -1,4 +1,4 @@
-use Rattle.mq_journal.proofs.Keeping.{sends_outlive_rest}
+use Rattle.mq_journal.proofs.LawsKeeping.{sends_outlive_rest}
 use Rattle.mq_journal.proofs.laws.a_send_outlives_the_rest.Goals as goal
 
 pub returns : goal.returns

@@ -2,7 +2,7 @@ use Rattle.std.proofs.Common.{rules, ◌≡◌, ◌+◌, true, false, sym, subst
 use Rattle.std.proofs.lemmas.Bool.{false≢true}
 use Rattle.mq_turns.specs.AtDesk.{view, start_of}
 use Rattle.mq_turns.specs.Words.{after_clear}
-use Rattle.mq_journal.proofs.Marking.{busy_marks, idle_marks, may_mark, side_known}
+use Rattle.mq_journal.proofs.NumbersMarking.{busy_marks, idle_marks, may_mark, side_known}
 use Rattle.mq_journal.proofs.numbers.mark_next.Goals as goal
 
 pub returns-then-not-is_at_rest-clause-marks : goal.returns-then-not-is_at_rest-clause-marks

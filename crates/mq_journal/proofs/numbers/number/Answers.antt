@@ -8,8 +8,8 @@ use Rattle.mq_turns.specs.Lists.{times}
 use Rattle.mq_turns.specs.Meaning.{drawn}
 use Rattle.mq_turns.specs.declared.turn.Turn.TheVariants.{Side}
 use Rattle.mq_journal.specs.Numbers.{HasNumbered, values}
-use Rattle.mq_journal.proofs.Drawing.{covers, draws, held_still}
-use Rattle.mq_journal.proofs.Numbering.{has_numbered, may_send}
+use Rattle.mq_journal.proofs.NumbersDrawing.{covers, draws, held_still}
+use Rattle.mq_journal.proofs.NumbersDrawn.{has_numbered, may_send}
 use Rattle.mq_journal.proofs.numbers.number.Goals as goal
 
 pub draw-number-requires-clause-side : goal.draw-number-requires-clause-side

@@ -1,7 +1,7 @@
 use Rattle.std.proofs.Common.{◌≡◌, ℕ, ◌+◌, ◌<◌, true, length, sym, refl, ap, subst, ◌∙◌, arith}
 use Rattle.std.proofs.lemmas.Bool.{eq-eqb}
 use Rattle.mq_rules.specs.Rule.{IsSide}
-use Rattle.mq_rules.proofs.Telling.{ok_charged}
+use Rattle.mq_rules.proofs.RuleTelling.{ok_charged}
 use Rattle.mq_rules.proofs.Meaning.{laws}
 use Rattle.mq_turns.specs.AtDesk.{view, start_of}
 use Rattle.mq_turns.specs.Chairs.{giving}
@@ -12,8 +12,8 @@ use Rattle.mq_turns.specs.Words.{after_notice, same_turn}
 use Rattle.mq_turns.specs.declared.rule.Notice.TheVariants as notice
 use Rattle.mq_turns.specs.declared.turn.Item.TheVariants as item
 use Rattle.mq_turns.specs.declared.turn.Turn.TheVariants.{Root, Side}
-use Rattle.mq_turns.proofs.Seen.{opening_seen, stands_renewed, times_renewed}
-use Rattle.mq_turns.proofs.Slots.{turn_at_slot}
+use Rattle.mq_turns.proofs.DeskSeen.{opening_seen, stands_renewed, times_renewed}
+use Rattle.mq_turns.proofs.DeskSlots.{turn_at_slot}
 use Rattle.mq_journal.specs.Numbers.{Start, machine, reported, values}
 use Rattle.mq_journal.proofs.reporting.report_side.Goals as goal
 

@@ -7,8 +7,8 @@ use Rattle.mq_turns.specs.Meaning.{charged}
 use Rattle.mq_turns.specs.declared.rule.Report.TheVariants as report
 use Rattle.mq_turns.specs.declared.turn.Turn.TheVariants.{Side}
 use Rattle.mq_journal.specs.Numbers.{HasNumbered, values}
-use Rattle.mq_journal.proofs.Holding.{held_some, numbered_known}
-use Rattle.mq_journal.proofs.Reports.{side_reported}
+use Rattle.mq_journal.proofs.NumbersHolding.{held_some, numbered_known}
+use Rattle.mq_journal.proofs.NumbersReports.{side_reported}
 use Rattle.mq_journal.proofs.Sent.{cut_backed, cut_side, sent_backed, sent_shows, sent_side}
 use Rattle.mq_journal.proofs.sending.send.Goals as goal
 

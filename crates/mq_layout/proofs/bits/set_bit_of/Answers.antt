@@ -1,7 +1,7 @@
 use Rattle.std.proofs.Common.{arith}
 use Rattle.std.proofs.lemmas.Nat.Bits.{bit_at_set_same, bit_at_set_other, bit_at_clear_same, bit_at_clear_other}
 use Rattle.std.specs.Int.{w8}
-use Rattle.mq_layout.proofs.Writes.{bit-set_same, bit-set_other}
+use Rattle.mq_layout.proofs.FieldsWrites.{bit-set_same, bit-set_other}
 use Rattle.mq_layout.proofs.bits.set_bit_of.Goals as goal
 
 pub returns-then-value-clause-set : goal.returns-then-value-clause-set

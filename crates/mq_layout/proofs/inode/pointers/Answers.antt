@@ -2,7 +2,7 @@ use Rattle.std.proofs.Common.{◌≡◌, ◌∙◌, ℕ, ◌+◌, ◌*◌, ◌<�
 use Rattle.std.proofs.lemmas.Bool.{cases_eq}
 use Rattle.std.proofs.lemmas.List.{get_or_default, same_lists}
 use Rattle.mq_blocks.specs.Windows.{number_at, numbers}
-use Rattle.mq_blocks.proofs.Readings.{length-numbers}
+use Rattle.mq_blocks.proofs.WindowsReadings.{length-numbers}
 use Rattle.mq_blocks.proofs.Windows.{numbers-at}
 use Rattle.mq_layout.proofs.inode.pointers.Goals as goal
 

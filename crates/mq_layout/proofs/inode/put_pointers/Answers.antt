@@ -1,5 +1,5 @@
 use Rattle.std.proofs.Common.{refl, sym, arith}
-use Rattle.mq_blocks.proofs.Written.{list-written, written-nothing}
+use Rattle.mq_blocks.proofs.WindowsWritten.{list-written, written-nothing}
 use Rattle.mq_layout.proofs.inode.put_pointers.Goals as goal
 
 pub loop-k-init : goal.loop-k-init

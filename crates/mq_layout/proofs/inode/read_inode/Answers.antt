@@ -1,7 +1,7 @@
 use Rattle.std.proofs.Common.{Ok, ap}
 use Rattle.mq_layout.specs.declared.inode.Inode.{Inode}
 use Rattle.mq_layout.proofs.Fields.{not-refused}
-use Rattle.mq_layout.proofs.InodeForms.{read-none, read-same, read-sound}
+use Rattle.mq_layout.proofs.InodesForms.{read-none, read-same, read-sound}
 use Rattle.mq_layout.proofs.inode.read_inode.Goals as goal
 
 pub returns-in_err-check_fields-clause-complete : goal.returns-in_err-check_fields-clause-complete

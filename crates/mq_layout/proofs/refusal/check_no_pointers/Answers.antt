@@ -1,7 +1,7 @@
 use Rattle.std.proofs.Common.{◌∙◌, ap, sym, arith}
 use Rattle.std.specs.Prelude.{Some}
 use Rattle.mq_layout.specs.declared.refusal.LayoutRefusal.{LayoutRefusal}
-use Rattle.mq_layout.proofs.Zeros.{nonzero-at, nonzero-none}
+use Rattle.mq_layout.proofs.FieldsZeros.{nonzero-at, nonzero-none}
 use Rattle.mq_layout.proofs.refusal.check_no_pointers.Goals as goal
 
 pub returns-then-u32_at-ne0 : goal.returns-then-u32_at-ne0

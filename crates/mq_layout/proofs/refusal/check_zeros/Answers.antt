@@ -1,7 +1,7 @@
 use Rattle.std.proofs.Common.{◌∙◌, ap, sym, arith}
 use Rattle.std.specs.Prelude.{Some}
 use Rattle.mq_layout.specs.declared.refusal.LayoutRefusal.{LayoutRefusal}
-use Rattle.mq_layout.proofs.Zeros.{bytes-bad, bytes-end}
+use Rattle.mq_layout.proofs.FieldsZeros.{bytes-bad, bytes-end}
 use Rattle.mq_layout.proofs.refusal.check_zeros.Goals as goal
 
 pub returns-then-block-from-ne0 : goal.returns-then-block-from-ne0

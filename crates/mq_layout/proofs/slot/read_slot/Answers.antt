@@ -1,5 +1,5 @@
 use Rattle.mq_layout.proofs.Fields.{not-refused}
-use Rattle.mq_layout.proofs.SlotForms.{slot-none, slot-unused, slot-used, unused-sound, used-sound}
+use Rattle.mq_layout.proofs.SlotsForms.{slot-none, slot-unused, slot-used, unused-sound, used-sound}
 use Rattle.mq_layout.proofs.slot.read_slot.Goals as goal
 
 pub returns-in_err-check_slot-clause-complete : goal.returns-in_err-check_slot-clause-complete

@@ -1,5 +1,5 @@
 use Rattle.mq_layout.specs.Superblock.{super_header}
-use Rattle.mq_layout.proofs.Writes.{header-written}
+use Rattle.mq_layout.proofs.FieldsWrites.{header-written}
 use Rattle.mq_layout.proofs.superblock.put_super.Goals as goal
 
 pub returns : goal.returns

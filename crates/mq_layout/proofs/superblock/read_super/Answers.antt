@@ -1,5 +1,5 @@
 use Rattle.mq_layout.proofs.Fields.{sound-of, accepts-of}
-use Rattle.mq_layout.proofs.Superblocks.{super-sound, super-right}
+use Rattle.mq_layout.proofs.SuperblockForms.{super-sound, super-right}
 use Rattle.mq_layout.proofs.superblock.read_super.Goals as goal
 
 pub returns-clause-sound : goal.returns-clause-sound

@@ -1,7 +1,7 @@
 use Rattle.std.proofs.Common.{◌∙◌, ap, List, ℕ}
 use Rattle.mq_blocks.specs.Windows.{written}
 use Rattle.mq_layout.specs.Superblock.{super_header}
-use Rattle.mq_layout.proofs.Superblocks.{super-written}
+use Rattle.mq_layout.proofs.SuperblockForms.{super-written}
 use Rattle.mq_layout.proofs.superblock.write_super.Goals as goal
 
 pub returns : goal.returns

@@ -2,7 +2,7 @@ use Rattle.std.proofs.Common.{◌≡◌, false, ℕ, sym, ◌∙◌, arith}
 use Rattle.std.proofs.lemmas.Bool.{false≢true, false_from_ne_true}
 use Rattle.mq_blocks.specs.Journal.{is_among}
 use Rattle.mq_ledger.specs.History.{blocks_of}
-use Rattle.mq_ledger.proofs.Lists.{block-read, goes, every-step, every-stop, apart-every, true_or_not}
+use Rattle.mq_ledger.proofs.RecordsLists.{block-read, goes, every-step, every-stop, apart-every, true_or_not}
 use Rattle.mq_ledger.proofs.form.are_apart.Goals as goal
 
 pub loop-write-init : goal.loop-write-init

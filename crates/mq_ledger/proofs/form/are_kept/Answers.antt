@@ -4,7 +4,7 @@ use Rattle.std.proofs.lemmas.List.{get_or_read}
 use Rattle.mq_blocks.specs.Journal.{is_among}
 use Rattle.mq_blocks.specs.Machine.{Writes}
 use Rattle.mq_ledger.specs.History.{blocks_of}
-use Rattle.mq_ledger.proofs.Lists.{goes, every-step, every-stop, apart-every, true_or_not, among-none, among-left, among-right}
+use Rattle.mq_ledger.proofs.RecordsLists.{goes, every-step, every-stop, apart-every, true_or_not, among-none, among-left, among-right}
 use Rattle.mq_ledger.proofs.form.are_kept.Goals as goal
 
 pub loop-block-init : goal.loop-block-init

@@ -3,7 +3,7 @@ use Rattle.mq_blocks.specs.Descriptor.{AreApart}
 use Rattle.mq_blocks.specs.Journal.{is_among}
 use Rattle.mq_ledger.specs.History.{blocks_of}
 use Rattle.mq_ledger.specs.Records.{Every}
-use Rattle.mq_ledger.proofs.Lists.{Goes}
+use Rattle.mq_ledger.proofs.RecordsLists.{Goes}
 use Rattle.mq_ledger.proofs.form.are_kept.Given as goal
 
 -- it holds of all exactly where it holds of the rest

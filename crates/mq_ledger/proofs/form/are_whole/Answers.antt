@@ -1,6 +1,6 @@
 use Rattle.std.proofs.Common.{◌≡◌, ℕ, List, length, ap, sym, refl, ◌∙◌, arith, rules}
 use Rattle.std.proofs.lemmas.Bool.{false≢true}
-use Rattle.mq_ledger.proofs.Lists.{goes, all-step, all-stop, all-end}
+use Rattle.mq_ledger.proofs.RecordsLists.{goes, all-step, all-stop, all-end}
 use Rattle.mq_ledger.proofs.form.are_whole.Goals as goal
 
 pub loop-write-preserved : goal.loop-write-preserved

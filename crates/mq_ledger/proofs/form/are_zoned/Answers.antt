@@ -2,7 +2,7 @@ use Rattle.std.proofs.Common.{◌≡◌, Some, ℕ, arith}
 use Rattle.std.proofs.lemmas.Bool.{false≢true}
 use Rattle.mq_blocks.specs.Geometry.{homes_of, zone_of}
 use Rattle.mq_ledger.specs.History.{blocks_of}
-use Rattle.mq_ledger.proofs.Lists.{block-read, goes, rising-high, every-step, every-stop, true_or_not}
+use Rattle.mq_ledger.proofs.RecordsLists.{block-read, goes, rising-high, every-step, every-stop, true_or_not}
 use Rattle.mq_ledger.proofs.form.are_zoned.Goals as goal
 
 pub is_in_zone-requires : goal.is_in_zone-requires

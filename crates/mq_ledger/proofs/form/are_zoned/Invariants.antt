@@ -2,7 +2,7 @@ use Rattle.std.proofs.Common.{◌≡◌, drop, Some}
 use Rattle.mq_blocks.specs.Geometry.{zone_of}
 use Rattle.mq_ledger.specs.History.{blocks_of}
 use Rattle.mq_ledger.specs.Records.{Every}
-use Rattle.mq_ledger.proofs.Lists.{Goes}
+use Rattle.mq_ledger.proofs.RecordsLists.{Goes}
 use Rattle.mq_ledger.proofs.form.are_zoned.Given as goal
 
 -- it holds of all exactly where it holds of the rest

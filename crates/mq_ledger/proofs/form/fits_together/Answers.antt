@@ -7,7 +7,7 @@ use Rattle.mq_blocks.specs.Machine.{Writes}
 use Rattle.mq_ledger.specs.Form.{IsAscending}
 use Rattle.mq_ledger.specs.History.{blocks_of}
 use Rattle.mq_ledger.specs.Records.{Every}
-use Rattle.mq_ledger.proofs.Lists.{rising-ascending, all-left, all-right}
+use Rattle.mq_ledger.proofs.RecordsLists.{rising-ascending, all-left, all-right}
 use Rattle.mq_ledger.proofs.form.fits_together.Goals as goal
 use Rattle.mq_ledger.proofs.form.fits_together.Goals.{then-are_whole, else-are_whole, then-are_whole-2, else-are_whole-2, then-are_apart, else-are_apart, then-are_kept, else-are_kept}
 

@@ -2,7 +2,7 @@ use Rattle.std.proofs.Common.{ℕ, subst, rules}
 use Rattle.std.specs.List.Sorted.{IsBinarySearchResult}
 use Rattle.std.specs.Ordering.{nat_cmp}
 use Rattle.std.proofs.lemmas.List.Sorted.{answers_always}
-use Rattle.mq_ledger.proofs.Lists.{found-is}
+use Rattle.mq_ledger.proofs.RecordsLists.{found-is}
 use Rattle.mq_ledger.proofs.form.has_block.Goals as goal
 
 -- the keys are the blocks

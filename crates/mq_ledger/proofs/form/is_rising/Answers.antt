@@ -1,6 +1,6 @@
 use Rattle.std.proofs.Common.{◌<◌, ◌≤◌, ◌⊎◌, inl, inr, map, ◌∙◌, arith}
 use Rattle.std.proofs.lemmas.Bool.{false≢true}
-use Rattle.mq_ledger.proofs.Lists.{goes, item-read, rising-step, rising-stop}
+use Rattle.mq_ledger.proofs.RecordsLists.{goes, item-read, rising-step, rising-stop}
 use Rattle.mq_ledger.proofs.form.is_rising.Goals as goal
 use Rattle.mq_ledger.proofs.form.is_rising.Goals.{then-block-low-via-then-block-low, then-block-low-via-else-block-low+then-block-high}
 

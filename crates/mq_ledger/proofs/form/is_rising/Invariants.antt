@@ -1,6 +1,6 @@
 use Rattle.std.proofs.Common.{drop, map}
 use Rattle.mq_blocks.specs.Descriptor.{AreRising}
-use Rattle.mq_ledger.proofs.Lists.{Goes}
+use Rattle.mq_ledger.proofs.RecordsLists.{Goes}
 use Rattle.mq_ledger.proofs.form.is_rising.Given as goal
 
 -- it holds of all exactly where it holds of the rest

@@ -1,6 +1,6 @@
 use Rattle.std.proofs.Common.{◌≡◌, ◌<◌, length, get_or, arith}
 use Rattle.std.proofs.lemmas.List.{get_or_read}
-use Rattle.mq_ledger.proofs.Lists.{rising-high}
+use Rattle.mq_ledger.proofs.RecordsLists.{rising-high}
 use Rattle.mq_ledger.proofs.latest.mark_freed.Goals as goal
 
 pub put-requires : goal.put-requires

@@ -2,7 +2,7 @@ use Rattle.std.proofs.Common.{◌≡◌, ◌<◌, ℕ, List, length, get_or, ap,
 use Rattle.std.proofs.lemmas.List.{get_or_read, get_or-map, length-map}
 use Rattle.mq_ledger.specs.History.{blocks_of}
 use Rattle.mq_ledger.specs.Items.{no_write}
-use Rattle.mq_ledger.proofs.Lists.{rising-high}
+use Rattle.mq_ledger.proofs.RecordsLists.{rising-high}
 use Rattle.mq_ledger.proofs.latest.mark_writes.Goals as goal
 
 pub put-requires : goal.put-requires

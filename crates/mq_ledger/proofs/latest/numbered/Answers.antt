@@ -1,5 +1,5 @@
 use Rattle.std.proofs.Common.{◌-◌, ◌<◌, length, arith, rules}
-use Rattle.mq_ledger.proofs.Ledgers.{numbered-at, numbered-bound}
+use Rattle.mq_ledger.proofs.TablesLedgers.{numbered-at, numbered-bound}
 use Rattle.mq_ledger.proofs.latest.numbered.Goals as goal
 
 pub overflow_sub-result : goal.overflow_sub-result

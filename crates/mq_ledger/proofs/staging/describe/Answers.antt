@@ -1,7 +1,7 @@
 use Rattle.std.proofs.Common.{◌≡◌, ◌∙◌, ℕ, List, length, ap, arith}
 use Rattle.std.proofs.lemmas.List.{length-map}
 use Rattle.mq_ledger.specs.declared.tx.Tx.{Tx}
-use Rattle.mq_ledger.proofs.Stagings.{few_named}
+use Rattle.mq_ledger.proofs.ItemsStagings.{few_named}
 use Rattle.mq_ledger.proofs.staging.describe.Goals as goal
 
 -- the revoked blocks are no more than the direct ones

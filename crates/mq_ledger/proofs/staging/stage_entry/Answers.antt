@@ -1,5 +1,5 @@
 use Rattle.std.proofs.Common.{◌∙◌}
-use Rattle.mq_ledger.proofs.Stagings.{direct_write, staged-write}
+use Rattle.mq_ledger.proofs.ItemsStagings.{direct_write, staged-write}
 use Rattle.mq_ledger.proofs.staging.stage_entry.Goals as goal
 
 pub home-requires : goal.home-requires

@@ -1,4 +1,4 @@
-use Rattle.mq_legal.proofs.Logs.{log-does, log-map}
+use Rattle.mq_legal.proofs.HistoriesLogs.{log-does, log-map}
 use Rattle.mq_legal.proofs.laws.a_log_is_a_history.Goals as goal
 
 pub returns : goal.returns

@@ -1,5 +1,5 @@
-use Rattle.mq_legal.proofs.Goes.{clean-home, next-starts, starts-once}
-use Rattle.mq_legal.proofs.Starting.{run-ends, volume-starts}
+use Rattle.mq_legal.proofs.CutsNextRun.{clean-home, next-starts, starts-once}
+use Rattle.mq_legal.proofs.CutsStarting.{run-ends, volume-starts}
 use Rattle.mq_legal.proofs.laws.a_run_goes_on.Goals as goal
 
 pub returns : goal.returns

@@ -1,5 +1,5 @@
-use Rattle.mq_legal.proofs.Laying.{sound-laid}
-use Rattle.mq_legal.proofs.Maps.{each-stands, same-map, same-volume}
+use Rattle.mq_legal.proofs.Laid.{sound-laid}
+use Rattle.mq_legal.proofs.LaidMaps.{each-stands, same-map, same-volume}
 use Rattle.mq_legal.proofs.laws.a_volume_has_one_map.Goals as goal
 
 pub returns : goal.returns

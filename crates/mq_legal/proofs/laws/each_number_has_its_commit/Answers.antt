@@ -1,4 +1,4 @@
-use Rattle.mq_legal.proofs.Facts.{each-number, in-order, moves, within}
+use Rattle.mq_legal.proofs.LegalFacts.{each-number, in-order, moves, within}
 use Rattle.mq_legal.proofs.laws.each_number_has_its_commit.Goals as goal
 
 pub returns : goal.returns

@@ -1,7 +1,7 @@
 -- The fields that are written one after another are the completion's.
 use Rattle.std.proofs.Common.{rules, ◌≡◌, ◌<◌, ◌^◌}
-use Rattle.mq_nvme.proofs.Completions.{status_of-completion}
-use Rattle.mq_nvme.proofs.Writings.{bit, completion_written}
+use Rattle.mq_nvme.proofs.CompletionCommands.{status_of-completion}
+use Rattle.mq_nvme.proofs.FieldWritings.{bit, completion_written}
 use Rattle.mq_nvme.proofs.completion.completion_of.Goals as goal
 
 pub returns-clause-is : goal.returns-clause-is

@@ -1,7 +1,7 @@
 -- The dwords that were read have the bytes that they were read from.
 use Rattle.mq_nvme.specs.Dwords.{dword_bytes}
 use Rattle.std.proofs.Common.{arith}
-use Rattle.mq_nvme.proofs.Bytes.{bytes_of-read}
+use Rattle.mq_nvme.proofs.DwordsBytes.{bytes_of-read}
 use Rattle.mq_nvme.proofs.dwords.read_dwords.Goals as goal
 
 pub returns-clause-bytes : goal.returns-clause-bytes

@@ -1,7 +1,7 @@
 -- Each pointer that is read is a whole dword.
 use Rattle.std.proofs.Common.{rules, ◌≡◌, ◌∙◌, slice_index}
 use Rattle.mq_nvme.specs.Entry.{common_rules, slot_of}
-use Rattle.mq_nvme.proofs.Readings.{whole, slot_is}
+use Rattle.mq_nvme.proofs.FieldReadings.{whole, slot_is}
 use Rattle.mq_nvme.proofs.write.common_refusal.Goals as goal
 
 pub returns-then-get-ne0 : goal.returns-then-get-ne0

@@ -1,8 +1,8 @@
 -- An entry of a request is not refused, and its request is read.
 use Rattle.std.proofs.Common.{ap}
 use Rattle.mq_nvme.specs.Entry.{request_of}
-use Rattle.mq_nvme.proofs.Entries.{request_of-entry}
-use Rattle.mq_nvme.proofs.Refusals.{refusal_of-write}
+use Rattle.mq_nvme.proofs.EntryRequests.{request_of-entry}
+use Rattle.mq_nvme.proofs.EntryRefusals.{refusal_of-write}
 use Rattle.mq_nvme.proofs.write.read_write.Goals as goal
 
 pub returns-in-Some-clause-write : goal.returns-in-Some-clause-write

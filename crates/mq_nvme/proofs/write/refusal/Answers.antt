@@ -1,7 +1,7 @@
 -- The rules of a block come first, then those of all commands.
 use Rattle.std.proofs.Common.{◌++◌, sym, ◌∙◌}
 use Rattle.mq_nvme.specs.Entry.{block_rules, common_rules, command_rules, refusal_of}
-use Rattle.mq_nvme.proofs.Refusals.{first_refusal-append_some, first_refusal-append_none}
+use Rattle.mq_nvme.proofs.EntryRefusals.{first_refusal-append_some, first_refusal-append_none}
 use Rattle.mq_nvme.proofs.write.refusal.Goals as goal
 
 pub returns-in-Some : goal.returns-in-Some

@@ -1,8 +1,8 @@
 -- What is read of an entry that is not refused has that entry.
 use Rattle.std.proofs.Common.{rules, ◌≡◌, ◌∙◌}
 use Rattle.mq_nvme.specs.Entry.{request_of, slot_of}
-use Rattle.mq_nvme.proofs.Readings.{slot_is}
-use Rattle.mq_nvme.proofs.Refusals.{accepted, HasDwords}
+use Rattle.mq_nvme.proofs.FieldReadings.{slot_is}
+use Rattle.mq_nvme.proofs.EntryRefusals.{accepted, HasDwords}
 use Rattle.mq_nvme.proofs.write.request.Goals as goal
 
 pub returns-clause-write : goal.returns-clause-write

@@ -1,7 +1,7 @@
 -- The fields that are written one after another are the request's.
 use Rattle.std.proofs.Common.{rules, ◌≡◌, not}
 use Rattle.mq_nvme.specs.Entry.{IsRequest}
-use Rattle.mq_nvme.proofs.Writings.{bit, entry_written}
+use Rattle.mq_nvme.proofs.FieldWritings.{bit, entry_written}
 use Rattle.mq_nvme.proofs.write.write_of.Goals as goal
 
 pub returns-clause-is : goal.returns-clause-is

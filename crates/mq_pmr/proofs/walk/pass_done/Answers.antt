@@ -1,5 +1,5 @@
 use Rattle.std.proofs.Common.{◌∷◌, ◌∙◌, ap, sym, arith, rules}
-use Rattle.mq_pmr.proofs.Walking.{onward_next, onward_stops, first_end}
+use Rattle.mq_pmr.proofs.RungsWalking.{onward_next, onward_stops, first_end}
 use Rattle.mq_pmr.proofs.walk.pass_done.Goals as goal
 
 pub returns-then-not-pass_to-clause-walk : goal.returns-then-not-pass_to-clause-walk

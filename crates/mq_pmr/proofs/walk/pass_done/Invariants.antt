@@ -1,7 +1,7 @@
 use Rattle.std.proofs.Common.{◌≡◌, ◌≤◌, ℕ, length}
 use Rattle.std.specs.VecDeque.{deque_capacity}
 use Rattle.mq_pmr.specs.Rungs.{AreEnds}
-use Rattle.mq_pmr.proofs.Walking.{Onward}
+use Rattle.mq_pmr.proofs.RungsWalking.{Onward}
 use Rattle.mq_pmr.proofs.walk.pass_done.Given as goal
 
 -- what leads from here on leads to the same transactions as from the start

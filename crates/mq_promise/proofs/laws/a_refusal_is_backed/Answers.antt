@@ -1,4 +1,4 @@
-use Rattle.mq_promise.proofs.Blames.{is-backed}
+use Rattle.mq_promise.proofs.BackedBlames.{is-backed}
 use Rattle.mq_promise.proofs.laws.a_refusal_is_backed.Goals as goal
 
 pub returns : goal.returns

@@ -1,4 +1,4 @@
-use Rattle.mq_promise.proofs.Caused.{is-caused}
+use Rattle.mq_promise.proofs.AnswersCaused.{is-caused}
 use Rattle.mq_promise.proofs.laws.a_refusal_is_caused.Goals as goal
 
 pub returns : goal.returns

@@ -1,4 +1,4 @@
-use Rattle.mq_promise.proofs.PortCauses.{are-backed}
+use Rattle.mq_promise.proofs.Causes.{are-backed}
 use Rattle.mq_promise.proofs.laws.a_refusal_on_an_image_is_backed.Goals as goal
 
 pub returns : goal.returns

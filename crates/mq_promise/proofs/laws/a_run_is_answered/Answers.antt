@@ -1,4 +1,4 @@
-use Rattle.mq_promise.proofs.Answered.{are-answered}
+use Rattle.mq_promise.proofs.AnswersGiven.{are-answered}
 use Rattle.mq_promise.proofs.laws.a_run_is_answered.Goals as goal
 
 pub returns : goal.returns

@@ -1,6 +1,6 @@
-use Rattle.mq_promise.proofs.Clean.{is-clean}
-use Rattle.mq_promise.proofs.Cutting.{is-cut}
-use Rattle.mq_promise.proofs.Done.{acknowledged-low}
+use Rattle.mq_promise.proofs.CutsClean.{is-clean}
+use Rattle.mq_promise.proofs.Cuts.{is-cut}
+use Rattle.mq_promise.proofs.AnswersDone.{acknowledged-low}
 use Rattle.mq_promise.proofs.laws.a_run_is_cut.Goals as goal
 
 pub returns : goal.returns

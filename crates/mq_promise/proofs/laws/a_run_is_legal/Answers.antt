@@ -1,4 +1,4 @@
-use Rattle.mq_promise.proofs.Whole.{legal}
+use Rattle.mq_promise.proofs.RunsWhole.{legal}
 use Rattle.mq_promise.proofs.laws.a_run_is_legal.Goals as goal
 
 pub returns : goal.returns

@@ -1,4 +1,4 @@
-use Rattle.mq_promise.proofs.Rung.{is-rung}
+use Rattle.mq_promise.proofs.HistoriesRung.{is-rung}
 use Rattle.mq_promise.proofs.laws.a_run_is_rung.Goals as goal
 
 pub returns : goal.returns

@@ -1,4 +1,4 @@
-use Rattle.mq_promise.proofs.Promise.{keeps-promise}
+use Rattle.mq_promise.proofs.Images.{keeps-promise}
 use Rattle.mq_promise.proofs.laws.a_run_on_an_image_keeps_its_promise.Goals as goal
 
 pub returns : goal.returns

@@ -1,6 +1,6 @@
 use Rattle.std.proofs.Common.{ℕ, refl, sym, subst}
 use Rattle.mq_legal.specs.Answers.{IsUndone}
-use Rattle.mq_promise.proofs.Failures.{stopped-undone}
+use Rattle.mq_promise.proofs.DrivesFailures.{stopped-undone}
 use Rattle.mq_promise.proofs.laws.a_stopped_transaction_is_undone.Goals as goal
 
 pub returns : goal.returns

@@ -1,4 +1,4 @@
-use Rattle.mq_promise.proofs.PortCauses.{are-port-causes}
+use Rattle.mq_promise.proofs.Causes.{are-port-causes}
 use Rattle.mq_promise.proofs.laws.causes_of_ports_hold.Goals as goal
 
 pub returns : goal.returns

@@ -1,6 +1,6 @@
-use Rattle.mq_core.proofs.Runs.{run_is_lawful}
+use Rattle.mq_core.proofs.MachineFacts.{run_is_lawful}
 use Rattle.mq_ledger.specs.Written.{journal_entries}
-use Rattle.mq_promise.proofs.Recoveries.{throughout}
+use Rattle.mq_promise.proofs.Recovering.{throughout}
 use Rattle.mq_promise.proofs.laws.every_interleaving_is_recovered.Goals as goal
 
 pub returns : goal.returns

@@ -4,7 +4,7 @@ use Rattle.std.specs.Option.{unwrap_or}
 use Rattle.mq_blocks.specs.Descriptor.{Descriptor}
 use Rattle.mq_area.specs.declared.descriptor.PlaceIs.TheVariants.{Index}
 use Rattle.mq_recover.specs.Refusals.{ChainStopped}
-use Rattle.mq_recover.proofs.RecoverChains.{found-more, found-as}
+use Rattle.mq_recover.proofs.RefusalsChains.{found-more, found-as}
 use Rattle.mq_recover.proofs.chain.follow_from.Goals as goal
 
 pub returns-in_err-next-clause-refused : goal.returns-in_err-next-clause-refused

@@ -1,5 +1,5 @@
 use Rattle.std.proofs.Common.{sym, ◌∙◌}
-use Rattle.mq_recover.proofs.Readable.{own-port, chain-shown, chain-refused, chain-complete, chain-exact}
+use Rattle.mq_recover.proofs.RecoverReadable.{own-port, chain-shown, chain-refused, chain-complete, chain-exact}
 use Rattle.mq_recover.proofs.chain.read_chain.Goals as goal
 
 pub returns-clause-ok : goal.returns-clause-ok

@@ -1,9 +1,10 @@
 use Rattle.std.proofs.Common.{◌≡◌, ◌-◌, true, false, Some, ap, ◌∙◌, sym, arith}
 use Rattle.std.proofs.lemmas.Bool.{not-true, not-false}
 use Rattle.std.proofs.lemmas.Result.{err_from_is_err_and}
+use Rattle.mq_blocks.proofs.DriveQuiescent.{head-of}
 use Rattle.mq_nvme.specs.Says.{says}
 use Rattle.mq_recover.specs.Refusals.{NewestCommit, NewestLimit, entry_at}
-use Rattle.mq_recover.proofs.RecoverChains.{head-of, newest-entry}
+use Rattle.mq_recover.proofs.RefusalsChains.{newest-entry}
 use Rattle.mq_recover.proofs.chain.read_newest.Goals as goal
 
 pub returns-in_err-last-clause-refused : goal.returns-in_err-last-clause-refused

@@ -1,9 +1,10 @@
 use Rattle.std.proofs.Common.{◌≡◌, ◌%◌, [], refl, sym, ◌∙◌, ap}
 use Rattle.std.specs.Prelude.{slice_index_or}
 use Rattle.mq_blocks.specs.Drive.{depth}
+use Rattle.mq_blocks.proofs.DriveQuiescent.{quiet-flushed}
 use Rattle.mq_nvme.specs.Entry.{refusal_of}
 use Rattle.mq_nvme.specs.Says.{says}
-use Rattle.mq_recover.proofs.RecoverChains.{quiet-flushed, says-of}
+use Rattle.mq_nvme.proofs.Says.{says-of}
 use Rattle.mq_recover.proofs.chain.read_request.Goals as goal
 
 pub returns-in-Ok-clause-ok : goal.returns-in-Ok-clause-ok

@@ -2,7 +2,7 @@ use Rattle.std.proofs.Common.{◌≡◌, true, false, ℕ, Bool, max, inl, inr, 
 use Rattle.std.proofs.lemmas.Bool.{cases_lt}
 use Rattle.std.proofs.lemmas.Result.{err_from_is_err_and}
 use Rattle.mq_recover.specs.Refusals.{RequestLimit, RungStopped, RungCommit, IsGreatest}
-use Rattle.mq_recover.proofs.RecoverChains.{request-entry, read-more, AreRead}
+use Rattle.mq_recover.proofs.RefusalsChains.{request-entry, read-more, AreRead}
 use Rattle.mq_recover.proofs.chain.read_rung.Goals as goal
 
 pub returns-in_err-request-clause-refused : goal.returns-in_err-request-clause-refused

@@ -1,5 +1,5 @@
 use Rattle.std.proofs.Common.{◌≡◌, ◌≤◌}
-use Rattle.mq_recover.proofs.RecoverChains.{AreRead}
+use Rattle.mq_recover.proofs.RefusalsChains.{AreRead}
 use Rattle.mq_recover.proofs.chain.read_rung.Given as goal
 
 -- the entries so far were read

@@ -5,7 +5,7 @@ use Rattle.mq_blocks.specs.Descriptor.{Descriptor, AreRising}
 use Rattle.mq_blocks.specs.Geometry.{homes_of}
 use Rattle.mq_recover.specs.Recover.{with_transaction}
 use Rattle.mq_recover.specs.declared.copies.CopyPlace.{CopyPlace}
-use Rattle.mq_recover.proofs.Popped.{AreTaken, none-taken, can-pop, end-placed, ends-refused}
+use Rattle.mq_recover.proofs.PlansPopped.{AreTaken, none-taken, can-pop, end-placed, ends-refused}
 use Rattle.mq_recover.proofs.copies.place_copies.Goals as goal
 use Rattle.mq_recover.proofs.copies.place_copies.Goals.{then-next-base, else-next-base}
 

@@ -1,7 +1,7 @@
 use Rattle.std.specs.List.{sum_by}
 use Rattle.std.proofs.Common.{◌≡◌, length}
 use Rattle.mq_blocks.specs.Geometry.{homes_of}
-use Rattle.mq_recover.proofs.Popped.{AreTaken}
+use Rattle.mq_recover.proofs.PlansPopped.{AreTaken}
 use Rattle.mq_recover.proofs.copies.place_copies.Given as goal
 
 -- the copies are those of the transactions that were taken

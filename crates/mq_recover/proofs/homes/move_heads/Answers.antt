@@ -2,7 +2,7 @@ use Rattle.std.proofs.Common.{get_or, set, map, sym, ◌∙◌, ap, subst, arith
 use Rattle.std.proofs.lemmas.List.{length-map}
 use Rattle.std.proofs.lemmas.Result.{err_from_is_err_and}
 use Rattle.mq_recover.specs.RecoverHomes.{CanMove, AreCutMoves}
-use Rattle.mq_recover.proofs.PortRows.{IsNextHead, next-head, head-moved, head-cut, head-cause, head-same, on-err}
+use Rattle.mq_recover.proofs.DrivesPortRows.{IsNextHead, next-head, head-moved, head-cut, head-cause, head-same, on-err}
 use Rattle.mq_recover.proofs.homes.move_heads.Goals as goal
 
 pub move_head-requires : goal.move_head-requires

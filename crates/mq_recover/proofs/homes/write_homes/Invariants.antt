@@ -3,7 +3,7 @@ use Rattle.std.specs.VecDeque.{deque_len}
 use Rattle.mq_blocks.specs.Geometry.{homes_of}
 use Rattle.mq_recover.specs.Drives.{ArePorts, states, faults_of}
 use Rattle.mq_recover.specs.RecoverHomes.{AreBelow}
-use Rattle.mq_recover.proofs.RecoverEvents.{HasLeft}
+use Rattle.mq_recover.proofs.StepsEvents.{HasLeft}
 use Rattle.mq_recover.proofs.homes.write_homes.Given as goal
 
 -- the events of the writes that are left follow those that happened

@@ -1,5 +1,5 @@
 use Rattle.std.proofs.Common.{Some, sym, ◌∙◌, ap}
-use Rattle.mq_recover.proofs.PortRows.{IsOfBlock, of-block, row-home, row-gives, row-cause}
+use Rattle.mq_recover.proofs.DrivesPortRows.{IsOfBlock, of-block, row-home, row-gives, row-cause}
 use Rattle.mq_recover.proofs.homes.write_one.Goals as goal
 
 pub write_through-requires-in-Some-clause-home : goal.write_through-requires-in-Some-clause-home

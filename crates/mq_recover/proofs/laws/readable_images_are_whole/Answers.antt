@@ -1,4 +1,4 @@
-use Rattle.mq_recover.proofs.Images.{whole-readable, readable-whole, image-refused}
+use Rattle.mq_recover.proofs.DrivesImages.{whole-readable, readable-whole, image-refused}
 use Rattle.mq_recover.proofs.laws.readable_images_are_whole.Goals as goal
 
 pub returns-clause-whole : goal.returns-clause-whole

@@ -1,4 +1,4 @@
-use Rattle.mq_recover.proofs.Recoveries.{again-same}
+use Rattle.mq_recover.proofs.StepsRecoveries.{again-same}
 use Rattle.mq_recover.proofs.laws.recovery_may_be_cut.Goals as goal
 
 pub returns : goal.returns

@@ -1,8 +1,8 @@
 use Rattle.std.proofs.Common.{refl, arith}
 use Rattle.mq_blocks.specs.Drive.{PortState}
+use Rattle.mq_blocks.proofs.DriveQuiescent.{base-of}
 use Rattle.mq_recover.specs.Drives.{states}
-use Rattle.mq_recover.proofs.Images.{good-chains, found-in}
-use Rattle.mq_recover.proofs.RecoverChains.{base-of}
+use Rattle.mq_recover.proofs.DrivesImages.{good-chains, found-in}
 use Rattle.mq_recover.proofs.plan.find_copies.Goals as goal
 
 pub place_copies-requires : goal.place_copies-requires

@@ -4,7 +4,7 @@ use Rattle.mq_recover.specs.Drives.{states, view_over}
 use Rattle.mq_recover.specs.RecoverHomes.{writes_from}
 use Rattle.mq_recover.specs.declared.copies.CopyPlace.{CopyPlace}
 use Rattle.mq_recover.specs.declared.plan.Plan.{Plan}
-use Rattle.mq_recover.proofs.Images.{err-exact, image-refused, read-readable}
+use Rattle.mq_recover.proofs.DrivesImages.{err-exact, image-refused, read-readable}
 use Rattle.mq_recover.proofs.Plans.{plan-of, found-within}
 use Rattle.mq_recover.proofs.plan.make_plan.Goals as goal
 

@@ -5,8 +5,8 @@ use Rattle.mq_drive.specs.Start.{IsPortOf}
 use Rattle.mq_drive.specs.declared.role.Role.TheVariants.{Queue}
 use Rattle.mq_recover.specs.Drives.{states}
 use Rattle.mq_recover.specs.declared.copies.CopyPlace.{CopyPlace}
-use Rattle.mq_recover.proofs.Images.{view-seen}
-use Rattle.mq_recover.proofs.QueueReads.{port-own}
+use Rattle.mq_recover.proofs.DrivesImages.{view-seen}
+use Rattle.mq_recover.proofs.DrivesQueueReads.{port-own}
 use Rattle.mq_recover.proofs.plan.read_copy_place.Goals as goal
 
 pub read_area-requires-clause-port : goal.read_area-requires-clause-port

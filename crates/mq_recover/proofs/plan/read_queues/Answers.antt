@@ -7,7 +7,7 @@ use Rattle.mq_recover.specs.Drives.{states}
 use Rattle.mq_recover.specs.Plans.{newest_number}
 use Rattle.mq_recover.specs.Refusals.{IsReadable, IsGreatest, RefusesQueue}
 use Rattle.mq_recover.specs.declared.refusal.ChainRefusal.TheVariants.{OutOfMemory}
-use Rattle.mq_recover.proofs.QueueReads.{port-is, port-count, none-read, more-read, all-read, queue-refused}
+use Rattle.mq_recover.proofs.DrivesQueueReads.{port-is, port-count, none-read, more-read, all-read, queue-refused}
 use Rattle.mq_recover.proofs.plan.read_queues.Goals as goal
 
 pub read_queue-requires-clause-port : goal.read_queue-requires-clause-port

@@ -1,6 +1,6 @@
 use Rattle.std.proofs.Common.{◌≡◌, ◌<◌, ◌^◌}
 use Rattle.mq_recover.specs.Drives.{states}
-use Rattle.mq_recover.proofs.QueueReads.{AreReadTo}
+use Rattle.mq_recover.proofs.DrivesQueueReads.{AreReadTo}
 use Rattle.mq_recover.proofs.plan.read_queues.Given as goal
 
 -- the queues so far are read

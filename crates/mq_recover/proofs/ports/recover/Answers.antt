@@ -4,9 +4,9 @@ use Rattle.std.proofs.lemmas.Result.{err_from_is_err_and}
 use Rattle.mq_recover.specs.Drives.{DriveState, states}
 use Rattle.mq_recover.specs.Steps.{IsCutShort}
 use Rattle.mq_recover.specs.declared.refusal.RecoverRefusal.TheVariants.{Off}
-use Rattle.mq_recover.proofs.Images.{memory-alone, read-readable}
-use Rattle.mq_recover.proofs.Recoveries.{writes-below, all-home, root-alone, base-low, cut-homes, cut-raise, cut-left, done-left, on-drive, unless-image}
-use Rattle.mq_recover.proofs.RecoverRows.{IsRaisedRow, IsHandedBack, row-moves, row-cut, row-done, row-off}
+use Rattle.mq_recover.proofs.DrivesImages.{memory-alone, read-readable}
+use Rattle.mq_recover.proofs.StepsRecoveries.{writes-below, all-home, root-alone, base-low, cut-homes, cut-raise, cut-left, done-left, on-drive, unless-image}
+use Rattle.mq_recover.proofs.RecoverHomesRows.{IsRaisedRow, IsHandedBack, row-moves, row-cut, row-done, row-off}
 use Rattle.mq_recover.proofs.ports.recover.Goals as goal
 
 pub returns-in_err-plan-clause-complete : goal.returns-in_err-plan-clause-complete

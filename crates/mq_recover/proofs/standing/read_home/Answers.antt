@@ -4,9 +4,9 @@ use Rattle.mq_blocks.specs.Geometry.{zone_of}
 use Rattle.mq_drive.specs.Start.{IsPortOf}
 use Rattle.mq_drive.specs.declared.role.Role.TheVariants.{Queue}
 use Rattle.mq_recover.specs.Drives.{states}
-use Rattle.mq_recover.proofs.QueueReads.{port-own}
-use Rattle.mq_recover.proofs.Standings.{home-read}
-use Rattle.mq_recover.proofs.Zones.{IsZone, zone-is, home-own}
+use Rattle.mq_recover.proofs.DrivesQueueReads.{port-own}
+use Rattle.mq_recover.proofs.StandingBlocks.{home-read}
+use Rattle.mq_recover.proofs.DrivesZones.{IsZone, zone-is, home-own}
 use Rattle.mq_recover.proofs.standing.read_home.Goals as goal
 
 pub returns-in-None : goal.returns-in-None

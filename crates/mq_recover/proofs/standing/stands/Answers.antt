@@ -1,13 +1,13 @@
 use Rattle.std.proofs.Common.{◌≡◌, ◌∙◌, List, Option, None, get_or, length, ap, refl}
 use Rattle.std.proofs.lemmas.Result.{err_from_is_err_and}
+use Rattle.mq_blocks.proofs.DriveQuiescent.{base-of}
 use Rattle.mq_recover.specs.Drives.{states}
 use Rattle.mq_recover.specs.Standing.{newest_of}
 use Rattle.mq_recover.specs.declared.copies.CopyPlace.{CopyPlace}
 use Rattle.mq_recover.specs.declared.standing.Standing.{Standing}
-use Rattle.mq_recover.proofs.Images.{err-exact, memory-alone, image-refused, read-readable}
+use Rattle.mq_recover.proofs.DrivesImages.{err-exact, memory-alone, image-refused, read-readable}
 use Rattle.mq_recover.proofs.Plans.{found-within}
-use Rattle.mq_recover.proofs.RecoverChains.{base-of}
-use Rattle.mq_recover.proofs.Standings.{standing-of}
+use Rattle.mq_recover.proofs.StandingBlocks.{standing-of}
 use Rattle.mq_recover.proofs.standing.stands.Goals as goal
 
 pub read_blocks-requires-clause-homes : goal.read_blocks-requires-clause-homes

@@ -1,4 +1,4 @@
-use Rattle.mq_report.proofs.Spelling.{entries-step, next-line}
+use Rattle.mq_report.proofs.Lines.{entries-step, next-line}
 use Rattle.mq_report.proofs.print.put_entries.Goals as goal
 
 pub loop-line-preserved : goal.loop-line-preserved

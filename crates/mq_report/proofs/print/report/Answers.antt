@@ -1,6 +1,6 @@
 use Rattle.std.proofs.Common.{◌∙◌, ◌++◌, ◌∷◌, [], map, ap}
 use Rattle.mq_report.specs.Texts.{base_line, entry_lines, last_line, spaced, spelled, told_line}
-use Rattle.mq_report.proofs.Spelling.{whole}
+use Rattle.mq_report.proofs.Lines.{whole}
 use Rattle.mq_report.proofs.print.report.Goals as goal
 
 pub returns : goal.returns

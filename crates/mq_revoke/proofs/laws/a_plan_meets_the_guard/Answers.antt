@@ -1,4 +1,4 @@
-use Rattle.mq_revoke.proofs.Drawing.{may_draw}
+use Rattle.mq_revoke.proofs.Guard.{may_draw}
 use Rattle.mq_revoke.proofs.laws.a_plan_meets_the_guard.Goals as goal
 
 pub returns : goal.returns

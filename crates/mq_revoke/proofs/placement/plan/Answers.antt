@@ -3,8 +3,9 @@ use Rattle.std.specs.Prelude.{vec_len}
 use Rattle.std.proofs.lemmas.Bool.{false≢true}
 use Rattle.std.proofs.lemmas.List.{length-map, take_all}
 use Rattle.mq_blocks.specs.Geometry.{homes_of}
+use Rattle.mq_blocks.proofs.DescriptorRising.{rising-few}
 use Rattle.mq_revoke.specs.Placing.{IsDirect}
-use Rattle.mq_revoke.proofs.Placing.{rising-few, in_range, short, after_logged, after_direct, after_revoked, so_far-placement, so_far-length}
+use Rattle.mq_revoke.proofs.Placing.{in_range, short, after_logged, after_direct, after_revoked, so_far-placement, so_far-length}
 use Rattle.mq_revoke.proofs.placement.plan.Goals as goal
 use Rattle.mq_revoke.proofs.placement.plan.Goals.{then-is_direct+then-is_copied, then-is_direct+else-is_copied, else-is_direct}
 

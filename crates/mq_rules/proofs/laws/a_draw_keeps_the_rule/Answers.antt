@@ -1,7 +1,7 @@
 use Rattle.std.proofs.Common.{refl}
 use Rattle.std.proofs.lemmas.Bool.{eq-eqb}
-use Rattle.mq_rules.proofs.Drawing.{page_drawn}
-use Rattle.mq_rules.proofs.Staying.{good_now, ok_drawn}
+use Rattle.mq_rules.proofs.Cells.{page_drawn}
+use Rattle.mq_rules.proofs.RuleStaying.{good_now, ok_drawn}
 use Rattle.mq_rules.proofs.laws.a_draw_keeps_the_rule.Goals as goal
 
 pub returns : goal.returns

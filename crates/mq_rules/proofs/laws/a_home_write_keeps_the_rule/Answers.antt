@@ -1,4 +1,4 @@
-use Rattle.mq_rules.proofs.Telling.{ok_written, page_written}
+use Rattle.mq_rules.proofs.RuleTelling.{ok_written, page_written}
 use Rattle.mq_rules.proofs.laws.a_home_write_keeps_the_rule.Goals as goal
 
 pub returns : goal.returns

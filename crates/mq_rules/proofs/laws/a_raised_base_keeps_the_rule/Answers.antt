@@ -1,4 +1,4 @@
-use Rattle.mq_rules.proofs.Telling.{ok_raised, root_raised}
+use Rattle.mq_rules.proofs.RuleTelling.{ok_raised, root_raised}
 use Rattle.mq_rules.proofs.laws.a_raised_base_keeps_the_rule.Goals as goal
 
 pub returns : goal.returns

@@ -1,4 +1,4 @@
-use Rattle.mq_rules.proofs.Telling.{ok_charged, root_charged, side_charged}
+use Rattle.mq_rules.proofs.RuleTelling.{ok_charged, root_charged, side_charged}
 use Rattle.mq_rules.proofs.laws.charges_keep_the_rule.Goals as goal
 
 pub returns : goal.returns

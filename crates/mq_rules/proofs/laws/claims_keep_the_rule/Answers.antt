@@ -1,5 +1,5 @@
-use Rattle.mq_rules.proofs.Settled.{front_claimed}
-use Rattle.mq_rules.proofs.Telling.{ok_claimed, side_claimed}
+use Rattle.mq_rules.proofs.RuleSettled.{front_claimed}
+use Rattle.mq_rules.proofs.RuleTelling.{ok_claimed, side_claimed}
 use Rattle.mq_rules.proofs.laws.claims_keep_the_rule.Goals as goal
 
 pub returns : goal.returns

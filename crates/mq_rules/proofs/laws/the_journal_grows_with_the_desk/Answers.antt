@@ -1,6 +1,6 @@
 use Rattle.std.proofs.Common.{refl}
-use Rattle.mq_rules.proofs.Staying.{core_grown}
-use Rattle.mq_rules.proofs.Telling.{page_brought, page_numbers, page_waits}
+use Rattle.mq_rules.proofs.RuleStaying.{core_grown}
+use Rattle.mq_rules.proofs.RuleTelling.{page_brought, page_numbers, page_waits}
 use Rattle.mq_rules.proofs.laws.the_journal_grows_with_the_desk.Goals as goal
 
 pub returns : goal.returns

@@ -1,4 +1,4 @@
-use Rattle.mq_rules.proofs.Staying.{page_along, root_along, side_along}
+use Rattle.mq_rules.proofs.RuleStaying.{page_along, root_along, side_along}
 use Rattle.mq_rules.proofs.laws.values_stay.Goals as goal
 
 pub returns : goal.returns

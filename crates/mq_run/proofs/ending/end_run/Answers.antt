@@ -3,7 +3,7 @@ use Rattle.mq_calls.specs.Sessions.{IsReady}
 use Rattle.mq_files.specs.Group.{file_group}
 use Rattle.mq_tie.specs.Closed.{HasRun}
 use Rattle.mq_turns.specs.AtDesk.{AtDesk, start_of, view}
-use Rattle.mq_run.proofs.Growing.{map_twice}
+use Rattle.mq_run.proofs.LinesGrowing.{map_twice}
 use Rattle.mq_run.proofs.Parts.{both_of}
 use Rattle.mq_run.proofs.ending.end_run.Goals as goal
 

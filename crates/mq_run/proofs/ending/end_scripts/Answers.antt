@@ -4,9 +4,9 @@ use Rattle.mq_calls.specs.Sessions.{IsReady}
 use Rattle.mq_files.specs.Group.{file_group}
 use Rattle.mq_tie.specs.Closed.{HasRun}
 use Rattle.mq_turns.specs.AtDesk.{AtDesk, start_of, view}
-use Rattle.mq_run.proofs.Growing.{map_twice}
+use Rattle.mq_run.proofs.LinesGrowing.{map_twice}
 use Rattle.mq_run.proofs.Parts.{all_parts, if_both}
-use Rattle.mq_run.proofs.Tracks.{ends_so}
+use Rattle.mq_run.proofs.RunsTracks.{ends_so}
 use Rattle.mq_run.specs.Runs.{EndsSo, Leaves, track}
 use Rattle.std.specs.List.{All}
 use Rattle.mq_run.proofs.ending.end_scripts.Goals as goal

@@ -1,7 +1,7 @@
 use Rattle.mq_calls.specs.Sessions.{IsReady}
 use Rattle.mq_turns.specs.AtDesk.{AtDesk, view}
-use Rattle.mq_run.proofs.Growing.{all_rest}
-use Rattle.mq_run.proofs.Hearing.{not_finished}
+use Rattle.mq_run.proofs.LinesGrowing.{all_rest}
+use Rattle.mq_run.proofs.EndingHearing.{not_finished}
 use Rattle.mq_run.proofs.ending.finish.Goals as goal
 
 pub returns-then-not-asked-clause-finished : goal.returns-then-not-asked-clause-finished

@@ -4,8 +4,8 @@ use Rattle.std.proofs.Math.Seq.{map-set_same}
 use Rattle.std.proofs.lemmas.List.Elements.{All-set}
 use Rattle.mq_calls.specs.Sessions.{IsReady}
 use Rattle.mq_turns.specs.AtDesk.{AtDesk, view}
-use Rattle.mq_run.proofs.Growing.{got, image_at}
-use Rattle.mq_run.proofs.Hearing.{below_later, heard_next, seen_is}
+use Rattle.mq_run.proofs.LinesGrowing.{got, image_at}
+use Rattle.mq_run.proofs.EndingHearing.{below_later, heard_next, seen_is}
 use Rattle.mq_run.proofs.ending.tell_first.Goals as goal
 
 pub loop-at-preserved : goal.loop-at-preserved

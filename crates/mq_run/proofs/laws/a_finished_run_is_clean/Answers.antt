@@ -1,4 +1,4 @@
-use Rattle.mq_run.proofs.Finished.{finished-clean}
+use Rattle.mq_run.proofs.LawsFinished.{finished-clean}
 use Rattle.mq_run.proofs.laws.a_finished_run_is_clean.Goals as goal
 
 pub returns : goal.returns

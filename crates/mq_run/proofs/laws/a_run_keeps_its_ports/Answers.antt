@@ -1,4 +1,4 @@
-use Rattle.mq_run.proofs.KeptPorts.{keeps-ports}
+use Rattle.mq_run.proofs.DrivesKeptPorts.{keeps-ports}
 use Rattle.mq_run.proofs.laws.a_run_keeps_its_ports.Goals as goal
 
 pub returns : goal.returns

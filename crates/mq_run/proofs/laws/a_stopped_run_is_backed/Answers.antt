@@ -1,4 +1,4 @@
-use Rattle.mq_run.proofs.Stopped.{stop-backed}
+use Rattle.mq_run.proofs.LawsStopped.{stop-backed}
 use Rattle.mq_run.proofs.laws.a_stopped_run_is_backed.Goals as goal
 
 pub returns : goal.returns

@@ -2,7 +2,7 @@ use Rattle.std.proofs.Common.{◌+◌, List, sym, subst, take}
 use Rattle.mq_report.specs.declared.line.Line.{Line}
 use Rattle.mq_tie.specs.Runs.{history_of}
 use Rattle.mq_run.specs.Lines.{AreCommitLines}
-use Rattle.mq_run.proofs.Growing.{commit_next, commit_start}
+use Rattle.mq_run.proofs.LinesGrowing.{commit_next, commit_start}
 use Rattle.mq_run.proofs.lines.commit_lines.Goals as goal
 
 pub loop-at-init : goal.loop-at-init

@@ -1,7 +1,7 @@
 use Rattle.std.proofs.Common.{◌≡◌, ◌++◌, map, ap, sym, ◌∙◌, append_assoc}
 use Rattle.std.proofs.lemmas.List.{map_push}
 use Rattle.mq_run.specs.Lines.{joined}
-use Rattle.mq_run.proofs.Joined.{joined_push}
+use Rattle.mq_run.proofs.LinesJoined.{joined_push}
 use Rattle.mq_run.proofs.lines.gather.Goals as goal
 
 pub loop-list-preserved : goal.loop-list-preserved

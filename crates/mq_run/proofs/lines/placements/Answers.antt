@@ -1,6 +1,6 @@
 use Rattle.std.proofs.Common.{◌∷◌, ◌++◌, [], ap, ◌∙◌}
 use Rattle.mq_tie.specs.Runs.{history_of}
-use Rattle.mq_run.proofs.Growing.{map_next}
+use Rattle.mq_run.proofs.LinesGrowing.{map_next}
 use Rattle.mq_run.proofs.lines.placements.Goals as goal
 
 pub loop-at-preserved : goal.loop-at-preserved

@@ -2,7 +2,7 @@ use Rattle.std.proofs.Common.{rules}
 use Rattle.std.specs.Ordering.{is_lt}
 use Rattle.std.proofs.lemmas.List.Sorted.{answers_always, ranks_by}
 use Rattle.mq_run.specs.Lines.{line_cmp}
-use Rattle.mq_run.proofs.LineOrder.{in_order, line_cmp_total}
+use Rattle.mq_run.proofs.LinesOrder.{in_order, line_cmp_total}
 use Rattle.mq_run.proofs.lines.sort_lines.Goals as goal
 
 pub returns-clause-order : goal.returns-clause-order

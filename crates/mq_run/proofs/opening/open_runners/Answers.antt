@@ -1,6 +1,6 @@
 use Rattle.std.proofs.Common.{ap, map, sym, ◌∙◌}
 use Rattle.std.specs.Prelude.{slice_get}
-use Rattle.mq_run.proofs.Growing.{image_at, map_twice}
+use Rattle.mq_run.proofs.LinesGrowing.{image_at, map_twice}
 use Rattle.mq_run.specs.Seating.{room_of}
 use Rattle.mq_run.proofs.opening.open_runners.Goals as goal
 

@@ -2,7 +2,7 @@ use Rattle.std.proofs.Common.{◌≡◌, [], ◌∷◌, ap, refl, rules}
 use Rattle.std.specs.Prelude.{false}
 use Rattle.mq_report.specs.declared.line.Line.{Line}
 use Rattle.mq_script.specs.Scripts.{Group}
-use Rattle.mq_run.proofs.Plays.{read-line}
+use Rattle.mq_run.proofs.PlayingGroups.{read-line}
 use Rattle.mq_run.proofs.playing.add_line.Goals as goal
 
 pub returns-then-not-answer-clause-read : goal.returns-then-not-answer-clause-read

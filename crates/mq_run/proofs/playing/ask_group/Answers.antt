@@ -3,7 +3,7 @@ use Rattle.mq_script.specs.declared.group.End.{End}
 use Rattle.mq_script.specs.declared.group.End.TheVariants.{Ask}
 use Rattle.mq_tree.specs.declared.request.Request.{Request}
 use Rattle.mq_run.specs.Playing.{TellsOfChanges, answered}
-use Rattle.mq_run.proofs.Plays.{tells-asked}
+use Rattle.mq_run.proofs.PlayingGroups.{tells-asked}
 use Rattle.mq_run.proofs.playing.ask_group.Goals as goal
 
 pub returns-in-Ask-clause-changes : goal.returns-in-Ask-clause-changes

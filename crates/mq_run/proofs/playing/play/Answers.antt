@@ -6,7 +6,7 @@ use Rattle.mq_report.specs.declared.line.Told.{Told}
 use Rattle.mq_script.specs.Scripts.{Group, Script}
 use Rattle.mq_turns.specs.AtDesk.{view}
 use Rattle.mq_run.specs.Playing.{AreLines, Plays, answered, told_of}
-use Rattle.mq_run.proofs.Plays.{Stays, all-answered, group-at, goes-on, has-ended, has-played, none-played, none-stays, stays-on}
+use Rattle.mq_run.proofs.PlayingGroups.{Stays, all-answered, group-at, goes-on, has-ended, has-played, none-played, none-stays, stays-on}
 use Rattle.mq_run.proofs.playing.play.Goals as goal
 
 pub loop-index-init : goal.loop-index-init

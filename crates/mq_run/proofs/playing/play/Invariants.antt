@@ -3,7 +3,7 @@ use Rattle.std.specs.List.{All}
 use Rattle.mq_calls.specs.Sessions.{IsReady}
 use Rattle.mq_turns.specs.AtDesk.{AtDesk, view}
 use Rattle.mq_run.specs.Playing.{Plays}
-use Rattle.mq_run.proofs.Plays.{Stays}
+use Rattle.mq_run.proofs.PlayingGroups.{Stays}
 use Rattle.mq_run.proofs.playing.play.Given as goal
 
 abbrev pub invariant-loop-index : goal.invariant-loop-index

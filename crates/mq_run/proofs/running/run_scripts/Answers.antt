@@ -6,10 +6,10 @@ use Rattle.mq_turns.specs.AtDesk.{AtDesk, start_of, view}
 use Rattle.mq_run.specs.Playing.{IsShort}
 use Rattle.mq_run.specs.Runs.{EndsSo, track}
 use Rattle.mq_run.specs.Seating.{room_for, room_of}
-use Rattle.mq_run.proofs.Growing.{all_got, same_at}
+use Rattle.mq_run.proofs.LinesGrowing.{all_got, same_at}
 use Rattle.mq_run.proofs.Parts.{all_at, along}
-use Rattle.mq_run.proofs.Seats.{has_room, new_is_ready}
-use Rattle.mq_run.proofs.Tracks.{has_run}
+use Rattle.mq_run.proofs.Seating.{has_room, new_is_ready}
+use Rattle.mq_run.proofs.RunsTracks.{has_run}
 use Rattle.mq_run.proofs.running.run_scripts.Goals as goal
 
 pub play_all-requires-clause-desk : goal.play_all-requires-clause-desk

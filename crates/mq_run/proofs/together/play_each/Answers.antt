@@ -1,7 +1,7 @@
 use Rattle.std.proofs.Common.{◌∙◌, subst, ◌<◌, arith, length, rules}
 use Rattle.std.proofs.lemmas.Option.{get_or_from_slice_get, slice_get_within}
 use Rattle.mq_turns.specs.AtDesk.{view}
-use Rattle.mq_run.proofs.Plays.{read-element}
+use Rattle.mq_run.proofs.PlayingGroups.{read-element}
 use Rattle.mq_run.proofs.together.play_each.Goals as goal
 
 pub for_each_mut-requires-clause-accepts : goal.for_each_mut-requires-clause-accepts

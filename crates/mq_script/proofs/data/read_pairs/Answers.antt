@@ -2,7 +2,7 @@ use Rattle.std.proofs.Common.{◌≡◌, ◌%◌, length, ap}
 use Rattle.std.specs.Option.{ok_or}
 use Rattle.mq_script.specs.Words.{pairs_in}
 use Rattle.mq_script.specs.declared.refusal.ScriptCause.TheVariants.{Data as not_data}
-use Rattle.mq_script.proofs.DataWords.{pairs_odd, front_none, pair_some, pair_none, pairs_all}
+use Rattle.mq_script.proofs.WordsData.{pairs_odd, front_none, pair_some, pair_none, pairs_all}
 use Rattle.mq_script.proofs.data.read_pairs.Goals as goal
 
 pub returns-then-digits-ne0 : goal.returns-then-digits-ne0

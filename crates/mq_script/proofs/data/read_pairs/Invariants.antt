@@ -1,6 +1,6 @@
 use Rattle.std.proofs.Common.{◌≡◌, ◌*◌, drop}
 use Rattle.mq_script.specs.Words.{pairs_in}
-use Rattle.mq_script.proofs.DataWords.{with_front}
+use Rattle.mq_script.proofs.WordsData.{with_front}
 use Rattle.mq_script.proofs.data.read_pairs.Given as goal
 
 -- these bytes, and those of the pairs that are left, are all

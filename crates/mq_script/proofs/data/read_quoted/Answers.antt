@@ -1,7 +1,7 @@
 use Rattle.std.proofs.Common.{ap, ◌∙◌, sym, Some}
 use Rattle.std.specs.Option.{ok_or}
 use Rattle.mq_script.specs.declared.refusal.ScriptCause.TheVariants.{Data as not_data}
-use Rattle.mq_script.proofs.DataWords.{open_text, twice_text, whole_text}
+use Rattle.mq_script.proofs.WordsData.{open_text, twice_text, whole_text}
 use Rattle.mq_script.proofs.data.read_quoted.Goals as goal
 
 pub returns-in_default : goal.returns-in_default

@@ -1,4 +1,4 @@
-use Rattle.mq_script.proofs.DigitWords.{byte_is}
+use Rattle.mq_script.proofs.WordsDigits.{byte_is}
 use Rattle.mq_script.proofs.digits.byte_of.Goals as goal
 
 pub returns : goal.returns

@@ -1,4 +1,4 @@
-use Rattle.mq_script.proofs.DigitWords.{number_is}
+use Rattle.mq_script.proofs.WordsDigits.{number_is}
 use Rattle.mq_script.proofs.digits.number_of.Goals as goal
 
 pub returns : goal.returns

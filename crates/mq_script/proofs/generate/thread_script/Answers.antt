@@ -1,6 +1,6 @@
 use Rattle.mq_script.specs.Scripts.{Group}
 use Rattle.mq_script.specs.Workloads.{script_of}
-use Rattle.mq_script.proofs.Generating.{groups_step}
+use Rattle.mq_script.proofs.Workloads.{groups_step}
 use Rattle.mq_script.proofs.generate.thread_script.Goals as goal
 
 pub loop-number-preserved : goal.loop-number-preserved

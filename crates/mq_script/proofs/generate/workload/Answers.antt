@@ -1,5 +1,5 @@
 use Rattle.mq_script.specs.Workloads.{workload_of}
-use Rattle.mq_script.proofs.Generating.{scripts_step}
+use Rattle.mq_script.proofs.Workloads.{scripts_step}
 use Rattle.mq_script.proofs.generate.workload.Goals as goal
 
 pub loop-thread-preserved : goal.loop-thread-preserved

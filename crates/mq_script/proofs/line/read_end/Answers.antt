@@ -1,7 +1,7 @@
 use Rattle.std.proofs.Common.{◌∙◌, ap}
 use Rattle.mq_script.specs.Lines.{an_end}
 use Rattle.mq_script.specs.Words.{words_after}
-use Rattle.mq_script.proofs.LineWords.{end_more}
+use Rattle.mq_script.proofs.Lines.{end_more}
 use Rattle.mq_script.proofs.line.read_end.Goals as goal
 
 pub returns-in-Some : goal.returns-in-Some

@@ -2,7 +2,7 @@ use Rattle.std.proofs.Common.{◌∙◌, ap, sym, subst}
 use Rattle.mq_script.specs.Answers.{Agrees}
 use Rattle.mq_script.specs.Lines.{verb_line}
 use Rattle.mq_script.specs.Words.{words_after}
-use Rattle.mq_script.proofs.LineWords.{line_plain}
+use Rattle.mq_script.proofs.Lines.{line_plain}
 use Rattle.mq_script.proofs.line.read_line.Goals as goal
 
 pub returns-in-Some : goal.returns-in-Some

@@ -3,7 +3,7 @@ use Rattle.std.specs.Prelude.{Err}
 use Rattle.mq_script.specs.Lines.{line_in}
 use Rattle.mq_script.specs.Reading.{groups_in, script_in}
 use Rattle.mq_script.specs.declared.refusal.ScriptCause.TheVariants.{Open}
-use Rattle.mq_script.proofs.Groups.{answers, few_lines, groups_none, refused_step, open_end, whole_end, script_of, script_lines, refused_script, no_requests}
+use Rattle.mq_script.proofs.Scripts.{answers, few_lines, groups_none, refused_step, open_end, whole_end, script_of, script_lines, refused_script, no_requests}
 use Rattle.mq_script.proofs.read.read_groups.Goals as goal
 
 pub loop-text-init : goal.loop-text-init

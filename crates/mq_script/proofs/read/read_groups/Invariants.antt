@@ -1,6 +1,6 @@
 use Rattle.std.proofs.Common.{◌≡◌, ◌≤◌, [], length}
 use Rattle.mq_script.specs.Reading.{groups_in}
-use Rattle.mq_script.proofs.Groups.{answers, ReadSo}
+use Rattle.mq_script.proofs.Scripts.{answers, ReadSo}
 use Rattle.mq_script.proofs.read.read_groups.Given as goal
 
 -- the lines so far are read into these groups, and into these requests of one that has not ended

@@ -1,4 +1,4 @@
-use Rattle.mq_script.proofs.Spelt.{agrees_spells}
+use Rattle.mq_script.proofs.Spelled.{agrees_spells}
 use Rattle.mq_script.proofs.read.read_script.Goals as goal
 
 pub returns-clause-spelled : goal.returns-clause-spelled

@@ -1,7 +1,7 @@
 use Rattle.std.proofs.Common.{rules, tests, ◌≡◌}
 use Rattle.std.proofs.lemmas.Iterator.{YieldsList-from_slice}
 use Rattle.std.proofs.lemmas.Iterator.Search.{position_from_yields_List}
-use Rattle.mq_script.proofs.Cutting.{is_space, space_in, words_at, words_alone}
+use Rattle.mq_script.proofs.WordsCutting.{is_space, space_in, words_at, words_alone}
 use Rattle.mq_script.proofs.words.cut_word.Goals as goal
 
 pub returns-in-Some : goal.returns-in-Some

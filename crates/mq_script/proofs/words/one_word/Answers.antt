@@ -1,6 +1,6 @@
 use Rattle.std.proofs.Common.{◌∷◌, ◌∙◌, ap, sym}
 use Rattle.mq_script.specs.Words.{words_after, one_of}
-use Rattle.mq_script.proofs.Cutting.{one_of_more}
+use Rattle.mq_script.proofs.WordsCutting.{one_of_more}
 use Rattle.mq_script.proofs.words.one_word.Goals as goal
 
 pub returns-in-Some : goal.returns-in-Some

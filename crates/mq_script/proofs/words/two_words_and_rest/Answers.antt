@@ -1,6 +1,6 @@
 use Rattle.std.proofs.Common.{◌∷◌, ◌∙◌, ap, sym}
 use Rattle.mq_script.specs.Words.{words_after, rest_of}
-use Rattle.mq_script.proofs.Cutting.{rest_of_three}
+use Rattle.mq_script.proofs.WordsCutting.{rest_of_three}
 use Rattle.mq_script.proofs.words.two_words_and_rest.Goals as goal
 
 pub returns : goal.returns

@@ -1,5 +1,5 @@
 use Rattle.std.proofs.Common.{◌≡◌, ◌≤◌, ◌+◌, ◌++◌, length, reverse, vec_capacity}
-use Rattle.mq_side.specs.Commits.{copies_at}
+use Rattle.mq_blocks.specs.Copies.{copies_at}
 use Rattle.mq_side.specs.Parts.{writes_of}
 use Rattle.mq_side.proofs.commit.add_copies.Given as goal
 

@@ -2,10 +2,10 @@ use Rattle.std.proofs.Common.{◌≡◌, suc, ◌+◌, ◌++◌, true, List, [],
 use Rattle.std.proofs.lemmas.List.{append_assoc, length-reverse}
 use Rattle.mq_blocks.specs.Journal.{is_among}
 use Rattle.mq_ledger.specs.History.{blocks_of}
-use Rattle.mq_blocks.proofs.Among.{among-here, among-behind}
+use Rattle.mq_blocks.proofs.JournalAmong.{among-here, among-behind}
+use Rattle.mq_blocks.specs.Copies.{directs_of}
 use Rattle.mq_pages.specs.declared.page.ShadowPage.{ShadowPage}
 use Rattle.mq_pmr.specs.Runs.{Items}
-use Rattle.mq_side.specs.Commits.{directs_of}
 use Rattle.mq_side.specs.Parts.{writes_of}
 use Rattle.mq_side.proofs.commit.add_directs.Goals as goal
 

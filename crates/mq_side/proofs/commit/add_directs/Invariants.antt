@@ -1,8 +1,8 @@
 use Rattle.std.proofs.Common.{◌≡◌, ◌<◌, ◌≤◌, ℕ, ◌+◌, ◌++◌, true, length, reverse, vec_capacity}
 use Rattle.mq_blocks.specs.Geometry.{homes_of}
 use Rattle.mq_blocks.specs.Journal.{is_among}
+use Rattle.mq_blocks.specs.Copies.{directs_of}
 use Rattle.mq_ledger.specs.History.{blocks_of}
-use Rattle.mq_side.specs.Commits.{directs_of}
 use Rattle.mq_side.specs.Parts.{writes_of}
 use Rattle.mq_side.proofs.commit.add_directs.Given as goal
 

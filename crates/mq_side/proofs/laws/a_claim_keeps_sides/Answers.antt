@@ -1,5 +1,5 @@
-use Rattle.mq_side.proofs.Claims.{claimed}
-use Rattle.mq_side.proofs.Draws.{side_along}
+use Rattle.mq_side.proofs.SideClaims.{claimed}
+use Rattle.mq_side.proofs.SideDraws.{side_along}
 use Rattle.mq_side.proofs.laws.a_claim_keeps_sides.Goals as goal
 
 pub returns-clause-done : goal.returns-clause-done

@@ -1,4 +1,4 @@
-use Rattle.mq_side.proofs.Reaching.{below_head, done_before, reaches}
+use Rattle.mq_side.proofs.DrainedReaching.{below_head, done_before, reaches}
 use Rattle.mq_side.proofs.laws.a_drain_reaches.Goals as goal
 
 pub returns-clause-last : goal.returns-clause-last

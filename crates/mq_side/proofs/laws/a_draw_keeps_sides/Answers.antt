@@ -1,10 +1,10 @@
 use Rattle.std.proofs.Common.{ℕ, ◌∷◌, subst, sym}
 use Rattle.mq_side.specs.Commits.{commit_of, items_of}
 use Rattle.mq_side.specs.Sent.{AreItems}
-use Rattle.mq_side.proofs.CountedSides.{drawn_counts}
-use Rattle.mq_side.proofs.Draws.{drawn, others_drawn, fitting}
-use Rattle.mq_side.proofs.Items.{items_are}
-use Rattle.mq_side.proofs.Rows.{numbering}
+use Rattle.mq_side.proofs.CountsSides.{drawn_counts}
+use Rattle.mq_side.proofs.SideDraws.{drawn, others_drawn, fitting}
+use Rattle.mq_side.proofs.CommitsItems.{items_are}
+use Rattle.mq_side.proofs.Stored.{numbering}
 use Rattle.mq_side.proofs.laws.a_draw_keeps_sides.Goals as goal
 
 pub returns-clause-fitting : goal.returns-clause-fitting

@@ -1,4 +1,4 @@
-use Rattle.mq_side.proofs.Counting.{events_bound}
+use Rattle.mq_side.proofs.Counts.{events_bound}
 use Rattle.mq_side.proofs.laws.events_are_bounded.Goals as goal
 
 pub returns : goal.returns

@@ -2,7 +2,7 @@ use Rattle.std.proofs.Common.{◌≡◌, ℕ, ◌++◌, false, List, [], ◌∷�
 use Rattle.std.proofs.lemmas.List.{append_assoc}
 use Rattle.mq_pages.specs.declared.page.ShadowPage.{ShadowPage}
 use Rattle.mq_side.specs.Parts.{is_head, pages_in, pages_out, AreLeft}
-use Rattle.mq_side.proofs.Walks.{IsAtHead, at_head, next_left, next_in, next_out, other_left, other_in, other_out}
+use Rattle.mq_side.proofs.PartsWalks.{IsAtHead, at_head, next_left, next_in, next_out, other_left, other_in, other_out}
 use Rattle.mq_side.proofs.prepare.part.Goals as goal
 
 pub parting-preserved-then-is_next : goal.parting-preserved-then-is_next

@@ -4,7 +4,7 @@ use Rattle.mq_pages.specs.declared.page.ShadowPage.{ShadowPage}
 use Rattle.mq_pages.specs.declared.page.Write.{Write}
 use Rattle.mq_revoke.specs.Placed.{Placed}
 use Rattle.mq_side.specs.Parts.{pages_in, pages_out, AreLeft}
-use Rattle.mq_side.proofs.Parting.{are_left, commit_is, parts, placed_lists, placed_sizes}
+use Rattle.mq_side.proofs.Parts.{are_left, commit_is, parts, placed_lists, placed_sizes}
 use Rattle.mq_side.proofs.prepare.prepare_commit.Goals as goal
 
 pub part-requires : goal.part-requires

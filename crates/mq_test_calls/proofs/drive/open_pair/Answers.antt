@@ -1,7 +1,7 @@
 use Rattle.mq_calls.specs.Sessions.{IsReady}
 use Rattle.mq_turns.specs.AtDesk.{AtDesk, start_of, view}
 use Rattle.mq_test_calls.proofs.Lists.{all_got}
-use Rattle.mq_test_calls.proofs.Seats.{new_is_ready}
+use Rattle.mq_test_calls.proofs.SessionsSeats.{new_is_ready}
 use Rattle.mq_test_calls.proofs.drive.open_pair.Goals as goal
 
 pub returns-in-Ok-clause-each : goal.returns-in-Ok-clause-each

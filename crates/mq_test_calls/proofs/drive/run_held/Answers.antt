@@ -17,7 +17,7 @@ run_over-requires-clause-still g c = λ lifetimes within.
     let root : emu_state c.in_ok-held.held.root.port ≡ emu_state c.in_ok-ports.ports.root = ap emu_state c.in_ok-held.ensures.root in
     subst (λ (d : DriveState). IsQuiescentDrive c.image.inside.geometry d) (λ i. drive (sym queues i) (sym root i))
     (subst (λ (z : Geometry). IsQuiescentDrive z (drive_of emu_state c.in_ok-ports.ports)) (sym same)
-    (c.a_recovered_image_starts.ensures.still x c.args.left (name_of c.args.fuse.now) None c.in_ok-ports.ports r c.in_ok-ports.ensures))
+    (c.a_recovered_image_starts.ensures.still x c.args.left (name_of c.args.fuse.now) None c.in_ok-ports.ports r c.in_ok-ports.ensures.drive))
 
 pub run_over-requires-clause-start : goal.run_over-requires-clause-start
 run_over-requires-clause-start g c = λ lifetimes within.
@@ -28,4 +28,4 @@ run_over-requires-clause-start g c = λ lifetimes within.
     let root : emu_state c.in_ok-held.held.root.port ≡ emu_state c.in_ok-ports.ports.root = ap emu_state c.in_ok-held.ensures.root in
     subst (λ (d : DriveState). IsStartDrive c.image.inside.geometry d) (λ i. drive (sym queues i) (sym root i))
     (subst (λ (z : Geometry). IsStartDrive z (drive_of emu_state c.in_ok-ports.ports)) (sym same)
-    (c.a_recovered_image_starts.ensures.start x c.args.left (name_of c.args.fuse.now) None c.in_ok-ports.ports r c.in_ok-ports.ensures))
+    (c.a_recovered_image_starts.ensures.start x c.args.left (name_of c.args.fuse.now) None c.in_ok-ports.ports r c.in_ok-ports.ensures.drive))

@@ -1,5 +1,5 @@
 use Rattle.std.proofs.Common.{◌∙◌}
-use Rattle.mq_drive.proofs.Faults.{homes_kept}
+use Rattle.mq_drive.proofs.StepsFaults.{homes_kept}
 use Rattle.mq_test_drive.proofs.drive.two_steps.Goals as goal
 
 pub returns-clause-homes_first : goal.returns-clause-homes_first

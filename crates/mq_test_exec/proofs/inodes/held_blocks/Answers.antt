@@ -2,8 +2,8 @@ use Rattle.std.proofs.Common.{get_or, List, ℕ, subst}
 use Rattle.std.specs.Prelude.{◌≢◌, None}
 use Rattle.std.specs.List.{All}
 use Rattle.mq_inodes.specs.Pages.{pages_of}
-use Rattle.mq_inodes.proofs.Directories.{blocks-there}
-use Rattle.mq_inodes.proofs.Held.{held-else}
+use Rattle.mq_inodes.proofs.Dirs.{blocks-there}
+use Rattle.mq_inodes.proofs.PagesHeld.{held-else}
 use Rattle.mq_test_exec.proofs.inodes.held_blocks.Goals as goal
 
 pub returns : goal.returns

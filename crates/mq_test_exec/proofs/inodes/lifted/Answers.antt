@@ -1,5 +1,5 @@
 use Rattle.std.proofs.lemmas.Result.{IfOk-weaker}
-use Rattle.mq_inodes.proofs.Lifting.{laid-agrees, pages-of}
+use Rattle.mq_inodes.proofs.PagesLifting.{laid-agrees, pages-of}
 use Rattle.mq_inodes.specs.Fits.{IsPossible}
 use Rattle.mq_inodes.specs.Pages.{held_pages}
 use Rattle.mq_tree.specs.Laid.{map_of}

@@ -1,5 +1,5 @@
 use Rattle.std.proofs.Common.{arith, refl, subst, sym}
-use Rattle.mq_inodes.proofs.Showing.{inode-shown}
+use Rattle.mq_inodes.proofs.FitsShowing.{inode-shown}
 use Rattle.mq_inodes.specs.Pages.{content, pages_of}
 use Rattle.mq_layout.specs.Inodes.{IsInode}
 use Rattle.mq_layout.specs.Places.{inode_block, inode_place}

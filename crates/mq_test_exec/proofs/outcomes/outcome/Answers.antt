@@ -1,5 +1,5 @@
 use Rattle.std.proofs.Common.{subst, sym}
-use Rattle.mq_inodes.proofs.Lifting.{pages-of}
+use Rattle.mq_inodes.proofs.PagesLifting.{pages-of}
 use Rattle.mq_inodes.specs.Fits.{Agrees}
 use Rattle.mq_inodes.specs.Pages.{held_pages}
 use Rattle.mq_tree.specs.Laid.{map_of}

@@ -1,7 +1,7 @@
 use Rattle.std.proofs.Common.{arith}
 use Rattle.std.proofs.lemmas.List.{map-append}
 use Rattle.mq_blocks.specs.Geometry.{homes_of}
-use Rattle.mq_revoke.proofs.Counting.{rising-next, rising-higher}
+use Rattle.mq_blocks.proofs.DescriptorRising.{rising-next, rising-higher}
 use Rattle.mq_test_journal.proofs.plans.first_blocks.Goals as goal
 
 pub loop-block-preserved : goal.loop-block-preserved

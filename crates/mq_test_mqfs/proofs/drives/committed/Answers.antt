@@ -1,6 +1,6 @@
 use Rattle.mq_blocks.specs.Geometry.{homes_of}
 use Rattle.mq_drive.specs.Seats.{name_of}
-use Rattle.mqfs.proofs.Restarts.{are_started, fresh_clean, lines_below, one_port, text_homes}
+use Rattle.mqfs.proofs.RestartImages.{are_started, fresh_clean, lines_below, one_port, text_homes}
 use Rattle.mq_test_mqfs.proofs.drives.committed.Goals as goal
 
 pub commit_text-ports-requires-clause-one : goal.commit_text-ports-requires-clause-one

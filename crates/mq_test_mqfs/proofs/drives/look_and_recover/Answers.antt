@@ -1,7 +1,7 @@
 use Rattle.mq_drive.specs.Emu.{emu_state}
 use Rattle.mq_drive.specs.Seats.{name_of}
 use Rattle.mq_recover.specs.Drives.{drive_of}
-use Rattle.mqfs.proofs.Restarts.{started_still}
+use Rattle.mqfs.proofs.RestartImages.{started_still}
 use Rattle.mq_test_mqfs.proofs.drives.look_and_recover.Goals as goal
 
 pub look_at_ports-looked-requires-clause-still : goal.look_at_ports-looked-requires-clause-still

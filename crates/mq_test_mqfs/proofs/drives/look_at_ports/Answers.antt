@@ -1,7 +1,7 @@
 use Rattle.std.proofs.Common.{◌≡◌, ap, sym, ◌∙◌}
 use Rattle.std.specs.Option.{option_copied}
 use Rattle.std.specs.Prelude.{slice_get}
-use Rattle.mq_test_mqfs.proofs.Pairs.{pair_of}
+use Rattle.mq_test_mqfs.proofs.ViewsPairs.{pair_of}
 use Rattle.mq_test_mqfs.proofs.drives.look_at_ports.Goals as goal
 
 pub look_at-chain-requires : goal.look_at-chain-requires

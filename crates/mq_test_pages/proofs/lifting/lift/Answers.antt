@@ -2,7 +2,7 @@ use Rattle.std.proofs.Common.{◌≡◌, ◌+◌, true, false, ap, subst, sym, a
 use Rattle.std.specs.Prelude.{slice_index_or}
 use Rattle.std.proofs.lemmas.Grind.{common_steps}
 use Rattle.mq_test_pages.specs.Lifted.{mounted}
-use Rattle.mq_test_pages.proofs.Cells.{AreBelow, above-last, below-more, below-past}
+use Rattle.mq_test_pages.proofs.LiftedCells.{AreBelow, above-last, below-more, below-past}
 use Rattle.mq_test_pages.proofs.lifting.lift.Goals as goal
 use Rattle.mq_test_pages.proofs.lifting.lift.Goals.{then-unwrap_or+in_ok-page, else-unwrap_or}
 

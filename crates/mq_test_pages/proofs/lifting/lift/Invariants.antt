@@ -1,4 +1,4 @@
-use Rattle.mq_test_pages.proofs.Cells.{AreBelow}
+use Rattle.mq_test_pages.proofs.LiftedCells.{AreBelow}
 use Rattle.mq_test_pages.proofs.lifting.lift.Given as goal
 
 abbrev pub invariant-loop-b : goal.invariant-loop-b

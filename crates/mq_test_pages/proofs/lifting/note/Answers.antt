@@ -2,7 +2,7 @@ use Rattle.std.proofs.Common.{◌≡◌, ◌∙◌, ℕ, ◌<◌, List, get_or, 
 use Rattle.std.proofs.lemmas.Bool.{false≢true}
 use Rattle.std.proofs.lemmas.Bool.Decides.{nat_tests}
 use Rattle.std.proofs.lemmas.List.{get_or_default}
-use Rattle.mq_test_pages.proofs.Noting.{noted-all, noted-more, refused}
+use Rattle.mq_test_pages.proofs.LiftedNoting.{noted-all, noted-more, refused}
 use Rattle.mq_test_pages.proofs.lifting.note.Goals as goal
 use Rattle.mq_test_pages.proofs.lifting.note.Goals.{then-at-known-via-then-at-known, then-at-known-via-else-at-known+then-known-at}
 

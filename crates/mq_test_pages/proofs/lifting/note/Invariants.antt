@@ -1,4 +1,4 @@
-use Rattle.mq_test_pages.proofs.Noting.{IsNoted}
+use Rattle.mq_test_pages.proofs.LiftedNoting.{IsNoted}
 use Rattle.mq_test_pages.proofs.lifting.note.Given as goal
 
 abbrev pub invariant-loop-b : goal.invariant-loop-b

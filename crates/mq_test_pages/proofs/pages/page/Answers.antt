@@ -1,7 +1,7 @@
 use Rattle.std.proofs.Common.{◌≡◌, ◌∙◌, ap, sym, arith, true, false}
 use Rattle.std.specs.Prelude.{Some}
 use Rattle.std.proofs.lemmas.Bool.{lt-ltb, true≢false}
-use Rattle.mq_test_pages.proofs.Maps.{map-free, map-meta, map-taken}
+use Rattle.mq_test_pages.proofs.LaidMaps.{map-free, map-meta, map-taken}
 use Rattle.mq_tree.specs.Laid.{is_marked}
 use Rattle.mq_test_pages.proofs.pages.page.Goals as goal
 use Rattle.mq_test_pages.proofs.pages.page.Goals.{then-b-meta, else-b-meta+in_ok-is_marked}

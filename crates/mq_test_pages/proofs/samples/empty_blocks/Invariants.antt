@@ -1,4 +1,4 @@
-use Rattle.mq_test_pages.proofs.Blocks.{AreEmpty}
+use Rattle.mq_test_pages.proofs.EmptyBlocks.{AreEmpty}
 use Rattle.mq_test_pages.proofs.samples.empty_blocks.Given as goal
 
 abbrev pub invariant-loop-b : goal.invariant-loop-b

@@ -1,7 +1,7 @@
 use Rattle.std.proofs.Common.{◌≡◌, ◌<◌, ◌≤◌, ℕ, ◌+◌, ◌-◌, List, [], ◌∷◌, ◌++◌, length, inl, sym, subst, ap, ◌∙◌, arith, rules, length-append}
 use Rattle.mq_blocks.specs.Drive.{PortState, Owns}
-use Rattle.mq_pmr.specs.Runs.{Items, AreOwn}
-use Rattle.mq_pmr.proofs.Staging.{own_more}
+use Rattle.mq_pmr.specs.Runs.{Items, OwnsAll}
+use Rattle.mq_pmr.proofs.Runs.{own_more}
 use Rattle.mq_test_pmr.proofs.tests.items.Goals as goal
 
 pub filling-preserved : goal.filling-preserved
@@ -14,6 +14,6 @@ filling-preserved c =
     record {
       low = let low = inv.low in omega (arith, low);
       len = let len = inv.len in omega (arith, len, long, some);
-      own = λ s first size. subst (AreOwn s) (sym items)
+      own = λ s first size. subst (OwnsAll s) (sym items)
           (own_more s c.filling.items.items item (inv.own s first size) (let low = inv.low in inl (omega (arith, first), omega (arith, first, size, low, some))));
     }

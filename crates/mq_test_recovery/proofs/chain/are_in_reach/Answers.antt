@@ -1,7 +1,7 @@
 use Rattle.std.proofs.Common.{◌≡◌, length, get_or, sym, ap, subst, arith}
 use Rattle.mq_blocks.specs.Descriptor.{Descriptor}
 use Rattle.mq_test_recovery.specs.Plain.{IsOf}
-use Rattle.mq_test_recovery.proofs.Looking.{has-at}
+use Rattle.mq_test_recovery.proofs.PlainLooking.{has-at}
 use Rattle.mq_test_recovery.proofs.chain.are_in_reach.Goals as goal
 
 pub overflow_sub-oldest : goal.overflow_sub-oldest

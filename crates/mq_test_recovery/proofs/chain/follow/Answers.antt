@@ -1,8 +1,8 @@
 use Rattle.std.proofs.Common.{◌≤◌, [], subst, arith}
 use Rattle.std.proofs.lemmas.List.{append-nil}
 use Rattle.mq_blocks.specs.Journal.{IsChain}
+use Rattle.mq_blocks.proofs.DriveQuiescent.{base-of}
 use Rattle.mq_drive.specs.Views.{view_of}
-use Rattle.mq_test_recovery.proofs.Homes.{base-of}
 use Rattle.mq_test_recovery.proofs.chain.follow.Goals as goal
 
 pub returns : goal.returns

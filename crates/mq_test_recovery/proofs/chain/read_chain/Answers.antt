@@ -1,9 +1,9 @@
 use Rattle.std.proofs.Common.{◌≡◌, ◌<◌, ◌-◌, [], sym, ◌∙◌, subst, arith}
 use Rattle.mq_blocks.specs.Drive.{PortState}
 use Rattle.mq_blocks.specs.Journal.{Shown, IsQueueChain, IsCommit}
+use Rattle.mq_blocks.proofs.DriveQuiescent.{head-of}
 use Rattle.mq_drive.specs.Views.{view_of}
-use Rattle.mq_test_recovery.proofs.Homes.{head-of}
-use Rattle.mq_test_recovery.proofs.Rows.{IsRung, rung-at, none-from, queue-chain, ok-map}
+use Rattle.mq_test_recovery.proofs.PlainRows.{IsRung, rung-at, none-from, queue-chain, ok-map}
 use Rattle.mq_test_recovery.proofs.chain.read_chain.Goals as goal
 
 pub returns-then-head-eq0 : goal.returns-then-head-eq0

@@ -1,7 +1,7 @@
 use Rattle.std.proofs.Common.{sym, subst}
 use Rattle.mq_test_recovery.specs.Plain.{AreOf}
 use Rattle.mq_drive.specs.Views.{view_of}
-use Rattle.mq_test_recovery.proofs.Rows.{chain-of}
+use Rattle.mq_test_recovery.proofs.PlainRows.{chain-of}
 use Rattle.mq_test_recovery.proofs.chain.read_from_place.Goals as goal
 
 pub are_in_reach-requires-clause-own : goal.are_in_reach-requires-clause-own

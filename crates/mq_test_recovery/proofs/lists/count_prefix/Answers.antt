@@ -4,7 +4,7 @@ use Rattle.std.specs.Borrow.{Bor}
 use Rattle.std.specs.Option.{option_copied}
 use Rattle.mq_blocks.specs.Descriptor.{Descriptor}
 use Rattle.mq_test_recovery.specs.Plain.{found}
-use Rattle.mq_test_recovery.proofs.Rows.{found-limit, found-more}
+use Rattle.mq_test_recovery.proofs.PlainRows.{found-limit, found-more}
 use Rattle.mq_test_recovery.proofs.lists.count_prefix.Goals as goal
 
 some-copied : (o : Option (Bor Descriptor)) → is_some o ≡ true → is_some (option_copied o) ≡ true

@@ -1,6 +1,6 @@
 use Rattle.std.proofs.Common.{◌≤◌, ◌+◌, ◌-◌}
 use Rattle.mq_blocks.specs.Journal.{number_limit}
-use Rattle.mq_test_recovery.proofs.Rows.{AreFound}
+use Rattle.mq_test_recovery.proofs.PlainRows.{AreFound}
 use Rattle.mq_test_recovery.proofs.lists.count_prefix.Given as goal
 
 -- the numbers so far are found

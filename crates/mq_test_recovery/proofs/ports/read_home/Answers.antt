@@ -2,7 +2,7 @@ use Rattle.std.proofs.Common.{◌≡◌, ◌<◌, ◌≤◌, ℕ, ◌+◌, ◌-�
 use Rattle.mq_blocks.specs.Blocks.{block_at}
 use Rattle.mq_blocks.specs.Drive.{index_of, IsApartFrom, IsCertain}
 use Rattle.mq_blocks.specs.Geometry.{home_lba}
-use Rattle.mq_test_recovery.proofs.Homes.{home-zone, index-queue}
+use Rattle.mq_test_recovery.proofs.DriveHomes.{home-zone, index-queue}
 use Rattle.mq_test_recovery.proofs.ports.read_home.Goals as goal
 
 pub returns-else-x-meta : goal.returns-else-x-meta

@@ -1,15 +1,10 @@
-use Rattle.std.proofs.Common.{◌≡◌, ◌%◌, ℕ, List, Some, [], ◌∙◌, ap, sym}
+use Rattle.std.proofs.Common.{◌≡◌, ◌%◌, [], ◌∙◌, ap, sym}
 use Rattle.std.specs.Prelude.{slice_index_or}
 use Rattle.mq_blocks.specs.Drive.{depth}
-use Rattle.mq_nvme.specs.Entry.{IsWrite}
+use Rattle.mq_blocks.proofs.DriveQuiescent.{quiet-flushed}
 use Rattle.mq_nvme.specs.Says.{says}
-use Rattle.mq_nvme.specs.declared.write.WriteReq.{WriteReq}
-use Rattle.mq_nvme.proofs.Saying.{says-entry}
-use Rattle.mq_test_recovery.proofs.Homes.{quiet-flushed}
+use Rattle.mq_nvme.proofs.Says.{says-of}
 use Rattle.mq_test_recovery.proofs.ports.request_at.Goals as goal
-
-says-of : (e : List ℕ) (r : WriteReq) → IsWrite e r → says e ≡ Some (r.tx, r.lba, r.commit)
-says-of e r w = ap says w.is ∙ says-entry r w.request
 
 pub returns-in-Ok : goal.returns-in-Ok
 returns-in-Ok g c =

@@ -4,7 +4,7 @@ use Rattle.mq_drive.specs.Emu.{emu_state}
 use Rattle.mq_drive.specs.Seats.{name_of}
 use Rattle.mq_drive.specs.Start.{IsImageOf}
 use Rattle.mq_drive.specs.declared.role.Role.TheVariants.{Queue, Root}
-use Rattle.mq_test_recovery.proofs.Started.{still-start}
+use Rattle.mq_test_recovery.proofs.Start.{still-start}
 use Rattle.mq_test_recovery.proofs.small.small_standing.Goals as goal
 
 pub plain_standing-requires : goal.plain_standing-requires

@@ -4,11 +4,11 @@ use Rattle.std.specs.Borrow.{Bor}
 use Rattle.std.specs.Option.{option_copied}
 use Rattle.mq_blocks.specs.Descriptor.{Descriptor}
 use Rattle.mq_blocks.specs.Journal.{logged_copy, or_else, is_among, stands}
+use Rattle.mq_blocks.proofs.DriveQuiescent.{base-of}
 use Rattle.mq_test_recovery.specs.Plain.{found, row_of}
 use Rattle.mq_drive.specs.Views.{view_of}
-use Rattle.mq_test_recovery.proofs.Homes.{base-of}
-use Rattle.mq_test_recovery.proofs.Looking.{found-has}
-use Rattle.mq_test_recovery.proofs.Rows.{stands-some, stands-none}
+use Rattle.mq_test_recovery.proofs.PlainLooking.{found-has}
+use Rattle.mq_test_recovery.proofs.PlainRows.{stands-some, stands-none}
 use Rattle.mq_test_recovery.proofs.standing.block_after.Goals as goal
 use Rattle.mq_test_recovery.proofs.standing.block_after.Goals.{in-Some, in_default}
 

@@ -2,10 +2,10 @@ use Rattle.std.proofs.Common.{◌≡◌, ◌≤◌, List, sym, ◌∙◌, ap, su
 use Rattle.mq_blocks.specs.Descriptor.{Descriptor}
 use Rattle.mq_blocks.specs.Drive.{PortState}
 use Rattle.mq_blocks.specs.Journal.{Shown, IsQueueChain, stands, number_limit}
+use Rattle.mq_blocks.proofs.DriveQuiescent.{base-of}
 use Rattle.mq_test_recovery.specs.Plain.{AreOf, row_of}
 use Rattle.mq_drive.specs.Views.{view_of}
-use Rattle.mq_test_recovery.proofs.Homes.{base-of}
-use Rattle.mq_test_recovery.proofs.Rows.{IsCounted, chain-of, counted-at, reaches-of, row-of}
+use Rattle.mq_test_recovery.proofs.PlainRows.{IsCounted, chain-of, counted-at, reaches-of, row-of}
 use Rattle.mq_test_recovery.proofs.standing.plain_standing.Goals as goal
 
 pub count_prefix-prefix-requires-clause-limit : goal.count_prefix-prefix-requires-clause-limit

@@ -3,7 +3,7 @@ use Rattle.mq_blocks.specs.Descriptor.{Descriptor}
 use Rattle.mq_blocks.specs.Journal.{or_else}
 use Rattle.mq_test_recovery.specs.Plain.{logged_place}
 use Rattle.mq_drive.specs.Views.{view_of}
-use Rattle.mq_test_recovery.proofs.Looking.{copy-some, copy-none}
+use Rattle.mq_test_recovery.proofs.PlainLooking.{copy-some, copy-none}
 use Rattle.mq_test_recovery.proofs.standing.take_copy.Goals as goal
 
 place-moved : (p n q m : ℕ) (bs cs : List ℕ) (x : ℕ) → p ≡ q → n ≡ m → bs ≡ cs → logged_place (q - m) cs x ≡ logged_place (p - n) bs x

@@ -1,5 +1,5 @@
 use Rattle.std.proofs.Common.{[], ◌∷◌, length, ap, arith, length-append}
-use Rattle.mq_test_replay.proofs.Opened.{one_more, all_still}
+use Rattle.mq_test_replay.proofs.StartOpened.{one_more, all_still}
 use Rattle.mq_test_replay.proofs.images.open_ports.Goals as goal
 
 pub loop-q-preserved : goal.loop-q-preserved

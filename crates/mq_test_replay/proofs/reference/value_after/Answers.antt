@@ -1,6 +1,6 @@
 use Rattle.std.specs.Option.{option_copied}
 use Rattle.mq_ledger.specs.State.{start_map}
-use Rattle.mq_test_replay.proofs.Values.{value_step}
+use Rattle.mq_test_replay.proofs.HistoryValues.{value_step}
 use Rattle.mq_test_replay.proofs.reference.value_after.Goals as goal
 
 pub loop-tx-preserved : goal.loop-tx-preserved

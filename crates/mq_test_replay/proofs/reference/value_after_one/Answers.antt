@@ -3,7 +3,7 @@ use Rattle.std.specs.Option.{option_copied}
 use Rattle.mq_blocks.specs.Journal.{is_among}
 use Rattle.mq_blocks.specs.Machine.{Writes, write_of}
 use Rattle.mq_ledger.specs.declared.tx.Tx.{Tx}
-use Rattle.mq_test_replay.proofs.Values.{after_parts}
+use Rattle.mq_test_replay.proofs.HistoryValues.{after_parts}
 use Rattle.mq_test_replay.proofs.reference.value_after_one.Goals as goal
 
 pub returns-in-Some : goal.returns-in-Some

@@ -1,7 +1,7 @@
 use Rattle.std.proofs.Common.{◌≤◌, map, refl, arith}
 use Rattle.mq_blocks.specs.Geometry.{homes_of}
-use Rattle.mq_revoke.proofs.Counting.{rising-higher}
-use Rattle.mq_test_side.proofs.Changes.{same_more, order_more}
+use Rattle.mq_blocks.proofs.DescriptorRising.{rising-higher}
+use Rattle.mq_test_side.proofs.DescriptorChanges.{same_more, order_more}
 use Rattle.mq_test_side.proofs.change.filling.Goals as goal
 
 pub loop-block-preserved : goal.loop-block-preserved

@@ -1,17 +1,12 @@
-use Rattle.std.proofs.Common.{◌≡◌, ◌+◌, ◌*◌, ℕ, length, sym, subst, ap, ◌∙◌, arith}
-use Rattle.mq_blocks.specs.Drive.{PortImage, PortState, IsQuiescent}
-use Rattle.mq_blocks.specs.Geometry.{area_of, zone_size}
-use Rattle.mq_blocks.specs.declared.geometry.Geometry.{Geometry}
+use Rattle.std.proofs.Common.{◌+◌, ◌*◌, ℕ, sym, subst, ap, ◌∙◌}
+use Rattle.mq_blocks.specs.Drive.{PortState, IsQuiescent}
 use Rattle.mq_drive.specs.Emu.{emu_state}
-use Rattle.mq_drive.specs.Start.{IsPortOf, IsImageOf, start_of}
+use Rattle.mq_drive.specs.Start.{IsPortOf, start_of}
 use Rattle.mq_drive.specs.declared.emu.EmuPort.{EmuPort}
 use Rattle.mq_drive.specs.declared.role.Role.TheVariants.{Queue}
-use Rattle.mq_drive.proofs.Starts.{port_of-start, quiet-start}
+use Rattle.mq_drive.proofs.Start.{of_one, port_of-start, quiet-start}
 use Rattle.std.proofs.lemmas.Result.{IfOk-weaker}
 use Rattle.mq_test_side.proofs.ports.emulated.Goals as goal
-
-of_one : (g : Geometry) (i : PortImage) → area_of g ≡ 1024 → zone_size g ≡ 240 → length i.slots ≡ 1024 → length i.blocks ≡ 1264 → i.base ≡ 0 → IsImageOf g (Queue 0) i
-of_one g i area zone slots blocks base = record { slots = slots; blocks = omega (arith, blocks, area, zone); words = base }
 
 pub new-requires-clause-image : goal.new-requires-clause-image
 new-requires-clause-image c = of_one c.args.geometry c.in_ok-image.image c.requires.area c.requires.zone c.in_ok-image.ensures.slots c.in_ok-image.ensures.blocks c.in_ok-image.ensures.base

@@ -1,5 +1,5 @@
 use Rattle.std.proofs.Common.{arith, ◌+◌, ◌-◌}
-use Rattle.mq_test_tree.proofs.Lists.{slots-all, slots-more}
+use Rattle.mq_test_tree.proofs.PlainLists.{slots-all, slots-more}
 use Rattle.mq_test_tree.proofs.link.add_block_of_slots.Goals as goal
 
 pub loop-preserved : goal.loop-preserved

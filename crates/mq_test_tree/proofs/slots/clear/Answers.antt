@@ -1,5 +1,5 @@
 use Rattle.std.proofs.Common.{sym, ◌∙◌}
-use Rattle.mq_test_tree.proofs.Lists.{cleared-at}
+use Rattle.mq_test_tree.proofs.PlainLists.{cleared-at}
 use Rattle.mq_test_tree.proofs.slots.clear.Goals as goal
 
 pub returns-then-is_called : goal.returns-then-is_called

@@ -1,5 +1,5 @@
 use Rattle.std.proofs.Common.{arith, sym, ◌∙◌}
-use Rattle.mq_test_tree.proofs.Below.{all-below, few-below}
+use Rattle.mq_test_tree.proofs.RequestsBelow.{all-below, few-below}
 use Rattle.mq_test_tree.proofs.walk.is_below.Goals as goal
 
 pub returns-then-below-path : goal.returns-then-below-path

@@ -3,7 +3,7 @@ use Rattle.mq_test_turns.specs.Counting.{counting}
 use Rattle.mq_turns.specs.Swept.{HasPassed}
 use Rattle.mq_turns.specs.AtDesk.{view, start_of}
 use Rattle.mq_test_turns.proofs.Counting.{side_taken, side_cleared, side_stands}
-use Rattle.mq_turns.proofs.Sweeps.{none_passed, clear_passes, passed_done}
+use Rattle.mq_turns.proofs.Swept.{none_passed, clear_passes, passed_done}
 use Rattle.mq_test_turns.proofs.votes.clear_all.Goals as goal
 
 pub give_back-requires-clause-stands : goal.give_back-requires-clause-stands

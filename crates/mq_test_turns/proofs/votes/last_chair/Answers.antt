@@ -1,7 +1,7 @@
 use Rattle.std.proofs.Common.{rules, ◌≡◌, ◌∙◌, ap, length, vec_len}
 use Rattle.mq_turns.specs.AtDesk.{AtDesk, view, start_of}
 use Rattle.mq_turns.specs.Desk.{fresh}
-use Rattle.mq_turns.proofs.Laying.{each_pop}
+use Rattle.mq_turns.proofs.DeskLaying.{each_pop}
 use Rattle.mq_test_turns.proofs.votes.last_chair.Goals as goal
 
 pub returns-clause-each : goal.returns-clause-each

@@ -3,7 +3,7 @@ use Rattle.std.proofs.lemmas.Result.{err_from_is_err_and}
 use Rattle.mq_text.specs.Refusals.{RefusesWords, RefusesLine}
 use Rattle.mq_text.specs.declared.item.BlockItem.{BlockItem}
 use Rattle.mq_text.proofs.TextParts.{line_of_words, line_is_good}
-use Rattle.mq_text.proofs.TextReads.{refused_more, refused_of_words}
+use Rattle.mq_text.proofs.Refusals.{refused_more, refused_of_words}
 use Rattle.mq_text.proofs.TextWhole.{some_byte}
 use Rattle.mq_text.proofs.line.read_line.Goals as goal
 

@@ -1,4 +1,4 @@
-use Rattle.mq_text.proofs.TextReads.{exact_of, only_of}
+use Rattle.mq_text.proofs.Refusals.{exact_of, only_of}
 use Rattle.mq_text.proofs.whole.read_block_text.Goals as goal
 
 pub returns-clause-exact : goal.returns-clause-exact

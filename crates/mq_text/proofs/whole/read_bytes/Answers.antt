@@ -1,7 +1,7 @@
 use Rattle.std.proofs.Common.{List, ℕ, sym, ◌∙◌, ap, map, subst}
 use Rattle.std.proofs.lemmas.Result.{err_from_is_err_and}
 use Rattle.mq_text.specs.Refusals.{RefusesLines, RefusesText}
-use Rattle.mq_text.proofs.TextReads.{refused_more}
+use Rattle.mq_text.proofs.Refusals.{refused_more}
 use Rattle.mq_text.proofs.TextWhole.{refused_of_lines, text_of_lines, some_byte}
 use Rattle.mq_text.proofs.whole.read_bytes.Goals as goal
 

@@ -4,7 +4,7 @@ use Rattle.mq_text.specs.Refusals.{RefusesLine, RefusesLines}
 use Rattle.mq_text.specs.Text.{line_text, IsGoodText}
 use Rattle.mq_text.specs.declared.item.BlockItem.{BlockItem}
 use Rattle.mq_text.proofs.TextLines.{told_parts, told_push}
-use Rattle.mq_text.proofs.TextReads.{refused_more}
+use Rattle.mq_text.proofs.Refusals.{refused_more}
 use Rattle.mq_text.proofs.TextWhole.{good_lines_push, lines_few, places_push, no_room}
 use Rattle.mq_text.proofs.whole.read_lines.Goals as goal
 

@@ -1,5 +1,5 @@
 use Rattle.std.proofs.Common.{ap, sym, ◌∙◌}
-use Rattle.mq_tie.proofs.Running.{all-found, count-fits, count-low, in-order, is-run, order-stored, order-within}
+use Rattle.mq_tie.proofs.Runs.{all-found, count-fits, count-low, in-order, is-run, order-stored, order-within}
 use Rattle.mq_tie.proofs.closing.close.Goals as goal
 
 pub count_stored-count-requires : goal.count_stored-count-requires

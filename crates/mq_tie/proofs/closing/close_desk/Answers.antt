@@ -1,8 +1,8 @@
 use Rattle.std.proofs.Common.{ap, map, subst, sym}
+use Rattle.mq_journal.specs.Machine.{journal}
 use Rattle.mq_turns.specs.AtDesk.{start_of, view}
-use Rattle.mq_turns.specs.Chairs.{Ended as DeskEnded}
-use Rattle.mq_tie.specs.Runs.{run_machine}
-use Rattle.mq_tie.proofs.Running.{has-run}
+use Rattle.mq_turns.specs.Chairs.{DeskEnded}
+use Rattle.mq_tie.proofs.Runs.{has-run}
 use Rattle.mq_tie.proofs.closing.close_desk.Goals as goal
 
 pub returns-in-Ok-close-clause-run : goal.returns-in-Ok-close-clause-run
@@ -14,4 +14,4 @@ returns-in-Ok-close-clause-run g c =
 
 pub returns-in-Err-close-clause-err : goal.returns-in-Err-close-clause-err
 returns-in-Err-close-clause-err g c =
-    subst (λ p. DeskEnded (run_machine g.P.Port.state g.P.Port.faults g.G.Groups.group) (start_of c.args.desk) (map (λ ch. view ch) c.args.chairs.items) p.pages.items p.sides.items p.root p.next p.base) (sym c.in-Err-close.ensures.err) c.in-Ok.ensures.ok
+    subst (λ p. DeskEnded (journal g.P.Port.state g.P.Port.faults g.G.Groups.group) (start_of c.args.desk) (map (λ ch. view ch) c.args.chairs.items) p.pages.items p.sides.items p.root p.next p.base) (sym c.in-Err-close.ensures.err) c.in-Ok.ensures.ok

@@ -1,4 +1,4 @@
-use Rattle.mq_tie.proofs.Ending.{ended_marks, ended_parts}
+use Rattle.mq_tie.proofs.EndedParts.{ended_marks, ended_parts}
 use Rattle.mq_tie.proofs.laws.a_desk_ends_in_a_lawful_state.Goals as goal
 
 pub returns : goal.returns

@@ -2,7 +2,7 @@ use Rattle.std.proofs.Common.{◌≡◌, ◌-◌, ◌<◌, ◌≤◌, ℕ, suc, 
 use Rattle.std.proofs.lemmas.List.{length-set}
 use Rattle.std.specs.Prelude.{vec_len}
 use Rattle.mq_tie.specs.Stored.{drawn_at, stored_by}
-use Rattle.mq_tie.proofs.EntryPlaces.{HasPlace, has-place, note-kept, note-next}
+use Rattle.mq_tie.proofs.StoredEntryPlaces.{HasPlace, has-place, note-kept, note-next}
 use Rattle.mq_tie.proofs.Stored.{at-end, at-entry_place}
 use Rattle.mq_tie.proofs.order.note_queue.Goals as goal
 

@@ -2,8 +2,8 @@ use Rattle.std.proofs.Common.{ap, arith, below_more, sym, ◌∙◌, ℕ, List, 
 use Rattle.std.specs.Prelude.{if◌then◌else◌}
 use Rattle.mq_blocks.specs.Blocks.{block_at}
 use Rattle.mq_layout.specs.Bits.{bit_of}
-use Rattle.mq_tree.proofs.Mounting.{inode-low, inode-seen, inodes-end, refuses-at}
-use Rattle.mq_tree.proofs.Phases.{agree, differ, inode-mark_bad, used-kind}
+use Rattle.mq_tree.proofs.DecodedMounting.{inode-low, inode-seen, inodes-end, refuses-at}
+use Rattle.mq_tree.proofs.Parts.{agree, differ, inode-mark_bad, used-kind}
 use Rattle.mq_tree.proofs.bitmap_check.check_inodes.Goals as goal
 
 pub overflow_cast-i : goal.overflow_cast-i

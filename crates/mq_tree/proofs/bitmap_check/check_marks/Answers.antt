@@ -1,5 +1,5 @@
 use Rattle.std.proofs.Common.{arith}
-use Rattle.mq_tree.proofs.Phases.{marks-all, marks-ok}
+use Rattle.mq_tree.proofs.Parts.{marks-all, marks-ok}
 use Rattle.mq_tree.proofs.bitmap_check.check_marks.Goals as goal
 
 pub returns-clause-ok : goal.returns-clause-ok

@@ -1,8 +1,8 @@
 use Rattle.std.proofs.Common.{ap, arith, sym, ◌∙◌, ◌+◌, ◌*◌, ℕ, List, false, get_or}
 use Rattle.mq_blocks.specs.Geometry.{meta_of}
 use Rattle.mq_layout.specs.Bits.{bit_of}
-use Rattle.mq_tree.proofs.Mounting.{refuses-at}
-use Rattle.mq_tree.proofs.Phases.{differ, zone-mark_bad}
+use Rattle.mq_tree.proofs.DecodedMounting.{refuses-at}
+use Rattle.mq_tree.proofs.Parts.{differ, zone-mark_bad}
 use Rattle.mq_tree.proofs.bitmap_check.check_zone.Goals as goal
 
 pub returns-then-bit-is_used-clause-cause : goal.returns-then-bit-is_used-clause-cause

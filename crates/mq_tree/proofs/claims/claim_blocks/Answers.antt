@@ -1,7 +1,7 @@
 use Rattle.std.proofs.Common.{ap, arith, refl, ◌∙◌, ◌≡◌, Bool, Vec, Global}
 use Rattle.mq_tree.specs.declared.corrupt.CorruptCause.TheVariants.{Shared}
-use Rattle.mq_tree.proofs.Claiming.{claims-apart, claims-few, claims-home, claims-home_pointers, claims-part, claims-pointers, claims-shared_part, claims-shared_pointers, claims-taken}
-use Rattle.mq_tree.proofs.Mounting.{inode-form, inode-low, inode-seen, inodes-past, refuses-at}
+use Rattle.mq_tree.proofs.DecodedClaiming.{claims-apart, claims-few, claims-home, claims-home_pointers, claims-part, claims-pointers, claims-shared_part, claims-shared_pointers, claims-taken}
+use Rattle.mq_tree.proofs.DecodedMounting.{inode-form, inode-low, inode-seen, inodes-past, refuses-at}
 use Rattle.mq_tree.proofs.claims.claim_blocks.Goals as goal
 use Rattle.mq_tree.proofs.claims.claim_blocks.Goals.{else-count-gt-DIRECT-via-then-count-gt-DIRECT+else-claim-2, else-count-gt-DIRECT-via-else-count-gt-DIRECT}
 

@@ -1,4 +1,4 @@
-use Rattle.mq_tree.proofs.Claiming.{Claims}
+use Rattle.mq_tree.proofs.DecodedClaiming.{Claims}
 use Rattle.mq_tree.proofs.claims.claim_blocks.Given as goal
 
 abbrev pub invariant-loop-i : goal.invariant-loop-i

@@ -1,4 +1,4 @@
-use Rattle.mq_tree.proofs.Keeping.{content-dir, content-file, content-free}
+use Rattle.mq_tree.proofs.TreesKeeping.{content-dir, content-file, content-free}
 use Rattle.mq_tree.proofs.contents.read_content.Goals as goal
 
 pub returns-then-inode-eq-FILE-clause-ok : goal.returns-then-inode-eq-FILE-clause-ok

@@ -1,9 +1,9 @@
 use Rattle.std.proofs.Common.{arith, ap, length}
 use Rattle.std.proofs.lemmas.Result.{err_from_is_err_and}
-use Rattle.mq_tree.proofs.Keeping.{kept-all, kept-more}
-use Rattle.mq_tree.proofs.Linking.{once-volume, twin-found}
-use Rattle.mq_tree.proofs.Mounting.{inode-form, inode-low, inode-seen, inodes-end, length-inodes}
-use Rattle.mq_tree.proofs.Naming.{dir-seen}
+use Rattle.mq_tree.proofs.TreesKeeping.{kept-all, kept-more}
+use Rattle.mq_tree.proofs.Directories.{once-volume, twin-found}
+use Rattle.mq_tree.proofs.DecodedMounting.{inode-form, inode-low, inode-seen, inodes-end, length-inodes}
+use Rattle.mq_tree.proofs.DecodedNaming.{dir-seen}
 use Rattle.mq_tree.proofs.contents.read_contents.Goals as goal
 
 pub read_content-requires-clause-form : goal.read_content-requires-clause-form

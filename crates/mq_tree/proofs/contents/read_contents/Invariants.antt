@@ -1,4 +1,4 @@
-use Rattle.mq_tree.proofs.Keeping.{KeptBelow}
+use Rattle.mq_tree.proofs.TreesKeeping.{KeptBelow}
 use Rattle.mq_tree.proofs.contents.read_contents.Given as goal
 
 abbrev pub invariant-loop-i : goal.invariant-loop-i

@@ -1,5 +1,5 @@
 use Rattle.std.proofs.Common.{arith, ap, take, ℕ, List}
-use Rattle.mq_tree.proofs.Keeping.{read-end, read-more}
+use Rattle.mq_tree.proofs.TreesKeeping.{read-end, read-more}
 use Rattle.mq_tree.proofs.contents.read_file.Goals as goal
 
 pub loop-place-preserved : goal.loop-place-preserved

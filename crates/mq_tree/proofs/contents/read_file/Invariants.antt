@@ -1,4 +1,4 @@
-use Rattle.mq_tree.proofs.Keeping.{ReadTo}
+use Rattle.mq_tree.proofs.TreesKeeping.{ReadTo}
 use Rattle.mq_tree.proofs.contents.read_file.Given as goal
 
 abbrev pub invariant-loop-place : goal.invariant-loop-place

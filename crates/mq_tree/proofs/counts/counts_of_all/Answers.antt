@@ -2,7 +2,7 @@ use Rattle.std.proofs.Common.{◌^◌, ap, arith}
 use Rattle.mq_tree.specs.Counts.{counts_of}
 use Rattle.mq_tree.specs.declared.counts.TreeCounts.{TreeCounts}
 use Rattle.mq_tree.specs.Trees.{kept}
-use Rattle.mq_tree.proofs.Counting.{counts-are, few-directories, few-files, more-below, sum-more, sum-whole}
+use Rattle.mq_tree.proofs.CountsSums.{counts-are, few-directories, few-files, more-below, sum-more, sum-whole}
 use Rattle.mq_tree.proofs.counts.counts_of_all.Goals as goal
 
 pub overflow_add-counts : goal.overflow_add-counts

@@ -1,6 +1,6 @@
 use Rattle.mq_tree.specs.declared.corrupt.CorruptCause.TheVariants.{Layout}
-use Rattle.mq_tree.proofs.Mounting.{inode-form, inode-low, inode-seen, inodes-end, refuses-at}
-use Rattle.mq_tree.proofs.Phases.{dir-found, dirs-more}
+use Rattle.mq_tree.proofs.DecodedMounting.{inode-form, inode-low, inode-seen, inodes-end, refuses-at}
+use Rattle.mq_tree.proofs.Parts.{dir-found, dirs-more}
 use Rattle.mq_tree.proofs.dirs.check_dirs.Goals as goal
 
 pub bad_block-requires-clause-form : goal.bad_block-requires-clause-form

@@ -1,6 +1,6 @@
 use Rattle.std.proofs.Common.{arith, below_more, subst, sym, ◌∙◌, ◌≡◌, ◌<◌, ◌≤◌, ℕ, List}
 use Rattle.std.specs.Prelude.{slice_index}
-use Rattle.mq_tree.proofs.Phases.{behind-zeros, slot-read}
+use Rattle.mq_tree.proofs.Parts.{behind-zeros, slot-read}
 use Rattle.mq_tree.proofs.dirs.is_dir_block.Goals as goal
 
 pub loop-at-preserved : goal.loop-at-preserved

@@ -1,6 +1,6 @@
 use Rattle.std.proofs.Common.{arith}
 use Rattle.mq_tree.specs.Decoded.{entry_of}
-use Rattle.mq_tree.proofs.Linking.{alike-all, built-found, built-unused, has-twin, once-all, twin-at}
+use Rattle.mq_tree.proofs.Directories.{alike-all, built-found, built-unused, has-twin, once-all, twin-at}
 use Rattle.mq_tree.proofs.duplicate_names.read_directory.Goals as goal
 use Rattle.mq_tree.proofs.duplicate_names.read_directory.Goals.{in-Some+in_ok-add+else-not-branch, in_default}
 

@@ -1,5 +1,5 @@
 use Rattle.mq_tree.specs.Decoded.{entry_of}
-use Rattle.mq_tree.proofs.Linking.{Built}
+use Rattle.mq_tree.proofs.Directories.{Built}
 use Rattle.mq_tree.proofs.duplicate_names.read_directory.Given as goal
 
 abbrev pub invariant-loop-k : goal.invariant-loop-k

@@ -1,5 +1,5 @@
 use Rattle.std.proofs.Common.{arith, ◌∙◌}
-use Rattle.mq_tree.proofs.Phases.{end-bad, end-good}
+use Rattle.mq_tree.proofs.Parts.{end-bad, end-good}
 use Rattle.mq_tree.proofs.file_tails.bad_end.Goals as goal
 
 pub returns-then-bytes-k-ne0 : goal.returns-then-bytes-k-ne0

@@ -1,6 +1,6 @@
 use Rattle.mq_tree.specs.declared.corrupt.CorruptCause.TheVariants.{Tail}
-use Rattle.mq_tree.proofs.Mounting.{inode-form, inode-low, inode-seen, inodes-end, refuses-at}
-use Rattle.mq_tree.proofs.Phases.{tail-found, ended-more}
+use Rattle.mq_tree.proofs.DecodedMounting.{inode-form, inode-low, inode-seen, inodes-end, refuses-at}
+use Rattle.mq_tree.proofs.Parts.{tail-found, ended-more}
 use Rattle.mq_tree.proofs.file_tails.check_ends.Goals as goal
 
 pub bad_end-requires-clause-form : goal.bad_end-requires-clause-form

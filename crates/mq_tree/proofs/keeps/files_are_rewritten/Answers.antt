@@ -1,5 +1,5 @@
-use Rattle.mq_tree.proofs.KeepBytes.{cut-is, spliced-is}
-use Rattle.mq_tree.proofs.KeepSteps.{ok-truncate, ok-write}
+use Rattle.mq_tree.proofs.KeptBytes.{cut-is, spliced-is}
+use Rattle.mq_tree.proofs.KeptSteps.{ok-truncate, ok-write}
 use Rattle.mq_tree.proofs.keeps.files_are_rewritten.Goals as goal
 
 pub returns : goal.returns

@@ -1,4 +1,4 @@
-use Rattle.mq_tree.proofs.KeepSteps.{ok-create, ok-mkdir}
+use Rattle.mq_tree.proofs.KeptSteps.{ok-create, ok-mkdir}
 use Rattle.mq_tree.proofs.keeps.new_things_are_added.Goals as goal
 
 pub returns : goal.returns

@@ -1,5 +1,5 @@
-use Rattle.mq_tree.proofs.KeepExact.{refused-only, room-refused}
-use Rattle.mq_tree.proofs.KeepRefusals.{name-refused, tree-refused}
+use Rattle.mq_tree.proofs.FaultsExact.{refused-only, room-refused}
+use Rattle.mq_tree.proofs.KeptRefusals.{name-refused, tree-refused}
 use Rattle.mq_tree.proofs.keeps.refusals_are_those_of_the_tree.Goals as goal
 
 pub returns : goal.returns

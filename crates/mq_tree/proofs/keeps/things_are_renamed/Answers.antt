@@ -1,4 +1,4 @@
-use Rattle.mq_tree.proofs.KeepSteps.{ok-rename}
+use Rattle.mq_tree.proofs.KeptSteps.{ok-rename}
 use Rattle.mq_tree.proofs.keeps.things_are_renamed.Goals as goal
 
 pub returns : goal.returns

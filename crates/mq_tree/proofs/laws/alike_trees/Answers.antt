@@ -1,6 +1,6 @@
-use Rattle.mq_tree.proofs.Alike.{alike-reads, alike-text}
-use Rattle.mq_tree.proofs.Counting.{alike-counts}
-use Rattle.mq_tree.proofs.Keeping.{same-tree}
+use Rattle.mq_tree.proofs.VolumeAlike.{alike-reads, alike-text}
+use Rattle.mq_tree.proofs.CountsSums.{alike-counts}
+use Rattle.mq_tree.proofs.TreesKeeping.{same-tree}
 use Rattle.mq_tree.proofs.laws.alike_trees.Goals as goal
 
 pub returns : goal.returns

@@ -1,4 +1,4 @@
-use Rattle.mq_tree.proofs.Empties.{empty-laid, empty-others, empty-root_thing}
+use Rattle.mq_tree.proofs.Empty.{empty-laid, empty-others, empty-root_thing}
 use Rattle.mq_tree.proofs.laws.empty_tree.Goals as goal
 
 pub returns : goal.returns

@@ -1,4 +1,4 @@
-use Rattle.mq_tree.proofs.Unique.{laid-once, volume-once}
+use Rattle.mq_tree.proofs.LaidUnique.{laid-once, volume-once}
 use Rattle.mq_tree.proofs.laws.one_tree.Goals as goal
 
 pub returns : goal.returns

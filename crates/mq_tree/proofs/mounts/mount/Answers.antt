@@ -2,7 +2,7 @@ use Rattle.std.proofs.Common.{subst, sym}
 use Rattle.std.proofs.lemmas.Result.{err_from_is_err_and}
 use Rattle.mq_tree.specs.Decoded.{volume_in}
 use Rattle.mq_tree.specs.Trees.{IsAlike, kept}
-use Rattle.mq_tree.proofs.Mounted.{mounted-alike, mounted-countable, mounted-listing, mounted-tree, refused-none}
+use Rattle.mq_tree.proofs.TreesMounted.{mounted-alike, mounted-countable, mounted-listing, mounted-tree, refused-none}
 use Rattle.mq_tree.proofs.mounts.mount.Goals as goal
 
 pub returns-in_err-contents-clause-none : goal.returns-in_err-contents-clause-none

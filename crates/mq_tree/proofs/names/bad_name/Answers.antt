@@ -1,5 +1,5 @@
 use Rattle.std.proofs.Common.{arith}
-use Rattle.mq_tree.proofs.Naming.{block-seen, names-at, names-more}
+use Rattle.mq_tree.proofs.DecodedNaming.{block-seen, names-at, names-more}
 use Rattle.mq_tree.proofs.names.bad_name.Goals as goal
 
 pub name_all-requires : goal.name_all-requires

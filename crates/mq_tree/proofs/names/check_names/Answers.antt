@@ -1,6 +1,6 @@
 use Rattle.mq_tree.specs.declared.corrupt.CorruptCause.TheVariants.{Kind}
-use Rattle.mq_tree.proofs.Mounting.{inode-form, inode-low, inode-seen, inodes-end, refuses-at}
-use Rattle.mq_tree.proofs.Naming.{dir-seen, name-found, named-more, names-all}
+use Rattle.mq_tree.proofs.DecodedMounting.{inode-form, inode-low, inode-seen, inodes-end, refuses-at}
+use Rattle.mq_tree.proofs.DecodedNaming.{dir-seen, name-found, named-more, names-all}
 use Rattle.mq_tree.proofs.names.check_names.Goals as goal
 
 pub bad_name-requires-clause-form : goal.bad_name-requires-clause-form

@@ -1,5 +1,5 @@
 use Rattle.std.proofs.Common.{arith}
-use Rattle.mq_tree.proofs.Naming.{slots-more}
+use Rattle.mq_tree.proofs.DecodedNaming.{slots-more}
 use Rattle.mq_tree.proofs.names.name_all.Goals as goal
 
 pub loop-at-preserved : goal.loop-at-preserved

@@ -1,4 +1,4 @@
-use Rattle.mq_tree.proofs.Naming.{slot-good, slot-refused}
+use Rattle.mq_tree.proofs.DecodedNaming.{slot-good, slot-refused}
 use Rattle.mq_tree.proofs.names.slot_names.Goals as goal
 
 pub returns-in-Ok-Some : goal.returns-in-Ok-Some

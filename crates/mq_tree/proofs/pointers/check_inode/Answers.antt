@@ -1,7 +1,7 @@
 use Rattle.std.proofs.Common.{arith, refl, ◌∙◌}
 use Rattle.mq_tree.specs.declared.corrupt.CorruptCause.TheVariants.{Pointer}
-use Rattle.mq_tree.proofs.Mounting.{refuses-at}
-use Rattle.mq_tree.proofs.Pointed.{all-found, far-found, middle-found, near-found}
+use Rattle.mq_tree.proofs.DecodedMounting.{refuses-at}
+use Rattle.mq_tree.proofs.PointersByInode.{all-found, far-found, middle-found, near-found}
 use Rattle.mq_tree.proofs.pointers.check_inode.Goals as goal
 use Rattle.mq_tree.proofs.pointers.check_inode.Goals.{else-count-gt-DIRECT-via-then-count-gt-DIRECT+else-not-are_far, else-count-gt-DIRECT-via-else-count-gt-DIRECT}
 

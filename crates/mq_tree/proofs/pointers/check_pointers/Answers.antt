@@ -1,5 +1,5 @@
 use Rattle.std.proofs.Common.{arith}
-use Rattle.mq_tree.proofs.Mounting.{inode-form, inode-low, inode-seen, inodes-end}
+use Rattle.mq_tree.proofs.DecodedMounting.{inode-form, inode-low, inode-seen, inodes-end}
 use Rattle.mq_tree.proofs.pointers.check_pointers.Goals as goal
 
 pub overflow_cast-i : goal.overflow_cast-i

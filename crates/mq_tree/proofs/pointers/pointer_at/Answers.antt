@@ -1,6 +1,6 @@
 use Rattle.std.proofs.Common.{ap, sym, ◌∙◌, ◌-◌, ℕ, List}
 use Rattle.mq_layout.specs.Bits.{pointer_of}
-use Rattle.mq_tree.proofs.Decoding.{pointer-far, pointer-near}
+use Rattle.mq_tree.proofs.Decoded.{pointer-far, pointer-near}
 use Rattle.mq_tree.proofs.pointers.pointer_at.Goals as goal
 
 pub returns-then-place-lt-DIRECT : goal.returns-then-place-lt-DIRECT

@@ -1,5 +1,5 @@
 use Rattle.std.proofs.Common.{sym, ◌∙◌}
-use Rattle.mq_tree.proofs.Mounting.{refuses-at, inode-bad}
+use Rattle.mq_tree.proofs.DecodedMounting.{refuses-at, inode-bad}
 use Rattle.mq_tree.specs.declared.corrupt.CorruptCause.TheVariants.{Layout}
 use Rattle.mq_tree.proofs.table.check_inode_bits.Goals as goal
 

@@ -1,5 +1,5 @@
 use Rattle.std.proofs.Common.{arith}
-use Rattle.mq_tree.proofs.Mounting.{refuses-at, rest-bad}
+use Rattle.mq_tree.proofs.DecodedMounting.{refuses-at, rest-bad}
 use Rattle.mq_tree.specs.declared.corrupt.CorruptCause.TheVariants.{Layout}
 use Rattle.mq_tree.proofs.table.check_rest.Goals as goal
 

@@ -1,6 +1,6 @@
 use Rattle.std.proofs.Common.{arith, ap, sym, ◌∙◌, length}
 use Rattle.mq_layout.specs.declared.inode.Inode.{Inode}
-use Rattle.mq_tree.proofs.Mounting.{inodes-some, length-inodes, refuses-at, root-read}
+use Rattle.mq_tree.proofs.DecodedMounting.{inodes-some, length-inodes, refuses-at, root-read}
 use Rattle.mq_tree.specs.Corrupt.{not_root}
 use Rattle.mq_tree.specs.declared.corrupt.CorruptCause.TheVariants.{Kind}
 use Rattle.mq_tree.proofs.table.check_root.Goals as goal

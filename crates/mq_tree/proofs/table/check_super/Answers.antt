@@ -1,4 +1,4 @@
-use Rattle.mq_tree.proofs.Mounting.{refuses-at, super-bad}
+use Rattle.mq_tree.proofs.DecodedMounting.{refuses-at, super-bad}
 use Rattle.mq_tree.specs.declared.corrupt.CorruptCause.TheVariants.{Layout}
 use Rattle.mq_tree.proofs.table.check_super.Goals as goal
 

@@ -1,5 +1,5 @@
 use Rattle.std.proofs.Common.{arith, subst, sym, ◌∙◌}
-use Rattle.mq_tree.proofs.Mounting.{Found, refuses-at, zone-bad}
+use Rattle.mq_tree.proofs.DecodedMounting.{Found, refuses-at, zone-bad}
 use Rattle.mq_tree.specs.declared.corrupt.CorruptCause.TheVariants.{Layout}
 use Rattle.mq_tree.proofs.table.check_zone_bits.Goals as goal
 

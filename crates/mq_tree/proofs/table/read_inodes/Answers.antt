@@ -1,5 +1,5 @@
 use Rattle.std.proofs.Common.{arith, below_more, ◌∙◌}
-use Rattle.mq_tree.proofs.Mounting.{refuses-at, table_inode-bad, inode-read, table-more, inodes-all}
+use Rattle.mq_tree.proofs.DecodedMounting.{refuses-at, table_inode-bad, inode-read, table-more, inodes-all}
 use Rattle.mq_tree.specs.Decoded.{the_inode}
 use Rattle.mq_tree.specs.declared.corrupt.CorruptCause.TheVariants.{Layout}
 use Rattle.mq_tree.proofs.table.read_inodes.Goals as goal

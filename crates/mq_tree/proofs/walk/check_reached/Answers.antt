@@ -4,8 +4,8 @@ use Rattle.mq_tree.specs.Decoded.{volume_in}
 use Rattle.mq_tree.specs.Volume.{body, is_used}
 use Rattle.mq_tree.specs.Walks.{is_seen}
 use Rattle.mq_tree.specs.declared.corrupt.CorruptCause.TheVariants.{Unreached}
-use Rattle.mq_tree.proofs.Mounting.{inode-low, inode-seen, inodes-end, refuses-at}
-use Rattle.mq_tree.proofs.Walking.{free-unused, lost-found, reached-all, used-below}
+use Rattle.mq_tree.proofs.DecodedMounting.{inode-low, inode-seen, inodes-end, refuses-at}
+use Rattle.mq_tree.proofs.Walks.{free-unused, lost-found, reached-all, used-below}
 use Rattle.mq_tree.proofs.walk.check_reached.Goals as goal
 use Rattle.mq_tree.proofs.walk.check_reached.Goals.{else-inode-ne0-via-then-inode-ne0+else-not-seen-i, else-inode-ne0-via-else-inode-ne0}
 

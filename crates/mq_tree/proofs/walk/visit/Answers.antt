@@ -2,9 +2,9 @@ use Rattle.std.proofs.Common.{arith, ap, ◌∙◌, ◌≡◌, ◌*◌, ℕ}
 use Rattle.std.proofs.lemmas.List.{get_or_read}
 use Rattle.mq_tree.specs.declared.corrupt.CorruptCause.TheVariants.{Shared}
 use Rattle.mq_tree.specs.declared.walk.Walk.{Walk}
-use Rattle.mq_tree.proofs.Mounting.{inode-form, inode-low, inode-seen, refuses-at}
-use Rattle.mq_tree.proofs.Naming.{dir-seen}
-use Rattle.mq_tree.proofs.Walking.{visit-end, visit-found, visit-inside, visit-low, visit-none, visit-shared, visit-skip}
+use Rattle.mq_tree.proofs.DecodedMounting.{inode-form, inode-low, inode-seen, refuses-at}
+use Rattle.mq_tree.proofs.DecodedNaming.{dir-seen}
+use Rattle.mq_tree.proofs.Walks.{visit-end, visit-found, visit-inside, visit-low, visit-none, visit-shared, visit-skip}
 use Rattle.mq_tree.proofs.walk.visit.Goals as goal
 use Rattle.mq_tree.proofs.walk.visit.Goals.{in-Some+in_ok-find+else-not-branch, in_default}
 

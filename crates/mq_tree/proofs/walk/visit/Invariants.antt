@@ -1,4 +1,4 @@
-use Rattle.mq_tree.proofs.Walking.{Visits}
+use Rattle.mq_tree.proofs.Walks.{Visits}
 use Rattle.mq_tree.proofs.walk.visit.Given as goal
 
 abbrev pub invariant-loop-k : goal.invariant-loop-k

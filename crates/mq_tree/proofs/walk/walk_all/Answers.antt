@@ -2,8 +2,8 @@ use Rattle.std.proofs.Common.{arith, rules, ap, length, subst, ◌∙◌, ◌≡
 use Rattle.mq_layout.specs.Places.{inodes_of}
 use Rattle.mq_tree.specs.Decoded.{volume_in}
 use Rattle.mq_tree.specs.Walks.{Starts}
-use Rattle.mq_tree.proofs.Mounting.{inodes-some, length-inodes}
-use Rattle.mq_tree.proofs.Walking.{walked-few, walked-start, walked-whole}
+use Rattle.mq_tree.proofs.DecodedMounting.{inodes-some, length-inodes}
+use Rattle.mq_tree.proofs.Walks.{walked-few, walked-start, walked-whole}
 use Rattle.mq_tree.proofs.walk.walk_all.Goals as goal
 
 pub new-requires : goal.new-requires

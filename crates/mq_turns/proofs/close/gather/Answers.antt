@@ -1,7 +1,7 @@
 use Rattle.std.proofs.Common.{arith, ap, ◌∙◌, ◌≡◌, ◌≤◌, ◌++◌, map, []}
 use Rattle.mq_turns.specs.Desk.{drawn_of, read_of, charged_of, IsInOrder}
-use Rattle.mq_turns.proofs.Order.{order_before}
-use Rattle.mq_turns.proofs.Ending.{all_last, parts_last, parts_of, drawn_moves, read_moves, charged_moves, each_last}
+use Rattle.mq_turns.proofs.DeskOrder.{order_before}
+use Rattle.mq_turns.proofs.DeskEnding.{all_last, parts_last, parts_of, drawn_moves, read_moves, charged_moves, each_last}
 use Rattle.mq_turns.proofs.close.gather.Goals as goal
 
 pub count-requires : goal.count-requires

@@ -1,8 +1,8 @@
 use Rattle.std.proofs.Common.{rules, arith, ap, ◌∙◌, ◌≡◌, ◌≤◌, ◌++◌, map, []}
 use Rattle.mq_turns.specs.Desk.{drawn_of, read_of, charged_of, joined, IsInOrder}
-use Rattle.mq_turns.proofs.Seats.{glues}
-use Rattle.mq_turns.proofs.Order.{order_before}
-use Rattle.mq_turns.proofs.Ending.{all_last, parts_last, drawn_moves, read_moves, charged_moves, each_last}
+use Rattle.mq_turns.proofs.DeskSeats.{glues}
+use Rattle.mq_turns.proofs.DeskOrder.{order_before}
+use Rattle.mq_turns.proofs.DeskEnding.{all_last, parts_last, drawn_moves, read_moves, charged_moves, each_last}
 use Rattle.mq_turns.proofs.close.join_all.Goals as goal
 
 pub count-requires : goal.count-requires

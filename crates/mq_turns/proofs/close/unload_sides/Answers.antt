@@ -6,8 +6,8 @@ use mathlib.Core.Logic.{dite}
 use native.Mathlib.Decide.{ℕ_discrete}
 use lib.ListN.{get_elem?}
 use Rattle.mq_turns.specs.declared.turn.Item.TheVariants.{Side}
-use Rattle.mq_turns.proofs.Laying.{get_snoc}
-use Rattle.mq_turns.proofs.Ending.{not_none, found}
+use Rattle.mq_turns.proofs.DeskLaying.{get_snoc}
+use Rattle.mq_turns.proofs.DeskEnding.{not_none, found}
 use Rattle.mq_turns.proofs.close.unload_sides.Goals as goal
 
 pub unreachable-requires : goal.unreachable-requires

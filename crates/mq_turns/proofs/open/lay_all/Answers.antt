@@ -2,7 +2,7 @@ use Rattle.std.proofs.Common.{rules, arith, ap, ◌≡◌, ◌∙◌, ◌+◌, [
 use Rattle.mq_turns.specs.Desk.{opening_of, laying, slots}
 use Rattle.mq_turns.specs.declared.turn.Turn.TheVariants.{Root}
 use Rattle.mq_turns.specs.declared.turn.Item.TheVariants as item
-use Rattle.mq_turns.proofs.Laying.{laid_holds, laid, laid_stands, root_laid}
+use Rattle.mq_turns.proofs.DeskLaying.{laid_holds, laid, laid_stands, root_laid}
 use Rattle.mq_turns.proofs.open.lay_all.Goals as goal
 
 pub give_back-requires-clause-holds : goal.give_back-requires-clause-holds

@@ -2,7 +2,7 @@ use Rattle.std.proofs.Common.{rules, arith, ap, ◌≡◌, ◌∙◌, [], vec_le
 use Rattle.mq_turns.specs.Desk.{opening_of}
 use Rattle.mq_turns.specs.declared.turn.Turn.TheVariants.{Page}
 use Rattle.mq_turns.specs.declared.turn.Item.TheVariants as item
-use Rattle.mq_turns.proofs.Laying.{laid_holds, laid, laid_stands, page_laid, last_pop, front_pop}
+use Rattle.mq_turns.proofs.DeskLaying.{laid_holds, laid, laid_stands, page_laid, last_pop, front_pop}
 use Rattle.mq_turns.proofs.open.lay_pages.Goals as goal
 
 pub give_back-requires-clause-holds : goal.give_back-requires-clause-holds

@@ -2,7 +2,7 @@ use Rattle.std.proofs.Common.{rules, arith, ap, ◌≡◌, ◌∙◌, ◌+◌, s
 use Rattle.mq_turns.specs.Desk.{opening_of, laying}
 use Rattle.mq_turns.specs.declared.turn.Turn.TheVariants.{Side}
 use Rattle.mq_turns.specs.declared.turn.Item.TheVariants as item
-use Rattle.mq_turns.proofs.Laying.{laid_holds, laid, laid_stands, side_laid, last_pop, front_pop}
+use Rattle.mq_turns.proofs.DeskLaying.{laid_holds, laid, laid_stands, side_laid, last_pop, front_pop}
 use Rattle.mq_turns.proofs.open.lay_sides.Goals as goal
 
 pub give_back-requires-clause-holds : goal.give_back-requires-clause-holds

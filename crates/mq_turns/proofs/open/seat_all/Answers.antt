@@ -1,5 +1,5 @@
 use Rattle.std.proofs.Common.{rules, arith, ap}
-use Rattle.mq_turns.proofs.Seats.{seats}
+use Rattle.mq_turns.proofs.DeskSeats.{seats}
 use Rattle.mq_turns.proofs.open.seat_all.Goals as goal
 
 pub split_seat-requires : goal.split_seat-requires

@@ -1,5 +1,5 @@
 use Rattle.std.proofs.Common.{rules, ◌∙◌, ap}
-use Rattle.mq_turns.proofs.Keeping.{looks_nothing}
+use Rattle.mq_turns.proofs.DeskKeeping.{looks_nothing}
 use Rattle.mq_turns.proofs.steps.count.Goals as goal
 
 pub load-requires : goal.load-requires

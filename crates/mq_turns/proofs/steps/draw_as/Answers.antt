@@ -1,5 +1,5 @@
 use Rattle.std.proofs.Common.{rules, ◌∙◌, sym}
-use Rattle.mq_turns.proofs.Keeping.{draws_told}
+use Rattle.mq_turns.proofs.DeskKeeping.{draws_told}
 use Rattle.mq_turns.proofs.steps.draw_as.Goals as goal
 
 pub fetch_add-requires : goal.fetch_add-requires

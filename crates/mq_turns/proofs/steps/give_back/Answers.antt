@@ -1,8 +1,8 @@
 use Rattle.std.proofs.Common.{rules, arith, ◌∷◌, suc, ap, ◌∙◌, subst, Some}
 use Rattle.atomic_table.specs.Table.{rest}
 use Rattle.mq_turns.specs.Desk.{Sees}
-use Rattle.mq_turns.proofs.Seen.{sees_hand}
-use Rattle.mq_turns.proofs.Keeping.{reaches, frees_turn}
+use Rattle.mq_turns.proofs.DeskSeen.{sees_hand}
+use Rattle.mq_turns.proofs.DeskKeeping.{reaches, frees_turn}
 use Rattle.mq_turns.proofs.steps.give_back.Goals as goal
 
 pub load-requires : goal.load-requires

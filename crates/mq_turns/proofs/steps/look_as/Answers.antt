@@ -1,5 +1,5 @@
 use Rattle.std.proofs.Common.{rules, sym}
-use Rattle.mq_turns.proofs.Keeping.{looks_told}
+use Rattle.mq_turns.proofs.DeskKeeping.{looks_told}
 use Rattle.mq_turns.proofs.steps.look_as.Goals as goal
 
 pub load-requires : goal.load-requires

@@ -1,7 +1,7 @@
 use Rattle.std.proofs.Common.{rules, arith, ◌≡◌, ◌∷◌, [], sym, ap, ◌∙◌, subst, Some, None}
 use Rattle.atomic_table.specs.Table.{rest}
 use Rattle.mq_turns.specs.Desk.{opening_of, turn_at, Stands}
-use Rattle.mq_turns.proofs.Keeping.{takes_turn, settles}
+use Rattle.mq_turns.proofs.DeskKeeping.{takes_turn, settles}
 use Rattle.mq_turns.proofs.steps.try_take.Goals as goal
 
 pub swap-requires : goal.swap-requires

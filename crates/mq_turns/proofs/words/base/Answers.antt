@@ -1,5 +1,5 @@
 use Rattle.mq_turns.specs.Desk.{opening_of}
-use Rattle.mq_turns.proofs.Marking.{reads_base}
+use Rattle.mq_turns.proofs.WordsMarking.{reads_base}
 use Rattle.mq_turns.proofs.words.base.Goals as goal
 
 pub load-requires : goal.load-requires

@@ -1,5 +1,5 @@
 use Rattle.mq_turns.specs.Desk.{opening_of}
-use Rattle.mq_turns.proofs.Marking.{clears}
+use Rattle.mq_turns.proofs.WordsMarking.{clears}
 use Rattle.mq_turns.proofs.words.clear.Goals as goal
 
 pub store-requires : goal.store-requires

@@ -1,6 +1,6 @@
 use Rattle.mq_turns.specs.Desk.{opening_of}
 use Rattle.mq_turns.specs.declared.rule.Notice.TheVariants as notice
-use Rattle.mq_turns.proofs.Marking.{notes_told}
+use Rattle.mq_turns.proofs.WordsMarking.{notes_told}
 use Rattle.mq_turns.proofs.words.note_front.Goals as goal
 
 pub load-requires : goal.load-requires

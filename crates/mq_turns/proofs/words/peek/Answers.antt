@@ -1,5 +1,5 @@
 use Rattle.mq_turns.specs.Desk.{opening_of}
-use Rattle.mq_turns.proofs.Marking.{peeks}
+use Rattle.mq_turns.proofs.WordsMarking.{peeks}
 use Rattle.mq_turns.proofs.words.peek.Goals as goal
 
 pub load-requires : goal.load-requires

@@ -1,5 +1,5 @@
 use Rattle.mq_turns.specs.Desk.{opening_of}
-use Rattle.mq_turns.proofs.Marking.{raises}
+use Rattle.mq_turns.proofs.WordsMarking.{raises}
 use Rattle.mq_turns.proofs.words.raise.Goals as goal
 
 pub store-requires : goal.store-requires

@@ -1,7 +1,7 @@
 use Rattle.std.proofs.Common.{◌≡◌, sym, ◌∙◌, ap}
 use Rattle.mq_script.specs.Words.{number_in}
-use Rattle.mq_script.proofs.DigitWords.{number_is}
-use Rattle.mq_words.proofs.Asks.{within_some}
+use Rattle.mq_script.proofs.WordsDigits.{number_is}
+use Rattle.mq_words.proofs.Asked.{within_some}
 use Rattle.mq_words.proofs.numbers.number_below.Goals as goal
 
 pub returns-in-Some : goal.returns-in-Some

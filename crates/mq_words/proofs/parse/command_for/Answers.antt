@@ -2,7 +2,7 @@ use Rattle.std.proofs.Common.{rules, ◌≡◌, ◌∙◌, ℕ, List, [], Bor, g
 use Rattle.std.proofs.lemmas.List.{take_all}
 use Rattle.clap.specs.Words.{Text, app_of, rule_of, with_rule}
 use Rattle.mq_words.specs.Syntax.{app_for, app_with, names_for, option_rule, repeated_for, verb_text}
-use Rattle.mq_words.proofs.Apps.{option_more, step}
+use Rattle.mq_words.proofs.SyntaxApps.{option_more, step}
 use Rattle.mq_words.proofs.parse.command_for.Goals as goal
 
 pub loop-option-preserved : goal.loop-option-preserved

@@ -2,7 +2,7 @@ use Rattle.std.proofs.Common.{◌≡◌, ◌∙◌, inl, inr, refl, sym, ap, map
 use Rattle.std.specs.String.{string_bytes}
 use Rattle.clap.specs.Words.{App, app_of, fault_of, is_simple, is_simple_and_free, kind_of, matches_of}
 use Rattle.mq_words.specs.Syntax.{app_for}
-use Rattle.mq_words.proofs.Apps.{simple, simple_and_free, some_kind}
+use Rattle.mq_words.proofs.SyntaxApps.{simple, simple_and_free, some_kind}
 use Rattle.mq_words.proofs.parse.parse.Goals as goal
 
 pub returns-in-Ok-clause-taken : goal.returns-in-Ok-clause-taken

@@ -1,7 +1,7 @@
 use Rattle.std.proofs.Common.{◌≡◌, ◌∙◌, ℕ, List, [], None, Bor, get_or, ap, rules}
 use Rattle.clap.specs.Words.{Text, app_of, rule_of, with_rule}
 use Rattle.mq_words.specs.Syntax.{app_with, name_rule}
-use Rattle.mq_words.proofs.Apps.{name_more, step}
+use Rattle.mq_words.proofs.SyntaxApps.{name_more, step}
 use Rattle.mq_words.proofs.parse.with_names.Goals as goal
 
 pub loop-name-preserved : goal.loop-name-preserved

@@ -4,7 +4,7 @@ use Rattle.clap.specs.Words.{first_of, found_of, rows_of}
 use Rattle.mq_words.specs.Asked.{number_from}
 use Rattle.mq_words.specs.declared.refusal.WordsRefusal.{WordsRefusal}
 use Rattle.mq_words.specs.declared.refusal.WordsRefusal.TheVariants.{Unknown}
-use Rattle.mq_words.proofs.Asks.{reads_as}
+use Rattle.mq_words.proofs.Asked.{reads_as}
 use Rattle.mq_words.proofs.read.bounded.Goals as goal
 
 pub returns-clause-reads : goal.returns-clause-reads

@@ -4,7 +4,7 @@ use Rattle.clap.specs.Words.{first_of, found_of, rows_of}
 use Rattle.mq_words.specs.Asked.{word_in}
 use Rattle.mq_words.specs.declared.refusal.WordsRefusal.{WordsRefusal}
 use Rattle.mq_words.specs.declared.refusal.WordsRefusal.TheVariants.{Unknown}
-use Rattle.mq_words.proofs.Asks.{reads_as}
+use Rattle.mq_words.proofs.Asked.{reads_as}
 use Rattle.mq_words.proofs.read.word.Goals as goal
 
 pub returns : goal.returns

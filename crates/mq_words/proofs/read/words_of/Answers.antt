@@ -2,7 +2,7 @@ use Rattle.std.proofs.Common.{rules, ◌≡◌, ◌∙◌, ◌≤◌, Some, List
 use Rattle.clap.specs.Words.{Text, all_of, found_of, rows_of}
 use Rattle.clap.proofs.WalkLemmas.{raw_values-rows}
 use Rattle.mq_words.specs.Asked.{Words}
-use Rattle.mq_words.proofs.Asks.{no_word, none_found, some_found, some_word}
+use Rattle.mq_words.proofs.Asked.{no_word, none_found, some_found, some_word}
 use Rattle.mq_words.proofs.read.words_of.Goals as goal
 
 pub returns-in_default-clause-reads : goal.returns-in_default-clause-reads

@@ -2,7 +2,7 @@ use Rattle.std.proofs.Common.{◌≡◌, ◌++◌, ℕ, List, [], ◌∷◌, Opt
 use Rattle.mq_drive.specs.Seats.{name_of, tickets_of}
 use Rattle.mq_drive.specs.declared.fuse.FuseSeat.{FuseSeat}
 use Rattle.mqfs.specs.Cuts.{StandsUnder}
-use Rattle.mqfs.proofs.CutTexts.{IsClosed, is_closed, prefix_stand, doorbell_under}
+use Rattle.mqfs.proofs.CutsTexts.{IsClosed, is_closed, prefix_stand, doorbell_under}
 use Rattle.mqfs.proofs.blocks.commit_fresh.Goals as goal
 
 pub returns-clause-shows : goal.returns-clause-shows

@@ -4,15 +4,16 @@ use Rattle.mq_drive.specs.Emu.{emu_state, emu_faults, drawn_by}
 use Rattle.mq_drive.specs.Roles.{role_of}
 use Rattle.mq_drive.specs.Seats.{name_of}
 use Rattle.mq_drive.specs.Start.{IsPortOf, IsImageOf, start_of}
-use Rattle.mq_drive.specs.Steps.{Fault, CommandError, Gains}
+use Rattle.mq_drive.specs.Steps.{PortFault, CommandError, Gains}
 use Rattle.mq_drive.specs.declared.emu.EmuPort.{EmuPort}
 use Rattle.mq_drive.specs.declared.role.Role.{Role}
 use Rattle.mq_drive.specs.declared.role.Role.TheVariants.{Queue, Root}
 use Rattle.mq_recover.specs.Drives.{DriveState}
+use Rattle.mq_recover.proofs.RefusalsChains.{first-is}
 use Rattle.mqfs.specs.Cuts.{events_of, rung_after, StandsUnder}
-use Rattle.mqfs.proofs.CutTexts.{all_stand, reached_stand, none_failed, off_cause, failed_cause}
-use Rattle.mqfs.proofs.Drives.{one_item, has_one}
-use Rattle.mqfs.proofs.Restarts.{AreStarted, are_started, fresh_clean, one_port}
+use Rattle.mqfs.proofs.CutsTexts.{all_stand, reached_stand, none_failed, off_cause, failed_cause}
+use Rattle.mqfs.proofs.OnePort.{has_one}
+use Rattle.mqfs.proofs.RestartImages.{AreStarted, are_started, fresh_clean, one_port}
 use Rattle.mqfs.proofs.blocks.commit_until.Goals as goal
 
 pub commit_text-ports-requires-clause-one : goal.commit_text-ports-requires-clause-one
@@ -35,7 +36,7 @@ returns-in-Ok-clause-shows c =
     let p : EmuPort = first.0 in
     let was = first.1 in
     let q : EmuPort = c.remove-queue.result in
-    let got = one_item c.commit_text-ports.result.0.queues.items q c.commit_text-ports.ensures.queues c.remove-queue.ensures.value in
+    let got = first-is c.commit_text-ports.result.0.queues.items q c.commit_text-ports.ensures.queues c.remove-queue.ensures.value in
     let started : AreStarted c.args.geometry f c.in_ok-queue.queue c.in_ok-root.root ports p = are_started c.args.geometry f c.in_ok-queue.queue c.in_ok-root.root ports p c.in_ok-ports.ensures.states c.in_ok-ports.ensures.faults was in
     let bounds = c.commit_text-ports.ensures.bounds p q was got in
     let shows = rw c.in-Ok.is at c.commit_text-ports.ensures.ok in
@@ -54,7 +55,7 @@ returns-in-Ok-clause-shows c =
 
 pub returns-in-Ok-clause-queue : goal.returns-in-Ok-clause-queue
 returns-in-Ok-clause-queue c =
-    let got = one_item c.commit_text-ports.result.0.queues.items c.remove-queue.result c.commit_text-ports.ensures.queues c.remove-queue.ensures.value in
+    let got = first-is c.commit_text-ports.result.0.queues.items c.remove-queue.result c.commit_text-ports.ensures.queues c.remove-queue.ensures.value in
     let port : IsPortOf c.args.geometry (Queue 0) (emu_state c.remove-queue.result) = c.commit_text-ports.ensures.port c.remove-queue.result got in
     let role : role_of (emu_state c.remove-queue.result).queue ≡ Queue 0 = ap role_of port.queue in
     subst (λ (r : Role). IsImageOf c.args.geometry r c.cut.result.0) role (c.cut.ensures.role c.args.geometry (subst (λ (r : Role). IsPortOf c.args.geometry r (emu_state c.remove-queue.result)) (sym role) port))
@@ -64,7 +65,7 @@ returns-in-Ok-clause-queue_seat c =
     let f = name_of c.args.fuse.now in
     let ports = c.in_ok-ports.ports in
     let first = has_one ports.queues.items (one_port ports.queues.items ports.root c.args.geometry f c.in_ok-queue.queue c.in_ok-root.root c.in_ok-ports.ensures.states) in
-    let got = one_item c.commit_text-ports.result.0.queues.items c.remove-queue.result c.commit_text-ports.ensures.queues c.remove-queue.ensures.value in
+    let got = first-is c.commit_text-ports.result.0.queues.items c.remove-queue.result c.commit_text-ports.ensures.queues c.remove-queue.ensures.value in
     let started = are_started c.args.geometry f c.in_ok-queue.queue c.in_ok-root.root ports first.0 c.in_ok-ports.ensures.states c.in_ok-ports.ensures.faults first.1 in
     c.cut.ensures.fuse ∙ (c.commit_text-ports.ensures.bounds first.0 c.remove-queue.result first.1 got).fuse ∙ ap (λ (s : PortState). s.fuse) started.queue
 
@@ -85,7 +86,7 @@ returns-clause-queue_seat c =
     let f = name_of c.args.fuse.now in
     let ports = c.in_ok-ports.ports in
     let first = has_one ports.queues.items (one_port ports.queues.items ports.root c.args.geometry f c.in_ok-queue.queue c.in_ok-root.root c.in_ok-ports.ensures.states) in
-    let got = one_item c.commit_text-ports.result.0.queues.items c.remove-queue.result c.commit_text-ports.ensures.queues c.remove-queue.ensures.value in
+    let got = first-is c.commit_text-ports.result.0.queues.items c.remove-queue.result c.commit_text-ports.ensures.queues c.remove-queue.ensures.value in
     let started = are_started c.args.geometry f c.in_ok-queue.queue c.in_ok-root.root ports first.0 c.in_ok-ports.ensures.states c.in_ok-ports.ensures.faults first.1 in
     c.cut-in-Err.ensures.fuse ∙ (c.commit_text-ports.ensures.bounds first.0 c.remove-queue.result first.1 got).fuse ∙ ap (λ (s : PortState). s.fuse) started.queue
 
@@ -97,7 +98,7 @@ returns-clause-shows c =
     let p : EmuPort = first.0 in
     let was = first.1 in
     let q : EmuPort = c.remove-queue.result in
-    let got = one_item c.commit_text-ports.result.0.queues.items q c.commit_text-ports.ensures.queues c.remove-queue.ensures.value in
+    let got = first-is c.commit_text-ports.result.0.queues.items q c.commit_text-ports.ensures.queues c.remove-queue.ensures.value in
     let started : AreStarted c.args.geometry f c.in_ok-queue.queue c.in_ok-root.root ports p = are_started c.args.geometry f c.in_ok-queue.queue c.in_ok-root.root ports p c.in_ok-ports.ensures.states c.in_ok-ports.ensures.faults was in
     let bounds = c.commit_text-ports.ensures.bounds p q was got in
     let cut = rw c.in-Err.is at c.commit_text-ports.ensures.cut in
@@ -118,7 +119,7 @@ returns-clause-shows c =
 
 pub returns-clause-queue : goal.returns-clause-queue
 returns-clause-queue c =
-    let got = one_item c.commit_text-ports.result.0.queues.items c.remove-queue.result c.commit_text-ports.ensures.queues c.remove-queue.ensures.value in
+    let got = first-is c.commit_text-ports.result.0.queues.items c.remove-queue.result c.commit_text-ports.ensures.queues c.remove-queue.ensures.value in
     let port : IsPortOf c.args.geometry (Queue 0) (emu_state c.remove-queue.result) = c.commit_text-ports.ensures.port c.remove-queue.result got in
     let role : role_of (emu_state c.remove-queue.result).queue ≡ Queue 0 = ap role_of port.queue in
     subst (λ (r : Role). IsImageOf c.args.geometry r c.cut-in-Err.result.0) role (c.cut-in-Err.ensures.role c.args.geometry (subst (λ (r : Role). IsPortOf c.args.geometry r (emu_state c.remove-queue.result)) (sym role) port))
@@ -131,8 +132,8 @@ check_power-requires c status is =
     let p : EmuPort = first.0 in
     let was = first.1 in
     let q : EmuPort = c.remove-queue.result in
-    let got = one_item c.commit_text-ports.result.0.queues.items q c.commit_text-ports.ensures.queues c.remove-queue.ensures.value in
+    let got = first-is c.commit_text-ports.result.0.queues.items q c.commit_text-ports.ensures.queues c.remove-queue.ensures.value in
     let started : AreStarted c.args.geometry f c.in_ok-queue.queue c.in_ok-root.root ports p = are_started c.args.geometry f c.in_ok-queue.queue c.in_ok-root.root ports p c.in_ok-ports.ensures.states c.in_ok-ports.ensures.faults was in
     let bounds = c.commit_text-ports.ensures.bounds p q was got in
     let failed = failed_cause c.commit_text-ports.result.1 c.in-Err.refusal status (emu_faults p) (emu_faults q) (c.commit_text-ports.ensures.cause p q was got) c.in-Err.is is in
-    none_failed q failed.0 status (bounds.fail ∙ ap (λ (s : PortState). s.fail) started.queue) (subst (λ (l : List Fault). Gains (CommandError failed.0 status) l (emu_faults q)) started.none failed.1)
+    none_failed q failed.0 status (bounds.fail ∙ ap (λ (s : PortState). s.fail) started.queue) (subst (λ (l : List PortFault). Gains (CommandError failed.0 status) l (emu_faults q)) started.none failed.1)

@@ -1,7 +1,7 @@
 use Rattle.std.proofs.Common.{◌≡◌, List, [], ◌∷◌, ◌++◌, sym, ◌∙◌, ap, subst}
 use Rattle.mq_blocks.specs.Drive.{PortImage}
 use Rattle.mq_image.specs.Drives.{IsDrive}
-use Rattle.mqfs.proofs.Lefts.{left_drive}
+use Rattle.mqfs.proofs.Left.{left_drive}
 use Rattle.mqfs.proofs.blocks.file_of.Goals as goal
 
 pub write_image-requires : goal.write_image-requires

@@ -11,9 +11,9 @@ use Rattle.mqfs.specs.Left.{IsLeft, drive_image}
 use Rattle.mqfs.specs.Lines.{map_after}
 use Rattle.mqfs.specs.Live.{AreMarks, HoldsMap}
 use Rattle.mqfs.specs.Restart.{cut_view}
-use Rattle.mqfs.proofs.CutTexts.{prefix_within, run_output}
-use Rattle.mqfs.proofs.Lefts.{is_left, keeps_left}
-use Rattle.mqfs.proofs.Restarts.{text_homes, lines_below}
+use Rattle.mqfs.proofs.CutsTexts.{prefix_within, run_output}
+use Rattle.mqfs.proofs.Left.{is_left, keeps_left}
+use Rattle.mqfs.proofs.RestartImages.{text_homes, lines_below}
 use Rattle.mqfs.proofs.blocks.run_text.Goals as goal
 
 abbrev Two : Type 0

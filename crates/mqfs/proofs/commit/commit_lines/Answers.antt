@@ -2,7 +2,7 @@ use Rattle.std.proofs.Common.{rules, ◌≡◌, length, vec_len, refl, ◌∙◌
 use Rattle.std.proofs.lemmas.Result.{err_from_is_err_and}
 use Rattle.mq_drive.specs.declared.role.Role.TheVariants.{Queue}
 use Rattle.mq_pmr.specs.Runs.{Items}
-use Rattle.mqfs.proofs.TextSteps.{Lines, none_yet, finished, finished_rung, places_many, line_turn, line_more, line_between, line_stopped, some_items}
+use Rattle.mqfs.proofs.CommitsTextSteps.{Lines, none_yet, finished, finished_rung, places_many, line_turn, line_more, line_between, line_stopped, some_items}
 use Rattle.mqfs.proofs.commit.commit_lines.Goals as goal
 
 pub loop-line-init : goal.loop-line-init

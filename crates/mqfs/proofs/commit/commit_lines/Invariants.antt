@@ -1,5 +1,5 @@
 use Rattle.std.proofs.Common.{◌≡◌, []}
-use Rattle.mqfs.proofs.TextSteps.{SoFar}
+use Rattle.mqfs.proofs.CommitsTextSteps.{SoFar}
 use Rattle.mqfs.proofs.commit.commit_lines.Given as goal
 
 -- the lines so far are committed

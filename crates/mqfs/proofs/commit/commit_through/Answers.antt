@@ -1,6 +1,6 @@
 use Rattle.std.proofs.Common.{◌≡◌, ◌<◌, ◌≤◌, length, sym, ap, subst, arith, rules}
 use Rattle.mq_blocks.specs.Drive.{PortState}
-use Rattle.mqfs.proofs.TextSteps.{Lines, none_yet, finished, stopped_between, places_many, IsStopped}
+use Rattle.mqfs.proofs.CommitsTextSteps.{Lines, none_yet, finished, stopped_between, places_many, IsStopped}
 use Rattle.mqfs.proofs.commit.commit_through.Goals as goal
 
 pub returns-then-is_empty-clause-ok : goal.returns-then-is_empty-clause-ok

@@ -7,7 +7,7 @@ use Rattle.mq_blocks.specs.Machine.{Writes}
 use Rattle.mqfs.specs.Commits.{copies_from}
 use Rattle.mqfs.specs.Lines.{writes_from, named}
 use Rattle.mq_pmr.specs.Runs.{Items}
-use Rattle.mqfs.proofs.Fills.{Fill, writes_last, copies_none, copies_some}
+use Rattle.mqfs.proofs.LinesFills.{Fill, writes_last, copies_none, copies_some}
 use Rattle.mqfs.proofs.items.copies.Goals as goal
 use Rattle.mqfs.proofs.items.copies.Goals.{in-None, in-Some+in_ok-filled-in-Some+in_ok-push-in-Some}
 

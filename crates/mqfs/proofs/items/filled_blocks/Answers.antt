@@ -3,7 +3,7 @@ use Rattle.std.proofs.lemmas.List.{append-nil}
 use Rattle.mq_blocks.specs.Machine.{Writes}
 use Rattle.mqfs.specs.Commits.{blocks_in}
 use Rattle.mqfs.specs.Lines.{writes_from, named}
-use Rattle.mqfs.proofs.Fills.{Fill, writes_last, blocks_none, blocks_some}
+use Rattle.mqfs.proofs.LinesFills.{Fill, writes_last, blocks_none, blocks_some}
 use Rattle.mqfs.proofs.items.filled_blocks.Goals as goal
 use Rattle.mqfs.proofs.items.filled_blocks.Goals.{in-None, in-Some+in_ok-push-in-Some}
 

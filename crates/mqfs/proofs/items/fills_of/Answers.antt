@@ -1,8 +1,8 @@
 use Rattle.std.proofs.Common.{rules, ◌≡◌, ◌<◌, ◌-◌, List, length, sym, ◌∙◌, subst, arith, vec_len}
 use Rattle.mq_text.specs.Text.{AreGoodItems}
 use Rattle.mq_text.specs.declared.item.BlockItem.{BlockItem}
-use Rattle.mqfs.proofs.Fills.{good_at}
-use Rattle.mqfs.proofs.Fills.{good_set}
+use Rattle.mqfs.proofs.LinesFills.{good_at}
+use Rattle.mqfs.proofs.LinesFills.{good_set}
 use Rattle.mqfs.proofs.items.fills_of.Goals as goal
 
 pub index_mut-requires : goal.index_mut-requires

@@ -3,7 +3,7 @@ use Rattle.mq_blocks.specs.Descriptor.{descriptor_bytes}
 use Rattle.mq_blocks.specs.Geometry.{area_lba}
 use Rattle.mqfs.specs.Commits.{blocks_in, copies_from}
 use Rattle.mqfs.specs.Lines.{set_in, writes_from, named}
-use Rattle.mqfs.proofs.Fills.{length-blocks_few, items_made}
+use Rattle.mqfs.proofs.LinesFills.{length-blocks_few, items_made}
 use Rattle.mqfs.proofs.items.items_of_line.Goals as goal
 
 pub write_descriptor-requires : goal.write_descriptor-requires

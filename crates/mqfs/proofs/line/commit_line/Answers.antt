@@ -1,17 +1,17 @@
-use Rattle.std.proofs.Common.{◌≡◌, ◌≢◌, ◌<◌, ◌≤◌, ⊎_elim, ℕ, ◌+◌, ◌*◌, [], ◌∷◌, ◌++◌, List, length, refl, ◌∙◌, ap, arith, Bool, true, false, cond}
-use Rattle.std.specs.Prelude.{◌&&◌, nat_eq}
-use Rattle.std.proofs.lemmas.Bool.Decides.{nat_tests}
+use Rattle.std.proofs.Common.{◌≡◌, ◌≢◌, ◌<◌, ◌≤◌, ⊎_elim, ℕ, ◌+◌, ◌*◌, [], ◌∷◌, ◌++◌, List, length, refl, ◌∙◌, ap, arith, Bool, true, cond}
+use Rattle.std.specs.Prelude.{◌&&◌}
 use Rattle.mq_pmr.specs.Queue.{after_head}
 use Rattle.mq_pmr.specs.Rungs.{are_from, is_clear, last_leading, left_after}
 use Rattle.mq_pmr.specs.declared.rungs.Rung.{Rung}
-use Rattle.mq_pmr.proofs.Staging.{end_all}
+use Rattle.mq_pmr.proofs.Runs.{end_all}
 use Rattle.std.proofs.lemmas.Result.{err_from_is_err_and}
+use Rattle.std.proofs.lemmas.Bool.{ne_eqb}
 use Rattle.mq_blocks.specs.Drive.{PortState, IsQuiescent, staged_end, after_flush, after_ring, after_store_head}
 use Rattle.mq_pmr.specs.Runs.{Items, after_some}
 use Rattle.mqfs.specs.Cuts.{IsCut}
 use Rattle.mqfs.specs.Runs.{after_all, after_line}
-use Rattle.mqfs.proofs.Exits.{cut_staging, cut_flushed, cut_ended, cut_all, cut_stored, stored_past}
-use Rattle.mqfs.proofs.Lines.{apart_posted}
+use Rattle.mqfs.proofs.CutsExits.{cut_staging, cut_flushed, cut_ended, cut_all, cut_stored, stored_past}
+use Rattle.mqfs.proofs.RunsLines.{apart_posted}
 use Rattle.mqfs.proofs.line.commit_line.Goals as goal
 
 pub complete_all-requires : goal.complete_all-requires
@@ -64,11 +64,8 @@ returns-in_err-complete_all-clause-cut g c =
 clear_all : (s : PortState) (end : ℕ) → s.posted ≡ [] → s.failed ≡ [] → is_clear s end ≡ true
 clear_all s end posted failed = λ i. are_from end (posted i) && are_from end (failed i)
 
-other_eq : (a b : ℕ) → a ≢ b → nat_eq a b ≡ false
-other_eq a b other = grind (arith, nat_tests)
-
 after_head-other : (s : PortState) (head : ℕ) → s.head ≢ head → after_head s head ≡ after_flush (after_store_head s head)
-after_head-other s head other = ap (λ (b : Bool). cond b s (after_flush (after_store_head s head))) (other_eq s.head head other)
+after_head-other s head other = ap (λ (b : Bool). cond b s (after_flush (after_store_head s head))) (ne_eqb s.head head other)
 
 line_done : (s : PortState) (tx : ℕ) (items : Items) (t : PortState) (head : ℕ) → t ≡ after_all (after_ring (after_flush (after_some s tx (length items) items)))
     → head ≡ staged_end s + length items → after_flush (after_store_head t head) ≡ after_line s tx items

@@ -2,8 +2,8 @@ use Rattle.std.proofs.Common.{◌≡◌, ℕ, ◌+◌, ◌-◌, length, sym, ◌
 use Rattle.std.proofs.lemmas.Result.{err_from_is_err_and}
 use Rattle.mq_blocks.specs.Drive.{PortState}
 use Rattle.mqfs.specs.Cuts.{HasEnded}
-use Rattle.mqfs.proofs.Ended.{ended_done, ended_failed}
-use Rattle.mqfs.proofs.Ending.{goes_on}
+use Rattle.mqfs.proofs.CutsEnded.{ended_done, ended_failed}
+use Rattle.mqfs.proofs.RunsEnding.{goes_on}
 use Rattle.mqfs.proofs.line.complete_all.Goals as goal
 
 pub completion-preserved : goal.completion-preserved

@@ -1,5 +1,5 @@
 use Rattle.std.proofs.Common.{◌≡◌, ◌-◌, length}
-use Rattle.mqfs.proofs.Ending.{Goes}
+use Rattle.mqfs.proofs.RunsEnding.{Goes}
 use Rattle.mqfs.specs.Cuts.{HasEnded}
 use Rattle.mqfs.proofs.line.complete_all.Given as goal
 

@@ -1,7 +1,7 @@
 use Rattle.std.proofs.Common.{rules, ◌≡◌, ◌<◌, ◌-◌, List, length, subst, sym, ◌∙◌, arith, vec_len}
 use Rattle.mq_text.specs.Text.{AreGoodItems}
 use Rattle.mq_text.specs.declared.item.BlockItem.{BlockItem}
-use Rattle.mqfs.proofs.Fills.{good_at, good_set}
+use Rattle.mqfs.proofs.LinesFills.{good_at, good_set}
 use Rattle.mqfs.proofs.LiveBlocks.{good_free}
 use Rattle.mqfs.proofs.live.mark_line.Goals as goal
 

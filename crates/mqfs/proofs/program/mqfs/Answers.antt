@@ -1,6 +1,6 @@
 use Rattle.std.proofs.Common.{map}
 use Rattle.std.specs.String.{string_bytes}
-use Rattle.mqfs.proofs.Endings.{contents_told, done_told, failed_told, fault_told, names_told, refused_told, said_told, same_told, status_told, takes_told, usage_told, usage-where}
+use Rattle.mqfs.proofs.ProgramEndings.{contents_told, done_told, failed_told, fault_told, names_told, refused_told, said_told, same_told, status_told, takes_told, usage_told, usage-where}
 use Rattle.mqfs.proofs.Played.{played_told}
 use Rattle.mqfs.proofs.Ran.{ran_told}
 use Rattle.mqfs.proofs.program.mqfs.Goals as goal

@@ -1,6 +1,6 @@
 use Rattle.std.proofs.Common.{⊎_elim, length, ap, ◌∙◌}
 use Rattle.mq_recover.specs.Drives.{view_over, drive_of}
-use Rattle.mq_recover.proofs.Images.{reaches-same, reaches-refused, read-reaches}
+use Rattle.mq_recover.proofs.DrivesImages.{reaches-same, reaches-refused, read-reaches}
 use Rattle.mqfs.proofs.restart.read_prefix.Goals as goal
 
 pub only_memory-requires : goal.only_memory-requires

@@ -3,7 +3,7 @@ use Rattle.mq_blocks.specs.Journal.{stands}
 use Rattle.mq_drive.specs.Emu.{emu_state}
 use Rattle.mq_drive.specs.Seats.{name_of}
 use Rattle.mq_recover.specs.Drives.{drive_of}
-use Rattle.mqfs.proofs.Restarts.{IsAnswered, answered, only_memory, recovered_home, recovered_prefix, started_reaches, started_still, started_view}
+use Rattle.mqfs.proofs.RestartImages.{IsAnswered, answered, only_memory, recovered_home, recovered_prefix, started_reaches, started_still, started_view}
 use Rattle.mqfs.proofs.restart.recover_images.Goals as goal
 
 pub recover-requires : goal.recover-requires

@@ -7,7 +7,7 @@ use Rattle.mq_drive.specs.declared.role.Role.TheVariants.{Queue, Root}
 use Rattle.mq_drive.specs.Emu.{emu_state}
 use Rattle.mq_drive.specs.Seats.{name_of}
 use Rattle.mq_recover.specs.Drives.{states, drive_of}
-use Rattle.mqfs.proofs.Restarts.{IsAnswered, answered, IsLeft, first_state, image_memory, left, left_of, none_failed, started_reaches, started_still}
+use Rattle.mqfs.proofs.RestartImages.{IsAnswered, answered, IsLeft, first_state, image_memory, left, left_of, none_failed, started_reaches, started_still}
 use Rattle.mqfs.proofs.restart.recover_until.Goals as goal
 
 pub read_prefix-requires-clause-still : goal.read_prefix-requires-clause-still

@@ -1,14 +1,14 @@
 use Rattle.std.proofs.Common.{sym, subst}
+use Rattle.std.proofs.lemmas.Result.{IfErr-weaker, IfOk-weaker}
 use Rattle.mq_turns.specs.AtDesk.{view}
 use Rattle.mq_calls.specs.Acts.{Acts, memory}
 use Rattle.mq_calls.specs.Calling.{call_of}
 use Rattle.mq_calls.specs.Committing.{IsMissed}
 use Rattle.mq_calls.specs.declared.answers.Answer.{Answer}
 use Rattle.mq_calls.specs.declared.committing.Miss.{Miss}
-use Rattle.mq_calls.proofs.Between.{keeps-all}
-use Rattle.mq_calls.proofs.Composing.{acts-same, left-along, left-same, missed-same}
-use Rattle.mq_calls.proofs.GoingOn.{goes-same, goes-then}
-use Rattle.mq_calls.proofs.MakingRoom.{err-along, ok-along}
+use Rattle.mq_calls.proofs.Sessions.{keeps-all}
+use Rattle.mq_calls.proofs.ActsComposing.{acts-same, left-along, left-same, missed-same}
+use Rattle.mq_calls.proofs.ActsGoingOn.{goes-same, goes-then}
 use Rattle.mq_calls.proofs.attempting.Mqfs+P.attempt.Goals as goal
 
 pub returns-in-Ok-clause-rests : goal.returns-in-Ok-clause-rests
@@ -27,7 +27,7 @@ returns-in-Ok-clause-acts g c =
     let v = view c.args.session.now.chair in
     let m = view c.run_held.new.chair in
     let w = view c.finish.new.session.chair in
-    ok-along c.finish.result (λ (a : Answer). Acts geometry call a.at a.drew a.replies.items m w) (λ (a : Answer). Acts geometry call a.at a.drew a.replies.items v w) (λ a acts. acts-same geometry call a.at a.drew a.replies.items v m w c.in-Ok.ensures.same acts) c.finish.ensures.acts
+    IfOk-weaker c.finish.result (λ (a : Answer). Acts geometry call a.at a.drew a.replies.items m w) (λ (a : Answer). Acts geometry call a.at a.drew a.replies.items v w) (λ a acts. acts-same geometry call a.at a.drew a.replies.items v m w c.in-Ok.ensures.same acts) c.finish.ensures.acts
 
 pub returns-in-Ok-clause-missed : goal.returns-in-Ok-clause-missed
 returns-in-Ok-clause-missed g c =
@@ -38,7 +38,7 @@ returns-in-Ok-clause-missed g c =
     let v = view c.args.session.now.chair in
     let m = view c.run_held.new.chair in
     let w = view c.finish.new.session.chair in
-    err-along c.finish.result (IsMissed st fs geometry call m w) (IsMissed st fs geometry call v w) (λ x missed. missed-same st fs geometry call v m w x c.in-Ok.ensures.same missed) c.finish.ensures.missed
+    IfErr-weaker c.finish.result (IsMissed st fs geometry call m w) (IsMissed st fs geometry call v w) (λ x missed. missed-same st fs geometry call v m w x c.in-Ok.ensures.same missed) c.finish.ensures.missed
 
 pub returns-in-Err-clause-rests : goal.returns-in-Err-clause-rests
 returns-in-Err-clause-rests g c =

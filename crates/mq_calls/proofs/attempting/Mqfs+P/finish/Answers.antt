@@ -5,9 +5,9 @@ use Rattle.mq_calls.specs.Acts.{too_large}
 use Rattle.mq_calls.specs.Calling.{call_of}
 use Rattle.mq_calls.specs.Committing.{IsMissed}
 use Rattle.mq_calls.specs.declared.committing.Miss.{Miss}
-use Rattle.mq_calls.proofs.Between.{reads-only}
-use Rattle.mq_calls.proofs.Composing.{large-of, written-few}
-use Rattle.mq_calls.proofs.Further.{same-at-once}
+use Rattle.mq_calls.proofs.Sessions.{reads-only}
+use Rattle.mq_calls.proofs.ActsComposing.{large-of, written-few}
+use Rattle.mq_calls.proofs.WantedFurther.{same-at-once}
 use Rattle.mq_calls.proofs.attempting.Mqfs+P.finish.Goals as goal
 
 pub returns-then-is_empty-2-clause-acts : goal.returns-then-is_empty-2-clause-acts

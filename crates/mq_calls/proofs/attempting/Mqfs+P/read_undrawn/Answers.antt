@@ -4,8 +4,8 @@ use Rattle.mq_calls.specs.Acts.{memory}
 use Rattle.mq_calls.specs.Calling.{call_of}
 use Rattle.mq_calls.specs.Committing.{IsMissed}
 use Rattle.mq_calls.specs.declared.committing.Miss.{Miss}
-use Rattle.mq_calls.proofs.Between.{keeps-all}
-use Rattle.mq_calls.proofs.GoingOn.{goes-read, goes-same}
+use Rattle.mq_calls.proofs.Sessions.{keeps-all}
+use Rattle.mq_calls.proofs.ActsGoingOn.{goes-read, goes-same}
 use Rattle.mq_calls.proofs.attempting.Mqfs+P.read_undrawn.Goals as goal
 
 pub returns-in-Ok-clause-goes : goal.returns-in-Ok-clause-goes

@@ -1,13 +1,14 @@
 use Rattle.std.proofs.Common.{sym, subst}
+use Rattle.std.proofs.lemmas.Result.{IfErr-weaker, IfOk-weaker}
 use Rattle.mq_turns.specs.AtDesk.{view}
 use Rattle.mq_calls.specs.Acts.{HasActed, IsRefused, at_once, memory, turned_down}
 use Rattle.mq_calls.specs.Calling.{call_by}
 use Rattle.mq_calls.specs.declared.answers.Answer.{Answer}
 use Rattle.mq_calls.specs.declared.answers.Refusal.{Refusal}
-use Rattle.mq_calls.proofs.Between.{keeps-at-once}
-use Rattle.mq_calls.proofs.Composing.{called-acts, called-turned}
-use Rattle.mq_calls.proofs.GoingOn.{goes-at-once, goes-then}
-use Rattle.mq_calls.proofs.MakingRoom.{acted-at-once, err-along, full-of, ok-along, ready-attempted, ready-full, refused-at-once, turned-of}
+use Rattle.mq_calls.proofs.Sessions.{keeps-at-once}
+use Rattle.mq_calls.proofs.ActsComposing.{called-acts, called-turned}
+use Rattle.mq_calls.proofs.ActsGoingOn.{goes-at-once, goes-then}
+use Rattle.mq_calls.proofs.ActsMakingRoom.{acted-at-once, full-of, ready-attempted, ready-full, refused-at-once, turned-of}
 use Rattle.mq_calls.proofs.calls.Mqfs+P.act.Goals as goal
 
 pub returns-then-session-ge-CALL_LIMIT-clause-goes : goal.returns-then-session-ge-CALL_LIMIT-clause-goes
@@ -89,7 +90,7 @@ returns-in-Err-AreaFull-clause-acts g c =
     let geometry = c.args.self.now.geometry in
     let call = call_by s.queue s.calls c.args.durable c.args.requests.now in
     let full = full-of st fs geometry call e.field-0 v (view c.attempt.new.session.chair) e.field-0-is e.ensures.missed in
-    ok-along c.act_again.result _ (λ (a : Answer). HasActed st fs geometry call a.at a.drew a.replies.items v w) (λ a acts. acts v full) c.act_again.ensures.acts
+    IfOk-weaker c.act_again.result _ (λ (a : Answer). HasActed st fs geometry call a.at a.drew a.replies.items v w) (λ a acts. acts v full) c.act_again.ensures.acts
 
 pub returns-in-Err-AreaFull-clause-refused : goal.returns-in-Err-AreaFull-clause-refused
 returns-in-Err-AreaFull-clause-refused g c =
@@ -102,4 +103,4 @@ returns-in-Err-AreaFull-clause-refused g c =
     let geometry = c.args.self.now.geometry in
     let call = call_by s.queue s.calls c.args.durable c.args.requests.now in
     let full = full-of st fs geometry call e.field-0 v (view c.attempt.new.session.chair) e.field-0-is e.ensures.missed in
-    err-along c.act_again.result _ (λ (r : Refusal). IsRefused st fs geometry call v w r.cause r.drawn) (λ r refused. refused v full) c.act_again.ensures.refused
+    IfErr-weaker c.act_again.result _ (λ (r : Refusal). IsRefused st fs geometry call v w r.cause r.drawn) (λ r refused. refused v full) c.act_again.ensures.refused

@@ -4,10 +4,10 @@ use Rattle.mq_calls.specs.Acts.{IsRefused, no_room}
 use Rattle.mq_calls.specs.Calling.{call_of}
 use Rattle.mq_calls.specs.Sessions.{IsReady}
 use Rattle.mq_calls.specs.declared.answers.Refusal.{Refusal}
-use Rattle.mq_calls.proofs.Between.{ready-more}
-use Rattle.mq_calls.proofs.Composing.{called-acts, called-rests, called-turned}
-use Rattle.mq_calls.proofs.GoingOn.{goes-then}
-use Rattle.mq_calls.proofs.MakingRoom.{acted-again, full-again, full-of, ready-attempted, ready-between, refused-again, turned-of}
+use Rattle.mq_calls.proofs.Sessions.{ready-more}
+use Rattle.mq_calls.proofs.ActsComposing.{called-acts, called-rests, called-turned}
+use Rattle.mq_calls.proofs.ActsGoingOn.{goes-then}
+use Rattle.mq_calls.proofs.ActsMakingRoom.{acted-again, full-again, full-of, ready-attempted, ready-between, refused-again, turned-of}
 use Rattle.mq_calls.proofs.calls.Mqfs+P.act_again.Goals as goal
 
 pub checkpoint-requires-clause-ready : goal.checkpoint-requires-clause-ready

@@ -1,5 +1,5 @@
 use Rattle.mq_turns.specs.AtDesk.{view}
-use Rattle.mq_calls.proofs.GoingOn.{goes-swept}
+use Rattle.mq_calls.proofs.ActsGoingOn.{goes-swept}
 use Rattle.mq_calls.proofs.calls.Mqfs+P.drain.Goals as goal
 
 pub returns-in-Ok-clause-goes : goal.returns-in-Ok-clause-goes

@@ -1,6 +1,6 @@
 use Rattle.std.proofs.Common.{sym}
 use Rattle.mq_turns.specs.AtDesk.{view}
-use Rattle.mq_calls.proofs.MakingRoom.{goes-either, ready-either}
+use Rattle.mq_calls.proofs.ActsMakingRoom.{goes-either, ready-either}
 use Rattle.mq_calls.proofs.checkpointing.Mqfs+P.checkpoint.Goals as goal
 
 pub checkpoint-requires-clause-shape : goal.checkpoint-requires-clause-shape

@@ -2,7 +2,7 @@ use Rattle.std.proofs.Common.{◌≡◌, ◌+◌, ◌++◌, ◌∷◌, [], ℕ, 
 use Rattle.std.specs.Prelude.{reverse, slice_get}
 use Rattle.std.proofs.lemmas.List.{length_push}
 use Rattle.mq_calls.specs.Opening.{IsIdle, IsNewSide}
-use Rattle.mq_calls.proofs.OpeningLists.{moved-all, moved-more, moved-next}
+use Rattle.mq_calls.proofs.ReversedLists.{moved-all, moved-more, moved-next}
 use Rattle.mq_calls.proofs.opening.sides.open_sides.Goals as goal
 
 pub open_side-requires : goal.open_side-requires

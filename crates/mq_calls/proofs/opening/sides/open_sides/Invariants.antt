@@ -1,7 +1,7 @@
 use Rattle.std.proofs.Common.{◌+◌, ◌≤◌, length}
 use Rattle.std.specs.Prelude.{vec_capacity}
 use Rattle.mq_calls.specs.Opening.{IsNewSide}
-use Rattle.mq_calls.proofs.OpeningLists.{HasMoved}
+use Rattle.mq_calls.proofs.ReversedLists.{HasMoved}
 use Rattle.mq_calls.proofs.opening.sides.open_sides.Given as goal
 
 abbrev pub invariant-loop-port : goal.invariant-loop-port

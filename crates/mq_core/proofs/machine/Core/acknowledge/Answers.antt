@@ -2,8 +2,8 @@ use Rattle.std.proofs.Common.{◌≡◌, ◌≤◌, ◌∷◌, reverse, Ok, refl
 use Rattle.mq_ledger.specs.State.{front_of}
 use Rattle.mq_core.specs.Machine.{Acknowledge}
 use Rattle.mq_core.specs.View.{state_of}
-use Rattle.mq_core.proofs.Lifts.{Told, answer_at}
-use Rattle.mq_core.proofs.Tellings.{happened, reverse_push}
+use Rattle.mq_core.proofs.MachineLifts.{Told, answer_at}
+use Rattle.mq_core.proofs.EventsTellings.{happened, reverse_push}
 use Rattle.mq_core.proofs.machine.Core.acknowledge.Goals as goal
 use Rattle.mq_core.proofs.machine.Core.acknowledge.Goals.{In_ok-push}
 

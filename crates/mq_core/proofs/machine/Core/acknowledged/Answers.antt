@@ -1,7 +1,7 @@
 use Rattle.std.proofs.Common.{ap, ◌∙◌, sym}
 use Rattle.mq_blocks.specs.Journal.{is_among}
 use Rattle.mq_ledger.specs.State.{State}
-use Rattle.mq_core.proofs.Tellings.{among-reverse}
+use Rattle.mq_core.proofs.EventsTellings.{among-reverse}
 use Rattle.mq_core.proofs.machine.Core.acknowledged.Goals as goal
 
 pub returns : goal.returns

@@ -5,8 +5,8 @@ use Rattle.mq_ledger.specs.State.{State, port_at}
 use Rattle.mq_core.specs.Events.{MayClear}
 use Rattle.mq_core.specs.Machine.{Clear}
 use Rattle.mq_core.specs.View.{state_of}
-use Rattle.mq_core.proofs.Lifts.{Told, same_port, answer_at}
-use Rattle.mq_core.proofs.Tellings.{happened, may_clear, is_clear}
+use Rattle.mq_core.proofs.MachineLifts.{Told, same_port, answer_at}
+use Rattle.mq_core.proofs.EventsTellings.{happened, may_clear, is_clear}
 use Rattle.mq_core.proofs.machine.Core.clear.Goals as goal
 use Rattle.mq_core.proofs.machine.Core.clear.Goals.{After-index, Else-at-len, Else-not-is_clear}
 

@@ -6,8 +6,8 @@ use Rattle.mq_ledger.specs.State.{State}
 use Rattle.mq_core.specs.Events.{unchanged_by}
 use Rattle.mq_core.specs.Machine.{IsAllowed, Draw}
 use Rattle.mq_core.specs.View.{IsHeld, state_of, state_with}
-use Rattle.mq_core.proofs.Lifts.{Told, answer_at}
-use Rattle.mq_core.proofs.Tellings.{happened, drawn_front, has_place, is_new, left_by}
+use Rattle.mq_core.proofs.MachineLifts.{Told, answer_at}
+use Rattle.mq_core.proofs.EventsTellings.{happened, drawn_front, has_place, is_new, left_by}
 use Rattle.mq_core.proofs.machine.Core.draw.Goals as goal
 use Rattle.mq_core.proofs.machine.Core.draw.Goals.{Else-not-may_draw, After-drop_changed}
 

@@ -6,8 +6,8 @@ use Rattle.mq_core.specs.Events.{MayEnd, fail_side, command_with, us_of}
 use Rattle.mq_core.specs.Machine.{FailCommand}
 use Rattle.mq_core.specs.View.{state_of}
 use Rattle.mq_core.specs.Within.{IsWithin}
-use Rattle.mq_core.proofs.Lifts.{Told, same_port, port_told, answer_at}
-use Rattle.mq_core.proofs.Insides.{posted_within}
+use Rattle.mq_core.proofs.MachineLifts.{Told, same_port, port_told, answer_at}
+use Rattle.mq_core.proofs.Within.{posted_within}
 use Rattle.mq_core.proofs.machine.Core.fail_command.Goals as goal
 use Rattle.mq_core.proofs.machine.Core.fail_command.Goals.{After-fail}
 

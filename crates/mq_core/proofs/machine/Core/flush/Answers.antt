@@ -8,8 +8,8 @@ use Rattle.mq_core.specs.Answers.{IsStagedTo}
 use Rattle.mq_core.specs.Events.{MayFlush, us_of}
 use Rattle.mq_core.specs.Machine.{IsAllowed, Flush}
 use Rattle.mq_core.specs.View.{state_of}
-use Rattle.mq_core.proofs.Lifts.{same_port}
-use Rattle.mq_core.proofs.Insides.{staged_small}
+use Rattle.mq_core.proofs.MachineLifts.{same_port}
+use Rattle.mq_core.proofs.Within.{staged_small}
 use Rattle.mq_core.proofs.machine.Core.flush.Goals as goal
 use Rattle.mq_core.proofs.machine.Core.flush.Goals.{Else-at-len, After-index}
 

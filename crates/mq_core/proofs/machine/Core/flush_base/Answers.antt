@@ -1,8 +1,8 @@
 use Rattle.std.proofs.Common.{Ok, sym, refl, ◌∙◌, arith}
 use Rattle.mq_core.specs.Machine.{FlushBase}
 use Rattle.mq_core.specs.View.{state_of}
-use Rattle.mq_core.proofs.Lifts.{Told, answer_at}
-use Rattle.mq_core.proofs.Tellings.{happened}
+use Rattle.mq_core.proofs.MachineLifts.{Told, answer_at}
+use Rattle.mq_core.proofs.EventsTellings.{happened}
 use Rattle.mq_core.proofs.machine.Core.flush_base.Goals as goal
 use Rattle.mq_core.proofs.machine.Core.flush_base.Goals.{After-flush}
 

@@ -7,9 +7,9 @@ use Rattle.mq_ledger.specs.State.{State, known_of, port_at}
 use Rattle.mq_core.specs.Events.{flush, us_of}
 use Rattle.mq_core.specs.Settled.{IsSettled, settled}
 use Rattle.mq_core.specs.View.{IsHeld, state_of, state_with}
-use Rattle.mq_core.proofs.Lifts.{same_port, set_port}
-use Rattle.mq_core.proofs.Insides.{staged_small}
-use Rattle.mq_core.proofs.Settling.{flush_settled, flush_held}
+use Rattle.mq_core.proofs.MachineLifts.{same_port, set_port}
+use Rattle.mq_core.proofs.Within.{staged_small}
+use Rattle.mq_core.proofs.Settled.{flush_settled, flush_held}
 use Rattle.mq_core.proofs.machine.Core.flush_port.Goals as goal
 use Rattle.mq_core.proofs.machine.Core.flush_port.Goals.{After-queue, After-index_mut, After-flush, After-deref}
 

@@ -9,9 +9,9 @@ use Rattle.mq_core.specs.Events.{end_home, content_at}
 use Rattle.mq_core.specs.Homes.{IsIn, ports_after, root_after}
 use Rattle.mq_core.specs.Machine.{HomeDone}
 use Rattle.mq_core.specs.View.{state_of}
-use Rattle.mq_core.proofs.HomeCalls.{is_in, is_there, ended}
-use Rattle.mq_core.proofs.Lifts.{Told, answer_at}
-use Rattle.mq_core.proofs.Tellings.{among-reverse, left_without}
+use Rattle.mq_core.proofs.HomesCalls.{is_in, is_there, ended}
+use Rattle.mq_core.proofs.MachineLifts.{Told, answer_at}
+use Rattle.mq_core.proofs.EventsTellings.{among-reverse, left_without}
 use Rattle.mq_core.proofs.machine.Core.home_done.Goals as goal
 use Rattle.mq_core.proofs.machine.Core.home_done.Goals.{After-holds_block, Else-not-holds_block, After-drop_block}
 

@@ -4,8 +4,8 @@ use Rattle.mq_blocks.specs.Geometry.{homes_of, zone_of, home_lba}
 use Rattle.mq_ledger.specs.State.{State, port_of}
 use Rattle.mq_core.specs.View.{state_of}
 use Rattle.mq_core.specs.Within.{IsWithin}
-use Rattle.mq_core.proofs.HomeCalls.{port_within, zone_there}
-use Rattle.mq_core.proofs.Lifts.{same_port}
+use Rattle.mq_core.proofs.HomesCalls.{port_within, zone_there}
+use Rattle.mq_core.proofs.MachineLifts.{same_port}
 use Rattle.mq_core.proofs.machine.Core.home_port.Goals as goal
 use Rattle.mq_core.proofs.machine.Core.home_port.Goals.{After-zone_of, In-Some, In-None}
 

@@ -1,7 +1,7 @@
 use Rattle.std.proofs.Common.{subst}
 use Rattle.mq_ledger.specs.Plain.{plain}
 use Rattle.mq_ledger.specs.State.{IsLawful}
-use Rattle.mq_core.proofs.Runs.{lawful_from}
+use Rattle.mq_core.proofs.MachineFacts.{lawful_from}
 use Rattle.mq_core.proofs.machine.Core.is_lawful.Goals as goal
 
 pub returns : goal.returns

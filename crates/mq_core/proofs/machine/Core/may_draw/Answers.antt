@@ -5,7 +5,7 @@ use Rattle.mq_ledger.specs.Plain.{plain}
 use Rattle.mq_ledger.specs.Records.{IsKnown}
 use Rattle.mq_ledger.specs.State.{State, known_of}
 use Rattle.mq_core.specs.View.{state_of}
-use Rattle.mq_core.proofs.Tellings.{known_is}
+use Rattle.mq_core.proofs.EventsTellings.{known_is}
 use Rattle.mq_core.proofs.machine.Core.may_draw.Goals as goal
 use Rattle.mq_core.proofs.machine.Core.may_draw.Goals.{After-may_draw, Else-not-may_draw}
 

@@ -3,7 +3,7 @@ use Rattle.std.proofs.lemmas.Bool.{false≢true}
 use Rattle.mq_ledger.specs.State.{State, front_of}
 use Rattle.mq_core.specs.Bases.{post_none}
 use Rattle.mq_core.specs.View.{IsHeld}
-use Rattle.mq_core.proofs.BaseTests.{tests_allow, allowed_holds, allowed_none}
+use Rattle.mq_core.proofs.Bases.{tests_allow, allowed_holds, allowed_none}
 use Rattle.mq_core.proofs.machine.Core.may_store_base.Goals as goal
 use Rattle.mq_core.proofs.machine.Core.may_store_base.Goals.{Else-base-front}
 

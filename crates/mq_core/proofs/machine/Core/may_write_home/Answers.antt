@@ -4,7 +4,7 @@ use Rattle.mq_ledger.specs.History.{last}
 use Rattle.mq_ledger.specs.State.{State, front_of}
 use Rattle.mq_core.specs.Events.{MayWriteHome}
 use Rattle.mq_core.specs.View.{state_of}
-use Rattle.mq_core.proofs.HomeCalls.{is_there}
+use Rattle.mq_core.proofs.HomesCalls.{is_there}
 use Rattle.mq_core.proofs.machine.Core.may_write_home.Goals as goal
 
 pub returns : goal.returns

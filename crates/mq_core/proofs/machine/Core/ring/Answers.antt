@@ -7,8 +7,8 @@ use Rattle.mq_core.specs.Answers.{IsFlushedTo}
 use Rattle.mq_core.specs.Events.{us_of}
 use Rattle.mq_core.specs.Machine.{Ring}
 use Rattle.mq_core.specs.View.{state_of}
-use Rattle.mq_core.proofs.Lifts.{Told, same_port, port_told, answer_at}
-use Rattle.mq_core.proofs.Insides.{staged_small}
+use Rattle.mq_core.proofs.MachineLifts.{Told, same_port, port_told, answer_at}
+use Rattle.mq_core.proofs.Within.{staged_small}
 use Rattle.mq_core.proofs.machine.Core.ring.Goals as goal
 use Rattle.mq_core.proofs.machine.Core.ring.Goals.{After-ring}
 

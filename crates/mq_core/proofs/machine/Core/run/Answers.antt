@@ -3,8 +3,8 @@ use Rattle.std.proofs.lemmas.List.{nil_from_length}
 use Rattle.std.specs.Vec.Iter.{into_iter_items}
 use Rattle.mq_ledger.specs.Plain.{plain}
 use Rattle.mq_core.specs.Machine.{IsRefusal}
-use Rattle.mq_core.proofs.Runs.{always_lawful}
-use Rattle.mq_core.proofs.Running.{Leads, leads_start, leads_next, refused_there}
+use Rattle.mq_core.proofs.MachineFacts.{always_lawful}
+use Rattle.mq_core.proofs.MachineRunning.{Leads, leads_start, leads_next, refused_there}
 use Rattle.mq_core.proofs.machine.Core.run.Goals as goal
 use Rattle.mq_core.proofs.machine.Core.run.Goals.{In-Some}
 

@@ -1,5 +1,5 @@
 use Rattle.std.specs.Vec.Iter.{into_iter_items}
-use Rattle.mq_core.proofs.Running.{Leads}
+use Rattle.mq_core.proofs.MachineRunning.{Leads}
 use Rattle.mq_core.proofs.machine.Core.run.Given as goal
 
 -- the events so far have happened

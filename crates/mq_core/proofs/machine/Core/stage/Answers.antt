@@ -12,8 +12,8 @@ use Rattle.mq_core.specs.Machine.{Stage}
 use Rattle.mq_core.specs.View.{state_of}
 use Rattle.mq_core.specs.declared.event.CoreRefusal.{CoreRefusal}
 use Rattle.mq_core.specs.declared.event.CoreRefusal.TheVariants.{OutOfMemory}
-use Rattle.mq_core.proofs.Lifts.{Told, same_port, port_told, answer_at}
-use Rattle.mq_core.proofs.Insides.{staged_small}
+use Rattle.mq_core.proofs.MachineLifts.{Told, same_port, port_told, answer_at}
+use Rattle.mq_core.proofs.Within.{staged_small}
 use Rattle.mq_core.proofs.machine.Core.stage.Goals as goal
 use Rattle.mq_core.proofs.machine.Core.stage.Goals.{Else-at-len, After-index, After-index_mut, After-stage, In_err-stage, In_ok-stage}
 

@@ -7,8 +7,8 @@ use Rattle.mq_ledger.specs.State.{State, Facts, front_of}
 use Rattle.mq_ledger.specs.Records.{Ledger, start_ledger}
 use Rattle.mq_core.specs.Start.{start_state, fresh_ports, fresh_port, port_over}
 use Rattle.mq_core.specs.View.{state_with}
-use Rattle.mq_core.proofs.Runs.{start_facts}
-use Rattle.mq_core.proofs.StartStates.{start_is}
+use Rattle.mq_core.proofs.MachineFacts.{start_facts}
+use Rattle.mq_core.proofs.Start.{start_is}
 use Rattle.mq_core.proofs.machine.Core.start.Goals as goal
 
 facts_at : (g : Geometry) (blocks : List (Option (List ℕ))) (base : ℕ) (s : State) → length blocks ≡ homes_of g → base ≤ 2 ^ 62 → s ≡ start_state g blocks base → Facts plain s

@@ -4,8 +4,8 @@ use Rattle.mq_ledger.specs.State.{State}
 use Rattle.mq_core.specs.Events.{MayStoreBase}
 use Rattle.mq_core.specs.Machine.{StoreBase}
 use Rattle.mq_core.specs.View.{state_of}
-use Rattle.mq_core.proofs.Lifts.{Told, answer_at}
-use Rattle.mq_core.proofs.Tellings.{happened}
+use Rattle.mq_core.proofs.MachineLifts.{Told, answer_at}
+use Rattle.mq_core.proofs.EventsTellings.{happened}
 use Rattle.mq_core.proofs.machine.Core.store_base.Goals as goal
 use Rattle.mq_core.proofs.machine.Core.store_base.Goals.{After-store_base}
 

@@ -3,7 +3,7 @@ use Rattle.mq_blocks.specs.Drive.{after_store_head}
 use Rattle.mq_core.specs.Answers.{IsCompletedTo}
 use Rattle.mq_core.specs.Machine.{StoreHead}
 use Rattle.mq_core.specs.View.{state_of}
-use Rattle.mq_core.proofs.Lifts.{Told, port_told, answer_at}
+use Rattle.mq_core.proofs.MachineLifts.{Told, port_told, answer_at}
 use Rattle.mq_core.proofs.machine.Core.store_head.Goals as goal
 use Rattle.mq_core.proofs.machine.Core.store_head.Goals.{After-try_store_head}
 

@@ -6,9 +6,9 @@ use Rattle.mq_core.specs.Homes.{IsIn, ports_after, root_after}
 use Rattle.mq_core.specs.Machine.{WriteHome}
 use Rattle.mq_core.specs.View.{state_of}
 use Rattle.mq_blocks.specs.Geometry.{zone_of, homes_of}
-use Rattle.mq_core.proofs.HomeCalls.{is_in, written}
-use Rattle.mq_core.proofs.Lifts.{Told, answer_at}
-use Rattle.mq_core.proofs.Tellings.{reverse_push}
+use Rattle.mq_core.proofs.HomesCalls.{is_in, written}
+use Rattle.mq_core.proofs.MachineLifts.{Told, answer_at}
+use Rattle.mq_core.proofs.EventsTellings.{reverse_push}
 use Rattle.mq_core.proofs.machine.Core.write_home.Goals as goal
 use Rattle.mq_core.proofs.machine.Core.write_home.Goals.{Else-not-may_write_home, In_ok-begin_write}
 

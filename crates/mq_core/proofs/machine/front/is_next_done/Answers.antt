@@ -1,7 +1,7 @@
 use Rattle.std.proofs.Common.{ap}
 use Rattle.std.proofs.lemmas.Bool.{false≢true}
 use Rattle.mq_ledger.specs.declared.queue_rows.QueueEnd.{QueueEnd}
-use Rattle.mq_core.proofs.Settling.{none_next, next_done}
+use Rattle.mq_core.proofs.Settled.{none_next, next_done}
 use Rattle.mq_core.proofs.machine.front.is_next_done.Goals as goal
 
 pub returns-in-Some : goal.returns-in-Some

@@ -2,7 +2,7 @@ use Rattle.std.proofs.Common.{refl, sym, ap, subst, ◌∙◌, arith}
 use Rattle.std.proofs.lemmas.Bool.{false≢true}
 use Rattle.mq_ledger.specs.Records.{Ledger, settle_next}
 use Rattle.mq_core.specs.Settled.{IsSettled, settled, with_front}
-use Rattle.mq_core.proofs.Settling.{settled_next, settled_all, next_high}
+use Rattle.mq_core.proofs.Settled.{settled_next, settled_all, next_high}
 use Rattle.mq_core.proofs.machine.front.settle_all.Goals as goal
 
 pub loop-ledger-init : goal.loop-ledger-init

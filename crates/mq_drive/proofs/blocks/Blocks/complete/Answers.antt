@@ -1,6 +1,6 @@
 use Rattle.std.proofs.Common.{sym, ◌∙◌}
 use Rattle.mq_drive.proofs.Doubts.{doubt_complete, none_eq}
-use Rattle.mq_drive.proofs.Chances.{doubt_ended, doubt_kept}
+use Rattle.mq_drive.proofs.Choices.{doubt_ended, doubt_kept}
 use Rattle.mq_drive.proofs.blocks.Blocks.complete.Goals as goal
 
 pub invariant_of-self-else-eq-clause-doubtful : goal.invariant_of-self-else-eq-clause-doubtful

@@ -1,6 +1,6 @@
 use Rattle.std.proofs.Common.{rules, ◌≢◌, ◌%◌, Some, None, get_or, ◌∙◌, ap}
 use Rattle.mq_drive.specs.Choices.{next_block}
-use Rattle.mq_drive.proofs.Chances.{torn_old, torn_new, torn_next, block_is, block_kept, block_put}
+use Rattle.mq_drive.proofs.Choices.{torn_old, torn_new, torn_next, block_is, block_kept, block_put}
 use Rattle.mq_drive.proofs.blocks.Blocks.tear.Goals.{in-1, in_default}
 use Rattle.mq_drive.proofs.blocks.Blocks.tear.Goals as goal
 

@@ -9,12 +9,9 @@ use Rattle.mq_drive.specs.Emu.{device_state, device_chance}
 use Rattle.mq_drive.specs.Failures.{failed_of, unended_of, while_in, written_by}
 use Rattle.mq_drive.specs.Slots.{index_in}
 use Rattle.mq_drive.specs.declared.device.Device.{Device}
-use Rattle.mq_drive.proofs.Chances.{failed_for, unended_for, all_torn, cut_is}
-use Rattle.mq_drive.proofs.Cutting.{IsCut, image_of-cut, quiet-cut}
+use Rattle.mq_drive.proofs.Choices.{failed_for, unended_for, all_torn, cut_is}
+use Rattle.mq_drive.proofs.DriveCutting.{IsCut, image_of-cut, quiet-cut}
 use Rattle.mq_drive.proofs.device.Device.cut.Goals as goal
-
-pub invariant_of-self-clause-same_ring : goal.invariant_of-self-clause-same_ring
-invariant_of-self-clause-same_ring c = c.args.self.same_ring
 
 -- ---- the block of the failed write is the port's, and in doubt
 
@@ -25,10 +22,10 @@ abbrev IsOpen : Device → List Bool → ℕ → Type 0
 IsOpen p certain lba = get_or certain (index_in p.area.first p.area.size p.homes.first lba) false ≡ false
 
 own_still : (p : Device) → ForSome p.failure (λ f. ForSome p.blocks.doubt (λ k. IsOwn p (length p.blocks.stored.items) (written_by f)))
-own_still p = λ f is k some. p.failure_own f is
+own_still p = λ f is k some. p.sound.writes.failure_own f is
 
 open_still : (p : Device) → ForSome p.failure (λ f. ForSome p.blocks.doubt (λ k. IsOpen p p.blocks.certain.items (written_by f)))
-open_still p = λ f is k some. ap (λ (n : ℕ). get_or p.blocks.certain.items n false) (p.failure_doubt f is k some) ∙ (p.blocks.doubtful k some).1
+open_still p = λ f is k some. ap (λ (n : ℕ). get_or p.blocks.certain.items n false) (p.sound.writes.failure_doubt f is k some) ∙ (p.blocks.doubtful k some).1
 
 failed_is : (p : Device) (doubt : Option ℕ) (failed : Option Command) → doubt ≡ p.blocks.doubt → option_to_list failed ≡ while_in doubt (failed_of p.failure) → option_to_list failed ≡ while_in p.blocks.doubt (failed_of p.failure)
 failed_is p doubt failed same is = is ∙ ap (λ (o : Option ℕ). while_in o (failed_of p.failure)) same
@@ -60,11 +57,11 @@ tear_home-requires-clause-doubt c =
 
 pub tear_home-requires-2-clause-own : goal.tear_home-requires-2-clause-own
 tear_home-requires-2-clause-own c = λ w is.
-    subst (λ (n : ℕ). IsOwn c.args.self n w.lba) (sym (c.tear_home.ensures.len ∙ c.tear_commands.ensures.len)) (c.args.self.under_way_own w is)
+    subst (λ (n : ℕ). IsOwn c.args.self n w.lba) (sym (c.tear_home.ensures.len ∙ c.tear_commands.ensures.len)) (c.args.self.sound.writes.under_way_own w is)
 
 pub tear_home-requires-2-clause-doubt : goal.tear_home-requires-2-clause-doubt
 tear_home-requires-2-clause-doubt c = λ w is.
-    subst (λ (l : List Bool). IsOpen c.args.self l w.lba) (sym (c.tear_home.ensures.certain ∙ c.tear_commands.ensures.certain)) (c.args.self.under_way_doubt w is)
+    subst (λ (l : List Bool). IsOpen c.args.self l w.lba) (sym (c.tear_home.ensures.certain ∙ c.tear_commands.ensures.certain)) (c.args.self.sound.writes.under_way_doubt w is)
 
 -- ---- the image
 

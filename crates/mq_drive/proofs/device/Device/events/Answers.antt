@@ -1,5 +1,5 @@
 use Rattle.std.proofs.Common.{arith, ◌∙◌}
-use Rattle.mq_drive.proofs.Happening.{happened-is, happened-alone}
+use Rattle.mq_drive.proofs.Happened.{happened-is, happened-alone}
 use Rattle.mq_drive.proofs.device.Device.events.Goals as goal
 
 pub returns-clause-most : goal.returns-clause-most

@@ -1,5 +1,5 @@
 use Rattle.std.proofs.Common.{sym, ◌∙◌}
-use Rattle.mq_drive.proofs.Faults.{an_error, no_error_yet}
+use Rattle.mq_drive.proofs.StepsFaults.{an_error, no_error_yet}
 use Rattle.mq_drive.proofs.device.Device.failed.Goals as goal
 
 pub returns-clause-errors : goal.returns-clause-errors

@@ -1,12 +1,11 @@
 use Rattle.std.proofs.Math.ListN.{length-set}
-use Rattle.std.proofs.Common.{rules, ◌≡◌, ◌<◌, ◌≤◌, ℕ, Option, Some, None, List, ◌++◌, length, All, replicate, refl, sym, ◌∙◌, ap, subst, arith, set, true, false}
+use Rattle.std.proofs.Common.{rules, ◌≡◌, ◌<◌, ℕ, Some, None, List, ◌++◌, length, replicate, refl, sym, ◌∙◌, ap, subst, arith, set, true, false}
 use Rattle.rand_pcg.specs.Lcg.{Lcg}
-use Rattle.std.specs.Option.{ForSome, option_to_list}
+use Rattle.std.specs.Option.{option_to_list}
 use Rattle.std.specs.Prelude.{slice_get}
 use Rattle.std.specs.List.{remove}
 use Rattle.mq_nvme.specs.Completion.{status_of, identifier_of}
-use Rattle.mq_nvme.proofs.Completions.{identifier_of-completion}
-use Rattle.mq_blocks.specs.Drive.{AreCounted}
+use Rattle.mq_nvme.proofs.CompletionCommands.{identifier_of-completion}
 use Rattle.mq_blocks.specs.declared.command.Command.{Command}
 use Rattle.mq_drive.specs.declared.device.Device.{Device}
 use Rattle.mq_drive.specs.declared.failing.Failure.TheVariants.{Queued}
@@ -14,37 +13,27 @@ use Rattle.mq_drive.specs.Emu.{device_state, device_faults, device_chance, devic
 use Rattle.mq_drive.specs.Seats.{fuse_of, tickets_of}
 use Rattle.mq_drive.specs.Failures.{errors_of}
 use Rattle.mq_drive.specs.Steps.{PowerOff, CommandError, Gains}
-use Rattle.mq_blocks.specs.Drive.{index_of}
 use Rattle.mq_drive.specs.Choices.{chosen}
 use Rattle.mq_drive.specs.Failures.{written_by}
-use Rattle.mq_drive.specs.declared.failing.Failure.{Failure}
-use Rattle.mq_drive.proofs.Chances.{chance_done, chance_failed, doubt_for, new_doubt}
-use Rattle.mq_blocks.proofs.Counts.{counted_remove}
-use Rattle.mq_drive.proofs.Commands.{all_remove, all_at}
-use Rattle.mq_drive.proofs.Doubts.{none_of, none_while, none_for, some_for}
-use Rattle.mq_drive.proofs.Executing.{next_is, same_counts, refused_counts, refused_tickets, refused_chosen, fails_status, succeeds_status}
-use Rattle.mq_drive.proofs.Faults.{off_gains, refused_step, error_gains}
-use Rattle.mq_drive.proofs.Moves.{same_state, done_at, failed_at}
-use Rattle.mq_drive.proofs.Tearing.{IsOwn}
-use Rattle.mq_drive.proofs.Happening.{happened-event}
+use Rattle.mq_blocks.proofs.Options.{none-of}
+use Rattle.mq_drive.proofs.Choices.{chance_done, chance_failed}
+use Rattle.mq_drive.proofs.DriveCommands.{all_remove, all_at}
+use Rattle.mq_drive.proofs.Emulated.{next_is, same_counts, refused_counts, refused_tickets, refused_chosen, fails_status, succeeds_status}
+use Rattle.mq_drive.proofs.StepsFaults.{off_gains, refused_step, error_gains}
+use Rattle.mq_drive.proofs.DriveMoves.{same_state, done_at, failed_at}
+use Rattle.mq_drive.proofs.SlotsTearing.{IsOwn}
+use Rattle.mq_drive.proofs.Sound.{AreOwn, nothing_open, place_still, commands_left, writes_failed, writes_done, counts_event}
+use Rattle.std.specs.VecDeque.{deque_capacity}
 use Rattle.mq_drive.proofs.device.DevicePort.step.Goals as goal
 
 abbrev Own : Device → ℕ → Command → Type 0
 Own p n x = IsOwn p.area.first p.area.size p.homes.first n x
 
 own_at : (p : Device) (at : ℕ) (x : Command) → slice_get p.posted.items at ≡ Some x → Own p (length p.blocks.stored.items) x
-own_at p at x is = all_at (Own p (length p.blocks.stored.items)) p.posted.items at x is p.posted_own
+own_at p at x is = all_at (Own p (length p.blocks.stored.items)) p.posted.items at x is p.sound.writes.posted_own
 
-own_left : (p : Device) (at n : ℕ) (left : List Command) → left ≡ remove p.posted.items at → n ≡ length p.blocks.stored.items → All (Own p n) left
-own_left p at n left is same =
-    subst (λ (l : List Command). All (Own p n) l) (sym is)
-    (subst (λ (m : ℕ). All (Own p m) (remove p.posted.items at)) (sym same) (all_remove (Own p (length p.blocks.stored.items)) at p.posted.items p.posted_own))
-
-counted_left : (p : Device) (at : ℕ) (left : List Command) → left ≡ remove p.posted.items at → AreCounted p.stored_head p.doorbell left
-counted_left p at left is = subst (AreCounted p.stored_head p.doorbell) (sym is) (counted_remove p.stored_head p.doorbell at p.posted.items p.posted_counted)
-
-nothing_open : (p : Device) → p.power.offs ≡ 0 → p.under_way ≡ None
-nothing_open p on = none_while p.under_way p.power.offs p.under_way_last on
+own_left : (p : Device) (at : ℕ) (left : List Command) → left ≡ remove p.posted.items at → AreOwn p (length p.blocks.stored.items) left
+own_left p at left is = subst (AreOwn p (length p.blocks.stored.items)) (sym is) (all_remove (Own p (length p.blocks.stored.items)) at p.posted.items p.sound.writes.posted_own)
 
 pub returns-in_err-event-clause-gives : goal.returns-in_err-event-clause-gives
 returns-in_err-event-clause-gives c =
@@ -69,49 +58,46 @@ complete-requires c =
     let at = c.block_index-index.ensures in
     omega (arith, own, at)
 
-pub invariant_of-self-then-next-clause-posted_counted : goal.invariant_of-self-then-next-clause-posted_counted
-invariant_of-self-then-next-clause-posted_counted c = counted_left c.args.self.now c.choose-at.result c.take_at-command.new.commands.items c.take_at-command.ensures.items
+pub invariant_of-self-then-next : goal.invariant_of-self-then-next
+invariant_of-self-then-next c =
+    let p = c.args.self.now in
+    let long : length c.fail.new.self.stored.items ≡ length p.blocks.stored.items = ap length c.fail.ensures.blocks in
+    record {
+      sound = record {
+        place = place_still p (length c.fail.new.self.stored.items) long;
+        slots = p.sound.slots;
+        commands = commands_left p c.choose-at.result (deque_capacity c.take_at-command.new.commands) c.take_at-command.new.commands.items c.take_at-command.ensures.capacity c.take_at-command.ensures.items;
+        words = p.sound.words;
+        writes = writes_failed p c.take_at-command.new.commands.items c.fail.new.self.stored.items c.fail.new.self.certain.items c.fail.new.self.doubt (Queued c.take_at-command.result) c.block_index-index.result c.in_ok-event.ensures.first
+            long (own_left p c.choose-at.result c.take_at-command.new.commands.items c.take_at-command.ensures.items) (own_at p c.choose-at.result c.take_at-command.result c.take_at-command.ensures.item)
+            c.fail.ensures.doubt c.block_index-index.ensures;
+        counts = counts_event p c.event.new.self.happened c.bump-self-2.result c.event.new.self.offs c.next.new.self.failed (Some (Queued c.take_at-command.result)) c.in_ok-event.ensures.first
+            c.in_ok-event.ensures.happens.0 c.bump-self-2.ensures (sym (c.next.ensures.fails c.if-next.true).1);
+      };
+    }
 
-pub invariant_of-self-then-next-clause-posted_own : goal.invariant_of-self-then-next-clause-posted_own
-invariant_of-self-then-next-clause-posted_own c =
-    own_left c.args.self.now c.choose-at.result (length c.fail.new.self.stored.items) c.take_at-command.new.commands.items c.take_at-command.ensures.items (ap length c.fail.ensures.blocks)
-
-pub invariant_of-self-then-next-clause-pending_own : goal.invariant_of-self-then-next-clause-pending_own
-invariant_of-self-then-next-clause-pending_own c =
-    subst (λ (n : ℕ). All (Own c.args.self.now n) c.args.self.now.pending.items) (sym (ap length c.fail.ensures.blocks)) c.args.self.now.pending_own
-
-pub invariant_of-self-2-clause-pending_own : goal.invariant_of-self-2-clause-pending_own
-invariant_of-self-2-clause-pending_own c =
-    subst (λ (n : ℕ). All (Own c.args.self.now n) c.args.self.now.pending.items)
-    (sym (ap length c.complete.ensures.blocks ∙ length-set c.args.self.now.blocks.stored.items c.block_index-index.result (Some c.take_at-command.result.block))) c.args.self.now.pending_own
-
-pub invariant_of-self-then-next-clause-failure_counted : goal.invariant_of-self-then-next-clause-failure_counted
-invariant_of-self-then-next-clause-failure_counted c = sym (c.next.ensures.fails c.if-next.true).1
-
-pub invariant_of-self-then-next-clause-under_way_own : goal.invariant_of-self-then-next-clause-under_way_own
-invariant_of-self-then-next-clause-under_way_own c = none_for c.args.self.now.under_way _ (nothing_open c.args.self.now c.in_ok-event.ensures.first)
-
-pub invariant_of-self-then-next-clause-under_way_doubt : goal.invariant_of-self-then-next-clause-under_way_doubt
-invariant_of-self-then-next-clause-under_way_doubt c = none_for c.args.self.now.under_way _ (nothing_open c.args.self.now c.in_ok-event.ensures.first)
-
-pub invariant_of-self-2-clause-posted_counted : goal.invariant_of-self-2-clause-posted_counted
-invariant_of-self-2-clause-posted_counted c = counted_left c.args.self.now c.choose-at.result c.take_at-command.new.commands.items c.take_at-command.ensures.items
-
-pub invariant_of-self-2-clause-posted_own : goal.invariant_of-self-2-clause-posted_own
-invariant_of-self-2-clause-posted_own c =
-    own_left c.args.self.now c.choose-at.result (length c.complete.new.self.stored.items) c.take_at-command.new.commands.items c.take_at-command.ensures.items
-    (ap length c.complete.ensures.blocks ∙ length-set c.args.self.now.blocks.stored.items c.block_index-index.result (Some c.take_at-command.result.block))
-
-pub invariant_of-self-2-clause-under_way_own : goal.invariant_of-self-2-clause-under_way_own
-invariant_of-self-2-clause-under_way_own c = none_for c.args.self.now.under_way _ (nothing_open c.args.self.now c.in_ok-event.ensures.first)
-
-pub invariant_of-self-2-clause-under_way_doubt : goal.invariant_of-self-2-clause-under_way_doubt
-invariant_of-self-2-clause-under_way_doubt c = none_for c.args.self.now.under_way _ (nothing_open c.args.self.now c.in_ok-event.ensures.first)
+pub invariant_of-self-2 : goal.invariant_of-self-2
+invariant_of-self-2 c =
+    let p = c.args.self.now in
+    let long : length c.complete.new.self.stored.items ≡ length p.blocks.stored.items =
+    ap length c.complete.ensures.blocks ∙ length-set p.blocks.stored.items c.block_index-index.result (Some c.take_at-command.result.block) in
+    record {
+      sound = record {
+        place = place_still p (length c.complete.new.self.stored.items) long;
+        slots = p.sound.slots;
+        commands = commands_left p c.choose-at.result (deque_capacity c.take_at-command.new.commands) c.take_at-command.new.commands.items c.take_at-command.ensures.capacity c.take_at-command.ensures.items;
+        words = p.sound.words;
+        writes = writes_done p c.take_at-command.new.commands.items c.complete.new.self.stored.items c.complete.new.self.certain.items c.complete.new.self.doubt c.block_index-index.result c.in_ok-event.ensures.first
+            long (own_left p c.choose-at.result c.take_at-command.new.commands.items c.take_at-command.ensures.items) c.complete.ensures.doubt;
+        counts = counts_event p c.event.new.self.happened c.bump-self-2.result c.event.new.self.offs c.next.new.self.failed p.failure c.in_ok-event.ensures.first
+            c.in_ok-event.ensures.happens.0 c.bump-self-2.ensures (p.sound.counts.failure_counted ∙ sym (c.next.ensures.succeeds c.if-next.false));
+      };
+    }
 
 pub returns-then-next-clause-gives : goal.returns-then-next-clause-gives
 returns-then-next-clause-gives c =
     let status : status_of c.completion_of-completion.result ≡ 640 = c.completion_of-completion.ensures.status in
-    let none : c.args.self.now.failure ≡ None = none_of c.args.self.now.failure (c.args.self.now.failure_counted ∙ (c.next.ensures.fails c.if-next.true).0) in
+    let none : c.args.self.now.failure ≡ None = none-of c.args.self.now.failure (c.args.self.now.sound.counts.failure_counted ∙ (c.next.ensures.fails c.if-next.true).0) in
     record {
       at = c.choose-at.result;
       command = c.take_at-command.result;
@@ -159,7 +145,7 @@ returns-in_err-event-clause-tickets c =
 pub returns-then-next-clause-counts : goal.returns-then-next-clause-counts
 returns-then-next-clause-counts c = (
   next_is (device_state c.args.self.now) (device_counts c.args.self.now) c.completion_of-completion.result _ c.completion_of-completion.ensures.is (omega arith)
-      refl c.args.self.now.id_is c.phase_after.ensures.phase (fails_status (device_state c.args.self.now) c.args.self.now.failing.executed (sym c.next.ensures.is ∙ c.if-next.true)),
+      refl c.args.self.now.sound.place.id_is c.phase_after.ensures.phase (fails_status (device_state c.args.self.now) c.args.self.now.failing.executed (sym c.next.ensures.is ∙ c.if-next.true)),
   same_counts _ _ _ _ c.bump-self.ensures c.next.ensures.executed,
 )
 
@@ -169,55 +155,14 @@ returns-then-next-clause-tickets c = c.in_ok-event.ensures.ticket
 pub returns-clause-counts : goal.returns-clause-counts
 returns-clause-counts c = (
   next_is (device_state c.args.self.now) (device_counts c.args.self.now) c.completion_of.result _ c.completion_of.ensures.is (omega arith)
-      refl c.args.self.now.id_is c.phase_after.ensures.phase (succeeds_status (device_state c.args.self.now) c.args.self.now.failing.executed (sym c.next.ensures.is ∙ c.if-next.false)),
+      refl c.args.self.now.sound.place.id_is c.phase_after.ensures.phase (succeeds_status (device_state c.args.self.now) c.args.self.now.failing.executed (sym c.next.ensures.is ∙ c.if-next.false)),
   same_counts _ _ _ _ c.bump-self.ensures c.next.ensures.executed,
 )
 
 pub returns-clause-tickets : goal.returns-clause-tickets
 returns-clause-tickets c = c.in_ok-event.ensures.ticket
 
-pub invariant_of-self-then-next-clause-events_counted : goal.invariant_of-self-then-next-clause-events_counted
-invariant_of-self-then-next-clause-events_counted c =
-    let p = c.args.self.now in
-    happened-event p.power.happened c.event.new.self.happened p.events c.bump-self-2.result p.begins p.power.offs p.under_way p.under_way_last c.in_ok-event.ensures.first p.events_counted c.in_ok-event.ensures.happens.0 c.bump-self-2.ensures
-
-pub invariant_of-self-2-clause-events_counted : goal.invariant_of-self-2-clause-events_counted
-invariant_of-self-2-clause-events_counted c =
-    let p = c.args.self.now in
-    happened-event p.power.happened c.event.new.self.happened p.events c.bump-self-2.result p.begins p.power.offs p.under_way p.under_way_last c.in_ok-event.ensures.first p.events_counted c.in_ok-event.ensures.happens.0 c.bump-self-2.ensures
-
 -- ---- what is left to chance
-
-pub invariant_of-self-then-next-clause-failure_own : goal.invariant_of-self-then-next-clause-failure_own
-invariant_of-self-then-next-clause-failure_own c =
-    let p = c.args.self.now in
-    let own = own_at p c.choose-at.result c.take_at-command.result c.take_at-command.ensures.item in
-    let long : length c.fail.new.self.stored.items ≡ length p.blocks.stored.items = ap length c.fail.ensures.blocks in
-    some_for (Queued c.take_at-command.result)
-    (λ (f : Failure). (p.area.first ≤ written_by f) × (index_of (device_state p) (written_by f) < length c.fail.new.self.stored.items))
-    (own.0, let within = own.1 in omega (arith, within, long))
-
-pub invariant_of-self-then-next-clause-failure_doubt : goal.invariant_of-self-then-next-clause-failure_doubt
-invariant_of-self-then-next-clause-failure_doubt c =
-    some_for (Queued c.take_at-command.result)
-    (λ (f : Failure). ForSome c.fail.new.self.doubt (λ k. index_of (device_state c.args.self.now) (written_by f) ≡ k))
-    (new_doubt c.fail.new.self.doubt c.block_index-index.result (index_of (device_state c.args.self.now) c.take_at-command.result.lba) c.fail.ensures.doubt c.block_index-index.ensures)
-
-pub invariant_of-self-2-clause-failure_own : goal.invariant_of-self-2-clause-failure_own
-invariant_of-self-2-clause-failure_own c =
-    let p = c.args.self.now in
-    let long : length c.complete.new.self.stored.items ≡ length p.blocks.stored.items =
-    ap length c.complete.ensures.blocks ∙ length-set p.blocks.stored.items c.block_index-index.result (Some c.take_at-command.result.block) in
-    λ f is.
-    let own = p.failure_own f is in
-    let within : index_of (device_state p) (written_by f) < length c.complete.new.self.stored.items = subst (λ (n : ℕ). index_of (device_state p) (written_by f) < n) (sym long) own.1 in
-    (own.0, within)
-
-pub invariant_of-self-2-clause-failure_doubt : goal.invariant_of-self-2-clause-failure_doubt
-invariant_of-self-2-clause-failure_doubt c = λ f is.
-    let p = c.args.self.now in
-    subst (λ (o : Option ℕ). ForSome o (λ k. index_of (device_state p) (written_by f) ≡ k)) (sym c.complete.ensures.doubt)
-    (doubt_for p.blocks.doubt c.block_index-index.result (λ k. index_of (device_state p) (written_by f) ≡ k) (p.failure_doubt f is))
 
 pub returns-then-next-clause-chosen : goal.returns-then-next-clause-chosen
 unfolding returns-then-next-clause-gives
@@ -226,7 +171,7 @@ returns-then-next-clause-chosen c =
     let few : c.len.result ≡ length p.posted.items = search rules in
     let chose : ◌≡◌ {A = ℕ × Lcg} (c.choose-at.result, c.choose-at.new.rng) (chosen (length p.posted.items) p.order) = c.choose-at.ensures.chosen ∙ ap (λ (n : ℕ). chosen n p.order) few in
     let status : status_of c.completion_of-completion.result ≡ 640 = c.completion_of-completion.ensures.status in
-    let none : p.failure ≡ None = none_of p.failure (p.failure_counted ∙ (c.next.ensures.fails c.if-next.true).0) in
+    let none : p.failure ≡ None = none-of p.failure (p.sound.counts.failure_counted ∙ (c.next.ensures.fails c.if-next.true).0) in
     record {
       ends = returns-then-next-clause-gives c;
       at = ap (λ (x : ℕ × Lcg). x.0) chose;
@@ -248,7 +193,7 @@ returns-clause-chosen c =
       at = ap (λ (x : ℕ × Lcg). x.0) chose;
       success = λ good.
           chance_done (device_state p) p.number c.choose-at.new.rng (chosen (length p.posted.items) p.order).1 p.blocks.doubt c.complete.new.self.doubt p.failure p.under_way c.take_at-command.result.lba
-          p.failure_doubt (nothing_open p c.in_ok-event.ensures.first)
+          p.sound.writes.failure_doubt (nothing_open p c.in_ok-event.ensures.first)
           (c.complete.ensures.doubt ∙ ap (λ (k : ℕ). Rattle.mq_drive.specs.Failures.doubt_after p.blocks.doubt k) c.block_index-index.ensures) (ap (λ (x : ℕ × Lcg). x.1) chose);
       error = λ bad. absurd (bad success);
     }

@@ -1,11 +1,10 @@
 use Rattle.std.proofs.Math.ListN.{length-set}
-use Rattle.std.proofs.Common.{◌≡◌, ◌<◌, ◌≤◌, ◌+◌, ℕ, Option, Some, None, Bool, List, [], ◌∷◌, ◌++◌, length, get_or, All, inl, inr, refl, sym, ◌∙◌, ap, subst, arith, set, false}
+use Rattle.std.proofs.Common.{◌≡◌, ◌<◌, ◌≤◌, ◌+◌, ℕ, Option, Some, None, Bool, List, [], ◌∷◌, ◌++◌, length, get_or, inl, inr, refl, sym, ◌∙◌, ap, subst, arith, set, false}
 use Rattle.std.specs.Option.{ForSome, option_to_list}
 use Rattle.mq_blocks.specs.Drive.{FuseName, counted, index_of}
-use Rattle.mq_drive.specs.declared.failing.Failure.{Failure}
-use Rattle.mq_drive.proofs.Chances.{chance_done, chance_home, chance_open, doubt_for, new_doubt}
-use Rattle.mq_blocks.specs.declared.command.Command.{Command}
+use Rattle.mq_drive.proofs.Choices.{chance_done, chance_home, chance_open}
 use Rattle.mq_blocks.specs.declared.command.HomeWrite.{HomeWrite}
+use Rattle.mq_blocks.proofs.Options.{none-of}
 use Rattle.mq_drive.specs.declared.device.Device.{Device}
 use Rattle.mq_drive.specs.declared.failing.Failure.TheVariants.{Home}
 use Rattle.mq_drive.specs.Emu.{device_state, device_faults, device_chance, device_counts, device_tickets}
@@ -13,27 +12,19 @@ use Rattle.mq_drive.specs.Seats.{fuse_of, tickets_of, Happens, IsRefused}
 use Rattle.mq_drive.specs.Failures.{errors_of, failed_of, unended_of, written_by, doubt_after}
 use Rattle.mq_drive.specs.Slots.{index_in}
 use Rattle.mq_drive.specs.Steps.{HomeError}
-use Rattle.mq_drive.proofs.Doubts.{none_of, none_while, none_for, some_for, false_at}
-use Rattle.mq_drive.proofs.Executing.{same_counts, refused_home_counts, refused_home_tickets, refused_home_chosen}
-use Rattle.mq_drive.proofs.Faults.{off_gains, refused_home, error_gains}
-use Rattle.mq_drive.proofs.Moves.{set-set, same_state, begun_home, begun_failed, begun_open}
-use Rattle.mq_drive.proofs.Owned.{IsWithin, within_homes}
-use Rattle.mq_drive.proofs.Tearing.{IsOwn}
-use Rattle.mq_drive.proofs.Happening.{happened-begin, happened-home}
+use Rattle.mq_drive.proofs.Doubts.{some_for, false_at}
+use Rattle.mq_drive.proofs.Emulated.{same_counts, refused_home_counts, refused_home_tickets, refused_home_chosen}
+use Rattle.mq_drive.proofs.StepsFaults.{off_gains, refused_home, error_gains}
+use Rattle.mq_drive.proofs.DriveMoves.{set-set, same_state, begun_home, begun_failed, begun_open}
+use Rattle.mq_drive.proofs.SlotsOwned.{IsWithin, within_homes}
+use Rattle.mq_drive.proofs.Happened.{happened-begin}
+use Rattle.mq_drive.specs.Sound.{IsBlock}
+use Rattle.mq_drive.proofs.Sound.{place_of, nothing_open, place_still, own_still, failure_still, writes_failed, writes_done, counts_home}
 use Rattle.mq_drive.proofs.device.DevicePort.write_home.Goals as goal
-
-abbrev AllOwn : Device → ℕ → List Command → Type 0
-AllOwn p n cs = All (IsOwn p.area.first p.area.size p.homes.first n) cs
 
 own_home : (p : Device) (lba : ℕ) → (p.homes.first ≤ lba) × (lba < p.homes.first + p.homes.size) → IsWithin p.area.first p.area.size p.homes.first (length p.blocks.stored.items) lba
 own_home p lba home =
-    within_homes p.area.first p.area.size p.homes.first p.homes.size (length p.blocks.stored.items) lba p.area_before p.homes_end p.sized home.0 home.1
-
-nothing_open : (p : Device) → p.power.offs ≡ 0 → p.under_way ≡ None
-nothing_open p on = none_while p.under_way p.power.offs p.under_way_last on
-
-still_own : (p : Device) (n : ℕ) (cs : List Command) → n ≡ length p.blocks.stored.items → AllOwn p (length p.blocks.stored.items) cs → AllOwn p n cs
-still_own p n cs same own = subst (λ (m : ℕ). AllOwn p m cs) (sym same) own
+    within_homes p.area.first p.area.size p.homes.first p.homes.size (length p.blocks.stored.items) lba p.sound.place.area_before p.sound.place.homes_end p.sound.place.sized home.0 home.1
 
 pub returns-in_err-event-clause-gives : goal.returns-in_err-event-clause-gives
 returns-in_err-event-clause-gives c =
@@ -43,30 +34,39 @@ returns-in_err-event-clause-gives c =
 
 -- ---- the power goes off before the end
 
-pub invariant_of-self-in-Err-clause-pending_own : goal.invariant_of-self-in-Err-clause-pending_own
-invariant_of-self-in-Err-clause-pending_own c = still_own c.args.self.now (length c.begin.new.self.stored.items) c.args.self.now.pending.items (ap length c.begin.ensures.blocks) c.args.self.now.pending_own
-
-pub invariant_of-self-in-Err-clause-posted_own : goal.invariant_of-self-in-Err-clause-posted_own
-invariant_of-self-in-Err-clause-posted_own c = still_own c.args.self.now (length c.begin.new.self.stored.items) c.args.self.now.posted.items (ap length c.begin.ensures.blocks) c.args.self.now.posted_own
-
-pub invariant_of-self-in-Err-clause-under_way_last : goal.invariant_of-self-in-Err-clause-under_way_last
-invariant_of-self-in-Err-clause-under_way_last c = λ x is. let more = c.in-Err.ensures.refused.1 in omega (arith, more)
-
-pub invariant_of-self-in-Err-clause-under_way_own : goal.invariant_of-self-in-Err-clause-under_way_own
-invariant_of-self-in-Err-clause-under_way_own c =
-    let own = own_home c.args.self.now c.args.lba c.requires in
-    let long : length c.begin.new.self.stored.items ≡ length c.args.self.now.blocks.stored.items = ap length c.begin.ensures.blocks in
-    some_for (record { lba = c.args.lba; block = c.args.block })
-    (λ (w : HomeWrite). (c.args.self.now.area.first ≤ w.lba) × (index_in c.args.self.now.area.first c.args.self.now.area.size c.args.self.now.homes.first w.lba < length c.begin.new.self.stored.items))
-    (own.low, let index = own.index in omega (arith, index, long))
-
-pub invariant_of-self-in-Err-clause-under_way_doubt : goal.invariant_of-self-in-Err-clause-under_way_doubt
-invariant_of-self-in-Err-clause-under_way_doubt c =
-    some_for (record { lba = c.args.lba; block = c.args.block })
-    (λ (w : HomeWrite). get_or c.begin.new.self.certain.items (index_in c.args.self.now.area.first c.args.self.now.area.size c.args.self.now.homes.first w.lba) false ≡ false)
-    (ap (λ (k : ℕ). get_or c.begin.new.self.certain.items k false) (sym c.block_index-index.ensures)
+pub invariant_of-self-in-Err : goal.invariant_of-self-in-Err
+invariant_of-self-in-Err c =
+    let p = c.args.self.now in
+    let w : HomeWrite = record { lba = c.args.lba; block = c.args.block } in
+    let long : length c.begin.new.self.stored.items ≡ length p.blocks.stored.items = ap length c.begin.ensures.blocks in
+    let own = own_home p c.args.lba c.requires in
+    let in_doubt : get_or c.begin.new.self.certain.items (index_in p.area.first p.area.size p.homes.first c.args.lba) false ≡ false =
+    ap (λ (k : ℕ). get_or c.begin.new.self.certain.items k false) (sym c.block_index-index.ensures)
     ∙ ap (λ (l : List Bool). get_or l c.block_index-index.result false) c.begin.ensures.certain
-    ∙ false_at c.args.self.now.blocks.certain.items c.block_index-index.result)
+    ∙ false_at p.blocks.certain.items c.block_index-index.result in
+    record {
+      sound = record {
+        place = place_still p (length c.begin.new.self.stored.items) long;
+        slots = p.sound.slots;
+        commands = p.sound.commands;
+        words = p.sound.words;
+        writes = record {
+          pending_own = own_still p (length c.begin.new.self.stored.items) p.pending.items long p.sound.writes.pending_own;
+          posted_own = own_still p (length c.begin.new.self.stored.items) p.posted.items long p.sound.writes.posted_own;
+          failure_own = failure_still p (length c.begin.new.self.stored.items) long;
+          failure_doubt = λ f is. subst (λ (o : Option ℕ). ForSome o (λ k. index_of (device_state p) (written_by f) ≡ k)) (sym c.begin.ensures.doubt) (p.sound.writes.failure_doubt f is);
+          under_way_own = some_for w (λ (x : HomeWrite). IsBlock (place_of p) (length c.begin.new.self.stored.items) x.lba)
+              (own.low, let index = own.index in omega (arith, index, long));
+          under_way_doubt = some_for w (λ (x : HomeWrite). get_or c.begin.new.self.certain.items (index_in p.area.first p.area.size p.homes.first x.lba) false ≡ false) in_doubt;
+        };
+        counts = record {
+          events_counted = happened-begin p.power.happened c.event-2.new.self.happened p.events p.begins c.bump-self.result p.power.offs p.under_way w p.sound.counts.under_way_last
+              c.in_ok-event.ensures.first p.sound.counts.events_counted (c.in-Err.ensures.refused.0 ∙ c.in_ok-event.ensures.happens.0) c.bump-self.ensures;
+          failure_counted = p.sound.counts.failure_counted;
+          under_way_last = λ x is. let more = c.in-Err.ensures.refused.1 in omega (arith, more);
+        };
+      };
+    }
 
 pub returns-in-Err-clause-gives : goal.returns-in-Err-clause-gives
 returns-in-Err-clause-gives c =
@@ -84,27 +84,29 @@ returns-in-Err-clause-gives c =
 
 -- ---- it ends with an error
 
-pub invariant_of-self-then-next-clause-pending_own : goal.invariant_of-self-then-next-clause-pending_own
-invariant_of-self-then-next-clause-pending_own c =
-    still_own c.args.self.now (length c.fail.new.self.stored.items) c.args.self.now.pending.items (ap length (c.fail.ensures.blocks ∙ c.begin.ensures.blocks)) c.args.self.now.pending_own
-
-pub invariant_of-self-then-next-clause-posted_own : goal.invariant_of-self-then-next-clause-posted_own
-invariant_of-self-then-next-clause-posted_own c =
-    still_own c.args.self.now (length c.fail.new.self.stored.items) c.args.self.now.posted.items (ap length (c.fail.ensures.blocks ∙ c.begin.ensures.blocks)) c.args.self.now.posted_own
-
-pub invariant_of-self-then-next-clause-failure_counted : goal.invariant_of-self-then-next-clause-failure_counted
-invariant_of-self-then-next-clause-failure_counted c = sym (c.next.ensures.fails c.if-next.true).1
-
-pub invariant_of-self-then-next-clause-under_way_own : goal.invariant_of-self-then-next-clause-under_way_own
-invariant_of-self-then-next-clause-under_way_own c = none_for c.args.self.now.under_way _ (nothing_open c.args.self.now c.in_ok-event.ensures.first)
-
-pub invariant_of-self-then-next-clause-under_way_doubt : goal.invariant_of-self-then-next-clause-under_way_doubt
-invariant_of-self-then-next-clause-under_way_doubt c = none_for c.args.self.now.under_way _ (nothing_open c.args.self.now c.in_ok-event.ensures.first)
+pub invariant_of-self-then-next : goal.invariant_of-self-then-next
+invariant_of-self-then-next c =
+    let p = c.args.self.now in
+    let w : HomeWrite = record { lba = c.args.lba; block = c.args.block } in
+    let long : length c.fail.new.self.stored.items ≡ length p.blocks.stored.items = ap length (c.fail.ensures.blocks ∙ c.begin.ensures.blocks) in
+    let own = own_home p c.args.lba c.requires in
+    record {
+      sound = record {
+        place = place_still p (length c.fail.new.self.stored.items) long;
+        slots = p.sound.slots;
+        commands = p.sound.commands;
+        words = p.sound.words;
+        writes = writes_failed p p.posted.items c.fail.new.self.stored.items c.fail.new.self.certain.items c.fail.new.self.doubt (Home w) c.block_index-index.result c.in_ok-event.ensures.first
+            long p.sound.writes.posted_own (own.low, own.index) c.fail.ensures.doubt c.block_index-index.ensures;
+        counts = counts_home p c.event.new.self.happened c.event-2.new.self.happened c.bump-self.result c.event-2.new.self.offs c.next.new.self.failed (Some (Home w)) c.in_ok-event.ensures.first
+            c.in_ok-event.ensures.happens.0 c.in_default.ensures.happens.0 c.bump-self.ensures (sym (c.next.ensures.fails c.if-next.true).1);
+      };
+    }
 
 pub returns-then-next-clause-gives : goal.returns-then-next-clause-gives
 returns-then-next-clause-gives c =
     let nothing : c.args.self.now.under_way ≡ None = nothing_open c.args.self.now c.in_ok-event.ensures.first in
-    let none : c.args.self.now.failure ≡ None = none_of c.args.self.now.failure (c.args.self.now.failure_counted ∙ (c.next.ensures.fails c.if-next.true).0) in (
+    let none : c.args.self.now.failure ≡ None = none-of c.args.self.now.failure (c.args.self.now.sound.counts.failure_counted ∙ (c.next.ensures.fails c.if-next.true).0) in (
       λ zero. absurd (omega (arith, zero)),
       begun_home (device_state c.args.self.now) c.args.lba c.args.block [] (record { lba = c.args.lba; block = c.args.block } ∷ option_to_list c.args.self.now.under_way)
           c.fail.new.self.stored.items c.fail.new.self.certain.items c.bump-self.result (fuse_of c.event-2.new.self.seat) c.next.new.self.named
@@ -121,21 +123,23 @@ returns-then-next-clause-gives c =
 
 -- ---- it ends with success
 
-pub invariant_of-self-2-clause-pending_own : goal.invariant_of-self-2-clause-pending_own
-invariant_of-self-2-clause-pending_own c =
-    still_own c.args.self.now (length c.complete.new.self.stored.items) c.args.self.now.pending.items
-    (ap length c.complete.ensures.blocks ∙ length-set c.begin.new.self.stored.items c.block_index-index.result (Some c.args.block) ∙ ap length c.begin.ensures.blocks) c.args.self.now.pending_own
-
-pub invariant_of-self-2-clause-posted_own : goal.invariant_of-self-2-clause-posted_own
-invariant_of-self-2-clause-posted_own c =
-    still_own c.args.self.now (length c.complete.new.self.stored.items) c.args.self.now.posted.items
-    (ap length c.complete.ensures.blocks ∙ length-set c.begin.new.self.stored.items c.block_index-index.result (Some c.args.block) ∙ ap length c.begin.ensures.blocks) c.args.self.now.posted_own
-
-pub invariant_of-self-2-clause-under_way_own : goal.invariant_of-self-2-clause-under_way_own
-invariant_of-self-2-clause-under_way_own c = none_for c.args.self.now.under_way _ (nothing_open c.args.self.now c.in_ok-event.ensures.first)
-
-pub invariant_of-self-2-clause-under_way_doubt : goal.invariant_of-self-2-clause-under_way_doubt
-invariant_of-self-2-clause-under_way_doubt c = none_for c.args.self.now.under_way _ (nothing_open c.args.self.now c.in_ok-event.ensures.first)
+pub invariant_of-self-2 : goal.invariant_of-self-2
+invariant_of-self-2 c =
+    let p = c.args.self.now in
+    let long : length c.complete.new.self.stored.items ≡ length p.blocks.stored.items =
+    ap length c.complete.ensures.blocks ∙ length-set c.begin.new.self.stored.items c.block_index-index.result (Some c.args.block) ∙ ap length c.begin.ensures.blocks in
+    record {
+      sound = record {
+        place = place_still p (length c.complete.new.self.stored.items) long;
+        slots = p.sound.slots;
+        commands = p.sound.commands;
+        words = p.sound.words;
+        writes = writes_done p p.posted.items c.complete.new.self.stored.items c.complete.new.self.certain.items c.complete.new.self.doubt c.block_index-index.result c.in_ok-event.ensures.first
+            long p.sound.writes.posted_own (c.complete.ensures.doubt ∙ ap (λ (o : Option ℕ). doubt_after o c.block_index-index.result) c.begin.ensures.doubt);
+        counts = counts_home p c.event.new.self.happened c.event-2.new.self.happened c.bump-self.result c.event-2.new.self.offs c.next.new.self.failed p.failure c.in_ok-event.ensures.first
+            c.in_ok-event.ensures.happens.0 c.in_default.ensures.happens.0 c.bump-self.ensures (p.sound.counts.failure_counted ∙ sym (c.next.ensures.succeeds c.if-next.false));
+      };
+    }
 
 -- ---- what it counts, and its tickets
 
@@ -174,63 +178,7 @@ returns-clause-tickets c = (
   subst (λ (f : FuseName). Happens f.limit (tickets_of c.event.new.self.seat) (tickets_of c.event-2.new.self.seat)) c.event.ensures.fuse c.in_default.ensures.ticket,
 )
 
-pub invariant_of-self-in-Err-clause-events_counted : goal.invariant_of-self-in-Err-clause-events_counted
-invariant_of-self-in-Err-clause-events_counted c =
-    let p = c.args.self.now in
-    happened-begin p.power.happened c.event-2.new.self.happened p.events p.begins c.bump-self.result p.power.offs p.under_way (record { lba = c.args.lba; block = c.args.block }) p.under_way_last c.in_ok-event.ensures.first p.events_counted (c.in-Err.ensures.refused.0 ∙ c.in_ok-event.ensures.happens.0) c.bump-self.ensures
-
-pub invariant_of-self-then-next-clause-events_counted : goal.invariant_of-self-then-next-clause-events_counted
-invariant_of-self-then-next-clause-events_counted c =
-    let p = c.args.self.now in
-    happened-home p.power.happened c.event.new.self.happened c.event-2.new.self.happened p.events p.begins c.bump-self.result p.power.offs p.under_way p.under_way_last c.in_ok-event.ensures.first p.events_counted c.in_ok-event.ensures.happens.0 c.in_default.ensures.happens.0 c.bump-self.ensures
-
-pub invariant_of-self-2-clause-events_counted : goal.invariant_of-self-2-clause-events_counted
-invariant_of-self-2-clause-events_counted c =
-    let p = c.args.self.now in
-    happened-home p.power.happened c.event.new.self.happened c.event-2.new.self.happened p.events p.begins c.bump-self.result p.power.offs p.under_way p.under_way_last c.in_ok-event.ensures.first p.events_counted c.in_ok-event.ensures.happens.0 c.in_default.ensures.happens.0 c.bump-self.ensures
-
 -- ---- what is left to chance
-
-own_failure : (p : Device) (n : ℕ) → n ≡ length p.blocks.stored.items
-    → ForSome p.failure (λ f. (p.area.first ≤ written_by f) × (index_in p.area.first p.area.size p.homes.first (written_by f) < n))
-own_failure p n same = λ f is.
-    let own = p.failure_own f is in
-    let within : index_in p.area.first p.area.size p.homes.first (written_by f) < n = subst (λ (m : ℕ). index_in p.area.first p.area.size p.homes.first (written_by f) < m) (sym same) own.1 in
-    (own.0, within)
-
-pub invariant_of-self-in-Err-clause-failure_own : goal.invariant_of-self-in-Err-clause-failure_own
-invariant_of-self-in-Err-clause-failure_own c = own_failure c.args.self.now (length c.begin.new.self.stored.items) (ap length c.begin.ensures.blocks)
-
-pub invariant_of-self-in-Err-clause-failure_doubt : goal.invariant_of-self-in-Err-clause-failure_doubt
-invariant_of-self-in-Err-clause-failure_doubt c = λ f is.
-    subst (λ (o : Option ℕ). ForSome o (λ k. index_of (device_state c.args.self.now) (written_by f) ≡ k)) (sym c.begin.ensures.doubt) (c.args.self.now.failure_doubt f is)
-
-pub invariant_of-self-then-next-clause-failure_own : goal.invariant_of-self-then-next-clause-failure_own
-invariant_of-self-then-next-clause-failure_own c =
-    let p = c.args.self.now in
-    let own = own_home p c.args.lba c.requires in
-    let long : length c.fail.new.self.stored.items ≡ length p.blocks.stored.items = ap length (c.fail.ensures.blocks ∙ c.begin.ensures.blocks) in
-    some_for (Home (record { lba = c.args.lba; block = c.args.block }))
-    (λ (f : Failure). (p.area.first ≤ written_by f) × (index_in p.area.first p.area.size p.homes.first (written_by f) < length c.fail.new.self.stored.items))
-    (own.low, let index = own.index in omega (arith, index, long))
-
-pub invariant_of-self-then-next-clause-failure_doubt : goal.invariant_of-self-then-next-clause-failure_doubt
-invariant_of-self-then-next-clause-failure_doubt c =
-    some_for (Home (record { lba = c.args.lba; block = c.args.block }))
-    (λ (f : Failure). ForSome c.fail.new.self.doubt (λ k. index_of (device_state c.args.self.now) (written_by f) ≡ k))
-    (new_doubt c.fail.new.self.doubt c.block_index-index.result (index_of (device_state c.args.self.now) c.args.lba) c.fail.ensures.doubt c.block_index-index.ensures)
-
-pub invariant_of-self-2-clause-failure_own : goal.invariant_of-self-2-clause-failure_own
-invariant_of-self-2-clause-failure_own c =
-    own_failure c.args.self.now (length c.complete.new.self.stored.items)
-    (ap length c.complete.ensures.blocks ∙ length-set c.begin.new.self.stored.items c.block_index-index.result (Some c.args.block) ∙ ap length c.begin.ensures.blocks)
-
-pub invariant_of-self-2-clause-failure_doubt : goal.invariant_of-self-2-clause-failure_doubt
-invariant_of-self-2-clause-failure_doubt c = λ f is.
-    let p = c.args.self.now in
-    subst (λ (o : Option ℕ). ForSome o (λ k. index_of (device_state p) (written_by f) ≡ k))
-    (sym (c.complete.ensures.doubt ∙ ap (λ (o : Option ℕ). doubt_after o c.block_index-index.result) c.begin.ensures.doubt))
-    (doubt_for p.blocks.doubt c.block_index-index.result (λ k. index_of (device_state p) (written_by f) ≡ k) (p.failure_doubt f is))
 
 pub returns-in_err-event-clause-chosen : goal.returns-in_err-event-clause-chosen
 returns-in_err-event-clause-chosen c =
@@ -255,12 +203,12 @@ pub returns-then-next-clause-chosen : goal.returns-then-next-clause-chosen
 returns-then-next-clause-chosen c =
     let p = c.args.self.now in
     let nothing : p.under_way ≡ None = nothing_open p c.in_ok-event.ensures.first in
-    let none : p.failure ≡ None = none_of p.failure (p.failure_counted ∙ (c.next.ensures.fails c.if-next.true).0) in
+    let none : p.failure ≡ None = none-of p.failure (p.sound.counts.failure_counted ∙ (c.next.ensures.fails c.if-next.true).0) in
     chance_home p.number c.block_index-index.result p.order p.blocks.doubt c.fail.new.self.doubt p.failure p.under_way (record { lba = c.args.lba; block = c.args.block }) none nothing c.fail.ensures.doubt
 
 pub returns-clause-chosen : goal.returns-clause-chosen
 returns-clause-chosen c =
     let p = c.args.self.now in
     chance_done (device_state p) p.number p.order p.order p.blocks.doubt c.complete.new.self.doubt p.failure p.under_way c.args.lba
-    p.failure_doubt (nothing_open p c.in_ok-event.ensures.first)
+    p.sound.writes.failure_doubt (nothing_open p c.in_ok-event.ensures.first)
     (c.complete.ensures.doubt ∙ ap (λ (o : Option ℕ). doubt_after o c.block_index-index.result) c.begin.ensures.doubt ∙ ap (λ (k : ℕ). doubt_after p.blocks.doubt k) c.block_index-index.ensures) refl

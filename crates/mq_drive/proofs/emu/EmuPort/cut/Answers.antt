@@ -3,8 +3,8 @@ use Rattle.mq_drive.specs.Failures.{errors_of}
 use Rattle.mq_drive.specs.Fuse.{above, below}
 use Rattle.mq_drive.specs.Seats.{tickets_of}
 use Rattle.mq_drive.specs.declared.device.Device.{Device}
-use Rattle.mq_drive.proofs.Faults.{some_off, contains_first}
-use Rattle.mq_drive.proofs.Happening.{happened-is}
+use Rattle.mq_drive.proofs.StepsFaults.{some_off, contains_first}
+use Rattle.mq_drive.proofs.Happened.{happened-is}
 use Rattle.mq_drive.proofs.emu.EmuPort.cut.Goals as goal
 
 pub returns-clause-off : goal.returns-clause-off

@@ -1,5 +1,5 @@
 use Rattle.std.proofs.Common.{sym, ◌∙◌}
-use Rattle.mq_drive.proofs.Executing.{named_next, none_next}
+use Rattle.mq_drive.proofs.Emulated.{named_next, none_next}
 use Rattle.mq_drive.proofs.failing.Failing.next.Goals as goal
 use Rattle.mq_drive.proofs.failing.Failing.next.Goals.{then-not-self, else-not-self}
 

@@ -1,5 +1,5 @@
 use Rattle.std.proofs.Common.{ap}
-use Rattle.mq_drive.proofs.Flaking.{cause_under}
+use Rattle.mq_drive.proofs.FlakyAnswers.{cause_under}
 use Rattle.mq_drive.proofs.flaky.FlakyPortPort.flush.Goals as goal
 
 pub returns-clause-cause : goal.returns-clause-cause

@@ -1,6 +1,6 @@
 use Rattle.std.proofs.Common.{ap}
 use Rattle.std.proofs.lemmas.Result.{err_from_is_err_and}
-use Rattle.mq_drive.proofs.Flaking.{off_under}
+use Rattle.mq_drive.proofs.FlakyAnswers.{off_under}
 use Rattle.mq_drive.proofs.flaky.FlakyPortPort.ring.Goals as goal
 
 pub returns-in_err-ring-clause-cause : goal.returns-in_err-ring-clause-cause

@@ -1,7 +1,7 @@
 use Rattle.std.proofs.Common.{◌≡◌, ◌≢◌, ◌+◌, ◌≤◌, [], length, ap, sym, ◌∙◌, arith, Ok}
 use Rattle.std.proofs.lemmas.Result.{err_from_is_err_and}
 use Rattle.mq_blocks.specs.Drive.{PortState}
-use Rattle.mq_drive.proofs.Flaking.{step_under, step_ends, off_under, OneEnded}
+use Rattle.mq_drive.proofs.FlakyAnswers.{step_under, step_ends, off_under, OneEnded}
 use Rattle.mq_drive.proofs.flaky.FlakyPortPort.step.Goals as goal
 
 pub returns-in_err-step-clause-gives : goal.returns-in_err-step-clause-gives

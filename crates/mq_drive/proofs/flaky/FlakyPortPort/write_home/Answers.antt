@@ -1,5 +1,5 @@
 use Rattle.std.proofs.Common.{ap}
-use Rattle.mq_drive.proofs.Flaking.{home_under}
+use Rattle.mq_drive.proofs.FlakyAnswers.{home_under}
 use Rattle.mq_drive.proofs.flaky.FlakyPortPort.write_home.Goals as goal
 
 pub returns-clause-gives : goal.returns-clause-gives

@@ -1,7 +1,7 @@
 use Rattle.std.proofs.Common.{rules, ◌≡◌, ◌<◌, ◌+◌, ℕ, [], ◌∷◌, length, min, Some, subst, sym, ◌∙◌, ap, arith, length-append}
 use Rattle.mq_drive.specs.Fuse.{above, below}
 use Rattle.mq_drive.specs.Seats.{tickets_of}
-use Rattle.mq_drive.proofs.Fusing.{ends}
+use Rattle.mq_drive.proofs.FuseSteps.{ends}
 use Rattle.mq_blocks.proofs.Totals.{total_last}
 use Rattle.mq_drive.proofs.Totals.{total_contains}
 use Rattle.mq_drive.proofs.fuse.Fuse.close.Goals as goal

@@ -3,7 +3,7 @@ use Rattle.std.specs.Prelude.{Some}
 use Rattle.mq_blocks.specs.Windows.{number_at}
 use Rattle.mq_image.specs.File.{is_blank}
 use Rattle.mq_image.specs.declared.fault.FileFault.TheVariants.{Zero}
-use Rattle.mq_image.proofs.Nexts.{slice-window, next-absent, next-present, below-refused, above-refused, blank-refused}
+use Rattle.mq_image.proofs.PlacesNexts.{slice-window, next-absent, next-present, below-refused, above-refused, blank-refused}
 use Rattle.mq_image.proofs.place.Place.next.Goals as goal
 use Rattle.mq_image.proofs.place.Place.next.Goals.{then-lba-self-via-then-lba-self, then-lba-self-via-else-lba-self+then-lba-self-2}
 

@@ -3,8 +3,8 @@ use Rattle.std.specs.Prelude.{Option}
 use Rattle.std.proofs.lemmas.List.{length_push}
 use Rattle.std.proofs.lemmas.Result.{err_from_is_err_and}
 use Rattle.mq_image.specs.Places.{IsSpan}
-use Rattle.mq_image.proofs.Nexts.{refuses-along}
-use Rattle.mq_image.proofs.Spans.{span-none, span-more}
+use Rattle.mq_image.proofs.PlacesNexts.{refuses-along}
+use Rattle.mq_image.proofs.PlacesSpans.{span-none, span-more}
 use Rattle.mq_image.proofs.place.Place.span.Goals as goal
 
 pub loop-block-init : goal.loop-block-init

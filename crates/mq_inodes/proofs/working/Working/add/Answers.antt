@@ -2,7 +2,7 @@ use Rattle.std.proofs.Common.{◌≡◌, length, sym, subst, ◌∙◌}
 use Rattle.std.proofs.lemmas.Result.{on_ok_weaker}
 use Rattle.mq_inodes.specs.Growing.{HasGot}
 use Rattle.mq_inodes.specs.Pages.{pages_of}
-use Rattle.mq_inodes.proofs.Getting.{count-items}
+use Rattle.mq_inodes.proofs.GrowingByOne.{count-items}
 use Rattle.mq_inodes.proofs.Growing.{far-indirect, got-block, got-pointed}
 use Rattle.mq_tree.specs.Volume.{Volume}
 use Rattle.mq_inodes.proofs.working.Working.add.Goals as goal

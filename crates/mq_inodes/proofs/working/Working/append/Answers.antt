@@ -3,8 +3,8 @@ use Rattle.std.proofs.lemmas.Result.{on_ok_weaker}
 use Rattle.mq_inodes.specs.Growing.{longer_inode}
 use Rattle.mq_inodes.specs.Pages.{pages_of}
 use Rattle.mq_inodes.specs.declared.opened.Opened.{Opened}
-use Rattle.mq_inodes.proofs.Becoming.{over-then}
-use Rattle.mq_inodes.proofs.Getting.{append-form, appended-as, count-items, far_dir-got, far_file-got, inode-keeps, keeps-then, near-got, on_ok_three, pointed-as, pointer-keeps, take-keeps, took-as, twelve-direct}
+use Rattle.mq_inodes.proofs.EditsBecoming.{over-then}
+use Rattle.mq_inodes.proofs.GrowingByOne.{append-form, appended-as, count-items, far_dir-got, far_file-got, inode-keeps, keeps-then, near-got, on_ok_three, pointed-as, pointer-keeps, take-keeps, took-as, twelve-direct}
 use Rattle.mq_layout.specs.Inodes.{IsInode}
 use Rattle.mq_layout.specs.declared.inode.Inode.{Inode}
 use Rattle.mq_inodes.proofs.working.Working.append.Goals as goal

@@ -2,8 +2,8 @@ use Rattle.std.proofs.Common.{◌∙◌, ap, ◌-◌, ◌++◌, List, ℕ}
 use Rattle.std.specs.Prelude.{Vec}
 use Rattle.mq_layout.specs.Bits.{pointer_of}
 use Rattle.mq_inodes.specs.Pages.{pages_of}
-use Rattle.mq_inodes.proofs.Nodes.{node-far, node-many, node-near}
-use Rattle.mq_inodes.proofs.Showing.{use-shown, use-there}
+use Rattle.mq_inodes.proofs.LaidNodes.{node-far, node-many, node-near}
+use Rattle.mq_inodes.proofs.FitsShowing.{use-shown, use-there}
 use Rattle.mq_tree.specs.Decoded.{table_of}
 use Rattle.mq_tree.specs.Volume.{Pointers, node}
 use Rattle.mq_inodes.proofs.working.Working.blocks.Goals as goal

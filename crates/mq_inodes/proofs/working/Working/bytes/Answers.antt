@@ -4,8 +4,8 @@ use Rattle.std.proofs.lemmas.Result.{err_from_is_err_and}
 use Rattle.mq_inodes.specs.Fits.{Agrees}
 use Rattle.mq_inodes.specs.Pages.{pages_of}
 use Rattle.mq_inodes.specs.Files.{LooksInFile}
-use Rattle.mq_inodes.proofs.Contents.{file-end, run-read, run-there, touched-byte, touched-length, touched-run}
-use Rattle.mq_inodes.proofs.Lacking.{lacks-weaker}
+use Rattle.mq_inodes.proofs.Files.{file-end, run-read, run-there, touched-byte, touched-length, touched-run}
+use Rattle.mq_inodes.proofs.MissingPages.{lacks-weaker}
 use Rattle.mq_inodes.proofs.Sound.{sound-low}
 use Rattle.mq_tree.specs.Volume.{Volume, node}
 use Rattle.mq_inodes.proofs.working.Working.bytes.Goals as goal

@@ -1,6 +1,6 @@
 use Rattle.std.proofs.Common.{arith}
 use Rattle.mq_inodes.specs.Pages.{pages_of}
-use Rattle.mq_inodes.proofs.Directories.{counted-more}
+use Rattle.mq_inodes.proofs.Dirs.{counted-more}
 use Rattle.mq_inodes.proofs.working.Working.count.Goals as goal
 
 pub loop-b-preserved : goal.loop-b-preserved

@@ -1,10 +1,10 @@
 use Rattle.std.proofs.Common.{length, sym, ap, subst, ◌∙◌}
 use Rattle.mq_inodes.specs.Pages.{pages_of}
 use Rattle.mq_inodes.specs.Released.{CutsPointers, IsCutInode}
-use Rattle.mq_inodes.proofs.Cutting.{becomes-cut, cut-form, pointers-held, pointers-high, table-cut}
-use Rattle.mq_inodes.proofs.Getting.{count-items}
-use Rattle.mq_inodes.proofs.Linking.{on_ok-both}
-use Rattle.mq_inodes.proofs.LocalGone.{gone-releasable}
+use Rattle.mq_inodes.proofs.ReleasedCutting.{becomes-cut, cut-form, pointers-held, pointers-high, table-cut}
+use Rattle.mq_inodes.proofs.GrowingByOne.{count-items}
+use Rattle.mq_inodes.proofs.EditsLinking.{on_ok-both}
+use Rattle.mq_inodes.proofs.ChangesGone.{gone-releasable}
 use Rattle.mq_layout.specs.declared.inode.Inode.{Inode}
 use Rattle.mq_tree.proofs.CleanLaid.{length-padded}
 use Rattle.mq_tree.specs.Volume.{node}

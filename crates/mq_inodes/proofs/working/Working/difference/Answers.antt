@@ -1,7 +1,7 @@
 use Rattle.std.proofs.Common.{refl}
 use Rattle.mq_blocks.specs.Geometry.{meta_of}
 use Rattle.mq_inodes.specs.Pages.{held_pages, view_of}
-use Rattle.mq_inodes.proofs.Differing.{differs, freed_of, have-kinds, taken-end, write_of}
+use Rattle.mq_inodes.proofs.Differences.{differs, freed_of, have-kinds, taken-end, write_of}
 use Rattle.mq_inodes.proofs.working.Working.difference.Goals as goal
 
 pub returns-clause-differs : goal.returns-clause-differs

@@ -2,7 +2,7 @@ use Rattle.std.proofs.Common.{◌≡◌, ◌++◌}
 use Rattle.std.specs.List.{filter_map}
 use Rattle.mq_blocks.specs.Geometry.{meta_of}
 use Rattle.mq_inodes.specs.Pages.{held_pages}
-use Rattle.mq_inodes.proofs.Differing.{freed_of, write_of}
+use Rattle.mq_inodes.proofs.Differences.{freed_of, write_of}
 use Rattle.mq_inodes.proofs.working.Working.difference.Given as goal
 
 abbrev pub invariant-loop-b : goal.invariant-loop-b

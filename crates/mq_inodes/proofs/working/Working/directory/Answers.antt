@@ -4,8 +4,8 @@ use Rattle.std.specs.List.{All, Contains}
 use Rattle.std.proofs.lemmas.Result.{err_from_is_err_and}
 use Rattle.mq_inodes.specs.Fits.{Agrees}
 use Rattle.mq_inodes.specs.Pages.{IsHeld, pages_of}
-use Rattle.mq_inodes.proofs.Directories.{blocks-has, blocks-there, dir-form, dir-slots, kind-dir}
-use Rattle.mq_inodes.proofs.Lacking.{lacks-weaker}
+use Rattle.mq_inodes.proofs.Dirs.{blocks-has, blocks-there, dir-form, dir-slots, kind-dir}
+use Rattle.mq_inodes.proofs.MissingPages.{lacks-weaker}
 use Rattle.mq_tree.specs.Volume.{Dir, Volume, has_block, node}
 use Rattle.mq_inodes.proofs.working.Working.directory.Goals as goal
 

@@ -1,5 +1,5 @@
 use Rattle.std.proofs.Common.{sym, ◌∙◌}
-use Rattle.mq_inodes.proofs.Walking.{found-low, not-entered}
+use Rattle.mq_inodes.proofs.Walks.{found-low, not-entered}
 use Rattle.mq_inodes.proofs.working.Working.enter.Goals as goal
 
 pub inode-requires-clause-low : goal.inode-requires-clause-low

@@ -1,5 +1,5 @@
 use Rattle.mq_inodes.specs.Pages.{pages_of}
-use Rattle.mq_inodes.proofs.Directories.{found-here, found-beyond}
+use Rattle.mq_inodes.proofs.Dirs.{found-here, found-beyond}
 use Rattle.mq_inodes.proofs.working.Working.find.Goals as goal
 
 pub returns-in-Some : goal.returns-in-Some

@@ -5,9 +5,9 @@ use Rattle.std.proofs.lemmas.Result.{err_from_is_err_and}
 use Rattle.mq_inodes.specs.Fits.{Agrees}
 use Rattle.mq_inodes.specs.Pages.{pages_of}
 use Rattle.mq_inodes.specs.Picks.{IsMarkable, IsSearched, free_of}
-use Rattle.mq_inodes.proofs.Lacking.{lacks-weaker}
-use Rattle.mq_inodes.proofs.Searching.{length-picks}
-use Rattle.mq_inodes.proofs.Zones.{picks-next, picks-own, reached, searched-other}
+use Rattle.mq_inodes.proofs.MissingPages.{lacks-weaker}
+use Rattle.mq_inodes.proofs.PicksSearching.{length-picks}
+use Rattle.mq_inodes.proofs.PicksZones.{picks-next, picks-own, reached, searched-other}
 use Rattle.mq_layout.specs.Places.{zone_bitmap}
 use Rattle.mq_tree.specs.Volume.{Volume}
 use Rattle.mq_inodes.proofs.working.Working.found.Goals as goal

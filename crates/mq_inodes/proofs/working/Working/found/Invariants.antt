@@ -3,7 +3,7 @@ use Rattle.std.specs.List.{All}
 use Rattle.mq_inodes.specs.MissingPages.{OfEach}
 use Rattle.mq_inodes.specs.Pages.{pages_of}
 use Rattle.mq_inodes.specs.Picks.{IsMarkable}
-use Rattle.mq_inodes.proofs.Zones.{picks_before}
+use Rattle.mq_inodes.proofs.PicksZones.{picks_before}
 use Rattle.mq_inodes.proofs.working.Working.found.Given as goal
 
 abbrev pub invariant-loop-zone : goal.invariant-loop-zone

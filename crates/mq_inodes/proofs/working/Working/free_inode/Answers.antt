@@ -1,5 +1,5 @@
 use Rattle.mq_inodes.specs.Pages.{pages_of}
-use Rattle.mq_inodes.proofs.Marking.{clear-free}
+use Rattle.mq_inodes.proofs.FitsMarking.{clear-free}
 use Rattle.mq_inodes.proofs.working.Working.free_inode.Goals as goal
 
 pub returns-clause-ok : goal.returns-clause-ok

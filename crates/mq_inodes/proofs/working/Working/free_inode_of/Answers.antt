@@ -1,7 +1,7 @@
 use Rattle.mq_inodes.specs.Pages.{pages_of}
-use Rattle.mq_inodes.proofs.FreedInodes.{becomes-freed}
-use Rattle.mq_inodes.proofs.Linking.{on_ok-both}
-use Rattle.mq_inodes.proofs.LocalGone.{gone-releasable}
+use Rattle.mq_inodes.proofs.ReleasedInodes.{becomes-freed}
+use Rattle.mq_inodes.proofs.EditsLinking.{on_ok-both}
+use Rattle.mq_inodes.proofs.ChangesGone.{gone-releasable}
 use Rattle.mq_inodes.proofs.working.Working.free_inode_of.Goals as goal
 
 pub release_from-requires-clause-pointers : goal.release_from-requires-clause-pointers

@@ -1,6 +1,6 @@
 use Rattle.std.proofs.Common.{sym, ap, ◌∙◌, ℕ, ◌++◌, List, arith, drop, take, length}
 use Rattle.mq_inodes.specs.Pages.{pages_of}
-use Rattle.mq_inodes.proofs.Contents.{bytes-drop, gathered-more}
+use Rattle.mq_inodes.proofs.Files.{bytes-drop, gathered-more}
 use Rattle.mq_inodes.proofs.working.Working.gather.Goals as goal
 
 pub loop-b-preserved : goal.loop-b-preserved

@@ -5,7 +5,7 @@ use Rattle.mq_inodes.specs.Opened.{MayGrow}
 use Rattle.mq_inodes.specs.Pages.{pages_of}
 use Rattle.mq_inodes.specs.declared.opened.Opened.{Opened}
 use Rattle.mq_inodes.specs.declared.working.Working.{Working}
-use Rattle.mq_inodes.proofs.Becoming.{over-self, over-then}
+use Rattle.mq_inodes.proofs.EditsBecoming.{over-self, over-then}
 use Rattle.mq_inodes.proofs.Growing.{AreReady, IsOnWay, holds-end, holds-start, ready-pick, ready-step, way-end, way-got, way-possible, way-start, way-step}
 use Rattle.mq_tree.specs.Volume.{Volume}
 use Rattle.mq_inodes.proofs.working.Working.grow.Goals as goal

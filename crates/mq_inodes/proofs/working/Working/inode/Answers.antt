@@ -1,6 +1,6 @@
 use Rattle.std.proofs.Common.{◌∙◌, sym}
 use Rattle.mq_inodes.specs.Pages.{pages_of}
-use Rattle.mq_inodes.proofs.Showing.{inode-shown}
+use Rattle.mq_inodes.proofs.FitsShowing.{inode-shown}
 use Rattle.mq_inodes.proofs.working.Working.inode.Goals as goal
 
 pub unreachable-requires : goal.unreachable-requires

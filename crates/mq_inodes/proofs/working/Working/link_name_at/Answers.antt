@@ -1,8 +1,8 @@
 use Rattle.std.proofs.Common.{ℕ, ◌≡◌, ◌-◌, ◌/◌, length, get_or, sym, ap, ◌∙◌, arith}
 use Rattle.mq_inodes.specs.Pages.{pages_of}
-use Rattle.mq_inodes.proofs.Linking.{name-linked, on_ok-both}
-use Rattle.mq_inodes.proofs.LinkedGrown.{blank-held, full-blank, full-linked, full-slots, may-grow}
-use Rattle.mq_inodes.proofs.SlotNumbers.{unused-inside}
+use Rattle.mq_inodes.proofs.EditsLinking.{name-linked, on_ok-both}
+use Rattle.mq_inodes.proofs.OpenedLinkedGrown.{blank-held, full-blank, full-linked, full-slots, may-grow}
+use Rattle.mq_inodes.proofs.DirsSlotNumbers.{unused-inside}
 use Rattle.mq_inodes.proofs.working.Working.link_name_at.Goals as goal
 
 pub index-requires : goal.index-requires

@@ -1,6 +1,6 @@
 use Rattle.std.proofs.lemmas.Result.{on_ok_weaker}
 use Rattle.mq_inodes.specs.Pages.{pages_of}
-use Rattle.mq_inodes.proofs.Lacking.{all-held}
+use Rattle.mq_inodes.proofs.MissingPages.{all-held}
 use Rattle.mq_inodes.proofs.working.Working.look_for.Goals as goal
 
 pub returns-clause-ok : goal.returns-clause-ok

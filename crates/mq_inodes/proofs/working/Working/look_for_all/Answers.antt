@@ -1,7 +1,7 @@
 use Rattle.std.proofs.Common.{sym, ap, ◌∙◌, ◌≡◌, ℕ, List, length, subst, ◌+◌, rules}
 use Rattle.std.specs.Prelude.{Vec}
 use Rattle.mq_inodes.specs.Pages.{pages_of}
-use Rattle.mq_inodes.proofs.Lacking.{IsSought, sought-absent, sought-all, sought-there, sought-none}
+use Rattle.mq_inodes.proofs.MissingPages.{IsSought, sought-absent, sought-all, sought-there, sought-none}
 use Rattle.mq_inodes.proofs.working.Working.look_for_all.Goals as goal
 use Rattle.mq_inodes.proofs.working.Working.look_for_all.Goals.{in-Absent+in_ok-push, in_default}
 

@@ -1,5 +1,5 @@
 use Rattle.mq_inodes.specs.Pages.{pages_of}
-use Rattle.mq_inodes.proofs.Lacking.{IsSought}
+use Rattle.mq_inodes.proofs.MissingPages.{IsSought}
 use Rattle.mq_inodes.proofs.working.Working.look_for_all.Given as goal
 
 abbrev pub invariant-loop-b : goal.invariant-loop-b

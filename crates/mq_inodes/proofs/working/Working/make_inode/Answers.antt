@@ -1,6 +1,6 @@
 use Rattle.std.proofs.Common.{refl, subst, sym}
-use Rattle.mq_inodes.proofs.EmptyInodes.{empty-form, inode-made}
-use Rattle.mq_inodes.proofs.Linking.{on_ok-both}
+use Rattle.mq_inodes.proofs.BareEmptyInodes.{empty-form, inode-made}
+use Rattle.mq_inodes.proofs.EditsLinking.{on_ok-both}
 use Rattle.mq_inodes.proofs.working.Working.make_inode.Goals as goal
 use Rattle.mq_layout.specs.Inodes.{IsInode}
 

@@ -2,8 +2,8 @@ use Rattle.std.proofs.Common.{◌≡◌, ◌≢◌, ap, arith, sym, ◌∙◌}
 use Rattle.std.specs.Prelude.{None}
 use Rattle.std.proofs.lemmas.Result.{on_ok_weaker}
 use Rattle.mq_inodes.specs.Pages.{known, pages_of}
-use Rattle.mq_inodes.proofs.Held.{held-known, meta-held, table-low}
-use Rattle.mq_inodes.proofs.UnseenInodes.{inode-unseen, looked-up}
+use Rattle.mq_inodes.proofs.PagesHeld.{held-known, meta-held, table-low}
+use Rattle.mq_inodes.proofs.BareUnseenInodes.{inode-unseen, looked-up}
 use Rattle.mq_layout.specs.Places.{inode_bitmap, inode_block}
 use Rattle.mq_inodes.proofs.working.Working.make_unseen_inode.Goals as goal
 

@@ -9,7 +9,7 @@ use Rattle.mq_layout.specs.Bits.{bit_of}
 use Rattle.mq_layout.specs.Places.{zone_bitmap}
 use Rattle.mq_pages.specs.declared.page.Kind.TheVariants.{Meta}
 use Rattle.mq_tree.specs.Laid.{IsPage}
-use Rattle.mq_tree.proofs.Maps.{zone-low}
+use Rattle.mq_tree.proofs.LaidMaps.{zone-low}
 use Rattle.mq_inodes.proofs.working.Working.mark_block.Goals as goal
 
 -- the zone of a block and its bit there, as they are computed
@@ -43,5 +43,5 @@ returns-clause-marked c =
     let g = c.args.self.now.geometry in
     let p = placed g c.args.b c.b.inside.0 c.meta.result c.zone-zone.result c.b.view_is c.meta.ensures c.zone-zone.ensures in
     let after = c.set_bit.new.into in
-    on_ok_weaker c.put.result (marked g (pages_of c.args.self.now) (pages_of c.lift.new.self) (pages_of c.put.new.self) c.args.b c.zone_bitmap-bitmap.result c.args.value c.in_ok-marks.marks after (c.zone_bitmap-bitmap.ensures ∙ ap zone_bitmap p.0) c.in_ok-marks.ensures.content c.in_ok-marks.ensures.rest.pages c.look_at.ensures
+    on_ok_weaker c.put.result (marked g (pages_of c.args.self.now) (pages_of c.lift.new.self) (pages_of c.put.new.self) c.args.b c.zone_bitmap-bitmap.result c.args.value c.in_ok-marks.marks after (c.zone_bitmap-bitmap.ensures ∙ ap zone_bitmap p.0) c.in_ok-marks.ensures.content c.in_ok-marks.ensures.rest.pages (record { whole = c.set_bit.ensures.whole; bytes = c.set_bit.ensures.bytes })
     (ap (bit_of after) (sym p.1) ∙ c.set_bit.ensures.set) (λ k other. c.set_bit.ensures.others k (λ e. other (e ∙ p.1)))) c.put.ensures.page

@@ -2,7 +2,7 @@ use Rattle.std.proofs.Common.{rules}
 use Rattle.std.proofs.lemmas.List.Sorted.{answers_always}
 use Rattle.mq_inodes.specs.Dirs.{slots_at}
 use Rattle.mq_inodes.specs.Pages.{pages_of}
-use Rattle.mq_inodes.proofs.Sorting.{before, names-ordered, sorted-names}
+use Rattle.mq_inodes.proofs.DirsSorting.{before, names-ordered, sorted-names}
 use Rattle.mq_inodes.proofs.working.Working.names.Goals as goal
 
 pub returns : goal.returns

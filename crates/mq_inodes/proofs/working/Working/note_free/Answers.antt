@@ -1,7 +1,6 @@
 use Rattle.mq_inodes.specs.Pages.{pages_of}
-use Rattle.mq_inodes.proofs.Becoming.{view-then}
-use Rattle.mq_inodes.proofs.Noting.{noting-all, noting-more, noting-none}
-use Rattle.mq_inodes.proofs.UnseenInodes.{view-stays}
+use Rattle.mq_inodes.proofs.EditsBecoming.{view-then, view-stays}
+use Rattle.mq_inodes.proofs.PagesNoting.{noting-all, noting-more, noting-none}
 use Rattle.mq_inodes.proofs.working.Working.note_free.Goals as goal
 
 pub loop-b-init : goal.loop-b-init

@@ -1,6 +1,6 @@
 use Rattle.mq_inodes.specs.Edits.{IsSameView}
 use Rattle.mq_inodes.specs.Pages.{pages_of}
-use Rattle.mq_inodes.proofs.Noting.{IsNoting}
+use Rattle.mq_inodes.proofs.PagesNoting.{IsNoting}
 use Rattle.mq_inodes.proofs.working.Working.note_free.Given as goal
 
 abbrev pub invariant-loop-b : goal.invariant-loop-b

@@ -1,4 +1,4 @@
-use Rattle.mq_inodes.proofs.Opening.{opened-dir}
+use Rattle.mq_inodes.proofs.OpenedLookups.{opened-dir}
 use Rattle.mq_inodes.proofs.working.Working.open_directory.Goals as goal
 
 pub returns-clause-opened : goal.returns-clause-opened

@@ -1,5 +1,5 @@
 use Rattle.std.proofs.Common.{arith}
-use Rattle.mq_inodes.proofs.Zones.{picked-all, picked-few}
+use Rattle.mq_inodes.proofs.PicksZones.{picked-all, picked-few}
 use Rattle.mq_inodes.proofs.working.Working.pick.Goals as goal
 
 pub returns-then-len-count-clause-ok : goal.returns-then-len-count-clause-ok

@@ -3,9 +3,9 @@ use Rattle.std.proofs.lemmas.Result.{err_from_is_err_and}
 use Rattle.mq_inodes.specs.Fits.{Agrees}
 use Rattle.mq_inodes.specs.Pages.{pages_of}
 use Rattle.mq_inodes.specs.Walks.{LeadsPast, LooksIn}
-use Rattle.mq_inodes.proofs.Lacking.{lacks-weaker}
-use Rattle.mq_inodes.proofs.Placing.{holds-name, placed-name}
-use Rattle.mq_inodes.proofs.Walking.{past-in, past-longer, walk-dir, way-last}
+use Rattle.mq_inodes.proofs.MissingPages.{lacks-weaker}
+use Rattle.mq_inodes.proofs.WalksPlacing.{holds-name, placed-name}
+use Rattle.mq_inodes.proofs.Walks.{past-in, past-longer, walk-dir, way-last}
 use Rattle.mq_tree.specs.Volume.{Volume, Way, way}
 use Rattle.mq_inodes.proofs.working.Working.place.Goals as goal
 

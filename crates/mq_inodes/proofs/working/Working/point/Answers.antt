@@ -1,6 +1,6 @@
 use Rattle.std.proofs.Common.{ℕ, ◌≡◌, sym, subst, refl, ap, ◌∙◌}
 use Rattle.mq_inodes.specs.declared.opened.Opened.{Opened}
-use Rattle.mq_inodes.proofs.Getting.{on_ok_three, point-form, point-got}
+use Rattle.mq_inodes.proofs.GrowingByOne.{on_ok_three, point-form, point-got}
 use Rattle.mq_layout.specs.Inodes.{IsInode}
 use Rattle.mq_layout.specs.declared.inode.Inode.{Inode}
 use Rattle.mq_inodes.proofs.working.Working.point.Goals as goal

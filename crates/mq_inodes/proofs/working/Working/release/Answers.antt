@@ -1,5 +1,5 @@
 use Rattle.mq_inodes.specs.Pages.{pages_of}
-use Rattle.mq_inodes.proofs.Releasing.{at-item, releasable-along, releases-more}
+use Rattle.mq_inodes.proofs.Released.{at-item, releasable-along, releases-more}
 use Rattle.mq_inodes.proofs.working.Working.release.Goals as goal
 
 pub release_one-requires : goal.release_one-requires

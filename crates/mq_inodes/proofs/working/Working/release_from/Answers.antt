@@ -1,6 +1,6 @@
 use Rattle.std.proofs.Common.{drop, subst, arith}
 use Rattle.mq_inodes.specs.Released.{Releases}
-use Rattle.mq_inodes.proofs.Releasing.{releasable-along, releases-both, rest-all}
+use Rattle.mq_inodes.proofs.Released.{releasable-along, releases-both, rest-all}
 use Rattle.mq_inodes.proofs.working.Working.release_from.Goals as goal
 
 pub release_one-requires : goal.release_one-requires

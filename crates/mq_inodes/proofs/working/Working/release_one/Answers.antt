@@ -2,8 +2,8 @@ use Rattle.std.proofs.Common.{None, OnOk}
 use Rattle.mq_inodes.specs.Changes.{IsPut}
 use Rattle.mq_inodes.specs.Edits.{IsKindPut}
 use Rattle.mq_inodes.specs.Pages.{pages_of}
-use Rattle.mq_inodes.proofs.Linking.{on_ok-both}
-use Rattle.mq_inodes.proofs.Releasing.{releases-one}
+use Rattle.mq_inodes.proofs.EditsLinking.{on_ok-both}
+use Rattle.mq_inodes.proofs.Released.{releases-one}
 use Rattle.mq_inodes.proofs.working.Working.release_one.Goals as goal
 
 pub returns : goal.returns

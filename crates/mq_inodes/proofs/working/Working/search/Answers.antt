@@ -2,8 +2,8 @@ use Rattle.std.proofs.Common.{◌≡◌, ◌∙◌, ap, sym, subst}
 use Rattle.std.specs.Prelude.{Some}
 use Rattle.mq_inodes.specs.Pages.{content, pages_of}
 use Rattle.mq_layout.specs.Places.{zone_bitmap}
-use Rattle.mq_inodes.proofs.Marking.{zone-shown}
-use Rattle.mq_inodes.proofs.Searching.{more-markable}
+use Rattle.mq_inodes.proofs.FitsMarking.{zone-shown}
+use Rattle.mq_inodes.proofs.PicksSearching.{more-markable}
 use Rattle.mq_inodes.proofs.working.Working.search.Goals as goal
 
 pub returns-clause-ok : goal.returns-clause-ok

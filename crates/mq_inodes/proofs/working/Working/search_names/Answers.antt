@@ -1,7 +1,7 @@
 use Rattle.std.proofs.Common.{arith}
 use Rattle.mq_inodes.specs.Pages.{pages_of}
-use Rattle.mq_inodes.proofs.Directories.{found-here, found-beyond}
-use Rattle.mq_inodes.proofs.SlotNumbers.{unused-after}
+use Rattle.mq_inodes.proofs.Dirs.{found-here, found-beyond}
+use Rattle.mq_inodes.proofs.DirsSlotNumbers.{unused-after}
 use Rattle.mq_inodes.proofs.working.Working.search_names.Goals as goal
 
 pub returns-in-Some-clause-found : goal.returns-in-Some-clause-found

@@ -1,6 +1,6 @@
 use Rattle.std.proofs.Common.{arith}
 use Rattle.mq_inodes.specs.Pages.{pages_of}
-use Rattle.mq_inodes.proofs.SlotNumbers.{number-found, number-passed}
+use Rattle.mq_inodes.proofs.DirsSlotNumbers.{number-found, number-passed}
 use Rattle.mq_inodes.proofs.working.Working.slot_of.Goals as goal
 
 pub returns-in-Some : goal.returns-in-Some

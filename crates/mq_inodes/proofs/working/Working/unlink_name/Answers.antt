@@ -1,8 +1,8 @@
 use Rattle.std.proofs.Common.{◌/◌, sym, ◌∙◌}
 use Rattle.mq_inodes.specs.Dirs.{slots_at}
 use Rattle.mq_inodes.specs.Pages.{pages_of}
-use Rattle.mq_inodes.proofs.Linking.{name-unlinked, on_ok-both}
-use Rattle.mq_inodes.proofs.SlotNumbers.{number-inside, number-none}
+use Rattle.mq_inodes.proofs.EditsLinking.{name-unlinked, on_ok-both}
+use Rattle.mq_inodes.proofs.DirsSlotNumbers.{number-inside, number-none}
 use Rattle.mq_inodes.proofs.working.Working.unlink_name.Goals as goal
 
 pub unreachable-requires : goal.unreachable-requires

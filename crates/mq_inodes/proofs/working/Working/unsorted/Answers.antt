@@ -3,8 +3,8 @@ use Rattle.std.specs.Prelude.{Option}
 use Rattle.mq_layout.specs.Slots.{Entry}
 use Rattle.mq_inodes.specs.Dirs.{names_of, slots_at, slots_in}
 use Rattle.mq_inodes.specs.Pages.{content, pages_of}
-use Rattle.mq_inodes.proofs.Directories.{slots-drop}
-use Rattle.mq_inodes.proofs.Sorting.{block-gathered, names-append}
+use Rattle.mq_inodes.proofs.Dirs.{slots-drop}
+use Rattle.mq_inodes.proofs.DirsSorting.{block-gathered, names-append}
 use Rattle.mq_inodes.proofs.working.Working.unsorted.Goals as goal
 
 pub loop-b-preserved : goal.loop-b-preserved

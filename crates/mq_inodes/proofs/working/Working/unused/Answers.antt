@@ -1,6 +1,6 @@
 use Rattle.std.proofs.Common.{arith}
 use Rattle.mq_inodes.specs.Pages.{pages_of}
-use Rattle.mq_inodes.proofs.SlotNumbers.{unused-found, unused-passed}
+use Rattle.mq_inodes.proofs.DirsSlotNumbers.{unused-found, unused-passed}
 use Rattle.mq_inodes.proofs.working.Working.unused.Goals as goal
 
 pub returns-in-Some : goal.returns-in-Some

@@ -3,8 +3,8 @@ use Rattle.std.proofs.lemmas.Result.{err_from_is_err_and}
 use Rattle.mq_inodes.specs.Fits.{Agrees}
 use Rattle.mq_inodes.specs.Pages.{pages_of}
 use Rattle.mq_inodes.specs.Walks.{LeadsPast, LooksUnder}
-use Rattle.mq_inodes.proofs.Lacking.{lacks-weaker}
-use Rattle.mq_inodes.proofs.Walking.{past-walk, walk-dir, walk-more, walk-refused}
+use Rattle.mq_inodes.proofs.MissingPages.{lacks-weaker}
+use Rattle.mq_inodes.proofs.Walks.{past-walk, walk-dir, walk-more, walk-refused}
 use Rattle.mq_tree.specs.Volume.{Volume, way}
 use Rattle.mq_inodes.proofs.working.Working.walk.Goals as goal
 

@@ -1,7 +1,7 @@
 use Rattle.std.proofs.Common.{◌<◌, ◌+◌, length, sym, subst, refl}
 use Rattle.mq_ledger.specs.Records.{Ledger}
 use Rattle.mq_ledger.specs.Tables.{ledger_of}
-use Rattle.mq_ledger.proofs.Ledgers.{settling_fits, settling_tables}
+use Rattle.mq_ledger.proofs.TablesLedgers.{settling_fits, settling_tables}
 use Rattle.mq_ledger.proofs.records.Ledger.advance_front.Goals as goal
 
 pub mark-requires-clause-freed : goal.mark-requires-clause-freed

@@ -3,7 +3,7 @@ use Rattle.std.proofs.lemmas.Bool.{false≢true}
 use Rattle.mq_blocks.specs.Geometry.{homes_of}
 use Rattle.mq_ledger.specs.History.{blocks_of}
 use Rattle.mq_ledger.specs.Records.{IsOpen}
-use Rattle.mq_ledger.proofs.Lists.{block-read, goes, rising-high, every-step, every-stop, true_or_not}
+use Rattle.mq_ledger.proofs.RecordsLists.{block-read, goes, rising-high, every-step, every-stop, true_or_not}
 use Rattle.mq_ledger.proofs.records.Ledger.are_open.Goals as goal
 
 pub is_open-requires-clause-block : goal.is_open-requires-clause-block

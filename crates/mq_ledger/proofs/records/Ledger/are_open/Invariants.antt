@@ -1,7 +1,7 @@
 use Rattle.std.proofs.Common.{drop}
 use Rattle.mq_ledger.specs.History.{blocks_of}
 use Rattle.mq_ledger.specs.Records.{Every, IsOpen}
-use Rattle.mq_ledger.proofs.Lists.{Goes}
+use Rattle.mq_ledger.proofs.RecordsLists.{Goes}
 use Rattle.mq_ledger.proofs.records.Ledger.are_open.Given as goal
 
 -- it holds of all exactly where it holds of the rest

@@ -3,8 +3,8 @@ use Rattle.std.proofs.lemmas.Bool.{false≢true}
 use Rattle.std.proofs.lemmas.List.{get_or_read}
 use Rattle.mq_blocks.specs.Geometry.{homes_of}
 use Rattle.mq_ledger.specs.Records.{IsTaken}
-use Rattle.mq_ledger.proofs.Lists.{goes, rising-high, every-step, every-stop}
-use Rattle.mq_ledger.proofs.Draws.{held_some, held_none}
+use Rattle.mq_ledger.proofs.RecordsLists.{goes, rising-high, every-step, every-stop}
+use Rattle.mq_ledger.proofs.RecordsDraws.{held_some, held_none}
 use Rattle.mq_ledger.proofs.records.Ledger.are_taken.Goals as goal
 
 pub content-requires : goal.content-requires

@@ -1,6 +1,6 @@
 use Rattle.std.proofs.Common.{drop}
 use Rattle.mq_ledger.specs.Records.{Every, IsTaken}
-use Rattle.mq_ledger.proofs.Lists.{Goes}
+use Rattle.mq_ledger.proofs.RecordsLists.{Goes}
 use Rattle.mq_ledger.proofs.records.Ledger.are_taken.Given as goal
 
 -- it holds of all exactly where it holds of the rest

@@ -2,9 +2,9 @@ use Rattle.std.proofs.Common.{ℕ, length, ap, sym, ◌∙◌, arith}
 use Rattle.mq_ledger.specs.History.{upto}
 use Rattle.mq_ledger.specs.Records.{own}
 use Rattle.mq_ledger.specs.declared.queue_rows.Row.{Row}
-use Rattle.mq_ledger.proofs.Rows.{upto-part}
+use Rattle.mq_ledger.proofs.TablesRows.{upto-part}
 use Rattle.mq_ledger.proofs.records.Ledger.covered_place.Goals as goal
-use Rattle.mq_ledger.proofs.Entries.{next_upto}
+use Rattle.mq_ledger.proofs.Items.{next_upto}
 
 pub returns-clause-is : goal.returns-clause-is
 returns-clause-is c =

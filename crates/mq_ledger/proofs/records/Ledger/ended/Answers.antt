@@ -1,6 +1,6 @@
 use Rattle.std.proofs.Common.{◌≡◌, length, arith}
 use Rattle.mq_ledger.specs.Records.{own}
-use Rattle.mq_ledger.proofs.Lookups.{tables_now, lane_length, lane_ended}
+use Rattle.mq_ledger.proofs.RecordsLookups.{tables_now, lane_length, lane_ended}
 use Rattle.mq_ledger.proofs.records.Ledger.ended.Goals as goal
 
 pub returns-clause-is : goal.returns-clause-is

@@ -6,8 +6,8 @@ use Rattle.mq_ledger.specs.KnownJournal.{IsTx}
 use Rattle.mq_ledger.specs.Records.{Ledger}
 use Rattle.mq_ledger.specs.declared.queue_rows.Row.{Row}
 use Rattle.mq_ledger.specs.declared.tx.Tx.{Tx}
-use Rattle.mq_ledger.proofs.Lookups.{tables_now}
-use Rattle.mq_ledger.proofs.Stages.{entry_of, entry_staged}
+use Rattle.mq_ledger.proofs.RecordsLookups.{tables_now}
+use Rattle.mq_ledger.proofs.RecordsStages.{entry_of, entry_staged}
 use Rattle.mq_ledger.proofs.records.Ledger.entry.Goals as goal
 
 pub number_at-number-requires-clause-at : goal.number_at-number-requires-clause-at

@@ -2,7 +2,7 @@ use Rattle.std.proofs.Common.{◌<◌, ◌≤◌, length, sym, ◌∙◌, arith}
 use Rattle.std.proofs.lemmas.Bool.{eq-eqb, le-leb, leb-true}
 use Rattle.mq_ledger.specs.Items.{below}
 use Rattle.mq_ledger.specs.Records.{own, from_of}
-use Rattle.mq_ledger.proofs.Lookups.{clear_all, clear_at}
+use Rattle.mq_ledger.proofs.RecordsLookups.{clear_all, clear_at}
 use Rattle.mq_ledger.proofs.records.Ledger.is_clear.Goals as goal
 
 pub returns-then-at-len : goal.returns-then-at-len

@@ -3,7 +3,7 @@ use Rattle.std.proofs.lemmas.Bool.{eq-eqb, eqb-true}
 use Rattle.mq_ledger.specs.Items.{below}
 use Rattle.mq_ledger.specs.Records.{own, from_of}
 use Rattle.mq_ledger.specs.declared.queue_rows.Row.{Row}
-use Rattle.mq_ledger.proofs.Rows.{below-part}
+use Rattle.mq_ledger.proofs.TablesRows.{below-part}
 use Rattle.mq_ledger.proofs.records.Ledger.is_end.Goals as goal
 
 pub returns : goal.returns

@@ -1,6 +1,6 @@
 use Rattle.std.proofs.Common.{sym, ◌∙◌}
 use Rattle.std.proofs.lemmas.Bool.{eq-eqb, eqb-true}
-use Rattle.mq_ledger.proofs.Ledgers.{logs_to, logs_from}
+use Rattle.mq_ledger.proofs.TablesLedgers.{logs_to, logs_from}
 use Rattle.mq_ledger.proofs.records.Ledger.is_logged_last.Goals as goal
 
 pub returns : goal.returns

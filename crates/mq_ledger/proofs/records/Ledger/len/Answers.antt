@@ -1,5 +1,5 @@
 use Rattle.std.proofs.Common.{◌∙◌}
-use Rattle.mq_ledger.proofs.Lookups.{tables_now, lane_length}
+use Rattle.mq_ledger.proofs.RecordsLookups.{tables_now, lane_length}
 use Rattle.mq_ledger.proofs.records.Ledger.len.Goals as goal
 
 pub returns-clause-is : goal.returns-clause-is

@@ -9,8 +9,8 @@ use Rattle.mq_ledger.specs.Form.{IsAscending}
 use Rattle.mq_ledger.specs.History.{blocks_of}
 use Rattle.mq_ledger.specs.KnownJournal.{IsTx}
 use Rattle.mq_ledger.specs.Records.{Ledger, Every, IsTaken, IsOpen}
-use Rattle.mq_ledger.proofs.Draws.{follow_draws, draw_follows}
-use Rattle.mq_ledger.proofs.Lists.{rising-ascending}
+use Rattle.mq_ledger.proofs.RecordsDraws.{follow_draws, draw_follows}
+use Rattle.mq_ledger.proofs.RecordsLists.{rising-ascending}
 use Rattle.mq_ledger.proofs.records.Ledger.may_draw.Goals as goal
 use Rattle.mq_ledger.proofs.records.Ledger.may_draw.Goals.{then-is_transaction, else-is_transaction, then-is_next, else-is_next}
 

@@ -1,7 +1,7 @@
 use Rattle.std.proofs.Common.{arith}
 use Rattle.mq_blocks.specs.Geometry.{homes_of}
-use Rattle.mq_ledger.proofs.Ledgers.{latest_limit}
-use Rattle.mq_ledger.proofs.Lookups.{tables_now, latest_read}
+use Rattle.mq_ledger.proofs.TablesLedgers.{latest_limit}
+use Rattle.mq_ledger.proofs.RecordsLookups.{tables_now, latest_read}
 use Rattle.mq_ledger.proofs.records.Ledger.newest_of.Goals as goal
 
 pub returns-clause-limit : goal.returns-clause-limit

@@ -2,7 +2,7 @@ use Rattle.std.proofs.Common.{◌≡◌, length, subst, refl, vec_len, arith, ru
 use Rattle.std.proofs.lemmas.List.{length-reverse}
 use Rattle.mq_ledger.specs.Records.{Ledger, IsNextEnd}
 use Rattle.mq_ledger.specs.Tables.{ledger_of}
-use Rattle.mq_ledger.proofs.Nexts.{ends_length, next_ends, more_of}
+use Rattle.mq_ledger.proofs.RecordsNexts.{ends_length, next_ends, more_of}
 use Rattle.mq_ledger.proofs.records.Ledger.next_end.Goals as goal
 
 pub index-requires : goal.index-requires

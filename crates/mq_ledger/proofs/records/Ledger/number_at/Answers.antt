@@ -1,6 +1,6 @@
 use Rattle.std.proofs.Common.{◌≡◌, length, arith}
 use Rattle.mq_ledger.specs.Records.{own}
-use Rattle.mq_ledger.proofs.Lookups.{tables_now, lane_length, lane_number}
+use Rattle.mq_ledger.proofs.RecordsLookups.{tables_now, lane_length, lane_number}
 use Rattle.mq_ledger.proofs.records.Ledger.number_at.Goals as goal
 
 pub number-requires : goal.number-requires

@@ -1,7 +1,7 @@
 use Rattle.std.proofs.Common.{◌≡◌, ◌++◌, ◌∷◌, [], set, get_or, refl, sym, subst, rules}
 use Rattle.mq_ledger.specs.Records.{Ledger, HasPlace, own, from_of}
 use Rattle.mq_ledger.specs.Tables.{ledger_of, row_of}
-use Rattle.mq_ledger.proofs.Ledgers.{tables_along}
+use Rattle.mq_ledger.proofs.TablesLedgers.{tables_along}
 use Rattle.mq_ledger.proofs.records.Ledger.push.Goals as goal
 
 pub invariant_of-self-2 : goal.invariant_of-self-2

@@ -1,7 +1,7 @@
 use Rattle.std.proofs.Common.{ap, sym, arith}
 use Rattle.mq_ledger.specs.Records.{own}
 use Rattle.mq_ledger.specs.declared.queue_rows.Row.{Row}
-use Rattle.mq_ledger.proofs.Rows.{part-same}
+use Rattle.mq_ledger.proofs.TablesRows.{part-same}
 use Rattle.mq_ledger.proofs.records.Ledger.row.Goals as goal
 
 pub returns-clause-is : goal.returns-clause-is

@@ -4,7 +4,7 @@ use Rattle.mq_ledger.specs.Records.{Ledger}
 use Rattle.mq_ledger.specs.State.{start_map}
 use Rattle.mq_ledger.specs.Tables.{Stands}
 use Rattle.mq_ledger.specs.declared.tx.Tx.{Tx}
-use Rattle.mq_ledger.proofs.Draws.{stands_upto}
+use Rattle.mq_ledger.proofs.RecordsDraws.{stands_upto}
 use Rattle.mq_ledger.proofs.records.Ledger.settled_content.Goals as goal
 
 pub find-requires-clause-place : goal.find-requires-clause-place

@@ -1,6 +1,6 @@
 use Rattle.std.proofs.Common.{◌≡◌, length, arith}
 use Rattle.mq_ledger.specs.Records.{own}
-use Rattle.mq_ledger.proofs.Lookups.{tables_now, lane_length, lane_up_to}
+use Rattle.mq_ledger.proofs.RecordsLookups.{tables_now, lane_length, lane_up_to}
 use Rattle.mq_ledger.proofs.records.Ledger.up_to.Goals as goal
 
 pub returns-clause-is : goal.returns-clause-is

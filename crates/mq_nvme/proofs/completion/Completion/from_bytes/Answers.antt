@@ -1,6 +1,6 @@
 -- The dwords that were read are the only ones with these bytes.
 use Rattle.std.proofs.Common.{sym, ◌∙◌}
-use Rattle.mq_nvme.proofs.Bytes.{dword_bytes-injective}
+use Rattle.mq_nvme.proofs.DwordsBytes.{dword_bytes-injective}
 use Rattle.mq_nvme.proofs.completion.Completion.from_bytes.Goals as goal
 
 pub returns-clause-round_trip : goal.returns-clause-round_trip

@@ -1,6 +1,6 @@
 -- The other field is apart from the one that is written.
 use Rattle.mq_nvme.specs.Fields.{submission_place}
-use Rattle.mq_nvme.proofs.Apart.{get_field-apart, submission-apart}
+use Rattle.mq_nvme.proofs.FieldsApart.{get_field-apart, submission-apart}
 use Rattle.mq_nvme.proofs.entry.Entry.fields_apart.Goals as goal
 
 pub returns-clause-other : goal.returns-clause-other

@@ -1,7 +1,7 @@
 -- What is shifted and masked is the field.
 use Rattle.std.proofs.Common.{◌≤◌, refl, arith}
 use Rattle.mq_nvme.specs.Field.{get_field, bits_of}
-use Rattle.mq_nvme.proofs.Bits.{power}
+use Rattle.mq_nvme.proofs.FieldBits.{power}
 use Rattle.mq_nvme.proofs.field.Field.get.Goals as goal
 
 pub returns-clause-is : goal.returns-clause-is

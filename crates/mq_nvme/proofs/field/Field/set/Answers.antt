@@ -1,7 +1,7 @@
 -- The dword that is written has the value in the field and is else as it was.
 use Rattle.std.proofs.Common.{rules, ◌<◌, ◌^◌, refl, ◌∙◌}
 use Rattle.mq_nvme.specs.Field.{place, set_field, with_bits}
-use Rattle.mq_nvme.proofs.Bits.{with_bits-computed, with_bits-fits, written-value, written-outside}
+use Rattle.mq_nvme.proofs.FieldBits.{with_bits-computed, with_bits-fits, written-value, written-outside}
 use Rattle.mq_nvme.proofs.field.Field.set.Goals as goal
 
 pub overflow_cast-above-3 : goal.overflow_cast-above-3

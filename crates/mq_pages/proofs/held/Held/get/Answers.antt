@@ -3,7 +3,7 @@ use Rattle.std.specs.List.{All, Contains}
 use Rattle.std.proofs.lemmas.List.Sorted.{answers_always}
 use Rattle.mq_pages.specs.declared.page.PageCell.{PageCell}
 use Rattle.mq_pages.specs.Held.{HeldCells, Cells, IsRising, cell_of}
-use Rattle.mq_pages.proofs.Cells.{cell_of-none, search-found, search-among, search-none}
+use Rattle.mq_pages.proofs.HeldCells.{cell_of-none, search-found, search-among, search-none}
 use Rattle.mq_pages.proofs.held.Held.get.Goals as goal
 
 -- the slice that is searched has the cells of the held set

@@ -1,7 +1,7 @@
 use Rattle.std.proofs.Common.{◌≡◌, ◌++◌, ◌∷◌, [], rules, subst, sym, arith}
 use Rattle.std.proofs.lemmas.List.{length_push}
 use Rattle.mq_pages.specs.Held.{HeldCells, IsAboveLast}
-use Rattle.mq_pages.proofs.Cells.{rising-push}
+use Rattle.mq_pages.proofs.HeldCells.{rising-push}
 use Rattle.mq_pages.proofs.held.Held.push.Goals as goal
 
 pub invariant_of-self : goal.invariant_of-self

@@ -3,15 +3,16 @@ use Rattle.mq_blocks.specs.Drive.{PortState, after_done, after_failed}
 use Rattle.mq_drive.specs.declared.port.Step.TheVariants.{Done}
 use Rattle.mq_drive.specs.Steps.{Gains, CommandError}
 use Rattle.mq_nvme.specs.Completion.{status_of}
+use Rattle.mq_nvme.proofs.CompletionCommands.{slot_is}
 use Rattle.mq_pmr.specs.Queue.{Fits, Kept}
 use Rattle.mq_pmr.specs.Slots.{tx_in}
 use Rattle.mq_pmr.specs.declared.slots.SlotRecord.{SlotRecord}
-use Rattle.mq_pmr.proofs.Completing.{slot_is, slot_low}
-use Rattle.mq_pmr.proofs.Fitting.{fits_done, fits_failed, is_posted, ends-along}
-use Rattle.mq_pmr.proofs.Holding.{held_as}
-use Rattle.mq_pmr.proofs.Owning.{step_ring}
+use Rattle.mq_pmr.proofs.Completion.{slot_low}
+use Rattle.mq_pmr.proofs.QueueFitting.{fits_done, fits_failed, is_posted, ends-along}
+use Rattle.mq_pmr.proofs.Ring.{held_as}
+use Rattle.mq_pmr.proofs.QueueOwning.{step_ring}
 use Rattle.mq_pmr.specs.Written.{IsWritten}
-use Rattle.mq_pmr.proofs.Writing.{written_done, written_failed}
+use Rattle.mq_pmr.proofs.Written.{written_done, written_failed}
 use Rattle.mq_pmr.proofs.queue.PmrQueue.complete_one.Goals as goal
 
 pub invariant_of-self-then-status-ne0 : goal.invariant_of-self-then-status-ne0

@@ -2,8 +2,8 @@ use Rattle.std.proofs.Common.{sym, ap, subst}
 use Rattle.mq_blocks.specs.Drive.{PortState}
 use Rattle.mq_pmr.specs.Queue.{Kept}
 use Rattle.mq_pmr.specs.Ring.{IsHeld, AreWhole, KeepsBefore}
-use Rattle.mq_pmr.proofs.Fitting.{ends-along}
-use Rattle.mq_pmr.proofs.Holding.{held_flush, whole_flush, before_flush}
+use Rattle.mq_pmr.proofs.QueueFitting.{ends-along}
+use Rattle.mq_pmr.proofs.Ring.{held_flush, whole_flush, before_flush}
 use Rattle.mq_pmr.proofs.queue.PmrQueue.flush.Goals as goal
 
 pub invariant_of-self-2-clause-ends : goal.invariant_of-self-2-clause-ends

@@ -1,4 +1,4 @@
-use Rattle.mq_pmr.proofs.Holding.{certain, room_of}
+use Rattle.mq_pmr.proofs.Ring.{certain, room_of}
 use Rattle.mq_pmr.proofs.queue.PmrQueue.into_port.Goals as goal
 
 pub returns-clause-certain : goal.returns-clause-certain

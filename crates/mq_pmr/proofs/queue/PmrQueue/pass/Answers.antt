@@ -1,8 +1,8 @@
 use Rattle.std.proofs.Common.{arith}
-use Rattle.mq_pmr.proofs.Fitting.{tells_done, fits_passed}
+use Rattle.mq_pmr.proofs.QueueFitting.{tells_done, fits_passed}
 use Rattle.mq_pmr.specs.Rungs.{is_clear}
-use Rattle.mq_pmr.proofs.Holding.{held_pass}
-use Rattle.mq_pmr.proofs.Writing.{written_passed}
+use Rattle.mq_pmr.proofs.Ring.{held_pass}
+use Rattle.mq_pmr.proofs.Written.{written_passed}
 use Rattle.mq_pmr.proofs.queue.PmrQueue.pass.Goals as goal
 
 pub returns-clause-done : goal.returns-clause-done

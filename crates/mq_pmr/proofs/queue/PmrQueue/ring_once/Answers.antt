@@ -4,12 +4,12 @@ use Rattle.mq_blocks.specs.Drive.{PortState, staged_end, after_ring}
 use Rattle.mq_pmr.specs.Queue.{Fits, Kept}
 use Rattle.mq_pmr.specs.Rungs.{AreEnds}
 use Rattle.mq_pmr.specs.declared.rungs.Rung.{Rung}
-use Rattle.mq_pmr.proofs.Fitting.{fits_rung, ends_more, length-ends}
-use Rattle.mq_pmr.proofs.Holding.{whole_ring, held_ring}
-use Rattle.mq_pmr.proofs.Owning.{rung_ring}
+use Rattle.mq_pmr.proofs.QueueFitting.{fits_rung, ends_more, length-ends}
+use Rattle.mq_pmr.proofs.Ring.{whole_ring, held_ring}
+use Rattle.mq_pmr.proofs.QueueOwning.{rung_ring}
 use Rattle.mq_pmr.specs.Ring.{IsHeld, AreWhole}
 use Rattle.mq_pmr.specs.Written.{IsWritten}
-use Rattle.mq_pmr.proofs.Writing.{written_rung}
+use Rattle.mq_pmr.proofs.Written.{written_rung}
 use Rattle.mq_pmr.proofs.queue.PmrQueue.ring_once.Goals as goal
 
 pub add_rung-requires : goal.add_rung-requires

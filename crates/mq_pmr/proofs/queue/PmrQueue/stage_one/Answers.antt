@@ -3,15 +3,15 @@ use Rattle.std.specs.Prelude.{if◌then◌else◌}
 use Rattle.mq_blocks.specs.Drive.{PortState, staged_end, after_stage, depth, usable_depth}
 use Rattle.mq_nvme.specs.Entry.{entry_of, tx_of, lba_of}
 use Rattle.mq_nvme.specs.declared.write.WriteReq.{WriteReq}
-use Rattle.mq_nvme.proofs.Entries.{tx_of-entry, lba_of-entry}
+use Rattle.mq_nvme.proofs.EntryRequests.{tx_of-entry, lba_of-entry}
 use Rattle.mq_pmr.specs.Queue.{Fits, Kept}
 use Rattle.mq_pmr.specs.declared.slots.SlotRecord.{SlotRecord}
-use Rattle.mq_pmr.proofs.Fitting.{fits_staged, ends-along}
-use Rattle.mq_pmr.proofs.Holding.{Stages, held_stage, of_stage}
-use Rattle.mq_pmr.proofs.Owning.{stage_ring}
+use Rattle.mq_pmr.proofs.QueueFitting.{fits_staged, ends-along}
+use Rattle.mq_pmr.proofs.Ring.{Stages, held_stage, of_stage}
+use Rattle.mq_pmr.proofs.QueueOwning.{stage_ring}
 use Rattle.mq_pmr.specs.Ring.{IsHeld, AreWhole, AreOf}
 use Rattle.mq_pmr.specs.Written.{IsWritten}
-use Rattle.mq_pmr.proofs.Writing.{holds_new, written_staged}
+use Rattle.mq_pmr.proofs.Written.{holds_new, written_staged}
 use Rattle.mq_pmr.proofs.queue.PmrQueue.stage_one.Goals as goal
 
 pub invariant_of-self-2 : goal.invariant_of-self-2

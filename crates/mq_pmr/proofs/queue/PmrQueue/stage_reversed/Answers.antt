@@ -4,10 +4,10 @@ use Rattle.std.proofs.lemmas.Result.{err_from_is_err_and}
 use Rattle.std.specs.Prelude.{◌==◌, if◌then◌else◌}
 use Rattle.mq_blocks.specs.Drive.{PortState, staged_end, depth, usable_depth}
 use Rattle.mq_nvme.specs.Entry.{entry_of}
-use Rattle.mq_pmr.specs.Runs.{Items, after_some, is_last, entry_at, AreOwn}
+use Rattle.mq_pmr.specs.Runs.{Items, after_some, is_last, entry_at, OwnsAll}
 use Rattle.mq_pmr.specs.Queue.{Kept}
-use Rattle.mq_pmr.proofs.Holding.{none_staged, none_of}
-use Rattle.mq_pmr.proofs.Staging.{Next, next, none_more, not_last, is_last_by_length, stays-refl, stays_staged, other_slot}
+use Rattle.mq_pmr.proofs.Ring.{none_staged, none_of}
+use Rattle.mq_pmr.proofs.Runs.{Next, next, none_more, not_last, is_last_by_length, stays-refl, stays_staged, other_slot}
 use Rattle.mq_pmr.proofs.queue.PmrQueue.stage_reversed.Goals as goal
 
 pub staging-init : goal.staging-init
@@ -67,7 +67,7 @@ staging-preserved g c =
     let was : reverse c.staging.items.items ≡ (lba, block) ∷ rest = c.take_first-lba.ensures in
     let fewer : length c.staging.items.items ≡ suc (length c.take_first-lba.new.reversed.items) =
     sym (length-reverse c.staging.items.items) ∙ ap length was ∙ ap suc (length-reverse c.take_first-lba.new.reversed.items) in
-    let own = subst (AreOwn start) was inv.own in
+    let own = subst (OwnsAll start) was inv.own in
     let head : now.head ≡ start.head = inv.same.head in
     let low : now.head ≤ staged_end now =
     let a = q.fits.head in let b = q.fits.heads in let d = q.fits.stored in let e = q.fits.done in let f = q.fits.passed in omega (arith, a, b, d, e, f) in

@@ -1,8 +1,8 @@
 use Rattle.std.proofs.Common.{◌≡◌, ◌≤◌, ◌<◌, ℕ, ◌+◌, ◌-◌, ◌%◌, [], length, Some, None, reverse, slice_index_or, if◌then◌else◌}
 use Rattle.mq_blocks.specs.Drive.{PortState, staged_end, depth}
 use Rattle.mq_pmr.specs.Ring.{AreOf}
-use Rattle.mq_pmr.specs.Runs.{AreOwn, after_some, is_last}
-use Rattle.mq_pmr.proofs.Staging.{PortStays}
+use Rattle.mq_pmr.specs.Runs.{OwnsAll, after_some, is_last}
+use Rattle.mq_pmr.proofs.Runs.{PortStays}
 use Rattle.mq_pmr.proofs.queue.PmrQueue.stage_reversed.Given as goal
 
 -- staging what is left goes on to the same states
@@ -14,7 +14,7 @@ invariant-staging g l =
       begun : staged_end start ≤ staged_end now;
       end : staged_end now + length l.items.items ≡ staged_end start + length l.fn.items.items;
       goes_on : (j : ℕ) → after_some now l.tx j (reverse l.items.items) ≡ after_some start l.tx (staged_end now - staged_end start + j) (reverse l.fn.items.items);
-      own : AreOwn start (reverse l.items.items);
+      own : OwnsAll start (reverse l.items.items);
       same : PortStays start now;
       before : 0 < start.head → slice_index_or now.staged ((start.head - 1) % depth) [] ≡ slice_index_or start.staged ((start.head - 1) % depth) [];
       no_fault : g.P.Port.faults l.self.port ≡ g.P.Port.faults l.fn.self.port;

@@ -1,8 +1,8 @@
 use Rattle.std.proofs.Common.{sym, ap, subst}
 use Rattle.mq_blocks.specs.Drive.{PortState}
 use Rattle.mq_pmr.specs.Ring.{IsHeld, AreWhole}
-use Rattle.mq_pmr.proofs.Fitting.{posted_from, failed_from, ends-along}
-use Rattle.mq_pmr.proofs.Holding.{held_store}
+use Rattle.mq_pmr.proofs.QueueFitting.{posted_from, failed_from, ends-along}
+use Rattle.mq_pmr.proofs.Ring.{held_store}
 use Rattle.mq_pmr.proofs.queue.PmrQueue.store_done.Goals as goal
 
 pub store_head-requires-clause-posted : goal.store_head-requires-clause-posted

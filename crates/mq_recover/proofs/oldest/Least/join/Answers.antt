@@ -1,5 +1,5 @@
 use Rattle.std.proofs.Common.{arith}
-use Rattle.mq_recover.proofs.ChainEnds.{least-new, least-same, least-second, least-third}
+use Rattle.mq_recover.proofs.Ends.{least-new, least-same, least-second, least-third}
 use Rattle.mq_recover.proofs.oldest.Least.join.Goals as goal
 
 pub returns-then-number-self : goal.returns-then-number-self

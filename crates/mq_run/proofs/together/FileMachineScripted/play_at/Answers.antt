@@ -1,6 +1,6 @@
 use Rattle.std.proofs.Common.{◌≡◌, ℕ, subst}
 use Rattle.mq_script.specs.Scripts.{Script}
-use Rattle.mq_run.proofs.Plays.{same-element, read-element}
+use Rattle.mq_run.proofs.PlayingGroups.{same-element, read-element}
 use Rattle.mq_run.specs.Playing.{HasPlayed}
 use Rattle.mq_turns.specs.AtDesk.{view}
 use Rattle.mq_run.proofs.together.FileMachineScripted.play_at.Goals as goal

@@ -1,13 +1,14 @@
 use Rattle.std.proofs.Common.{◌≡◌, ◌+◌, true, length, ap, subst, ◌∙◌, arith, rules, length-append, vec_len}
 use Rattle.std.proofs.lemmas.List.{length-map}
 use Rattle.mq_blocks.specs.Journal.{is_among}
+use Rattle.mq_blocks.specs.Copies.{copies_at, directs_of}
 use Rattle.mq_ledger.specs.History.{blocks_of}
 use Rattle.mq_pages.specs.declared.page.ShadowPage.{ShadowPage}
 use Rattle.mq_pmr.specs.Runs.{Items}
-use Rattle.mq_side.specs.Commits.{NumberedCommit, copies_at, directs_of}
+use Rattle.mq_side.specs.Commits.{NumberedCommit}
 use Rattle.mq_side.specs.Parts.{writes_of}
-use Rattle.mq_side.proofs.Items.{length_copies, length_directs}
-use Rattle.mq_side.proofs.Ready.{zone_home}
+use Rattle.mq_side.proofs.CommitsItems.{length_copies, length_directs}
+use Rattle.mq_side.proofs.SentReady.{zone_home}
 use Rattle.mq_side.proofs.commit.Numbered.into_items.Goals as goal
 
 pub add_directs-requires-clause-room : goal.add_directs-requires-clause-room

@@ -1,4 +1,4 @@
-use Rattle.mq_side.proofs.RootWrites.{root_stays, root_goes}
+use Rattle.mq_side.proofs.Roots.{root_stays, root_goes}
 use Rattle.mq_side.proofs.root.Root.write_home.Goals as goal
 
 pub returns-clause-stays : goal.returns-clause-stays

@@ -2,10 +2,10 @@ use Rattle.std.proofs.Common.{◌≡◌, refl, ap, ◌∙◌, ⊎_elim}
 use Rattle.mq_blocks.specs.Drive.{PortState}
 use Rattle.mq_drive.specs.Steps.{PowerOff}
 use Rattle.mq_side.specs.Side.{SideState, side_state}
-use Rattle.mq_side.proofs.Completes.{gains_rises}
-use Rattle.mq_side.proofs.Draining.{rings_of, stays_advanced, stays_cut, counts_advanced, counts_cut, head_posted, head_failed}
-use Rattle.mq_side.proofs.Heads.{HeadMoves}
-use Rattle.mq_side.proofs.Telling.{told_more}
+use Rattle.mq_side.proofs.DrainedCompletes.{gains_rises}
+use Rattle.mq_side.proofs.Drained.{rings_of, stays_advanced, stays_cut, counts_advanced, counts_cut, head_posted, head_failed}
+use Rattle.mq_side.proofs.SideHeads.{HeadMoves}
+use Rattle.mq_side.proofs.Told.{told_more}
 use Rattle.mq_side.proofs.side.QueueSide.advance.Goals as goal
 
 pub returns-in_err-done-clause-stays : goal.returns-in_err-done-clause-stays

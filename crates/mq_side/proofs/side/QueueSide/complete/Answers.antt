@@ -5,10 +5,10 @@ use Rattle.mq_drive.specs.Steps.{CommandError, PowerOff}
 use Rattle.mq_side.specs.Side.{SideState, side_state}
 use Rattle.mq_side.specs.Told.{IsTold}
 use Rattle.mq_side.specs.declared.answers.Why.{Why}
-use Rattle.mq_side.proofs.Completes.{none_so_far, well_so_far, badly_so_far, completed, cut_off, fewer, gains_rises}
-use Rattle.mq_side.proofs.CountedSides.{well_counts, badly_counts, still_counts, idle_counts}
-use Rattle.mq_side.proofs.Ends.{SameRecords, well_ended, badly_ended, unmoved}
-use Rattle.mq_side.proofs.Telling.{told_same, told_new, told_more}
+use Rattle.mq_side.proofs.DrainedCompletes.{none_so_far, well_so_far, badly_so_far, completed, cut_off, fewer, gains_rises}
+use Rattle.mq_side.proofs.CountsSides.{well_counts, badly_counts, still_counts, idle_counts}
+use Rattle.mq_side.proofs.SideEnds.{SameRecords, well_ended, badly_ended, unmoved}
+use Rattle.mq_side.proofs.Told.{told_same, told_new, told_more}
 use Rattle.mq_side.proofs.side.QueueSide.complete.Goals as goal
 
 pub completion-init : goal.completion-init

@@ -3,7 +3,7 @@ use Rattle.mq_side.specs.Counts.{KeepsCount}
 use Rattle.mq_side.specs.Side.{SideState, side_state}
 use Rattle.mq_side.specs.Staying.{Stays}
 use Rattle.mq_side.specs.Told.{KeepsTold}
-use Rattle.mq_side.proofs.Completes.{SoFar}
+use Rattle.mq_side.proofs.DrainedCompletes.{SoFar}
 use Rattle.mq_side.proofs.side.QueueSide.complete.Given as goal
 
 -- the side stays one, and what failed so far is taken

@@ -4,7 +4,7 @@ use Rattle.std.proofs.lemmas.Result.{err_from_is_err_and}
 use Rattle.mq_side.specs.Drained.{Drains, DrainCause, IsWhole}
 use Rattle.mq_side.specs.Side.{SideState, side_state}
 use Rattle.mq_side.specs.declared.answers.Cause.{Cause}
-use Rattle.mq_side.proofs.Draining.{drains, drain_cause, drain_whole, cut_cause, cut_head_cause}
+use Rattle.mq_side.proofs.Drained.{drains, drain_cause, drain_whole, cut_cause, cut_head_cause}
 use Rattle.mq_side.proofs.side.QueueSide.drain.Goals as goal
 
 pub returns-clause-drains : goal.returns-clause-drains

@@ -1,7 +1,7 @@
 use Rattle.std.proofs.Common.{◌≡◌, ◌+◌, ◌∷◌, length, ap, ◌∙◌, arith}
 use Rattle.mq_side.specs.Commits.{descriptor_size}
 use Rattle.mq_side.specs.Stored.{rows_of, next_in}
-use Rattle.mq_side.proofs.Rows.{rows_more}
+use Rattle.mq_side.proofs.Stored.{rows_more}
 use Rattle.mq_side.proofs.side.QueueSide.numbered.Goals as goal
 
 pub returns-clause-rows : goal.returns-clause-rows

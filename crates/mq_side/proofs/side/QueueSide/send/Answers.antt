@@ -3,19 +3,19 @@ use Rattle.mq_blocks.specs.Drive.{PortState}
 use Rattle.mq_drive.specs.Start.{IsPortOf}
 use Rattle.mq_drive.specs.Steps.{PowerOff}
 use Rattle.mq_drive.specs.declared.role.Role.TheVariants.{Queue}
-use Rattle.mq_pmr.specs.Runs.{Items, AreOwn}
+use Rattle.mq_pmr.specs.Runs.{Items, OwnsAll}
 use Rattle.mq_side.specs.Commits.{items_of, size_of}
 use Rattle.mq_side.specs.Sent.{after_send}
 use Rattle.mq_side.specs.Side.{SideState, side_state}
 use Rattle.mq_side.specs.declared.answers.Why.TheVariants.{Off}
-use Rattle.mq_side.proofs.Completes.{gains_rises}
-use Rattle.mq_side.proofs.CountedSides.{sent_counts, cut_counts}
-use Rattle.mq_side.proofs.Draining.{stored_low}
-use Rattle.mq_side.proofs.Items.{length_items}
-use Rattle.mq_side.proofs.Ready.{items_owned}
-use Rattle.mq_side.proofs.Sends.{are_ready, sends_whole, sends_cut, cut_along, rung_along}
-use Rattle.mq_side.proofs.Ends.{SameRecords}
-use Rattle.mq_side.proofs.Telling.{told_kept}
+use Rattle.mq_side.proofs.DrainedCompletes.{gains_rises}
+use Rattle.mq_side.proofs.CountsSides.{sent_counts, cut_counts}
+use Rattle.mq_side.proofs.Drained.{stored_low}
+use Rattle.mq_side.proofs.CommitsItems.{length_items}
+use Rattle.mq_side.proofs.SentReady.{items_owned}
+use Rattle.mq_side.proofs.SideSends.{are_ready, sends_whole, sends_cut, cut_along, rung_along}
+use Rattle.mq_side.proofs.SideEnds.{SameRecords}
+use Rattle.mq_side.proofs.Told.{told_kept}
 use Rattle.mq_side.proofs.side.QueueSide.send.Goals as goal
 
 pub ring_all-requires : goal.ring_all-requires
@@ -31,8 +31,8 @@ ring_all-requires g c =
       some = omega (arith, len);
       room = omega (arith, len, c.requires.room);
       end = omega (arith, len, c.requires.end);
-      empty = c.args.self.now.quiet.pending c.requires.none;
-      own = subst (λ (is : Items). AreOwn p is) (sym its) (items_owned shape n p port c.requires.direct);
+      empty = c.args.self.now.clear.pending c.requires.none;
+      own = subst (λ (is : Items). OwnsAll p is) (sym its) (items_owned shape n p port c.requires.direct);
     }
 
 pub returns-in-Err-clause-stays : goal.returns-in-Err-clause-stays

@@ -1,9 +1,9 @@
 use Rattle.std.proofs.Common.{refl}
 use Rattle.mq_side.specs.Side.{SideState, side_state}
-use Rattle.mq_side.proofs.Ends.{SameRecords}
-use Rattle.mq_side.proofs.CountedSides.{home_counts}
-use Rattle.mq_side.proofs.HomeWrites.{home_stays, home_goes}
-use Rattle.mq_side.proofs.Telling.{told_home}
+use Rattle.mq_side.proofs.SideEnds.{SameRecords}
+use Rattle.mq_side.proofs.CountsSides.{home_counts}
+use Rattle.mq_side.proofs.SideHomeWrites.{home_stays, home_goes}
+use Rattle.mq_side.proofs.Told.{told_home}
 use Rattle.mq_side.proofs.side.QueueSide.write_home.Goals as goal
 
 pub returns-clause-stays : goal.returns-clause-stays

@@ -1,7 +1,7 @@
 use Rattle.std.proofs.Common.{subst, sym}
 use Rattle.mq_inodes.specs.Fits.{Agrees}
 use Rattle.mq_inodes.specs.Pages.{held_pages, pages_of}
-use Rattle.mq_inodes.proofs.Lacking.{agrees-alike}
+use Rattle.mq_inodes.proofs.MissingPages.{agrees-alike}
 use Rattle.mq_test_exec.proofs.inodes.Small.working.Goals as goal
 
 pub returns : goal.returns

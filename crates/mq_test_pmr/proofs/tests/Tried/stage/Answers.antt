@@ -1,7 +1,7 @@
 use Rattle.std.proofs.Common.{◌≡◌, ◌≤◌, ℕ, ◌+◌, ◌-◌, List, [], length, true, sym, ◌∙◌, ap, arith, rules}
 use Rattle.mq_blocks.specs.Drive.{PortState, staged_end}
 use Rattle.mq_pmr.specs.Runs.{Items}
-use Rattle.mq_pmr.proofs.Staging.{end_all}
+use Rattle.mq_pmr.proofs.Runs.{end_all}
 use Rattle.mq_test_pmr.proofs.tests.Tried.stage.Goals as goal
 
 pub stage_all-requires-clause-own : goal.stage_all-requires-clause-own

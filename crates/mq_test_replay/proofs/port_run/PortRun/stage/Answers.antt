@@ -3,7 +3,7 @@ use Rattle.mq_blocks.specs.Drive.{PortState, staged_end, after_stage, depth}
 use Rattle.mq_drive.specs.Emu.{emu_state}
 use Rattle.mq_nvme.specs.Entry.{entry_of, tx_of, lba_of}
 use Rattle.mq_nvme.specs.declared.write.WriteReq.{WriteReq}
-use Rattle.mq_nvme.proofs.Entries.{tx_of-entry, lba_of-entry}
+use Rattle.mq_nvme.proofs.EntryRequests.{tx_of-entry, lba_of-entry}
 use Rattle.mq_test_replay.proofs.port_run.PortRun.stage.Goals as goal
 
 pub returns-clause-ok : goal.returns-clause-ok

@@ -3,8 +3,9 @@ use Rattle.std.specs.List.{remove}
 use Rattle.mq_blocks.specs.Drive.{PortState, usable_depth}
 use Rattle.mq_drive.specs.Emu.{emu_state}
 use Rattle.mq_nvme.specs.Completion.{status_of}
+use Rattle.mq_nvme.proofs.CompletionCommands.{slot_is}
 use Rattle.mq_test_replay.specs.Kept.{Fits, counts_of}
-use Rattle.mq_test_replay.proofs.Kept.{kept_of, slot_is, none_found, found_at, count_got, counts-remove, fits_done, fits_failed}
+use Rattle.mq_test_replay.proofs.Kept.{kept_of, none_found, found_at, count_got, counts-remove, fits_done, fits_failed}
 use Rattle.mq_test_replay.proofs.port_run.PortRun.step.Goals as goal
 
 pub unreachable-requires : goal.unreachable-requires
@@ -27,7 +28,7 @@ invariant_of-self-then-status_of-ne0 c =
     let heads = q.fits.heads in
     let stored = q.fits.stored_head in
     let at : c.in-Some.at ≡ ends.at =
-    found_at old.stored_head old.doorbell old.posted c.deref.result.now ends.at c.from-slot.result c.in-Some.at ends.command q.port.device.value.posted_counted (omega (arith, room, heads, stored)) same ends.posted slot c.in-Some.ensures.0 c.in-Some.ensures.1 in
+    found_at old.stored_head old.doorbell old.posted c.deref.result.now ends.at c.from-slot.result c.in-Some.at ends.command q.port.device.value.sound.commands.posted_counted (omega (arith, room, heads, stored)) same ends.posted slot c.in-Some.ensures.0 c.in-Some.ensures.1 in
     let left : counts_of (remove old.posted ends.at) ≡ c.remove-count.new.self.items =
     counts-remove old.posted ends.at ∙ (λ i. remove (q.fits.posted i) (sym at i)) ∙ sym c.remove-count.ensures.items in
     let count = count_got old.posted q.posted.items c.in-Some.at ends.at c.remove-count.result ends.command (sym q.fits.posted) ends.posted at c.remove-count.ensures.value in
@@ -46,7 +47,7 @@ invariant_of-self-else-status_of-ne0 c =
     let heads = q.fits.heads in
     let stored = q.fits.stored_head in
     let at : c.in-Some.at ≡ ends.at =
-    found_at old.stored_head old.doorbell old.posted c.deref.result.now ends.at c.from-slot.result c.in-Some.at ends.command q.port.device.value.posted_counted (omega (arith, room, heads, stored)) same ends.posted slot c.in-Some.ensures.0 c.in-Some.ensures.1 in
+    found_at old.stored_head old.doorbell old.posted c.deref.result.now ends.at c.from-slot.result c.in-Some.at ends.command q.port.device.value.sound.commands.posted_counted (omega (arith, room, heads, stored)) same ends.posted slot c.in-Some.ensures.0 c.in-Some.ensures.1 in
     let left : counts_of (remove old.posted ends.at) ≡ c.remove-count.new.self.items =
     counts-remove old.posted ends.at ∙ (λ i. remove (q.fits.posted i) (sym at i)) ∙ sym c.remove-count.ensures.items in
     let success : status_of c.in-Done.completion ≡ 0 = sym c.status_of.ensures ∙ c.if-status_of-ne0.false in
@@ -64,7 +65,7 @@ returns c =
     let heads = q.fits.heads in
     let stored = q.fits.stored_head in
     let at : c.in-Some.at ≡ ends.at =
-    found_at old.stored_head old.doorbell old.posted c.deref.result.now ends.at c.from-slot.result c.in-Some.at ends.command q.port.device.value.posted_counted (omega (arith, room, heads, stored)) same ends.posted slot c.in-Some.ensures.0 c.in-Some.ensures.1 in
+    found_at old.stored_head old.doorbell old.posted c.deref.result.now ends.at c.from-slot.result c.in-Some.at ends.command q.port.device.value.sound.commands.posted_counted (omega (arith, room, heads, stored)) same ends.posted slot c.in-Some.ensures.0 c.in-Some.ensures.1 in
     let count = count_got old.posted q.posted.items c.in-Some.at ends.at c.remove-count.result ends.command (sym q.fits.posted) ends.posted at c.remove-count.ensures.value in
     let success : status_of c.in-Done.completion ≡ 0 = sym c.status_of.ensures ∙ c.if-status_of-ne0.false in
     record { at = ends.at; command = ends.command; posted = ends.posted; count_is = count; new_is = (ends.success success).0 }

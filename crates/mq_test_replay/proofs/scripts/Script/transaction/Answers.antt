@@ -1,4 +1,4 @@
-use Rattle.mq_test_replay.proofs.Rising.{rising_more}
+use Rattle.mq_test_replay.proofs.ScriptsRising.{rising_more}
 use Rattle.mq_test_replay.proofs.scripts.Script.transaction.Goals as goal
 
 pub loop-b-preserved : goal.loop-b-preserved

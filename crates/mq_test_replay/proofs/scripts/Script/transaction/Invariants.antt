@@ -1,5 +1,5 @@
 use Rattle.mq_blocks.specs.Descriptor.{AreRising}
-use Rattle.mq_test_replay.proofs.Rising.{blocks_of}
+use Rattle.mq_test_replay.proofs.ScriptsRising.{blocks_of}
 use Rattle.mq_test_replay.proofs.scripts.Script.transaction.Given as goal
 
 -- the blocks so far rise

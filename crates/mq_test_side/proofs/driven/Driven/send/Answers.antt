@@ -3,7 +3,7 @@ use Rattle.mq_blocks.specs.Drive.{PortState}
 use Rattle.mq_blocks.specs.declared.geometry.Geometry.{Geometry}
 use Rattle.mq_ledger.specs.History.{blocks_of}
 use Rattle.mq_side.specs.Commits.{NumberedCommit}
-use Rattle.mq_test_side.proofs.Sending.{plan_of, direct_in, bell_sent, bell_cut}
+use Rattle.mq_test_side.proofs.CommitsSending.{plan_of, direct_in, bell_sent, bell_cut}
 use Rattle.mq_test_side.proofs.driven.Driven.send.Goals as goal
 
 pub prepare-requires-clause-plan : goal.prepare-requires-clause-plan
@@ -33,7 +33,7 @@ invariant_of-self-in-Ok-send-clause-bell g c =
     let whole = c.requires.whole in
     let len = c.len.ensures in
     let size : length n.result.commit.logged + length n.result.commit.direct ≡ c.len.result = omega (arith, logged, direct, whole, len) in
-    bell_sent n.new.self.pmr.geometry old _ n.result tried.end c.len.result c.in-Ok-send.ensures.ok (n.new.self.quiet.pending kept) bell size
+    bell_sent n.new.self.pmr.geometry old _ n.result tried.end c.len.result c.in-Ok-send.ensures.ok (n.new.self.clear.pending kept) bell size
 
 pub invariant_of-self-in-Err-send-clause-bell : goal.invariant_of-self-in-Err-send-clause-bell
 invariant_of-self-in-Err-send-clause-bell g c =

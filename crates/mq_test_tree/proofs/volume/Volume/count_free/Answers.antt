@@ -1,5 +1,5 @@
 use Rattle.std.proofs.Common.{arith, sym, ◌∙◌}
-use Rattle.mq_test_tree.proofs.Ranges.{count-free, count-taken}
+use Rattle.mq_test_tree.proofs.FreeRanges.{count-free, count-taken}
 use Rattle.mq_test_tree.proofs.volume.Volume.count_free.Goals as goal
 use Rattle.mq_test_tree.proofs.volume.Volume.count_free.Goals.{then-not-is_taken, else-not-is_taken}
 

@@ -1,5 +1,5 @@
 use Rattle.std.proofs.Common.{rules}
-use Rattle.mq_test_tree.proofs.Lists.{nodes-more}
+use Rattle.mq_test_tree.proofs.PlainLists.{nodes-more}
 use Rattle.mq_test_tree.proofs.volume.Volume.empty.Goals as goal
 
 pub loop-alloc-preserved : goal.loop-alloc-preserved

@@ -1,5 +1,5 @@
 use Rattle.std.proofs.Common.{sym, ◌∙◌}
-use Rattle.mq_test_tree.proofs.Ranges.{first-more}
+use Rattle.mq_test_tree.proofs.FreeRanges.{first-more}
 use Rattle.mq_test_tree.proofs.volume.Volume.first_from.Goals as goal
 
 pub loop-k-preserved : goal.loop-k-preserved

@@ -1,5 +1,5 @@
 use Rattle.std.proofs.Common.{sym, ◌∙◌}
-use Rattle.mq_test_tree.proofs.Ranges.{first-before, first-behind, first-own}
+use Rattle.mq_test_tree.proofs.FreeRanges.{first-before, first-behind, first-own}
 use Rattle.mq_test_tree.proofs.volume.Volume.first_in_order.Goals as goal
 
 pub returns-in-Some : goal.returns-in-Some

@@ -1,6 +1,6 @@
 use Rattle.std.proofs.Common.{ap, sym, ◌∙◌}
 use Rattle.mq_tree.specs.Requests.{unused}
-use Rattle.mq_test_tree.proofs.Renaming.{linked-new}
+use Rattle.mq_test_tree.proofs.RequestsRenaming.{linked-new}
 use Rattle.mq_test_tree.proofs.volume.Volume.linked.Goals as goal
 
 pub returns-in_ok-add_block_of_slots-in-None : goal.returns-in_ok-add_block_of_slots-in-None

@@ -3,7 +3,7 @@ use Rattle.std.specs.Prelude.{IfOk}
 use Rattle.mq_tree.specs.Requests.{In, Verdict}
 use Rattle.mq_test_tree.specs.Targets.{target_of}
 use Rattle.mq_test_tree.specs.Verdicts.{verdict_of}
-use Rattle.mq_test_tree.proofs.Renaming.{rename-moves}
+use Rattle.mq_test_tree.proofs.RequestsRenaming.{rename-moves}
 use Rattle.mq_test_tree.proofs.volume.Volume.rename.Goals as goal
 
 pub returns-else-is_below : goal.returns-else-is_below

@@ -1,4 +1,4 @@
-use Rattle.mq_tree.proofs.Linking.{added}
+use Rattle.mq_tree.proofs.Directories.{added}
 use Rattle.mq_tree.proofs.directory.Directory.add.Goals as goal
 
 pub returns : goal.returns

@@ -1,6 +1,6 @@
 use Rattle.std.proofs.Common.{◌∙◌, ap}
 use Rattle.mq_tree.specs.Volume.{find}
-use Rattle.mq_tree.proofs.Linking.{find-lookup}
+use Rattle.mq_tree.proofs.Directories.{find-lookup}
 use Rattle.mq_tree.proofs.directory.Directory.get.Goals as goal
 
 pub returns : goal.returns

@@ -2,7 +2,7 @@ use Rattle.std.proofs.Common.{ap, length, rules, sym, List, ◌∙◌, ◌≡◌
 use Rattle.std.specs.Prelude.{Option}
 use Rattle.mq_layout.specs.Slots.{Entry}
 use Rattle.mq_tree.specs.ListText.{entries_in}
-use Rattle.mq_tree.proofs.LinesOf.{names-counted}
+use Rattle.mq_tree.proofs.ListText.{names-counted}
 use Rattle.mq_tree.proofs.directory.Directory.len.Goals as goal
 
 pub returns : goal.returns

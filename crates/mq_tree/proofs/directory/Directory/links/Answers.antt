@@ -1,7 +1,7 @@
 use Rattle.std.proofs.Common.{ap, map}
 use Rattle.mq_tree.specs.Directories.{as_slots}
 use Rattle.mq_tree.specs.ListText.{entry_of_link}
-use Rattle.mq_tree.proofs.LinesOf.{links-sorted}
+use Rattle.mq_tree.proofs.ListText.{links-sorted}
 use Rattle.mq_tree.proofs.directory.Directory.links.Goals as goal
 
 pub returns : goal.returns

@@ -1,6 +1,6 @@
 use Rattle.std.proofs.Common.{ap, ◌∙◌}
 use Rattle.mq_tree.specs.Trees.{kept}
-use Rattle.mq_tree.proofs.Walkways.{content-at}
+use Rattle.mq_tree.proofs.TreesWalkways.{content-at}
 use Rattle.mq_tree.proofs.tree.Tree.content_at.Goals as goal
 
 pub returns : goal.returns

@@ -1,5 +1,5 @@
 use Rattle.std.proofs.Common.{ap, length, sym, rules, ◌∙◌, ◌≡◌}
-use Rattle.mq_tree.proofs.Keeping.{length-kept}
+use Rattle.mq_tree.proofs.TreesKeeping.{length-kept}
 use Rattle.mq_tree.proofs.tree.Tree.count.Goals as goal
 
 pub returns : goal.returns

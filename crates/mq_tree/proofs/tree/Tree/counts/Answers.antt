@@ -3,7 +3,7 @@ use Rattle.mq_tree.specs.Counts.{counts_of, counts_of_volume}
 use Rattle.mq_tree.specs.Trees.{body_kept}
 use Rattle.mq_tree.specs.Volume.{Body, Volume, body}
 use Rattle.mq_tree.specs.declared.counts.TreeCounts.{TreeCounts}
-use Rattle.mq_tree.proofs.Counting.{root-counted}
+use Rattle.mq_tree.proofs.CountsSums.{root-counted}
 use Rattle.mq_tree.proofs.tree.Tree.counts.Goals as goal
 
 pub overflow_sub-counts : goal.overflow_sub-counts

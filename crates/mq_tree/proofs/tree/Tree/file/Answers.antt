@@ -1,7 +1,7 @@
 use Rattle.std.proofs.Common.{ap, sym, ◌∙◌}
 use Rattle.std.specs.List.{list_all}
 use Rattle.mq_layout.specs.Names.{is_name}
-use Rattle.mq_tree.proofs.Walkways.{reads-in}
+use Rattle.mq_tree.proofs.TreesWalkways.{reads-in}
 use Rattle.mq_tree.proofs.tree.Tree.file.Goals as goal
 
 pub returns-in_ok-inode-in-Some : goal.returns-in_ok-inode-in-Some

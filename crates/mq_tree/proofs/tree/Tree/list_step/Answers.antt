@@ -1,7 +1,7 @@
 use Rattle.std.proofs.Common.{rules, length, ◌≡◌, codes}
 use Rattle.mq_tree.specs.ListText.{head_of}
 use Rattle.mq_tree.specs.Volume.{body}
-use Rattle.mq_tree.proofs.LinesOf.{written-inside, written-todo}
+use Rattle.mq_tree.proofs.ListText.{written-inside, written-todo}
 use Rattle.mq_tree.proofs.tree.Tree.list_step.Goals as goal
 
 pub returns-clause-todo : goal.returns-clause-todo

@@ -1,7 +1,7 @@
 use Rattle.std.proofs.Common.{arith, rules, length, drop, ◌+◌, ◌-◌, ◌≡◌}
 use Rattle.mq_tree.specs.ListText.{name_count, slot_count}
 use Rattle.mq_tree.specs.Volume.{body}
-use Rattle.mq_tree.proofs.LinesOf.{listed-all, listed-inode, listed-more, listed-next, listed-none, listed-step, slots-past}
+use Rattle.mq_tree.proofs.ListText.{listed-all, listed-inode, listed-more, listed-next, listed-none, listed-step, slots-past}
 use Rattle.mq_tree.proofs.tree.Tree.list_text.Goals as goal
 use Rattle.mq_tree.proofs.tree.Tree.list_text.Goals.{in-Some+in_ok-list_step, in_default}
 

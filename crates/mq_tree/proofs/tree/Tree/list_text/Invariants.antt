@@ -1,7 +1,7 @@
 use Rattle.std.proofs.Common.{◌+◌, ◌-◌, drop}
 use Rattle.mq_tree.specs.ListText.{name_count, slot_count}
 use Rattle.mq_tree.specs.Volume.{body}
-use Rattle.mq_tree.proofs.LinesOf.{Listed}
+use Rattle.mq_tree.proofs.ListText.{Listed}
 use Rattle.mq_tree.proofs.tree.Tree.list_text.Given as goal
 
 abbrev pub invariant-loop-i : goal.invariant-loop-i

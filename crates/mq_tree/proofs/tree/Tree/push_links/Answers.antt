@@ -1,5 +1,5 @@
 use Rattle.std.proofs.Common.{arith, rules, ap, get_or, length, ℕ, ◌∙◌, ◌≡◌, ◌+◌, ◌-◌}
-use Rattle.mq_tree.proofs.LinesOf.{pushed-more}
+use Rattle.mq_tree.proofs.ListText.{pushed-more}
 use Rattle.mq_tree.proofs.tree.Tree.push_links.Goals as goal
 
 pub loop-k-preserved : goal.loop-k-preserved

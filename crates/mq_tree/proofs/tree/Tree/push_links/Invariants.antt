@@ -1,5 +1,5 @@
 use Rattle.std.proofs.Common.{◌-◌, length}
-use Rattle.mq_tree.proofs.LinesOf.{Pushed}
+use Rattle.mq_tree.proofs.ListText.{Pushed}
 use Rattle.mq_tree.proofs.tree.Tree.push_links.Given as goal
 
 abbrev pub invariant-loop-k : goal.invariant-loop-k

@@ -1,5 +1,5 @@
 use Rattle.std.proofs.lemmas.Result.{err_from_is_err_and}
-use Rattle.mq_tree.proofs.Walkways.{walk-lost, walk-on, walk-stuck}
+use Rattle.mq_tree.proofs.TreesWalkways.{walk-lost, walk-on, walk-stuck}
 use Rattle.mq_tree.proofs.tree.Tree.walk.Goals as goal
 
 pub returns-in_err-inode : goal.returns-in_err-inode

@@ -1,5 +1,5 @@
 use Rattle.std.proofs.Common.{arith, ap, ◌<◌, ◌≤◌, ◌+◌}
-use Rattle.mq_turns.proofs.Each.{each_map}
+use Rattle.mq_turns.proofs.Lists.{each_map}
 use Rattle.mq_turns.proofs.desk.Desk.draw.Goals as goal
 
 pub returns-clause-drew : goal.returns-clause-drew

@@ -1,6 +1,6 @@
 use Rattle.std.proofs.Common.{ap}
 use Rattle.mq_turns.specs.AtDesk.{view, start_of}
-use Rattle.mq_turns.proofs.Sweeps.{keeps_front}
+use Rattle.mq_turns.proofs.Swept.{keeps_front}
 use Rattle.mq_turns.proofs.desk.Desk.front.Goals as goal
 
 pub returns-clause-front : goal.returns-clause-front

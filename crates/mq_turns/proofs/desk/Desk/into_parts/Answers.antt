@@ -4,7 +4,7 @@ use lib.ListN.{get_elem?}
 use Rattle.mq_turns.specs.Desk.{slots}
 use Rattle.mq_turns.specs.AtDesk.{view, start_of}
 use Rattle.mq_turns.specs.Closing.{AreSides}
-use Rattle.mq_turns.proofs.Ending.{ends, has_pages, has_sides, has_root, ended}
+use Rattle.mq_turns.proofs.DeskEnding.{ends, has_pages, has_sides, has_root, ended}
 use Rattle.mq_turns.proofs.desk.Desk.into_parts.Goals as goal
 
 pub unload_pages-pages-requires-clause-full : goal.unload_pages-pages-requires-clause-full

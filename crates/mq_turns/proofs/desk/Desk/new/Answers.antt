@@ -2,7 +2,7 @@ use Rattle.std.proofs.Common.{rules, ◌≡◌, ℕ, List, length, sym, subst, �
 use Rattle.mq_turns.specs.Desk.{opening_of, slots}
 use Rattle.mq_turns.specs.Opened.{AreOpenWords}
 use Rattle.mq_turns.specs.declared.rule.Start.{Start}
-use Rattle.mq_turns.proofs.Laying.{opens}
+use Rattle.mq_turns.proofs.DeskLaying.{opens}
 use Rattle.mq_turns.proofs.desk.Desk.new.Goals as goal
 
 pub vacant-requires : goal.vacant-requires

@@ -3,7 +3,7 @@ use Rattle.mq_turns.specs.Marks.{mark_of}
 use Rattle.mq_turns.specs.Swept.{Sweeping}
 use Rattle.mq_turns.specs.Words.{after_peek}
 use Rattle.mq_turns.specs.AtDesk.{view, start_of}
-use Rattle.mq_turns.proofs.Sweeps.{sweep_begins, sweep_next}
+use Rattle.mq_turns.proofs.Swept.{sweep_begins, sweep_next}
 use Rattle.mq_turns.proofs.desk.Desk.read_marks.Goals as goal
 
 pub loop-queue-init : goal.loop-queue-init

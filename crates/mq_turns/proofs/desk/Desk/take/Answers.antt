@@ -1,5 +1,5 @@
 use Rattle.std.proofs.Common.{rules}
-use Rattle.mq_turns.proofs.Keeping.{stands_turn}
+use Rattle.mq_turns.proofs.DeskKeeping.{stands_turn}
 use Rattle.mq_turns.specs.AtDesk.{start_of}
 use Rattle.mq_turns.proofs.desk.Desk.take.Goals as goal
 

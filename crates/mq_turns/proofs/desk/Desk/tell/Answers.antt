@@ -1,7 +1,7 @@
 use Rattle.std.proofs.Common.{rules, arith, ap, ◌∙◌, subst}
 use Rattle.mq_turns.specs.Desk.{Below, heard}
 use Rattle.mq_turns.specs.declared.rule.ChairView.{ChairView}
-use Rattle.mq_turns.proofs.Seats.{notes, hears_note, told}
+use Rattle.mq_turns.proofs.DeskSeats.{notes, hears_note, told}
 use Rattle.mq_turns.proofs.desk.Desk.tell.Goals as goal
 
 pub split_seat-note-requires : goal.split_seat-note-requires

@@ -1,4 +1,4 @@
-use Rattle.mqfs.proofs.Deciding.{file_decided}
+use Rattle.mqfs.proofs.Decided.{file_decided}
 use Rattle.mqfs.proofs.program.cat.run_cat.Goals as goal
 
 pub returns-clause-decided : goal.returns-clause-decided

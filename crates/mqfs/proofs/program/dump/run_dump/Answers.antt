@@ -1,4 +1,4 @@
-use Rattle.mqfs.proofs.Deciding.{chains_decided}
+use Rattle.mqfs.proofs.Decided.{chains_decided}
 use Rattle.mqfs.proofs.program.dump.run_dump.Goals as goal
 
 pub returns-clause-decided : goal.returns-clause-decided

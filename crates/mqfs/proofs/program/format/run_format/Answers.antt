@@ -1,4 +1,4 @@
-use Rattle.mqfs.proofs.Deciding.{numbers_decided}
+use Rattle.mqfs.proofs.Decided.{numbers_decided}
 use Rattle.mqfs.proofs.program.format.run_format.Goals as goal
 
 pub returns-clause-decided : goal.returns-clause-decided

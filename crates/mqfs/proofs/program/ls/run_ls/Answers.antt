@@ -1,4 +1,4 @@
-use Rattle.mqfs.proofs.Deciding.{tree_decided}
+use Rattle.mqfs.proofs.Decided.{tree_decided}
 use Rattle.mqfs.proofs.program.ls.run_ls.Goals as goal
 
 pub returns-clause-decided : goal.returns-clause-decided

@@ -1,4 +1,4 @@
-use Rattle.mqfs.proofs.Deciding.{recovery_decided}
+use Rattle.mqfs.proofs.Decided.{recovery_decided}
 use Rattle.mqfs.proofs.program.recover.run_recover.Goals as goal
 
 pub returns-clause-decided : goal.returns-clause-decided

@@ -1,5 +1,5 @@
 use Rattle.std.proofs.Common.{List, ℕ, Bor, map}
-use Rattle.mqfs.proofs.Deciding.{run_decided, run_runs}
+use Rattle.mqfs.proofs.Decided.{run_decided, run_runs}
 use Rattle.mqfs.proofs.program.scripts.run_scripts.Goals as goal
 
 pub returns-clause-decided : goal.returns-clause-decided

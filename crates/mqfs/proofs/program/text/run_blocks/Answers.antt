@@ -1,10 +1,10 @@
 use Rattle.std.proofs.Common.{List, ℕ, Bor, sym, ◌∙◌, subst}
 use Rattle.std.specs.Prelude.{option_map}
 use Rattle.mq_ending.specs.Ending.{IsLoaded}
-use Rattle.mq_ending.proofs.Pieces.{unless_wanting}
+use Rattle.mq_ending.proofs.Ending.{unless_wanting}
 use Rattle.mqfs.specs.Says as says
-use Rattle.mqfs.proofs.Deciding.{text_decided}
-use Rattle.mqfs.proofs.Running.{not_run, ran, some_map}
+use Rattle.mqfs.proofs.Decided.{text_decided}
+use Rattle.mqfs.proofs.Parts.{not_run, ran, some_map}
 use Rattle.mqfs.proofs.program.text.run_blocks.Goals as goal
 
 pub returns-in-Err-clause-ends : goal.returns-in-Err-clause-ends

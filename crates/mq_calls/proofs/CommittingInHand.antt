@@ -1,0 +1,187 @@
+-- A session that holds the pages of a group and the side of its queue.
+use Rattle.std.proofs.Common.{◌≡◌, ◌≢◌, ℕ, ◌+◌, ◌<◌, ◌≤◌, List, [], ◌∷◌, length, sym, ap, subst, ◌∙◌, arith}
+use Rattle.std.specs.List.{All}
+use Rattle.std.proofs.lemmas.List.Elements.{All-cons, All-nil}
+use Rattle.mq_blocks.specs.Drive.{PortState}
+use Rattle.mq_drive.specs.Steps.{PortFault}
+use Rattle.mq_drive.specs.declared.port.Port.{Ghosts}
+use Rattle.mq_files.specs.Group.{file_group}
+use Rattle.mq_files.specs.declared.entry.FileEntry.{FileEntry}
+use Rattle.mq_files.specs.declared.entry.Reads.{Reads as WordsRead}
+use Rattle.mq_journal.specs.Laws.{HaveSameParts}
+use Rattle.mq_journal.specs.Numbers.{HoldsSide, Seat, Shared, Start}
+use Rattle.mq_journal.proofs.LawsKeeping.{prepared_stays, stays_at_reads}
+use Rattle.mq_pages.specs.Held.{Cells}
+use Rattle.mq_pages.specs.declared.page.PageCell.{PageCell}
+use Rattle.mq_side.specs.declared.root.Root.{Root}
+use Rattle.mq_side.specs.declared.side.QueueSide.{QueueSide}
+use Rattle.mq_turns.specs.Chairs.{holding}
+use Rattle.mq_turns.specs.Desk.{Sees, slot_of}
+use Rattle.mq_turns.specs.Lists.{Each, tick, times}
+use Rattle.mq_turns.specs.Meaning.{Meaning}
+use Rattle.mq_turns.specs.Swept.{AfterFront}
+use Rattle.mq_turns.specs.Words.{after_base}
+use Rattle.mq_turns.specs.declared.rule.MarkAnswer.TheVariants.{Base, Front}
+use Rattle.mq_turns.specs.declared.rule.ChairView.{ChairView}
+use Rattle.mq_turns.specs.declared.rule.Known.{Known}
+use Rattle.mq_turns.specs.declared.rule.Opening.{Opening}
+use Rattle.mq_turns.specs.declared.turn.Turn.TheVariants.{Side}
+use Rattle.mq_turns.proofs.Lists.{each_map}
+use Rattle.mq_calls.specs.Committing.{HasRead, HoldsCommit, ReadsWords}
+use Rattle.mq_calls.specs.Pages.{HoldsOnlyPages, HoldsPage, HoldsPages, IsSeen, blocks_of}
+use Rattle.mq_calls.specs.Runs.{files}
+use Rattle.mq_calls.proofs.WantedFurther.{cells-below, held-low}
+use Rattle.mq_calls.proofs.PagesHolding.{pages-beside-all, sees-taken}
+
+module _ {Q R E : Type 0} (μ : Meaning PageCell Q R E) where
+  -- the pages stay held where nothing that is held changes
+  page-same : (o : Opening PageCell Q R) (v w : ChairView PageCell Q R E) (b : ℕ) (c : PageCell) → w.held ≡ v.held → HoldsPage μ o v b c → HoldsPage μ o w b c
+  page-same o v w b c same h = record {
+    turn = h.turn;
+    holds = subst (λ l. 0 < times b l) (sym same) h.holds;
+    is = subst (Each (λ h. h.0 ≡ b → μ.page b h.1 c)) (sym same) h.is;
+  }
+
+  pub pages-same : (o : Opening PageCell Q R) (cells : Cells) (v w : ChairView PageCell Q R E) → w.held ≡ v.held → HoldsPages μ o cells v → HoldsPages μ o cells w
+  pages-same o cells v w same h = record {
+    rising = h.rising;
+    each = each_map (λ x. HoldsPage μ o v x.0 x.1) (λ x. HoldsPage μ o w x.0 x.1) (λ x p. page-same o v w x.0 x.1 same p) cells h.each;
+  }
+
+  -- no page has the slot of a side
+  other-slots : (o : Opening PageCell Q R) (q : ℕ) (cells : Cells) → Each (λ c. c.0 < length o.pages) cells → All (λ b. b ≢ slot_of o (Side q)) (blocks_of cells)
+  other-slots o q [] low = All-nil (λ b. b ≢ slot_of o (Side q))
+  other-slots o q (x ∷ xs) low = All-cons (λ b. b ≢ slot_of o (Side q)) x.0 (blocks_of xs) (λ e. let l = low.0 in omega arith) (other-slots o q xs low.1)
+
+  pub side-apart : (o : Opening PageCell Q R) (q : ℕ) (cells : Cells) (v : ChairView PageCell Q R E) → HoldsPages μ o cells v → All (λ b. b ≢ slot_of o (Side q)) (blocks_of cells)
+  side-apart o q cells v h = other-slots o q cells (cells-below μ o cells v h)
+
+  -- and the turn of a side is above them
+  below-side : (o : Opening PageCell Q R) (q : ℕ) (cells : Cells) → Each (λ c. c.0 < length o.pages) cells → All (λ b. b < slot_of o (Side q)) (blocks_of cells)
+  below-side o q [] low = All-nil (λ b. b < slot_of o (Side q))
+  below-side o q (x ∷ xs) low = All-cons (λ b. b < slot_of o (Side q)) x.0 (blocks_of xs) (let l = low.0 in omega arith) (below-side o q xs low.1)
+
+  pub side-above : (o : Opening PageCell Q R) (q : ℕ) (cells : Cells) (v : ChairView PageCell Q R E) → HoldsOnlyPages μ o cells v → IsSeen μ v → Each (λ h. h.0 < slot_of o (Side q)) v.held
+  side-above o q cells v h seen = held-low μ o (blocks_of cells) cells v (slot_of o (Side q)) (record { pages = h; blocks = λ b. (λ c. c, λ c. c); seen = seen }) (below-side o q cells (cells-below μ o cells v h.pages))
+
+  -- ---- a front and a base were read
+
+  pub sees-base : (b : ℕ) (K : Known PageCell Q R E) (v : ChairView PageCell Q R E) → K.word ≡ b → Sees μ v K → Sees μ (after_base b v) K
+  sees-base b K v is s = record {
+    opening = s.opening;
+    ok = s.ok;
+    few = s.few;
+    held = s.held;
+    seen = s.seen;
+    drew = s.drew;
+    marked = s.marked;
+    reader = record {
+      low = s.reader.low;
+      swept = s.reader.swept;
+      last = s.reader.last;
+      done = s.reader.done;
+      base = subst (λ n. n ≤ K.word) is (omega arith);
+      pages = s.reader.pages;
+    };
+  }
+
+module _ {P : Type 0} {G : Ghosts P} (state : P → PortState) (faults : P → List PortFault) where
+  abbrev μ : Meaning PageCell (QueueSide P FileEntry G) (Root P G) FileEntry
+  μ = files state faults
+
+  -- ---- a front and a base were read
+
+  words-front : (o : Start P FileEntry G) (front : ℕ) (v w : Seat P FileEntry G) → AfterFront μ o front v w → ReadsWords v w
+  words-front o front v w a =
+      let s = a.marks.sweep in
+      let is : w ≡ record v { seen = s.counter; reading = record s.reading { answers = Front front ∷ s.reading.answers } } =
+      a.is ∙ ap (λ (x : Seat P FileEntry G). record x { reading = record x.reading { answers = Front front ∷ x.reading.answers } }) s.is in
+      record {
+        parts = ap (λ (x : Seat P FileEntry G). x.parts) is;
+        opening = ap (λ (x : Seat P FileEntry G). x.opening) is;
+        session = ap (λ (x : Seat P FileEntry G). x.session) is;
+        held = ap (λ (x : Seat P FileEntry G). x.held) is;
+        drawn = ap (λ (x : Seat P FileEntry G). x.drawn) is;
+        read = ap (λ (x : Seat P FileEntry G). x.read) is;
+        seen = (let e : w.seen ≡ s.counter = ap (λ (x : Seat P FileEntry G). x.seen) is in let b = s.below.0 in omega arith);
+        done = (let e : w.reading.done ≡ s.reading.done = ap (λ (x : Seat P FileEntry G). x.reading.done) is in let k = s.kept.0 in omega arith);
+        charged = ap (λ (x : Seat P FileEntry G). x.reading.charged) is ∙ s.kept.4;
+      }
+
+  front-read : (o : Start P FileEntry G) (front : ℕ) (v w : Seat P FileEntry G) → 0 < length o.sides → AfterFront μ o front v w → front ≤ w.reading.done
+  front-read o front v w some a =
+      let s = a.marks.sweep in
+      let e : w.reading.done ≡ a.swept.reading.done = ap (λ (x : Seat P FileEntry G). x.reading.done) a.is in
+      let f : a.swept.reading.done ≡ s.reading.done = ap (λ (x : Seat P FileEntry G). x.reading.done) s.is in
+      let low = s.passes.ended some (omega arith) in
+      omega arith
+
+  front-answered : (o : Start P FileEntry G) (front : ℕ) (v w : Seat P FileEntry G) → AfterFront μ o front v w → w.reading.answers ≡ Front front ∷ v.reading.answers
+  front-answered o front v w a =
+      let s = a.marks.sweep in
+      ap (λ (x : Seat P FileEntry G). x.reading.answers) a.is
+      ∙ ap (λ (x : Seat P FileEntry G). Front front ∷ x.reading.answers) s.is
+      ∙ ap (λ l. Front front ∷ l) s.kept.3
+
+  words-then : (a b c : Seat P FileEntry G) → ReadsWords a b → ReadsWords b c → ReadsWords a c
+  words-then a b c x y = record {
+    parts = y.parts ∙ x.parts;
+    opening = y.opening ∙ x.opening;
+    session = y.session ∙ x.session;
+    held = y.held ∙ x.held;
+    drawn = y.drawn ∙ x.drawn;
+    read = y.read ∙ x.read;
+    seen = (let l = x.seen in let m = y.seen in omega arith);
+    done = (let l = x.done in let m = y.done in omega arith);
+    charged = y.charged ∙ x.charged;
+  }
+
+  words-base : (b : ℕ) (v w : Seat P FileEntry G) → w ≡ after_base b v → ReadsWords v w
+  words-base b v w is = record {
+    parts = ap (λ (x : Seat P FileEntry G). x.parts) is;
+    opening = ap (λ (x : Seat P FileEntry G). x.opening) is;
+    session = ap (λ (x : Seat P FileEntry G). x.session) is;
+    held = ap (λ (x : Seat P FileEntry G). x.held) is;
+    drawn = ap (λ (x : Seat P FileEntry G). x.drawn) is;
+    read = ap (λ (x : Seat P FileEntry G). x.read) is;
+    seen = (let e : w.seen ≡ v.seen = ap (λ (x : Seat P FileEntry G). x.seen) is in omega arith);
+    done = (let e : w.reading.done ≡ v.reading.done = ap (λ (x : Seat P FileEntry G). x.reading.done) is in omega arith);
+    charged = ap (λ (x : Seat P FileEntry G). x.reading.charged) is;
+  }
+
+  pub has-read : (o : Start P FileEntry G) (reads : WordsRead) (v w u : Seat P FileEntry G) → 0 < length o.sides → AfterFront μ o reads.front v w → u ≡ after_base reads.base w → HasRead reads v u
+  has-read o reads v w u some a is =
+      let first = words-front o reads.front v w a in
+      record {
+        words = words-then v w u first (words-base reads.base w u is);
+        answers = ap (λ (x : Seat P FileEntry G). x.reading.answers) is ∙ ap (λ l. Base reads.base ∷ l) (front-answered o reads.front v w a);
+        front = (let e : u.reading.done ≡ w.reading.done = ap (λ (x : Seat P FileEntry G). x.reading.done) is in let l = front-read o reads.front v w some a in omega arith);
+        base = (let e : u.reading.base ≡ reads.base = ap (λ (x : Seat P FileEntry G). x.reading.base) is in omega arith);
+      }
+
+  -- ---- pages and side in hand
+
+  pub commit-taken : (o : Start P FileEntry G) (q : ℕ) (cells : Cells) (s : QueueSide P FileEntry G) (v w : Seat P FileEntry G) (K : Shared P FileEntry G) → HoldsOnlyPages μ o cells v → w ≡ holding (slot_of o (Side q)) K v → Sees μ v K → HoldsSide state faults file_group o q s w → HoldsCommit state faults o q cells s w
+  commit-taken o q cells s v w K h is seen side = record {
+    pages = subst (λ (x : Seat P FileEntry G). HoldsPages μ o cells x) (sym is) (pages-beside-all μ o cells v (slot_of o (Side q)) K (side-apart μ o q cells v h.pages) h.pages);
+    side = side;
+    only = λ k.
+        let e : times k w.held ≡ tick (slot_of o (Side q)) k + times k v.held = ap (λ (x : Seat P FileEntry G). times k x.held) is in
+        let o = h.only k in
+        omega arith;
+    seen = (K, subst (λ (x : Seat P FileEntry G). Sees μ x K) (sym is) (sees-taken μ (slot_of o (Side q)) K v seen));
+  }
+
+  pub commit-read : (o : Start P FileEntry G) (q : ℕ) (cells : Cells) (s : QueueSide P FileEntry G) (v w : Seat P FileEntry G) → w.held ≡ v.held → IsSeen μ w → HoldsCommit state faults o q cells s v → HoldsCommit state faults o q cells s w
+  commit-read o q cells s v w same seen h = record {
+    pages = pages-same μ o cells v w same h.pages;
+    side = stays_at_reads state faults file_group s o q v w same h.side;
+    only = λ k. ap (times k) same ∙ h.only k;
+    seen = seen;
+  }
+
+  pub commit-side : (o : Start P FileEntry G) (q : ℕ) (cells : Cells) (s u : QueueSide P FileEntry G) (v : Seat P FileEntry G) → HoldsSide state faults file_group o q u v → HoldsCommit state faults o q cells s v → HoldsCommit state faults o q cells u v
+  commit-side o q cells s u v side h = record { pages = h.pages; side = side; only = h.only; seen = h.seen }
+
+  pub commit-prepared : (o : Start P FileEntry G) (q : ℕ) (cells : Cells) (s u : QueueSide P FileEntry G) (v : Seat P FileEntry G) → HaveSameParts s u → HoldsCommit state faults o q cells s v → HoldsCommit state faults o q cells u v
+  commit-prepared o q cells s u v same h = commit-side o q cells s u v (prepared_stays state faults file_group s o q u v same h.side) h

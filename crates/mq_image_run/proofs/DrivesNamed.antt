@@ -1,0 +1,81 @@
+-- Which command has failed.
+use Rattle.std.proofs.Common.{◌≡◌, ◌∙◌, ℕ, zero, suc, ◌<◌, Bool, true, false, List, [], ◌∷◌, Option, None, Some, length, map, get_or, refl, sym, ap, arith, inl, inr}
+use Rattle.std.specs.Prelude.{◌&&◌, ◌||◌, nat_le, if◌then◌else◌}
+use Rattle.std.proofs.lemmas.Bool.{cases_lt, eq-eqb, lt-leb, ne_eqb, and_right}
+use Rattle.std.proofs.lemmas.List.{length-map}
+use Rattle.mq_blocks.specs.Drive.{FuseName, PortState}
+use Rattle.mq_blocks.specs.Geometry.{queues_of}
+use Rattle.mq_drive.specs.Emu.{emu_state, executed_of}
+use Rattle.mq_drive.specs.Limits.{fails_by}
+use Rattle.mq_drive.specs.declared.emu.EmuPort.{EmuPort}
+use Rattle.mq_drive.specs.declared.fuse.FuseSeat.{FuseSeat}
+use Rattle.mq_drive.specs.declared.port.Ports.{Ports}
+use Rattle.mq_image.specs.Drives.{IsDrive}
+use Rattle.mq_image.specs.File.{DriveImage}
+use Rattle.mq_images.specs.Cuts.{row_of}
+use Rattle.mq_images.specs.Starts.{AreStarted}
+use Rattle.mq_images.specs.Views.{command_of}
+use Rattle.mq_images.specs.declared.ports.Failing.{Failing}
+use Rattle.mq_images.proofs.CutsRecoverings.{row-at}
+use Rattle.mq_images.proofs.Views.{start-queue}
+use Rattle.mq_ledger.specs.State.{port_at}
+use Rattle.mq_recover.specs.Drives.{DriveState}
+use Rattle.mq_recover.specs.declared.standing.Standing.{Standing}
+use Rattle.mq_script.specs.Scripts.{Script}
+use Rattle.mq_image_run.specs.Drives.{HasDriven, executed_at, has_failed, was_executed}
+use Rattle.mq_image_run.specs.declared.driving.Driven.{Driven}
+use Rattle.mq_image_run.specs.declared.options.RunOptions.{RunOptions}
+
+-- ---- ports in a row
+
+or-none : (a : Bool) → (a || false) ≡ a
+or-none true = refl
+or-none false = refl
+
+none-named : (ps : List EmuPort) → ((k : ℕ) (s : PortState) → k < length ps → (get_or (map emu_state ps) k s).fail ≡ None) → has_failed ps ≡ false
+none-named [] each = refl
+none-named (p ∷ ps) each = ap (λ (f : Option ℕ). fails_by f (executed_of p) || has_failed ps) (each 0 (emu_state p) (omega arith)) ∙ none-named ps (λ k s low. each (suc k) s (omega (arith, low)))
+
+-- of a port without commands none has failed
+zero-fails : (command : ℕ) → fails_by (Some command) 0 ≡ false
+zero-fails command = elim (cases_lt command 1) [
+  | inl low ↦ ap (λ (b : Bool). b && nat_le command 0) (lt-leb 1 command low)
+  | inr high ↦ ap (λ (b : Bool). nat_le 1 command && b) (lt-leb command 0 (omega (arith, high))) ∙ and_right (nat_le 1 command) false refl
+]
+
+-- the command is that of one port, and of no other
+abbrev IsNamed : (port command k : ℕ) → Option ℕ → Type 0
+IsNamed port command k fail = (k ≡ port → fail ≡ Some command) × ((k ≡ port → ⊥) → fail ≡ None)
+
+one-named : (port command : ℕ) (ps : List EmuPort) → ((k : ℕ) (s : PortState) → k < length ps → IsNamed port command k (get_or (map emu_state ps) k s).fail) → has_failed ps ≡ fails_by (Some command) (executed_at ps port)
+one-named port command [] each = sym (zero-fails command)
+one-named zero command (p ∷ ps) each =
+    let head : (emu_state p).fail ≡ Some command = (each 0 (emu_state p) (omega arith)).0 refl in
+    let rest : has_failed ps ≡ false = none-named ps (λ k s low. (each (suc k) s (omega (arith, low))).1 (λ e. omega (arith, e))) in
+    ap (λ (f : Option ℕ). fails_by f (executed_of p) || has_failed ps) head ∙ ap (λ (b : Bool). fails_by (Some command) (executed_of p) || b) rest ∙ or-none (fails_by (Some command) (executed_of p))
+one-named (suc port) command (p ∷ ps) each =
+    let head : (emu_state p).fail ≡ None = (each 0 (emu_state p) (omega arith)).1 (λ e. omega (arith, e)) in
+    ap (λ (f : Option ℕ). fails_by f (executed_of p) || has_failed ps) head
+    ∙ one-named port command ps (λ k s low. let at = each (suc k) s (omega (arith, low)) in (λ e. at.0 (ap suc e), λ no. at.1 (λ e. no (omega (arith, e)))))
+
+named-in : (fail : Option Failing) (ps : List EmuPort) → ((k : ℕ) (s : PortState) → k < length ps → (get_or (map emu_state ps) k s).fail ≡ command_of fail k) → has_failed ps ≡ was_executed fail ps
+named-in None ps each = none-named ps each
+named-in (Some f) ps each = one-named f.port f.command ps (λ k s low. (
+  λ e. each k s low ∙ ap (λ (b : Bool). if b then Some f.command else None) (eq-eqb f.port k (sym e)),
+  λ no. each k s low ∙ ap (λ (b : Bool). if b then Some f.command else None) (ne_eqb f.port k (λ e. no (sym e))),
+))
+
+-- ---- a drive
+
+module _ (fuse : FuseName) (y : DriveImage) (drive : IsDrive y) (scripts : List Script) (o : RunOptions) (d : Driven) (seats : List FuseSeat) (ports : Ports EmuPort) (standing : Standing) (started : AreStarted fuse o.fail y ports) (has : HasDriven y.geometry ports standing scripts o d seats) where
+  count : length has.end.ports.queues.items ≡ queues_of y.geometry
+  count = sym (length-map has.end.ports.queues.items emu_state) ∙ has.same_ports.count
+
+  -- each port has kept the command that it was started with
+  commands : (k : ℕ) (s : PortState) → k < length (row_of has.end.ports) → (get_or (map emu_state (row_of has.end.ports)) k s).fail ≡ command_of o.fail k
+  commands = row-at y.geometry has.end.ports count (λ k s. s.fail ≡ command_of o.fail k)
+      (λ q low. (has.bounds.queues q low).fail ∙ (ap (λ (s : DriveState). (port_at s.queues q).fail) started.states ∙ ap (λ (s : PortState). s.fail) (start-queue fuse o.fail y q drive low)))
+      (has.bounds.root.fail ∙ ap (λ (s : DriveState). s.root.fail) started.states)
+
+  pub named-is : d.failed ≡ was_executed o.fail (row_of has.end.ports)
+  named-is = has.failed ∙ named-in o.fail (row_of has.end.ports) commands

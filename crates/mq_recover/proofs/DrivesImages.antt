@@ -1,0 +1,345 @@
+-- Readable images: what reading finds is what is shown, and each image has one prefix and one top, or
+-- one cause for which it is refused.
+use Rattle.std.proofs.Common.{◌≡◌, ◌<◌, ◌≤◌, ◌⊎◌, inl, inr, ℕ, ◌+◌, ◌^◌, List, [], ◌∷◌, length, Option, None, refl, sym, ◌∙◌, ap, subst, arith, get_or}
+use Rattle.std.proofs.lemmas.Bool.{cases_eq, cases_lt}
+use Rattle.std.specs.Prelude.{IsErrOf, Err, slice_index_or}
+use Rattle.mq_blocks.specs.Blocks.{block_at}
+use Rattle.mq_blocks.specs.Descriptor.{Descriptor}
+use Rattle.mq_blocks.specs.Drive.{PortImage}
+use Rattle.mq_blocks.specs.Geometry.{homes_of}
+use Rattle.mq_blocks.specs.Journal.{Shown, IsQueueChain, Has, AreWhole, AreInRow, IsPrefix, Reaches, ShowsNumber, number_limit}
+use Rattle.mq_blocks.specs.declared.geometry.Geometry.{Geometry}
+use Rattle.mq_nvme.specs.Says.{says}
+use Rattle.mq_ledger.specs.State.{port_at}
+use Rattle.mq_ledger.proofs.JournalChains.{queue-chain-once}
+use Rattle.mq_recover.specs.Drives.{DriveState, view_over}
+use Rattle.mq_recover.specs.Ends.{chain_at}
+use Rattle.mq_recover.specs.Plans.{AreChains, ArePlaced, AreRead, IsFoundIn}
+use Rattle.mq_recover.specs.Recover.{IsSeenAt, AreFalling}
+use Rattle.mq_recover.specs.Recovery.{IsReadPrefix}
+use Rattle.mq_recover.specs.Refusals.{IsReadable, AreReadable, HasNumber, IsTwice, IsReadableImage, RefusesQueue, RefusesSome, RefusesTwice, RefusesImage}
+use Rattle.mq_recover.specs.declared.copies.Copies.{Copies}
+use Rattle.mq_recover.specs.declared.copies.CopyPlace.{CopyPlace}
+use Rattle.mq_recover.specs.declared.plan.Found.{Found}
+use Rattle.mq_recover.specs.declared.plan.QueuesRead.{QueuesRead}
+use Rattle.mq_recover.specs.declared.refusal.ChainRefusal.{ChainRefusal}
+use Rattle.mq_recover.specs.declared.refusal.ImageFault.{ImageFault}
+use Rattle.mq_recover.specs.declared.refusal.ImageFault.TheVariants.{Bad, Limit, Twice, OutOfMemory}
+use Rattle.mq_recover.proofs.PlansPopped.{falls-under}
+use Rattle.mq_recover.proofs.RecoverReadable.{readable-shown, shown-readable, chain-falls}
+use Rattle.mq_recover.proofs.RecoverCopies.{chain-of, chain-good}
+use Rattle.mq_recover.proofs.Refusals.{readable-refused, readable-once, refuses-queue-once}
+use Rattle.mq_recover.proofs.DrivesZones.{image-at}
+
+-- ---- the view of a queue
+
+pub view-seen : (g : Geometry) (d : DriveState) (q base : ℕ) → base ≡ d.root.base → IsSeenAt q base (port_at d.queues q) (view_over g d)
+view-seen g d q base is =
+    let at = image-at d.queues q in
+    record {
+      base_is = sym is;
+      head_is = ap (λ (i : PortImage). i.head) at;
+      doorbell_is = ap (λ (i : PortImage). i.doorbell) at;
+      entry_is = λ k. ap (λ (i : PortImage). says (slice_index_or i.slots k [])) at;
+      area_is = λ k. ap (λ (i : PortImage). block_at i.blocks k) at;
+    }
+
+-- ---- what is found is read
+
+queue-chain : (g : Geometry) (d : DriveState) (q : ℕ) (ds : List Descriptor) → IsReadable g (port_at d.queues q) q d.root.base ds → IsQueueChain g (view_over g d) q ds
+queue-chain g d q ds readable = readable-shown g (view_over g d) (port_at d.queues q) q d.root.base ds (view-seen g d q d.root.base refl) readable
+
+pub queue-falls : (g : Geometry) (d : DriveState) (q : ℕ) (ds : List Descriptor) → IsReadable g (port_at d.queues q) q d.root.base ds → AreFalling d.root.base (2 ^ 64) ds
+queue-falls g d q ds readable =
+    let c = queue-chain g d q ds readable in
+    let number = c.limit in
+    chain-falls g (view_over g d) q c.number c.place (2 ^ 64) ds c.chain (omega (arith, number))
+
+-- what the chains of readable queues are good for
+pub good-chains : (g : Geometry) (d : DriveState) (read : QueuesRead) (base : ℕ) → base ≡ d.root.base → AreRead g d read → AreChains (homes_of g) base read.chains.items
+good-chains g d read base base_is are =
+    let count = are.count in
+    let within : (q : ℕ) → q < length read.chains.items → q < g.queues = λ q low. omega (arith, count, low) in
+    let few = g.queues_high in
+    record {
+      few = omega (arith, count, few);
+      good = λ q low. let c = queue-chain g d q (chain_at read.chains.items q) (are.readable q (within q low)) in chain-good g (view_over g d) q c.number c.place (chain_at read.chains.items q) c.chain;
+      falling = λ q low. subst (λ (n : ℕ). AreFalling n (2 ^ 64) (chain_at read.chains.items q)) (sym base_is) (queue-falls g d q (chain_at read.chains.items q) (are.readable q (within q low)));
+      own = λ q low. let c = queue-chain g d q (chain_at read.chains.items q) (are.readable q (within q low)) in chain-of g (view_over g d) q c.number c.place (chain_at read.chains.items q) c.chain;
+    }
+
+image-read : (g : Geometry) (d : DriveState) (read : QueuesRead) (base : ℕ) (c : Copies) → base ≡ d.root.base → base ≤ number_limit → AreRead g d read → (p : ArePlaced (homes_of g) base read.chains.items c) → IsReadPrefix g (view_over g d) p.ds read.top
+image-read g d read base c base_is limit are p =
+    let i = view_over g d in
+    let count = are.count in
+    let chains = chain_at read.chains.items in
+    let whole : AreWhole g i chains = record {
+      limit = omega (arith, limit, base_is);
+      each = λ q low. queue-chain g d q (chains q) (are.readable q low);
+      once = λ q r low lower other a b in_q in_r. p.once q r (omega (arith, count, low)) (omega (arith, count, lower)) other a b in_q in_r;
+    } in
+    record {
+      chains = chains;
+      whole = whole;
+      prefix = record {
+        row = subst (λ (n : ℕ). AreInRow n p.ds) base_is p.row;
+        whole = λ x has. let at = p.from_chains x has in let low = at.0 in (omega (arith, count, low), at.1);
+        greatest = λ q x low has same. p.greatest q x (omega (arith, count, low)) has (omega (arith, same, base_is));
+      };
+      top_is = record { whole = whole; shown = are.top.shown; greatest = are.top.greatest };
+    }
+
+pub found-in : (g : Geometry) (d : DriveState) (base : ℕ) (read : QueuesRead) (c : Copies) (found : Found) → base ≡ d.root.base → base ≤ number_limit → AreRead g d read → ArePlaced (homes_of g) base read.chains.items c
+    → found.places.items ≡ c.places.items → found.recovered.prefix ≡ c.prefix → found.recovered.base ≡ read.top → IsFoundIn g d found
+found-in g d base read c found base_is limit are p items prefix_is top_is = record {
+  ds = p.ds;
+  read = subst (IsReadPrefix g (view_over g d) p.ds) (sym top_is) (image-read g d read base c base_is limit are p);
+  whole = ap length items ∙ p.whole;
+  places_are = λ x. ap (λ (l : List (Option CopyPlace)). get_or l x None) items ∙ p.places_are x;
+  prefix_is = prefix_is ∙ p.prefix_is;
+}
+
+-- ---- why an image is refused
+
+pub some-refused : (g : Geometry) (d : DriveState) (e : ImageFault) → d.root.base ≤ number_limit → RefusesSome g d e → RefusesImage g d e
+some-refused g d (Bad q cause) limit r = (limit, r)
+some-refused g d (Limit n) limit r = absurd r
+some-refused g d (Twice n a b) limit r = absurd r
+some-refused g d OutOfMemory limit r = r
+
+pub twice-refused : (g : Geometry) (d : DriveState) (read : QueuesRead) (e : ImageFault) → d.root.base ≤ number_limit → AreRead g d read → RefusesTwice read.chains.items e → RefusesImage g d e
+twice-refused g d read (Twice n a b) limit are r = (limit, chain_at read.chains.items, are.readable, subst (λ (k : ℕ). IsTwice k (chain_at read.chains.items) n a b) are.count r)
+twice-refused g d read (Bad q cause) limit are r = absurd r
+twice-refused g d read (Limit n) limit are r = absurd r
+twice-refused g d read OutOfMemory limit are r = r
+
+-- ---- one cause at most
+
+-- an image is readable exactly where its transactions are whole
+pub whole-readable : (g : Geometry) (d : DriveState) (chains : ℕ → List Descriptor) → AreWhole g (view_over g d) chains → IsReadableImage g d
+whole-readable g d chains whole = record {
+  limit = whole.limit;
+  chains = chains;
+  readable = λ q low. shown-readable g (view_over g d) (port_at d.queues q) q d.root.base (chains q) (view-seen g d q d.root.base refl) (whole.each q low);
+  once = λ q r n order low a b. whole.once q r (omega (arith, order, low)) low (omega (arith, order)) a.0 b.0 a.1 b.1 (a.2 ∙ sym b.2);
+}
+
+pub readable-whole : (g : Geometry) (d : DriveState) (image : IsReadableImage g d) → AreWhole g (view_over g d) image.chains
+readable-whole g d image = record {
+  limit = image.limit;
+  each = λ q low. queue-chain g d q (image.chains q) (image.readable q low);
+  once = λ q r low lower other a b in_q in_r same. elim (cases_lt q r) [
+    | inl x ↦ image.once q r a.number x lower (a, in_q, refl) (b, in_r, sym same)
+    | inr x ↦ image.once r q a.number (omega (arith, x, other)) low (b, in_r, sym same) (a, in_q, refl)
+  ];
+}
+
+-- a readable image has no cause to be refused
+pub image-refused : (g : Geometry) (d : DriveState) (e : ImageFault) → IsReadableImage g d → RefusesImage g d e → ⊥
+image-refused g d (Limit base) image r = let l = image.limit in let is = r.0 in let high = r.1 in absurd (omega (arith, l, is, high))
+image-refused g d (Bad q cause) image r = readable-refused g (port_at d.queues q) q d.root.base (image.chains q) cause (image.readable q r.1.0) r.1.3
+image-refused g d (Twice n a b) image r =
+    let twice = r.3 in
+    let order = twice.order in
+    let low = twice.within in
+    let along : (q : ℕ) → q < g.queues → HasNumber (r.1 q) n → HasNumber (image.chains q) n =
+    λ q within has. subst (λ (l : List Descriptor). HasNumber l n) (readable-once g (port_at d.queues q) q d.root.base (r.1 q) (image.chains q) (r.2 q within) (image.readable q within)) has in
+    image.once a b n order low (along a (omega (arith, order, low)) twice.in_first) (along b low twice.in_second)
+image-refused g d OutOfMemory image r = r
+
+pub reaches-refused : (g : Geometry) (d : DriveState) (ds : List Descriptor) (e : ImageFault) → Reaches g (view_over g d) ds → RefusesImage g d e → ⊥
+reaches-refused g d ds e read r = image-refused g d e (whole-readable g d read.chains read.whole) r
+
+-- A readable image is refused only when the call runs out of memory.
+pub memory-alone : (g : Geometry) (d : DriveState) (e : ImageFault) → (e ≡ OutOfMemory) ⊎ RefusesImage g d e → IsReadableImage g d → e ≡ OutOfMemory
+memory-alone g d e given image = elim given [ inl x ↦ x | inr x ↦ absurd (image-refused g d e image x) ]
+
+pub read-readable : (g : Geometry) (d : DriveState) (ds : List Descriptor) (top : ℕ) → IsReadPrefix g (view_over g d) ds top → IsReadableImage g d
+read-readable g d ds top read = whole-readable g d read.chains read.whole
+
+pub read-reaches : (g : Geometry) (i : Shown) (ds : List Descriptor) (top : ℕ) → IsReadPrefix g i ds top → Reaches g i ds
+read-reaches g i ds top read = record { chains = read.chains; whole = read.whole; prefix = read.prefix }
+
+-- ---- two causes are one
+
+-- queues that are readable up to one that is refused do not go past another that is refused
+bad-apart : (g : Geometry) (d : DriveState) (p q : ℕ) (chains : ℕ → List Descriptor) (cause : ChainRefusal) → p < q → AreReadable g d q chains → RefusesQueue g (port_at d.queues p) p d.root.base cause → ⊥
+bad-apart g d p q chains cause low readable refuses = readable-refused g (port_at d.queues p) p d.root.base (chains p) cause (readable p low) refuses
+
+number-along : (ds es : List Descriptor) (n : ℕ) → ds ≡ es → HasNumber ds n → HasNumber es n
+number-along ds es n same has = subst (λ (l : List Descriptor). HasNumber l n) same has
+
+-- of two pairs of the least two queues with a number the first are one
+first-low : (queues : ℕ) (chains others : ℕ → List Descriptor) (n a b c e : ℕ) → ((q : ℕ) → q < queues → chains q ≡ others q) → IsTwice queues chains n a b → IsTwice queues others n c e → a < c → ⊥
+first-low queues chains others n a b c e same s t low =
+    let x = t.order in
+    let y = t.within in
+    t.others a (omega (arith, low, x)) (omega (arith, low)) (number-along (chains a) (others a) n (same a (omega (arith, low, x, y))) s.in_first)
+
+second-low : (queues : ℕ) (chains others : ℕ → List Descriptor) (n a b c e : ℕ) → ((q : ℕ) → q < queues → chains q ≡ others q) → IsTwice queues chains n a b → IsTwice queues others n c e → a ≡ c → b < e → ⊥
+second-low queues chains others n a b c e same s t first low =
+    let x = s.order in
+    let y = t.within in
+    t.others b low (omega (arith, x, first)) (number-along (chains b) (others b) n (same b (omega (arith, low, y))) s.in_second)
+
+twice-least : (queues : ℕ) (chains others : ℕ → List Descriptor) (n m a b c e : ℕ) → ((q : ℕ) → q < queues → chains q ≡ others q) → IsTwice queues chains n a b → IsTwice queues others m c e → n ≤ m
+twice-least queues chains others n m a b c e same s t =
+    let x = t.order in
+    let y = t.within in
+    s.least m c e x y (number-along (others c) (chains c) m (sym (same c (omega (arith, x, y)))) t.in_first) (number-along (others e) (chains e) m (sym (same e y)) t.in_second)
+
+twice-same : (queues : ℕ) (chains others : ℕ → List Descriptor) (n m a b c e : ℕ) → ((q : ℕ) → q < queues → chains q ≡ others q) → IsTwice queues chains n a b → IsTwice queues others m c e
+    → (n ≡ m) × (a ≡ c) × (b ≡ e)
+twice-same queues chains others n m a b c e same s t =
+    let back : (q : ℕ) → q < queues → others q ≡ chains q = λ q low. sym (same q low) in
+    let u = twice-least queues chains others n m a b c e same s t in
+    let v = twice-least queues others chains m n c e a b back t s in
+    let number : n ≡ m = omega (arith, u, v) in
+    let t' : IsTwice queues others n c e = subst (λ (k : ℕ). IsTwice queues others k c e) (sym number) t in
+    let first : a ≡ c = elim (cases_lt a c) [
+      | inl low ↦ absurd (first-low queues chains others n a b c e same s t' low)
+      | inr high ↦ elim (cases_lt c a) [
+        | inl low ↦ absurd (first-low queues others chains n c e a b back t' s low)
+        | inr low ↦ omega (arith, high, low)
+      ]
+    ] in
+    let second : b ≡ e = elim (cases_lt b e) [
+      | inl low ↦ absurd (second-low queues chains others n a b c e same s t' first low)
+      | inr high ↦ elim (cases_lt e b) [
+        | inl low ↦ absurd (second-low queues others chains n c e a b back t' s (sym first) low)
+        | inr low ↦ omega (arith, high, low)
+      ]
+    ] in
+    (number, first, second)
+
+bad-once : (g : Geometry) (d : DriveState) (p q : ℕ) (c f : ChainRefusal) → RefusesSome g d (Bad p c) → RefusesSome g d (Bad q f) → Bad p c ≡ Bad q f
+bad-once g d p q c f r s = elim (cases_eq p q) [
+  | inl at ↦
+      let same = refuses-queue-once g (port_at d.queues p) p d.root.base c f r.3 (subst (λ (n : ℕ). RefusesQueue g (port_at d.queues n) n d.root.base f) (sym at) s.3) in
+      λ k. Bad (at k) (same k)
+  | inr other ↦ elim (cases_lt p q) [
+    | inl low ↦ absurd (bad-apart g d p q s.1 c low s.2 r.3)
+    | inr high ↦ absurd (bad-apart g d q p r.1 f (omega (arith, other, high)) r.2 s.3)
+  ]
+]
+
+pub refuses-image-once : (g : Geometry) (d : DriveState) (e f : ImageFault) → RefusesImage g d e → RefusesImage g d f → e ≡ f
+refuses-image-once g d (Limit a) (Limit b) r s = ap (λ (n : ℕ). Limit n) (r.0 ∙ sym s.0)
+refuses-image-once g d (Limit a) (Bad q c) r s = let x = r.0 in let y = r.1 in let z = s.0 in absurd (omega (arith, x, y, z))
+refuses-image-once g d (Limit a) (Twice n q p) r s = let x = r.0 in let y = r.1 in let z = s.0 in absurd (omega (arith, x, y, z))
+refuses-image-once g d (Limit a) OutOfMemory r s = absurd s
+refuses-image-once g d (Bad q c) (Limit a) r s = let x = s.0 in let y = s.1 in let z = r.0 in absurd (omega (arith, x, y, z))
+refuses-image-once g d (Bad q c) (Bad p f) r s = bad-once g d q p c f r.1 s.1
+refuses-image-once g d (Bad q c) (Twice n p t) r s = absurd (bad-apart g d q g.queues s.1 c r.1.0 s.2 r.1.3)
+refuses-image-once g d (Bad q c) OutOfMemory r s = absurd s
+refuses-image-once g d (Twice n q p) (Limit a) r s = let x = s.0 in let y = s.1 in let z = r.0 in absurd (omega (arith, x, y, z))
+refuses-image-once g d (Twice n p t) (Bad q c) r s = absurd (bad-apart g d q g.queues r.1 c s.1.0 r.2 s.1.3)
+refuses-image-once g d (Twice n q p) (Twice m t u) r s =
+    let same = twice-same g.queues r.1 s.1 n m q p t u (λ k low. readable-once g (port_at d.queues k) k d.root.base (r.1 k) (s.1 k) (r.2 k low) (s.2 k low)) r.3 s.3 in
+    λ k. Twice (same.0 k) (same.1 k) (same.2 k)
+refuses-image-once g d (Twice n q p) OutOfMemory r s = absurd s
+refuses-image-once g d OutOfMemory f r s = absurd r
+
+-- a refusal is the one cause
+pub err-exact : (A : Type 0) (g : Geometry) (d : DriveState) (f e : ImageFault) → (f ≡ OutOfMemory) ⊎ RefusesImage g d f → RefusesImage g d e → IsErrOf {T = A} (Err f) e ⊎ IsErrOf {T = A} (Err f) OutOfMemory
+err-exact A g d f e given r = elim given [
+  | inl x ↦ inr (ap (λ (z : ImageFault). Err z) x)
+  | inr x ↦ inl (ap (λ (z : ImageFault). Err z) (refuses-image-once g d f e x r))
+]
+
+-- ---- one prefix and one top
+
+record AreSame (g : Geometry) (chains others : ℕ → List Descriptor) : Type 0 where
+  along : (q : ℕ) (d : Descriptor) → q < g.queues → Has (chains q) d → Has (others q) d
+
+same-chains : (g : Geometry) (i : Shown) (chains others : ℕ → List Descriptor) → AreWhole g i chains → AreWhole g i others → AreSame g chains others
+same-chains g i chains others a b = record { along = λ q d low has. subst (λ (l : List Descriptor). Has l d) (queue-chain-once g i q (chains q) (others q) (a.each q low) (b.each q low)) has }
+
+shows-along : (g : Geometry) (i : Shown) (chains others : ℕ → List Descriptor) (n : ℕ) → AreSame g chains others → ShowsNumber g i chains n → ShowsNumber g i others n
+shows-along g i chains others n same s = elim s.where_from [
+  | inl x ↦ record { where_from = inl x }
+  | inr y ↦ elim y [
+    | inl x ↦ record { where_from = inr (inl (x.0, x.1, x.2, same.along x.0 x.1 x.2 x.3, x.4)) }
+    | inr x ↦ record { where_from = inr (inr x) }
+  ]
+]
+
+-- the transaction of this number above the base
+row-has : (base : ℕ) (ds : List Descriptor) (n : ℕ) → AreInRow base ds → base < n → n ≤ base + length ds → (d : Descriptor) × Has ds d × (d.number ≡ n)
+row-has base [] n row above low = absurd (omega (arith, above, low))
+row-has base (d ∷ ds) n row above low = elim (cases_eq d.number n) [
+  | inl same ↦ (d, inl refl, same)
+  | inr other ↦
+      let is = row.0 in
+      let more = row-has base ds n row.1 above (omega (arith, is, other, low)) in
+      (more.0, inr more.1, more.2)
+]
+
+-- no list is the longer
+row-short : (g : Geometry) (i : Shown) (chains others : ℕ → List Descriptor) (ds es : List Descriptor) → AreSame g others chains → IsPrefix g i chains ds → IsPrefix g i others es → length ds < length es → ⊥
+row-short g i chains others ds es same p q low =
+    let one = row-has i.base es (i.base + length ds + 1) q.row (omega arith) (omega (arith, low)) in
+    let at = q.whole one.0 one.1 in
+    p.greatest one.0.queue one.0 at.0 (same.along one.0.queue one.0 at.0 at.1) one.2
+
+falls-once : (low high : ℕ) (ds : List Descriptor) (d e : Descriptor) → AreFalling low high ds → Has ds d → Has ds e → d.number ≡ e.number → d ≡ e
+falls-once low high [] d e falls a b same = absurd a
+falls-once low high (x ∷ xs) d e falls a b same = elim a [
+  | inl h ↦ elim b [
+    | inl k ↦ sym h ∙ k
+    | inr k ↦ let u = falls-under low x.number xs e falls.2 k in let is : x.number ≡ d.number = ap (λ (y : Descriptor). y.number) h in absurd (omega (arith, u, is, same))
+  ]
+  | inr h ↦ elim b [
+    | inl k ↦ let u = falls-under low x.number xs d falls.2 h in let is : x.number ≡ e.number = ap (λ (y : Descriptor). y.number) k in absurd (omega (arith, u, is, same))
+    | inr k ↦ falls-once low x.number xs d e falls.2 h k same
+  ]
+]
+
+-- two transactions of one number that are whole are one
+number-once : (g : Geometry) (i : Shown) (chains : ℕ → List Descriptor) (d e : Descriptor) → AreWhole g i chains → (d.queue < g.queues) × Has (chains d.queue) d → (e.queue < g.queues) × Has (chains e.queue) e → d.number ≡ e.number → d ≡ e
+number-once g i chains d e whole a b same = elim (cases_eq d.queue e.queue) [
+  | inl at ↦
+      let c = whole.each d.queue a.0 in
+      let number = c.limit in
+      falls-once i.base (2 ^ 64) (chains d.queue) d e (chain-falls g i d.queue c.number c.place (2 ^ 64) (chains d.queue) c.chain (omega (arith, number))) a.1
+      (subst (λ (q : ℕ). Has (chains q) e) (sym at) b.1) same
+  | inr apart ↦ absurd (whole.once d.queue e.queue a.0 b.0 apart d e a.1 b.1 same)
+]
+
+rows-same : (base : ℕ) (ds es : List Descriptor) → AreInRow base ds → AreInRow base es → length ds ≡ length es → ((d e : Descriptor) → Has ds d → Has es e → d.number ≡ e.number → d ≡ e) → ds ≡ es
+rows-same base [] [] a b long once = refl
+rows-same base [] (e ∷ es) a b long once = absurd (omega (arith, long))
+rows-same base (d ∷ ds) [] a b long once = absurd (omega (arith, long))
+rows-same base (d ∷ ds) (e ∷ es) a b long once =
+    let x = a.0 in
+    let y = b.0 in
+    let head = once d e (inl refl) (inl refl) (omega (arith, x, y, long)) in
+    let tail = rows-same base ds es a.1 b.1 (omega (arith, long)) (λ u v p q. once u v (inr p) (inr q)) in
+    λ k. head k ∷ tail k
+
+-- An image has one prefix.
+pub reaches-same : (g : Geometry) (i : Shown) (ds es : List Descriptor) → Reaches g i ds → Reaches g i es → ds ≡ es
+reaches-same g i ds es a b =
+    let there = same-chains g i a.chains b.chains a.whole b.whole in
+    let back = same-chains g i b.chains a.chains b.whole a.whole in
+    let long : length ds ≡ length es = elim (cases_lt (length ds) (length es)) [
+      | inl low ↦ absurd (row-short g i a.chains b.chains ds es back a.prefix b.prefix low)
+      | inr high ↦ elim (cases_lt (length es) (length ds)) [
+        | inl low ↦ absurd (row-short g i b.chains a.chains es ds there b.prefix a.prefix low)
+        | inr low ↦ omega (arith, high, low)
+      ]
+    ] in
+    rows-same i.base ds es a.prefix.row b.prefix.row long (λ d e p q.
+    let at = b.prefix.whole e q in
+    number-once g i a.chains d e a.whole (a.prefix.whole d p) (at.0, back.along e.queue e at.0 at.1))
+
+-- An image has one top.
+pub read-same : (g : Geometry) (i : Shown) (ds es : List Descriptor) (top other : ℕ) → IsReadPrefix g i ds top → IsReadPrefix g i es other → (ds ≡ es) × (top ≡ other)
+read-same g i ds es top other a b =
+    let there = same-chains g i a.chains b.chains a.whole b.whole in
+    let back = same-chains g i b.chains a.chains b.whole a.whole in
+    let x = b.top_is.greatest top (shows-along g i a.chains b.chains top there a.top_is.shown) in
+    let y = a.top_is.greatest other (shows-along g i b.chains a.chains other back b.top_is.shown) in (
+      reaches-same g i ds es (read-reaches g i ds top a) (read-reaches g i es other b),
+      omega (arith, x, y),
+    )

@@ -1,0 +1,100 @@
+-- A home write keeps a side, and puts the content at home.
+use Rattle.std.proofs.Common.{◌≡◌, ℕ, ◌<◌, true, false, List, length, Some, None, sym, refl, ap, subst, ◌∙◌, inl, inr, arith}
+use Rattle.std.specs.Prelude.{Result, Ok, Err}
+use Rattle.std.proofs.lemmas.List.{length-set, get_or-set_same}
+use Rattle.mq_blocks.specs.Blocks.{content}
+use Rattle.mq_blocks.specs.Drive.{PortState, IsApartFrom, index_of, after_begin, after_end}
+use Rattle.mq_blocks.specs.Geometry.{zone_of, home_lba}
+use Rattle.mq_drive.specs.Steps.{HomeGives}
+use Rattle.mq_drive.specs.declared.port.Off.{Off}
+use Rattle.mq_drive.specs.declared.port.HomeStep.{HomeStep}
+use Rattle.mq_drive.specs.declared.port.HomeStep.TheVariants as home
+use Rattle.mq_ledger.specs.KnownJournal.{KnownJournal, LogOk}
+use Rattle.mq_ledger.specs.Sides.{Certainly, SideOk, home_index}
+use Rattle.mq_ledger.specs.declared.tx.Tx.{Tx}
+use Rattle.mq_ledger.proofs.History.{last_at, changes_direct}
+use Rattle.mq_core.specs.Events.{begin_home, end_home}
+use Rattle.mq_core.specs.Homes.{IsLoggedLast}
+use Rattle.mq_core.proofs.SidesCommands.{apart_own}
+use Rattle.mq_core.proofs.Homes.{side_written, else_begin, else_end}
+use Rattle.mq_core.proofs.EventsPorts.{index-zone}
+use Rattle.mq_core.proofs.EventsSideCommands.{posted_late, apart_home}
+use Rattle.mq_core.proofs.KnownJournalSources.{late}
+use Rattle.mq_side.specs.Side.{SideState, IsQueueSide}
+use Rattle.mq_side.specs.Homes.{StaysAt, GoesHome}
+use Rattle.mq_side.proofs.SideEnds.{SameRecords, moved, kept-along}
+
+module _ (k : KnownJournal) (q : ℕ) (us : List Tx) (p : PortState) (x : ℕ) (block : List ℕ) (log : LogOk k) (s : SideOk k q us p) (zone : zone_of k.geometry x ≡ Some q) (u : IsLoggedLast k x) where
+  at : index_of p (home_lba k.geometry x) ≡ home_index k.geometry x
+  at = (index-zone k.geometry q x p s.port zone).0
+
+  pub home_begun : SideOk k q us (begin_home k.geometry x block p)
+  home_begun = side_written k q us p x _ _ _ _ log s zone u (else_begin k.geometry x block p at)
+
+  pub home_ended : SideOk k q us (end_home k.geometry x block (begin_home k.geometry x block p))
+  home_ended = side_written k q us (begin_home k.geometry x block p) x _ _ _ _ log home_begun zone u (else_end k.geometry x block (begin_home k.geometry x block p) at)
+
+  abbrev new : PortState
+  new = end_home k.geometry x block (begin_home k.geometry x block p)
+
+  -- no posted command writes it
+  apart : IsApartFrom new (home_index k.geometry x) new.posted
+  apart = apart_own new k.geometry q (k.from q) us (home_index k.geometry x) p.posted s.commands.posted (λ n held.
+      let l = posted_late k q us p log s n held in
+      apart_home k q us p log s n x l.0 zone (λ d.
+      let past = late k q us p n x log s l.0.0 d in
+      let most = last_at k.base d.t d.ts k.history x log.numbers d.at (changes_direct d.t x d.among) in
+      let high = u.high in
+      omega (arith, past, most, high)))
+
+  pub at_home : Certainly new (home_index k.geometry x) block
+  at_home =
+      let i = index-zone k.geometry q x p s.port zone in
+      let long = s.port.certain in
+      let wide = s.port.blocks in
+      let here : index_of p (home_lba k.geometry x) < length p.certain = omega (arith, i.0, i.2, long) in
+      let there : index_of p (home_lba k.geometry x) < length p.blocks = omega (arith, i.0, i.2, wide) in
+      let first = length-set p.certain (index_of p (home_lba k.geometry x)) false in
+      record {
+        certain = record {
+          certain = rw (← at) (get_or-set_same (Rattle.std.specs.Prelude.slice_set p.certain (index_of p (home_lba k.geometry x)) false) (index_of p (home_lba k.geometry x)) true false (omega (arith, first, here)));
+          apart = apart;
+        };
+        is = rw (← at) (ap content (get_or-set_same p.blocks (index_of p (home_lba k.geometry x)) (Some block) None there));
+      }
+
+-- ---- of a side
+
+module _ (k : KnownJournal) (q : ℕ) (us : List Tx) (old new : SideState) (x lba : ℕ) (block : List ℕ) (log : LogOk k) (s : IsQueueSide k q us old) (zone : zone_of k.geometry x ≡ Some q) (u : IsLoggedLast k x) (lba_is : lba ≡ home_lba k.geometry x)
+    (same : SameRecords old new) (kept : new.kept ≡ old.kept) where
+  pub side_begun : new.port ≡ after_begin old.port lba block → IsQueueSide k q us new
+  side_begun is =
+      moved k q us old new (begin_home k.geometry x block old.port) (is ∙ ap (λ (n : ℕ). after_begin old.port n block) lba_is) same refl (omega arith) (home_begun k q us old.port x block log s.side zone u)
+      (kept-along (k.from q) us old.port.failed old.port.pending old.port.doorbell old.kept new.kept kept s.kept) s
+
+  pub side_ended : new.port ≡ after_end (after_begin old.port lba block) lba block → IsQueueSide k q us new × Certainly new.port (home_index k.geometry x) block
+  side_ended is =
+      let to : new.port ≡ end_home k.geometry x block (begin_home k.geometry x block old.port) = is ∙ ap (λ (n : ℕ). after_end (after_begin old.port n block) n block) lba_is in (
+        moved k q us old new (end_home k.geometry x block (begin_home k.geometry x block old.port)) to same refl (omega arith) (home_ended k q us old.port x block log s.side zone u)
+            (kept-along (k.from q) us old.port.failed old.port.pending old.port.doorbell old.kept new.kept kept s.kept) s,
+        subst (λ (r : PortState). Certainly r (home_index k.geometry x) block) (sym to) (at_home k q us old.port x block log s.side zone u),
+      )
+
+  pub side_same : new.port ≡ old.port → IsQueueSide k q us new
+  side_same is = moved k q us old new old.port is same refl (omega arith) s.side (kept-along (k.from q) us old.port.failed old.port.pending old.port.doorbell old.kept new.kept kept s.kept) s
+
+-- ---- a call, however it ended
+
+module _ (old new : SideState) (lba : ℕ) (block : List ℕ) (same : SameRecords old new) (kept : new.kept ≡ old.kept) where
+  pub home_stays : (r : Result HomeStep Off) → HomeGives old.port old.faults lba block r new.port new.faults → StaysAt lba old new
+  home_stays (Ok home.Done) gives q k us x log may s = (side_ended k q us old new x lba block log s may.zone may.last_is may.lba_is same kept gives.0).0
+  home_stays (Ok (home.Error status)) gives q k us x log may s = side_begun k q us old new x lba block log s may.zone may.last_is may.lba_is same kept gives.1
+  home_stays (Err off) gives q k us x log may s = elim gives.0 [
+    | inl is ↦ side_same k q us old new x lba block log s may.zone may.last_is may.lba_is same kept is
+    | inr is ↦ side_begun k q us old new x lba block log s may.zone may.last_is may.lba_is same kept is
+  ]
+
+  pub home_goes : (r : Result HomeStep Off) → HomeGives old.port old.faults lba block r new.port new.faults → GoesHome lba block old r new
+  home_goes (Ok home.Done) gives = λ q k us x log may s. (side_ended k q us old new x lba block log s may.zone may.last_is may.lba_is same kept gives.0).1
+  home_goes (Ok (home.Error status)) gives = tt
+  home_goes (Err off) gives = tt

@@ -1,0 +1,177 @@
+-- What the status of the program tells, by what there was to say and how that ended.
+use Rattle.std.proofs.Common.{◌≡◌, ◌≢◌, ◌⊎◌, inl, inr, ℕ, cond, List, Option, Some, None, sym, ◌∙◌, ap, subst, arith}
+use Rattle.std.specs.Prelude.{nat_eq}
+use Rattle.mq_ending.specs.Ending.{EndsWith, IsUnlessFailed}
+use Rattle.mq_ending.proofs.Ending.{unless_wanting, four-or-six}
+use Rattle.mq_outside.specs.Outside.{FilesState, Rose, SinkState, appended}
+use Rattle.mq_words.specs.Asked.{Asked, Words, asked_of, blocks}
+use Rattle.mq_words.specs.declared.command.BlocksOptions.{BlocksOptions}
+use Rattle.mq_ending.specs.Ending.{IsNotLoaded, IsNotSaved, load_failed, load_memory, load_too_long, save_failed, save_memory}
+use Rattle.mqfs.specs.Decided.{Decides, RunsThere}
+use Rattle.mqfs.specs.Program.{AreUnknown, IsDone, IsEndedRun, IsRefusedText, IsSaid, IsStatus, IsToSay, IsTooLong, KeepsNames, TakesFor, no_command, no_memory, of_command, usage_line}
+use Rattle.mqfs.specs.Says.{Says, SaysOfBlocks, printed, refused}
+use Rattle.mqfs.specs.Says as blocks_says
+use Rattle.mqfs.proofs.ProgramTold.{BadWords, RunWords, SaysWords, told_words}
+
+-- where the output wants memory, the status is 4 only where it was
+wanting_four : (status result : ℕ) → IsStatus status → result ≡ cond (nat_eq status 4) 4 6 → result ≡ 4 → status ≡ 4
+wanting_four status result (inl e) want four = let is : result ≡ 6 = subst (λ (s : ℕ). result ≡ cond (nat_eq s 4) 4 6) e want in absurd (omega (arith, is, four))
+wanting_four status result (inr (inl e)) want four = let is : result ≡ 6 = subst (λ (s : ℕ). result ≡ cond (nat_eq s 4) 4 6) e want in absurd (omega (arith, is, four))
+wanting_four status result (inr (inr (inl e))) want four = let is : result ≡ 6 = subst (λ (s : ℕ). result ≡ cond (nat_eq s 4) 4 6) e want in absurd (omega (arith, is, four))
+wanting_four status result (inr (inr (inr (inl e)))) want four = let is : result ≡ 6 = subst (λ (s : ℕ). result ≡ cond (nat_eq s 4) 4 6) e want in absurd (omega (arith, is, four))
+wanting_four status result (inr (inr (inr (inr (inl e))))) want four = e
+wanting_four status result (inr (inr (inr (inr (inr (inl e)))))) want four = let is : result ≡ 6 = subst (λ (s : ℕ). result ≡ cond (nat_eq s 4) 4 6) e want in absurd (omega (arith, is, four))
+wanting_four status result (inr (inr (inr (inr (inr (inr e)))))) want four = let is : result ≡ 6 = subst (λ (s : ℕ). result ≡ cond (nat_eq s 4) 4 6) e want in absurd (omega (arith, is, four))
+
+as_status : (result : ℕ) → (result ≡ 4) ⊎ (result ≡ 6) → IsStatus result
+as_status result (inl e) = inr (inr (inr (inr (inl e))))
+as_status result (inr e) = inr (inr (inr (inr (inr (inr e)))))
+
+some-none : (a : Asked) → ◌≡◌ {A = Option Asked} (Some a) None → ⊥
+some-none a e = cc
+
+-- where the words are no command
+usage_by : (words : Words) (files new_files : FilesState) (result status : ℕ) (text : List ℕ) → AreUnknown words → IsToSay words files new_files status text → IsUnlessFailed status result → IsUnlessFailed 1 result
+usage_by words files new_files result _ _ none (no_command un same) ends = ends
+usage_by words files new_files result status text none (of_command a is says) ends = absurd (some-none a (sym is ∙ none))
+usage_by words files new_files result _ _ none (no_memory same) (inl six) = inr (inr six)
+usage_by words files new_files result _ _ none (no_memory same) (inr other) = inr other
+
+module _ (words : Words) (files new_files : FilesState) (status : ℕ) (text : List ℕ) (result : ℕ) (old new : SinkState) (say : IsToSay words files new_files status text) (ends : EndsWith status text result old new) where
+  tells : SaysWords words files new_files status text
+  tells = told_words words files new_files status text say
+
+  -- the text was said, or the status is 4 or 6
+  pub said_or : ((result ≡ status) × (new.contents ≡ appended old.contents text) × (new.faults ≡ old.faults)) ⊎ ((result ≡ 4) ⊎ (result ≡ 6))
+  said_or = elim ends [
+    | inl e ↦ inl e
+    | inr other ↦ elim other [ inl e ↦ inr (inl e.0) | inr e ↦ inr (four-or-six (nat_eq status 4) result e.0) ]
+  ]
+
+  pub status_told : IsStatus result
+  status_told = elim said_or [ inl e ↦ subst IsStatus (sym e.0) tells.is | inr e ↦ as_status result e ]
+
+  pub said_told : result ≢ 4 → result ≢ 6 → IsSaid words files new_files old new result
+  said_told not_four not_six = elim said_or [
+    | inl e ↦ (text, subst (λ (s : ℕ). IsToSay words files new_files s text) (sym e.0) say, e.1)
+    | inr e ↦ elim e [ inl four ↦ absurd (not_four four) | inr six ↦ absurd (not_six six) ]
+  ]
+
+  pub usage_told : result ≡ 1 → AreUnknown words × (new.contents ≡ appended old.contents usage_line) × (new_files ≡ files)
+  usage_told one = elim said_or [
+    | inl e ↦ (let t = tells.usage (sym e.0 ∙ one) in (t.0, e.1 ∙ ap (appended old.contents) t.1, t.2))
+    | inr e ↦ elim e [ inl four ↦ absurd (omega (arith, four, one)) | inr six ↦ absurd (omega (arith, six, one)) ]
+  ]
+
+  -- what was refused, with its line
+  bad_said : new.contents ≡ appended old.contents text → BadWords words files text ⊎ RunWords 2 words files new_files text → IsRefusedText words files old new ⊎ IsEndedRun 2 words files new_files old new
+  bad_said whole (inl t) = inl (t.0, t.1, t.2, t.3, t.4, t.5, t.6, t.7, t.8, whole ∙ ap (appended old.contents) t.9)
+  bad_said whole (inr t) = inr (t.0, t.1, t.2, text, t.3, t.4, whole)
+
+  pub refused_told : result ≡ 2 → IsRefusedText words files old new ⊎ IsEndedRun 2 words files new_files old new
+  refused_told two = elim said_or [
+    | inl e ↦ bad_said e.1 (tells.bad (sym e.0 ∙ two))
+    | inr e ↦ elim e [ inl four ↦ absurd (omega (arith, four, two)) | inr six ↦ absurd (omega (arith, six, two)) ]
+  ]
+
+  pub failed_told : result ≡ 5 → IsEndedRun 5 words files new_files old new
+  failed_told five = elim said_or [
+    | inl e ↦ (let t = tells.ended (sym e.0 ∙ five) in (t.0, t.1, t.2, text, t.3, t.4, e.1))
+    | inr e ↦ elim e [ inl four ↦ absurd (omega (arith, four, five)) | inr six ↦ absurd (omega (arith, six, five)) ]
+  ]
+
+  of_files : Rose files.faults new_files.faults ⊎ IsTooLong words files new_files → Rose files.faults new_files.faults ⊎ (Rose old.faults new.faults ⊎ IsTooLong words files new_files)
+  of_files (inl rose) = inl rose
+  of_files (inr long) = inr (inr long)
+
+  pub fault_told : result ≡ 4 → Rose files.faults new_files.faults ⊎ (Rose old.faults new.faults ⊎ IsTooLong words files new_files)
+  fault_told four = elim ends [
+    | inl e ↦ of_files (tells.fault (sym e.0 ∙ four))
+    | inr other ↦ elim other [ inl e ↦ inr (inl e.2) | inr e ↦ of_files (tells.fault (wanting_four status result tells.is e.0 four)) ]
+  ]
+
+  pub same_told : result ≢ 4 → (new_files.faults ≡ files.faults) × (new.faults ≡ old.faults)
+  same_told not_four = elim ends [
+    | inl e ↦ (tells.faults (λ four. not_four (e.0 ∙ four)), e.2)
+    | inr other ↦ elim other [
+      | inl e ↦ absurd (not_four e.0)
+      | inr e ↦ (tells.faults (λ four. not_four (e.0 ∙ ap (λ (s : ℕ). cond (nat_eq s 4) 4 6) four)), e.2)
+    ]
+  ]
+
+  pub takes_told : result ≢ 4 → result ≢ 6 → TakesFor words files new_files
+  takes_told not_four not_six = elim said_or [
+    | inl e ↦ tells.takes (λ four. not_four (e.0 ∙ four)) (λ six. not_six (e.0 ∙ six))
+    | inr e ↦ elim e [ inl four ↦ absurd (not_four four) | inr six ↦ absurd (not_six six) ]
+  ]
+
+  pub names_told : KeepsNames words files new_files
+  names_told = tells.names
+
+  low : (result ≡ 1) ⊎ ((result ≡ 2) ⊎ (result ≡ 3)) → (result ≡ 4) ⊎ (result ≡ 6) → ⊥
+  low (inl one) (inl four) = omega (arith, one, four)
+  low (inl one) (inr six) = omega (arith, one, six)
+  low (inr (inl two)) (inl four) = omega (arith, two, four)
+  low (inr (inl two)) (inr six) = omega (arith, two, six)
+  low (inr (inr three)) (inl four) = omega (arith, three, four)
+  low (inr (inr three)) (inr six) = omega (arith, three, six)
+
+  pub contents_told : (result ≡ 1) ⊎ ((result ≡ 2) ⊎ (result ≡ 3)) → new_files.contents ≡ files.contents
+  contents_told some = elim said_or [
+    | inl e ↦ tells.contents (subst (λ (s : ℕ). (s ≡ 1) ⊎ ((s ≡ 2) ⊎ (s ≡ 3))) e.0 some)
+    | inr e ↦ absurd (low some e)
+  ]
+
+  -- where the words are no command
+  pub usage-where : AreUnknown words → IsUnlessFailed 1 result
+  usage-where none = usage_by words files new_files result status text none say (unless_wanting status text result old new ends)
+
+-- ---- `blocks`, done
+
+zero-or : (file : List ℕ) (old new : FilesState) (status : ℕ) (text : List ℕ) → IsNotLoaded file old new status text → status ≡ 0 → ⊥
+zero-or file old new _ _ (load_failed same rose) zero = omega (arith, zero)
+zero-or file old new _ _ (load_too_long same over faults takes) zero = omega (arith, zero)
+zero-or file old new _ _ (load_memory same faults) zero = omega (arith, zero)
+
+pub zero-or-saved : (name : List ℕ) (old new : FilesState) (status : ℕ) (text : List ℕ) → IsNotSaved name old new status text → status ≡ 0 → ⊥
+zero-or-saved name old new _ _ (save_failed other rose taken) zero = omega (arith, zero)
+zero-or-saved name old new _ _ (save_memory same faults taken) zero = omega (arith, zero)
+
+module _ (file : List ℕ) (options : BlocksOptions) (save : Option (List ℕ)) (files new_files : FilesState) (old new : SinkState) where
+  done_of : (status : ℕ) (text : List ℕ) → SaysOfBlocks file options save files new_files status text → status ≡ 0 → new.contents ≡ appended old.contents text → IsDone file options save files new_files old new
+  done_of _ _ (printed bytes lines p mid load is at saves) zero out = (bytes, lines, p, mid, load.holds, load.contents, is, at, saves, out)
+  done_of _ _ (refused bytes line cause load refuses) zero out = absurd (omega (arith, zero))
+  done_of status text (blocks_says.not_loaded not) zero out = absurd (zero-or file files new_files status text not zero)
+  done_of status text (blocks_says.not_saved bytes lines name mid asks load is not) zero out = absurd (zero-or-saved name mid new_files status text not zero)
+  done_of _ _ (blocks_says.wants_memory same faults) zero out = absurd (omega (arith, zero))
+
+  done_words : (words : Words) (status : ℕ) (text : List ℕ) → asked_of words ≡ Some (blocks file options save) → IsToSay words files new_files status text → status ≡ 0 → new.contents ≡ appended old.contents text → IsDone file options save files new_files old new
+  done_words words _ _ asks (no_command none same) zero out = absurd (omega (arith, zero))
+  done_words words status text asks (of_command a is says) zero out =
+      let same : ◌≡◌ {A = Option Asked} (Some a) (Some (blocks file options save)) = sym is ∙ asks in
+      let one : a ≡ blocks file options save = cc in
+      done_of status text (subst (λ (b : Asked). Says b files new_files status text) one says) zero out
+  done_words words _ _ asks (no_memory same) zero out = absurd (omega (arith, zero))
+
+  pub done_told : (words : Words) (status : ℕ) (text : List ℕ) (result : ℕ) → asked_of words ≡ Some (blocks file options save) → IsToSay words files new_files status text → EndsWith status text result old new → result ≡ 0 → IsDone file options save files new_files old new
+  done_told words status text result asks say ends zero = elim (said_or words files new_files status text result old new say ends) [
+    | inl e ↦ done_words words status text asks say (sym e.0 ∙ zero) e.1
+    | inr e ↦ elim e [ inl four ↦ absurd (omega (arith, four, zero)) | inr six ↦ absurd (omega (arith, six, zero)) ]
+  ]
+
+-- ---- what is decided
+
+pub decided_told : (words : Words) (files : FilesState) (a b : Asked) (result : ℕ) → asked_of words ≡ Some b → ((status : ℕ) → Decides b files.contents status → IsUnlessFailed status result) → asked_of words ≡ Some a → (status : ℕ) → Decides a files.contents status → IsUnlessFailed status result
+decided_told words files a b result is each asks status decides =
+    let same : ◌≡◌ {A = Option Asked} (Some a) (Some b) = sym asks ∙ is in
+    let one : a ≡ b = cc in
+    each status (subst (λ (x : Asked). Decides x files.contents status) one decides)
+
+pub runs_told : (words : Words) (files : FilesState) (a b : Asked) (result : ℕ) → asked_of words ≡ Some b → (RunsThere b files.contents → (result ≡ 5) ⊎ IsUnlessFailed 0 result) → asked_of words ≡ Some a → RunsThere a files.contents → (result ≡ 5) ⊎ IsUnlessFailed 0 result
+runs_told words files a b result is each asks runs =
+    let same : ◌≡◌ {A = Option Asked} (Some a) (Some b) = sym asks ∙ is in
+    let one : a ≡ b = cc in
+    each (subst (λ (x : Asked). RunsThere x files.contents) one runs)
+
+pub not_asked : (words : Words) (a : Asked) → asked_of words ≡ None → asked_of words ≡ Some a → ⊥
+not_asked words a none some = let e : ◌≡◌ {A = Option Asked} None (Some a) = sym none ∙ some in cc
